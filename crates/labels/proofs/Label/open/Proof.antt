@@ -1,0 +1,67 @@
+-- The loop: the places below o hold the open label's writers, and the others are those of bottom.
+-- Assumes nothing.
+use Rattle.labels.proofs.PartLaws.{own-at}
+use Rattle.labels.proofs.EffectiveLaws.{open-principal, open-other}
+use mathlib.Core.Path.{_≡_, sym, _∙_}
+use Prim.Native.Nat.{_≤_, _-_}
+use native.Mathlib.Omega.{arith}
+use mathlib.Core.Logic.{⊎-elim}
+use lib.ListN.{replicate}
+use Rattle.sets.specs.Sets.{single, tab}
+use Rattle.sets.proofs.Walks.{filled, filled-none, fill-store, fill-skip, fill-end}
+use Rattle.labels.specs.Labels.{owners, own, openAt, openOf}
+use borrow.Author.Needs.{needs}
+use Rattle.labels.proofs.Label.open.Statement.{statement}
+use Rattle.labels.proofs.Label.open.Tie as tie
+
+abbrev Inv-loop : tie.InvT-loop
+Inv-loop n all writers₀ o₀ writers o = (o ≤ owners) × (writers ≡ filled (openAt n all) o writers₀)
+
+abbrev μ-loop : tie.MeasureT-loop
+μ-loop n all writers₀ o₀ writers o = owners - o
+
+loop-holds : tie.Need-loop-holds Inv-loop μ-loop
+loop-holds c = (search needs, filled-none _ _)
+
+mul-writers : tie.Need-mul-writers Inv-loop μ-loop
+mul-writers c = search needs
+
+array-write-writers : tie.Need-array-write-writers Inv-loop μ-loop
+array-write-writers c = search needs
+
+add-o : tie.Need-add-o Inv-loop μ-loop
+add-o c = search needs
+
+loop-less : tie.Need-loop-less Inv-loop μ-loop
+loop-less c = search needs
+
+loop-again : tie.Need-loop-again Inv-loop μ-loop
+unfolding own single tab
+loop-again c =
+    let a = c .before .before .before .args in
+    let l = c .before .before .loop in (
+      search needs,
+      ⊎-elim (λ w. w .1 ∙ fill-store _ _ _ _ (l .inv .1) (omega arith) (sym (open-principal (a .n) (a .all) (l .o) (w .0 .taken))))
+          (λ w. w .1 ∙ fill-skip _ _ _ _ (l .inv .1) (omega arith) (own-at (l .o) (omega arith) ∙ sym (open-other (a .n) (a .all) (l .o) (w .0 .left))))
+          (c .if1 .came),
+    )
+
+returns : tie.Need-returns Inv-loop μ-loop
+unfolding openOf
+returns c =
+    let w = fill-end _ _ _ _ (c .before .loop .inv .1) owners (omega arith) (search needs) in
+    λ i. record { readers = replicate owners (c .before .before .args .all); writers = w i }
+
+pub open-spec : {M : Type 1} → statement M
+open-spec =
+    tie.close
+    (tie.spec
+    Inv-loop
+    μ-loop
+    loop-holds
+    mul-writers
+    array-write-writers
+    add-o
+    loop-less
+    loop-again
+    returns)

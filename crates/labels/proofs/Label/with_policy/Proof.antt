@@ -1,0 +1,52 @@
+use lib.ListN.{length}
+use Rattle.labels.specs.Labels.{owners, policyOf}
+use Rattle.labels.proofs.OrderLaws.{label-path}
+use mathlib.Core.Path.{_≡_, sym, _∙_}
+use native.Mathlib.Omega.{arith}
+use lib.Seq.{set-out}
+use Rattle.sets.specs.Sets.{width, union, single}
+use Rattle.sets.proofs.SetLaws.{restrict-single}
+use borrow.Author.Needs.{needs}
+use Rattle.labels.proofs.Label.with_policy.Statement.{statement}
+use Rattle.labels.proofs.Label.with_policy.Tie as tie
+
+returns : tie.Need-returns
+unfolding policyOf
+returns c =
+    let a = c .before .args in
+    let r : length (a .t1 .readers) ≡ owners = search needs in
+    let w : length (a .t1 .writers) ≡ owners = search needs in
+    label-path (a .t1) (policyOf (a .t1) (a .owner) (a .readers) (a .writers))
+    (sym (set-out (a .t1 .readers) (a .owner) _ (omega arith)))
+    (sym (set-out (a .t1 .writers) (a .owner) _ (omega arith)))
+
+single-requires : tie.Need-single-requires
+single-requires c κs = search needs
+
+mul-self : tie.Need-mul-self
+mul-self c = search needs
+
+element-write-self : tie.Need-element-write-self
+element-write-self c = search needs
+
+mul-self-2 : tie.Need-mul-self-2
+mul-self-2 c = search needs
+
+element-write-self-2 : tie.Need-element-write-self-2
+element-write-self-2 c = search needs
+
+returns-2 : tie.Need-returns-2
+unfolding policyOf union
+returns-2 c = rw (c .single .ensures ∙ restrict-single width (c .before .before .args .owner) (omega arith))
+
+pub with-policy-spec : {M : Type 1} → statement M
+with-policy-spec =
+    tie.close
+    (tie.spec
+    returns
+    single-requires
+    mul-self
+    element-write-self
+    mul-self-2
+    element-write-self-2
+    returns-2)

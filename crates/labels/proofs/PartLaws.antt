@@ -1,0 +1,107 @@
+-- The parts of a label: C, I and bottom.
+-- Assumes nothing.
+use mathlib.Core.Path.{_≡_, refl, sym, _∙_}
+use mathlib.Core.Bool.{true}
+use Prim.Native.Nat.{ℕ, _<_}
+use lib.ListN.{length, getD, replicate, getD-replicate, length-replicate}
+use Rattle.sets.specs.Sets.{both, union, intersection, single, tab}
+use Rattle.sets.proofs.BoolLaws.{bool-ext, both-true, both-left, both-right}
+use Rattle.sets.proofs.Walks.{getD-tab, length-tab, tab-ext, tab-replicate}
+use Rattle.sets.proofs.SetLaws.{within-refl, intersection-of-within, union-of-within}
+use Rattle.labels.specs.declared.Label.{Label}
+use Rattle.labels.specs.Labels.{owners, own, belowOf, joinOf, confidentialityOf, integrityOf, bottomOf, wholeOf}
+use Rattle.labels.proofs.OrderLaws.{label-path, whole-intro, whole-readers, whole-writers, below-intro, below-readers, below-writers}
+
+-- ---- the sets that are the same in every label
+pub own-at : (o : ℕ) → o < owners → getD own o 0 ≡ single o
+unfolding own
+own-at o l = getD-tab owners single o 0 l
+
+pub length-own : length own ≡ owners
+unfolding own
+length-own = length-tab owners single
+
+pub all-at : (all o : ℕ) → o < owners → getD (replicate owners all) o 0 ≡ all
+all-at all o l = getD-replicate owners o all 0 l
+
+-- ---- C(I A) = bottom, I(C A) = bottom, C(C A) = C(A), I(I A) = I(A)
+pub C-of-I : (all : ℕ) (a : Label) → confidentialityOf (integrityOf all a) ≡ bottomOf all
+unfolding confidentialityOf integrityOf bottomOf
+C-of-I all a = refl
+
+pub I-of-C : (all : ℕ) (a : Label) → integrityOf all (confidentialityOf a) ≡ bottomOf all
+unfolding confidentialityOf integrityOf bottomOf
+I-of-C all a = refl
+
+pub C-idem : (a : Label) → confidentialityOf (confidentialityOf a) ≡ confidentialityOf a
+unfolding confidentialityOf
+C-idem a = refl
+
+pub I-idem : (all : ℕ) (a : Label) → integrityOf all (integrityOf all a) ≡ integrityOf all a
+unfolding integrityOf
+I-idem all a = refl
+
+pub C-bottom : (all : ℕ) → confidentialityOf (bottomOf all) ≡ bottomOf all
+unfolding confidentialityOf bottomOf
+C-bottom all = refl
+
+pub I-bottom : (all : ℕ) → integrityOf all (bottomOf all) ≡ bottomOf all
+unfolding integrityOf bottomOf
+I-bottom all = refl
+
+-- ---- whole labels stay whole
+pub C-whole : (a : Label) → wholeOf a ≡ true → wholeOf (confidentialityOf a) ≡ true
+unfolding confidentialityOf
+C-whole a h = whole-intro (confidentialityOf a) (whole-readers a h) length-own
+
+pub I-whole : (all : ℕ) (a : Label) → wholeOf a ≡ true → wholeOf (integrityOf all a) ≡ true
+unfolding integrityOf
+I-whole all a h = whole-intro (integrityOf all a) (length-replicate owners all) (whole-writers a h)
+
+pub bottom-whole : (all : ℕ) → wholeOf (bottomOf all) ≡ true
+unfolding bottomOf
+bottom-whole all = whole-intro (bottomOf all) (length-replicate owners all) length-own
+
+-- ---- C and I are monotone, and together they are the order
+pub C-mono : (a b : Label) → belowOf a b ≡ true → belowOf (confidentialityOf a) (confidentialityOf b) ≡ true
+unfolding confidentialityOf
+C-mono a b h = below-intro _ _ (below-readers a b h) (λ o l. within-refl _)
+
+pub I-mono : (all : ℕ) (a b : Label) → belowOf a b ≡ true → belowOf (integrityOf all a) (integrityOf all b) ≡ true
+unfolding integrityOf
+I-mono all a b h = below-intro _ _ (λ o l. within-refl _) (below-writers a b h)
+
+pub below-of-parts : (all : ℕ) (a b : Label)
+    → belowOf (confidentialityOf a) (confidentialityOf b) ≡ true → belowOf (integrityOf all a) (integrityOf all b) ≡ true → belowOf a b ≡ true
+unfolding confidentialityOf integrityOf
+below-of-parts all a b h k = below-intro a b (below-readers _ _ h) (below-writers _ _ k)
+
+-- A ≤ B exactly if C(A) ≤ C(B) and I(A) ≤ I(B)
+pub below-parts : (all : ℕ) (a b : Label)
+    → belowOf a b ≡ both (belowOf (confidentialityOf a) (confidentialityOf b)) (belowOf (integrityOf all a) (integrityOf all b))
+below-parts all a b =
+    bool-ext (belowOf a b) (both (belowOf (confidentialityOf a) (confidentialityOf b)) (belowOf (integrityOf all a) (integrityOf all b)))
+    (λ h. both-true (C-mono a b h) (I-mono all a b h))
+    (λ h. below-of-parts all a b
+    (both-left _ (belowOf (integrityOf all a) (integrityOf all b)) h)
+    (both-right (belowOf (confidentialityOf a) (confidentialityOf b)) _ h))
+
+-- ---- C and I of a join
+pub C-join : (a b : Label) → confidentialityOf (joinOf a b) ≡ joinOf (confidentialityOf a) (confidentialityOf b)
+unfolding confidentialityOf joinOf own
+C-join a b =
+    label-path (confidentialityOf (joinOf a b)) (joinOf (confidentialityOf a) (confidentialityOf b)) refl
+    (tab-ext owners single (λ (o : ℕ). union (getD own o 0) (getD own o 0))
+    (λ o l. sym (union-of-within _ _ (within-refl _) ∙ own-at o l)))
+
+pub I-join : (all : ℕ) (a b : Label) → integrityOf all (joinOf a b) ≡ joinOf (integrityOf all a) (integrityOf all b)
+unfolding integrityOf joinOf
+I-join all a b =
+    label-path (integrityOf all (joinOf a b)) (joinOf (integrityOf all a) (integrityOf all b)) (all-twice all) refl
+  where
+    all-twice : (all : ℕ)
+        → replicate owners all ≡ tab owners (λ (o : ℕ). intersection (getD (replicate owners all) o 0) (getD (replicate owners all) o 0))
+    all-twice all =
+        sym (tab-replicate owners all)
+        ∙ tab-ext owners (λ (o : ℕ). all) (λ (o : ℕ). intersection (getD (replicate owners all) o 0) (getD (replicate owners all) o 0))
+        (λ o l. sym (intersection-of-within _ _ (within-refl _) ∙ all-at all o l))

@@ -1,0 +1,70 @@
+-- The loop: the places below o hold the words of the table.
+-- Assumes nothing.
+use native.Mathlib.Nat.{add-assoc}
+use denote.Ref.{now}
+use mathlib.Core.Path.{sym, _≡_, ap, _∙_}
+use Prim.Native.Nat.{ℕ, _≤_, _+_, _-_}
+use native.Mathlib.Omega.{arith}
+use lib.ListN.{getD}
+use Rattle.sets.proofs.Walks.{filled, filled-none, fill-store, fill-end}
+use Rattle.labels.specs.Labels.{owners}
+use Rattle.labels.specs.Tables.{setsAt}
+use borrow.Author.Needs.{needs}
+use Rattle.labels.proofs.sets_at.Statement.{statement}
+use Rattle.labels.proofs.sets_at.Tie as tie
+
+abbrev Inv-loop : tie.InvT-loop
+Inv-loop table at skip out₀ o₀ out o = (o ≤ owners) × (out ≡ filled (λ (k : ℕ). getD table (at + skip + k) 0) o out₀)
+
+abbrev μ-loop : tie.MeasureT-loop
+μ-loop table at skip out₀ o₀ out o = owners - o
+
+loop-holds : tie.Need-loop-holds Inv-loop μ-loop
+loop-holds c = (search needs, filled-none _ _)
+
+add-word-at : tie.Need-add-word-at Inv-loop μ-loop
+add-word-at c = search needs
+
+word-at-requires : tie.Need-word-at-requires Inv-loop μ-loop
+word-at-requires c κs = search needs
+
+mul-out : tie.Need-mul-out Inv-loop μ-loop
+mul-out c = search needs
+
+array-write-out : tie.Need-array-write-out Inv-loop μ-loop
+array-write-out c = search needs
+
+add-o : tie.Need-add-o Inv-loop μ-loop
+add-o c = search needs
+
+loop-less : tie.Need-loop-less Inv-loop μ-loop
+loop-less c = search needs
+
+loop-again : tie.Need-loop-again Inv-loop μ-loop
+loop-again c =
+    let a = c .before .before .before .before .args in
+    let o = c .before .before .loop .o in (
+      search needs,
+      fill-store _ _ _ _ (c .before .before .loop .inv .1) (omega arith)
+          (c .word-at .ensures ∙ ap (λ (i : ℕ). getD (now (a .table)) i 0) (sym (add-assoc (a .at) (a .skip) o))),
+    )
+
+returns : tie.Need-returns Inv-loop μ-loop
+unfolding setsAt
+returns c = fill-end _ _ _ _ (c .before .loop .inv .1) owners (omega arith) (search needs)
+
+pub sets-at-spec : {M : Type 1} → statement M
+sets-at-spec =
+    tie.close
+    (tie.spec
+    Inv-loop
+    μ-loop
+    loop-holds
+    add-word-at
+    word-at-requires
+    mul-out
+    array-write-out
+    add-o
+    loop-less
+    loop-again
+    returns)

@@ -1,0 +1,251 @@
+// Labels in effective form, by value: for each owner a set of readers and a set of writers.
+ghost use mathlib.Core.Path.{_≡_};
+ghost use Prim.Native.Nat.{_+_, _≤_};
+ghost use lib.ListN.{length, getD};
+ghost use lib.Seq.{paste};
+ghost use Rattle.sets.specs.Sets.{within, meets, every};
+ghost use Rattle.labels.specs.Labels.{owners, openOf, policyOf, belowOf, sameOf, joinOf, confidentialityOf, integrityOf, bottomOf, readsOf, writesOf};
+ghost use Rattle.labels.specs.Tables.{setsAt, labelAt, labelPut};
+use sets::Set;
+
+// A label has a place for each principal that a set has room for.
+pub const OWNERS: usize = sets::WIDTH;
+
+// The number of words that a label takes in a table.
+pub const LABEL_SIZE: usize = 2 * OWNERS;
+
+pub struct Label {
+    pub readers: [Set; OWNERS],
+    pub writers: [Set; OWNERS],
+}
+
+// {o} for each owner o.
+const OWN: [Set; OWNERS] = [
+    1,
+    2,
+    4,
+    8,
+    16,
+    32,
+    64,
+    128,
+    256,
+    512,
+    1024,
+    2048,
+    4096,
+    8192,
+    16384,
+    32768,
+];
+
+impl Label {
+    // The label without policies, of n principals, `all` being the set of them.
+    pub fn open(n: usize, all: Set) -> Label
+        ensures { λ r. ⌜ r ≡ openOf n all ⌝ }
+    {
+        let mut writers = OWN;
+        for o in 0..OWNERS {
+            if o < n {
+                writers[o] = all;
+            }
+        }
+        Label {
+            readers: [all; OWNERS],
+            writers,
+        }
+    }
+
+    // The label with a policy of an owner; unchanged if it has no place for that owner.
+    pub fn with_policy(mut self, owner: usize, readers: Set, writers: Set) -> Label
+        ensures { λ r. ⌜ r ≡ policyOf self owner readers writers ⌝ }
+    {
+        if owner >= OWNERS {
+            return self;
+        }
+        let own = sets::single(owner);
+        self.readers[owner] = readers | own;
+        self.writers[owner] = writers | own;
+        self
+    }
+
+    // Whether this label is at or below the other: its readers contain the other's, and its writers lie within the other's.
+    pub fn at_or_below(self, other: Label) -> bool
+        ensures { λ r. ⌜ r ≡ belowOf self other ⌝ }
+    {
+        let lower = self.readers;
+        let upper = other.readers;
+        if !contained_each(upper, lower) {
+            return false;
+        }
+        let lower = self.writers;
+        let upper = other.writers;
+        contained_each(lower, upper)
+    }
+
+    // Whether the two labels have the same effective sets.
+    pub fn same(self, other: Label) -> bool
+        ensures { λ r. ⌜ r ≡ sameOf self other ⌝ }
+    {
+        if !self.at_or_below(other) {
+            return false;
+        }
+        other.at_or_below(self)
+    }
+
+    // The least label that both are at or below: readers intersected, writers united.
+    pub fn join(self, other: Label) -> Label
+        ensures { λ r. ⌜ r ≡ joinOf self other ⌝ }
+    {
+        let mut out = self;
+        for o in 0..OWNERS {
+            out.readers[o] = out.readers[o] & other.readers[o];
+            out.writers[o] = out.writers[o] | other.writers[o];
+        }
+        out
+    }
+
+    // C(A): the readers, and for each owner o the writers {o}.
+    pub fn confidentiality(self) -> Label
+        ensures { λ r. ⌜ r ≡ confidentialityOf self ⌝ }
+    {
+        let readers = self.readers;
+        Label {
+            readers,
+            writers: OWN,
+        }
+    }
+
+    // I(A): the writers, and all principals as readers.
+    pub fn integrity(self, all: Set) -> Label
+        ensures { λ r. ⌜ r ≡ integrityOf all self ⌝ }
+    {
+        let writers = self.writers;
+        Label {
+            readers: [all; OWNERS],
+            writers,
+        }
+    }
+
+    // The least label: all readers, and for each owner o the writers {o}.
+    pub fn bottom(all: Set) -> Label
+        ensures { λ r. ⌜ r ≡ bottomOf all ⌝ }
+    {
+        Label {
+            readers: [all; OWNERS],
+            writers: OWN,
+        }
+    }
+
+    // Whether the confidentiality part of one label is at or below that of another.
+    pub fn confidentiality_at_or_below(self, other: Label) -> bool
+        ensures { λ r. ⌜ r ≡ belowOf (confidentialityOf self) (confidentialityOf other) ⌝ }
+    {
+        let lower = self.confidentiality();
+        let upper = other.confidentiality();
+        lower.at_or_below(upper)
+    }
+
+    // Whether a group holds a reader for each owner below n.
+    pub fn reads(self, n: usize, group: Set) -> bool
+        ensures { λ r. ⌜ r ≡ readsOf n group self ⌝ }
+    {
+        let readers = self.readers;
+        meets_each(readers, n, group)
+    }
+
+    // Whether a group holds a writer for each owner below n.
+    pub fn writes(self, n: usize, group: Set) -> bool
+        ensures { λ r. ⌜ r ≡ writesOf n group self ⌝ }
+    {
+        let writers = self.writers;
+        meets_each(writers, n, group)
+    }
+}
+
+// The label whose words start at `at`; words past the end of the table count as 0.
+pub fn label_at(table: &[Set], at: usize) -> Label
+    ensures { λ r. ⌜ r ≡ labelAt (now (table .entry)) at ⌝ }
+{
+    let readers = sets_at(table, at, 0);
+    let writers = sets_at(table, at, OWNERS);
+    Label { readers, writers }
+}
+
+// Stores the words of a label from `at` on; the table is left as it is where they don't fit.
+pub fn put_label(table: &mut [Set], at: usize, label: Label)
+    ensures { λ _. ⌜ now (table .exit) ≡ labelPut (now (table .entry)) at label ⌝ }
+{
+    if at > table.len() {
+        return;
+    }
+    if table.len() - at < LABEL_SIZE {
+        return;
+    }
+    let readers = label.readers;
+    let writers = label.writers;
+    put_sets(table, at, readers);
+    put_sets(table, at + OWNERS, writers);
+}
+
+// Whether a group meets each of the first n sets.
+fn meets_each(held: [Set; OWNERS], n: usize, group: Set) -> bool
+    ensures { λ r. ⌜ r ≡ every n (λ o. meets group (getD held o 0)) ⌝ }
+{
+    if n > OWNERS {
+        return false;
+    }
+    for o in 0..n {
+        if !sets::meets(group, held[o]) {
+            return false;
+        }
+    }
+    true
+}
+
+// Whether each set of x is contained in that of y at the same place.
+fn contained_each(x: [Set; OWNERS], y: [Set; OWNERS]) -> bool
+    ensures { λ r. ⌜ r ≡ every owners (λ o. within (getD x o 0) (getD y o 0)) ⌝ }
+{
+    for o in 0..OWNERS {
+        if !sets::contained(x[o], y[o]) {
+            return false;
+        }
+    }
+    true
+}
+
+// The word at `at + k`; 0 past the end of the table.
+fn word_at(table: &[Set], at: usize, k: usize) -> Set
+    ensures { λ r. ⌜ r ≡ getD (now (table .entry)) (at + k) 0 ⌝ }
+{
+    if at >= table.len() {
+        return 0;
+    }
+    if k >= table.len() - at {
+        return 0;
+    }
+    table[at + k]
+}
+
+// One set for each owner, from the word at `at + skip` on.
+fn sets_at(table: &[Set], at: usize, skip: usize) -> [Set; OWNERS]
+    requires { ⌜ skip ≤ owners ⌝ }
+    ensures { λ r. ⌜ r ≡ setsAt (now (table .entry)) (at + skip) ⌝ }
+{
+    let mut out = [0; OWNERS];
+    for o in 0..OWNERS {
+        out[o] = word_at(table, at, skip + o);
+    }
+    out
+}
+
+// Stores one set for each owner from `at` on.
+fn put_sets(table: &mut [Set], at: usize, row: [Set; OWNERS])
+    requires { ⌜ at + owners ≤ length (now table) ⌝ }
+    ensures { λ _. ⌜ now (table .exit) ≡ paste (now (table .entry)) at row owners ⌝ }
+{
+    for o in 0..OWNERS {
+        table[at + o] = row[o];
+    }
+}

@@ -1,0 +1,5 @@
+pub mod BoolLaws
+pub mod Walks
+pub mod SetLaws
+pub mod GatherLaws
+pub mod MeaningLaws

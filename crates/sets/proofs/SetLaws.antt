@@ -1,0 +1,320 @@
+-- Masks against sets of principals: what union, intersection, containment, {p} and the first n principals have as members.
+-- No law names a width.
+-- Assumes nothing.
+use mathlib.Core.Path.{_≡_, refl, sym, ap, ap₂, _∙_, subst}
+use mathlib.Core.Bool.{Bool, true, false, not}
+use Prim.Native.Nat.{ℕ, zero, suc, _+_, _*_, _/_, _%_, _^_, _<_, _≤_, _-_, min, max}
+use native.Mathlib.Nat.{div-eq-of-lt, one-mul, zero-div, mod-lt, mod-eq-of-lt, zero-lt-suc, div-add-mod', div-one, lt-of-lt-of-le, le-of-suc-le-suc, not-suc-le-zero}
+use native.Mathlib.Omega.{arith}
+use native.Mathlib.Numerals.{one-add, add-one}
+use native.Mathlib.Decide.{decLt}
+use lib.Arith.{bin-ind, half-le, digits-mod}
+use lib.Bits.{bitAnd, bitOr, and-step, or-step, and-shr, or-shr, and-mask, block-odd, block-half}
+use lib.Pow.{shr-shr, shl-exact, high, split, ones-split, ones-lt, pow-lt, pow-mono, pow-pos}
+use lib.Dec.{T, eqb, ltb, lit<}
+use borrow.Author.Tests.{eqb-true, eqb-false, eq-eqb, ne-eqb, not-true, lt-ltb, le-ltb, ltb-true}
+use Rattle.sets.specs.Sets.{both, either, member, union, intersection, within, meets, single, everyone, restrict}
+use Rattle.sets.proofs.BoolLaws.{absurd-false, bool-ext, not-so, both-true, both-left, both-right, both-implied, either-left, either-right, either-case}
+
+-- ---- digits
+abbrev bit : ℕ → Bool
+bit x = eqb x 1
+
+-- a digit is 0 or 1
+module _ (P : ℕ → Type 0) where
+  by-digit : (x : ℕ) → x < 2 → P 0 → P 1 → P x
+  by-digit zero l a b = a
+  by-digit (suc zero) l a b = b
+  by-digit (suc (suc x)) l a b = absurd (not-suc-le-zero (le-of-suc-le-suc (le-of-suc-le-suc l)))
+
+bit-min : (x y : ℕ) → x < 2 → y < 2 → bit (min x y) ≡ both (bit x) (bit y)
+unfolding both
+bit-min x y hx hy =
+    by-digit (λ (a : ℕ). bit (min a y) ≡ both (bit a) (bit y)) x hx
+    (by-digit (λ (b : ℕ). bit (min 0 b) ≡ both (bit 0) (bit b)) y hy refl refl)
+    (by-digit (λ (b : ℕ). bit (min 1 b) ≡ both (bit 1) (bit b)) y hy refl refl)
+
+bit-max : (x y : ℕ) → x < 2 → y < 2 → bit (max x y) ≡ either (bit x) (bit y)
+unfolding either
+bit-max x y hx hy =
+    by-digit (λ (a : ℕ). bit (max a y) ≡ either (bit a) (bit y)) x hx
+    (by-digit (λ (b : ℕ). bit (max 0 b) ≡ either (bit 0) (bit b)) y hy refl refl)
+    (by-digit (λ (b : ℕ). bit (max 1 b) ≡ either (bit 1) (bit b)) y hy refl refl)
+
+bit-inj : (x y : ℕ) → x < 2 → y < 2 → bit x ≡ bit y → x ≡ y
+bit-inj x y hx hy =
+    by-digit (λ (a : ℕ). bit a ≡ bit y → a ≡ y) x hx
+    (by-digit (λ (b : ℕ). bit 0 ≡ bit b → 0 ≡ b) y hy (λ e. refl) (λ e. absurd (subst T (sym e) tt)))
+    (by-digit (λ (b : ℕ). bit 1 ≡ bit b → 1 ≡ b) y hy (λ e. absurd (subst T e tt)) (λ e. refl))
+
+and-low : (a b : ℕ) → bitAnd a b % 2 ≡ min (a % 2) (b % 2)
+and-low a b = ap (λ (x : ℕ). x % 2) (and-step a b) ∙ digits-mod (bitAnd (a / 2) (b / 2)) (omega arith)
+
+or-low : (a b : ℕ) → bitOr a b % 2 ≡ max (a % 2) (b % 2)
+or-low a b = ap (λ (x : ℕ). x % 2) (or-step a b) ∙ digits-mod (bitOr (a / 2) (b / 2)) (omega arith)
+
+pub member-low : (a : ℕ) → member 0 a ≡ bit (a % 2)
+unfolding member
+member-low a = ap (λ (x : ℕ). bit (x % 2)) (div-one a)
+
+pub member-high : (p a : ℕ) → member (suc p) a ≡ member p (a / 2)
+unfolding member
+member-high p a = ap (λ (x : ℕ). bit (x % 2)) (ap (λ (k : ℕ). a / 2 ^ k) (sym (one-add p)) ∙ sym (shr-shr a 1 p))
+
+-- ---- membership
+
+-- p is in the intersection exactly if it is in both
+pub member-intersection : (p a b : ℕ) → member p (intersection a b) ≡ both (member p a) (member p b)
+unfolding member intersection
+member-intersection p a b =
+    ap (λ (x : ℕ). bit (x % 2)) (and-shr a b p) ∙ ap bit (and-low (a / 2 ^ p) (b / 2 ^ p))
+    ∙ bit-min (a / 2 ^ p % 2) (b / 2 ^ p % 2) (mod-lt _ (zero-lt-suc 1)) (mod-lt _ (zero-lt-suc 1))
+
+-- p is in the union exactly if it is in either
+pub member-union : (p a b : ℕ) → member p (union a b) ≡ either (member p a) (member p b)
+unfolding member union
+member-union p a b =
+    ap (λ (x : ℕ). bit (x % 2)) (or-shr a b p) ∙ ap bit (or-low (a / 2 ^ p) (b / 2 ^ p))
+    ∙ bit-max (a / 2 ^ p % 2) (b / 2 ^ p % 2) (mod-lt _ (zero-lt-suc 1)) (mod-lt _ (zero-lt-suc 1))
+
+-- two sets with the same members are equal
+pub member-ext : (a b : ℕ) → ((p : ℕ) → member p a ≡ member p b) → a ≡ b
+member-ext a b e = go (a + b) a b (omega arith) (omega arith) e
+  where
+    go : (f a b : ℕ) → a ≤ f → b ≤ f → ((p : ℕ) → member p a ≡ member p b) → a ≡ b
+    go zero a b ha hb e = omega arith
+    go (suc f) a b ha hb e =
+        sym (div-add-mod' a 2)
+        ∙ ap₂ (λ (x y : ℕ). x * 2 + y)
+        (go f (a / 2) (b / 2) (half-le ha) (half-le hb) (λ p. sym (member-high p a) ∙ e (suc p) ∙ member-high p b))
+        (bit-inj (a % 2) (b % 2) (mod-lt a (zero-lt-suc 1)) (mod-lt b (zero-lt-suc 1)) (sym (member-low a) ∙ e 0 ∙ member-low b))
+        ∙ div-add-mod' b 2
+
+pub member-empty : (p : ℕ) → member p 0 ≡ false
+unfolding member
+member-empty p = ap (λ (x : ℕ). bit (x % 2)) (zero-div (2 ^ p))
+
+-- a set of less than p bits does not have p
+pub member-beyond : (p m : ℕ) → m < 2 ^ p → member p m ≡ false
+unfolding member
+member-beyond p m l = ap (λ (x : ℕ). bit (x % 2)) (div-eq-of-lt l)
+
+-- what lies at k and above has no part in the bits below k
+pub member-above : (p k a r : ℕ) → p < k → member p (a * 2 ^ k + r) ≡ member p r
+member-above p zero a r l = absurd (not-suc-le-zero l)
+member-above zero (suc k) a r l = member-low (a * 2 ^ suc k + r) ∙ ap bit (block-odd a k r) ∙ sym (member-low r)
+member-above (suc p) (suc k) a r l =
+    member-high p (a * 2 ^ suc k + r) ∙ ap (member p) (block-half a k r)
+    ∙ member-above p k a (r / 2) (le-of-suc-le-suc l) ∙ sym (member-high p r)
+
+-- a set that is not empty has a member
+pub some-member : (n : ℕ) → (n ≡ 0 → ⊥) → (p : ℕ) × (member p n ≡ true)
+some-member =
+    bin-ind (λ (n : ℕ). (n ≡ 0 → ⊥) → (p : ℕ) × (member p n ≡ true)) (λ h. absurd (h refl))
+    (λ n ih h. step n ih h (n % 2) refl (mod-lt n (zero-lt-suc 1)))
+  where
+    step : (n : ℕ) → ((n / 2 ≡ 0 → ⊥) → (p : ℕ) × (member p (n / 2) ≡ true)) → (n ≡ 0 → ⊥)
+        → (d : ℕ) → n % 2 ≡ d → d < 2 → (p : ℕ) × (member p n ≡ true)
+    step n ih h zero e l =
+        let r = ih (λ z. h (omega arith)) in (suc (r .0), member-high (r .0) n ∙ r .1)
+    step n ih h (suc zero) e l = (0, member-low n ∙ ap bit e)
+    step n ih h (suc (suc d)) e l = absurd (not-suc-le-zero (le-of-suc-le-suc (le-of-suc-le-suc l)))
+
+-- ---- containment: x is within y exactly if every member of x is one of y
+pub within-intro : (x y : ℕ) → ((p : ℕ) → member p x ≡ true → member p y ≡ true) → within x y ≡ true
+unfolding within intersection
+within-intro x y h =
+    eq-eqb (bitAnd x y) x (member-ext (bitAnd x y) x (λ p. member-intersection p x y ∙ both-implied (member p x) (member p y) (h p)))
+
+pub within-elim : (x y : ℕ) → within x y ≡ true → (p : ℕ) → member p x ≡ true → member p y ≡ true
+unfolding within intersection
+within-elim x y e p m =
+    both-right (member p x) (member p y) (sym (member-intersection p x y) ∙ ap (member p) (eqb-true (bitAnd x y) x e) ∙ m)
+
+pub within-refl : (x : ℕ) → within x x ≡ true
+within-refl x = within-intro x x (λ p m. m)
+
+pub within-trans : (x y z : ℕ) → within x y ≡ true → within y z ≡ true → within x z ≡ true
+within-trans x y z h k = within-intro x z (λ p m. within-elim y z k p (within-elim x y h p m))
+
+pub within-antisym : (x y : ℕ) → within x y ≡ true → within y x ≡ true → x ≡ y
+within-antisym x y h k = member-ext x y (λ p. bool-ext (member p x) (member p y) (within-elim x y h p) (within-elim y x k p))
+
+pub empty-within : (x : ℕ) → within 0 x ≡ true
+empty-within x = within-intro 0 x (λ p m. absurd (absurd-false (sym (member-empty p) ∙ m)))
+
+-- ---- the intersection is the largest set within both
+pub intersection-within-left : (x y : ℕ) → within (intersection x y) x ≡ true
+intersection-within-left x y =
+    within-intro (intersection x y) x (λ p m. both-left (member p x) (member p y) (sym (member-intersection p x y) ∙ m))
+
+pub intersection-within-right : (x y : ℕ) → within (intersection x y) y ≡ true
+intersection-within-right x y =
+    within-intro (intersection x y) y (λ p m. both-right (member p x) (member p y) (sym (member-intersection p x y) ∙ m))
+
+pub within-intersection : (z x y : ℕ) → within z x ≡ true → within z y ≡ true → within z (intersection x y) ≡ true
+within-intersection z x y h k =
+    within-intro z (intersection x y) (λ p m. member-intersection p x y ∙ both-true (within-elim z x h p m) (within-elim z y k p m))
+
+-- ---- the union is the smallest set that both are within
+pub within-union-left : (x y : ℕ) → within x (union x y) ≡ true
+within-union-left x y = within-intro x (union x y) (λ p m. member-union p x y ∙ either-left (member p x) (member p y) m)
+
+pub within-union-right : (x y : ℕ) → within y (union x y) ≡ true
+within-union-right x y = within-intro y (union x y) (λ p m. member-union p x y ∙ either-right (member p x) (member p y) m)
+
+pub union-within : (x y z : ℕ) → within x z ≡ true → within y z ≡ true → within (union x y) z ≡ true
+union-within x y z h k =
+    within-intro (union x y) z
+    (λ p m. either-case (member p x) (member p y) (member p z) (within-elim x z h p) (within-elim y z k p) (sym (member-union p x y) ∙ m))
+
+-- ---- a member in common: x meets y exactly if some p is in both
+pub meets-intro : (x y p : ℕ) → member p x ≡ true → member p y ≡ true → meets x y ≡ true
+unfolding meets intersection
+meets-intro x y p h k =
+    ap not
+    (ne-eqb (bitAnd x y) 0
+    (λ e. absurd-false (sym (member-empty p) ∙ ap (member p) (sym e) ∙ member-intersection p x y ∙ both-true h k)))
+
+pub meets-elim : (x y : ℕ) → meets x y ≡ true → (p : ℕ) × (member p x ≡ true) × (member p y ≡ true)
+unfolding meets intersection
+meets-elim x y e =
+    let r = some-member (bitAnd x y) (eqb-false (bitAnd x y) 0 (not-true (eqb (bitAnd x y) 0) e)) in
+    let m = sym (member-intersection (r .0) x y) ∙ r .1 in
+    (r .0, both-left (member (r .0) x) (member (r .0) y) m, both-right (member (r .0) x) (member (r .0) y) m)
+
+pub meets-mono : (g x y : ℕ) → within x y ≡ true → meets g x ≡ true → meets g y ≡ true
+meets-mono g x y h e = let r = meets-elim g x e in meets-intro g y (r .0) (r .1) (within-elim x y h (r .0) (r .2))
+
+-- a set that is not empty meets every set that it lies within
+pub meets-within : (g x : ℕ) → (g ≡ 0 → ⊥) → within g x ≡ true → meets g x ≡ true
+meets-within g x h k = let r = some-member g h in meets-intro g x (r .0) (r .1) (within-elim g x k (r .0) (r .1))
+
+pub meets-empty : (g : ℕ) → meets g 0 ≡ false
+meets-empty g = not-so (meets g 0) (λ e. let r = meets-elim g 0 e in absurd-false (sym (member-empty (r .0)) ∙ r .2))
+
+-- ---- {p} has the one member p
+one-digit : (p : ℕ) → 1 * 2 ^ p + 0 ≡ 2 ^ p
+one-digit p = omega arith
+
+pub member-single-self : (p : ℕ) → member p (single p) ≡ true
+unfolding member single
+member-single-self p = ap (member p) (sym (one-digit p)) ∙ ap (λ (x : ℕ). bit (x % 2)) (high 1 p (pow-pos p))
+
+single-above : (q p : ℕ) → q < p → member q (single p) ≡ false
+unfolding single
+single-above q p l = ap (member q) (sym (one-digit p)) ∙ member-above q p 1 0 l ∙ member-empty q
+
+single-below : (q p : ℕ) → p < q → member q (single p) ≡ false
+unfolding single
+single-below q p l = member-beyond q (2 ^ p) (pow-lt l)
+
+pub member-single : (q p : ℕ) → member q (single p) ≡ true → q ≡ p
+member-single q p e = go (decLt q p) (decLt p q)
+  where
+    go : Dec (q < p) → Dec (p < q) → q ≡ p
+    go (yes l) d = absurd (absurd-false (sym (single-above q p l) ∙ e))
+    go (no h) (yes l) = absurd (absurd-false (sym (single-below q p l) ∙ e))
+    go (no h) (no k) = omega arith
+
+-- {p} is within the sets that have p
+pub single-within : (p m : ℕ) → within (single p) m ≡ member p m
+single-within p m =
+    bool-ext (within (single p) m) (member p m)
+    (λ e. within-elim (single p) m e p (member-single-self p))
+    (λ e. within-intro (single p) m (λ q h. rw (member-single q p h) e))
+
+-- a set meets {p} where p is its member
+pub meets-single : (m p : ℕ) → meets m (single p) ≡ member p m
+meets-single m p =
+    bool-ext (meets m (single p)) (member p m)
+    (λ e. let r = meets-elim m (single p) e in rw (member-single (r .0) p (r .2)) at (r .1))
+    (λ e. meets-intro m (single p) p e (member-single-self p))
+
+-- ---- the first n principals: those below n
+ones-odd : (k : ℕ) → (2 ^ suc k - 1) % 2 ≡ 1
+ones-odd k =
+    ap (λ (j : ℕ). (2 ^ j - 1) % 2) (sym (add-one k)) ∙ ap (λ (x : ℕ). x % 2) (ones-split k 1) ∙ digits-mod (2 ^ k - 1) (lit< tt)
+
+pub member-everyone : (p n : ℕ) → member p (everyone n) ≡ ltb p n
+unfolding everyone member
+member-everyone p n = go (decLt p n)
+  where
+    inside : (k : ℕ) → member p (2 ^ (suc k + p) - 1) ≡ true
+    inside k =
+        ap (member p) (ones-split (suc k) p) ∙ ap (λ (x : ℕ). bit (x % 2)) (high (2 ^ suc k - 1) p (ones-lt p)) ∙ ap bit (ones-odd k)
+
+    go : Dec (p < n) → member p (2 ^ n - 1) ≡ ltb p n
+    go (yes l) =
+        let e : suc (n - suc p) + p ≡ n = omega arith in
+        ap (λ (k : ℕ). member p (2 ^ k - 1)) (sym e) ∙ inside (n - suc p) ∙ sym (lt-ltb p n l)
+    go (no h) =
+        member-beyond p (2 ^ n - 1) (lt-of-lt-of-le (ones-lt n) (pow-mono (omega arith))) ∙ sym (le-ltb p n (omega arith))
+
+-- a set lies within the first n principals exactly if it is a number below 2 ^ n
+pub within-everyone : (n g : ℕ) → g < 2 ^ n → within g (everyone n) ≡ true
+unfolding within everyone
+within-everyone n g l = eq-eqb (bitAnd g (2 ^ n - 1)) g (and-mask g n ∙ mod-eq-of-lt l)
+
+pub everyone-bounds : (n g : ℕ) → within g (everyone n) ≡ true → g < 2 ^ n
+unfolding within everyone
+everyone-bounds n g e =
+    subst (λ (x : ℕ). x < 2 ^ n) (sym (and-mask g n) ∙ eqb-true (bitAnd g (2 ^ n - 1)) g e) (mod-lt g (pow-pos n))
+
+pub single-within-everyone : (p n : ℕ) → p < n → within (single p) (everyone n) ≡ true
+single-within-everyone p n l = single-within p (everyone n) ∙ member-everyone p n ∙ lt-ltb p n l
+
+-- ---- a set restricted to its members below k
+pub member-restrict : (p k m : ℕ) → member p (restrict k m) ≡ both (ltb p k) (member p m)
+unfolding restrict both
+member-restrict p k m = go (decLt p k)
+  where
+    go : Dec (p < k) → member p (m % 2 ^ k) ≡ both (ltb p k) (member p m)
+    go (yes l) = rw (lt-ltb p k l) (sym (ap (member p) (sym (split m k)) ∙ member-above p k (m / 2 ^ k) (m % 2 ^ k) l))
+    go (no h) =
+        rw (le-ltb p k (omega arith)) (member-beyond p (m % 2 ^ k) (lt-of-lt-of-le (mod-lt m (pow-pos k)) (pow-mono (omega arith))))
+
+pub restrict-id : (k m : ℕ) → m < 2 ^ k → restrict k m ≡ m
+unfolding restrict
+restrict-id k m l = mod-eq-of-lt l
+
+pub restrict-single : (k p : ℕ) → p < k → restrict k (single p) ≡ single p
+unfolding single
+restrict-single k p l = restrict-id k (2 ^ p) (pow-lt l)
+
+-- nothing of {p} is left at or below p
+pub restrict-single-out : (k p : ℕ) → k ≤ p → restrict k (single p) ≡ 0
+restrict-single-out k p l =
+    member-ext (restrict k (single p)) 0
+    (λ q. not-so (member q (restrict k (single p)))
+    (λ e.
+    let h = sym (member-restrict q k (single p)) ∙ e in
+    let a : q < k = ltb-true q k (both-left (ltb q k) (member q (single p)) h) in
+    let b : q ≡ p = member-single q p (both-right (ltb q k) (member q (single p)) h) in
+    omega arith)
+    ∙ sym (member-empty q))
+
+pub restrict-everyone : (k n : ℕ) → n ≤ k → restrict k (everyone n) ≡ everyone n
+unfolding everyone
+restrict-everyone k n l = restrict-id k (2 ^ n - 1) (lt-of-lt-of-le (ones-lt n) (pow-mono l))
+
+pub restrict-everyone-full : (k n : ℕ) → k ≤ n → restrict k (everyone n) ≡ everyone k
+restrict-everyone-full k n l =
+    member-ext (restrict k (everyone n)) (everyone k)
+    (λ p. member-restrict p k (everyone n)
+    ∙ both-implied (ltb p k) (member p (everyone n)) (λ e. member-everyone p n ∙ lt-ltb p n (lt-of-lt-of-le (ltb-true p k e) l))
+    ∙ sym (member-everyone p k))
+
+-- `1 << p` at a width of k bits is {p}
+pub shl-one : (k p : ℕ) → p < k → (1 * 2 ^ p) % 2 ^ k ≡ single p
+unfolding single
+shl-one k p l = shl-exact 1 p k (lit< tt) (subst (λ (m : ℕ). m ≤ k) (sym (one-add p)) l) ∙ one-mul (2 ^ p)
+
+-- ---- the algebra of union and intersection
+pub union-of-within : (x y : ℕ) → within x y ≡ true → union x y ≡ y
+union-of-within x y h =
+    within-antisym (union x y) y (union-within x y y h (within-refl y)) (within-union-right x y)
+
+pub intersection-of-within : (x y : ℕ) → within x y ≡ true → intersection x y ≡ x
+intersection-of-within x y h =
+    within-antisym (intersection x y) x (intersection-within-left x y) (within-intersection x x y (within-refl x) h)

@@ -1,0 +1,230 @@
+-- Figures 2 and 3 agree with `eval` and `step`.
+use mathlib.Core.Path.{_≡_, refl, subst}
+use mathlib.Core.Bool.{Bool, true, false}
+use mathlib.Core.List.{[]}
+use Prim.Native.Nat.{ℕ, _+_, _%_, _^_}
+use native.Mathlib.Omega.{arith}
+use Rattle.language.specs.Syntax.{Value, int, err, inl, inr, pkg, blank, has, Expr, val, loc, var, plus, left, right, pack, unpack, Cmd, skip, seq, assign, while, case}
+use Rattle.language.specs.Evaluation.{World, Res, ok, long, stuck, Mem, bind, fit, add, addTo, packed, opened, wanted, unpacked, lookup, eval}
+use Rattle.language.specs.Transition.{inst, Next, final, to, too-long, no-rule, at-seq, at-assign, branch, branchV, step}
+use Rattle.language.specs.Figures.{EStep, ee-loc, ee-inl, ee-inr, ee-plus-struct1, ee-plus-struct2, ee-plus, ee-pack-struct, ee-pack-ok, ee-pack-fail, ee-unpack-struct, ee-unpack-fail1, ee-unpack-fail2, ee-unpack-fail3, ee-unpack-ok, inl-value, inr-value, EStar, e-none, e-more, Step, ec-assign, ec-seq-skip, ec-seq-struct, ec-while-false, ec-while-true, ec-casel, ec-caser, LongExpr, long-value, in-plus1, in-plus2, in-left, in-right, in-pack, in-unpack, LongStep, in-assign, in-seq, in-while, in-case}
+use Rattle.language.specs.Theorems.{Agreement}
+use Rattle.language.proofs.Fit.{by-fit}
+
+-- From `eval` to figure 2.
+
+module _ (W : World) (M : Mem) where
+  pub star-trans : {a b c : Expr} → EStar W M a b → EStar W M b c → EStar W M a c
+  star-trans e-none q = q
+  star-trans (e-more s p) q = e-more s (star-trans p q)
+
+  -- a context that steps go under
+  star-in : (f : Expr → Expr) → ((a b : Expr) → EStep W M a b → EStep W M (f a) (f b)) → {a b : Expr} → EStar W M a b → EStar W M (f a) (f b)
+  star-in f h e-none = e-none
+  star-in f h (e-more s p) = e-more (h _ _ s) (star-in f h p)
+
+  -- steps, and one more
+  star-end : {a b c : Expr} → EStar W M a b → EStep W M b c → EStar W M a c
+  star-end p s = star-trans p (e-more s e-none)
+
+  -- What figure 2 has where evaluating e gives r.
+  abbrev pub Gives : Expr → Res → Type 0
+  Gives e (ok v) = EStar W M e (val v)
+  Gives e long = LongExpr W M e
+  Gives e stuck = Unit {0}
+
+  gives-bind : (a e : Expr) (r : Res) (f : Value → Res) → Gives a r → (LongExpr W M a → LongExpr W M e)
+      → ((v : Value) → EStar W M a (val v) → Gives e (f v)) → Gives e (bind r f)
+  unfolding bind
+  gives-bind a e (ok v) f h l k = k v h
+  gives-bind a e long f h l k = l h
+  gives-bind a e stuck f h l k = tt
+
+  gives-fit : (e : Expr) (v : Value) → EStar W M e (val v) → Gives e (fit v)
+  gives-fit e v h = by-fit (Gives e) v (λ s. h) (λ s. long-value h s)
+
+  gives-add : (e : Expr) (v w : Value) → EStar W M e (plus (val v) (val w)) → Gives e (add v w)
+  unfolding add addTo
+  gives-add e (int m) (int n) p = gives-fit e (int ((m + n) % 2 ^ 32)) (star-end p ee-plus)
+  gives-add e (int m) (err n) p = tt
+  gives-add e (int m) (inl v) p = tt
+  gives-add e (int m) (inr v) p = tt
+  gives-add e (int m) (pkg l v) p = tt
+  gives-add e (int m) blank p = tt
+  gives-add e (err m) w p = tt
+  gives-add e (inl v) w p = tt
+  gives-add e (inr v) w p = tt
+  gives-add e (pkg l v) w p = tt
+  gives-add e blank w p = tt
+
+  gives-pack : (e : Expr) (l : ℕ) (v : Value) (b : Bool) → W .writes l ≡ b → EStar W M e (pack l (val v)) → Gives e (packed b l v)
+  unfolding packed
+  gives-pack e l v true h p = gives-fit e (inl (pkg l v)) (star-end p (ee-pack-ok h))
+  gives-pack e l v false h p = star-end p (ee-pack-fail h)
+
+  gives-open : (e : Expr) (t l m : ℕ) (v : Value) (a b c : Bool) → W .reads l ≡ a → W .below m l ≡ b → has v (wanted (W .ty t)) ≡ c
+      → EStar W M e (unpack t l (val (pkg m v))) → Gives e (opened a b c v)
+  unfolding opened
+  gives-open e t l m v false b c h i j p = star-end p (ee-unpack-fail1 h)
+  gives-open e t l m v true false c h i j p = star-end p (ee-unpack-fail2 h i)
+  gives-open e t l m v true true false h i j p = star-end p (ee-unpack-fail3 h i j)
+  gives-open e t l m v true true true h i j p = gives-fit e (inl v) (star-end p (ee-unpack-ok h i j))
+
+  gives-unpack : (e : Expr) (t l : ℕ) (v : Value) → EStar W M e (unpack t l (val v)) → Gives e (unpacked W t l v)
+  unfolding unpacked
+  gives-unpack e t l (int n) p = tt
+  gives-unpack e t l (err n) p = tt
+  gives-unpack e t l (inl v) p = tt
+  gives-unpack e t l (inr v) p = tt
+  gives-unpack e t l (pkg m v) p = gives-open e t l m v (W .reads l) (W .below m l) (has v (wanted (W .ty t))) refl refl refl p
+  gives-unpack e t l blank p = tt
+
+  pub eval-gives : (e : Expr) → Gives e (eval W [] M e)
+  unfolding eval lookup
+  eval-gives (val v) = e-none
+  eval-gives (loc x) = e-more ee-loc e-none
+  eval-gives (var i) = tt
+  eval-gives (plus a b) =
+      gives-bind a _ (eval W [] M a) _ (eval-gives a) (λ h. in-plus1 h) λ v p.
+      gives-bind b _ (eval W [] M b) _ (eval-gives b) (λ h. in-plus2 h) λ w q.
+      gives-add _ v w (star-trans (star-in (λ x. plus x b) (λ _ _ s. ee-plus-struct1 s) p) (star-in (plus (val v)) (λ _ _ s. ee-plus-struct2 s) q))
+  eval-gives (left t a) = gives-bind a _ (eval W [] M a) _ (eval-gives a) (λ h. in-left h) λ v p.
+      gives-fit _ (inl v) (star-end (star-in (left t) (λ _ _ s. ee-inl s) p) inl-value)
+  eval-gives (right t a) = gives-bind a _ (eval W [] M a) _ (eval-gives a) (λ h. in-right h) λ v p.
+      gives-fit _ (inr v) (star-end (star-in (right t) (λ _ _ s. ee-inr s) p) inr-value)
+  eval-gives (pack l a) = gives-bind a _ (eval W [] M a) _ (eval-gives a) (λ h. in-pack h) λ v p.
+      gives-pack _ l v (W .writes l) refl (star-in (pack l) (λ _ _ s. ee-pack-struct s) p)
+  eval-gives (unpack t l a) = gives-bind a _ (eval W [] M a) _ (eval-gives a) (λ h. in-unpack h) λ v p.
+      gives-unpack _ t l v (star-in (unpack t l) (λ _ _ s. ee-unpack-struct s) p)
+
+-- From figure 2 to `eval`: a step changes the result at most from too long.
+
+pub data Refines : Res → Res → Type 0 where
+  same : {r : Res} → Refines r r
+  was-long : {s : Res} → Refines long s
+
+refines-trans : {r s t : Res} → Refines r s → Refines s t → Refines r t
+refines-trans same q = q
+refines-trans was-long q = was-long
+
+refines-bind : {r s : Res} (f : Value → Res) → Refines r s → Refines (bind r f) (bind s f)
+unfolding bind
+refines-bind f same = same
+refines-bind f was-long = was-long
+
+refines-fit : (v : Value) → Refines (fit v) (ok v)
+refines-fit v = by-fit (λ r. Refines r (ok v)) v (λ s. same) (λ s. was-long)
+
+module _ (W : World) (M : Mem) where
+  step-refines : {a b : Expr} → EStep W M a b → Refines (eval W [] M a) (eval W [] M b)
+  unfolding eval bind add addTo unpacked packed opened
+  step-refines ee-loc = same
+  step-refines (ee-inl s) = refines-bind _ (step-refines s)
+  step-refines (ee-inr s) = refines-bind _ (step-refines s)
+  step-refines (ee-plus-struct1 s) = refines-bind _ (step-refines s)
+  step-refines (ee-plus-struct2 s) = refines-bind _ (step-refines s)
+  step-refines (ee-plus {i₁} {i₂}) = refines-fit (int ((i₁ + i₂) % 2 ^ 32))
+  step-refines (ee-pack-struct s) = refines-bind _ (step-refines s)
+  step-refines (ee-pack-ok {l} {v} p) = rw p (refines-fit (inl (pkg l v)))
+  step-refines (ee-pack-fail p) = rw p same
+  step-refines (ee-unpack-struct s) = refines-bind _ (step-refines s)
+  step-refines (ee-unpack-fail1 p) = rw p same
+  step-refines (ee-unpack-fail2 p q) = rw (p, q) same
+  step-refines (ee-unpack-fail3 p q r) = rw (p, q, r) same
+  step-refines (ee-unpack-ok {v₀ = v} p q r) = rw (p, q, r) (refines-fit (inl v))
+  step-refines (inl-value {v = v}) = refines-fit (inl v)
+  step-refines (inr-value {v = v}) = refines-fit (inr v)
+
+  pub star-refines : {a b : Expr} → EStar W M a b → Refines (eval W [] M a) (eval W [] M b)
+  star-refines e-none = same
+  star-refines (e-more s p) = refines-trans (step-refines s) (star-refines p)
+
+  -- the value of figure 2 is that of `eval`, or `eval` is too long
+  pub star-eval : {e : Expr} {v : Value} → EStar W M e (val v) → Refines (eval W [] M e) (ok v)
+  unfolding eval
+  star-eval p = star-refines p
+
+-- Figure 3 and `step`.
+
+data RefinesN : Next → Next → Type 0 where
+  same-n : {n : Next} → RefinesN n n
+  was-long-n : {n : Next} → RefinesN too-long n
+
+not-long : {n m : Next} → RefinesN n m → ¬ (n ≡ too-long) → n ≡ m
+not-long same-n h = refl
+not-long was-long-n h = absurd (h refl)
+
+not-none : {n m : Next} {M : Mem} {c : Cmd} → RefinesN n m → n ≡ no-rule → ¬ (m ≡ to M c)
+not-none same-n p q = absurd (let z : _≡_ {A = ℕ} 0 1 = cc in omega arith)
+not-none was-long-n p q = absurd (let z : _≡_ {A = ℕ} 0 1 = cc in omega arith)
+
+module _ (W : World) where
+  -- What figure 3 has where `step` gives a result.
+  abbrev pub GivesN : Mem → Cmd → Next → Type 0
+  GivesN M c final = c ≡ skip
+  GivesN M c (to M′ c′) = Step W M c M′ c′
+  GivesN M c too-long = LongStep W M c
+  GivesN M c no-rule = Unit {0}
+
+  gives-seq : (M : Mem) (a c : Cmd) (n : Next) → GivesN M a n → GivesN M (seq a c) (at-seq M c n)
+  unfolding at-seq
+  gives-seq M a c final h = rw h ec-seq-skip
+  gives-seq M a c (to M′ c′) h = ec-seq-struct h
+  gives-seq M a c too-long h = in-seq h
+  gives-seq M a c no-rule h = tt
+
+  gives-assign : (M : Mem) (x : ℕ) (e : Expr) (r : Res) → Gives W M e r → GivesN M (assign x e) (at-assign M x r)
+  unfolding at-assign
+  gives-assign M x e (ok v) h = ec-assign h
+  gives-assign M x e long h = in-assign h
+  gives-assign M x e stuck h = tt
+
+  gives-branch : (M : Mem) (c : Cmd) (e : Expr) (l r : Value → Next) → ((v : Value) → EStar W M e (val (inl v)) → GivesN M c (l v))
+      → ((v : Value) → EStar W M e (val (inr v)) → GivesN M c (r v)) → (LongExpr W M e → LongStep W M c) → (s : Res) → Gives W M e s
+      → GivesN M c (branch l r too-long no-rule s)
+  unfolding branch branchV
+  gives-branch M c e l r p q o (ok (int n)) h = tt
+  gives-branch M c e l r p q o (ok (err n)) h = tt
+  gives-branch M c e l r p q o (ok (inl v)) h = p v h
+  gives-branch M c e l r p q o (ok (inr v)) h = q v h
+  gives-branch M c e l r p q o (ok (pkg k v)) h = tt
+  gives-branch M c e l r p q o (ok blank) h = tt
+  gives-branch M c e l r p q o long h = o h
+  gives-branch M c e l r p q o stuck h = tt
+
+  pub step-gives : (M : Mem) (c : Cmd) → GivesN M c (step W M c)
+  unfolding step
+  step-gives M skip = refl
+  step-gives M (seq a c) = gives-seq M a c (step W M a) (step-gives M a)
+  step-gives M (assign x e) = gives-assign M x e (eval W [] M e) (eval-gives W M e)
+  step-gives M (while e c) = gives-branch M _ e _ _ (λ v p. ec-while-true p) (λ v p. ec-while-false p) (λ h. in-while h) (eval W [] M e) (eval-gives W M e)
+  step-gives M (case e a b) = gives-branch M _ e _ _ (λ v p. ec-casel p) (λ v p. ec-caser p) (λ h. in-case h) (eval W [] M e) (eval-gives W M e)
+
+  refines-seq : (M : Mem) (c : Cmd) {n m : Next} → RefinesN n m → RefinesN (at-seq M c n) (at-seq M c m)
+  unfolding at-seq
+  refines-seq M c same-n = same-n
+  refines-seq M c was-long-n = was-long-n
+
+  -- a function on results that takes long to too-long
+  refines-of : (f : Res → Next) → f long ≡ too-long → {r s : Res} → Refines r s → RefinesN (f r) (f s)
+  refines-of f q same = same-n
+  refines-of f q was-long = rw q was-long-n
+
+  step-has : {M M′ : Mem} {c c′ : Cmd} → Step W M c M′ c′ → RefinesN (step W M c) (to M′ c′)
+  unfolding step at-assign at-seq branch branchV eval
+  step-has (ec-assign {M} {x} p) = refines-of (at-assign M x) refl (star-refines W M p)
+  step-has ec-seq-skip = same-n
+  step-has (ec-seq-struct {M} {c₂ = c} s) = refines-seq M c (step-has s)
+  step-has (ec-while-false {M} {e} {c} p) = refines-of (branch (λ v. to M (seq c (while e c))) (λ v. to M skip) too-long no-rule) refl (star-refines W M p)
+  step-has (ec-while-true {M} {e} {c} p) = refines-of (branch (λ v. to M (seq c (while e c))) (λ v. to M skip) too-long no-rule) refl (star-refines W M p)
+  step-has (ec-casel {M} {e} {c₁} {c₂} p) = refines-of (branch (λ v. to M (inst v c₁)) (λ v. to M (inst v c₂)) too-long no-rule) refl (star-refines W M p)
+  step-has (ec-caser {M} {e} {c₁} {c₂} p) = refines-of (branch (λ v. to M (inst v c₁)) (λ v. to M (inst v c₂)) too-long no-rule) refl (star-refines W M p)
+
+  pub agreement : Agreement W
+  agreement = record {
+    skip-alone = λ M c h. subst (GivesN M c) h (step-gives M c);
+    has-rule = λ M M′ c c′ h. subst (GivesN M c) h (step-gives M c);
+    is-step = λ M M′ c c′ s h. not-long (step-has s) h;
+    has-none = λ M M′ c c′ h s. not-none (step-has s) h refl;
+    is-long = λ M c h. subst (GivesN M c) h (step-gives M c);
+  }

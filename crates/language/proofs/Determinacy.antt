@@ -1,0 +1,136 @@
+-- Lemma 2: figure 3 has at most one transition from a configuration, so at most one trace of each length.
+use mathlib.Core.Path.{_≡_, refl, ap, sym, _∙_, subst}
+use mathlib.Core.Bool.{Bool, true, false, true≢false}
+use Prim.Native.Nat.{ℕ, suc}
+use native.Mathlib.Omega.{arith}
+use Rattle.language.specs.Syntax.{Value, inl, inr, Expr, val, plus, left, right, pack, unpack, Cmd, skip, seq}
+use Rattle.language.specs.Evaluation.{World, Mem}
+use Rattle.language.specs.Transition.{inst, put}
+use Rattle.language.specs.Figures.{EStep, ee-loc, ee-inl, ee-inr, ee-plus-struct1, ee-plus-struct2, ee-plus, ee-pack-struct, ee-pack-ok, ee-pack-fail, ee-unpack-struct, ee-unpack-fail1, ee-unpack-fail2, ee-unpack-fail3, ee-unpack-ok, inl-value, inr-value, EStar, e-none, e-more, Step, ec-assign, ec-seq-skip, ec-seq-struct, ec-while-false, ec-while-true, ec-casel, ec-caser, Steps, s-none, s-more}
+use Rattle.language.specs.Theorems.{Determinacy}
+
+module _ (W : World) (M : Mem) where
+  val-rests : {v : Value} {e : Expr} → ¬ EStep W M (val v) e
+  val-rests = elim [ ]
+
+  apart : {b : Bool} {A : Type 0} → b ≡ true → b ≡ false → A
+  apart p q = absurd (true≢false (sym p ∙ q))
+
+  step-once : {e a b : Expr} → EStep W M e a → EStep W M e b → a ≡ b
+  step-once ee-loc ee-loc = refl
+  step-once (ee-inl {t = t} s) (ee-inl s′) = ap (left t) (step-once s s′)
+  step-once (ee-inl s) inl-value = absurd (val-rests s)
+  step-once inl-value (ee-inl s) = absurd (val-rests s)
+  step-once inl-value inl-value = refl
+  step-once (ee-inr {t = t} s) (ee-inr s′) = ap (right t) (step-once s s′)
+  step-once (ee-inr s) inr-value = absurd (val-rests s)
+  step-once inr-value (ee-inr s) = absurd (val-rests s)
+  step-once inr-value inr-value = refl
+  step-once (ee-plus-struct1 {e₂ = c} s) (ee-plus-struct1 s′) = ap (λ x. plus x c) (step-once s s′)
+  step-once (ee-plus-struct1 s) (ee-plus-struct2 s′) = absurd (val-rests s)
+  step-once (ee-plus-struct1 s) ee-plus = absurd (val-rests s)
+  step-once (ee-plus-struct2 s) (ee-plus-struct1 s′) = absurd (val-rests s′)
+  step-once (ee-plus-struct2 {v} s) (ee-plus-struct2 s′) = ap (plus (val v)) (step-once s s′)
+  step-once (ee-plus-struct2 s) ee-plus = absurd (val-rests s)
+  step-once ee-plus (ee-plus-struct1 s′) = absurd (val-rests s′)
+  step-once ee-plus (ee-plus-struct2 s′) = absurd (val-rests s′)
+  step-once ee-plus ee-plus = refl
+  step-once (ee-pack-struct {l} s) (ee-pack-struct s′) = ap (pack l) (step-once s s′)
+  step-once (ee-pack-struct s) (ee-pack-ok p) = absurd (val-rests s)
+  step-once (ee-pack-struct s) (ee-pack-fail p) = absurd (val-rests s)
+  step-once (ee-pack-ok p) (ee-pack-struct s) = absurd (val-rests s)
+  step-once (ee-pack-ok p) (ee-pack-ok q) = refl
+  step-once (ee-pack-ok p) (ee-pack-fail q) = apart p q
+  step-once (ee-pack-fail p) (ee-pack-struct s) = absurd (val-rests s)
+  step-once (ee-pack-fail p) (ee-pack-ok q) = apart q p
+  step-once (ee-pack-fail p) (ee-pack-fail q) = refl
+  step-once (ee-unpack-struct {t} {l} s) (ee-unpack-struct s′) = ap (unpack t l) (step-once s s′)
+  step-once (ee-unpack-struct s) (ee-unpack-fail1 p) = absurd (val-rests s)
+  step-once (ee-unpack-struct s) (ee-unpack-fail2 p q) = absurd (val-rests s)
+  step-once (ee-unpack-struct s) (ee-unpack-fail3 p q r) = absurd (val-rests s)
+  step-once (ee-unpack-struct s) (ee-unpack-ok p q r) = absurd (val-rests s)
+  step-once (ee-unpack-fail1 p) (ee-unpack-struct s) = absurd (val-rests s)
+  step-once (ee-unpack-fail1 p) (ee-unpack-fail1 p′) = refl
+  step-once (ee-unpack-fail1 p) (ee-unpack-fail2 p′ q′) = apart p′ p
+  step-once (ee-unpack-fail1 p) (ee-unpack-fail3 p′ q′ r′) = apart p′ p
+  step-once (ee-unpack-fail1 p) (ee-unpack-ok p′ q′ r′) = apart p′ p
+  step-once (ee-unpack-fail2 p q) (ee-unpack-struct s) = absurd (val-rests s)
+  step-once (ee-unpack-fail2 p q) (ee-unpack-fail1 p′) = apart p p′
+  step-once (ee-unpack-fail2 p q) (ee-unpack-fail2 p′ q′) = refl
+  step-once (ee-unpack-fail2 p q) (ee-unpack-fail3 p′ q′ r′) = apart q′ q
+  step-once (ee-unpack-fail2 p q) (ee-unpack-ok p′ q′ r′) = apart q′ q
+  step-once (ee-unpack-fail3 p q r) (ee-unpack-struct s) = absurd (val-rests s)
+  step-once (ee-unpack-fail3 p q r) (ee-unpack-fail1 p′) = apart p p′
+  step-once (ee-unpack-fail3 p q r) (ee-unpack-fail2 p′ q′) = apart q q′
+  step-once (ee-unpack-fail3 p q r) (ee-unpack-fail3 p′ q′ r′) = refl
+  step-once (ee-unpack-fail3 p q r) (ee-unpack-ok p′ q′ r′) = apart r′ r
+  step-once (ee-unpack-ok p q r) (ee-unpack-struct s) = absurd (val-rests s)
+  step-once (ee-unpack-ok p q r) (ee-unpack-fail1 p′) = apart p p′
+  step-once (ee-unpack-ok p q r) (ee-unpack-fail2 p′ q′) = apart q q′
+  step-once (ee-unpack-ok p q r) (ee-unpack-fail3 p′ q′ r′) = apart r r′
+  step-once (ee-unpack-ok p q r) (ee-unpack-ok p′ q′ r′) = refl
+
+  -- an expression has at most one value
+  star-once : {e : Expr} {v w : Value} → EStar W M e (val v) → EStar W M e (val w) → v ≡ w
+  star-once e-none q = from-val q
+    where
+      from-val : {v w : Value} → EStar W M (val v) (val w) → v ≡ w
+      from-val e-none = refl
+      from-val (e-more s p) = absurd (val-rests s)
+  star-once (e-more s p) e-none = absurd (val-rests s)
+  star-once {w = w} (e-more s p) (e-more s′ p′) = star-once p (subst (λ x. EStar W M x (val w)) (sym (step-once s s′)) p′)
+
+  inl-path : {v w : Value} → inl v ≡ inl w → v ≡ w
+  inl-path h = cc
+
+  inr-path : {v w : Value} → inr v ≡ inr w → v ≡ w
+  inr-path h = cc
+
+  -- no expression has a left and a right value
+  not-both : {e : Expr} {v w : Value} {A : Type 0} → EStar W M e (val (inl v)) → EStar W M e (val (inr w)) → A
+  not-both {v = v} {w} p q =
+      let h : inl v ≡ inr w = star-once p q in
+      absurd (let z : _≡_ {A = ℕ} 0 1 = cc in omega arith)
+
+module _ (W : World) where
+  skip-rests : {M M′ : Mem} {c : Cmd} → ¬ Step W M skip M′ c
+  skip-rests = elim [ ]
+
+  pub once : {M M₁ M₂ : Mem} {c c₁ c₂ : Cmd} → Step W M c M₁ c₁ → Step W M c M₂ c₂ → (M₁ ≡ M₂) × (c₁ ≡ c₂)
+  once (ec-assign {M} {x} p) (ec-assign q) = (ap (put M x) (star-once W M p q), refl)
+  once ec-seq-skip ec-seq-skip = (refl, refl)
+  once ec-seq-skip (ec-seq-struct s) = absurd (skip-rests s)
+  once (ec-seq-struct s) ec-seq-skip = absurd (skip-rests s)
+  once (ec-seq-struct {c₂ = c} s) (ec-seq-struct s′) =
+      let h = once s s′ in
+      (h .0, ap (λ a. seq a c) (h .1))
+  once (ec-while-false p) (ec-while-false q) = (refl, refl)
+  once (ec-while-false p) (ec-while-true q) = not-both W _ q p
+  once (ec-while-true p) (ec-while-false q) = not-both W _ p q
+  once (ec-while-true p) (ec-while-true q) = (refl, refl)
+  once (ec-casel {M} {c₁ = a} p) (ec-casel q) = (refl, ap (λ v. inst v a) (inl-path W M (star-once W M p q)))
+  once (ec-casel p) (ec-caser q) = not-both W _ p q
+  once (ec-caser p) (ec-casel q) = not-both W _ q p
+  once (ec-caser {M} {c₂ = b} p) (ec-caser q) = (refl, ap (λ v. inst v b) (inr-path W M (star-once W M p q)))
+
+  pub trace-once : {k : ℕ} {M M₁ M₂ : Mem} {c c₁ c₂ : Cmd} → Steps W k M c M₁ c₁ → Steps W k M c M₂ c₂ → (M₁ ≡ M₂) × (c₁ ≡ c₂)
+  trace-once s-none s-none = (refl, refl)
+  trace-once {k = suc k} {M₂ = M₂} {c₂ = c₂} (s-more s p) (s-more {M₁ = N} {c₁ = d} s′ p′) =
+      let h = once s s′ in
+      trace-once p (subst (λ (z : Mem × Cmd). Steps W k (z .0) (z .1) M₂ c₂) (λ i. (sym (h .0) i, sym (h .1) i)) p′)
+
+  end-once : {j k : ℕ} {M M₁ M₂ : Mem} {c : Cmd} → Steps W j M c M₁ skip → Steps W k M c M₂ skip → (j ≡ k) × (M₁ ≡ M₂)
+  end-once s-none s-none = (refl, refl)
+  end-once s-none (s-more s p) = absurd (skip-rests s)
+  end-once (s-more s p) s-none = absurd (skip-rests s)
+  end-once {M₂ = M₂} (s-more s p) (s-more {k} s′ p′) =
+      let h = once s s′ in
+      let t = end-once p (subst (λ (z : Mem × Cmd). Steps W k (z .0) (z .1) M₂ skip) (λ i. (sym (h .0) i, sym (h .1) i)) p′) in
+      (ap suc (t .0), t .1)
+
+  pub determinacy : Determinacy W
+  determinacy = record {
+    one-step = λ M M₁ M₂ c c₁ c₂ p q. once p q;
+    one-trace = λ k M M₁ M₂ c c₁ c₂ p q. trace-once p q;
+    one-end = λ j k M M₁ M₂ c p q. end-once p q;
+  }

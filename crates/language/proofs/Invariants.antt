@@ -1,0 +1,301 @@
+-- A property of values that evaluation keeps, runs keep: it holds of every value in every memory that a run reaches.
+use mathlib.Core.Path.{_≡_, subst}
+use mathlib.Core.Bool.{Bool, true, false, cond}
+use mathlib.Core.List.{[], _∷_}
+use Prim.Native.Nat.{ℕ, zero, suc, _+_, _%_, _^_, _≤_, _<_}
+use native.Mathlib.Nat.{mod-lt}
+use native.Mathlib.Omega.{arith}
+use lib.Dec.{eqb}
+use Rattle.language.specs.Syntax.{Value, int, err, inl, inr, pkg, blank, size, has, Expr, val, loc, var, plus, left, right, pack, unpack, Cmd, skip, seq, assign, while, case}
+use Rattle.language.specs.Evaluation.{World, Res, ok, long, stuck, Mem, Env, cell-words, bind, fit, add, addTo, packed, opened, wanted, unpacked, lookup, eval}
+use Rattle.language.specs.Transition.{lift, close-var, closeE, close, inst, put, Next, final, to, too-long, no-rule, at-seq, at-assign, branch, branchV, step, done, iterate}
+use Rattle.language.specs.Figures.{Steps}
+use Rattle.language.specs.Theorems.{NoneLong}
+use Rattle.language.proofs.Fit.{by-fit}
+use Rattle.language.proofs.Traces.{Trace, Stops, stops-done, iterate-stops, trace-keeps, steps-trace}
+
+-- P holds of what evaluation makes of values that have it. A pack may name the labels `named`.
+pub record Kept (P : Value → Type 0) (named : ℕ → Type 0) : Type 0 where
+  pub sum : (n : ℕ) → n < 2 ^ 32 → P (int n)
+  pub error : (e : ℕ) → 1 ≤ e → e ≤ 3 → P (inr (err e))
+  pub to-left : (v : Value) → P v → size (inl v) ≤ cell-words → P (inl v)
+  pub to-right : (v : Value) → P v → size (inr v) ≤ cell-words → P (inr v)
+  pub to-package : (l : ℕ) (v : Value) → named l → P v → size (inl (pkg l v)) ≤ cell-words → P (inl (pkg l v))
+  pub from-left : (v : Value) → P (inl v) → P v
+  pub from-right : (v : Value) → P (inr v) → P v
+  pub from-package : (l : ℕ) (v : Value) → P (pkg l v) → P v
+
+-- P holds of the values in an expression, and its packs name such labels.
+pub data UsesE (P : Value → Type 0) (named : ℕ → Type 0) : Expr → Type 0 where
+  u-val : {v : Value} → P v → UsesE P named (val v)
+  u-loc : {x : ℕ} → UsesE P named (loc x)
+  u-var : {i : ℕ} → UsesE P named (var i)
+  u-plus : {a b : Expr} → UsesE P named a → UsesE P named b → UsesE P named (plus a b)
+  u-left : {t : ℕ} {a : Expr} → UsesE P named a → UsesE P named (left t a)
+  u-right : {t : ℕ} {a : Expr} → UsesE P named a → UsesE P named (right t a)
+  u-pack : {l : ℕ} {a : Expr} → named l → UsesE P named a → UsesE P named (pack l a)
+  u-unpack : {t l : ℕ} {a : Expr} → UsesE P named a → UsesE P named (unpack t l a)
+
+pub data Uses (P : Value → Type 0) (named : ℕ → Type 0) : Cmd → Type 0 where
+  u-skip : Uses P named skip
+  u-seq : {a b : Cmd} → Uses P named a → Uses P named b → Uses P named (seq a b)
+  u-assign : {x : ℕ} {e : Expr} → UsesE P named e → Uses P named (assign x e)
+  u-while : {e : Expr} {c : Cmd} → UsesE P named e → Uses P named c → Uses P named (while e c)
+  u-case : {e : Expr} {a b : Cmd} → UsesE P named e → Uses P named a → Uses P named b → Uses P named (case e a b)
+
+pub data AllOf (P : Value → Type 0) : Env → Type 0 where
+  all-none : AllOf P []
+  all-more : {v : Value} {ρ : Env} → P v → AllOf P ρ → AllOf P (v ∷ ρ)
+
+module _ (P : Value → Type 0) (named : ℕ → Type 0) where
+  -- Substitution.
+
+  uses-lift : {e : Expr} → UsesE P named e → UsesE P named (lift e)
+  unfolding lift
+  uses-lift (u-val h) = u-val h
+  uses-lift u-loc = u-loc
+  uses-lift u-var = u-var
+  uses-lift (u-plus a b) = u-plus (uses-lift a) (uses-lift b)
+  uses-lift (u-left a) = u-left (uses-lift a)
+  uses-lift (u-right a) = u-right (uses-lift a)
+  uses-lift (u-pack n a) = u-pack n (uses-lift a)
+  uses-lift (u-unpack a) = u-unpack (uses-lift a)
+
+  uses-close-var : (d : ℕ) {ρ : Env} → AllOf P ρ → (i : ℕ) → UsesE P named (close-var d ρ i)
+  unfolding close-var
+  uses-close-var zero all-none i = u-var
+  uses-close-var zero (all-more h r) zero = u-val h
+  uses-close-var zero (all-more h r) (suc i) = uses-close-var zero r i
+  uses-close-var (suc d) r zero = u-var
+  uses-close-var (suc d) r (suc i) = uses-lift (uses-close-var d r i)
+
+  uses-closeE : (d : ℕ) {ρ : Env} → AllOf P ρ → {e : Expr} → UsesE P named e → UsesE P named (closeE d ρ e)
+  unfolding closeE
+  uses-closeE d r (u-val h) = u-val h
+  uses-closeE d r u-loc = u-loc
+  uses-closeE d r (u-var {i}) = uses-close-var d r i
+  uses-closeE d r (u-plus a b) = u-plus (uses-closeE d r a) (uses-closeE d r b)
+  uses-closeE d r (u-left a) = u-left (uses-closeE d r a)
+  uses-closeE d r (u-right a) = u-right (uses-closeE d r a)
+  uses-closeE d r (u-pack n a) = u-pack n (uses-closeE d r a)
+  uses-closeE d r (u-unpack a) = u-unpack (uses-closeE d r a)
+
+  uses-close : (d : ℕ) {ρ : Env} → AllOf P ρ → {c : Cmd} → Uses P named c → Uses P named (close d ρ c)
+  unfolding close
+  uses-close d r u-skip = u-skip
+  uses-close d r (u-seq a b) = u-seq (uses-close d r a) (uses-close d r b)
+  uses-close d r (u-assign e) = u-assign (uses-closeE d r e)
+  uses-close d r (u-while e c) = u-while (uses-closeE d r e) (uses-close d r c)
+  uses-close d r (u-case e a b) = u-case (uses-closeE d r e) (uses-close (suc d) r a) (uses-close (suc d) r b)
+
+  uses-inst : (v : Value) {c : Cmd} → P v → Uses P named c → Uses P named (inst v c)
+  unfolding inst
+  uses-inst v h c = uses-close zero (all-more h all-none) c
+
+  -- Evaluation.
+
+  -- where there is a value, P holds of it
+  abbrev pub Has : Res → Type 0
+  Has (ok v) = P v
+  Has long = Unit {0}
+  Has stuck = Unit {0}
+
+  has-bind : (r : Res) (f : Value → Res) → Has r → ((v : Value) → P v → Has (f v)) → Has (bind r f)
+  unfolding bind
+  has-bind (ok v) f h k = k v h
+  has-bind long f h k = tt
+  has-bind stuck f h k = tt
+
+  has-fit : (v : Value) → (size v ≤ cell-words → P v) → Has (fit v)
+  has-fit v h = by-fit Has v h (λ s. tt)
+
+  module _ (K : Kept P named) (W : World) where
+    has-add : (v w : Value) → Has (add v w)
+    unfolding add addTo
+    has-add (int m) (int n) = has-fit (int ((m + n) % 2 ^ 32)) λ s. K .sum _ (mod-lt (m + n) (omega arith))
+    has-add (int m) (err n) = tt
+    has-add (int m) (inl v) = tt
+    has-add (int m) (inr v) = tt
+    has-add (int m) (pkg l v) = tt
+    has-add (int m) blank = tt
+    has-add (err m) w = tt
+    has-add (inl v) w = tt
+    has-add (inr v) w = tt
+    has-add (pkg l v) w = tt
+    has-add blank w = tt
+
+    has-pack : (b : Bool) (l : ℕ) (v : Value) → named l → P v → Has (packed b l v)
+    unfolding packed
+    has-pack true l v n h = has-fit (inl (pkg l v)) (K .to-package l v n h)
+    has-pack false l v n h = K .error 1 (omega arith) (omega arith)
+
+    has-open : (a b c : Bool) (v : Value) → P v → Has (opened a b c v)
+    unfolding opened
+    has-open false b c v h = K .error 1 (omega arith) (omega arith)
+    has-open true false c v h = K .error 2 (omega arith) (omega arith)
+    has-open true true false v h = K .error 3 (omega arith) (omega arith)
+    has-open true true true v h = has-fit (inl v) (K .to-left v h)
+
+    has-unpack : (t l : ℕ) (v : Value) → P v → Has (unpacked W t l v)
+    unfolding unpacked
+    has-unpack t l (int n) h = tt
+    has-unpack t l (err n) h = tt
+    has-unpack t l (inl v) h = tt
+    has-unpack t l (inr v) h = tt
+    has-unpack t l (pkg m v) h = has-open (W .reads l) (W .below m l) (has v (wanted (W .ty t))) v (K .from-package m v h)
+    has-unpack t l blank h = tt
+
+    has-lookup : {ρ : Env} → AllOf P ρ → (i : ℕ) → Has (lookup ρ i)
+    unfolding lookup
+    has-lookup all-none i = tt
+    has-lookup (all-more h r) zero = h
+    has-lookup (all-more h r) (suc i) = has-lookup r i
+
+    -- Evaluation keeps P.
+    pub keeps-eval : {ρ : Env} {M : Mem} → AllOf P ρ → ((x : ℕ) → P (M x)) → {e : Expr} → UsesE P named e → Has (eval W ρ M e)
+    unfolding eval
+    keeps-eval r m (u-val h) = h
+    keeps-eval r m (u-loc {x}) = m x
+    keeps-eval r m (u-var {i}) = has-lookup r i
+    keeps-eval r m (u-plus a b) = has-bind _ _ (keeps-eval r m a) λ v h. has-bind _ _ (keeps-eval r m b) λ w k. has-add v w
+    keeps-eval r m (u-left a) = has-bind _ _ (keeps-eval r m a) λ v h. has-fit (inl v) (K .to-left v h)
+    keeps-eval r m (u-right a) = has-bind _ _ (keeps-eval r m a) λ v h. has-fit (inr v) (K .to-right v h)
+    keeps-eval r m (u-pack {l} n a) = has-bind _ _ (keeps-eval r m a) λ v h. has-pack (W .writes l) l v n h
+    keeps-eval r m (u-unpack {t} {l} a) = has-bind _ _ (keeps-eval r m a) λ v h. has-unpack t l v h
+
+    -- Transitions.
+
+    -- P holds throughout a configuration
+    pub record Through (M : Mem) (c : Cmd) : Type 0 where
+      pub memory : (x : ℕ) → P (M x)
+      pub command : Uses P named c
+
+    abbrev ThroughNext : Next → Type 0
+    ThroughNext final = Unit {0}
+    ThroughNext (to M c) = Through M c
+    ThroughNext too-long = Unit {0}
+    ThroughNext no-rule = Unit {0}
+
+    through-seq : (M : Mem) (c : Cmd) (n : Next) → ((x : ℕ) → P (M x)) → Uses P named c → ThroughNext n → ThroughNext (at-seq M c n)
+    unfolding at-seq
+    through-seq M c final m u h = record { memory = m; command = u }
+    through-seq M c (to M′ c′) m u h = record { memory = h .memory; command = u-seq (h .command) u }
+    through-seq M c too-long m u h = tt
+    through-seq M c no-rule m u h = tt
+
+    through-put : (M : Mem) (x : ℕ) (v : Value) → ((y : ℕ) → P (M y)) → P v → (y : ℕ) → P (put M x v y)
+    unfolding put
+    through-put M x v m h y = on (eqb x y)
+      where
+        on : (b : Bool) → P (cond b v (M y))
+        on true = h
+        on false = m y
+
+    through-assign : (M : Mem) (x : ℕ) (r : Res) → ((y : ℕ) → P (M y)) → Has r → ThroughNext (at-assign M x r)
+    unfolding at-assign
+    through-assign M x (ok v) m h = record { memory = through-put M x v m h; command = u-skip }
+    through-assign M x long m h = tt
+    through-assign M x stuck m h = tt
+
+    through-branch : (l r : Value → Next) (s : Res) → Has s → ((v : Value) → P v → ThroughNext (l v)) → ((v : Value) → P v → ThroughNext (r v))
+        → ThroughNext (branch l r too-long no-rule s)
+    unfolding branch branchV
+    through-branch l r (ok (int n)) h p q = tt
+    through-branch l r (ok (err n)) h p q = tt
+    through-branch l r (ok (inl v)) h p q = p v (K .from-left v h)
+    through-branch l r (ok (inr v)) h p q = q v (K .from-right v h)
+    through-branch l r (ok (pkg k v)) h p q = tt
+    through-branch l r (ok blank) h p q = tt
+    through-branch l r long h p q = tt
+    through-branch l r stuck h p q = tt
+
+    through-step : (M : Mem) → ((x : ℕ) → P (M x)) → {c : Cmd} → Uses P named c → ThroughNext (step W M c)
+    unfolding step
+    through-step M m u-skip = tt
+    through-step M m (u-seq a b) = through-seq M _ _ m b (through-step M m a)
+    through-step M m (u-assign {x} e) = through-assign M x _ m (keeps-eval all-none m e)
+    through-step M m (u-while e c) = through-branch _ _ _ (keeps-eval all-none m e)
+        (λ v h. record { memory = m; command = u-seq c (u-while e c) }) (λ v h. record { memory = m; command = u-skip })
+    through-step M m (u-case e a b) = through-branch _ _ _ (keeps-eval all-none m e)
+        (λ v h. record { memory = m; command = uses-inst v h a }) (λ v h. record { memory = m; command = uses-inst v h b })
+
+    pub keeps-step : (M M′ : Mem) (c c′ : Cmd) → Through M c → step W M c ≡ to M′ c′ → Through M′ c′
+    keeps-step M M′ c c′ i h = subst ThroughNext h (through-step M (i .memory) (i .command))
+
+    pub keeps-trace : {k : ℕ} {M M′ : Mem} {c c′ : Cmd} → Trace W k M c M′ c′ → Through M c → Through M′ c′
+    keeps-trace t i = trace-keeps W Through keeps-step t i
+
+    keeps-stop : {b l : ℕ} {M M′ : Mem} {c : Cmd} → Stops W b M c (done M′ l) → Through M c → Through M′ skip
+    keeps-stop (stops-done e t) i = keeps-trace t i
+
+    -- A done run keeps P: it holds of every value that the run leaves, if it holds of the values before and in the script.
+    pub keeps : (b l : ℕ) (M M′ : Mem) (c : Cmd) → Uses P named c → ((x : ℕ) → P (M x)) → iterate W b M c ≡ done M′ l → (x : ℕ) → P (M′ x)
+    keeps b l M M′ c u m h = (keeps-stop (subst (Stops W b M c) h (iterate-stops W b M c)) (record { memory = m; command = u })) .memory
+
+    -- So does every memory on the way of a run.
+    pub keeps-steps : (k : ℕ) (M M′ : Mem) (c c′ : Cmd) → Uses P named c → ((x : ℕ) → P (M x)) → Steps W k M c M′ c′ → NoneLong W k M c → (x : ℕ) → P (M′ x)
+    keeps-steps k M M′ c c′ u m s n = (keeps-trace (steps-trace W s n) (record { memory = m; command = u })) .memory
+
+-- Properties that are kept.
+
+-- no value is too long
+abbrev pub Fits : Value → Type 0
+Fits v = size v ≤ cell-words
+
+abbrev pub Anywhere : ℕ → Type 0
+Anywhere l = Unit {0}
+
+pub fits-kept : {named : ℕ → Type 0} → Kept Fits named
+unfolding size
+fits-kept = record {
+  sum = λ n h. omega arith;
+  error = λ e h k. omega arith;
+  to-left = λ v h s. s;
+  to-right = λ v h s. s;
+  to-package = λ l v n h s. s;
+  from-left = λ v h. omega arith;
+  from-right = λ v h. omega arith;
+  from-package = λ l v h. omega arith;
+}
+
+-- integers below 2^32, errors 1 to 3, packages with a label of `named`, and nothing blank, at any depth
+pub data Legal (named : ℕ → Type 0) : Value → Type 0 where
+  legal-int : {n : ℕ} → n < 2 ^ 32 → Legal named (int n)
+  legal-err : {e : ℕ} → 1 ≤ e → e ≤ 3 → Legal named (err e)
+  legal-inl : {v : Value} → Legal named v → Legal named (inl v)
+  legal-inr : {v : Value} → Legal named v → Legal named (inr v)
+  legal-pkg : {l : ℕ} {v : Value} → named l → Legal named v → Legal named (pkg l v)
+
+in-left : {named : ℕ → Type 0} {v : Value} → Legal named (inl v) → Legal named v
+in-left (legal-inl h) = h
+
+in-right : {named : ℕ → Type 0} {v : Value} → Legal named (inr v) → Legal named v
+in-right (legal-inr h) = h
+
+in-package : {named : ℕ → Type 0} {l : ℕ} {v : Value} → Legal named (pkg l v) → Legal named v
+in-package (legal-pkg n h) = h
+
+pub legal-kept : {named : ℕ → Type 0} → Kept (Legal named) named
+legal-kept = record {
+  sum = λ n h. legal-int h;
+  error = λ e h k. legal-inr (legal-err h k);
+  to-left = λ v h s. legal-inl h;
+  to-right = λ v h s. legal-inr h;
+  to-package = λ l v n h s. legal-inl (legal-pkg n h);
+  from-left = λ v h. in-left h;
+  from-right = λ v h. in-right h;
+  from-package = λ l v h. in-package h;
+}
+
+-- two properties at once
+pub both-kept : {P Q : Value → Type 0} {named : ℕ → Type 0} → Kept P named → Kept Q named → Kept (λ v. P v × Q v) named
+both-kept p q = record {
+  sum = λ n h. (p .sum n h, q .sum n h);
+  error = λ e h k. (p .error e h k, q .error e h k);
+  to-left = λ v h s. (p .to-left v (h .0) s, q .to-left v (h .1) s);
+  to-right = λ v h s. (p .to-right v (h .0) s, q .to-right v (h .1) s);
+  to-package = λ l v n h s. (p .to-package l v n (h .0) s, q .to-package l v n (h .1) s);
+  from-left = λ v h. (p .from-left v (h .0), q .from-left v (h .1));
+  from-right = λ v h. (p .from-right v (h .0), q .from-right v (h .1));
+  from-package = λ l v h. (p .from-package l v (h .0), q .from-package l v (h .1));
+}

@@ -1,0 +1,199 @@
+-- The outcome of `iterate` is the one by which the run of the figures ends.
+use mathlib.Core.Path.{_≡_, refl, sym, _∙_, subst}
+use mathlib.Core.Bool.{true}
+use mathlib.Core.Option.{some}
+use mathlib.Core.List.{List, []}
+use Prim.Native.Nat.{ℕ, zero, suc, _≤_, _<_}
+use native.Mathlib.Omega.{arith}
+use Rattle.language.specs.Syntax.{Ty, t-int, t-pkg, Value, int, err, inl, inr, pkg, blank, size, Expr, val, loc, var, plus, left, right, pack, unpack, Cmd, skip, seq, assign, while, case}
+use Rattle.language.specs.Evaluation.{World, Res, ok, long, stuck, Mem, bind, eval}
+use Rattle.language.specs.Transition.{Next, final, to, too-long, no-rule, at-seq, at-assign, branch, step, Out, done, spent, over, after, run, iterate}
+use Rattle.language.specs.Figures.{Step, Steps, s-none, s-more, LongExpr, long-value, in-plus1, in-plus2, in-left, in-right, in-pack, in-unpack, LongStep, in-assign, in-seq, in-while, in-case}
+use Rattle.language.specs.Typing.{Shapes, typeOfValue, typeOf, shape}
+use Rattle.language.specs.Theorems.{SameTypes, Fitting, NoneLong, Ends, ends-done, ends-spent, ends-over, Outcome}
+use Rattle.language.proofs.Booleans.{both-left, both-right}
+use Rattle.language.proofs.Types.{none-some, isTy-path, hasTy-path, given-path, leftIs-path, rightIs-path, onSum-path}
+use Rattle.language.proofs.Agreement.{agreement, Refines, same, was-long, star-eval}
+use Rattle.language.proofs.Determinacy.{once}
+use Rattle.language.proofs.Interpreter.{run-skip}
+use Rattle.language.proofs.Traces.{Trace, t-none, t-more, Stops, stops-done, stops-spent, stops-over, stops-wrong, iterate-stops, trace-run, trace-steps, steps-trace}
+use Rattle.language.proofs.Invariants.{Fits, Anywhere, fits-kept, UsesE, u-val, u-loc, u-var, u-plus, u-left, u-right, u-pack, u-unpack, Uses, u-skip, u-seq, u-assign, u-while, u-case, all-none, Has, Through, keeps-eval, keeps-step, keeps-trace}
+use Rattle.language.proofs.TypeSoundness.{Fine, has-rule, trace-fine, start-fine}
+
+-- No value of a script that passes `shape` is too long: its literals are integers.
+
+fits-expr : (S : Shapes) (Γ : List Ty) (e : Expr) (t : Ty) → typeOf S Γ e ≡ some t → UsesE Fits Anywhere e
+unfolding typeOf typeOfValue size
+fits-expr S Γ (val (int n)) t h = u-val {v = int n} (omega arith)
+fits-expr S Γ (val (err n)) t h = none-some h
+fits-expr S Γ (val (inl v)) t h = none-some h
+fits-expr S Γ (val (inr v)) t h = none-some h
+fits-expr S Γ (val (pkg l v)) t h = none-some h
+fits-expr S Γ (val blank) t h = none-some h
+fits-expr S Γ (loc x) t h = u-loc
+fits-expr S Γ (var i) t h = u-var
+fits-expr S Γ (plus a b) t h =
+    let g = given-path _ _ _ h in
+    u-plus (fits-expr S Γ a t-int (isTy-path t-int _ (both-left _ _ (g .0)))) (fits-expr S Γ b t-int (isTy-path t-int _ (both-right _ _ (g .0))))
+fits-expr S Γ (left n a) t h =
+    let l = leftIs-path _ _ (given-path _ _ _ h .0) in
+    u-left (fits-expr S Γ a (l .0) (l .3))
+fits-expr S Γ (right n a) t h =
+    let l = rightIs-path _ _ (given-path _ _ _ h .0) in
+    u-right (fits-expr S Γ a (l .1) (l .3))
+fits-expr S Γ (pack l a) t h =
+    let k = hasTy-path _ (given-path _ _ _ h .0) in
+    u-pack tt (fits-expr S Γ a (k .0) (k .1))
+fits-expr S Γ (unpack n l a) t h = u-unpack (fits-expr S Γ a t-pkg (isTy-path t-pkg _ (both-left _ _ (given-path _ _ _ h .0))))
+
+pub fits-cmd : (S : Shapes) (Γ : List Ty) (c : Cmd) → shape S Γ c ≡ true → Uses Fits Anywhere c
+unfolding shape
+fits-cmd S Γ skip s = u-skip
+fits-cmd S Γ (seq a b) s = u-seq (fits-cmd S Γ a (both-left _ _ s)) (fits-cmd S Γ b (both-right _ _ s))
+fits-cmd S Γ (assign x e) s = u-assign (fits-expr S Γ e _ (isTy-path _ _ s))
+fits-cmd S Γ (while e c) s = u-while (fits-expr S Γ e _ (isTy-path _ _ (both-left _ _ s))) (fits-cmd S Γ c (both-right _ _ s))
+fits-cmd S Γ (case e a b) s =
+    let p = onSum-path _ _ s in
+    u-case (fits-expr S Γ e _ (p .2)) (fits-cmd S _ a (both-left _ _ (p .3))) (fits-cmd S _ b (both-right _ _ (p .3)))
+
+-- Where `eval` has a value, no part of the expression is too long.
+
+abbrev IsOk : Res → Type 0
+IsOk (ok v) = Unit {0}
+IsOk long = ⊥
+IsOk stuck = ⊥
+
+ok-bind : (r : Res) (f : Value → Res) → IsOk (bind r f) → IsOk r
+unfolding bind
+ok-bind (ok v) f h = tt
+ok-bind long f h = h
+ok-bind stuck f h = h
+
+ok-second : (r s : Res) (f : Value → Value → Res) → IsOk (bind r (λ v. bind s (f v))) → IsOk s
+unfolding bind
+ok-second (ok v) s f h = ok-bind s (f v) h
+ok-second long s f h = absurd h
+ok-second stuck s f h = absurd h
+
+refines-ok : {r : Res} {v : Value} → Refines r (ok v) → IsOk r → r ≡ ok v
+refines-ok same h = refl
+refines-ok was-long h = absurd h
+
+too-many : {n m : ℕ} → n ≤ m → m < n → ⊥
+too-many h k = omega arith
+
+module _ (W : World) (M : Mem) (m : Fitting M) where
+  not-long-expr : {e : Expr} → LongExpr W M e → UsesE Fits Anywhere e → ¬ IsOk (eval W [] M e)
+  unfolding eval
+  not-long-expr (long-value p s) u h = too-many (subst (Has Fits Anywhere) (refines-ok (star-eval W M p) h) (keeps-eval Fits Anywhere fits-kept W all-none m u)) s
+  not-long-expr (in-plus1 l) (u-plus a b) h = not-long-expr l a (ok-bind _ _ h)
+  not-long-expr (in-plus2 {e₁ = a₁} l) (u-plus a b) h = not-long-expr l b (ok-second (eval W [] M a₁) _ _ h)
+  not-long-expr (in-left l) (u-left a) h = not-long-expr l a (ok-bind _ _ h)
+  not-long-expr (in-right l) (u-right a) h = not-long-expr l a (ok-bind _ _ h)
+  not-long-expr (in-pack l) (u-pack n a) h = not-long-expr l a (ok-bind _ _ h)
+  not-long-expr (in-unpack l) (u-unpack a) h = not-long-expr l a (ok-bind _ _ h)
+
+  -- the step goes on to a configuration, or there is none
+  abbrev Goes : Next → Type 0
+  Goes final = Unit {0}
+  Goes (to M′ c′) = Unit {0}
+  Goes too-long = ⊥
+  Goes no-rule = ⊥
+
+  goes-seq : (c : Cmd) (n : Next) → Goes (at-seq M c n) → Goes n
+  unfolding at-seq
+  goes-seq c final h = tt
+  goes-seq c (to M′ c′) h = tt
+  goes-seq c too-long h = h
+  goes-seq c no-rule h = h
+
+  goes-assign : (x : ℕ) (r : Res) → Goes (at-assign M x r) → IsOk r
+  unfolding at-assign
+  goes-assign x (ok v) h = tt
+  goes-assign x long h = h
+  goes-assign x stuck h = h
+
+  goes-branch : (l r : Value → Next) (s : Res) → Goes (branch l r too-long no-rule s) → IsOk s
+  unfolding branch
+  goes-branch l r (ok v) h = tt
+  goes-branch l r long h = h
+  goes-branch l r stuck h = h
+
+  not-long-step : {c : Cmd} → LongStep W M c → Uses Fits Anywhere c → ¬ Goes (step W M c)
+  unfolding step
+  not-long-step (in-assign {x} l) (u-assign u) h = not-long-expr l u (goes-assign x _ h)
+  not-long-step (in-seq {c₂ = b} l) (u-seq a b′) h = not-long-step l a (goes-seq b _ h)
+  not-long-step (in-while l) (u-while u c) h = not-long-expr l u (goes-branch _ _ _ h)
+  not-long-step (in-case l) (u-case u a b) h = not-long-expr l u (goes-branch _ _ _ h)
+
+  -- `step` is too long where the figures meet a value that is too long, unless it has no rule
+  long-is : (n : Next) → ¬ Goes n → ¬ (n ≡ no-rule) → n ≡ too-long
+  long-is final g r = absurd (g tt)
+  long-is (to M′ c′) g r = absurd (g tt)
+  long-is too-long g r = refl
+  long-is no-rule g r = absurd (r refl)
+
+module _ (S : Shapes) (W : World) (agree : SameTypes S W) where
+  abbrev Fit : Mem → Cmd → Type 0
+  Fit M c = Through Fits Anywhere fits-kept W M c
+
+  to-long : {M M₁ : Mem} {c c₁ : Cmd} → Fit M c → step W M c ≡ to M₁ c₁ → ¬ LongStep W M c
+  to-long {M = M} f h l = not-long-step W M (f .memory) l (f .command) (subst (Goes W M (f .memory)) (sym h) tt)
+
+  zero-long : {M M₁ : Mem} {c c₁ : Cmd} → Steps W zero M c M₁ c₁ → LongStep W M₁ c₁ → LongStep W M c
+  zero-long s-none l = l
+
+  -- the steps after the first, which is the only one
+  after-first : {j : ℕ} {M N M₁ : Mem} {c d c₁ : Cmd} → Step W M c N d → Steps W (suc j) M c M₁ c₁ → Steps W j N d M₁ c₁
+  after-first {j = j} {M₁ = M₁} {c₁ = c₁} s (s-more s′ p) =
+      let h = once W s′ s in
+      subst (λ (z : Mem × Cmd). Steps W j (z .0) (z .1) M₁ c₁) (λ i. (h .0 i, h .1 i)) p
+
+  -- No step of a trace meets a value that is too long.
+  trace-none-long : {k : ℕ} {M M′ : Mem} {c c′ : Cmd} → Trace W k M c M′ c′ → Fit M c → NoneLong W k M c
+  trace-none-long t-none f j M₁ c₁ lt s l = omega arith
+  trace-none-long (t-more h t) f zero M₁ c₁ lt s l = to-long f h (zero-long s l)
+  trace-none-long (t-more h t) f (suc j) M₁ c₁ lt s l =
+      trace-none-long t (keeps-step Fits Anywhere fits-kept W _ _ _ _ f h) j M₁ c₁ (omega arith) (after-first (agreement W .has-rule _ _ _ _ h) s) l
+
+  -- From `iterate` to the figures.
+  stops-ends : {b : ℕ} {M : Mem} {c : Cmd} {o : Out} → Fine S W agree M c → Fit M c → Stops W b M c o → Ends W b M c o
+  stops-ends i f (stops-done e t) = ends-done e (trace-steps W t) (trace-none-long t f)
+  stops-ends i f (stops-spent t n) = ends-spent (trace-steps W t) n (trace-none-long t f)
+  stops-ends i f (stops-over e t h) = ends-over e (trace-steps W t) (agreement W .is-long _ _ h) (trace-none-long t f)
+  stops-ends i f (stops-wrong l e t h) = absurd (has-rule S W agree _ _ (trace-fine S W agree t i) h)
+
+  -- From the figures to `iterate`.
+  skip-done : (l : ℕ) (M : Mem) → iterate W l M skip ≡ done M l
+  unfolding iterate
+  skip-done l M = run-skip l W done M
+
+  spent-now : (M : Mem) (c : Cmd) → ¬ (c ≡ skip) → iterate W zero M c ≡ spent
+  unfolding iterate run after
+  spent-now M c h = on (step W M c) refl
+    where
+      on : (n : Next) → step W M c ≡ n → after (λ M′ c′. spent) done spent spent M zero n ≡ spent
+      on final e = absurd (h (agreement W .skip-alone M c e))
+      on (to M′ c′) e = refl
+      on too-long e = refl
+      on no-rule e = refl
+
+  over-now : (l : ℕ) (M : Mem) (c : Cmd) → step W M c ≡ too-long → iterate W (suc l) M c ≡ over (suc l)
+  unfolding iterate run after
+  over-now l M c h = rw h refl
+
+  long-now : (M : Mem) (c : Cmd) → Fine S W agree M c → Fit M c → LongStep W M c → step W M c ≡ too-long
+  long-now M c i f l = long-is W M (f .memory) (step W M c) (not-long-step W M (f .memory) l (f .command)) (has-rule S W agree M c i)
+
+  ends-iterate : {b : ℕ} {M : Mem} {c : Cmd} {o : Out} → Fine S W agree M c → Fit M c → Ends W b M c o → iterate W b M c ≡ o
+  ends-iterate {b} i f (ends-done {k} {l} {M′} e s n) = trace-run W l b (steps-trace W s n) e ∙ skip-done l M′
+  ends-iterate {b} i f (ends-spent {M′} {c′} s h n) = trace-run W zero b (steps-trace W s n) (omega arith) ∙ spent-now M′ c′ h
+  ends-iterate {b} i f (ends-over {k} {l} {M′} {c′} e s h n) =
+      let t = steps-trace W s n in
+      trace-run W (suc l) b t e ∙ over-now l M′ c′ (long-now M′ c′ (trace-fine S W agree t i) (keeps-trace Fits Anywhere fits-kept W t f) h)
+
+  pub outcome : Outcome S W
+  outcome c s M m g b o =
+      let i = start-fine S W agree M c m s in
+      let f : Fit M c = record { memory = g; command = fits-cmd S [] c s } in
+      ((λ h. subst (Ends W b M c) h (stops-ends i f (iterate-stops W b M c))), (λ e. ends-iterate i f e))

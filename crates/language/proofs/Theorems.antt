@@ -1,0 +1,22 @@
+-- All claims of specs/Theorems.antt.
+use Rattle.language.specs.Theorems.{Theorems}
+use Rattle.language.proofs.Agreement.{agreement}
+use Rattle.language.proofs.Determinacy.{determinacy}
+use Rattle.language.proofs.Outcome.{outcome}
+use Rattle.language.proofs.TypeSoundness.{type-soundness}
+use Rattle.language.proofs.Exactness.{exactness}
+use Rattle.language.proofs.Masking.{mask-iff}
+use Rattle.language.proofs.Noninterference.{noninterference}
+use Rattle.language.proofs.Confinement.{confinement}
+
+pub theorems : Theorems
+theorems = record {
+  agreement = agreement;
+  determinacy = determinacy;
+  outcome = outcome;
+  type-soundness = type-soundness;
+  exactness = λ L 𝓛 law D. exactness 𝓛 law D;
+  masking = mask-iff;
+  noninterference = λ L S W vis shows O. noninterference S W vis shows O;
+  confinement = λ L S W vis shows O. confinement S W vis shows O;
+}

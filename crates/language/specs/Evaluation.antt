@@ -1,0 +1,104 @@
+-- Figure 2 as a function, over an environment of the values that enclosing cases bind.
+use mathlib.Core.Bool.{Bool, true, false}
+use mathlib.Core.List.{List, [], _∷_}
+use Prim.Native.Nat.{ℕ, zero, suc, _+_, _%_, _^_}
+use lib.Dec.{leb}
+use Rattle.language.specs.Syntax.{Ty, t-int, t-err, t-pkg, t-sum, Value, int, err, inl, inr, pkg, blank, Expr, val, loc, var, plus, left, right, pack, unpack, size, has}
+
+-- What a run rests on: the types and the order of labels that the sheet gives, and which labels the authority reads and writes.
+pub record World : Type 0 where
+  pub ty : ℕ → Ty
+  pub below : ℕ → ℕ → Bool
+  pub reads : ℕ → Bool
+  pub writes : ℕ → Bool
+
+-- The value at each location.
+abbrev pub Mem : Type 0
+Mem = ℕ → Value
+
+-- The values that enclosing cases bind, innermost first.
+abbrev pub Env : Type 0
+Env = List Value
+
+-- A location takes this many words; a value of more is too long.
+abbrev pub cell-words : ℕ
+cell-words = 16
+
+-- A value; or a part of the expression has a value that is too long; or no rule of figure 2 applies.
+pub data Res : Type 0 where
+  ok : Value → Res
+  long stuck : Res
+
+unfoldable pub bind : Res → (Value → Res) → Res
+bind (ok v) f = f v
+bind long f = long
+bind stuck f = stuck
+
+unfoldable pub fitting : Bool → Value → Res
+fitting true v = ok v
+fitting false v = long
+
+-- v, if it is not too long
+unfoldable pub fit : Value → Res
+fit v = fitting (leb (size v) cell-words) v
+
+-- EE-PLUS: sums are taken modulo 2^32
+unfoldable pub addTo : ℕ → Value → Res
+addTo a (int b) = fit (int ((a + b) % 2 ^ 32))
+addTo a (err e) = stuck
+addTo a (inl v) = stuck
+addTo a (inr v) = stuck
+addTo a (pkg l v) = stuck
+addTo a blank = stuck
+
+unfoldable pub add : Value → Value → Res
+add (int a) w = addTo a w
+add (err e) w = stuck
+add (inl v) w = stuck
+add (inr v) w = stuck
+add (pkg l v) w = stuck
+add blank w = stuck
+
+-- EE-PACK-OK and EE-PACK-FAIL, by whether the authority writes the label
+unfoldable pub packed : Bool → ℕ → Value → Res
+packed true l v = fit (inl (pkg l v))
+packed false l v = ok (inr (err 1))
+
+-- EE-UNPACK-FAIL1, -FAIL2, -FAIL3 and -OK, by: the authority reads the wanted label; the package's label is at or below it;
+-- the content has the wanted type
+unfoldable pub opened : Bool → Bool → Bool → Value → Res
+opened false b c v = ok (inr (err 1))
+opened true false c v = ok (inr (err 2))
+opened true true false v = ok (inr (err 3))
+opened true true true v = fit (inl v)
+
+-- the wanted type of an unpack that names the sum type t: the left part of t. (No accepted script names another type; int then.)
+unfoldable pub wanted : Ty → Ty
+wanted t-int = t-int
+wanted t-err = t-int
+wanted t-pkg = t-int
+wanted (t-sum a b) = a
+
+-- an unpack of a value: the sum type t and the wanted label l are the script's
+unfoldable pub unpacked : World → ℕ → ℕ → Value → Res
+unpacked W t l (int n) = stuck
+unpacked W t l (err e) = stuck
+unpacked W t l (inl v) = stuck
+unpacked W t l (inr v) = stuck
+unpacked W t l (pkg m v) = opened (W .reads l) (W .below m l) (has v (wanted (W .ty t))) v
+unpacked W t l blank = stuck
+
+unfoldable pub lookup : Env → ℕ → Res
+lookup [] i = stuck
+lookup (v ∷ ρ) zero = ok v
+lookup (v ∷ ρ) (suc i) = lookup ρ i
+
+unfoldable pub eval : World → Env → Mem → Expr → Res
+eval W ρ M (val v) = ok v
+eval W ρ M (loc x) = ok (M x)
+eval W ρ M (var i) = lookup ρ i
+eval W ρ M (plus a b) = bind (eval W ρ M a) (λ v. bind (eval W ρ M b) (λ w. add v w))
+eval W ρ M (left t a) = bind (eval W ρ M a) (λ v. fit (inl v))
+eval W ρ M (right t a) = bind (eval W ρ M a) (λ v. fit (inr v))
+eval W ρ M (pack l a) = bind (eval W ρ M a) (λ v. packed (W .writes l) l v)
+eval W ρ M (unpack t l a) = bind (eval W ρ M a) (λ v. unpacked W t l v)

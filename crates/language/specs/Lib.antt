@@ -1,0 +1,9 @@
+pub mod Syntax
+pub mod Evaluation
+pub mod Transition
+pub mod Figures
+pub mod Labels
+pub mod Typing
+pub mod Rules
+pub mod View
+pub mod Theorems

@@ -1,0 +1,77 @@
+-- SImp's syntax (the paper, section 2): types, values, expressions, commands.
+-- Locations, types and labels are named by their numbers on the sheet.
+use mathlib.Core.Bool.{Bool, true, false}
+use Prim.Native.Nat.{ℕ, suc, _+_}
+
+-- int, error, pkg, and the sum of two types.
+pub data Ty : Type 0 where
+  t-int t-err t-pkg : Ty
+  t-sum : Ty → Ty → Ty
+  deriving Discrete as Ty-discrete
+
+-- An integer; an error (1 insufficientAuth, 2 illegalFlow, 3 typeMismatch); left and right; a package with its label.
+-- `blank` stands for content that a view hides; no run meets it.
+pub data Value : Type 0 where
+  int : ℕ → Value
+  err : ℕ → Value
+  inl : Value → Value
+  inr : Value → Value
+  pkg : ℕ → Value → Value
+  blank : Value
+  deriving Discrete as Value-discrete
+
+-- A value is an expression; a script's only values are integers, and substitution brings in the others.
+-- `var d` is bound by the d-th enclosing case, innermost 0. `left t`, `right t` and `unpack t` name the sum type t that they make.
+pub data Expr : Type 0 where
+  val : Value → Expr
+  loc : ℕ → Expr
+  var : ℕ → Expr
+  plus : Expr → Expr → Expr
+  left right : ℕ → Expr → Expr
+  pack : ℕ → Expr → Expr
+  unpack : ℕ → ℕ → Expr → Expr
+
+pub data Cmd : Type 0 where
+  skip : Cmd
+  seq : Cmd → Cmd → Cmd
+  assign : ℕ → Expr → Cmd
+  while : Expr → Cmd → Cmd
+  case : Expr → Cmd → Cmd → Cmd
+
+-- The words that a value takes in memory.
+unfoldable pub size : Value → ℕ
+size (int n) = 2
+size (err n) = 2
+size (inl v) = suc (size v)
+size (inr v) = suc (size v)
+size (pkg l v) = 2 + size v
+size blank = 1
+
+-- Whether a value has a type. What a package holds is not looked at: its content may be any value.
+unfoldable pub has : Value → Ty → Bool
+has (int n) t-int = true
+has (int n) t-err = false
+has (int n) t-pkg = false
+has (int n) (t-sum a b) = false
+has (err n) t-int = false
+has (err n) t-err = true
+has (err n) t-pkg = false
+has (err n) (t-sum a b) = false
+has (inl v) t-int = false
+has (inl v) t-err = false
+has (inl v) t-pkg = false
+has (inl v) (t-sum a b) = has v a
+has (inr v) t-int = false
+has (inr v) t-err = false
+has (inr v) t-pkg = false
+has (inr v) (t-sum a b) = has v b
+has (pkg l v) t-int = false
+has (pkg l v) t-err = false
+has (pkg l v) t-pkg = true
+has (pkg l v) (t-sum a b) = false
+has blank t = false
+
+-- Conjunction. It stays shut, so that its arguments are found from a proof of it.
+unfoldable pub both : Bool → Bool → Bool
+both true b = b
+both false b = false

@@ -1,0 +1,110 @@
+-- What is claimed of the language, as types. The proofs stand in proofs/.
+use mathlib.Core.Logic.{_↔_}
+use mathlib.Core.Path.{_≡_}
+use mathlib.Core.Bool.{Bool, true}
+use mathlib.Core.List.{[]}
+use Prim.Native.Nat.{ℕ, suc, _+_, _≤_, _<_}
+use Rattle.language.specs.Syntax.{Value, size, has, Cmd, skip}
+use Rattle.language.specs.Evaluation.{World, Mem, cell-words}
+use Rattle.language.specs.Transition.{final, to, too-long, no-rule, step, Out, done, spent, over, wrong, iterate}
+use Rattle.language.specs.Figures.{Step, Steps, LongStep}
+use Rattle.language.specs.Labels.{Labels, Lattice, struck}
+use Rattle.language.specs.Typing.{Shapes, Declarations, unlabelled, shape, Conditions, flow, refusal}
+use Rattle.language.specs.Rules.{Derivable}
+use Rattle.language.specs.View.{mask, maskMem, Equiv}
+
+-- Figures 2 and 3 against `step`: they agree up to values that are too long, which the figures do not have.
+pub record Agreement (W : World) : Type 0 where
+  pub skip-alone : (M : Mem) (c : Cmd) → step W M c ≡ final → c ≡ skip
+  pub has-rule : (M M′ : Mem) (c c′ : Cmd) → step W M c ≡ to M′ c′ → Step W M c M′ c′
+  pub is-step : (M M′ : Mem) (c c′ : Cmd) → Step W M c M′ c′ → ¬ (step W M c ≡ too-long) → step W M c ≡ to M′ c′
+  pub has-none : (M M′ : Mem) (c c′ : Cmd) → step W M c ≡ no-rule → ¬ Step W M c M′ c′
+  pub is-long : (M : Mem) (c : Cmd) → step W M c ≡ too-long → LongStep W M c
+
+-- Lemma 2: a configuration has at most one trace of each length, and skip ends it.
+pub record Determinacy (W : World) : Type 0 where
+  pub one-step : (M M₁ M₂ : Mem) (c c₁ c₂ : Cmd) → Step W M c M₁ c₁ → Step W M c M₂ c₂ → (M₁ ≡ M₂) × (c₁ ≡ c₂)
+  pub one-trace : (k : ℕ) (M M₁ M₂ : Mem) (c c₁ c₂ : Cmd) → Steps W k M c M₁ c₁ → Steps W k M c M₂ c₂ → (M₁ ≡ M₂) × (c₁ ≡ c₂)
+  pub one-end : (j k : ℕ) (M M₁ M₂ : Mem) (c : Cmd) → Steps W j M c M₁ skip → Steps W k M c M₂ skip → (j ≡ k) × (M₁ ≡ M₂)
+
+-- None of the first k steps from M, c meets a value that is too long.
+abbrev pub NoneLong : World → ℕ → Mem → Cmd → Type 0
+NoneLong W k M c = (j : ℕ) (M′ : Mem) (c′ : Cmd) → j < k → Steps W j M c M′ c′ → ¬ LongStep W M′ c′
+
+-- How a run within the budget b ends, by the figures: skip is reached after k transitions, and l is left; it is not reached
+-- after b; a step within the budget, after k transitions, meets a value that is too long. The scope's numbers 0, 9 and 10.
+pub data Ends (W : World) (b : ℕ) (M : Mem) (c : Cmd) : Out → Type 0 where
+  ends-done : {k l : ℕ} {M′ : Mem} → k + l ≡ b → Steps W k M c M′ skip → NoneLong W k M c → Ends W b M c (done M′ l)
+  ends-spent : {M′ : Mem} {c′ : Cmd} → Steps W b M c M′ c′ → ¬ (c′ ≡ skip) → NoneLong W b M c → Ends W b M c spent
+  ends-over : {k l : ℕ} {M′ : Mem} {c′ : Cmd} → k + suc l ≡ b → Steps W k M c M′ c′ → LongStep W M′ c′ → NoneLong W k M c
+      → Ends W b M c (over (suc l))
+
+-- Definition 2: the memory's values have their declared types.
+abbrev pub WellTyped : Shapes → Mem → Type 0
+WellTyped S M = (x : ℕ) → has (M x) (S .locTy x) ≡ true
+
+-- No value of the memory is too long.
+abbrev pub Fitting : Mem → Type 0
+Fitting M = (x : ℕ) → size (M x) ≤ cell-words
+
+-- The world's types are the sheet's.
+abbrev pub SameTypes : Shapes → World → Type 0
+SameTypes S W = (t : ℕ) → W .ty t ≡ S .ty t
+
+-- `iterate` is the run of the figures: its outcome is the one by which the run ends.
+abbrev pub Outcome : Shapes → World → Type 0
+Outcome S W = (c : Cmd) → shape S [] c ≡ true → (M : Mem) → WellTyped S M → Fitting M → (b : ℕ) (o : Out) → (iterate W b M c ≡ o) ↔ Ends W b M c o
+
+-- A command that passes `shape`, in a well-typed memory, is never stuck, and every memory that it reaches is well-typed.
+pub record TypeSoundness (S : Shapes) (W : World) : Type 0 where
+  pub never-wrong : (c : Cmd) → shape S [] c ≡ true → (M : Mem) → WellTyped S M → (b : ℕ) → ¬ (iterate W b M c ≡ wrong)
+  pub done-typed : (c : Cmd) → shape S [] c ≡ true → (M : Mem) → WellTyped S M → (b l : ℕ) (M′ : Mem) → iterate W b M c ≡ done M′ l → WellTyped S M′
+  pub reached-typed : (c : Cmd) → shape S [] c ≡ true → (M : Mem) → WellTyped S M → (k : ℕ) (M′ : Mem) (c′ : Cmd)
+      → Steps W k M c M′ c′ → NoneLong W k M c → WellTyped S M′ × ¬ (step W M′ c′ ≡ no-rule)
+
+-- The checker accepts exactly what has a derivation, and refuses by the scope's numbers.
+pub record Exactness {L : Type 0} (𝓛 : Labels L) (D : Declarations L) : Type 0 where
+  pub accepted : (c : Cmd) → (refusal 𝓛 D c ≡ 0) ↔ Derivable 𝓛 D c
+  pub refused-5 : (c : Cmd) → (refusal 𝓛 D c ≡ 5) ↔ (¬ Derivable struck (unlabelled D) c)
+  pub refused-6 : (c : Cmd) → (refusal 𝓛 D c ≡ 6) ↔ (Derivable struck (unlabelled D) c × ¬ Derivable 𝓛 D c)
+
+-- Figure 6 against `mask`: two values have the same mask exactly if they are equivalent.
+abbrev pub Masking : Type 0
+Masking = (vis : ℕ → Bool) (v w : Value) → (mask vis v ≡ mask vis w) ↔ Equiv vis v w
+
+-- What noninterference asks of an observer that sees the labels vis, and the content of packages at the label numbers shows.
+-- Nothing is asked of the join of two labels that are seen.
+pub record Observer {L : Type 0} (S : Conditions L) (W : World) (vis : L → Bool) (shows : ℕ → Bool) : Type 0 where
+  pub down : (a b : L) → S .leq a b ≡ true → vis b ≡ true → vis a ≡ true
+  pub join-left : (a b : L) → vis (S .join a b) ≡ true → vis a ≡ true
+  pub join-right : (a b : L) → vis (S .join a b) ≡ true → vis b ≡ true
+  pub at-pack : (l : ℕ) (a : L) → S .mayPack l a ≡ true → vis (S .packed l a) ≡ true → shows l ≡ true → vis a ≡ true
+  pub at-open : (l : ℕ) (a : L) → S .mayOpen l a ≡ true → vis (S .opened l a) ≡ true → vis a ≡ true
+  pub content : (l m : ℕ) (a : L) → vis (S .opened l a) ≡ true → W .below m l ≡ true → shows m ≡ true
+
+-- Two memories give the observer the same view.
+abbrev pub SameView : {L : Type 0} → Conditions L → (L → Bool) → (ℕ → Bool) → Mem → Mem → Type 0
+SameView S vis shows M N = (x : ℕ) → maskMem (λ y. vis (S .home y)) shows M x ≡ maskMem (λ y. vis (S .home y)) shows N x
+
+-- Theorem 2: two done runs of a command that passes `flow`, in one world, from memories that look the same, leave memories
+-- that look the same, whatever the budgets and the steps.
+abbrev pub Noninterference : {L : Type 0} → Conditions L → World → (L → Bool) → (ℕ → Bool) → Type 0
+Noninterference {L} S W vis shows = (pc : L) (c : Cmd) → flow S pc [] c ≡ true → (b b′ l l′ : ℕ) (M N M′ N′ : Mem)
+    → SameView S vis shows M N → iterate W b M c ≡ done M′ l → iterate W b′ N c ≡ done N′ l′ → SameView S vis shows M′ N′
+
+-- Under a surrounding label that the observer does not see, what it sees stays, however far a run goes.
+abbrev pub Confinement : {L : Type 0} → Conditions L → World → (L → Bool) → Type 0
+Confinement {L} S W vis = (pc : L) (c : Cmd) → flow S pc [] c ≡ true → ¬ (vis pc ≡ true) → (k : ℕ) (M M′ : Mem) (c′ : Cmd)
+    → Steps W k M c M′ c′ → (x : ℕ) → vis (S .home x) ≡ true → M′ x ≡ M x
+
+-- All of it, with what each claim assumes.
+pub record Theorems : Type 1 where
+  pub agreement : (W : World) → Agreement W
+  pub determinacy : (W : World) → Determinacy W
+  pub outcome : (S : Shapes) (W : World) → SameTypes S W → Outcome S W
+  pub type-soundness : (S : Shapes) (W : World) → SameTypes S W → TypeSoundness S W
+  pub exactness : (L : Type 0) (𝓛 : Labels L) → Lattice 𝓛 → (D : Declarations L) → Exactness 𝓛 D
+  pub masking : Masking
+  pub noninterference : (L : Type 0) (S : Conditions L) (W : World) (vis : L → Bool) (shows : ℕ → Bool) → Observer S W vis shows
+      → Noninterference S W vis shows
+  pub confinement : (L : Type 0) (S : Conditions L) (W : World) (vis : L → Bool) (shows : ℕ → Bool) → Observer S W vis shows → Confinement S W vis

@@ -1,0 +1,175 @@
+-- The scope's section "Typing": types and least labels as functions.
+use mathlib.Core.Bool.{Bool, true, false, cond}
+use mathlib.Core.Option.{Option, none, some}
+use mathlib.Core.List.{List, [], _∷_}
+use Prim.Native.Nat.{ℕ, zero, suc}
+use Rattle.language.specs.Syntax.{Ty, t-int, t-err, t-pkg, t-sum, Ty-discrete, Value, int, err, inl, inr, pkg, blank, Expr, val, loc, var, plus, left, right, pack, unpack, Cmd, skip, seq, assign, while, case, both}
+use Rattle.language.specs.Labels.{Labels}
+
+-- What a sheet says of types: the type that a type number names, and a location's type.
+pub record Shapes : Type 0 where
+  pub ty : ℕ → Ty
+  pub locTy : ℕ → Ty
+
+-- What a sheet declares: the types, the label that a label number names, and a location's label.
+pub record Declarations (L : Type 0) : Type 0 where
+  pub shapes : Shapes
+  pub label : ℕ → L
+  pub home : ℕ → L
+
+-- the same types, every label struck out
+abbrev pub unlabelled : {L : Type 0} → Declarations L → Declarations Unit
+unlabelled D = record { shapes = D .shapes; label = λ l. tt; home = λ x. tt }
+
+-- the d-th element, if there is one
+unfoldable pub nth {ℓ} : {A : Type ℓ} → List A → ℕ → Option A
+nth [] d = none
+nth (x ∷ xs) zero = some x
+nth (x ∷ xs) (suc d) = nth xs d
+
+unfoldable pub orElse : {L : Type 0} → L → Option L → L
+orElse b none = b
+orElse b (some a) = a
+
+-- Types
+
+unfoldable pub isYes : {P : Type 0} → Dec P → Bool
+isYes (yes p) = true
+isYes (no n) = false
+
+unfoldable pub sameTy : Ty → Ty → Bool
+sameTy a b = isYes (Ty-discrete a b)
+
+-- o is the type t
+unfoldable pub isTy : Ty → Option Ty → Bool
+isTy t none = false
+isTy t (some s) = sameTy t s
+
+-- o is some type
+unfoldable pub hasTy : Option Ty → Bool
+hasTy none = false
+hasTy (some s) = true
+
+-- t is a sum with the type o on its left
+unfoldable pub leftIs : Ty → Option Ty → Bool
+leftIs t-int o = false
+leftIs t-err o = false
+leftIs t-pkg o = false
+leftIs (t-sum a b) o = isTy a o
+
+-- t is a sum with the type o on its right
+unfoldable pub rightIs : Ty → Option Ty → Bool
+rightIs t-int o = false
+rightIs t-err o = false
+rightIs t-pkg o = false
+rightIs (t-sum a b) o = isTy b o
+
+-- o is a sum, and its parts pass the test k
+unfoldable pub onSum : Option Ty → (Ty → Ty → Bool) → Bool
+onSum none k = false
+onSum (some t-int) k = false
+onSum (some t-err) k = false
+onSum (some t-pkg) k = false
+onSum (some (t-sum a b)) k = k a b
+
+-- t, if the test passes
+unfoldable pub given : Bool → Ty → Option Ty
+given true t = some t
+given false t = none
+
+-- a script's literals are integers; a package or another value has no type as a literal
+unfoldable pub typeOfValue : Value → Option Ty
+typeOfValue (int n) = some t-int
+typeOfValue (err e) = none
+typeOfValue (inl v) = none
+typeOfValue (inr v) = none
+typeOfValue (pkg l v) = none
+typeOfValue blank = none
+
+-- The type of an expression, if it has one; Γ holds the types that enclosing cases bind, innermost first.
+unfoldable pub typeOf : Shapes → List Ty → Expr → Option Ty
+typeOf S Γ (val v) = typeOfValue v
+typeOf S Γ (loc x) = some (S .locTy x)
+typeOf S Γ (var d) = nth Γ d
+typeOf S Γ (plus a b) = given (both (isTy t-int (typeOf S Γ a)) (isTy t-int (typeOf S Γ b))) t-int
+typeOf S Γ (left t a) = given (leftIs (S .ty t) (typeOf S Γ a)) (S .ty t)
+typeOf S Γ (right t a) = given (rightIs (S .ty t) (typeOf S Γ a)) (S .ty t)
+typeOf S Γ (pack l a) = given (hasTy (typeOf S Γ a)) (t-sum t-pkg t-err)
+typeOf S Γ (unpack t l a) = given (both (isTy t-pkg (typeOf S Γ a)) (rightIs (S .ty t) (some t-err))) (S .ty t)
+
+-- Whether a command passes with every label condition struck out: the scope's number 5 if not. A guard is int+int.
+unfoldable pub shape : Shapes → List Ty → Cmd → Bool
+shape S Γ skip = true
+shape S Γ (seq a b) = both (shape S Γ a) (shape S Γ b)
+shape S Γ (assign x e) = isTy (S .locTy x) (typeOf S Γ e)
+shape S Γ (while e c) = both (isTy (t-sum t-int t-int) (typeOf S Γ e)) (shape S Γ c)
+shape S Γ (case e a b) = onSum (typeOf S Γ e) (λ s t. both (shape S (s ∷ Γ) a) (shape S (t ∷ Γ) b))
+
+-- Labels
+
+-- What the label conditions rest on: a location's label; bottom, the order and the join; for a pack and an unpack at a label
+-- number, the label that it has from its operand's, and whether the operand's allows it.
+pub record Conditions (L : Type 0) : Type 0 where
+  pub home : ℕ → L
+  pub bot : L
+  pub leq : L → L → Bool
+  pub join : L → L → L
+  pub packed : ℕ → L → L
+  pub mayPack : ℕ → L → Bool
+  pub opened : ℕ → L → L
+  pub mayOpen : ℕ → L → Bool
+
+-- The least label of an expression; Γ holds the labels of the enclosing cases' expressions, innermost first.
+unfoldable pub least : {L : Type 0} → Conditions L → List L → Expr → L
+least S Γ (val v) = S .bot
+least S Γ (loc x) = S .home x
+least S Γ (var d) = orElse (S .bot) (nth Γ d)
+least S Γ (plus a b) = S .join (least S Γ a) (least S Γ b)
+least S Γ (left t a) = least S Γ a
+least S Γ (right t a) = least S Γ a
+least S Γ (pack l a) = S .packed l (least S Γ a)
+least S Γ (unpack t l a) = S .opened l (least S Γ a)
+
+-- Whether the label conditions in an expression hold.
+unfoldable pub flowE : {L : Type 0} → Conditions L → List L → Expr → Bool
+flowE S Γ (val v) = true
+flowE S Γ (loc x) = true
+flowE S Γ (var d) = true
+flowE S Γ (plus a b) = both (flowE S Γ a) (flowE S Γ b)
+flowE S Γ (left t a) = flowE S Γ a
+flowE S Γ (right t a) = flowE S Γ a
+flowE S Γ (pack l a) = both (flowE S Γ a) (S .mayPack l (least S Γ a))
+flowE S Γ (unpack t l a) = both (flowE S Γ a) (S .mayOpen l (least S Γ a))
+
+-- Whether the label conditions in a command hold below the surrounding label pc, which is joined with the guard's label in
+-- the body of a loop and in the branches of a case.
+unfoldable pub flow : {L : Type 0} → Conditions L → L → List L → Cmd → Bool
+flow S pc Γ skip = true
+flow S pc Γ (seq a b) = both (flow S pc Γ a) (flow S pc Γ b)
+flow S pc Γ (assign x e) = both (flowE S Γ e) (both (S .leq (least S Γ e) (S .home x)) (S .leq pc (S .home x)))
+flow S pc Γ (while e c) = both (flowE S Γ e) (flow S (S .join pc (least S Γ e)) Γ c)
+flow S pc Γ (case e a b) =
+    let l = least S Γ e in
+    both (flowE S Γ e) (both (flow S (S .join pc l) (l ∷ Γ) a) (flow S (S .join pc l) (l ∷ Γ) b))
+
+-- The scope's label conditions: `k A` needs its operand at or below A and has I(A); `u t A` needs C(operand) at or below
+-- C(A) and has A.
+abbrev pub conditions : {L : Type 0} → Labels L → Declarations L → Conditions L
+conditions 𝓛 D = record {
+  home = D .home;
+  bot = 𝓛 .bot;
+  leq = 𝓛 .leq;
+  join = 𝓛 .join;
+  packed = λ A a. 𝓛 .integ (D .label A);
+  mayPack = λ A a. 𝓛 .leq a (D .label A);
+  opened = λ A a. D .label A;
+  mayOpen = λ A a. 𝓛 .leq (𝓛 .conf a) (𝓛 .conf (D .label A));
+}
+
+-- A script is accepted when both tests pass, with bottom for the surrounding label.
+unfoldable pub accepts : {L : Type 0} → Labels L → Declarations L → Cmd → Bool
+accepts 𝓛 D c = both (shape (D .shapes) [] c) (flow (conditions 𝓛 D) (𝓛 .bot) [] c)
+
+-- The scope's number for a script whose form is right: 0, 5 or 6.
+unfoldable pub refusal : {L : Type 0} → Labels L → Declarations L → Cmd → ℕ
+refusal 𝓛 D c = cond (shape (D .shapes) [] c) (cond (flow (conditions 𝓛 D) (𝓛 .bot) [] c) 0 6) 5

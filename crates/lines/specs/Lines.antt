@@ -1,0 +1,61 @@
+-- A script's lines (the scope, "The three texts"): the thirteen kinds, and a command's lines in prefix order.
+use mathlib.Core.List.{List, [], _∷_}
+use Prim.Native.Nat.{ℕ}
+use Rattle.language.specs.Syntax.{Value, int, err, inl, inr, pkg, blank, Expr, val, loc, var, plus, left, right, pack, unpack, Cmd, skip, seq, assign, while, case}
+
+-- One line of each kind, with its operands' numbers.
+pub data Line : Type 0 where
+  l-skip l-seq : Line
+  l-assign : ℕ → Line
+  l-while l-case : Line
+  l-int l-loc l-var : ℕ → Line
+  l-plus : Line
+  l-left l-right l-pack : ℕ → Line
+  l-unpack : ℕ → ℕ → Line
+
+-- An expression as a script has it: its only values are integers.
+pub data SourceE : Expr → Type 0 where
+  s-int : {n : ℕ} → SourceE (val (int n))
+  s-loc : {x : ℕ} → SourceE (loc x)
+  s-var : {d : ℕ} → SourceE (var d)
+  s-plus : {a b : Expr} → SourceE a → SourceE b → SourceE (plus a b)
+  s-left : {t : ℕ} {a : Expr} → SourceE a → SourceE (left t a)
+  s-right : {t : ℕ} {a : Expr} → SourceE a → SourceE (right t a)
+  s-pack : {l : ℕ} {a : Expr} → SourceE a → SourceE (pack l a)
+  s-unpack : {t l : ℕ} {a : Expr} → SourceE a → SourceE (unpack t l a)
+
+-- A command as a script has it.
+pub data Source : Cmd → Type 0 where
+  s-skip : Source skip
+  s-seq : {a b : Cmd} → Source a → Source b → Source (seq a b)
+  s-assign : {x : ℕ} {e : Expr} → SourceE e → Source (assign x e)
+  s-while : {e : Expr} {c : Cmd} → SourceE e → Source c → Source (while e c)
+  s-case : {e : Expr} {a b : Cmd} → SourceE e → Source a → Source b → Source (case e a b)
+
+-- the number of an integer; no script has another value
+unfoldable pub numberOf : Value → ℕ
+numberOf (int n) = n
+numberOf (err e) = 0
+numberOf (inl v) = 0
+numberOf (inr v) = 0
+numberOf (pkg l v) = 0
+numberOf blank = 0
+
+-- The lines of an expression in prefix order, then rest.
+unfoldable pub exprLines : Expr → List Line → List Line
+exprLines (val v) rest = l-int (numberOf v) ∷ rest
+exprLines (loc x) rest = l-loc x ∷ rest
+exprLines (var d) rest = l-var d ∷ rest
+exprLines (plus a b) rest = l-plus ∷ exprLines a (exprLines b rest)
+exprLines (left t a) rest = l-left t ∷ exprLines a rest
+exprLines (right t a) rest = l-right t ∷ exprLines a rest
+exprLines (pack l a) rest = l-pack l ∷ exprLines a rest
+exprLines (unpack t l a) rest = l-unpack t l ∷ exprLines a rest
+
+-- The lines of a command in prefix order, then rest.
+unfoldable pub cmdLines : Cmd → List Line → List Line
+cmdLines skip rest = l-skip ∷ rest
+cmdLines (seq a b) rest = l-seq ∷ cmdLines a (cmdLines b rest)
+cmdLines (assign x e) rest = l-assign x ∷ exprLines e rest
+cmdLines (while e c) rest = l-while ∷ exprLines e (cmdLines c rest)
+cmdLines (case e a b) rest = l-case ∷ exprLines e (cmdLines a (cmdLines b rest))

@@ -1,0 +1,47 @@
+-- The labels of n principals are a lattice as typing needs it, and what a sheet declares are its labels.
+-- Assumes nothing.
+use mathlib.Core.Path.{_≡_, refl}
+use mathlib.Core.Bool.{Bool, true, false}
+use Prim.Native.Nat.{ℕ}
+use Rattle.sets.proofs.BoolLaws.{absurd-false}
+use Rattle.labels.specs.Labels.{effective}
+use Rattle.labels.specs.declared.Label.{Label}
+use Rattle.labels.proofs.LatticeLaws as lattice
+use Rattle.language.specs.Labels.{Lattice}
+use Rattle.tables.specs.Sheet.{Sheet, labelNo, locationNo, formed}
+use Rattle.tables.specs.Meaning.{labelsOver, effectiveIf, effectively, declarationsOf}
+use Rattle.tables.proofs.LabelLaws.{label-no-effective}
+
+pub labels-lattice : (n : ℕ) → Lattice (labelsOver n)
+labels-lattice n =
+    record {
+      leq-refl = lattice.leq-refl n;
+      leq-trans = lattice.leq-trans n;
+      leq-antisym = lattice.leq-antisym n;
+      bot-leq = lattice.bot-leq n;
+      leq-join-left = lattice.leq-join-left n;
+      leq-join-right = lattice.leq-join-right n;
+      join-leq = lattice.join-leq n;
+      conf-mono = lattice.conf-mono n;
+      conf-idem = lattice.conf-idem n;
+      conf-join = lattice.conf-join n;
+      integ-leq = lattice.integ-leq n;
+      integ-idem = lattice.integ-idem n;
+    }
+
+-- a label of n principals is taken as it is
+effective-if : (n : ℕ) (a : Label) (b : Bool) (e : effective n a ≡ b) → b ≡ true → (effectiveIf n a b e) .raw ≡ a
+unfolding effectiveIf
+effective-if n a true e h = refl
+effective-if n a false e h = absurd (absurd-false h)
+
+pub effectively-raw : (n : ℕ) (a : Label) → effective n a ≡ true → (effectively n a) .raw ≡ a
+unfolding effectively
+effectively-raw n a h = effective-if n a (effective n a) refl h
+
+module _ (s : Sheet) (fm : formed s ≡ true) where
+  pub declared-label : (l : ℕ) → (declarationsOf s .label l) .raw ≡ labelNo s l
+  declared-label l = effectively-raw (s .principals) (labelNo s l) (label-no-effective s fm l)
+
+  pub declared-home : (x : ℕ) → (declarationsOf s .home x) .raw ≡ labelNo s (locationNo s x .label)
+  declared-home x = effectively-raw (s .principals) (labelNo s (locationNo s x .label)) (label-no-effective s fm (locationNo s x .label))

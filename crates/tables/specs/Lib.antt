@@ -1,0 +1,4 @@
+pub mod Sheet
+pub mod Tables
+pub mod Meaning
+pub mod TypeTest

@@ -1,0 +1,115 @@
+// The decoded sheet: a table of words, and what it says of types, locations and labels.
+ghost use mathlib.Core.Path.{_≡_};
+ghost use lib.ListN.{getD};
+ghost use Rattle.tables.specs.Tables.{entryIn, principalsIn, everyoneIn, typesIn, labelsIn, locationsIn, leftIn, rightIn, typeIn, homeIn, labelIn};
+use labels::LABEL_SIZE;
+use labels::Label;
+use sets::Set;
+
+// The words of a table, and where its parts start.
+pub const WORDS: usize = 1224;
+
+pub const PARTS: u32 = 8;
+
+pub const LOCATIONS: u32 = 72;
+
+pub const LABELS: usize = 200;
+
+// The word at `at`, or 0 past the end.
+fn word(table: &[u16], at: usize) -> u16
+    ensures { λ r. ⌜ r ≡ getD (now (table .entry)) at 0 ⌝ }
+{
+    if at < table.len() { table[at] } else { 0 }
+}
+
+// The same word as a wider number.
+fn number(table: &[u16], at: usize) -> u32
+    ensures { λ r. ⌜ r ≡ getD (now (table .entry)) at 0 ⌝ }
+{
+    word(table, at) as u32
+}
+
+// The word of entry i in a list of `count` pairs that starts at `base`, or 0 past the last entry.
+fn entry(table: &[u16], count: u32, base: u32, i: u32) -> u32
+    ensures { λ r. ⌜ r ≡ entryIn (now (table .entry)) count base i ⌝ }
+{
+    if i < count {
+        number(table, base as usize + 2 * (i as usize))
+    } else {
+        0
+    }
+}
+
+// The number of principals.
+pub fn principals(table: &[u16]) -> u32
+    ensures { λ r. ⌜ r ≡ principalsIn (now (table .entry)) ⌝ }
+{
+    number(table, 0)
+}
+
+// The set of all principals.
+pub fn everyone(table: &[u16]) -> Set
+    ensures { λ r. ⌜ r ≡ everyoneIn (now (table .entry)) ⌝ }
+{
+    word(table, 1)
+}
+
+// The number of types.
+pub fn types(table: &[u16]) -> u32
+    ensures { λ r. ⌜ r ≡ typesIn (now (table .entry)) ⌝ }
+{
+    number(table, 2)
+}
+
+// The number of labels.
+pub fn labels(table: &[u16]) -> u32
+    ensures { λ r. ⌜ r ≡ labelsIn (now (table .entry)) ⌝ }
+{
+    number(table, 3)
+}
+
+// The number of locations.
+pub fn locations(table: &[u16]) -> u32
+    ensures { λ r. ⌜ r ≡ locationsIn (now (table .entry)) ⌝ }
+{
+    number(table, 4)
+}
+
+// The left part of a type; 0 for a number that names no type.
+pub fn left_part(table: &[u16], ty: u32) -> u32
+    ensures { λ r. ⌜ r ≡ leftIn (now (table .entry)) ty ⌝ }
+{
+    entry(table, types(table), PARTS, ty)
+}
+
+// The right part, likewise.
+pub fn right_part(table: &[u16], ty: u32) -> u32
+    ensures { λ r. ⌜ r ≡ rightIn (now (table .entry)) ty ⌝ }
+{
+    entry(table, types(table), PARTS + 1, ty)
+}
+
+// The type of a location; 0 for a number that names no location.
+pub fn location_type(table: &[u16], x: u32) -> u32
+    ensures { λ r. ⌜ r ≡ typeIn (now (table .entry)) x ⌝ }
+{
+    entry(table, locations(table), LOCATIONS, x)
+}
+
+// The number of a location's label, likewise.
+pub fn location_label(table: &[u16], x: u32) -> u32
+    ensures { λ r. ⌜ r ≡ homeIn (now (table .entry)) x ⌝ }
+{
+    entry(table, locations(table), LOCATIONS + 1, x)
+}
+
+// A label; bottom for a number that names none.
+pub fn label_of(table: &[u16], l: u32) -> Label
+    ensures { λ r. ⌜ r ≡ labelIn (now (table .entry)) l ⌝ }
+{
+    if l < labels(table) {
+        labels::label_at(table, LABELS + LABEL_SIZE * (l as usize))
+    } else {
+        Label::bottom(everyone(table))
+    }
+}

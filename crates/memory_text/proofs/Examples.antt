@@ -1,0 +1,38 @@
+-- Memory texts by computing. Assumes nothing.
+use Prim.Native.Nat.{ℕ}
+use mathlib.Core.Path.{_≡_, refl}
+use mathlib.Core.List.{List, [], _∷_, _++_}
+use lib.ListN.{replicate}
+use Rattle.text.specs.Reading.{andThen, byte, fits}
+use Rattle.text.specs.Reading.Read.{got, bad}
+use Rattle.text.specs.Number.{digit, opensDigit, digits, number, decimalOn, decimal}
+use Rattle.memory_text.specs.Printing.{keep, trim, fields, line, lines, memoryText}
+use Rattle.memory_text.specs.Reading.{following, words, padded, blankOr, lineWords, location, locations, memory}
+
+-- the view that the scope shows: `1 5`, an empty line, `3 5 2`, an empty line
+view : List ℕ
+view = padded 16 (1 ∷ 5 ∷ []) ++ (padded 16 [] ++ (padded 16 (3 ∷ 5 ∷ 2 ∷ []) ++ padded 16 []))
+
+viewText : List ℕ
+viewText = 49 ∷ 9 ∷ 53 ∷ 10 ∷ 10 ∷ 51 ∷ 9 ∷ 53 ∷ 9 ∷ 50 ∷ 10 ∷ 10 ∷ []
+
+printed-view : memoryText view ≡ viewText
+unfolding view viewText memoryText lines line fields trim keep padded decimal decimalOn
+printed-view = refl
+
+read-examples :
+    (memory viewText ≡ got view [])
+    -- no locations; no end of line; a zero word at the end; a zero inside; two tabs; a carriage return; a tab at the end
+    × (memory [] ≡ got [] [])
+    × (memory (49 ∷ []) ≡ bad)
+    × (memory (49 ∷ 9 ∷ 48 ∷ 10 ∷ []) ≡ bad)
+    × (memory (49 ∷ 9 ∷ 48 ∷ 9 ∷ 50 ∷ 10 ∷ []) ≡ got (padded 16 (1 ∷ 0 ∷ 2 ∷ [])) [])
+    × (memory (49 ∷ 9 ∷ 9 ∷ 50 ∷ 10 ∷ []) ≡ bad)
+    × (memory (49 ∷ 13 ∷ 10 ∷ []) ≡ bad)
+    × (memory (49 ∷ 9 ∷ 10 ∷ []) ≡ bad)
+    -- 64 locations and 65, 17 words
+    × (memory (replicate 64 10) ≡ got (replicate 1024 0) [])
+    × (memory (replicate 65 10) ≡ bad)
+    × (memory (49 ∷ 9 ∷ 49 ∷ 9 ∷ 49 ∷ 9 ∷ 49 ∷ 9 ∷ 49 ∷ 9 ∷ 49 ∷ 9 ∷ 49 ∷ 9 ∷ 49 ∷ 9 ∷ 49 ∷ 9 ∷ 49 ∷ 9 ∷ 49 ∷ 9 ∷ 49 ∷ 9 ∷ 49 ∷ 9 ∷ 49 ∷ 9 ∷ 49 ∷ 9 ∷ 49 ∷ 9 ∷ 49 ∷ 10 ∷ []) ≡ bad)
+unfolding view viewText memory locations location blankOr lineWords words following padded andThen byte fits number digits digit opensDigit
+read-examples = (refl, refl, refl, refl, refl, refl, refl, refl, refl, refl, refl)

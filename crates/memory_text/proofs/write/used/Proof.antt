@@ -1,0 +1,75 @@
+-- `memory_text::write::used` meets its contract: the words after the first n are zeros. Assumes nothing.
+use Prim.Native.Nat.{_≤_, _+_, _-_}
+use mathlib.Core.Path.{_≡_, refl, _∙_}
+use native.Mathlib.Omega.{arith}
+use lib.ListN.{take, drop}
+use Rattle.memory_text.specs.Printing.{trim}
+use Rattle.memory_text.proofs.Writes.{trim-kept, trim-dropped}
+use Rattle.memory_text.proofs.write.used.Statement.{statement}
+use Rattle.memory_text.proofs.write.used.Tie as tie
+
+abbrev Inv-loop : tie.InvT-loop
+Inv-loop words from n₀ n = (n ≤ 16) × (trim (take 16 (drop from words)) ≡ trim (take n (drop from words)))
+
+abbrev μ-loop : tie.MeasureT-loop
+μ-loop words from n₀ n = n
+
+loop-holds : tie.Need-loop-holds Inv-loop μ-loop
+loop-holds c = (omega arith, refl)
+
+sub-last : tie.Need-sub-last Inv-loop μ-loop
+sub-last c = omega arith
+
+add-if1 : tie.Need-add-if1 Inv-loop μ-loop
+add-if1 c = omega arith
+
+mul-if1 : tie.Need-mul-if1 Inv-loop μ-loop
+mul-if1 c = omega arith
+
+shared-slice-read-if1 : tie.Need-shared-slice-read-if1 Inv-loop μ-loop
+shared-slice-read-if1 c = omega arith
+
+returns : tie.Need-returns Inv-loop μ-loop
+returns c =
+    let at = c .before .before .before in
+    let a = at .before .args in
+    let n = at .loop .n in
+    let z : n - 1 + 1 ≡ n = omega arith in
+    record {
+      few = omega arith;
+      kept = at .loop .inv .1 ∙ (rw z at (trim-kept (a .words .now) (a .from) (n - 1) (omega arith) (c .if1 .taken)));
+    }
+
+loop-less : tie.Need-loop-less Inv-loop μ-loop
+loop-less c = omega arith
+
+loop-again : tie.Need-loop-again Inv-loop μ-loop
+loop-again c =
+    let at = c .before .before .before in
+    let a = at .before .args in
+    let n = at .loop .n in
+    let z : n - 1 + 1 ≡ n = omega arith in
+    (omega arith, at .loop .inv .1 ∙ (rw z at (trim-dropped (a .words .now) (a .from) (n - 1) (omega arith) (c .if1 .left))))
+
+returns-2 : tie.Need-returns-2 Inv-loop μ-loop
+unfolding trim
+returns-2 c =
+    let at = c .before in
+    let z : at .loop .n ≡ 0 = omega arith in
+    record { few = omega arith; kept = at .loop .inv .1 ∙ rw z }
+
+pub used-spec : {M : Type 1} → statement M
+used-spec =
+    tie.close
+    (tie.spec
+    Inv-loop
+    μ-loop
+    loop-holds
+    sub-last
+    add-if1
+    mul-if1
+    shared-slice-read-if1
+    returns
+    loop-less
+    loop-again
+    returns-2)

@@ -1,0 +1,6 @@
+-- A memory as text ("The three texts", Memory): how it is printed, how it is read, and that the two agree.
+pub mod Printing
+pub mod Reading
+pub mod Answers
+pub mod Writing
+pub mod Theorems

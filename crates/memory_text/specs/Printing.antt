@@ -1,0 +1,37 @@
+-- One line a location, words in decimal parted by one tab, zeros at the end dropped ("The three texts", Memory).
+use Prim.Native.Nat.{ℕ, zero, suc, _/_}
+use mathlib.Core.Bool.{cond}
+use mathlib.Core.List.{List, [], _∷_, _++_}
+use lib.ListN.{length, take, drop}
+use lib.Dec.{eqb}
+use Rattle.text.specs.Number.{decimal}
+use Rattle.text.specs.Field.{printNumberField, printLineEnd}
+
+-- w before words without zeros at their end
+unfoldable pub keep : ℕ → List ℕ → List ℕ
+keep w [] = cond (eqb w 0) [] (w ∷ [])
+keep w (v ∷ vs) = w ∷ v ∷ vs
+
+-- the words without the zeros at their end
+unfoldable pub trim : List ℕ → List ℕ
+trim [] = []
+trim (w ∷ ws) = keep w (trim ws)
+
+-- each word after a tab, before t
+unfoldable pub fields : List ℕ → List ℕ → List ℕ
+fields [] t = t
+fields (w ∷ ws) t = printNumberField w (fields ws t)
+
+-- a line of words, before t
+unfoldable pub line : List ℕ → List ℕ → List ℕ
+line [] t = printLineEnd t
+line (w ∷ ws) t = decimal w ++ fields ws (printLineEnd t)
+
+-- the lines of k locations of 16 words
+unfoldable pub lines : ℕ → List ℕ → List ℕ
+lines zero ws = []
+lines (suc k) ws = line (trim (take 16 ws)) (lines k (drop 16 ws))
+
+-- a memory, 16 words for each location
+unfoldable pub memoryText : List ℕ → List ℕ
+memoryText ws = lines (length ws / 16) ws

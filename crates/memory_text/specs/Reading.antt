@@ -1,0 +1,50 @@
+-- A line of up to 16 words that doesn't end in a zero word is a location, and at most 64 of them are a memory.
+use Prim.Native.Nat.{ℕ, zero, suc, _-_}
+use mathlib.Core.Bool.{cond}
+use mathlib.Core.List.{List, [], _∷_, _++_}
+use lib.ListN.{length, replicate}
+use lib.Dec.{eqb}
+use Rattle.text.specs.Reading.{Read, andThen, fits}
+use Rattle.text.specs.Reading.Read.{got, bad}
+use Rattle.text.specs.Number.{number, most}
+use Rattle.text.specs.Field.{lineEnd}
+
+-- the word v with what its line goes on with: the end, unless v is zero, or a tab and more words
+unfoldable pub following : ℕ → List ℕ → (List ℕ → Read (List ℕ)) → Read (List ℕ)
+following v [] more = bad
+following v (c ∷ t) more =
+    cond (eqb c 10) (cond (eqb v 0) bad (got (v ∷ []) t))
+    (cond (eqb c 9) (andThen (more t) (λ vs u. got (v ∷ vs) u)) bad)
+
+-- the words of a line, at most k
+unfoldable pub words : ℕ → List ℕ → Read (List ℕ)
+words zero t = bad
+words (suc k) t = andThen (number most t) (λ v u. following v u (λ w. words k w))
+
+-- n words, zeros after those given
+unfoldable pub padded : ℕ → List ℕ → List ℕ
+padded n ws = ws ++ replicate (n - length ws) 0
+
+-- the 16 words of a line that is not empty
+unfoldable pub lineWords : List ℕ → Read (List ℕ)
+lineWords t = andThen (words 16 t) (λ ws u. got (padded 16 ws) u)
+
+-- a location of zeros where the line is empty, else what is read otherwise
+unfoldable pub blankOr : Read Unit → Read (List ℕ) → Read (List ℕ)
+blankOr (got _ u) other = got (replicate 16 0) u
+blankOr bad other = other
+
+-- the 16 words of a location
+unfoldable pub location : List ℕ → Read (List ℕ)
+location t = blankOr (lineEnd t) (lineWords t)
+
+-- the words of the locations up to the end of the text, at most k locations
+unfoldable pub locations : ℕ → List ℕ → Read (List ℕ)
+locations zero [] = got [] []
+locations (suc k) [] = got [] []
+locations zero (c ∷ t) = bad
+locations (suc k) (c ∷ t) = andThen (location (c ∷ t)) (λ row u. andThen (locations k u) (λ ws r. got (row ++ ws) r))
+
+-- the words of a memory
+unfoldable pub memory : List ℕ → Read (List ℕ)
+memory t = cond (fits t) (locations 64 t) bad

@@ -1,0 +1,31 @@
+-- A text is read as a memory exactly where it is the printed form of one.
+use Prim.Native.Nat.{ℕ, _/_, _%_, _≤_}
+use mathlib.Core.Path.{_≡_}
+use mathlib.Core.Logic.{_↔_}
+use mathlib.Core.Bool.{true}
+use mathlib.Core.List.{List, [], _∷_}
+use lib.ListN.{length}
+use Rattle.text.specs.Reading.Read.{got}
+use Rattle.text.specs.Number.{most}
+use Rattle.memory_text.specs.Printing.{memoryText}
+use Rattle.memory_text.specs.Reading.{padded, memory}
+use Rattle.memory_text.specs.Answers.{memoryOf}
+
+-- each is a word of 32 bits
+unfoldable pub Words : List ℕ → Type 0
+Words [] = Unit
+Words (w ∷ ws) = (w ≤ most) × Words ws
+
+-- 16 words for each of at most 64 locations
+pub record IsMemory (ws : List ℕ) : Type 0 where
+  pub whole : length ws % 16 ≡ 0
+  pub most-locations : length ws ≤ 1024
+  pub in-range : Words ws
+
+-- a text is read exactly if it is the printed form of a memory
+abbrev pub MemoryExact : Type 0
+MemoryExact = (ws t : List ℕ) → (memory t ≡ got ws []) ↔ ((t ≡ memoryText ws) × IsMemory ws)
+
+-- reading what was written gives it back
+abbrev pub ReadsBack : Type 0
+ReadsBack = (ws : List ℕ) → IsMemory ws → memoryOf (memoryText ws) ≡ record { ok = true; count = length ws / 16; words = padded 1024 ws }

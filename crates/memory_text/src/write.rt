@@ -1,0 +1,76 @@
+// A memory written as text into a lent buffer.
+use text::write::put_byte;
+use text::write::put_number;
+ghost use mathlib.Core.Path.{_≡_};
+ghost use Prim.Native.Nat.{_+_, _*_, _-_, _≤_};
+ghost use lib.ListN.{length, take, drop};
+ghost use Rattle.memory_text.specs.Printing.{trim, fields, line};
+ghost use Rattle.memory_text.specs.Answers.{printedLength, printed};
+ghost use Rattle.memory_text.specs.Writing.{Used, Puts};
+
+// How many of the 16 words from `from` on are printed: those up to the last that is not zero.
+fn used(words: &[u32], from: usize) -> usize
+    requires { ⌜ from + 16 ≤ length (now words) ⌝ }
+    ensures { λ r. ⌜ Used (now (words .entry)) from r ⌝ }
+{
+    let mut n: usize = 16;
+    while 0 < n {
+        let last = n - 1;
+        if words[from + last] != 0 {
+            return n;
+        }
+        n = last;
+    }
+    0
+}
+
+// The words from `from` to `to`, each after a tab; the place after them.
+fn put_fields(words: &[u32], from: usize, to: usize, out: &mut [u8], at: usize) -> usize
+    requires { ⌜ (from ≤ to) × (to ≤ length (now words)) × (at + 11 * (to - from) ≤ length (now out)) ⌝ }
+    ensures { λ r. ⌜ Puts (fields (take (to - from) (drop from (now (words .entry))))) (11 * (to - from)) (now (out .entry)) at (now (out .exit)) r ⌝ }
+{
+    let mut i = from;
+    let mut p = at;
+    while i < to {
+        let q = put_byte(out, p, 9);
+        p = put_number(out, q, words[i]);
+        i += 1;
+    }
+    p
+}
+
+// The line of the location whose words stand from `from` on; the place after it.
+fn put_line(words: &[u32], from: usize, out: &mut [u8], at: usize) -> usize
+    requires { ⌜ (from + 16 ≤ length (now words)) × (at + 176 ≤ length (now out)) ⌝ }
+    ensures { λ r. ⌜ Puts (line (trim (take 16 (drop from (now (words .entry)))))) 176 (now (out .entry)) at (now (out .exit)) r ⌝ }
+{
+    let n = used(words, from);
+    if n == 0 {
+        return put_byte(out, at, 10);
+    }
+    let p = put_number(out, at, words[from]);
+    let q = put_fields(words, from + 1, from + n, out, p);
+    put_byte(out, q, 10)
+}
+
+// A memory, 16 words for each location; the length of its text. Nothing is written, and the answer is 0, where the words
+// are no whole locations or the buffer has fewer than 176 bytes for each.
+pub fn write_memory(words: &[u32], out: &mut [u8]) -> usize
+    ensures { λ r. ⌜ r ≡ printedLength (now (words .entry)) (now (out .entry)) ⌝ }
+    ensures { λ _. ⌜ now (out .exit) ≡ printed (now (words .entry)) (now (out .entry)) ⌝ }
+{
+    if words.len() % 16 != 0 {
+        return 0;
+    }
+    let count = words.len() / 16;
+    if out.len() / 176 < count {
+        return 0;
+    }
+    let mut n: usize = 0;
+    let mut at: usize = 0;
+    while n < count {
+        at = put_line(words, n * 16, out, at);
+        n += 1;
+    }
+    at
+}

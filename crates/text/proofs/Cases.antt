@@ -1,0 +1,13 @@
+-- Going by the cases of a test. Assumes nothing.
+use mathlib.Core.Path.{_≡_, refl}
+use mathlib.Core.Bool.{Bool, true, false, cond}
+
+-- the two cases of a test
+pub cases : {P : Type 0} (c : Bool) → (c ≡ true → P) → (c ≡ false → P) → P
+cases true f g = f refl
+cases false f g = g refl
+
+-- the two cases of a choice that is x
+pub cond-split : {A P : Type 0} (c : Bool) (a b x : A) → (c ≡ true → a ≡ x → P) → (c ≡ false → b ≡ x → P) → cond c a b ≡ x → P
+cond-split true a b x f g e = f refl e
+cond-split false a b x f g e = g refl e

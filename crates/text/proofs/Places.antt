@@ -1,0 +1,106 @@
+-- From an answer in a text back to the reading, and from a reading to its answer. Assumes nothing.
+use Prim.Native.Nat.{ℕ, _-_, _≤_}
+use native.Mathlib.Omega.{arith}
+use mathlib.Core.Path.{_≡_, refl, sym, ap}
+use mathlib.Core.List.{List, []}
+use lib.ListN.{length, drop, length-drop}
+use Rattle.text.specs.Reading.{Read, andThen}
+use Rattle.text.specs.Reading.Read.{got, bad}
+use Rattle.text.specs.Place.{placed, valueIn, maskIn, placeIn}
+use Rattle.text.specs.declared.Value.{Value}
+use Rattle.text.specs.declared.Value.the-variants as value
+use Rattle.text.specs.declared.Mask.{Mask}
+use Rattle.text.specs.declared.Mask.the-variants as mask
+use Rattle.text.specs.declared.Place.{Place}
+use Rattle.text.specs.declared.Place.the-variants as place
+use Rattle.text.proofs.Readings.{andThen-split, got-same, Ends, ends-append, ends-trans, ends-place}
+
+-- each value that x reads from t is followed by the end of t
+abbrev pub Within : {A : Type 0} → List ℕ → Read A → Type 0
+Within {A} t x = (v : A) (u : List ℕ) → x ≡ got v u → Ends t u
+
+pub got-within : {A : Type 0} (v : A) (t : List ℕ) → Within t (got v t)
+got-within v t w u e = rw (got-same v w t u e .1) (ends-append [] u)
+
+-- readings one after another
+pub andThen-within : {A B : Type 0} (t : List ℕ) (x : Read A) (f : A → List ℕ → Read B) → Within t x
+    → ((v : A) (u : List ℕ) → Within u (f v u)) → Within t (andThen x f)
+andThen-within t x f h k w u e =
+    andThen-split x f w u (λ v r g i. ends-trans t r u (h v r g) (k v r w u i)) e
+
+module _ {A R : Type 0} (at : A → ℕ → R) (none : R) (s : List ℕ) where
+  -- the answer to a reading that is known
+  pub placed-got : (want : Read A) (v : A) (p : ℕ) → want ≡ got v (drop p s) → p ≤ length s → at v p ≡ placed at none s want
+  unfolding placed
+  placed-got want v p e h = let z : length s - length (drop p s) ≡ p = omega (arith, length-drop p s) in rw (e, z)
+
+  pub placed-bad : (want : Read A) → want ≡ bad → none ≡ placed at none s want
+  unfolding placed
+  placed-bad want e = rw e
+
+  -- an answer is that of a value, whose rest stands at its place, or the refusal
+  pub placed-split : {P : Type 0} (i : ℕ) (want : Read A) (r : R) → Within (drop i s) want → r ≡ placed at none s want
+      → ((v : A) (p : ℕ) → want ≡ got v (drop p s) → p ≤ length s → r ≡ at v p → P) → (want ≡ bad → r ≡ none → P) → P
+  unfolding placed
+  placed-split i (got v u) r w e f g =
+      let x : u ≡ drop (length s - length u) s = sym (ends-place s i u (w v u refl)) in
+      f v (length s - length u) (ap (got v) x) (omega arith) e
+  placed-split i bad r w e f g = g refl e
+
+-- the answers of this crate to a reading that is known
+module _ (s : List ℕ) (want : Read ℕ) where
+  pub value-got : (v p : ℕ) → want ≡ got v (drop p s) → p ≤ length s → value.At v p ≡ valueIn s want
+  value-got v p e h = placed-got (λ v p. value.At v p) value.Bad s want v p e h
+
+  pub value-none : want ≡ bad → value.Bad ≡ valueIn s want
+  value-none e = placed-bad (λ v p. value.At v p) value.Bad s want e
+
+  pub mask-got : (m p : ℕ) → want ≡ got m (drop p s) → p ≤ length s → mask.At m p ≡ maskIn s want
+  mask-got m p e h = placed-got (λ m p. mask.At m p) mask.Bad s want m p e h
+
+  pub mask-none : want ≡ bad → mask.Bad ≡ maskIn s want
+  mask-none e = placed-bad (λ m p. mask.At m p) mask.Bad s want e
+
+module _ (s : List ℕ) (want : Read Unit) where
+  pub place-got : (p : ℕ) → want ≡ got tt (drop p s) → p ≤ length s → place.At p ≡ placeIn s want
+  place-got p e h = placed-got (λ _ p. place.At p) place.Bad s want tt p e h
+
+  pub place-none : want ≡ bad → place.Bad ≡ placeIn s want
+  place-none e = placed-bad (λ _ p. place.At p) place.Bad s want e
+
+-- what the answers of this crate say of what was to be read
+module _ (s : List ℕ) (i : ℕ) (want : Read ℕ) (r : Value) (w : Within (drop i s) want) (e : r ≡ valueIn s want) where
+  pub value-at : (v p : ℕ) → r ≡ value.At v p → (want ≡ got v (drop p s)) × (p ≤ length s)
+  value-at v p g =
+      placed-split (λ v p. value.At v p) value.Bad s i want r w e
+      (λ v′ p′ x l y. let a : v′ ≡ v = cc in let b : p′ ≡ p = cc in rw (← a, ← b) (x, l))
+      (λ x y. let z : _≡_ {A = ℕ} 0 1 = cc in absurd (omega arith))
+
+  pub value-bad : r ≡ value.Bad → want ≡ bad
+  value-bad g =
+      placed-split (λ v p. value.At v p) value.Bad s i want r w e
+      (λ v p x l y. let z : _≡_ {A = ℕ} 0 1 = cc in absurd (omega arith)) (λ x y. x)
+
+module _ (s : List ℕ) (i : ℕ) (want : Read ℕ) (r : Mask) (w : Within (drop i s) want) (e : r ≡ maskIn s want) where
+  pub mask-at : (m p : ℕ) → r ≡ mask.At m p → (want ≡ got m (drop p s)) × (p ≤ length s)
+  mask-at m p g =
+      placed-split (λ m p. mask.At m p) mask.Bad s i want r w e
+      (λ m′ p′ x l y. let a : m′ ≡ m = cc in let b : p′ ≡ p = cc in rw (← a, ← b) (x, l))
+      (λ x y. let z : _≡_ {A = ℕ} 0 1 = cc in absurd (omega arith))
+
+  pub mask-bad : r ≡ mask.Bad → want ≡ bad
+  mask-bad g =
+      placed-split (λ m p. mask.At m p) mask.Bad s i want r w e
+      (λ m p x l y. let z : _≡_ {A = ℕ} 0 1 = cc in absurd (omega arith)) (λ x y. x)
+
+module _ (s : List ℕ) (i : ℕ) (want : Read Unit) (r : Place) (w : Within (drop i s) want) (e : r ≡ placeIn s want) where
+  pub place-at : (p : ℕ) → r ≡ place.At p → (want ≡ got tt (drop p s)) × (p ≤ length s)
+  place-at p g =
+      placed-split (λ _ p. place.At p) place.Bad s i want r w e
+      (λ v p′ x l y. let b : p′ ≡ p = cc in rw (← b) (x, l))
+      (λ x y. let z : _≡_ {A = ℕ} 0 1 = cc in absurd (omega arith))
+
+  pub place-bad : r ≡ place.Bad → want ≡ bad
+  place-bad g =
+      placed-split (λ _ p. place.At p) place.Bad s i want r w e
+      (λ v p x l y. let z : _≡_ {A = ℕ} 0 1 = cc in absurd (omega arith)) (λ x y. x)

@@ -1,0 +1,109 @@
+-- `text::digits` meets its contract: what is left to read from i with v is what was to be read at the start. Assumes nothing.
+use Prim.Native.Nat.{_≤_, _-_}
+use mathlib.Core.Path.{_≡_, refl, sym, _∙_}
+use native.Mathlib.Omega.{arith}
+use lib.ListN.{length, drop}
+use Rattle.text.specs.Number as spec
+use Rattle.text.proofs.Places.{value-got, value-none}
+use Rattle.text.proofs.Numbers.{digit-low, digit-high, digit-in, opens-at, opens-at-end, digits-end, digits-at-over, digits-at-on}
+use Rattle.text.proofs.digits.Statement.{statement}
+use Rattle.text.proofs.digits.Tie as tie
+
+abbrev Inv-loop : tie.InvT-loop
+Inv-loop s from bound i₀ v₀ i v =
+    (i ≤ length s) × (v ≤ bound) × (spec.digits bound v (drop i s) ≡ spec.digits bound 0 (drop from s))
+
+abbrev μ-loop : tie.MeasureT-loop
+μ-loop s from bound i₀ v₀ i v = length s - i
+
+loop-holds : tie.Need-loop-holds Inv-loop μ-loop
+loop-holds c = (omega arith, omega arith, refl)
+
+shared-slice-read-b : tie.Need-shared-slice-read-b Inv-loop μ-loop
+shared-slice-read-b c = omega arith
+
+cast-t12 : tie.Need-cast-t12 Inv-loop μ-loop
+cast-t12 c = omega arith
+
+returns : tie.Need-returns Inv-loop μ-loop
+returns c =
+    let at = c .before .before .before in
+    let a = at .before .args in
+    let here = opens-at (a .s .now) (at .loop .i) (omega arith) ∙ digit-low _ (c .if1 .taken) in
+    value-got _ _ _ _ (sym (at .loop .inv .2) ∙ digits-end (a .bound) (at .loop .v) _ here) (omega arith)
+
+cast-t13 : tie.Need-cast-t13 Inv-loop μ-loop
+cast-t13 c = omega arith
+
+returns-2 : tie.Need-returns-2 Inv-loop μ-loop
+returns-2 c =
+    let at = c .before .before .before .before in
+    let a = at .before .args in
+    let here = opens-at (a .s .now) (at .loop .i) (omega arith) ∙ digit-high _ (c .if2 .taken) in
+    value-got _ _ _ _ (sym (at .loop .inv .2) ∙ digits-end (a .bound) (at .loop .v) _ here) (omega arith)
+
+mul-w : tie.Need-mul-w Inv-loop μ-loop
+mul-w c = omega arith
+
+cast-w : tie.Need-cast-w Inv-loop μ-loop
+cast-w c = omega arith
+
+add-w : tie.Need-add-w Inv-loop μ-loop
+add-w c = omega arith
+
+returns-3 : tie.Need-returns-3 Inv-loop μ-loop
+returns-3 c =
+    let at = c .before .before .before .before .before in
+    let a = at .before .args in
+    value-none _ _
+    (sym (at .loop .inv .2)
+    ∙ digits-at-over (a .s .now) (at .loop .i) (omega arith) (a .bound) (at .loop .v) (digit-in _ (c .before .before .if1 .left) (c .before .if2 .left)) (omega arith))
+
+add-i : tie.Need-add-i Inv-loop μ-loop
+add-i c = omega arith
+
+loop-less : tie.Need-loop-less Inv-loop μ-loop
+loop-less c = omega arith
+
+loop-again : tie.Need-loop-again Inv-loop μ-loop
+loop-again c =
+    let at = c .before .before .before .before .before in
+    let a = at .before .args in (
+      omega arith,
+      omega arith,
+      sym (digits-at-on (a .s .now) (at .loop .i) (omega arith) (a .bound) (at .loop .v) (digit-in _ (c .before .before .if1 .left) (c .before .if2 .left)) (omega arith))
+          ∙ at .loop .inv .2,
+    )
+
+cast-t16 : tie.Need-cast-t16 Inv-loop μ-loop
+cast-t16 c = omega arith
+
+returns-4 : tie.Need-returns-4 Inv-loop μ-loop
+returns-4 c =
+    let at = c .before in
+    let a = at .before .args in
+    value-got _ _ _ _
+    (sym (at .loop .inv .2) ∙ digits-end (a .bound) (at .loop .v) _ (opens-at-end (a .s .now) (at .loop .i) (omega arith)))
+    (omega arith)
+
+pub digits-spec : {M : Type 1} → statement M
+digits-spec =
+    tie.close
+    (tie.spec
+    Inv-loop
+    μ-loop
+    loop-holds
+    shared-slice-read-b
+    cast-t12
+    returns
+    cast-t13
+    returns-2
+    mul-w
+    cast-w
+    add-w
+    returns-3
+    add-i
+    loop-less
+    loop-again
+    cast-t16
+    returns-4)

@@ -1,0 +1,76 @@
+-- `text::number` meets its contract. Assumes nothing.
+use Prim.Native.Nat.{_<_}
+use native.Mathlib.Omega.{arith}
+use mathlib.Core.Path.{sym, ap, _∙_}
+use lib.ListN.{length}
+use borrow.Author.Needs.{needs}
+use Rattle.text.specs.Place.{valueIn}
+use Rattle.text.proofs.Places.{value-got, value-none}
+use Rattle.text.proofs.Numbers.{opens-inside, number-none, number-at-long, number-at-zero, number-at-on}
+use Rattle.text.proofs.number.Statement.{statement}
+use Rattle.text.proofs.number.Tie as tie
+
+-- a digit was found, so the place is inside the text
+inside : (k : tie.Then1) → k .before .before .before .args .at < length (k .before .before .before .args .s .now)
+inside k =
+    let a = k .before .before .before .args in
+    opens-inside (a .s .now) (a .at) (sym (k .before .digit-at .ensures) ∙ k .if1 .taken)
+
+digit-at-requires : tie.Need-digit-at-requires
+digit-at-requires c κs = search needs
+
+shared-slice-read-if2 : tie.Need-shared-slice-read-if2
+shared-slice-read-if2 c = omega (arith, inside (c .before))
+
+add-digit-at : tie.Need-add-digit-at
+add-digit-at c = omega (arith, inside (c .before .before))
+
+digit-at-requires-2 : tie.Need-digit-at-requires-2
+digit-at-requires-2 c κs = search needs
+
+add-t13 : tie.Need-add-t13
+add-t13 c = omega (arith, inside (c .before .before .before .before))
+
+digits-requires : tie.Need-digits-requires
+digits-requires c κs = omega (arith, inside (c .before .before))
+
+returns : tie.Need-returns
+returns c =
+    let k = c .before .before .before .before in
+    let a = k .before .before .before .args in
+    value-none _ _ (number-at-long (a .bound) (a .s .now) (a .at) (inside k) (c .before .before .if2 .taken) (sym (c .before .digit-at2 .ensures) ∙ c .if3 .taken))
+
+returns-2 : tie.Need-returns-2
+returns-2 c =
+    let k = c .before .before .before .before in
+    let a = k .before .before .before .args in
+    value-got _ _ _ _
+    (number-at-zero (a .bound) (a .s .now) (a .at) (inside k) (c .before .before .if2 .taken) (sym (c .before .digit-at2 .ensures) ∙ c .if3 .left))
+    (omega (arith, inside k))
+
+returns-3 : tie.Need-returns-3
+returns-3 c =
+    let k = c .before .before .before in
+    let a = k .before .before .before .args in
+    c .digits .ensures
+    ∙ ap (valueIn (a .s .now)) (sym (number-at-on (a .bound) (a .s .now) (a .at) (inside k) (sym (k .before .digit-at .ensures) ∙ k .if1 .taken) (c .before .if2 .left)))
+
+returns-4 : tie.Need-returns-4
+returns-4 c =
+    let a = c .before .before .before .args in
+    value-none _ _ (number-none (a .bound) _ (sym (c .before .digit-at .ensures) ∙ c .if1 .left))
+
+pub number-spec : {M : Type 1} → statement M
+number-spec =
+    tie.close
+    (tie.spec
+    digit-at-requires
+    shared-slice-read-if2
+    add-digit-at
+    digit-at-requires-2
+    add-t13
+    digits-requires
+    returns
+    returns-2
+    returns-3
+    returns-4)

@@ -1,0 +1,104 @@
+-- `text::set` meets its contract: what is left to read from p with m is what was to be read at the start. Assumes nothing.
+use Prim.Native.Nat.{ℕ, _≤_, _<_, _-_, _^_}
+use mathlib.Core.Path.{_≡_, refl, sym, _∙_, ap}
+use native.Mathlib.Omega.{arith}
+use borrow.Author.Needs.{needs}
+use lib.ListN.{length, drop}
+use Rattle.text.specs.Set.{hexDigits, hexSet}
+use Rattle.text.proofs.Places.{mask-got, mask-none}
+use Rattle.text.proofs.Sets.{hex-done, hex-at-end, hex-at-bad, hex-at-on, hex-fits, hex-grows}
+use Rattle.text.proofs.set.Statement.{statement}
+use Rattle.text.proofs.set.Tie as tie
+
+abbrev Inv-loop : tie.InvT-loop
+Inv-loop s at m₀ p₀ i₀ m p i =
+    (p ≤ length s) × (i ≤ 4) × (m < 16 ^ i) × (hexDigits (4 - i) m (drop p s) ≡ hexSet (drop at s))
+
+abbrev μ-loop : tie.MeasureT-loop
+μ-loop s at m₀ p₀ i₀ m p i = 4 - i
+
+returns : tie.Need-returns Inv-loop μ-loop
+returns c =
+    let a = c .before .before .args in
+    mask-none _ _ (hex-at-end 0 0 (a .s .now) (a .at) (omega arith) (c .if1 .taken))
+
+loop-holds : tie.Need-loop-holds Inv-loop μ-loop
+loop-holds c = (omega arith, omega arith, omega arith, refl)
+
+returns-2 : tie.Need-returns-2 Inv-loop μ-loop
+returns-2 c =
+    let at = c .before .before in
+    let s = at .before .before .before .args .s .now in
+    mask-none _ _ (sym (at .loop .inv .3) ∙ hex-at-end (at .loop .i) (at .loop .m) s (at .loop .p) (omega arith) (c .if2 .taken))
+
+shared-slice-read-hex-digit : tie.Need-shared-slice-read-hex-digit Inv-loop μ-loop
+shared-slice-read-hex-digit c = omega arith
+
+hex-digit-requires : tie.Need-hex-digit-requires Inv-loop μ-loop
+hex-digit-requires c κs = search needs
+
+returns-3 : tie.Need-returns-3 Inv-loop μ-loop
+returns-3 c =
+    let at = c .before .before .before .before .before in
+    let s = at .before .before .before .args .s .now in
+    mask-none _ _
+    (sym (at .loop .inv .3)
+    ∙ hex-at-bad (at .loop .i) (at .loop .m) s (at .loop .p) (omega arith) (omega arith) _ (c .before .hex-digit .ensures) (c .if3 .taken))
+
+mul-m : tie.Need-mul-m Inv-loop μ-loop
+mul-m c =
+    let at = c .before .before .before .before .before in
+    omega (arith, hex-fits (at .loop .i) (at .loop .m) (omega arith) (at .loop .inv .2))
+
+add-m : tie.Need-add-m Inv-loop μ-loop
+add-m c =
+    let at = c .before .before .before .before .before in
+    omega (arith, hex-fits (at .loop .i) (at .loop .m) (omega arith) (at .loop .inv .2))
+
+add-p : tie.Need-add-p Inv-loop μ-loop
+add-p c = omega arith
+
+add-i : tie.Need-add-i Inv-loop μ-loop
+add-i c = omega arith
+
+loop-less : tie.Need-loop-less Inv-loop μ-loop
+loop-less c = omega arith
+
+loop-again : tie.Need-loop-again Inv-loop μ-loop
+loop-again c =
+    let at = c .before .before .before .before .before in
+    let s = at .before .before .before .args .s .now in (
+      omega arith,
+      omega arith,
+      hex-grows (at .loop .i) (at .loop .m) _ (at .loop .inv .2) (c .if3 .left),
+      sym (hex-at-on (at .loop .i) (at .loop .m) s (at .loop .p) (omega arith) (omega arith) _ (c .before .hex-digit .ensures) (c .if3 .left))
+          ∙ at .loop .inv .3,
+    )
+
+returns-4 : tie.Need-returns-4 Inv-loop μ-loop
+returns-4 c =
+    let at = c .before in
+    let z : 4 - at .loop .i ≡ 0 = omega arith in
+    mask-got _ _ _ _
+    (sym (at .loop .inv .3) ∙ ap (λ (k : ℕ). hexDigits k (at .loop .m) (drop (at .loop .p) (at .before .before .before .args .s .now))) z ∙ hex-done _ _)
+    (omega arith)
+
+pub set-spec : {M : Type 1} → statement M
+set-spec =
+    tie.close
+    (tie.spec
+    Inv-loop
+    μ-loop
+    returns
+    loop-holds
+    returns-2
+    shared-slice-read-hex-digit
+    hex-digit-requires
+    returns-3
+    mul-m
+    add-m
+    add-p
+    add-i
+    loop-less
+    loop-again
+    returns-4)

@@ -1,0 +1,33 @@
+-- `text::write::width` meets its contract: what is counted and the digits left are the digits of v, and one. Assumes nothing.
+use Prim.Native.Nat.{_+_}
+use mathlib.Core.Path.{_≡_}
+use native.Mathlib.Omega.{arith}
+use lib.ListN.{length}
+use Rattle.text.specs.Number.{decimal}
+use Rattle.text.proofs.Writings.{length-low, length-more, length-decimal}
+use Rattle.text.proofs.write.width.Statement.{statement}
+use Rattle.text.proofs.write.width.Tie as tie
+
+abbrev Inv-loop : tie.InvT-loop
+Inv-loop v n₀ w₀ n w = n + length (decimal w) ≡ length (decimal v) + 1
+
+abbrev μ-loop : tie.MeasureT-loop
+μ-loop v n₀ w₀ n w = w
+
+loop-holds : tie.Need-loop-holds Inv-loop μ-loop
+loop-holds c = omega arith
+
+add-n : tie.Need-add-n Inv-loop μ-loop
+add-n c = omega (arith, length-decimal (c .before .before .args .v) (omega arith))
+
+loop-less : tie.Need-loop-less Inv-loop μ-loop
+loop-less c = omega arith
+
+loop-again : tie.Need-loop-again Inv-loop μ-loop
+loop-again c = omega (arith, length-more (c .before .loop .w) (omega arith))
+
+returns : tie.Need-returns Inv-loop μ-loop
+returns c = omega (arith, length-low (c .before .loop .w) (omega arith))
+
+pub width-spec : {M : Type 1} → statement M
+width-spec = tie.close (tie.spec Inv-loop μ-loop loop-holds add-n loop-less loop-again returns)

@@ -1,0 +1,26 @@
+-- The code reads at a place of a text s and answers the place after what it read.
+use Prim.Native.Nat.{ℕ, _-_}
+use mathlib.Core.List.{List}
+use lib.ListN.{length}
+use Rattle.text.specs.Reading.{Read}
+use Rattle.text.specs.Reading.Read.{got, bad}
+use Rattle.text.specs.declared.Value.{Value}
+use Rattle.text.specs.declared.Value.the-variants as value
+use Rattle.text.specs.declared.Mask.{Mask}
+use Rattle.text.specs.declared.Mask.the-variants as mask
+use Rattle.text.specs.declared.Place.{Place}
+use Rattle.text.specs.declared.Place.the-variants as place
+
+-- a reading in s as an answer: `at` of the value and the place of what follows, which is the end of s, or `none`
+unfoldable pub placed : {A R : Type 0} → (A → ℕ → R) → R → List ℕ → Read A → R
+placed at none s (got v t) = at v (length s - length t)
+placed at none s bad = none
+
+abbrev pub valueIn : List ℕ → Read ℕ → Value
+valueIn s want = placed (λ v p. value.At v p) value.Bad s want
+
+abbrev pub maskIn : List ℕ → Read ℕ → Mask
+maskIn s want = placed (λ m p. mask.At m p) mask.Bad s want
+
+abbrev pub placeIn : List ℕ → Read Unit → Place
+placeIn s want = placed (λ _ p. place.At p) place.Bad s want

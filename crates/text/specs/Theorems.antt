@@ -1,0 +1,35 @@
+-- What is shown of the forms: each is read exactly where its printed form stands.
+use Prim.Native.Nat.{ℕ, _≤_, _<_}
+use mathlib.Core.Path.{_≡_}
+use mathlib.Core.Logic.{_↔_}
+use mathlib.Core.Bool.{false}
+use mathlib.Core.List.{List, _++_}
+use Rattle.text.specs.Reading.Read.{got}
+use Rattle.text.specs.Number.{number, decimal, opensDigit}
+use Rattle.text.specs.Set.{hexSet, hex4}
+use Rattle.text.specs.Field.{numberField, setField, lineEnd, lastNumber, printNumberField, printSetField, printLineEnd}
+
+-- a number: its decimal form, not above the bound, with no digit after it
+abbrev pub NumberExact : Type 0
+NumberExact =
+    (bound v : ℕ) (t rest : List ℕ)
+    → (number bound t ≡ got v rest) ↔ ((t ≡ decimal v ++ rest) × (v ≤ bound) × (opensDigit rest ≡ false))
+
+-- a set: its four digits
+abbrev pub SetExact : Type 0
+SetExact = (m : ℕ) (t rest : List ℕ) → (hexSet t ≡ got m rest) ↔ ((t ≡ hex4 m ++ rest) × (m < 65536))
+
+abbrev pub NumberFieldExact : Type 0
+NumberFieldExact =
+    (bound v : ℕ) (t rest : List ℕ)
+    → (numberField bound t ≡ got v rest) ↔ ((t ≡ printNumberField v rest) × (v ≤ bound) × (opensDigit rest ≡ false))
+
+abbrev pub SetFieldExact : Type 0
+SetFieldExact = (m : ℕ) (t rest : List ℕ) → (setField t ≡ got m rest) ↔ ((t ≡ printSetField m rest) × (m < 65536))
+
+abbrev pub LineEndExact : Type 0
+LineEndExact = (t rest : List ℕ) → (lineEnd t ≡ got tt rest) ↔ (t ≡ printLineEnd rest)
+
+abbrev pub LastNumberExact : Type 0
+LastNumberExact =
+    (bound v : ℕ) (t rest : List ℕ) → (lastNumber bound t ≡ got v rest) ↔ ((t ≡ printNumberField v (printLineEnd rest)) × (v ≤ bound))

@@ -1,0 +1,192 @@
+// From bytes to fields: the forms that the three texts are made of, read at a place of a text.
+pub mod write; // write.rt: numbers and bytes into a buffer
+
+ghost use mathlib.Core.Path.{_≡_};
+ghost use Prim.Native.Nat.{_≤_};
+ghost use lib.ListN.{length, drop};
+ghost use Rattle.text.specs.Reading.{byte as byteOf, fits as fitsOf};
+ghost use Rattle.text.specs.Number.{digits as digitsOf, number as numberOf, opensDigit};
+ghost use Rattle.text.specs.Set.{hexDigit, hexSet};
+ghost use Rattle.text.specs.Field.{numberField, setField, lineEnd, lastNumber};
+ghost use Rattle.text.specs.Place.{valueIn, maskIn, placeIn};
+
+// The longest text, in bytes.
+const LIMIT: usize = 16384;
+
+// A number and the place after it, or a refusal.
+pub enum Value {
+    At(u32, usize),
+    Bad,
+}
+
+// A set and the place after it, or a refusal.
+pub enum Mask {
+    At(u16, usize),
+    Bad,
+}
+
+// The place after what was asked for, or a refusal.
+pub enum Place {
+    At(usize),
+    Bad,
+}
+
+// Whether a text is not longer than the limit.
+pub fn fits(s: &[u8]) -> bool
+    ensures { λ r. ⌜ r ≡ fitsOf (now (s .entry)) ⌝ }
+{
+    s.len() <= LIMIT
+}
+
+// The byte b at `at`.
+pub fn byte(s: &[u8], at: usize, b: u8) -> Place
+    ensures { λ r. ⌜ r ≡ placeIn (now (s .entry)) (byteOf b (drop at (now (s .entry)))) ⌝ }
+{
+    if s.len() <= at {
+        return Place::Bad;
+    }
+    if s[at] == b {
+        Place::At(at + 1)
+    } else {
+        Place::Bad
+    }
+}
+
+// The end of a line.
+pub fn line_end(s: &[u8], at: usize) -> Place
+    ensures { λ r. ⌜ r ≡ placeIn (now (s .entry)) (lineEnd (drop at (now (s .entry)))) ⌝ }
+{
+    byte(s, at, 10)
+}
+
+// Whether a digit stands at `at`.
+fn digit_at(s: &[u8], at: usize) -> bool
+    ensures { λ r. ⌜ r ≡ opensDigit (drop at (now (s .entry))) ⌝ }
+{
+    if s.len() <= at {
+        return false;
+    }
+    if s[at] < 48 {
+        return false;
+    }
+    s[at] <= 57
+}
+
+// The value of the digits from `from` on, up to the bound.
+fn digits(s: &[u8], from: usize, bound: u32) -> Value
+    requires { ⌜ from ≤ length (now s) ⌝ }
+    ensures { λ r. ⌜ r ≡ valueIn (now (s .entry)) (digitsOf bound 0 (drop from (now (s .entry)))) ⌝ }
+{
+    let mut i = from;
+    let mut v: u64 = 0;
+    while i < s.len() {
+        let b = s[i];
+        if b < 48 {
+            return Value::At(v as u32, i);
+        }
+        if 57 < b {
+            return Value::At(v as u32, i);
+        }
+        let w = v * 10 + (b - 48) as u64;
+        if (bound as u64) < w {
+            return Value::Bad;
+        }
+        v = w;
+        i += 1;
+    }
+    Value::At(v as u32, i)
+}
+
+// A number up to the bound, without needless zeros.
+pub fn number(s: &[u8], at: usize, bound: u32) -> Value
+    ensures { λ r. ⌜ r ≡ valueIn (now (s .entry)) (numberOf bound (drop at (now (s .entry)))) ⌝ }
+{
+    if digit_at(s, at) {
+        if s[at] == 48 {
+            if digit_at(s, at + 1) {
+                Value::Bad
+            } else {
+                Value::At(0, at + 1)
+            }
+        } else {
+            digits(s, at, bound)
+        }
+    } else {
+        Value::Bad
+    }
+}
+
+// The value of a lowercase hexadecimal digit, 16 for any other byte.
+fn hex_digit(b: u8) -> u16
+    ensures { λ r. ⌜ r ≡ hexDigit b ⌝ }
+{
+    if b < 48 {
+        16
+    } else if b < 58 {
+        (b - 48) as u16
+    } else if b < 97 {
+        16
+    } else if b < 103 {
+        (b - 87) as u16
+    } else {
+        16
+    }
+}
+
+// A set of four digits.
+pub fn set(s: &[u8], at: usize) -> Mask
+    ensures { λ r. ⌜ r ≡ maskIn (now (s .entry)) (hexSet (drop at (now (s .entry)))) ⌝ }
+{
+    if s.len() <= at {
+        return Mask::Bad;
+    }
+    let mut m: u16 = 0;
+    let mut p = at;
+    let mut i: usize = 0;
+    while i < 4 {
+        if s.len() <= p {
+            return Mask::Bad;
+        }
+        let d = hex_digit(s[p]);
+        if 15 < d {
+            return Mask::Bad;
+        }
+        m = m * 16 + d;
+        p += 1;
+        i += 1;
+    }
+    Mask::At(m, p)
+}
+
+// A tab and a number up to the bound.
+pub fn number_field(s: &[u8], at: usize, bound: u32) -> Value
+    ensures { λ r. ⌜ r ≡ valueIn (now (s .entry)) (numberField bound (drop at (now (s .entry)))) ⌝ }
+{
+    match byte(s, at, 9) {
+        Place::At(p) => number(s, p, bound),
+        Place::Bad => Value::Bad,
+    }
+}
+
+// A tab and a set.
+pub fn set_field(s: &[u8], at: usize) -> Mask
+    ensures { λ r. ⌜ r ≡ maskIn (now (s .entry)) (setField (drop at (now (s .entry)))) ⌝ }
+{
+    match byte(s, at, 9) {
+        Place::At(p) => set(s, p),
+        Place::Bad => Mask::Bad,
+    }
+}
+
+// A tab, a number up to the bound and the end of the line.
+pub fn last_number(s: &[u8], at: usize, bound: u32) -> Value
+    ensures { λ r. ⌜ r ≡ valueIn (now (s .entry)) (lastNumber bound (drop at (now (s .entry)))) ⌝ }
+{
+    let Value::At(v, p) = number_field(s, at, bound) else {
+        return Value::Bad;
+    };
+    match line_end(s, p) {
+        Place::At(q) => Value::At(v, q),
+        Place::Bad => Value::Bad,
+    }
+}

@@ -1,0 +1,141 @@
+-- The code of lines, filled in line by line. Assumes nothing.
+use mathlib.Core.Path.{_≡_, refl, sym, ap, _∙_}
+use mathlib.Core.Bool.{true, false}
+use mathlib.Core.List.{List, [], _∷_, _++_, append-assoc}
+use mathlib.Core.Option.{Option, none, some}
+use Prim.Native.Nat.{ℕ, zero, suc, _+_, _*_, _-_, _≤_, _<_}
+use native.Mathlib.Omega.{arith}
+use lib.ListN.{length, drop, getD, set, replicate, length-append, drop-of-length-le}
+use lib.Seq.{set-at}
+use Rattle.text.specs.Reading.{fits}
+use Rattle.text.specs.Reading.Read.{bad}
+use Rattle.text.proofs.Readings.{drop-step}
+use Rattle.lines.specs.Lines.{Line, l-skip, l-seq, l-assign, l-while, l-case, l-int, l-loc, l-var, l-plus, l-left, l-right, l-pack, l-unpack}
+use Rattle.lines.specs.Code.{lineWords, code}
+use Rattle.tables.specs.Tables.{padded}
+use Rattle.script.specs.declared.Found.{Found}
+use Rattle.script.specs.declared.Found.the-variants as found
+use Rattle.script.specs.declared.Script.{Script}
+use Rattle.script.specs.Reading.{lineOf, front, linesUpTo, linesOf, maxLines}
+use Rattle.script.specs.Script.{codeWords, noCode, coded, codedLines}
+use Rattle.script.specs.Scan.{rowOf, foundIn}
+use Rattle.script.proofs.LineLaws.{lines-sound, lines-end, lines-full, lines-more, lines-bad}
+use Rattle.script.proofs.FoundLaws.{found-at, found-none}
+
+-- ---- three words a line
+
+pub words-of : (l : Line) (rest : List ℕ) → lineWords l rest ≡ rowOf l .kind ∷ rowOf l .a ∷ rowOf l .b ∷ rest
+unfolding lineWords rowOf
+words-of l-skip rest = refl
+words-of l-seq rest = refl
+words-of (l-assign x) rest = refl
+words-of l-while rest = refl
+words-of l-case rest = refl
+words-of (l-int n) rest = refl
+words-of (l-loc x) rest = refl
+words-of (l-var d) rest = refl
+words-of l-plus rest = refl
+words-of (l-left t) rest = refl
+words-of (l-right t) rest = refl
+words-of (l-pack l) rest = refl
+words-of (l-unpack t l) rest = refl
+
+pub code-length : (ls : List Line) → length (code ls) ≡ length ls * 3
+unfolding code
+code-length [] = refl
+code-length (l ∷ ls) = rw (words-of l (code ls)) (omega (arith, code-length ls))
+
+-- ---- a table that is filled line by line
+
+-- the three words of line n
+abbrev pub put : List ℕ → ℕ → ℕ → ℕ → ℕ → List ℕ
+put w n k a b = set (set (set w (n * 3) k) (n * 3 + 1) a) (n * 3 + 2) b
+
+-- n lines, and further ones
+unfoldable pub filled : ℕ → List ℕ → List Line → Script
+filled n w [] = record { count = n; code = w }
+filled n w (l ∷ ls) = filled (n + 1) (put w n (rowOf l .kind) (rowOf l .a) (rowOf l .b)) ls
+
+unfoldable pub tabled : ℕ → List ℕ → Option (List Line) → Script
+tabled n w none = noCode
+tabled n w (some ls) = filled n w ls
+
+put-next : (pre : List ℕ) (m n k a b : ℕ) → length pre ≡ n * 3
+    → put (pre ++ replicate (suc (suc (suc m))) 0) n k a b ≡ (pre ++ k ∷ a ∷ b ∷ []) ++ replicate m 0
+put-next pre m n k a b h =
+    let one : length (pre ++ k ∷ []) ≡ n * 3 + 1 = length-append pre (k ∷ []) ∙ omega arith in
+    let two : length (pre ++ k ∷ a ∷ []) ≡ n * 3 + 2 = length-append pre (k ∷ a ∷ []) ∙ omega arith in
+    ap (λ (l : List ℕ). set (set l (n * 3 + 1) a) (n * 3 + 2) b) (set-at pre 0 (0 ∷ 0 ∷ replicate m 0) k (n * 3) h ∙ sym (append-assoc pre (k ∷ []) (0 ∷ 0 ∷ replicate m 0)))
+    ∙ ap (λ (l : List ℕ). set l (n * 3 + 2) b) (set-at (pre ++ k ∷ []) 0 (0 ∷ replicate m 0) a (n * 3 + 1) one ∙ append-assoc pre (k ∷ []) (a ∷ 0 ∷ replicate m 0) ∙ sym (append-assoc pre (k ∷ a ∷ []) (0 ∷ replicate m 0)))
+    ∙ set-at (pre ++ k ∷ a ∷ []) 0 (replicate m 0) b (n * 3 + 2) two ∙ append-assoc pre (k ∷ a ∷ []) (b ∷ replicate m 0) ∙ sym (append-assoc pre (k ∷ a ∷ b ∷ []) (replicate m 0))
+
+filled-code : (ls : List Line) (pre : List ℕ) (m n : ℕ) → length pre ≡ n * 3 → length ls * 3 ≤ m
+    → filled n (pre ++ replicate m 0) ls ≡ record { count = n + length ls; code = pre ++ (code ls ++ replicate (m - length ls * 3) 0) }
+unfolding filled code
+filled-code [] pre m n h l =
+    let z : m - 0 * 3 ≡ m = omega arith in
+    let y : n + 0 ≡ n = omega arith in
+    rw (z, y)
+filled-code (x ∷ ls) pre m n h l =
+    let k = rowOf x .kind in
+    let a = rowOf x .a in
+    let b = rowOf x .b in
+    let z : m ≡ suc (suc (suc (m - 3))) = omega arith in
+    let y : n + 1 + length ls ≡ n + suc (length ls) = omega arith in
+    let w : m - 3 - length ls * 3 ≡ m - suc (length ls) * 3 = omega arith in
+    let c : length (pre ++ k ∷ a ∷ b ∷ []) ≡ (n + 1) * 3 = length-append pre (k ∷ a ∷ b ∷ []) ∙ omega arith in
+    ap (λ (l : List ℕ). filled (n + 1) l ls) (ap (λ (j : ℕ). put (pre ++ replicate j 0) n k a b) z ∙ put-next pre (m - 3) n k a b h)
+    ∙ filled-code ls (pre ++ k ∷ a ∷ b ∷ []) (m - 3) (n + 1) c (omega arith)
+    ∙ rw (y, w, append-assoc, words-of x (code ls)) refl
+
+coded-filled : (ls : List Line) → length ls ≤ maxLines → filled 0 (replicate codeWords 0) ls ≡ coded ls
+unfolding coded padded
+coded-filled ls h =
+    let z : 0 + length ls ≡ length ls = omega arith in
+    filled-code ls [] codeWords 0 refl (omega arith) ∙ rw (z, code-length ls)
+
+-- ---- the table of a text's lines, from line n and byte `at` on
+
+tabled-front : (n : ℕ) (w : List ℕ) (l : Line) (o : Option (List Line))
+    → tabled n w (front l o) ≡ tabled (n + 1) (put w n (rowOf l .kind) (rowOf l .a) (rowOf l .b)) o
+unfolding tabled front filled
+tabled-front n w l none = refl
+tabled-front n w l (some ls) = refl
+
+module _ (n : ℕ) (w : List ℕ) (s : List ℕ) (at : ℕ) where
+  pub table-done : length s ≤ at → tabled n w (linesUpTo (maxLines - n) (drop at s)) ≡ record { count = n; code = w }
+  unfolding tabled filled
+  table-done h = rw (drop-of-length-le s h, lines-end)
+
+  pub table-full : at < length s → maxLines ≤ n → tabled n w (linesUpTo (maxLines - n) (drop at s)) ≡ noCode
+  unfolding tabled
+  table-full h l =
+      let z : maxLines - n ≡ zero = omega arith in
+      rw (z, drop-step s at h, lines-full)
+
+  module _ (h : at < length s) (l : n < maxLines) (r : Found) (e : r ≡ foundIn s (lineOf (drop at s))) where
+    pub table-bad : r ≡ found.Bad → tabled n w (linesUpTo (maxLines - n) (drop at s)) ≡ noCode
+    unfolding tabled
+    table-bad g =
+        let z : maxLines - n ≡ suc (maxLines - (n + 1)) = omega arith in
+        let b : lineOf (getD s at 0 ∷ drop (at + 1) s) ≡ bad = rw (drop-step s at h) at (found-none s at r e g) in
+        rw (z, drop-step s at h, lines-bad _ _ _ b)
+
+    pub table-more : (k a b p : ℕ) → r ≡ found.At k a b p
+        → (p ≤ length s) × (tabled n w (linesUpTo (maxLines - n) (drop at s)) ≡ tabled (n + 1) (put w n k a b) (linesUpTo (maxLines - (n + 1)) (drop p s)))
+    table-more k a b p g =
+        found-at s at r e k a b p g (λ x y i f1 f2 f3.
+        let z : maxLines - n ≡ suc (maxLines - (n + 1)) = omega arith in
+        (i, rw (z, lines-more (maxLines - (n + 1)) (drop at s) x (drop p s) y, tabled-front, f1, f2, f3)))
+
+pub decode-start : (s : List ℕ) → fits s ≡ true → tabled 0 (replicate codeWords 0) (linesUpTo maxLines s) ≡ codedLines (linesOf s)
+unfolding linesOf tabled codedLines
+decode-start s h = rw h (go (linesUpTo maxLines s) refl)
+  where
+    go : (o : Option (List Line)) → linesUpTo maxLines s ≡ o → tabled 0 (replicate codeWords 0) o ≡ codedLines o
+    go none e = refl
+    go (some ls) e = coded-filled ls (lines-sound maxLines s ls e .1)
+
+pub decode-long : (s : List ℕ) → fits s ≡ false → codedLines (linesOf s) ≡ noCode
+unfolding linesOf codedLines
+decode-long s h = rw h

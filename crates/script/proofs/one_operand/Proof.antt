@@ -1,0 +1,27 @@
+-- `script::one_operand` meets its contract. Assumes nothing.
+use borrow.Author.Needs.{needs}
+use Rattle.script.proofs.FoundLaws.{one-got, one-none}
+use Rattle.script.proofs.one_operand.Statement.{statement}
+use Rattle.script.proofs.one_operand.Tie as tie
+
+last-number-requires : tie.Need-last-number-requires
+last-number-requires c κs = search needs
+
+enum-known-a : tie.Need-enum-known-a
+enum-known-a c = search needs
+
+enum-told : tie.Need-enum-told
+enum-told c = search needs
+
+returns : tie.Need-returns
+returns c =
+    let end = c .before .before .before in
+    λ f q. one-got _ (end .before .before .args .at) _ f _ _ _ (end .last-number .ensures) (c .before .a .given .1) (q _)
+
+returns-2 : tie.Need-returns-2
+returns-2 c =
+    let end = c .before .before in
+    λ f q. one-none _ (end .before .before .args .at) 0 f _ (end .last-number .ensures) (c .enum-told .given .1)
+
+pub one-operand-spec : {M : Type 1} → statement M
+one-operand-spec = tie.close (tie.spec last-number-requires enum-known-a enum-told returns returns-2)

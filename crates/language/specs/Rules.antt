@@ -3,8 +3,8 @@
 -- * error is a type of its own, not int; a guard of `while` is int+int, the paper's bool;
 -- * `left t`, `right t` and `unpack t` name the sum type t that they make, so its parts are not free;
 -- * a script holds no package literal, so there is no TE-PACKAGE; its only literals are integers;
--- * variables are counted by depth, so Γ is a list, innermost first;
--- * the checker uses least labels instead of TE-SUB and TC-SUBS; that it accepts exactly what has a derivation is a theorem.
+-- * variables are counted by depth, so Γ is a list, innermost first.
+-- TE-SUB and TC-SUBS stand as in the figures; that the scope's least labels pass exactly where there is a derivation is a theorem.
 use mathlib.Core.Path.{_≡_}
 use mathlib.Core.Bool.{true}
 use mathlib.Core.Option.{some}

@@ -71,7 +71,7 @@ has (pkg l v) t-pkg = true
 has (pkg l v) (t-sum a b) = false
 has blank t = false
 
--- Conjunction. It stays shut, so that its arguments are found from a proof of it.
+-- Conjunction.
 unfoldable pub both : Bool → Bool → Bool
 both true b = b
 both false b = false

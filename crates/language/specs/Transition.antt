@@ -42,7 +42,7 @@ close d ρ (assign x e) = assign x (closeE d ρ e)
 close d ρ (while e c) = while (closeE d ρ e) (close d ρ c)
 close d ρ (case e a b) = case (closeE d ρ e) (close (suc d) ρ a) (close (suc d) ρ b)
 
--- the paper's {v/a} c
+-- the paper's [v/a] c
 unfoldable pub inst : Value → Cmd → Cmd
 inst v c = close zero (v ∷ []) c
 

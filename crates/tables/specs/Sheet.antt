@@ -40,7 +40,7 @@ typesFrom ts (s ∷ ss) = typesFrom (ts ++ (t-sum (getD ts (s .left) t-int) (get
 unfoldable pub tyOf : Sheet → ℕ → Ty
 tyOf s t = getD (typesFrom givenTypes (s .sums)) t t-int
 
--- the parts of the types by number; a type without parts has the parts 0 0 here, which nothing reads
+-- the parts of the types by number; a type without parts has the parts 0 0 here
 unfoldable pub givenParts : List Sum
 givenParts =
     record { left = 0; right = 0 }

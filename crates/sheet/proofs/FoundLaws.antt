@@ -1,0 +1,155 @@
+-- From an answer in a text back to the line that was read, and from a line to its answer. Assumes nothing.
+use mathlib.Core.Path.{_≡_, refl, ap, _∙_}
+use mathlib.Core.Bool.{Bool, true, false}
+use mathlib.Core.List.{List, [], _∷_, _++_, append-assoc}
+use Prim.Native.Nat.{ℕ, _+_, _≤_, _<_}
+use native.Mathlib.Omega.{arith}
+use lib.Dec.{eqb}
+use lib.ListN.{length, drop, getD, drop-of-length-le, length-drop}
+use borrow.Author.Tests.{ne-eqb}
+use Rattle.text.specs.Reading.{Read, andThen}
+use Rattle.text.specs.Reading.Read.{got, bad}
+use Rattle.text.specs.Number.{most}
+use Rattle.text.specs.Field.{numberField, setField, lineEnd, lastNumber}
+use Rattle.text.proofs.Readings.{drop-step, andThen-got, andThen-bad, ends-print}
+use Rattle.text.proofs.Places.{Within, placed-got, placed-bad, placed-split}
+use Rattle.sheet.specs.declared.line.Line.{Line}
+use Rattle.sheet.specs.declared.line.Line.the-variants.{P, T, L, O, X}
+use Rattle.sheet.specs.declared.line.Found.{Found}
+use Rattle.sheet.specs.declared.line.Found.the-variants as found
+use Rattle.sheet.specs.Lines.{lineBytes}
+use Rattle.sheet.specs.Reading.{principalsRest, pairLine, pairRest, labelRest, policyRest, lineOf, foundIn}
+use Rattle.sheet.proofs.LineLaws.{line-sound, line-shorter}
+
+-- ---- answers
+
+module _ (s : List ℕ) (want : Read Line) where
+  pub found-got : (l : Line) (p : ℕ) → want ≡ got l (drop p s) → p ≤ length s → found.At l p ≡ foundIn s want
+  found-got l p e h = placed-got (λ l p. found.At l p) found.Bad s want l p e h
+
+  pub found-none : want ≡ bad → found.Bad ≡ foundIn s want
+  found-none e = placed-bad (λ l p. found.At l p) found.Bad s want e
+
+-- what follows a line is the end of the text
+bytes-front : (l : Line) (u : List ℕ) → lineBytes l u ≡ lineBytes l [] ++ u
+unfolding lineBytes
+bytes-front (P n) u = simp append-assoc
+bytes-front (T a b) u = simp append-assoc
+bytes-front L u = refl
+bytes-front (O o r w) u = simp append-assoc
+bytes-front (X t l) u = simp append-assoc
+
+line-within : (t : List ℕ) → Within t (lineOf t)
+line-within t l u e = ends-print t (lineBytes l []) u (line-sound t l u e ∙ bytes-front l u)
+
+-- what an answer at i in s says of the line there
+module _ (s : List ℕ) (i : ℕ) (r : Found) (e : r ≡ foundIn s (lineOf (drop i s))) where
+  pub line-found : (l : Line) (p : ℕ) → r ≡ found.At l p → (lineOf (drop i s) ≡ got l (drop p s)) × (p ≤ length s)
+  line-found l p g =
+      placed-split (λ l p. found.At l p) found.Bad s i (lineOf (drop i s)) r (line-within (drop i s)) e
+      (λ l′ p′ x h y. let a : l′ ≡ l = cc in let b : p′ ≡ p = cc in rw (← a, ← b) (x, h))
+      (λ x y. let z : _≡_ {A = ℕ} 0 1 = cc in absurd (omega arith))
+
+  pub line-missed : r ≡ found.Bad → lineOf (drop i s) ≡ bad
+  line-missed g =
+      placed-split (λ l p. found.At l p) found.Bad s i (lineOf (drop i s)) r (line-within (drop i s)) e
+      (λ l p x h y. let z : _≡_ {A = ℕ} 0 1 = cc in absurd (omega arith)) (λ x y. x)
+
+-- the place after a line is past the line's own
+pub line-onward : (s : List ℕ) (i : ℕ) (l : Line) (p : ℕ) → lineOf (drop i s) ≡ got l (drop p s) → p ≤ length s → i < p
+line-onward s i l p e h = omega (arith, line-shorter (drop i s) l (drop p s) e, length-drop i s, length-drop p s)
+
+-- ---- the cases of a line, by what is read after its letter
+
+module _ (t : List ℕ) where
+  pub principals-on : (n : ℕ) (u : List ℕ) → lastNumber most t ≡ got n u → principalsRest t ≡ got (P n) u
+  unfolding principalsRest
+  principals-on n u e = andThen-got _ _ n u e
+
+  pub principals-none : lastNumber most t ≡ bad → principalsRest t ≡ bad
+  unfolding principalsRest
+  principals-none e = andThen-bad _ _ e
+
+  pub label-on : (u : List ℕ) → lineEnd t ≡ got tt u → labelRest t ≡ got L u
+  unfolding labelRest
+  label-on u e = andThen-got _ _ tt u e
+
+  pub label-none : lineEnd t ≡ bad → labelRest t ≡ bad
+  unfolding labelRest
+  label-none e = andThen-bad _ _ e
+
+module _ (sum : Bool) (t : List ℕ) where
+  pub pair-none : numberField most t ≡ bad → pairRest sum t ≡ bad
+  unfolding pairRest
+  pair-none e = andThen-bad _ _ e
+
+  module _ (a : ℕ) (u : List ℕ) (e : numberField most t ≡ got a u) where
+    pub pair-on : (b : ℕ) (v : List ℕ) → lastNumber most u ≡ got b v → pairRest sum t ≡ got (pairLine sum a b) v
+    unfolding pairRest
+    pair-on b v f = andThen-got _ _ a u e ∙ andThen-got _ _ b v f
+
+    pub pair-short : lastNumber most u ≡ bad → pairRest sum t ≡ bad
+    unfolding pairRest
+    pair-short f = andThen-got _ _ a u e ∙ andThen-bad _ _ f
+
+module _ (t : List ℕ) where
+  pub policy-none : numberField most t ≡ bad → policyRest t ≡ bad
+  unfolding policyRest
+  policy-none e = andThen-bad _ _ e
+
+  module _ (o : ℕ) (u : List ℕ) (e : numberField most t ≡ got o u) where
+    pub policy-no-readers : setField u ≡ bad → policyRest t ≡ bad
+    unfolding policyRest
+    policy-no-readers f = andThen-got _ _ o u e ∙ andThen-bad _ _ f
+
+    module _ (r : ℕ) (v : List ℕ) (f : setField u ≡ got r v) where
+      pub policy-no-writers : setField v ≡ bad → policyRest t ≡ bad
+      unfolding policyRest
+      policy-no-writers g = andThen-got _ _ o u e ∙ andThen-got _ _ r v f ∙ andThen-bad _ _ g
+
+      module _ (w : ℕ) (x : List ℕ) (g : setField v ≡ got w x) where
+        pub policy-open : lineEnd x ≡ bad → policyRest t ≡ bad
+        unfolding policyRest
+        policy-open h = andThen-got _ _ o u e ∙ andThen-got _ _ r v f ∙ andThen-got _ _ w x g ∙ andThen-bad _ _ h
+
+        pub policy-on : (y : List ℕ) → lineEnd x ≡ got tt y → policyRest t ≡ got (O o r w) y
+        unfolding policyRest
+        policy-on y h = andThen-got _ _ o u e ∙ andThen-got _ _ r v f ∙ andThen-got _ _ w x g ∙ andThen-got _ _ tt y h
+
+-- ---- the cases of a line, by its letter, at a place of a text
+
+module _ (s : List ℕ) (i : ℕ) where
+  pub line-past : length s ≤ i → lineOf (drop i s) ≡ bad
+  unfolding lineOf
+  line-past h = rw (drop-of-length-le s h)
+
+  module _ (h : i < length s) where
+    line-at-first : (b : ℕ) → getD s i 0 ≡ b → lineOf (drop i s) ≡ lineOf (b ∷ drop (i + 1) s)
+    line-at-first b e = ap lineOf (drop-step s i h ∙ ap (λ (c : ℕ). c ∷ drop (i + 1) s) e)
+
+    pub line-principals : getD s i 0 ≡ 80 → lineOf (drop i s) ≡ principalsRest (drop (i + 1) s)
+    unfolding lineOf
+    line-principals e = line-at-first 80 e
+
+    pub line-sum : getD s i 0 ≡ 84 → lineOf (drop i s) ≡ pairRest true (drop (i + 1) s)
+    unfolding lineOf
+    line-sum e = line-at-first 84 e
+
+    pub line-label : getD s i 0 ≡ 76 → lineOf (drop i s) ≡ labelRest (drop (i + 1) s)
+    unfolding lineOf
+    line-label e = line-at-first 76 e
+
+    pub line-policy : getD s i 0 ≡ 79 → lineOf (drop i s) ≡ policyRest (drop (i + 1) s)
+    unfolding lineOf
+    line-policy e = line-at-first 79 e
+
+    pub line-location : getD s i 0 ≡ 88 → lineOf (drop i s) ≡ pairRest false (drop (i + 1) s)
+    unfolding lineOf
+    line-location e = line-at-first 88 e
+
+    pub line-other : (getD s i 0 ≡ 80 → ⊥) → (getD s i 0 ≡ 84 → ⊥) → (getD s i 0 ≡ 76 → ⊥) → (getD s i 0 ≡ 79 → ⊥) → (getD s i 0 ≡ 88 → ⊥)
+        → lineOf (drop i s) ≡ bad
+    unfolding lineOf
+    line-other p t l o x =
+        ap lineOf (drop-step s i h)
+        ∙ simp (ne-eqb (getD s i 0) 80 p, ne-eqb (getD s i 0) 84 t, ne-eqb (getD s i 0) 76 l, ne-eqb (getD s i 0) 79 o, ne-eqb (getD s i 0) 88 x)

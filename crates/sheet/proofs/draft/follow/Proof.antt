@@ -1,0 +1,111 @@
+-- `sheet::draft::follow` meets its contract: what is left to read, after the sheet so far, is what was to be read at the start. Assumes nothing.
+use mathlib.Core.Path.{_≡_, refl, ap, _∙_}
+use mathlib.Core.Option.{Option}
+use Prim.Native.Nat.{_-_, _≤_}
+use native.Mathlib.Omega.{arith}
+use lib.ListN.{length, drop}
+use Rattle.tables.specs.Sheet.{Sheet}
+use Rattle.text.specs.Reading.Read.{got}
+use Rattle.sheet.specs.Reading.{lineOf, linesOf}
+use Rattle.sheet.specs.Building.{stepOn}
+use Rattle.sheet.specs.Drafts.{drafted, FormedIf, stepsIn}
+use Rattle.sheet.proofs.FoundLaws.{line-found, line-missed, line-onward}
+use Rattle.sheet.proofs.DraftLaws.{formed-stepped}
+use Rattle.sheet.proofs.ReadLaws.{steps-on, steps-bad, steps-end}
+use borrow.Author.Needs.{needs}
+use Rattle.sheet.proofs.draft.follow.Statement.{statement}
+use Rattle.sheet.proofs.draft.follow.Tie as tie
+
+abbrev Inv-loop : tie.InvT-loop
+Inv-loop s from d₀ at₀ d at =
+    (o : Option Sheet) → FormedIf o → d₀ ≡ drafted o
+    → (o′ : Option Sheet) × FormedIf o′ × (d ≡ drafted o′) × (stepsIn o′ (linesOf (drop at s)) ≡ stepsIn o (linesOf (drop from s)))
+
+abbrev μ-loop : tie.MeasureT-loop
+μ-loop s from d₀ at₀ d at = length s - at
+
+-- what is known where a line has been read
+found : (k : tie.After-line Inv-loop μ-loop)
+    → let at = k .before .before .before .before in
+    let s = at .before .before .args .s .now in
+    (lineOf (drop (at .loop .at) s) ≡ got (k .line .given .0 .0) (drop (k .line .given .0 .1 .0) s)) × (k .line .given .0 .1 .0 ≤ length s)
+found k =
+    let at = k .before .before .before .before in
+    let s = at .before .before .args .s .now in
+    line-found s (at .loop .at) _ (k .before .before .line-at .ensures) _ _ (k .line .given .1)
+
+loop-holds : tie.Need-loop-holds Inv-loop μ-loop
+loop-holds c = λ o f e. (o, f, e, refl)
+
+line-at-requires : tie.Need-line-at-requires Inv-loop μ-loop
+line-at-requires c κs = search needs
+
+enum-known-line : tie.Need-enum-known-line Inv-loop μ-loop
+enum-known-line c = search needs
+
+step-requires : tie.Need-step-requires Inv-loop μ-loop
+step-requires c κs = search needs
+
+loop-less : tie.Need-loop-less Inv-loop μ-loop
+loop-less c =
+    let k = c .before .before in
+    let a = k .before .before .before .before .before .before .args in
+    let at = k .before .before .before .before in
+    let l = found k in
+    omega (arith, l .1, line-onward (a .s .now) (at .loop .at) _ _ (l .0) (l .1), at .before)
+
+loop-again : tie.Need-loop-again Inv-loop μ-loop
+loop-again c =
+    λ o f e.
+    let k = c .before .before in
+    let at = k .before .before .before .before in
+    let s = at .before .before .args .s .now in
+    let (o′, f′, e′, g) = at .loop .inv o f e in (
+      stepOn o′ (k .line .given .0 .0),
+      formed-stepped o′ _ f′,
+      c .step .ensures o′ f′ e′,
+      steps-on o′ s (at .loop .at) _ (k .line .given .0 .1 .0) (found k .0) ∙ g,
+    )
+
+enum-told : tie.Need-enum-told Inv-loop μ-loop
+enum-told c = search needs
+
+refused-requires : tie.Need-refused-requires Inv-loop μ-loop
+refused-requires c κs = search needs
+
+returns : tie.Need-returns Inv-loop μ-loop
+returns c =
+    λ o f e.
+    let k = c .before .before .before in
+    let at = k .before .before in
+    let s = at .before .before .args .s .now in
+    let (o′, f′, e′, g) = at .loop .inv o f e in
+    c .refused .ensures
+    ∙ ap drafted
+    (steps-bad o′ s (at .loop .at) (k .before .loop-test .taken)
+    (line-missed s (at .loop .at) _ (k .line-at .ensures) (c .before .enum-told .given .1)) ∙ g)
+
+returns-2 : tie.Need-returns-2 Inv-loop μ-loop
+returns-2 c =
+    λ o f e.
+    let at = c .before in
+    let s = at .before .before .args .s .now in
+    let (o′, f′, e′, g) = at .loop .inv o f e in
+    e′ ∙ ap drafted (steps-end o′ s (at .loop .at) (c .loop-test .left) ∙ g)
+
+pub follow-spec : {M : Type 1} → statement M
+follow-spec =
+    tie.close
+    (tie.spec
+    Inv-loop
+    μ-loop
+    loop-holds
+    line-at-requires
+    enum-known-line
+    step-requires
+    loop-less
+    loop-again
+    enum-told
+    refused-requires
+    returns
+    returns-2)

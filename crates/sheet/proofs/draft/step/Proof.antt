@@ -1,0 +1,92 @@
+-- `sheet::draft::step` meets its contract. Assumes nothing.
+use mathlib.Core.Path.{_∙_}
+use borrow.Author.Tests.{not-true, not-false}
+use Rattle.sheet.proofs.DraftLaws.{step-refused, step-made, no-principals}
+use borrow.Author.Needs.{needs}
+use Rattle.sheet.proofs.draft.step.Statement.{statement}
+use Rattle.sheet.proofs.draft.step.Tie as tie
+
+refused-requires : tie.Need-refused-requires
+refused-requires c κs = search needs
+
+returns : tie.Need-returns
+returns c =
+    λ o f e. c .refused .ensures ∙ step-refused (c .before .before .before .args .d) o e _ (not-true _ (c .before .if1 .taken))
+
+enum-told : tie.Need-enum-told
+enum-told c = search needs
+
+refused-requires-2 : tie.Need-refused-requires-2
+refused-requires-2 c κs = search needs
+
+enum-known-line : tie.Need-enum-known-line
+enum-known-line c = search needs
+
+add-sum-requires : tie.Need-add-sum-requires
+add-sum-requires c κs = search needs
+
+enum-told-2 : tie.Need-enum-told-2
+enum-told-2 c = search needs
+
+add-label-requires : tie.Need-add-label-requires
+add-label-requires c κs = search needs
+
+enum-known-line-2 : tie.Need-enum-known-line-2
+enum-known-line-2 c = search needs
+
+add-policy-requires : tie.Need-add-policy-requires
+add-policy-requires c κs = search needs
+
+enum-known-line-3 : tie.Need-enum-known-line-3
+enum-known-line-3 c = search needs
+
+add-location-requires : tie.Need-add-location-requires
+add-location-requires c κs = search needs
+
+returns-2 : tie.Need-returns-2
+returns-2 c =
+    λ o f e.
+    step-made (c .before .before .before .before .before .args .d) o e _ _ _ f (not-false _ (c .before .before .before .if1 .left)) (c .before .enum-told .given .1)
+    (λ s fm k. c .refused2 .ensures ∙ no-principals s _)
+
+returns-3 : tie.Need-returns-3
+returns-3 c =
+    λ o f e.
+    step-made (c .before .before .before .before .before .before .args .d) o e _ _ _ f (not-false _ (c .before .before .before .before .if1 .left)) (c .before .before .line .given .1) (c .add-sum .ensures)
+
+returns-4 : tie.Need-returns-4
+returns-4 c =
+    λ o f e.
+    step-made (c .before .before .before .before .before .args .d) o e _ _ _ f (not-false _ (c .before .before .before .if1 .left)) (c .before .enum-told2 .given .1) (c .add-label .ensures)
+
+returns-5 : tie.Need-returns-5
+returns-5 c =
+    λ o f e.
+    step-made (c .before .before .before .before .before .before .args .d) o e _ _ _ f (not-false _ (c .before .before .before .before .if1 .left)) (c .before .before .line2 .given .1) (c .add-policy .ensures)
+
+returns-6 : tie.Need-returns-6
+returns-6 c =
+    λ o f e.
+    step-made (c .before .before .before .before .before .before .args .d) o e _ _ _ f (not-false _ (c .before .before .before .before .if1 .left)) (c .before .before .line3 .given .1) (c .add-location .ensures)
+
+pub step-spec : {M : Type 1} → statement M
+step-spec =
+    tie.close
+    (tie.spec
+    refused-requires
+    returns
+    enum-told
+    refused-requires-2
+    enum-known-line
+    add-sum-requires
+    enum-told-2
+    add-label-requires
+    enum-known-line-2
+    add-policy-requires
+    enum-known-line-3
+    add-location-requires
+    returns-2
+    returns-3
+    returns-4
+    returns-5
+    returns-6)

@@ -1,0 +1,74 @@
+-- `sheet::line::pair_rest` meets its contract. Assumes nothing.
+use mathlib.Core.Path.{_≡_}
+use lib.ListN.{drop}
+use Rattle.text.specs.Reading.Read.{got}
+use Rattle.text.specs.Number.{most}
+use Rattle.text.specs.Field.{numberField}
+use Rattle.text.proofs.Fields.{number-field-at, number-field-bad, last-number-at, last-number-bad}
+use Rattle.sheet.proofs.FoundLaws.{found-got, found-none, pair-on, pair-short, pair-none}
+use borrow.Author.Needs.{needs}
+use Rattle.sheet.proofs.line.pair_rest.Statement.{statement}
+use Rattle.sheet.proofs.line.pair_rest.Tie as tie
+
+-- what is known where the first number has been read
+known : (k : tie.After-a)
+    → numberField most (drop (k .before .before .before .before .args .at) (k .before .before .before .before .args .s .now))
+    ≡ got (k .a .given .0 .0) (drop (k .a .given .0 .1 .0) (k .before .before .before .before .args .s .now))
+known k =
+    let a = k .before .before .before .before .args in
+    number-field-at (a .s .now) (a .at) most _ (k .before .before .number-field .ensures) _ _ (k .a .given .1) .0
+
+number-field-requires : tie.Need-number-field-requires
+number-field-requires c κs = search needs
+
+enum-known-a : tie.Need-enum-known-a
+enum-known-a c = search needs
+
+enum-told : tie.Need-enum-told
+enum-told c = search needs
+
+returns : tie.Need-returns
+returns c =
+    let a = c .before .before .before .before .args in
+    found-none _ _ (pair-none _ _ (number-field-bad (a .s .now) (a .at) most _ (c .before .before .number-field .ensures) (c .enum-told .given .1)))
+
+last-number-requires : tie.Need-last-number-requires
+last-number-requires c κs = search needs
+
+enum-known-b : tie.Need-enum-known-b
+enum-known-b c = search needs
+
+pair-line-requires : tie.Need-pair-line-requires
+pair-line-requires c κs = search needs
+
+enum-told-2 : tie.Need-enum-told-2
+enum-told-2 c = search needs
+
+returns-2 : tie.Need-returns-2
+returns-2 c =
+    let k = c .before .before .before .before .before .before in
+    let a = k .before .before .before .before .args in
+    let f = last-number-at (a .s .now) (k .a .given .0 .1 .0) most _ (c .before .before .before .before .last-number .ensures) _ _ (c .before .before .b .given .1) in
+    rw (c .pair-line .ensures) (found-got _ _ _ _ (pair-on _ _ _ _ (known k) _ _ (f .0)) (f .1))
+
+returns-3 : tie.Need-returns-3
+returns-3 c =
+    let k = c .before .before .before .before in
+    let a = k .before .before .before .before .args in
+    found-none _ _
+    (pair-short _ _ _ _ (known k) (last-number-bad (a .s .now) (k .a .given .0 .1 .0) most _ (c .before .before .last-number .ensures) (c .enum-told2 .given .1)))
+
+pub pair-rest-spec : {M : Type 1} → statement M
+pair-rest-spec =
+    tie.close
+    (tie.spec
+    number-field-requires
+    enum-known-a
+    enum-told
+    returns
+    last-number-requires
+    enum-known-b
+    pair-line-requires
+    enum-told-2
+    returns-2
+    returns-3)

@@ -1,0 +1,133 @@
+-- `sheet::line::policy_rest` meets its contract. Assumes nothing.
+use mathlib.Core.Path.{_≡_}
+use mathlib.Core.List.{List}
+use Prim.Native.Nat.{ℕ}
+use lib.ListN.{drop}
+use Rattle.text.specs.Reading.Read.{got}
+use Rattle.text.specs.Number.{most}
+use Rattle.text.specs.Field.{numberField, setField}
+use Rattle.text.proofs.Fields.{number-field-at, number-field-bad, set-field-at, set-field-bad, byte-at, byte-bad}
+use Rattle.sheet.proofs.FoundLaws.{found-got, found-none, policy-none, policy-no-readers, policy-no-writers, policy-open, policy-on}
+use borrow.Author.Needs.{needs}
+use Rattle.sheet.proofs.line.policy_rest.Statement.{statement}
+use Rattle.sheet.proofs.line.policy_rest.Tie as tie
+
+abbrev textOf : tie.After-owner → List ℕ
+textOf k = k .before .before .before .before .args .s .now
+
+-- what is known where the owner, the readers and the writers have been read
+owner-known : (k : tie.After-owner)
+    → numberField most (drop (k .before .before .before .before .args .at) (textOf k)) ≡ got (k .owner .given .0 .0) (drop (k .owner .given .0 .1 .0) (textOf k))
+owner-known k =
+    number-field-at (textOf k) (k .before .before .before .before .args .at) most _ (k .before .before .number-field .ensures) _ _ (k .owner .given .1) .0
+
+readers-known : (j : tie.After-readers)
+    → let k = j .before .before .before .before in
+    setField (drop (k .owner .given .0 .1 .0) (textOf k)) ≡ got (j .readers .given .0 .0) (drop (j .readers .given .0 .1 .0) (textOf k))
+readers-known j =
+    let k = j .before .before .before .before in
+    set-field-at (textOf k) (k .owner .given .0 .1 .0) _ (j .before .before .set-field .ensures) _ _ (j .readers .given .1) .0
+
+writers-known : (i : tie.After-writers)
+    → let j = i .before .before .before .before in
+    let k = j .before .before .before .before in
+    setField (drop (j .readers .given .0 .1 .0) (textOf k)) ≡ got (i .writers .given .0 .0) (drop (i .writers .given .0 .1 .0) (textOf k))
+writers-known i =
+    let j = i .before .before .before .before in
+    let k = j .before .before .before .before in
+    set-field-at (textOf k) (j .readers .given .0 .1 .0) _ (i .before .before .set-field2 .ensures) _ _ (i .writers .given .1) .0
+
+number-field-requires : tie.Need-number-field-requires
+number-field-requires c κs = search needs
+
+enum-known-owner : tie.Need-enum-known-owner
+enum-known-owner c = search needs
+
+enum-told : tie.Need-enum-told
+enum-told c = search needs
+
+returns : tie.Need-returns
+returns c =
+    let a = c .before .before .before .before .args in
+    found-none _ _ (policy-none _ (number-field-bad (a .s .now) (a .at) most _ (c .before .before .number-field .ensures) (c .enum-told .given .1)))
+
+set-field-requires : tie.Need-set-field-requires
+set-field-requires c κs = search needs
+
+enum-known-readers : tie.Need-enum-known-readers
+enum-known-readers c = search needs
+
+enum-told-2 : tie.Need-enum-told-2
+enum-told-2 c = search needs
+
+returns-2 : tie.Need-returns-2
+returns-2 c =
+    let k = c .before .before .before .before in
+    found-none _ _
+    (policy-no-readers _ _ _ (owner-known k)
+    (set-field-bad (textOf k) (k .owner .given .0 .1 .0) _ (c .before .before .set-field .ensures) (c .enum-told2 .given .1)))
+
+set-field-requires-2 : tie.Need-set-field-requires-2
+set-field-requires-2 c κs = search needs
+
+enum-known-writers : tie.Need-enum-known-writers
+enum-known-writers c = search needs
+
+enum-told-3 : tie.Need-enum-told-3
+enum-told-3 c = search needs
+
+returns-3 : tie.Need-returns-3
+returns-3 c =
+    let j = c .before .before .before .before in
+    let k = j .before .before .before .before in
+    found-none _ _
+    (policy-no-writers _ _ _ (owner-known k) _ _ (readers-known j)
+    (set-field-bad (textOf k) (j .readers .given .0 .1 .0) _ (c .before .before .set-field2 .ensures) (c .enum-told3 .given .1)))
+
+line-end-requires : tie.Need-line-end-requires
+line-end-requires c κs = search needs
+
+enum-known-e : tie.Need-enum-known-e
+enum-known-e c = search needs
+
+enum-told-4 : tie.Need-enum-told-4
+enum-told-4 c = search needs
+
+returns-4 : tie.Need-returns-4
+returns-4 c =
+    let i = c .before .before .before .before .before in
+    let j = i .before .before .before .before in
+    let k = j .before .before .before .before in
+    let f = byte-at (textOf k) (i .writers .given .0 .1 .0) 10 _ (c .before .before .before .line-end .ensures) _ (c .before .e .given .1) in
+    found-got _ _ _ _ (policy-on _ _ _ (owner-known k) _ _ (readers-known j) _ _ (writers-known i) _ (f .0)) (f .1)
+
+returns-5 : tie.Need-returns-5
+returns-5 c =
+    let i = c .before .before .before .before in
+    let j = i .before .before .before .before in
+    let k = j .before .before .before .before in
+    found-none _ _
+    (policy-open _ _ _ (owner-known k) _ _ (readers-known j) _ _ (writers-known i)
+    (byte-bad (textOf k) (i .writers .given .0 .1 .0) 10 _ (c .before .before .line-end .ensures) (c .enum-told4 .given .1)))
+
+pub policy-rest-spec : {M : Type 1} → statement M
+policy-rest-spec =
+    tie.close
+    (tie.spec
+    number-field-requires
+    enum-known-owner
+    enum-told
+    returns
+    set-field-requires
+    enum-known-readers
+    enum-told-2
+    returns-2
+    set-field-requires-2
+    enum-known-writers
+    enum-told-3
+    returns-3
+    line-end-requires
+    enum-known-e
+    enum-told-4
+    returns-4
+    returns-5)

@@ -1,0 +1,31 @@
+-- `sheet::line::principals_rest` meets its contract. Assumes nothing.
+use Rattle.text.specs.Number.{most}
+use Rattle.text.proofs.Fields.{last-number-at, last-number-bad}
+use Rattle.sheet.proofs.FoundLaws.{found-got, found-none, principals-on, principals-none}
+use borrow.Author.Needs.{needs}
+use Rattle.sheet.proofs.line.principals_rest.Statement.{statement}
+use Rattle.sheet.proofs.line.principals_rest.Tie as tie
+
+last-number-requires : tie.Need-last-number-requires
+last-number-requires c κs = search needs
+
+enum-known-n : tie.Need-enum-known-n
+enum-known-n c = search needs
+
+enum-told : tie.Need-enum-told
+enum-told c = search needs
+
+returns : tie.Need-returns
+returns c =
+    let a = c .before .before .before .before .before .args in
+    let f = last-number-at (a .s .now) (a .at) most _ (c .before .before .before .last-number .ensures) _ _ (c .before .n .given .1) in
+    found-got _ _ _ _ (principals-on _ _ _ (f .0)) (f .1)
+
+returns-2 : tie.Need-returns-2
+returns-2 c =
+    let a = c .before .before .before .before .args in
+    found-none _ _ (principals-none _ (last-number-bad (a .s .now) (a .at) most _ (c .before .before .last-number .ensures) (c .enum-told .given .1)))
+
+pub principals-rest-spec : {M : Type 1} → statement M
+principals-rest-spec =
+    tie.close (tie.spec last-number-requires enum-known-n enum-told returns returns-2)

@@ -1,0 +1,59 @@
+-- `sheet::repeat::again` meets its contract: what is left to look for is what was to be looked for at the start. Assumes nothing.
+use mathlib.Core.Path.{_≡_, refl, sym, _∙_}
+use Prim.Native.Nat.{_-_}
+use native.Mathlib.Omega.{arith}
+use Rattle.sheet.specs.Repeats.{sameIn, anyFrom}
+use Rattle.sheet.proofs.RepeatFinds.{any-end, any-here, any-on}
+use borrow.Author.Needs.{needs}
+use Rattle.sheet.proofs.repeat.again.Statement.{statement}
+use Rattle.sheet.proofs.repeat.again.Tie as tie
+
+abbrev Inv-loop : tie.InvT-loop
+Inv-loop table labels i from n j₀ j = anyFrom (sameIn table labels i) j (n - j) ≡ anyFrom (sameIn table labels i) from (n - from)
+
+abbrev μ-loop : tie.MeasureT-loop
+μ-loop table labels i from n j₀ j = n - j
+
+loop-holds : tie.Need-loop-holds Inv-loop μ-loop
+loop-holds c = refl
+
+same-requires : tie.Need-same-requires Inv-loop μ-loop
+same-requires c κs = search needs
+
+returns : tie.Need-returns Inv-loop μ-loop
+returns c =
+    let at = c .before .before .before in
+    let a = at .before .before .args in
+    sym (any-here (sameIn (a .table .now) (a .labels) (a .i)) (at .loop .j) (a .n) (c .before .before .loop-test .taken) (sym (c .before .same .ensures) ∙ c .if1 .taken)) ∙ at .loop .inv
+
+add-j : tie.Need-add-j Inv-loop μ-loop
+add-j c = omega arith
+
+loop-less : tie.Need-loop-less Inv-loop μ-loop
+loop-less c = omega arith
+
+loop-again : tie.Need-loop-again Inv-loop μ-loop
+loop-again c =
+    let at = c .before .before .before in
+    let a = at .before .before .args in
+    sym (any-on (sameIn (a .table .now) (a .labels) (a .i)) (at .loop .j) (a .n) (c .before .before .loop-test .taken) (sym (c .before .same .ensures) ∙ c .if1 .left)) ∙ at .loop .inv
+
+returns-2 : tie.Need-returns-2 Inv-loop μ-loop
+returns-2 c =
+    let at = c .before in
+    let a = at .before .before .args in
+    sym (any-end (sameIn (a .table .now) (a .labels) (a .i)) (at .loop .j) (a .n) (c .loop-test .left)) ∙ at .loop .inv
+
+pub again-spec : {M : Type 1} → statement M
+again-spec =
+    tie.close
+    (tie.spec
+    Inv-loop
+    μ-loop
+    loop-holds
+    same-requires
+    returns
+    add-j
+    loop-less
+    loop-again
+    returns-2)

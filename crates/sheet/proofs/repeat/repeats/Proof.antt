@@ -1,0 +1,38 @@
+-- `sheet::repeat::repeats` meets its contract. Assumes nothing.
+use mathlib.Core.Path.{sym, _∙_}
+use Rattle.sheet.proofs.RepeatFinds.{repeats-type, repeats-label}
+use borrow.Author.Needs.{needs}
+use Rattle.sheet.proofs.repeat.repeats.Statement.{statement}
+use Rattle.sheet.proofs.repeat.repeats.Tie as tie
+
+types-requires : tie.Need-types-requires
+types-requires c κs = search needs
+
+repeated-requires : tie.Need-repeated-requires
+repeated-requires c κs = search needs
+
+returns : tie.Need-returns
+returns c =
+    repeats-type _ _ (c .before .before .types .ensures) (sym (c .before .repeated .ensures) ∙ c .if1 .taken)
+
+labels-requires : tie.Need-labels-requires
+labels-requires c κs = search needs
+
+repeated-requires-2 : tie.Need-repeated-requires-2
+repeated-requires-2 c κs = search needs
+
+returns-2 : tie.Need-returns-2
+returns-2 c =
+    c .repeated2 .ensures
+    ∙ repeats-label _ _ _ (c .before .before .before .before .types .ensures) (c .before .labels .ensures) (sym (c .before .before .before .repeated .ensures) ∙ c .before .before .if1 .left)
+
+pub repeats-spec : {M : Type 1} → statement M
+repeats-spec =
+    tie.close
+    (tie.spec
+    types-requires
+    repeated-requires
+    returns
+    labels-requires
+    repeated-requires-2
+    returns-2)

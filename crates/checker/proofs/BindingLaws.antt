@@ -1,0 +1,179 @@
+-- What is bound at a place is read back, and the places below it stay. Assumes nothing.
+use mathlib.Core.Path.{_≡_, refl, ap, ap₂, _∙_}
+use mathlib.Core.Bool.{Bool, true, false, cond}
+use mathlib.Core.Option.{none, some}
+use mathlib.Core.Logic.{inl}
+use mathlib.Core.List.{List, [], _∷_}
+use Prim.Native.Nat.{ℕ, zero, suc, _+_, _*_, _-_, _<_, _≤_}
+use native.Mathlib.Numerals.{add-one}
+use native.Mathlib.Decide.{decLt, decLe}
+use native.Mathlib.Omega.{arith}
+use lib.Dec.{ltb, leb}
+use lib.ListN.{length, getD, set, length-set}
+use lib.Seq.{getD-set-same, getD-set-other}
+use borrow.Author.Tests.{lt-ltb, le-ltb, le-leb, lt-leb}
+use Rattle.sets.proofs.Walks.{tab-ext}
+use Rattle.labels.specs.declared.Label.{Label}
+use Rattle.labels.specs.Labels.{owners, wholeOf}
+use Rattle.labels.specs.Tables.{labelSize, setsAt, labelAt, labelPut}
+use Rattle.labels.proofs.OrderLaws.{label-path}
+use Rattle.labels.proofs.TableLaws.{length-put, put-read, put-word, put-other}
+use Rattle.language.specs.Syntax.{both}
+use Rattle.language.specs.Typing.{nth}
+use Rattle.lines.specs.Names.{maxDepth}
+use Rattle.tables.specs.Tables.{entryIn}
+use Rattle.checker.specs.Bindings.{bindingSize, bindingsSize, boundType, boundLabel, upTo, boundTypes, boundLabels, enoughWords, bindOf}
+use Rattle.checker.specs.Nodes.{plainTyped, nothing, varTyped}
+use Rattle.checker.specs.Post.{Kept}
+
+module _ {A : Type 0} where
+  pub nth-upTo : (f : ℕ → A) (d i : ℕ) → i < d → nth (upTo f d) i ≡ some (f (d - suc i))
+  unfolding nth upTo
+  nth-upTo f zero i h = absurd (omega arith)
+  nth-upTo f (suc d) zero h = let e : d ≡ suc d - 1 = omega arith in ap (λ (m : ℕ). some (f m)) e
+  nth-upTo f (suc d) (suc i) h =
+      let e : d - suc i ≡ suc d - suc (suc i) = omega arith in nth-upTo f d i (omega arith) ∙ ap (λ (m : ℕ). some (f m)) e
+
+  pub nth-past : (f : ℕ → A) (d i : ℕ) → d ≤ i → nth (upTo f d) i ≡ none
+  unfolding nth upTo
+  nth-past f zero i h = refl
+  nth-past f (suc d) zero h = absurd (omega arith)
+  nth-past f (suc d) (suc i) h = nth-past f d i (omega arith)
+
+  upTo-same : (f g : ℕ → A) (d : ℕ) → ((i : ℕ) → i < d → f i ≡ g i) → upTo f d ≡ upTo g d
+  unfolding upTo
+  upTo-same f g zero h = refl
+  upTo-same f g (suc d) h = ap₂ (λ (x : A) (l : List A). x ∷ l) (h d (omega arith)) (upTo-same f g d (λ i k. h i (omega arith)))
+
+  tail : List A → List A
+  tail [] = []
+  tail (x ∷ xs) = xs
+
+  -- places that agree up to d + 1 agree up to d
+  upTo-fewer : (f g : ℕ → A) (d : ℕ) → upTo f (d + 1) ≡ upTo g (d + 1) → upTo f d ≡ upTo g d
+  unfolding upTo tail
+  upTo-fewer f g d e = ap tail (rw add-one at e)
+
+pub kept-fewer : {s s′ : List ℕ} {d : ℕ} → Kept s s′ (d + 1) → Kept s s′ d
+kept-fewer {s} {s′} {d} k = record { types = upTo-fewer (boundType s′) (boundType s) d (k .types); labels = upTo-fewer (boundLabel s′) (boundLabel s) d (k .labels) }
+
+pub kept-same : {s : List ℕ} {d : ℕ} → Kept s s d
+kept-same = record { types = refl; labels = refl }
+
+pub kept-twice : {s s′ s″ : List ℕ} {d : ℕ} → Kept s s′ d → Kept s′ s″ d → Kept s s″ d
+kept-twice k l = record { types = l .types ∙ k .types; labels = l .labels ∙ k .labels }
+
+-- a label whose words stand before a word that is written
+label-set : (s : List ℕ) (k n at : ℕ) → at + labelSize ≤ k → labelAt (set s k n) at ≡ labelAt s at
+unfolding labelAt setsAt
+label-set s k n at h =
+    label-path (labelAt (set s k n) at) (labelAt s at)
+    (tab-ext owners _ _ (λ o l. getD-set-other s k (at + o) n 0 (λ e. omega arith)))
+    (tab-ext owners _ _ (λ o l. getD-set-other s k (at + owners + o) n 0 (λ e. omega arith)))
+
+module _ (s : List ℕ) (d n : ℕ) (a : Label) where
+  pub bind-in : d < maxDepth → bindingsSize ≤ length s → bindOf s d n a ≡ labelPut (set s (d * bindingSize) n) (d * bindingSize + 1) a
+  unfolding bindOf enoughWords both
+  bind-in h k = rw (lt-ltb d maxDepth h, le-leb bindingsSize (length s) k)
+
+  pub bind-deep : maxDepth ≤ d → bindOf s d n a ≡ s
+  unfolding bindOf both
+  bind-deep h = rw (le-ltb d maxDepth h)
+
+  pub bind-short : length s < bindingsSize → bindOf s d n a ≡ s
+  unfolding bindOf enoughWords both
+  bind-short h = rw (lt-leb bindingsSize (length s) h) (on (ltb d maxDepth))
+    where
+      on : (b : Bool) → cond (both b false) (labelPut (set s (d * bindingSize) n) (d * bindingSize + 1) a) s ≡ s
+      on true = refl
+      on false = refl
+
+  module _ (whole : wholeOf a ≡ true) where
+    -- a claim of the words unchanged, and of the words with the binding stored, holds of what binding gives
+    by-room : (P : List ℕ → Type 0) → P s → (d < maxDepth → bindingsSize ≤ length s → P (labelPut (set s (d * bindingSize) n) (d * bindingSize + 1) a))
+        → P (bindOf s d n a)
+    by-room P same stored = on (decLt d maxDepth) (decLe bindingsSize (length s))
+      where
+        on : Dec (d < maxDepth) → Dec (bindingsSize ≤ length s) → P (bindOf s d n a)
+        on (yes h) (yes k) = rw (bind-in h k) (stored h k)
+        on (yes h) (no k) = rw (bind-short (omega arith)) same
+        on (no h) k = rw (bind-deep (omega arith)) same
+
+    pub length-bind : length (bindOf s d n a) ≡ length s
+    length-bind = by-room (λ x. length x ≡ length s) refl (λ h k. length-put _ _ a whole ∙ length-set s (d * bindingSize) n)
+
+    pub bind-kept : Kept s (bindOf s d n a) d
+    bind-kept = by-room (λ x. Kept s x d) (record { types = refl; labels = refl })
+        (λ h k. record { types = upTo-same _ _ d type; labels = upTo-same _ _ d label })
+      where
+        s′ : List ℕ
+        s′ = set s (d * bindingSize) n
+
+        type : (i : ℕ) → i < d → boundType (labelPut s′ (d * bindingSize + 1) a) i ≡ boundType s i
+        type i l = put-word s′ (d * bindingSize + 1) a whole (i * bindingSize) (inl (omega arith)) ∙ getD-set-other s (d * bindingSize) (i * bindingSize) n 0 (λ e. omega arith)
+
+        label : (i : ℕ) → i < d → boundLabel (labelPut s′ (d * bindingSize + 1) a) i ≡ boundLabel s i
+        label i l = put-other s′ (d * bindingSize + 1) a whole (i * bindingSize + 1) (inl (omega arith)) ∙ label-set s (d * bindingSize) n (i * bindingSize + 1) (omega arith)
+
+    module _ (h : d < maxDepth) (k : bindingsSize ≤ length s) where
+      pub bind-type : boundTypes (bindOf s d n a) (d + 1) ≡ n ∷ boundTypes s d
+      unfolding upTo
+      bind-type =
+          let here : boundType (bindOf s d n a) d ≡ n =
+          ap (λ (x : List ℕ). boundType x d) (bind-in h k)
+          ∙ put-word (set s (d * bindingSize) n) (d * bindingSize + 1) a whole (d * bindingSize) (inl (omega arith))
+          ∙ getD-set-same s (d * bindingSize) n 0 (omega arith) in
+          ap (upTo (boundType (bindOf s d n a))) (add-one d) ∙ ap₂ (λ (x : ℕ) (l : List ℕ). x ∷ l) here (bind-kept .types)
+
+      pub bind-label : boundLabels (bindOf s d n a) (d + 1) ≡ a ∷ boundLabels s d
+      unfolding upTo
+      bind-label =
+          let here : boundLabel (bindOf s d n a) d ≡ a =
+          ap (λ (x : List ℕ). boundLabel x d) (bind-in h k)
+          ∙ put-read (set s (d * bindingSize) n) (d * bindingSize + 1) a whole (omega (arith, length-set s (d * bindingSize) n)) in
+          ap (upTo (boundLabel (bindOf s d n a))) (add-one d) ∙ ap₂ (λ (x : Label) (l : List Label). x ∷ l) here (bind-kept .labels)
+
+-- the parts of a type in a table of words are words
+pub part-small : (t : List ℕ) → ((i : ℕ) → getD t i 0 < 65536) → (count base i : ℕ) → entryIn t count base i < 65536
+unfolding entryIn
+part-small t small count base i = on (ltb i count)
+  where
+    on : (b : Bool) → cond b (getD t (base + 2 * i) 0) 0 < 65536
+    on true = small (base + 2 * i)
+    on false = omega arith
+
+-- a variable is read from its place, if it has one
+module _ (t s : List ℕ) (d i next : ℕ) where
+  pub var-in : i < d → d ≤ maxDepth → bindingsSize ≤ length s
+      → varTyped t s d i next ≡ plainTyped (boundType s (d - suc i)) (boundLabel s (d - suc i)) next
+  unfolding varTyped enoughWords both
+  var-in h k l = rw (lt-ltb i d h, le-leb d maxDepth k, le-leb bindingsSize (length s) l)
+
+  pub var-past : d ≤ i → varTyped t s d i next ≡ nothing t next
+  unfolding varTyped both
+  var-past h = rw (le-ltb i d h)
+
+  pub var-deep : maxDepth < d → varTyped t s d i next ≡ nothing t next
+  unfolding varTyped both
+  var-deep h = rw (lt-leb d maxDepth h) (on (ltb i d))
+    where
+      on : (b : Bool) → cond (both b false) (plainTyped (boundType s (d - suc i)) (boundLabel s (d - suc i)) next) (nothing t next) ≡ nothing t next
+      on true = refl
+      on false = refl
+
+  pub var-short : length s < bindingsSize → varTyped t s d i next ≡ nothing t next
+  unfolding varTyped enoughWords both
+  var-short h = rw (lt-leb bindingsSize (length s) h) (on (ltb i d) (leb d maxDepth))
+    where
+      on : (b c : Bool) → cond (both b (both c false)) (plainTyped (boundType s (d - suc i)) (boundLabel s (d - suc i)) next) (nothing t next) ≡ nothing t next
+      on true true = refl
+      on true false = refl
+      on false c = refl
+
+  pub var-next : varTyped t s d i next .next ≡ next
+  unfolding varTyped nothing
+  var-next = on (both (ltb i d) (both (leb d maxDepth) (enoughWords s)))
+    where
+      on : (b : Bool) → (cond b (plainTyped (boundType s (d - suc i)) (boundLabel s (d - suc i)) next) (nothing t next)) .next ≡ next
+      on true = refl
+      on false = refl

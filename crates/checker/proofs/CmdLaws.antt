@@ -1,0 +1,205 @@
+-- What each arm of `check_cmd` shows. Assumes nothing.
+use mathlib.Core.Path.{_≡_, refl, ap, _∙_}
+use mathlib.Core.Bool.{Bool, true, false}
+use mathlib.Core.List.{List, _∷_}
+use Prim.Native.Nat.{ℕ, suc, _+_, _≤_, _<_}
+use native.Mathlib.Numerals.{add-one}
+use native.Mathlib.Omega.{arith}
+use lib.Dec.{ltb}
+use borrow.Author.Tests.{ltb-true}
+use lib.ListN.{length, drop}
+use Rattle.labels.specs.declared.Label.{Label}
+use Rattle.labels.specs.Labels.{joinOf, wholeOf}
+use Rattle.language.specs.Syntax.{Expr, Cmd, skip, seq, assign, while, case, both}
+use Rattle.language.specs.Typing.{flow}
+use Rattle.language.proofs.Booleans.{both-left, both-right}
+use Rattle.lines.specs.declared.Row.{Row}
+use Rattle.lines.specs.Lines.{Line, cmdLines}
+use Rattle.lines.specs.Code.{code, rowAt}
+use Rattle.lines.specs.Names.{Counts, maxDepth, namedE, named}
+use Rattle.lines.proofs.Rows.{CmdRow, at-skip, at-seq, at-assign, at-while, at-case, cmd-row}
+use Rattle.tables.specs.TypeTest.{isSum}
+use Rattle.tables.specs.Tables.{leftIn, rightIn}
+use Rattle.checker.specs.declared.Typed.{Typed}
+use Rattle.checker.specs.declared.Passed.{Passed}
+use Rattle.checker.specs.Numbers.{onSumNo, givenNo, shapeNo}
+use Rattle.checker.specs.Bindings.{bindingsSize, boundTypes, boundLabels, bindOf}
+use Rattle.checker.specs.Nodes.{refused, skipPassed, seqPassed, assignPassed, whilePassed, casePassed}
+use Rattle.checker.specs.Post.{Finds, Room, ChecksExpr, Kept, Passes, ChecksCmd}
+use Rattle.checker.proofs.BindingLaws.{kept-same, kept-twice, kept-fewer, length-bind, bind-kept, bind-type, bind-label}
+use Rattle.checker.proofs.ExprLaws.{is-type}
+
+-- ---- what a node finds, from what its operands' nodes found
+
+on-sum : (t : List ℕ) (b : Bool) (n : ℕ) (k : ℕ → ℕ → Bool) → onSumNo t (givenNo b n) k ≡ both b (both (isSum t n) (k (leftIn t n) (rightIn t n)))
+unfolding onSumNo givenNo both
+on-sum t true n k = refl
+on-sum t false n k = refl
+
+module _ (t Γ : List ℕ) (pc : Label) (Δ : List Label) where
+  pass-skip : (next : ℕ) → Passes t Γ pc Δ skip (skipPassed next)
+  unfolding shapeNo flow
+  pass-skip next = record { typed-is = refl; flow-is = refl }
+
+  pass-seq : {c d : Cmd} {x y : Passed} → Passes t Γ pc Δ c x → Passes t Γ pc Δ d y → Passes t Γ pc Δ (seq c d) (seqPassed x y)
+  unfolding seqPassed shapeNo flow
+  pass-seq p q = record { typed-is = rw (p .typed-is, q .typed-is); flow-is = rw (p .flow-is, q .flow-is) }
+
+  module _ {e : Expr} {x : Typed} (p : Finds t Γ Δ e x) where
+    pass-assign : (n : ℕ) → Passes t Γ pc Δ (assign n e) (assignPassed t n pc x)
+    unfolding assignPassed shapeNo flow
+    pass-assign n = record { typed-is = rw (← p .type-is, is-type x _); flow-is = rw (p .flow-is, p .label-is) }
+
+    pass-while : {c : Cmd} {y : Passed} → Passes t Γ (joinOf pc (x .label)) Δ c y → Passes t Γ pc Δ (while e c) (whilePassed x y)
+    unfolding whilePassed shapeNo flow
+    pass-while {c} {y} q = record {
+      typed-is = rw (← p .type-is, is-type x 3, q .typed-is);
+      flow-is = rw (q .flow-is, p .flow-is, p .label-is);
+    }
+
+    pass-case : {c d : Cmd} {y z : Passed}
+        → Passes t (leftIn t (x .ty) ∷ Γ) (joinOf pc (x .label)) (x .label ∷ Δ) c y
+        → Passes t (rightIn t (x .ty) ∷ Γ) (joinOf pc (x .label)) (x .label ∷ Δ) d z
+        → Passes t Γ pc Δ (case e c d) (casePassed t x y z)
+    unfolding casePassed shapeNo flow
+    pass-case q r = record {
+      typed-is = rw (← p .type-is, on-sum t (x .typed) (x .ty) _, q .typed-is, r .typed-is);
+      flow-is = rw (q .flow-is, r .flow-is, p .flow-is, p .label-is);
+    }
+
+-- ---- the arms: the row at `at`, what the operands' checks ensure, and what the node gives
+
+-- what a case's names say
+case-names : (k : Counts) (d : ℕ) (e : Expr) (f g : Cmd) → named k d (case e f g) ≡ true
+    → (d < maxDepth) × (named k (d + 1) f ≡ true) × (named k (d + 1) g ≡ true)
+unfolding named
+case-names k d e f g h =
+    let inner = both-right (namedE k d e) _ h in
+    let parts = both-right (ltb d maxDepth) _ inner in (
+      ltb-true d maxDepth (both-left _ (both (named k (suc d) f) (named k (suc d) g)) inner),
+      rw (add-one d) (both-left _ (named k (suc d) g) parts),
+      rw (add-one d) (both-right (named k (suc d) f) _ parts),
+    )
+
+-- what is found over words is found over words that bind the same
+pass-kept : {t s s′ : List ℕ} {d : ℕ} {pc : Label} {c : Cmd} {x : Passed} → Kept s s′ d
+    → Passes t (boundTypes s′ d) pc (boundLabels s′ d) c x → Passes t (boundTypes s d) pc (boundLabels s d) c x
+pass-kept k p = record { typed-is = rw (← k .types) (p .typed-is); flow-is = rw (← k .labels) (p .flow-is) }
+
+-- what is found over words that bind one case more, where the cases below it are those of s
+pass-bound : (t : List ℕ) {s s′ s″ : List ℕ} (d n : ℕ) (a : Label) {pc pc′ : Label} {c : Cmd} {x : Passed} → s″ ≡ bindOf s′ d n a → Kept s s′ d
+    → wholeOf a ≡ true → d < maxDepth → bindingsSize ≤ length s′ → pc ≡ pc′
+    → Passes t (boundTypes s″ (d + 1)) pc (boundLabels s″ (d + 1)) c x → Passes t (n ∷ boundTypes s d) pc′ (a ∷ boundLabels s d) c x
+pass-bound t {s} {s′} d n a e k whole h l lab p =
+    let types = ap (λ (z : List ℕ). boundTypes z (d + 1)) e ∙ bind-type s′ d n a whole h l ∙ ap (λ (z : List ℕ). n ∷ z) (k .types) in
+    let labels = ap (λ (z : List ℕ). boundLabels z (d + 1)) e ∙ bind-label s′ d n a whole h l ∙ ap (λ (z : List Label). a ∷ z) (k .labels) in
+    record { typed-is = rw (← types) (p .typed-is); flow-is = rw (← labels, ← lab) (p .flow-is) }
+
+module _ (ws : List ℕ) (at : ℕ) (t s : List ℕ) (d : ℕ) (pc : Label) {row : Row} (q : row ≡ rowAt ws at) where
+  Done : Cmd → List Line → Passed → Type 0
+  Done c rest x = Passes t (boundTypes s d) pc (boundLabels s d) c x × (drop (x .next) ws ≡ code rest)
+
+  by-row : (j : ℕ) → row .kind ≡ j → (x : Passed) → at ≤ x .next → {s′ : List ℕ} → Kept s s′ d
+      → ((k : Counts) (c : Cmd) (rest : List Line) → CmdRow ws at rest j (row .a) (row .b) c → named k d c ≡ true → Room s d → Done c rest x)
+      → ChecksCmd ws at t s d pc x s′
+  unfolding Done
+  by-row j h x n same m = record {
+    onward = n;
+    kept = same;
+    means = λ k c rest src w names room. m k c rest (rw (← q, h) at (cmd-row ws at src w)) names room;
+  }
+
+  pub arm-skip : row .kind ≡ 1 → {x : Passed} → x ≡ skipPassed (at + 3) → ChecksCmd ws at t s d pc x s
+  unfolding Done
+  arm-skip h e = rw e (by-row 1 h _ (omega arith) kept-same (λ k c rest v names room. go v))
+    where
+      go : {rest : List Line} {a b : ℕ} {c : Cmd} → CmdRow ws at rest 1 a b c → Done c rest (skipPassed (at + 3))
+      go (at-skip w) = (pass-skip t _ pc _ (at + 3), w)
+
+  pub arm-seq : row .kind ≡ 2 → {x y : Passed} {s₁ s₂ : List ℕ} → ChecksCmd ws (at + 3) t s d pc x s₁ → length s₁ ≡ length s
+      → ChecksCmd ws (x .next) t s₁ d pc y s₂ → {r : Passed} → r ≡ seqPassed x y → ChecksCmd ws at t s d pc r s₂
+  unfolding Done seqPassed named
+  arm-seq h {x} {y} {s₁} cx l cy e =
+      rw e (by-row 2 h _ (omega (arith, cx .onward, cy .onward)) (kept-twice (cx .kept) (cy .kept)) (λ k c rest v names room. go k v names room))
+    where
+      go : (k : Counts) {rest : List Line} {a b : ℕ} {c : Cmd} → CmdRow ws at rest 2 a b c → named k d c ≡ true → Room s d → Done c rest (seqPassed x y)
+      go k {rest} (at-seq {c = f} {d = g} p r w) names room =
+          let m = cx .means k f (cmdLines g rest) p w (both-left _ (named k d g) names) room in
+          let n = cy .means k g rest r (m .1) (both-right (named k d f) _ names) (room .0, rw l (room .1)) in
+          (pass-seq t _ pc _ (m .0) (pass-kept (cx .kept) (n .0)), n .1)
+
+  module _ {x : Typed} (cx : ChecksExpr ws (at + 3) t s d x) where
+    pub arm-assign : row .kind ≡ 3 → {r : Passed} → r ≡ assignPassed t (row .a) pc x → ChecksCmd ws at t s d pc r s
+    unfolding Done assignPassed
+    arm-assign h e = rw e (by-row 3 h _ (omega (arith, cx .onward)) kept-same (λ k c rest v names room. go v room))
+      where
+        go : {rest : List Line} {a b : ℕ} {c : Cmd} → CmdRow ws at rest 3 a b c → Room s d → Done c rest (assignPassed t a pc x)
+        go {rest} (at-assign {x = n} {e} p w) room = let m = cx .means e rest p w room in (pass-assign t _ pc _ (m .0) n, m .1)
+
+    pub arm-while : row .kind ≡ 4 → {pc′ : Label} → pc′ ≡ joinOf pc (x .label) → {y : Passed} {s₁ : List ℕ}
+        → ChecksCmd ws (x .next) t s d pc′ y s₁ → {r : Passed} → r ≡ whilePassed x y → ChecksCmd ws at t s d pc r s₁
+    unfolding Done whilePassed named
+    arm-while h lab {y} cy e = rw e (by-row 4 h _ (omega (arith, cx .onward, cy .onward)) (cy .kept) (λ k c rest v names room. go k v names room))
+      where
+        go : (k : Counts) {rest : List Line} {a b : ℕ} {c : Cmd} → CmdRow ws at rest 4 a b c → named k d c ≡ true → Room s d → Done c rest (whilePassed x y)
+        go k {rest} (at-while {e} {c} p r w) names room =
+            let m = cx .means e (cmdLines c rest) p w room in
+            let n = cy .means k c rest r (m .1) (both-right (namedE k d e) _ names) room in
+            (pass-while t _ pc _ (m .0) (rw lab at (n .0)), n .1)
+
+    -- a case, with the words for bindings after each step
+    pub arm-case : row .kind ≡ 5 → d < maxDepth → wholeOf (x .label) ≡ true → {pc′ : Label} → pc′ ≡ joinOf pc (x .label)
+        → {s₁ s₂ s₃ s₄ : List ℕ} {y z : Passed} → s₁ ≡ bindOf s d (leftIn t (x .ty)) (x .label) → ChecksCmd ws (x .next) t s₁ (d + 1) pc′ y s₂
+        → length s₂ ≡ length s₁ → s₃ ≡ bindOf s₂ d (rightIn t (x .ty)) (x .label) → ChecksCmd ws (y .next) t s₃ (d + 1) pc′ z s₄
+        → {r : Passed} → r ≡ casePassed t x y z → ChecksCmd ws at t s d pc r s₄
+    unfolding Done casePassed
+    arm-case h shallow whole lab {s₁} {s₂} {s₃} {y = y} {z} bl cy l br cz e =
+        rw e (by-row 5 h _ (omega (arith, cx .onward, cy .onward, cz .onward)) (kept-twice upto₃ (kept-fewer (cz .kept))) (λ k c rest v names room. go k v names room))
+      where
+        upto₂ : Kept s s₂ d
+        upto₂ = kept-twice (rw bl (bind-kept s d (leftIn t (x .ty)) (x .label) whole)) (kept-fewer (cy .kept))
+
+        upto₃ : Kept s s₃ d
+        upto₃ = kept-twice upto₂ (rw br (bind-kept s₂ d (rightIn t (x .ty)) (x .label) whole))
+
+        long₁ : length s₁ ≡ length s
+        long₁ = ap length bl ∙ length-bind s d (leftIn t (x .ty)) (x .label) whole
+
+        long₃ : length s₃ ≡ length s
+        long₃ = ap length br ∙ length-bind s₂ d (rightIn t (x .ty)) (x .label) whole ∙ l ∙ long₁
+
+        inner : (s′ : List ℕ) → length s′ ≡ length s → Room s d → Room s′ (d + 1)
+        inner s′ m room = (omega arith, rw m (room .1))
+
+        go : (k : Counts) {rest : List Line} {a b : ℕ} {c : Cmd} → CmdRow ws at rest 5 a b c → named k d c ≡ true → Room s d → Done c rest (casePassed t x y z)
+        go k {rest} (at-case {e} {c = f} {d = g} p r u w) names room =
+            let ns = case-names k d e f g names in
+            let m = cx .means e (cmdLines f (cmdLines g rest)) p w room in
+            let n = cy .means k f (cmdLines g rest) r (m .1) (ns .1) (inner s₁ long₁ room) in
+            let o = cz .means k g rest u (n .1) (ns .2) (inner s₃ long₃ room) in
+            let long₂ : bindingsSize ≤ length s₂ = rw (l ∙ long₁) (room .1) in (
+              pass-case t _ pc _ (m .0) (pass-bound t d (leftIn t (x .ty)) (x .label) bl kept-same whole shallow (room .1) lab (n .0))
+                  (pass-bound t d (rightIn t (x .ty)) (x .label) br upto₂ whole shallow long₂ lab (o .0)),
+              o .1,
+            )
+
+  -- a case deeper than a script may nest
+  pub arm-deep : row .kind ≡ 5 → maxDepth ≤ d → {x : Passed} → x ≡ refused at → ChecksCmd ws at t s d pc x s
+  unfolding Done named
+  arm-deep h deep e = rw e (by-row 5 h _ (omega arith) kept-same (λ k c rest v names room. absurd (go k v names)))
+    where
+      go : (k : Counts) {rest : List Line} {a b : ℕ} {c : Cmd} → CmdRow ws at rest 5 a b c → named k d c ≡ true → ⊥
+      go k (at-case {e} {c = f} {d = g} p r u w) names = let n = case-names k d e f g names in omega (arith, n .0)
+
+  -- a row of another kind is no command's
+  pub arm-other : (row .kind ≡ 1 → ⊥) → (row .kind ≡ 2 → ⊥) → (row .kind ≡ 3 → ⊥) → (row .kind ≡ 4 → ⊥) → (row .kind ≡ 5 → ⊥)
+      → {x : Passed} → x ≡ refused at → ChecksCmd ws at t s d pc x s
+  unfolding Done
+  arm-other f1 f2 f3 f4 f5 e = rw e (by-row (row .kind) refl _ (omega arith) kept-same (λ k c rest v names room. absurd (go v refl)))
+    where
+      go : {rest : List Line} {j a b : ℕ} {c : Cmd} → CmdRow ws at rest j a b c → row .kind ≡ j → ⊥
+      go (at-skip w) h = f1 h
+      go (at-seq p r w) h = f2 h
+      go (at-assign p w) h = f3 h
+      go (at-while p r w) h = f4 h
+      go (at-case p r u w) h = f5 h

@@ -1,0 +1,44 @@
+-- What enclosing cases bind, as words: for each case the number of the type that it binds and its label, outermost first.
+use mathlib.Core.Bool.{Bool, cond}
+use mathlib.Core.List.{List, [], _∷_}
+use Prim.Native.Nat.{ℕ, zero, suc, _+_, _*_}
+use lib.Dec.{ltb, leb}
+use lib.ListN.{length, getD, set}
+use Rattle.labels.specs.declared.Label.{Label}
+use Rattle.labels.specs.Tables.{labelSize, labelAt, labelPut}
+use Rattle.language.specs.Syntax.{both}
+use Rattle.lines.specs.Names.{maxDepth}
+
+-- the words for one case, and for all
+abbrev pub bindingSize : ℕ
+bindingSize = 1 + labelSize
+
+abbrev pub bindingsSize : ℕ
+bindingsSize = maxDepth * bindingSize
+
+-- the type's number and the label at place i
+abbrev pub boundType : List ℕ → ℕ → ℕ
+boundType s i = getD s (i * bindingSize) 0
+
+abbrev pub boundLabel : List ℕ → ℕ → Label
+boundLabel s i = labelAt s (i * bindingSize + 1)
+
+-- the places below d, the last of them first
+unfoldable pub upTo : {A : Type 0} → (ℕ → A) → ℕ → List A
+upTo f zero = []
+upTo f (suc d) = f d ∷ upTo f d
+
+-- the types and the labels that d enclosing cases bind, innermost first
+abbrev pub boundTypes : List ℕ → ℕ → List ℕ
+boundTypes s d = upTo (boundType s) d
+
+abbrev pub boundLabels : List ℕ → ℕ → List Label
+boundLabels s d = upTo (boundLabel s) d
+
+-- there are words for all cases
+unfoldable pub enoughWords : List ℕ → Bool
+enoughWords s = leb bindingsSize (length s)
+
+-- the words with a type and a label stored at place d; unchanged where they do not fit
+unfoldable pub bindOf : List ℕ → ℕ → ℕ → Label → List ℕ
+bindOf s d n a = cond (both (ltb d maxDepth) (enoughWords s)) (labelPut (set s (d * bindingSize) n) (d * bindingSize + 1) a) s

@@ -1,0 +1,5 @@
+pub mod Numbers
+pub mod Bindings
+pub mod Nodes
+pub mod Post
+pub mod Theorems

@@ -1,0 +1,108 @@
+-- What checking one line gives, from what checking its operands gave.
+use mathlib.Core.Bool.{Bool, true, false, cond}
+use mathlib.Core.List.{List}
+use Prim.Native.Nat.{ℕ, suc, _-_}
+use lib.Dec.{eqb, leb, ltb}
+use Rattle.labels.specs.declared.Label.{Label}
+use Rattle.labels.specs.Labels.{belowOf, joinOf, confidentialityOf, integrityOf, bottomOf}
+use Rattle.language.specs.Syntax.{both}
+use Rattle.lines.specs.Names.{maxDepth}
+use Rattle.tables.specs.Tables.{everyoneIn, rightIn, typeIn, homeIn, labelIn}
+use Rattle.checker.specs.declared.Typed.{Typed}
+use Rattle.checker.specs.declared.Passed.{Passed}
+use Rattle.tables.specs.TypeTest.{isSum}
+use Rattle.checker.specs.Bindings.{boundType, boundLabel, enoughWords}
+
+-- the expression has the type number n
+unfoldable pub isType : Typed → ℕ → Bool
+isType x n = both (x .typed) (eqb n (x .ty))
+
+-- an expression of type n and label a, in which nothing is to be tested
+abbrev pub plainTyped : ℕ → Label → ℕ → Typed
+plainTyped n a next = record { ty = n; typed = true; flow = true; label = a; next = next }
+
+-- no expression
+unfoldable pub nothing : List ℕ → ℕ → Typed
+nothing t next = record { ty = 0; typed = false; flow = true; label = bottomOf (everyoneIn t); next = next }
+
+unfoldable pub intTyped : List ℕ → ℕ → Typed
+intTyped t next = plainTyped 0 (bottomOf (everyoneIn t)) next
+
+unfoldable pub locTyped : List ℕ → ℕ → ℕ → Typed
+locTyped t x next = plainTyped (typeIn t x) (labelIn t (homeIn t x)) next
+
+-- variable i below d cases
+unfoldable pub varTyped : List ℕ → List ℕ → ℕ → ℕ → ℕ → Typed
+varTyped t s d i next =
+    cond (both (ltb i d) (both (leb d maxDepth) (enoughWords s)))
+    (plainTyped (boundType s (d - suc i)) (boundLabel s (d - suc i)) next)
+    (nothing t next)
+
+unfoldable pub plusTyped : Typed → Typed → Typed
+plusTyped x y =
+    record {
+      ty = 0;
+      typed = both (isType x 0) (isType y 0);
+      flow = both (x .flow) (y .flow);
+      label = joinOf (x .label) (y .label);
+      next = y .next;
+    }
+
+-- a sum of type n, whose part on the operand's side is type m
+unfoldable pub sumTyped : List ℕ → ℕ → ℕ → Typed → Typed
+sumTyped t n m x =
+    record { ty = n; typed = both (isSum t n) (isType x m); flow = x .flow; label = x .label; next = x .next }
+
+unfoldable pub packTyped : List ℕ → ℕ → Typed → Typed
+packTyped t l x =
+    record {
+      ty = 4;
+      typed = x .typed;
+      flow = both (x .flow) (belowOf (x .label) (labelIn t l));
+      label = integrityOf (everyoneIn t) (labelIn t l);
+      next = x .next;
+    }
+
+unfoldable pub unpackTyped : List ℕ → ℕ → ℕ → Typed → Typed
+unpackTyped t n l x =
+    record {
+      ty = n;
+      typed = both (isType x 2) (both (isSum t n) (eqb (rightIn t n) 1));
+      flow = both (x .flow) (belowOf (confidentialityOf (x .label)) (confidentialityOf (labelIn t l)));
+      label = labelIn t l;
+      next = x .next;
+    }
+
+-- no command
+abbrev pub refused : ℕ → Passed
+refused next = record { typed = false; flow = true; next = next }
+
+abbrev pub skipPassed : ℕ → Passed
+skipPassed next = record { typed = true; flow = true; next = next }
+
+unfoldable pub seqPassed : Passed → Passed → Passed
+seqPassed x y = record { typed = both (x .typed) (y .typed); flow = both (x .flow) (y .flow); next = y .next }
+
+unfoldable pub assignPassed : List ℕ → ℕ → Label → Typed → Passed
+assignPassed t n pc x =
+    let a = labelIn t (homeIn t n) in
+    record {
+      typed = isType x (typeIn t n);
+      flow = both (x .flow) (both (belowOf (x .label) a) (belowOf pc a));
+      next = x .next;
+    }
+
+unfoldable pub whilePassed : Typed → Passed → Passed
+whilePassed x y = record { typed = both (isType x 3) (y .typed); flow = both (x .flow) (y .flow); next = y .next }
+
+unfoldable pub casePassed : List ℕ → Typed → Passed → Passed → Passed
+casePassed t x y z =
+    record {
+      typed = both (x .typed) (both (isSum t (x .ty)) (both (y .typed) (z .typed)));
+      flow = both (x .flow) (both (y .flow) (z .flow));
+      next = z .next;
+    }
+
+-- the lowest number that applies
+unfoldable pub answerOf : Bool → Bool → ℕ
+answerOf typed flow = cond typed (cond flow 0 6) 5

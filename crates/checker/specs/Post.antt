@@ -1,0 +1,58 @@
+-- What the checkers ensure, for every expression or command whose lines stand at a word of the code.
+use mathlib.Core.Path.{_≡_}
+use mathlib.Core.Bool.{true, false}
+use mathlib.Core.List.{List, []}
+use mathlib.Core.Logic.{_⊎_}
+use Prim.Native.Nat.{ℕ, _≤_}
+use lib.ListN.{length, drop}
+use Rattle.labels.specs.declared.Label.{Label}
+use Rattle.language.specs.Syntax.{Expr, Cmd}
+use Rattle.language.specs.Typing.{least, flowE, flow, refusal}
+use Rattle.lines.specs.Lines.{Line, SourceE, exprLines, Source, cmdLines}
+use Rattle.lines.specs.Code.{code}
+use Rattle.lines.specs.Names.{Counts, maxDepth, named}
+use Rattle.tables.specs.Sheet.{Sheet, formed, repeats}
+use Rattle.tables.specs.Tables.{tableOf}
+use Rattle.tables.specs.Meaning.{labelsOver, declarationsOf}
+use Rattle.checker.specs.declared.Typed.{Typed}
+use Rattle.checker.specs.declared.Passed.{Passed}
+use Rattle.checker.specs.Numbers.{givenNo, typeNo, shapeNo, conditionsIn}
+use Rattle.checker.specs.Bindings.{bindingsSize, boundTypes, boundLabels}
+
+-- x is what typing finds of e
+pub record Finds (t Γ : List ℕ) (Δ : List Label) (e : Expr) (x : Typed) : Type 0 where
+  pub type-is : givenNo (x .typed) (x .ty) ≡ typeNo t Γ e
+  pub label-is : x .label ≡ least (conditionsIn t) Δ e
+  pub flow-is : x .flow ≡ flowE (conditionsIn t) Δ e
+
+-- there are words for d cases
+abbrev pub Room : List ℕ → ℕ → Type 0
+Room s d = (d ≤ maxDepth) × (bindingsSize ≤ length s)
+
+pub record ChecksExpr (ws : List ℕ) (at : ℕ) (t s : List ℕ) (d : ℕ) (x : Typed) : Type 0 where
+  pub onward : at ≤ x .next
+  pub means : (e : Expr) (rest : List Line) → SourceE e → drop at ws ≡ code (exprLines e rest) → Room s d
+      → Finds t (boundTypes s d) (boundLabels s d) e x × (drop (x .next) ws ≡ code rest)
+
+-- s′ binds what s binds for d cases
+pub record Kept (s s′ : List ℕ) (d : ℕ) : Type 0 where
+  pub types : boundTypes s′ d ≡ boundTypes s d
+  pub labels : boundLabels s′ d ≡ boundLabels s d
+
+-- x is what typing finds of c below the surrounding label pc
+pub record Passes (t Γ : List ℕ) (pc : Label) (Δ : List Label) (c : Cmd) (x : Passed) : Type 0 where
+  pub typed-is : x .typed ≡ shapeNo t Γ c
+  pub flow-is : x .flow ≡ flow (conditionsIn t) pc Δ c
+
+pub record ChecksCmd (ws : List ℕ) (at : ℕ) (t s : List ℕ) (d : ℕ) (pc : Label) (x : Passed) (s′ : List ℕ) : Type 0 where
+  pub onward : at ≤ x .next
+  pub kept : Kept s s′ d
+  pub means : (k : Counts) (c : Cmd) (rest : List Line) → Source c → drop at ws ≡ code (cmdLines c rest) → named k d c ≡ true → Room s d
+      → Passes t (boundTypes s d) pc (boundLabels s d) c x × (drop (x .next) ws ≡ code rest)
+
+-- The answer is 0, 5 or 6. For the code of a script that names what is there, with the table of a sheet of the right form that
+-- repeats nothing, it is the scope's number.
+pub record Answers (ws t : List ℕ) (r : ℕ) : Type 0 where
+  pub among : (r ≡ 0) ⊎ ((r ≡ 5) ⊎ (r ≡ 6))
+  pub exact : (s : Sheet) → formed s ≡ true → repeats s ≡ false → t ≡ tableOf s → (k : Counts) (c : Cmd) → Source c → named k 0 c ≡ true
+      → ws ≡ code (cmdLines c []) → r ≡ refusal (labelsOver (s .principals)) (declarationsOf s) c

@@ -1,0 +1,135 @@
+// Commands over the lines, below a surrounding label (the scope, "Typing"; the paper, figure 5).
+ghost use mathlib.Core.Path.{_≡_};
+ghost use Rattle.checker.specs.Nodes.{refused, skipPassed, seqPassed, assignPassed, whilePassed, casePassed};
+ghost use Rattle.checker.specs.Post.{ChecksCmd};
+use crate::Passed;
+use crate::Typed;
+use crate::bindings;
+use crate::expressions::both;
+use crate::expressions::check_expr;
+use crate::expressions::is_sum;
+use crate::expressions::is_type;
+use labels::Label;
+use sets::Set;
+
+// The number of the type int+int, which a guard has.
+const INT_OR_INT: u32 = 3;
+
+fn not_passed(next: usize) -> Passed
+    ensures { λ r. ⌜ r ≡ refused next ⌝ }
+{
+    Passed {
+        typed: false,
+        flow: true,
+        next,
+    }
+}
+
+fn of_skip(next: usize) -> Passed
+    ensures { λ r. ⌜ r ≡ skipPassed next ⌝ }
+{
+    Passed {
+        typed: true,
+        flow: true,
+        next,
+    }
+}
+
+fn of_seq(x: Passed, y: Passed) -> Passed
+    ensures { λ r. ⌜ r ≡ seqPassed x y ⌝ }
+{
+    Passed {
+        typed: both(x.typed, y.typed),
+        flow: both(x.flow, y.flow),
+        next: y.next,
+    }
+}
+
+// The expression and the surrounding label are both at or below the location's.
+fn of_assign(table: &[u16], x: u32, pc: Label, e: Typed) -> Passed
+    ensures { λ r. ⌜ r ≡ assignPassed (now (table .entry)) x pc e ⌝ }
+{
+    let home = tables::label_of(table, tables::location_label(table, x));
+    let label = e.label;
+    let typed = is_type(e, tables::location_type(table, x));
+    let flow = both(label.at_or_below(home), pc.at_or_below(home));
+    Passed {
+        typed,
+        flow: both(e.flow, flow),
+        next: e.next,
+    }
+}
+
+fn of_while(x: Typed, y: Passed) -> Passed
+    ensures { λ r. ⌜ r ≡ whilePassed x y ⌝ }
+{
+    let typed = both(is_type(x, INT_OR_INT), y.typed);
+    Passed {
+        typed,
+        flow: both(x.flow, y.flow),
+        next: y.next,
+    }
+}
+
+fn of_case(table: &[u16], x: Typed, y: Passed, z: Passed) -> Passed
+    ensures { λ r. ⌜ r ≡ casePassed (now (table .entry)) x y z ⌝ }
+{
+    let typed = both(is_sum(table, x.ty), both(y.typed, z.typed));
+    let flow = both(y.flow, z.flow);
+    Passed {
+        typed: both(x.typed, typed),
+        flow: both(x.flow, flow),
+        next: z.next,
+    }
+}
+
+// Checks the command whose lines start at the word `at`, below `depth` cases and the surrounding label pc.
+pub(crate) fn check_cmd(
+    code: &[u32],
+    at: usize,
+    table: &[u16],
+    bound: &mut [Set],
+    depth: usize,
+    pc: Label,
+) -> Passed
+    ensures { λ r. ⌜ ChecksCmd (now (code .entry)) at (now (table .entry)) (now (bound .entry)) depth pc r (now (bound .exit)) ⌝ }
+{
+    let row = lines::row_at(code, at);
+    let kind = row.kind;
+    match kind {
+        lines::SKIP => of_skip(at + lines::ROW),
+        lines::SEQ => {
+            let x = check_cmd(code, at + lines::ROW, table, bound, depth, pc);
+            let mid = x.next;
+            let y = check_cmd(code, mid, table, bound, depth, pc);
+            of_seq(x, y)
+        }
+        lines::ASSIGN => {
+            let x = check_expr(code, at + lines::ROW, table, bound, depth);
+            of_assign(table, row.a, pc, x)
+        }
+        lines::WHILE => {
+            let x = check_expr(code, at + lines::ROW, table, bound, depth);
+            let guard = x.label;
+            let mid = x.next;
+            let y = check_cmd(code, mid, table, bound, depth, pc.join(guard));
+            of_while(x, y)
+        }
+        lines::CASE => {
+            if depth >= bindings::DEPTH {
+                return not_passed(at);
+            }
+            let x = check_expr(code, at + lines::ROW, table, bound, depth);
+            let guard = x.label;
+            let mid = x.next;
+            let within = pc.join(guard);
+            bindings::bind_left(bound, depth, table, x);
+            let y = check_cmd(code, mid, table, bound, depth + 1, within);
+            let end = y.next;
+            bindings::bind_right(bound, depth, table, x);
+            let z = check_cmd(code, end, table, bound, depth + 1, within);
+            of_case(table, x, y, z)
+        }
+        _ => not_passed(at),
+    }
+}

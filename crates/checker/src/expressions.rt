@@ -1,0 +1,239 @@
+// Types and least labels of expressions over the lines (the scope, "Typing"; the paper, figure 4).
+ghost use mathlib.Core.Path.{_≡_};
+ghost use Rattle.labels.specs.Labels.{bottomOf};
+ghost use Rattle.language.specs.Syntax.{both};
+ghost use Rattle.tables.specs.TypeTest.{isSum};
+ghost use Rattle.tables.specs.Tables.{leftIn, rightIn, everyoneIn};
+ghost use Rattle.checker.specs.Nodes.{isType, nothing, intTyped, locTyped, varTyped, plusTyped, sumTyped, packTyped, unpackTyped};
+ghost use Rattle.checker.specs.Post.{ChecksExpr};
+use crate::Typed;
+use crate::bindings;
+use labels::Label;
+use sets::Set;
+
+// The numbers of the given types that a line asks for, and of the first sum.
+const INT: u32 = 0;
+
+const ERROR: u32 = 1;
+
+const PKG: u32 = 2;
+
+const PKG_OR_ERROR: u32 = 4;
+
+const SUMS: u32 = 3;
+
+pub(crate) fn both(a: bool, b: bool) -> bool
+    ensures { λ r. ⌜ r ≡ both a b ⌝ }
+{
+    a && b
+}
+
+// Whether a type is a sum.
+pub(crate) fn is_sum(table: &[u16], ty: u32) -> bool
+    ensures { λ r. ⌜ r ≡ isSum (now (table .entry)) ty ⌝ }
+{
+    if SUMS <= ty {
+        ty < tables::types(table)
+    } else {
+        false
+    }
+}
+
+// Whether an expression has a type.
+pub(crate) fn is_type(x: Typed, ty: u32) -> bool
+    ensures { λ r. ⌜ r ≡ isType x ty ⌝ }
+{
+    both(x.typed, ty == x.ty)
+}
+
+// The least label on the sheet.
+pub(crate) fn lowest(table: &[u16]) -> Label
+    ensures { λ r. ⌜ r ≡ bottomOf (everyoneIn (now (table .entry))) ⌝ }
+{
+    Label::bottom(tables::everyone(table))
+}
+
+fn no_type(table: &[u16], next: usize) -> Typed
+    ensures { λ r. ⌜ r ≡ nothing (now (table .entry)) next ⌝ }
+{
+    let label = lowest(table);
+    Typed {
+        ty: INT,
+        typed: false,
+        flow: true,
+        label,
+        next,
+    }
+}
+
+fn of_int(table: &[u16], next: usize) -> Typed
+    ensures { λ r. ⌜ r ≡ intTyped (now (table .entry)) next ⌝ }
+{
+    let label = lowest(table);
+    Typed {
+        ty: INT,
+        typed: true,
+        flow: true,
+        label,
+        next,
+    }
+}
+
+fn of_location(table: &[u16], x: u32, next: usize) -> Typed
+    ensures { λ r. ⌜ r ≡ locTyped (now (table .entry)) x next ⌝ }
+{
+    let ty = tables::location_type(table, x);
+    let label = tables::label_of(table, tables::location_label(table, x));
+    Typed {
+        ty,
+        typed: true,
+        flow: true,
+        label,
+        next,
+    }
+}
+
+fn of_variable(table: &[u16], bound: &[Set], depth: usize, d: u32, next: usize) -> Typed
+    ensures { λ r. ⌜ r ≡ varTyped (now (table .entry)) (now (bound .entry)) depth d next ⌝ }
+{
+    let i = d as usize;
+    if i >= depth {
+        return no_type(table, next);
+    }
+    if depth > bindings::DEPTH {
+        return no_type(table, next);
+    }
+    if bound.len() < bindings::BINDINGS {
+        return no_type(table, next);
+    }
+    let at = (depth - 1 - i) * bindings::BINDING;
+    let ty = bound[at] as u32;
+    let label = labels::label_at(bound, at + 1);
+    Typed {
+        ty,
+        typed: true,
+        flow: true,
+        label,
+        next,
+    }
+}
+
+fn of_plus(x: Typed, y: Typed) -> Typed
+    ensures { λ r. ⌜ r ≡ plusTyped x y ⌝ }
+{
+    let a = x.label;
+    let b = y.label;
+    let label = a.join(b);
+    let typed = both(is_type(x, INT), is_type(y, INT));
+    let flow = both(x.flow, y.flow);
+    Typed {
+        ty: INT,
+        typed,
+        flow,
+        label,
+        next: y.next,
+    }
+}
+
+// A sum of type `ty`, whose part on the operand's side is `part`.
+fn of_sum(table: &[u16], ty: u32, part: u32, x: Typed) -> Typed
+    ensures { λ r. ⌜ r ≡ sumTyped (now (table .entry)) ty part x ⌝ }
+{
+    let label = x.label;
+    let typed = both(is_sum(table, ty), is_type(x, part));
+    Typed {
+        ty,
+        typed,
+        flow: x.flow,
+        label,
+        next: x.next,
+    }
+}
+
+fn of_left(table: &[u16], ty: u32, x: Typed) -> Typed
+    ensures { λ r. ⌜ r ≡ sumTyped (now (table .entry)) ty (leftIn (now (table .entry)) ty) x ⌝ }
+{
+    of_sum(table, ty, tables::left_part(table, ty), x)
+}
+
+fn of_right(table: &[u16], ty: u32, x: Typed) -> Typed
+    ensures { λ r. ⌜ r ≡ sumTyped (now (table .entry)) ty (rightIn (now (table .entry)) ty) x ⌝ }
+{
+    of_sum(table, ty, tables::right_part(table, ty), x)
+}
+
+fn of_pack(table: &[u16], l: u32, x: Typed) -> Typed
+    ensures { λ r. ⌜ r ≡ packTyped (now (table .entry)) l x ⌝ }
+{
+    let a = tables::label_of(table, l);
+    let operand = x.label;
+    let flow = both(x.flow, operand.at_or_below(a));
+    let integrity = a.integrity(tables::everyone(table));
+    Typed {
+        ty: PKG_OR_ERROR,
+        typed: x.typed,
+        flow,
+        label: integrity,
+        next: x.next,
+    }
+}
+
+fn of_unpack(table: &[u16], ty: u32, l: u32, x: Typed) -> Typed
+    ensures { λ r. ⌜ r ≡ unpackTyped (now (table .entry)) ty l x ⌝ }
+{
+    let label = tables::label_of(table, l);
+    let operand = x.label;
+    let flow = both(x.flow, operand.confidentiality_at_or_below(label));
+    let or_error = both(is_sum(table, ty), tables::right_part(table, ty) == ERROR);
+    let typed = both(is_type(x, PKG), or_error);
+    Typed {
+        ty,
+        typed,
+        flow,
+        label,
+        next: x.next,
+    }
+}
+
+// Checks the expression whose lines start at the word `at`, below `depth` cases.
+pub(crate) fn check_expr(
+    code: &[u32],
+    at: usize,
+    table: &[u16],
+    bound: &[Set],
+    depth: usize,
+) -> Typed
+    ensures { λ r. ⌜ ChecksExpr (now (code .entry)) at (now (table .entry)) (now (bound .entry)) depth r ⌝ }
+{
+    let row = lines::row_at(code, at);
+    let kind = row.kind;
+    let a = row.a;
+    match kind {
+        lines::INT => of_int(table, at + lines::ROW),
+        lines::LOC => of_location(table, a, at + lines::ROW),
+        lines::VAR => of_variable(table, bound, depth, a, at + lines::ROW),
+        lines::PLUS => {
+            let x = check_expr(code, at + lines::ROW, table, bound, depth);
+            let mid = x.next;
+            let y = check_expr(code, mid, table, bound, depth);
+            of_plus(x, y)
+        }
+        lines::LEFT => {
+            let x = check_expr(code, at + lines::ROW, table, bound, depth);
+            of_left(table, a, x)
+        }
+        lines::RIGHT => {
+            let x = check_expr(code, at + lines::ROW, table, bound, depth);
+            of_right(table, a, x)
+        }
+        lines::PACK => {
+            let x = check_expr(code, at + lines::ROW, table, bound, depth);
+            of_pack(table, a, x)
+        }
+        lines::UNPACK => {
+            let x = check_expr(code, at + lines::ROW, table, bound, depth);
+            of_unpack(table, a, row.b, x)
+        }
+        _ => no_type(table, at),
+    }
+}

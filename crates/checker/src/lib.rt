@@ -1,0 +1,53 @@
+// The checker over the lines of a script: types by their numbers, labels by value, with the sheet's table.
+mod bindings; // bindings.rt: what enclosing cases bind
+mod expressions; // expressions.rt: types and least labels of expressions
+mod commands; // commands.rt: commands
+
+ghost use mathlib.Core.Path.{_≡_};
+ghost use Prim.Native.Nat.{_≤_};
+ghost use lib.ListN.{length};
+ghost use Rattle.checker.specs.Bindings.{bindingsSize};
+ghost use Rattle.checker.specs.Nodes.{answerOf};
+ghost use Rattle.checker.specs.Post.{Answers};
+use sets::Set;
+
+// What is found of an expression: its type, if it has one; whether its label conditions hold; its least label; and the word after
+// its lines.
+pub(crate) struct Typed {
+    pub(crate) ty: u32,
+    pub(crate) typed: bool,
+    pub(crate) flow: bool,
+    pub(crate) label: labels::Label,
+    pub(crate) next: usize,
+}
+
+// What is found of a command: whether its types fit and its label conditions hold, and the word after its lines.
+pub(crate) struct Passed {
+    pub(crate) typed: bool,
+    pub(crate) flow: bool,
+    pub(crate) next: usize,
+}
+
+// Checks a script's code against a sheet's table: 0, 5 or 6.
+pub fn check(code: &[u32], table: &[u16]) -> u8
+    ensures { λ r. ⌜ Answers (now (code .entry)) (now (table .entry)) r ⌝ }
+{
+    let mut bound: [Set; bindings::BINDINGS] = [0; bindings::BINDINGS];
+    check_in(code, table, &mut bound)
+}
+
+// Checks a script's code, with the words for bindings lent.
+fn check_in(code: &[u32], table: &[u16], bound: &mut [Set]) -> u8
+    ensures { λ r. ⌜ (bindingsSize ≤ length (now (bound .entry)) → Answers (now (code .entry)) (now (table .entry)) r) ⌝ }
+{
+    let pc = expressions::lowest(table);
+    let x = commands::check_cmd(code, 0, table, bound, 0, pc);
+    answer(x.typed, x.flow)
+}
+
+// The lowest number that applies: 5 if the types do not fit, 6 if the labels do not, else 0.
+fn answer(typed: bool, flow: bool) -> u8
+    ensures { λ r. ⌜ r ≡ answerOf typed flow ⌝ }
+{
+    if typed { if flow { 0 } else { 6 } } else { 5 }
+}

@@ -1,0 +1,97 @@
+-- Laws of a location's words: when they are exactly those of a value.
+-- Assumes nothing.
+use mathlib.Core.Path.{_≡_, refl, sym, ap, ap₂, _∙_}
+use mathlib.Core.Bool.{Bool, true, false}
+use mathlib.Core.List.{List, [], _∷_}
+use Prim.Native.Nat.{ℕ, suc, _+_, _-_, _≤_, _<_}
+use native.Mathlib.Omega.{arith}
+use borrow.Author.Tests.{eq-eqb, eqb-true, ne-eqb}
+use lib.Dec.{eqb}
+use lib.ListN.{length, getD, drop, length-drop}
+use Rattle.sets.proofs.BoolLaws.{absurd-false, both-true, both-left, both-right}
+use Rattle.language.specs.Syntax.{Value, int, err, inl, inr, pkg, blank, size}
+use Rattle.language.specs.Evaluation.{cell-words}
+use Rattle.memory.specs.Words.{enc, zeros, cell, readOf, valueOf}
+use Rattle.memory.specs.Memory.{proper, same, exactly, holdsBy}
+use Rattle.memory.specs.Post.{Walks}
+use Rattle.memory.proofs.Booleans.{both-on, both-off}
+use Rattle.memory.proofs.WordLaws.{length-enc, read-exact}
+use Rattle.memory.proofs.PlaceLaws.{here, past}
+
+-- ---- equal words
+
+pub same-refl : (xs : List ℕ) → same xs xs ≡ true
+unfolding same
+same-refl [] = refl
+same-refl (x ∷ xs) = both-true (eq-eqb x x refl) (same-refl xs)
+
+pub same-eq : (xs ys : List ℕ) → same xs ys ≡ true → xs ≡ ys
+unfolding same
+same-eq [] [] h = refl
+same-eq [] (y ∷ ys) h = absurd (absurd-false h)
+same-eq (x ∷ xs) [] h = absurd (absurd-false h)
+same-eq (x ∷ xs) (y ∷ ys) h = ap₂ (λ (z : ℕ) (zs : List ℕ). z ∷ zs) (eqb-true x y (both-left _ _ h)) (same-eq xs ys (both-right (eqb x y) _ h))
+
+same-cons : (x : ℕ) (xs ys : List ℕ) → same (x ∷ xs) (x ∷ ys) ≡ same xs ys
+unfolding same
+same-cons x xs ys = sym (both-on _ _ (eq-eqb x x refl))
+
+same-enc : (v : Value) (xs ys : List ℕ) → same (enc v xs) (enc v ys) ≡ same xs ys
+unfolding enc
+same-enc (int n) xs ys = same-cons 1 _ _ ∙ same-cons n xs ys
+same-enc (err e) xs ys = same-cons 2 _ _ ∙ same-cons e xs ys
+same-enc (inl v) xs ys = same-cons 3 _ _ ∙ same-enc v xs ys
+same-enc (inr v) xs ys = same-cons 4 _ _ ∙ same-enc v xs ys
+same-enc (pkg l v) xs ys = same-cons 5 _ _ ∙ same-cons l _ _ ∙ same-enc v xs ys
+same-enc blank xs ys = same-cons 0 xs ys
+
+-- ---- zeros from a place on
+
+module _ (ws : List ℕ) (i : ℕ) where
+  abbrev Cleared : ℕ → Bool
+  Cleared j = same (zeros (length ws - j)) (drop j ws)
+
+  pub zero-turn : i < length ws → getD ws i 0 ≡ 0 → Cleared i ≡ Cleared (i + 1)
+  unfolding same
+  zero-turn h e =
+      let n : length ws - i ≡ suc (length ws - (i + 1)) = omega arith in
+      rw (n, here ws i 0 h e) (same-cons 0 (zeros (length ws - (i + 1))) (drop (i + 1) ws))
+
+  pub zero-fail : i < length ws → (getD ws i 0 ≡ 0 → ⊥) → Cleared i ≡ false
+  unfolding same
+  zero-fail h k =
+      let n : length ws - i ≡ suc (length ws - (i + 1)) = omega arith in
+      rw (n, here ws i _ h refl) (sym (both-off _ _ (ne-eqb 0 (getD ws i 0) (λ e. k (sym e)))))
+
+  pub zero-end : length ws ≤ i → Cleared i ≡ true
+  unfolding same
+  zero-end h =
+      let n : length ws - i ≡ 0 = omega arith in
+      rw (n, past ws i h) refl
+
+-- ---- a location's words, walked
+
+module _ (labels : ℕ) (test : Value → Bool) (ws : List ℕ) {lab : ℕ} {ok : Bool} {next : ℕ} (e : lab ≡ labels) (w : Walks lab ws 0 (readOf ws) ok next) where
+  proper-is : ok ≡ proper labels (valueOf ws)
+  proper-is = w .told ∙ ap (λ (n : ℕ). proper n (valueOf ws)) e
+
+  pub not-proper : ok ≡ false → false ≡ holdsBy labels test ws
+  unfolding exactly
+  not-proper h = both-off _ _ (sym proper-is ∙ h)
+
+  pub not-typed : ok ≡ true → test (valueOf ws) ≡ false → false ≡ holdsBy labels test ws
+  unfolding exactly
+  not-typed h k = both-off _ _ k ∙ both-on _ _ (sym proper-is ∙ h)
+
+  rest-zero : length ws ≡ cell-words → ok ≡ true → Cleared ws 0 next ≡ same (cell (valueOf ws)) ws
+  unfolding cell
+  rest-zero n h =
+      let v = valueOf ws in
+      let x = read-exact labels ws (sym proper-is ∙ h) in
+      let k : length ws - next ≡ cell-words - size v =
+      omega (arith, length-drop next ws, ap length (w .after), ap length x, length-enc v (readOf ws .1)) in
+      rw (k, w .after) (sym (same-enc v _ _)) ∙ ap (same (enc v (zeros (cell-words - size v)))) x
+
+  pub is-cell : {r : Bool} → length ws ≡ cell-words → ok ≡ true → test (valueOf ws) ≡ true → r ≡ Cleared ws 0 next → r ≡ holdsBy labels test ws
+  unfolding exactly
+  is-cell n h k z = z ∙ rest-zero n h ∙ both-on _ _ k ∙ both-on _ _ (sym proper-is ∙ h)

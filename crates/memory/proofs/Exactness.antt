@@ -1,0 +1,208 @@
+-- The theorems of specs/Theorems. Assumes nothing.
+use mathlib.Core.Logic.{_↔_}
+use mathlib.Core.Path.{_≡_, refl, sym, ap, ap₂, _∙_, fun-ext}
+use mathlib.Core.Bool.{Bool, true, false}
+use mathlib.Core.List.{List}
+use Prim.Native.Nat.{ℕ, _*_, _<_, _≤_}
+use native.Mathlib.Omega.{arith}
+use borrow.Author.Tests.{ltb-true, ltb-false, eq-eqb}
+use lib.Dec.{ltb}
+use lib.ListN.{length, List·getD-eq-default}
+use Rattle.labels.specs.Labels.{readsOf}
+use Rattle.labels.specs.declared.Label.{Label}
+use Rattle.language.specs.Syntax.{Value, t-int, size, has}
+use Rattle.language.specs.Evaluation.{Mem, cell-words}
+use Rattle.language.specs.View.{seen, mask, maskMem}
+use Rattle.language.specs.Theorems.{WellTyped, Fitting}
+use Rattle.tables.specs.Sheet.{Sheet, Location, tyOf, labelCount, locationNo, locationCount, formed}
+use Rattle.tables.specs.Tables.{tableOf, typeIn, homeIn}
+use Rattle.tables.specs.Meaning.{shapesOf, readsNo}
+use Rattle.tables.proofs.TypeLaws.{ty-0}
+use Rattle.tables.proofs.TableLaws.{principals-in, types-in, labels-in, locations-in, type-in, home-in}
+use Rattle.tables.proofs.LabelLaws.{label-in}
+use Rattle.tables.proofs.NumberLaws.{type-in-there, has-no}
+use Rattle.memory.specs.Words.{enc, cell, valueOf}
+use Rattle.memory.specs.Memory.{memoryOf, wordsOf, formedBy, sliceRefusal, refusalBy, fits, wellFormed, memoryRefusal}
+use Rattle.memory.specs.View.{viewCell, viewBy, seesNo, viewWords, viewRefusal, viewLeaves}
+use Rattle.memory.specs.InTable.{fitsIn, wellFormedIn, refusalIn, readsIn, seesIn, viewIn, viewRefusalIn, viewLeavesIn}
+use Rattle.memory.specs.Theorems.{WordsExactly, CellExactly, Declared, MemoryExactly, ViewExactly, TableAgrees}
+use Rattle.memory.proofs.WordLaws.{read-enc, read-exact, cell-inj, length-cell}
+use Rattle.memory.proofs.CellsLaws.{cells-ext, cells-inj}
+use Rattle.memory.proofs.MemoryLaws.{exact-proper, exact-test, exact-words, cell-holds, value-past, value-passes, value-proper, value-fits, words-back, length-words, values-back, words-formed, unrefused-length, unrefused-formed}
+use Rattle.memory.proofs.ViewLaws.{mask-size}
+
+pub words-exactly : WordsExactly
+words-exactly = record { read-back = read-enc; no-other = read-exact; one-value = cell-inj }
+
+pub cell-exactly : CellExactly
+cell-exactly labels test ws = (
+  λ h. (valueOf ws, exact-proper labels test ws (valueOf ws) h, exact-test labels test ws (valueOf ws) h, exact-words labels test ws (valueOf ws) h),
+  λ k. cell-holds labels test ws (k .0) (k .1) (k .2) (k .3),
+)
+
+-- ---- memories
+
+module _ (s : Sheet) where
+  -- a number past the last location has the type int
+  past-type : (x : ℕ) → locationCount s ≤ x → tyOf s (locationNo s x .type) ≡ t-int
+  unfolding locationNo locationCount
+  past-type x h = ap (λ (l : Location). tyOf s (l .type)) (List·getD-eq-default (s .locations) (record { type = 0; label = 0 }) h) ∙ ty-0 s
+
+  module _ (ws : List ℕ) (h : memoryRefusal s ws ≡ 0) where
+    pub whole : length ws ≡ cell-words * locationCount s
+    unfolding memoryRefusal
+    whole = unrefused-length (locationCount s) (wellFormed s ws) ws h
+
+    well-formed : formedBy (locationCount s) (labelCount s) (fits s) ws ≡ true
+    unfolding memoryRefusal wellFormed
+    well-formed = unrefused-formed (locationCount s) (wellFormed s ws) ws h
+
+    pub fitting-values : Fitting (memoryOf ws)
+    fitting-values = value-fits (locationCount s) (labelCount s) (fits s) ws whole well-formed
+
+    typed-values : WellTyped (shapesOf s) (memoryOf ws)
+    unfolding fits has
+    typed-values x = on (ltb x (locationCount s)) refl
+      where
+        on : (b : Bool) → ltb x (locationCount s) ≡ b → has (memoryOf ws x) (tyOf s (locationNo s x .type)) ≡ true
+        on true e = value-passes (locationCount s) (labelCount s) (fits s) ws whole well-formed x (ltb-true x _ e)
+        on false e =
+            let k = ltb-false x (locationCount s) e in
+            ap₂ has (value-past ws x (omega (arith, whole))) (past-type x k)
+
+    pub declared-values : Declared s (memoryOf ws)
+    declared-values =
+        record {
+          typed = typed-values;
+          fitting = fitting-values;
+          named = value-proper (locationCount s) (labelCount s) (fits s) ws whole well-formed;
+        }
+
+    pub words-of-values : wordsOf (locationCount s) (memoryOf ws) ≡ ws
+    words-of-values = words-back (locationCount s) (labelCount s) (fits s) ws whole well-formed
+
+  module _ (M : Mem) (d : Declared s M) where
+    pub words-accepted : memoryRefusal s (wordsOf (locationCount s) M) ≡ 0
+    unfolding memoryRefusal refusalBy sliceRefusal wellFormed fits
+    words-accepted =
+        simp (eq-eqb _ _ (length-words (locationCount s) M (λ x l. d .fitting x)), words-formed (locationCount s) M (λ x l. d .fitting x) (labelCount s) (fits s) (λ x l. d .named x) (λ x l. d .typed x))
+
+    pub declared-back : (x : ℕ) → x < locationCount s → memoryOf (wordsOf (locationCount s) M) x ≡ M x
+    declared-back = values-back (locationCount s) M (λ x l. d .fitting x)
+
+  pub memory-exactly : MemoryExactly s
+  memory-exactly = record { values = declared-values; words = words-of-values; accepted = words-accepted; values-back = declared-back }
+
+-- ---- views
+
+-- what a view has for a location: the cell of the masked value, 16 zero words being the cell of one that is hidden
+view-cell : (b : Bool) (v : Value) → viewCell b v ≡ cell (seen b v)
+unfolding viewCell seen cell enc size
+view-cell true v = refl
+view-cell false v = refl
+
+seen-size : (b : Bool) (v : Value) → size v ≤ cell-words → size (seen b v) ≤ cell-words
+unfolding seen size
+seen-size true v h = h
+seen-size false v h = omega arith
+
+module _ (n : ℕ) (sees shows : ℕ → Bool) where
+  -- the view is the words of the masked memory
+  pub view-words : (M : Mem) → viewBy n sees shows M ≡ wordsOf n (maskMem sees shows M)
+  unfolding viewBy wordsOf maskMem
+  view-words M = cells-ext n _ _ (λ x l. view-cell (sees x) (mask shows (M x)))
+
+  masked-fits : (M : Mem) → Fitting M → Fitting (maskMem sees shows M)
+  unfolding maskMem
+  masked-fits M h x = seen-size (sees x) (mask shows (M x)) (omega (arith, mask-size shows (M x), h x))
+
+  module _ (M N : Mem) (h : Fitting M) (k : Fitting N) where
+    pub masks-of-view : viewBy n sees shows M ≡ viewBy n sees shows N → (x : ℕ) → x < n → maskMem sees shows M x ≡ maskMem sees shows N x
+    unfolding wordsOf
+    masks-of-view e x l =
+        cell-inj _ _
+        (cells-inj n (λ (y : ℕ). cell (maskMem sees shows M y)) (λ (y : ℕ). cell (maskMem sees shows N y))
+        (λ y m. length-cell (maskMem sees shows M y) (masked-fits M h y)) (λ y m. length-cell (maskMem sees shows N y) (masked-fits N k y))
+        (sym (view-words M) ∙ e ∙ view-words N) x l)
+
+  pub view-of-masks : (M N : Mem) → ((x : ℕ) → x < n → maskMem sees shows M x ≡ maskMem sees shows N x) → viewBy n sees shows M ≡ viewBy n sees shows N
+  unfolding wordsOf
+  view-of-masks M N e = view-words M ∙ cells-ext n _ _ (λ x l. ap cell (e x l)) ∙ sym (view-words N)
+
+module _ (s : Sheet) (g : ℕ) where
+  abbrev Masked : Mem → Mem
+  Masked M = maskMem (seesNo s g) (readsNo s g) M
+
+  module _ (ws us : List ℕ) (h : memoryRefusal s ws ≡ 0) (k : memoryRefusal s us ≡ 0) where
+    -- past the last location both memories have the integer 0
+    all-masks : ((x : ℕ) → x < locationCount s → Masked (memoryOf ws) x ≡ Masked (memoryOf us) x) → (x : ℕ) → Masked (memoryOf ws) x ≡ Masked (memoryOf us) x
+    unfolding maskMem
+    all-masks e x = on (ltb x (locationCount s)) refl
+      where
+        on : (b : Bool) → ltb x (locationCount s) ≡ b → seen (seesNo s g x) (mask (readsNo s g) (memoryOf ws x)) ≡ seen (seesNo s g x) (mask (readsNo s g) (memoryOf us x))
+        on true l = e x (ltb-true x _ l)
+        on false l =
+            let m = ltb-false x (locationCount s) l in
+            ap (λ v. seen (seesNo s g x) (mask (readsNo s g) v)) (value-past ws x (omega (arith, whole s ws h)) ∙ sym (value-past us x (omega (arith, whole s us k))))
+
+    pub same-view : (viewWords s g ws ≡ viewWords s g us) ↔ ((x : ℕ) → Masked (memoryOf ws) x ≡ Masked (memoryOf us) x)
+    unfolding viewWords
+    same-view = (
+      λ e. all-masks (masks-of-view (locationCount s) (seesNo s g) (readsNo s g) (memoryOf ws) (memoryOf us) (fitting-values s ws h) (fitting-values s us k) e),
+      λ e. view-of-masks (locationCount s) (seesNo s g) (readsNo s g) (memoryOf ws) (memoryOf us) (λ x l. e x),
+    )
+
+  pub same-left : (M N : Mem) → Declared s M → Declared s N → ((x : ℕ) → Masked M x ≡ Masked N x)
+      → viewWords s g (wordsOf (locationCount s) M) ≡ viewWords s g (wordsOf (locationCount s) N)
+  unfolding viewWords maskMem
+  same-left M N d e h =
+      view-of-masks (locationCount s) (seesNo s g) (readsNo s g) _ _
+      (λ x l. ap (λ v. seen (seesNo s g x) (mask (readsNo s g) v)) (declared-back s M d x l) ∙ h x ∙ ap (λ v. seen (seesNo s g x) (mask (readsNo s g) v)) (sym (declared-back s N e x l)))
+
+  pub view-exactly : ViewExactly s g
+  view-exactly = record { same-view = same-view; same-left = same-left; no-longer = mask-size (readsNo s g) }
+
+-- ---- the table
+
+module _ (s : Sheet) (fm : formed s ≡ true) where
+  fits-in-table : fitsIn (tableOf s) ≡ fits s
+  unfolding fitsIn fits
+  fits-in-table = fun-ext λ x. fun-ext λ v.
+      has-no s fm v (typeIn (tableOf s) x) (rw (types-in s) at (type-in-there s fm x)) ∙ ap (λ (n : ℕ). has v (tyOf s n)) (type-in s fm x)
+
+  refusal-in-table : (ws : List ℕ) → refusalIn (tableOf s) ws ≡ memoryRefusal s ws
+  unfolding refusalIn wellFormedIn memoryRefusal wellFormed
+  refusal-in-table ws = rw (locations-in s, labels-in s, fits-in-table)
+
+  pub reads-in-table : (g l : ℕ) → readsIn (tableOf s) g l ≡ readsNo s g l
+  unfolding readsIn
+  reads-in-table g l = ap₂ (λ (n : ℕ) (a : Label). readsOf n g a) (principals-in s) (label-in s fm l)
+
+  sees-in-table : (g x : ℕ) → seesIn (tableOf s) g x ≡ seesNo s g x
+  unfolding seesIn seesNo
+  sees-in-table g x = reads-in-table g (homeIn (tableOf s) x) ∙ ap (readsNo s g) (home-in s fm x)
+
+  view-in-table : (g : ℕ) (ws : List ℕ) → viewIn (tableOf s) g ws ≡ viewWords s g ws
+  unfolding viewIn viewWords
+  view-in-table g ws =
+      let a : readsIn (tableOf s) g ≡ readsNo s g = fun-ext λ l. reads-in-table g l in
+      let b : seesIn (tableOf s) g ≡ seesNo s g = fun-ext λ x. sees-in-table g x in
+      rw (locations-in s, a, b)
+
+  view-refusal-in-table : (ws : List ℕ) (len : ℕ) → viewRefusalIn (tableOf s) ws len ≡ viewRefusal s ws len
+  unfolding viewRefusalIn viewRefusal
+  view-refusal-in-table ws len = rw (locations-in s, refusal-in-table ws)
+
+  view-leaves-in-table : (g : ℕ) (ws before : List ℕ) → viewLeavesIn (tableOf s) g ws before ≡ viewLeaves s g ws before
+  unfolding viewLeavesIn viewLeaves
+  view-leaves-in-table g ws before = rw (view-refusal-in-table ws (length before), view-in-table g ws)
+
+  pub table-agrees : TableAgrees s
+  table-agrees =
+      record {
+        refusal = refusal-in-table;
+        reads = reads-in-table;
+        view = view-in-table;
+        view-refusal = view-refusal-in-table;
+        view-leaves = view-leaves-in-table;
+      }

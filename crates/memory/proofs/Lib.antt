@@ -1,0 +1,15 @@
+pub mod Booleans
+pub mod WordLaws
+pub mod ProperLaws
+pub mod PlaceLaws
+pub mod WalkLaws
+pub mod TypeTestLaws
+pub mod CellLaws
+pub mod CellsLaws
+pub mod MemoryLaws
+pub mod StoreLaws
+pub mod RefusalLaws
+pub mod MaskLaws
+pub mod ViewLaws
+pub mod ShownLaws
+pub mod Exactness

@@ -1,0 +1,132 @@
+-- Laws of storing a masked value's words, by the first word.
+-- Assumes nothing.
+use mathlib.Core.Path.{_≡_, refl, sym, ap, _∙_}
+use mathlib.Core.Bool.{Bool, true, false, false≢true}
+use mathlib.Core.List.{List}
+use Prim.Native.Nat.{ℕ, _+_, _≤_, _<_}
+use native.Mathlib.Omega.{arith}
+use native.Mathlib.Numerals.{add-one}
+use lib.ListN.{length, getD, set, drop}
+use Rattle.language.specs.Syntax.{Value, int, err, inl, inr, pkg, blank, size}
+use Rattle.language.specs.View.{seen, mask}
+use Rattle.memory.specs.Words.{Got, enc, wrap, numbered, packaged, readOf}
+use Rattle.memory.specs.Post.{Walks, Masks, Numeral, num-int, num-err, Opens}
+use Rattle.memory.proofs.PlaceLaws.{here, past, at-past, at-int, at-err, at-inl, at-inr, at-package, at-none, labelled}
+
+module _ (shows : ℕ → Bool) (ws out : List ℕ) (to : ℕ) {left : List ℕ} {next end : ℕ} where
+  read-as : {g got : Got} → g ≡ got → Masks shows ws got out to left next end → Masks shows ws g out to left next end
+  read-as e m = rw e m
+
+  -- ---- by what is read
+
+  -- one zero word
+  none : {g : Got} {us : List ℕ} → g ≡ (blank, us) → drop next ws ≡ us → left ≡ set out to 0 → end ≡ to + 1 → Masks shows ws g out to left next end
+  unfolding mask enc size
+  none e d s n = rw e (record { stored = s; ends = n; after = d })
+
+  numeral : {w i : ℕ} (f : ℕ → Value) (us : List ℕ) → Numeral w f → left ≡ set (set out to w) (to + 1) i → drop next ws ≡ us → end ≡ to + 1 + 1
+      → Masks shows ws (f i, us) out to left next end
+  unfolding mask enc size
+  numeral f us num-int s d n = record { stored = s ∙ rw add-one refl; ends = omega arith; after = d }
+  numeral f us num-err s d n = record { stored = s ∙ rw add-one refl; ends = omega arith; after = d }
+
+  to-left : {got : Got} {mid : List ℕ} → mid ≡ set out to 3 → Masks shows ws got mid (to + 1) left next end → Masks shows ws (wrap inl got) out to left next end
+  unfolding mask enc size wrap
+  to-left s m = record { stored = m .stored ∙ rw (s, add-one) refl; ends = omega (arith, m .ends); after = m .after }
+
+  to-right : {got : Got} {mid : List ℕ} → mid ≡ set out to 4 → Masks shows ws got mid (to + 1) left next end → Masks shows ws (wrap inr got) out to left next end
+  unfolding mask enc size wrap
+  to-right s m = record { stored = m .stored ∙ rw (s, add-one) refl; ends = omega (arith, m .ends); after = m .after }
+
+  shown : {got : Got} {mid : List ℕ} (l : ℕ) → shows l ≡ true → mid ≡ set (set out to 5) (to + 1) l → Masks shows ws got mid (to + 1 + 1) left next end
+      → Masks shows ws (wrap (pkg l) got) out to left next end
+  unfolding mask enc size wrap seen
+  shown l s e m = record { stored = m .stored ∙ rw (e, s, add-one, add-one) refl; ends = rw s (omega (arith, m .ends)); after = m .after }
+
+  hidden : (got : Got) (l : ℕ) → shows l ≡ false → left ≡ set (set (set out to 5) (to + 1) l) (to + 1 + 1) 0 → end ≡ to + 1 + 1 + 1
+      → drop next ws ≡ got .1 → Masks shows ws (wrap (pkg l) got) out to left next end
+  unfolding mask enc size wrap seen
+  hidden got l s e n d = record { stored = e ∙ rw (s, add-one, add-one) refl; ends = rw s (omega arith); after = d }
+
+  -- ---- by the word at a place
+
+  module _ (at : ℕ) where
+    -- a number
+    pub mask-number : {mid : List ℕ} (f : ℕ → Value) → Numeral (getD ws at 0) f → at + 1 < length ws → mid ≡ set out to (getD ws at 0)
+        → left ≡ set mid (to + 1) (getD ws (at + 1) 0) → next ≡ at + 1 + 1 → end ≡ to + 1 + 1 → Masks shows ws (numbered f (drop (at + 1) ws)) out to left next end
+    unfolding numbered
+    mask-number f k h e s d n =
+        rw (here ws (at + 1) _ h refl)
+        (numeral f _ k (s ∙ ap (λ (l : List ℕ). set l (to + 1) (getD ws (at + 1) 0)) e) (ap (λ (j : ℕ). drop j ws) d) n)
+
+    pub mask-no-number : (f : ℕ → Value) → length ws ≤ at → left ≡ set out to 0 → next ≡ at → end ≡ to + 1
+        → Masks shows ws (numbered f (drop at ws)) out to left next end
+    unfolding numbered
+    mask-no-number f h s d n = none (rw (past ws at h) refl) (ap (λ (j : ℕ). drop j ws) d ∙ past ws at h) s n
+
+    -- the label of a package
+    pub opens-past : length ws ≤ at → left ≡ set out to 0 → next ≡ at → end ≡ to + 1 → Opens shows ws at out to false left next end
+    unfolding packaged
+    opens-past h s d n =
+        record {
+          head = λ e. absurd (false≢true e);
+          content = λ e. absurd (false≢true e);
+          seen = λ e. absurd (false≢true e);
+          whole = λ e. none (rw (past ws at h) refl) (ap (λ (j : ℕ). drop j ws) d ∙ past ws at h) s n;
+        }
+
+    pub opens-shown : {mid : List ℕ} → at < length ws → shows (getD ws at 0) ≡ true → mid ≡ set out to 5 → left ≡ set mid (to + 1) (getD ws at 0)
+        → Opens shows ws at out to true left next end
+    opens-shown h s e k =
+        record {
+          head = λ _. k ∙ ap (λ (l : List ℕ). set l (to + 1) (getD ws at 0)) e;
+          content = λ _. labelled ws at h;
+          seen = λ _. s;
+          whole = λ e. absurd (false≢true (sym e));
+        }
+
+    pub opens-hidden : {mid mid′ : List ℕ} {labels : ℕ} {ok : Bool} → at < length ws → shows (getD ws at 0) ≡ false → mid ≡ set out to 5
+        → mid′ ≡ set mid (to + 1) (getD ws at 0) → left ≡ set mid′ (to + 1 + 1) 0 → end ≡ to + 1 + 1 + 1
+        → Walks labels ws (at + 1) (readOf (drop (at + 1) ws)) ok next → Opens shows ws at out to false left next end
+    opens-hidden h s e e′ k n w =
+        record {
+          head = λ x. absurd (false≢true x);
+          content = λ x. absurd (false≢true x);
+          seen = λ x. absurd (false≢true x);
+          whole = λ x. read-as (labelled ws at h) (hidden _ (getD ws at 0) s (k ∙ rw (e′, e) refl) n (w .after));
+        }
+
+    -- a value
+    pub mask-past : length ws ≤ at → left ≡ set out to 0 → next ≡ at → end ≡ to + 1 → Masks shows ws (readOf (drop at ws)) out to left next end
+    mask-past h s d n = none (at-past ws at h) (ap (λ (j : ℕ). drop j ws) d ∙ past ws at h) s n
+
+    module _ (h : at < length ws) where
+      pub mask-int : getD ws at 0 ≡ 1 → ((f : ℕ → Value) → Numeral (getD ws at 0) f → Masks shows ws (numbered f (drop (at + 1) ws)) out to left next end)
+          → Masks shows ws (readOf (drop at ws)) out to left next end
+      mask-int e m = read-as (at-int ws at h e) (m int (rw e num-int))
+
+      pub mask-err : getD ws at 0 ≡ 2 → ((f : ℕ → Value) → Numeral (getD ws at 0) f → Masks shows ws (numbered f (drop (at + 1) ws)) out to left next end)
+          → Masks shows ws (readOf (drop at ws)) out to left next end
+      mask-err e m = read-as (at-err ws at h e) (m err (rw e num-err))
+
+      pub mask-inl : {mid : List ℕ} → getD ws at 0 ≡ 3 → mid ≡ set out to 3 → Masks shows ws (readOf (drop (at + 1) ws)) mid (to + 1) left next end
+          → Masks shows ws (readOf (drop at ws)) out to left next end
+      mask-inl e s m = read-as (at-inl ws at h e) (to-left s m)
+
+      pub mask-inr : {mid : List ℕ} → getD ws at 0 ≡ 4 → mid ≡ set out to 4 → Masks shows ws (readOf (drop (at + 1) ws)) mid (to + 1) left next end
+          → Masks shows ws (readOf (drop at ws)) out to left next end
+      mask-inr e s m = read-as (at-inr ws at h e) (to-right s m)
+
+      pub mask-none : (getD ws at 0 ≡ 1 → ⊥) → (getD ws at 0 ≡ 2 → ⊥) → (getD ws at 0 ≡ 3 → ⊥) → (getD ws at 0 ≡ 4 → ⊥) → (getD ws at 0 ≡ 5 → ⊥)
+          → left ≡ set out to 0 → next ≡ at + 1 → end ≡ to + 1 → Masks shows ws (readOf (drop at ws)) out to left next end
+      mask-none n1 n2 n3 n4 n5 s d n = none (at-none ws at h n1 n2 n3 n4 n5) (ap (λ (j : ℕ). drop j ws) d) s n
+
+-- a package, whose label's words were stored first
+module _ (shows : ℕ → Bool) (ws out : List ℕ) (to at : ℕ) (h : at < length ws) (k : getD ws at 0 ≡ 5) {is : Bool} {mid : List ℕ} {n e : ℕ}
+    (o : Opens shows ws (at + 1) out to is mid n e) where
+  pub mask-open : {left : List ℕ} {next end : ℕ} → is ≡ true → Masks shows ws (readOf (drop (at + 1 + 1) ws)) mid (to + 1 + 1) left next end
+      → Masks shows ws (readOf (drop at ws)) out to left next end
+  mask-open s m = read-as shows ws out to (at-package ws at h k ∙ o .content s) (shown shows ws out to (getD ws (at + 1) 0) (o .seen s) (o .head s) m)
+
+  pub mask-closed : is ≡ false → Masks shows ws (readOf (drop at ws)) out to mid n e
+  mask-closed s = read-as shows ws out to (at-package ws at h k) (o .whole s)

@@ -1,0 +1,48 @@
+-- What is read from a place on, by the word that stands there.
+-- Assumes nothing.
+use mathlib.Core.Path.{_≡_, refl, ap, _∙_}
+use mathlib.Core.List.{List, [], _∷_}
+use Prim.Native.Nat.{ℕ, _+_, _≤_, _<_}
+use native.Mathlib.Numerals.{add-one}
+use lib.ListN.{length, getD, drop, drop-of-length-le}
+use lib.Seq.{drop-cons}
+use Rattle.language.specs.Syntax.{int, err, inl, inr, pkg, blank}
+use Rattle.memory.specs.Words.{wrap, numbered, packaged, read, readOf}
+use Rattle.memory.proofs.WordLaws.{read-int, read-err, read-inl, read-inr, read-package, read-none}
+
+module _ (ws : List ℕ) (at : ℕ) where
+  -- the words from a place on: its word and those after it; nothing past the end
+  pub here : (w : ℕ) → at < length ws → getD ws at 0 ≡ w → drop at ws ≡ w ∷ drop (at + 1) ws
+  here w h e = rw (add-one, ← e) (drop-cons ws at 0 h)
+
+  pub past : length ws ≤ at → drop at ws ≡ []
+  past h = drop-of-length-le ws {i = at} h
+
+  pub at-past : length ws ≤ at → readOf (drop at ws) ≡ (blank, [])
+  unfolding readOf read
+  at-past h = ap readOf (past h)
+
+  module _ (h : at < length ws) where
+    pub at-int : getD ws at 0 ≡ 1 → readOf (drop at ws) ≡ numbered int (drop (at + 1) ws)
+    at-int e = ap readOf (here 1 h e) ∙ read-int (drop (at + 1) ws)
+
+    pub at-err : getD ws at 0 ≡ 2 → readOf (drop at ws) ≡ numbered err (drop (at + 1) ws)
+    at-err e = ap readOf (here 2 h e) ∙ read-err (drop (at + 1) ws)
+
+    pub at-inl : getD ws at 0 ≡ 3 → readOf (drop at ws) ≡ wrap inl (readOf (drop (at + 1) ws))
+    at-inl e = ap readOf (here 3 h e) ∙ read-inl (drop (at + 1) ws)
+
+    pub at-inr : getD ws at 0 ≡ 4 → readOf (drop at ws) ≡ wrap inr (readOf (drop (at + 1) ws))
+    at-inr e = ap readOf (here 4 h e) ∙ read-inr (drop (at + 1) ws)
+
+    pub at-package : getD ws at 0 ≡ 5 → readOf (drop at ws) ≡ packaged readOf (drop (at + 1) ws)
+    at-package e = ap readOf (here 5 h e) ∙ read-package (drop (at + 1) ws)
+
+    pub at-none : (getD ws at 0 ≡ 1 → ⊥) → (getD ws at 0 ≡ 2 → ⊥) → (getD ws at 0 ≡ 3 → ⊥) → (getD ws at 0 ≡ 4 → ⊥) → (getD ws at 0 ≡ 5 → ⊥)
+        → readOf (drop at ws) ≡ (blank, drop (at + 1) ws)
+    at-none n1 n2 n3 n4 n5 = ap readOf (here (getD ws at 0) h refl) ∙ read-none (drop (at + 1) ws) (getD ws at 0) n1 n2 n3 n4 n5
+
+    -- a label and the content after it
+    pub labelled : packaged readOf (drop at ws) ≡ wrap (pkg (getD ws at 0)) (readOf (drop (at + 1) ws))
+    unfolding packaged
+    labelled = rw (here _ h refl) refl

@@ -1,0 +1,24 @@
+-- A run keeps values proper: what evaluation makes of proper values is proper.
+-- Assumes nothing.
+use mathlib.Core.Path.{_≡_, refl}
+use mathlib.Core.Bool.{true}
+use Prim.Native.Nat.{ℕ, _<_}
+use borrow.Author.Tests.{le-leb, lt-ltb}
+use Rattle.sets.proofs.BoolLaws.{both-true, both-right}
+use Rattle.language.proofs.Invariants.{Kept}
+use Rattle.memory.specs.Memory.{proper}
+
+-- packs may name the labels below `labels`
+pub proper-kept : (labels : ℕ) → Kept (λ v. proper labels v ≡ true) (λ l. l < labels)
+unfolding proper
+proper-kept labels =
+    record {
+      sum = λ n h. refl;
+      error = λ e h k. both-true (le-leb 1 e h) (le-leb e 3 k);
+      to-left = λ v p h. p;
+      to-right = λ v p h. p;
+      to-package = λ l v n p h. both-true (lt-ltb l labels n) p;
+      from-left = λ v p. p;
+      from-right = λ v p. p;
+      from-package = λ l v p. both-right _ _ p;
+    }

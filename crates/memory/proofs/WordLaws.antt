@@ -1,0 +1,182 @@
+-- Reading words gives back the value that they are the words of, and no other words are read as that value.
+-- Assumes nothing.
+use mathlib.Core.Path.{_≡_, refl, sym, ap, _∙_}
+use mathlib.Core.Bool.{Bool, true, false, cond}
+use mathlib.Core.List.{List, [], _∷_}
+use Prim.Native.Nat.{ℕ, zero, suc, _+_, _-_, _≤_}
+use native.Mathlib.Omega.{arith}
+use native.Mathlib.Nat.{le-refl}
+use borrow.Author.Tests.{ne-eqb, eqb-true}
+use lib.Dec.{eqb}
+use lib.ListN.{length, length-replicate}
+use Rattle.sets.proofs.BoolLaws.{absurd-false, both-right}
+use Rattle.language.specs.Syntax.{Value, int, err, inl, inr, pkg, blank, size}
+use Rattle.language.specs.Evaluation.{cell-words}
+use Rattle.memory.specs.Words.{enc, zeros, cell, Got, wrap, numbered, packaged, tagged, read, readOf, valueOf}
+use Rattle.memory.specs.Memory.{proper}
+
+-- ---- lengths
+
+pub size-pos : (v : Value) → 1 ≤ size v
+unfolding size
+size-pos (int n) = omega arith
+size-pos (err e) = omega arith
+size-pos (inl v) = omega arith
+size-pos (inr v) = omega arith
+size-pos (pkg l v) = omega arith
+size-pos blank = omega arith
+
+pub size-int : (n : ℕ) → size (int n) ≤ cell-words
+unfolding size
+size-int n = omega arith
+
+pub length-enc : (v : Value) (rest : List ℕ) → length (enc v rest) ≡ size v + length rest
+unfolding enc size
+length-enc (int n) rest = omega arith
+length-enc (err e) rest = omega arith
+length-enc (inl v) rest = omega (arith, length-enc v rest)
+length-enc (inr v) rest = omega (arith, length-enc v rest)
+length-enc (pkg l v) rest = omega (arith, length-enc v rest)
+length-enc blank rest = omega arith
+
+pub length-cell : (v : Value) → size v ≤ cell-words → length (cell v) ≡ cell-words
+unfolding cell
+length-cell v h = length-enc v (zeros (cell-words - size v)) ∙ simp length-replicate (omega arith)
+
+-- ---- reading: more words allowed than there are change nothing
+
+packaged-same : (r r′ : List ℕ → Got) (ws : List ℕ) → ((us : List ℕ) → length us ≤ length ws → r us ≡ r′ us) → packaged r ws ≡ packaged r′ ws
+unfolding packaged
+packaged-same r r′ [] h = refl
+packaged-same r r′ (l ∷ ws) h = ap (wrap (pkg l)) (h ws (omega arith))
+
+tagged-same : (r r′ : List ℕ → Got) (w : ℕ) (ws : List ℕ) → ((us : List ℕ) → length us ≤ length ws → r us ≡ r′ us) → tagged r w ws ≡ tagged r′ w ws
+unfolding tagged
+tagged-same r r′ w ws h = rw (h ws (le-refl (length ws)), packaged-same r r′ ws h) refl
+
+read-any : (k j : ℕ) (ws : List ℕ) → length ws ≤ k → length ws ≤ j → read k ws ≡ read j ws
+unfolding read
+read-any zero zero ws h h′ = refl
+read-any zero (suc j) [] h h′ = refl
+read-any zero (suc j) (w ∷ ws) h h′ = absurd (omega arith)
+read-any (suc k) zero [] h h′ = refl
+read-any (suc k) zero (w ∷ ws) h h′ = absurd (omega arith)
+read-any (suc k) (suc j) [] h h′ = refl
+read-any (suc k) (suc j) (w ∷ ws) h h′ = tagged-same (λ us. read k us) (λ us. read j us) w ws (λ us l. read-any k j us (omega arith) (omega arith))
+
+-- ---- reading, by the first word
+
+module _ (ws : List ℕ) where
+  pub read-int : readOf (1 ∷ ws) ≡ numbered int ws
+  unfolding readOf read tagged
+  read-int = refl
+
+  pub read-err : readOf (2 ∷ ws) ≡ numbered err ws
+  unfolding readOf read tagged
+  read-err = refl
+
+  pub read-inl : readOf (3 ∷ ws) ≡ wrap inl (readOf ws)
+  unfolding readOf read tagged
+  read-inl = refl
+
+  pub read-inr : readOf (4 ∷ ws) ≡ wrap inr (readOf ws)
+  unfolding readOf read tagged
+  read-inr = refl
+
+  pub read-package : readOf (5 ∷ ws) ≡ packaged readOf ws
+  unfolding readOf read tagged
+  read-package = packaged-same (λ us. read (length ws) us) readOf ws (λ us h. read-any (length ws) (length us) us h (le-refl (length us)))
+
+  pub read-none : (w : ℕ) → (w ≡ 1 → ⊥) → (w ≡ 2 → ⊥) → (w ≡ 3 → ⊥) → (w ≡ 4 → ⊥) → (w ≡ 5 → ⊥) → readOf (w ∷ ws) ≡ (blank, ws)
+  unfolding readOf read tagged
+  read-none w n1 n2 n3 n4 n5 = simp (ne-eqb w 1 n1, ne-eqb w 2 n2, ne-eqb w 3 n3, ne-eqb w 4 n4, ne-eqb w 5 n5)
+
+-- ---- reading the words of a value
+
+pub read-enc : (v : Value) (rest : List ℕ) → readOf (enc v rest) ≡ (v, rest)
+unfolding enc wrap numbered packaged
+read-enc (int n) rest = read-int (n ∷ rest)
+read-enc (err e) rest = read-err (e ∷ rest)
+read-enc (inl v) rest = read-inl (enc v rest) ∙ ap (wrap inl) (read-enc v rest)
+read-enc (inr v) rest = read-inr (enc v rest) ∙ ap (wrap inr) (read-enc v rest)
+read-enc (pkg l v) rest = read-package (l ∷ enc v rest) ∙ ap (wrap (pkg l)) (read-enc v rest)
+read-enc blank rest = read-none rest 0 (λ h. omega arith) (λ h. omega arith) (λ h. omega arith) (λ h. omega arith) (λ h. omega arith)
+
+pub value-enc : (v : Value) (rest : List ℕ) → valueOf (enc v rest) ≡ v
+value-enc v rest = ap (λ (g : Got). g .0) (read-enc v rest)
+
+pub value-cell : (v : Value) → valueOf (cell v) ≡ v
+unfolding cell
+value-cell v = value-enc v (zeros (cell-words - size v))
+
+pub cell-inj : (v w : Value) → cell v ≡ cell w → v ≡ w
+cell-inj v w e = sym (value-cell v) ∙ ap valueOf e ∙ value-cell w
+
+-- ---- proper values
+
+pub proper-int : (labels n : ℕ) → proper labels (int n) ≡ true
+unfolding proper
+proper-int labels n = refl
+
+-- ---- words that are read as a proper value are the words of that value
+
+-- the graph of reading
+data Reads : List ℕ → Got → Type 0 where
+  r-none : {ws us : List ℕ} → Reads ws (blank, us)
+  r-int : {n : ℕ} {ws : List ℕ} → Reads (1 ∷ n ∷ ws) (int n, ws)
+  r-err : {e : ℕ} {ws : List ℕ} → Reads (2 ∷ e ∷ ws) (err e, ws)
+  r-inl : {ws : List ℕ} {g : Got} → Reads ws g → Reads (3 ∷ ws) (wrap inl g)
+  r-inr : {ws : List ℕ} {g : Got} → Reads ws g → Reads (4 ∷ ws) (wrap inr g)
+  r-pkg : {l : ℕ} {ws : List ℕ} {g : Got} → Reads ws g → Reads (5 ∷ l ∷ ws) (wrap (pkg l) g)
+
+-- by whether the first word is n
+on-word : (n w : ℕ) (ws : List ℕ) (x y : Got) → Reads (n ∷ ws) x → Reads (w ∷ ws) y → Reads (w ∷ ws) (cond (eqb w n) x y)
+on-word n w ws x y h k = at (eqb w n) refl
+  where
+    at : (b : Bool) → eqb w n ≡ b → Reads (w ∷ ws) (cond b x y)
+    at true e = let z : w ≡ n = eqb-true w n e in rw z h
+    at false e = k
+
+reads-int : (ws : List ℕ) → Reads (1 ∷ ws) (numbered int ws)
+unfolding numbered
+reads-int [] = r-none
+reads-int (n ∷ ws) = r-int
+
+reads-err : (ws : List ℕ) → Reads (2 ∷ ws) (numbered err ws)
+unfolding numbered
+reads-err [] = r-none
+reads-err (n ∷ ws) = r-err
+
+reads-pkg : (r : List ℕ → Got) → ((us : List ℕ) → Reads us (r us)) → (ws : List ℕ) → Reads (5 ∷ ws) (packaged r ws)
+unfolding packaged
+reads-pkg r h [] = r-none
+reads-pkg r h (l ∷ ws) = r-pkg (h ws)
+
+reads-tagged : (r : List ℕ → Got) → ((us : List ℕ) → Reads us (r us)) → (w : ℕ) (ws : List ℕ) → Reads (w ∷ ws) (tagged r w ws)
+unfolding tagged
+reads-tagged r h w ws =
+    on-word 1 w ws _ _ (reads-int ws)
+    (on-word 2 w ws _ _ (reads-err ws)
+    (on-word 3 w ws _ _ (r-inl (h ws))
+    (on-word 4 w ws _ _ (r-inr (h ws))
+    (on-word 5 w ws _ _ (reads-pkg r h ws)
+    r-none))))
+
+reads : (k : ℕ) (ws : List ℕ) → Reads ws (read k ws)
+unfolding read
+reads zero ws = r-none
+reads (suc k) [] = r-none
+reads (suc k) (w ∷ ws) = reads-tagged (λ us. read k us) (λ us. reads k us) w ws
+
+exact : (labels : ℕ) {ws : List ℕ} {g : Got} → Reads ws g → proper labels (g .0) ≡ true → enc (g .0) (g .1) ≡ ws
+unfolding proper enc wrap
+exact labels r-none p = absurd (absurd-false p)
+exact labels r-int p = refl
+exact labels r-err p = refl
+exact labels (r-inl h) p = ap (λ (us : List ℕ). 3 ∷ us) (exact labels h p)
+exact labels (r-inr h) p = ap (λ (us : List ℕ). 4 ∷ us) (exact labels h p)
+exact labels (r-pkg {l} h) p = ap (λ (us : List ℕ). 5 ∷ l ∷ us) (exact labels h (both-right _ _ p))
+
+pub read-exact : (labels : ℕ) (ws : List ℕ) → proper labels (valueOf ws) ≡ true → enc (readOf ws .0) (readOf ws .1) ≡ ws
+unfolding readOf
+read-exact labels ws p = exact labels (reads (length ws) ws) p

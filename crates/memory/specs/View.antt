@@ -1,0 +1,42 @@
+-- The words that a group is shown of a memory (the scope, "The view").
+use mathlib.Core.Bool.{Bool, true, false, cond}
+use mathlib.Core.List.{List}
+use Prim.Native.Nat.{ℕ}
+use lib.Dec.{eqb}
+use lib.ListN.{length}
+use Rattle.language.specs.Syntax.{Value}
+use Rattle.language.specs.Evaluation.{Mem, cell-words}
+use Rattle.language.specs.View.{mask}
+use Rattle.tables.specs.Sheet.{Sheet, locationNo, locationCount}
+use Rattle.tables.specs.Meaning.{readsNo}
+use Rattle.memory.specs.Words.{zeros, cell}
+use Rattle.memory.specs.Memory.{memoryOf, cells, sliceRefusal, memoryRefusal}
+
+-- A location whose label is read shows the value; any other shows zero words.
+unfoldable pub viewCell : Bool → Value → List ℕ
+viewCell true v = cell v
+viewCell false v = zeros cell-words
+
+-- The view of n locations: `sees x` tells whether the label of location x is read, `shows l` whether label l is.
+unfoldable pub viewBy : ℕ → (ℕ → Bool) → (ℕ → Bool) → Mem → List ℕ
+viewBy n sees shows M = cells n (λ (x : ℕ). viewCell (sees x) (mask shows (M x)))
+
+-- the group reads the label of location x
+unfoldable pub seesNo : Sheet → ℕ → ℕ → Bool
+seesNo s g x = readsNo s g (locationNo s x .label)
+
+-- What the group g is shown of the memory ws.
+unfoldable pub viewWords : Sheet → ℕ → List ℕ → List ℕ
+viewWords s g ws = viewBy (locationCount s) (seesNo s g) (readsNo s g) (memoryOf ws)
+
+-- refusal 7 of either slice, or 8 of the memory ws, for a view into `len` words; else 0
+unfoldable pub viewRefusal : Sheet → List ℕ → ℕ → ℕ
+viewRefusal s ws len = sliceRefusal (locationCount s) (memoryRefusal s ws) len
+
+-- what a lent slice holds after a call: `out` where nothing is refused, else what it held before
+unfoldable pub leaves : ℕ → List ℕ → List ℕ → List ℕ
+leaves refusal out before = cond (eqb refusal 0) out before
+
+-- What the slice that is lent for a view holds after the call.
+unfoldable pub viewLeaves : Sheet → ℕ → List ℕ → List ℕ → List ℕ
+viewLeaves s g ws before = leaves (viewRefusal s ws (length before)) (viewWords s g ws) before

@@ -1,0 +1,67 @@
+-- Values as words (the scope, "The three texts", Memory).
+use mathlib.Core.Bool.{cond}
+use mathlib.Core.List.{List, [], _∷_}
+use Prim.Native.Nat.{ℕ, zero, suc, _-_}
+use lib.Dec.{eqb}
+use lib.ListN.{length, replicate}
+use Rattle.language.specs.Syntax.{Value, int, err, inl, inr, pkg, blank, size}
+use Rattle.language.specs.Evaluation.{cell-words}
+
+-- The words of a value, then the rest: `1 n` integer, `2 e` error, `3` left or `4` right and a value, `5 label` package and a value.
+-- Content that a view hides is one zero word.
+unfoldable pub enc : Value → List ℕ → List ℕ
+enc (int n) rest = 1 ∷ n ∷ rest
+enc (err e) rest = 2 ∷ e ∷ rest
+enc (inl v) rest = 3 ∷ enc v rest
+enc (inr v) rest = 4 ∷ enc v rest
+enc (pkg l v) rest = 5 ∷ l ∷ enc v rest
+enc blank rest = 0 ∷ rest
+
+abbrev pub zeros : ℕ → List ℕ
+zeros n = replicate n 0
+
+-- The words of a location that holds a value: words after the value are 0.
+unfoldable pub cell : Value → List ℕ
+cell v = enc v (zeros (cell-words - size v))
+
+-- ---- reading
+
+-- a value and the words after it
+abbrev pub Got : Type 0
+Got = Value × List ℕ
+
+unfoldable pub wrap : (Value → Value) → Got → Got
+wrap f got = (f (got .0), got .1)
+
+-- a value that is given by one word
+unfoldable pub numbered : (ℕ → Value) → List ℕ → Got
+numbered f [] = (blank, [])
+numbered f (n ∷ ws) = (f n, ws)
+
+-- a package whose content r reads
+unfoldable pub packaged : (List ℕ → Got) → List ℕ → Got
+packaged r [] = (blank, [])
+packaged r (l ∷ ws) = wrap (pkg l) (r ws)
+
+-- the value whose first word is w, with r reading its part; blank where no value starts with w
+unfoldable pub tagged : (List ℕ → Got) → ℕ → List ℕ → Got
+tagged r w ws =
+    cond (eqb w 1) (numbered int ws)
+    (cond (eqb w 2) (numbered err ws)
+    (cond (eqb w 3) (wrap inl (r ws))
+    (cond (eqb w 4) (wrap inr (r ws))
+    (cond (eqb w 5) (packaged r ws)
+    (blank, ws)))))
+
+-- reading within a number of words
+unfoldable pub read : ℕ → List ℕ → Got
+read zero ws = (blank, ws)
+read (suc k) [] = (blank, [])
+read (suc k) (w ∷ ws) = tagged (λ us. read k us) w ws
+
+-- The value that the words start with, and the words after it; it has a blank where the words are no value's.
+unfoldable pub readOf : List ℕ → Got
+readOf ws = read (length ws) ws
+
+abbrev pub valueOf : List ℕ → Value
+valueOf ws = readOf ws .0

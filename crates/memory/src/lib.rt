@@ -1,0 +1,174 @@
+// Values as words, well-formed memories, and what a group is shown of a memory.
+mod values; // values.rt: the words of a value
+mod masks; // masks.rt: what a group is shown of a value
+
+ghost use mathlib.Core.Path.{_≡_};
+ghost use Prim.Native.Nat.{_+_, _*_, _≤_};
+ghost use lib.Dec.{eqb, ltb};
+ghost use lib.ListN.{length, drop};
+ghost use lib.Seq.{paste};
+ghost use Rattle.sets.specs.Sets.{both};
+ghost use Rattle.language.specs.Syntax.{size};
+ghost use Rattle.language.specs.View.{mask};
+ghost use Rattle.tables.specs.Tables.{labelsIn, locationsIn};
+ghost use Rattle.tables.specs.TypeTest.{isSum, hasNo};
+ghost use Rattle.memory.specs.Words.{valueOf};
+ghost use Rattle.memory.specs.Memory.{holdsBy, cellOf};
+ghost use Rattle.memory.specs.View.{viewCell};
+ghost use Rattle.memory.specs.InTable.{fitsIn, refusalIn, readsIn, seesIn, viewIn, viewRefusalIn, viewLeavesIn};
+use sets::Set;
+
+// The words of a location.
+pub const CELL: usize = 16;
+
+// Whether the value whose words start at `at` has a type. What a package holds is not looked at.
+pub fn has_type(table: &[u16], words: &[u32], at: usize, ty: u32) -> bool
+    ensures { λ r. ⌜ r ≡ hasNo (now (table .entry)) (valueOf (drop at (now (words .entry)))) ty ⌝ }
+{
+    if words.len() <= at {
+        return false;
+    }
+    match words[at] {
+        1 => one_more(words, at, ty, 0),
+        2 => one_more(words, at, ty, 1),
+        3 => {
+            if !is_sum(table, ty) {
+                return false;
+            }
+            has_type(table, words, at + 1, tables::left_part(table, ty))
+        }
+        4 => {
+            if !is_sum(table, ty) {
+                return false;
+            }
+            has_type(table, words, at + 1, tables::right_part(table, ty))
+        }
+        5 => one_more(words, at, ty, 2),
+        _ => false,
+    }
+}
+
+// Whether there is a word after `at`, and the type is the wanted one.
+fn one_more(words: &[u32], at: usize, ty: u32, wanted: u32) -> bool
+    ensures { λ r. ⌜ r ≡ both (ltb (at + 1) (length (now (words .entry)))) (eqb ty wanted) ⌝ }
+{
+    let n = words.len();
+    if n <= at {
+        return false;
+    }
+    if n - at <= 1 {
+        return false;
+    }
+    ty == wanted
+}
+
+// Whether a number names a sum type.
+fn is_sum(table: &[u16], ty: u32) -> bool
+    ensures { λ r. ⌜ r ≡ isSum (now (table .entry)) ty ⌝ }
+{
+    if ty < 3 {
+        return false;
+    }
+    ty < tables::types(table)
+}
+
+// Whether the words of a location are exactly those of a proper value of a type.
+fn holds(table: &[u16], words: &[u32], ty: u32) -> bool
+    requires { ⌜ length (now words) ≡ 16 ⌝ }
+    ensures { λ r. ⌜ r ≡ holdsBy (labelsIn (now (table .entry))) (λ v. hasNo (now (table .entry)) v ty) (now (words .entry)) ⌝ }
+{
+    let walked = values::value_at(tables::labels(table), words, 0);
+    if !walked.ok {
+        return false;
+    }
+    if !has_type(table, words, 0, ty) {
+        return false;
+    }
+    let next = walked.next;
+    values::zero_from(words, next)
+}
+
+// Whether location x of a memory holds a value as declared.
+fn location_holds(table: &[u16], memory: &[u32], x: u32) -> bool
+    requires { ⌜ 16 * x + 16 ≤ length (now memory) ⌝ }
+    ensures { λ r. ⌜ r ≡ holdsBy (labelsIn (now (table .entry))) (fitsIn (now (table .entry)) x) (cellOf (now (memory .entry)) x) ⌝ }
+{
+    let start = CELL * (x as usize);
+    let end = start + CELL;
+    holds(table, &memory[start..end], tables::location_type(table, x))
+}
+
+// 7 where a memory isn't 16 words for each location, 8 where it isn't well-formed, else 0.
+pub fn refusal(table: &[u16], memory: &[u32]) -> u8
+    ensures { λ r. ⌜ r ≡ refusalIn (now (table .entry)) (now (memory .entry)) ⌝ }
+{
+    let n = tables::locations(table);
+    if memory.len() != CELL * (n as usize) {
+        return 7;
+    }
+    let mut x = 0;
+    while x < n {
+        if !location_holds(table, memory, x) {
+            return 8;
+        }
+        x += 1;
+    }
+    0
+}
+
+// What a group is shown of location x.
+fn location_view(table: &[u16], memory: &[u32], group: Set, x: u32) -> [u32; CELL]
+    requires { ⌜ 16 * x + 16 ≤ length (now memory) ⌝ }
+    ensures { λ r. ⌜ (size (valueOf (cellOf (now (memory .entry)) x)) ≤ 16
+        → r ≡ viewCell (seesIn (now (table .entry)) group x) (mask (readsIn (now (table .entry)) group) (valueOf (cellOf (now (memory .entry)) x)))) ⌝ }
+{
+    let mut out = [0u32; CELL];
+    if masks::reads(table, group, tables::location_label(table, x)) {
+        let start = CELL * (x as usize);
+        let end = start + CELL;
+        masks::mask_at(table, group, &memory[start..end], 0, &mut out, 0);
+    }
+    out
+}
+
+// Stores the words of location x.
+fn put_cell(shown: &mut [u32], x: u32, cell: [u32; CELL])
+    requires { ⌜ 16 * x + 16 ≤ length (now shown) ⌝ }
+    ensures { λ _. ⌜ now (shown .exit) ≡ paste (now (shown .entry)) (16 * x) cell 16 ⌝ }
+{
+    let start = CELL * (x as usize);
+    for i in 0..CELL {
+        shown[start + i] = cell[i];
+    }
+}
+
+// Stores what a group is shown of a well-formed memory.
+fn view_each(table: &[u16], memory: &[u32], group: Set, shown: &mut [u32])
+    requires { ⌜ (refusalIn (now table) (now memory) ≡ 0) × (length (now shown) ≡ 16 * locationsIn (now table)) ⌝ }
+    ensures { λ _. ⌜ now (shown .exit) ≡ viewIn (now (table .entry)) group (now (memory .entry)) ⌝ }
+{
+    let n = tables::locations(table);
+    let mut x = 0;
+    while x < n {
+        let cell = location_view(table, memory, group, x);
+        put_cell(shown, x, cell);
+        x += 1;
+    }
+}
+
+// What a group is shown of a memory; 7 where one of the slices isn't 16 words for each location, 8 where the memory isn't
+// well-formed, and nothing is stored then.
+pub fn view(table: &[u16], memory: &[u32], group: Set, shown: &mut [u32]) -> u8
+    ensures { λ r. ⌜ r ≡ viewRefusalIn (now (table .entry)) (now (memory .entry)) (length (now (shown .entry))) ⌝ }
+    ensures { λ r. ⌜ now (shown .exit) ≡ viewLeavesIn (now (table .entry)) group (now (memory .entry)) (now (shown .entry)) ⌝ }
+{
+    if shown.len() != CELL * (tables::locations(table) as usize) {
+        return 7;
+    }
+    let answer = refusal(table, memory);
+    if answer != 0 {
+        return answer;
+    }
+    view_each(table, memory, group, shown);
+    0
+}

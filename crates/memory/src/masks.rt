@@ -1,0 +1,155 @@
+// What a group is shown of a value, as words.
+ghost use mathlib.Core.Path.{_≡_};
+ghost use mathlib.Core.Bool.{Bool};
+ghost use Prim.Native.Nat.{ℕ, _+_, _^_, _≤_, _<_};
+ghost use lib.ListN.{length, getD, drop, set};
+ghost use Rattle.language.specs.Syntax.{Value};
+ghost use Rattle.memory.specs.Words.{numbered, readOf};
+ghost use Rattle.memory.specs.InTable.{readsIn};
+ghost use Rattle.memory.specs.Post.{Masks, Numeral, Opens};
+use crate::values;
+use sets::Set;
+
+// The places after a value: in the words that are read, and in those that are written.
+pub(crate) struct Places {
+    pub next: usize,
+    pub end: usize,
+}
+
+// Stores what a group is shown of the value whose words start at `at`, from `to` on.
+pub(crate) fn mask_at(
+    table: &[u16],
+    group: Set,
+    words: &[u32],
+    at: usize,
+    out: &mut [u32],
+    to: usize,
+) -> Places
+    requires { ⌜ (to ≤ at) × (at ≤ length (now words) + 1) ⌝ }
+    ensures { λ r. ⌜ Masks (readsIn (now (table .entry)) group) (now (words .entry)) (readOf (drop at (now (words .entry))))
+        (now (out .entry)) to (now (out .exit)) (r .next) (r .end) ⌝ }
+{
+    if words.len() <= at {
+        return mask_blank(at, out, to);
+    }
+    match words[at] {
+        1 => mask_number(words, at, out, to),
+        2 => mask_number(words, at, out, to),
+        3 => {
+            store(out, to, 3);
+            mask_at(table, group, words, at + 1, out, to + 1)
+        }
+        4 => {
+            store(out, to, 4);
+            mask_at(table, group, words, at + 1, out, to + 1)
+        }
+        5 => {
+            let label = at + 1;
+            let second = to + 1;
+            let head = mask_label(table, group, words, label, out, to);
+            if head.shown {
+                mask_at(table, group, words, label + 1, out, second + 1)
+            } else {
+                Places {
+                    next: head.next,
+                    end: head.end,
+                }
+            }
+        }
+        _ => mask_blank(at + 1, out, to),
+    }
+}
+
+// One zero word.
+fn mask_blank(next: usize, out: &mut [u32], to: usize) -> Places
+    requires { ⌜ to < 2 ^ 63 ⌝ }
+    ensures { λ r. ⌜ now (out .exit) ≡ set (now (out .entry)) to 0 ⌝ }
+    ensures { λ r. ⌜ (r .next ≡ next) × (r .end ≡ to + 1) ⌝ }
+{
+    store(out, to, 0);
+    Places { next, end: to + 1 }
+}
+
+// An integer or an error, whose first word stands at `at`.
+fn mask_number(words: &[u32], at: usize, out: &mut [u32], to: usize) -> Places
+    requires { ⌜ (to ≤ at) × (at < length (now words)) ⌝ }
+    ensures { λ r. ⌜ ((shows : ℕ → Bool) (f : ℕ → Value) → Numeral (getD (now (words .entry)) at 0) f
+        → Masks shows (now (words .entry)) (numbered f (drop (at + 1) (now (words .entry)))) (now (out .entry)) to (now (out .exit)) (r .next) (r .end)) ⌝ }
+{
+    let number = at + 1;
+    if words.len() <= number {
+        return mask_blank(number, out, to);
+    }
+    let second = to + 1;
+    store(out, to, words[at]);
+    store(out, second, words[number]);
+    Places {
+        next: number + 1,
+        end: second + 1,
+    }
+}
+
+// Whether a package's content is shown, and where the package ends if it isn't.
+struct Head {
+    shown: bool,
+    next: usize,
+    end: usize,
+}
+
+// Stores the first two words of a package whose label stands at `at`, and one zero word where its content is hidden.
+fn mask_label(
+    table: &[u16],
+    group: Set,
+    words: &[u32],
+    at: usize,
+    out: &mut [u32],
+    to: usize,
+) -> Head
+    requires { ⌜ (to < at) × (at ≤ length (now words)) ⌝ }
+    ensures { λ r. ⌜ Opens (readsIn (now (table .entry)) group) (now (words .entry)) at (now (out .entry)) to (r .shown) (now (out .exit)) (r .next) (r .end) ⌝ }
+{
+    if words.len() <= at {
+        let none = mask_blank(at, out, to);
+        return Head {
+            shown: false,
+            next: none.next,
+            end: none.end,
+        };
+    }
+    store(out, to, 5);
+    let second = to + 1;
+    store(out, second, words[at]);
+    if reads(table, group, words[at]) {
+        return Head {
+            shown: true,
+            next: at,
+            end: to,
+        };
+    }
+    let content = values::value_at(tables::labels(table), words, at + 1);
+    let next = content.next;
+    let third = second + 1;
+    store(out, third, 0);
+    Head {
+        shown: false,
+        next,
+        end: third + 1,
+    }
+}
+
+// Stores a word at a place, if there is one.
+fn store(out: &mut [u32], at: usize, word: u32)
+    ensures { λ _. ⌜ now (out .exit) ≡ set (now (out .entry)) at word ⌝ }
+{
+    if at < out.len() {
+        out[at] = word;
+    }
+}
+
+// Whether a group reads label l.
+pub(crate) fn reads(table: &[u16], group: Set, l: u32) -> bool
+    ensures { λ r. ⌜ r ≡ readsIn (now (table .entry)) group l ⌝ }
+{
+    let label = tables::label_of(table, l);
+    label.reads(tables::principals(table) as usize, group)
+}

@@ -1,0 +1,119 @@
+// The words of a value: whether they are those of a proper value, and where they end.
+ghost use mathlib.Core.Path.{_≡_};
+ghost use Prim.Native.Nat.{ℕ, _+_, _-_, _<_};
+ghost use lib.Dec.{leb};
+ghost use lib.ListN.{length, drop};
+ghost use Rattle.sets.specs.Sets.{both};
+ghost use Rattle.language.specs.Syntax.{int, err};
+ghost use Rattle.memory.specs.Words.{zeros, numbered, packaged, readOf};
+ghost use Rattle.memory.specs.Memory.{same};
+ghost use Rattle.memory.specs.Post.{Walks};
+
+// Whether a value is proper, and the place after its words.
+pub(crate) struct Walked {
+    pub ok: bool,
+    pub next: usize,
+}
+
+// The value whose words start at `at`, on a sheet with so many labels.
+pub(crate) fn value_at(labels: u32, words: &[u32], at: usize) -> Walked
+    ensures { λ r. ⌜ Walks labels (now (words .entry)) at (readOf (drop at (now (words .entry)))) (r .ok) (r .next) ⌝ }
+{
+    if words.len() <= at {
+        return Walked {
+            ok: false,
+            next: at,
+        };
+    }
+    match words[at] {
+        1 => integer_at(words, at + 1),
+        2 => error_at(words, at + 1),
+        3 => value_at(labels, words, at + 1),
+        4 => value_at(labels, words, at + 1),
+        5 => {
+            let label = at + 1;
+            let content = value_at(labels, words, label + 1);
+            package_at(labels, words, label, content)
+        }
+        _ => Walked {
+            ok: false,
+            next: at + 1,
+        },
+    }
+}
+
+// An integer, whose number stands at `at`.
+fn integer_at(words: &[u32], at: usize) -> Walked
+    ensures { λ r. ⌜ ((labels : ℕ) → Walks labels (now (words .entry)) at (numbered int (drop at (now (words .entry)))) (r .ok) (r .next)) ⌝ }
+{
+    if at < words.len() {
+        Walked {
+            ok: true,
+            next: at + 1,
+        }
+    } else {
+        Walked {
+            ok: false,
+            next: at,
+        }
+    }
+}
+
+// An error, whose number stands at `at`: 1 to 3.
+fn error_at(words: &[u32], at: usize) -> Walked
+    ensures { λ r. ⌜ ((labels : ℕ) → Walks labels (now (words .entry)) at (numbered err (drop at (now (words .entry)))) (r .ok) (r .next)) ⌝ }
+{
+    if words.len() <= at {
+        return Walked {
+            ok: false,
+            next: at,
+        };
+    }
+    Walked {
+        ok: is_error(words[at]),
+        next: at + 1,
+    }
+}
+
+fn is_error(e: u32) -> bool
+    ensures { λ r. ⌜ r ≡ both (leb 1 e) (leb e 3) ⌝ }
+{
+    if e < 1 {
+        return false;
+    }
+    e <= 3
+}
+
+// A package, whose label stands at `at` before its content.
+fn package_at(labels: u32, words: &[u32], at: usize, content: Walked) -> Walked
+    ensures { λ r. ⌜ (Walks labels (now (words .entry)) (at + 1) (readOf (drop (at + 1) (now (words .entry)))) (content .ok) (content .next)
+        → Walks labels (now (words .entry)) at (packaged readOf (drop at (now (words .entry)))) (r .ok) (r .next)) ⌝ }
+{
+    if words.len() <= at {
+        return Walked {
+            ok: false,
+            next: at,
+        };
+    }
+    if words[at] < labels {
+        return content;
+    }
+    Walked {
+        ok: false,
+        next: content.next,
+    }
+}
+
+// Whether the words from `at` on are 0.
+pub(crate) fn zero_from(words: &[u32], at: usize) -> bool
+    ensures { λ r. ⌜ r ≡ same (zeros (length (now (words .entry)) - at)) (drop at (now (words .entry))) ⌝ }
+{
+    let mut i = at;
+    while i < words.len() {
+        if words[i] != 0 {
+            return false;
+        }
+        i += 1;
+    }
+    true
+}

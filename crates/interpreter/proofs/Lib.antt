@@ -1,0 +1,9 @@
+pub mod CellLaws
+pub mod ValueLaws
+pub mod SkipLaws
+pub mod NodeLaws
+pub mod StateLaws
+pub mod EvalLaws
+pub mod ExecLaws
+pub mod CommandLaws
+pub mod RunLaws

@@ -1,0 +1,101 @@
+-- `interpreter::commands::exec` meets its contract. The measure is the words left. Each return is a law.
+-- The loop's invariant: what the loop ends with from here, it ends with from the start. Assumes nothing.
+use borrow.Author.Needs.{needs}
+use mathlib.Core.Path.{_≡_, refl, _∙_}
+use mathlib.Core.List.{List}
+use Prim.Native.Nat.{ℕ, _<_, _-_}
+use native.Mathlib.Omega.{arith}
+use lib.ListN.{length}
+use Rattle.interpreter.specs.Post.{Execs}
+use Rattle.interpreter.proofs.EvalLaws.{row-inside}
+use Rattle.interpreter.proofs.CommandLaws as laws
+use borrow.Fn.Kinds.{In}
+use borrow.Fn.PlainCycle.{Measures, is, falls, and}
+use Rattle.interpreter.proofs.commands.exec.Reads as exec
+use Rattle.interpreter.proofs.commands.exec.Kinds as exec-kinds
+use Rattle.interpreter.proofs.commands.+exec.Lts-exec as exec-lts
+use Rattle.lines.proofs.row_at.Reads as row-at-reads
+use Rattle.interpreter.proofs.commands.tick.Reads as tick-reads
+use Rattle.interpreter.proofs.commands.assign.Reads as assign-reads
+use Rattle.interpreter.proofs.commands.skip.Reads as skip-reads
+use Rattle.interpreter.proofs.commands.decide.Reads as decide-reads
+use Rattle.interpreter.proofs.commands.branch.Reads as branch-reads
+use Rattle.interpreter.proofs.commands.+exec.{statement}
+use Rattle.interpreter.proofs.commands.+exec.Tie.{close}
+
+abbrev μ-exec : Measures 3 exec-kinds.ps ℕ
+μ-exec κs a = length (a .0 .now) - a .1 .0
+
+abbrev exec-at : ℕ → In 3 exec-kinds.ps
+exec-at t = and 3 exec-kinds.ps (is 3 exec-kinds.ps μ-exec t) exec.Pre
+
+abbrev exec-below : ℕ → In 3 exec-kinds.ps
+exec-below t = and 3 exec-kinds.ps (falls 3 exec-kinds.ps _<_ μ-exec t) exec.Pre
+
+abbrev exec-Inv-loop : exec-lts.InvT-loop
+exec-Inv-loop code at table authority depth work₀ fuel kind body end left₀ work left =
+    (length work ≡ length work₀)
+    × ((s f n : ℕ) (w : List ℕ) → Execs code at table authority depth work left s f n w → Execs code at table authority depth work₀ fuel s f n w)
+
+abbrev exec-μ-loop : exec-lts.MeasureT-loop
+exec-μ-loop code at table authority depth work₀ fuel kind body end left₀ work left = left
+
+pub +exec-spec : {M : Type 1} → statement M
++exec-spec = close μ-exec λ t. exec-lts.spec (
+  row-at-reads.Asked,
+  row-at-reads.Learnt,
+  exec-below t,
+  exec.Post,
+  tick-reads.Asked,
+  tick-reads.Learnt,
+  assign-reads.Asked,
+  assign-reads.Learnt,
+  skip-reads.Asked,
+  skip-reads.Learnt,
+  decide-reads.Asked,
+  decide-reads.Learnt,
+  branch-reads.Asked,
+  branch-reads.Learnt,
+)
+    (exec-at t)
+    exec.Post
+    exec-Inv-loop
+    exec-μ-loop
+    (λ c κs. search needs)  -- row-at-requires
+    (λ c. omega (arith, row-inside _ _ 0 (c .before .row-at .ensures) (c .match .keys1)))  -- add-t23
+    (λ c. omega (arith, row-inside _ _ 1 (c .before .row-at .ensures) (c .match .keys2)))  -- add-exec
+    (λ c κs. (omega (arith, row-inside _ _ 1 (c .before .before .row-at .ensures) (c .before .match .keys2), c .before .before .before .before .before .before .pre .0), tt))  -- exec-requires
+    (λ c κs. search needs)  -- tick-requires
+    (λ c. c .before .before .before .before .before .exec .kept .1 .1 .1 .1 .1 .0)  -- same-length
+    (λ c. laws.exec-seq-end (c .before .before .before .before .before .before .before .before .row-at .ensures) (c .before .before .before .before .before .before .before .match .keys2) (c .before .before .before .before .before .exec .ensures) (c .before .before .tick .ensures) (c .if1 .taken))  -- returns
+    (λ c κs. (omega (arith, row-inside _ _ 1 (c .before .before .before .before .before .before .before .before .before .row-at .ensures) (c .before .before .before .before .before .before .before .before .match .keys2), c .before .before .before .before .before .before .exec .ensures .forward, c .before .before .before .tick .ensures .same-place, c .before .before .before .before .before .before .before .before .before .before .before .before .before .pre .0), tt))  -- exec-requires-2
+    (λ c. omega (arith, row-inside _ _ 2 (c .before .row-at .ensures) (c .match .keys3)))  -- add-assign
+    (λ c κs. search needs)  -- assign-requires
+    (λ c. omega (arith, row-inside _ _ 3 (c .before .row-at .ensures) (c .match .keys4)))  -- add-skip
+    (λ c κs. search needs)  -- skip-requires
+    (λ c κs. search needs)  -- skip-requires-2
+    (λ c. (refl, λ s f n m x. x))  -- loop-holds
+    (λ c. omega (arith, row-inside _ _ 3 (c .before .before .before .before .row-at .ensures) (c .before .before .before .match .keys4)))  -- add-decide
+    (λ c κs. search needs)  -- decide-requires
+    (λ c. c .before .before .before .before .decide .kept .1 .1 .1 .1 .1 .0 ∙ c .before .before .before .before .before .before .loop .inv .0)  -- same-length-2
+    (λ c. c .before .before .before .before .before .before .loop .inv .1 _ _ _ _ (laws.while-stop (c .before .before .before .before .before .before .before .before .before .before .row-at .ensures) (c .before .before .before .before .before .before .before .before .before .match .keys4) (c .before .before .before .before .before .before .before .before .skip .ensures) (c .before .before .before .before .before .before .before .skip2 .ensures) (c .before .before .before .before .decide .ensures) (c .if2 .taken)))  -- returns-2
+    (λ c κs. (omega (arith, row-inside _ _ 3 (c .before .before .before .before .before .before .before .before .before .before .before .row-at .ensures) (c .before .before .before .before .before .before .before .before .before .before .match .keys4), c .before .before .before .before .before .before .before .before .before .skip .ensures .forward, c .before .before .before .before .before .before .before .before .before .before .before .before .before .before .before .pre .0), tt))  -- exec-requires-3
+    (λ c κs. search needs)  -- tick-requires-2
+    (λ c. c .before .before .before .before .before .exec3 .kept .1 .1 .1 .1 .1 .0 ∙ c .before .before .before .before .before .before .before .before .before .before .before .decide .kept .1 .1 .1 .1 .1 .0 ∙ c .before .before .before .before .before .before .before .before .before .before .before .before .before .loop .inv .0)  -- same-length-3
+    (λ c. c .before .before .before .before .before .before .before .before .before .before .before .before .before .loop .inv .1 _ _ _ _ (laws.while-end (c .before .before .before .before .before .before .before .before .before .before .before .before .before .before .before .before .before .row-at .ensures) (c .before .before .before .before .before .before .before .before .before .before .before .before .before .before .before .before .match .keys4) (c .before .before .before .before .before .before .before .before .before .before .before .before .before .before .before .skip .ensures) (c .before .before .before .before .before .before .before .before .before .before .before .before .before .before .skip2 .ensures) (c .before .before .before .before .before .before .before .before .before .before .before .decide .ensures) (c .before .before .before .before .before .before .before .if2 .left) (c .before .before .before .before .before .exec3 .ensures) (c .before .before .tick2 .ensures) (c .if3 .taken)))  -- returns-3
+    (λ c. omega (arith, c .before .before .before .before .before .before .before .before .before .before .before .decide .ensures .falls (c .before .before .before .before .before .before .before .if2 .left), c .before .before .before .before .before .exec3 .ensures .spends, c .before .before .tick2 .ensures .spends))  -- loop-less
+    (λ c. (c .before .before .before .before .before .exec3 .kept .1 .1 .1 .1 .1 .0 ∙ c .before .before .before .before .before .before .before .before .before .before .before .decide .kept .1 .1 .1 .1 .1 .0 ∙ c .before .before .before .before .before .before .before .before .before .before .before .before .before .loop .inv .0, λ s f n m y. c .before .before .before .before .before .before .before .before .before .before .before .before .before .loop .inv .1 s f n m (laws.while-again (c .before .before .before .before .before .before .before .before .before .before .before .before .before .before .before .before .before .row-at .ensures) (c .before .before .before .before .before .before .before .before .before .before .before .before .before .before .before .before .match .keys4) (c .before .before .before .before .before .before .before .before .before .before .before .before .before .before .before .skip .ensures) (c .before .before .before .before .before .before .before .before .before .before .before .before .before .before .skip2 .ensures) (c .before .before .before .before .before .before .before .before .before .before .before .decide .ensures) (c .before .before .before .before .before .before .before .if2 .left) (c .before .before .before .before .before .exec3 .ensures) (c .before .before .tick2 .ensures) (c .if3 .left) y)))  -- loop-again
+    (λ c. omega (arith, row-inside _ _ 4 (c .before .row-at .ensures) (c .match .keys5)))  -- add-branch
+    (λ c κs. search needs)  -- branch-requires
+    (λ c. c .before .before .before .before .branch .kept .1 .1 .1 .1 .1 .0)  -- same-length-4
+    (λ c. laws.exec-case-end (c .before .before .before .before .before .before .before .row-at .ensures) (c .before .before .before .before .before .before .match .keys5) (c .before .before .before .before .branch .ensures) (c .if4 .taken))  -- returns-4
+    (λ c. omega (arith, c .before .before .before .before .branch .ensures .shallow (c .if4 .left)))  -- add-exec-2
+    (λ c κs. (omega (arith, row-inside _ _ 4 (c .before .before .before .before .before .before .before .before .row-at .ensures) (c .before .before .before .before .before .before .before .match .keys5), c .before .before .before .before .before .branch .ensures .forward, c .before .before .before .before .before .before .before .before .before .before .before .before .pre .0), tt))  -- exec-requires-4
+    (λ c. laws.exec-skip (c .before .row-at .ensures) (c .match .keys1))  -- returns-5
+    (λ c. c .before .before .exec2 .kept .1 .1 .1 .1 .1 .0 ∙ c .before .before .before .before .before .before .before .before .before .exec .kept .1 .1 .1 .1 .1 .0)  -- same-length-5
+    (λ c. laws.exec-seq (c .before .before .before .before .before .before .before .before .before .before .before .before .row-at .ensures) (c .before .before .before .before .before .before .before .before .before .before .before .match .keys2) (c .before .before .before .before .before .before .before .before .before .exec .ensures) (c .before .before .before .before .before .before .tick .ensures) (c .before .before .before .before .if1 .left) (c .before .before .exec2 .ensures))  -- returns-6
+    (λ c. c .before .before .assign .kept .1 .1 .1 .1 .1 .0)  -- same-length-6
+    (λ c. laws.exec-assign (c .before .before .before .before .before .row-at .ensures) (c .before .before .before .before .match .keys3) (c .before .before .assign .ensures))  -- returns-7
+    (λ c. c .before .before .exec4 .kept .1 .1 .1 .1 .1 .0 ∙ c .before .before .before .before .before .before .before .before .branch .kept .1 .1 .1 .1 .1 .0)  -- same-length-7
+    (λ c. laws.exec-case (c .before .before .before .before .before .before .before .before .before .before .before .row-at .ensures) (c .before .before .before .before .before .before .before .before .before .before .match .keys5) (c .before .before .before .before .before .before .before .before .branch .ensures) (c .before .before .before .before .if4 .left) (c .before .before .exec4 .ensures))  -- returns-8
+    (λ c. laws.exec-none (c .before .row-at .ensures) (c .match .rest .0 .0 .0 .0 .1) (c .match .rest .0 .0 .0 .1) (c .match .rest .0 .0 .1) (c .match .rest .0 .1) (c .match .rest .1))  -- returns-9

@@ -1,0 +1,11 @@
+-- `interpreter::nodes::below` meets its contract. Assumes nothing.
+use borrow.Author.Needs.{needs}
+use Rattle.interpreter.proofs.nodes.below.Statement.{statement}
+use Rattle.interpreter.proofs.nodes.below.Tie as tie
+
+pub below-spec : {M : Type 1} → statement M
+below-spec = tie.close (tie.spec
+    (λ c κs. search needs)  -- label-of-requires
+    (λ c κs. search needs)  -- label-of-requires-2
+    (λ c κs. search needs)  -- at-or-below-requires
+    (λ c. cc))  -- returns

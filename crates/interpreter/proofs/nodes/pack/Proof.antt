@@ -1,0 +1,23 @@
+-- `interpreter::nodes::pack` meets its contract. Assumes nothing.
+use borrow.Author.Needs.{needs}
+use borrow.Author.Tests.{not-true, not-false}
+use Rattle.interpreter.proofs.NodeLaws as laws
+use Rattle.interpreter.proofs.nodes.pack.Statement.{statement}
+use Rattle.interpreter.proofs.nodes.pack.Tie as tie
+
+pub pack-spec : {M : Type 1} → statement M
+pack-spec = tie.close (tie.spec
+    (λ c. laws.pack-past _ (c .if1 .taken))  -- returns
+    (λ c κs. search needs)  -- writes-requires
+    (λ c κs. search needs)  -- fail-requires
+    (λ c. search needs)  -- same-length
+    (λ c. laws.pack-error _ (c .before .before .before .before .before .writes .ensures) (c .before .before .before .before .before .before .if1 .left) (not-true _ (c .before .before .before .before .if2 .taken)) (c .before .before .fail .ensures))  -- returns-2
+    (λ c κs. search needs)  -- value-end-requires
+    (λ c. search needs)  -- sub-if3
+    (λ c. search needs)  -- same-length-2
+    (λ c. laws.pack-long _ (c .before .before .before .before .writes .ensures) (c .before .before .before .before .before .if1 .left) (not-false _ (c .before .before .before .if2 .left)) (c .before .value-end .ensures) (c .if3 .taken))  -- returns-3
+    (λ c κs. search needs)  -- load-requires
+    (λ c κs. search needs)  -- in-package-requires
+    (λ c κs. search needs)  -- store-requires
+    (λ c. search needs)  -- same-length-3
+    (λ c. laws.pack-done _ (c .before .before .before .before .before .before .before .before .before .before .before .writes .ensures) (c .before .before .before .before .before .before .before .before .before .before .before .before .if1 .left) (not-false _ (c .before .before .before .before .before .before .before .before .before .before .if2 .left)) (c .before .before .before .before .before .before .before .before .value-end .ensures) (c .before .before .before .before .before .before .before .if3 .left) (c .before .before .before .before .before .load .ensures) (c .before .before .before .before .in-package .ensures) (c .before .before .store .ensures)))  -- returns-4

@@ -1,0 +1,12 @@
+-- `interpreter::nodes::reads` meets its contract. Assumes nothing.
+use borrow.Author.Needs.{needs}
+use Rattle.interpreter.proofs.nodes.reads.Statement.{statement}
+use Rattle.interpreter.proofs.nodes.reads.Tie as tie
+
+pub reads-spec : {M : Type 1} → statement M
+reads-spec = tie.close (tie.spec
+    (λ c κs. search needs)  -- label-of-requires
+    (λ c κs. search needs)  -- principals-requires
+    (λ c. search needs)  -- cast-reads
+    (λ c κs. search needs)  -- reads-requires
+    (λ c. cc))  -- returns

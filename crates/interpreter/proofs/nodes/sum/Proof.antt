@@ -1,0 +1,14 @@
+-- `interpreter::nodes::sum` meets its contract. Assumes nothing.
+use borrow.Author.Needs.{needs}
+use Rattle.interpreter.proofs.NodeLaws as laws
+use Rattle.interpreter.proofs.nodes.sum.Statement.{statement}
+use Rattle.interpreter.proofs.nodes.sum.Tie as tie
+
+pub sum-spec : {M : Type 1} → statement M
+sum-spec = tie.close (tie.spec
+    (λ c. laws.sum-past (c .if1 .taken))  -- returns
+    (λ c κs. search needs)  -- word-requires
+    (λ c κs. search needs)  -- wrapping-add-u32-requires
+    (λ c κs. search needs)  -- literal-requires
+    (λ c. search needs)  -- same-length
+    (λ c. laws.sum-done (c .before .before .before .before .before .before .before .if1 .left) (c .before .before .before .before .before .word .ensures) (c .before .before .before .wrapping-add-u32 .ensures) (c .before .before .literal .ensures)))  -- returns-2

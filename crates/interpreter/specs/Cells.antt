@@ -1,0 +1,51 @@
+-- Where a run keeps its values: one list of cells, each as a location's words in memory.
+-- Cell 0 is the accumulator, the value of the expression just evaluated; cell d holds what the case at depth d binds; the
+-- locations follow.
+use mathlib.Core.Path.{_≡_}
+use mathlib.Core.Bool.{cond}
+use mathlib.Core.List.{List, [], _∷_, _++_}
+use Prim.Native.Nat.{ℕ, suc, _+_, _*_, _/_, _≤_, _<_}
+use lib.Dec.{ltb}
+use lib.ListN.{length, take, drop}
+use Rattle.language.specs.Syntax.{Value}
+use Rattle.language.specs.Evaluation.{Mem, Env, cell-words}
+use Rattle.lines.specs.Names.{maxDepth}
+use Rattle.tables.specs.Sheet.{maxLocations}
+use Rattle.memory.specs.Words.{zeros, cell}
+use Rattle.memory.specs.Memory.{cellOf}
+
+abbrev pub accumulator : ℕ
+accumulator = 0
+
+-- the cell of location 0
+abbrev pub firstLocation : ℕ
+firstLocation = 9
+
+-- the words of all cells
+abbrev pub workWords : ℕ
+workWords = 1168
+
+-- how many cells the words make
+unfoldable pub cellCount : List ℕ → ℕ
+cellCount ws = length ws / cell-words
+
+-- the words of cell k; zeros where there is no such cell
+unfoldable pub loadOf : List ℕ → ℕ → List ℕ
+loadOf ws k = cond (ltb k (cellCount ws)) (cellOf ws k) (zeros cell-words)
+
+-- ws with cell k replaced; unchanged where there is no such cell
+unfoldable pub storeOf : List ℕ → ℕ → List ℕ → List ℕ
+storeOf ws k words = cond (ltb k (cellCount ws)) (take (cell-words * k) ws ++ (words ++ drop (cell-words * k + cell-words) ws)) ws
+
+-- The cells hold what the enclosing cases bind, the innermost at the given depth.
+pub data Binds (work : List ℕ) : ℕ → Env → Type 0 where
+  bound-none : Binds work 0 []
+  bound-more : {depth : ℕ} {v : Value} {ρ : Env} → cellOf work (suc depth) ≡ cell v → Binds work depth ρ → Binds work (suc depth) (v ∷ ρ)
+
+-- The cells hold the memory M of so many locations, and the environment ρ.
+pub record Holds (work : List ℕ) (locations depth : ℕ) (M : Mem) (ρ : Env) : Type 0 where
+  pub whole : length work ≡ workWords
+  pub few : locations ≤ maxLocations
+  pub memory : (x : ℕ) → x < locations → cellOf work (firstLocation + x) ≡ cell (M x)
+  pub shallow : depth ≤ maxDepth
+  pub bindings : Binds work depth ρ

@@ -1,0 +1,4 @@
+pub mod Cells
+pub mod Nodes
+pub mod Post
+pub mod Run

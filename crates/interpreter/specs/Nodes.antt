@@ -1,0 +1,81 @@
+-- What the functions ensure that make one value of another.
+use mathlib.Core.Path.{_≡_}
+use mathlib.Core.Bool.{Bool, true, false}
+use mathlib.Core.List.{List, [], _∷_, _++_}
+use Prim.Native.Nat.{ℕ, suc, _+_, _≤_}
+use lib.ListN.{length, take, drop}
+use Rattle.labels.specs.Labels.{belowOf, readsOf, writesOf}
+use Rattle.language.specs.Syntax.{Value, size, has}
+use Rattle.language.specs.Evaluation.{World, Res, ok, long, stuck, bind, wanted, cell-words}
+use Rattle.tables.specs.Tables.{principalsIn, leftIn, labelIn}
+use Rattle.tables.specs.TypeTest.{hasNo}
+use Rattle.memory.specs.Words.{enc, cell}
+use Rattle.memory.specs.Memory.{cellOf}
+use Rattle.interpreter.specs.Cells.{accumulator}
+
+-- Where the words of a value start at `at`, `next` is the place after them.
+pub record Sizes (ws : List ℕ) (at next : ℕ) : Type 0 where
+  pub forward : at ≤ next
+  pub means : (v : Value) (rest : List ℕ) → drop at ws ≡ enc v rest → next ≡ at + size v
+
+-- ---- cells made of cells
+
+-- a word in front; the last word goes
+unfoldable pub afterWord : ℕ → List ℕ → List ℕ
+afterWord w ws = w ∷ take 15 ws
+
+-- a package's two words and a left in front; the last three words go
+unfoldable pub inPackage : ℕ → List ℕ → List ℕ
+inPackage l ws = 3 ∷ 5 ∷ l ∷ take 13 ws
+
+-- what stands after the first word
+unfoldable pub afterTag : List ℕ → List ℕ
+afterTag ws = drop 1 ws ++ (0 ∷ [])
+
+-- a left of a package's content
+unfoldable pub ofPackage : List ℕ → List ℕ
+ofPackage ws = 3 ∷ drop 2 ws ++ (0 ∷ [])
+
+-- ---- answers
+
+-- The answer to an evaluation: state 0 and the value's cell; state 10 where a value is too long. Where no rule applies nothing is
+-- promised: no accepted script comes there.
+unfoldable pub Answers : Res → ℕ → List ℕ → Type 0
+Answers (ok v) state words = (state ≡ 0) × (words ≡ cell v)
+Answers long state words = state ≡ 10
+Answers stuck state words = Unit {0}
+
+-- f is applied to the value of the accumulator.
+abbrev pub Turns : (Value → Res) → List ℕ → ℕ → List ℕ → ℕ → Type 0
+Turns f before state after state′ =
+    (r : Res) → cell-words ≤ length before → Answers r state (cellOf before accumulator) → Answers (bind r f) state′ (cellOf after accumulator)
+
+-- What follows the evaluation of an operand: only the accumulator changes, as Means says.
+pub record Applies (before : List ℕ) (state next : ℕ) (after : List ℕ) (state′ next′ : ℕ) (Means : Type 0) : Type 0 where
+  pub kept : drop cell-words after ≡ drop cell-words before
+  pub same-place : next′ ≡ next
+  pub through : state′ ≡ 0 → state ≡ 0
+  pub means : Means
+
+-- The word stands in front of a value's words to make the value that f makes.
+pub record Tags (word : ℕ) (f : Value → Value) : Type 0 where
+  pub words : (v : Value) (rest : List ℕ) → enc (f v) rest ≡ word ∷ enc v rest
+  pub longer : (v : Value) → size (f v) ≡ suc (size v)
+
+-- The error of an unpack, by its three tests; 0 where all pass.
+unfoldable pub errorOf : Bool → Bool → Bool → ℕ
+errorOf false b c = 1
+errorOf true false c = 2
+errorOf true true false = 3
+errorOf true true true = 0
+
+-- the three tests, by the table: the wanted label l, the package's label m, the content, and the wanted type
+unfoldable pub errorIn : List ℕ → ℕ → ℕ → ℕ → Bool → ℕ
+errorIn t authority l m fits = errorOf (readsOf (principalsIn t) authority (labelIn t l)) (belowOf (labelIn t m) (labelIn t l)) fits
+
+-- The table says of types and labels what the world does.
+pub record Tells (table : List ℕ) (authority : ℕ) (W : World) : Type 0 where
+  pub reads-is : (l : ℕ) → readsOf (principalsIn table) authority (labelIn table l) ≡ W .reads l
+  pub writes-is : (l : ℕ) → writesOf (principalsIn table) authority (labelIn table l) ≡ W .writes l
+  pub below-is : (l m : ℕ) → belowOf (labelIn table l) (labelIn table m) ≡ W .below l m
+  pub type-is : (v : Value) (t : ℕ) → hasNo table v (leftIn table t) ≡ has v (wanted (W .ty t))

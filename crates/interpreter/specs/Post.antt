@@ -1,0 +1,152 @@
+-- What the functions over a script's lines ensure.
+use mathlib.Core.Path.{_≡_}
+use mathlib.Core.Bool.{true}
+use mathlib.Core.List.{List, [], _∷_}
+use Prim.Native.Nat.{ℕ, zero, suc, _≤_, _<_}
+use lib.ListN.{drop, getD}
+use Rattle.language.specs.Syntax.{Value, int, err, inl, inr, pkg, blank, Expr, Cmd, assign}
+use Rattle.language.specs.Evaluation.{World, Mem, Env, Res, ok, long, stuck, eval, cell-words}
+use Rattle.language.specs.Transition.{close, Out, done, spent, over, wrong, iterate}
+use Rattle.lines.specs.Lines.{Line, SourceE, Source, exprLines, cmdLines}
+use Rattle.lines.specs.Code.{code}
+use Rattle.lines.specs.Names.{Counts, namedE, named, maxDepth}
+use Rattle.memory.specs.Words.{cell}
+use Rattle.memory.specs.Memory.{cellOf}
+use Rattle.interpreter.specs.Cells.{accumulator, Holds}
+use Rattle.interpreter.specs.Nodes.{Answers, Tells}
+
+-- ---- places in the code
+
+-- An expression stands at a place, then the rest; it names only what is there, below so many cases.
+pub record ExprAt (ws : List ℕ) (at : ℕ) (rest : List Line) (k : Counts) (depth : ℕ) (e : Expr) : Type 0 where
+  pub source : SourceE e
+  pub names : namedE k depth e ≡ true
+  pub lines : drop at ws ≡ code (exprLines e rest)
+
+-- A command stands at a place, likewise.
+pub record CmdAt (ws : List ℕ) (at : ℕ) (rest : List Line) (k : Counts) (depth : ℕ) (c : Cmd) : Type 0 where
+  pub source : Source c
+  pub names : named k depth c ≡ true
+  pub lines : drop at ws ≡ code (cmdLines c rest)
+
+-- ---- eval
+
+pub record Evals (ws : List ℕ) (at : ℕ) (table : List ℕ) (authority depth : ℕ) (work : List ℕ) (state next : ℕ) (work′ : List ℕ) : Type 0 where
+  pub forward : at ≤ next
+  pub kept : drop cell-words work′ ≡ drop cell-words work
+  pub means : (W : World) (k : Counts) (e : Expr) (rest : List Line) (M : Mem) (ρ : Env)
+      → Tells table authority W → ExprAt ws at rest k depth e → Holds work (k .locations) depth M ρ
+      → Answers (eval W ρ M e) state (cellOf work′ accumulator) × (state ≡ 0 → drop next ws ≡ code rest)
+
+-- ---- skip
+
+-- The lines of one expression or command, then the rest.
+pub data Piece : List Line → List Line → Type 0 where
+  an-expression : {e : Expr} {rest : List Line} → SourceE e → Piece (exprLines e rest) rest
+  a-command : {c : Cmd} {rest : List Line} → Source c → Piece (cmdLines c rest) rest
+
+pub record Skips (ws : List ℕ) (at next : ℕ) : Type 0 where
+  pub forward : at ≤ next
+  pub means : (ls rest : List Line) → Piece ls rest → drop at ws ≡ code ls → drop next ws ≡ code rest
+
+-- how many operands follow a line of a kind; 4 for a number that is no kind
+unfoldable pub operandsOf : ℕ → ℕ
+operandsOf kind = getD (4 ∷ 0 ∷ 2 ∷ 1 ∷ 2 ∷ 3 ∷ 0 ∷ 0 ∷ 0 ∷ 2 ∷ 1 ∷ 1 ∷ 1 ∷ 1 ∷ []) kind 4
+
+-- ---- exec
+
+-- How the run of a command ends: done, with the memory in the cells and the place after the command; the budget used up; a value too
+-- long. Where no rule applies nothing is promised: no accepted script comes there.
+unfoldable pub Ends : List ℕ → List Line → ℕ → ℕ → Env → Out → ℕ → ℕ → List ℕ → ℕ → Type 0
+Ends ws rest locations depth ρ (done M b) state left work next = (state ≡ 0) × (left ≡ b) × Holds work locations depth M ρ × (drop next ws ≡ code rest)
+Ends ws rest locations depth ρ spent state left work next = (state ≡ 9) × (left ≡ 0)
+Ends ws rest locations depth ρ (over b) state left work next = (state ≡ 10) × (left ≡ b)
+Ends ws rest locations depth ρ wrong state left work next = Unit {0}
+
+pub record Execs (ws : List ℕ) (at : ℕ) (table : List ℕ) (authority depth : ℕ) (work : List ℕ) (fuel state left next : ℕ) (work′ : List ℕ) : Type 0 where
+  pub forward : at ≤ next
+  pub spends : left ≤ fuel
+  pub means : (W : World) (k : Counts) (c : Cmd) (rest : List Line) (M : Mem) (ρ : Env)
+      → Tells table authority W → CmdAt ws at rest k depth c → Holds work (k .locations) depth M ρ
+      → Ends ws rest (k .locations) depth ρ (iterate W fuel M (close zero ρ c)) state left work′ next
+
+-- the transition after a run that is done
+unfoldable pub ticked : Out → Out
+ticked (done M zero) = spent
+ticked (done M (suc b)) = done M b
+ticked spent = spent
+ticked (over b) = over b
+ticked wrong = wrong
+
+pub record Ticks (state left next state′ left′ next′ : ℕ) : Type 0 where
+  pub spends : left′ ≤ left
+  pub same-place : next′ ≡ next
+  pub means : (ws : List ℕ) (rest : List Line) (locations depth : ℕ) (ρ : Env) (o : Out) (work : List ℕ)
+      → Ends ws rest locations depth ρ o state left work next → Ends ws rest locations depth ρ (ticked o) state′ left′ work next′
+
+-- An assignment to location x, the expression standing at `at`.
+pub record Assigns (ws : List ℕ) (at : ℕ) (table : List ℕ) (authority depth : ℕ) (work : List ℕ) (fuel x state left next : ℕ) (work′ : List ℕ) : Type 0 where
+  pub forward : at ≤ next
+  pub spends : left ≤ fuel
+  pub means : (W : World) (k : Counts) (e : Expr) (rest : List Line) (M : Mem) (ρ : Env)
+      → Tells table authority W → ExprAt ws at rest k depth e → x < k .locations → Holds work (k .locations) depth M ρ
+      → Ends ws rest (k .locations) depth ρ (iterate W fuel M (close zero ρ (assign x e))) state left work′ next
+
+-- What a guard or the expression of a case decides, as a transition: left or right, with the value inside and what is left of the
+-- budget; no budget; a value too long, with what would have been left; no rule.
+pub data Choice : Type 0 where
+  to-left to-right : Value → ℕ → Choice
+  no-budget : Choice
+  too-long : ℕ → Choice
+  no-rule : Choice
+
+unfoldable pub choiceV : ℕ → Value → Choice
+choiceV b (int n) = no-rule
+choiceV b (err e) = no-rule
+choiceV b (inl v) = to-left v b
+choiceV b (inr v) = to-right v b
+choiceV b (pkg l v) = no-rule
+choiceV b blank = no-rule
+
+unfoldable pub choice : ℕ → Res → Choice
+choice zero r = no-budget
+choice (suc b) (ok v) = choiceV b v
+choice (suc b) long = too-long b
+choice (suc b) stuck = no-rule
+
+-- State 1 for left, 0 for right; the value in the accumulator, and the place after the expression.
+unfoldable pub Chooses : List ℕ → List Line → Choice → ℕ → ℕ → List ℕ → ℕ → Type 0
+Chooses ws rest (to-left v b) state left words next = (state ≡ 1) × (left ≡ b) × (words ≡ cell (inl v)) × (drop next ws ≡ code rest)
+Chooses ws rest (to-right v b) state left words next = (state ≡ 0) × (left ≡ b) × (words ≡ cell (inr v)) × (drop next ws ≡ code rest)
+Chooses ws rest no-budget state left words next = (state ≡ 9) × (left ≡ 0)
+Chooses ws rest (too-long b) state left words next = (state ≡ 10) × (left ≡ suc b)
+Chooses ws rest no-rule state left words next = Unit {0}
+
+pub record Decides (ws : List ℕ) (at : ℕ) (table : List ℕ) (authority depth : ℕ) (work : List ℕ) (fuel state left next : ℕ) (work′ : List ℕ) : Type 0 where
+  pub forward : at ≤ next
+  pub spends : left ≤ fuel
+  pub falls : state ≡ 1 → left < fuel
+  pub kept : drop cell-words work′ ≡ drop cell-words work
+  pub means : (W : World) (k : Counts) (e : Expr) (rest : List Line) (M : Mem) (ρ : Env)
+      → Tells table authority W → ExprAt ws at rest k depth e → Holds work (k .locations) depth M ρ
+      → Chooses ws rest (choice fuel (eval W ρ M e)) state left (cellOf work′ accumulator) next
+
+-- The branch taken: its value is bound, it starts at `start`, and the case ends at `end`.
+unfoldable pub Enters : List ℕ → List Line → ℕ → ℕ → Mem → Env → Cmd → Cmd → Choice → ℕ → ℕ → List ℕ → ℕ → ℕ → Type 0
+Enters ws rest locations depth M ρ c d (to-left v b) state left work start end =
+    (state ≡ 0) × (left ≡ b) × Holds work locations (suc depth) M (v ∷ ρ) × (drop start ws ≡ code (cmdLines c (cmdLines d rest))) × (drop end ws ≡ code rest)
+Enters ws rest locations depth M ρ c d (to-right v b) state left work start end =
+    (state ≡ 0) × (left ≡ b) × Holds work locations (suc depth) M (v ∷ ρ) × (drop start ws ≡ code (cmdLines d rest)) × (drop end ws ≡ code rest)
+Enters ws rest locations depth M ρ c d no-budget state left work start end = (state ≡ 9) × (left ≡ 0)
+Enters ws rest locations depth M ρ c d (too-long b) state left work start end = (state ≡ 10) × (left ≡ suc b)
+Enters ws rest locations depth M ρ c d no-rule state left work start end = Unit {0}
+
+pub record Branches (ws : List ℕ) (at : ℕ) (table : List ℕ) (authority depth : ℕ) (work : List ℕ) (fuel state left start end : ℕ) (work′ : List ℕ) : Type 0 where
+  pub forward : at ≤ start
+  pub onward : at ≤ end
+  pub spends : left ≤ fuel
+  pub shallow : state ≡ 0 → depth < maxDepth
+  pub means : (W : World) (k : Counts) (e : Expr) (c d : Cmd) (rest : List Line) (M : Mem) (ρ : Env)
+      → Tells table authority W → ExprAt ws at (cmdLines c (cmdLines d rest)) k depth e → Source c → Source d → depth < maxDepth
+      → Holds work (k .locations) depth M ρ
+      → Enters ws rest (k .locations) depth M ρ c d (choice fuel (eval W ρ M e)) state left work′ start end

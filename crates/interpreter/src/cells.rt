@@ -1,0 +1,73 @@
+// The cells that a run works in: the accumulator, what enclosing cases bind, and the locations.
+ghost use mathlib.Core.Path.{_≡_};
+ghost use Prim.Native.Nat.{_+_, _≤_};
+ghost use lib.ListN.{length, drop, getD};
+ghost use lib.Seq.{paste};
+ghost use Rattle.interpreter.specs.Cells.{loadOf, storeOf};
+
+// The words of a cell.
+pub(crate) const CELL: usize = 16;
+
+pub(crate) const ACCUMULATOR: usize = 0;
+
+// The cell of location 0.
+pub(crate) const LOCATIONS: usize = 9;
+
+// The words of all cells, and where those of the locations start.
+pub(crate) const WORK: usize = 1168;
+
+pub(crate) const MEMORY: usize = 144;
+
+// The words of cell k; zeros where there is no such cell.
+pub(crate) fn load(work: &[u32], k: usize) -> [u32; CELL]
+    ensures { λ r. ⌜ r ≡ loadOf (now (work .entry)) k ⌝ }
+{
+    let mut out = [0u32; CELL];
+    if work.len() / CELL <= k {
+        return out;
+    }
+    let base = CELL * k;
+    for i in 0..CELL {
+        out[i] = work[base + i];
+    }
+    out
+}
+
+// Replaces cell k, where there is such a cell.
+pub(crate) fn store(work: &mut [u32], k: usize, words: [u32; CELL])
+    ensures { λ _. ⌜ now (work .exit) ≡ storeOf (now (work .entry)) k words ⌝ }
+{
+    if work.len() / CELL <= k {
+        return;
+    }
+    let base = CELL * k;
+    for i in 0..CELL {
+        work[base + i] = words[i];
+    }
+}
+
+// Copies one cell to another.
+pub(crate) fn copy_cell(work: &mut [u32], from: usize, to: usize)
+    ensures { λ _. ⌜ now (work .exit) ≡ storeOf (now (work .entry)) to (loadOf (now (work .entry)) from) ⌝ }
+{
+    let words = load(work, from);
+    store(work, to, words);
+}
+
+// The word at `at`; 0 past the end.
+pub(crate) fn word(work: &[u32], at: usize) -> u32
+    ensures { λ r. ⌜ r ≡ getD (now (work .entry)) at 0 ⌝ }
+{
+    if at < work.len() { work[at] } else { 0 }
+}
+
+// Copies n words of `src`, from `from` on, into `dst`, from `to` on.
+pub(crate) fn copy(dst: &mut [u32], to: usize, src: &[u32], from: usize, n: usize)
+    requires { ⌜ to + n ≤ length (now dst) ⌝ }
+    requires { ⌜ from + n ≤ length (now src) ⌝ }
+    ensures { λ _. ⌜ now (dst .exit) ≡ paste (now (dst .entry)) to (drop from (now (src .entry))) n ⌝ }
+{
+    for i in 0..n {
+        dst[to + i] = src[from + i];
+    }
+}

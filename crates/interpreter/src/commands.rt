@@ -1,0 +1,310 @@
+// Runs of commands over the lines (the paper, figure 3).
+ghost use mathlib.Core.Path.{_≡_};
+ghost use Rattle.interpreter.specs.Post.{operandsOf, Skips, Execs, Ticks, Assigns, Decides, Branches};
+use crate::cells;
+use crate::evaluation;
+use crate::nodes;
+use lines::ROW;
+
+// State 0: skip is reached. 9: the budget is used up.
+const DONE: u8 = 0;
+
+const SPENT: u8 = 9;
+
+// Cases nest at most this deep.
+const MAX_DEPTH: u32 = 8;
+
+// What the first word of a value decides.
+const LEFT: u8 = 1;
+
+const RIGHT: u8 = 0;
+
+pub(crate) struct Done {
+    pub(crate) state: u8,
+    pub(crate) left: u32,
+    pub(crate) next: usize,
+}
+
+// State LEFT or RIGHT; any other: no decision.
+struct Decided {
+    state: u8,
+    left: u32,
+    next: usize,
+}
+
+// State 0: the branch that starts at `start` is taken; the case ends at `end`.
+struct Taken {
+    state: u8,
+    left: u32,
+    start: usize,
+    end: usize,
+}
+
+// How many operands follow a line of a kind; 4 for a number that is no kind.
+fn operands(kind: u32) -> u32
+    ensures { λ r. ⌜ r ≡ operandsOf kind ⌝ }
+{
+    match kind {
+        1 => 0,
+        2 => 2,
+        3 => 1,
+        4 => 2,
+        5 => 3,
+        6 => 0,
+        7 => 0,
+        8 => 0,
+        9 => 2,
+        10 => 1,
+        11 => 1,
+        12 => 1,
+        13 => 1,
+        _ => 4,
+    }
+}
+
+// The place after the expression or command at `at`.
+fn skip(code: &[u32], at: usize) -> usize
+    ensures { λ r. ⌜ Skips (now (code .entry)) at r ⌝ }
+{
+    let row = lines::row_at(code, at);
+    let n = operands(row.kind);
+    match n {
+        0 => at + ROW,
+        1 => skip(code, at + ROW),
+        2 => {
+            let second = skip(code, at + ROW);
+            skip(code, second)
+        }
+        3 => {
+            let second = skip(code, at + ROW);
+            let third = skip(code, second);
+            skip(code, third)
+        }
+        _ => at,
+    }
+}
+
+// One transition after d, where d is done.
+fn tick(d: Done) -> Done
+    ensures { λ r. ⌜ Ticks (d .state) (d .left) (d .next) (r .state) (r .left) (r .next) ⌝ }
+{
+    if d.state != DONE {
+        return d;
+    }
+    if d.left == 0 {
+        return Done {
+            state: SPENT,
+            left: 0,
+            next: d.next,
+        };
+    }
+    Done {
+        state: DONE,
+        left: d.left - 1,
+        next: d.next,
+    }
+}
+
+// The assignment to location x of the expression at `at`.
+fn assign(
+    code: &[u32],
+    at: usize,
+    table: &[u16],
+    authority: u16,
+    depth: u32,
+    work: &mut [u32],
+    fuel: u32,
+    x: u32,
+) -> Done
+    ensures { λ r. ⌜ Assigns (now (code .entry)) at (now (table .entry)) authority depth (now (work .entry)) fuel x (r .state) (r .left) (r .next) (now (work .exit)) ⌝ }
+{
+    if fuel == 0 {
+        return Done {
+            state: SPENT,
+            left: 0,
+            next: at,
+        };
+    }
+    let v = evaluation::eval(code, at, table, authority, depth, work);
+    if v.state != nodes::VALUE {
+        return Done {
+            state: v.state,
+            left: fuel,
+            next: at,
+        };
+    }
+    cells::copy_cell(work, cells::ACCUMULATOR, cells::LOCATIONS + x as usize);
+    Done {
+        state: DONE,
+        left: fuel - 1,
+        next: v.next,
+    }
+}
+
+// The transition of a guard, or of a case, whose expression stands at `at`.
+fn decide(
+    code: &[u32],
+    at: usize,
+    table: &[u16],
+    authority: u16,
+    depth: u32,
+    work: &mut [u32],
+    fuel: u32,
+) -> Decided
+    ensures { λ r. ⌜ Decides (now (code .entry)) at (now (table .entry)) authority depth (now (work .entry)) fuel (r .state) (r .left) (r .next) (now (work .exit)) ⌝ }
+{
+    if fuel == 0 {
+        return Decided {
+            state: SPENT,
+            left: 0,
+            next: at,
+        };
+    }
+    let v = evaluation::eval(code, at, table, authority, depth, work);
+    if v.state != nodes::VALUE {
+        return Decided {
+            state: nodes::TOO_LONG,
+            left: fuel,
+            next: at,
+        };
+    }
+    match cells::word(work, 0) {
+        3 => Decided {
+            state: LEFT,
+            left: fuel - 1,
+            next: v.next,
+        },
+        4 => Decided {
+            state: RIGHT,
+            left: fuel - 1,
+            next: v.next,
+        },
+        _ => Decided {
+            state: nodes::NO_RULE,
+            left: fuel,
+            next: at,
+        },
+    }
+}
+
+// The transition of the case whose expression stands at `at`: which branch is taken, with its value bound.
+fn branch(
+    code: &[u32],
+    at: usize,
+    table: &[u16],
+    authority: u16,
+    depth: u32,
+    work: &mut [u32],
+    fuel: u32,
+) -> Taken
+    ensures { λ r. ⌜ Branches (now (code .entry)) at (now (table .entry)) authority depth (now (work .entry)) fuel (r .state) (r .left) (r .start) (r .end) (now (work .exit)) ⌝ }
+{
+    if depth >= MAX_DEPTH {
+        return Taken {
+            state: nodes::NO_RULE,
+            left: fuel,
+            start: at,
+            end: at,
+        };
+    }
+    let g = decide(code, at, table, authority, depth, work, fuel);
+    if g.state > LEFT {
+        return Taken {
+            state: g.state,
+            left: g.left,
+            start: at,
+            end: at,
+        };
+    }
+    nodes::bind_inside(work, depth as usize + 1);
+    let first = g.next;
+    let second = skip(code, first);
+    let end = skip(code, second);
+    let start = if g.state == LEFT { first } else { second };
+    Taken {
+        state: DONE,
+        left: g.left,
+        start,
+        end,
+    }
+}
+
+// Runs the command at `at`, below so many cases, within a budget.
+pub(crate) fn exec(
+    code: &[u32],
+    at: usize,
+    table: &[u16],
+    authority: u16,
+    depth: u32,
+    work: &mut [u32],
+    fuel: u32,
+) -> Done
+    ensures { λ r. ⌜ Execs (now (code .entry)) at (now (table .entry)) authority depth (now (work .entry)) fuel (r .state) (r .left) (r .next) (now (work .exit)) ⌝ }
+{
+    let row = lines::row_at(code, at);
+    let kind = row.kind;
+    match kind {
+        1 => Done {
+            state: DONE,
+            left: fuel,
+            next: at + ROW,
+        },
+        2 => {
+            let d = exec(code, at + ROW, table, authority, depth, work, fuel);
+            let t = tick(d);
+            if t.state != DONE {
+                return t;
+            }
+            let next = t.next;
+            exec(code, next, table, authority, depth, work, t.left)
+        }
+        3 => assign(code, at + ROW, table, authority, depth, work, fuel, row.a),
+        4 => {
+            let body = skip(code, at + ROW);
+            let end = skip(code, body);
+            let mut left = fuel;
+            loop {
+                let g = decide(code, at + ROW, table, authority, depth, work, left);
+                if g.state != LEFT {
+                    return Done {
+                        state: g.state,
+                        left: g.left,
+                        next: end,
+                    };
+                }
+                let d = exec(code, body, table, authority, depth, work, g.left);
+                let t = tick(d);
+                if t.state != DONE {
+                    return Done {
+                        state: t.state,
+                        left: t.left,
+                        next: end,
+                    };
+                }
+                left = t.left;
+            }
+        }
+        5 => {
+            let b = branch(code, at + ROW, table, authority, depth, work, fuel);
+            if b.state != DONE {
+                return Done {
+                    state: b.state,
+                    left: b.left,
+                    next: at,
+                };
+            }
+            let start = b.start;
+            let d = exec(code, start, table, authority, depth + 1, work, b.left);
+            Done {
+                state: d.state,
+                left: d.left,
+                next: b.end,
+            }
+        }
+        _ => Done {
+            state: nodes::NO_RULE,
+            left: fuel,
+            next: at,
+        },
+    }
+}

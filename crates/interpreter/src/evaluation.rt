@@ -1,0 +1,76 @@
+// Evaluation of expressions over the lines (the paper, figure 2).
+ghost use Rattle.interpreter.specs.Post.{Evals};
+use crate::cells;
+use crate::nodes;
+use crate::nodes::Evaluated;
+use lines::ROW;
+
+// Evaluates the expression at `at`, below so many cases, into the accumulator.
+pub(crate) fn eval(
+    code: &[u32],
+    at: usize,
+    table: &[u16],
+    authority: u16,
+    depth: u32,
+    work: &mut [u32],
+) -> Evaluated
+    ensures { λ r. ⌜ Evals (now (code .entry)) at (now (table .entry)) authority depth (now (work .entry)) (r .state) (r .next) (now (work .exit)) ⌝ }
+{
+    let row = lines::row_at(code, at);
+    let kind = row.kind;
+    let a = row.a;
+    let b = row.b;
+    match kind {
+        6 => {
+            nodes::literal(work, a);
+            Evaluated {
+                state: nodes::VALUE,
+                next: at + ROW,
+            }
+        }
+        7 => {
+            nodes::location(work, a);
+            Evaluated {
+                state: nodes::VALUE,
+                next: at + ROW,
+            }
+        }
+        8 => {
+            nodes::variable(work, depth, a);
+            Evaluated {
+                state: nodes::VALUE,
+                next: at + ROW,
+            }
+        }
+        9 => {
+            let v = eval(code, at + ROW, table, authority, depth, work);
+            if v.state != nodes::VALUE {
+                return v;
+            }
+            let n = cells::word(work, 1);
+            let next = v.next;
+            let w = eval(code, next, table, authority, depth, work);
+            nodes::sum(work, n, w)
+        }
+        10 => {
+            let v = eval(code, at + ROW, table, authority, depth, work);
+            nodes::tagged(work, 3, v)
+        }
+        11 => {
+            let v = eval(code, at + ROW, table, authority, depth, work);
+            nodes::tagged(work, 4, v)
+        }
+        12 => {
+            let v = eval(code, at + ROW, table, authority, depth, work);
+            nodes::pack(work, table, authority, a, v)
+        }
+        13 => {
+            let v = eval(code, at + ROW, table, authority, depth, work);
+            nodes::unpack(work, table, authority, a, b, v)
+        }
+        _ => Evaluated {
+            state: nodes::NO_RULE,
+            next: at,
+        },
+    }
+}

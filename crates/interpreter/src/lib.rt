@@ -1,0 +1,55 @@
+// Runs of decoded scripts: evaluation over the lines, in cells of words.
+mod cells; // cells.rt: the cells that a run works in
+mod nodes; // nodes.rt: one value made of another, in the accumulator
+mod evaluation; // evaluation.rt: expressions
+mod commands; // commands.rt: commands
+
+ghost use mathlib.Core.Path.{_≡_};
+ghost use lib.ListN.{length};
+ghost use Rattle.interpreter.specs.Cells.{workWords};
+ghost use Rattle.interpreter.specs.Run.{Runs};
+
+// How a run ended: 0 done, 9 the budget used up, 10 a value too long; and the steps taken.
+pub struct Ran {
+    pub state: u8,
+    pub steps: u32,
+}
+
+// Runs a script's code on a memory, under an authority, within a budget. The memory changes only where the run is done.
+pub fn run(code: &[u32], table: &[u16], memory: &mut [u32], authority: u16, budget: u32) -> Ran
+    ensures { λ r. ⌜ Runs (now (code .entry)) (now (table .entry)) (now (memory .entry)) authority budget (r .state) (r .steps) (now (memory .exit)) ⌝ }
+{
+    let mut work = [0u32; cells::WORK];
+    run_in(code, table, memory, authority, budget, &mut work)
+}
+
+// The same, in the cells `work`.
+fn run_in(
+    code: &[u32],
+    table: &[u16],
+    memory: &mut [u32],
+    authority: u16,
+    budget: u32,
+    work: &mut [u32],
+) -> Ran
+    requires { ⌜ length (now work) ≡ workWords ⌝ }
+    ensures { λ r. ⌜ Runs (now (code .entry)) (now (table .entry)) (now (memory .entry)) authority budget (r .state) (r .steps) (now (memory .exit)) ⌝ }
+{
+    let n = memory.len();
+    if n > cells::WORK - cells::MEMORY {
+        return Ran { state: 7, steps: 0 };
+    }
+    cells::copy(work, cells::MEMORY, memory, 0, n);
+    let d = commands::exec(code, 0, table, authority, 0, work, budget);
+    if d.state != 0 {
+        return Ran {
+            state: d.state,
+            steps: budget - d.left,
+        };
+    }
+    cells::copy(memory, 0, work, cells::MEMORY, n);
+    Ran {
+        state: 0,
+        steps: budget - d.left,
+    }
+}

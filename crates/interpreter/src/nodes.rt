@@ -1,0 +1,326 @@
+// One value made of another: what follows the evaluation of an operand, whose value is in the accumulator.
+ghost use mathlib.Core.Path.{_≡_};
+ghost use Prim.Native.Nat.{_+_, _-_};
+ghost use lib.ListN.{drop, getD};
+ghost use Rattle.labels.specs.Labels.{belowOf, readsOf, writesOf};
+ghost use Rattle.language.specs.Syntax.{Value, int, err, inr};
+ghost use Rattle.language.specs.Evaluation.{World, fit, add, packed, unpacked};
+ghost use Rattle.tables.specs.Tables.{principalsIn, leftIn, labelIn};
+ghost use Rattle.tables.specs.TypeTest.{hasNo};
+ghost use Rattle.memory.specs.Words.{cell, valueOf};
+ghost use Rattle.interpreter.specs.Cells.{loadOf, storeOf, accumulator, firstLocation};
+ghost use Rattle.interpreter.specs.Nodes.{Sizes, afterWord, inPackage, afterTag, ofPackage, Turns, Applies, Tags, errorIn, Tells};
+use crate::cells;
+use crate::cells::ACCUMULATOR;
+use crate::cells::CELL;
+use crate::cells::LOCATIONS;
+
+// State 0: the value is in the accumulator. 10: a value is too long. 11: no rule applies.
+pub(crate) const VALUE: u8 = 0;
+
+pub(crate) const TOO_LONG: u8 = 10;
+
+pub(crate) const NO_RULE: u8 = 11;
+
+pub(crate) struct Evaluated {
+    pub(crate) state: u8,
+    pub(crate) next: usize,
+}
+
+// The place after the value whose words start at `at`.
+pub(crate) fn value_end(words: &[u32], at: usize) -> usize
+    ensures { λ r. ⌜ Sizes (now (words .entry)) at r ⌝ }
+{
+    if words.len() <= at {
+        return at;
+    }
+    match words[at] {
+        1 => at + 2,
+        2 => at + 2,
+        3 => value_end(words, at + 1),
+        4 => value_end(words, at + 1),
+        5 => value_end(words, at + 2),
+        _ => at + 1,
+    }
+}
+
+// An integer.
+pub(crate) fn literal(work: &mut [u32], n: u32)
+    ensures { λ _. ⌜ now (work .exit) ≡ storeOf (now (work .entry)) accumulator (cell (int n)) ⌝ }
+{
+    cells::store(
+        work,
+        ACCUMULATOR,
+        [1, n, 0, 0, 0, 0, 0, 0, 0, 0, 0, 0, 0, 0, 0, 0],
+    );
+}
+
+// The right of an error.
+fn fail(work: &mut [u32], e: u32)
+    ensures { λ _. ⌜ now (work .exit) ≡ storeOf (now (work .entry)) accumulator (cell (inr (err e))) ⌝ }
+{
+    cells::store(
+        work,
+        ACCUMULATOR,
+        [4, 2, e, 0, 0, 0, 0, 0, 0, 0, 0, 0, 0, 0, 0, 0],
+    );
+}
+
+// The value of location x.
+pub(crate) fn location(work: &mut [u32], x: u32)
+    ensures { λ _. ⌜ now (work .exit) ≡ storeOf (now (work .entry)) accumulator (loadOf (now (work .entry)) (firstLocation + x)) ⌝ }
+{
+    cells::copy_cell(work, LOCATIONS + x as usize, ACCUMULATOR);
+}
+
+// The value that the d-th enclosing case binds, innermost 0, at a depth.
+pub(crate) fn variable(work: &mut [u32], depth: u32, d: u32)
+    ensures { λ _. ⌜ now (work .exit) ≡ storeOf (now (work .entry)) accumulator (loadOf (now (work .entry)) (depth - d)) ⌝ }
+{
+    let k = if d < depth { depth - d } else { 0 };
+    cells::copy_cell(work, k as usize, ACCUMULATOR);
+}
+
+// The sum of n and the integer in the accumulator.
+pub(crate) fn sum(work: &mut [u32], n: u32, v: Evaluated) -> Evaluated
+    ensures { λ r. ⌜ Applies (now (work .entry)) (v .state) (v .next) (now (work .exit)) (r .state) (r .next)
+        ((u : Value) → n ≡ getD (cell u) 1 0 → Turns (add u) (now (work .entry)) (v .state) (now (work .exit)) (r .state)) ⌝ }
+{
+    if v.state != VALUE {
+        return v;
+    }
+    let m = cells::word(work, 1);
+    literal(work, std::num::wrapping_add_u32(n, m));
+    v
+}
+
+// The word w in front of the words of a cell; the last of these goes.
+fn after_word(w: u32, v: [u32; CELL]) -> [u32; CELL]
+    ensures { λ r. ⌜ r ≡ afterWord w v ⌝ }
+{
+    [
+        w,
+        v[0],
+        v[1],
+        v[2],
+        v[3],
+        v[4],
+        v[5],
+        v[6],
+        v[7],
+        v[8],
+        v[9],
+        v[10],
+        v[11],
+        v[12],
+        v[13],
+        v[14],
+    ]
+}
+
+// Left, with the word 3, or right, with the word 4, of the value in the accumulator.
+pub(crate) fn tagged(work: &mut [u32], w: u32, v: Evaluated) -> Evaluated
+    ensures { λ r. ⌜ Applies (now (work .entry)) (v .state) (v .next) (now (work .exit)) (r .state) (r .next)
+        ((f : Value → Value) → Tags w f → Turns (λ u. fit (f u)) (now (work .entry)) (v .state) (now (work .exit)) (r .state)) ⌝ }
+{
+    if v.state != VALUE {
+        return v;
+    }
+    if value_end(work, 0) >= CELL {
+        return Evaluated {
+            state: TOO_LONG,
+            next: v.next,
+        };
+    }
+    let words = cells::load(work, ACCUMULATOR);
+    let longer = after_word(w, words);
+    cells::store(work, ACCUMULATOR, longer);
+    v
+}
+
+// Whether the authority writes label l.
+fn writes(table: &[u16], authority: u16, l: u32) -> bool
+    ensures { λ r. ⌜ r ≡ writesOf (principalsIn (now (table .entry))) authority (labelIn (now (table .entry)) l) ⌝ }
+{
+    let label = tables::label_of(table, l);
+    let n = tables::principals(table);
+    label.writes(n as usize, authority)
+}
+
+// Whether the authority reads label l.
+fn reads(table: &[u16], authority: u16, l: u32) -> bool
+    ensures { λ r. ⌜ r ≡ readsOf (principalsIn (now (table .entry))) authority (labelIn (now (table .entry)) l) ⌝ }
+{
+    let label = tables::label_of(table, l);
+    let n = tables::principals(table);
+    label.reads(n as usize, authority)
+}
+
+// Whether label l is at or below label m.
+fn below(table: &[u16], l: u32, m: u32) -> bool
+    ensures { λ r. ⌜ r ≡ belowOf (labelIn (now (table .entry)) l) (labelIn (now (table .entry)) m) ⌝ }
+{
+    let lower = tables::label_of(table, l);
+    let upper = tables::label_of(table, m);
+    lower.at_or_below(upper)
+}
+
+// The left of a package of label l, whose content's cell is given; the last three words go.
+fn in_package(l: u32, v: [u32; CELL]) -> [u32; CELL]
+    ensures { λ r. ⌜ r ≡ inPackage l v ⌝ }
+{
+    [
+        3,
+        5,
+        l,
+        v[0],
+        v[1],
+        v[2],
+        v[3],
+        v[4],
+        v[5],
+        v[6],
+        v[7],
+        v[8],
+        v[9],
+        v[10],
+        v[11],
+        v[12],
+    ]
+}
+
+// A package of label l of the value in the accumulator, or an error.
+pub(crate) fn pack(
+    work: &mut [u32],
+    table: &[u16],
+    authority: u16,
+    l: u32,
+    v: Evaluated,
+) -> Evaluated
+    ensures { λ r. ⌜ Applies (now (work .entry)) (v .state) (v .next) (now (work .exit)) (r .state) (r .next)
+        ((W : World) → Tells (now (table .entry)) authority W → Turns (packed (W .writes l) l) (now (work .entry)) (v .state) (now (work .exit)) (r .state)) ⌝ }
+{
+    if v.state != VALUE {
+        return v;
+    }
+    if !writes(table, authority, l) {
+        fail(work, 1);
+        return v;
+    }
+    if value_end(work, 0) > CELL - 3 {
+        return Evaluated {
+            state: TOO_LONG,
+            next: v.next,
+        };
+    }
+    let words = cells::load(work, ACCUMULATOR);
+    let package = in_package(l, words);
+    cells::store(work, ACCUMULATOR, package);
+    v
+}
+
+// The error of unpacking the package in the accumulator with the wanted label l and the wanted type on the left of type t; else 0.
+fn refusal(work: &[u32], table: &[u16], authority: u16, t: u32, l: u32) -> u32
+    ensures { λ r. ⌜ r ≡ errorIn (now (table .entry)) authority l (getD (now (work .entry)) 1 0)
+        (hasNo (now (table .entry)) (valueOf (drop 2 (now (work .entry)))) (leftIn (now (table .entry)) t)) ⌝ }
+{
+    if !reads(table, authority, l) {
+        return 1;
+    }
+    if !below(table, cells::word(work, 1), l) {
+        return 2;
+    }
+    if !memory::has_type(table, work, 2, tables::left_part(table, t)) {
+        return 3;
+    }
+    0
+}
+
+// The left of a package's content, the package's cell being given.
+fn of_package(v: [u32; CELL]) -> [u32; CELL]
+    ensures { λ r. ⌜ r ≡ ofPackage v ⌝ }
+{
+    [
+        3,
+        v[2],
+        v[3],
+        v[4],
+        v[5],
+        v[6],
+        v[7],
+        v[8],
+        v[9],
+        v[10],
+        v[11],
+        v[12],
+        v[13],
+        v[14],
+        v[15],
+        0,
+    ]
+}
+
+// The content of the package in the accumulator, or an error.
+pub(crate) fn unpack(
+    work: &mut [u32],
+    table: &[u16],
+    authority: u16,
+    t: u32,
+    l: u32,
+    v: Evaluated,
+) -> Evaluated
+    ensures { λ r. ⌜ Applies (now (work .entry)) (v .state) (v .next) (now (work .exit)) (r .state) (r .next)
+        ((W : World) → Tells (now (table .entry)) authority W → Turns (unpacked W t l) (now (work .entry)) (v .state) (now (work .exit)) (r .state)) ⌝ }
+{
+    if v.state != VALUE {
+        return v;
+    }
+    if cells::word(work, 0) != 5 {
+        return Evaluated {
+            state: NO_RULE,
+            next: v.next,
+        };
+    }
+    let e = refusal(work, table, authority, t, l);
+    if e != 0 {
+        fail(work, e);
+        return v;
+    }
+    let words = cells::load(work, ACCUMULATOR);
+    let content = of_package(words);
+    cells::store(work, ACCUMULATOR, content);
+    v
+}
+
+// What stands after the first word of a cell.
+fn after_tag(v: [u32; CELL]) -> [u32; CELL]
+    ensures { λ r. ⌜ r ≡ afterTag v ⌝ }
+{
+    [
+        v[1],
+        v[2],
+        v[3],
+        v[4],
+        v[5],
+        v[6],
+        v[7],
+        v[8],
+        v[9],
+        v[10],
+        v[11],
+        v[12],
+        v[13],
+        v[14],
+        v[15],
+        0,
+    ]
+}
+
+// Binds what is inside of the left or right in the accumulator, in cell k.
+pub(crate) fn bind_inside(work: &mut [u32], k: usize)
+    ensures { λ _. ⌜ now (work .exit) ≡ storeOf (now (work .entry)) k (afterTag (loadOf (now (work .entry)) accumulator)) ⌝ }
+{
+    let words = cells::load(work, ACCUMULATOR);
+    let inside = after_tag(words);
+    cells::store(work, k, inside);
+}

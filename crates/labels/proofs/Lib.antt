@@ -5,4 +5,3 @@ pub mod EffectiveLaws
 pub mod PolicyLaws
 pub mod LatticeLaws
 pub mod TableLaws
-pub mod CaseLaws

@@ -126,8 +126,8 @@ writesOf n g a = every n (λ (o : ℕ). meets g (writersOf a o))
 unfoldable pub wholeOf : Label → Bool
 wholeOf a = both (eqb (length (a .readers)) owners) (eqb (length (a .writers)) owners)
 
--- what a label of n principals satisfies: between bottom and top, so that each owner is in its own sets, and no other principal than
--- the n is in any; a place that has no principal is as in bottom
+-- what a label of n principals satisfies: between bottom and top, so that each of the n owners is in its own sets, and only the n
+-- principals are; a place that has no principal is as in bottom
 unfoldable pub effective : ℕ → Label → Bool
 effective n a = both (wholeOf a) (both (belowOf (bottomOf (everyone n)) a) (belowOf a (topOf n)))
 

@@ -1,0 +1,10 @@
+pub mod Answers
+pub mod FirstDemand
+pub mod Numbers
+pub mod SecondDemand
+pub mod Readers
+pub mod Runs
+pub mod ThirdDemand
+pub mod StageLaws
+pub mod SheetLaws
+pub mod CasesHold

@@ -1,0 +1,63 @@
+-- A group that reads by the scope's rule is an observer of a sheet's labels: noninterference for it. Assumes nothing.
+use mathlib.Core.Path.{_≡_, refl, sym, ap, subst₂, fun-ext}
+use mathlib.Core.Bool.{Bool, true, false}
+use mathlib.Core.List.{List, []}
+use Prim.Native.Nat.{ℕ, _≤_}
+use Rattle.labels.specs.Labels.{owners, belowOf, confidentialityOf, readsOf, EffectiveLabel}
+use Rattle.labels.proofs.ReadingLaws.{reads-down, reads-down-C}
+use Rattle.language.specs.Syntax.{Cmd}
+use Rattle.language.specs.Evaluation.{Mem}
+use Rattle.language.specs.Transition.{done, iterate}
+use Rattle.language.specs.Typing.{conditions, flow}
+use Rattle.language.specs.View.{maskMem}
+use Rattle.language.specs.Theorems.{Observer}
+use Rattle.language.proofs.Exactness.{flow-iff}
+use Rattle.language.proofs.Noninterference.{noninterference}
+use Rattle.language.proofs.Observers.{lattice-joins, reader}
+use Rattle.tables.specs.Sheet.{Sheet, formed, labelNo, locationNo}
+use Rattle.tables.specs.Meaning.{labelsOver, declarationsOf, worldOf, readsNo}
+use Rattle.tables.proofs.FormLaws.{formed-facts}
+use Rattle.tables.proofs.MeaningLaws.{labels-lattice, declared-label, declared-home}
+use Rattle.memory.specs.View.{seesNo}
+use Rattle.simp.specs.Judgements.{Typable}
+
+module _ (s : Sheet) (fm : formed s ≡ true) (group : ℕ) where
+  -- the labels that the group reads
+  abbrev vis : EffectiveLabel (s .principals) → Bool
+  vis a = readsOf (s .principals) group (a .raw)
+
+  few : s .principals ≤ owners
+  few = formed-facts s fm .few-principals
+
+  -- by number: the labels that the group reads, and the locations whose label it reads
+  shows-is : (λ l. vis (declarationsOf s .label l)) ≡ readsNo s group
+  shows-is = fun-ext λ l. ap (readsOf (s .principals) group) (declared-label s fm l)
+
+  sees-is : (λ x. vis (declarationsOf s .home x)) ≡ seesNo s group
+  unfolding seesNo
+  sees-is = fun-ext λ x. ap (readsOf (s .principals) group) (declared-home s fm x)
+
+  observer : (authority : ℕ) → Observer (conditions (labelsOver (s .principals)) (declarationsOf s)) (worldOf s authority) vis (λ l. vis (declarationsOf s .label l))
+  observer authority =
+      let 𝓛 = labelsOver (s .principals) in
+      reader 𝓛 (declarationsOf s) (worldOf s authority) vis (lattice-joins 𝓛 (labels-lattice (s .principals)))
+      (λ a b h. reads-down (s .principals) few group (a .raw) (b .raw) h)
+      (λ m l. rw (declared-label s fm m, declared-label s fm l) refl)
+      (λ a b h. reads-down-C (s .principals) few group (a .raw) (b .raw) h)
+
+  -- Two memories show the group the same, where it sees the locations `sees` and the contents at the label numbers `shows`.
+  Alike : Mem → Mem → (ℕ → Bool) → (ℕ → Bool) → Type 0
+  Alike M N sees shows = (x : ℕ) → maskMem sees shows M x ≡ maskMem sees shows N x
+
+  -- Two done runs of an accepted script, under one authority, from memories that show the group the same, leave such memories.
+  pub shown-kept : (c : Cmd) → Typable s c → (authority b b′ l l′ : ℕ) (M N M′ N′ : Mem)
+      → ((x : ℕ) → maskMem (seesNo s group) (readsNo s group) M x ≡ maskMem (seesNo s group) (readsNo s group) N x)
+      → iterate (worldOf s authority) b M c ≡ done M′ l → iterate (worldOf s authority) b′ N c ≡ done N′ l′
+      → (x : ℕ) → maskMem (seesNo s group) (readsNo s group) M′ x ≡ maskMem (seesNo s group) (readsNo s group) N′ x
+  unfolding Alike
+  shown-kept c t authority b b′ l l′ M N M′ N′ h p q =
+      let 𝓛 = labelsOver (s .principals) in
+      let D = declarationsOf s in
+      subst₂ (Alike M′ N′) sees-is shows-is
+      (noninterference (conditions 𝓛 D) (worldOf s authority) vis (λ k. vis (D .label k)) (observer authority) (𝓛 .bot) c
+      (flow-iff 𝓛 (labels-lattice (s .principals)) D (𝓛 .bot) c .1 t .1) b b′ l l′ M N M′ N′ (subst₂ (Alike M N) (sym sees-is) (sym shows-is) h) p q)

@@ -1,0 +1,71 @@
+-- A done run of an accepted script leaves values as the sheet declares them. Assumes nothing.
+use mathlib.Core.Path.{_≡_, refl, sym, _∙_}
+use mathlib.Core.Bool.{Bool, true, false}
+use mathlib.Core.List.{List, []}
+use Prim.Native.Nat.{ℕ, suc, _<_, _≤_}
+use native.Mathlib.Omega.{arith}
+use borrow.Author.Tests.{ltb-true}
+use Rattle.language.specs.Syntax.{Value, int, Expr, Cmd, both, size}
+use Rattle.language.specs.Evaluation.{Mem, cell-words}
+use Rattle.language.specs.Transition.{done, iterate}
+use Rattle.language.proofs.Booleans.{both-left, both-right}
+use Rattle.language.proofs.Invariants.{UsesE, u-val, u-loc, u-var, u-plus, u-left, u-right, u-pack, u-unpack, Uses, u-skip, u-seq, u-assign, u-while, u-case, keeps, Fits, fits-kept}
+use Rattle.language.proofs.TypeSoundness.{type-soundness}
+use Rattle.lines.specs.Lines.{SourceE, s-int, s-loc, s-var, s-plus, s-left, s-right, s-pack, s-unpack, Source, s-skip, s-seq, s-assign, s-while, s-case}
+use Rattle.lines.specs.Names.{Counts, namedE, named}
+use Rattle.tables.specs.Sheet.{Sheet, labelCount}
+use Rattle.tables.specs.Meaning.{shapesOf, worldOf}
+use Rattle.script.specs.Script.{countsOf}
+use Rattle.script.specs.Theorems.{IsScript}
+use Rattle.memory.specs.Memory.{proper}
+use Rattle.memory.specs.Theorems.{Declared}
+use Rattle.memory.proofs.ProperLaws.{proper-kept}
+use Rattle.simp.specs.Judgements.{Typable}
+use Rattle.simp.proofs.Numbers.{typable-shape}
+
+-- A script uses integers alone, and packs at labels of the sheet.
+module _ (P : Value → Type 0) (of-int : (n : ℕ) → P (int n)) (k : Counts) where
+  abbrev Named : ℕ → Type 0
+  Named l = l < k .labels
+
+  uses-expr : (d : ℕ) {e : Expr} → SourceE e → namedE k d e ≡ true → UsesE P Named e
+  unfolding namedE
+  uses-expr d (s-int {n}) h = u-val (of-int n)
+  uses-expr d s-loc h = u-loc
+  uses-expr d s-var h = u-var
+  uses-expr d (s-plus a b) h = u-plus (uses-expr d a (both-left _ _ h)) (uses-expr d b (both-right _ _ h))
+  uses-expr d (s-left a) h = u-left (uses-expr d a (both-right _ _ h))
+  uses-expr d (s-right a) h = u-right (uses-expr d a (both-right _ _ h))
+  uses-expr d (s-pack {l} a) h = u-pack (ltb-true l (k .labels) (both-left _ _ h)) (uses-expr d a (both-right _ _ h))
+  uses-expr d (s-unpack a) h = u-unpack (uses-expr d a (both-right _ _ h))
+
+  uses : (d : ℕ) {c : Cmd} → Source c → named k d c ≡ true → Uses P Named c
+  unfolding named
+  uses d s-skip h = u-skip
+  uses d (s-seq a b) h = u-seq (uses d a (both-left _ _ h)) (uses d b (both-right _ _ h))
+  uses d (s-assign e) h = u-assign (uses-expr d e (both-right _ _ h))
+  uses d (s-while e c) h = u-while (uses-expr d e (both-left _ _ h)) (uses d c (both-right _ _ h))
+  uses d (s-case e a b) h =
+      let r = both-right _ _ (both-right _ _ h) in
+      u-case (uses-expr d e (both-left _ _ h)) (uses (suc d) a (both-left _ _ r)) (uses (suc d) b (both-right _ _ r))
+
+int-fits : (n : ℕ) → Fits (int n)
+unfolding size
+int-fits n = omega arith
+
+int-proper : (labels n : ℕ) → proper labels (int n) ≡ true
+unfolding proper
+int-proper labels n = refl
+
+-- What a done run leaves is as the sheet declares it.
+pub left-declared : (s : Sheet) (c : Cmd) (script : List ℕ) → IsScript (countsOf s) script c → Typable s c → (authority b l : ℕ) (M M′ : Mem) → Declared s M
+    → iterate (worldOf s authority) b M c ≡ done M′ l → Declared s M′
+left-declared s c script i t authority b l M M′ d h =
+    let W = worldOf s authority in
+    let k = countsOf s in
+    record {
+      typed = type-soundness (shapesOf s) W (λ n. refl) .done-typed c (typable-shape s c t) M (d .typed) b l M′ h;
+      fitting = keeps Fits (Named Fits int-fits k) fits-kept W b l M M′ c (uses Fits int-fits k 0 (i .source) (i .named-there)) (d .fitting) h;
+      named = keeps (λ v. proper (labelCount s) v ≡ true) (λ n. n < labelCount s) (proper-kept (labelCount s)) W b l M M′ c
+          (uses (λ v. proper (labelCount s) v ≡ true) (int-proper (labelCount s)) k 0 (i .source) (i .named-there)) (d .named) h;
+    }

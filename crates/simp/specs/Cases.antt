@@ -1,0 +1,87 @@
+-- The scope's starred cases ("Cases"), as one table. `cases-hold` in proofs/CasesHold.antt shows all of them.
+use mathlib.Core.Path.{_≡_}
+use mathlib.Core.Bool.{Bool, true, false}
+use mathlib.Core.List.{List, [], _∷_, _++_}
+use Prim.Native.Nat.{ℕ}
+use Prim.Native.String.{String}
+use Rattle.labels.specs.Labels.{Policy, policy, labelOf, readsOf, writesOf}
+use Rattle.tables.specs.Tables.{padded}
+use Rattle.simp.specs.Calls.{checkOf, runOf}
+use Rattle.simp.specs.Texts.{bytes}
+
+-- {0: readers 1, writers 2; 1: readers 0, writers 2 and 3}
+unfoldable pub twoPolicies : List Policy
+twoPolicies = policy 0 0b0010 0b0100 ∷ policy 1 0b0001 0b1100 ∷ []
+
+-- {0: 2; 1: 3}, readers only listed
+unfoldable pub readersOnly : List Policy
+readersOnly = policy 0 0b0100 0 ∷ policy 1 0b1000 0 ∷ []
+
+unfoldable pub sheet : String
+sheet = "P 3\nT 0 1\nL\nL\nO 0 0000 0000\nL\nO 0 0000 0007\nX 0 0\nX 0 2\nX 4 0\nX 5 2\n"
+
+-- four locations; each row is filled up with zeros
+unfoldable pub memory : List ℕ → List ℕ → List ℕ → List ℕ → List ℕ
+memory a b c d = padded 16 a ++ (padded 16 b ++ (padded 16 c ++ padded 16 d))
+
+unfoldable pub before : List ℕ
+before = memory (1 ∷ 5 ∷ []) (1 ∷ 62 ∷ []) (4 ∷ 2 ∷ 1 ∷ []) (4 ∷ 2 ∷ 1 ∷ [])
+
+-- after the pack
+unfoldable pub packed : List ℕ
+packed = memory (1 ∷ 5 ∷ []) (1 ∷ 62 ∷ []) (3 ∷ 5 ∷ 2 ∷ 1 ∷ 62 ∷ []) (4 ∷ 2 ∷ 1 ∷ [])
+
+-- after an unpack that leaves these words in location 3
+unfoldable pub unpacked : List ℕ → List ℕ
+unpacked words = memory (1 ∷ 5 ∷ []) (1 ∷ 62 ∷ []) (3 ∷ 5 ∷ 2 ∷ 1 ∷ 62 ∷ []) words
+
+pub data Case : Type 0 where
+  -- of four principals, whether a group reads or writes the label with these policies
+  reads writes : List Policy → ℕ → Bool → Case
+  -- a script, and what checking it answers
+  checks : String → ℕ → Case
+  -- a script, a memory and an authority; the steps of the run, which is done, and the memory that it leaves
+  runs : String → List ℕ → ℕ → ℕ → List ℕ → Case
+  -- a script, a memory and an authority: a run that is spent, whatever the budget
+  spends : String → List ℕ → ℕ → Case
+
+-- the largest budget
+abbrev pub largest : ℕ
+largest = 4294967295
+
+unfoldable pub Holds : Case → Type 0
+Holds (reads ps g b) = readsOf 4 g (labelOf 4 ps) ≡ b
+Holds (writes ps g b) = writesOf 4 g (labelOf 4 ps) ≡ b
+Holds (checks script answer) = checkOf (bytes sheet) (bytes script) ≡ answer
+Holds (runs script m authority steps left) =
+    runOf (bytes sheet) (bytes script) m authority largest ≡ record { answer = 0; steps = steps; memory = left }
+Holds (spends script m authority) =
+    (budget : ℕ) → runOf (bytes sheet) (bytes script) m authority budget ≡ record { answer = 9; steps = budget; memory = m }
+
+unfoldable pub cases : List Case
+cases =
+    reads twoPolicies 0b0001 true
+    ∷ writes twoPolicies 0b0001 false
+    ∷ reads twoPolicies 0b1000 false
+    ∷ writes twoPolicies 0b1000 false
+    ∷ reads twoPolicies 0b1001 true
+    ∷ writes twoPolicies 0b1001 true
+    ∷ reads readersOnly 0b1100 true
+    ∷ checks "= 0\nx 1\n" 6
+    ∷ checks "= 1\nx 0\n" 0
+    ∷ checks "= 0\nx 2\n" 5
+    ∷ runs "= 2\nk 2\nx 1\n" before 0b010 1 packed
+    ∷ runs "= 2\nk 2\nx 1\n" before 0b000 1 before
+    ∷ checks "= 2\nk 1\nx 1\n" 6
+    ∷ runs "c\nx 2\n= 3\nu 5 2\nv 0\ns\n" packed 0b001 2 (unpacked (3 ∷ 1 ∷ 62 ∷ []))
+    ∷ runs "c\nx 2\n= 3\nu 5 1\nv 0\ns\n" packed 0b001 2 (unpacked (4 ∷ 2 ∷ 2 ∷ []))
+    ∷ spends "w\nl 3\ni 1\ns\n" before 0b000
+    ∷ []
+
+-- every case of a table holds
+unfoldable pub Each : List Case → Type 0
+Each [] = Unit {0}
+Each (c ∷ cs) = Holds c × Each cs
+
+abbrev pub CasesHold : Type 0
+CasesHold = Each cases

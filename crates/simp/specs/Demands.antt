@@ -1,0 +1,69 @@
+-- The three demands, over the definitions that the contracts of the three calls equate them with.
+use mathlib.Core.Logic.{_↔_}
+use mathlib.Core.Path.{_≡_}
+use mathlib.Core.List.{List, [], _∷_}
+use Prim.Native.Nat.{ℕ}
+use Rattle.language.specs.Syntax.{Cmd, skip}
+use Rattle.language.specs.Evaluation.{Mem}
+use Rattle.language.specs.Figures.{Steps}
+use Rattle.tables.specs.Sheet.{Sheet, locationCount}
+use Rattle.tables.specs.Meaning.{worldOf}
+use Rattle.memory.specs.Memory.{memoryOf, wordsOf}
+use Rattle.simp.specs.Calls.{checkOf, Ran, runOf, Viewed, viewOf}
+use Rattle.simp.specs.Judgements.{Started, Checked, Run, View}
+
+-- n is one of the numbers
+pub data Among : List ℕ → ℕ → Type 0 where
+  here : {n : ℕ} {ns : List ℕ} → Among (n ∷ ns) n
+  later : {m n : ℕ} {ns : List ℕ} → Among ns n → Among (m ∷ ns) n
+
+-- The run was started and reached skip, and these are the words of the memory that it reached, after so many steps.
+pub record Finished (sheet script memory : List ℕ) (authority steps : ℕ) (left : List ℕ) : Type 0 where
+  pub its-sheet : Sheet
+  pub its-command : Cmd
+  pub reached : Mem
+  pub started : Started sheet script memory authority its-sheet its-command
+  pub run : Steps (worldOf its-sheet authority) steps (memoryOf memory) its-command reached skip
+  pub words : left ≡ wordsOf (locationCount its-sheet) reached
+
+-- Demand 1. After any call the lent memory holds the finished run's values or exactly what it held before; a refused call writes to
+-- no lent slice. Each answer is 0 or one of the call's numbers; beside 1 to 8 there are no steps, and beside 9 as many as the budget.
+pub record Demand1 : Type 0 where
+  pub run-finished : (sheet script memory : List ℕ) (authority budget : ℕ) → runOf sheet script memory authority budget .answer ≡ 0
+      → Finished sheet script memory authority (runOf sheet script memory authority budget .steps) (runOf sheet script memory authority budget .memory)
+  pub run-refused : (sheet script memory : List ℕ) (authority budget : ℕ)
+      → ¬ (runOf sheet script memory authority budget .answer ≡ 0) → runOf sheet script memory authority budget .memory ≡ memory
+  pub view-refused : (sheet memory : List ℕ) (group : ℕ) (view : List ℕ)
+      → ¬ (viewOf sheet memory group view .answer ≡ 0) → viewOf sheet memory group view .view ≡ view
+  pub check-answers : (sheet script : List ℕ) → Among (0 ∷ 1 ∷ 2 ∷ 4 ∷ 5 ∷ 6 ∷ []) (checkOf sheet script)
+  pub run-answers : (sheet script memory : List ℕ) (authority budget : ℕ)
+      → Among (0 ∷ 1 ∷ 2 ∷ 3 ∷ 4 ∷ 5 ∷ 6 ∷ 7 ∷ 8 ∷ 9 ∷ 10 ∷ []) (runOf sheet script memory authority budget .answer)
+  pub view-answers : (sheet memory : List ℕ) (group : ℕ) (view : List ℕ) → Among (0 ∷ 1 ∷ 2 ∷ 3 ∷ 7 ∷ 8 ∷ []) (viewOf sheet memory group view .answer)
+  pub no-steps : (sheet script memory : List ℕ) (authority budget : ℕ)
+      → ¬ (runOf sheet script memory authority budget .answer ≡ 0) → ¬ (runOf sheet script memory authority budget .answer ≡ 9)
+      → ¬ (runOf sheet script memory authority budget .answer ≡ 10) → runOf sheet script memory authority budget .steps ≡ 0
+  pub all-steps : (sheet script memory : List ℕ) (authority budget : ℕ)
+      → runOf sheet script memory authority budget .answer ≡ 9 → runOf sheet script memory authority budget .steps ≡ budget
+
+-- Demand 2. Each call answers exactly what the papers say: the numbers in their order, acceptance by the typing rules, and the
+-- memory and the step count of the evaluation rules.
+pub record Demand2 : Type 0 where
+  pub check : (sheet script : List ℕ) (k : ℕ) → (checkOf sheet script ≡ k) ↔ Checked sheet script k
+  pub run : (sheet script memory : List ℕ) (authority budget : ℕ) (r : Ran)
+      → (runOf sheet script memory authority budget ≡ r) ↔ Run sheet script memory authority budget r
+  pub view : (sheet memory : List ℕ) (group : ℕ) (words : List ℕ) (v : Viewed) → (viewOf sheet memory group words ≡ v) ↔ View sheet memory group words v
+
+-- Two memories give a group the same view: the view of each is handed out into a lent slice, and these agree in every word.
+pub record SameView (sheet : List ℕ) (group : ℕ) (memory memory′ view view′ : List ℕ) : Type 0 where
+  pub shown : viewOf sheet memory group view .answer ≡ 0
+  pub shown′ : viewOf sheet memory′ group view′ .answer ≡ 0
+  pub same : viewOf sheet memory group view .view ≡ viewOf sheet memory′ group view′ .view
+
+-- Demand 3, noninterference. Any sheet, any script accepted on it, any authority, any two budgets, any two memories, any group: if both memories give
+-- the group the same view and both runs are done, the memories left behind give it the same view.
+abbrev pub Demand3 : Type 0
+Demand3 = (sheet script : List ℕ) → checkOf sheet script ≡ 0 → (authority budget budget′ group : ℕ) (memory memory′ view view′ : List ℕ)
+    → SameView sheet group memory memory′ view view′
+    → runOf sheet script memory authority budget .answer ≡ 0
+    → runOf sheet script memory′ authority budget′ .answer ≡ 0
+    → SameView sheet group (runOf sheet script memory authority budget .memory) (runOf sheet script memory′ authority budget′ .memory) view view′

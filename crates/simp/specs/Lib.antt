@@ -1,0 +1,6 @@
+pub mod Calls
+pub mod Texts
+pub mod Cases
+pub mod Judgements
+pub mod Demands
+pub mod Stages

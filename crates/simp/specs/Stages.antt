@@ -1,0 +1,59 @@
+-- What the stages of a call ensure, on a sheet that isn't refused and whose table is given.
+use mathlib.Core.Path.{_≡_}
+use mathlib.Core.Bool.{true, false}
+use mathlib.Core.List.{List, []}
+use mathlib.Core.Option.{Option, none, some}
+use Prim.Native.Nat.{ℕ}
+use lib.ListN.{length}
+use Rattle.language.specs.Syntax.{Cmd}
+use Rattle.language.specs.Transition.{iterate}
+use Rattle.lines.specs.Lines.{Source, cmdLines}
+use Rattle.lines.specs.Code.{code}
+use Rattle.lines.specs.Names.{named}
+use Rattle.tables.specs.Sheet.{Sheet, formed, repeats, locationCount}
+use Rattle.tables.specs.Tables.{tableOf}
+use Rattle.tables.specs.Meaning.{worldOf}
+use Rattle.script.specs.Script.{countsOf, scriptOf}
+use Rattle.memory.specs.Memory.{memoryOf, memoryRefusal}
+use Rattle.memory.specs.View.{viewWords, viewRefusal}
+use Rattle.simp.specs.Calls.{unless, strangers, onScript, untyped, Ran, refusedRun, ended, Viewed, refusedView}
+
+-- t is the table of the sheet s, which is of the form and repeats nothing
+pub record TableOf (t : List ℕ) (s : Sheet) : Type 0 where
+  pub form : formed s ≡ true
+  pub once : repeats s ≡ false
+  pub words : t ≡ tableOf s
+
+-- ws is the code of the script, and is empty where there is none
+pub data CodeOf (s : Sheet) : List ℕ → Option Cmd → Type 0 where
+  no-code : CodeOf s [] none
+  its-code : {ws : List ℕ} {c : Cmd} → Source c → named (countsOf s) 0 c ≡ true → ws ≡ code (cmdLines c []) → CodeOf s ws (some c)
+
+pub record Judges (ws t : List ℕ) (r : ℕ) : Type 0 where
+  pub judged : (s : Sheet) → TableOf t s → (o : Option Cmd) → CodeOf s ws o → r ≡ onScript (λ k. k) o (untyped s)
+
+pub record ChecksOn (script t : List ℕ) (r : ℕ) : Type 0 where
+  pub checked : (s : Sheet) → TableOf t s → r ≡ onScript (λ k. k) (scriptOf (countsOf s) script) (untyped s)
+
+-- the run of a command that isn't refused by its types and labels, unless the memory refuses it
+abbrev pub runFrom : Sheet → List ℕ → ℕ → ℕ → Cmd → Ran
+runFrom s memory authority budget c =
+    unless (refusedRun memory) (untyped s c) (
+    unless (refusedRun memory) (memoryRefusal s memory) (
+    ended (locationCount s) budget memory (iterate (worldOf s authority) budget (memoryOf memory) c)))
+
+pub record RunsCode (ws t memory : List ℕ) (authority budget answer steps : ℕ) (left : List ℕ) : Type 0 where
+  pub ran : (s : Sheet) → TableOf t s → (o : Option Cmd) → CodeOf s ws o
+      → record { answer = answer; steps = steps; memory = left } ≡ onScript (refusedRun memory) o (runFrom s memory authority budget)
+
+pub record RunsOn (script t memory : List ℕ) (authority budget answer steps : ℕ) (left : List ℕ) : Type 0 where
+  pub ran : (s : Sheet) → TableOf t s
+      → record { answer = answer; steps = steps; memory = left }
+      ≡ unless (refusedRun memory) (strangers s authority) (onScript (refusedRun memory) (scriptOf (countsOf s) script) (runFrom s memory authority budget))
+
+pub record ViewsOn (t memory : List ℕ) (group : ℕ) (view : List ℕ) (answer : ℕ) (left : List ℕ) : Type 0 where
+  pub viewed : (s : Sheet) → TableOf t s
+      → record { answer = answer; view = left }
+      ≡ unless (refusedView view) (strangers s group) (
+      unless (refusedView view) (viewRefusal s memory (length view)) (
+      record { answer = 0; view = viewWords s group memory }))

@@ -1,0 +1,92 @@
+// What a call does once the sheet is read: the script, the checks in the order of their numbers, the run or the view.
+ghost use mathlib.Core.Path.{_≡_};
+ghost use Prim.Native.Nat.{_*_};
+ghost use lib.ListN.{take};
+ghost use Rattle.simp.specs.Stages.{Judges, ChecksOn, RunsCode, RunsOn, ViewsOn};
+use super::Outcome;
+
+// A run that is refused takes no step.
+pub fn refused(answer: u8) -> Outcome
+    ensures { λ r. ⌜ r ≡ record { answer = answer; steps = 0 } ⌝ }
+{
+    Outcome { answer, steps: 0 }
+}
+
+// The rows of a script with so many lines.
+fn rows(code: &[u32], count: usize) -> &[u32]
+    ensures { λ r. ⌜ now r ≡ take (count * 3) (now (code .entry)) ⌝ }
+{
+    if code.len() / lines::ROW < count {
+        return code;
+    }
+    let end = count * lines::ROW;
+    &code[..end]
+}
+
+// 4 where there is no script, 5 or 6 where it has no derivation, else 0.
+fn judge(code: &[u32], table: &[u16]) -> u8
+    ensures { λ r. ⌜ Judges (now (code .entry)) (now (table .entry)) r ⌝ }
+{
+    if code.len() == 0 {
+        return super::SCRIPT_MALFORMED;
+    }
+    checker::check(code, table)
+}
+
+// Checks a script on the sheet of a table.
+pub fn check_on(script: &[u8], table: &[u16]) -> u8
+    ensures { λ r. ⌜ ChecksOn (now (script .entry)) (now (table .entry)) r ⌝ }
+{
+    let read = script::read(script, table);
+    let code = read.code;
+    let count = read.count;
+    judge(rows(&code, count), table)
+}
+
+// Checks and runs the code of a script.
+fn run_code(code: &[u32], table: &[u16], memory: &mut [u32], authority: u16, budget: u32) -> Outcome
+    ensures { λ r. ⌜ RunsCode (now (code .entry)) (now (table .entry)) (now (memory .entry)) authority budget (r .answer) (r .steps) (now (memory .exit)) ⌝ }
+{
+    let answer = judge(code, table);
+    if answer != super::DONE {
+        return refused(answer);
+    }
+    let answer = memory::refusal(table, memory);
+    if answer != super::DONE {
+        return refused(answer);
+    }
+    let ran = interpreter::run(code, table, memory, authority, budget);
+    Outcome {
+        answer: ran.state,
+        steps: ran.steps,
+    }
+}
+
+// Runs a script on the sheet of a table.
+pub fn run_on(
+    script: &[u8],
+    table: &[u16],
+    memory: &mut [u32],
+    authority: u16,
+    budget: u32,
+) -> Outcome
+    ensures { λ r. ⌜ RunsOn (now (script .entry)) (now (table .entry)) (now (memory .entry)) authority budget (r .answer) (r .steps) (now (memory .exit)) ⌝ }
+{
+    if !sets::contained(authority, tables::everyone(table)) {
+        return refused(super::PRINCIPAL_UNKNOWN);
+    }
+    let read = script::read(script, table);
+    let code = read.code;
+    let count = read.count;
+    run_code(rows(&code, count), table, memory, authority, budget)
+}
+
+// Shows a group a memory on the sheet of a table.
+pub fn view_on(table: &[u16], memory: &[u32], group: u16, view: &mut [u32]) -> u8
+    ensures { λ r. ⌜ ViewsOn (now (table .entry)) (now (memory .entry)) group (now (view .entry)) r (now (view .exit)) ⌝ }
+{
+    if !sets::contained(group, tables::everyone(table)) {
+        return super::PRINCIPAL_UNKNOWN;
+    }
+    memory::view(table, memory, group, view)
+}

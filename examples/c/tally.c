@@ -1,0 +1,73 @@
+/*
+ * Packs a tally on a grading line and shows it to two groups: the smallest program over libsimp.a.
+ * Exits with 0 if every call answered as it should.
+ */
+#include <stdio.h>
+#include <string.h>
+
+#include "simp.h"
+
+/* Three principals; location 0 may be read and written by everyone, location 1 is principal 0's alone, and
+ * location 2 takes what a pack leaves. */
+static const char sheet[] =
+    "P\t3\n"
+    "L\n"
+    "L\nO\t0\t0000\t0007\n"
+    "X\t0\t0\n"
+    "X\t0\t1\n"
+    "X\t4\t0\n";
+
+/* Adds location 0 to the tally in location 1. */
+static const char count[] = "=\t1\n+\nx\t1\nx\t0\n";
+
+/* Packs the tally for principal 0 into location 2, which everyone reads. */
+static const char pack[] = "=\t2\nk\t1\nx\t1\n";
+
+/* Copies the tally to location 0, where everyone would read it: refused. */
+static const char leak[] = "=\t0\nx\t1\n";
+
+static const uint8_t *bytes(const char *text) { return (const uint8_t *)text; }
+
+static simp_outcome run(const char *script, uint32_t *memory, size_t words)
+{
+    return simp_run(bytes(sheet), strlen(sheet), bytes(script), strlen(script), memory, words, 1u << 1, 100);
+}
+
+static void print(const char *name, const uint32_t *words)
+{
+    printf("%s:", name);
+    for (size_t i = 0; i < SIMP_CELL && words[i] != 0; i++)
+        printf(" %u", (unsigned)words[i]);
+    printf("\n");
+}
+
+int main(void)
+{
+    uint32_t memory[3 * SIMP_CELL] = {0};
+    uint32_t view[3 * SIMP_CELL] = {0};
+    memory[0] = 1, memory[1] = 30;                              /* integer 30 */
+    memory[SIMP_CELL] = 1, memory[SIMP_CELL + 1] = 12;          /* integer 12 */
+    memory[2 * SIMP_CELL] = 4, memory[2 * SIMP_CELL + 1] = 2;   /* right, error 1 */
+    memory[2 * SIMP_CELL + 2] = 1;
+
+    if (simp_check(bytes(sheet), strlen(sheet), bytes(leak), strlen(leak)) != SIMP_ILL_LABELLED)
+        return 1;
+    simp_outcome counted = run(count, memory, 3 * SIMP_CELL);
+    simp_outcome packed = run(pack, memory, 3 * SIMP_CELL);
+    if (counted.answer != SIMP_DONE || counted.steps != 1 || packed.answer != SIMP_DONE || packed.steps != 1)
+        return 2;
+    print("package", memory + 2 * SIMP_CELL);
+
+    /* Principal 0 reads the package's content, principal 2 doesn't. */
+    const uint32_t content[] = {3, 5, 1, 1, 42};
+    const uint32_t hidden[] = {3, 5, 1, 0, 0};
+    if (simp_view(bytes(sheet), strlen(sheet), memory, 3 * SIMP_CELL, 1u << 0, view, 3 * SIMP_CELL) != SIMP_DONE
+        || memcmp(view + 2 * SIMP_CELL, content, sizeof content) != 0)
+        return 3;
+    print("principal 0 is shown", view + 2 * SIMP_CELL);
+    if (simp_view(bytes(sheet), strlen(sheet), memory, 3 * SIMP_CELL, 1u << 2, view, 3 * SIMP_CELL) != SIMP_DONE
+        || memcmp(view + 2 * SIMP_CELL, hidden, sizeof hidden) != 0)
+        return 4;
+    print("principal 2 is shown", view + 2 * SIMP_CELL);
+    return 0;
+}

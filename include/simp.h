@@ -1,0 +1,63 @@
+/*
+ * SImp scripts on a sheet: checking, running, viewing.
+ *
+ * Link with libsimp.a. The calls keep no state, allocate nothing and read and write only what they are lent.
+ * They settle every input: each call ends, and bad input gets one of the numbers below, the lowest that applies.
+ * A refused call writes to no lent slice.
+ *
+ * A slice is a pointer and the number of its elements. A pointer is not null and suitably aligned, also where the
+ * number is 0, and the slices of one call do not overlap.
+ */
+#ifndef SIMP_H
+#define SIMP_H
+
+#include <stddef.h>
+#include <stdint.h>
+
+#ifdef __cplusplus
+extern "C" {
+#endif
+
+/* Words of 32 bits that a location takes in a memory or a view. */
+#define SIMP_CELL 16
+
+/* Answers. */
+enum {
+    SIMP_DONE = 0,               /* done; accepted; shown */
+    SIMP_SHEET_MALFORMED = 1,    /* the sheet isn't of the form, or names what isn't there */
+    SIMP_SHEET_REPEATS = 2,      /* the sheet repeats a type or a label */
+    SIMP_PRINCIPAL_UNKNOWN = 3,  /* the authority or group holds a principal not on the sheet */
+    SIMP_SCRIPT_MALFORMED = 4,   /* the script isn't of the form, or names what isn't there */
+    SIMP_ILL_TYPED = 5,          /* the script has no derivation, even with every label condition struck out */
+    SIMP_ILL_LABELLED = 6,       /* the script has a derivation only with the label conditions struck out */
+    SIMP_SLICE_SIZE = 7,         /* a lent memory or view isn't SIMP_CELL words for each location */
+    SIMP_MEMORY_ILL_FORMED = 8,  /* a location's words aren't a value of its type */
+    SIMP_SPENT = 9,              /* the budget was used up before the script ended */
+    SIMP_TOO_LONG = 10           /* in a step within the budget a value took more than SIMP_CELL words */
+};
+
+/* How a run ended. Steps are the transitions taken: 0 for 1 to 8, the budget for SIMP_SPENT, those before the
+ * stopping one for SIMP_TOO_LONG. */
+typedef struct {
+    uint8_t answer;
+    uint32_t steps;
+} simp_outcome;
+
+/* Whether a script is accepted on a sheet: 0, 1, 2, 4, 5 or 6. */
+uint8_t simp_check(const uint8_t *sheet, size_t sheet_len, const uint8_t *script, size_t script_len);
+
+/* Checks a script and runs it on a memory under an authority, for at most `budget` steps. Bit p of a set is
+ * principal p. The memory changes only if the answer is SIMP_DONE. */
+simp_outcome simp_run(const uint8_t *sheet, size_t sheet_len, const uint8_t *script, size_t script_len,
+                      uint32_t *memory, size_t memory_len, uint16_t authority, uint32_t budget);
+
+/* Writes into `view` what a group is shown of a memory: 0, 1, 2, 3, 7 or 8. The view changes only if the answer
+ * is SIMP_DONE. */
+uint8_t simp_view(const uint8_t *sheet, size_t sheet_len, const uint32_t *memory, size_t memory_len,
+                  uint16_t group, uint32_t *view, size_t view_len);
+
+#ifdef __cplusplus
+}
+#endif
+
+#endif

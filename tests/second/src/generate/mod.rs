@@ -1,0 +1,14 @@
+//! A deterministic generator of sheets, scripts, memories and whole calls.
+//!
+//! Where a sheet, script or memory is to be valid it is built along its meaning, so that acceptance
+//! is common; damage comes after.
+
+pub mod case;
+pub mod damage;
+pub mod expression;
+pub mod memory;
+pub mod pair;
+pub mod prng;
+pub mod script;
+pub mod sheet;
+pub mod show_input;

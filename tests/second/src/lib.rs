@@ -1,0 +1,33 @@
+//! A second implementation of SImp, written from the scope and the paper alone.
+//!
+//! Values, types, expressions and commands are trees, labels are tables of truth values, and a run
+//! is a sequence of the transitions of figure 3. Nothing here is made for speed.
+
+pub mod answer;
+pub mod evaluate;
+pub mod flow;
+pub mod generate;
+pub mod implementation;
+pub mod label;
+pub mod library;
+pub mod machine;
+pub mod memory;
+pub mod memory_text;
+pub mod principals;
+pub mod script;
+pub mod script_text;
+pub mod shape;
+pub mod sheet;
+pub mod sheet_text;
+pub mod show;
+pub mod text;
+pub mod types;
+pub mod value;
+pub mod view;
+pub mod workload;
+
+mod calls;
+
+pub use answer::{Outcome, Refusal, DONE};
+pub use calls::{check, run, view};
+pub use show::show;

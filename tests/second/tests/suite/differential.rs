@@ -1,0 +1,84 @@
+//! The library against the second implementation, on generated cases.
+//!
+//! Both must agree in answer, steps and every word of every slice, refused calls included.
+
+use crate::common::case_count;
+use crate::fenced::Fenced;
+use second::generate::case::{case, Case};
+use second::implementation::{Implementation, LIBRARY, SECOND};
+use second::Outcome;
+
+/// Everything that the three calls of a case hand back.
+#[derive(Debug, PartialEq, Eq)]
+struct Results {
+    check: u8,
+    run: Outcome,
+    memory: Vec<u32>,
+    view_answer: u8,
+    view: Vec<u32>,
+    /// The memory that the view was lent, and the bytes beside every slice, are as before.
+    intact: bool,
+}
+
+fn results(i: &Implementation, case: &Case) -> Results {
+    let check = (i.check)(&case.sheet, &case.script);
+    let mut ran = Fenced::new(&case.memory);
+    let run = (i.run)(&case.sheet, &case.script, ran.words_mut(), case.authority, case.budget);
+    let lent = Fenced::new(&case.memory);
+    let mut view = Fenced::blank(case.view_length);
+    let view_answer = (i.view)(&case.sheet, lent.words(), case.group, view.words_mut());
+    let intact =
+        ran.is_intact() && view.is_intact() && lent.is_intact() && lent.words() == case.memory;
+    Results {
+        check,
+        run,
+        memory: ran.words().to_vec(),
+        view_answer,
+        view: view.words().to_vec(),
+        intact,
+    }
+}
+
+/// A case as it can be read in a failure.
+fn shown(case: &Case) -> String {
+    format!(
+        "authority {:04x}, group {:04x}, budget {}, view of {} words\n{}---\n{}---\n{:?}",
+        case.authority,
+        case.group,
+        case.budget,
+        case.view_length,
+        String::from_utf8_lossy(&case.sheet),
+        String::from_utf8_lossy(&case.script),
+        case.memory.chunks(16).collect::<Vec<&[u32]>>(),
+    )
+}
+
+#[test]
+fn the_library_agrees_with_the_second_implementation() {
+    for seed in 0..case_count() {
+        let case = case(seed);
+        let expected = results(&SECOND, &case);
+        let got = results(&LIBRARY, &case);
+        assert!(got.intact, "seed {seed}: written beside a slice\n{}", shown(&case));
+        assert_eq!(got, expected, "seed {seed} (library, then second)\n{}", shown(&case));
+    }
+}
+
+/// The same case after its run: the memory left by one call is what the next is lent.
+#[test]
+fn the_library_agrees_on_the_memory_that_a_run_leaves() {
+    let mut done = 0;
+    for seed in 0..case_count() / 4 {
+        let mut case = case(seed);
+        let first = results(&SECOND, &case);
+        case.memory = first.memory;
+        if first.run.answer != 0 {
+            continue;
+        }
+        done += 1;
+        let expected = results(&SECOND, &case);
+        assert_ne!(expected.run.answer, 8, "seed {seed}: a run leaves a well-formed memory");
+        assert_eq!(results(&LIBRARY, &case), expected, "seed {seed}\n{}", shown(&case));
+    }
+    assert!(done * 10 > case_count() / 4, "{done} runs were done");
+}

@@ -1,0 +1,218 @@
+//! Texts that mean to mislead a reader, on every implementation.
+
+use crate::common::{sheet, start, text};
+use second::implementation::ALL;
+use second::text::{Fault, Thing};
+use second::{script_text, sheet_text};
+
+#[test]
+fn sheets_and_why_they_are_refused() {
+    let table: &[(&[u8], Fault)] = &[
+        (b"", Fault::LineKind),
+        (b"\n", Fault::LineKind),
+        (b"P\t3", Fault::UnendedLine),
+        (b"P 3\n", Fault::LineKind),
+        (b"P\t3\r\n", Fault::Number),
+        (b"P\t3\t\n", Fault::FieldCount),
+        (b"P\t\t3\n", Fault::FieldCount),
+        (b"P\n", Fault::FieldCount),
+        (b"p\t3\n", Fault::LineKind),
+        (b"PP\t3\n", Fault::LineKind),
+        (b"P\t3\n\n", Fault::LineKind),
+        (b"\nP\t3\n", Fault::LineKind),
+        (b"P\t3\nP\t3\n", Fault::LineKind),
+        (b"P\t+3\n", Fault::Number),
+        (b"P\t-1\n", Fault::Number),
+        (b"P\t3\x00\n", Fault::Number),
+        (b"P\t\xd9\xa3\n", Fault::Number),
+        (b"P\t0\n", Fault::PrincipalCount),
+        (b"P\t4294967297\n", Fault::Number),
+        (b"P\t18446744073709551617\n", Fault::Number),
+        (b"P\t3\nT\t0\n", Fault::FieldCount),
+        (b"P\t3\nT\t0\t1\t2\n", Fault::FieldCount),
+        (b"P\t3\nT\t5\t0\n", Fault::Missing(Thing::Type)),
+        (b"P\t3\nL\nT\t0\t1\n", Fault::LineKind),
+        (b"P\t3\nO\t0\t0000\t0000\n", Fault::LineKind),
+        (b"P\t3\nL\nX\t0\t0\nO\t0\t0000\t0000\n", Fault::LineKind),
+        (b"P\t3\nL\nX\t0\t0\nL\n", Fault::LineKind),
+        (b"P\t3\nL\t0\n", Fault::FieldCount),
+        (b"P\t3\nL\nO\t0\t0000\n", Fault::FieldCount),
+        (b"P\t3\nL\nO\t0\t000G\t0000\n", Fault::Set),
+        (b"P\t3\nL\nO\t0\t0x01\t0000\n", Fault::Set),
+        (b"P\t3\nL\nO\t0\t0000\t000A\n", Fault::Set),
+        (b"P\t3\nL\nO\t3\t0000\t0000\n", Fault::Missing(Thing::Principal)),
+        (b"P\t3\nL\nO\t0\t0008\t0000\n", Fault::Missing(Thing::Principal)),
+        (b"P\t3\nL\nO\t1\t0000\t0000\nO\t1\t0000\t0000\n", Fault::OwnerOrder),
+        (b"P\t3\nX\t0\t0\n", Fault::Missing(Thing::Label)),
+        (b"P\t3\nL\nX\t5\t0\n", Fault::Missing(Thing::Type)),
+        (b"P\t3\nL\nX\t0\t4294967296\n", Fault::Number),
+        (b"P\t3\nL\nX\t4294967295\t0\n", Fault::Missing(Thing::Type)),
+    ];
+    for (sheet, fault) in table {
+        let shown = sheet.escape_ascii();
+        assert_eq!(sheet_text::parse(sheet).err(), Some(*fault), "{shown}");
+        for i in ALL {
+            assert_eq!((i.check)(sheet, b"s\n"), 1, "{}: {shown}", i.name);
+        }
+    }
+}
+
+#[test]
+fn scripts_and_why_they_are_refused() {
+    let table: &[(&[u8], Fault)] = &[
+        (b"", Fault::Count),
+        (b"\n", Fault::LineKind),
+        (b"s", Fault::UnendedLine),
+        (b"s\n\n", Fault::Count),
+        (b"\ns\n", Fault::LineKind),
+        (b"s\ns\n", Fault::Count),
+        (b"s\t\n", Fault::FieldCount),
+        (b"s \n", Fault::LineKind),
+        (b"s\r\n", Fault::LineKind),
+        (b"S\n", Fault::LineKind),
+        (b"ss\n", Fault::LineKind),
+        (b"s\x00\n", Fault::LineKind),
+        (b";\n", Fault::Count),
+        (b";\ns\n", Fault::Count),
+        (b";\ns\ni\t1\n", Fault::LineKind),
+        (b"i\t1\n", Fault::LineKind),
+        (b"=\t0\n", Fault::Count),
+        (b"=\t0\ns\n", Fault::LineKind),
+        (b"=\n", Fault::FieldCount),
+        (b"=0\ni\t1\n", Fault::LineKind),
+        (b"=\t00\ni\t1\n", Fault::Number),
+        (b"=\t4\ni\t1\n", Fault::Missing(Thing::Location)),
+        (b"=\t4294967296\ni\t1\n", Fault::Number),
+        (b"=\t0\ni\n", Fault::FieldCount),
+        (b"=\t0\ni\t\n", Fault::Number),
+        (b"=\t0\ni\t1\t1\n", Fault::FieldCount),
+        (b"=\t0\ni\t-1\n", Fault::Number),
+        (b"=\t0\ni\t42949672950\n", Fault::Number),
+        (b"=\t0\ni\t18446744073709551616\n", Fault::Number),
+        (b"=\t0\nx\t4\n", Fault::Missing(Thing::Location)),
+        (b"=\t0\nv\t0\n", Fault::Missing(Thing::Binding)),
+        (b"=\t0\nv\t4294967295\n", Fault::Missing(Thing::Binding)),
+        (b"=\t0\n+\ni\t1\n", Fault::Count),
+        (b"=\t0\n+\t1\ni\t1\ni\t1\n", Fault::FieldCount),
+        (b"=\t2\nk\ni\t1\n", Fault::FieldCount),
+        (b"=\t2\nk\t3\ni\t1\n", Fault::Missing(Thing::Label)),
+        (b"=\t3\nu\t5\nx\t0\n", Fault::FieldCount),
+        (b"=\t3\nu\t6\t0\nx\t0\n", Fault::Missing(Thing::Type)),
+        (b"=\t3\nu\t5\t3\nx\t0\n", Fault::Missing(Thing::Label)),
+        (b"w\ni\t1\n", Fault::Count),
+        (b"w\ns\ns\n", Fault::LineKind),
+        (b"c\nx\t2\ns\n", Fault::Count),
+        (b"c\nx\t2\ns\ns\ns\n", Fault::Count),
+    ];
+    let parsed = sheet_text::parse(&sheet()).unwrap();
+    for (script, fault) in table {
+        let shown = script.escape_ascii();
+        assert_eq!(script_text::parse(&parsed, script).err(), Some(*fault), "{shown}");
+        for i in ALL {
+            assert_eq!((i.check)(&sheet(), script), 4, "{}: {shown}", i.name);
+        }
+    }
+}
+
+#[test]
+fn long_texts() {
+    for length in [16_383, 16_384, 16_385, 70_000, 1 << 20] {
+        for byte in [b'\n', b'0', b'\t', b's', 0xff] {
+            let long = vec![byte; length];
+            let after_sheet = [&sheet()[..], &long].concat();
+            let after_script = [&b"s\n"[..], &long].concat();
+            let number = [b"P\t", &long[..], b"\n"].concat();
+            for i in ALL {
+                assert_eq!((i.check)(&long, b"s\n"), 1, "{}", i.name);
+                assert_eq!((i.check)(&after_sheet, b"s\n"), 1, "{}", i.name);
+                assert_eq!((i.check)(&number, b"s\n"), 1, "{}", i.name);
+                assert_eq!((i.check)(&sheet(), &long), 4, "{}", i.name);
+                assert_eq!((i.check)(&sheet(), &after_script), 4, "{}", i.name);
+            }
+        }
+    }
+}
+
+#[test]
+fn the_deepest_scripts() {
+    let deep = |line: &str, count: usize| format!("{line}\n").replace(' ', "\t").repeat(count);
+    let scripts = [
+        (deep("w\nl 3\ni 0", 170) + "s\n", 0),
+        (format!("=\t0\n{}{}", deep("+", 255), deep("i 1", 256)), 0),
+        (format!("=\t2\n{}i\t1\n", deep("k 2", 510)), 0),
+        (format!("=\t2\n{}i\t1\n", deep("k 2", 511)), 4),
+        (deep(";", 255) + &deep("s", 256), 0),
+        (deep(";\ns", 255) + "s\n", 0),
+        (deep("+", 512), 4),
+        (deep(";", 512), 4),
+        (deep("c", 512), 4),
+    ];
+    for (script, answer) in scripts {
+        for i in ALL {
+            assert_eq!((i.check)(&sheet(), script.as_bytes()), answer, "{}: {script}", i.name);
+            let mut memory = start();
+            let ran = (i.run)(&sheet(), script.as_bytes(), &mut memory, 0, 50).answer;
+            assert!(ran == answer || answer == 0 && ran == 9, "{}: {ran} {script}", i.name);
+        }
+    }
+}
+
+/// A sheet, an authority, a script, the number of words lent, a budget, and the answer.
+type Row<'a> = (&'a [u8], u16, &'a [u8], usize, u32, u8);
+
+#[test]
+fn the_lowest_number_is_given() {
+    let (good, script, memory) = (sheet(), text(&["= 0", "i 1"]), start());
+    let form = text(&["P 3", "T 0 9"]);
+    let repeats = text(&["P 3", "L", "L", "X 0 0"]);
+    let (unformed, shapeless, flowless) =
+        (text(&["q"]), text(&["= 0", "x 2"]), text(&["= 0", "x 1"]));
+    let table: &[Row] = &[
+        (&form, 8, &unformed, 1, 9, 1),
+        (&repeats, 8, &unformed, 1, 9, 2),
+        (&good, 8, &unformed, 1, 9, 3),
+        (&good, 1, &unformed, 1, 9, 4),
+        (&good, 1, &shapeless, 1, 9, 5),
+        (&good, 1, &flowless, 1, 9, 6),
+        (&good, 1, &script, 1, 9, 7),
+        (&good, 1, &script, 64, 9, 8),
+        (&good, 1, &script, 64, 0, 8),
+    ];
+    for i in ALL {
+        for (sheet, authority, script, length, budget, answer) in table {
+            let mut lent = vec![9; *length];
+            let outcome = (i.run)(sheet, script, &mut lent, *authority, *budget);
+            assert_eq!((outcome.answer, outcome.steps), (*answer, 0), "{}", i.name);
+            assert_eq!(lent, vec![9; *length], "{}", i.name);
+        }
+        let mut lent = memory.clone();
+        assert_eq!((i.run)(&good, &script, &mut lent, 1, 0).answer, 9, "{}", i.name);
+        assert_eq!((i.run)(&good, &script, &mut lent, 1, 1).answer, 0, "{}", i.name);
+    }
+}
+
+#[test]
+fn the_lowest_number_is_given_by_a_view() {
+    let (good, form, repeats) = (sheet(), text(&["P 3", "T 0 9"]), text(&["P 3", "L", "L"]));
+    let table: &[(&[u8], u16, usize, usize, u8)] = &[
+        (&form, 8, 1, 1, 1),
+        (&repeats, 8, 1, 1, 2),
+        (&good, 8, 1, 1, 3),
+        (&good, 1, 1, 1, 7),
+        (&good, 1, 64, 1, 7),
+        (&good, 1, 1, 64, 7),
+        (&good, 1, 64, 64, 8),
+    ];
+    for i in ALL {
+        for (sheet, group, memory, length, answer) in table {
+            let mut view = vec![7; *length];
+            assert_eq!(
+                (i.view)(sheet, &vec![9; *memory], *group, &mut view),
+                *answer,
+                "{}",
+                i.name
+            );
+            assert_eq!(view, vec![7; *length], "{}", i.name);
+        }
+    }
+}

@@ -1,0 +1,16 @@
+//! The tests of the second implementation and of the library against it, in one program.
+
+mod bounds;
+mod cases;
+mod common;
+mod coverage;
+#[cfg(library)]
+mod differential;
+mod fenced;
+mod hostile;
+mod noninterference;
+mod refusals;
+mod show;
+mod steps;
+mod views;
+mod workloads;

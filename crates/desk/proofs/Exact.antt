@@ -1,0 +1,74 @@
+-- A group and a budget are read exactly where their printed form is the text. Assumes nothing.
+use Prim.Native.Nat.{ℕ, suc, _≤_}
+use native.Mathlib.Omega.{arith}
+use mathlib.Core.Path.{_≡_, refl, ap}
+use mathlib.Core.Bool.{Bool, true, false, _&&_, false≢true}
+use mathlib.Core.List.{List, [], _∷_}
+use mathlib.Core.Option.{none, some}
+use lib.Dec.{eqb}
+use lib.ListN.{length, length-append}
+use borrow.Author.Tests.{eqb-true}
+use Rattle.text.specs.Reading.{Read}
+use Rattle.text.specs.Reading.Read.{got, bad}
+use Rattle.text.specs.Number.{number, decimal, most, opensDigit, digit}
+use Rattle.text.specs.Set.{hexSet, hex4}
+use Rattle.text.proofs.Cases.{cond-split}
+use Rattle.text.proofs.Decimals.{number-sound, number-exact}
+use Rattle.text.proofs.Sets.{set-sound, set-exact}
+use Rattle.text.proofs.Writings.{length-decimal}
+use Rattle.desk.specs.Fields.{closed, onlyField, groupOf, budgetOf}
+use Rattle.desk.specs.Theorems.{GroupExact, BudgetExact}
+
+-- the end of a line and nothing more is one byte
+closed-sound : (t : List ℕ) → closed t ≡ true → t ≡ 10 ∷ []
+unfolding closed
+closed-sound [] e = absurd (false≢true e)
+closed-sound (c ∷ t) e = go (eqb c 10) refl e
+  where
+    nothing : (u : List ℕ) → eqb (length u) 0 ≡ true → u ≡ []
+    nothing [] q = refl
+    nothing (d ∷ u) q = let z : suc (length u) ≡ 0 = eqb-true _ _ q in absurd (omega arith)
+
+    go : (x : Bool) → eqb c 10 ≡ x → x && eqb (length t) 0 ≡ true → c ∷ t ≡ 10 ∷ []
+    go true p q = let y : c ≡ 10 = eqb-true _ _ p in rw (y, nothing t q)
+    go false p q = absurd (false≢true q)
+
+-- a field that is read alone
+only-sound : (field : Read ℕ) (v : ℕ) → onlyField field ≡ some v → field ≡ got v (10 ∷ [])
+unfolding onlyField
+only-sound (got w t) v e =
+    cond-split (closed t) (some w) none (some v)
+    (λ p q. let y : w ≡ v = cc in rw (y, closed-sound t p))
+    (λ p q. let z : _≡_ {A = ℕ} 0 1 = cc in absurd (omega arith)) e
+only-sound bad v e = let z : _≡_ {A = ℕ} 0 1 = cc in absurd (omega arith)
+
+only-print : (field : Read ℕ) (v : ℕ) → field ≡ got v (10 ∷ []) → onlyField field ≡ some v
+unfolding onlyField closed
+only-print field v e = rw e
+
+pub group-exact : GroupExact
+unfolding groupOf
+group-exact t g =
+    (λ e. set-sound t g (10 ∷ []) (only-sound (hexSet t) g e), λ h. only-print (hexSet t) g (set-exact g t (10 ∷ []) .1 h))
+
+-- the end of a line is no digit
+end-plain : opensDigit (10 ∷ []) ≡ false
+unfolding opensDigit digit
+end-plain = refl
+
+pub budget-exact : BudgetExact
+unfolding budgetOf
+budget-exact t n = (
+  λ e. let s = number-sound most t n (10 ∷ []) (only-sound (number most t) n e) in (s .0, s .1),
+  λ h. only-print (number most t) n (number-exact most n t (10 ∷ []) .1 (h .0, h .1, end-plain)),
+)
+
+-- how long such texts are
+pub group-length : (t : List ℕ) (g : ℕ) → groupOf t ≡ some g → length t ≤ 5
+unfolding hex4
+group-length t g e = let h = group-exact t g .0 e .0 in omega (arith, ap length h)
+
+pub budget-length : (t : List ℕ) (n : ℕ) → budgetOf t ≡ some n → length t ≤ 11
+budget-length t n e =
+    let h = budget-exact t n .0 e in
+    omega (arith, ap length (h .0), length-append (decimal n) (10 ∷ []), length-decimal n (h .1))

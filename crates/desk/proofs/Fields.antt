@@ -1,0 +1,51 @@
+-- Texts of one field, as the code reads them. Assumes nothing.
+use Prim.Native.Nat.{ℕ, _+_, _-_, _≤_, _<_}
+use native.Mathlib.Omega.{arith}
+use mathlib.Core.Path.{_≡_, sym, _∙_}
+use mathlib.Core.Bool.{true, false}
+use mathlib.Core.List.{List}
+use mathlib.Core.Option.{none, some}
+use lib.Dec.{eqb}
+use lib.ListN.{length, drop, getD, length-drop, drop-of-length-le}
+use borrow.Author.Tests.{eq-eqb, ne-eqb, eqb-true, eqb-false}
+use Rattle.text.specs.Reading.{Read}
+use Rattle.text.specs.Reading.Read.{got, bad}
+use Rattle.text.proofs.Readings.{drop-step}
+use Rattle.text.proofs.Cases.{cases}
+use Rattle.desk.specs.Fields.{closed, onlyField}
+
+-- the end of the line at a place of s
+module _ (s : List ℕ) (p : ℕ) where
+  pub closed-past : length s ≤ p → false ≡ closed (drop p s)
+  unfolding closed
+  closed-past h = rw (drop-of-length-le s h)
+
+  module _ (h : p < length s) where
+    pub closed-other : (getD s p 0 ≡ 10 → ⊥) → false ≡ closed (drop p s)
+    unfolding closed
+    closed-other n = rw (drop-step s p h, ne-eqb (getD s p 0) 10 n)
+
+    pub closed-here : getD s p 0 ≡ 10 → eqb (length s - p) 1 ≡ closed (drop p s)
+    unfolding closed
+    closed-here e =
+        rw (drop-step s p h, eq-eqb (getD s p 0) 10 e)
+        (cases (eqb (length s - p) 1)
+        (λ q.
+        let z : length s - p ≡ 1 = eqb-true _ _ q in
+        q ∙ sym (eq-eqb (length (drop (p + 1) s)) 0 (omega (arith, length-drop (p + 1) s))))
+        (λ q.
+        q ∙ sym (ne-eqb (length (drop (p + 1) s)) 0 (λ z. eqb-false (length s - p) 1 q (omega (arith, length-drop (p + 1) s))))))
+
+-- whether a field is the whole of a text
+module _ (field : Read ℕ) (s : List ℕ) (v p : ℕ) (e : field ≡ got v (drop p s)) where
+  pub only-whole : closed (drop p s) ≡ true → onlyField field ≡ some v
+  unfolding onlyField
+  only-whole h = rw (e, h)
+
+  pub only-part : closed (drop p s) ≡ false → onlyField field ≡ none
+  unfolding onlyField
+  only-part h = rw (e, h)
+
+pub only-none : (field : Read ℕ) → field ≡ bad → onlyField field ≡ none
+unfolding onlyField
+only-none field e = rw e

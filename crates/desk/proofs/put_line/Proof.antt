@@ -1,0 +1,26 @@
+-- `desk::put_line` meets its contract. Assumes nothing.
+use native.Mathlib.Omega.{arith}
+use borrow.Author.Needs.{needs}
+use Rattle.desk.proofs.Outputs.{line-puts}
+use Rattle.desk.proofs.put_line.Statement.{statement}
+use Rattle.desk.proofs.put_line.Tie as tie
+
+put-number-requires : tie.Need-put-number-requires
+put-number-requires c κs = search needs
+
+put-byte-requires : tie.Need-put-byte-requires
+put-byte-requires c κs = search needs
+
+same-length : tie.Need-same-length
+same-length c = search needs
+
+returns : tie.Need-returns
+returns c =
+    let b = c .before .before in
+    let n = b .before .before .before .before in
+    let s = n .before .before .before in
+    line-puts (s .args .out .now) (s .args .k) _ _ _ _ (n .put-number .ensures .0) (n .put-number .ensures .1) (b .put-byte .ensures .0) (b .put-byte .ensures .1)
+    (n .put-number .kept .0) (omega (arith, s .fits .k .fits)) (omega arith)
+
+pub put-line-spec : {M : Type 1} → statement M
+put-line-spec = tie.close (tie.spec put-number-requires put-byte-requires same-length returns)

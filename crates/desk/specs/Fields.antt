@@ -1,0 +1,40 @@
+-- Texts of one line and one field: a group, an authority, a budget (the scope, the program show).
+use Prim.Native.Nat.{ℕ}
+use mathlib.Core.Bool.{Bool, true, false, cond, _&&_}
+use mathlib.Core.List.{List, [], _∷_}
+use mathlib.Core.Option.{Option, none, some}
+use lib.Dec.{eqb}
+use lib.ListN.{length}
+use Rattle.text.specs.Reading.{Read}
+use Rattle.text.specs.Reading.Read.{got, bad}
+use Rattle.text.specs.Number.{number, most}
+use Rattle.text.specs.Set.{hexSet}
+use Rattle.desk.specs.declared.Group.{Group}
+use Rattle.desk.specs.declared.Budget.{Budget}
+
+-- the end of the line, and nothing more
+unfoldable pub closed : List ℕ → Bool
+closed [] = false
+closed (c ∷ t) = eqb c 10 && eqb (length t) 0
+
+-- a field that is the whole of its line, and of the text
+unfoldable pub onlyField : Read ℕ → Option ℕ
+onlyField (got v t) = cond (closed t) (some v) none
+onlyField bad = none
+
+-- a group or an authority: four digits and byte 10
+unfoldable pub groupOf : List ℕ → Option ℕ
+groupOf t = onlyField (hexSet t)
+
+-- a budget: a number of 32 bits and byte 10
+unfoldable pub budgetOf : List ℕ → Option ℕ
+budgetOf t = onlyField (number most t)
+
+-- the code's answers
+unfoldable pub groupIn : Option ℕ → Group
+groupIn none = record { ok = false; set = 0 }
+groupIn (some m) = record { ok = true; set = m }
+
+unfoldable pub budgetIn : Option ℕ → Budget
+budgetIn none = record { ok = false; number = 0 }
+budgetIn (some n) = record { ok = true; number = n }

@@ -1,0 +1,8 @@
+-- What the desk programs print, as functions of the texts that they are given.
+pub mod Fields
+pub mod Numbers
+pub mod Output
+pub mod Show
+pub mod Run
+pub mod Order
+pub mod Theorems

@@ -1,0 +1,24 @@
+-- What is printed goes to the start of a lent buffer, which must have room for the longest output.
+use Prim.Native.Nat.{ℕ}
+use mathlib.Core.Path.{_≡_}
+use mathlib.Core.Bool.{cond}
+use mathlib.Core.List.{List}
+use lib.Dec.{leb}
+use lib.ListN.{length}
+use lib.Seq.{sets}
+
+-- 64 lines of at most 176 bytes, and before them a line of at most 22
+abbrev pub places : ℕ
+places = 11286
+
+-- what the buffer then holds, and how many bytes were put
+unfoldable pub put : List ℕ → List ℕ → List ℕ
+put out bytes = cond (leb places (length out)) (sets out 0 bytes) out
+
+unfoldable pub putLength : List ℕ → List ℕ → ℕ
+putLength out bytes = cond (leb places (length out)) (length bytes) 0
+
+-- the bytes were put, and `next` is the place after them
+pub record PutAll (out bytes now : List ℕ) (next : ℕ) : Type 0 where
+  pub length-is : next ≡ length bytes
+  pub held : now ≡ sets out 0 bytes

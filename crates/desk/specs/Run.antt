@@ -1,0 +1,40 @@
+-- What the program run prints: the answer and the steps, and the memory as it then is.
+use Prim.Native.Nat.{ℕ}
+use mathlib.Core.Bool.{cond}
+use mathlib.Core.List.{List, [], _∷_, _++_}
+use lib.Dec.{eqb}
+use Rattle.text.specs.Number.{decimal}
+use Rattle.text.specs.Field.{printNumberField, printLineEnd}
+use Rattle.memory_text.specs.Printing.{memoryText}
+use Rattle.memory_text.specs.Reading.{memory}
+use Rattle.simp.specs.Calls.{Ran, runOf}
+use Rattle.desk.specs.Fields.{groupOf, groupIn, budgetOf, budgetIn}
+use Rattle.desk.specs.Numbers.{lower, unread, asText}
+use Rattle.desk.specs.Show.{wordsRead, formed}
+
+-- the answer, a tab, the steps and the end of the line, before t
+unfoldable pub outcomeLine : ℕ → ℕ → List ℕ → List ℕ
+outcomeLine answer steps t = decimal answer ++ printNumberField steps (printLineEnd t)
+
+unfoldable pub ranText : Ran → List ℕ
+ranText r = outcomeLine (r .answer) (r .steps) (memoryText (r .memory))
+
+-- The run, unless a text that isn't of its form has a lower number: then no steps, and the memory as it was.
+unfoldable pub adjusted : Ran → List ℕ → ℕ → Ran
+adjusted r words other =
+    let k = lower (asText (r .answer)) other in
+    cond (eqb k (r .answer)) r (record { answer = k; steps = 0; memory = words })
+
+-- "no budget" and the end of the line
+abbrev pub noBudget : List ℕ
+noBudget = 110 ∷ 111 ∷ 32 ∷ 98 ∷ 117 ∷ 100 ∷ 103 ∷ 101 ∷ 116 ∷ 10 ∷ []
+
+-- Run's output. The scope has no number for a budget that isn't of its form, so words stand for it.
+unfoldable pub runTextOf : List ℕ → List ℕ → List ℕ → List ℕ → List ℕ → List ℕ
+runTextOf sheet script memoryText authority budget =
+    let b = budgetIn (budgetOf budget) in
+    let a = groupIn (groupOf authority) in
+    let m = memory memoryText in
+    let words = wordsRead m in
+    let other = lower (unread (a .ok) 3) (unread (formed m) 8) in
+    cond (b .ok) (ranText (adjusted (runOf sheet script words (a .set) (b .number)) words other)) noBudget

@@ -1,0 +1,63 @@
+-- What is shown of the programs' outputs.
+use Prim.Native.Nat.{ℕ, _*_, _≤_, _<_}
+use mathlib.Core.Path.{_≡_}
+use mathlib.Core.Logic.{_↔_}
+use mathlib.Core.List.{List, [], _∷_, _++_}
+use mathlib.Core.Option.{some}
+use lib.ListN.{length, take}
+use Rattle.text.specs.Number.{decimal, most}
+use Rattle.text.specs.Set.{hex4}
+use Rattle.text.specs.Reading.Read.{got}
+use Rattle.memory_text.specs.Reading.{memory}
+use Rattle.simp.specs.Calls.{runOf}
+use Rattle.parts.specs.Parts.{keep, textOf}
+use Rattle.parts.specs.Feeding.{beginning, held, fed, textIn}
+use Rattle.desk.specs.Fields.{groupOf, budgetOf}
+use Rattle.desk.specs.Show.{showOf}
+use Rattle.desk.specs.Run.{outcomeLine, ranText, runTextOf}
+use Rattle.desk.specs.Order.{showInOrder}
+
+-- a group is four digits and byte 10
+abbrev pub GroupExact : Type 0
+GroupExact = (t : List ℕ) (g : ℕ) → (groupOf t ≡ some g) ↔ ((t ≡ hex4 g ++ (10 ∷ [])) × (g < 65536))
+
+-- a budget is a number of 32 bits and byte 10
+abbrev pub BudgetExact : Type 0
+BudgetExact = (t : List ℕ) (n : ℕ) → (budgetOf t ≡ some n) ↔ ((t ≡ decimal n ++ (10 ∷ [])) × (n ≤ most))
+
+-- Show gives the numbers in their order.
+abbrev pub ShowOrder : Type 0
+ShowOrder = (sheet text group : List ℕ) → showOf sheet text group ≡ showInOrder sheet text group
+
+-- Where every text is of its form, run prints the run; 7 can only come from another number of lines than the sheet has locations, and is 8.
+pub record RunPlain (sheet script text authority budget ws : List ℕ) (a n : ℕ) : Type 0 where
+  pub ran : (runOf sheet script ws a n .answer ≡ 7 → ⊥) → runTextOf sheet script text authority budget ≡ ranText (runOf sheet script ws a n)
+  pub other-lines : runOf sheet script ws a n .answer ≡ 7 → runTextOf sheet script text authority budget ≡ outcomeLine 8 0 text
+
+abbrev pub RunsPlain : Type 0
+RunsPlain =
+    (sheet script text authority budget ws rest : List ℕ) (a n : ℕ) → groupOf authority ≡ some a → budgetOf budget ≡ some n
+    → memory text ≡ got ws rest → RunPlain sheet script text authority budget ws a n
+
+-- What is kept of the texts is enough: a text that is too long is refused as itself.
+pub record KeptEnough : Type 0 where
+  pub show : (sheet text group : List ℕ) → showOf (take keep sheet) (take keep text) (take keep group) ≡ showOf sheet text group
+  pub run : (sheet script text authority budget : List ℕ)
+      → runTextOf (take keep sheet) (take keep script) (take keep text) (take keep authority) (take keep budget)
+      ≡ runTextOf sheet script text authority budget
+
+-- From the input to the output: what the program prints is what the parts of its input give.
+abbrev pub ShowsInput : Type 0
+ShowsInput =
+    (buffer input : List ℕ) → 3 * keep ≤ length buffer
+    → let h = fed 2 (held beginning buffer) input in
+    let text : ℕ → List ℕ = textIn (h .state) (h .buffer) in
+    showOf (text 0) (text 1) (text 2) ≡ showOf (textOf 2 0 input) (textOf 2 1 input) (textOf 2 2 input)
+
+abbrev pub RunsInput : Type 0
+RunsInput =
+    (buffer input : List ℕ) → 5 * keep ≤ length buffer
+    → let h = fed 4 (held beginning buffer) input in
+    let text : ℕ → List ℕ = textIn (h .state) (h .buffer) in
+    runTextOf (text 0) (text 1) (text 2) (text 3) (text 4)
+    ≡ runTextOf (textOf 4 0 input) (textOf 4 1 input) (textOf 4 2 input) (textOf 4 3 input) (textOf 4 4 input)

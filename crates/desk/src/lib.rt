@@ -1,0 +1,148 @@
+// What the desk programs print, made from the texts that they are given.
+pub mod run; // run.rt: the program run
+
+use text::Mask;
+use text::Value;
+ghost use mathlib.Core.Path.{_≡_};
+ghost use Prim.Native.Nat.{_≤_, _%_};
+ghost use lib.ListN.{length, take, drop};
+ghost use Rattle.desk.specs.Fields.{closed, groupOf, groupIn, budgetOf, budgetIn};
+ghost use Rattle.desk.specs.Numbers.{lower as lowerOf, unread as unreadOf, asText};
+ghost use Rattle.desk.specs.Show.{numberLine, viewed, showOf};
+ghost use Rattle.desk.specs.Output.{places, put, putLength, PutAll};
+
+// The places that a buffer must have for what is printed: 64 lines of at most 176 bytes, and before them a line of at most 22.
+pub const PLACES: usize = 11286;
+
+// A group or an authority, or none.
+pub struct Group {
+    pub ok: bool,
+    pub set: u16,
+}
+
+// A budget, or none.
+pub struct Budget {
+    pub ok: bool,
+    pub number: u32,
+}
+
+// Whether the end of the line stands at p, and nothing more.
+fn closes(s: &[u8], p: usize) -> bool
+    ensures { λ r. ⌜ r ≡ closed (drop p (now (s .entry))) ⌝ }
+{
+    if s.len() <= p {
+        return false;
+    }
+    if s[p] != 10 {
+        return false;
+    }
+    s.len() - p == 1
+}
+
+// The group of a text: four digits and byte 10.
+fn group_line(s: &[u8]) -> Group
+    ensures { λ r. ⌜ r ≡ groupIn (groupOf (now (s .entry))) ⌝ }
+{
+    if let Mask::At(m, p) = text::set(s, 0) {
+        if closes(s, p) {
+            return Group { ok: true, set: m };
+        }
+    }
+    Group { ok: false, set: 0 }
+}
+
+// The budget of a text: a number of 32 bits and byte 10.
+fn budget_line(s: &[u8]) -> Budget
+    ensures { λ r. ⌜ r ≡ budgetIn (budgetOf (now (s .entry))) ⌝ }
+{
+    if let Value::At(n, p) = text::number(s, 0, 4294967295) {
+        if closes(s, p) {
+            return Budget {
+                ok: true,
+                number: n,
+            };
+        }
+    }
+    Budget {
+        ok: false,
+        number: 0,
+    }
+}
+
+// The lower of two numbers, where 0 is none.
+fn lower(a: u8, b: u8) -> u8
+    ensures { λ r. ⌜ r ≡ lowerOf a b ⌝ }
+{
+    if a == 0 {
+        return b;
+    }
+    if b == 0 {
+        return a;
+    }
+    if b < a { b } else { a }
+}
+
+// The number of a text that isn't of its form.
+fn unread(formed: bool, k: u8) -> u8
+    ensures { λ r. ⌜ r ≡ unreadOf formed k ⌝ }
+{
+    if formed { 0 } else { k }
+}
+
+// 8 for 7: a memory text with another number of lines isn't of its form.
+fn as_text(answer: u8) -> u8
+    ensures { λ r. ⌜ r ≡ asText answer ⌝ }
+{
+    if answer == 7 { 8 } else { answer }
+}
+
+// A number alone on its line; the length of the line.
+fn put_line(out: &mut [u8], k: u8) -> usize
+    requires { ⌜ places ≤ length (now out) ⌝ }
+    ensures { λ r. ⌜ PutAll (now (out .entry)) (numberLine k) (now (out .exit)) r ⌝ }
+{
+    let p = text::write::put_number(out, 0, k as u32);
+    text::write::put_byte(out, p, 10)
+}
+
+// The view of words, or the number; `other` is the number of a text that isn't of its form.
+fn show_words(sheet: &[u8], words: &[u32], group: u16, other: u8, out: &mut [u8]) -> usize
+    requires { ⌜ (length (now words) % 16 ≡ 0) × (length (now words) ≤ 1024) × (places ≤ length (now out)) ⌝ }
+    ensures { λ r. ⌜ PutAll (now (out .entry)) (viewed (now (sheet .entry)) (now (words .entry)) group other) (now (out .exit)) r ⌝ }
+{
+    let mut view = [0u32; 1024];
+    let n = words.len();
+    let answer = simp::simp_view(sheet, words, group, &mut view[..n]);
+    let k = lower(as_text(answer), other);
+    if k == 0 {
+        return memory_text::write::write_memory(&view[..n], out);
+    }
+    put_line(out, k)
+}
+
+// What show prints, at the start of a buffer; its length. Nothing is written, and the answer is 0, where the buffer has fewer
+// than PLACES places.
+pub fn show(sheet: &[u8], memory: &[u8], group: &[u8], out: &mut [u8]) -> usize
+    ensures { λ r. ⌜ r ≡ putLength (now (out .entry)) (showOf (now (sheet .entry)) (now (memory .entry)) (now (group .entry))) ⌝ }
+    ensures { λ _. ⌜ now (out .exit) ≡ put (now (out .entry)) (showOf (now (sheet .entry)) (now (memory .entry)) (now (group .entry))) ⌝ }
+{
+    if out.len() < PLACES {
+        return 0;
+    }
+    let g = group_line(group);
+    let m = memory_text::read_memory(memory);
+    let other = lower(unread(g.ok, 3), unread(m.ok, 8));
+    let n = m.count * 16;
+    let words = m.words;
+    show_words(sheet, &words[..n], g.set, other, out)
+}
+
+// The first n bytes of a buffer, or all of them.
+pub fn first(out: &[u8], n: usize) -> &[u8]
+    ensures { λ r. ⌜ now r ≡ take n (now (out .entry)) ⌝ }
+{
+    if out.len() < n {
+        return &out[..];
+    }
+    &out[..n]
+}

@@ -1,0 +1,104 @@
+// What the program run prints: the answer and the steps, and the memory as it then is.
+ghost use mathlib.Core.Path.{_≡_};
+ghost use Prim.Native.Nat.{_≤_, _%_};
+ghost use lib.ListN.{length, take};
+ghost use Rattle.memory_text.specs.Printing.{memoryText};
+ghost use Rattle.memory_text.specs.Writing.{Puts};
+ghost use Rattle.simp.specs.Calls.{runOf};
+ghost use Rattle.desk.specs.Output.{places, put, putLength, PutAll};
+ghost use Rattle.desk.specs.Run.{outcomeLine, ranText, adjusted, runTextOf};
+use text::write::put_byte;
+use text::write::put_number;
+
+// The answer and the steps on a line; the place after it.
+fn put_outcome(out: &mut [u8], answer: u8, steps: u32) -> usize
+    requires { ⌜ places ≤ length (now out) ⌝ }
+    ensures { λ r. ⌜ Puts (outcomeLine answer steps) 22 (now (out .entry)) 0 (now (out .exit)) r ⌝ }
+{
+    let p = put_number(out, 0, answer as u32);
+    let q = put_byte(out, p, 9);
+    let r = put_number(out, q, steps);
+    put_byte(out, r, 10)
+}
+
+// The answer, the steps and a memory; the length of it all.
+fn put_run(out: &mut [u8], answer: u8, steps: u32, words: &[u32]) -> usize
+    requires { ⌜ (length (now words) % 16 ≡ 0) × (length (now words) ≤ 1024) × (places ≤ length (now out)) ⌝ }
+    ensures { λ r. ⌜ PutAll (now (out .entry)) (outcomeLine answer steps (memoryText (now (words .entry)))) (now (out .exit)) r ⌝ }
+{
+    let p = put_outcome(out, answer, steps);
+    let n = memory_text::write::write_memory(words, &mut out[p..]);
+    p + n
+}
+
+// A run on the first n of the words; `other` is the number of a text that isn't of its form.
+fn run_words(
+    sheet: &[u8],
+    script: &[u8],
+    words: [u32; 1024],
+    n: usize,
+    authority: u16,
+    budget: u32,
+    other: u8,
+    out: &mut [u8],
+) -> usize
+    requires { ⌜ (n % 16 ≡ 0) × (n ≤ 1024) × (places ≤ length (now out)) ⌝ }
+    ensures { λ r. ⌜ PutAll (now (out .entry)) (ranText (adjusted (runOf (now (sheet .entry)) (now (script .entry)) (take n words) authority budget) (take n words) other)) (now (out .exit)) r ⌝ }
+{
+    let mut work = words;
+    let o = simp::simp_run(sheet, script, &mut work[..n], authority, budget);
+    let k = super::lower(super::as_text(o.answer), other);
+    if k == o.answer {
+        return put_run(out, k, o.steps, &work[..n]);
+    }
+    put_run(out, k, 0, &words[..n])
+}
+
+// Bytes at the start of a buffer; how many they are.
+fn put_bytes(out: &mut [u8], bytes: &[u8]) -> usize
+    requires { ⌜ length (now bytes) ≤ length (now out) ⌝ }
+    ensures { λ r. ⌜ PutAll (now (out .entry)) (now (bytes .entry)) (now (out .exit)) r ⌝ }
+{
+    let mut i: usize = 0;
+    while i < bytes.len() {
+        out[i] = bytes[i];
+        i += 1;
+    }
+    i
+}
+
+// What run prints, at the start of a buffer; its length. Nothing is written, and the answer is 0, where the buffer has fewer
+// than PLACES places.
+pub fn run_text(
+    sheet: &[u8],
+    script: &[u8],
+    memory: &[u8],
+    authority: &[u8],
+    budget: &[u8],
+    out: &mut [u8],
+) -> usize
+    ensures { λ r. ⌜ r ≡ putLength (now (out .entry)) (runTextOf (now (sheet .entry)) (now (script .entry)) (now (memory .entry)) (now (authority .entry)) (now (budget .entry))) ⌝ }
+    ensures { λ _. ⌜ now (out .exit) ≡ put (now (out .entry)) (runTextOf (now (sheet .entry)) (now (script .entry)) (now (memory .entry)) (now (authority .entry)) (now (budget .entry))) ⌝ }
+{
+    if out.len() < super::PLACES {
+        return 0;
+    }
+    let b = super::budget_line(budget);
+    if !b.ok {
+        return put_bytes(out, b"no budget\n");
+    }
+    let a = super::group_line(authority);
+    let m = memory_text::read_memory(memory);
+    let other = super::lower(super::unread(a.ok, 3), super::unread(m.ok, 8));
+    let words = m.words;
+    run_words(
+        sheet,
+        script,
+        words,
+        m.count * 16,
+        a.set,
+        b.number,
+        other,
+        out,
+    )
+}

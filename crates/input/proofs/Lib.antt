@@ -1,0 +1,2 @@
+-- The law of inputs one after another.
+pub mod Inputs

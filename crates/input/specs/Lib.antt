@@ -1,0 +1,2 @@
+-- What reading standard input leaves.
+pub mod Input

@@ -1,0 +1,169 @@
+-- The buffer holds what is kept of each text. Assumes nothing.
+use Prim.Native.Nat.{ℕ, suc, _+_, _*_, _-_, _≤_, _<_}
+use native.Mathlib.Omega.{arith}
+use mathlib.Core.Path.{_≡_, refl, sym, ap, _∙_}
+use mathlib.Core.Bool.{true, false}
+use mathlib.Core.List.{List, [], _∷_, _++_, append-assoc, append-nil}
+use lib.ListN.{length, take, drop, getD, set, length-set, length-take, length-drop, replicate, List·getD-eq-default, getD-replicate}
+use lib.Seq.{take-all, take-append-le, getD-set-same, getD-set-other}
+use lib.Dec.{eqb, ltb}
+use borrow.Author.Tests.{ltb-true, ltb-false, eqb-true, eqb-false}
+use Rattle.text.proofs.Cases.{cases}
+use Rattle.parts.specs.Parts.{parting, given, textFrom, textOf, keep, keptOf}
+use Rattle.parts.specs.Feeding.{texts, beginning, Held, held, count, turned, stored, fed, textIn}
+use Rattle.parts.specs.Theorems.{HoldsParts}
+use Rattle.parts.proofs.Steps.{parting-below, stored-full, stored-room, stepped-on, stepped-in, from-next, from-same}
+use Rattle.parts.proofs.Places.{place-same, place-other}
+
+-- what holds between two bytes of the input
+record Sound (last : ℕ) (h : Held) : Type 0 where
+  inside : h .state .text ≤ last
+  places : length (h .state .kept) ≡ texts
+  few : (i : ℕ) → count (h .state) i ≤ keep
+  long : suc last * keep ≤ length (h .buffer)
+
+-- what is held of text i
+abbrev part : Held → ℕ → List ℕ
+part h i = textIn (h .state) (h .buffer) i
+
+part-few : (last : ℕ) (h : Held) → Sound last h → (i : ℕ) → length (part h i) ≤ keep
+unfolding textIn
+part-few last h s i = omega (arith, length-take (count (h .state) i) (drop (i * keep) (h .buffer)), s .few i)
+
+sound-turned : (last : ℕ) (h : Held) → Sound last h → h .state .text < last → Sound last (turned h)
+unfolding turned
+sound-turned last h s l = record { inside = omega arith; places = s .places; few = s .few; long = s .long }
+
+part-turned : (h : Held) (i : ℕ) → part (turned h) i ≡ part h i
+unfolding turned textIn
+part-turned h i = refl
+
+-- one number of a list, raised by one
+raised : (ks : List ℕ) (j : ℕ) → (i : ℕ) → getD ks i 0 ≤ keep → getD ks j 0 < keep → j < length ks → getD (set ks j (getD ks j 0 + 1)) i 0 ≤ keep
+raised ks j i h l p =
+    cases (eqb i j)
+    (λ e. let q : i ≡ j = eqb-true _ _ e in rw q (rw (getD-set-same ks j (getD ks j 0 + 1) 0 p) (omega arith)))
+    (λ e. rw (getD-set-other ks j i (getD ks j 0 + 1) 0 (eqb-false _ _ e)) h)
+
+-- a byte of the text that goes on
+module _ (last : ℕ) (h : Held) (s : Sound last h) (b : ℕ) (below : last < texts) where
+  abbrev j : ℕ
+  j = h .state .text
+
+  abbrev n : ℕ
+  n = count (h .state) j
+
+  sound-stored : Sound last (stored h b)
+  sound-stored =
+      cases (ltb n keep)
+      (λ e.
+      let l : n < keep = ltb-true _ _ e in
+      let p : j < length (h .state .kept) = omega (arith, s .inside, s .places) in
+      rw (stored-room (h .state) (h .buffer) b (omega (arith, s .inside)) l)
+      (record {
+        inside = s .inside;
+        places = length-set (h .state .kept) j (n + 1) ∙ s .places;
+        few = λ i. raised (h .state .kept) j i (s .few i) l p;
+        long = omega (arith, length-set (h .buffer) (j * keep + n) b, s .long);
+      }))
+      (λ e.
+      rw (stored-full (h .state) (h .buffer) b (omega (arith, s .inside)) (ltb-false _ _ e))
+      (record { inside = s .inside; places = s .places; few = s .few; long = s .long }))
+
+  stored-start : (stored h b .state .text ≡ j) × (stored h b .state .start ≡ eqb b 10)
+  stored-start =
+      cases (ltb n keep)
+      (λ e. rw (stored-room (h .state) (h .buffer) b (omega (arith, s .inside)) (ltb-true _ _ e)) (refl, refl))
+      (λ e. rw (stored-full (h .state) (h .buffer) b (omega (arith, s .inside)) (ltb-false _ _ e)) (refl, refl))
+
+  -- of the text itself, with whatever follows
+  part-mine : (t : List ℕ) → take keep (part (stored h b) j ++ t) ≡ take keep (part h j ++ (b ∷ t))
+  unfolding textIn
+  part-mine t =
+      let p : j < length (h .state .kept) = omega (arith, s .inside, s .places) in
+      cases (ltb n keep)
+      (λ e.
+      let l : n < keep = ltb-true _ _ e in
+      rw (stored-room (h .state) (h .buffer) b (omega (arith, s .inside)) l)
+      (rw (getD-set-same (h .state .kept) j (n + 1) 0 p)
+      (rw (place-same (h .buffer) (j * keep) n b (omega (arith, s .inside, s .long)))
+      (ap (take keep) (append-assoc (take n (drop (j * keep) (h .buffer))) (b ∷ []) t)))))
+      (λ e.
+      let l : keep ≤ n = ltb-false _ _ e in
+      let d : keep ≤ length (take n (drop (j * keep) (h .buffer))) =
+      omega (arith, length-take n (drop (j * keep) (h .buffer)), length-drop (j * keep) (h .buffer), s .few j, s .inside, s .long) in
+      rw (stored-full (h .state) (h .buffer) b (omega (arith, s .inside)) l)
+      (take-append-le keep (take n (drop (j * keep) (h .buffer))) t d
+      ∙ sym (take-append-le keep (take n (drop (j * keep) (h .buffer))) (b ∷ t) d)))
+
+  -- of another text
+  part-other : (i : ℕ) → (j ≡ i → ⊥) → part (stored h b) i ≡ part h i
+  unfolding textIn
+  part-other i d =
+      cases (ltb n keep)
+      (λ e.
+      let l : n < keep = ltb-true _ _ e in
+      rw (stored-room (h .state) (h .buffer) b (omega (arith, s .inside)) l)
+      (rw (getD-set-other (h .state .kept) j i (n + 1) 0 (λ q. d (sym q)))
+      (place-other (h .buffer) i j (count (h .state) i) n b d (s .few i) l)))
+      (λ e. rw (stored-full (h .state) (h .buffer) b (omega (arith, s .inside)) (ltb-false _ _ e)))
+
+  part-stored : (i : ℕ) (t : List ℕ) → take keep (part (stored h b) i ++ t) ≡ take keep (part h i ++ given (eqb j i) b t)
+  unfolding given
+  part-stored i t =
+      cases (eqb j i)
+      (λ e. let q : j ≡ i = eqb-true _ _ e in rw (e, ← q) (part-mine t))
+      (λ e. rw (e, part-other i (eqb-false _ _ e)))
+
+-- what is held of text i, and then its bytes in the rest of the input
+abbrev upto : ℕ → ℕ → Held → List ℕ → List ℕ
+upto last i h t = take keep (part h i ++ textFrom last i (h .state .text) (h .state .start) t)
+
+upto-turned : (last i : ℕ) (h : Held) (b : ℕ) (t : List ℕ) → parting last (h .state .text) (h .state .start) b ≡ true
+    → upto last i (turned h) t ≡ upto last i h (b ∷ t)
+unfolding turned textIn
+upto-turned last i h b t e = ap (λ (u : List ℕ). take keep (part h i ++ u)) (sym (from-next last i (h .state .text) (h .state .start) b t e))
+
+upto-stored : (last i : ℕ) (h : Held) (b : ℕ) (t : List ℕ) → Sound last h → last < texts → parting last (h .state .text) (h .state .start) b ≡ false
+    → upto last i (stored h b) t ≡ upto last i h (b ∷ t)
+upto-stored last i h b t s l e =
+    let q = stored-start last h s b l in
+    rw (q .0, q .1)
+    (part-stored last h s b l i (textFrom last i (h .state .text) (eqb b 10) t)
+    ∙ ap (λ (u : List ℕ). take keep (part h i ++ u)) (sym (from-same last i (h .state .text) (h .state .start) b t e)))
+
+held-after : (last i : ℕ) → last < texts → (t : List ℕ) (h : Held) → Sound last h → part (fed last h t) i ≡ upto last i h t
+unfolding fed textFrom
+held-after last i l [] h s = sym (take-all keep (part h i ++ []) (rw (append-nil (part h i)) (part-few last h s i)) ∙ append-nil (part h i))
+held-after last i l (b ∷ t) h s =
+    cases (parting last (h .state .text) (h .state .start) b)
+    (λ e.
+    ap (λ (g : Held). part (fed last g t) i) (stepped-on last h b e)
+    ∙ held-after last i l t (turned h) (sound-turned last h s (parting-below last (h .state .text) (h .state .start) b e))
+    ∙ upto-turned last i h b t e)
+    (λ e.
+    ap (λ (g : Held). part (fed last g t) i) (stepped-in last h b e)
+    ∙ held-after last i l t (stored h b) (sound-stored last h s b l)
+    ∙ upto-stored last i h b t s l e)
+
+-- nothing is kept at the beginning
+none-kept : (i : ℕ) → count beginning i ≡ 0
+unfolding beginning
+none-kept i =
+    cases (ltb i 8)
+    (λ e. getD-replicate {A = ℕ} 8 i 0 0 (ltb-true _ _ e))
+    (λ e. List·getD-eq-default {A = ℕ} (replicate 8 0) 0 {n = i} (ltb-false _ _ e))
+
+sound-beginning : (last : ℕ) (buffer : List ℕ) → suc last * keep ≤ length buffer → Sound last (held beginning buffer)
+unfolding beginning
+sound-beginning last buffer l = record { inside = omega arith; places = refl; few = λ i. omega (arith, none-kept i); long = l }
+
+part-beginning : (buffer : List ℕ) (i : ℕ) → part (held beginning buffer) i ≡ []
+unfolding textIn
+part-beginning buffer i = rw (none-kept i)
+
+pub holds-parts : HoldsParts
+unfolding keptOf textOf beginning
+holds-parts last buffer input l long i _ =
+    held-after last i l input (held beginning buffer) (sound-beginning last buffer long)
+    ∙ ap (λ (u : List ℕ). take keep (u ++ textFrom last i 0 true input)) (part-beginning buffer i)

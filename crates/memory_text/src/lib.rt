@@ -1,6 +1,9 @@
 // A memory as text: read into words here, written from them in write.rt.
 pub mod write; // write.rt: a memory into a buffer
 
+use reader::Reader;
+use reader::reader_of;
+use reader::rest;
 use text::Place;
 use text::Value;
 ghost use mathlib.Core.Path.{_≡_};
@@ -139,7 +142,7 @@ fn locations(s: &[u8]) -> Memory
 }
 
 // The memory that a text holds.
-pub fn read_memory(s: &[u8]) -> Memory
+fn read_text(s: &[u8]) -> Memory
     ensures { λ r. ⌜ r ≡ memoryOf (now (s .entry)) ⌝ }
 {
     if text::fits(s) {
@@ -147,4 +150,25 @@ pub fn read_memory(s: &[u8]) -> Memory
     } else {
         no_memory()
     }
+}
+
+// The same of the text from `at` on.
+fn read_from(text: &[u8], at: usize) -> Memory
+    ensures { λ r. ⌜ r ≡ memoryOf (drop at (now (text .entry))) ⌝ }
+{
+    read_text(rest(text, at))
+}
+
+// The same of the text that a reader has before it.
+pub fn read_here<'a>(r: Reader<'a>) -> Memory
+    ensures { λ m. ⌜ m ≡ memoryOf (drop (r .entry .at) (now (r .entry .text))) ⌝ }
+{
+    read_from(r.text, r.at)
+}
+
+// The memory that a text holds; a plain slice, so that its callers hold no reader.
+pub fn read_memory(s: &[u8]) -> Memory
+    ensures { λ r. ⌜ r ≡ memoryOf (now (s .entry)) ⌝ }
+{
+    read_here(reader_of(s))
 }

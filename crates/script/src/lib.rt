@@ -25,6 +25,9 @@ use lines::UNPACK;
 use lines::VAR;
 use lines::WHILE;
 use lines::row_at;
+use reader::Reader;
+use reader::reader_of;
+use reader::rest;
 use tables::labels;
 use tables::locations;
 use tables::types;
@@ -135,7 +138,7 @@ fn refused() -> Script
 }
 
 // The code of a text's lines, whatever they say.
-fn decode(s: &[u8]) -> Script
+fn decode_text(s: &[u8]) -> Script
     ensures { λ r. ⌜ r ≡ codedLines (linesOf (now (s .entry))) ⌝ }
 {
     if !fits(s) {
@@ -162,6 +165,27 @@ fn decode(s: &[u8]) -> Script
         }
     }
     Script { count: n, code }
+}
+
+// The same of the text from `at` on.
+fn decode_from(text: &[u8], at: usize) -> Script
+    ensures { λ r. ⌜ r ≡ codedLines (linesOf (drop at (now (text .entry)))) ⌝ }
+{
+    decode_text(rest(text, at))
+}
+
+// The same of the text that a reader has before it.
+pub fn decode_here<'a>(r: Reader<'a>) -> Script
+    ensures { λ s. ⌜ s ≡ codedLines (linesOf (drop (r .entry .at) (now (r .entry .text)))) ⌝ }
+{
+    decode_from(r.text, r.at)
+}
+
+// The code of a text's lines; a plain slice, so that its callers hold no reader.
+fn decode(text: &[u8]) -> Script
+    ensures { λ r. ⌜ r ≡ codedLines (linesOf (now (text .entry))) ⌝ }
+{
+    decode_here(reader_of(text))
 }
 
 // Whether a number names a type.

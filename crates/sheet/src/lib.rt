@@ -4,8 +4,12 @@ mod draft; // draft.rt: from lines to the table
 mod repeat; // repeat.rt: whether a table repeats a type or a label
 
 ghost use mathlib.Core.Path.{_≡_};
+ghost use lib.ListN.{drop};
 ghost use Rattle.sheet.specs.Sheets.{refusedBy, sheetOf, decoded};
 use draft::draft_of;
+use reader::Reader;
+use reader::reader_of;
+use reader::rest;
 use repeat::repeats;
 use tables::WORDS;
 
@@ -26,7 +30,7 @@ fn refused(number: u8) -> Decoded
 }
 
 // The table of a sheet's text, or the number of its refusal.
-pub fn read(text: &[u8]) -> Decoded
+fn read_text(text: &[u8]) -> Decoded
     ensures { λ r. ⌜ r ≡ decoded (sheetOf (now (text .entry))) ⌝ }
 {
     let d = draft_of(text);
@@ -38,4 +42,25 @@ pub fn read(text: &[u8]) -> Decoded
         return refused(2);
     }
     Decoded { answer: 0, table }
+}
+
+// The same of the text from `at` on.
+fn read_from(text: &[u8], at: usize) -> Decoded
+    ensures { λ r. ⌜ r ≡ decoded (sheetOf (drop at (now (text .entry)))) ⌝ }
+{
+    read_text(rest(text, at))
+}
+
+// The same of the text that a reader has before it.
+pub fn read_here<'a>(r: Reader<'a>) -> Decoded
+    ensures { λ d. ⌜ d ≡ decoded (sheetOf (drop (r .entry .at) (now (r .entry .text)))) ⌝ }
+{
+    read_from(r.text, r.at)
+}
+
+// The table of a sheet's text, or the number of its refusal; a plain slice, so that its callers hold no reader.
+pub fn read(text: &[u8]) -> Decoded
+    ensures { λ r. ⌜ r ≡ decoded (sheetOf (now (text .entry))) ⌝ }
+{
+    read_here(reader_of(text))
 }

@@ -1,52 +1,18 @@
--- `sheet::read` meets its contract. Assumes nothing.
-use mathlib.Core.Path.{sym, _∙_}
-use borrow.Author.Tests.{not-true, not-false}
-use Rattle.sheet.specs.Sheets.{sheetOf}
-use Rattle.sheet.proofs.ReadLaws.{formed-read, answer-malformed, answer-repeating, answer-accepted}
-use borrow.Author.Needs.{needs}
-use Rattle.sheet.proofs.read.Statement.{statement}
-use Rattle.sheet.proofs.read.Tie as tie
+-- `sheet::read` meets its contract: it starts a reader at the text and calls `read_here`. Assumes nothing.
+use lib.ListN.{drop}
+use Rattle.sheet.specs.Sheets.{sheetOf, decoded}
+use Rattle.sheet.proofs.Decoded as S
+use Rattle.sheet.proofs.Decoded.Laws as S′
+use Rattle.sheet.proofs.read_here.Symbol as callee
+use Rattle.sheet.proofs.read_here.Met as callee-thm
+use Rattle.reader.proofs.Apart.{struct}
+use Rattle.reader.proofs.Started.{started}
+use Rattle.sheet.proofs.read.Key.{name}
+use Rattle.sheet.proofs.read.Statement as stated
+use Rattle.sheet.proofs.read.Code as code
 
-draft-of-requires : tie.Need-draft-of-requires
-draft-of-requires c κs = search needs
-
-refused-requires : tie.Need-refused-requires
-refused-requires c κs = search needs
-
-returns : tie.Need-returns
-unfolding sheetOf
-returns c =
-    c .refused .ensures ∙ answer-malformed _ _ (c .before .before .before .draft-of .ensures) (not-true _ (c .before .if1 .taken))
-
-slice-aggregate-repeats : tie.Need-slice-aggregate-repeats
-slice-aggregate-repeats c = search needs
-
-repeats-requires : tie.Need-repeats-requires
-repeats-requires c κs = search needs
-
-refused-requires-2 : tie.Need-refused-requires-2
-refused-requires-2 c κs = search needs
-
-returns-2 : tie.Need-returns-2
-unfolding sheetOf
-returns-2 c =
-    c .refused2 .ensures
-    ∙ answer-repeating _ (not-false _ (c .before .before .before .before .before .if1 .left)) _ (formed-read _) (c .before .before .before .before .before .before .before .draft-of .ensures) (sym (c .before .before .repeats .ensures) ∙ c .before .if2 .taken)
-
-returns-3 : tie.Need-returns-3
-unfolding sheetOf
-returns-3 c =
-    answer-accepted _ (not-false _ (c .before .before .before .before .if1 .left)) _ (formed-read _) (c .before .before .before .before .before .before .draft-of .ensures) (sym (c .before .repeats .ensures) ∙ c .if2 .left)
-
-pub read-spec : {M : Type 1} → statement M
-read-spec =
-    tie.close
-    (tie.spec
-    draft-of-requires
-    refused-requires
-    returns
-    slice-aggregate-repeats
-    repeats-requires
-    refused-requires-2
-    returns-2
-    returns-3)
+pub read-spec : {M : Type 1} → stated.statement M
+unfolding code.routine
+read-spec 𝓤 H 𝓜 𝓖 𝓡 =
+    started (struct S.the-type S′.the-laws S′.lowers) (λ s i. decoded (sheetOf (drop i s))) 𝓤 H 𝓜 𝓖 𝓡 code.env name callee.name callee.routine
+    (code.unfolded 𝓤 H 𝓜 𝓡) code.calls-reader·reader-of code.calls-sheet·read-here (callee-thm.met 𝓤 H 𝓜 𝓖 𝓡)

@@ -1,0 +1,20 @@
+-- `memory_text::read_from` meets its contract. Assumes nothing.
+use mathlib.Core.List.{List}
+use mathlib.Core.Path.{ap, _∙_}
+use Prim.Native.Nat.{ℕ}
+use Rattle.memory_text.specs.Answers.{memoryOf}
+use borrow.Author.Needs.{needs}
+use Rattle.memory_text.proofs.read_from.Statement.{statement}
+use Rattle.memory_text.proofs.read_from.Tie as tie
+
+rest-requires : tie.Need-rest-requires
+rest-requires c κs = search needs
+
+read-text-requires : tie.Need-read-text-requires
+read-text-requires c κs = search needs
+
+returns : tie.Need-returns
+returns c = c .read-text .ensures ∙ ap (λ (t : List ℕ). memoryOf t) (c .before .rest .ensures)
+
+pub read-from-spec : {M : Type 1} → statement M
+read-from-spec = tie.close (tie.spec rest-requires read-text-requires returns)

@@ -1,0 +1,25 @@
+-- `memory_text::read_text` meets its contract. Assumes nothing.
+use mathlib.Core.Path.{sym, _∙_}
+use borrow.Author.Needs.{needs}
+use Rattle.memory_text.proofs.Tables.{memory-fits, memory-long}
+use Rattle.memory_text.proofs.read_text.Statement.{statement}
+use Rattle.memory_text.proofs.read_text.Tie as tie
+
+fits-requires : tie.Need-fits-requires
+fits-requires c κs = search needs
+
+locations-requires : tie.Need-locations-requires
+locations-requires c κs = search needs
+
+no-memory-requires : tie.Need-no-memory-requires
+no-memory-requires c κs = search needs
+
+returns : tie.Need-returns
+returns c = c .locations .ensures ∙ sym (memory-fits _ (sym (c .before .before .fits2 .ensures) ∙ c .before .if1 .taken))
+
+returns-2 : tie.Need-returns-2
+returns-2 c = c .no-memory .ensures ∙ sym (memory-long _ (sym (c .before .before .fits2 .ensures) ∙ c .before .if1 .left))
+
+pub read-text-spec : {M : Type 1} → statement M
+read-text-spec =
+    tie.close (tie.spec fits-requires locations-requires no-memory-requires returns returns-2)

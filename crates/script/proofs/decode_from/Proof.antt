@@ -1,0 +1,21 @@
+-- `script::decode_from` meets its contract. Assumes nothing.
+use mathlib.Core.List.{List}
+use mathlib.Core.Path.{ap, _∙_}
+use Prim.Native.Nat.{ℕ}
+use Rattle.script.specs.Reading.{linesOf}
+use Rattle.script.specs.Script.{codedLines}
+use borrow.Author.Needs.{needs}
+use Rattle.script.proofs.decode_from.Statement.{statement}
+use Rattle.script.proofs.decode_from.Tie as tie
+
+rest-requires : tie.Need-rest-requires
+rest-requires c κs = search needs
+
+decode-text-requires : tie.Need-decode-text-requires
+decode-text-requires c κs = search needs
+
+returns : tie.Need-returns
+returns c = c .decode-text .ensures ∙ ap (λ (t : List ℕ). codedLines (linesOf t)) (c .before .rest .ensures)
+
+pub decode-from-spec : {M : Type 1} → statement M
+decode-from-spec = tie.close (tie.spec rest-requires decode-text-requires returns)

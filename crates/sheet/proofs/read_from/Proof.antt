@@ -1,0 +1,20 @@
+-- `sheet::read_from` meets its contract. Assumes nothing.
+use mathlib.Core.List.{List}
+use mathlib.Core.Path.{ap, _∙_}
+use Prim.Native.Nat.{ℕ}
+use Rattle.sheet.specs.Sheets.{sheetOf, decoded}
+use borrow.Author.Needs.{needs}
+use Rattle.sheet.proofs.read_from.Statement.{statement}
+use Rattle.sheet.proofs.read_from.Tie as tie
+
+rest-requires : tie.Need-rest-requires
+rest-requires c κs = search needs
+
+read-text-requires : tie.Need-read-text-requires
+read-text-requires c κs = search needs
+
+returns : tie.Need-returns
+returns c = c .read-text .ensures ∙ ap (λ (t : List ℕ). decoded (sheetOf t)) (c .before .rest .ensures)
+
+pub read-from-spec : {M : Type 1} → statement M
+read-from-spec = tie.close (tie.spec rest-requires read-text-requires returns)

@@ -10,6 +10,7 @@ use Rattle.labels.proofs.LatticeLaws as lattice
 use Rattle.language.specs.Labels.{Lattice}
 use Rattle.tables.specs.Sheet.{Sheet, labelNo, locationNo, formed}
 use Rattle.tables.specs.Meaning.{labelsOver, effectiveIf, effectively, declarationsOf}
+use Rattle.tables.specs.Theorems.{SameLabels}
 use Rattle.tables.proofs.LabelLaws.{label-no-effective}
 
 pub labels-lattice : (n : ℕ) → Lattice (labelsOver n)
@@ -45,3 +46,6 @@ module _ (s : Sheet) (fm : formed s ≡ true) where
 
   pub declared-home : (x : ℕ) → (declarationsOf s .home x) .raw ≡ labelNo s (locationNo s x .label)
   declared-home x = effectively-raw (s .principals) (labelNo s (locationNo s x .label)) (label-no-effective s fm (locationNo s x .label))
+
+  pub same-labels : SameLabels s
+  same-labels = record { are-effective = label-no-effective s fm; of-numbers = declared-label; of-locations = declared-home }

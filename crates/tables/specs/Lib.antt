@@ -2,3 +2,4 @@ pub mod Sheet
 pub mod Tables
 pub mod Meaning
 pub mod TypeTest
+pub mod Theorems

@@ -5,7 +5,7 @@ use crate::implementation::Implementation;
 
 /// The arguments of a run and of the view of the memory it leaves, and the outcome of the run.
 pub struct Workload {
-    pub name: &'static str,
+    pub name: String,
     sheet: String,
     script: String,
     memory: Vec<u32>,
@@ -16,7 +16,16 @@ pub struct Workload {
 }
 
 pub fn all() -> Vec<Workload> {
-    vec![small(), lines_512(), long_loop(), locations_64()]
+    vec![
+        small(),
+        lines(25),
+        lines(51),
+        lines(102),
+        long_loop(4, 300),
+        long_loop(6, 1468),
+        long_loop(8, 6908),
+        locations_64(),
+    ]
 }
 
 impl Workload {
@@ -80,7 +89,7 @@ fn small() -> Workload {
     let script = ["= 2", "k 2", "x 1", "c", "x 2", "= 3", "u 5 2", "v 0", "s"];
     let (pack, unpack) = script.split_at(3);
     Workload {
-        name: "small",
+        name: "small".to_string(),
         sheet: text(&listed(&sheet)),
         script: text(&in_order(vec![listed(pack), listed(unpack)])),
         memory: [&[1, 5][..], &[1, 62], &[4, 2, 1], &[4, 2, 1]].map(location).concat(),
@@ -91,31 +100,30 @@ fn small() -> Workload {
     }
 }
 
-/// 512 lines: 102 assignments of a sum and one of an integer.
-fn lines_512() -> Workload {
-    let mut commands = vec![listed(&["= 0", "+", "x 1", "i 7"]); 102];
+/// Assignments of a sum, so many, and one of an integer: 5 lines and 2 steps each, 2 lines and 1 step at the end.
+fn lines(sums: usize) -> Workload {
+    let mut commands = vec![listed(&["= 0", "+", "x 1", "i 7"]); sums];
     commands.push(listed(&["= 1", "i 9"]));
     let script = in_order(commands);
-    assert_eq!(script.len(), 512);
     Workload {
-        name: "512-lines",
+        name: format!("{}-lines", script.len()),
         sheet: text(&listed(&["P 4", "L", "O 1 0004 000f", "X 0 0", "X 0 0"])),
         script: text(&script),
         memory: [&[1, 5][..], &[1, 62]].map(location).concat(),
         authority: 1,
         budget: 1000,
         group: 2,
-        outcome: Outcome::done(205),
+        outcome: Outcome::done(2 * sums as u32 + 1),
     }
 }
 
-/// A counter of eight bits that runs through all its numbers. Left is 1. Location 8 is the guard,
-/// location 9 the carry.
-fn long_loop() -> Workload {
+/// A counter of so many bits, up to eight, that runs through all its numbers. Left is 1. Location 8 is the
+/// guard, location 9 the carry.
+fn long_loop(bits: usize, steps: u32) -> Workload {
     let mut sheet = listed(&["P 2", "L"]);
     sheet.extend(vec!["X 3 0".to_string(); 10]);
     let mut body = vec![listed(&["= 9", "l 3", "i 0"])];
-    for bit in 0..8 {
+    for bit in 0..bits {
         let read = format!("x {bit}");
         let write = format!("= {bit}");
         let carry_on = listed(&[&write, "r 3", "i 0"]);
@@ -128,14 +136,14 @@ fn long_loop() -> Workload {
     let mut memory = location(&[4, 1, 0]).repeat(10);
     memory[8 * 16] = 3;
     Workload {
-        name: "long-loop",
+        name: format!("{steps}-steps"),
         sheet: text(&sheet),
         script: text(&script),
         memory,
         authority: 1,
         budget: 100_000,
         group: 3,
-        outcome: Outcome::done(6908),
+        outcome: Outcome::done(steps),
     }
 }
 
@@ -152,7 +160,7 @@ fn locations_64() -> Workload {
     sheet.extend((0..64).map(|x| format!("X 4 {}", x / 2)));
     let packs = (0..64).map(|x| listed(&[&format!("= {x}"), &format!("k {}", x / 2), "i 1"]));
     Workload {
-        name: "64-locations",
+        name: "64-locations".to_string(),
         sheet: text(&sheet),
         script: text(&in_order(packs.collect())),
         memory: location(&[3, 5, 3, 3, 5, 7, 1, 8]).repeat(64),

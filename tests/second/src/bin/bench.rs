@@ -1,10 +1,10 @@
 //! Runs one workload, to be measured from outside:
 //!
 //! ```text
-//! bench second|library small|512-lines|long-loop|64-locations REPEATS
+//! bench second|library WORKLOAD REPEATS
 //! ```
 //!
-//! Each repeat is one run and one view, whose answers are checked. `library` is there where the
+//! The workloads are those of `workload.rs`. Each repeat is one run and one view, whose answers are checked. `library` is there where the
 //! package was built with `SIMP_LIB_DIR` set.
 
 use second::implementation::ALL;
@@ -12,7 +12,7 @@ use second::workload;
 use std::hint::black_box;
 use std::process::ExitCode;
 
-const USAGE: &str = "usage: bench second|library small|512-lines|long-loop|64-locations REPEATS";
+const USAGE: &str = "usage: bench second|library WORKLOAD REPEATS";
 
 fn main() -> ExitCode {
     let arguments: Vec<String> = std::env::args().skip(1).collect();
@@ -35,7 +35,7 @@ fn carry_out(arguments: &[String]) -> Result<(), String> {
         .ok_or(format!("no implementation {implementation} is linked"))?;
     let workload = workload::all()
         .into_iter()
-        .find(|w| w.name == workload)
+        .find(|w| w.name == *workload)
         .ok_or(format!("no workload {workload}"))?;
     let repeats: u32 = repeats.parse().map_err(|_| format!("{repeats} is no number"))?;
     for _ in 0..repeats {

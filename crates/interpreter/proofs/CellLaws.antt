@@ -2,20 +2,20 @@
 -- Assumes nothing.
 use mathlib.Core.Path.{_≡_, refl, sym, ap, _∙_}
 use mathlib.Core.Bool.{Bool, true, false}
-use mathlib.Core.List.{List, _++_, append-assoc, append-nil}
+use mathlib.Core.List.{List, [], _∷_, _++_, append-assoc, append-nil}
 use Prim.Native.Nat.{ℕ, zero, suc, _+_, _*_, _-_, _/_, _≤_, _<_}
 use native.Mathlib.Omega.{arith}
-use native.Mathlib.Nat.{le-div-iff-mul-le, zero-add}
+use native.Mathlib.Nat.{le-div-iff-mul-le}
 use native.Mathlib.Numerals.{add-one}
 use borrow.Author.Tests.{lt-ltb, le-ltb, ltb-true, ltb-false}
 use lib.Dec.{ltb}
-use lib.ListN.{length, take, drop, getD, set, length-append, length-take, length-drop, take-append-drop}
+use lib.ListN.{length, take, drop, getD, set, replicate, length-append, length-take, length-drop, take-append-drop}
 use lib.Seq.{length-take-le, take-at, drop-at, drop-append-le, drop-append-add, take-append-le, drop-drop, take-all, paste, paste-suc, getD-drop}
 use Rattle.language.specs.Evaluation.{cell-words}
 use Rattle.memory.specs.Words.{zeros}
 use Rattle.memory.specs.Memory.{cellOf}
 use Rattle.memory.proofs.CellsLaws.{length-cell-of}
-use Rattle.interpreter.specs.Cells.{cellCount, loadOf, storeOf}
+use Rattle.interpreter.specs.Cells.{cellCount, loadOf, storeOf, pushOf, popOf}
 
 -- ---- which cells there are
 
@@ -157,6 +157,16 @@ rest-kept ws words long = on (ltb 0 (cellCount ws)) refl
     on true e = ap (drop 16) (store-there ws 0 words (ltb-true _ _ e)) ∙ drop-at words (drop 16 ws) 16 long
     on false e = ap (drop 16) (store-past ws 0 words (ltb-false _ _ e))
 
+-- ---- push and pop
+
+pub length-push : (w : ℕ) (ws : List ℕ) → length ws ≡ cell-words → length (pushOf w ws) ≡ cell-words
+unfolding pushOf
+length-push w ws long = ap suc (length-take-le 15 ws (omega arith))
+
+pub length-pop : (ws : List ℕ) → length ws ≡ cell-words → length (popOf ws) ≡ cell-words
+unfolding popOf
+length-pop ws long = length-append (drop 1 ws) (0 ∷ []) ∙ omega (arith, length-drop 1 ws)
+
 -- ---- the loops that copy
 
 pub copy-turn : (d₀ s : List ℕ) (to from i : ℕ) (d : List ℕ) → d ≡ paste d₀ to (drop from s) i → to + i < length d₀ → from + i < length s
@@ -167,24 +177,23 @@ copy-turn d₀ s to from i d e h l =
 pub copy-done : (d₀ : List ℕ) (to : ℕ) (s : List ℕ) (i n : ℕ) (d : List ℕ) → d ≡ paste d₀ to s i → i ≡ n → d ≡ paste d₀ to s n
 copy-done d₀ to s i n d e h = e ∙ ap (λ (j : ℕ). paste d₀ to s j) h
 
-pub load-turn : (ws : List ℕ) (base i : ℕ) (out : List ℕ) → out ≡ paste (zeros cell-words) 0 (drop base ws) i → i < cell-words → base + i < length ws
-    → set out i (getD ws (base + i) 0) ≡ paste (zeros cell-words) 0 (drop base ws) (i + 1)
-load-turn ws base i out e h l = rw (zero-add i) at (copy-turn (zeros 16) ws 0 base i out e (omega arith) l)
+-- what the functions over a cell copy
 
-pub store-turn : (d₀ words : List ℕ) (base i : ℕ) (d : List ℕ) → d ≡ paste d₀ base words i → length words ≡ cell-words → i < cell-words → base + i < length d₀
-    → set d (base + i) (getD words i 0) ≡ paste d₀ base words (i + 1)
-store-turn d₀ words base i d e n h l = rw (add-one i, e) (paste-suc d₀ base words i 0 l (omega arith))
-
-pub load-done : (ws : List ℕ) (k i : ℕ) (out : List ℕ) → out ≡ paste (zeros cell-words) 0 (drop (cell-words * k) ws) i → i ≡ cell-words → k < cellCount ws
-    → out ≡ loadOf ws k
+pub load-done : (ws : List ℕ) (k : ℕ) (out : List ℕ) → out ≡ paste (zeros cell-words) 0 (drop (cell-words * k) ws) cell-words → k < cellCount ws → out ≡ loadOf ws k
 unfolding cellOf
-load-done ws k i out e n h =
-    e ∙ ap (λ (j : ℕ). paste (zeros 16) 0 (drop (16 * k) ws) j) n ∙ append-nil (take 16 (drop (16 * k) ws)) ∙ sym (load-there ws k h)
+load-done ws k out e h = e ∙ append-nil (take 16 (drop (16 * k) ws)) ∙ sym (load-there ws k h)
 
-pub store-done : (ws : List ℕ) (k i : ℕ) (words out : List ℕ) → out ≡ paste ws (cell-words * k) words i → i ≡ cell-words → length words ≡ cell-words → k < cellCount ws
+pub store-done : (ws : List ℕ) (k : ℕ) (words out : List ℕ) → out ≡ paste ws (cell-words * k) words cell-words → length words ≡ cell-words → k < cellCount ws
     → out ≡ storeOf ws k words
-store-done ws k i words out e n long h =
-    e ∙ ap (λ (j : ℕ). paste ws (16 * k) words j) n
-    ∙ append-assoc (take (16 * k) ws) (take 16 words) (drop (16 * k + 16) ws)
+store-done ws k words out e long h =
+    e ∙ append-assoc (take (16 * k) ws) (take 16 words) (drop (16 * k + 16) ws)
     ∙ ap (λ (u : List ℕ). take (16 * k) ws ++ (u ++ drop (16 * k + 16) ws)) (take-all 16 words (omega arith))
     ∙ sym (store-there ws k words h)
+
+pub push-done : (w : ℕ) (words out : List ℕ) → out ≡ paste (replicate cell-words w) 1 words 15 → out ≡ pushOf w words
+unfolding pushOf
+push-done w words out e = e ∙ append-nil (w ∷ take 15 words)
+
+pub pop-done : (words out : List ℕ) → out ≡ paste (zeros cell-words) 0 (drop 1 words) 15 → length words ≡ cell-words → out ≡ popOf words
+unfolding popOf
+pop-done words out e long = e ∙ ap (λ (u : List ℕ). u ++ (0 ∷ [])) (take-all 15 (drop 1 words) (omega (arith, length-drop 1 words)))

@@ -5,7 +5,7 @@ use mathlib.Core.List.{List, _∷_}
 use Prim.Native.Nat.{ℕ, zero, suc, _+_, _-_, _≤_, _<_}
 use native.Mathlib.Omega.{arith}
 use lib.ListN.{drop, getD}
-use Rattle.language.specs.Syntax.{Value, inl, inr, Expr, Cmd}
+use Rattle.language.specs.Syntax.{Value, Expr, Cmd}
 use Rattle.language.specs.Evaluation.{World, Mem, Env, Res, ok, long, stuck, eval}
 use Rattle.language.specs.Transition.{put, Out, done, spent, over, wrong}
 use Rattle.language.proofs.Interpreter.{go, andThen, spend, assigned, go-assign}
@@ -14,12 +14,12 @@ use Rattle.lines.specs.Code.{code}
 use Rattle.lines.specs.Names.{Counts, maxDepth}
 use Rattle.memory.specs.Words.{enc, cell}
 use Rattle.memory.specs.Memory.{cellOf}
-use Rattle.interpreter.specs.Cells.{accumulator, firstLocation, loadOf, storeOf, Holds}
-use Rattle.interpreter.specs.Nodes.{afterTag, Answers, Tells}
+use Rattle.interpreter.specs.Cells.{accumulator, firstLocation, loadOf, storeOf, popOf, Holds}
+use Rattle.interpreter.specs.Nodes.{Answers, Tags, Tells}
 use Rattle.interpreter.specs.Post.{ExprAt, Evals, a-command, Skips, Ends, ticked, Ticks, Assigns, Choice, to-left, to-right, no-budget, too-long, no-rule, choiceV, choice, Chooses, Decides, Enters, Branches}
-use Rattle.interpreter.proofs.CellLaws.{length-load}
-use Rattle.interpreter.proofs.ValueLaws.{cell-size, cell-left, cell-right, Kind, is-int, is-err, is-inl, is-inr, is-pkg, is-blank, kind-enc}
-use Rattle.interpreter.proofs.NodeLaws.{words-here, load-here, length-inside}
+use Rattle.interpreter.proofs.CellLaws.{length-load, length-pop}
+use Rattle.interpreter.proofs.ValueLaws.{cell-size, tags-left, tags-right, pop-tag, Kind, is-int, is-err, is-inl, is-inr, is-pkg, is-blank, kind-enc}
+use Rattle.interpreter.proofs.NodeLaws.{words-here, load-here}
 use Rattle.interpreter.proofs.StateLaws.{room-here, holds-kept, holds-put, holds-bind}
 
 -- ---- how ends follow one another
@@ -294,16 +294,12 @@ module _ (ws : List ℕ) (rest : List Line) (locations depth : ℕ) (M : Mem) (�
   enters-past no-rule state left n start end words work z h = tt
 
   module _ (work work′ : List ℕ) (held : Holds work locations depth M ρ) (shallow : depth < maxDepth)
-      (e : work′ ≡ storeOf work (suc depth) (afterTag (loadOf work accumulator))) where
-    bind-left : (v : Value) → cellOf work accumulator ≡ cell (inl v) → Holds work′ locations (suc depth) M (v ∷ ρ)
-    bind-left v a =
-        holds-bind held v shallow (ap afterTag (load-here work (inl v) (room-here held) a) ∙ cell-left v (cell-size work 0 (inl v) a))
-        (length-inside work _ refl) e
-
-    bind-right : (v : Value) → cellOf work accumulator ≡ cell (inr v) → Holds work′ locations (suc depth) M (v ∷ ρ)
-    bind-right v a =
-        holds-bind held v shallow (ap afterTag (load-here work (inr v) (room-here held) a) ∙ cell-right v (cell-size work 0 (inr v) a))
-        (length-inside work _ refl) e
+      (e : work′ ≡ storeOf work (suc depth) (popOf (loadOf work accumulator))) where
+    binds-inside : {w : ℕ} {f : Value → Value} → Tags w f → (v : Value) → cellOf work accumulator ≡ cell (f v) → Holds work′ locations (suc depth) M (v ∷ ρ)
+    binds-inside {f = f} t v a =
+        holds-bind held v shallow
+        (ap popOf (load-here work (f v) (room-here held) a) ∙ pop-tag t v (omega (arith, t .longer v, cell-size work 0 (f v) a)))
+        (length-pop _ (length-load work 0)) e
 
     module _ (first second end : ℕ) (s : Source c) (s′ : Source d) (k : Skips ws first second) (k′ : Skips ws second end) where
       second-at : drop first ws ≡ code (cmdLines c (cmdLines d rest)) → drop second ws ≡ code (cmdLines d rest)
@@ -315,7 +311,7 @@ module _ (ws : List ℕ) (rest : List Line) (locations depth : ℕ) (M : Mem) (�
       enters-left : (ch : Choice) (state left : ℕ) → state ≡ 1 → Chooses ws (cmdLines c (cmdLines d rest)) ch state left (cellOf work accumulator) first
           → Enters ws rest locations depth M ρ c d ch 0 left work′ first end
       unfolding Chooses Enters
-      enters-left (to-left v b) state left z h = (refl, h .1, bind-left v (h .2), h .3, end-at (h .3))
+      enters-left (to-left v b) state left z h = (refl, h .1, binds-inside tags-left v (h .2), h .3, end-at (h .3))
       enters-left (to-right v b) state left z h = absurd (omega (arith, h .0))
       enters-left no-budget state left z h = absurd (omega (arith, h .0))
       enters-left (too-long b) state left z h = absurd (omega (arith, h .0))
@@ -325,7 +321,7 @@ module _ (ws : List ℕ) (rest : List Line) (locations depth : ℕ) (M : Mem) (�
           → Enters ws rest locations depth M ρ c d ch 0 left work′ second end
       unfolding Chooses Enters
       enters-right (to-left v b) state left z h = absurd (omega (arith, h .0))
-      enters-right (to-right v b) state left z h = (refl, h .1, bind-right v (h .2), second-at (h .3), end-at (h .3))
+      enters-right (to-right v b) state left z h = (refl, h .1, binds-inside tags-right v (h .2), second-at (h .3), end-at (h .3))
       enters-right no-budget state left z h = absurd (omega (arith, h .0))
       enters-right (too-long b) state left z h = absurd (omega (arith, h .0))
       enters-right no-rule state left z h = tt
@@ -354,7 +350,7 @@ module _ {ws : List ℕ} {at : ℕ} {table : List ℕ} {authority depth : ℕ} {
               (g .means W k e (cmdLines c (cmdLines d rest)) M ρ t p held);
         }
 
-    module _ {work″ : List ℕ} {second end : ℕ} (l : depth < maxDepth) (b : work″ ≡ storeOf work′ (suc depth) (afterTag (loadOf work′ accumulator)))
+    module _ {work″ : List ℕ} {second end : ℕ} (l : depth < maxDepth) (b : work″ ≡ storeOf work′ (suc depth) (popOf (loadOf work′ accumulator)))
         (k : Skips ws gn second) (k′ : Skips ws second end) where
       pub branch-left : gs ≡ 1 → Branches ws at table authority depth work fuel 0 gl gn end work″
       branch-left z =

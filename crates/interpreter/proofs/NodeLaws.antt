@@ -2,12 +2,12 @@
 -- Assumes nothing.
 use mathlib.Core.Path.{_≡_, refl, sym, ap, _∙_}
 use mathlib.Core.Bool.{Bool, true, false}
-use mathlib.Core.List.{List, [], _∷_, _++_}
-use Prim.Native.Nat.{ℕ, suc, _+_, _-_, _%_, _^_, _≤_, _<_}
+use mathlib.Core.List.{List, _++_}
+use Prim.Native.Nat.{ℕ, _+_, _-_, _%_, _^_, _≤_, _<_}
 use native.Mathlib.Omega.{arith}
 use borrow.Author.Tests.{le-leb, lt-leb}
-use lib.ListN.{length, drop, getD, take-append-drop, length-append, length-drop}
-use lib.Seq.{getD-take, length-take-le}
+use lib.ListN.{length, drop, getD, take-append-drop}
+use lib.Seq.{getD-take}
 use Rattle.labels.specs.Labels.{belowOf, readsOf, writesOf}
 use Rattle.language.specs.Syntax.{Value, int, err, inl, inr, pkg, blank, size, has}
 use Rattle.language.specs.Evaluation.{World, Res, ok, long, stuck, bind, fitting, fit, addTo, add, packed, opened, wanted, unpacked, cell-words}
@@ -16,10 +16,10 @@ use Rattle.tables.specs.TypeTest.{hasNo}
 use Rattle.memory.specs.Words.{enc, zeros, cell, valueOf}
 use Rattle.memory.specs.Memory.{cellOf}
 use Rattle.memory.proofs.WordLaws.{length-cell, value-enc}
-use Rattle.interpreter.specs.Cells.{accumulator, loadOf, storeOf}
-use Rattle.interpreter.specs.Nodes.{Sizes, afterWord, inPackage, afterTag, ofPackage, Answers, Turns, Applies, Tags, errorOf, errorIn, Tells}
-use Rattle.interpreter.proofs.CellLaws.{there, load-there, length-load, cell-stored, rest-kept}
-use Rattle.interpreter.proofs.ValueLaws.{enc-append, cell-size, cell-after, cell-package, cell-content}
+use Rattle.interpreter.specs.Cells.{accumulator, loadOf, storeOf, pushOf, popOf}
+use Rattle.interpreter.specs.Nodes.{Sizes, Answers, Turns, Applies, Tags, errorOf, errorIn, Tells}
+use Rattle.interpreter.proofs.CellLaws.{there, load-there, length-load, length-push, length-pop, cell-stored, rest-kept}
+use Rattle.interpreter.proofs.ValueLaws.{enc-append, cell-size, tags-left, push-tag, push-package, pop-package}
 
 -- ---- what is in the accumulator
 
@@ -103,27 +103,8 @@ length-error : (e : ℕ) → length (cell (inr (err e))) ≡ cell-words
 unfolding size
 length-error e = length-cell (inr (err e)) (omega arith)
 
-length-after : (w : ℕ) (work words longer : List ℕ) → longer ≡ afterWord w words → words ≡ loadOf work accumulator → length longer ≡ cell-words
-unfolding afterWord
-length-after w work words longer a l =
-    ap (λ (u : List ℕ). length u) a ∙ ap suc (length-take-le 15 words (omega (arith, ap (λ (u : List ℕ). length u) l, length-load work 0)))
-
-length-package : (l : ℕ) (work words longer : List ℕ) → longer ≡ inPackage l words → words ≡ loadOf work accumulator → length longer ≡ cell-words
-unfolding inPackage
-length-package l work words longer a e =
-    ap (λ (u : List ℕ). length u) a
-    ∙ ap (λ (n : ℕ). suc (suc (suc n))) (length-take-le 13 words (omega (arith, ap (λ (u : List ℕ). length u) e, length-load work 0)))
-
-length-content : (work words content : List ℕ) → content ≡ ofPackage words → words ≡ loadOf work accumulator → length content ≡ cell-words
-unfolding ofPackage
-length-content work words content a l =
-    ap (λ (u : List ℕ). length u) a ∙ ap suc (length-append (drop 2 words) (0 ∷ []))
-    ∙ omega (arith, length-drop 2 words, ap (λ (u : List ℕ). length u) l, length-load work 0)
-
-pub length-inside : (work inside : List ℕ) → inside ≡ afterTag (loadOf work accumulator) → length inside ≡ cell-words
-unfolding afterTag
-length-inside work inside a =
-    ap (λ (u : List ℕ). length u) a ∙ length-append (drop 1 (loadOf work 0)) (0 ∷ []) ∙ omega (arith, length-drop 1 (loadOf work 0), length-load work 0)
+loaded : (work words : List ℕ) → words ≡ loadOf work accumulator → length words ≡ cell-words
+loaded work words l = ap (λ (u : List ℕ). length u) l ∙ length-load work 0
 
 -- ---- plus
 
@@ -171,16 +152,16 @@ module _ {work : List ℕ} {state next : ℕ} where
       (λ f t. turns-keep (λ u. fit (f u)) work state 10 z
       (λ v a. answers-long (fit (f v)) (cellOf work 0) (too-long (f v) (omega (arith, t .longer v, size-here work v end s a)))))
 
-  pub tagged-done : {w end : ℕ} {words longer work′ : List ℕ} → state ≡ 0 → Sizes work 0 end → end < cell-words → words ≡ loadOf work accumulator
-      → longer ≡ afterWord w words → work′ ≡ storeOf work accumulator longer
+  pub tagged-done : {w end : ℕ} {words work′ : List ℕ} → state ≡ 0 → Sizes work 0 end → end < cell-words → words ≡ loadOf work accumulator
+      → work′ ≡ storeOf work accumulator (pushOf w words)
       → Applies work state next work′ state next ((f : Value → Value) → Tags w f → Turns (λ u. fit (f u)) work state work′ state)
-  tagged-done {w} {end} {words} {longer} z s h l a e =
-      let n = length-after w work words longer a l in
-      applies-put longer n e
-      (λ f t. rw e (turns-put (λ u. fit (f u)) work state longer z n
+  tagged-done {w} {end} {words} z s h l e =
+      let n = length-push w words (loaded work words l) in
+      applies-put (pushOf w words) n e
+      (λ f t. rw e (turns-put (λ u. fit (f u)) work state (pushOf w words) z n
       (λ v g q. let m = size-here work v end s q in
-      answers-ok (fit (f v)) (f v) state longer (fits (f v) (omega (arith, t .longer v))) z
-      (a ∙ ap (afterWord w) (l ∙ load-here work v g q) ∙ cell-after w f t v (omega arith)))))
+      answers-ok (fit (f v)) (f v) state (pushOf w words) (fits (f v) (omega (arith, t .longer v))) z
+      (ap (pushOf w) (l ∙ load-here work v g q) ∙ push-tag t v (omega arith)))))
 
   -- ---- pack
 
@@ -206,17 +187,19 @@ module _ {work : List ℕ} {state next : ℕ} where
           (λ W t. rw (written l may w W t, y) (turns-keep (packed true l) work state 10 z
           (λ v a. answers-long (packed true l v) (cellOf work 0) (too-long (inl (pkg l v)) (omega (arith, size-here work v end s a))))))
 
-      pub pack-done : {end : ℕ} {words packaged work′ : List ℕ} → state ≡ 0 → may ≡ true → Sizes work 0 end → end ≤ 13 → words ≡ loadOf work accumulator
-          → packaged ≡ inPackage l words → work′ ≡ storeOf work accumulator packaged
+      pub pack-done : {end : ℕ} {words work′ : List ℕ} → state ≡ 0 → may ≡ true → Sizes work 0 end → end ≤ 13 → words ≡ loadOf work accumulator
+          → work′ ≡ storeOf work accumulator (pushOf 3 (pushOf 5 (pushOf l words)))
           → Applies work state next work′ state next ((W : World) → Tells table authority W → Turns (packed (W .writes l) l) work state work′ state)
       unfolding packed size
-      pack-done {end} {words} {packaged} z y s h ld p e =
-          let n = length-package l work words packaged p ld in
-          applies-put packaged n e
-          (λ W t. rw (e, written l may w W t, y) (turns-put (packed true l) work state packaged z n
+      pack-done {end} {words} z y s h ld e =
+          let left : List ℕ = pushOf 3 (pushOf 5 (pushOf l words)) in
+          let n : length left ≡ 16 = length-push 3 _ (length-push 5 _ (length-push l words (loaded work words ld))) in
+          applies-put left n e
+          (λ W t. rw (e, written l may w W t, y) (turns-put (packed true l) work state left z n
           (λ v g a. let m = size-here work v end s a in
-          answers-ok (packed true l v) (inl (pkg l v)) state packaged (fits (inl (pkg l v)) (omega arith)) z
-          (p ∙ ap (inPackage l) (ld ∙ load-here work v g a) ∙ cell-package l v (omega arith)))))
+          answers-ok (packed true l v) (inl (pkg l v)) state left (fits (inl (pkg l v)) (omega arith)) z
+          (ap (λ (u : List ℕ). pushOf 3 (pushOf 5 (pushOf l u))) (ld ∙ load-here work v g a)
+          ∙ ap (pushOf 3) (push-package l v (omega arith)) ∙ push-tag tags-left (pkg l v) (omega arith)))))
 
 -- ---- unpack
 
@@ -272,7 +255,7 @@ module _ (work table : List ℕ) (authority t l e : ℕ) (p : e ≡ errorIn tabl
   unpack-error-at W tells blank state z ne a = tt
 
   unpack-done-at : (W : World) → Tells table authority W → (v : Value) (state : ℕ) (content : List ℕ) → state ≡ 0 → e ≡ 0 → cellOf work accumulator ≡ cell v
-      → content ≡ ofPackage (cell v) → Answers (unpacked W t l v) state content
+      → content ≡ pushOf 3 (popOf (popOf (cell v))) → Answers (unpacked W t l v) state content
   unfolding Answers unpacked size
   unpack-done-at W tells (int n) state content z ne a c = tt
   unpack-done-at W tells (err n) state content z ne a c = tt
@@ -280,7 +263,8 @@ module _ (work table : List ℕ) (authority t l e : ℕ) (p : e ≡ errorIn tabl
   unpack-done-at W tells (inr v) state content z ne a c = tt
   unpack-done-at W tells (pkg m v) state content z ne a c =
       let n : 2 + size v ≤ 16 = cell-size work 0 (pkg m v) a in
-      answers-ok _ (inl v) state content (opened-fine _ _ _ v e (tested W tells m v a) ne ∙ fits (inl v) (omega arith)) z (c ∙ cell-content m v n)
+      answers-ok _ (inl v) state content (opened-fine _ _ _ v e (tested W tells m v a) ne ∙ fits (inl v) (omega arith)) z
+      (c ∙ ap (pushOf 3) (pop-package m v (omega arith)) ∙ push-tag tags-left v (omega arith))
   unpack-done-at W tells blank state content z ne a c = tt
 
   module _ {state next : ℕ} where
@@ -291,14 +275,15 @@ module _ (work table : List ℕ) (authority t l e : ℕ) (p : e ≡ errorIn tabl
         (λ W tells. rw s (turns-put (unpacked W t l) work state (cell (inr (err e))) z (length-error e)
         (λ v h a. unpack-error-at W tells v state z ne a)))
 
-    pub unpack-done : {words content work′ : List ℕ} → state ≡ 0 → e ≡ 0 → words ≡ loadOf work accumulator → content ≡ ofPackage words
-        → work′ ≡ storeOf work accumulator content
+    pub unpack-done : {words work′ : List ℕ} → state ≡ 0 → e ≡ 0 → words ≡ loadOf work accumulator
+        → work′ ≡ storeOf work accumulator (pushOf 3 (popOf (popOf words)))
         → Applies work state next work′ state next ((W : World) → Tells table authority W → Turns (unpacked W t l) work state work′ state)
-    unpack-done {words} {content} z ne ld c s =
-        let n = length-content work words content c ld in
-        applies-put content n s
-        (λ W tells. rw s (turns-put (unpacked W t l) work state content z n
-        (λ v h a. unpack-done-at W tells v state content z ne a (c ∙ ap ofPackage (ld ∙ load-here work v h a)))))
+    unpack-done {words} z ne ld s =
+        let left : List ℕ = pushOf 3 (popOf (popOf words)) in
+        let n : length left ≡ 16 = length-push 3 _ (length-pop _ (length-pop words (loaded work words ld))) in
+        applies-put left n s
+        (λ W tells. rw s (turns-put (unpacked W t l) work state left z n
+        (λ v h a. unpack-done-at W tells v state left z ne a (ap (λ (u : List ℕ). pushOf 3 (popOf (popOf u))) (ld ∙ load-here work v h a)))))
 
 module _ {work table : List ℕ} {authority state next : ℕ} (t l : ℕ) where
   pub unpack-past : (state ≡ 0 → ⊥)

@@ -1,4 +1,4 @@
--- The words of values: what stands after a word, in a package, inside of one.
+-- The words of values: pushed onto, popped off, and counted.
 -- Assumes nothing.
 use mathlib.Core.Path.{_≡_, refl, sym, ap, subst, _∙_}
 use mathlib.Core.List.{List, [], _∷_, _++_}
@@ -6,13 +6,14 @@ use Prim.Native.Nat.{ℕ, zero, suc, _+_, _-_, _≤_, _<_}
 use native.Mathlib.Omega.{arith}
 use native.Mathlib.Nat.{suc-add}
 use lib.ListN.{length, take, drop, getD, length-drop, length-replicate, replicate-append-replicate}
-use lib.Seq.{getD-drop, drop-drop, drop-cons, take-all}
+use lib.Seq.{getD-drop, drop-drop, take-take}
 use Rattle.language.specs.Syntax.{Value, int, err, inl, inr, pkg, blank, size}
 use Rattle.language.specs.Evaluation.{cell-words}
 use Rattle.memory.specs.Words.{enc, zeros, cell}
 use Rattle.memory.specs.Memory.{cellOf}
 use Rattle.memory.proofs.WordLaws.{size-pos, length-enc}
-use Rattle.interpreter.specs.Nodes.{Sizes, afterWord, inPackage, afterTag, ofPackage, Tags}
+use Rattle.interpreter.specs.Cells.{pushOf, popOf}
+use Rattle.interpreter.specs.Nodes.{Sizes, Tags}
 use Rattle.interpreter.proofs.CellLaws.{cell-short}
 
 -- ---- a value's words, then more
@@ -51,47 +52,19 @@ take-cell v n h l =
     ∙ ap (enc v) (take-zeros (n - size v) (16 - size v) (omega arith))
 
 -- a value's words, and one zero more than there are
-zeros-more : (v : Value) (n : ℕ) → enc v (zeros n) ++ (0 ∷ []) ≡ enc v (zeros (n + 1))
-zeros-more v n = enc-append v (zeros n) (0 ∷ []) ∙ ap (enc v) (replicate-append-replicate n 1 0)
+enc-more : (v : Value) (n : ℕ) → enc v (zeros n) ++ (0 ∷ []) ≡ enc v (zeros (n + 1))
+enc-more v n = enc-append v (zeros n) (0 ∷ []) ∙ ap (enc v) (replicate-append-replicate n 1 0)
+
+-- the last zero of a cell
+zeros-more : (v : Value) (n : ℕ) → n + 1 ≡ cell-words - size v → enc v (zeros n) ++ (0 ∷ []) ≡ cell v
+unfolding cell
+zeros-more v n e = enc-more v n ∙ ap (λ (m : ℕ). enc v (zeros m)) e
 
 -- a value in a cell is not too long
 pub cell-size : (ws : List ℕ) (k : ℕ) (v : Value) → cellOf ws k ≡ cell v → size v ≤ cell-words
 unfolding cell
 cell-size ws k v e =
     omega (arith, cell-short ws k, ap (λ (l : List ℕ). length l) e, length-enc v (zeros (16 - size v)), length-replicate {A = ℕ} (16 - size v) 0)
-
--- ---- cells made of cells
-
-pub cell-after : (w : ℕ) (f : Value → Value) → Tags w f → (v : Value) → size v < cell-words → afterWord w (cell v) ≡ cell (f v)
-unfolding afterWord cell
-cell-after w f t v h =
-    let n : 15 - size v ≡ 16 - suc (size v) = omega arith in
-    ap (λ (l : List ℕ). w ∷ l) (take-cell v 15 (omega arith) (omega arith))
-    ∙ sym (ap (λ (m : ℕ). enc (f v) (zeros (16 - m))) (t .longer v) ∙ t .words v (zeros (16 - suc (size v))) ∙ ap (λ (m : ℕ). w ∷ enc v (zeros m)) (sym n))
-
-pub cell-package : (l : ℕ) (v : Value) → size v ≤ 13 → inPackage l (cell v) ≡ cell (inl (pkg l v))
-unfolding inPackage cell enc size
-cell-package l v h =
-    let n : 13 - size v ≡ 16 - suc (2 + size v) = omega arith in
-    ap (λ (u : List ℕ). 3 ∷ 5 ∷ l ∷ u) (take-cell v 13 h (omega arith) ∙ ap (λ (m : ℕ). enc v (zeros m)) n)
-
-inside : (v : Value) (n : ℕ) → n + 1 ≡ cell-words - size v → enc v (zeros n) ++ (0 ∷ []) ≡ cell v
-unfolding cell
-inside v n e = zeros-more v n ∙ ap (λ (m : ℕ). enc v (zeros m)) e
-
-pub cell-left : (v : Value) → size (inl v) ≤ cell-words → afterTag (cell (inl v)) ≡ cell v
-unfolding afterTag cell enc size
-cell-left v h = inside v (16 - suc (size v)) (omega arith)
-
-pub cell-right : (v : Value) → size (inr v) ≤ cell-words → afterTag (cell (inr v)) ≡ cell v
-unfolding afterTag cell enc size
-cell-right v h = inside v (16 - suc (size v)) (omega arith)
-
-pub cell-content : (l : ℕ) (v : Value) → size (pkg l v) ≤ cell-words → ofPackage (cell (pkg l v)) ≡ cell (inl v)
-unfolding ofPackage cell enc size
-cell-content l v h =
-    let n : 16 - (2 + size v) + 1 ≡ 16 - suc (size v) = omega arith in
-    ap (λ (u : List ℕ). 3 ∷ u) (zeros-more v (16 - (2 + size v)) ∙ ap (λ (m : ℕ). enc v (zeros m)) n)
 
 pub tags-left : Tags 3 inl
 unfolding enc size
@@ -100,6 +73,36 @@ tags-left = record { words = λ v rest. refl; longer = λ v. refl }
 pub tags-right : Tags 4 inr
 unfolding enc size
 tags-right = record { words = λ v rest. refl; longer = λ v. refl }
+
+-- ---- words pushed onto the cell of a value, and popped off it
+
+module _ {w : ℕ} {f : Value → Value} (t : Tags w f) (v : Value) where
+  -- the cell of f v, by the words of v
+  tagged-cell : cell (f v) ≡ w ∷ enc v (zeros (15 - size v))
+  unfolding cell
+  tagged-cell =
+      let n : 16 - suc (size v) ≡ 15 - size v = omega arith in
+      ap (λ (m : ℕ). enc (f v) (zeros (16 - m))) (t .longer v) ∙ t .words v (zeros (16 - suc (size v))) ∙ ap (λ (m : ℕ). w ∷ enc v (zeros m)) n
+
+  pub push-tag : size v < cell-words → pushOf w (cell v) ≡ cell (f v)
+  unfolding pushOf
+  push-tag h = ap (λ (l : List ℕ). w ∷ l) (take-cell v 15 (omega arith) (omega arith)) ∙ sym tagged-cell
+
+  pub pop-tag : size v < cell-words → popOf (cell (f v)) ≡ cell v
+  unfolding popOf
+  pop-tag h = ap popOf tagged-cell ∙ zeros-more v (15 - size v) (omega arith)
+
+pub push-package : (l : ℕ) (v : Value) → size v ≤ 14 → pushOf 5 (pushOf l (cell v)) ≡ cell (pkg l v)
+unfolding pushOf cell enc size
+push-package l v h =
+    let n : 14 - size v ≡ 16 - (2 + size v) = omega arith in
+    ap (λ (u : List ℕ). 5 ∷ l ∷ u) (take-take 14 15 (cell v) (omega arith) ∙ take-cell v 14 h (omega arith) ∙ ap (λ (m : ℕ). enc v (zeros m)) n)
+
+pub pop-package : (l : ℕ) (v : Value) → size v ≤ 14 → popOf (popOf (cell (pkg l v))) ≡ cell v
+unfolding popOf cell enc size
+pop-package l v h =
+    let n : 16 - (2 + size v) + 1 ≡ 15 - size v = omega arith in
+    ap (λ (u : List ℕ). u ++ (0 ∷ [])) (enc-more v (16 - (2 + size v)) ∙ ap (λ (m : ℕ). enc v (zeros m)) n) ∙ zeros-more v (15 - size v) (omega arith)
 
 -- ---- the first word of a value tells its kind
 
@@ -189,18 +192,3 @@ module _ (ws : List ℕ) (at : ℕ) where
 
   pub size-none : (getD ws at 0 ≡ 1 → ⊥) → (getD ws at 0 ≡ 2 → ⊥) → (getD ws at 0 ≡ 3 → ⊥) → (getD ws at 0 ≡ 4 → ⊥) → (getD ws at 0 ≡ 5 → ⊥) → Sizes ws at (at + 1)
   size-none n1 n2 n3 n4 n5 = size-by _ (at + 1) (omega arith) refl (λ v rest k h. size-none-at v k n1 n2 n3 n4 n5)
-
--- ---- words read one by one
-
-abbrev pub reads : ℕ → ℕ → List ℕ → List ℕ
-reads zero i w = []
-reads (suc n) i w = getD w i 0 ∷ reads n (suc i) w
-
-pub reads-take : (n i : ℕ) (w : List ℕ) → i + n ≤ length w → reads n i w ≡ take n (drop i w)
-reads-take zero i w h = refl
-reads-take (suc n) i w h =
-    let l : i < length w = omega arith in
-    rw (drop-cons w i 0 l, reads-take n (suc i) w (omega arith))
-
-pub reads-drop : (n i : ℕ) (w : List ℕ) → i + n ≡ length w → reads n i w ≡ drop i w
-reads-drop n i w h = reads-take n i w (omega arith) ∙ take-all n (drop i w) (omega (arith, length-drop i w))

@@ -37,6 +37,14 @@ loadOf ws k = cond (ltb k (cellCount ws)) (cellOf ws k) (zeros cell-words)
 unfoldable pub storeOf : List ℕ → ℕ → List ℕ → List ℕ
 storeOf ws k words = cond (ltb k (cellCount ws)) (take (cell-words * k) ws ++ (words ++ drop (cell-words * k + cell-words) ws)) ws
 
+-- a word in front; the last word goes
+unfoldable pub pushOf : ℕ → List ℕ → List ℕ
+pushOf w ws = w ∷ take 15 ws
+
+-- the first word goes; a zero comes at the end
+unfoldable pub popOf : List ℕ → List ℕ
+popOf ws = drop 1 ws ++ (0 ∷ [])
+
 -- The cells hold what the enclosing cases bind, the innermost at the given depth.
 pub data Binds (work : List ℕ) : ℕ → Env → Type 0 where
   bound-none : Binds work 0 []

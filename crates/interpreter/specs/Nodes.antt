@@ -1,9 +1,9 @@
 -- What the functions ensure that make one value of another.
 use mathlib.Core.Path.{_≡_}
 use mathlib.Core.Bool.{Bool, true, false}
-use mathlib.Core.List.{List, [], _∷_, _++_}
+use mathlib.Core.List.{List, _∷_}
 use Prim.Native.Nat.{ℕ, suc, _+_, _≤_}
-use lib.ListN.{length, take, drop}
+use lib.ListN.{length, drop}
 use Rattle.labels.specs.Labels.{belowOf, readsOf, writesOf}
 use Rattle.language.specs.Syntax.{Value, size, has}
 use Rattle.language.specs.Evaluation.{World, Res, ok, long, stuck, bind, wanted, cell-words}
@@ -17,24 +17,6 @@ use Rattle.interpreter.specs.Cells.{accumulator}
 pub record Sizes (ws : List ℕ) (at next : ℕ) : Type 0 where
   pub forward : at ≤ next
   pub means : (v : Value) (rest : List ℕ) → drop at ws ≡ enc v rest → next ≡ at + size v
-
--- ---- cells made of cells
-
--- a word in front; the last word goes
-unfoldable pub afterWord : ℕ → List ℕ → List ℕ
-afterWord w ws = w ∷ take 15 ws
-
--- a package's two words and a left in front; the last three words go
-unfoldable pub inPackage : ℕ → List ℕ → List ℕ
-inPackage l ws = 3 ∷ 5 ∷ l ∷ take 13 ws
-
--- what stands after the first word
-unfoldable pub afterTag : List ℕ → List ℕ
-afterTag ws = drop 1 ws ++ (0 ∷ [])
-
--- a left of a package's content
-unfoldable pub ofPackage : List ℕ → List ℕ
-ofPackage ws = 3 ∷ drop 2 ws ++ (0 ∷ [])
 
 -- ---- answers
 

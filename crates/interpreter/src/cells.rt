@@ -3,7 +3,7 @@ ghost use mathlib.Core.Path.{_≡_};
 ghost use Prim.Native.Nat.{_+_, _≤_};
 ghost use lib.ListN.{length, drop, getD};
 ghost use lib.Seq.{paste};
-ghost use Rattle.interpreter.specs.Cells.{loadOf, storeOf};
+ghost use Rattle.interpreter.specs.Cells.{loadOf, storeOf, pushOf, popOf};
 
 // The words of a cell.
 pub(crate) const CELL: usize = 16;
@@ -26,10 +26,7 @@ pub(crate) fn load(work: &[u32], k: usize) -> [u32; CELL]
     if work.len() / CELL <= k {
         return out;
     }
-    let base = CELL * k;
-    for i in 0..CELL {
-        out[i] = work[base + i];
-    }
+    copy(&mut out, 0, work, CELL * k, CELL);
     out
 }
 
@@ -40,10 +37,7 @@ pub(crate) fn store(work: &mut [u32], k: usize, words: [u32; CELL])
     if work.len() / CELL <= k {
         return;
     }
-    let base = CELL * k;
-    for i in 0..CELL {
-        work[base + i] = words[i];
-    }
+    copy(work, CELL * k, &words, 0, CELL);
 }
 
 // Copies one cell to another.
@@ -52,6 +46,24 @@ pub(crate) fn copy_cell(work: &mut [u32], from: usize, to: usize)
 {
     let words = load(work, from);
     store(work, to, words);
+}
+
+// The word w in front of the words of a cell; the last of these goes.
+pub(crate) fn push(w: u32, words: [u32; CELL]) -> [u32; CELL]
+    ensures { λ r. ⌜ r ≡ pushOf w words ⌝ }
+{
+    let mut out = [w; CELL];
+    copy(&mut out, 1, &words, 0, CELL - 1);
+    out
+}
+
+// The words of a cell without the first; a 0 comes at the end.
+pub(crate) fn pop(words: [u32; CELL]) -> [u32; CELL]
+    ensures { λ r. ⌜ r ≡ popOf words ⌝ }
+{
+    let mut out = [0u32; CELL];
+    copy(&mut out, 0, &words, 1, CELL - 1);
+    out
 }
 
 // The word at `at`; 0 past the end.

@@ -8,8 +8,8 @@ ghost use Rattle.language.specs.Evaluation.{World, fit, add, packed, unpacked};
 ghost use Rattle.tables.specs.Tables.{principalsIn, leftIn, labelIn};
 ghost use Rattle.tables.specs.TypeTest.{hasNo};
 ghost use Rattle.memory.specs.Words.{cell, valueOf};
-ghost use Rattle.interpreter.specs.Cells.{loadOf, storeOf, accumulator, firstLocation};
-ghost use Rattle.interpreter.specs.Nodes.{Sizes, afterWord, inPackage, afterTag, ofPackage, Turns, Applies, Tags, errorIn, Tells};
+ghost use Rattle.interpreter.specs.Cells.{loadOf, storeOf, popOf, accumulator, firstLocation};
+ghost use Rattle.interpreter.specs.Nodes.{Sizes, Turns, Applies, Tags, errorIn, Tells};
 use crate::cells;
 use crate::cells::ACCUMULATOR;
 use crate::cells::CELL;
@@ -94,30 +94,6 @@ pub(crate) fn sum(work: &mut [u32], n: u32, v: Evaluated) -> Evaluated
     v
 }
 
-// The word w in front of the words of a cell; the last of these goes.
-fn after_word(w: u32, v: [u32; CELL]) -> [u32; CELL]
-    ensures { λ r. ⌜ r ≡ afterWord w v ⌝ }
-{
-    [
-        w,
-        v[0],
-        v[1],
-        v[2],
-        v[3],
-        v[4],
-        v[5],
-        v[6],
-        v[7],
-        v[8],
-        v[9],
-        v[10],
-        v[11],
-        v[12],
-        v[13],
-        v[14],
-    ]
-}
-
 // Left, with the word 3, or right, with the word 4, of the value in the accumulator.
 pub(crate) fn tagged(work: &mut [u32], w: u32, v: Evaluated) -> Evaluated
     ensures { λ r. ⌜ Applies (now (work .entry)) (v .state) (v .next) (now (work .exit)) (r .state) (r .next)
@@ -133,7 +109,7 @@ pub(crate) fn tagged(work: &mut [u32], w: u32, v: Evaluated) -> Evaluated
         };
     }
     let words = cells::load(work, ACCUMULATOR);
-    let longer = after_word(w, words);
+    let longer = cells::push(w, words);
     cells::store(work, ACCUMULATOR, longer);
     v
 }
@@ -165,30 +141,6 @@ fn below(table: &[u16], l: u32, m: u32) -> bool
     lower.at_or_below(upper)
 }
 
-// The left of a package of label l, whose content's cell is given; the last three words go.
-fn in_package(l: u32, v: [u32; CELL]) -> [u32; CELL]
-    ensures { λ r. ⌜ r ≡ inPackage l v ⌝ }
-{
-    [
-        3,
-        5,
-        l,
-        v[0],
-        v[1],
-        v[2],
-        v[3],
-        v[4],
-        v[5],
-        v[6],
-        v[7],
-        v[8],
-        v[9],
-        v[10],
-        v[11],
-        v[12],
-    ]
-}
-
 // A package of label l of the value in the accumulator, or an error.
 pub(crate) fn pack(
     work: &mut [u32],
@@ -213,9 +165,10 @@ pub(crate) fn pack(
             next: v.next,
         };
     }
-    let words = cells::load(work, ACCUMULATOR);
-    let package = in_package(l, words);
-    cells::store(work, ACCUMULATOR, package);
+    let content = cells::load(work, ACCUMULATOR);
+    let package = cells::push(5, cells::push(l, content));
+    let left = cells::push(3, package);
+    cells::store(work, ACCUMULATOR, left);
     v
 }
 
@@ -234,30 +187,6 @@ fn refusal(work: &[u32], table: &[u16], authority: u16, t: u32, l: u32) -> u32
         return 3;
     }
     0
-}
-
-// The left of a package's content, the package's cell being given.
-fn of_package(v: [u32; CELL]) -> [u32; CELL]
-    ensures { λ r. ⌜ r ≡ ofPackage v ⌝ }
-{
-    [
-        3,
-        v[2],
-        v[3],
-        v[4],
-        v[5],
-        v[6],
-        v[7],
-        v[8],
-        v[9],
-        v[10],
-        v[11],
-        v[12],
-        v[13],
-        v[14],
-        v[15],
-        0,
-    ]
 }
 
 // The content of the package in the accumulator, or an error.
@@ -286,41 +215,18 @@ pub(crate) fn unpack(
         fail(work, e);
         return v;
     }
-    let words = cells::load(work, ACCUMULATOR);
-    let content = of_package(words);
-    cells::store(work, ACCUMULATOR, content);
+    let package = cells::load(work, ACCUMULATOR);
+    let content = cells::pop(cells::pop(package));
+    let left = cells::push(3, content);
+    cells::store(work, ACCUMULATOR, left);
     v
-}
-
-// What stands after the first word of a cell.
-fn after_tag(v: [u32; CELL]) -> [u32; CELL]
-    ensures { λ r. ⌜ r ≡ afterTag v ⌝ }
-{
-    [
-        v[1],
-        v[2],
-        v[3],
-        v[4],
-        v[5],
-        v[6],
-        v[7],
-        v[8],
-        v[9],
-        v[10],
-        v[11],
-        v[12],
-        v[13],
-        v[14],
-        v[15],
-        0,
-    ]
 }
 
 // Binds what is inside of the left or right in the accumulator, in cell k.
 pub(crate) fn bind_inside(work: &mut [u32], k: usize)
-    ensures { λ _. ⌜ now (work .exit) ≡ storeOf (now (work .entry)) k (afterTag (loadOf (now (work .entry)) accumulator)) ⌝ }
+    ensures { λ _. ⌜ now (work .exit) ≡ storeOf (now (work .entry)) k (popOf (loadOf (now (work .entry)) accumulator)) ⌝ }
 {
     let words = cells::load(work, ACCUMULATOR);
-    let inside = after_tag(words);
+    let inside = cells::pop(words);
     cells::store(work, k, inside);
 }

@@ -1,4 +1,4 @@
-use mathlib.Core.Path.{sym, ap, _∙_}
+use mathlib.Core.Path.{sym, _∙_}
 use Rattle.tables.proofs.Entries.{label-there, label-past}
 use borrow.Author.Needs.{needs}
 use Rattle.tables.proofs.label_of.Statement.{statement}

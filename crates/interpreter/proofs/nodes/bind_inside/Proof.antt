@@ -6,7 +6,7 @@ use Rattle.interpreter.proofs.nodes.bind_inside.Tie as tie
 pub bind-inside-spec : {M : Type 1} → statement M
 bind-inside-spec = tie.close (tie.spec
     (λ c κs. search needs)  -- load-requires
-    (λ c κs. search needs)  -- after-tag-requires
+    (λ c κs. search needs)  -- pop-requires
     (λ c κs. search needs)  -- store-requires
     (λ c. search needs)  -- same-length
     (λ c. cc))  -- returns

@@ -11,7 +11,7 @@ tagged-spec = tie.close (tie.spec
     (λ c. search needs)  -- same-length
     (λ c. laws.tagged-long (c .before .before .before .if1 .left) (c .before .value-end .ensures) (c .if2 .taken))  -- returns-2
     (λ c κs. search needs)  -- load-requires
-    (λ c κs. search needs)  -- after-word-requires
+    (λ c κs. search needs)  -- push-requires
     (λ c κs. search needs)  -- store-requires
     (λ c. search needs)  -- same-length-2
-    (λ c. laws.tagged-done (c .before .before .before .before .before .before .before .before .before .before .if1 .left) (c .before .before .before .before .before .before .before .before .value-end .ensures) (c .before .before .before .before .before .before .before .if2 .left) (c .before .before .before .before .before .load .ensures) (c .before .before .before .before .after-word .ensures) (c .before .before .store .ensures)))  -- returns-3
+    (λ c. laws.tagged-done (c .before .before .before .before .before .before .before .before .before .before .if1 .left) (c .before .before .before .before .before .before .before .before .value-end .ensures) (c .before .before .before .before .before .before .before .if2 .left) (c .before .before .before .before .before .load .ensures) (cc)))  -- returns-3

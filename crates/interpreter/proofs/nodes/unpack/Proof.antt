@@ -15,7 +15,9 @@ unpack-spec = tie.close (tie.spec
     (λ c. search needs)  -- same-length-2
     (λ c. laws.unpack-error _ _ _ _ _ _ (c .before .before .before .before .before .refusal .ensures) (c .before .before .before .before .before .before .before .before .before .before .if1 .left) (c .before .before .before .before .if3 .taken) (c .before .before .fail .ensures))  -- returns-3
     (λ c κs. search needs)  -- load-requires
-    (λ c κs. search needs)  -- of-package-requires
+    (λ c κs. search needs)  -- pop-requires
+    (λ c κs. search needs)  -- pop-requires-2
+    (λ c κs. search needs)  -- push-requires
     (λ c κs. search needs)  -- store-requires
     (λ c. search needs)  -- same-length-3
-    (λ c. laws.unpack-done _ _ _ _ _ _ (c .before .before .before .before .before .before .before .before .refusal .ensures) (c .before .before .before .before .before .before .before .before .before .before .before .before .before .if1 .left) (c .before .before .before .before .before .before .before .if3 .left) (c .before .before .before .before .before .load .ensures) (c .before .before .before .before .of-package .ensures) (c .before .before .store .ensures)))  -- returns-4
+    (λ c. laws.unpack-done _ _ _ _ _ _ (c .before .before .before .before .before .before .before .before .before .before .refusal .ensures) (c .before .before .before .before .before .before .before .before .before .before .before .before .before .before .before .if1 .left) (c .before .before .before .before .before .before .before .before .before .if3 .left) (c .before .before .before .before .before .before .before .load .ensures) cc))  -- returns-4

@@ -8,10 +8,9 @@ use native.Mathlib.Omega.{arith}
 use borrow.Author.Tests.{le-leb, lt-leb}
 use lib.ListN.{length, drop, getD, take-append-drop}
 use lib.Seq.{getD-take}
-use Rattle.labels.specs.Labels.{belowOf, readsOf, writesOf}
 use Rattle.language.specs.Syntax.{Value, int, err, inl, inr, pkg, blank, size, has}
 use Rattle.language.specs.Evaluation.{World, Res, ok, long, stuck, bind, fitting, fit, addTo, add, packed, opened, wanted, unpacked, cell-words}
-use Rattle.tables.specs.Tables.{principalsIn, leftIn, labelIn}
+use Rattle.tables.specs.Tables.{leftIn, belowIn, readsIn, writesIn}
 use Rattle.tables.specs.TypeTest.{hasNo}
 use Rattle.memory.specs.Words.{enc, zeros, cell, valueOf}
 use Rattle.memory.specs.Memory.{cellOf}
@@ -123,7 +122,7 @@ add-answer (inr u) w n m s state words z e p q r = tt
 add-answer (pkg l u) w n m s state words z e p q r = tt
 add-answer blank w n m s state words z e p q r = tt
 
-written : {table : List ℕ} {authority : ℕ} (l : ℕ) (may : Bool) → may ≡ writesOf (principalsIn table) authority (labelIn table l) → (W : World)
+written : {table : List ℕ} {authority : ℕ} (l : ℕ) (may : Bool) → may ≡ writesIn table authority l → (W : World)
     → Tells table authority W → W .writes l ≡ may
 written l may w W t = sym (w ∙ t .writes-is l)
 
@@ -170,7 +169,7 @@ module _ {work : List ℕ} {state next : ℕ} where
         → Applies work state next work state next ((W : World) → Tells table authority W → Turns (packed (W .writes l) l) work state work state)
     pack-past z = applies-past (λ W t. turns-past (packed (W .writes l) l) work state z)
 
-    module _ {may : Bool} (w : may ≡ writesOf (principalsIn table) authority (labelIn table l)) where
+    module _ {may : Bool} (w : may ≡ writesIn table authority l) where
       pub pack-error : {work′ : List ℕ} → state ≡ 0 → may ≡ false → work′ ≡ storeOf work accumulator (cell (inr (err 1)))
           → Applies work state next work′ state next ((W : World) → Tells table authority W → Turns (packed (W .writes l) l) work state work′ state)
       unfolding packed
@@ -297,14 +296,14 @@ module _ {work table : List ℕ} {authority state next : ℕ} (t l : ℕ) where
       (λ W tells. turns-keep (unpacked W t l) work state 11 z (λ v a. no-package W t l work v 11 (λ q. ne (p ∙ q)) a))
 
 -- the error of an unpack, by the tests that are made in order
-module _ (table : List ℕ) (authority l m : ℕ) (fits : Bool) {may : Bool} (r : may ≡ readsOf (principalsIn table) authority (labelIn table l)) where
+module _ (table : List ℕ) (authority l m : ℕ) (fits : Bool) {may : Bool} (r : may ≡ readsIn table authority l) where
   pub error-reads : may ≡ false → 1 ≡ errorIn table authority l m fits
   unfolding errorIn errorOf
   error-reads n = rw (sym r ∙ n) refl
 
-  module _ {flows : Bool} {w : ℕ} (y : may ≡ true) (e : w ≡ m) (b : flows ≡ belowOf (labelIn table w) (labelIn table l)) where
-    flow-is : flows ≡ belowOf (labelIn table m) (labelIn table l)
-    flow-is = b ∙ ap (λ (i : ℕ). belowOf (labelIn table i) (labelIn table l)) e
+  module _ {flows : Bool} {w : ℕ} (y : may ≡ true) (e : w ≡ m) (b : flows ≡ belowIn table w l) where
+    flow-is : flows ≡ belowIn table m l
+    flow-is = b ∙ ap (λ (i : ℕ). belowIn table i l) e
 
     pub error-flow : flows ≡ false → 2 ≡ errorIn table authority l m fits
     unfolding errorIn errorOf

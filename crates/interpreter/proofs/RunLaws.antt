@@ -17,8 +17,7 @@ use Rattle.lines.specs.Names.{Counts, named}
 use Rattle.tables.specs.Sheet.{Sheet, labelCount, locationCount, formed}
 use Rattle.tables.specs.Tables.{tableOf}
 use Rattle.tables.specs.Meaning.{worldOf}
-use Rattle.tables.proofs.TableLaws.{principals-in}
-use Rattle.tables.proofs.LabelLaws.{label-in}
+use Rattle.tables.proofs.MeaningLaws.{below-in, reads-in, writes-in}
 use Rattle.tables.proofs.NumberLaws.{has-wanted}
 use Rattle.tables.proofs.WidthLaws.{locations-few}
 use Rattle.memory.specs.Words.{cell}
@@ -36,9 +35,9 @@ use Rattle.interpreter.proofs.CellLaws.{cell-front}
 pub tells-sheet : (s : Sheet) → formed s ≡ true → (authority : ℕ) → Tells (tableOf s) authority (worldOf s authority)
 tells-sheet s fm authority =
     record {
-      reads-is = λ l. rw (principals-in s, label-in s fm l) refl;
-      writes-is = λ l. rw (principals-in s, label-in s fm l) refl;
-      below-is = λ l m. rw (label-in s fm l, label-in s fm m) refl;
+      reads-is = reads-in s fm authority;
+      writes-is = writes-in s fm authority;
+      below-is = below-in s fm;
       type-is = λ v t. has-wanted s fm v t;
     }
 

@@ -4,10 +4,9 @@ use mathlib.Core.Bool.{Bool, true, false}
 use mathlib.Core.List.{List, _∷_}
 use Prim.Native.Nat.{ℕ, suc, _+_, _≤_}
 use lib.ListN.{length, drop}
-use Rattle.labels.specs.Labels.{belowOf, readsOf, writesOf}
 use Rattle.language.specs.Syntax.{Value, size, has}
 use Rattle.language.specs.Evaluation.{World, Res, ok, long, stuck, bind, wanted, cell-words}
-use Rattle.tables.specs.Tables.{principalsIn, leftIn, labelIn}
+use Rattle.tables.specs.Tables.{leftIn, belowIn, readsIn, writesIn}
 use Rattle.tables.specs.TypeTest.{hasNo}
 use Rattle.memory.specs.Words.{enc, cell}
 use Rattle.memory.specs.Memory.{cellOf}
@@ -53,11 +52,11 @@ errorOf true true true = 0
 
 -- the three tests, by the table: the wanted label l, the package's label m, the content, and the wanted type
 unfoldable pub errorIn : List ℕ → ℕ → ℕ → ℕ → Bool → ℕ
-errorIn t authority l m fits = errorOf (readsOf (principalsIn t) authority (labelIn t l)) (belowOf (labelIn t m) (labelIn t l)) fits
+errorIn t authority l m fits = errorOf (readsIn t authority l) (belowIn t m l) fits
 
 -- The table says of types and labels what the world does.
 pub record Tells (table : List ℕ) (authority : ℕ) (W : World) : Type 0 where
-  pub reads-is : (l : ℕ) → readsOf (principalsIn table) authority (labelIn table l) ≡ W .reads l
-  pub writes-is : (l : ℕ) → writesOf (principalsIn table) authority (labelIn table l) ≡ W .writes l
-  pub below-is : (l m : ℕ) → belowOf (labelIn table l) (labelIn table m) ≡ W .below l m
+  pub reads-is : (l : ℕ) → readsIn table authority l ≡ W .reads l
+  pub writes-is : (l : ℕ) → writesIn table authority l ≡ W .writes l
+  pub below-is : (l m : ℕ) → belowIn table l m ≡ W .below l m
   pub type-is : (v : Value) (t : ℕ) → hasNo table v (leftIn table t) ≡ has v (wanted (W .ty t))

@@ -2,10 +2,9 @@
 ghost use mathlib.Core.Path.{_≡_};
 ghost use Prim.Native.Nat.{_+_, _-_};
 ghost use lib.ListN.{drop, getD};
-ghost use Rattle.labels.specs.Labels.{belowOf, readsOf, writesOf};
 ghost use Rattle.language.specs.Syntax.{Value, int, err, inr};
 ghost use Rattle.language.specs.Evaluation.{World, fit, add, packed, unpacked};
-ghost use Rattle.tables.specs.Tables.{principalsIn, leftIn, labelIn};
+ghost use Rattle.tables.specs.Tables.{leftIn};
 ghost use Rattle.tables.specs.TypeTest.{hasNo};
 ghost use Rattle.memory.specs.Words.{cell, valueOf};
 ghost use Rattle.interpreter.specs.Cells.{loadOf, storeOf, popOf, accumulator, firstLocation};
@@ -114,33 +113,6 @@ pub(crate) fn tagged(work: &mut [u32], w: u32, v: Evaluated) -> Evaluated
     v
 }
 
-// Whether the authority writes label l.
-fn writes(table: &[u16], authority: u16, l: u32) -> bool
-    ensures { λ r. ⌜ r ≡ writesOf (principalsIn (now (table .entry))) authority (labelIn (now (table .entry)) l) ⌝ }
-{
-    let label = tables::label_of(table, l);
-    let n = tables::principals(table);
-    label.writes(n as usize, authority)
-}
-
-// Whether the authority reads label l.
-fn reads(table: &[u16], authority: u16, l: u32) -> bool
-    ensures { λ r. ⌜ r ≡ readsOf (principalsIn (now (table .entry))) authority (labelIn (now (table .entry)) l) ⌝ }
-{
-    let label = tables::label_of(table, l);
-    let n = tables::principals(table);
-    label.reads(n as usize, authority)
-}
-
-// Whether label l is at or below label m.
-fn below(table: &[u16], l: u32, m: u32) -> bool
-    ensures { λ r. ⌜ r ≡ belowOf (labelIn (now (table .entry)) l) (labelIn (now (table .entry)) m) ⌝ }
-{
-    let lower = tables::label_of(table, l);
-    let upper = tables::label_of(table, m);
-    lower.at_or_below(upper)
-}
-
 // A package of label l of the value in the accumulator, or an error.
 pub(crate) fn pack(
     work: &mut [u32],
@@ -155,7 +127,7 @@ pub(crate) fn pack(
     if v.state != VALUE {
         return v;
     }
-    if !writes(table, authority, l) {
+    if !tables::writes(table, authority, l) {
         fail(work, 1);
         return v;
     }
@@ -177,10 +149,10 @@ fn refusal(work: &[u32], table: &[u16], authority: u16, t: u32, l: u32) -> u32
     ensures { λ r. ⌜ r ≡ errorIn (now (table .entry)) authority l (getD (now (work .entry)) 1 0)
         (hasNo (now (table .entry)) (valueOf (drop 2 (now (work .entry)))) (leftIn (now (table .entry)) t)) ⌝ }
 {
-    if !reads(table, authority, l) {
+    if !tables::reads(table, authority, l) {
         return 1;
     }
-    if !below(table, cells::word(work, 1), l) {
+    if !tables::below(table, cells::word(work, 1), l) {
         return 2;
     }
     if !memory::has_type(table, work, 2, tables::left_part(table, t)) {

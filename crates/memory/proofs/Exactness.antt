@@ -8,23 +8,21 @@ use native.Mathlib.Omega.{arith}
 use borrow.Author.Tests.{ltb-true, ltb-false, eq-eqb}
 use lib.Dec.{ltb}
 use lib.ListN.{length, List·getD-eq-default}
-use Rattle.labels.specs.Labels.{readsOf}
-use Rattle.labels.specs.declared.Label.{Label}
 use Rattle.language.specs.Syntax.{Value, t-int, size, has}
 use Rattle.language.specs.Evaluation.{Mem, cell-words}
 use Rattle.language.specs.View.{seen, mask, maskMem}
 use Rattle.language.specs.Theorems.{WellTyped, Fitting}
 use Rattle.tables.specs.Sheet.{Sheet, Location, tyOf, labelCount, locationNo, locationCount, formed}
-use Rattle.tables.specs.Tables.{tableOf, typeIn, homeIn}
+use Rattle.tables.specs.Tables.{tableOf, typeIn, homeIn, readsIn}
 use Rattle.tables.specs.Meaning.{shapesOf, readsNo}
 use Rattle.tables.proofs.TypeLaws.{ty-0}
-use Rattle.tables.proofs.TableLaws.{principals-in, types-in, labels-in, locations-in, type-in, home-in}
-use Rattle.tables.proofs.LabelLaws.{label-in}
+use Rattle.tables.proofs.TableLaws.{types-in, labels-in, locations-in, type-in, home-in}
+use Rattle.tables.proofs.MeaningLaws.{reads-in}
 use Rattle.tables.proofs.NumberLaws.{type-in-there, has-no}
 use Rattle.memory.specs.Words.{enc, cell, valueOf}
 use Rattle.memory.specs.Memory.{memoryOf, wordsOf, formedBy, sliceRefusal, refusalBy, fits, wellFormed, memoryRefusal}
 use Rattle.memory.specs.View.{viewCell, viewBy, seesNo, viewWords, viewRefusal, viewLeaves}
-use Rattle.memory.specs.InTable.{fitsIn, wellFormedIn, refusalIn, readsIn, seesIn, viewIn, viewRefusalIn, viewLeavesIn}
+use Rattle.memory.specs.InTable.{fitsIn, wellFormedIn, refusalIn, seesIn, viewIn, viewRefusalIn, viewLeavesIn}
 use Rattle.memory.specs.Theorems.{WordsExactly, CellExactly, Declared, MemoryExactly, ViewExactly, TableAgrees}
 use Rattle.memory.proofs.WordLaws.{read-enc, read-exact, cell-inj, length-cell}
 use Rattle.memory.proofs.CellsLaws.{cells-ext, cells-inj}
@@ -174,18 +172,14 @@ module _ (s : Sheet) (fm : formed s ≡ true) where
   unfolding refusalIn wellFormedIn memoryRefusal wellFormed
   refusal-in-table ws = rw (locations-in s, labels-in s, fits-in-table)
 
-  pub reads-in-table : (g l : ℕ) → readsIn (tableOf s) g l ≡ readsNo s g l
-  unfolding readsIn
-  reads-in-table g l = ap₂ (λ (n : ℕ) (a : Label). readsOf n g a) (principals-in s) (label-in s fm l)
-
   sees-in-table : (g x : ℕ) → seesIn (tableOf s) g x ≡ seesNo s g x
   unfolding seesIn seesNo
-  sees-in-table g x = reads-in-table g (homeIn (tableOf s) x) ∙ ap (readsNo s g) (home-in s fm x)
+  sees-in-table g x = reads-in s fm g (homeIn (tableOf s) x) ∙ ap (readsNo s g) (home-in s fm x)
 
   view-in-table : (g : ℕ) (ws : List ℕ) → viewIn (tableOf s) g ws ≡ viewWords s g ws
   unfolding viewIn viewWords
   view-in-table g ws =
-      let a : readsIn (tableOf s) g ≡ readsNo s g = fun-ext λ l. reads-in-table g l in
+      let a : readsIn (tableOf s) g ≡ readsNo s g = fun-ext λ l. reads-in s fm g l in
       let b : seesIn (tableOf s) g ≡ seesNo s g = fun-ext λ x. sees-in-table g x in
       rw (locations-in s, a, b)
 
@@ -201,7 +195,7 @@ module _ (s : Sheet) (fm : formed s ≡ true) where
   table-agrees =
       record {
         refusal = refusal-in-table;
-        reads = reads-in-table;
+        reads = reads-in s fm;
         view = view-in-table;
         view-refusal = view-refusal-in-table;
         view-leaves = view-leaves-in-table;

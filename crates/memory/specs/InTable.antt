@@ -3,9 +3,8 @@ use mathlib.Core.Bool.{Bool}
 use mathlib.Core.List.{List}
 use Prim.Native.Nat.{ℕ}
 use lib.ListN.{length}
-use Rattle.labels.specs.Labels.{readsOf}
 use Rattle.language.specs.Syntax.{Value}
-use Rattle.tables.specs.Tables.{principalsIn, labelsIn, locationsIn, typeIn, homeIn, labelIn}
+use Rattle.tables.specs.Tables.{labelsIn, locationsIn, typeIn, homeIn, readsIn}
 use Rattle.tables.specs.TypeTest.{hasNo}
 use Rattle.memory.specs.Memory.{memoryOf, formedBy, sliceRefusal, refusalBy}
 use Rattle.memory.specs.View.{viewBy, leaves}
@@ -19,10 +18,6 @@ wellFormedIn t ws = formedBy (locationsIn t) (labelsIn t) (fitsIn t) ws
 -- refusal 7 or 8 of a memory, else 0
 unfoldable pub refusalIn : List ℕ → List ℕ → ℕ
 refusalIn t ws = refusalBy (locationsIn t) (wellFormedIn t ws) ws
-
--- the group g reads label l
-unfoldable pub readsIn : List ℕ → ℕ → ℕ → Bool
-readsIn t g l = readsOf (principalsIn t) g (labelIn t l)
 
 -- the group g reads the label of location x
 unfoldable pub seesIn : List ℕ → ℕ → ℕ → Bool

@@ -9,12 +9,12 @@ use Rattle.language.specs.Evaluation.{Mem}
 use Rattle.language.specs.View.{mask, maskMem}
 use Rattle.language.specs.Theorems.{WellTyped, Fitting}
 use Rattle.tables.specs.Sheet.{Sheet, labelCount, locationCount}
-use Rattle.tables.specs.Tables.{tableOf}
+use Rattle.tables.specs.Tables.{tableOf, readsIn}
 use Rattle.tables.specs.Meaning.{shapesOf, readsNo}
 use Rattle.memory.specs.Words.{enc, cell, readOf, valueOf}
 use Rattle.memory.specs.Memory.{memoryOf, wordsOf, proper, holdsBy, memoryRefusal}
 use Rattle.memory.specs.View.{seesNo, viewWords, viewRefusal, viewLeaves}
-use Rattle.memory.specs.InTable.{refusalIn, readsIn, viewIn, viewRefusalIn, viewLeavesIn}
+use Rattle.memory.specs.InTable.{refusalIn, viewIn, viewRefusalIn, viewLeavesIn}
 
 -- Words are read exactly if they are the words of a value.
 pub record WordsExactly : Type 0 where

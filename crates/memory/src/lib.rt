@@ -10,12 +10,12 @@ ghost use lib.Seq.{paste};
 ghost use Rattle.sets.specs.Sets.{both};
 ghost use Rattle.language.specs.Syntax.{size};
 ghost use Rattle.language.specs.View.{mask};
-ghost use Rattle.tables.specs.Tables.{labelsIn, locationsIn};
+ghost use Rattle.tables.specs.Tables.{labelsIn, locationsIn, readsIn};
 ghost use Rattle.tables.specs.TypeTest.{isSum, hasNo};
 ghost use Rattle.memory.specs.Words.{valueOf};
 ghost use Rattle.memory.specs.Memory.{holdsBy, cellOf};
 ghost use Rattle.memory.specs.View.{viewCell};
-ghost use Rattle.memory.specs.InTable.{fitsIn, refusalIn, readsIn, seesIn, viewIn, viewRefusalIn, viewLeavesIn};
+ghost use Rattle.memory.specs.InTable.{fitsIn, refusalIn, seesIn, viewIn, viewRefusalIn, viewLeavesIn};
 use sets::Set;
 
 // The words of a location.
@@ -123,7 +123,7 @@ fn location_view(table: &[u16], memory: &[u32], group: Set, x: u32) -> [u32; CEL
         → r ≡ viewCell (seesIn (now (table .entry)) group x) (mask (readsIn (now (table .entry)) group) (valueOf (cellOf (now (memory .entry)) x)))) ⌝ }
 {
     let mut out = [0u32; CELL];
-    if masks::reads(table, group, tables::location_label(table, x)) {
+    if tables::reads(table, group, tables::location_label(table, x)) {
         let start = CELL * (x as usize);
         let end = start + CELL;
         masks::mask_at(table, group, &memory[start..end], 0, &mut out, 0);

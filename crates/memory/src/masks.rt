@@ -4,8 +4,8 @@ ghost use mathlib.Core.Bool.{Bool};
 ghost use Prim.Native.Nat.{ℕ, _+_, _^_, _≤_, _<_};
 ghost use lib.ListN.{length, getD, drop, set};
 ghost use Rattle.language.specs.Syntax.{Value};
+ghost use Rattle.tables.specs.Tables.{readsIn};
 ghost use Rattle.memory.specs.Words.{numbered, readOf};
-ghost use Rattle.memory.specs.InTable.{readsIn};
 ghost use Rattle.memory.specs.Post.{Masks, Numeral, Opens};
 use crate::values;
 use sets::Set;
@@ -119,7 +119,7 @@ fn mask_label(
     store(out, to, 5);
     let second = to + 1;
     store(out, second, words[at]);
-    if reads(table, group, words[at]) {
+    if tables::reads(table, group, words[at]) {
         return Head {
             shown: true,
             next: at,
@@ -144,12 +144,4 @@ fn store(out: &mut [u32], at: usize, word: u32)
     if at < out.len() {
         out[at] = word;
     }
-}
-
-// Whether a group reads label l.
-pub(crate) fn reads(table: &[u16], group: Set, l: u32) -> bool
-    ensures { λ r. ⌜ r ≡ readsIn (now (table .entry)) group l ⌝ }
-{
-    let label = tables::label_of(table, l);
-    label.reads(tables::principals(table) as usize, group)
 }

@@ -1,17 +1,19 @@
--- The labels of n principals are a lattice as typing needs it, and what a sheet declares are its labels.
+-- The labels of n principals are a lattice as typing needs it, what a sheet declares are its labels, and its table says the same of them.
 -- Assumes nothing.
-use mathlib.Core.Path.{_≡_, refl}
+use mathlib.Core.Path.{_≡_, refl, ap₂}
 use mathlib.Core.Bool.{Bool, true, false}
 use Prim.Native.Nat.{ℕ}
 use Rattle.sets.proofs.BoolLaws.{absurd-false}
-use Rattle.labels.specs.Labels.{effective}
+use Rattle.labels.specs.Labels.{belowOf, readsOf, writesOf, effective}
 use Rattle.labels.specs.declared.Label.{Label}
 use Rattle.labels.proofs.LatticeLaws as lattice
 use Rattle.language.specs.Labels.{Lattice}
 use Rattle.tables.specs.Sheet.{Sheet, labelNo, locationNo, formed}
-use Rattle.tables.specs.Meaning.{labelsOver, effectiveIf, effectively, declarationsOf}
+use Rattle.tables.specs.Tables.{tableOf, belowIn, readsIn, writesIn}
+use Rattle.tables.specs.Meaning.{labelsOver, effectiveIf, effectively, declarationsOf, belowNo, readsNo, writesNo}
 use Rattle.tables.specs.Theorems.{SameLabels}
-use Rattle.tables.proofs.LabelLaws.{label-no-effective}
+use Rattle.tables.proofs.TableLaws.{principals-in}
+use Rattle.tables.proofs.LabelLaws.{label-no-effective, label-in}
 
 pub labels-lattice : (n : ℕ) → Lattice (labelsOver n)
 labels-lattice n =
@@ -49,3 +51,15 @@ module _ (s : Sheet) (fm : formed s ≡ true) where
 
   pub same-labels : SameLabels s
   same-labels = record { are-effective = label-no-effective s fm; of-numbers = declared-label; of-locations = declared-home }
+
+  pub below-in : (l m : ℕ) → belowIn (tableOf s) l m ≡ belowNo s l m
+  unfolding belowIn
+  below-in l m = ap₂ belowOf (label-in s fm l) (label-in s fm m)
+
+  pub reads-in : (g l : ℕ) → readsIn (tableOf s) g l ≡ readsNo s g l
+  unfolding readsIn
+  reads-in g l = ap₂ (λ (n : ℕ) (a : Label). readsOf n g a) (principals-in s) (label-in s fm l)
+
+  pub writes-in : (g l : ℕ) → writesIn (tableOf s) g l ≡ writesNo s g l
+  unfolding writesIn
+  writes-in g l = ap₂ (λ (n : ℕ) (a : Label). writesOf n g a) (principals-in s) (label-in s fm l)

@@ -45,6 +45,10 @@ declarationsOf s =
       home = λ x. effectively (s .principals) (labelNo s (locationNo s x .label));
     }
 
+-- whether a label is at or below another, by the labels' numbers
+abbrev pub belowNo : Sheet → ℕ → ℕ → Bool
+belowNo s l m = belowOf (labelNo s l) (labelNo s m)
+
 -- whether a group reads a label, and whether it writes it, by the label's number
 abbrev pub readsNo : Sheet → ℕ → ℕ → Bool
 readsNo s g l = readsOf (s .principals) g (labelNo s l)
@@ -57,7 +61,7 @@ abbrev pub worldOf : Sheet → ℕ → World
 worldOf s authority =
     record {
       ty = tyOf s;
-      below = λ l m. belowOf (labelNo s l) (labelNo s m);
+      below = belowNo s;
       reads = readsNo s authority;
       writes = writesNo s authority;
     }

@@ -1,11 +1,11 @@
 -- The decoded sheet: one table of words, from which the checker, the interpreter and the view read.
-use mathlib.Core.Bool.{cond}
+use mathlib.Core.Bool.{Bool, cond}
 use mathlib.Core.List.{List, [], _∷_, _++_}
 use Prim.Native.Nat.{ℕ, _+_, _*_, _-_}
 use lib.Dec.{ltb}
 use lib.ListN.{length, getD, replicate}
 use Rattle.sets.specs.Sets.{everyone}
-use Rattle.labels.specs.Labels.{bottomOf}
+use Rattle.labels.specs.Labels.{bottomOf, belowOf, readsOf, writesOf}
 use Rattle.labels.specs.Tables.{labelSize, labelWords, labelAt}
 use Rattle.labels.specs.declared.Label.{Label}
 use Rattle.tables.specs.Sheet.{Sum, Location, Sheet, partsOf, typeCount, labelsOf, labelCount, locationCount}
@@ -86,3 +86,14 @@ homeIn t x = entryIn t (locationsIn t) (locationsBase + 1) x
 -- label l
 unfoldable pub labelIn : List ℕ → ℕ → Label
 labelIn t l = cond (ltb l (labelsIn t)) (labelAt t (labelsBase + labelSize * l)) (bottomOf (everyoneIn t))
+
+-- label l is at or below label m
+unfoldable pub belowIn : List ℕ → ℕ → ℕ → Bool
+belowIn t l m = belowOf (labelIn t l) (labelIn t m)
+
+-- the group g reads label l, and writes it
+unfoldable pub readsIn : List ℕ → ℕ → ℕ → Bool
+readsIn t g l = readsOf (principalsIn t) g (labelIn t l)
+
+unfoldable pub writesIn : List ℕ → ℕ → ℕ → Bool
+writesIn t g l = writesOf (principalsIn t) g (labelIn t l)

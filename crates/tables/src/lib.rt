@@ -1,7 +1,7 @@
 // The decoded sheet: a table of words, and what it says of types, locations and labels.
 ghost use mathlib.Core.Path.{_≡_};
 ghost use lib.ListN.{getD};
-ghost use Rattle.tables.specs.Tables.{entryIn, principalsIn, everyoneIn, typesIn, labelsIn, locationsIn, leftIn, rightIn, typeIn, homeIn, labelIn};
+ghost use Rattle.tables.specs.Tables.{entryIn, principalsIn, everyoneIn, typesIn, labelsIn, locationsIn, leftIn, rightIn, typeIn, homeIn, labelIn, belowIn, readsIn, writesIn};
 use labels::LABEL_SIZE;
 use labels::Label;
 use sets::Set;
@@ -112,4 +112,29 @@ pub fn label_of(table: &[u16], l: u32) -> Label
     } else {
         Label::bottom(everyone(table))
     }
+}
+
+// Whether label l is at or below label m.
+pub fn below(table: &[u16], l: u32, m: u32) -> bool
+    ensures { λ r. ⌜ r ≡ belowIn (now (table .entry)) l m ⌝ }
+{
+    let lower = label_of(table, l);
+    let upper = label_of(table, m);
+    lower.at_or_below(upper)
+}
+
+// Whether a group reads label l.
+pub fn reads(table: &[u16], group: Set, l: u32) -> bool
+    ensures { λ r. ⌜ r ≡ readsIn (now (table .entry)) group l ⌝ }
+{
+    let label = label_of(table, l);
+    label.reads(principals(table) as usize, group)
+}
+
+// Whether a group writes label l.
+pub fn writes(table: &[u16], group: Set, l: u32) -> bool
+    ensures { λ r. ⌜ r ≡ writesIn (now (table .entry)) group l ⌝ }
+{
+    let label = label_of(table, l);
+    label.writes(principals(table) as usize, group)
 }

@@ -1,9 +1,11 @@
--- `interpreter::nodes::writes` meets its contract. Assumes nothing.
+-- `tables::writes` meets its contract. Assumes nothing.
 use borrow.Author.Needs.{needs}
-use Rattle.interpreter.proofs.nodes.writes.Statement.{statement}
-use Rattle.interpreter.proofs.nodes.writes.Tie as tie
+use Rattle.tables.specs.Tables.{writesIn}
+use Rattle.tables.proofs.writes.Statement.{statement}
+use Rattle.tables.proofs.writes.Tie as tie
 
 pub writes-spec : {M : Type 1} → statement M
+unfolding writesIn
 writes-spec = tie.close (tie.spec
     (λ c κs. search needs)  -- label-of-requires
     (λ c κs. search needs)  -- principals-requires

@@ -1,9 +1,11 @@
--- `interpreter::nodes::reads` meets its contract. Assumes nothing.
+-- `tables::reads` meets its contract. Assumes nothing.
 use borrow.Author.Needs.{needs}
-use Rattle.interpreter.proofs.nodes.reads.Statement.{statement}
-use Rattle.interpreter.proofs.nodes.reads.Tie as tie
+use Rattle.tables.specs.Tables.{readsIn}
+use Rattle.tables.proofs.reads.Statement.{statement}
+use Rattle.tables.proofs.reads.Tie as tie
 
 pub reads-spec : {M : Type 1} → statement M
+unfolding readsIn
 reads-spec = tie.close (tie.spec
     (λ c κs. search needs)  -- label-of-requires
     (λ c κs. search needs)  -- principals-requires

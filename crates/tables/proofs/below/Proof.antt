@@ -1,9 +1,11 @@
--- `interpreter::nodes::below` meets its contract. Assumes nothing.
+-- `tables::below` meets its contract. Assumes nothing.
 use borrow.Author.Needs.{needs}
-use Rattle.interpreter.proofs.nodes.below.Statement.{statement}
-use Rattle.interpreter.proofs.nodes.below.Tie as tie
+use Rattle.tables.specs.Tables.{belowIn}
+use Rattle.tables.proofs.below.Statement.{statement}
+use Rattle.tables.proofs.below.Tie as tie
 
 pub below-spec : {M : Type 1} → statement M
+unfolding belowIn
 below-spec = tie.close (tie.spec
     (λ c κs. search needs)  -- label-of-requires
     (λ c κs. search needs)  -- label-of-requires-2

@@ -6,17 +6,17 @@ ghost use lib.Seq.{paste};
 ghost use Rattle.interpreter.specs.Cells.{loadOf, storeOf, pushOf, popOf};
 
 // The words of a cell.
-pub(crate) const CELL: usize = 16;
+pub(crate) const CELL: usize = memory::CELL;
 
 pub(crate) const ACCUMULATOR: usize = 0;
 
 // The cell of location 0.
 pub(crate) const LOCATIONS: usize = 9;
 
-// The words of all cells, and where those of the locations start.
-pub(crate) const WORK: usize = 1168;
+// Where the words of the locations start, and the words of all cells.
+pub(crate) const MEMORY: usize = CELL * LOCATIONS;
 
-pub(crate) const MEMORY: usize = 144;
+pub(crate) const WORK: usize = MEMORY + CELL * 64;
 
 // The words of cell k; zeros where there is no such cell.
 pub(crate) fn load(work: &[u32], k: usize) -> [u32; CELL]

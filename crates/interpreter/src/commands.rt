@@ -45,19 +45,19 @@ fn operands(kind: u32) -> u32
     ensures { λ r. ⌜ r ≡ operandsOf kind ⌝ }
 {
     match kind {
-        1 => 0,
-        2 => 2,
-        3 => 1,
-        4 => 2,
-        5 => 3,
-        6 => 0,
-        7 => 0,
-        8 => 0,
-        9 => 2,
-        10 => 1,
-        11 => 1,
-        12 => 1,
-        13 => 1,
+        lines::SKIP => 0,
+        lines::SEQ => 2,
+        lines::ASSIGN => 1,
+        lines::WHILE => 2,
+        lines::CASE => 3,
+        lines::INT => 0,
+        lines::LOC => 0,
+        lines::VAR => 0,
+        lines::PLUS => 2,
+        lines::LEFT => 1,
+        lines::RIGHT => 1,
+        lines::PACK => 1,
+        lines::UNPACK => 1,
         _ => 4,
     }
 }
@@ -169,12 +169,12 @@ fn decide(
         };
     }
     match cells::word(work, 0) {
-        3 => Decided {
+        memory::LEFT => Decided {
             state: LEFT,
             left: fuel - 1,
             next: v.next,
         },
-        4 => Decided {
+        memory::RIGHT => Decided {
             state: RIGHT,
             left: fuel - 1,
             next: v.next,
@@ -244,12 +244,12 @@ pub(crate) fn exec(
     let row = lines::row_at(code, at);
     let kind = row.kind;
     match kind {
-        1 => Done {
+        lines::SKIP => Done {
             state: DONE,
             left: fuel,
             next: at + ROW,
         },
-        2 => {
+        lines::SEQ => {
             let d = exec(code, at + ROW, table, authority, depth, work, fuel);
             let t = tick(d);
             if t.state != DONE {
@@ -258,8 +258,8 @@ pub(crate) fn exec(
             let next = t.next;
             exec(code, next, table, authority, depth, work, t.left)
         }
-        3 => assign(code, at + ROW, table, authority, depth, work, fuel, row.a),
-        4 => {
+        lines::ASSIGN => assign(code, at + ROW, table, authority, depth, work, fuel, row.a),
+        lines::WHILE => {
             let body = skip(code, at + ROW);
             let end = skip(code, body);
             let mut left = fuel;
@@ -284,7 +284,7 @@ pub(crate) fn exec(
                 left = t.left;
             }
         }
-        5 => {
+        lines::CASE => {
             let b = branch(code, at + ROW, table, authority, depth, work, fuel);
             if b.state != DONE {
                 return Done {

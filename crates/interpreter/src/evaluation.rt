@@ -21,28 +21,28 @@ pub(crate) fn eval(
     let a = row.a;
     let b = row.b;
     match kind {
-        6 => {
+        lines::INT => {
             nodes::literal(work, a);
             Evaluated {
                 state: nodes::VALUE,
                 next: at + ROW,
             }
         }
-        7 => {
+        lines::LOC => {
             nodes::location(work, a);
             Evaluated {
                 state: nodes::VALUE,
                 next: at + ROW,
             }
         }
-        8 => {
+        lines::VAR => {
             nodes::variable(work, depth, a);
             Evaluated {
                 state: nodes::VALUE,
                 next: at + ROW,
             }
         }
-        9 => {
+        lines::PLUS => {
             let v = eval(code, at + ROW, table, authority, depth, work);
             if v.state != nodes::VALUE {
                 return v;
@@ -52,19 +52,19 @@ pub(crate) fn eval(
             let w = eval(code, next, table, authority, depth, work);
             nodes::sum(work, n, w)
         }
-        10 => {
+        lines::LEFT => {
             let v = eval(code, at + ROW, table, authority, depth, work);
-            nodes::tagged(work, 3, v)
+            nodes::tagged(work, memory::LEFT, v)
         }
-        11 => {
+        lines::RIGHT => {
             let v = eval(code, at + ROW, table, authority, depth, work);
-            nodes::tagged(work, 4, v)
+            nodes::tagged(work, memory::RIGHT, v)
         }
-        12 => {
+        lines::PACK => {
             let v = eval(code, at + ROW, table, authority, depth, work);
             nodes::pack(work, table, authority, a, v)
         }
-        13 => {
+        lines::UNPACK => {
             let v = eval(code, at + ROW, table, authority, depth, work);
             nodes::unpack(work, table, authority, a, b, v)
         }

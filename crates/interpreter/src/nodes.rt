@@ -21,6 +21,13 @@ pub(crate) const TOO_LONG: u8 = 10;
 
 pub(crate) const NO_RULE: u8 = 11;
 
+// The errors of pack and unpack.
+const INSUFFICIENT_AUTH: u32 = 1;
+
+const ILLEGAL_FLOW: u32 = 2;
+
+const TYPE_MISMATCH: u32 = 3;
+
 pub(crate) struct Evaluated {
     pub(crate) state: u8,
     pub(crate) next: usize,
@@ -34,11 +41,11 @@ pub(crate) fn value_end(words: &[u32], at: usize) -> usize
         return at;
     }
     match words[at] {
-        1 => at + 2,
-        2 => at + 2,
-        3 => value_end(words, at + 1),
-        4 => value_end(words, at + 1),
-        5 => value_end(words, at + 2),
+        memory::INT => at + 2,
+        memory::ERROR => at + 2,
+        memory::LEFT => value_end(words, at + 1),
+        memory::RIGHT => value_end(words, at + 1),
+        memory::PACKAGE => value_end(words, at + 2),
         _ => at + 1,
     }
 }
@@ -50,7 +57,7 @@ pub(crate) fn literal(work: &mut [u32], n: u32)
     cells::store(
         work,
         ACCUMULATOR,
-        [1, n, 0, 0, 0, 0, 0, 0, 0, 0, 0, 0, 0, 0, 0, 0],
+        [memory::INT, n, 0, 0, 0, 0, 0, 0, 0, 0, 0, 0, 0, 0, 0, 0],
     );
 }
 
@@ -61,7 +68,24 @@ fn fail(work: &mut [u32], e: u32)
     cells::store(
         work,
         ACCUMULATOR,
-        [4, 2, e, 0, 0, 0, 0, 0, 0, 0, 0, 0, 0, 0, 0, 0],
+        [
+            memory::RIGHT,
+            memory::ERROR,
+            e,
+            0,
+            0,
+            0,
+            0,
+            0,
+            0,
+            0,
+            0,
+            0,
+            0,
+            0,
+            0,
+            0,
+        ],
     );
 }
 
@@ -93,7 +117,7 @@ pub(crate) fn sum(work: &mut [u32], n: u32, v: Evaluated) -> Evaluated
     v
 }
 
-// Left, with the word 3, or right, with the word 4, of the value in the accumulator.
+// Left or right, as the word says, of the value in the accumulator.
 pub(crate) fn tagged(work: &mut [u32], w: u32, v: Evaluated) -> Evaluated
     ensures { λ r. ⌜ Applies (now (work .entry)) (v .state) (v .next) (now (work .exit)) (r .state) (r .next)
         ((f : Value → Value) → Tags w f → Turns (λ u. fit (f u)) (now (work .entry)) (v .state) (now (work .exit)) (r .state)) ⌝ }
@@ -128,7 +152,7 @@ pub(crate) fn pack(
         return v;
     }
     if !tables::writes(table, authority, l) {
-        fail(work, 1);
+        fail(work, INSUFFICIENT_AUTH);
         return v;
     }
     if value_end(work, 0) > CELL - 3 {
@@ -138,8 +162,8 @@ pub(crate) fn pack(
         };
     }
     let content = cells::load(work, ACCUMULATOR);
-    let package = cells::push(5, cells::push(l, content));
-    let left = cells::push(3, package);
+    let package = cells::push(memory::PACKAGE, cells::push(l, content));
+    let left = cells::push(memory::LEFT, package);
     cells::store(work, ACCUMULATOR, left);
     v
 }
@@ -150,13 +174,13 @@ fn refusal(work: &[u32], table: &[u16], authority: u16, t: u32, l: u32) -> u32
         (hasNo (now (table .entry)) (valueOf (drop 2 (now (work .entry)))) (leftIn (now (table .entry)) t)) ⌝ }
 {
     if !tables::reads(table, authority, l) {
-        return 1;
+        return INSUFFICIENT_AUTH;
     }
     if !tables::below(table, cells::word(work, 1), l) {
-        return 2;
+        return ILLEGAL_FLOW;
     }
     if !memory::has_type(table, work, 2, tables::left_part(table, t)) {
-        return 3;
+        return TYPE_MISMATCH;
     }
     0
 }
@@ -176,7 +200,7 @@ pub(crate) fn unpack(
     if v.state != VALUE {
         return v;
     }
-    if cells::word(work, 0) != 5 {
+    if cells::word(work, 0) != memory::PACKAGE {
         return Evaluated {
             state: NO_RULE,
             next: v.next,
@@ -189,7 +213,7 @@ pub(crate) fn unpack(
     }
     let package = cells::load(work, ACCUMULATOR);
     let content = cells::pop(cells::pop(package));
-    let left = cells::push(3, content);
+    let left = cells::push(memory::LEFT, content);
     cells::store(work, ACCUMULATOR, left);
     v
 }

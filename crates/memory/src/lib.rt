@@ -11,7 +11,7 @@ ghost use Rattle.sets.specs.Sets.{both};
 ghost use Rattle.language.specs.Syntax.{size};
 ghost use Rattle.language.specs.View.{mask};
 ghost use Rattle.tables.specs.Tables.{labelsIn, locationsIn, readsIn};
-ghost use Rattle.tables.specs.TypeTest.{isSum, hasNo};
+ghost use Rattle.tables.specs.TypeTest.{hasNo};
 ghost use Rattle.memory.specs.Words.{valueOf};
 ghost use Rattle.memory.specs.Memory.{holdsBy, cellOf};
 ghost use Rattle.memory.specs.View.{viewCell};
@@ -21,6 +21,17 @@ use sets::Set;
 // The words of a location.
 pub const CELL: usize = 16;
 
+// The first word of a value.
+pub const INT: u32 = 1;
+
+pub const ERROR: u32 = 2;
+
+pub const LEFT: u32 = 3;
+
+pub const RIGHT: u32 = 4;
+
+pub const PACKAGE: u32 = 5;
+
 // Whether the value whose words start at `at` has a type. What a package holds is not looked at.
 pub fn has_type(table: &[u16], words: &[u32], at: usize, ty: u32) -> bool
     ensures { λ r. ⌜ r ≡ hasNo (now (table .entry)) (valueOf (drop at (now (words .entry)))) ty ⌝ }
@@ -29,21 +40,21 @@ pub fn has_type(table: &[u16], words: &[u32], at: usize, ty: u32) -> bool
         return false;
     }
     match words[at] {
-        1 => one_more(words, at, ty, 0),
-        2 => one_more(words, at, ty, 1),
-        3 => {
-            if !is_sum(table, ty) {
+        INT => one_more(words, at, ty, tables::INT),
+        ERROR => one_more(words, at, ty, tables::ERROR),
+        LEFT => {
+            if !tables::is_sum(table, ty) {
                 return false;
             }
             has_type(table, words, at + 1, tables::left_part(table, ty))
         }
-        4 => {
-            if !is_sum(table, ty) {
+        RIGHT => {
+            if !tables::is_sum(table, ty) {
                 return false;
             }
             has_type(table, words, at + 1, tables::right_part(table, ty))
         }
-        5 => one_more(words, at, ty, 2),
+        PACKAGE => one_more(words, at, ty, tables::PKG),
         _ => false,
     }
 }
@@ -60,16 +71,6 @@ fn one_more(words: &[u32], at: usize, ty: u32, wanted: u32) -> bool
         return false;
     }
     ty == wanted
-}
-
-// Whether a number names a sum type.
-fn is_sum(table: &[u16], ty: u32) -> bool
-    ensures { λ r. ⌜ r ≡ isSum (now (table .entry)) ty ⌝ }
-{
-    if ty < 3 {
-        return false;
-    }
-    ty < tables::types(table)
 }
 
 // Whether the words of a location are exactly those of a proper value of a type.

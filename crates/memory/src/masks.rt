@@ -33,17 +33,17 @@ pub(crate) fn mask_at(
         return mask_blank(at, out, to);
     }
     match words[at] {
-        1 => mask_number(words, at, out, to),
-        2 => mask_number(words, at, out, to),
-        3 => {
-            store(out, to, 3);
+        crate::INT => mask_number(words, at, out, to),
+        crate::ERROR => mask_number(words, at, out, to),
+        crate::LEFT => {
+            store(out, to, crate::LEFT);
             mask_at(table, group, words, at + 1, out, to + 1)
         }
-        4 => {
-            store(out, to, 4);
+        crate::RIGHT => {
+            store(out, to, crate::RIGHT);
             mask_at(table, group, words, at + 1, out, to + 1)
         }
-        5 => {
+        crate::PACKAGE => {
             let label = at + 1;
             let second = to + 1;
             let head = mask_label(table, group, words, label, out, to);
@@ -116,7 +116,7 @@ fn mask_label(
             end: none.end,
         };
     }
-    store(out, to, 5);
+    store(out, to, crate::PACKAGE);
     let second = to + 1;
     store(out, second, words[at]);
     if tables::reads(table, group, words[at]) {

@@ -26,11 +26,11 @@ pub(crate) fn value_at(labels: u32, words: &[u32], at: usize) -> Walked
         };
     }
     match words[at] {
-        1 => integer_at(words, at + 1),
-        2 => error_at(words, at + 1),
-        3 => value_at(labels, words, at + 1),
-        4 => value_at(labels, words, at + 1),
-        5 => {
+        crate::INT => integer_at(words, at + 1),
+        crate::ERROR => error_at(words, at + 1),
+        crate::LEFT => value_at(labels, words, at + 1),
+        crate::RIGHT => value_at(labels, words, at + 1),
+        crate::PACKAGE => {
             let label = at + 1;
             let content = value_at(labels, words, label + 1);
             package_at(labels, words, label, content)

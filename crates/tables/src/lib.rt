@@ -2,6 +2,7 @@
 ghost use mathlib.Core.Path.{_≡_};
 ghost use lib.ListN.{getD};
 ghost use Rattle.tables.specs.Tables.{entryIn, principalsIn, everyoneIn, typesIn, labelsIn, locationsIn, leftIn, rightIn, typeIn, homeIn, labelIn, belowIn, readsIn, writesIn};
+ghost use Rattle.tables.specs.TypeTest.{isSum};
 use labels::LABEL_SIZE;
 use labels::Label;
 use sets::Set;
@@ -40,6 +41,15 @@ fn entry(table: &[u16], count: u32, base: u32, i: u32) -> u32
     }
 }
 
+// The numbers of the types that are no sums, and of the first sum.
+pub const INT: u32 = 0;
+
+pub const ERROR: u32 = 1;
+
+pub const PKG: u32 = 2;
+
+pub const SUMS: u32 = 3;
+
 // The number of principals.
 pub fn principals(table: &[u16]) -> u32
     ensures { λ r. ⌜ r ≡ principalsIn (now (table .entry)) ⌝ }
@@ -73,6 +83,16 @@ pub fn locations(table: &[u16]) -> u32
     ensures { λ r. ⌜ r ≡ locationsIn (now (table .entry)) ⌝ }
 {
     number(table, 4)
+}
+
+// Whether a number names a sum type.
+pub fn is_sum(table: &[u16], ty: u32) -> bool
+    ensures { λ r. ⌜ r ≡ isSum (now (table .entry)) ty ⌝ }
+{
+    if ty < SUMS {
+        return false;
+    }
+    ty < types(table)
 }
 
 // The left part of a type; 0 for a number that names no type.

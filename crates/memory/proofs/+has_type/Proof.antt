@@ -11,7 +11,7 @@ use Rattle.memory.proofs.TypeTestLaws as laws
 use Rattle.memory.proofs.has_type.Reads as has-type
 use Rattle.memory.proofs.has_type.Kinds as has-type-kinds
 use Rattle.memory.proofs.+has_type.Lts-has_type as has-type-lts
-use Rattle.memory.proofs.is_sum.Reads as is-sum-reads
+use Rattle.tables.proofs.is_sum.Reads as is-sum-reads
 use Rattle.memory.proofs.one_more.Reads as one-more-reads
 use Rattle.tables.proofs.left_part.Reads as left-part-reads
 use Rattle.tables.proofs.right_part.Reads as right-part-reads

@@ -12,11 +12,11 @@ use Rattle.language.specs.Syntax.{Value, int, err, inl, inr, pkg, blank, size, 
 use Rattle.language.specs.Evaluation.{World, Res, ok, long, stuck, bind, fitting, fit, addTo, add, packed, opened, wanted, unpacked, cell-words}
 use Rattle.tables.specs.Tables.{leftIn, belowIn, readsIn, writesIn}
 use Rattle.tables.specs.TypeTest.{hasNo}
-use Rattle.memory.specs.Words.{enc, zeros, cell, valueOf}
+use Rattle.memory.specs.Words.{enc, zeros, cell, valueOf, endOf}
 use Rattle.memory.specs.Memory.{cellOf}
-use Rattle.memory.proofs.WordLaws.{length-cell, value-enc}
+use Rattle.memory.proofs.WordLaws.{length-cell, value-enc, end-enc}
 use Rattle.interpreter.specs.Cells.{accumulator, loadOf, storeOf, pushOf, popOf}
-use Rattle.interpreter.specs.Nodes.{Sizes, Answers, Turns, Applies, Tags, errorOf, errorIn, Tells}
+use Rattle.interpreter.specs.Nodes.{Answers, Turns, Applies, Tags, errorOf, errorIn, Tells}
 use Rattle.interpreter.proofs.CellLaws.{there, load-there, length-load, length-push, length-pop, cell-stored, rest-kept}
 use Rattle.interpreter.proofs.ValueLaws.{enc-append, cell-size, tags-left, push-tag, push-package, pop-package}
 
@@ -28,8 +28,8 @@ unfolding cellOf cell
 words-here work v e =
     sym (take-append-drop 16 work) ∙ ap (λ (l : List ℕ). l ++ drop 16 work) e ∙ enc-append v (zeros (16 - size v)) (drop 16 work)
 
-size-here : (work : List ℕ) (v : Value) (n : ℕ) → Sizes work 0 n → cellOf work accumulator ≡ cell v → n ≡ size v
-size-here work v n s e = omega (arith, s .means v _ (words-here work v e))
+size-here : (work : List ℕ) (v : Value) (n : ℕ) → n ≡ endOf work 0 → cellOf work accumulator ≡ cell v → n ≡ size v
+size-here work v n s e = omega (arith, end-enc work 0 v _ (words-here work v e))
 
 pub load-here : (work : List ℕ) (v : Value) → cell-words ≤ length work → cellOf work accumulator ≡ cell v → loadOf work accumulator ≡ cell v
 load-here work v h e = load-there work 0 (there work 0 (omega arith)) ∙ e
@@ -144,14 +144,14 @@ module _ {work : List ℕ} {state next : ℕ} where
       → Applies work state next work state next ((f : Value → Value) → Tags w f → Turns (λ u. fit (f u)) work state work state)
   tagged-past z = applies-past (λ f t. turns-past (λ u. fit (f u)) work state z)
 
-  pub tagged-long : {w end : ℕ} → state ≡ 0 → Sizes work 0 end → cell-words ≤ end
+  pub tagged-long : {w end : ℕ} → state ≡ 0 → end ≡ endOf work 0 → cell-words ≤ end
       → Applies work state next work 10 next ((f : Value → Value) → Tags w f → Turns (λ u. fit (f u)) work state work 10)
   tagged-long {end = end} z s h =
       applies-keep 10 (λ x. omega arith)
       (λ f t. turns-keep (λ u. fit (f u)) work state 10 z
       (λ v a. answers-long (fit (f v)) (cellOf work 0) (too-long (f v) (omega (arith, t .longer v, size-here work v end s a)))))
 
-  pub tagged-done : {w end : ℕ} {words work′ : List ℕ} → state ≡ 0 → Sizes work 0 end → end < cell-words → words ≡ loadOf work accumulator
+  pub tagged-done : {w end : ℕ} {words work′ : List ℕ} → state ≡ 0 → end ≡ endOf work 0 → end < cell-words → words ≡ loadOf work accumulator
       → work′ ≡ storeOf work accumulator (pushOf w words)
       → Applies work state next work′ state next ((f : Value → Value) → Tags w f → Turns (λ u. fit (f u)) work state work′ state)
   tagged-done {w} {end} {words} z s h l e =
@@ -178,7 +178,7 @@ module _ {work : List ℕ} {state next : ℕ} where
           (λ W t. rw (e, written l may w W t, n) (turns-put (packed false l) work state (cell (inr (err 1))) z (length-error 1)
           (λ v h a. answers-ok (packed false l v) (inr (err 1)) state (cell (inr (err 1))) refl z refl)))
 
-      pub pack-long : {end : ℕ} → state ≡ 0 → may ≡ true → Sizes work 0 end → 13 < end
+      pub pack-long : {end : ℕ} → state ≡ 0 → may ≡ true → end ≡ endOf work 0 → 13 < end
           → Applies work state next work 10 next ((W : World) → Tells table authority W → Turns (packed (W .writes l) l) work state work 10)
       unfolding packed size
       pack-long {end} z y s h =
@@ -186,7 +186,7 @@ module _ {work : List ℕ} {state next : ℕ} where
           (λ W t. rw (written l may w W t, y) (turns-keep (packed true l) work state 10 z
           (λ v a. answers-long (packed true l v) (cellOf work 0) (too-long (inl (pkg l v)) (omega (arith, size-here work v end s a))))))
 
-      pub pack-done : {end : ℕ} {words work′ : List ℕ} → state ≡ 0 → may ≡ true → Sizes work 0 end → end ≤ 13 → words ≡ loadOf work accumulator
+      pub pack-done : {end : ℕ} {words work′ : List ℕ} → state ≡ 0 → may ≡ true → end ≡ endOf work 0 → end ≤ 13 → words ≡ loadOf work accumulator
           → work′ ≡ storeOf work accumulator (pushOf 3 (pushOf 5 (pushOf l words)))
           → Applies work state next work′ state next ((W : World) → Tells table authority W → Turns (packed (W .writes l) l) work state work′ state)
       unfolding packed size

@@ -1,19 +1,19 @@
 -- The words of values: pushed onto, popped off, and counted.
 -- Assumes nothing.
-use mathlib.Core.Path.{_≡_, refl, sym, ap, subst, _∙_}
+use mathlib.Core.Path.{_≡_, refl, sym, ap, _∙_}
 use mathlib.Core.List.{List, [], _∷_, _++_}
 use Prim.Native.Nat.{ℕ, zero, suc, _+_, _-_, _≤_, _<_}
 use native.Mathlib.Omega.{arith}
 use native.Mathlib.Nat.{suc-add}
-use lib.ListN.{length, take, drop, getD, length-drop, length-replicate, replicate-append-replicate}
-use lib.Seq.{getD-drop, drop-drop, take-take}
+use lib.ListN.{length, take, getD, length-replicate, replicate-append-replicate}
+use lib.Seq.{take-take}
 use Rattle.language.specs.Syntax.{Value, int, err, inl, inr, pkg, blank, size}
 use Rattle.language.specs.Evaluation.{cell-words}
 use Rattle.memory.specs.Words.{enc, zeros, cell}
 use Rattle.memory.specs.Memory.{cellOf}
-use Rattle.memory.proofs.WordLaws.{size-pos, length-enc}
+use Rattle.memory.proofs.WordLaws.{length-enc}
 use Rattle.interpreter.specs.Cells.{pushOf, popOf}
-use Rattle.interpreter.specs.Nodes.{Sizes, Tags}
+use Rattle.interpreter.specs.Nodes.{Tags}
 use Rattle.interpreter.proofs.CellLaws.{cell-short}
 
 -- ---- a value's words, then more
@@ -92,6 +92,16 @@ module _ {w : ℕ} {f : Value → Value} (t : Tags w f) (v : Value) where
   unfolding popOf
   pop-tag h = ap popOf tagged-cell ∙ zeros-more v (15 - size v) (omega arith)
 
+-- a number pushed onto zeros, then the word that says of what kind it is
+
+pub push-int : (n : ℕ) → pushOf 1 (pushOf n (zeros cell-words)) ≡ cell (int n)
+unfolding pushOf cell enc size
+push-int n = refl
+
+pub push-failure : (e : ℕ) → pushOf 4 (pushOf 2 (pushOf e (zeros cell-words))) ≡ cell (inr (err e))
+unfolding pushOf cell enc size
+push-failure e = refl
+
 pub push-package : (l : ℕ) (v : Value) → size v ≤ 14 → pushOf 5 (pushOf l (cell v)) ≡ cell (pkg l v)
 unfolding pushOf cell enc size
 push-package l v h =
@@ -122,73 +132,3 @@ kind-enc (inl v) rest = is-inl
 kind-enc (inr v) rest = is-inr
 kind-enc (pkg l v) rest = is-pkg
 kind-enc blank rest = is-blank
-
--- ---- the size of a value, by its first word
-
-module _ (ws : List ℕ) (at : ℕ) where
-  kind-at : (v : Value) (rest : List ℕ) (w : ℕ) → drop at ws ≡ enc v rest → getD ws at 0 ≡ w → Kind w v
-  kind-at v rest w h e =
-      let z : getD (enc v rest) 0 0 ≡ getD ws (at + 0) 0 = ap (λ (l : List ℕ). getD l 0 0) (sym h) ∙ getD-drop at ws 0 0 in
-      let z′ : getD (enc v rest) 0 0 ≡ w = z ∙ ap (λ (i : ℕ). getD ws i 0) (omega arith) ∙ e in
-      subst (λ (i : ℕ). Kind i v) z′ (kind-enc v rest)
-
-  after : (n : ℕ) (us : List ℕ) → drop at ws ≡ us → drop (at + n) ws ≡ drop n us
-  after n us h = sym (drop-drop n at ws) ∙ ap (drop n) h
-
-  pub size-past : length ws ≤ at → Sizes ws at at
-  size-past h =
-      record {
-        forward = omega arith;
-        means = λ v rest e. absurd (omega (arith, size-pos v, length-enc v rest, ap (λ (l : List ℕ). length l) e, length-drop at ws));
-      }
-
-  size-by : (w next : ℕ) → at ≤ next → getD ws at 0 ≡ w
-      → ((v : Value) (rest : List ℕ) → Kind w v → drop at ws ≡ enc v rest → next ≡ at + size v) → Sizes ws at next
-  size-by w next f e m = record { forward = f; means = λ v rest h. m v rest (kind-at v rest w h e) h }
-
-  size-int-at : (v : Value) → Kind 1 v → at + 2 ≡ at + size v
-  unfolding size
-  size-int-at v is-int = refl
-
-  pub size-int : getD ws at 0 ≡ 1 → Sizes ws at (at + 2)
-  size-int e = size-by 1 (at + 2) (omega arith) e (λ v rest k h. size-int-at v k)
-
-  size-err-at : (v : Value) → Kind 2 v → at + 2 ≡ at + size v
-  unfolding size
-  size-err-at v is-err = refl
-
-  pub size-err : getD ws at 0 ≡ 2 → Sizes ws at (at + 2)
-  size-err e = size-by 2 (at + 2) (omega arith) e (λ v rest k h. size-err-at v k)
-
-  size-inl-at : {next : ℕ} (v : Value) (rest : List ℕ) → Sizes ws (at + 1) next → Kind 3 v → drop at ws ≡ enc v rest → next ≡ at + size v
-  unfolding size enc
-  size-inl-at v rest s (is-inl {v = u}) h = omega (arith, s .means u rest (after 1 _ h))
-
-  pub size-inl : {next : ℕ} → getD ws at 0 ≡ 3 → Sizes ws (at + 1) next → Sizes ws at next
-  size-inl {next} e s = size-by 3 next (omega (arith, s .forward)) e (λ v rest k h. size-inl-at v rest s k h)
-
-  size-inr-at : {next : ℕ} (v : Value) (rest : List ℕ) → Sizes ws (at + 1) next → Kind 4 v → drop at ws ≡ enc v rest → next ≡ at + size v
-  unfolding size enc
-  size-inr-at v rest s (is-inr {v = u}) h = omega (arith, s .means u rest (after 1 _ h))
-
-  pub size-inr : {next : ℕ} → getD ws at 0 ≡ 4 → Sizes ws (at + 1) next → Sizes ws at next
-  size-inr {next} e s = size-by 4 next (omega (arith, s .forward)) e (λ v rest k h. size-inr-at v rest s k h)
-
-  size-pkg-at : {next : ℕ} (v : Value) (rest : List ℕ) → Sizes ws (at + 2) next → Kind 5 v → drop at ws ≡ enc v rest → next ≡ at + size v
-  unfolding size enc
-  size-pkg-at v rest s (is-pkg {v = u}) h = omega (arith, s .means u rest (after 2 _ h))
-
-  pub size-pkg : {next : ℕ} → getD ws at 0 ≡ 5 → Sizes ws (at + 2) next → Sizes ws at next
-  size-pkg {next} e s = size-by 5 next (omega (arith, s .forward)) e (λ v rest k h. size-pkg-at v rest s k h)
-
-  size-none-at : {w : ℕ} (v : Value) → Kind w v → (w ≡ 1 → ⊥) → (w ≡ 2 → ⊥) → (w ≡ 3 → ⊥) → (w ≡ 4 → ⊥) → (w ≡ 5 → ⊥) → at + 1 ≡ at + size v
-  unfolding size
-  size-none-at v is-int n1 n2 n3 n4 n5 = absurd (n1 refl)
-  size-none-at v is-err n1 n2 n3 n4 n5 = absurd (n2 refl)
-  size-none-at v is-inl n1 n2 n3 n4 n5 = absurd (n3 refl)
-  size-none-at v is-inr n1 n2 n3 n4 n5 = absurd (n4 refl)
-  size-none-at v is-pkg n1 n2 n3 n4 n5 = absurd (n5 refl)
-  size-none-at v is-blank n1 n2 n3 n4 n5 = refl
-
-  pub size-none : (getD ws at 0 ≡ 1 → ⊥) → (getD ws at 0 ≡ 2 → ⊥) → (getD ws at 0 ≡ 3 → ⊥) → (getD ws at 0 ≡ 4 → ⊥) → (getD ws at 0 ≡ 5 → ⊥) → Sizes ws at (at + 1)
-  size-none n1 n2 n3 n4 n5 = size-by _ (at + 1) (omega arith) refl (λ v rest k h. size-none-at v k n1 n2 n3 n4 n5)

@@ -2,7 +2,7 @@
 use mathlib.Core.Path.{_≡_}
 use mathlib.Core.Bool.{Bool, true, false}
 use mathlib.Core.List.{List, _∷_}
-use Prim.Native.Nat.{ℕ, suc, _+_, _≤_}
+use Prim.Native.Nat.{ℕ, suc, _≤_}
 use lib.ListN.{length, drop}
 use Rattle.language.specs.Syntax.{Value, size, has}
 use Rattle.language.specs.Evaluation.{World, Res, ok, long, stuck, bind, wanted, cell-words}
@@ -11,11 +11,6 @@ use Rattle.tables.specs.TypeTest.{hasNo}
 use Rattle.memory.specs.Words.{enc, cell}
 use Rattle.memory.specs.Memory.{cellOf}
 use Rattle.interpreter.specs.Cells.{accumulator}
-
--- Where the words of a value start at `at`, `next` is the place after them.
-pub record Sizes (ws : List ℕ) (at next : ℕ) : Type 0 where
-  pub forward : at ≤ next
-  pub means : (v : Value) (rest : List ℕ) → drop at ws ≡ enc v rest → next ≡ at + size v
 
 -- ---- answers
 

@@ -8,7 +8,7 @@ ghost use Rattle.tables.specs.Tables.{leftIn};
 ghost use Rattle.tables.specs.TypeTest.{hasNo};
 ghost use Rattle.memory.specs.Words.{cell, valueOf};
 ghost use Rattle.interpreter.specs.Cells.{loadOf, storeOf, popOf, accumulator, firstLocation};
-ghost use Rattle.interpreter.specs.Nodes.{Sizes, Turns, Applies, Tags, errorIn, Tells};
+ghost use Rattle.interpreter.specs.Nodes.{Turns, Applies, Tags, errorIn, Tells};
 use crate::cells;
 use crate::cells::ACCUMULATOR;
 use crate::cells::CELL;
@@ -33,60 +33,23 @@ pub(crate) struct Evaluated {
     pub(crate) next: usize,
 }
 
-// The place after the value whose words start at `at`.
-pub(crate) fn value_end(words: &[u32], at: usize) -> usize
-    ensures { λ r. ⌜ Sizes (now (words .entry)) at r ⌝ }
-{
-    if words.len() <= at {
-        return at;
-    }
-    match words[at] {
-        memory::INT => at + 2,
-        memory::ERROR => at + 2,
-        memory::LEFT => value_end(words, at + 1),
-        memory::RIGHT => value_end(words, at + 1),
-        memory::PACKAGE => value_end(words, at + 2),
-        _ => at + 1,
-    }
-}
-
 // An integer.
 pub(crate) fn literal(work: &mut [u32], n: u32)
     ensures { λ _. ⌜ now (work .exit) ≡ storeOf (now (work .entry)) accumulator (cell (int n)) ⌝ }
 {
-    cells::store(
-        work,
-        ACCUMULATOR,
-        [memory::INT, n, 0, 0, 0, 0, 0, 0, 0, 0, 0, 0, 0, 0, 0, 0],
-    );
+    let number = cells::push(n, [0u32; CELL]);
+    let value = cells::push(memory::INT, number);
+    cells::store(work, ACCUMULATOR, value);
 }
 
 // The right of an error.
 fn fail(work: &mut [u32], e: u32)
     ensures { λ _. ⌜ now (work .exit) ≡ storeOf (now (work .entry)) accumulator (cell (inr (err e))) ⌝ }
 {
-    cells::store(
-        work,
-        ACCUMULATOR,
-        [
-            memory::RIGHT,
-            memory::ERROR,
-            e,
-            0,
-            0,
-            0,
-            0,
-            0,
-            0,
-            0,
-            0,
-            0,
-            0,
-            0,
-            0,
-            0,
-        ],
-    );
+    let number = cells::push(e, [0u32; CELL]);
+    let error = cells::push(memory::ERROR, number);
+    let right = cells::push(memory::RIGHT, error);
+    cells::store(work, ACCUMULATOR, right);
 }
 
 // The value of location x.
@@ -125,7 +88,7 @@ pub(crate) fn tagged(work: &mut [u32], w: u32, v: Evaluated) -> Evaluated
     if v.state != VALUE {
         return v;
     }
-    if value_end(work, 0) >= CELL {
+    if memory::value_end(work, 0) >= CELL {
         return Evaluated {
             state: TOO_LONG,
             next: v.next,
@@ -155,7 +118,7 @@ pub(crate) fn pack(
         fail(work, INSUFFICIENT_AUTH);
         return v;
     }
-    if value_end(work, 0) > CELL - 3 {
+    if memory::value_end(work, 0) > CELL - 3 {
         return Evaluated {
             state: TOO_LONG,
             next: v.next,

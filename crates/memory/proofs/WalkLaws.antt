@@ -6,10 +6,10 @@ use mathlib.Core.List.{List, []}
 use Prim.Native.Nat.{ℕ, _+_, _≤_, _<_}
 use native.Mathlib.Omega.{arith}
 use lib.Dec.{ltb}
-use lib.ListN.{length, getD, drop}
+use lib.ListN.{length, getD, drop, length-drop}
 use Rattle.sets.specs.Sets.{both}
 use Rattle.language.specs.Syntax.{Value, int, err, blank}
-use Rattle.memory.specs.Words.{Got, wrap, numbered, packaged, readOf}
+use Rattle.memory.specs.Words.{Got, wrap, numbered, packaged, readOf, endOf}
 use Rattle.memory.specs.Memory.{proper}
 use Rattle.memory.specs.Post.{Walks}
 use Rattle.memory.proofs.PlaceLaws.{here, past, at-past, at-int, at-err, at-inl, at-inr, at-package, at-none}
@@ -18,7 +18,7 @@ module _ (labels : ℕ) (ws : List ℕ) (at : ℕ) where
   -- nothing is left
   stopped : (got : Got) → got ≡ (blank, []) → length ws ≤ at → Walks labels ws at got false at
   unfolding proper
-  stopped got e h = record { forward = omega arith; told = rw e refl; after = past ws at h ∙ ap (λ (g : Got). g .1) (sym e) }
+  stopped got e h = record { forward = omega arith; within = omega arith; told = rw e refl; after = past ws at h ∙ ap (λ (g : Got). g .1) (sym e) }
 
   pub walk-past : length ws ≤ at → Walks labels ws at (readOf (drop at ws)) false at
   walk-past h = stopped _ (at-past ws at h) h
@@ -30,7 +30,7 @@ module _ (labels : ℕ) (ws : List ℕ) (at : ℕ) where
 
   pub number-there : (f : ℕ → Value) (ok : Bool) → at < length ws → ok ≡ proper labels (f (getD ws at 0)) → Walks labels ws at (numbered f (drop at ws)) ok (at + 1)
   unfolding numbered
-  number-there f ok h e = rw (here ws at _ h refl) (record { forward = omega arith; told = e; after = refl })
+  number-there f ok h e = rw (here ws at _ h refl) (record { forward = omega arith; within = omega arith; told = e; after = refl })
 
   -- a label with its content
   pub package-past : length ws ≤ at → Walks labels ws at (packaged readOf (drop at ws)) false at
@@ -44,33 +44,45 @@ module _ (labels : ℕ) (ws : List ℕ) (at : ℕ) where
       rw (here ws at _ h refl)
       (record {
         forward = omega (arith, w .forward);
+        within = omega (arith, w .within);
         told = e ∙ ap (both (ltb (getD ws at 0) labels)) (w .told);
         after = w .after;
       })
 
   -- a first word, and what follows it
-  onward : {got : Got} {ok : Bool} {next : ℕ} (g : Got) → g ≡ got → Walks labels ws (at + 1) got ok next → Walks labels ws at g ok next
-  onward g e w = record { forward = omega (arith, w .forward); told = w .told ∙ ap (λ (x : Got). proper labels (x .0)) (sym e); after = w .after ∙ ap (λ (x : Got). x .1) (sym e) }
+  onward : {got : Got} {ok : Bool} {next : ℕ} (g : Got) → at < length ws → g ≡ got → Walks labels ws (at + 1) got ok next → Walks labels ws at g ok next
+  onward g h e w =
+      record {
+        forward = omega (arith, w .forward);
+        within = omega (arith, w .within);
+        told = w .told ∙ ap (λ (x : Got). proper labels (x .0)) (sym e);
+        after = w .after ∙ ap (λ (x : Got). x .1) (sym e);
+      }
 
   module _ (h : at < length ws) {ok : Bool} {next : ℕ} where
     pub walk-int : getD ws at 0 ≡ 1 → Walks labels ws (at + 1) (numbered int (drop (at + 1) ws)) ok next → Walks labels ws at (readOf (drop at ws)) ok next
-    walk-int e w = onward _ (at-int ws at h e) w
+    walk-int e w = onward _ h (at-int ws at h e) w
 
     pub walk-err : getD ws at 0 ≡ 2 → Walks labels ws (at + 1) (numbered err (drop (at + 1) ws)) ok next → Walks labels ws at (readOf (drop at ws)) ok next
-    walk-err e w = onward _ (at-err ws at h e) w
+    walk-err e w = onward _ h (at-err ws at h e) w
 
     pub walk-pkg : getD ws at 0 ≡ 5 → Walks labels ws (at + 1) (packaged readOf (drop (at + 1) ws)) ok next → Walks labels ws at (readOf (drop at ws)) ok next
-    walk-pkg e w = onward _ (at-package ws at h e) w
+    walk-pkg e w = onward _ h (at-package ws at h e) w
 
     pub walk-inl : getD ws at 0 ≡ 3 → Walks labels ws (at + 1) (readOf (drop (at + 1) ws)) ok next → Walks labels ws at (readOf (drop at ws)) ok next
     unfolding wrap proper
-    walk-inl e w = onward _ (at-inl ws at h e) (record { forward = w .forward; told = w .told; after = w .after })
+    walk-inl e w = onward _ h (at-inl ws at h e) (record { forward = w .forward; within = w .within; told = w .told; after = w .after })
 
     pub walk-inr : getD ws at 0 ≡ 4 → Walks labels ws (at + 1) (readOf (drop (at + 1) ws)) ok next → Walks labels ws at (readOf (drop at ws)) ok next
     unfolding wrap proper
-    walk-inr e w = onward _ (at-inr ws at h e) (record { forward = w .forward; told = w .told; after = w .after })
+    walk-inr e w = onward _ h (at-inr ws at h e) (record { forward = w .forward; within = w .within; told = w .told; after = w .after })
 
   pub walk-none : at < length ws → (getD ws at 0 ≡ 1 → ⊥) → (getD ws at 0 ≡ 2 → ⊥) → (getD ws at 0 ≡ 3 → ⊥) → (getD ws at 0 ≡ 4 → ⊥) → (getD ws at 0 ≡ 5 → ⊥)
       → Walks labels ws at (readOf (drop at ws)) false (at + 1)
   unfolding proper
-  walk-none h n1 n2 n3 n4 n5 = onward _ (at-none ws at h n1 n2 n3 n4 n5) (record { forward = omega arith; told = refl; after = refl })
+  walk-none h n1 n2 n3 n4 n5 = onward _ h (at-none ws at h n1 n2 n3 n4 n5) (record { forward = omega arith; within = omega arith; told = refl; after = refl })
+
+  -- where the value ends
+  pub walk-end : {ok : Bool} {next : ℕ} → Walks labels ws at (readOf (drop at ws)) ok next → next ≡ endOf ws at
+  unfolding endOf
+  walk-end {next = next} w = omega (arith, w .forward, w .within, length-drop at ws, length-drop next ws, ap (λ (l : List ℕ). length l) (w .after))

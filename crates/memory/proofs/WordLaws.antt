@@ -8,11 +8,11 @@ use native.Mathlib.Omega.{arith}
 use native.Mathlib.Nat.{le-refl}
 use borrow.Author.Tests.{ne-eqb, eqb-true}
 use lib.Dec.{eqb}
-use lib.ListN.{length, length-replicate}
+use lib.ListN.{length, drop, length-replicate}
 use Rattle.sets.proofs.BoolLaws.{absurd-false, both-right}
 use Rattle.language.specs.Syntax.{Value, int, err, inl, inr, pkg, blank, size}
 use Rattle.language.specs.Evaluation.{cell-words}
-use Rattle.memory.specs.Words.{enc, zeros, cell, Got, wrap, numbered, packaged, tagged, read, readOf, valueOf}
+use Rattle.memory.specs.Words.{enc, zeros, cell, Got, wrap, numbered, packaged, tagged, read, readOf, valueOf, endOf}
 use Rattle.memory.specs.Memory.{proper}
 
 -- ---- lengths
@@ -104,6 +104,13 @@ read-enc blank rest = read-none rest 0 (λ h. omega arith) (λ h. omega arith) (
 
 pub value-enc : (v : Value) (rest : List ℕ) → valueOf (enc v rest) ≡ v
 value-enc v rest = ap (λ (g : Got). g .0) (read-enc v rest)
+
+-- the value that starts at a place ends after its words
+pub end-enc : (ws : List ℕ) (at : ℕ) (v : Value) (rest : List ℕ) → drop at ws ≡ enc v rest → endOf ws at ≡ at + size v
+unfolding endOf
+end-enc ws at v rest e =
+    let n : length (readOf (enc v rest) .1) ≡ length rest = ap (λ (g : Got). length (g .1)) (read-enc v rest) in
+    rw e (omega (arith, n, length-enc v rest))
 
 pub value-cell : (v : Value) → valueOf (cell v) ≡ v
 unfolding cell

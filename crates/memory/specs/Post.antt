@@ -2,17 +2,19 @@
 use mathlib.Core.Path.{_≡_}
 use mathlib.Core.Bool.{Bool, true, false}
 use mathlib.Core.List.{List, []}
-use Prim.Native.Nat.{ℕ, _+_, _≤_}
-use lib.ListN.{getD, set, drop}
+use Prim.Native.Nat.{ℕ, _+_, _-_, _≤_}
+use lib.ListN.{length, getD, set, drop}
 use lib.Seq.{sets}
 use Rattle.language.specs.Syntax.{Value, int, err, pkg, size}
 use Rattle.language.specs.View.{mask}
 use Rattle.memory.specs.Words.{Got, enc, wrap, packaged, readOf}
 use Rattle.memory.specs.Memory.{proper}
 
--- Where the words ws are read as `got` from `at` on: whether the value is proper, and the place after it.
+-- Where the words ws are read as `got` from `at` on: whether the value is proper, and the place after it, which is `at` where
+-- nothing is left.
 pub record Walks (labels : ℕ) (ws : List ℕ) (at : ℕ) (got : Got) (ok : Bool) (next : ℕ) : Type 0 where
   pub forward : at ≤ next
+  pub within : next ≤ at + (length ws - at)
   pub told : ok ≡ proper labels (got .0)
   pub after : drop next ws ≡ got .1
 

@@ -12,7 +12,7 @@ ghost use Rattle.language.specs.Syntax.{size};
 ghost use Rattle.language.specs.View.{mask};
 ghost use Rattle.tables.specs.Tables.{labelsIn, locationsIn, readsIn};
 ghost use Rattle.tables.specs.TypeTest.{hasNo};
-ghost use Rattle.memory.specs.Words.{valueOf};
+ghost use Rattle.memory.specs.Words.{valueOf, endOf};
 ghost use Rattle.memory.specs.Memory.{holdsBy, cellOf};
 ghost use Rattle.memory.specs.View.{viewCell};
 ghost use Rattle.memory.specs.InTable.{fitsIn, refusalIn, seesIn, viewIn, viewRefusalIn, viewLeavesIn};
@@ -31,6 +31,14 @@ pub const LEFT: u32 = 3;
 pub const RIGHT: u32 = 4;
 
 pub const PACKAGE: u32 = 5;
+
+// The place after the value whose words start at `at`.
+pub fn value_end(words: &[u32], at: usize) -> usize
+    ensures { λ r. ⌜ r ≡ endOf (now (words .entry)) at ⌝ }
+{
+    let walked = values::value_at(0, words, at);
+    walked.next
+}
 
 // Whether the value whose words start at `at` has a type. What a package holds is not looked at.
 pub fn has_type(table: &[u16], words: &[u32], at: usize, ty: u32) -> bool

@@ -19,7 +19,7 @@ use Rattle.tables.specs.Tables.{tableOf}
 use Rattle.tables.specs.Meaning.{worldOf}
 use Rattle.tables.proofs.MeaningLaws.{below-in, reads-in, writes-in}
 use Rattle.tables.proofs.NumberLaws.{has-wanted}
-use Rattle.tables.proofs.WidthLaws.{locations-few}
+use Rattle.tables.proofs.FormLaws.{locations-few}
 use Rattle.memory.specs.Words.{cell}
 use Rattle.memory.specs.Memory.{cellOf, memoryOf, wordsOf, fits, wellFormed}
 use Rattle.memory.proofs.CellsLaws.{cells-ext, cells-all}

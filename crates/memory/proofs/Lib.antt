@@ -7,7 +7,6 @@ pub mod TypeTestLaws
 pub mod CellLaws
 pub mod CellsLaws
 pub mod MemoryLaws
-pub mod StoreLaws
 pub mod RefusalLaws
 pub mod MaskLaws
 pub mod ViewLaws

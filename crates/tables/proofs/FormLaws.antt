@@ -51,6 +51,10 @@ pub type-count : (s : Sheet) → typeCount s ≡ 5 + length (s .sums)
 unfolding typeCount partsOf givenParts
 type-count s = omega arith
 
+pub locations-few : (s : Sheet) → formed s ≡ true → locationCount s ≤ maxLocations
+unfolding locationCount
+locations-few s fm = formed-facts s fm .few-locations
+
 pub parts-past : (s : Sheet) (n : ℕ) → typeCount s ≤ n → partsNo s n ≡ record { left = 0; right = 0 }
 unfolding partsNo typeCount
 parts-past s n h = List·getD-eq-default (partsOf s) _ {n = n} h

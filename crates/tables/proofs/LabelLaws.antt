@@ -3,7 +3,7 @@
 use mathlib.Core.Path.{_≡_, refl, sym, ap, ap₂, _∙_}
 use mathlib.Core.Bool.{Bool, true, false}
 use mathlib.Core.List.{List, [], _∷_, _++_, append-assoc, map}
-use Prim.Native.Nat.{ℕ, zero, suc, _+_, _*_, _-_, _<_, _≤_}
+use Prim.Native.Nat.{ℕ, zero, suc, _+_, _*_, _-_, _<_}
 use native.Mathlib.Omega.{arith}
 use lib.Dec.{ltb}
 use lib.ListN.{length, getD, replicate, length-append, length-map, List·getD-eq-default}
@@ -18,10 +18,9 @@ use Rattle.labels.proofs.EffectiveLaws.{effective-whole, bottom-effective}
 use Rattle.labels.proofs.PolicyLaws.{label-effective}
 use Rattle.labels.proofs.TableLaws.{length-words, label-read}
 use Rattle.tables.specs.Sheet.{Sheet, labelsOf, labelNo, labelCount, rising, formed}
-use Rattle.tables.specs.Tables.{tableWords, padded, labelsWords, tableOf, labelIn}
+use Rattle.tables.specs.Tables.{padded, labelsWords, tableOf, labelIn}
 use Rattle.tables.proofs.Entries.{label-there, label-past}
-use Rattle.tables.proofs.FormLaws.{formed-facts, label-rising}
-use Rattle.tables.proofs.Words.{length-padded}
+use Rattle.tables.proofs.FormLaws.{label-rising}
 use Rattle.tables.proofs.TableLaws.{labels-in, everyone-in, toLabels, from-labels, labels-start}
 
 -- ---- policies of the right form are policies of the principals
@@ -86,10 +85,6 @@ module _ (s : Sheet) (fm : formed s ≡ true) where
   unfolding labelsOf labelCount
   labels-long = length-map (s .labels) (labelOf (s .principals))
 
-  labels-fit : length (labelsWords (labelsOf s)) ≤ 1024
-  unfolding labelNo labelCount
-  labels-fit = omega (arith, length-labels (labelsOf s) _ (λ l h. whole l), labels-long, formed-facts s fm .few-labels)
-
   pub label-in : (l : ℕ) → labelIn (tableOf s) l ≡ labelNo s l
   unfolding labelNo padded
   label-in l = at (ltb l (labelCount s)) refl
@@ -105,9 +100,3 @@ module _ (s : Sheet) (fm : formed s ≡ true) where
           let h = ltb-false l (labelCount s) e in
           label-past (tableOf s) l (sym (labels-in s)) (sym (everyone-in s)) h
           ∙ sym (List·getD-eq-default (labelsOf s) _ {n = l} (omega (arith, labels-long)))
-
-  pub table-length : length (tableOf s) ≡ tableWords
-  table-length =
-      ap length (from-labels s)
-      ∙ length-append (toLabels s) (padded 1024 (labelsWords (labelsOf s)))
-      ∙ omega (arith, labels-start s fm, length-padded 1024 (labelsWords (labelsOf s)) labels-fit)

@@ -7,4 +7,3 @@ pub mod TableLaws
 pub mod LabelLaws
 pub mod MeaningLaws
 pub mod NumberLaws
-pub mod WidthLaws

@@ -12,11 +12,11 @@ use Rattle.language.specs.Syntax.{Ty, t-int, t-err, t-pkg, t-sum, Ty-discrete, 
 use Rattle.language.specs.Evaluation.{wanted}
 use Rattle.language.specs.Typing.{isYes, sameTy}
 use Rattle.tables.specs.Sheet.{Sheet, tyOf, givenParts, partsOf, partsNo, typeCount, formed, repeats}
-use Rattle.tables.specs.Tables.{tableOf, typesIn, labelsIn, locationsIn, leftIn, rightIn, typeIn, homeIn}
+use Rattle.tables.specs.Tables.{tableOf, typesIn, leftIn, rightIn, typeIn}
 use Rattle.tables.specs.TypeTest.{isSum, hasNo}
-use Rattle.tables.proofs.FormLaws.{left-earlier, right-earlier, left-there, right-there, parts-past, location-type-there, location-label}
+use Rattle.tables.proofs.FormLaws.{left-there, right-there, parts-past, location-type-there}
 use Rattle.tables.proofs.TypeLaws.{ty-0, ty-past, ty-sum, ty-sum-there, Which, is-int, is-err, is-pkg, is-sum, which, ty-once}
-use Rattle.tables.proofs.TableLaws.{types-in, labels-in, locations-in, left-in, right-in, type-in, home-in}
+use Rattle.tables.proofs.TableLaws.{types-in, left-in, right-in, type-in}
 
 is-yes : {P : Type 0} (d : Dec P) → P → isYes d ≡ true
 unfolding isYes
@@ -42,12 +42,6 @@ module _ (s : Sheet) (fm : formed s ≡ true) where
   pub sum-in : (n : ℕ) → 3 ≤ n → n < typesIn (tableOf s)
       → tyOf s n ≡ t-sum (tyOf s (leftIn (tableOf s) n)) (tyOf s (rightIn (tableOf s) n))
   sum-in n h k = rw (left-in s fm n, right-in s fm n) (ty-sum s fm n h (rw (types-in s) at k))
-
-  pub left-in-earlier : (n : ℕ) → 3 ≤ n → n < typesIn (tableOf s) → leftIn (tableOf s) n < n
-  left-in-earlier n h k = rw (left-in s fm n) (left-earlier s fm n h (rw (types-in s) at k))
-
-  pub right-in-earlier : (n : ℕ) → 3 ≤ n → n < typesIn (tableOf s) → rightIn (tableOf s) n < n
-  right-in-earlier n h k = rw (right-in s fm n) (right-earlier s fm n h (rw (types-in s) at k))
 
   -- every number has parts that are there
   pub left-in-there : (n : ℕ) → leftIn (tableOf s) n < typesIn (tableOf s)
@@ -76,9 +70,6 @@ module _ (s : Sheet) (fm : formed s ≡ true) where
 
   pub type-in-there : (x : ℕ) → typeIn (tableOf s) x < typesIn (tableOf s)
   type-in-there x = rw (type-in s fm x, types-in s) (location-type-there s fm x)
-
-  pub home-in-there : (x : ℕ) → x < locationsIn (tableOf s) → homeIn (tableOf s) x < labelsIn (tableOf s)
-  home-in-there x h = rw (home-in s fm x, labels-in s) (location-label s fm x (rw (locations-in s) at h))
 
   -- ---- the type test
 

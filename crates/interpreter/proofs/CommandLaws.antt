@@ -1,7 +1,7 @@
 -- `Execs`: a law for each kind of line.
 -- Assumes nothing.
 use mathlib.Core.Path.{_≡_, refl, sym, subst, _∙_}
-use mathlib.Core.Bool.{true}
+use mathlib.Core.Bool.{Bool, true, false, false≢true}
 use mathlib.Core.List.{List, _∷_}
 use Prim.Native.Nat.{ℕ, zero, suc, _+_, _≤_}
 use native.Mathlib.Omega.{arith}
@@ -71,25 +71,26 @@ chosen-is l r (suc b) stuck = refl
 
 module _ (ws : List ℕ) (rest mid : List Line) (locations depth : ℕ) (M : Mem) (ρ : Env) (l : Value → ℕ → Out) where
   -- a guard that doesn't go on
-  stops : (ch : Choice) (state left n next : ℕ) (words work : List ℕ) → (state ≡ 1 → ⊥) → Chooses ws mid ch state left words n
+  stops : (ch : Choice) (state left n next : ℕ) (on : Bool) (words work : List ℕ) → on ≡ false → Chooses ws mid ch state left on words n
       → Holds work locations depth M ρ → drop next ws ≡ code rest → Ends ws rest locations depth ρ (chosen l (λ v b. done M b) ch) state left work next
   unfolding Chooses Ends chosen
-  stops (to-left v b) state left n next words work z h held e = absurd (z (h .0))
-  stops (to-right v b) state left n next words work z h held e = (h .0, h .1, held, e)
-  stops no-budget state left n next words work z h held e = h
-  stops (too-long b) state left n next words work z h held e = h
-  stops no-rule state left n next words work z h held e = tt
+  stops (to-left v b) state left n next on words work o h held e = absurd (false≢true (sym o ∙ h .2))
+  stops (to-right v b) state left n next on words work o h held e = (h .0, h .1, held, e)
+  stops no-budget state left n next on words work o h held e = h
+  stops (too-long b) state left n next on words work o h held e = h
+  stops no-rule state left n next on words work o h held e = tt
 
   -- a guard that goes on
-  turns-on : (r : Value → ℕ → Out) (ch : Choice) (gs gl n : ℕ) (words : List ℕ) (state left next : ℕ) (work : List ℕ) → gs ≡ 1 → Chooses ws mid ch gs gl words n
+  turns-on : (r : Value → ℕ → Out) (ch : Choice) (gs gl n : ℕ) (on : Bool) (words : List ℕ) (state left next : ℕ) (work : List ℕ) → gs ≡ 0 → on ≡ true
+      → Chooses ws mid ch gs gl on words n
       → ((v : Value) → Ends ws rest locations depth ρ (l v gl) state left work next) → Ends ws rest locations depth ρ (chosen l r ch) state left work next
   unfolding Chooses Ends chosen
-  turns-on r (to-left v b) gs gl n words state left next work z h k =
+  turns-on r (to-left v b) gs gl n on words state left next work z o h k =
       subst (λ (i : ℕ). Ends ws rest locations depth ρ (l v i) state left work next) (h .1) (k v)
-  turns-on r (to-right v b) gs gl n words state left next work z h k = absurd (omega (arith, h .0))
-  turns-on r no-budget gs gl n words state left next work z h k = absurd (omega (arith, h .0))
-  turns-on r (too-long b) gs gl n words state left next work z h k = absurd (omega (arith, h .0))
-  turns-on r no-rule gs gl n words state left next work z h k = tt
+  turns-on r (to-right v b) gs gl n on words state left next work z o h k = absurd (false≢true (sym (h .2) ∙ o))
+  turns-on r no-budget gs gl n on words state left next work z o h k = absurd (omega (arith, h .0))
+  turns-on r (too-long b) gs gl n on words state left next work z o h k = absurd (omega (arith, h .0))
+  turns-on r no-rule gs gl n on words state left next work z o h k = tt
 
 -- ---- the kinds, each matched at its number
 
@@ -134,8 +135,8 @@ module _ {ws : List ℕ} (at : ℕ) {table : List ℕ} {authority depth : ℕ} {
       y .means W k e rest M ρ t (record { source = s; names = both-right _ _ n; lines = h }) (ltb-true _ _ (both-left _ _ n)) held
 
   -- a loop
-  module _ {body end gs gl gn : ℕ} {work′ : List ℕ} (sb : Skips ws (at + 3) body) (se : Skips ws body end)
-      (g : Decides ws (at + 3) table authority depth work fuel gs gl gn work′) where
+  module _ {body end gs gl gn : ℕ} {on : Bool} {work′ : List ℕ} (sb : Skips ws (at + 3) body) (se : Skips ws body end)
+      (g : Decides ws (at + 3) table authority depth work fuel gs gl gn on work′) where
     -- a round, the first part of it being the guard
     round : Expr → Cmd → Value → ℕ → Out
     round e c v b = andThen (go W ρ c M b) (λ M′ b′. spend b′ (λ b″. go W ρ (while e c) M′ b″))
@@ -146,7 +147,7 @@ module _ {ws : List ℕ} (at : ℕ) {table : List ℕ} {authority depth : ℕ} {
 
     module _ (e : Expr) (c : Cmd) (rest : List Line) (s : SourceE e) (r : Source c) (n : named k depth (while e c) ≡ true)
         (h : drop (at + 3) ws ≡ code (exprLines e (cmdLines c rest))) where
-      guard-chooses : Chooses ws (cmdLines c rest) (choice fuel (eval W ρ M e)) gs gl (cellOf work′ 0) gn
+      guard-chooses : Chooses ws (cmdLines c rest) (choice fuel (eval W ρ M e)) gs gl on (cellOf work′ 0) gn
       unfolding named
       guard-chooses = g .means W k e (cmdLines c rest) M ρ t (record { source = s; names = both-left _ _ n; lines = h }) held
 
@@ -178,26 +179,26 @@ module _ {ws : List ℕ} (at : ℕ) {table : List ℕ} {authority depth : ℕ} {
             (goes-on ws rest (k .locations) depth ρ _ (ticked (go W ρ c M gl)) (λ M′ b. go W ρ (while e c) M′ b) ts tl work″ tn state left work‴ next z round-ends
             (λ M′ held′ q. runs u W k (while e c) rest M′ ρ t (record { source = w; names = n; lines = p }) held′))
 
-    while-stop-case : {rest : List Line} {a b : ℕ} {c : Cmd} → CmdRow ws at rest 4 a b c → named k depth c ≡ true → (gs ≡ 1 → ⊥)
+    while-stop-case : {rest : List Line} {a b : ℕ} {c : Cmd} → CmdRow ws at rest 4 a b c → named k depth c ≡ true → on ≡ false
         → Ends ws rest (k .locations) depth ρ (go W ρ c M fuel) gs gl work′ end
     while-stop-case {rest} (at-while {e = e} {c = c} s r h) n z =
         rw (while-is e c)
-        (stops ws rest (cmdLines c rest) (k .locations) depth M ρ (round e c) (choice fuel (eval W ρ M e)) gs gl gn end (cellOf work′ 0) work′ z
+        (stops ws rest (cmdLines c rest) (k .locations) depth M ρ (round e c) (choice fuel (eval W ρ M e)) gs gl gn end on (cellOf work′ 0) work′ z
         (guard-chooses e c rest s r n h) (holds-kept held work′ (g .kept)) (end-at e c rest s r n h))
 
-    module _ {ds dl dn ts tl tn : ℕ} {work″ : List ℕ} (one : gs ≡ 1) (x : Execs ws body table authority depth work′ gl ds dl dn work″) (y : Ticks ds dl dn ts tl tn) where
+    module _ {ds dl dn ts tl tn : ℕ} {work″ : List ℕ} (o : on ≡ true) (x : Execs ws body table authority depth work′ gl ds dl dn work″) (y : Ticks ds dl dn ts tl tn) where
       while-end-case : {rest : List Line} {a b : ℕ} {c : Cmd} → CmdRow ws at rest 4 a b c → named k depth c ≡ true → (ts ≡ 0 → ⊥)
           → Ends ws rest (k .locations) depth ρ (go W ρ c M fuel) ts tl work″ end
       while-end-case {rest} (at-while {e = e} {c = c} s r h) n z =
           rw (while-is e c)
-          (turns-on ws rest (cmdLines c rest) (k .locations) depth M ρ (round e c) (λ v b. done M b) (choice fuel (eval W ρ M e)) gs gl gn (cellOf work′ 0) ts tl end work″ one
+          (turns-on ws rest (cmdLines c rest) (k .locations) depth M ρ (round e c) (λ v b. done M b) (choice fuel (eval W ρ M e)) gs gl gn on (cellOf work′ 0) ts tl end work″ (g .settled o) o
           (guard-chooses e c rest s r n h) (λ v. round-stops e c rest s r n h x y v z))
 
       while-again-case : {rest : List Line} {a b : ℕ} {c : Cmd} {state left next : ℕ} {work‴ : List ℕ} → CmdRow ws at rest 4 a b c → CmdAt ws at rest k depth c → ts ≡ 0
           → Execs ws at table authority depth work″ tl state left next work‴ → Ends ws rest (k .locations) depth ρ (go W ρ c M fuel) state left work‴ next
       while-again-case {rest} {state = state} {left = left} {next = next} {work‴ = work‴} (at-while {e = e} {c = c} s r h) p z u =
           rw (while-is e c)
-          (turns-on ws rest (cmdLines c rest) (k .locations) depth M ρ (round e c) (λ v b. done M b) (choice fuel (eval W ρ M e)) gs gl gn (cellOf work′ 0) state left next work‴ one
+          (turns-on ws rest (cmdLines c rest) (k .locations) depth M ρ (round e c) (λ v b. done M b) (choice fuel (eval W ρ M e)) gs gl gn on (cellOf work′ 0) state left next work‴ (g .settled o) o
           (guard-chooses e c rest s r (p .names) h) (λ v. round-goes e c rest s r (p .names) h x y v z (p .lines) (p .source) u))
 
   -- a case
@@ -290,24 +291,24 @@ module _ {ws : List ℕ} {at : ℕ} {table : List ℕ} {authority depth : ℕ} {
   exec-assign q y =
       by-runs (omega (arith, y .forward)) (y .spends) (λ W k c rest M ρ t p held. assign-case at W k M ρ t held (cmd-row-of 3 r q p) (p .names) y)
 
-  module _ {body end gs gl gn : ℕ} {work′ : List ℕ} (q : row .kind ≡ 4) (sb : Skips ws (at + 3) body) (se : Skips ws body end)
-      (g : Decides ws (at + 3) table authority depth work fuel gs gl gn work′) where
-    pub while-stop : (gs ≡ 1 → ⊥) → Execs ws at table authority depth work fuel gs gl end work′
+  module _ {body end gs gl gn : ℕ} {on : Bool} {work′ : List ℕ} (q : row .kind ≡ 4) (sb : Skips ws (at + 3) body) (se : Skips ws body end)
+      (g : Decides ws (at + 3) table authority depth work fuel gs gl gn on work′) where
+    pub while-stop : on ≡ false → Execs ws at table authority depth work fuel gs gl end work′
     while-stop z =
         by-runs (omega (arith, sb .forward, se .forward)) (g .spends)
         (λ W k c rest M ρ t p held. while-stop-case at W k M ρ t held sb se g (cmd-row-of 4 r q p) (p .names) z)
 
-    module _ {ds dl dn ts tl tn : ℕ} {work″ : List ℕ} (one : gs ≡ 1) (x : Execs ws body table authority depth work′ gl ds dl dn work″) (y : Ticks ds dl dn ts tl tn) where
+    module _ {ds dl dn ts tl tn : ℕ} {work″ : List ℕ} (o : on ≡ true) (x : Execs ws body table authority depth work′ gl ds dl dn work″) (y : Ticks ds dl dn ts tl tn) where
       pub while-end : (ts ≡ 0 → ⊥) → Execs ws at table authority depth work fuel ts tl end work″
       while-end z =
           by-runs (omega (arith, sb .forward, se .forward)) (omega (arith, g .spends, x .spends, y .spends))
-          (λ W k c rest M ρ t p held. while-end-case at W k M ρ t held sb se g one x y (cmd-row-of 4 r q p) (p .names) z)
+          (λ W k c rest M ρ t p held. while-end-case at W k M ρ t held sb se g o x y (cmd-row-of 4 r q p) (p .names) z)
 
       pub while-again : {state left next : ℕ} {work‴ : List ℕ} → ts ≡ 0 → Execs ws at table authority depth work″ tl state left next work‴
           → Execs ws at table authority depth work fuel state left next work‴
       while-again z u =
           by-runs (u .forward) (omega (arith, g .spends, x .spends, y .spends, u .spends))
-          (λ W k c rest M ρ t p held. while-again-case at W k M ρ t held sb se g one x y (cmd-row-of 4 r q p) p z u)
+          (λ W k c rest M ρ t p held. while-again-case at W k M ρ t held sb se g o x y (cmd-row-of 4 r q p) p z u)
 
   module _ {bs bl start end : ℕ} {work′ : List ℕ} (q : row .kind ≡ 5) (y : Branches ws (at + 3) table authority depth work fuel bs bl start end work′) where
     pub exec-case-end : (bs ≡ 0 → ⊥) → Execs ws at table authority depth work fuel bs bl at work′

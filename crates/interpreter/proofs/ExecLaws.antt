@@ -1,6 +1,7 @@
 -- `Execs` and what it is made of: a law for each way through each function.
 -- Assumes nothing.
 use mathlib.Core.Path.{_≡_, refl, sym, ap, subst, _∙_}
+use mathlib.Core.Bool.{Bool, true, false, false≢true}
 use mathlib.Core.List.{List, _∷_}
 use Prim.Native.Nat.{ℕ, zero, suc, _+_, _-_, _≤_, _<_}
 use native.Mathlib.Omega.{arith}
@@ -167,35 +168,37 @@ module _ {ws : List ℕ} {at : ℕ} {table : List ℕ} {authority depth : ℕ} {
 -- ---- decide
 
 decide-fail-at : (ws : List ℕ) (at : ℕ) (rest : List Line) (r : Res) (vs fuel : ℕ) (words : List ℕ) → (fuel ≡ 0 → ⊥) → (vs ≡ 0 → ⊥) → Answers r vs words
-    → Chooses ws rest (choice fuel r) 10 fuel words at
+    → Chooses ws rest (choice fuel r) vs fuel false words at
 unfolding Chooses choice Answers
 decide-fail-at ws at rest r vs zero words f z a = absurd (f refl)
 decide-fail-at ws at rest (ok v) vs (suc b) words f z a = absurd (z (a .0))
-decide-fail-at ws at rest long vs (suc b) words f z a = (refl, refl)
+decide-fail-at ws at rest long vs (suc b) words f z a = (a, refl)
 decide-fail-at ws at rest stuck vs (suc b) words f z a = tt
 
 module _ {ws : List ℕ} {at : ℕ} {table : List ℕ} {authority depth : ℕ} {work : List ℕ} {fuel : ℕ} where
-  pub decide-spent : fuel ≡ 0 → Decides ws at table authority depth work fuel 9 0 at work
+  pub decide-spent : fuel ≡ 0 → Decides ws at table authority depth work fuel 9 0 at false work
   unfolding Chooses choice
   decide-spent z =
       record {
         forward = omega arith;
         spends = omega arith;
-        falls = λ q. absurd (omega arith);
+        settled = λ q. absurd (false≢true q);
+        falls = λ q. absurd (false≢true q);
         kept = refl;
         means = λ W k e rest M ρ t p held. rw z (refl, refl);
       }
 
-  module _ {vs vn : ℕ} {work′ : List ℕ} (f : fuel ≡ 0 → ⊥) (y : Evals ws at table authority depth work vs vn work′) where
-    pub decide-fail : (vs ≡ 0 → ⊥) → Decides ws at table authority depth work fuel 10 fuel at work′
-    decide-fail z =
-        record {
-          forward = omega arith;
-          spends = omega arith;
-          falls = λ q. absurd (omega arith);
-          kept = y .kept;
-          means = λ W k e rest M ρ t p held. decide-fail-at ws at rest (eval W ρ M e) vs fuel (cellOf work′ 0) f z (y .means W k e rest M ρ t p held .0);
-        }
+  pub decide-fail : {vs vn : ℕ} {work′ : List ℕ} → (fuel ≡ 0 → ⊥) → Evals ws at table authority depth work vs vn work′ → (vs ≡ 0 → ⊥)
+      → Decides ws at table authority depth work fuel vs fuel at false work′
+  decide-fail {vs} {vn} {work′} f y z =
+      record {
+        forward = omega arith;
+        spends = omega arith;
+        settled = λ q. absurd (false≢true q);
+        falls = λ q. absurd (false≢true q);
+        kept = y .kept;
+        means = λ W k e rest M ρ t p held. decide-fail-at ws at rest (eval W ρ M e) vs fuel (cellOf work′ 0) f z (y .means W k e rest M ρ t p held .0);
+      }
 
 -- the value in the accumulator, by its first word
 kind-here : (work : List ℕ) (v : Value) {w : ℕ} (n : ℕ) → cellOf work accumulator ≡ cell v → w ≡ getD work 0 0 → w ≡ n → Kind n v
@@ -203,95 +206,84 @@ kind-here work v {w} n a p q =
     let e : getD (enc v _) 0 0 ≡ n = ap (λ (l : List ℕ). getD l 0 0) (sym (words-here work v a)) ∙ sym p ∙ q in
     subst (λ (i : ℕ). Kind i v) e (kind-enc v _)
 
+-- the first word of a left and of a right, and whether a guard goes on for it
+pub data Side : ℕ → Bool → Type 0 where
+  side-left : Side 3 true
+  side-right : Side 4 false
+
 module _ (ws : List ℕ) (rest : List Line) (next : ℕ) where
-  chooses-left : (b : ℕ) (words : List ℕ) (v : Value) → Kind 3 v → words ≡ cell v → drop next ws ≡ code rest → Chooses ws rest (choiceV b v) 1 b words next
+  chooses-side : (b : ℕ) (words : List ℕ) (v : Value) {n : ℕ} {on : Bool} → Side n on → Kind n v → words ≡ cell v → drop next ws ≡ code rest
+      → Chooses ws rest (choiceV b v) 0 b on words next
   unfolding Chooses choiceV
-  chooses-left b words v is-inl e d = (refl, refl, e, d)
+  chooses-side b words v side-left is-inl e d = (refl, refl, refl, e, d)
+  chooses-side b words v side-right is-inr e d = (refl, refl, refl, e, d)
 
-  chooses-right : (b : ℕ) (words : List ℕ) (v : Value) → Kind 4 v → words ≡ cell v → drop next ws ≡ code rest → Chooses ws rest (choiceV b v) 0 b words next
+  chooses-none : (b state left : ℕ) (on : Bool) (words : List ℕ) (v : Value) {w : ℕ} → Kind w v → (w ≡ 3 → ⊥) → (w ≡ 4 → ⊥)
+      → Chooses ws rest (choiceV b v) state left on words next
   unfolding Chooses choiceV
-  chooses-right b words v is-inr e d = (refl, refl, e, d)
-
-  chooses-none : (b state left : ℕ) (words : List ℕ) (v : Value) {w : ℕ} → Kind w v → (w ≡ 3 → ⊥) → (w ≡ 4 → ⊥) → Chooses ws rest (choiceV b v) state left words next
-  unfolding Chooses choiceV
-  chooses-none b state left words v is-int n3 n4 = tt
-  chooses-none b state left words v is-err n3 n4 = tt
-  chooses-none b state left words v is-inl n3 n4 = absurd (n3 refl)
-  chooses-none b state left words v is-inr n3 n4 = absurd (n4 refl)
-  chooses-none b state left words v is-pkg n3 n4 = tt
-  chooses-none b state left words v is-blank n3 n4 = tt
+  chooses-none b state left on words v is-int n3 n4 = tt
+  chooses-none b state left on words v is-err n3 n4 = tt
+  chooses-none b state left on words v is-inl n3 n4 = absurd (n3 refl)
+  chooses-none b state left on words v is-inr n3 n4 = absurd (n4 refl)
+  chooses-none b state left on words v is-pkg n3 n4 = tt
+  chooses-none b state left on words v is-blank n3 n4 = tt
 
   -- a decision, by the value that was found
-  decided : (r : Res) (vs fuel state left : ℕ) (work : List ℕ) → (fuel ≡ 0 → ⊥) → vs ≡ 0 → Answers r vs (cellOf work accumulator)
-      → ((b : ℕ) (v : Value) → fuel ≡ suc b → cellOf work accumulator ≡ cell v → Chooses ws rest (choiceV b v) state left (cellOf work accumulator) next)
-      → Chooses ws rest (choice fuel r) state left (cellOf work accumulator) next
+  decided : (r : Res) (vs fuel state left : ℕ) (on : Bool) (work : List ℕ) → (fuel ≡ 0 → ⊥) → vs ≡ 0 → Answers r vs (cellOf work accumulator)
+      → ((b : ℕ) (v : Value) → fuel ≡ suc b → cellOf work accumulator ≡ cell v → Chooses ws rest (choiceV b v) state left on (cellOf work accumulator) next)
+      → Chooses ws rest (choice fuel r) state left on (cellOf work accumulator) next
   unfolding choice Answers Chooses
-  decided r vs zero state left work f z a k = absurd (f refl)
-  decided (ok v) vs (suc b) state left work f z a k = k b v refl (a .1)
-  decided long vs (suc b) state left work f z a k = absurd (omega arith)
-  decided stuck vs (suc b) state left work f z a k = tt
+  decided r vs zero state left on work f z a k = absurd (f refl)
+  decided (ok v) vs (suc b) state left on work f z a k = k b v refl (a .1)
+  decided long vs (suc b) state left on work f z a k = absurd (omega arith)
+  decided stuck vs (suc b) state left on work f z a k = tt
 
 module _ {ws : List ℕ} {at : ℕ} {table : List ℕ} {authority depth : ℕ} {work : List ℕ} {fuel vs vn w : ℕ} {work′ : List ℕ}
     (f : fuel ≡ 0 → ⊥) (y : Evals ws at table authority depth work vs vn work′) (z : vs ≡ 0) (p : w ≡ getD work′ 0 0) where
-  pub decide-left : w ≡ 3 → Decides ws at table authority depth work fuel 1 (fuel - 1) vn work′
-  decide-left q =
+  pub decide-side : {n : ℕ} {on : Bool} → Side n on → w ≡ n → Decides ws at table authority depth work fuel 0 (fuel - 1) vn on work′
+  decide-side {n} {on} side q =
       record {
         forward = y .forward;
         spends = omega arith;
+        settled = λ o. refl;
         falls = λ o. less fuel f;
         kept = y .kept;
         means = λ W k e rest M ρ t place held.
             let m = y .means W k e rest M ρ t place held in
-            decided ws rest vn (eval W ρ M e) vs fuel 1 (fuel - 1) work′ f z (m .0)
+            decided ws rest vn (eval W ρ M e) vs fuel 0 (fuel - 1) on work′ f z (m .0)
             (λ b v s a. let s′ : fuel - 1 ≡ b = omega arith in
-            rw s′ (chooses-left ws rest vn b (cellOf work′ 0) v (kind-here work′ v 3 a p q) a (m .1 z)));
+            rw s′ (chooses-side ws rest vn b (cellOf work′ 0) v side (kind-here work′ v n a p q) a (m .1 z)));
       }
     where
       less : (n : ℕ) → (n ≡ 0 → ⊥) → n - 1 < n
       less zero f = absurd (f refl)
       less (suc n) f = omega arith
 
-  pub decide-right : w ≡ 4 → Decides ws at table authority depth work fuel 0 (fuel - 1) vn work′
-  decide-right q =
-      record {
-        forward = y .forward;
-        spends = omega arith;
-        falls = λ o. absurd (omega arith);
-        kept = y .kept;
-        means = λ W k e rest M ρ t place held.
-            let m = y .means W k e rest M ρ t place held in
-            decided ws rest vn (eval W ρ M e) vs fuel 0 (fuel - 1) work′ f z (m .0)
-            (λ b v s a. let s′ : fuel - 1 ≡ b = omega arith in
-            rw s′ (chooses-right ws rest vn b (cellOf work′ 0) v (kind-here work′ v 4 a p q) a (m .1 z)));
-      }
-
-  pub decide-none : (w ≡ 3 → ⊥) → (w ≡ 4 → ⊥) → Decides ws at table authority depth work fuel 11 fuel at work′
+  pub decide-none : (w ≡ 3 → ⊥) → (w ≡ 4 → ⊥) → Decides ws at table authority depth work fuel 11 fuel at false work′
   decide-none n3 n4 =
       record {
         forward = omega arith;
         spends = omega arith;
-        falls = λ o. absurd (omega arith);
+        settled = λ o. absurd (false≢true o);
+        falls = λ o. absurd (false≢true o);
         kept = y .kept;
         means = λ W k e rest M ρ t place held.
             let m = y .means W k e rest M ρ t place held in
-            decided ws rest at (eval W ρ M e) vs fuel 11 fuel work′ f z (m .0)
-            (λ b v s a. chooses-none ws rest at b 11 fuel (cellOf work′ 0) v (kind-here work′ v w a p refl) n3 n4);
+            decided ws rest at (eval W ρ M e) vs fuel 11 fuel false work′ f z (m .0)
+            (λ b v s a. chooses-none ws rest at b 11 fuel false (cellOf work′ 0) v (kind-here work′ v w a p refl) n3 n4);
       }
 
 -- ---- branch
 
-pub one-less : {n : ℕ} → n ≤ 1 → (n ≡ 1 → ⊥) → n ≡ 0
-one-less h z = omega arith
-
 module _ (ws : List ℕ) (rest : List Line) (locations depth : ℕ) (M : Mem) (ρ : Env) (c d : Cmd) where
-  enters-past : (ch : Choice) (state left n start end : ℕ) (words work : List ℕ) → 1 < state
-      → Chooses ws (cmdLines c (cmdLines d rest)) ch state left words n → Enters ws rest locations depth M ρ c d ch state left work start end
+  enters-past : (ch : Choice) (state left n start end : ℕ) (on : Bool) (words work : List ℕ) → (state ≡ 0 → ⊥)
+      → Chooses ws (cmdLines c (cmdLines d rest)) ch state left on words n → Enters ws rest locations depth M ρ c d ch state left work start end
   unfolding Chooses Enters
-  enters-past (to-left v b) state left n start end words work z h = absurd (omega (arith, h .0))
-  enters-past (to-right v b) state left n start end words work z h = absurd (omega (arith, h .0))
-  enters-past no-budget state left n start end words work z h = h
-  enters-past (too-long b) state left n start end words work z h = h
-  enters-past no-rule state left n start end words work z h = tt
+  enters-past (to-left v b) state left n start end on words work z h = absurd (z (h .0))
+  enters-past (to-right v b) state left n start end on words work z h = absurd (z (h .0))
+  enters-past no-budget state left n start end on words work z h = h
+  enters-past (too-long b) state left n start end on words work z h = h
+  enters-past no-rule state left n start end on words work z h = tt
 
   module _ (work work′ : List ℕ) (held : Holds work locations depth M ρ) (shallow : depth < maxDepth)
       (e : work′ ≡ storeOf work (suc depth) (popOf (loadOf work accumulator))) where
@@ -308,23 +300,23 @@ module _ (ws : List ℕ) (rest : List Line) (locations depth : ℕ) (M : Mem) (�
       end-at : drop first ws ≡ code (cmdLines c (cmdLines d rest)) → drop end ws ≡ code rest
       end-at p = k′ .means _ _ (a-command s′) (second-at p)
 
-      enters-left : (ch : Choice) (state left : ℕ) → state ≡ 1 → Chooses ws (cmdLines c (cmdLines d rest)) ch state left (cellOf work accumulator) first
-          → Enters ws rest locations depth M ρ c d ch 0 left work′ first end
+      enters-left : (ch : Choice) (state left : ℕ) (on : Bool) → state ≡ 0 → on ≡ true
+          → Chooses ws (cmdLines c (cmdLines d rest)) ch state left on (cellOf work accumulator) first → Enters ws rest locations depth M ρ c d ch 0 left work′ first end
       unfolding Chooses Enters
-      enters-left (to-left v b) state left z h = (refl, h .1, binds-inside tags-left v (h .2), h .3, end-at (h .3))
-      enters-left (to-right v b) state left z h = absurd (omega (arith, h .0))
-      enters-left no-budget state left z h = absurd (omega (arith, h .0))
-      enters-left (too-long b) state left z h = absurd (omega (arith, h .0))
-      enters-left no-rule state left z h = tt
+      enters-left (to-left v b) state left on z o h = (refl, h .1, binds-inside tags-left v (h .3), h .4, end-at (h .4))
+      enters-left (to-right v b) state left on z o h = absurd (false≢true (sym (h .2) ∙ o))
+      enters-left no-budget state left on z o h = absurd (omega (arith, h .0))
+      enters-left (too-long b) state left on z o h = absurd (omega (arith, h .0))
+      enters-left no-rule state left on z o h = tt
 
-      enters-right : (ch : Choice) (state left : ℕ) → state ≡ 0 → Chooses ws (cmdLines c (cmdLines d rest)) ch state left (cellOf work accumulator) first
-          → Enters ws rest locations depth M ρ c d ch 0 left work′ second end
+      enters-right : (ch : Choice) (state left : ℕ) (on : Bool) → state ≡ 0 → on ≡ false
+          → Chooses ws (cmdLines c (cmdLines d rest)) ch state left on (cellOf work accumulator) first → Enters ws rest locations depth M ρ c d ch 0 left work′ second end
       unfolding Chooses Enters
-      enters-right (to-left v b) state left z h = absurd (omega (arith, h .0))
-      enters-right (to-right v b) state left z h = (refl, h .1, binds-inside tags-right v (h .2), second-at (h .3), end-at (h .3))
-      enters-right no-budget state left z h = absurd (omega (arith, h .0))
-      enters-right (too-long b) state left z h = absurd (omega (arith, h .0))
-      enters-right no-rule state left z h = tt
+      enters-right (to-left v b) state left on z o h = absurd (false≢true (sym o ∙ h .2))
+      enters-right (to-right v b) state left on z o h = (refl, h .1, binds-inside tags-right v (h .3), second-at (h .4), end-at (h .4))
+      enters-right no-budget state left on z o h = absurd (omega (arith, h .0))
+      enters-right (too-long b) state left on z o h = absurd (omega (arith, h .0))
+      enters-right no-rule state left on z o h = tt
 
 module _ {ws : List ℕ} {at : ℕ} {table : List ℕ} {authority depth : ℕ} {work : List ℕ} {fuel : ℕ} where
   pub branch-deep : maxDepth ≤ depth → Branches ws at table authority depth work fuel 11 fuel at at work
@@ -337,23 +329,23 @@ module _ {ws : List ℕ} {at : ℕ} {table : List ℕ} {authority depth : ℕ} {
         means = λ W k e c d rest M ρ t p s s′ l held. absurd (omega arith);
       }
 
-  module _ {gs gl gn : ℕ} {work′ : List ℕ} (g : Decides ws at table authority depth work fuel gs gl gn work′) where
-    pub branch-past : 1 < gs → Branches ws at table authority depth work fuel gs gl at at work′
+  module _ {gs gl gn : ℕ} {on : Bool} {work′ : List ℕ} (g : Decides ws at table authority depth work fuel gs gl gn on work′) where
+    pub branch-past : (gs ≡ 0 → ⊥) → Branches ws at table authority depth work fuel gs gl at at work′
     branch-past h =
         record {
           forward = omega arith;
           onward = omega arith;
           spends = g .spends;
-          shallow = λ z. absurd (omega arith);
+          shallow = λ z. absurd (h z);
           means = λ W k e c d rest M ρ t p s s′ l held.
-              enters-past ws rest (k .locations) depth M ρ c d (choice fuel (eval W ρ M e)) gs gl gn at at (cellOf work′ 0) work′ h
+              enters-past ws rest (k .locations) depth M ρ c d (choice fuel (eval W ρ M e)) gs gl gn at at on (cellOf work′ 0) work′ h
               (g .means W k e (cmdLines c (cmdLines d rest)) M ρ t p held);
         }
 
     module _ {work″ : List ℕ} {second end : ℕ} (l : depth < maxDepth) (b : work″ ≡ storeOf work′ (suc depth) (popOf (loadOf work′ accumulator)))
         (k : Skips ws gn second) (k′ : Skips ws second end) where
-      pub branch-left : gs ≡ 1 → Branches ws at table authority depth work fuel 0 gl gn end work″
-      branch-left z =
+      pub branch-left : gs ≡ 0 → on ≡ true → Branches ws at table authority depth work fuel 0 gl gn end work″
+      branch-left z o =
           record {
             forward = g .forward;
             onward = omega (arith, g .forward, k .forward, k′ .forward);
@@ -361,11 +353,11 @@ module _ {ws : List ℕ} {at : ℕ} {table : List ℕ} {authority depth : ℕ} {
             shallow = λ q. l;
             means = λ W n e c d rest M ρ t p s s′ h held.
                 enters-left ws rest (n .locations) depth M ρ c d work′ work″ (holds-kept held work′ (g .kept)) l b gn second end s s′ k k′
-                (choice fuel (eval W ρ M e)) gs gl z (g .means W n e (cmdLines c (cmdLines d rest)) M ρ t p held);
+                (choice fuel (eval W ρ M e)) gs gl on z o (g .means W n e (cmdLines c (cmdLines d rest)) M ρ t p held);
           }
 
-      pub branch-right : gs ≡ 0 → Branches ws at table authority depth work fuel 0 gl second end work″
-      branch-right z =
+      pub branch-right : gs ≡ 0 → on ≡ false → Branches ws at table authority depth work fuel 0 gl second end work″
+      branch-right z o =
           record {
             forward = omega (arith, g .forward, k .forward);
             onward = omega (arith, g .forward, k .forward, k′ .forward);
@@ -373,5 +365,5 @@ module _ {ws : List ℕ} {at : ℕ} {table : List ℕ} {authority depth : ℕ} {
             shallow = λ q. l;
             means = λ W n e c d rest M ρ t p s s′ h held.
                 enters-right ws rest (n .locations) depth M ρ c d work′ work″ (holds-kept held work′ (g .kept)) l b gn second end s s′ k k′
-                (choice fuel (eval W ρ M e)) gs gl z (g .means W n e (cmdLines c (cmdLines d rest)) M ρ t p held);
+                (choice fuel (eval W ρ M e)) gs gl on z o (g .means W n e (cmdLines c (cmdLines d rest)) M ρ t p held);
           }

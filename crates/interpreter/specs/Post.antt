@@ -1,6 +1,6 @@
 -- What the functions over a script's lines ensure.
 use mathlib.Core.Path.{_≡_}
-use mathlib.Core.Bool.{true}
+use mathlib.Core.Bool.{Bool, true, false}
 use mathlib.Core.List.{List, [], _∷_}
 use Prim.Native.Nat.{ℕ, zero, suc, _≤_, _<_}
 use lib.ListN.{drop, getD}
@@ -114,22 +114,25 @@ choice (suc b) (ok v) = choiceV b v
 choice (suc b) long = too-long b
 choice (suc b) stuck = no-rule
 
--- State 1 for left, 0 for right; the value in the accumulator, and the place after the expression.
-unfoldable pub Chooses : List ℕ → List Line → Choice → ℕ → ℕ → List ℕ → ℕ → Type 0
-Chooses ws rest (to-left v b) state left words next = (state ≡ 1) × (left ≡ b) × (words ≡ cell (inl v)) × (drop next ws ≡ code rest)
-Chooses ws rest (to-right v b) state left words next = (state ≡ 0) × (left ≡ b) × (words ≡ cell (inr v)) × (drop next ws ≡ code rest)
-Chooses ws rest no-budget state left words next = (state ≡ 9) × (left ≡ 0)
-Chooses ws rest (too-long b) state left words next = (state ≡ 10) × (left ≡ suc b)
-Chooses ws rest no-rule state left words next = Unit {0}
+-- State 0, with `on` for left; the value in the accumulator, and the place after the expression.
+unfoldable pub Chooses : List ℕ → List Line → Choice → ℕ → ℕ → Bool → List ℕ → ℕ → Type 0
+Chooses ws rest (to-left v b) state left on words next =
+    (state ≡ 0) × (left ≡ b) × (on ≡ true) × (words ≡ cell (inl v)) × (drop next ws ≡ code rest)
+Chooses ws rest (to-right v b) state left on words next =
+    (state ≡ 0) × (left ≡ b) × (on ≡ false) × (words ≡ cell (inr v)) × (drop next ws ≡ code rest)
+Chooses ws rest no-budget state left on words next = (state ≡ 9) × (left ≡ 0)
+Chooses ws rest (too-long b) state left on words next = (state ≡ 10) × (left ≡ suc b)
+Chooses ws rest no-rule state left on words next = Unit {0}
 
-pub record Decides (ws : List ℕ) (at : ℕ) (table : List ℕ) (authority depth : ℕ) (work : List ℕ) (fuel state left next : ℕ) (work′ : List ℕ) : Type 0 where
+pub record Decides (ws : List ℕ) (at : ℕ) (table : List ℕ) (authority depth : ℕ) (work : List ℕ) (fuel state left next : ℕ) (on : Bool) (work′ : List ℕ) : Type 0 where
   pub forward : at ≤ next
   pub spends : left ≤ fuel
-  pub falls : state ≡ 1 → left < fuel
+  pub settled : on ≡ true → state ≡ 0
+  pub falls : on ≡ true → left < fuel
   pub kept : drop cell-words work′ ≡ drop cell-words work
   pub means : (W : World) (k : Counts) (e : Expr) (rest : List Line) (M : Mem) (ρ : Env)
       → Tells table authority W → ExprAt ws at rest k depth e → Holds work (k .locations) depth M ρ
-      → Chooses ws rest (choice fuel (eval W ρ M e)) state left (cellOf work′ accumulator) next
+      → Chooses ws rest (choice fuel (eval W ρ M e)) state left on (cellOf work′ accumulator) next
 
 -- The branch taken: its value is bound, it starts at `start`, and the case ends at `end`.
 unfoldable pub Enters : List ℕ → List Line → ℕ → ℕ → Mem → Env → Cmd → Cmd → Choice → ℕ → ℕ → List ℕ → ℕ → ℕ → Type 0

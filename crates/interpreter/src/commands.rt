@@ -14,22 +14,18 @@ const SPENT: u8 = 9;
 // Cases nest at most this deep.
 const MAX_DEPTH: u32 = 8;
 
-// What the first word of a value decides.
-const LEFT: u8 = 1;
-
-const RIGHT: u8 = 0;
-
 pub(crate) struct Done {
     pub(crate) state: u8,
     pub(crate) left: u32,
     pub(crate) next: usize,
 }
 
-// State LEFT or RIGHT; any other: no decision.
+// State DONE: decided, `on` for a left. Any other: no decision.
 struct Decided {
     state: u8,
     left: u32,
     next: usize,
+    on: bool,
 }
 
 // State 0: the branch that starts at `start` is taken; the case ends at `end`.
@@ -151,38 +147,43 @@ fn decide(
     work: &mut [u32],
     fuel: u32,
 ) -> Decided
-    ensures { λ r. ⌜ Decides (now (code .entry)) at (now (table .entry)) authority depth (now (work .entry)) fuel (r .state) (r .left) (r .next) (now (work .exit)) ⌝ }
+    ensures { λ r. ⌜ Decides (now (code .entry)) at (now (table .entry)) authority depth (now (work .entry)) fuel (r .state) (r .left) (r .next) (r .on) (now (work .exit)) ⌝ }
 {
     if fuel == 0 {
         return Decided {
             state: SPENT,
             left: 0,
             next: at,
+            on: false,
         };
     }
     let v = evaluation::eval(code, at, table, authority, depth, work);
     if v.state != nodes::VALUE {
         return Decided {
-            state: nodes::TOO_LONG,
+            state: v.state,
             left: fuel,
             next: at,
+            on: false,
         };
     }
     match cells::word(work, 0) {
         memory::LEFT => Decided {
-            state: LEFT,
+            state: DONE,
             left: fuel - 1,
             next: v.next,
+            on: true,
         },
         memory::RIGHT => Decided {
-            state: RIGHT,
+            state: DONE,
             left: fuel - 1,
             next: v.next,
+            on: false,
         },
         _ => Decided {
             state: nodes::NO_RULE,
             left: fuel,
             next: at,
+            on: false,
         },
     }
 }
@@ -208,7 +209,7 @@ fn branch(
         };
     }
     let g = decide(code, at, table, authority, depth, work, fuel);
-    if g.state > LEFT {
+    if g.state != DONE {
         return Taken {
             state: g.state,
             left: g.left,
@@ -220,7 +221,7 @@ fn branch(
     let first = g.next;
     let second = skip(code, first);
     let end = skip(code, second);
-    let start = if g.state == LEFT { first } else { second };
+    let start = if g.on { first } else { second };
     Taken {
         state: DONE,
         left: g.left,
@@ -265,7 +266,7 @@ pub(crate) fn exec(
             let mut left = fuel;
             loop {
                 let g = decide(code, at + ROW, table, authority, depth, work, left);
-                if g.state != LEFT {
+                if !g.on {
                     return Done {
                         state: g.state,
                         left: g.left,

@@ -1,6 +1,7 @@
 -- `interpreter::commands::exec` meets its contract. The measure is the words left. Each return is a law.
 -- The loop's invariant: what the loop ends with from here, it ends with from the start. Assumes nothing.
 use borrow.Author.Needs.{needs}
+use borrow.Author.Tests.{not-true, not-false}
 use mathlib.Core.Path.{_≡_, refl, _∙_}
 use mathlib.Core.List.{List}
 use Prim.Native.Nat.{ℕ, _<_, _-_}
@@ -78,13 +79,13 @@ pub +exec-spec : {M : Type 1} → statement M
     (λ c. omega (arith, row-inside _ _ 3 (c .before .before .before .before .row-at .ensures) (c .before .before .before .match .keys4)))  -- add-decide
     (λ c κs. search needs)  -- decide-requires
     (λ c. c .before .before .before .before .decide .kept .1 .1 .1 .1 .1 .0 ∙ c .before .before .before .before .before .before .loop .inv .0)  -- same-length-2
-    (λ c. c .before .before .before .before .before .before .loop .inv .1 _ _ _ _ (laws.while-stop (c .before .before .before .before .before .before .before .before .before .before .row-at .ensures) (c .before .before .before .before .before .before .before .before .before .match .keys4) (c .before .before .before .before .before .before .before .before .skip .ensures) (c .before .before .before .before .before .before .before .skip2 .ensures) (c .before .before .before .before .decide .ensures) (c .if2 .taken)))  -- returns-2
+    (λ c. c .before .before .before .before .before .before .loop .inv .1 _ _ _ _ (laws.while-stop (c .before .before .before .before .before .before .before .before .before .before .row-at .ensures) (c .before .before .before .before .before .before .before .before .before .match .keys4) (c .before .before .before .before .before .before .before .before .skip .ensures) (c .before .before .before .before .before .before .before .skip2 .ensures) (c .before .before .before .before .decide .ensures) (not-true _ (c .if2 .taken))))  -- returns-2
     (λ c κs. (omega (arith, row-inside _ _ 3 (c .before .before .before .before .before .before .before .before .before .before .before .row-at .ensures) (c .before .before .before .before .before .before .before .before .before .before .match .keys4), c .before .before .before .before .before .before .before .before .before .skip .ensures .forward, c .before .before .before .before .before .before .before .before .before .before .before .before .before .before .before .pre .0), tt))  -- exec-requires-3
     (λ c κs. search needs)  -- tick-requires-2
     (λ c. c .before .before .before .before .before .exec3 .kept .1 .1 .1 .1 .1 .0 ∙ c .before .before .before .before .before .before .before .before .before .before .before .decide .kept .1 .1 .1 .1 .1 .0 ∙ c .before .before .before .before .before .before .before .before .before .before .before .before .before .loop .inv .0)  -- same-length-3
-    (λ c. c .before .before .before .before .before .before .before .before .before .before .before .before .before .loop .inv .1 _ _ _ _ (laws.while-end (c .before .before .before .before .before .before .before .before .before .before .before .before .before .before .before .before .before .row-at .ensures) (c .before .before .before .before .before .before .before .before .before .before .before .before .before .before .before .before .match .keys4) (c .before .before .before .before .before .before .before .before .before .before .before .before .before .before .before .skip .ensures) (c .before .before .before .before .before .before .before .before .before .before .before .before .before .before .skip2 .ensures) (c .before .before .before .before .before .before .before .before .before .before .before .decide .ensures) (c .before .before .before .before .before .before .before .if2 .left) (c .before .before .before .before .before .exec3 .ensures) (c .before .before .tick2 .ensures) (c .if3 .taken)))  -- returns-3
-    (λ c. omega (arith, c .before .before .before .before .before .before .before .before .before .before .before .decide .ensures .falls (c .before .before .before .before .before .before .before .if2 .left), c .before .before .before .before .before .exec3 .ensures .spends, c .before .before .tick2 .ensures .spends))  -- loop-less
-    (λ c. (c .before .before .before .before .before .exec3 .kept .1 .1 .1 .1 .1 .0 ∙ c .before .before .before .before .before .before .before .before .before .before .before .decide .kept .1 .1 .1 .1 .1 .0 ∙ c .before .before .before .before .before .before .before .before .before .before .before .before .before .loop .inv .0, λ s f n m y. c .before .before .before .before .before .before .before .before .before .before .before .before .before .loop .inv .1 s f n m (laws.while-again (c .before .before .before .before .before .before .before .before .before .before .before .before .before .before .before .before .before .row-at .ensures) (c .before .before .before .before .before .before .before .before .before .before .before .before .before .before .before .before .match .keys4) (c .before .before .before .before .before .before .before .before .before .before .before .before .before .before .before .skip .ensures) (c .before .before .before .before .before .before .before .before .before .before .before .before .before .before .skip2 .ensures) (c .before .before .before .before .before .before .before .before .before .before .before .decide .ensures) (c .before .before .before .before .before .before .before .if2 .left) (c .before .before .before .before .before .exec3 .ensures) (c .before .before .tick2 .ensures) (c .if3 .left) y)))  -- loop-again
+    (λ c. c .before .before .before .before .before .before .before .before .before .before .before .before .before .loop .inv .1 _ _ _ _ (laws.while-end (c .before .before .before .before .before .before .before .before .before .before .before .before .before .before .before .before .before .row-at .ensures) (c .before .before .before .before .before .before .before .before .before .before .before .before .before .before .before .before .match .keys4) (c .before .before .before .before .before .before .before .before .before .before .before .before .before .before .before .skip .ensures) (c .before .before .before .before .before .before .before .before .before .before .before .before .before .before .skip2 .ensures) (c .before .before .before .before .before .before .before .before .before .before .before .decide .ensures) (not-false _ (c .before .before .before .before .before .before .before .if2 .left)) (c .before .before .before .before .before .exec3 .ensures) (c .before .before .tick2 .ensures) (c .if3 .taken)))  -- returns-3
+    (λ c. omega (arith, c .before .before .before .before .before .before .before .before .before .before .before .decide .ensures .falls (not-false _ (c .before .before .before .before .before .before .before .if2 .left)), c .before .before .before .before .before .exec3 .ensures .spends, c .before .before .tick2 .ensures .spends))  -- loop-less
+    (λ c. (c .before .before .before .before .before .exec3 .kept .1 .1 .1 .1 .1 .0 ∙ c .before .before .before .before .before .before .before .before .before .before .before .decide .kept .1 .1 .1 .1 .1 .0 ∙ c .before .before .before .before .before .before .before .before .before .before .before .before .before .loop .inv .0, λ s f n m y. c .before .before .before .before .before .before .before .before .before .before .before .before .before .loop .inv .1 s f n m (laws.while-again (c .before .before .before .before .before .before .before .before .before .before .before .before .before .before .before .before .before .row-at .ensures) (c .before .before .before .before .before .before .before .before .before .before .before .before .before .before .before .before .match .keys4) (c .before .before .before .before .before .before .before .before .before .before .before .before .before .before .before .skip .ensures) (c .before .before .before .before .before .before .before .before .before .before .before .before .before .before .skip2 .ensures) (c .before .before .before .before .before .before .before .before .before .before .before .decide .ensures) (not-false _ (c .before .before .before .before .before .before .before .if2 .left)) (c .before .before .before .before .before .exec3 .ensures) (c .before .before .tick2 .ensures) (c .if3 .left) y)))  -- loop-again
     (λ c. omega (arith, row-inside _ _ 4 (c .before .row-at .ensures) (c .match .keys5)))  -- add-branch
     (λ c κs. search needs)  -- branch-requires
     (λ c. c .before .before .before .before .branch .kept .1 .1 .1 .1 .1 .0)  -- same-length-4

@@ -15,7 +15,7 @@ use Rattle.sheet.specs.declared.draft.Draft.{Draft}
 use Rattle.sheet.specs.Reading.{lineOf, front, linesOf}
 use Rattle.sheet.specs.Building.{begin, stepOn, steps, build}
 use Rattle.sheet.specs.Sheets.{buildIn, sheetIn, judged, refusedBy, decoded}
-use Rattle.sheet.specs.Drafts.{drafted, FormedIf, stepsIn}
+use Rattle.sheet.specs.Drafts.{Holds, FormedIf, stepsIn}
 use Rattle.sheet.specs.Repeats.{repeatsIn}
 use Rattle.sheet.proofs.LineLaws.{lines-none, lines-on, lines-bad}
 use Rattle.sheet.proofs.RepeatFinds.{repeats-in}
@@ -73,24 +73,20 @@ module _ (t : List ℕ) where
 
 -- ---- the answer
 
-module _ (d : Draft) where
-  pub answer-malformed : (o : Option Sheet) → d ≡ drafted o → d .ok ≡ false → refusedBy 1 ≡ decoded (judged o)
-  unfolding drafted decoded judged
+module _ (d : Draft) (t : List ℕ) where
+  pub answer-malformed : (o : Option Sheet) → Holds o d t → d .ok ≡ false → refusedBy 1 ≡ decoded (judged o)
+  unfolding Holds decoded judged
   answer-malformed none e h = refl
-  answer-malformed (some s) e h = absurd (absurd-false (sym h ∙ ap (λ (d : Draft). d .ok) e))
+  answer-malformed (some s) e h = absurd (absurd-false (sym h ∙ e .0))
 
   module _ (h : d .ok ≡ true) where
-    pub answer-repeating : (o : Option Sheet) → FormedIf o → d ≡ drafted o → repeatsIn (d .table) ≡ true → refusedBy 2 ≡ decoded (judged o)
-    unfolding drafted decoded judged FormedIf
-    answer-repeating none f e r = absurd (absurd-false (sym (ap (λ (d : Draft). d .ok) e) ∙ h))
-    answer-repeating (some s) f e r =
-        let t = ap (λ (d : Draft). d .table) e in
-        rw (sym (repeats-in s f) ∙ ap repeatsIn (sym t) ∙ r)
+    pub answer-repeating : (o : Option Sheet) → FormedIf o → Holds o d t → repeatsIn t ≡ true → refusedBy 2 ≡ decoded (judged o)
+    unfolding Holds decoded judged FormedIf
+    answer-repeating none f e r = absurd (absurd-false (sym e ∙ h))
+    answer-repeating (some s) f e r = rw (sym (repeats-in s f) ∙ ap repeatsIn (sym (e .2)) ∙ r)
 
-    pub answer-accepted : (o : Option Sheet) → FormedIf o → d ≡ drafted o → repeatsIn (d .table) ≡ false
-        → record { answer = 0; table = d .table } ≡ decoded (judged o)
-    unfolding drafted decoded judged FormedIf
-    answer-accepted none f e r = absurd (absurd-false (sym (ap (λ (d : Draft). d .ok) e) ∙ h))
+    pub answer-accepted : (o : Option Sheet) → FormedIf o → Holds o d t → repeatsIn t ≡ false → record { answer = 0; table = t } ≡ decoded (judged o)
+    unfolding Holds decoded judged FormedIf
+    answer-accepted none f e r = absurd (absurd-false (sym e ∙ h))
     answer-accepted (some s) f e r =
-        let t = ap (λ (d : Draft). d .table) e in
-        rw (sym (repeats-in s f) ∙ ap repeatsIn (sym t) ∙ r) (ap (λ (t : List ℕ). record { answer = 0; table = t }) t)
+        rw (sym (repeats-in s f) ∙ ap repeatsIn (sym (e .2)) ∙ r) (ap (λ (t : List ℕ). record { answer = 0; table = t }) (e .2))

@@ -1,16 +1,16 @@
 // From a sheet's lines to its table, a line at a time.
 ghost use mathlib.Core.Path.{_≡_};
-ghost use mathlib.Core.Bool.{true};
-ghost use mathlib.Core.Option.{Option, none, some};
+ghost use mathlib.Core.Bool.{false};
+ghost use mathlib.Core.Option.{Option};
 ghost use Prim.Native.Nat.{_+_, _*_, _%_, _<_, _≤_};
-ghost use lib.ListN.{drop};
-ghost use Rattle.sets.specs.Sets.{both};
-ghost use Rattle.tables.specs.Sheet.{Sheet, formed, maxPrincipals};
-ghost use Rattle.tables.specs.Tables.{tableWords};
-ghost use Rattle.sheet.specs.Building.{blank, begin, step, stepOn};
+ghost use lib.ListN.{drop, replicate};
+ghost use Rattle.labels.specs.Tables.{labelSize, labelPut};
+ghost use Rattle.tables.specs.Sheet.{Sheet};
+ghost use Rattle.tables.specs.Tables.{partsBase, locationsBase, labelsBase, tableWords};
+ghost use Rattle.sheet.specs.Building.{begin, stepOn};
 ghost use Rattle.sheet.specs.Sheets.{sheetIn};
 ghost use Rattle.sheet.specs.Reading.{linesOf};
-ghost use Rattle.sheet.specs.Drafts.{drafted, FormedIf, pairAdded, sumFitsIn, labelFitsIn, policyFitsIn, locationFitsIn, stepsIn};
+ghost use Rattle.sheet.specs.Drafts.{Holds, FormedIf, stepsIn, Stores, principalsFit, pairFits, sumFitsIn, labelFitsIn, policyFitsIn, locationFitsIn, principalsStored, pairStored, labelStored, policyStored};
 use super::line::Found;
 use super::line::Line;
 use super::line::line_at;
@@ -43,59 +43,20 @@ const LEFT_OF_4: usize = 16;
 
 const RIGHT_OF_4: usize = 17;
 
-// The sheet of the lines so far: whether they are of the right form, the least owner that a policy may have next, and the table.
+// What is known of the lines so far beside their table: whether they are of the right form, and the least owner that a policy may have
+// next. Where they are not of the right form, nothing is said of the table.
 pub struct Draft {
     pub ok: bool,
     pub least: u32,
-    pub table: [u16; WORDS],
-}
-
-fn both(a: bool, b: bool) -> bool
-    ensures { λ r. ⌜ r ≡ both a b ⌝ }
-{
-    a && b
 }
 
 // The lines are not of the right form.
 fn refused() -> Draft
-    ensures { λ r. ⌜ r ≡ drafted none ⌝ }
+    ensures { λ r. ⌜ r .ok ≡ false ⌝ }
 {
     Draft {
         ok: false,
         least: 0,
-        table: [0u16; WORDS],
-    }
-}
-
-// A sheet of n principals with nothing else.
-fn blank(n: u32) -> Draft
-    requires { ⌜ n ≤ maxPrincipals ⌝ }
-    ensures { λ r. ⌜ r ≡ drafted (some (blank n)) ⌝ }
-{
-    let mut table = [0u16; WORDS];
-    table[0] = n as u16;
-    table[1] = sets::everyone(n as usize);
-    table[TYPE_COUNT] = GIVEN_TYPES;
-    table[LEFT_OF_4] = 2;
-    table[RIGHT_OF_4] = 1;
-    Draft {
-        ok: true,
-        least: 0,
-        table,
-    }
-}
-
-// The sheet after a first line.
-fn begin(line: Line) -> Draft
-    ensures { λ r. ⌜ r ≡ drafted (begin line) ⌝ }
-{
-    let Line::P(n) = line else {
-        return refused();
-    };
-    if both(1 <= n, n <= MOST_PRINCIPALS) {
-        blank(n)
-    } else {
-        refused()
     }
 }
 
@@ -106,171 +67,195 @@ fn low(n: u32) -> u16
     (n % 65536) as u16
 }
 
-// The table with a pair of words more, the n-th of those from `base` on, and their count.
-fn add_pair(table: [u16; WORDS], base: u32, n: u32, a: u32, b: u32, count: usize) -> [u16; WORDS]
-    requires { ⌜ (base + 2 * n + 1 < tableWords) × (count < tableWords) ⌝ }
-    ensures { λ r. ⌜ r ≡ pairAdded table base n a b count ⌝ }
+// The same number with more bits.
+fn wide(n: u16) -> u32
+    ensures { λ r. ⌜ r ≡ n ⌝ }
 {
-    let mut out = table;
-    let at = base as usize + 2 * (n as usize);
-    out[at] = low(a);
-    out[at + 1] = low(b);
-    out[count] = low(n + 1);
-    out
+    n as u32
 }
 
-// Whether a sum of two types may come next.
-fn sum_fits(table: &[u16], a: u32, b: u32) -> bool
-    ensures { λ r. ⌜ r ≡ sumFitsIn (now (table .entry)) a b ⌝ }
+// Each function below stores what a line adds to the table, if the line may come next, and answers whether it may.
+
+// The number of principals, and what every sheet has.
+fn set_principals(table: &mut [u16; WORDS], n: u32) -> bool
+    ensures { λ r. ⌜ Stores (principalsFit n) (principalsStored n) (now (table .entry)) r (now (table .exit)) ⌝ }
+{
+    if !((1 <= n) & (n <= MOST_PRINCIPALS)) {
+        return false;
+    }
+    table[0] = low(n);
+    table[1] = sets::everyone(n as usize);
+    table[TYPE_COUNT] = GIVEN_TYPES;
+    table[LEFT_OF_4] = 2;
+    table[RIGHT_OF_4] = 1;
+    true
+}
+
+// A pair of words behind those from `base` on, of which there are at most `most` and as many as the word at `count` says.
+fn add_pair(
+    table: &mut [u16; WORDS],
+    base: u32,
+    count: usize,
+    most: u32,
+    known: bool,
+    a: u32,
+    b: u32,
+) -> bool
+    requires { ⌜ (base + 2 * most ≤ tableWords) × (count < tableWords) ⌝ }
+    ensures { λ r. ⌜ Stores (pairFits count most known) (pairStored base count a b) (now (table .entry)) r (now (table .exit)) ⌝ }
+{
+    let n = wide(table[count]);
+    if most <= n {
+        return false;
+    }
+    if !known {
+        return false;
+    }
+    let at = (base + 2 * n) as usize;
+    table[at] = low(a);
+    table[at + 1] = low(b);
+    table[count] = low(n + 1);
+    true
+}
+
+// A sum of two types, before any label or location.
+fn add_sum(table: &mut [u16; WORDS], a: u32, b: u32) -> bool
+    ensures { λ r. ⌜ Stores (sumFitsIn a b) (pairStored partsBase 2 a b) (now (table .entry)) r (now (table .exit)) ⌝ }
 {
     let n = tables::types(table);
-    let first = both(tables::labels(table) == 0, tables::locations(table) == 0);
-    both(first, both(n < MOST_TYPES, both(a < n, b < n)))
-}
-
-// A sum more.
-fn add_sum(d: Draft, a: u32, b: u32) -> Draft
-    ensures { λ r. ⌜ ((s : Sheet) → formed s ≡ true → d ≡ drafted (some s) → r ≡ drafted (step s (Line.T a b))) ⌝ }
-{
-    let old = d.table;
-    if !sum_fits(&old, a, b) {
-        return refused();
-    }
-    let table = add_pair(old, tables::PARTS, tables::types(&old), a, b, TYPE_COUNT);
-    Draft {
-        ok: true,
-        least: 0,
+    let first = (tables::labels(table) == 0) & (tables::locations(table) == 0);
+    let known = (a < n) & (b < n);
+    add_pair(
         table,
-    }
+        tables::PARTS,
+        TYPE_COUNT,
+        MOST_TYPES,
+        first & known,
+        a,
+        b,
+    )
 }
 
-// Whether a label may come next.
+// A location.
+fn add_location(table: &mut [u16; WORDS], ty: u32, label: u32) -> bool
+    ensures { λ r. ⌜ Stores (locationFitsIn ty label) (pairStored locationsBase 4 ty label) (now (table .entry)) r (now (table .exit)) ⌝ }
+{
+    let known = (ty < tables::types(table)) & (label < tables::labels(table));
+    add_pair(
+        table,
+        tables::LOCATIONS,
+        LOCATION_COUNT,
+        MOST_LOCATIONS,
+        known,
+        ty,
+        label,
+    )
+}
+
+// Stores label l.
+fn set_label(table: &mut [u16; WORDS], l: u32, label: Label)
+    ensures { λ _. ⌜ now (table .exit) ≡ labelPut (now (table .entry)) (labelsBase + labelSize * l) label ⌝ }
+{
+    put_label(table, tables::LABELS + LABEL_SIZE * (l as usize), label);
+}
+
+// Whether a label may come next: before any location.
 fn label_fits(table: &[u16]) -> bool
     ensures { λ r. ⌜ r ≡ labelFitsIn (now (table .entry)) ⌝ }
 {
-    both(
-        tables::locations(table) == 0,
-        tables::labels(table) < MOST_LABELS,
-    )
+    (tables::locations(table) == 0) & (tables::labels(table) < MOST_LABELS)
 }
 
-// A label more, without policies.
-fn add_label(d: Draft) -> Draft
-    ensures { λ r. ⌜ ((s : Sheet) → formed s ≡ true → d ≡ drafted (some s) → r ≡ drafted (step s Line.L)) ⌝ }
+// A label without policies.
+fn add_label(table: &mut [u16; WORDS]) -> bool
+    ensures { λ r. ⌜ Stores labelFitsIn labelStored (now (table .entry)) r (now (table .exit)) ⌝ }
 {
-    let mut table = d.table;
-    if !label_fits(&table) {
-        return refused();
+    if !label_fits(table) {
+        return false;
     }
-    let l = tables::labels(&table);
-    let label = Label::open(
-        tables::principals(&table) as usize,
-        tables::everyone(&table),
-    );
-    put_label(
-        &mut table,
-        tables::LABELS + LABEL_SIZE * (l as usize),
-        label,
-    );
+    let l = tables::labels(table);
+    let label = Label::open(tables::principals(table) as usize, tables::everyone(table));
+    set_label(table, l, label);
     table[LABEL_COUNT] = low(l + 1);
-    Draft {
-        ok: true,
-        least: 0,
-        table,
-    }
+    true
 }
 
-// Whether a policy of the last label may come next.
+// Whether a policy of the last label may come next: before any location, owners rising.
 fn policy_fits(table: &[u16], least: u32, owner: u32, readers: u16, writers: u16) -> bool
-    ensures { λ r. ⌜ r ≡ policyFitsIn (now (table .entry)) least owner readers writers ⌝ }
+    ensures { λ r. ⌜ r ≡ policyFitsIn least owner readers writers (now (table .entry)) ⌝ }
 {
     let all = tables::everyone(table);
-    let after = both(tables::locations(table) == 0, 0 < tables::labels(table));
-    let rises = both(least <= owner, owner < tables::principals(table));
-    both(after, both(rises, both(readers <= all, writers <= all)))
+    let after = (tables::locations(table) == 0) & (0 < tables::labels(table));
+    let rises = (least <= owner) & (owner < tables::principals(table));
+    let named = (readers <= all) & (writers <= all);
+    after & (rises & named)
 }
 
-// A policy more at the last label.
-fn add_policy(d: Draft, owner: u32, readers: u16, writers: u16) -> Draft
-    ensures { λ r. ⌜ ((s : Sheet) → formed s ≡ true → d ≡ drafted (some s) → r ≡ drafted (step s (Line.O owner readers writers))) ⌝ }
+// A policy of the last label.
+fn add_policy(table: &mut [u16; WORDS], least: u32, owner: u32, readers: u16, writers: u16) -> bool
+    ensures { λ r. ⌜ Stores (policyFitsIn least owner readers writers) (policyStored owner readers writers) (now (table .entry)) r (now (table .exit)) ⌝ }
 {
-    let mut table = d.table;
-    if !policy_fits(&table, d.least, owner, readers, writers) {
+    if !policy_fits(table, least, owner, readers, writers) {
+        return false;
+    }
+    let last = tables::labels(table) - 1;
+    let label = tables::label_of(table, last).with_policy(owner as usize, readers, writers);
+    set_label(table, last, label);
+    true
+}
+
+// The sheet after a first line, from a table of zeros.
+fn begin(table: &mut [u16; WORDS], line: Line) -> Draft
+    requires { ⌜ now table ≡ replicate tableWords 0 ⌝ }
+    ensures { λ r. ⌜ Holds (begin line) r (now (table .exit)) ⌝ }
+{
+    let Line::P(n) = line else {
         return refused();
-    }
-    let last = tables::labels(&table) - 1;
-    let label = tables::label_of(&table, last).with_policy(owner as usize, readers, writers);
-    put_label(
-        &mut table,
-        tables::LABELS + LABEL_SIZE * (last as usize),
-        label,
-    );
+    };
     Draft {
-        ok: true,
-        least: low(owner) as u32 + 1,
-        table,
-    }
-}
-
-// Whether a location may come next.
-fn location_fits(table: &[u16], ty: u32, label: u32) -> bool
-    ensures { λ r. ⌜ r ≡ locationFitsIn (now (table .entry)) ty label ⌝ }
-{
-    both(
-        tables::locations(table) < MOST_LOCATIONS,
-        both(ty < tables::types(table), label < tables::labels(table)),
-    )
-}
-
-// A location more.
-fn add_location(d: Draft, ty: u32, label: u32) -> Draft
-    ensures { λ r. ⌜ ((s : Sheet) → formed s ≡ true → d ≡ drafted (some s) → r ≡ drafted (step s (Line.X ty label))) ⌝ }
-{
-    let old = d.table;
-    if !location_fits(&old, ty, label) {
-        return refused();
-    }
-    let table = add_pair(
-        old,
-        tables::LOCATIONS,
-        tables::locations(&old),
-        ty,
-        label,
-        LOCATION_COUNT,
-    );
-    Draft {
-        ok: true,
-        least: d.least,
-        table,
+        ok: set_principals(table, n),
+        least: 0,
     }
 }
 
 // The sheet after a further line.
-fn step(d: Draft, line: Line) -> Draft
-    ensures { λ r. ⌜ ((o : Option Sheet) → FormedIf o → d ≡ drafted o → r ≡ drafted (stepOn o line)) ⌝ }
+fn step(d: Draft, table: &mut [u16; WORDS], line: Line) -> Draft
+    ensures { λ r. ⌜ ((o : Option Sheet) → FormedIf o → Holds o d (now (table .entry)) → Holds (stepOn o line) r (now (table .exit))) ⌝ }
 {
     if !d.ok {
         return refused();
     }
     match line {
         Line::P(_) => refused(),
-        Line::T(a, b) => add_sum(d, a, b),
-        Line::L => add_label(d),
-        Line::O(owner, readers, writers) => add_policy(d, owner, readers, writers),
-        Line::X(ty, label) => add_location(d, ty, label),
+        Line::T(a, b) => Draft {
+            ok: add_sum(table, a, b),
+            least: 0,
+        },
+        Line::L => Draft {
+            ok: add_label(table),
+            least: 0,
+        },
+        Line::O(owner, readers, writers) => Draft {
+            ok: add_policy(table, d.least, owner, readers, writers),
+            least: low(owner) as u32 + 1,
+        },
+        Line::X(ty, label) => Draft {
+            ok: add_location(table, ty, label),
+            least: d.least,
+        },
     }
 }
 
 // The sheet after the lines from `from` on.
-fn follow(s: &[u8], from: usize, first: Draft) -> Draft
-    ensures { λ r. ⌜ ((o : Option Sheet) → FormedIf o → first ≡ drafted o → r ≡ drafted (stepsIn o (linesOf (drop from (now (s .entry)))))) ⌝ }
+fn follow(s: &[u8], from: usize, first: Draft, table: &mut [u16; WORDS]) -> Draft
+    ensures { λ r. ⌜ ((o : Option Sheet) → FormedIf o → Holds o first (now (table .entry)) → Holds (stepsIn o (linesOf (drop from (now (s .entry))))) r (now (table .exit))) ⌝ }
 {
     let mut d = first;
     let mut at = from;
     while at < s.len() {
         match line_at(s, at) {
             Found::At(line, p) => {
-                d = step(d, line);
+                d = step(d, table, line);
                 at = p;
             }
             Found::Bad => {
@@ -281,15 +266,19 @@ fn follow(s: &[u8], from: usize, first: Draft) -> Draft
     d
 }
 
-// The sheet of a text.
-pub fn draft_of(s: &[u8]) -> Draft
-    ensures { λ r. ⌜ r ≡ drafted (sheetIn (now (s .entry))) ⌝ }
+// The sheet of a text, from a table of zeros.
+pub fn draft_of(s: &[u8], table: &mut [u16; WORDS]) -> Draft
+    requires { ⌜ now table ≡ replicate tableWords 0 ⌝ }
+    ensures { λ r. ⌜ Holds (sheetIn (now (s .entry))) r (now (table .exit)) ⌝ }
 {
     if !text::fits(s) {
         return refused();
     }
     match line_at(s, 0) {
-        Found::At(line, p) => follow(s, p, begin(line)),
+        Found::At(line, p) => {
+            let first = begin(table, line);
+            follow(s, p, first, table)
+        }
         Found::Bad => refused(),
     }
 }

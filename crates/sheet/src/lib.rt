@@ -33,11 +33,11 @@ fn refused(number: u8) -> Decoded
 fn read_text(text: &[u8]) -> Decoded
     ensures { λ r. ⌜ r ≡ decoded (sheetOf (now (text .entry))) ⌝ }
 {
-    let d = draft_of(text);
+    let mut table = [0u16; WORDS];
+    let d = draft_of(text, &mut table);
     if !d.ok {
         return refused(1);
     }
-    let table = d.table;
     if repeats(&table) {
         return refused(2);
     }

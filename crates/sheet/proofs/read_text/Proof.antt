@@ -15,11 +15,7 @@ refused-requires c κs = search needs
 
 returns : tie.Need-returns
 unfolding sheetOf
-returns c =
-    c .refused .ensures ∙ answer-malformed _ _ (c .before .before .before .draft-of .ensures) (not-true _ (c .before .if1 .taken))
-
-slice-aggregate-repeats : tie.Need-slice-aggregate-repeats
-slice-aggregate-repeats c = search needs
+returns c = c .refused .ensures ∙ answer-malformed _ _ _ (c .before .before .before .draft-of .ensures) (not-true _ (c .before .if1 .taken))
 
 repeats-requires : tie.Need-repeats-requires
 repeats-requires c κs = search needs
@@ -31,12 +27,12 @@ returns-2 : tie.Need-returns-2
 unfolding sheetOf
 returns-2 c =
     c .refused2 .ensures
-    ∙ answer-repeating _ (not-false _ (c .before .before .before .before .before .if1 .left)) _ (formed-read _) (c .before .before .before .before .before .before .before .draft-of .ensures) (sym (c .before .before .repeats .ensures) ∙ c .before .if2 .taken)
+    ∙ answer-repeating _ _ (not-false _ (c .before .before .before .before .if1 .left)) _ (formed-read _) (c .before .before .before .before .before .before .draft-of .ensures) (sym (c .before .before .repeats .ensures) ∙ c .before .if2 .taken)
 
 returns-3 : tie.Need-returns-3
 unfolding sheetOf
 returns-3 c =
-    answer-accepted _ (not-false _ (c .before .before .before .before .if1 .left)) _ (formed-read _) (c .before .before .before .before .before .before .draft-of .ensures) (sym (c .before .repeats .ensures) ∙ c .if2 .left)
+    answer-accepted _ _ (not-false _ (c .before .before .before .if1 .left)) _ (formed-read _) (c .before .before .before .before .before .draft-of .ensures) (sym (c .before .repeats .ensures) ∙ c .if2 .left)
 
 pub read-text-spec : {M : Type 1} → statement M
 read-text-spec =
@@ -45,7 +41,6 @@ read-text-spec =
     draft-of-requires
     refused-requires
     returns
-    slice-aggregate-repeats
     repeats-requires
     refused-requires-2
     returns-2

@@ -1,9 +1,8 @@
 -- `sheet::draft::draft_of` meets its contract. Assumes nothing.
-use mathlib.Core.Path.{sym, ap, _∙_}
+use mathlib.Core.Path.{sym, _∙_}
 use borrow.Author.Tests.{not-true, not-false}
-use Rattle.sheet.specs.Drafts.{drafted}
 use Rattle.sheet.proofs.FoundLaws.{line-found, line-missed}
-use Rattle.sheet.proofs.DraftLaws.{formed-begun}
+use Rattle.sheet.proofs.DraftLaws.{holds-none, formed-begun}
 use Rattle.sheet.proofs.ReadLaws.{sheet-long, sheet-first, sheet-none}
 use borrow.Author.Needs.{needs}
 use Rattle.sheet.proofs.draft.draft_of.Statement.{statement}
@@ -17,7 +16,7 @@ refused-requires c κs = search needs
 
 returns : tie.Need-returns
 returns c =
-    c .refused .ensures ∙ ap drafted (sheet-long _ (sym (c .before .before .fits2 .ensures) ∙ not-true _ (c .before .if1 .taken)))
+    holds-none _ _ _ (sheet-long _ (sym (c .before .before .fits2 .ensures) ∙ not-true _ (c .before .if1 .taken))) (c .refused .ensures)
 
 line-at-requires : tie.Need-line-at-requires
 line-at-requires c κs = search needs
@@ -26,7 +25,7 @@ enum-known-line : tie.Need-enum-known-line
 enum-known-line c = search needs
 
 begin-requires : tie.Need-begin-requires
-begin-requires c κs = search needs
+begin-requires c κs = c .before .before .before .before .before .before .before .before .pre
 
 follow-requires : tie.Need-follow-requires
 follow-requires c κs = search needs
@@ -39,16 +38,17 @@ refused-requires-2 c κs = search needs
 
 returns-2 : tie.Need-returns-2
 returns-2 c =
-    let s = c .before .before .before .before .before .before .before .before .before .args .s .now in
-    let fits = sym (c .before .before .before .before .before .before .before .fits2 .ensures) ∙ not-false _ (c .before .before .before .before .before .before .if1 .left) in
-    let l = line-found s 0 _ (c .before .before .before .before .before .line-at .ensures) _ _ (c .before .before .before .line .given .1) in
-    c .follow .ensures _ (formed-begun _) (c .before .begin .ensures) ∙ ap drafted (sheet-first s _ _ fits (l .0))
+    let s = c .before .before .before .before .before .before .before .before .before .before .before .args .s .now in
+    let fits = sym (c .before .before .before .before .before .before .before .before .before .fits2 .ensures) ∙ not-false _ (c .before .before .before .before .before .before .before .before .if1 .left) in
+    let l = line-found s 0 _ (c .before .before .before .before .before .before .before .line-at .ensures) _ _ (c .before .before .before .before .before .line .given .1) in
+    rw (← sheet-first s _ _ fits (l .0)) (c .follow .ensures _ (formed-begun _) (c .before .before .begin .ensures))
 
 returns-3 : tie.Need-returns-3
 returns-3 c =
     let s = c .before .before .before .before .before .before .before .args .s .now in
     let fits = sym (c .before .before .before .before .before .fits2 .ensures) ∙ not-false _ (c .before .before .before .before .if1 .left) in
-    c .refused2 .ensures ∙ ap drafted (sheet-none s fits (line-missed s 0 _ (c .before .before .before .line-at .ensures) (c .before .enum-told .given .1)))
+    let missed = line-missed s 0 _ (c .before .before .before .line-at .ensures) (c .before .enum-told .given .1) in
+    holds-none _ _ _ (sheet-none s fits missed) (c .refused2 .ensures)
 
 pub draft-of-spec : {M : Type 1} → statement M
 draft-of-spec =

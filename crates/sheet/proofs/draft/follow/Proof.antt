@@ -1,5 +1,5 @@
--- `sheet::draft::follow` meets its contract: what is left to read, after the sheet so far, is what was to be read at the start. Assumes nothing.
-use mathlib.Core.Path.{_≡_, refl, ap, _∙_}
+-- `sheet::draft::follow` meets its contract. Assumes nothing.
+use mathlib.Core.Path.{_≡_, refl, _∙_}
 use mathlib.Core.Option.{Option}
 use Prim.Native.Nat.{_-_, _≤_}
 use native.Mathlib.Omega.{arith}
@@ -8,21 +8,21 @@ use Rattle.tables.specs.Sheet.{Sheet}
 use Rattle.text.specs.Reading.Read.{got}
 use Rattle.sheet.specs.Reading.{lineOf, linesOf}
 use Rattle.sheet.specs.Building.{stepOn}
-use Rattle.sheet.specs.Drafts.{drafted, FormedIf, stepsIn}
+use Rattle.sheet.specs.Drafts.{Holds, FormedIf, stepsIn}
 use Rattle.sheet.proofs.FoundLaws.{line-found, line-missed, line-onward}
-use Rattle.sheet.proofs.DraftLaws.{formed-stepped}
+use Rattle.sheet.proofs.DraftLaws.{holds-none, formed-stepped}
 use Rattle.sheet.proofs.ReadLaws.{steps-on, steps-bad, steps-end}
 use borrow.Author.Needs.{needs}
 use Rattle.sheet.proofs.draft.follow.Statement.{statement}
 use Rattle.sheet.proofs.draft.follow.Tie as tie
 
 abbrev Inv-loop : tie.InvT-loop
-Inv-loop s from d₀ at₀ d at =
-    (o : Option Sheet) → FormedIf o → d₀ ≡ drafted o
-    → (o′ : Option Sheet) × FormedIf o′ × (d ≡ drafted o′) × (stepsIn o′ (linesOf (drop at s)) ≡ stepsIn o (linesOf (drop from s)))
+Inv-loop s from table₀ d₀ at₀ table d at =
+    (o : Option Sheet) → FormedIf o → Holds o d₀ table₀
+    → (o′ : Option Sheet) × FormedIf o′ × Holds o′ d table × (stepsIn o′ (linesOf (drop at s)) ≡ stepsIn o (linesOf (drop from s)))
 
 abbrev μ-loop : tie.MeasureT-loop
-μ-loop s from d₀ at₀ d at = length s - at
+μ-loop s from table₀ d₀ at₀ table d at = length s - at
 
 -- what is known where a line has been read
 found : (k : tie.After-line Inv-loop μ-loop)
@@ -48,7 +48,7 @@ step-requires c κs = search needs
 
 loop-less : tie.Need-loop-less Inv-loop μ-loop
 loop-less c =
-    let k = c .before .before in
+    let k = c .before .before .before in
     let a = k .before .before .before .before .before .before .args in
     let at = k .before .before .before .before in
     let l = found k in
@@ -57,7 +57,7 @@ loop-less c =
 loop-again : tie.Need-loop-again Inv-loop μ-loop
 loop-again c =
     λ o f e.
-    let k = c .before .before in
+    let k = c .before .before .before in
     let at = k .before .before .before .before in
     let s = at .before .before .args .s .now in
     let (o′, f′, e′, g) = at .loop .inv o f e in (
@@ -80,10 +80,8 @@ returns c =
     let at = k .before .before in
     let s = at .before .before .args .s .now in
     let (o′, f′, e′, g) = at .loop .inv o f e in
-    c .refused .ensures
-    ∙ ap drafted
-    (steps-bad o′ s (at .loop .at) (k .before .loop-test .taken)
-    (line-missed s (at .loop .at) _ (k .line-at .ensures) (c .before .enum-told .given .1)) ∙ g)
+    let missed = line-missed s (at .loop .at) _ (k .line-at .ensures) (c .before .enum-told .given .1) in
+    holds-none _ _ _ (steps-bad o′ s (at .loop .at) (k .before .loop-test .taken) missed ∙ g) (c .refused .ensures)
 
 returns-2 : tie.Need-returns-2 Inv-loop μ-loop
 returns-2 c =
@@ -91,7 +89,7 @@ returns-2 c =
     let at = c .before in
     let s = at .before .before .args .s .now in
     let (o′, f′, e′, g) = at .loop .inv o f e in
-    e′ ∙ ap drafted (steps-end o′ s (at .loop .at) (c .loop-test .left) ∙ g)
+    rw (← steps-end o′ s (at .loop .at) (c .loop-test .left) ∙ g) e′
 
 pub follow-spec : {M : Type 1} → statement M
 follow-spec =

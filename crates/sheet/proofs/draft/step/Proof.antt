@@ -1,7 +1,6 @@
 -- `sheet::draft::step` meets its contract. Assumes nothing.
-use mathlib.Core.Path.{_∙_}
 use borrow.Author.Tests.{not-true, not-false}
-use Rattle.sheet.proofs.DraftLaws.{step-refused, step-made, no-principals}
+use Rattle.sheet.proofs.DraftLaws.{step-refused, step-made, no-principals, sum-holds, label-holds, policy-holds, location-holds}
 use borrow.Author.Needs.{needs}
 use Rattle.sheet.proofs.draft.step.Statement.{statement}
 use Rattle.sheet.proofs.draft.step.Tie as tie
@@ -10,8 +9,7 @@ refused-requires : tie.Need-refused-requires
 refused-requires c κs = search needs
 
 returns : tie.Need-returns
-returns c =
-    λ o f e. c .refused .ensures ∙ step-refused (c .before .before .before .args .d) o e _ (not-true _ (c .before .if1 .taken))
+returns c = λ o f e. step-refused _ _ o _ _ _ (not-true _ (c .before .if1 .taken)) (c .refused .ensures) e
 
 enum-told : tie.Need-enum-told
 enum-told c = search needs
@@ -37,6 +35,15 @@ enum-known-line-2 c = search needs
 add-policy-requires : tie.Need-add-policy-requires
 add-policy-requires c κs = search needs
 
+low-requires : tie.Need-low-requires
+low-requires c κs = search needs
+
+cast-t20 : tie.Need-cast-t20
+cast-t20 c = search needs
+
+add-t21 : tie.Need-add-t21
+add-t21 c = search needs
+
 enum-known-line-3 : tie.Need-enum-known-line-3
 enum-known-line-3 c = search needs
 
@@ -45,29 +52,23 @@ add-location-requires c κs = search needs
 
 returns-2 : tie.Need-returns-2
 returns-2 c =
-    λ o f e.
-    step-made (c .before .before .before .before .before .args .d) o e _ _ _ f (not-false _ (c .before .before .before .if1 .left)) (c .before .enum-told .given .1)
-    (λ s fm k. c .refused2 .ensures ∙ no-principals s _)
+    λ o f e. step-made _ _ o _ _ _ _ (not-false _ (c .before .before .before .if1 .left)) (c .before .enum-told .given .1) f e (λ s fm k t. no-principals s _ _ _ (c .refused2 .ensures))
 
 returns-3 : tie.Need-returns-3
 returns-3 c =
-    λ o f e.
-    step-made (c .before .before .before .before .before .before .args .d) o e _ _ _ f (not-false _ (c .before .before .before .before .if1 .left)) (c .before .before .line .given .1) (c .add-sum .ensures)
+    λ o f e. step-made _ _ o _ _ _ _ (not-false _ (c .before .before .before .before .before .if1 .left)) (c .before .before .before .line .given .1) f e (λ s fm k t. sum-holds s _ t _ _ _ _ (c .add-sum .ensures))
 
 returns-4 : tie.Need-returns-4
 returns-4 c =
-    λ o f e.
-    step-made (c .before .before .before .before .before .args .d) o e _ _ _ f (not-false _ (c .before .before .before .if1 .left)) (c .before .enum-told2 .given .1) (c .add-label .ensures)
+    λ o f e. step-made _ _ o _ _ _ _ (not-false _ (c .before .before .before .before .if1 .left)) (c .before .before .enum-told2 .given .1) f e (λ s fm k t. label-holds s _ t _ _ fm (c .add-label .ensures))
 
 returns-5 : tie.Need-returns-5
 returns-5 c =
-    λ o f e.
-    step-made (c .before .before .before .before .before .before .args .d) o e _ _ _ f (not-false _ (c .before .before .before .before .if1 .left)) (c .before .before .line2 .given .1) (c .add-policy .ensures)
+    λ o f e. step-made _ _ o _ _ _ _ (not-false _ (c .before .before .before .before .before .before .if1 .left)) (c .before .before .before .before .line2 .given .1) f e (λ s fm k t. policy-holds s _ t _ _ _ _ _ fm _ k _ (c .low .ensures) (c .before .add-policy .ensures))
 
 returns-6 : tie.Need-returns-6
 returns-6 c =
-    λ o f e.
-    step-made (c .before .before .before .before .before .before .args .d) o e _ _ _ f (not-false _ (c .before .before .before .before .if1 .left)) (c .before .before .line3 .given .1) (c .add-location .ensures)
+    λ o f e. step-made _ _ o _ _ _ _ (not-false _ (c .before .before .before .before .before .if1 .left)) (c .before .before .before .line3 .given .1) f e (λ s fm k t. location-holds s _ t _ _ _ _ fm _ k (c .add-location .ensures))
 
 pub step-spec : {M : Type 1} → statement M
 step-spec =
@@ -83,6 +84,9 @@ step-spec =
     add-label-requires
     enum-known-line-2
     add-policy-requires
+    low-requires
+    cast-t20
+    add-t21
     enum-known-line-3
     add-location-requires
     returns-2

@@ -4,8 +4,9 @@ mod draft; // draft.rt: from lines to the table
 mod repeat; // repeat.rt: whether a table repeats a type or a label
 
 ghost use mathlib.Core.Path.{_≡_};
-ghost use lib.ListN.{drop};
-ghost use Rattle.sheet.specs.Sheets.{refusedBy, sheetOf, decoded};
+ghost use lib.ListN.{drop, replicate};
+ghost use Rattle.tables.specs.Tables.{tableWords};
+ghost use Rattle.sheet.specs.Sheets.{sheetOf, decoded};
 use draft::draft_of;
 use reader::Reader;
 use reader::reader_of;
@@ -19,29 +20,33 @@ pub struct Decoded {
     pub table: [u16; WORDS],
 }
 
-// The answer to a text that is refused.
-fn refused(number: u8) -> Decoded
-    ensures { λ r. ⌜ r ≡ refusedBy number ⌝ }
+// Fills a table of zeros with the sheet of a text, and answers 0, or leaves zeros and answers the number of the refusal.
+fn fill(text: &[u8], table: &mut [u16; WORDS]) -> u8
+    requires { ⌜ now table ≡ replicate tableWords 0 ⌝ }
+    ensures { λ r. ⌜ record { answer = r; table = now (table .exit) } ≡ decoded (sheetOf (now (text .entry))) ⌝ }
 {
-    Decoded {
-        answer: number,
-        table: [0u16; WORDS],
+    let d = draft_of(text, table);
+    if !d.ok {
+        *table = [0u16; WORDS];
+        return 1;
     }
+    if repeats(table) {
+        *table = [0u16; WORDS];
+        return 2;
+    }
+    0
 }
 
-// The table of a sheet's text, or the number of its refusal.
+// The table of a sheet's text, or the number of its refusal. The table is filled where it is handed back.
 fn read_text(text: &[u8]) -> Decoded
     ensures { λ r. ⌜ r ≡ decoded (sheetOf (now (text .entry))) ⌝ }
 {
-    let mut table = [0u16; WORDS];
-    let d = draft_of(text, &mut table);
-    if !d.ok {
-        return refused(1);
-    }
-    if repeats(&table) {
-        return refused(2);
-    }
-    Decoded { answer: 0, table }
+    let mut d = Decoded {
+        answer: 0,
+        table: [0u16; WORDS],
+    };
+    d.answer = fill(text, &mut d.table);
+    d
 }
 
 // The same of the text from `at` on.

@@ -2,7 +2,6 @@
 ghost use mathlib.Core.Path.{_≡_};
 ghost use Prim.Native.Nat.{_-_};
 ghost use Rattle.sheet.specs.Repeats.{sameIn, anyFrom, againIn, repeatsIn};
-use tables::WORDS;
 
 // The first type that is a sum.
 const SUMS: u32 = 3;
@@ -48,7 +47,7 @@ fn repeated(table: &[u16], labels: bool, from: u32, n: u32) -> bool
 }
 
 // Whether the table repeats a type or a label.
-pub fn repeats(table: &[u16; WORDS]) -> bool
+pub fn repeats(table: &[u16]) -> bool
     ensures { λ r. ⌜ r ≡ repeatsIn (now (table .entry)) ⌝ }
 {
     if repeated(table, false, SUMS, tables::types(table)) {

@@ -37,7 +37,7 @@ fn fill(text: &[u8], table: &mut [u16; WORDS]) -> u8
     0
 }
 
-// The table of a sheet's text, or the number of its refusal. The table is filled where it is handed back.
+// The table of a sheet's text, or the number of its refusal.
 fn read_text(text: &[u8]) -> Decoded
     ensures { λ r. ⌜ r ≡ decoded (sheetOf (now (text .entry))) ⌝ }
 {

@@ -9,7 +9,10 @@ use lib.ListN.{length, drop, length-drop, drop-of-length-le}
 use Rattle.sets.proofs.BoolLaws.{absurd-false}
 use Rattle.text.specs.Reading.{fits}
 use Rattle.text.specs.Reading.Read.{got, bad}
-use Rattle.tables.specs.Sheet.{Sheet, formed, repeats}
+use Rattle.tables.specs.Sheet.{Sheet, typeCount, labelCount, formed, repeats}
+use Rattle.tables.specs.Tables.{typesIn, labelsIn}
+use Rattle.tables.proofs.FormLaws.{formed-facts, type-count}
+use Rattle.tables.proofs.TableLaws.{types-in, labels-in}
 use Rattle.sheet.specs.declared.line.Line.{Line}
 use Rattle.sheet.specs.declared.draft.Draft.{Draft}
 use Rattle.sheet.specs.Reading.{lineOf, front, linesOf}
@@ -80,6 +83,16 @@ module _ (d : Draft) (t : List ℕ) where
   answer-malformed (some s) e h = absurd (absurd-false (sym h ∙ e .0))
 
   module _ (h : d .ok ≡ true) where
+    -- a table of a sheet of the right form has at most 32 types and 32 labels
+    pub counts-few : (o : Option Sheet) → FormedIf o → Holds o d t → (typesIn t ≤ 32) × (labelsIn t ≤ 32)
+    unfolding Holds FormedIf
+    counts-few none f e = absurd (absurd-false (sym e ∙ h))
+    counts-few (some s) f e =
+        let facts = formed-facts s f in
+        let types : typeCount s ≤ 32 = omega (arith, type-count s, facts .few-sums) in
+        let labels : labelCount s ≤ 32 = unfold labelCount in (facts .few-labels) in
+        rw (e .2, types-in s, labels-in s) (types, labels)
+
     pub answer-repeating : (o : Option Sheet) → FormedIf o → Holds o d t → repeatsIn t ≡ true → refusedBy 2 ≡ decoded (judged o)
     unfolding Holds decoded judged FormedIf
     answer-repeating none f e r = absurd (absurd-false (sym e ∙ h))

@@ -2,20 +2,24 @@
 use mathlib.Core.Path.{_≡_, refl, sym, ap, ap₂, _∙_}
 use mathlib.Core.Bool.{Bool, true, false}
 use mathlib.Core.List.{List, [], _∷_, _++_}
-use Prim.Native.Nat.{ℕ, suc, _+_, _-_, _<_, _≤_}
+use Prim.Native.Nat.{ℕ, suc, _+_, _*_, _-_, _<_, _≤_}
 use native.Mathlib.Omega.{arith}
+use native.Mathlib.Decide.{decLe}
 use lib.Dec.{eqb}
-use borrow.Author.Tests.{eq-eqb, ne-eqb}
 use lib.ListN.{length, getD, length-map}
-use Rattle.sets.specs.Sets.{both, either, everyone}
-use Rattle.labels.specs.Labels.{labelOf, bottomOf, sameOf}
+use borrow.Author.Tests.{lt-ltb}
+use Rattle.sets.specs.Sets.{both, either, every, everyone}
+use Rattle.sets.proofs.BoolLaws.{bool-ext, both-true, both-left, both-right}
+use Rattle.sets.proofs.Walks.{every-true, every-at, getD-tab}
+use Rattle.labels.specs.Labels.{owners, labelOf, bottomOf, readersOf, writersOf, sameAt, sameOf}
+use Rattle.labels.specs.Tables.{labelSize, setsAt, labelAt}
 use Rattle.labels.specs.declared.Label.{Label}
 use Rattle.tables.specs.Sheet.{Sum, Sheet, givenParts, partsOf, partsNo, labelsOf, labelNo, labelCount, formed, among, repeated, sameParts, givenSums, repeats}
-use Rattle.tables.specs.Tables.{tableOf, typesIn, labelsIn, leftIn, rightIn, labelIn}
+use Rattle.tables.specs.Tables.{tableOf, typesIn, labelsIn, entryIn, leftIn, rightIn, labelIn}
 use Rattle.tables.proofs.FormLaws.{type-count}
 use Rattle.tables.proofs.TableLaws.{types-in, labels-in, left-in, right-in}
 use Rattle.tables.proofs.LabelLaws.{label-in}
-use Rattle.sheet.specs.Repeats.{sameIn, anyFrom, againIn, repeatsIn}
+use Rattle.sheet.specs.Repeats.{sameWords, sameIn, anyFrom, againIn, repeatsIn}
 
 -- ---- the cases of a search from i to before n
 
@@ -35,17 +39,13 @@ module _ (test : ℕ → Bool) (i n : ℕ) where
 -- ---- the cases of the test and of the two searches
 
 module _ (t : List ℕ) (labels : Bool) (i j : ℕ) where
-  pub same-by-sets : labels ≡ true → sameOf (labelIn t i) (labelIn t j) ≡ sameIn t labels i j
+  pub same-labels-at : labels ≡ true → sameWords t (200 + labelSize * i) (200 + labelSize * j) labelSize ≡ sameIn t labels i j
   unfolding sameIn
-  same-by-sets e = rw e
+  same-labels-at e = rw e
 
-  pub same-by-parts : labels ≡ false → leftIn t i ≡ leftIn t j → eqb (rightIn t i) (rightIn t j) ≡ sameIn t labels i j
-  unfolding sameIn both
-  same-by-parts e h = rw (e, eq-eqb _ _ h)
-
-  pub other-parts : labels ≡ false → (leftIn t i ≡ leftIn t j → ⊥) → false ≡ sameIn t labels i j
-  unfolding sameIn both
-  other-parts e h = rw (e, ne-eqb _ _ h)
+  pub same-types-at : labels ≡ false → sameWords t (8 + 2 * i) (8 + 2 * j) 2 ≡ sameIn t labels i j
+  unfolding sameIn
+  same-types-at e = rw e
 
 module _ (t : List ℕ) where
   pub repeats-type : (n : ℕ) → n ≡ typesIn t → anyFrom (againIn t false n) 3 (n - 3) ≡ true → true ≡ repeatsIn t
@@ -90,6 +90,57 @@ module _ {A : Type 0} (same : A → A → Bool) (d : A) where
         let second : i + 1 + k ≡ i + suc k = omega arith in
         ap₂ (sameIn t labels) first second ∙ h (suc j) (suc k) (omega arith) (omega arith)))
 
+-- ---- what stands in the table of an entry that is there
+
+entry-there : (t : List ℕ) (count base i : ℕ) → i < count → entryIn t count base i ≡ getD t (base + 2 * i) 0
+unfolding entryIn
+entry-there t count base i h = rw (lt-ltb _ _ h)
+
+label-there : (t : List ℕ) (l : ℕ) → l < labelsIn t → labelIn t l ≡ labelAt t (200 + labelSize * l)
+unfolding labelIn
+label-there t l h = rw (lt-ltb _ _ h)
+
+both-yes-right : (a : Bool) → both a true ≡ a
+unfolding both
+both-yes-right true = refl
+both-yes-right false = refl
+
+-- the words of a label are its sets of readers and its sets of writers
+module _ (t : List ℕ) (a b : ℕ) where
+  readers-at : (i o : ℕ) → o < owners → readersOf (labelAt t i) o ≡ getD t (i + o) 0
+  unfolding labelAt setsAt
+  readers-at i o h = getD-tab owners _ o 0 h
+
+  writers-at : (i o : ℕ) → o < owners → writersOf (labelAt t i) o ≡ getD t (i + (owners + o)) 0
+  unfolding labelAt setsAt
+  writers-at i o h = getD-tab owners _ o 0 h ∙ ap (λ (k : ℕ). getD t k 0) (omega arith)
+
+  same-word : ℕ → Bool
+  same-word k = eqb (getD t (a + k) 0) (getD t (b + k) 0)
+
+  same-owner : (o : ℕ) → o < owners → sameAt (labelAt t a) (labelAt t b) o ≡ both (same-word o) (same-word (owners + o))
+  unfolding sameAt same-word
+  same-owner o h = rw (readers-at a o h, readers-at b o h, writers-at a o h, writers-at b o h)
+
+  label-words-same : sameWords t a b labelSize ≡ sameOf (labelAt t a) (labelAt t b)
+  unfolding sameWords sameOf same-word
+  label-words-same =
+      bool-ext (every labelSize same-word) (every owners (sameAt (labelAt t a) (labelAt t b)))
+      (λ e.
+      every-true owners _
+      (λ o l. same-owner o l ∙ both-true (every-at labelSize same-word e o (omega arith)) (every-at labelSize same-word e (owners + o) (omega arith))))
+      (λ e. every-true labelSize same-word (λ k l. word-same e k l (decLe owners k)))
+    where
+      word-same : every owners (sameAt (labelAt t a) (labelAt t b)) ≡ true → (k : ℕ) → k < labelSize → Dec (owners ≤ k) → same-word k ≡ true
+      word-same e k l (yes h) =
+          let o : ℕ = k - owners in
+          let z : owners + o ≡ k = omega arith in
+          let i : o < owners = omega arith in
+          ap same-word (sym z) ∙ both-right (same-word o) (same-word (owners + o)) (sym (same-owner o i) ∙ every-at owners _ e o i)
+      word-same e k l (no h) =
+          let i : k < owners = omega arith in
+          both-left (same-word k) (same-word (owners + k)) (sym (same-owner k i) ∙ every-at owners _ e k i)
+
 -- ---- types and labels
 
 module _ (s : Sheet) (fm : formed s ≡ true) where
@@ -101,10 +152,22 @@ module _ (s : Sheet) (fm : formed s ≡ true) where
   unfolding partsNo partsOf givenParts givenSums noParts
   sum-at j = let z : 3 + j ≡ suc (suc (suc j)) = omega arith in rw z
 
-  same-sums : (j k : ℕ) → sameIn (tableOf s) false (3 + j) (3 + k) ≡ sameParts (getD (givenSums ++ s .sums) j noParts) (getD (givenSums ++ s .sums) k noParts)
-  unfolding sameIn sameParts
-  same-sums j k =
-      rw (left-in s fm (3 + j), left-in s fm (3 + k), right-in s fm (3 + j), right-in s fm (3 + k), sum-at j, sum-at k)
+  -- a part of a type that is there
+  left-at : (i : ℕ) → i < typesIn (tableOf s) → getD (tableOf s) (8 + 2 * i + 0) 0 ≡ partsNo s i .left
+  left-at i h =
+      let z : 8 + 2 * i + 0 ≡ 8 + 2 * i = omega arith in
+      rw z (sym (entry-there (tableOf s) (typesIn (tableOf s)) 8 i h) ∙ unfold leftIn in (left-in s fm i))
+
+  right-at : (i : ℕ) → i < typesIn (tableOf s) → getD (tableOf s) (8 + 2 * i + 1) 0 ≡ partsNo s i .right
+  right-at i h =
+      let z : 8 + 2 * i + 1 ≡ 9 + 2 * i = omega arith in
+      rw z (sym (entry-there (tableOf s) (typesIn (tableOf s)) 9 i h) ∙ unfold rightIn in (right-in s fm i))
+
+  same-sums : (j k : ℕ) → 3 + j < typesIn (tableOf s) → 3 + k < typesIn (tableOf s)
+      → sameIn (tableOf s) false (3 + j) (3 + k) ≡ sameParts (getD (givenSums ++ s .sums) j noParts) (getD (givenSums ++ s .sums) k noParts)
+  unfolding sameIn sameWords sameParts every
+  same-sums j k h i =
+      rw (left-at (3 + j) h, left-at (3 + k) i, right-at (3 + j) h, right-at (3 + k) i, sum-at j, sum-at k) (ap (both _) (both-yes-right _))
 
   types-repeated : anyFrom (againIn (tableOf s) false (typesIn (tableOf s))) 3 (typesIn (tableOf s) - 3) ≡ repeated sameParts (givenSums ++ s .sums)
   types-repeated =
@@ -112,17 +175,20 @@ module _ (s : Sheet) (fm : formed s ≡ true) where
       let long : 3 + length xs ≡ typesIn (tableOf s) = unfold givenSums in (omega (arith, type-count s, types-in s)) in
       let left : typesIn (tableOf s) - 3 ≡ length xs = omega arith in
       ap (λ (k : ℕ). anyFrom (againIn (tableOf s) false (typesIn (tableOf s))) 3 k) left
-      ∙ any-repeated sameParts noParts (tableOf s) false (typesIn (tableOf s)) xs 3 long (λ j k l m. same-sums j k)
+      ∙ any-repeated sameParts noParts (tableOf s) false (typesIn (tableOf s)) xs 3 long (λ j k l m. same-sums j k (omega arith) (omega arith))
 
   noLabel : Label
   noLabel = bottomOf (everyone (s .principals))
 
-  same-labels : (j k : ℕ) → sameIn (tableOf s) true (0 + j) (0 + k) ≡ sameOf (getD (labelsOf s) j noLabel) (getD (labelsOf s) k noLabel)
+  same-labels : (j k : ℕ) → j < labelsIn (tableOf s) → k < labelsIn (tableOf s)
+      → sameIn (tableOf s) true (0 + j) (0 + k) ≡ sameOf (getD (labelsOf s) j noLabel) (getD (labelsOf s) k noLabel)
   unfolding sameIn labelNo noLabel
-  same-labels j k =
+  same-labels j k h i =
       let first : 0 + j ≡ j = omega arith in
       let second : 0 + k ≡ k = omega arith in
-      ap₂ (λ (a b : ℕ). sameOf (labelIn (tableOf s) a) (labelIn (tableOf s) b)) first second ∙ ap₂ sameOf (label-in s fm j) (label-in s fm k)
+      ap₂ (λ (a b : ℕ). sameWords (tableOf s) (200 + labelSize * a) (200 + labelSize * b) labelSize) first second
+      ∙ label-words-same (tableOf s) (200 + labelSize * j) (200 + labelSize * k)
+      ∙ ap₂ sameOf (sym (label-there (tableOf s) j h) ∙ label-in s fm j) (sym (label-there (tableOf s) k i) ∙ label-in s fm k)
 
   labels-repeated : anyFrom (againIn (tableOf s) true (labelsIn (tableOf s))) 0 (labelsIn (tableOf s) - 0) ≡ repeated sameOf (labelsOf s)
   labels-repeated =
@@ -130,7 +196,7 @@ module _ (s : Sheet) (fm : formed s ≡ true) where
       unfold labelsOf labelCount in (omega (arith, length-map (s .labels) (labelOf (s .principals)), labels-in s)) in
       let left : labelsIn (tableOf s) - 0 ≡ length (labelsOf s) = omega arith in
       ap (λ (k : ℕ). anyFrom (againIn (tableOf s) true (labelsIn (tableOf s))) 0 k) left
-      ∙ any-repeated sameOf noLabel (tableOf s) true (labelsIn (tableOf s)) (labelsOf s) 0 long (λ j k l m. same-labels j k)
+      ∙ any-repeated sameOf noLabel (tableOf s) true (labelsIn (tableOf s)) (labelsOf s) 0 long (λ j k l m. same-labels j k (omega arith) (omega arith))
 
   pub repeats-in : repeatsIn (tableOf s) ≡ repeats s
   unfolding repeatsIn repeats

@@ -1,16 +1,25 @@
 -- What the code looks for to find a repeat in a table.
 use mathlib.Core.Bool.{Bool, true, false}
 use mathlib.Core.List.{List}
-use Prim.Native.Nat.{ℕ, zero, suc, _+_, _-_}
+use Prim.Native.Nat.{ℕ, zero, suc, _+_, _*_, _-_}
 use lib.Dec.{eqb}
-use Rattle.sets.specs.Sets.{both, either}
-use Rattle.labels.specs.Labels.{sameOf}
-use Rattle.tables.specs.Tables.{typesIn, labelsIn, leftIn, rightIn, labelIn}
+use lib.ListN.{getD}
+use Rattle.sets.specs.Sets.{every, either}
+use Rattle.labels.specs.Tables.{labelSize}
+use Rattle.tables.specs.Tables.{partsBase, labelsBase, typesIn, labelsIn}
+
+-- the most types, and the most labels, that a table has room for
+abbrev pub mostIn : ℕ
+mostIn = 32
+
+-- the n words from a on are those from b on
+unfoldable pub sameWords : List ℕ → ℕ → ℕ → ℕ → Bool
+sameWords t a b n = every n (λ (k : ℕ). eqb (getD t (a + k) 0) (getD t (b + k) 0))
 
 -- two labels have the same sets, or otherwise two types the same parts
 unfoldable pub sameIn : List ℕ → Bool → ℕ → ℕ → Bool
-sameIn t true i j = sameOf (labelIn t i) (labelIn t j)
-sameIn t false i j = both (eqb (leftIn t i) (leftIn t j)) (eqb (rightIn t i) (rightIn t j))
+sameIn t true i j = sameWords t (labelsBase + labelSize * i) (labelsBase + labelSize * j) labelSize
+sameIn t false i j = sameWords t (partsBase + 2 * i) (partsBase + 2 * j) 2
 
 -- the test passes at one of k numbers from i on
 unfoldable pub anyFrom : (ℕ → Bool) → ℕ → ℕ → Bool

@@ -1,29 +1,45 @@
 // Whether a table repeats a type or a label.
 ghost use mathlib.Core.Path.{_≡_};
-ghost use Prim.Native.Nat.{_-_};
-ghost use Rattle.sheet.specs.Repeats.{sameIn, anyFrom, againIn, repeatsIn};
+ghost use Prim.Native.Nat.{_+_, _-_, _<_, _≤_};
+ghost use Rattle.tables.specs.Tables.{tableWords, typesIn, labelsIn};
+ghost use Rattle.sheet.specs.Repeats.{mostIn, sameWords, sameIn, anyFrom, againIn, repeatsIn};
+use labels::LABEL_SIZE;
+use tables::LABELS;
+use tables::PARTS;
+use tables::WORDS;
 
 // The first type that is a sum.
 const SUMS: u32 = 3;
 
+// Whether the n words from a on are those from b on.
+fn same_words(table: &[u16; WORDS], a: usize, b: usize, n: usize) -> bool
+    requires { ⌜ (a + n ≤ tableWords) × (b + n ≤ tableWords) ⌝ }
+    ensures { λ r. ⌜ r ≡ sameWords (now (table .entry)) a b n ⌝ }
+{
+    for k in 0..n {
+        if table[a + k] != table[b + k] {
+            return false;
+        }
+    }
+    true
+}
+
 // Whether two types have the same parts, or two labels the same sets.
-fn same(table: &[u16], labels: bool, i: u32, j: u32) -> bool
+fn same(table: &[u16; WORDS], labels: bool, i: u32, j: u32) -> bool
+    requires { ⌜ (i < mostIn) × (j < mostIn) ⌝ }
     ensures { λ r. ⌜ r ≡ sameIn (now (table .entry)) labels i j ⌝ }
 {
     if labels {
-        let a = tables::label_of(table, i);
-        let b = tables::label_of(table, j);
-        return a.same(b);
+        let a = LABELS + LABEL_SIZE * (i as usize);
+        let b = LABELS + LABEL_SIZE * (j as usize);
+        return same_words(table, a, b, LABEL_SIZE);
     }
-    if tables::left_part(table, i) == tables::left_part(table, j) {
-        tables::right_part(table, i) == tables::right_part(table, j)
-    } else {
-        false
-    }
+    same_words(table, (PARTS + 2 * i) as usize, (PARTS + 2 * j) as usize, 2)
 }
 
 // Whether one of those from `from` to before n is the same as the one at i.
-fn again(table: &[u16], labels: bool, i: u32, from: u32, n: u32) -> bool
+fn again(table: &[u16; WORDS], labels: bool, i: u32, from: u32, n: u32) -> bool
+    requires { ⌜ (i < mostIn) × (n ≤ mostIn) ⌝ }
     ensures { λ r. ⌜ r ≡ anyFrom (sameIn (now (table .entry)) labels i) from (n - from) ⌝ }
 {
     for j in from..n {
@@ -35,7 +51,8 @@ fn again(table: &[u16], labels: bool, i: u32, from: u32, n: u32) -> bool
 }
 
 // Whether one of those from `from` to before n comes again before n.
-fn repeated(table: &[u16], labels: bool, from: u32, n: u32) -> bool
+fn repeated(table: &[u16; WORDS], labels: bool, from: u32, n: u32) -> bool
+    requires { ⌜ n ≤ mostIn ⌝ }
     ensures { λ r. ⌜ r ≡ anyFrom (againIn (now (table .entry)) labels n) from (n - from) ⌝ }
 {
     for i in from..n {
@@ -47,7 +64,8 @@ fn repeated(table: &[u16], labels: bool, from: u32, n: u32) -> bool
 }
 
 // Whether the table repeats a type or a label.
-pub fn repeats(table: &[u16]) -> bool
+pub fn repeats(table: &[u16; WORDS]) -> bool
+    requires { ⌜ (typesIn (now table) ≤ mostIn) × (labelsIn (now table) ≤ mostIn) ⌝ }
     ensures { λ r. ⌜ r ≡ repeatsIn (now (table .entry)) ⌝ }
 {
     if repeated(table, false, SUMS, tables::types(table)) {

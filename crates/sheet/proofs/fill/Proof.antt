@@ -2,7 +2,7 @@
 use mathlib.Core.Path.{sym, _∙_}
 use borrow.Author.Tests.{not-true, not-false}
 use Rattle.sheet.specs.Sheets.{sheetOf, refusedBy}
-use Rattle.sheet.proofs.ReadLaws.{formed-read, answer-malformed, answer-repeating, answer-accepted}
+use Rattle.sheet.proofs.ReadLaws.{formed-read, counts-few, answer-malformed, answer-repeating, answer-accepted}
 use borrow.Author.Needs.{needs}
 use Rattle.sheet.proofs.fill.Statement.{statement}
 use Rattle.sheet.proofs.fill.Tie as tie
@@ -15,17 +15,17 @@ unfolding sheetOf refusedBy
 returns c = answer-malformed _ _ _ (c .before .before .before .draft-of .ensures) (not-true _ (c .before .if1 .taken))
 
 repeats-requires : tie.Need-repeats-requires
-repeats-requires c κs = search needs
+repeats-requires c κs = counts-few _ _ (not-false _ (c .before .if1 .left)) _ (formed-read _) (c .before .before .before .draft-of .ensures)
 
 returns-2 : tie.Need-returns-2
 unfolding sheetOf refusedBy
 returns-2 c =
-    answer-repeating _ _ (not-false _ (c .before .before .before .before .before .if1 .left)) _ (formed-read _) (c .before .before .before .before .before .before .before .draft-of .ensures) (sym (c .before .before .repeats .ensures) ∙ c .before .if2 .taken)
+    answer-repeating _ _ (not-false _ (c .before .before .before .before .if1 .left)) _ (formed-read _) (c .before .before .before .before .before .before .draft-of .ensures) (sym (c .before .before .repeats .ensures) ∙ c .before .if2 .taken)
 
 returns-3 : tie.Need-returns-3
 unfolding sheetOf
 returns-3 c =
-    answer-accepted _ _ (not-false _ (c .before .before .before .before .if1 .left)) _ (formed-read _) (c .before .before .before .before .before .before .draft-of .ensures) (sym (c .before .repeats .ensures) ∙ c .if2 .left)
+    answer-accepted _ _ (not-false _ (c .before .before .before .if1 .left)) _ (formed-read _) (c .before .before .before .before .before .draft-of .ensures) (sym (c .before .repeats .ensures) ∙ c .if2 .left)
 
 pub fill-spec : {M : Type 1} → statement M
 fill-spec = tie.close (tie.spec draft-of-requires returns repeats-requires returns-2 returns-3)

@@ -23,7 +23,7 @@ same-requires c κs = search needs
 returns : tie.Need-returns Inv-loop μ-loop
 returns c =
     let at = c .before .before .before in
-    let a = at .before .before .args in
+    let a = at .before .args in
     sym (any-here (sameIn (a .table .now) (a .labels) (a .i)) (at .loop .j) (a .n) (c .before .before .loop-test .taken) (sym (c .before .same .ensures) ∙ c .if1 .taken)) ∙ at .loop .inv
 
 add-j : tie.Need-add-j Inv-loop μ-loop
@@ -35,13 +35,13 @@ loop-less c = omega arith
 loop-again : tie.Need-loop-again Inv-loop μ-loop
 loop-again c =
     let at = c .before .before .before in
-    let a = at .before .before .args in
+    let a = at .before .args in
     sym (any-on (sameIn (a .table .now) (a .labels) (a .i)) (at .loop .j) (a .n) (c .before .before .loop-test .taken) (sym (c .before .same .ensures) ∙ c .if1 .left)) ∙ at .loop .inv
 
 returns-2 : tie.Need-returns-2 Inv-loop μ-loop
 returns-2 c =
     let at = c .before in
-    let a = at .before .before .args in
+    let a = at .before .args in
     sym (any-end (sameIn (a .table .now) (a .labels) (a .i)) (at .loop .j) (a .n) (c .loop-test .left)) ∙ at .loop .inv
 
 pub again-spec : {M : Type 1} → statement M

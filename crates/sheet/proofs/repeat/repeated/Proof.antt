@@ -27,7 +27,7 @@ returns : tie.Need-returns Inv-loop μ-loop
 unfolding againIn
 returns c =
     let at = c .before .before .before in
-    let a = at .before .before .args in
+    let a = at .before .args in
     sym (any-here (againIn (a .table .now) (a .labels) (a .n)) (at .loop .i) (a .n) (c .before .before .loop-test .taken) (sym (c .before .again .ensures) ∙ c .if1 .taken)) ∙ at .loop .inv
 
 add-i : tie.Need-add-i Inv-loop μ-loop
@@ -40,13 +40,13 @@ loop-again : tie.Need-loop-again Inv-loop μ-loop
 unfolding againIn
 loop-again c =
     let at = c .before .before .before in
-    let a = at .before .before .args in
+    let a = at .before .args in
     sym (any-on (againIn (a .table .now) (a .labels) (a .n)) (at .loop .i) (a .n) (c .before .before .loop-test .taken) (sym (c .before .again .ensures) ∙ c .if1 .left)) ∙ at .loop .inv
 
 returns-2 : tie.Need-returns-2 Inv-loop μ-loop
 returns-2 c =
     let at = c .before in
-    let a = at .before .before .args in
+    let a = at .before .args in
     sym (any-end (againIn (a .table .now) (a .labels) (a .n)) (at .loop .i) (a .n) (c .loop-test .left)) ∙ at .loop .inv
 
 pub repeated-spec : {M : Type 1} → statement M

@@ -74,7 +74,15 @@ fn wide(n: u16) -> u32
     n as u32
 }
 
-// Each function below stores what a line adds to the table, if the line may come next, and answers whether it may.
+// Stores label l.
+fn set_label(table: &mut [u16; WORDS], l: u32, label: Label)
+    ensures { λ _. ⌜ now (table .exit) ≡ labelPut (now (table .entry)) (labelsBase + labelSize * l) label ⌝ }
+{
+    put_label(table, tables::LABELS + LABEL_SIZE * (l as usize), label);
+}
+
+// Each function from here to `begin` that takes a table to change stores what a line adds to it, if the line may come next, and
+// answers whether it may.
 
 // The number of principals, and what every sheet has.
 fn set_principals(table: &mut [u16; WORDS], n: u32) -> bool
@@ -150,13 +158,6 @@ fn add_location(table: &mut [u16; WORDS], ty: u32, label: u32) -> bool
         ty,
         label,
     )
-}
-
-// Stores label l.
-fn set_label(table: &mut [u16; WORDS], l: u32, label: Label)
-    ensures { λ _. ⌜ now (table .exit) ≡ labelPut (now (table .entry)) (labelsBase + labelSize * l) label ⌝ }
-{
-    put_label(table, tables::LABELS + LABEL_SIZE * (l as usize), label);
 }
 
 // Whether a label may come next: before any location.
@@ -267,7 +268,7 @@ fn follow(s: &[u8], from: usize, first: Draft, table: &mut [u16; WORDS]) -> Draf
 }
 
 // The sheet of a text, from a table of zeros.
-pub fn draft_of(s: &[u8], table: &mut [u16; WORDS]) -> Draft
+pub(crate) fn draft_of(s: &[u8], table: &mut [u16; WORDS]) -> Draft
     requires { ⌜ now table ≡ replicate tableWords 0 ⌝ }
     ensures { λ r. ⌜ Holds (sheetIn (now (s .entry))) r (now (table .exit)) ⌝ }
 {

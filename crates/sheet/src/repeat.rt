@@ -1,4 +1,4 @@
-// Whether a table repeats a type or a label.
+// Whether a table repeats a type or a label. Those that are the same have the same words.
 ghost use mathlib.Core.Path.{_≡_};
 ghost use Prim.Native.Nat.{_+_, _-_, _<_, _≤_};
 ghost use Rattle.tables.specs.Tables.{tableWords, typesIn, labelsIn};
@@ -64,7 +64,7 @@ fn repeated(table: &[u16; WORDS], labels: bool, from: u32, n: u32) -> bool
 }
 
 // Whether the table repeats a type or a label.
-pub fn repeats(table: &[u16; WORDS]) -> bool
+pub(crate) fn repeats(table: &[u16; WORDS]) -> bool
     requires { ⌜ (typesIn (now table) ≤ mostIn) × (labelsIn (now table) ≤ mostIn) ⌝ }
     ensures { λ r. ⌜ r ≡ repeatsIn (now (table .entry)) ⌝ }
 {

@@ -3,23 +3,23 @@ use mathlib.Core.Path.{_≡_, refl, sym, ap, _∙_}
 use mathlib.Core.Bool.{true, false}
 use mathlib.Core.List.{List, [], _∷_, _++_, append-assoc}
 use mathlib.Core.Option.{Option, none, some}
-use Prim.Native.Nat.{ℕ, zero, suc, _+_, _*_, _-_, _≤_, _<_}
+use Prim.Native.Nat.{ℕ, suc, _+_, _*_, _-_, _≤_, _<_}
 use native.Mathlib.Omega.{arith}
-use lib.ListN.{length, drop, getD, set, replicate, length-append, drop-of-length-le}
+use lib.ListN.{length, drop, set, replicate, length-append}
 use lib.Seq.{set-at}
 use Rattle.text.specs.Reading.{fits}
-use Rattle.text.specs.Reading.Read.{bad}
-use Rattle.text.proofs.Readings.{drop-step}
+use Rattle.text.specs.Lines.{front, linesUpTo}
+use Rattle.text.proofs.Lines.{lines-at-end, lines-at-full, lines-at-bad, lines-at-more, lines-exact}
 use Rattle.lines.specs.Lines.{Line, l-skip, l-seq, l-assign, l-while, l-case, l-int, l-loc, l-var, l-plus, l-left, l-right, l-pack, l-unpack}
 use Rattle.lines.specs.Code.{lineWords, code}
 use Rattle.tables.specs.Tables.{padded}
 use Rattle.script.specs.declared.Found.{Found}
 use Rattle.script.specs.declared.Found.the-variants as found
 use Rattle.script.specs.declared.Script.{Script}
-use Rattle.script.specs.Reading.{lineOf, front, linesUpTo, linesOf, maxLines}
+use Rattle.script.specs.Reading.{lineOf, linesOf, maxLines}
 use Rattle.script.specs.Script.{codeWords, noCode, coded, codedLines}
 use Rattle.script.specs.Scan.{rowOf, foundIn}
-use Rattle.script.proofs.LineLaws.{lines-sound, lines-end, lines-full, lines-more, lines-bad}
+use Rattle.script.proofs.LineLaws.{script-lines}
 use Rattle.script.proofs.FoundLaws.{found-at, found-none}
 
 -- ---- three words a line
@@ -103,38 +103,32 @@ tabled-front n w l none = refl
 tabled-front n w l (some ls) = refl
 
 module _ (n : ℕ) (w : List ℕ) (s : List ℕ) (at : ℕ) where
-  pub table-done : length s ≤ at → tabled n w (linesUpTo (maxLines - n) (drop at s)) ≡ record { count = n; code = w }
+  pub table-done : length s ≤ at → tabled n w (linesUpTo lineOf (maxLines - n) (drop at s)) ≡ record { count = n; code = w }
   unfolding tabled filled
-  table-done h = rw (drop-of-length-le s h, lines-end)
+  table-done h = rw (lines-at-end lineOf maxLines n s at h)
 
-  pub table-full : at < length s → maxLines ≤ n → tabled n w (linesUpTo (maxLines - n) (drop at s)) ≡ noCode
+  pub table-full : at < length s → maxLines ≤ n → tabled n w (linesUpTo lineOf (maxLines - n) (drop at s)) ≡ noCode
   unfolding tabled
-  table-full h l =
-      let z : maxLines - n ≡ zero = omega arith in
-      rw (z, drop-step s at h, lines-full)
+  table-full h l = rw (lines-at-full lineOf maxLines n s at h l)
 
   module _ (h : at < length s) (l : n < maxLines) (r : Found) (e : r ≡ foundIn s (lineOf (drop at s))) where
-    pub table-bad : r ≡ found.Bad → tabled n w (linesUpTo (maxLines - n) (drop at s)) ≡ noCode
+    pub table-bad : r ≡ found.Bad → tabled n w (linesUpTo lineOf (maxLines - n) (drop at s)) ≡ noCode
     unfolding tabled
-    table-bad g =
-        let z : maxLines - n ≡ suc (maxLines - (n + 1)) = omega arith in
-        let b : lineOf (getD s at 0 ∷ drop (at + 1) s) ≡ bad = rw (drop-step s at h) at (found-none s at r e g) in
-        rw (z, drop-step s at h, lines-bad _ _ _ b)
+    table-bad g = rw (lines-at-bad lineOf maxLines n s at l h (found-none s at r e g))
 
     pub table-more : (k a b p : ℕ) → r ≡ found.At k a b p
-        → (p ≤ length s) × (tabled n w (linesUpTo (maxLines - n) (drop at s)) ≡ tabled (n + 1) (put w n k a b) (linesUpTo (maxLines - (n + 1)) (drop p s)))
+        → (p ≤ length s) × (tabled n w (linesUpTo lineOf (maxLines - n) (drop at s)) ≡ tabled (n + 1) (put w n k a b) (linesUpTo lineOf (maxLines - (n + 1)) (drop p s)))
     table-more k a b p g =
         found-at s at r e k a b p g (λ x y i f1 f2 f3.
-        let z : maxLines - n ≡ suc (maxLines - (n + 1)) = omega arith in
-        (i, rw (z, lines-more (maxLines - (n + 1)) (drop at s) x (drop p s) y, tabled-front, f1, f2, f3)))
+        (i, rw (lines-at-more lineOf maxLines n s at l (script-lines .no-end) x p y, tabled-front, f1, f2, f3)))
 
-pub decode-start : (s : List ℕ) → fits s ≡ true → tabled 0 (replicate codeWords 0) (linesUpTo maxLines s) ≡ codedLines (linesOf s)
+pub decode-start : (s : List ℕ) → fits s ≡ true → tabled 0 (replicate codeWords 0) (linesUpTo lineOf maxLines s) ≡ codedLines (linesOf s)
 unfolding linesOf tabled codedLines
-decode-start s h = rw h (go (linesUpTo maxLines s) refl)
+decode-start s h = rw h (go (linesUpTo lineOf maxLines s) refl)
   where
-    go : (o : Option (List Line)) → linesUpTo maxLines s ≡ o → tabled 0 (replicate codeWords 0) o ≡ codedLines o
+    go : (o : Option (List Line)) → linesUpTo lineOf maxLines s ≡ o → tabled 0 (replicate codeWords 0) o ≡ codedLines o
     go none e = refl
-    go (some ls) e = coded-filled ls (lines-sound maxLines s ls e .1)
+    go (some ls) e = coded-filled ls (lines-exact script-lines maxLines s ls .0 e .2)
 
 pub decode-long : (s : List ℕ) → fits s ≡ false → codedLines (linesOf s) ≡ noCode
 unfolding linesOf codedLines

@@ -7,11 +7,12 @@ use Prim.Native.Nat.{ℕ, zero, suc}
 use Rattle.text.specs.Reading.{andThen, byte, fits}
 use Rattle.text.specs.Number.{digit, digits, opensDigit, number, decimal, decimalOn}
 use Rattle.text.specs.Field.{numberField, lastNumber}
+use Rattle.text.specs.Lines.{front, onward, linesUpTo, printLines}
 use Rattle.language.specs.Syntax.{both, loc, var, unpack, Cmd, skip, assign, case}
 use Rattle.lines.specs.Lines.{cmdLines, exprLines}
 use Rattle.lines.specs.Names.{Counts, named, namedE}
 use Rattle.script.specs.Bytes.{lineBytes, scriptBytes}
-use Rattle.script.specs.Reading.{formOf, operandsOf, lineOf, front, onward, linesUpTo, linesOf}
+use Rattle.script.specs.Reading.{formOf, operandsOf, lineOf, linesOf}
 use Rattle.script.specs.Parse.{popE, popC, onStack, pushOn, stackOf, single, parse}
 use Rattle.script.specs.Script.{namedOnly, commandOf, commandIn, scriptOf}
 
@@ -28,7 +29,7 @@ unfolding andThen byte fits digit digits opensDigit number both named namedE num
 opened-read = refl
 
 opened-printed : scriptBytes (cmdLines (case (loc 2) (assign 3 (unpack 5 2 (var 0))) skip) []) ≡ opened
-unfolding decimal decimalOn lineBytes scriptBytes cmdLines exprLines
+unfolding decimal decimalOn lineBytes printLines cmdLines exprLines
 opened-printed = refl
 
 -- no text; two commands; a variable outside its binding; a location that is not there; no byte 10 at the end; a byte 13

@@ -1,6 +1,6 @@
 -- From the answers of the line reader back to what was read, and from a reading to its answer. Assumes nothing.
-use mathlib.Core.Path.{_≡_, refl, sym, ap, _∙_}
-use mathlib.Core.List.{List, [], _++_, append-assoc}
+use mathlib.Core.Path.{_≡_, sym, ap, _∙_}
+use mathlib.Core.List.{List}
 use Prim.Native.Nat.{ℕ, _+_, _≤_, _<_}
 use native.Mathlib.Omega.{arith}
 use lib.ListN.{length, getD, drop, drop-of-length-le}
@@ -14,17 +14,17 @@ use Rattle.text.specs.declared.Value.{Value}
 use Rattle.text.specs.declared.Value.the-variants as value
 use Rattle.text.specs.declared.Place.{Place}
 use Rattle.text.specs.declared.Place.the-variants as place
-use Rattle.text.proofs.Readings.{drop-step, andThen-got, andThen-bad, ends-print}
-use Rattle.text.proofs.Places.{Within, placed-got, placed-bad, placed-split}
+use Rattle.text.proofs.Readings.{drop-step, andThen-got, andThen-bad}
+use Rattle.text.proofs.Places.{placed-got, placed-bad, placed-split}
 use Rattle.text.proofs.Fields.{byte-at, byte-bad, number-field-at, number-field-bad, last-number-at, last-number-bad}
+use Rattle.text.proofs.Lines.{line-within}
 use Rattle.lines.specs.declared.Row.{Row}
-use Rattle.lines.specs.Lines.{Line, l-skip, l-seq, l-assign, l-while, l-case, l-int, l-loc, l-var, l-plus, l-left, l-right, l-pack, l-unpack}
+use Rattle.lines.specs.Lines.{Line}
 use Rattle.script.specs.declared.Found.{Found}
 use Rattle.script.specs.declared.Found.the-variants as found
-use Rattle.script.specs.Bytes.{lineBytes}
 use Rattle.script.specs.Reading.{Form, bare, one, two, other, formOf, operandsOf, lineOf}
 use Rattle.script.specs.Scan.{rowOf, foundIn}
-use Rattle.script.proofs.LineLaws.{line-sound}
+use Rattle.script.proofs.LineLaws.{script-lines}
 
 -- the answer to a line that was read
 found-got : (s : List ℕ) (want : Read Line) (l : Line) (k a b p : ℕ) → rowOf l ≡ record { kind = k; a = a; b = b }
@@ -123,35 +123,15 @@ module _ (s : List ℕ) (i : ℕ) where
 
 -- ---- what an answer says
 
--- a line's bytes come before what follows it
-line-before : (l : Line) (u : List ℕ) → lineBytes l u ≡ lineBytes l [] ++ u
-unfolding lineBytes
-line-before l-skip u = refl
-line-before l-seq u = refl
-line-before (l-assign x) u = simp append-assoc
-line-before l-while u = refl
-line-before l-case u = refl
-line-before (l-int n) u = simp append-assoc
-line-before (l-loc x) u = simp append-assoc
-line-before (l-var d) u = simp append-assoc
-line-before l-plus u = refl
-line-before (l-left t) u = simp append-assoc
-line-before (l-right t) u = simp append-assoc
-line-before (l-pack l) u = simp append-assoc
-line-before (l-unpack t l) u = simp append-assoc
-
-line-within : (t : List ℕ) → Within t (lineOf t)
-line-within t l u e = ends-print t (lineBytes l []) u (line-sound t l u e ∙ line-before l u)
-
 module _ (s : List ℕ) (i : ℕ) (r : Found) (e : r ≡ foundIn s (lineOf (drop i s))) where
   pub found-at : {P : Type 0} (k a b p : ℕ) → r ≡ found.At k a b p
       → ((l : Line) → lineOf (drop i s) ≡ got l (drop p s) → p ≤ length s → rowOf l .kind ≡ k → rowOf l .a ≡ a → rowOf l .b ≡ b → P) → P
   found-at k a b p g f =
-      placed-split (λ l p. found.At (rowOf l .kind) (rowOf l .a) (rowOf l .b) p) found.Bad s i _ r (line-within (drop i s)) e
+      placed-split (λ l p. found.At (rowOf l .kind) (rowOf l .a) (rowOf l .b) p) found.Bad s i _ r (line-within script-lines (drop i s)) e
       (λ l q x h y. let z : q ≡ p = cc in f l (rw z at x) (rw z at h) (cc) (cc) (cc))
       (λ x y. let z : _≡_ {A = ℕ} 0 1 = cc in absurd (omega arith))
 
   pub found-none : r ≡ found.Bad → lineOf (drop i s) ≡ bad
   found-none g =
-      placed-split (λ l p. found.At (rowOf l .kind) (rowOf l .a) (rowOf l .b) p) found.Bad s i _ r (line-within (drop i s)) e
+      placed-split (λ l p. found.At (rowOf l .kind) (rowOf l .a) (rowOf l .b) p) found.Bad s i _ r (line-within script-lines (drop i s)) e
       (λ l q x h y. let z : _≡_ {A = ℕ} 0 1 = cc in absurd (omega arith)) (λ x y. x)

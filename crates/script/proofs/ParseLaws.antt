@@ -3,11 +3,11 @@ use mathlib.Core.Path.{_≡_, refl, ap, _∙_}
 use mathlib.Core.List.{List, [], _∷_}
 use mathlib.Core.Option.{Option, none, some}
 use Prim.Native.Nat.{ℕ}
+use Rattle.text.proofs.Cases.{not-none, some-same}
 use Rattle.language.specs.Syntax.{Expr, plus, left, right, pack, unpack, Cmd, seq, assign, while, case}
 use Rattle.lines.specs.Lines.{Line, l-skip, l-seq, l-assign, l-while, l-case, l-int, l-loc, l-var, l-plus, l-left, l-right, l-pack, l-unpack, SourceE, s-int, s-loc, s-var, s-plus, s-left, s-right, s-pack, s-unpack, Source, s-skip, s-seq, s-assign, s-while, s-case, numberOf, exprLines, cmdLines}
 use Rattle.script.specs.Parse.{Tree, ex, cm, Stack, popE, popC, onStack, pushOn, stackOf, single, parse}
 use Rattle.script.specs.Theorems.{ParseExact}
-use Rattle.script.proofs.LineLaws.{not-none, some-same}
 
 -- ---- the lines of a tree leave the tree on the stack
 

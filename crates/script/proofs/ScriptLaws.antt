@@ -10,7 +10,9 @@ use lib.ListN.{length}
 use borrow.Author.Tests.{ltb-true, leb-true, le-leb}
 use Rattle.text.specs.Reading.{fits, limit}
 use Rattle.text.specs.Number.{most}
-use Rattle.text.proofs.Cases.{cond-split}
+use Rattle.text.specs.Lines.{none-left, and-then}
+use Rattle.text.proofs.Cases.{cond-split, not-none, some-same}
+use Rattle.text.proofs.Lines.{lines-exact}
 use Rattle.language.specs.Syntax.{Expr, Cmd}
 use Rattle.language.proofs.Booleans.{both-left, both-right}
 use Rattle.lines.specs.Lines.{Line, l-skip, l-seq, l-assign, l-while, l-case, l-int, l-loc, l-var, l-plus, l-left, l-right, l-pack, l-unpack, SourceE, s-int, s-loc, s-var, s-plus, s-left, s-right, s-pack, s-unpack, Source, s-skip, s-seq, s-assign, s-while, s-case, numberOf, exprLines, cmdLines}
@@ -25,7 +27,7 @@ use Rattle.script.specs.Parse.{stackOf, single, parse}
 use Rattle.script.specs.Script.{countsOf, countsIn, namedOnly, commandOf, commandIn, scriptOf}
 use Rattle.script.specs.Scan.{rowOf}
 use Rattle.script.specs.Theorems.{IsScript, ScriptExact}
-use Rattle.script.proofs.LineLaws.{not-none, some-same, AllFit, none-left, and-then, lines-sound, lines-print}
+use Rattle.script.proofs.LineLaws.{AllFit, script-lines}
 use Rattle.script.proofs.ParseLaws.{parse-sound, parse-lines}
 
 -- ---- the operands of a command that names what is there are of 32 bits
@@ -105,12 +107,12 @@ pub linesOf-sound : (t : List ℕ) (ls : List Line) → linesOf t ≡ some ls �
 unfolding linesOf fits
 linesOf-sound t ls e =
     cond-split (leb (length t) limit) _ _ _
-    (λ f x. let r = lines-sound maxLines t ls x in (r .0, r .1, leb-true _ _ f))
+    (λ f x. let r = lines-exact script-lines maxLines t ls .0 x in (r .0, r .2, leb-true _ _ f))
     (λ f x. not-none ls x) e
 
 pub linesOf-print : (ls : List Line) → AllFit ls → length ls ≤ maxLines → length (scriptBytes ls) ≤ limit → linesOf (scriptBytes ls) ≡ some ls
 unfolding linesOf fits
-linesOf-print ls f h l = rw (le-leb _ _ l) (lines-print maxLines ls f h)
+linesOf-print ls f h l = rw (le-leb _ _ l) (lines-exact script-lines maxLines _ ls .1 (refl, f, h))
 
 -- what a text that is read is
 pub script-sound : (k : Counts) (t : List ℕ) (c : Cmd) → scriptOf k t ≡ some c → IsScript k t c

@@ -1,7 +1,8 @@
 -- The printed form of a script: on each line the byte of its kind, then its operands, each after a tab, then byte 10.
-use mathlib.Core.List.{List, [], _∷_}
+use mathlib.Core.List.{List, _∷_}
 use Prim.Native.Nat.{ℕ}
 use Rattle.text.specs.Field.{printNumberField, printLineEnd}
+use Rattle.text.specs.Lines.{printLines}
 use Rattle.lines.specs.Lines.{Line, l-skip, l-seq, l-assign, l-while, l-case, l-int, l-loc, l-var, l-plus, l-left, l-right, l-pack, l-unpack}
 
 -- The bytes of a line, then rest. The kinds are s ; = w c i x v + l r k u.
@@ -21,6 +22,5 @@ lineBytes (l-pack l) rest = 107 ∷ printNumberField l (printLineEnd rest)
 lineBytes (l-unpack t l) rest = 117 ∷ printNumberField t (printNumberField l (printLineEnd rest))
 
 -- the bytes of a script's lines
-unfoldable pub scriptBytes : List Line → List ℕ
-scriptBytes [] = []
-scriptBytes (l ∷ ls) = lineBytes l (scriptBytes ls)
+abbrev pub scriptBytes : List Line → List ℕ
+scriptBytes ls = printLines lineBytes ls

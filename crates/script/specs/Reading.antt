@@ -1,13 +1,14 @@
 -- How a script's text is read into lines: "The first field decides among thirteen kinds of line."
 use mathlib.Core.Bool.{cond}
 use mathlib.Core.List.{List, [], _∷_}
-use mathlib.Core.Option.{Option, none, some}
-use Prim.Native.Nat.{ℕ, zero, suc}
+use mathlib.Core.Option.{Option, none}
+use Prim.Native.Nat.{ℕ}
 use lib.Dec.{eqb}
 use Rattle.text.specs.Reading.{Read, andThen, fits}
 use Rattle.text.specs.Reading.Read.{got, bad}
 use Rattle.text.specs.Number.{most}
 use Rattle.text.specs.Field.{numberField, lineEnd, lastNumber}
+use Rattle.text.specs.Lines.{linesUpTo}
 use Rattle.lines.specs.Lines.{Line, l-skip, l-seq, l-assign, l-while, l-case, l-int, l-loc, l-var, l-plus, l-left, l-right, l-pack, l-unpack}
 
 -- The form of a kind of line: no operand, one or two numbers; or there is no such kind.
@@ -46,26 +47,10 @@ unfoldable pub lineOf : List ℕ → Read Line
 lineOf [] = bad
 lineOf (b ∷ t) = operandsOf (formOf b) t
 
--- a line before others
-unfoldable pub front : Line → Option (List Line) → Option (List Line)
-front l none = none
-front l (some ls) = some (l ∷ ls)
-
-unfoldable pub onward : Read Line → (List ℕ → Option (List Line)) → Option (List Line)
-onward (got l t) f = front l (f t)
-onward bad f = none
-
--- the lines of a whole text, if there are at most k
-unfoldable pub linesUpTo : ℕ → List ℕ → Option (List Line)
-linesUpTo zero [] = some []
-linesUpTo zero (b ∷ t) = none
-linesUpTo (suc k) [] = some []
-linesUpTo (suc k) (b ∷ t) = onward (lineOf (b ∷ t)) (λ u. linesUpTo k u)
-
 -- a script has at most this many lines
 abbrev pub maxLines : ℕ
 maxLines = 512
 
 -- the lines of a text that is not too long
 unfoldable pub linesOf : List ℕ → Option (List Line)
-linesOf t = cond (fits t) (linesUpTo maxLines t) none
+linesOf t = cond (fits t) (linesUpTo lineOf maxLines t) none

@@ -12,7 +12,8 @@ use lib.Pow.{pow-mono}
 use borrow.Author.Tests.{le-leb, ltb-true, leb-true, eqb-true}
 use Rattle.sets.specs.Sets.{both}
 use Rattle.sets.proofs.BoolLaws.{both-true, both-left, both-right}
-use Rattle.text.proofs.Cases.{cond-split}
+use Rattle.text.specs.Lines.{none-left, and-then}
+use Rattle.text.proofs.Cases.{cond-split, not-none, some-same}
 use Rattle.labels.specs.Labels.{policy}
 use Rattle.tables.specs.Sheet.{Sum, Location, Sheet, partsOf, typeCount, labelCount, locationCount, earlier, rising, eachRising, eachNamed, formed}
 use Rattle.tables.proofs.FormLaws.{Formed, formed-facts, type-count}
@@ -20,7 +21,7 @@ use Rattle.sheet.specs.declared.line.Line.{Line}
 use Rattle.sheet.specs.declared.line.Line.the-variants.{P, T, L, O, X}
 use Rattle.sheet.specs.Lines.{sumLine, policyLine, locationLine, each, labelLines, linesThen, sheetLines}
 use Rattle.sheet.specs.Building.{blank, addSum, addLabel, toLast, addPolicy, addLocation, leastOwner, sumFits, labelFits, policyFits, locationFits, begin, step, stepOn, steps, build}
-use Rattle.sheet.proofs.LineLaws.{not-none, some-same, Fits, AllFit, none-left, and-then}
+use Rattle.sheet.proofs.LineLaws.{Fits, AllFit}
 use Rattle.sheet.proofs.GrowthLaws.{length-more, no-entries, each-more, labels-more, policies-more, length-toLast, earlier-more, each-rising-more, each-rising-last, each-named-more}
 
 pub formed-made : (s : Sheet) → Formed s → formed s ≡ true

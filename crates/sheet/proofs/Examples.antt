@@ -9,10 +9,11 @@ use Rattle.text.specs.Reading.{andThen, byte, fits}
 use Rattle.text.specs.Number.{digit, opensDigit, digits, number, decimalOn, decimal}
 use Rattle.text.specs.Set.{hexDigit, hexDigits, hexByte, hex4}
 use Rattle.text.specs.Field.{numberField, setField, lastNumber}
+use Rattle.text.specs.Lines.{front, onward, linesUpTo, allLines, printLines}
 use Rattle.labels.specs.Labels.{policy, openAt, openOf, policyOf, withPolicies, labelOf, sameAt, sameOf}
 use Rattle.tables.specs.Sheet.{Sheet, givenParts, partsOf, typeCount, labelsOf, labelCount, locationCount, earlier, rising, eachRising, eachNamed, formed, among, repeated, sameParts, givenSums, repeats}
-use Rattle.sheet.specs.Lines.{sumLine, policyLine, locationLine, each, labelLines, linesThen, sheetLines, lineBytes, bytesOf, sheetBytes}
-use Rattle.sheet.specs.Reading.{principalsRest, pairLine, pairRest, labelRest, policyRest, lineOf, front, onward, linesUpTo, linesOf}
+use Rattle.sheet.specs.Lines.{sumLine, policyLine, locationLine, each, labelLines, linesThen, sheetLines, lineBytes, sheetBytes}
+use Rattle.sheet.specs.Reading.{principalsRest, pairLine, pairRest, labelRest, policyRest, lineOf}
 use Rattle.sheet.specs.Building.{blank, addSum, addLabel, toLast, addPolicy, addLocation, lastOf, leastAfter, leastOwner, sumFits, labelFits, policyFits, locationFits, begin, step, stepOn, steps, build}
 use Rattle.sheet.specs.Sheets.{buildIn, sheetIn, Answer, malformed, repeating, accepted, judged, sheetOf}
 
@@ -63,11 +64,11 @@ answers : List Answer
 answers = accepted caseSheet ∷ malformed ∷ malformed ∷ repeating ∷ repeating ∷ replicate 13 malformed
 
 case-printed : sheetBytes caseSheet ≡ caseText
-unfolding caseSheet caseText sheetBytes bytesOf lineBytes sheetLines linesThen each labelLines sumLine policyLine locationLine decimal decimalOn hex4 hexByte
+unfolding caseSheet caseText sheetBytes printLines lineBytes sheetLines linesThen each labelLines sumLine policyLine locationLine decimal decimalOn hex4 hexByte
 case-printed = refl
 
 texts-read : map sheetOf texts ≡ answers
-unfolding caseSheet caseText texts answers sheetOf judged sheetIn buildIn build steps stepOn step begin sumFits labelFits policyFits locationFits leastOwner leastAfter lastOf blank addSum addLabel addPolicy toLast addLocation linesOf linesUpTo onward front lineOf principalsRest pairRest pairLine labelRest policyRest andThen byte fits digit opensDigit digits number hexDigit hexDigits numberField setField lastNumber both either union every tab single everyone openAt openOf policyOf withPolicies labelOf sameAt sameOf givenParts partsOf typeCount labelsOf labelCount locationCount among repeated sameParts givenSums repeats
+unfolding caseSheet caseText texts answers sheetOf judged sheetIn buildIn build steps stepOn step begin sumFits labelFits policyFits locationFits leastOwner leastAfter lastOf blank addSum addLabel addPolicy toLast addLocation allLines linesUpTo onward front lineOf principalsRest pairRest pairLine labelRest policyRest andThen byte fits digit opensDigit digits number hexDigit hexDigits numberField setField lastNumber both either union every tab single everyone openAt openOf policyOf withPolicies labelOf sameAt sameOf givenParts partsOf typeCount labelsOf labelCount locationCount among repeated sameParts givenSums repeats
 texts-read = refl
 
 case-formed : formed caseSheet ≡ true

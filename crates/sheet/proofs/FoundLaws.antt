@@ -1,25 +1,24 @@
 -- From an answer in a text back to the line that was read, and from a line to its answer. Assumes nothing.
-use mathlib.Core.Path.{_≡_, refl, ap, _∙_}
+use mathlib.Core.Path.{_≡_, ap, _∙_}
 use mathlib.Core.Bool.{Bool, true, false}
-use mathlib.Core.List.{List, [], _∷_, _++_, append-assoc}
+use mathlib.Core.List.{List, _∷_}
 use Prim.Native.Nat.{ℕ, _+_, _≤_, _<_}
 use native.Mathlib.Omega.{arith}
-use lib.Dec.{eqb}
 use lib.ListN.{length, drop, getD, drop-of-length-le, length-drop}
 use borrow.Author.Tests.{ne-eqb}
-use Rattle.text.specs.Reading.{Read, andThen}
+use Rattle.text.specs.Reading.{Read}
 use Rattle.text.specs.Reading.Read.{got, bad}
 use Rattle.text.specs.Number.{most}
 use Rattle.text.specs.Field.{numberField, setField, lineEnd, lastNumber}
-use Rattle.text.proofs.Readings.{drop-step, andThen-got, andThen-bad, ends-print}
-use Rattle.text.proofs.Places.{Within, placed-got, placed-bad, placed-split}
+use Rattle.text.proofs.Readings.{drop-step, andThen-got, andThen-bad}
+use Rattle.text.proofs.Places.{placed-got, placed-bad, placed-split}
+use Rattle.text.proofs.Lines.{line-within, line-shorter}
 use Rattle.sheet.specs.declared.line.Line.{Line}
-use Rattle.sheet.specs.declared.line.Line.the-variants.{P, T, L, O, X}
+use Rattle.sheet.specs.declared.line.Line.the-variants.{P, L, O}
 use Rattle.sheet.specs.declared.line.Found.{Found}
 use Rattle.sheet.specs.declared.line.Found.the-variants as found
-use Rattle.sheet.specs.Lines.{lineBytes}
 use Rattle.sheet.specs.Reading.{principalsRest, pairLine, pairRest, labelRest, policyRest, lineOf, foundIn}
-use Rattle.sheet.proofs.LineLaws.{line-sound, line-shorter}
+use Rattle.sheet.proofs.LineLaws.{sheet-lines}
 
 -- ---- answers
 
@@ -30,34 +29,22 @@ module _ (s : List ℕ) (want : Read Line) where
   pub found-none : want ≡ bad → found.Bad ≡ foundIn s want
   found-none e = placed-bad (λ l p. found.At l p) found.Bad s want e
 
--- what follows a line is the end of the text
-bytes-front : (l : Line) (u : List ℕ) → lineBytes l u ≡ lineBytes l [] ++ u
-unfolding lineBytes
-bytes-front (P n) u = simp append-assoc
-bytes-front (T a b) u = simp append-assoc
-bytes-front L u = refl
-bytes-front (O o r w) u = simp append-assoc
-bytes-front (X t l) u = simp append-assoc
-
-line-within : (t : List ℕ) → Within t (lineOf t)
-line-within t l u e = ends-print t (lineBytes l []) u (line-sound t l u e ∙ bytes-front l u)
-
 -- what an answer at i in s says of the line there
 module _ (s : List ℕ) (i : ℕ) (r : Found) (e : r ≡ foundIn s (lineOf (drop i s))) where
   pub line-found : (l : Line) (p : ℕ) → r ≡ found.At l p → (lineOf (drop i s) ≡ got l (drop p s)) × (p ≤ length s)
   line-found l p g =
-      placed-split (λ l p. found.At l p) found.Bad s i (lineOf (drop i s)) r (line-within (drop i s)) e
+      placed-split (λ l p. found.At l p) found.Bad s i (lineOf (drop i s)) r (line-within sheet-lines (drop i s)) e
       (λ l′ p′ x h y. let a : l′ ≡ l = cc in let b : p′ ≡ p = cc in rw (← a, ← b) (x, h))
       (λ x y. let z : _≡_ {A = ℕ} 0 1 = cc in absurd (omega arith))
 
   pub line-missed : r ≡ found.Bad → lineOf (drop i s) ≡ bad
   line-missed g =
-      placed-split (λ l p. found.At l p) found.Bad s i (lineOf (drop i s)) r (line-within (drop i s)) e
+      placed-split (λ l p. found.At l p) found.Bad s i (lineOf (drop i s)) r (line-within sheet-lines (drop i s)) e
       (λ l p x h y. let z : _≡_ {A = ℕ} 0 1 = cc in absurd (omega arith)) (λ x y. x)
 
 -- the place after a line is past the line's own
 pub line-onward : (s : List ℕ) (i : ℕ) (l : Line) (p : ℕ) → lineOf (drop i s) ≡ got l (drop p s) → p ≤ length s → i < p
-line-onward s i l p e h = omega (arith, line-shorter (drop i s) l (drop p s) e, length-drop i s, length-drop p s)
+line-onward s i l p e h = omega (arith, line-shorter sheet-lines (drop i s) l (drop p s) e, length-drop i s, length-drop p s)
 
 -- ---- the cases of a line, by what is read after its letter
 

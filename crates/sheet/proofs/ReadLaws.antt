@@ -9,18 +9,20 @@ use lib.ListN.{length, drop, length-drop, drop-of-length-le}
 use Rattle.sets.proofs.BoolLaws.{absurd-false}
 use Rattle.text.specs.Reading.{fits}
 use Rattle.text.specs.Reading.Read.{got, bad}
+use Rattle.text.specs.Lines.{front}
+use Rattle.text.proofs.Lines.{all-none, all-more, all-bad}
 use Rattle.tables.specs.Sheet.{Sheet, typeCount, labelCount, formed, repeats}
 use Rattle.tables.specs.Tables.{typesIn, labelsIn}
 use Rattle.tables.proofs.FormLaws.{formed-facts, type-count}
 use Rattle.tables.proofs.TableLaws.{types-in, labels-in}
 use Rattle.sheet.specs.declared.line.Line.{Line}
 use Rattle.sheet.specs.declared.draft.Draft.{Draft}
-use Rattle.sheet.specs.Reading.{lineOf, front, linesOf}
+use Rattle.sheet.specs.Reading.{lineOf, linesOf}
 use Rattle.sheet.specs.Building.{begin, stepOn, steps, build}
 use Rattle.sheet.specs.Sheets.{buildIn, sheetIn, judged, refusedBy, decoded}
 use Rattle.sheet.specs.Drafts.{Holds, FormedIf, stepsIn}
 use Rattle.sheet.specs.Repeats.{repeatsIn}
-use Rattle.sheet.proofs.LineLaws.{lines-none, lines-on, lines-bad}
+use Rattle.sheet.proofs.LineLaws.{sheet-lines}
 use Rattle.sheet.proofs.RepeatFinds.{repeats-in}
 use Rattle.sheet.proofs.Theorems.{sheet-in-sound}
 
@@ -34,15 +36,15 @@ steps-front o l (some ls) = refl
 module _ (o : Option Sheet) (s : List ℕ) (i : ℕ) where
   pub steps-on : (l : Line) (p : ℕ) → lineOf (drop i s) ≡ got l (drop p s)
       → stepsIn (stepOn o l) (linesOf (drop p s)) ≡ stepsIn o (linesOf (drop i s))
-  steps-on l p e = sym (ap (stepsIn o) (lines-on (drop i s) l (drop p s) e) ∙ steps-front o l (linesOf (drop p s)))
+  steps-on l p e = sym (ap (stepsIn o) (all-more sheet-lines (drop i s) l (drop p s) e) ∙ steps-front o l (linesOf (drop p s)))
 
   pub steps-bad : i < length s → lineOf (drop i s) ≡ bad → none ≡ stepsIn o (linesOf (drop i s))
   unfolding stepsIn
-  steps-bad h e = sym (ap (stepsIn o) (lines-bad (drop i s) (omega (arith, length-drop i s)) e))
+  steps-bad h e = sym (ap (stepsIn o) (all-bad sheet-lines (drop i s) (omega (arith, length-drop i s)) e))
 
   pub steps-end : length s ≤ i → o ≡ stepsIn o (linesOf (drop i s))
   unfolding stepsIn steps
-  steps-end h = sym (ap (λ (t : List ℕ). stepsIn o (linesOf t)) (drop-of-length-le s {i = i} h) ∙ ap (stepsIn o) lines-none)
+  steps-end h = sym (ap (λ (t : List ℕ). stepsIn o (linesOf t)) (drop-of-length-le s {i = i} h) ∙ ap (stepsIn o) (all-none sheet-lines))
 
 -- ---- the sheet of a text
 
@@ -58,14 +60,14 @@ module _ (t : List ℕ) where
 
   pub sheet-first : (l : Line) (u : List ℕ) → fits t ≡ true → lineOf t ≡ got l u → stepsIn (begin l) (linesOf u) ≡ sheetIn t
   unfolding sheetIn
-  sheet-first l u f e = rw (f, lines-on t l u e) (build-front l (linesOf u))
+  sheet-first l u f e = rw (f, all-more sheet-lines t l u e) (build-front l (linesOf u))
 
   pub sheet-none : fits t ≡ true → lineOf t ≡ bad → none ≡ sheetIn t
   sheet-none f e = at t f e
     where
       at : (t : List ℕ) → fits t ≡ true → lineOf t ≡ bad → none ≡ sheetIn t
-      at [] f e = unfold sheetIn buildIn build in (rw (f, lines-none))
-      at (b ∷ u) f e = unfold sheetIn buildIn in (rw (f, lines-bad (b ∷ u) (omega arith) e))
+      at [] f e = unfold sheetIn buildIn build in (rw (f, all-none sheet-lines))
+      at (b ∷ u) f e = unfold sheetIn buildIn in (rw (f, all-bad sheet-lines (b ∷ u) (omega arith) e))
 
   pub formed-read : FormedIf (sheetIn t)
   formed-read = at (sheetIn t) refl

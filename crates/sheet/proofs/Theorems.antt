@@ -9,15 +9,17 @@ use lib.Dec.{leb}
 use lib.ListN.{length}
 use borrow.Author.Tests.{le-leb, leb-true}
 use Rattle.text.specs.Reading.{fits, limit}
-use Rattle.text.proofs.Cases.{cond-split}
+use Rattle.text.specs.Lines.{printLines}
+use Rattle.text.proofs.Cases.{cond-split, not-none, some-same}
+use Rattle.text.proofs.Lines.{all-lines-exact}
 use Rattle.tables.specs.Sheet.{Sheet, repeats}
 use Rattle.sheet.specs.declared.line.Line.{Line}
-use Rattle.sheet.specs.Lines.{sheetLines, bytesOf, sheetBytes}
+use Rattle.sheet.specs.Lines.{sheetLines, lineBytes, sheetBytes}
 use Rattle.sheet.specs.Reading.{linesOf}
 use Rattle.sheet.specs.Building.{build}
 use Rattle.sheet.specs.Sheets.{buildIn, sheetIn, Answer, malformed, repeating, accepted, judged, sheetOf}
 use Rattle.sheet.specs.Theorems.{IsSheet, AcceptedExact, RepeatingExact, MalformedExact, OneSheet}
-use Rattle.sheet.proofs.LineLaws.{not-none, some-same, lines-sound, lines-print}
+use Rattle.sheet.proofs.LineLaws.{sheet-lines}
 use Rattle.sheet.proofs.BuildLaws.{build-sound}
 use Rattle.sheet.proofs.CompleteLaws.{build-complete}
 
@@ -28,7 +30,7 @@ unfolding buildIn sheetBytes
 build-in-sound t s none e h k = not-none s k
 build-in-sound t s (some ls) e h k =
     let b = build-sound ls s k in
-    record { printed = lines-sound t ls e ∙ ap bytesOf (b .0); short = h; right = b .1 }
+    record { printed = all-lines-exact sheet-lines t ls .0 e .0 ∙ ap (printLines lineBytes) (b .0); short = h; right = b .1 }
 
 pub sheet-in-sound : (t : List ℕ) (s : Sheet) → sheetIn t ≡ some s → IsSheet t s
 unfolding sheetIn fits
@@ -40,7 +42,7 @@ unfolding sheetIn fits buildIn sheetBytes
 sheet-in-print t s i =
     let b = build-complete s (i .right) in
     let fit = build-sound (sheetLines s) s b .2 in
-    let l = ap linesOf (i .printed) ∙ lines-print (sheetLines s) fit in
+    let l = all-lines-exact sheet-lines t (sheetLines s) .1 (i .printed, fit) in
     rw (le-leb _ _ (i .short), l) b
 
 -- ---- answers

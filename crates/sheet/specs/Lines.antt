@@ -2,6 +2,7 @@
 use mathlib.Core.List.{List, [], _∷_}
 use Prim.Native.Nat.{ℕ}
 use Rattle.text.specs.Field.{printNumberField, printSetField, printLineEnd}
+use Rattle.text.specs.Lines.{printLines}
 use Rattle.labels.specs.Labels.{Policy, policy}
 use Rattle.tables.specs.Sheet.{Sum, Location, Sheet}
 use Rattle.sheet.specs.declared.line.Line.{Line}
@@ -41,10 +42,6 @@ lineBytes L rest = 76 ∷ printLineEnd rest
 lineBytes (O o r w) rest = 79 ∷ printNumberField o (printSetField r (printSetField w (printLineEnd rest)))
 lineBytes (X t l) rest = 88 ∷ printNumberField t (printNumberField l (printLineEnd rest))
 
-unfoldable pub bytesOf : List Line → List ℕ
-bytesOf [] = []
-bytesOf (l ∷ ls) = lineBytes l (bytesOf ls)
-
 -- the printed form of a sheet
 unfoldable pub sheetBytes : Sheet → List ℕ
-sheetBytes s = bytesOf (sheetLines s)
+sheetBytes s = printLines lineBytes (sheetLines s)

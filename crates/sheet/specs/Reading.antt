@@ -1,14 +1,14 @@
 -- How a sheet's text is read into lines: the first byte of a line says what it is.
 use mathlib.Core.Bool.{Bool, true, false, cond}
 use mathlib.Core.List.{List, [], _∷_}
-use mathlib.Core.Option.{Option, none, some}
-use Prim.Native.Nat.{ℕ, zero, suc}
+use mathlib.Core.Option.{Option}
+use Prim.Native.Nat.{ℕ}
 use lib.Dec.{eqb}
-use lib.ListN.{length}
 use Rattle.text.specs.Reading.{Read, andThen}
 use Rattle.text.specs.Reading.Read.{got, bad}
 use Rattle.text.specs.Number.{most}
 use Rattle.text.specs.Field.{numberField, setField, lineEnd, lastNumber}
+use Rattle.text.specs.Lines.{allLines}
 use Rattle.text.specs.Place.{placed}
 use Rattle.sheet.specs.declared.line.Line.{Line}
 use Rattle.sheet.specs.declared.line.Line.the-variants.{P, T, L, O, X}
@@ -49,22 +49,6 @@ lineOf (b ∷ t) =
 abbrev pub foundIn : List ℕ → Read Line → Found
 foundIn s want = placed (λ l p. found.At l p) found.Bad s want
 
--- a line before others
-unfoldable pub front : Line → Option (List Line) → Option (List Line)
-front l none = none
-front l (some ls) = some (l ∷ ls)
-
-unfoldable pub onward : Read Line → (List ℕ → Option (List Line)) → Option (List Line)
-onward (got l t) f = front l (f t)
-onward bad f = none
-
--- the lines of a whole text, if there are at most k
-unfoldable pub linesUpTo : ℕ → List ℕ → Option (List Line)
-linesUpTo zero [] = some []
-linesUpTo zero (b ∷ t) = none
-linesUpTo (suc k) [] = some []
-linesUpTo (suc k) (b ∷ t) = onward (lineOf (b ∷ t)) (λ u. linesUpTo k u)
-
--- the lines of a text: it has no more of them than bytes
-unfoldable pub linesOf : List ℕ → Option (List Line)
-linesOf t = linesUpTo (length t) t
+-- the lines of a text
+abbrev pub linesOf : List ℕ → Option (List Line)
+linesOf t = allLines lineOf t

@@ -6,5 +6,6 @@ pub mod Numbers
 pub mod Decimals
 pub mod Sets
 pub mod Fields
+pub mod Lines
 pub mod Examples
 pub mod Writings

@@ -3,6 +3,7 @@ pub mod Reading
 pub mod Number
 pub mod Set
 pub mod Field
+pub mod Lines
 pub mod Place
 pub mod Writing
 pub mod Theorems

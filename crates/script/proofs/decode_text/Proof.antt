@@ -5,7 +5,8 @@ use native.Mathlib.Omega.{arith}
 use borrow.Author.Needs.{needs}
 use borrow.Author.Tests.{not-true, not-false}
 use lib.ListN.{length, drop, length-set}
-use Rattle.script.specs.Reading.{maxLines, linesUpTo, linesOf}
+use Rattle.text.specs.Lines.{linesUpTo}
+use Rattle.script.specs.Reading.{maxLines, lineOf, linesOf}
 use Rattle.script.specs.Script.{codeWords, codedLines}
 use Rattle.script.proofs.CodeLaws.{tabled, table-done, table-full, table-bad, table-more, decode-start, decode-long}
 use Rattle.script.proofs.decode_text.Statement.{statement}
@@ -15,7 +16,7 @@ use Rattle.script.proofs.decode_text.Tie as tie
 abbrev Inv-loop : tie.InvT-loop
 Inv-loop s code₀ n₀ at₀ code n at =
     (at ≤ length s) × (n ≤ maxLines) × (length code ≡ codeWords)
-    × (tabled n code (linesUpTo (maxLines - n) (drop at s)) ≡ codedLines (linesOf s))
+    × (tabled n code (linesUpTo lineOf (maxLines - n) (drop at s)) ≡ codedLines (linesOf s))
 
 abbrev μ-loop : tie.MeasureT-loop
 μ-loop s code₀ n₀ at₀ code n at = maxLines - n

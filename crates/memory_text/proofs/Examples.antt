@@ -6,8 +6,9 @@ use lib.ListN.{replicate}
 use Rattle.text.specs.Reading.{andThen, byte, fits}
 use Rattle.text.specs.Reading.Read.{got, bad}
 use Rattle.text.specs.Number.{digit, opensDigit, digits, number, decimalOn, decimal}
-use Rattle.memory_text.specs.Printing.{keep, trim, fields, line, lines, memoryText}
-use Rattle.memory_text.specs.Reading.{following, words, padded, blankOr, lineWords, location, locations, memory}
+use Rattle.text.specs.Lines.{front, onward, linesUpTo, printLines}
+use Rattle.memory_text.specs.Printing.{keep, trim, fields, line, rows, memoryText}
+use Rattle.memory_text.specs.Reading.{following, words, padded, blankOr, lineWords, location, joined, wordsOf, locations, memory}
 
 -- the view that the scope shows: `1 5`, an empty line, `3 5 2`, an empty line
 view : List ℕ
@@ -17,7 +18,7 @@ viewText : List ℕ
 viewText = 49 ∷ 9 ∷ 53 ∷ 10 ∷ 10 ∷ 51 ∷ 9 ∷ 53 ∷ 9 ∷ 50 ∷ 10 ∷ 10 ∷ []
 
 printed-view : memoryText view ≡ viewText
-unfolding view viewText memoryText lines line fields trim keep padded decimal decimalOn
+unfolding view viewText memoryText printLines rows line fields trim keep padded decimal decimalOn
 printed-view = refl
 
 read-examples :
@@ -34,5 +35,5 @@ read-examples :
     × (memory (replicate 64 10) ≡ got (replicate 1024 0) [])
     × (memory (replicate 65 10) ≡ bad)
     × (memory (49 ∷ 9 ∷ 49 ∷ 9 ∷ 49 ∷ 9 ∷ 49 ∷ 9 ∷ 49 ∷ 9 ∷ 49 ∷ 9 ∷ 49 ∷ 9 ∷ 49 ∷ 9 ∷ 49 ∷ 9 ∷ 49 ∷ 9 ∷ 49 ∷ 9 ∷ 49 ∷ 9 ∷ 49 ∷ 9 ∷ 49 ∷ 9 ∷ 49 ∷ 9 ∷ 49 ∷ 9 ∷ 49 ∷ 10 ∷ []) ≡ bad)
-unfolding view viewText memory locations location blankOr lineWords words following padded andThen byte fits number digits digit opensDigit
+unfolding view viewText memory locations wordsOf joined front onward linesUpTo location blankOr lineWords words following padded andThen byte fits number digits digit opensDigit
 read-examples = (refl, refl, refl, refl, refl, refl, refl, refl, refl, refl, refl)

@@ -11,13 +11,13 @@ use Rattle.text.specs.Reading.{Read, andThen}
 use Rattle.text.specs.Reading.Read.{got, bad}
 use Rattle.text.specs.Number.{opensDigit, number, decimal, most}
 use Rattle.text.specs.Field.{lineEnd}
+use Rattle.text.specs.Lines.{LineForm}
 use Rattle.text.proofs.Cases.{cond-split}
-use Rattle.text.proofs.Readings.{not-bad, got-same, andThen-got, andThen-bad, andThen-split, byte-here, byte-none, byte-sound, Ends, ends-print}
-use Rattle.text.proofs.Places.{Within}
+use Rattle.text.proofs.Readings.{not-bad, got-same, andThen-got, andThen-bad, andThen-split, byte-here, byte-none, byte-sound}
 use Rattle.text.proofs.Numbers.{digit-low, opens-none, opens-byte, number-none, byte-digit}
 use Rattle.text.proofs.Decimals.{number-sound, number-print, opens-decimal}
 use Rattle.text.proofs.Writings.{length-decimal}
-use Rattle.memory_text.specs.Printing.{keep, trim, fields, line}
+use Rattle.memory_text.specs.Printing.{keep, trim, fields, line, rowLine}
 use Rattle.memory_text.specs.Reading.{following, words, padded, blankOr, lineWords, location}
 use Rattle.memory_text.specs.Theorems.{Words}
 use Rattle.memory_text.proofs.Trimming as trimming
@@ -212,19 +212,31 @@ length-line [] t h l = omega arith
 length-line (v ∷ vs) t h l =
     omega (arith, length-append (decimal v) (fields vs (10 ∷ t)), length-decimal v (h .0), length-fields vs (10 ∷ t) (h .1))
 
--- a line ends where what follows it begins
-fields-front : (vs t : List ℕ) → fields vs t ≡ fields vs [] ++ t
+-- ---- the form of lines
+
+-- a line's bytes come before what follows it
+fields-ahead : (vs t u : List ℕ) → fields vs (t ++ u) ≡ fields vs t ++ u
 unfolding fields
-fields-front [] t = refl
-fields-front (v ∷ vs) t = ap (λ (l : List ℕ). 9 ∷ (decimal v ++ l)) (fields-front vs t) ∙ ap (_∷_ 9) (sym (append-assoc (decimal v) (fields vs []) t))
+fields-ahead [] t u = refl
+fields-ahead (v ∷ vs) t u = ap (λ (l : List ℕ). 9 ∷ (decimal v ++ l)) (fields-ahead vs t u) ∙ ap (_∷_ 9) (sym (append-assoc (decimal v) (fields vs t) u))
 
-line-ends : (vs u : List ℕ) → Ends (line vs u) u
+line-ahead : (vs u : List ℕ) → line vs u ≡ line vs [] ++ u
 unfolding line
-line-ends [] u = ends-print (10 ∷ u) (10 ∷ []) u refl
-line-ends (v ∷ vs) u =
-    ends-print _ (decimal v ++ (fields vs [] ++ (10 ∷ []))) u
-    (ap (λ (l : List ℕ). decimal v ++ l) (fields-front vs (10 ∷ u) ∙ sym (append-assoc (fields vs []) (10 ∷ []) u))
-    ∙ sym (append-assoc (decimal v) (fields vs [] ++ (10 ∷ [])) u))
+line-ahead [] u = refl
+line-ahead (v ∷ vs) u =
+    ap (λ (l : List ℕ). decimal v ++ l) (fields-ahead vs (10 ∷ []) u) ∙ sym (append-assoc (decimal v) (fields vs (10 ∷ [])) u)
 
-pub location-within : (t : List ℕ) → Within t (location t)
-location-within t row u e = rw (location-sound t row u e .0) (line-ends (trim row) u)
+-- 16 words, each in range
+abbrev pub Row : List ℕ → Type 0
+Row row = (length row ≡ 16) × Words row
+
+-- each location is read exactly where its line stands
+pub memory-lines : LineForm location rowLine Row
+memory-lines = record {
+  exact = λ t row u. (
+    λ e. let r = location-sound t row u e in (r .0, (r .1, r .2)),
+    λ r. ap location (r .0) ∙ location-print row u (r .1 .0) (r .1 .1),
+  );
+  no-end = location-none;
+  ahead = λ row u. line-ahead (trim row) u;
+}

@@ -8,10 +8,11 @@ use lib.ListN.{length, take, drop, getD, length-append, length-drop}
 use lib.Seq.{sets, take-suc, getD-drop, drop-drop}
 use borrow.Author.Tests.{eq-eqb, ne-eqb, le-leb, lt-leb}
 use Rattle.text.specs.Number.{decimal, most}
+use Rattle.text.specs.Lines.{printLines}
 use Rattle.text.specs.Writing.{written, reached}
 use Rattle.text.proofs.Readings.{drop-step}
 use Rattle.text.proofs.Writings.{sets-append, written-fits, reached-fits, length-decimal}
-use Rattle.memory_text.specs.Printing.{trim, fields, line, lines, memoryText}
+use Rattle.memory_text.specs.Printing.{trim, fields, line, rows, lines, memoryText}
 use Rattle.memory_text.specs.Answers.{printedLength, printed}
 use Rattle.memory_text.specs.Writing.{Used, Puts}
 use Rattle.memory_text.proofs.Trimming.{trim-zeros, trim-last}
@@ -169,7 +170,7 @@ abbrev pub linesFrom : List ℕ → ℕ → ℕ → List ℕ → List ℕ
 linesFrom ws k n t = lines (k - n) (drop (n * 16) ws)
 
 lines-first : (ws : List ℕ) (k n : ℕ) → n < k → (t : List ℕ) → linesFrom ws k n t ≡ lineAt ws (n * 16) (linesFrom ws k (n + 1) t)
-unfolding lines
+unfolding printLines rows
 lines-first ws k n h t =
     let z : k - n ≡ suc (k - (n + 1)) = omega arith in
     let m : n * 16 + 16 ≡ (n + 1) * 16 = omega arith in
@@ -188,7 +189,7 @@ lines-start ws k out =
 
 -- all lines are written
 lines-end : (ws : List ℕ) (k n : ℕ) → k ≤ n → linesFrom ws k n [] ≡ []
-unfolding lines
+unfolding printLines rows
 lines-end ws k n h = let z : k - n ≡ 0 = omega arith in rw z
 
 pub lines-done : (ws : List ℕ) (k n : ℕ) (out now : List ℕ) (p : ℕ) → Goes (λ t. lines k ws) (linesFrom ws k n) out 0 now p → k ≤ n

@@ -6,6 +6,7 @@ use lib.ListN.{length, take, drop}
 use lib.Dec.{eqb}
 use Rattle.text.specs.Number.{decimal}
 use Rattle.text.specs.Field.{printNumberField, printLineEnd}
+use Rattle.text.specs.Lines.{printLines}
 
 -- w before words without zeros at their end
 unfoldable pub keep : ℕ → List ℕ → List ℕ
@@ -27,10 +28,18 @@ unfoldable pub line : List ℕ → List ℕ → List ℕ
 line [] t = printLineEnd t
 line (w ∷ ws) t = decimal w ++ fields ws (printLineEnd t)
 
--- the lines of k locations of 16 words
-unfoldable pub lines : ℕ → List ℕ → List ℕ
-lines zero ws = []
-lines (suc k) ws = line (trim (take 16 ws)) (lines k (drop 16 ws))
+-- a location's line, before t
+abbrev pub rowLine : List ℕ → List ℕ → List ℕ
+rowLine row t = line (trim row) t
+
+-- the words of k locations, 16 for each
+unfoldable pub rows : ℕ → List ℕ → List (List ℕ)
+rows zero ws = []
+rows (suc k) ws = take 16 ws ∷ rows k (drop 16 ws)
+
+-- the lines of k locations
+abbrev pub lines : ℕ → List ℕ → List ℕ
+lines k ws = printLines rowLine (rows k ws)
 
 -- a memory, 16 words for each location
 unfoldable pub memoryText : List ℕ → List ℕ

@@ -2,12 +2,14 @@
 use Prim.Native.Nat.{ℕ, zero, suc, _-_}
 use mathlib.Core.Bool.{cond}
 use mathlib.Core.List.{List, [], _∷_, _++_}
+use mathlib.Core.Option.{Option, none, some}
 use lib.ListN.{length, replicate}
 use lib.Dec.{eqb}
 use Rattle.text.specs.Reading.{Read, andThen, fits}
 use Rattle.text.specs.Reading.Read.{got, bad}
 use Rattle.text.specs.Number.{number, most}
 use Rattle.text.specs.Field.{lineEnd}
+use Rattle.text.specs.Lines.{linesUpTo}
 
 -- the word v with what its line goes on with: the end, unless v is zero, or a tab and more words
 unfoldable pub following : ℕ → List ℕ → (List ℕ → Read (List ℕ)) → Read (List ℕ)
@@ -38,12 +40,19 @@ blankOr bad other = other
 unfoldable pub location : List ℕ → Read (List ℕ)
 location t = blankOr (lineEnd t) (lineWords t)
 
--- the words of the locations up to the end of the text, at most k locations
+-- the words of locations, one after another
+unfoldable pub joined : List (List ℕ) → List ℕ
+joined [] = []
+joined (row ∷ rows) = row ++ joined rows
+
+-- those of a whole text, after which nothing is left
+unfoldable pub wordsOf : Option (List (List ℕ)) → Read (List ℕ)
+wordsOf none = bad
+wordsOf (some rows) = got (joined rows) []
+
+-- the words of the locations of a whole text, at most k locations
 unfoldable pub locations : ℕ → List ℕ → Read (List ℕ)
-locations zero [] = got [] []
-locations (suc k) [] = got [] []
-locations zero (c ∷ t) = bad
-locations (suc k) (c ∷ t) = andThen (location (c ∷ t)) (λ row u. andThen (locations k u) (λ ws r. got (row ++ ws) r))
+locations k t = wordsOf (linesUpTo location k t)
 
 -- the words of a memory
 unfoldable pub memory : List ℕ → Read (List ℕ)

@@ -1,29 +1,18 @@
 -- A location's line as the code reads it: words into an array, and rows into a table. Assumes nothing.
-use Prim.Native.Nat.{ℕ, zero, suc, _+_, _-_, _≤_, _<_}
+use Prim.Native.Nat.{ℕ, suc, _+_, _-_, _≤_, _<_}
 use native.Mathlib.Omega.{arith}
 use native.Mathlib.Numerals.{add-one}
 use mathlib.Core.Path.{_≡_, refl, sym, ap, _∙_}
 use mathlib.Core.List.{List, [], _∷_}
-use lib.ListN.{length, drop, set, getD, replicate, drop-of-length-le, length-replicate}
-use lib.Seq.{sets, sets-eq}
+use lib.ListN.{length, drop, set, getD, replicate, drop-of-length-le}
+use lib.Seq.{sets}
 use Rattle.text.specs.Reading.{Read, andThen}
 use Rattle.text.specs.Reading.Read.{got, bad}
 use Rattle.text.specs.Number.{number, most}
 use Rattle.text.proofs.Readings.{drop-step, andThen-got, andThen-bad}
+use Rattle.text.proofs.Writings.{sets-zeros}
 use Rattle.memory_text.specs.Reading.{following, words, padded, lineWords}
 use Rattle.memory_text.proofs.Lines as lines
-
--- words stored over zeros
-drop-zeros : (k n : ℕ) → drop k (replicate {A = ℕ} n 0) ≡ replicate (n - k) 0
-drop-zeros zero n = let z : n - 0 ≡ n = omega arith in rw z
-drop-zeros (suc k) zero = let z : 0 - suc k ≡ 0 = omega arith in rw z
-drop-zeros (suc k) (suc n) = let z : suc n - suc k ≡ n - k = omega arith in rw z (drop-zeros k n)
-
-pub sets-zeros : (n : ℕ) (ws : List ℕ) → length ws ≤ n → sets (replicate n 0) 0 ws ≡ padded n ws
-unfolding padded
-sets-zeros n ws h =
-    let z : 0 + length ws ≡ length ws = omega arith in
-    sets-eq ws (replicate n 0) 0 (omega (arith, length-replicate {A = ℕ} n 0)) ∙ rw (z, drop-zeros (length ws) n)
 
 -- words that are read go into the array from i on
 abbrev stored : List ℕ → ℕ → List ℕ → List ℕ → Read (List ℕ)
@@ -44,7 +33,7 @@ unfolding left
 left-is i array t = refl
 
 pub left-start : (t : List ℕ) → left 0 (replicate 16 0) t ≡ lineWords t
-unfolding left lineWords
+unfolding left lineWords padded
 left-start t = go (words 16 t) refl
   where
     go : (x : Read (List ℕ)) → words 16 t ≡ x

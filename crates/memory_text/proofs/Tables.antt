@@ -11,15 +11,14 @@ use Rattle.text.specs.Reading.{fits}
 use Rattle.text.specs.Reading.Read.{got, bad}
 use Rattle.text.specs.Lines.{front, linesUpTo}
 use Rattle.text.proofs.Places.{placed-split}
-use Rattle.text.proofs.Writings.{sets-append}
+use Rattle.text.proofs.Writings.{sets-append, sets-zeros}
 use Rattle.text.proofs.Lines.{lines-at-end, lines-at-full, lines-at-bad, lines-at-more, line-sound, line-within}
 use Rattle.memory_text.specs.declared.Memory.{Memory}
 use Rattle.memory_text.specs.declared.Row.{Row}
-use Rattle.memory_text.specs.Reading.{location, joined, wordsOf, locations, memory}
+use Rattle.memory_text.specs.Reading.{padded, location, joined, wordsOf, locations, memory}
 use Rattle.memory_text.specs.Answers.{rowIn, table, memoryOf}
 use Rattle.memory_text.proofs.Lines.{memory-lines}
 use Rattle.memory_text.proofs.Memories.{rows-sound}
-use Rattle.memory_text.proofs.Rows.{sets-zeros}
 
 -- a table of n locations with those that are still read after them
 unfoldable pub tabled : ℕ → List ℕ → Option (List (List ℕ)) → Memory
@@ -27,7 +26,7 @@ tabled n words none = table bad
 tabled n words (some rs) = record { ok = true; count = n + length rs; words = sets words (n * 16) (joined rs) }
 
 pub tabled-start : (t : List ℕ) → tabled 0 (replicate 1024 0) (linesUpTo location 64 t) ≡ table (locations 64 t)
-unfolding tabled table locations wordsOf
+unfolding tabled table locations wordsOf padded
 tabled-start t = go (linesUpTo location 64 t) refl
   where
     go : (o : Option (List (List ℕ))) → linesUpTo location 64 t ≡ o → tabled 0 (replicate 1024 0) o ≡ table (wordsOf o)

@@ -1,14 +1,15 @@
 -- The code of lines, filled in line by line. Assumes nothing.
-use mathlib.Core.Path.{_≡_, refl, sym, ap, _∙_}
+use mathlib.Core.Path.{_≡_, refl}
 use mathlib.Core.Bool.{true, false}
-use mathlib.Core.List.{List, [], _∷_, _++_, append-assoc}
+use mathlib.Core.List.{List, [], _∷_}
 use mathlib.Core.Option.{Option, none, some}
 use Prim.Native.Nat.{ℕ, suc, _+_, _*_, _-_, _≤_, _<_}
 use native.Mathlib.Omega.{arith}
-use lib.ListN.{length, drop, set, replicate, length-append}
-use lib.Seq.{set-at}
+use lib.ListN.{length, drop, set, replicate}
+use lib.Seq.{sets}
 use Rattle.text.specs.Reading.{fits}
 use Rattle.text.specs.Lines.{front, linesUpTo}
+use Rattle.text.proofs.Writings.{sets-zeros}
 use Rattle.text.proofs.Lines.{lines-at-end, lines-at-full, lines-at-bad, lines-at-more, lines-exact}
 use Rattle.lines.specs.Lines.{Line, l-skip, l-seq, l-assign, l-while, l-case, l-int, l-loc, l-var, l-plus, l-left, l-right, l-pack, l-unpack}
 use Rattle.lines.specs.Code.{lineWords, code}
@@ -52,60 +53,27 @@ abbrev pub put : List ℕ → ℕ → ℕ → ℕ → ℕ → List ℕ
 put w n k a b = set (set (set w (n * 3) k) (n * 3 + 1) a) (n * 3 + 2) b
 
 -- n lines, and further ones
-unfoldable pub filled : ℕ → List ℕ → List Line → Script
-filled n w [] = record { count = n; code = w }
-filled n w (l ∷ ls) = filled (n + 1) (put w n (rowOf l .kind) (rowOf l .a) (rowOf l .b)) ls
-
 unfoldable pub tabled : ℕ → List ℕ → Option (List Line) → Script
 tabled n w none = noCode
-tabled n w (some ls) = filled n w ls
-
-put-next : (pre : List ℕ) (m n k a b : ℕ) → length pre ≡ n * 3
-    → put (pre ++ replicate (suc (suc (suc m))) 0) n k a b ≡ (pre ++ k ∷ a ∷ b ∷ []) ++ replicate m 0
-put-next pre m n k a b h =
-    let one : length (pre ++ k ∷ []) ≡ n * 3 + 1 = length-append pre (k ∷ []) ∙ omega arith in
-    let two : length (pre ++ k ∷ a ∷ []) ≡ n * 3 + 2 = length-append pre (k ∷ a ∷ []) ∙ omega arith in
-    ap (λ (l : List ℕ). set (set l (n * 3 + 1) a) (n * 3 + 2) b) (set-at pre 0 (0 ∷ 0 ∷ replicate m 0) k (n * 3) h ∙ sym (append-assoc pre (k ∷ []) (0 ∷ 0 ∷ replicate m 0)))
-    ∙ ap (λ (l : List ℕ). set l (n * 3 + 2) b) (set-at (pre ++ k ∷ []) 0 (0 ∷ replicate m 0) a (n * 3 + 1) one ∙ append-assoc pre (k ∷ []) (a ∷ 0 ∷ replicate m 0) ∙ sym (append-assoc pre (k ∷ a ∷ []) (0 ∷ replicate m 0)))
-    ∙ set-at (pre ++ k ∷ a ∷ []) 0 (replicate m 0) b (n * 3 + 2) two ∙ append-assoc pre (k ∷ a ∷ []) (b ∷ replicate m 0) ∙ sym (append-assoc pre (k ∷ a ∷ b ∷ []) (replicate m 0))
-
-filled-code : (ls : List Line) (pre : List ℕ) (m n : ℕ) → length pre ≡ n * 3 → length ls * 3 ≤ m
-    → filled n (pre ++ replicate m 0) ls ≡ record { count = n + length ls; code = pre ++ (code ls ++ replicate (m - length ls * 3) 0) }
-unfolding filled code
-filled-code [] pre m n h l =
-    let z : m - 0 * 3 ≡ m = omega arith in
-    let y : n + 0 ≡ n = omega arith in
-    rw (z, y)
-filled-code (x ∷ ls) pre m n h l =
-    let k = rowOf x .kind in
-    let a = rowOf x .a in
-    let b = rowOf x .b in
-    let z : m ≡ suc (suc (suc (m - 3))) = omega arith in
-    let y : n + 1 + length ls ≡ n + suc (length ls) = omega arith in
-    let w : m - 3 - length ls * 3 ≡ m - suc (length ls) * 3 = omega arith in
-    let c : length (pre ++ k ∷ a ∷ b ∷ []) ≡ (n + 1) * 3 = length-append pre (k ∷ a ∷ b ∷ []) ∙ omega arith in
-    ap (λ (l : List ℕ). filled (n + 1) l ls) (ap (λ (j : ℕ). put (pre ++ replicate j 0) n k a b) z ∙ put-next pre (m - 3) n k a b h)
-    ∙ filled-code ls (pre ++ k ∷ a ∷ b ∷ []) (m - 3) (n + 1) c (omega arith)
-    ∙ rw (y, w, append-assoc, words-of x (code ls)) refl
-
-coded-filled : (ls : List Line) → length ls ≤ maxLines → filled 0 (replicate codeWords 0) ls ≡ coded ls
-unfolding coded padded
-coded-filled ls h =
-    let z : 0 + length ls ≡ length ls = omega arith in
-    filled-code ls [] codeWords 0 refl (omega arith) ∙ rw (z, code-length ls)
+tabled n w (some ls) = record { count = n + length ls; code = sets w (n * 3) (code ls) }
 
 -- ---- the table of a text's lines, from line n and byte `at` on
 
 tabled-front : (n : ℕ) (w : List ℕ) (l : Line) (o : Option (List Line))
     → tabled n w (front l o) ≡ tabled (n + 1) (put w n (rowOf l .kind) (rowOf l .a) (rowOf l .b)) o
-unfolding tabled front filled
+unfolding tabled front code
 tabled-front n w l none = refl
-tabled-front n w l (some ls) = refl
+tabled-front n w l (some ls) =
+    let c : n + suc (length ls) ≡ n + 1 + length ls = omega arith in
+    let one : n * 3 + 1 ≡ suc (n * 3) = omega arith in
+    let two : n * 3 + 2 ≡ suc (suc (n * 3)) = omega arith in
+    let three : (n + 1) * 3 ≡ suc (suc (suc (n * 3))) = omega arith in
+    rw (c, words-of l (code ls), one, two, three)
 
 module _ (n : ℕ) (w : List ℕ) (s : List ℕ) (at : ℕ) where
   pub table-done : length s ≤ at → tabled n w (linesUpTo lineOf (maxLines - n) (drop at s)) ≡ record { count = n; code = w }
-  unfolding tabled filled
-  table-done h = rw (lines-at-end lineOf maxLines n s at h)
+  unfolding tabled code
+  table-done h = let z : n + 0 ≡ n = omega arith in rw (lines-at-end lineOf maxLines n s at h, z)
 
   pub table-full : at < length s → maxLines ≤ n → tabled n w (linesUpTo lineOf (maxLines - n) (drop at s)) ≡ noCode
   unfolding tabled
@@ -123,12 +91,15 @@ module _ (n : ℕ) (w : List ℕ) (s : List ℕ) (at : ℕ) where
         (i, rw (lines-at-more lineOf maxLines n s at l (script-lines .no-end) x p y, tabled-front, f1, f2, f3)))
 
 pub decode-start : (s : List ℕ) → fits s ≡ true → tabled 0 (replicate codeWords 0) (linesUpTo lineOf maxLines s) ≡ codedLines (linesOf s)
-unfolding linesOf tabled codedLines
+unfolding linesOf tabled codedLines coded padded
 decode-start s h = rw h (go (linesUpTo lineOf maxLines s) refl)
   where
     go : (o : Option (List Line)) → linesUpTo lineOf maxLines s ≡ o → tabled 0 (replicate codeWords 0) o ≡ codedLines o
     go none e = refl
-    go (some ls) e = coded-filled ls (lines-exact script-lines maxLines s ls .0 e .2)
+    go (some ls) e =
+        let few = lines-exact script-lines maxLines s ls .0 e .2 in
+        let c : 0 + length ls ≡ length ls = omega arith in
+        rw (c, sets-zeros codeWords (code ls) (omega (arith, code-length ls)))
 
 pub decode-long : (s : List ℕ) → fits s ≡ false → codedLines (linesOf s) ≡ noCode
 unfolding linesOf codedLines

@@ -22,7 +22,7 @@ use Rattle.script.specs.Script.{namedOnly, commandOf, commandIn, scriptO
 use Rattle.script.specs.Scan.{ScansCmd, isSome, Whole}
 use Rattle.script.proofs.CodeLaws.{words-of, code-length}
 use Rattle.script.proofs.ScanLaws.{false-true}
-use Rattle.script.proofs.ScriptLaws.{command-sound, command-lines, linesOf-sound, script-sound}
+use Rattle.script.proofs.ScriptLaws.{command-sound, command-lines, script-sound}
 
 -- ---- whether there is a command
 
@@ -86,26 +86,18 @@ coded-length : (ls : List Line) → length ls ≤ maxLines → length (padded co
 unfolding padded
 coded-length ls h = length-append (code ls) _ ∙ omega (arith, code-length ls, length-replicate {A = ℕ} (codeWords - length (code ls)) 0)
 
--- the lines of a text fit into the code
-pub coded-room : (t : List ℕ) (s : Script) → s ≡ codedLines (linesOf t) → (s .count * 3 ≤ codeWords) × (length (s .code) ≡ codeWords)
-unfolding codedLines coded noCode
-coded-room t s e = rw e (go (linesOf t) refl)
-  where
-    go : (o : Option (List Line)) → linesOf t ≡ o → (codedLines o .count * 3 ≤ codeWords) × (length (codedLines o .code) ≡ codeWords)
-    go none x = (omega arith, refl)
-    go (some ls) x = let l = linesOf-sound t ls x .1 in (omega arith, coded-length ls l)
-
 -- ---- the answer
 
-module _ (k : Counts) (t : List ℕ) (s : Script) (e : s ≡ codedLines (linesOf t)) (b : Bool) (w : Whole k (take (s .count * 3) (s .code)) b) where
+module _ (k : Counts) (t : List ℕ) (s : Script) (e : s ≡ codedLines (linesOf t))
+    (ws : List ℕ) (q : ws ≡ take (s .count * 3) (s .code)) (b : Bool) (w : Whole k ws b) where
   -- what was tested is whether the text has a command
   tested : b ≡ isSome (scriptOf k t)
   unfolding scriptOf commandIn codedLines coded noCode
   tested = go (linesOf t) e
     where
       go : (o : Option (List Line)) → s ≡ codedLines o → b ≡ isSome (commandIn k o)
-      go none x = unfold code commandOf namedOnly parse single stackOf in w [] (rw x)
-      go (some ls) x = w ls (rw x (coded-code ls))
+      go none x = unfold code commandOf namedOnly parse single stackOf in w [] (q ∙ rw x)
+      go (some ls) x = w ls (q ∙ rw x (coded-code ls))
 
   pub read-yes : b ≡ true → s ≡ decoded (scriptOf k t)
   unfolding scriptOf

@@ -1,8 +1,8 @@
 // From a script's bytes to its code, three words a line; everything that is no script is refused.
 ghost use mathlib.Core.Path.{_≡_};
-ghost use Prim.Native.Nat.{ℕ};
+ghost use Prim.Native.Nat.{ℕ, _*_};
 ghost use lib.Dec.{ltb};
-ghost use lib.ListN.{drop};
+ghost use lib.ListN.{take, drop};
 ghost use Rattle.language.specs.Syntax.{both};
 ghost use Rattle.lines.specs.Lines.{Line};
 ghost use Rattle.tables.specs.Tables.{typesIn, labelsIn, locationsIn};
@@ -307,6 +307,17 @@ fn scan_cmd(code: &[u32], at: usize, table: &[u16], depth: u32) -> Scanned
     }
 }
 
+// The rows of a script with so many lines.
+pub fn rows(code: &[u32], count: usize) -> &[u32]
+    ensures { λ r. ⌜ now r ≡ take (count * 3) (now (code .entry)) ⌝ }
+{
+    if code.len() / ROW < count {
+        return code;
+    }
+    let end = count * ROW;
+    &code[..end]
+}
+
 // Whether the code is that of one command and nothing after it.
 fn whole(code: &[u32], table: &[u16]) -> bool
     ensures { λ r. ⌜ Whole (countsIn (now (table .entry))) (now (code .entry)) r ⌝ }
@@ -320,9 +331,8 @@ pub fn read(text: &[u8], table: &[u16]) -> Script
     ensures { λ r. ⌜ r ≡ decoded (scriptOf (countsIn (now (table .entry))) (now (text .entry))) ⌝ }
 {
     let s = decode(text);
-    let code = s.code;
-    let n = s.count * ROW;
-    if whole(&code[..n], table) {
+    let count = s.count;
+    if whole(rows(&s.code, count), table) {
         s
     } else {
         refused()

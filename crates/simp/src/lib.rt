@@ -45,8 +45,7 @@ pub extern "C" fn simp_check(sheet: &[u8], script: &[u8]) -> u8
     if answer != DONE {
         return answer;
     }
-    let table = read.table;
-    stages::check_on(script, &table)
+    stages::check_on(script, &read.table)
 }
 
 // Runs a script on a memory under an authority, for at most `budget` steps. The memory changes only if the run is done.
@@ -65,8 +64,7 @@ pub extern "C" fn simp_run(
     if answer != DONE {
         return stages::refused(answer);
     }
-    let table = read.table;
-    stages::run_on(script, &table, memory, authority, budget)
+    stages::run_on(script, &read.table, memory, authority, budget)
 }
 
 // What a group is shown of a memory. The view slice changes only if the answer is 0.
@@ -79,6 +77,5 @@ pub extern "C" fn simp_view(sheet: &[u8], memory: &[u32], group: u16, view: &mut
     if answer != DONE {
         return answer;
     }
-    let table = read.table;
-    stages::view_on(&table, memory, group, view)
+    stages::view_on(&read.table, memory, group, view)
 }

@@ -1,7 +1,5 @@
 // What a call does once the sheet is read: the script, the checks in the order of their numbers, the run or the view.
 ghost use mathlib.Core.Path.{_≡_};
-ghost use Prim.Native.Nat.{_*_};
-ghost use lib.ListN.{take};
 ghost use Rattle.simp.specs.Stages.{Judges, ChecksOn, RunsCode, RunsOn, ViewsOn};
 use super::Outcome;
 
@@ -10,17 +8,6 @@ pub fn refused(answer: u8) -> Outcome
     ensures { λ r. ⌜ r ≡ record { answer = answer; steps = 0 } ⌝ }
 {
     Outcome { answer, steps: 0 }
-}
-
-// The rows of a script with so many lines.
-fn rows(code: &[u32], count: usize) -> &[u32]
-    ensures { λ r. ⌜ now r ≡ take (count * 3) (now (code .entry)) ⌝ }
-{
-    if code.len() / lines::ROW < count {
-        return code;
-    }
-    let end = count * lines::ROW;
-    &code[..end]
 }
 
 // 4 where there is no script, 5 or 6 where it has no derivation, else 0.
@@ -38,9 +25,8 @@ pub fn check_on(script: &[u8], table: &[u16]) -> u8
     ensures { λ r. ⌜ ChecksOn (now (script .entry)) (now (table .entry)) r ⌝ }
 {
     let read = script::read(script, table);
-    let code = read.code;
     let count = read.count;
-    judge(rows(&code, count), table)
+    judge(script::rows(&read.code, count), table)
 }
 
 // Checks and runs the code of a script.
@@ -76,9 +62,14 @@ pub fn run_on(
         return refused(super::PRINCIPAL_UNKNOWN);
     }
     let read = script::read(script, table);
-    let code = read.code;
     let count = read.count;
-    run_code(rows(&code, count), table, memory, authority, budget)
+    run_code(
+        script::rows(&read.code, count),
+        table,
+        memory,
+        authority,
+        budget,
+    )
 }
 
 // Shows a group a memory on the sheet of a table.

@@ -1,27 +1,22 @@
+-- `script::rows` meets its contract. Assumes nothing.
 use Prim.Native.Nat.{_*_}
 use mathlib.Core.Path.{sym}
 use native.Mathlib.Omega.{arith}
 use lib.ListN.{length-take}
 use lib.Seq.{take-all}
 use borrow.Author.Needs.{needs}
-use Rattle.simp.proofs.stages.rows.Statement.{statement}
-use Rattle.simp.proofs.stages.rows.Tie as tie
-use Rattle.simp.proofs.stages.rows.Reads as reads
-use Rattle.simp.proofs.stages.rows.Lts as lts
+use Rattle.script.proofs.rows.Statement.{statement}
+use Rattle.script.proofs.rows.Tie as tie
 
--- src/stages.rt:20:9
 returns : tie.Need-returns
 returns c = sym (take-all (c .before .args .count * 3) (c .before .args .code .now) (omega (arith, c .if1 .taken)))
 
--- src/stages.rt:22:15
 mul-end : tie.Need-mul-end
 mul-end c = search needs
 
--- src/stages.rt:23:5
 slice-aggregate-result : tie.Need-slice-aggregate-result
 slice-aggregate-result c = simp length-take (omega (arith, c .before .if1 .left))
 
--- src/stages.rt:16:1
 returns-2 : tie.Need-returns-2
 returns-2 c = search needs
 

@@ -144,7 +144,7 @@ fn decode_text(s: &[u8]) -> Script
     if !fits(s) {
         return refused();
     }
-    let mut code = [0u32; WORDS];
+    let mut out = refused();
     let mut n: usize = 0;
     let mut at: usize = 0;
     while at < s.len() {
@@ -153,9 +153,9 @@ fn decode_text(s: &[u8]) -> Script
         }
         match line_at(s, at) {
             Found::At(kind, a, b, p) => {
-                code[n * ROW] = kind;
-                code[n * ROW + 1] = a;
-                code[n * ROW + 2] = b;
+                out.code[n * ROW] = kind;
+                out.code[n * ROW + 1] = a;
+                out.code[n * ROW + 2] = b;
                 n += 1;
                 at = p;
             }
@@ -164,7 +164,8 @@ fn decode_text(s: &[u8]) -> Script
             }
         }
     }
-    Script { count: n, code }
+    out.count = n;
+    out
 }
 
 // The same of the text from `at` on.
@@ -332,9 +333,8 @@ pub fn read(text: &[u8], table: &[u16]) -> Script
 {
     let s = decode(text);
     let count = s.count;
-    if whole(rows(&s.code, count), table) {
-        s
-    } else {
-        refused()
+    if !whole(rows(&s.code, count), table) {
+        return refused();
     }
+    s
 }

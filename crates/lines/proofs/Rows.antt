@@ -1,15 +1,15 @@
 -- What stands at a word of a script's code: the row of each kind of line. Assumes nothing.
 use mathlib.Core.Path.{_≡_, refl, sym, ap, _∙_}
 use mathlib.Core.Bool.{Bool, true, false}
-use mathlib.Core.List.{List, [], _∷_}
-use Prim.Native.Nat.{ℕ, zero, suc, _+_, _≤_, _<_}
+use mathlib.Core.List.{List, _∷_}
+use Prim.Native.Nat.{ℕ, suc, _+_, _≤_, _<_}
 use native.Mathlib.Nat.{add-zero}
 use native.Mathlib.Omega.{arith}
 use borrow.Author.Tests.{le-leb, lt-leb, leb-true, leb-false}
 use lib.Dec.{leb}
 use lib.ListN.{length, getD, drop, length-drop}
 use lib.Seq.{getD-drop, drop-drop}
-use Rattle.language.specs.Syntax.{Value, int, Expr, val, loc, var, plus, left, right, pack, unpack, Cmd, skip, seq, assign, while, case}
+use Rattle.language.specs.Syntax.{int, Expr, val, loc, var, plus, left, right, pack, unpack, Cmd, skip, seq, assign, while, case}
 use Rattle.lines.specs.declared.Row.{Row}
 use Rattle.lines.specs.Lines.{Line, SourceE, s-int, s-loc, s-var, s-plus, s-left, s-right, s-pack, s-unpack, Source, s-skip, s-seq, s-assign, s-while, s-case, numberOf, exprLines, cmdLines}
 use Rattle.lines.specs.Code.{lineWords, code, rowAt}
@@ -52,9 +52,9 @@ module _ (ws : List ℕ) (at : ℕ) where
         → CmdRow rest 5 0 0 (case e c d)
 
   -- a family over the three words of the row holds of the row that is read
-  read : {X : Type 0} (P : ℕ → ℕ → ℕ → X → Type 0) (x : X) (k a b : ℕ) (more : List ℕ) → drop at ws ≡ k ∷ a ∷ b ∷ more
+  pub row-read : {X : Type 0} (P : ℕ → ℕ → ℕ → X → Type 0) (x : X) (k a b : ℕ) (more : List ℕ) → drop at ws ≡ k ∷ a ∷ b ∷ more
       → (drop (at + 3) ws ≡ more → P k a b x) → P (rowAt ws at .kind) (rowAt ws at .a) (rowAt ws at .b) x
-  read P x k a b more h p =
+  row-read P x k a b more h p =
       let n : at + 3 ≤ length ws = omega (arith, length-drop at ws, ap length h) in
       let e0 : getD ws at 0 ≡ k = ap (λ (i : ℕ). getD ws i 0) (sym (add-zero at)) ∙ sym (getD-drop at ws 0 0) ∙ ap (λ (l : List ℕ). getD l 0 0) h in
       let e1 : getD ws (at + 1) 0 ≡ a = sym (getD-drop at ws 1 0) ∙ ap (λ (l : List ℕ). getD l 1 0) h in
@@ -64,20 +64,20 @@ module _ (ws : List ℕ) (at : ℕ) where
   pub expr-row : {rest : List Line} {e : Expr} → SourceE e → drop at ws ≡ code (exprLines e rest)
       → ExprRow rest (rowAt ws at .kind) (rowAt ws at .a) (rowAt ws at .b) e
   unfolding exprLines code lineWords numberOf
-  expr-row {rest} s-int h = read (ExprRow rest) _ _ _ _ _ h at-int
-  expr-row {rest} s-loc h = read (ExprRow rest) _ _ _ _ _ h at-loc
-  expr-row {rest} s-var h = read (ExprRow rest) _ _ _ _ _ h at-var
-  expr-row {rest} (s-plus s r) h = read (ExprRow rest) _ _ _ _ _ h (at-plus s r)
-  expr-row {rest} (s-left s) h = read (ExprRow rest) _ _ _ _ _ h (at-left s)
-  expr-row {rest} (s-right s) h = read (ExprRow rest) _ _ _ _ _ h (at-right s)
-  expr-row {rest} (s-pack s) h = read (ExprRow rest) _ _ _ _ _ h (at-pack s)
-  expr-row {rest} (s-unpack s) h = read (ExprRow rest) _ _ _ _ _ h (at-unpack s)
+  expr-row {rest} s-int h = row-read (ExprRow rest) _ _ _ _ _ h at-int
+  expr-row {rest} s-loc h = row-read (ExprRow rest) _ _ _ _ _ h at-loc
+  expr-row {rest} s-var h = row-read (ExprRow rest) _ _ _ _ _ h at-var
+  expr-row {rest} (s-plus s r) h = row-read (ExprRow rest) _ _ _ _ _ h (at-plus s r)
+  expr-row {rest} (s-left s) h = row-read (ExprRow rest) _ _ _ _ _ h (at-left s)
+  expr-row {rest} (s-right s) h = row-read (ExprRow rest) _ _ _ _ _ h (at-right s)
+  expr-row {rest} (s-pack s) h = row-read (ExprRow rest) _ _ _ _ _ h (at-pack s)
+  expr-row {rest} (s-unpack s) h = row-read (ExprRow rest) _ _ _ _ _ h (at-unpack s)
 
   pub cmd-row : {rest : List Line} {c : Cmd} → Source c → drop at ws ≡ code (cmdLines c rest)
       → CmdRow rest (rowAt ws at .kind) (rowAt ws at .a) (rowAt ws at .b) c
   unfolding cmdLines code lineWords
-  cmd-row {rest} s-skip h = read (CmdRow rest) _ _ _ _ _ h at-skip
-  cmd-row {rest} (s-seq s r) h = read (CmdRow rest) _ _ _ _ _ h (at-seq s r)
-  cmd-row {rest} (s-assign s) h = read (CmdRow rest) _ _ _ _ _ h (at-assign s)
-  cmd-row {rest} (s-while s r) h = read (CmdRow rest) _ _ _ _ _ h (at-while s r)
-  cmd-row {rest} (s-case s p q) h = read (CmdRow rest) _ _ _ _ _ h (at-case s p q)
+  cmd-row {rest} s-skip h = row-read (CmdRow rest) _ _ _ _ _ h at-skip
+  cmd-row {rest} (s-seq s r) h = row-read (CmdRow rest) _ _ _ _ _ h (at-seq s r)
+  cmd-row {rest} (s-assign s) h = row-read (CmdRow rest) _ _ _ _ _ h (at-assign s)
+  cmd-row {rest} (s-while s r) h = row-read (CmdRow rest) _ _ _ _ _ h (at-while s r)
+  cmd-row {rest} (s-case s p q) h = row-read (CmdRow rest) _ _ _ _ _ h (at-case s p q)

@@ -3,12 +3,10 @@ use mathlib.Core.Path.{_≡_, refl, sym, ap, _∙_}
 use mathlib.Core.Bool.{Bool, true, false}
 use mathlib.Core.List.{List, [], _∷_}
 use Prim.Native.Nat.{ℕ, suc, _+_, _^_, _≤_, _<_}
-use native.Mathlib.Nat.{add-zero}
 use native.Mathlib.Numerals.{add-one}
 use native.Mathlib.Omega.{arith}
 use lib.Dec.{ltb}
-use lib.ListN.{length, getD, drop, length-drop}
-use lib.Seq.{getD-drop, drop-drop}
+use lib.ListN.{length, drop, length-drop}
 use borrow.Author.Tests.{lt-ltb, le-ltb}
 use Rattle.language.specs.Syntax.{both, int, Expr, val, loc, var, plus, left, right, pack, unpack, Cmd, skip, seq, assign, while, case}
 use Rattle.language.proofs.Booleans.{both-true, both-left, both-right}
@@ -16,7 +14,7 @@ use Rattle.lines.specs.declared.Row.{Row}
 use Rattle.lines.specs.Lines.{Line, l-skip, l-seq, l-assign, l-while, l-case, l-int, l-loc, l-var, l-plus, l-left, l-right, l-pack, l-unpack, SourceE, s-int, s-loc, s-var, s-plus, s-left, s-right, s-pack, s-unpack, Source, s-skip, s-seq, s-assign, s-while, s-case, numberOf, exprLines, cmdLines}
 use Rattle.lines.specs.Code.{lineWords, code, rowAt}
 use Rattle.lines.specs.Names.{Counts, maxDepth, namedE, named}
-use Rattle.lines.proofs.Rows.{row-there, row-none, row-in, ExprRow, at-int, at-loc, at-var, at-plus, at-left, at-right, at-pack, at-unpack, expr-row, CmdRow, at-skip, at-seq, at-assign, at-while, at-case, cmd-row}
+use Rattle.lines.proofs.Rows.{row-read, row-none, row-in, ExprRow, at-int, at-loc, at-var, at-plus, at-left, at-right, at-pack, at-unpack, expr-row, CmdRow, at-skip, at-seq, at-assign, at-while, at-case, cmd-row}
 use Rattle.script.specs.declared.Scanned.{Scanned}
 use Rattle.script.specs.Scan.{rowOf, Scans, ScansExpr, ScansCmd}
 use Rattle.script.proofs.CodeLaws.{words-of}
@@ -68,12 +66,8 @@ module _ (ws : List ℕ) (at : ℕ) where
   line-there : (l : Line) (ls : List Line) → drop at ws ≡ code (l ∷ ls) → (rowAt ws at ≡ rowOf l) × (drop (at + 3) ws ≡ code ls)
   unfolding code
   line-there l ls g =
-      let h : drop at ws ≡ rowOf l .kind ∷ rowOf l .a ∷ rowOf l .b ∷ code ls = g ∙ words-of l (code ls) in
-      let n : at + 3 ≤ length ws = omega (arith, length-drop at ws, ap length h) in
-      let e0 : getD ws at 0 ≡ rowOf l .kind = ap (λ (i : ℕ). getD ws i 0) (sym (add-zero at)) ∙ sym (getD-drop at ws 0 0) ∙ ap (λ (l : List ℕ). getD l 0 0) h in
-      let e1 : getD ws (at + 1) 0 ≡ rowOf l .a = sym (getD-drop at ws 1 0) ∙ ap (λ (l : List ℕ). getD l 1 0) h in
-      let e2 : getD ws (at + 2) 0 ≡ rowOf l .b = sym (getD-drop at ws 2 0) ∙ ap (λ (l : List ℕ). getD l 2 0) h in
-      (rw (row-there ws at n, e0, e1, e2), sym (drop-drop 3 at ws) ∙ ap (λ (l : List ℕ). drop 3 l) h)
+      row-read ws at {X = Unit} (λ k a b _. (_≡_ {A = Row} (record { kind = k; a = a; b = b }) (rowOf l)) × (drop (at + 3) ws ≡ code ls))
+      tt _ _ _ (code ls) (g ∙ words-of l (code ls)) (λ d. (refl, d))
 
   -- no row stands where the words end
   line-nowhere : drop at ws ≡ code [] → rowAt ws at .kind ≡ 0

@@ -93,20 +93,20 @@ fields-open (v ∷ vs) t = opens-byte 9 _ ∙ digit-low 9 (omega arith)
 -- words that are read are at least one, in range, not zero at the end, and printed there
 pub record Line (k : ℕ) (t vs u : List ℕ) : Type 0 where
   pub text : t ≡ line vs u
-  pub some : 1 ≤ length vs
+  pub not-empty : 1 ≤ length vs
   pub few : length vs ≤ k
   pub in-range : Words vs
   pub kept : trim vs ≡ vs
 
 line-one : (k v : ℕ) (t u : List ℕ) → t ≡ decimal v ++ (10 ∷ u) → v ≤ most → (v ≡ 0 → ⊥) → Line (suc k) t (v ∷ []) u
 unfolding line fields trim Words
-line-one k v t u e h z = record { text = e; some = omega arith; few = omega arith; in-range = (h, tt); kept = trimming.keep-last v z }
+line-one k v t u e h z = record { text = e; not-empty = omega arith; few = omega arith; in-range = (h, tt); kept = trimming.keep-last v z }
 
 line-more : (k v : ℕ) (t w vs u : List ℕ) → t ≡ decimal v ++ (9 ∷ w) → v ≤ most → Line k w vs u → Line (suc k) t (v ∷ vs) u
-line-more k v t w [] u e h l = let x : 1 ≤ 0 = l .some in absurd (omega arith)
+line-more k v t w [] u e h l = let x : 1 ≤ 0 = l .not-empty in absurd (omega arith)
 line-more k v t w (x ∷ vs) u e h l = record {
   text = e ∙ rw (l .text) (unfold line in (rw (fields-line x vs u)));
-  some = omega arith;
+  not-empty = omega arith;
   few = let y : suc (length vs) ≤ k = l .few in omega arith;
   in-range = unfold Words in (h, l .in-range);
   kept = unfold trim in (ap (keep v) (l .kept) ∙ trimming.keep-more v x vs);

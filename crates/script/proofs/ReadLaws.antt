@@ -131,4 +131,4 @@ read-split {P} k t r e f g = go (scriptOf k t) refl
     go (some c) x =
         let s = script-sound k t c x in
         let y : r ≡ coded (cmdLines c []) = e ∙ ap decoded x in
-        g c x (s .source) (s .named-there) (rw y (s .some)) (rw y (s .few)) (rw y (coded-length (cmdLines c []) (s .few))) (rw y (coded-code (cmdLines c [])))
+        g c x (s .source) (s .named-there) (rw y (s .not-empty)) (rw y (s .few)) (rw y (coded-length (cmdLines c []) (s .few))) (rw y (coded-code (cmdLines c [])))

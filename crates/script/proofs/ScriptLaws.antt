@@ -126,7 +126,7 @@ script-sound k t c e =
       printed = r .0 ∙ ap scriptBytes (q .0);
       source = q .1;
       named-there = q .2;
-      some = rw (q .0) at n;
+      not-empty = rw (q .0) at n;
       few = rw (q .0) at (r .1);
       short = r .2;
     }) e

@@ -25,7 +25,7 @@ pub record IsScript (k : Counts) (t : List ℕ) (c : Cmd) : Type 0 where
   pub printed : t ≡ scriptBytes (cmdLines c [])
   pub source : Source c
   pub named-there : named k 0 c ≡ true
-  pub some : 1 ≤ length (cmdLines c [])
+  pub not-empty : 1 ≤ length (cmdLines c [])
   pub few : length (cmdLines c []) ≤ maxLines
   pub short : length t ≤ limit
 

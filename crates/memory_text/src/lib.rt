@@ -48,7 +48,7 @@ fn line_words(s: &[u8], at: usize) -> Row
     let mut p = at;
     let mut i: usize = 0;
     while i < 16 {
-        let Value::At(v, q) = text::number(s, p, 4294967295) else {
+        let Value::At(v, q) = text::number(s, p, text::MOST) else {
             return no_row();
         };
         if s.len() <= q {

@@ -1,6 +1,6 @@
 -- A function that takes a reader apart and calls another on the slice and the number meets its contract: a walk of its MIR, by hand, once for every type of result. All that the walk knows of the callee is that it meets its contract.
 -- The struct is Copy: what it owns is had twice, one copy is kept whole for the exit, and of the other what text owns goes to the callee, beside the lifetime's token, which comes back.
---     Result           a type of result that is one machine value.        struct, enum     a declared struct's and a declared enum's
+--     Result           a type of result that is one machine value.        struct     a declared struct's
 --     here, from-at    the signatures, over the result's type, of the function and of its callee.        here-clauses, from-clauses     their contracts: the result is what is wanted of the text at the place
 --     function         the MIR
 --     apart            the function meets its contract, where the callee does.        taken      the same of its entry in a program's table
@@ -36,9 +36,6 @@ use denote.Ref.{now}
 use denote.Signature.{plain, namedLft}
 use denote.Slice.{sliceTy, sliceVal, ShrSlice}
 use denote.Steps.{owned, peeks, heard, nothing}
-use denote.Enum.Enum.{Few}
-use denote.Enum.Declared as enums
-use denote.Enum.Laws as EL
 use denote.Struct.Declared.{Declared, row}
 use denote.Struct.Laws as LL
 use denote.Struct.Rest.{all-own, ownAt, rest, own-open, own-out}
@@ -62,9 +59,6 @@ pub record Result : Type 2 where
 
 abbrev pub struct : (S : Declared) → LL.Laws S → LL.Lowered S → Result
 struct S L low = record { row = row S; low = low; lawful = λ 𝓤 H A W. LL.lawful S L 𝓤 H A W }
-
-abbrev pub enum : (S : enums.Declared) → EL.Laws S → Few (enums.shape S) → Lowered (enums.row S) → Result
-enum S L few low = record { row = enums.row S; low = low; lawful = λ 𝓤 H A W. EL.lawful S L 𝓤 H A W few }
 
 -- the machine value of a result has the result's type
 pub typed : (R : Result) {M : Type 1} (𝓤 : URA M) (H : Heap 𝓤) (A : Atoms 𝓤) → Given 𝓤 H A → (r : R .row .Denot) (u : Val) → Is (R .row) r (u ∷ []) → Holds (hasTy (R .low .mir) u) × WT u

@@ -31,6 +31,7 @@ use reader::rest;
 use tables::labels;
 use tables::locations;
 use tables::types;
+use text::MOST;
 use text::Place;
 use text::Value;
 use text::fits;
@@ -40,9 +41,6 @@ use text::number_field;
 
 // The words of a script's code in all.
 pub const WORDS: usize = 1536;
-
-// The largest number that a line holds.
-const MOST: u32 = 4294967295;
 
 // Cases nest at most this deep.
 const DEPTH: u32 = 8;

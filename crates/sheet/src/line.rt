@@ -2,6 +2,7 @@
 ghost use mathlib.Core.Path.{_≡_};
 ghost use lib.ListN.{drop};
 ghost use Rattle.sheet.specs.Reading.{principalsRest, pairLine, pairRest, labelRest, policyRest, lineOf, foundIn};
+use text::MOST;
 use text::Mask;
 use text::Place;
 use text::Value;
@@ -9,9 +10,6 @@ use text::last_number;
 use text::line_end;
 use text::number_field;
 use text::set_field;
-
-// The largest number that a line holds.
-const MOST: u32 = 4294967295;
 
 // A line of a sheet, by its first byte: `P n`, `T a b`, `L`, `O owner readers writers`, `X type label`.
 pub enum Line {

@@ -10,6 +10,9 @@ ghost use Rattle.text.specs.Set.{hexDigit, hexSet};
 ghost use Rattle.text.specs.Field.{numberField, setField, lineEnd, lastNumber};
 ghost use Rattle.text.specs.Place.{valueIn, maskIn, placeIn};
 
+// The largest number of 32 bits.
+pub const MOST: u32 = 4294967295;
+
 // The longest text, in bytes.
 const LIMIT: usize = 16384;
 

@@ -17,6 +17,8 @@ use Rattle.text.proofs.Readings.{not-bad, got-same, andThen-got, andThen-bad, a
 use Rattle.text.proofs.Numbers.{digit-low, opens-none, opens-byte, number-none, byte-digit}
 use Rattle.text.proofs.Decimals.{number-sound, number-print, opens-decimal}
 use Rattle.text.proofs.Writings.{length-decimal}
+use Rattle.language.specs.Evaluation.{cell-words}
+use Rattle.memory_text.specs.Sizes.{lineRoom}
 use Rattle.memory_text.specs.Printing.{keep, trim, fields, line, rowLine}
 use Rattle.memory_text.specs.Reading.{following, words, padded, blankOr, lineWords, location}
 use Rattle.memory_text.specs.Theorems.{Words}
@@ -143,7 +145,7 @@ words-print (suc k) v (w ∷ vs) u h r e =
 
 -- the cases of `location`: an empty line, a line of words, no line
 module _ (t : List ℕ) where
-  pub location-blank : (u : List ℕ) → lineEnd t ≡ got tt u → location t ≡ got (replicate 16 0) u
+  pub location-blank : (u : List ℕ) → lineEnd t ≡ got tt u → location t ≡ got (replicate cell-words 0) u
   unfolding location blankOr
   location-blank u e = rw e
 
@@ -165,39 +167,39 @@ unfolding line
 line-words v vs u = byte-digit 10 _ (digit-low 10 (omega arith)) (opens-decimal v (fields vs (10 ∷ u)))
 
 -- a location that is read has 16 words in range, and its line stands there
-pub location-sound : (t row u : List ℕ) → location t ≡ got row u → (t ≡ line (trim row) u) × (length row ≡ 16) × Words row
+pub location-sound : (t row u : List ℕ) → location t ≡ got row u → (t ≡ line (trim row) u) × (length row ≡ cell-words) × Words row
 unfolding trim lineWords
 location-sound t row u e = go (lineEnd t) refl
   where
-    go : (x : Read Unit) → lineEnd t ≡ x → (t ≡ line (trim row) u) × (length row ≡ 16) × Words row
+    go : (x : Read Unit) → lineEnd t ≡ x → (t ≡ line (trim row) u) × (length row ≡ cell-words) × Words row
     go (got z r) f =
-        let y = got-same (replicate 16 0) row r u (sym (location-blank t r f) ∙ e) in
-        let n : trim (replicate 16 0) ≡ [] = trimming.trim-zeros [] 16 in
-        rw (← y .0, ← y .1, n) (unfold line in (byte-sound 10 t r z f), refl, trimming.words-zeros 16)
+        let y = got-same (replicate cell-words 0) row r u (sym (location-blank t r f) ∙ e) in
+        let n : trim (replicate cell-words 0) ≡ [] = trimming.trim-zeros [] cell-words in
+        rw (← y .0, ← y .1, n) (unfold line in (byte-sound 10 t r z f), refl, trimming.words-zeros cell-words)
     go bad f =
-        andThen-split (words 16 t) _ row u
+        andThen-split (words cell-words t) _ row u
         (λ vs r g h.
-        let y = got-same (padded 16 vs) row r u h in
-        let l = words-sound 16 t vs r g in
-        rw (← y .0, ← y .1, trimming.trim-padded 16 vs, l .kept)
-        (l .text, trimming.length-padded 16 vs (l .few), trimming.words-padded 16 vs (l .in-range)))
+        let y = got-same (padded cell-words vs) row r u h in
+        let l = words-sound cell-words t vs r g in
+        rw (← y .0, ← y .1, trimming.trim-padded cell-words vs, l .kept)
+        (l .text, trimming.length-padded cell-words vs (l .few), trimming.words-padded cell-words vs (l .in-range)))
         (sym (location-words t f) ∙ e)
 
-pub location-print : (row u : List ℕ) → length row ≡ 16 → Words row → location (line (trim row) u) ≡ got row u
+pub location-print : (row u : List ℕ) → length row ≡ cell-words → Words row → location (line (trim row) u) ≡ got row u
 unfolding padded lineWords
 location-print row u n h = go (trim row) refl
   where
     go : (vs : List ℕ) → trim row ≡ vs → location (line vs u) ≡ got row u
     go [] e =
-        let y : padded 16 [] ≡ row = ap (padded 16) (sym e) ∙ trimming.padded-trim row 16 n in
+        let y : padded cell-words [] ≡ row = ap (padded cell-words) (sym e) ∙ trimming.padded-trim row cell-words n in
         location-blank (line [] u) u (line-blank u) ∙ ap (λ (l : List ℕ). got l u) y
     go (v ∷ vs) e =
         let k : trim (v ∷ vs) ≡ v ∷ vs = rw (← e) (trimming.trim-trim row) in
         let w : Words (v ∷ vs) = rw (← e) (trimming.words-trim row h) in
-        let l : length (v ∷ vs) ≤ 16 = omega (arith, trimming.length-trim row, ap length e) in
+        let l : length (v ∷ vs) ≤ cell-words = omega (arith, trimming.length-trim row, ap length e) in
         location-words (line (v ∷ vs) u) (line-words v vs u)
-        ∙ andThen-got _ _ (v ∷ vs) u (words-print 16 v vs u l w k)
-        ∙ ap (λ (l : List ℕ). got l u) (ap (padded 16) (sym e) ∙ trimming.padded-trim row 16 n)
+        ∙ andThen-got _ _ (v ∷ vs) u (words-print cell-words v vs u l w k)
+        ∙ ap (λ (l : List ℕ). got l u) (ap (padded cell-words) (sym e) ∙ trimming.padded-trim row cell-words n)
 
 -- a line of words takes at most 11 bytes for each word
 length-fields : (vs t : List ℕ) → Words vs → length (fields vs t) ≤ 11 * length vs + length t
@@ -206,7 +208,7 @@ length-fields [] t h = omega arith
 length-fields (v ∷ vs) t h =
     omega (arith, length-append (decimal v) (fields vs t), length-decimal v (h .0), length-fields vs t (h .1))
 
-pub length-line : (vs t : List ℕ) → Words vs → length vs ≤ 16 → length (line vs t) ≤ 176 + length t
+pub length-line : (vs t : List ℕ) → Words vs → length vs ≤ cell-words → length (line vs t) ≤ lineRoom + length t
 unfolding line Words
 length-line [] t h l = omega arith
 length-line (v ∷ vs) t h l =
@@ -228,7 +230,7 @@ line-ahead (v ∷ vs) u =
 
 -- 16 words, each in range
 abbrev pub Row : List ℕ → Type 0
-Row row = (length row ≡ 16) × Words row
+Row row = (length row ≡ cell-words) × Words row
 
 -- each location is read exactly where its line stands
 pub memory-lines : LineForm location rowLine Row

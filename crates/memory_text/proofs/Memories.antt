@@ -13,6 +13,9 @@ use Rattle.text.specs.Lines.{linesUpTo, printLines, Each, none-left, and-then}
 use Rattle.text.proofs.Cases.{cond-split}
 use Rattle.text.proofs.Readings.{not-bad, got-same}
 use Rattle.text.proofs.Lines.{lines-exact}
+use Rattle.language.specs.Evaluation.{cell-words}
+use Rattle.tables.specs.Sheet.{maxLocations}
+use Rattle.memory_text.specs.Sizes.{lineRoom}
 use Rattle.memory_text.specs.Printing.{trim, rows, lines, memoryText}
 use Rattle.memory_text.specs.Reading.{location, joined, wordsOf, locations, memory}
 use Rattle.memory_text.specs.Answers.{table, memoryOf}
@@ -22,7 +25,7 @@ use Rattle.memory_text.proofs.Lines.{Row, memory-lines, length-line}
 
 -- ---- the words of locations, and the locations of words
 
-joined-length : (rs : List (List ℕ)) → Each Row rs → length (joined rs) ≡ 16 * length rs
+joined-length : (rs : List (List ℕ)) → Each Row rs → length (joined rs) ≡ cell-words * length rs
 unfolding joined
 joined-length [] none-left = refl
 joined-length (row ∷ rs) (and-then g e) = length-append row (joined rs) ∙ omega (arith, g .0, joined-length rs e)
@@ -36,62 +39,62 @@ rows-joined : (rs : List (List ℕ)) → Each Row rs → rows (length rs) (joine
 unfolding joined rows
 rows-joined [] none-left = refl
 rows-joined (row ∷ rs) (and-then g e) =
-    rw (take-at row (joined rs) 16 (g .0), drop-at row (joined rs) 16 (g .0)) (ap (_∷_ row) (rows-joined rs e))
+    rw (take-at row (joined rs) cell-words (g .0), drop-at row (joined rs) cell-words (g .0)) (ap (_∷_ row) (rows-joined rs e))
 
 -- the words of the first location and those of the others
-words-split : (ws : List ℕ) → Words ws → Words (take 16 ws) × Words (drop 16 ws)
+words-split : (ws : List ℕ) → Words ws → Words (take cell-words ws) × Words (drop cell-words ws)
 words-split ws h =
-    let x : Words (take 16 ws ++ drop 16 ws) = rw (take-append-drop 16 ws) h in
-    (words-left (take 16 ws) (drop 16 ws) x, words-right (take 16 ws) (drop 16 ws) x)
+    let x : Words (take cell-words ws ++ drop cell-words ws) = rw (take-append-drop cell-words ws) h in
+    (words-left (take cell-words ws) (drop cell-words ws) x, words-right (take cell-words ws) (drop cell-words ws) x)
 
 rows-length : (j : ℕ) (ws : List ℕ) → length (rows j ws) ≡ j
 unfolding rows
 rows-length zero ws = refl
-rows-length (suc j) ws = ap suc (rows-length j (drop 16 ws))
+rows-length (suc j) ws = ap suc (rows-length j (drop cell-words ws))
 
-rows-good : (j : ℕ) (ws : List ℕ) → length ws ≡ 16 * j → Words ws → Each Row (rows j ws) × (joined (rows j ws) ≡ ws)
+rows-good : (j : ℕ) (ws : List ℕ) → length ws ≡ cell-words * j → Words ws → Each Row (rows j ws) × (joined (rows j ws) ≡ ws)
 unfolding rows joined
 rows-good zero [] n h = (none-left, refl)
 rows-good zero (w ∷ ws) n h = absurd (omega arith)
 rows-good (suc j) ws n h =
     let s = words-split ws h in
-    let r = rows-good j (drop 16 ws) (length-drop 16 ws ∙ omega arith) (s .1) in (
-      and-then (length-take-le 16 ws (omega arith), s .0) (r .0),
-      ap (λ (l : List ℕ). take 16 ws ++ l) (r .1) ∙ take-append-drop 16 ws,
+    let r = rows-good j (drop cell-words ws) (length-drop cell-words ws ∙ omega arith) (s .1) in (
+      and-then (length-take-le cell-words ws (omega arith), s .0) (r .0),
+      ap (λ (l : List ℕ). take cell-words ws ++ l) (r .1) ∙ take-append-drop cell-words ws,
     )
 
 -- a text of j locations has at most 176 bytes for each
-pub length-lines : (j : ℕ) (ws : List ℕ) → length ws ≡ 16 * j → Words ws → length (lines j ws) ≤ 176 * j
+pub length-lines : (j : ℕ) (ws : List ℕ) → length ws ≡ cell-words * j → Words ws → length (lines j ws) ≤ lineRoom * j
 unfolding printLines rows
 length-lines zero ws n h = omega arith
 length-lines (suc j) ws n h =
     let s = words-split ws h in
-    let d : length (drop 16 ws) ≡ 16 * j = length-drop 16 ws ∙ omega arith in
-    let r : length (take 16 ws) ≡ 16 = length-take-le 16 ws (omega arith) in
+    let d : length (drop cell-words ws) ≡ cell-words * j = length-drop cell-words ws ∙ omega arith in
+    let r : length (take cell-words ws) ≡ cell-words = length-take-le cell-words ws (omega arith) in
     omega (
       arith,
-      length-line (trim (take 16 ws)) (lines j (drop 16 ws)) (words-trim (take 16 ws) (s .0)) (omega (arith, length-trim (take 16 ws))),
-      length-lines j (drop 16 ws) d (s .1),
+      length-line (trim (take cell-words ws)) (lines j (drop cell-words ws)) (words-trim (take cell-words ws) (s .0)) (omega (arith, length-trim (take cell-words ws))),
+      length-lines j (drop cell-words ws) d (s .1),
     )
 
 -- what is read is 16 words in range for each of at most k locations, printed there
 pub rows-sound : (k : ℕ) (t : List ℕ) (rs : List (List ℕ)) → linesUpTo location k t ≡ some rs
-    → (t ≡ lines (length (joined rs) / 16) (joined rs)) × (length (joined rs) ≡ 16 * length rs) × (length rs ≤ k) × Words (joined rs)
+    → (t ≡ lines (length (joined rs) / cell-words) (joined rs)) × (length (joined rs) ≡ cell-words * length rs) × (length rs ≤ k) × Words (joined rs)
 rows-sound k t rs e =
     let x = lines-exact memory-lines k t rs .0 e in
     let n = joined-length rs (x .1) in
-    let q : length (joined rs) / 16 ≡ length rs = omega arith in
+    let q : length (joined rs) / cell-words ≡ length rs = omega arith in
     (x .0 ∙ rw (q, rows-joined rs (x .1)), n, x .2, joined-words rs (x .1))
 
-locations-sound : (ws t r : List ℕ) → locations 64 t ≡ got ws r → (t ≡ memoryText ws) × IsMemory ws × (r ≡ [])
+locations-sound : (ws t r : List ℕ) → locations maxLocations t ≡ got ws r → (t ≡ memoryText ws) × IsMemory ws × (r ≡ [])
 unfolding locations wordsOf memoryText
-locations-sound ws t r e = go (linesUpTo location 64 t) refl e
+locations-sound ws t r e = go (linesUpTo location maxLocations t) refl e
   where
-    go : (o : Option (List (List ℕ))) → linesUpTo location 64 t ≡ o → wordsOf o ≡ got ws r → (t ≡ memoryText ws) × IsMemory ws × (r ≡ [])
+    go : (o : Option (List (List ℕ))) → linesUpTo location maxLocations t ≡ o → wordsOf o ≡ got ws r → (t ≡ memoryText ws) × IsMemory ws × (r ≡ [])
     go none x h = not-bad ws r h
     go (some rs) x h =
         let z = got-same (joined rs) ws [] r h in
-        let y = rows-sound 64 t rs x in
+        let y = rows-sound maxLocations t rs x in
         let n = y .1 in
         let l = y .2 in
         rw (← z .0, ← z .1) (y .0, record { whole = omega arith; most-locations = omega arith; in-range = y .3 }, refl)
@@ -104,12 +107,12 @@ memory-sound ws t r e = cond-split (fits t) _ _ _ (λ p x. locations-sound ws t 
 pub memory-print : (ws : List ℕ) → IsMemory ws → memory (memoryText ws) ≡ got ws []
 unfolding memory memoryText fits locations wordsOf
 memory-print ws m =
-    let n : length ws ≡ 16 * (length ws / 16) = let w = m .whole in omega arith in
-    let k : length ws / 16 ≤ 64 = let w = m .most-locations in omega arith in
-    let f : length (lines (length ws / 16) ws) ≤ limit = omega (arith, length-lines (length ws / 16) ws n (m .in-range)) in
-    let g = rows-good (length ws / 16) ws n (m .in-range) in
-    let c = rows-length (length ws / 16) ws in
-    rw (le-leb _ _ f, lines-exact memory-lines 64 _ (rows (length ws / 16) ws) .1 (refl, g .0, omega arith), g .1)
+    let n : length ws ≡ cell-words * (length ws / cell-words) = let w = m .whole in omega arith in
+    let k : length ws / cell-words ≤ maxLocations = let w = m .most-locations in omega arith in
+    let f : length (lines (length ws / cell-words) ws) ≤ limit = omega (arith, length-lines (length ws / cell-words) ws n (m .in-range)) in
+    let g = rows-good (length ws / cell-words) ws n (m .in-range) in
+    let c = rows-length (length ws / cell-words) ws in
+    rw (le-leb _ _ f, lines-exact memory-lines maxLocations _ (rows (length ws / cell-words) ws) .1 (refl, g .0, omega arith), g .1)
 
 pub memory-exact : MemoryExact
 memory-exact ws t =

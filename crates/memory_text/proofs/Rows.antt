@@ -11,6 +11,7 @@ use Rattle.text.specs.Reading.Read.{got, bad}
 use Rattle.text.specs.Number.{number, most}
 use Rattle.text.proofs.Readings.{drop-step, andThen-got, andThen-bad}
 use Rattle.text.proofs.Writings.{sets-zeros}
+use Rattle.language.specs.Evaluation.{cell-words}
 use Rattle.memory_text.specs.Reading.{following, words, padded, lineWords}
 use Rattle.memory_text.proofs.Lines as lines
 
@@ -26,40 +27,40 @@ stored-cons array i v bad = refl
 
 -- what is left to read of a line of which i words are in the array
 unfoldable pub left : ℕ → List ℕ → List ℕ → Read (List ℕ)
-left i array t = andThen (words (16 - i) t) (stored array i)
+left i array t = andThen (words (cell-words - i) t) (stored array i)
 
-left-is : (i : ℕ) (array t : List ℕ) → left i array t ≡ andThen (words (16 - i) t) (stored array i)
+left-is : (i : ℕ) (array t : List ℕ) → left i array t ≡ andThen (words (cell-words - i) t) (stored array i)
 unfolding left
 left-is i array t = refl
 
-pub left-start : (t : List ℕ) → left 0 (replicate 16 0) t ≡ lineWords t
+pub left-start : (t : List ℕ) → left 0 (replicate cell-words 0) t ≡ lineWords t
 unfolding left lineWords padded
-left-start t = go (words 16 t) refl
+left-start t = go (words cell-words t) refl
   where
-    go : (x : Read (List ℕ)) → words 16 t ≡ x
-        → andThen x (stored (replicate 16 0) 0) ≡ andThen x (λ ws u. got (padded 16 ws) u)
+    go : (x : Read (List ℕ)) → words cell-words t ≡ x
+        → andThen x (stored (replicate cell-words 0) 0) ≡ andThen x (λ ws u. got (padded cell-words ws) u)
     go (got vs u) e =
-        let l = lines.words-sound 16 t vs u e in
-        andThen-got _ _ vs u refl ∙ ap (λ (a : List ℕ). got a u) (sets-zeros 16 vs (l .few)) ∙ sym (andThen-got _ _ vs u refl)
+        let l = lines.words-sound cell-words t vs u e in
+        andThen-got _ _ vs u refl ∙ ap (λ (a : List ℕ). got a u) (sets-zeros cell-words vs (l .few)) ∙ sym (andThen-got _ _ vs u refl)
     go bad e = andThen-bad _ _ refl ∙ sym (andThen-bad _ _ refl)
 
-pub left-full : (i : ℕ) (array t : List ℕ) → 16 ≤ i → left i array t ≡ bad
+pub left-full : (i : ℕ) (array t : List ℕ) → cell-words ≤ i → left i array t ≡ bad
 unfolding left
-left-full i array t h = let z : 16 - i ≡ 0 = omega arith in rw z (andThen-bad _ _ (lines.words-none t))
+left-full i array t h = let z : cell-words - i ≡ 0 = omega arith in rw z (andThen-bad _ _ (lines.words-none t))
 
-module _ (i : ℕ) (array t : List ℕ) (h : i < 16) where
+module _ (i : ℕ) (array t : List ℕ) (h : i < cell-words) where
   pub left-bad : number most t ≡ bad → left i array t ≡ bad
   unfolding left
-  left-bad e = let z : 16 - i ≡ suc (16 - (i + 1)) = omega arith in rw z (andThen-bad _ _ (lines.words-bad (16 - (i + 1)) t e))
+  left-bad e = let z : cell-words - i ≡ suc (cell-words - (i + 1)) = omega arith in rw z (andThen-bad _ _ (lines.words-bad (cell-words - (i + 1)) t e))
 
   -- a word is read and q is the place after it
   module _ (v : ℕ) (s : List ℕ) (q : ℕ) (e : number most t ≡ got v (drop q s)) where
     -- what is left once it is known how the line goes on
-    left-on : left i array t ≡ andThen (following v (drop q s) (λ w. words (16 - (i + 1)) w)) (stored array i)
+    left-on : left i array t ≡ andThen (following v (drop q s) (λ w. words (cell-words - (i + 1)) w)) (stored array i)
     unfolding left
     left-on =
-        let z : 16 - i ≡ suc (16 - (i + 1)) = omega arith in
-        rw z (ap (λ (x : Read (List ℕ)). andThen x (stored array i)) (lines.words-on (16 - (i + 1)) t v (drop q s) e))
+        let z : cell-words - i ≡ suc (cell-words - (i + 1)) = omega arith in
+        rw z (ap (λ (x : Read (List ℕ)). andThen x (stored array i)) (lines.words-on (cell-words - (i + 1)) t v (drop q s) e))
 
     pub left-end : length s ≤ q → left i array t ≡ bad
     left-end l = left-on ∙ andThen-bad _ _ (rw (drop-of-length-le s l) (lines.following-none v _))
@@ -76,7 +77,7 @@ module _ (i : ℕ) (array t : List ℕ) (h : i < 16) where
       left-more b =
           left-on
           ∙ ap (λ (x : Read (List ℕ)). andThen x (stored array i)) (rw (drop-step s q l) (lines.following-tab v _ (getD s q 0) (drop (q + 1) s) b))
-          ∙ stored-cons array i v (words (16 - (i + 1)) (drop (q + 1) s))
+          ∙ stored-cons array i v (words (cell-words - (i + 1)) (drop (q + 1) s))
           ∙ sym (left-is (i + 1) (set array i v) (drop (q + 1) s))
 
       pub left-other : (getD s q 0 ≡ 10 → ⊥) → (getD s q 0 ≡ 9 → ⊥) → left i array t ≡ bad

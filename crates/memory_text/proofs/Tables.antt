@@ -13,6 +13,9 @@ use Rattle.text.specs.Lines.{front, linesUpTo}
 use Rattle.text.proofs.Places.{placed-split}
 use Rattle.text.proofs.Writings.{sets-append, sets-zeros}
 use Rattle.text.proofs.Lines.{lines-at-end, lines-at-full, lines-at-bad, lines-at-more, line-sound, line-within}
+use Rattle.language.specs.Evaluation.{cell-words}
+use Rattle.tables.specs.Sheet.{maxLocations}
+use Rattle.memory_text.specs.Sizes.{memoryWords}
 use Rattle.memory_text.specs.declared.Memory.{Memory}
 use Rattle.memory_text.specs.declared.Row.{Row}
 use Rattle.memory_text.specs.Reading.{padded, location, joined, wordsOf, locations, memory}
@@ -23,51 +26,51 @@ use Rattle.memory_text.proofs.Memories.{rows-sound}
 -- a table of n locations with those that are still read after them
 unfoldable pub tabled : ℕ → List ℕ → Option (List (List ℕ)) → Memory
 tabled n words none = table bad
-tabled n words (some rs) = record { ok = true; count = n + length rs; words = sets words (n * 16) (joined rs) }
+tabled n words (some rs) = record { ok = true; count = n + length rs; words = sets words (n * cell-words) (joined rs) }
 
-pub tabled-start : (t : List ℕ) → tabled 0 (replicate 1024 0) (linesUpTo location 64 t) ≡ table (locations 64 t)
+pub tabled-start : (t : List ℕ) → tabled 0 (replicate memoryWords 0) (linesUpTo location maxLocations t) ≡ table (locations maxLocations t)
 unfolding tabled table locations wordsOf padded
-tabled-start t = go (linesUpTo location 64 t) refl
+tabled-start t = go (linesUpTo location maxLocations t) refl
   where
-    go : (o : Option (List (List ℕ))) → linesUpTo location 64 t ≡ o → tabled 0 (replicate 1024 0) o ≡ table (wordsOf o)
+    go : (o : Option (List (List ℕ))) → linesUpTo location maxLocations t ≡ o → tabled 0 (replicate memoryWords 0) o ≡ table (wordsOf o)
     go none e = refl
     go (some rs) e =
-        let r = rows-sound 64 t rs e in
+        let r = rows-sound maxLocations t rs e in
         let n = r .1 in
         let l = r .2 in
-        let c : 0 + length rs ≡ length (joined rs) / 16 = omega arith in
-        rw (c, sets-zeros 1024 (joined rs) (omega arith))
+        let c : 0 + length rs ≡ length (joined rs) / cell-words = omega arith in
+        rw (c, sets-zeros memoryWords (joined rs) (omega arith))
 
 -- one location more
-tabled-front : (n : ℕ) (words row : List ℕ) (o : Option (List (List ℕ))) → length row ≡ 16
-    → tabled n words (front row o) ≡ tabled (n + 1) (sets words (n * 16) row) o
+tabled-front : (n : ℕ) (words row : List ℕ) (o : Option (List (List ℕ))) → length row ≡ cell-words
+    → tabled n words (front row o) ≡ tabled (n + 1) (sets words (n * cell-words) row) o
 unfolding tabled front joined
 tabled-front n words row none e = refl
 tabled-front n words row (some rs) e =
     let c : n + suc (length rs) ≡ n + 1 + length rs = omega arith in
-    let p : n * 16 + length row ≡ (n + 1) * 16 = omega arith in
-    rw (c, sets-append words (n * 16) row (joined rs), p)
+    let p : n * cell-words + length row ≡ (n + 1) * cell-words = omega arith in
+    rw (c, sets-append words (n * cell-words) row (joined rs), p)
 
 -- what is left at a place of a text
 module _ (n : ℕ) (words s : List ℕ) (i : ℕ) where
-  pub rest-done : length s ≤ i → tabled n words (linesUpTo location (64 - n) (drop i s)) ≡ record { ok = true; count = n; words = words }
+  pub rest-done : length s ≤ i → tabled n words (linesUpTo location (maxLocations - n) (drop i s)) ≡ record { ok = true; count = n; words = words }
   unfolding tabled joined
-  rest-done h = let z : n + 0 ≡ n = omega arith in rw (lines-at-end location 64 n s i h, z)
+  rest-done h = let z : n + 0 ≡ n = omega arith in rw (lines-at-end location maxLocations n s i h, z)
 
   module _ (h : i < length s) where
-    pub rest-full : 64 ≤ n → tabled n words (linesUpTo location (64 - n) (drop i s)) ≡ table bad
+    pub rest-full : maxLocations ≤ n → tabled n words (linesUpTo location (maxLocations - n) (drop i s)) ≡ table bad
     unfolding tabled
-    rest-full l = rw (lines-at-full location 64 n s i h l)
+    rest-full l = rw (lines-at-full location maxLocations n s i h l)
 
-    module _ (l : n < 64) where
-      pub rest-bad : location (drop i s) ≡ bad → tabled n words (linesUpTo location (64 - n) (drop i s)) ≡ table bad
+    module _ (l : n < maxLocations) where
+      pub rest-bad : location (drop i s) ≡ bad → tabled n words (linesUpTo location (maxLocations - n) (drop i s)) ≡ table bad
       unfolding tabled
-      rest-bad e = rw (lines-at-bad location 64 n s i l h e)
+      rest-bad e = rw (lines-at-bad location maxLocations n s i l h e)
 
       pub rest-more : (row : List ℕ) (p : ℕ) → location (drop i s) ≡ got row (drop p s)
-          → tabled n words (linesUpTo location (64 - n) (drop i s)) ≡ tabled (n + 1) (sets words (n * 16) row) (linesUpTo location (64 - (n + 1)) (drop p s))
+          → tabled n words (linesUpTo location (maxLocations - n) (drop i s)) ≡ tabled (n + 1) (sets words (n * cell-words) row) (linesUpTo location (maxLocations - (n + 1)) (drop p s))
       rest-more row p e =
-          rw (lines-at-more location 64 n s i l (memory-lines .no-end) row p e)
+          rw (lines-at-more location maxLocations n s i l (memory-lines .no-end) row p e)
           (tabled-front n words row _ (line-sound memory-lines (drop i s) row (drop p s) e .1 .0))
 
 -- what the answer for a line says of the line
@@ -86,7 +89,7 @@ module _ (s : List ℕ) (i : ℕ) (r : Row) (e : r ≡ rowIn s (location (drop i
 
 -- a text that fits, and one that is too long
 module _ (t : List ℕ) where
-  pub memory-fits : fits t ≡ true → memoryOf t ≡ table (locations 64 t)
+  pub memory-fits : fits t ≡ true → memoryOf t ≡ table (locations maxLocations t)
   unfolding memoryOf memory
   memory-fits e = rw e
 

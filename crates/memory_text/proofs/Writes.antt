@@ -12,6 +12,8 @@ use Rattle.text.specs.Lines.{printLines}
 use Rattle.text.specs.Writing.{written, reached}
 use Rattle.text.proofs.Readings.{drop-step}
 use Rattle.text.proofs.Writings.{sets-append, written-fits, reached-fits, length-decimal}
+use Rattle.language.specs.Evaluation.{cell-words}
+use Rattle.memory_text.specs.Sizes.{lineRoom}
 use Rattle.memory_text.specs.Printing.{trim, fields, line, rows, lines, memoryText}
 use Rattle.memory_text.specs.Answers.{printedLength, printed}
 use Rattle.memory_text.specs.Writing.{Used, Puts}
@@ -117,7 +119,7 @@ field-goes whole ws to i out at now p now₁ q now₂ r g eq e₁ er e₂ n h l 
 
 -- the line of the location whose words stand from `from` on
 abbrev pub lineAt : List ℕ → ℕ → List ℕ → List ℕ
-lineAt ws from t = line (trim (take 16 (drop from ws))) t
+lineAt ws from t = line (trim (take cell-words (drop from ws))) t
 
 -- how far a number reaches
 pub number-reach : (out : List ℕ) (at w r : ℕ) → r ≡ reached out at (decimal w) → w ≤ most → at + 10 ≤ length out → r ≤ at + 10
@@ -128,21 +130,21 @@ number-reach out at w r e m h =
 
 -- a line without words
 pub empty-puts : (ws : List ℕ) (from n : ℕ) (out : List ℕ) (at : ℕ) (now : List ℕ) (r : ℕ) → Used ws from n → n ≡ 0
-    → r ≡ reached out at (10 ∷ []) → now ≡ written out at (10 ∷ []) → at + 176 ≤ length out → Puts (lineAt ws from) 176 out at now r
+    → r ≡ reached out at (10 ∷ []) → now ≡ written out at (10 ∷ []) → at + lineRoom ≤ length out → Puts (lineAt ws from) lineRoom out at now r
 empty-puts ws from n out at now r u z e w h =
-    let k : trim (take 16 (drop from ws)) ≡ [] = u .kept ∙ rw z in
+    let k : trim (take cell-words (drop from ws)) ≡ [] = u .kept ∙ rw z in
     let r′ : r ≡ at + 1 = e ∙ reached-fits out at (10 ∷ []) (omega arith) in
-    goes-done (lineAt ws from) 176 out at now r
+    goes-done (lineAt ws from) lineRoom out at now r
     (goes-put (lineAt ws from) (lineAt ws from) out at out at (goes-start (lineAt ws from) out at) (λ t. t) (10 ∷ []) now r
     (λ t. ap (λ (l : List ℕ). line l t) k ∙ line-none t) (omega arith) e w)
     (omega arith)
 
 -- a line with words begins with the first
-line-more : (ws : List ℕ) (from n : ℕ) → Used ws from n → (n ≡ 0 → ⊥) → from + 16 ≤ length ws → (t : List ℕ)
+line-more : (ws : List ℕ) (from n : ℕ) → Used ws from n → (n ≡ 0 → ⊥) → from + cell-words ≤ length ws → (t : List ℕ)
     → lineAt ws from t ≡ decimal (getD ws from 0) ++ fieldsFrom ws (from + n) (from + 1) (10 ∷ t)
 line-more ws from n u z h t =
     let m : n ≡ from + n - (from + 1) + 1 = omega arith in
-    let k : trim (take 16 (drop from ws)) ≡ getD ws from 0 ∷ take (from + n - (from + 1)) (drop (from + 1) ws)
+    let k : trim (take cell-words (drop from ws)) ≡ getD ws from 0 ∷ take (from + n - (from + 1)) (drop (from + 1) ws)
     = u .kept ∙ ap (λ (j : ℕ). take j (drop from ws)) m ∙ take-step ws from (from + n - (from + 1)) (omega arith) in
     ap (λ (l : List ℕ). line l t) k ∙ line-first (getD ws from 0) (take (from + n - (from + 1)) (drop (from + 1) ws)) t
 
@@ -151,8 +153,8 @@ pub line-puts : (ws : List ℕ) (from n : ℕ) (out : List ℕ) (at : ℕ) (o₁
     → p ≡ reached out at (decimal (getD ws from 0)) → o₁ ≡ written out at (decimal (getD ws from 0))
     → Puts (fieldsFrom ws (from + n) (from + 1)) (11 * (from + n - (from + 1))) o₁ p o₂ q
     → r ≡ reached o₂ q (10 ∷ []) → o₃ ≡ written o₂ q (10 ∷ [])
-    → length o₂ ≡ length out → from + 16 ≤ length ws → getD ws from 0 ≤ most → at + 176 ≤ length out
-    → Puts (lineAt ws from) 176 out at o₃ r
+    → length o₂ ≡ length out → from + cell-words ≤ length ws → getD ws from 0 ≤ most → at + lineRoom ≤ length out
+    → Puts (lineAt ws from) lineRoom out at o₃ r
 line-puts ws from n out at o₁ p o₂ q o₃ r u z ep e₁ f er e₃ l h m room =
     let d = length-decimal (getD ws from 0) m in
     let few = u .few in
@@ -161,25 +163,25 @@ line-puts ws from n out at o₁ p o₂ q o₃ r u z ep e₁ f er e₃ l h m room
     let r′ : r ≡ q + 1 = er ∙ reached-fits o₂ q (10 ∷ []) (omega arith) in
     let first = goes-put (lineAt ws from) (lineAt ws from) out at out at (goes-start (lineAt ws from) out at) (λ t. fieldsFrom ws (from + n) (from + 1) (10 ∷ t)) (decimal (getD ws from 0)) o₁ p (line-more ws from n u z h) (omega arith) ep e₁ in
     let second = goes-form (lineAt ws from) (λ t. fieldsFrom ws (from + n) (from + 1) (10 ∷ t)) out at o₁ p first (λ t. 10 ∷ t) (fieldsFrom ws (from + n) (from + 1)) _ o₂ q (λ t. refl) f in
-    goes-done (lineAt ws from) 176 out at o₃ r
+    goes-done (lineAt ws from) lineRoom out at o₃ r
     (goes-put (lineAt ws from) (λ t. 10 ∷ t) out at o₂ q second (λ t. t) (10 ∷ []) o₃ r (λ t. refl) (omega arith) er e₃)
     (omega arith)
 
 -- the lines from the n-th location on
 abbrev pub linesFrom : List ℕ → ℕ → ℕ → List ℕ → List ℕ
-linesFrom ws k n t = lines (k - n) (drop (n * 16) ws)
+linesFrom ws k n t = lines (k - n) (drop (n * cell-words) ws)
 
-lines-first : (ws : List ℕ) (k n : ℕ) → n < k → (t : List ℕ) → linesFrom ws k n t ≡ lineAt ws (n * 16) (linesFrom ws k (n + 1) t)
+lines-first : (ws : List ℕ) (k n : ℕ) → n < k → (t : List ℕ) → linesFrom ws k n t ≡ lineAt ws (n * cell-words) (linesFrom ws k (n + 1) t)
 unfolding printLines rows
 lines-first ws k n h t =
     let z : k - n ≡ suc (k - (n + 1)) = omega arith in
-    let m : n * 16 + 16 ≡ (n + 1) * 16 = omega arith in
-    rw (z, drop-drop 16 (n * 16) ws, m)
+    let m : n * cell-words + cell-words ≡ (n + 1) * cell-words = omega arith in
+    rw (z, drop-drop cell-words (n * cell-words) ws, m)
 
 pub lines-goes : (whole : List ℕ → List ℕ) (ws : List ℕ) (k n : ℕ) (out : List ℕ) (at : ℕ) (now : List ℕ) (p : ℕ) (now′ : List ℕ) (p′ : ℕ)
-    → Goes whole (linesFrom ws k n) out at now p → n < k → Puts (lineAt ws (n * 16)) 176 now p now′ p′ → Goes whole (linesFrom ws k (n + 1)) out at now′ p′
+    → Goes whole (linesFrom ws k n) out at now p → n < k → Puts (lineAt ws (n * cell-words)) lineRoom now p now′ p′ → Goes whole (linesFrom ws k (n + 1)) out at now′ p′
 lines-goes whole ws k n out at now p now′ p′ g h f =
-    goes-form whole (linesFrom ws k n) out at now p g (linesFrom ws k (n + 1)) (lineAt ws (n * 16)) 176 now′ p′ (lines-first ws k n h) f
+    goes-form whole (linesFrom ws k n) out at now p g (linesFrom ws k (n + 1)) (lineAt ws (n * cell-words)) lineRoom now′ p′ (lines-first ws k n h) f
 
 pub lines-start : (ws : List ℕ) (k : ℕ) (out : List ℕ) → Goes (λ t. lines k ws) (linesFrom ws k 0) out 0 out 0
 lines-start ws k out =
@@ -200,15 +202,15 @@ lines-done ws k n out now p g h =
 
 -- whether anything is written
 module _ (ws out : List ℕ) where
-  pub printed-all : length ws % 16 ≡ 0 → length ws / 16 ≤ length out / 176
+  pub printed-all : length ws % cell-words ≡ 0 → length ws / cell-words ≤ length out / lineRoom
       → (printedLength ws out ≡ length (memoryText ws)) × (printed ws out ≡ sets out 0 (memoryText ws))
   unfolding printedLength printed
   printed-all h l = rw (eq-eqb _ _ h, le-leb _ _ l) (refl, refl)
 
-  pub printed-part : (length ws % 16 ≡ 0 → ⊥) → (printedLength ws out ≡ 0) × (printed ws out ≡ out)
+  pub printed-part : (length ws % cell-words ≡ 0 → ⊥) → (printedLength ws out ≡ 0) × (printed ws out ≡ out)
   unfolding printedLength printed
   printed-part h = rw (ne-eqb _ _ h) (refl, refl)
 
-  pub printed-small : length ws % 16 ≡ 0 → length out / 176 < length ws / 16 → (printedLength ws out ≡ 0) × (printed ws out ≡ out)
+  pub printed-small : length ws % cell-words ≡ 0 → length out / lineRoom < length ws / cell-words → (printedLength ws out ≡ 0) × (printed ws out ≡ out)
   unfolding printedLength printed
   printed-small h l = rw (eq-eqb _ _ h, lt-leb _ _ l) (refl, refl)

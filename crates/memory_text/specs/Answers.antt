@@ -8,6 +8,8 @@ use lib.Dec.{eqb, leb}
 use Rattle.text.specs.Reading.{Read}
 use Rattle.text.specs.Reading.Read.{got, bad}
 use Rattle.text.specs.Place.{placed}
+use Rattle.language.specs.Evaluation.{cell-words}
+use Rattle.memory_text.specs.Sizes.{memoryWords, lineRoom}
 use Rattle.memory_text.specs.declared.Memory.{Memory}
 use Rattle.memory_text.specs.declared.Row.{Row}
 use Rattle.memory_text.specs.Printing.{memoryText}
@@ -16,19 +18,19 @@ use Rattle.memory_text.specs.Reading.{padded, memory}
 -- a location that is read in s, or the refusal
 abbrev pub rowIn : List ℕ → Read (List ℕ) → Row
 rowIn s want =
-    placed (λ ws p. record { ok = true; next = p; words = ws }) (record { ok = false; next = 0; words = replicate 16 0 }) s want
+    placed (λ ws p. record { ok = true; next = p; words = ws }) (record { ok = false; next = 0; words = replicate cell-words 0 }) s want
 
 -- the number of locations and their words, with zeros up to 64 locations, or the refusal
 unfoldable pub table : Read (List ℕ) → Memory
-table (got ws _) = record { ok = true; count = length ws / 16; words = padded 1024 ws }
-table bad = record { ok = false; count = 0; words = replicate 1024 0 }
+table (got ws _) = record { ok = true; count = length ws / cell-words; words = padded memoryWords ws }
+table bad = record { ok = false; count = 0; words = replicate memoryWords 0 }
 
 unfoldable pub memoryOf : List ℕ → Memory
 memoryOf t = table (memory t)
 
 -- 16 words for each location, and 176 bytes of buffer for its line
 abbrev pub printable : List ℕ → List ℕ → Bool
-printable ws out = eqb (length ws % 16) 0 && leb (length ws / 16) (length out / 176)
+printable ws out = eqb (length ws % cell-words) 0 && leb (length ws / cell-words) (length out / lineRoom)
 
 -- the length of the text and the buffer that holds it, or 0 and the buffer as it was
 unfoldable pub printedLength : List ℕ → List ℕ → ℕ

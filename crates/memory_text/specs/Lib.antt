@@ -1,4 +1,5 @@
 -- A memory as text ("The three texts", Memory): how it is printed, how it is read, and that the two agree.
+pub mod Sizes
 pub mod Printing
 pub mod Reading
 pub mod Answers

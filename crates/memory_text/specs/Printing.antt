@@ -7,6 +7,7 @@ use lib.Dec.{eqb}
 use Rattle.text.specs.Number.{decimal}
 use Rattle.text.specs.Field.{printNumberField, printLineEnd}
 use Rattle.text.specs.Lines.{printLines}
+use Rattle.language.specs.Evaluation.{cell-words}
 
 -- w before words without zeros at their end
 unfoldable pub keep : ℕ → List ℕ → List ℕ
@@ -35,7 +36,7 @@ rowLine row t = line (trim row) t
 -- the words of k locations, 16 for each
 unfoldable pub rows : ℕ → List ℕ → List (List ℕ)
 rows zero ws = []
-rows (suc k) ws = take 16 ws ∷ rows k (drop 16 ws)
+rows (suc k) ws = take cell-words ws ∷ rows k (drop cell-words ws)
 
 -- the lines of k locations
 abbrev pub lines : ℕ → List ℕ → List ℕ
@@ -43,4 +44,4 @@ lines k ws = printLines rowLine (rows k ws)
 
 -- a memory, 16 words for each location
 unfoldable pub memoryText : List ℕ → List ℕ
-memoryText ws = lines (length ws / 16) ws
+memoryText ws = lines (length ws / cell-words) ws

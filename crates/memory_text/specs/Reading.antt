@@ -10,6 +10,8 @@ use Rattle.text.specs.Reading.Read.{got, bad}
 use Rattle.text.specs.Number.{number, most}
 use Rattle.text.specs.Field.{lineEnd}
 use Rattle.text.specs.Lines.{linesUpTo}
+use Rattle.language.specs.Evaluation.{cell-words}
+use Rattle.tables.specs.Sheet.{maxLocations}
 
 -- the word v with what its line goes on with: the end, unless v is zero, or a tab and more words
 unfoldable pub following : ℕ → List ℕ → (List ℕ → Read (List ℕ)) → Read (List ℕ)
@@ -29,11 +31,11 @@ padded n ws = ws ++ replicate (n - length ws) 0
 
 -- the 16 words of a line that is not empty
 unfoldable pub lineWords : List ℕ → Read (List ℕ)
-lineWords t = andThen (words 16 t) (λ ws u. got (padded 16 ws) u)
+lineWords t = andThen (words cell-words t) (λ ws u. got (padded cell-words ws) u)
 
 -- a location of zeros where the line is empty, else what is read otherwise
 unfoldable pub blankOr : Read Unit → Read (List ℕ) → Read (List ℕ)
-blankOr (got _ u) other = got (replicate 16 0) u
+blankOr (got _ u) other = got (replicate cell-words 0) u
 blankOr bad other = other
 
 -- the 16 words of a location
@@ -56,4 +58,4 @@ locations k t = wordsOf (linesUpTo location k t)
 
 -- the words of a memory
 unfoldable pub memory : List ℕ → Read (List ℕ)
-memory t = cond (fits t) (locations 64 t) bad
+memory t = cond (fits t) (locations maxLocations t) bad

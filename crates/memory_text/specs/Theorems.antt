@@ -7,6 +7,8 @@ use mathlib.Core.List.{List, [], _∷_}
 use lib.ListN.{length}
 use Rattle.text.specs.Reading.Read.{got}
 use Rattle.text.specs.Number.{most}
+use Rattle.language.specs.Evaluation.{cell-words}
+use Rattle.memory_text.specs.Sizes.{memoryWords}
 use Rattle.memory_text.specs.Printing.{memoryText}
 use Rattle.memory_text.specs.Reading.{padded, memory}
 use Rattle.memory_text.specs.Answers.{memoryOf}
@@ -18,8 +20,8 @@ Words (w ∷ ws) = (w ≤ most) × Words ws
 
 -- 16 words for each of at most 64 locations
 pub record IsMemory (ws : List ℕ) : Type 0 where
-  pub whole : length ws % 16 ≡ 0
-  pub most-locations : length ws ≤ 1024
+  pub whole : length ws % cell-words ≡ 0
+  pub most-locations : length ws ≤ memoryWords
   pub in-range : Words ws
 
 -- a text is read exactly if it is the printed form of a memory
@@ -28,4 +30,4 @@ MemoryExact = (ws t : List ℕ) → (memory t ≡ got ws []) ↔ ((t ≡ memoryT
 
 -- reading what was written gives it back
 abbrev pub ReadsBack : Type 0
-ReadsBack = (ws : List ℕ) → IsMemory ws → memoryOf (memoryText ws) ≡ record { ok = true; count = length ws / 16; words = padded 1024 ws }
+ReadsBack = (ws : List ℕ) → IsMemory ws → memoryOf (memoryText ws) ≡ record { ok = true; count = length ws / cell-words; words = padded memoryWords ws }

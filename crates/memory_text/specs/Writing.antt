@@ -4,12 +4,13 @@ use mathlib.Core.Path.{_≡_}
 use mathlib.Core.List.{List}
 use lib.ListN.{length, take, drop}
 use lib.Seq.{sets}
+use Rattle.language.specs.Evaluation.{cell-words}
 use Rattle.memory_text.specs.Printing.{trim}
 
 -- the first n words from `from` on are those that the line of that location keeps
 pub record Used (ws : List ℕ) (from n : ℕ) : Type 0 where
-  pub few : n ≤ 16
-  pub kept : trim (take 16 (drop from ws)) ≡ take n (drop from ws)
+  pub few : n ≤ cell-words
+  pub kept : trim (take cell-words (drop from ws)) ≡ take n (drop from ws)
 
 -- a form was written from `at` on, in at most `room` bytes: what follows it goes into the buffer as it is now, at its place
 pub record Puts (form : List ℕ → List ℕ) (room : ℕ) (out : List ℕ) (at : ℕ) (now : List ℕ) (place : ℕ) : Type 0 where

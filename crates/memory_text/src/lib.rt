@@ -1,6 +1,7 @@
 // A memory as text: read into words here, written from them in write.rt.
 pub mod write; // write.rt: a memory into a buffer
 
+use memory::CELL;
 use reader::Reader;
 use reader::reader_of;
 use reader::rest;
@@ -12,21 +13,29 @@ ghost use Prim.Native.Nat.{ℕ, _+_, _≤_};
 ghost use lib.ListN.{length, drop};
 ghost use lib.Seq.{sets};
 ghost use Rattle.text.specs.Reading.Read.{bad};
+ghost use Rattle.language.specs.Evaluation.{cell-words};
+ghost use Rattle.tables.specs.Sheet.{maxLocations};
 ghost use Rattle.memory_text.specs.Reading.{lineWords, location as locationOf, locations as locationsOf};
 ghost use Rattle.memory_text.specs.Answers.{rowIn, table, memoryOf};
+
+// The most locations of a sheet.
+pub const LOCATIONS: usize = 64;
+
+// The words of so many.
+pub const WORDS: usize = LOCATIONS * CELL;
 
 // The number of locations and their words, 16 for each, with zeros after them; or a refusal, with none.
 pub struct Memory {
     pub ok: bool,
     pub count: usize,
-    pub words: [u32; 1024],
+    pub words: [u32; WORDS],
 }
 
 // The words of a location and the place after its line; or a refusal.
 struct Row {
     ok: bool,
     next: usize,
-    words: [u32; 16],
+    words: [u32; CELL],
 }
 
 // The refusal of a line.
@@ -36,7 +45,7 @@ fn no_row() -> Row
     Row {
         ok: false,
         next: 0,
-        words: [0u32; 16],
+        words: [0u32; CELL],
     }
 }
 
@@ -44,10 +53,10 @@ fn no_row() -> Row
 fn line_words(s: &[u8], at: usize) -> Row
     ensures { λ r. ⌜ r ≡ rowIn (now (s .entry)) (lineWords (drop at (now (s .entry)))) ⌝ }
 {
-    let mut words = [0u32; 16];
+    let mut words = [0u32; CELL];
     let mut p = at;
     let mut i: usize = 0;
-    while i < 16 {
+    while i < CELL {
         let Value::At(v, q) = text::number(s, p, text::MOST) else {
             return no_row();
         };
@@ -84,19 +93,19 @@ fn location(s: &[u8], at: usize) -> Row
         Place::At(p) => Row {
             ok: true,
             next: p,
-            words: [0u32; 16],
+            words: [0u32; CELL],
         },
         Place::Bad => line_words(s, at),
     }
 }
 
 // The words of a location from `at` on.
-fn store(words: &mut [u32], at: usize, row: [u32; 16])
-    requires { ⌜ at + 16 ≤ length (now words) ⌝ }
+fn store(words: &mut [u32], at: usize, row: [u32; CELL])
+    requires { ⌜ at + cell-words ≤ length (now words) ⌝ }
     ensures { λ _. ⌜ now (words .exit) ≡ sets (now (words .entry)) at row ⌝ }
 {
     let mut i: usize = 0;
-    while i < 16 {
+    while i < CELL {
         words[at + i] = row[i];
         i += 1;
     }
@@ -109,25 +118,25 @@ fn no_memory() -> Memory
     Memory {
         ok: false,
         count: 0,
-        words: [0u32; 1024],
+        words: [0u32; WORDS],
     }
 }
 
 // The locations of a text, of which there are at most 64.
 fn locations(s: &[u8]) -> Memory
-    ensures { λ r. ⌜ r ≡ table (locationsOf 64 (now (s .entry))) ⌝ }
+    ensures { λ r. ⌜ r ≡ table (locationsOf maxLocations (now (s .entry))) ⌝ }
 {
-    let mut words = [0u32; 1024];
+    let mut words = [0u32; WORDS];
     let mut n: usize = 0;
     let mut at: usize = 0;
     while at < s.len() {
-        if 64 <= n {
+        if LOCATIONS <= n {
             return no_memory();
         }
         let row = location(s, at);
         if row.ok {
             let line = row.words;
-            store(&mut words, n * 16, line);
+            store(&mut words, n * CELL, line);
             n += 1;
             at = row.next;
         } else {

@@ -1,19 +1,25 @@
 // A memory written as text into a lent buffer.
+use memory::CELL;
 use text::write::put_byte;
 use text::write::put_number;
 ghost use mathlib.Core.Path.{_≡_};
 ghost use Prim.Native.Nat.{_+_, _*_, _-_, _≤_};
 ghost use lib.ListN.{length, take, drop};
+ghost use Rattle.language.specs.Evaluation.{cell-words};
+ghost use Rattle.memory_text.specs.Sizes.{lineRoom};
 ghost use Rattle.memory_text.specs.Printing.{trim, fields, line};
 ghost use Rattle.memory_text.specs.Answers.{printedLength, printed};
 ghost use Rattle.memory_text.specs.Writing.{Used, Puts};
 
+// The bytes of the longest line: ten digits and a tab, or the line's end, for each word.
+pub const LINE: usize = 11 * CELL;
+
 // How many of the 16 words from `from` on are printed: those up to the last that is not zero.
 fn used(words: &[u32], from: usize) -> usize
-    requires { ⌜ from + 16 ≤ length (now words) ⌝ }
+    requires { ⌜ from + cell-words ≤ length (now words) ⌝ }
     ensures { λ r. ⌜ Used (now (words .entry)) from r ⌝ }
 {
-    let mut n: usize = 16;
+    let mut n: usize = CELL;
     while 0 < n {
         let last = n - 1;
         if words[from + last] != 0 {
@@ -41,8 +47,8 @@ fn put_fields(words: &[u32], from: usize, to: usize, out: &mut [u8], at: usize) 
 
 // The line of the location whose words stand from `from` on; the place after it.
 fn put_line(words: &[u32], from: usize, out: &mut [u8], at: usize) -> usize
-    requires { ⌜ (from + 16 ≤ length (now words)) × (at + 176 ≤ length (now out)) ⌝ }
-    ensures { λ r. ⌜ Puts (line (trim (take 16 (drop from (now (words .entry)))))) 176 (now (out .entry)) at (now (out .exit)) r ⌝ }
+    requires { ⌜ (from + cell-words ≤ length (now words)) × (at + lineRoom ≤ length (now out)) ⌝ }
+    ensures { λ r. ⌜ Puts (line (trim (take cell-words (drop from (now (words .entry)))))) lineRoom (now (out .entry)) at (now (out .exit)) r ⌝ }
 {
     let n = used(words, from);
     if n == 0 {
@@ -59,17 +65,17 @@ pub fn write_memory(words: &[u32], out: &mut [u8]) -> usize
     ensures { λ r. ⌜ r ≡ printedLength (now (words .entry)) (now (out .entry)) ⌝ }
     ensures { λ _. ⌜ now (out .exit) ≡ printed (now (words .entry)) (now (out .entry)) ⌝ }
 {
-    if words.len() % 16 != 0 {
+    if words.len() % CELL != 0 {
         return 0;
     }
-    let count = words.len() / 16;
-    if out.len() / 176 < count {
+    let count = words.len() / CELL;
+    if out.len() / LINE < count {
         return 0;
     }
     let mut n: usize = 0;
     let mut at: usize = 0;
     while n < count {
-        at = put_line(words, n * 16, out, at);
+        at = put_line(words, n * CELL, out, at);
         n += 1;
     }
     at

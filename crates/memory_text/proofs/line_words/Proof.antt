@@ -8,6 +8,7 @@ use Rattle.text.specs.Reading.Read.{got}
 use Rattle.text.specs.Number.{number, most}
 use Rattle.text.proofs.Places.{placed-got}
 use Rattle.text.proofs.Fields.{number-at, number-bad}
+use Rattle.language.specs.Evaluation.{cell-words}
 use Rattle.memory_text.specs.Reading.{lineWords}
 use Rattle.memory_text.specs.Answers.{rowIn}
 use Rattle.memory_text.proofs.Rows as rows
@@ -15,10 +16,10 @@ use Rattle.memory_text.proofs.line_words.Statement.{statement}
 use Rattle.memory_text.proofs.line_words.Tie as tie
 
 abbrev Inv-loop : tie.InvT-loop
-Inv-loop s at words₀ p₀ i₀ words p i = (i ≤ 16) × (rows.left i words (drop p s) ≡ lineWords (drop at s))
+Inv-loop s at words₀ p₀ i₀ words p i = (i ≤ cell-words) × (rows.left i words (drop p s) ≡ lineWords (drop at s))
 
 abbrev μ-loop : tie.MeasureT-loop
-μ-loop s at words₀ p₀ i₀ words p i = 16 - i
+μ-loop s at words₀ p₀ i₀ words p i = cell-words - i
 
 -- what is known where a word has been read
 known : (k : tie.After-v Inv-loop μ-loop)

@@ -5,6 +5,8 @@ use native.Mathlib.Omega.{arith}
 use borrow.Author.Needs.{needs}
 use lib.ListN.{length, drop}
 use Rattle.text.specs.Lines.{linesUpTo}
+use Rattle.tables.specs.Sheet.{maxLocations}
+use Rattle.memory_text.specs.Sizes.{memoryWords}
 use Rattle.memory_text.specs.Reading as spec
 use Rattle.memory_text.specs.Answers.{table}
 use Rattle.memory_text.proofs.Tables.{tabled, tabled-start, rest-done, rest-full, rest-bad, rest-more, row-on, row-off}
@@ -13,10 +15,10 @@ use Rattle.memory_text.proofs.locations.Tie as tie
 
 abbrev Inv-loop : tie.InvT-loop
 Inv-loop s words₀ n₀ at₀ words n at =
-    (n ≤ 64) × (length words ≡ 1024) × (tabled n words (linesUpTo spec.location (64 - n) (drop at s)) ≡ table (spec.locations 64 s))
+    (n ≤ maxLocations) × (length words ≡ memoryWords) × (tabled n words (linesUpTo spec.location (maxLocations - n) (drop at s)) ≡ table (spec.locations maxLocations s))
 
 abbrev μ-loop : tie.MeasureT-loop
-μ-loop s words₀ n₀ at₀ words n at = 64 - n
+μ-loop s words₀ n₀ at₀ words n at = maxLocations - n
 
 loop-holds : tie.Need-loop-holds Inv-loop μ-loop
 loop-holds c = (omega arith, refl, tabled-start _)

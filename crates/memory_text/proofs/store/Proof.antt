@@ -5,16 +5,17 @@ use mathlib.Core.List.{[]}
 use native.Mathlib.Omega.{arith}
 use lib.ListN.{length, drop, length-set, drop-of-length-le}
 use lib.Seq.{sets}
+use Rattle.language.specs.Evaluation.{cell-words}
 use Rattle.memory_text.proofs.Rows.{store-more}
 use Rattle.memory_text.proofs.store.Statement.{statement}
 use Rattle.memory_text.proofs.store.Tie as tie
 
 abbrev Inv-loop : tie.InvT-loop
 Inv-loop words₀ at row i₀ words i =
-    (i ≤ 16) × (length words ≡ length words₀) × (sets words (at + i) (drop i row) ≡ sets words₀ at row)
+    (i ≤ cell-words) × (length words ≡ length words₀) × (sets words (at + i) (drop i row) ≡ sets words₀ at row)
 
 abbrev μ-loop : tie.MeasureT-loop
-μ-loop words₀ at row i₀ words i = 16 - i
+μ-loop words₀ at row i₀ words i = cell-words - i
 
 loop-holds : tie.Need-loop-holds Inv-loop μ-loop
 loop-holds c = (omega arith, refl, let a = c .args in let z : a .at + 0 ≡ a .at = omega arith in rw z)

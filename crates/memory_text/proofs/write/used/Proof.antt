@@ -3,13 +3,14 @@ use Prim.Native.Nat.{_≤_, _+_, _-_}
 use mathlib.Core.Path.{_≡_, refl, _∙_}
 use native.Mathlib.Omega.{arith}
 use lib.ListN.{take, drop}
+use Rattle.language.specs.Evaluation.{cell-words}
 use Rattle.memory_text.specs.Printing.{trim}
 use Rattle.memory_text.proofs.Writes.{trim-kept, trim-dropped}
 use Rattle.memory_text.proofs.write.used.Statement.{statement}
 use Rattle.memory_text.proofs.write.used.Tie as tie
 
 abbrev Inv-loop : tie.InvT-loop
-Inv-loop words from n₀ n = (n ≤ 16) × (trim (take 16 (drop from words)) ≡ trim (take n (drop from words)))
+Inv-loop words from n₀ n = (n ≤ cell-words) × (trim (take cell-words (drop from words)) ≡ trim (take n (drop from words)))
 
 abbrev μ-loop : tie.MeasureT-loop
 μ-loop words from n₀ n = n

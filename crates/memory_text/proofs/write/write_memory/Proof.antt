@@ -3,6 +3,7 @@ use Prim.Native.Nat.{_≤_, _*_, _-_}
 use mathlib.Core.Path.{_≡_, refl, sym, _∙_}
 use native.Mathlib.Omega.{arith}
 use lib.ListN.{length}
+use Rattle.memory_text.specs.Sizes.{lineRoom}
 use Rattle.memory_text.specs.Printing.{lines, memoryText}
 use Rattle.memory_text.proofs.Writes.{Goes, linesFrom, lines-start, lines-goes, lines-done, printed-all, printed-part, printed-small}
 use Rattle.memory_text.proofs.write.write_memory.Statement.{statement}
@@ -10,7 +11,7 @@ use Rattle.memory_text.proofs.write.write_memory.Tie as tie
 
 abbrev Inv-loop : tie.InvT-loop
 Inv-loop words out₀ count n₀ at₀ out n at =
-    (n ≤ count) × (length out ≡ length out₀) × (at ≤ 176 * n) × Goes (λ t. lines count words) (linesFrom words count n) out₀ 0 out at
+    (n ≤ count) × (length out ≡ length out₀) × (at ≤ lineRoom * n) × Goes (λ t. lines count words) (linesFrom words count n) out₀ 0 out at
 
 abbrev μ-loop : tie.MeasureT-loop
 μ-loop words out₀ count n₀ at₀ out n at = count - n

@@ -1,0 +1,12 @@
+-- The sizes of a memory and of its text.
+use Prim.Native.Nat.{ℕ, _*_}
+use Rattle.language.specs.Evaluation.{cell-words}
+use Rattle.tables.specs.Sheet.{maxLocations}
+
+-- the words of the most locations
+abbrev pub memoryWords : ℕ
+memoryWords = maxLocations * cell-words
+
+-- the bytes of the longest line: ten digits and a tab, or the line's end, for each word
+abbrev pub lineRoom : ℕ
+lineRoom = 11 * cell-words

@@ -11,7 +11,8 @@ use Rattle.text.specs.Reading.{Read}
 use Rattle.text.specs.Reading.Read.{got, bad}
 use Rattle.memory_text.specs.declared.Memory.{Memory}
 use Rattle.memory_text.specs.Printing.{memoryText}
-use Rattle.memory_text.specs.Reading.{memory, padded}
+use Rattle.tables.specs.Tables.{padded}
+use Rattle.memory_text.specs.Reading.{memory}
 use Rattle.memory_text.specs.Answers.{table, memoryOf}
 use Rattle.memory_text.proofs.Memories.{memory-sound}
 use Rattle.simp.specs.Calls.{Viewed, viewOf}

@@ -20,7 +20,9 @@ use Rattle.text.proofs.Writings.{length-decimal}
 use Rattle.language.specs.Evaluation.{cell-words}
 use Rattle.memory_text.specs.Sizes.{lineRoom}
 use Rattle.memory_text.specs.Printing.{keep, trim, fields, line, rowLine}
-use Rattle.memory_text.specs.Reading.{following, words, padded, blankOr, lineWords, location}
+use Rattle.tables.specs.Tables.{padded}
+use Rattle.tables.proofs.Words.{length-padded}
+use Rattle.memory_text.specs.Reading.{following, words, blankOr, lineWords, location}
 use Rattle.memory_text.specs.Theorems.{Words}
 use Rattle.memory_text.proofs.Trimming as trimming
 
@@ -182,7 +184,7 @@ location-sound t row u e = go (lineEnd t) refl
         let y = got-same (padded cell-words vs) row r u h in
         let l = words-sound cell-words t vs r g in
         rw (← y .0, ← y .1, trimming.trim-padded cell-words vs, l .kept)
-        (l .text, trimming.length-padded cell-words vs (l .few), trimming.words-padded cell-words vs (l .in-range)))
+        (l .text, length-padded cell-words vs (l .few), trimming.words-padded cell-words vs (l .in-range)))
         (sym (location-words t f) ∙ e)
 
 pub location-print : (row u : List ℕ) → length row ≡ cell-words → Words row → location (line (trim row) u) ≡ got row u

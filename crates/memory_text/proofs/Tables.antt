@@ -18,7 +18,8 @@ use Rattle.tables.specs.Sheet.{maxLocations}
 use Rattle.memory_text.specs.Sizes.{memoryWords}
 use Rattle.memory_text.specs.declared.Memory.{Memory}
 use Rattle.memory_text.specs.declared.Row.{Row}
-use Rattle.memory_text.specs.Reading.{padded, location, joined, wordsOf, locations, memory}
+use Rattle.tables.specs.Tables.{padded}
+use Rattle.memory_text.specs.Reading.{location, joined, wordsOf, locations, memory}
 use Rattle.memory_text.specs.Answers.{rowIn, table, memoryOf}
 use Rattle.memory_text.proofs.Lines.{memory-lines}
 use Rattle.memory_text.proofs.Memories.{rows-sound}

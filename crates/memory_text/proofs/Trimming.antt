@@ -3,12 +3,12 @@ use Prim.Native.Nat.{ℕ, zero, suc, _-_, _≤_}
 use native.Mathlib.Omega.{arith}
 use mathlib.Core.Path.{_≡_, refl, sym, ap, _∙_}
 use mathlib.Core.List.{List, [], _∷_, _++_}
-use lib.ListN.{length, replicate, length-append, length-replicate}
+use lib.ListN.{length, replicate, length-append}
 use lib.Dec.{eqb}
 use borrow.Author.Tests.{eq-eqb, ne-eqb, eqb-true, eqb-false}
 use Rattle.text.proofs.Cases.{cases}
 use Rattle.memory_text.specs.Printing.{keep, trim}
-use Rattle.memory_text.specs.Reading.{padded}
+use Rattle.tables.specs.Tables.{padded}
 use Rattle.memory_text.specs.Theorems.{Words}
 
 -- the cases of `keep`
@@ -76,10 +76,6 @@ trim-restore (w ∷ ws) = go (trim ws) (trim-restore ws)
 pub padded-trim : (ws : List ℕ) (n : ℕ) → length ws ≡ n → padded n (trim ws) ≡ ws
 unfolding padded
 padded-trim ws n e = rw (← e) (trim-restore ws)
-
-pub length-padded : (n : ℕ) (ws : List ℕ) → length ws ≤ n → length (padded n ws) ≡ n
-unfolding padded
-length-padded n ws h = omega (arith, length-append ws (replicate (n - length ws) 0), length-replicate {A = ℕ} (n - length ws) 0)
 
 pub trim-padded : (n : ℕ) (ws : List ℕ) → trim (padded n ws) ≡ trim ws
 unfolding padded

@@ -1,9 +1,9 @@
 -- A line of up to 16 words that doesn't end in a zero word is a location, and at most 64 of them are a memory.
-use Prim.Native.Nat.{ℕ, zero, suc, _-_}
+use Prim.Native.Nat.{ℕ, zero, suc}
 use mathlib.Core.Bool.{cond}
 use mathlib.Core.List.{List, [], _∷_, _++_}
 use mathlib.Core.Option.{Option, none, some}
-use lib.ListN.{length, replicate}
+use lib.ListN.{replicate}
 use lib.Dec.{eqb}
 use Rattle.text.specs.Reading.{Read, andThen, fits}
 use Rattle.text.specs.Reading.Read.{got, bad}
@@ -12,6 +12,7 @@ use Rattle.text.specs.Field.{lineEnd}
 use Rattle.text.specs.Lines.{linesUpTo}
 use Rattle.language.specs.Evaluation.{cell-words}
 use Rattle.tables.specs.Sheet.{maxLocations}
+use Rattle.tables.specs.Tables.{padded}
 
 -- the word v with what its line goes on with: the end, unless v is zero, or a tab and more words
 unfoldable pub following : ℕ → List ℕ → (List ℕ → Read (List ℕ)) → Read (List ℕ)
@@ -24,10 +25,6 @@ following v (c ∷ t) more =
 unfoldable pub words : ℕ → List ℕ → Read (List ℕ)
 words zero t = bad
 words (suc k) t = andThen (number most t) (λ v u. following v u (λ w. words k w))
-
--- n words, zeros after those given
-unfoldable pub padded : ℕ → List ℕ → List ℕ
-padded n ws = ws ++ replicate (n - length ws) 0
 
 -- the 16 words of a line that is not empty
 unfoldable pub lineWords : List ℕ → Read (List ℕ)

@@ -3,10 +3,10 @@ use mathlib.Core.Path.{_≡_, refl, sym, ap, _∙_}
 use mathlib.Core.Bool.{Bool, true, false}
 use mathlib.Core.List.{List, [], _∷_}
 use mathlib.Core.Option.{Option, none, some}
-use Prim.Native.Nat.{ℕ, _*_, _-_, _≤_}
+use Prim.Native.Nat.{ℕ, _*_, _≤_}
 use native.Mathlib.Omega.{arith}
 use lib.Dec.{leb}
-use lib.ListN.{length, take, length-append, length-drop, length-replicate, drop-of-length-le}
+use lib.ListN.{length, take, length-drop, drop-of-length-le}
 use lib.Seq.{take-at}
 use borrow.Author.Tests.{leb-true, le-leb}
 use Rattle.language.specs.Syntax.{Cmd}
@@ -14,6 +14,7 @@ use Rattle.lines.specs.Lines.{Line, Source, cmdLines}
 use Rattle.lines.specs.Code.{code}
 use Rattle.lines.specs.Names.{Counts, named}
 use Rattle.tables.specs.Tables.{padded}
+use Rattle.tables.proofs.Words.{length-padded}
 use Rattle.script.specs.declared.Script.{Script}
 use Rattle.script.specs.declared.Scanned.{Scanned}
 use Rattle.script.specs.Reading.{maxLines, linesOf}
@@ -83,8 +84,7 @@ unfolding padded
 coded-code ls = take-at (code ls) _ (length ls * 3) (code-length ls)
 
 coded-length : (ls : List Line) → length ls ≤ maxLines → length (padded codeWords (code ls)) ≡ codeWords
-unfolding padded
-coded-length ls h = length-append (code ls) _ ∙ omega (arith, code-length ls, length-replicate {A = ℕ} (codeWords - length (code ls)) 0)
+coded-length ls h = length-padded codeWords (code ls) (omega (arith, code-length ls))
 
 -- ---- the answer
 

@@ -20,8 +20,8 @@ use Rattle.script.specs.Script.{scriptOf}
 use Rattle.memory_text.specs.Reading.{memory}
 use Rattle.simp.specs.Calls.{runOf}
 use Rattle.desk.specs.Fields.{groupOf, groupIn, budgetOf, budgetIn}
-use Rattle.desk.specs.Show.{wordsRead}
-use Rattle.desk.specs.Run.{runTextOf}
+use Rattle.desk.specs.Given.{givenOf, givenWords}
+use Rattle.desk.specs.Run.{ranOn, runTextOf}
 use Rattle.desk.specs.Theorems.{KeptEnough, ShowsInput, RunsInput}
 use Rattle.desk.proofs.Exact.{group-length, budget-length}
 use Rattle.desk.proofs.Orders.{show-by}
@@ -72,13 +72,17 @@ run-kept : (sheet script words : List ℕ) (authority budget : ℕ) → runOf (t
 unfolding runOf scriptOf
 run-kept sheet script words authority budget = rw (sheet-kept sheet) (simp (lines-kept script))
 
+given-kept : (text group : List ℕ) → givenOf (take keep text) (take keep group) ≡ givenOf text group
+unfolding givenOf
+given-kept text group = rw (memory-kept text, group-kept group)
+
 run-text-kept : (sheet script text authority budget : List ℕ)
     → runTextOf (take keep sheet) (take keep script) (take keep text) (take keep authority) (take keep budget)
     ≡ runTextOf sheet script text authority budget
-unfolding runTextOf
+unfolding runTextOf ranOn
 run-text-kept sheet script text authority budget =
-    rw (budget-kept budget, group-kept authority, memory-kept text)
-    (rw (run-kept sheet script (wordsRead (memory text)) (groupIn (groupOf authority) .set) (budgetIn (budgetOf budget) .number)))
+    let g = givenOf text authority in
+    rw (budget-kept budget, given-kept text authority, run-kept sheet script (givenWords g) (g .group) (budgetIn (budgetOf budget) .number))
 
 pub kept-enough : KeptEnough
 kept-enough = record {

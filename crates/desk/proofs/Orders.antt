@@ -20,9 +20,11 @@ use Rattle.memory_text.specs.Reading.{memory}
 use Rattle.simp.specs.Calls.{onSheet, unless, strangers, Viewed, refusedView, viewOf}
 use Rattle.desk.specs.Fields.{groupOf, groupIn}
 use Rattle.desk.specs.Numbers.{lower, unread, asText}
-use Rattle.desk.specs.Show.{wordsRead, formed, numberLine, viewText, viewed, showOf}
+use Rattle.desk.specs.Given.{wordsRead, formed, givenOf}
+use Rattle.desk.specs.Show.{numberLine, viewText, viewed, showOf}
 use Rattle.desk.specs.Order.{onGroup, onMemory, showInOrder}
 use Rattle.desk.specs.Theorems.{ShowOrder}
+use Rattle.desk.proofs.Givens.{given-words}
 
 -- the view on a sheet that isn't refused
 abbrev seen : Sheet → List ℕ → ℕ → Viewed
@@ -37,11 +39,11 @@ shownBy a o m =
     let g = groupIn o in
     let ws = wordsRead m in
     let v = onSheet (refusedView (replicate (length ws) 0)) a (λ s. seen s ws (g .set)) in
-    viewText (lower (asText (v .answer)) (lower (unread (g .ok) 3) (unread (formed m) 8))) (v .view)
+    viewText (lower (asText (v .answer)) (unread (g .ok) (formed m))) (v .view)
 
 pub show-by : (sheet text group : List ℕ) → showOf sheet text group ≡ shownBy (sheetOf sheet) (groupOf group) (memory text)
-unfolding showOf viewed viewOf
-show-by sheet text group = refl
+unfolding showOf viewed viewOf givenOf
+show-by sheet text group = rw (given-words text group)
 
 -- 7, 8 or none
 refusal-is : (s : Sheet) (ws : List ℕ)

@@ -6,11 +6,11 @@ use lib.Dec.{eqb}
 use Rattle.text.specs.Number.{decimal}
 use Rattle.text.specs.Field.{printNumberField, printLineEnd}
 use Rattle.memory_text.specs.Printing.{memoryText}
-use Rattle.memory_text.specs.Reading.{memory}
 use Rattle.simp.specs.Calls.{Ran, runOf}
-use Rattle.desk.specs.Fields.{groupOf, groupIn, budgetOf, budgetIn}
-use Rattle.desk.specs.Numbers.{lower, unread, asText}
-use Rattle.desk.specs.Show.{wordsRead, formed}
+use Rattle.desk.specs.declared.Given.{Given}
+use Rattle.desk.specs.Fields.{budgetOf, budgetIn}
+use Rattle.desk.specs.Numbers.{lower, asText}
+use Rattle.desk.specs.Given.{givenOf, givenWords}
 
 -- the answer, a tab, the steps and the end of the line, before t
 unfoldable pub outcomeLine : ℕ → ℕ → List ℕ → List ℕ
@@ -25,6 +25,12 @@ adjusted r words other =
     let k = lower (asText (r .answer)) other in
     cond (eqb k (r .answer)) r (record { answer = k; steps = 0; memory = words })
 
+-- the run on the words that are given
+unfoldable pub ranOn : List ℕ → List ℕ → Given → ℕ → List ℕ
+ranOn sheet script g budget =
+    let words = givenWords g in
+    ranText (adjusted (runOf sheet script words (g .group) budget) words (g .other))
+
 -- "no budget" and the end of the line
 abbrev pub noBudget : List ℕ
 noBudget = 110 ∷ 111 ∷ 32 ∷ 98 ∷ 117 ∷ 100 ∷ 103 ∷ 101 ∷ 116 ∷ 10 ∷ []
@@ -33,8 +39,4 @@ noBudget = 110 ∷ 111 ∷ 32 ∷ 98 ∷ 117 ∷ 100 ∷ 103 ∷ 101 ∷ 116 ∷
 unfoldable pub runTextOf : List ℕ → List ℕ → List ℕ → List ℕ → List ℕ → List ℕ
 runTextOf sheet script memoryText authority budget =
     let b = budgetIn (budgetOf budget) in
-    let a = groupIn (groupOf authority) in
-    let m = memory memoryText in
-    let words = wordsRead m in
-    let other = lower (unread (a .ok) 3) (unread (formed m) 8) in
-    cond (b .ok) (ranText (adjusted (runOf sheet script words (a .set) (b .number)) words other)) noBudget
+    cond (b .ok) (ranOn sheet script (givenOf memoryText authority) (b .number)) noBudget

@@ -4,10 +4,11 @@ pub mod run; // run.rt: the program run
 use text::Mask;
 use text::Value;
 ghost use mathlib.Core.Path.{_≡_};
-ghost use Prim.Native.Nat.{_≤_, _%_};
+ghost use Prim.Native.Nat.{_≤_};
 ghost use lib.ListN.{length, take, drop};
 ghost use Rattle.desk.specs.Fields.{closed, groupOf, groupIn, budgetOf, budgetIn};
 ghost use Rattle.desk.specs.Numbers.{lower as lowerOf, unread as unreadOf, asText};
+ghost use Rattle.desk.specs.Given.{givenOf, Whole};
 ghost use Rattle.desk.specs.Show.{numberLine, viewed, showOf};
 ghost use Rattle.desk.specs.Output.{places, put, putLength, PutAll};
 
@@ -24,6 +25,15 @@ pub struct Group {
 pub struct Budget {
     pub ok: bool,
     pub number: u32,
+}
+
+// What show and run take from the texts of a memory and of a group or an authority: the words, of which the first `count` are
+// the memory's, the group, and the number of a text that isn't of its form (0: none).
+struct Given {
+    words: [u32; 1024],
+    count: usize,
+    group: u16,
+    other: u8,
 }
 
 // Whether the end of the line stands at p, and nothing more.
@@ -82,18 +92,40 @@ fn lower(a: u8, b: u8) -> u8
     if b < a { b } else { a }
 }
 
-// The number of a text that isn't of its form.
-fn unread(formed: bool, k: u8) -> u8
-    ensures { λ r. ⌜ r ≡ unreadOf formed k ⌝ }
+// 3 where the group isn't of its form, else 8 where the memory isn't, else 0.
+fn unread(group: bool, memory: bool) -> u8
+    ensures { λ r. ⌜ r ≡ unreadOf group memory ⌝ }
 {
-    if formed { 0 } else { k }
+    if !group {
+        return 3;
+    }
+    if memory { 0 } else { 8 }
 }
 
-// 8 for 7: a memory text with another number of lines isn't of its form.
-fn as_text(answer: u8) -> u8
-    ensures { λ r. ⌜ r ≡ asText answer ⌝ }
+// The number to print: that of a call's answer or `other`, whichever is lower. A memory text with another number of lines than
+// the sheet has locations isn't of its form, so that 8 stands for 7.
+fn number(answer: u8, other: u8) -> u8
+    ensures { λ r. ⌜ r ≡ lowerOf (asText answer) other ⌝ }
 {
-    if answer == 7 { 8 } else { answer }
+    if answer == 7 {
+        return lower(8, other);
+    }
+    lower(answer, other)
+}
+
+// What a memory and a group give; a text that isn't of its form stands for no location, or for the empty group.
+fn read_given(memory: &[u8], group: &[u8]) -> Given
+    ensures { λ r. ⌜ r ≡ givenOf (now (memory .entry)) (now (group .entry)) ⌝ }
+{
+    let g = group_line(group);
+    let m = memory_text::read_memory(memory);
+    let words = m.words;
+    Given {
+        words,
+        count: m.count * 16,
+        group: g.set,
+        other: unread(g.ok, m.ok),
+    }
 }
 
 // A number alone on its line; the length of the line.
@@ -105,15 +137,16 @@ fn put_line(out: &mut [u8], k: u8) -> usize
     text::write::put_byte(out, p, 10)
 }
 
-// The view of words, or the number; `other` is the number of a text that isn't of its form.
-fn show_words(sheet: &[u8], words: &[u32], group: u16, other: u8, out: &mut [u8]) -> usize
-    requires { ⌜ (length (now words) % 16 ≡ 0) × (length (now words) ≤ 1024) × (places ≤ length (now out)) ⌝ }
-    ensures { λ r. ⌜ PutAll (now (out .entry)) (viewed (now (sheet .entry)) (now (words .entry)) group other) (now (out .exit)) r ⌝ }
+// The view, or the number.
+fn show_given(sheet: &[u8], given: Given, out: &mut [u8]) -> usize
+    requires { ⌜ Whole given × (places ≤ length (now out)) ⌝ }
+    ensures { λ r. ⌜ PutAll (now (out .entry)) (viewed (now (sheet .entry)) given) (now (out .exit)) r ⌝ }
 {
+    let words = given.words;
     let mut view = [0u32; 1024];
-    let n = words.len();
-    let answer = simp::simp_view(sheet, words, group, &mut view[..n]);
-    let k = lower(as_text(answer), other);
+    let n = given.count;
+    let answer = simp::simp_view(sheet, &words[..n], given.group, &mut view[..n]);
+    let k = number(answer, given.other);
     if k == 0 {
         return memory_text::write::write_memory(&view[..n], out);
     }
@@ -129,12 +162,7 @@ pub fn show(sheet: &[u8], memory: &[u8], group: &[u8], out: &mut [u8]) -> usize
     if out.len() < PLACES {
         return 0;
     }
-    let g = group_line(group);
-    let m = memory_text::read_memory(memory);
-    let other = lower(unread(g.ok, 3), unread(m.ok, 8));
-    let n = m.count * 16;
-    let words = m.words;
-    show_words(sheet, &words[..n], g.set, other, out)
+    show_given(sheet, read_given(memory, group), out)
 }
 
 // The first n bytes of a buffer, or all of them.

@@ -1,12 +1,13 @@
 // What the program run prints: the answer and the steps, and the memory as it then is.
 ghost use mathlib.Core.Path.{_≡_};
 ghost use Prim.Native.Nat.{_≤_, _%_};
-ghost use lib.ListN.{length, take};
+ghost use lib.ListN.{length};
 ghost use Rattle.memory_text.specs.Printing.{memoryText};
 ghost use Rattle.memory_text.specs.Writing.{Puts};
-ghost use Rattle.simp.specs.Calls.{runOf};
+ghost use Rattle.desk.specs.Given.{Whole};
 ghost use Rattle.desk.specs.Output.{places, put, putLength, PutAll};
-ghost use Rattle.desk.specs.Run.{outcomeLine, ranText, adjusted, runTextOf};
+ghost use Rattle.desk.specs.Run.{outcomeLine, ranOn, runTextOf};
+use super::Given;
 use text::write::put_byte;
 use text::write::put_number;
 
@@ -31,26 +32,19 @@ fn put_run(out: &mut [u8], answer: u8, steps: u32, words: &[u32]) -> usize
     p + n
 }
 
-// A run on the first n of the words; `other` is the number of a text that isn't of its form.
-fn run_words(
-    sheet: &[u8],
-    script: &[u8],
-    words: [u32; 1024],
-    n: usize,
-    authority: u16,
-    budget: u32,
-    other: u8,
-    out: &mut [u8],
-) -> usize
-    requires { ⌜ (n % 16 ≡ 0) × (n ≤ 1024) × (places ≤ length (now out)) ⌝ }
-    ensures { λ r. ⌜ PutAll (now (out .entry)) (ranText (adjusted (runOf (now (sheet .entry)) (now (script .entry)) (take n words) authority budget) (take n words) other)) (now (out .exit)) r ⌝ }
+// The run, or the number with no steps and the memory as it was.
+fn run_given(sheet: &[u8], script: &[u8], given: Given, budget: u32, out: &mut [u8]) -> usize
+    requires { ⌜ Whole given × (places ≤ length (now out)) ⌝ }
+    ensures { λ r. ⌜ PutAll (now (out .entry)) (ranOn (now (sheet .entry)) (now (script .entry)) given budget) (now (out .exit)) r ⌝ }
 {
-    let mut work = words;
-    let o = simp::simp_run(sheet, script, &mut work[..n], authority, budget);
-    let k = super::lower(super::as_text(o.answer), other);
+    let n = given.count;
+    let mut work = given.words;
+    let o = simp::simp_run(sheet, script, &mut work[..n], given.group, budget);
+    let k = super::number(o.answer, given.other);
     if k == o.answer {
         return put_run(out, k, o.steps, &work[..n]);
     }
+    let words = given.words;
     put_run(out, k, 0, &words[..n])
 }
 
@@ -87,18 +81,11 @@ pub fn run_text(
     if !b.ok {
         return put_bytes(out, b"no budget\n");
     }
-    let a = super::group_line(authority);
-    let m = memory_text::read_memory(memory);
-    let other = super::lower(super::unread(a.ok, 3), super::unread(m.ok, 8));
-    let words = m.words;
-    run_words(
+    run_given(
         sheet,
         script,
-        words,
-        m.count * 16,
-        a.set,
+        super::read_given(memory, authority),
         b.number,
-        other,
         out,
     )
 }

@@ -25,7 +25,7 @@ use Rattle.sheet.specs.declared.line.Line.the-variants.{P, T, L, O, X}
 use Rattle.sheet.specs.declared.draft.Draft.{Draft}
 use Rattle.sheet.specs.Building.{blank, addSum, addLabel, toLast, addPolicy, addLocation, lastOf, leastAfter, leastOwner, sumFits, labelFits, policyFits, locationFits, begin, step, stepOn}
 use Rattle.sheet.specs.Drafts.{Holds, FormedIf, Stores, principalsFit, sumFitsIn, labelFitsIn, policyFitsIn, locationFitsIn, principalsStored, pairStored, labelStored, policyStored}
-use Rattle.sheet.proofs.LineLaws.{not-none}
+use Rattle.text.proofs.Cases.{not-none}
 use Rattle.sheet.proofs.GrowthLaws.{last-more, toLast-more, least-more, labels-split}
 use Rattle.sheet.proofs.BuildLaws.{no-labels, begin-sound, step-sound}
 use Rattle.sheet.proofs.TableGrowth.{sum-table, label-table, policy-table, location-table}

@@ -3,7 +3,7 @@ use borrow.Author.Needs.{needs}
 use native.Mathlib.Omega.{arith}
 use borrow.Author.Tests.{not-true, not-false}
 use Rattle.desk.proofs.Outputs.{put-all, put-none, put-same}
-use Rattle.desk.proofs.Shows.{memory-held}
+use Rattle.desk.proofs.Givens.{given-whole}
 use Rattle.desk.proofs.Runs.{run-none, run-is}
 use Rattle.desk.proofs.run.run_text.Statement.{statement}
 use Rattle.desk.proofs.run.run_text.Tie as tie
@@ -35,50 +35,29 @@ returns-2 c =
     (not-true _ (q .if2 .taken)))
     (p .put-bytes .ensures))
 
-group-line-requires : tie.Need-group-line-requires
-group-line-requires c κs = search needs
+read-given-requires : tie.Need-read-given-requires
+read-given-requires c κs = search needs
 
-read-memory-requires : tie.Need-read-memory-requires
-read-memory-requires c κs = search needs
-
-unread-requires : tie.Need-unread-requires
-unread-requires c κs = search needs
-
-unread-requires-2 : tie.Need-unread-requires-2
-unread-requires-2 c κs = search needs
-
-lower-requires : tie.Need-lower-requires
-lower-requires c κs = search needs
-
-mul-run-words : tie.Need-mul-run-words
-mul-run-words c =
-    let r = c .before .before .before .before .before in
-    omega (arith, memory-held _ _ (r .read-memory .ensures) .few)
-
-run-words-requires : tie.Need-run-words-requires
-run-words-requires c κs =
-    let r = c .before .before .before .before .before .before in
-    let h = memory-held _ _ (r .read-memory .ensures) in
-    (omega arith, omega (arith, h .few), omega (arith, r .before .before .before .before .before .if1 .left))
+run-given-requires : tie.Need-run-given-requires
+run-given-requires c κs =
+    let g = c .before in
+    (given-whole _ _ _ (g .read-given .ensures), omega (arith, g .before .before .before .before .if1 .left))
 
 same-length-2 : tie.Need-same-length-2
 same-length-2 c = search needs
 
 returns-3 : tie.Need-returns-3
 returns-3 c =
-    let w = c .before .before in
-    let l = w .before .before .before .before in
-    let r = l .before .before .before in
-    let g = r .before in
+    let r = c .before .before in
+    let g = r .before .before in
     let q = g .before in
     let b = q .before .before in
     let a = b .before .before .before .before .before .before .before .before .args in
     put-all (a .out .now) _ _ _ (b .before .if1 .left)
     (put-same _ _ _ _ _
     (run-is (a .sheet .now) (a .script .now) (a .memory .now) (a .authority .now) (a .budget .now) (b .budget-line .result) (b .budget-line .ensures)
-    (g .group-line .result) (r .read-memory .result) _ _ _
-    (not-false _ (q .if2 .left)) (g .group-line .ensures) (r .read-memory .ensures) (l .before .before .unread .ensures) (l .before .unread2 .ensures) (l .lower .ensures))
-    (w .run-words .ensures))
+    (g .read-given .result) (not-false _ (q .if2 .left)) (g .read-given .ensures))
+    (r .run-given .ensures))
 
 pub run-text-spec : {M : Type 1} → statement M
 run-text-spec =
@@ -90,12 +69,7 @@ run-text-spec =
     put-bytes-requires
     same-length
     returns-2
-    group-line-requires
-    read-memory-requires
-    unread-requires
-    unread-requires-2
-    lower-requires
-    mul-run-words
-    run-words-requires
+    read-given-requires
+    run-given-requires
     same-length-2
     returns-3)

@@ -1,0 +1,38 @@
+-- What show and run take from the texts of a memory and of a group or an authority.
+use Prim.Native.Nat.{ℕ, _%_, _≤_}
+use mathlib.Core.Path.{_≡_}
+use mathlib.Core.Bool.{Bool, true, false}
+use mathlib.Core.List.{List, []}
+use lib.ListN.{length, take}
+use Rattle.text.specs.Reading.{Read}
+use Rattle.text.specs.Reading.Read.{got, bad}
+use Rattle.memory_text.specs.Reading.{memory, padded}
+use Rattle.desk.specs.declared.Given.{Given}
+use Rattle.desk.specs.Fields.{groupOf, groupIn}
+use Rattle.desk.specs.Numbers.{unread}
+
+-- the words of a memory text; none where it isn't of its form
+unfoldable pub wordsRead : Read (List ℕ) → List ℕ
+wordsRead (got ws _) = ws
+wordsRead bad = []
+
+unfoldable pub formed : {A : Type 0} → Read A → Bool
+formed (got _ _) = true
+formed bad = false
+
+-- A text that isn't of its form stands for no location, or for the empty group, and has the number 8 or 3.
+unfoldable pub givenOf : List ℕ → List ℕ → Given
+givenOf memoryText group =
+    let m = memory memoryText in
+    let g = groupIn (groupOf group) in
+    record { words = padded 1024 (wordsRead m); count = length (wordsRead m); group = g .set; other = unread (g .ok) (formed m) }
+
+-- the words of the memory, without the zeros after them
+abbrev pub givenWords : Given → List ℕ
+givenWords g = take (g .count) (g .words)
+
+-- whole locations, at most 64
+pub record Whole (g : Given) : Type 0 where
+  pub whole : g .count % 16 ≡ 0
+  pub few : g .count ≤ 1024
+  pub all : length (g .words) ≡ 1024

@@ -16,14 +16,13 @@ use Rattle.desk.specs.declared.Group.{Group}
 use Rattle.desk.specs.declared.Given.{Given}
 use Rattle.desk.specs.Fields.{groupOf, groupIn}
 use Rattle.desk.specs.Numbers.{unread}
-use Rattle.desk.specs.Given.{wordsRead, formed, givenOf, givenWords, Whole}
+use Rattle.desk.specs.Given.{wordsRead, formed, givenIn, givenOf, givenWords, Whole}
 
 pub given-whole : (text group : List ℕ) (g : Given) → g ≡ givenOf text group → Whole g
-unfolding givenOf wordsRead padded
+unfolding givenOf givenIn wordsRead padded
 given-whole text group g e = rw e (go (memory text) refl)
   where
-    go : (want : Read (List ℕ)) → memory text ≡ want
-        → Whole (record { words = padded 1024 (wordsRead want); count = length (wordsRead want); group = groupIn (groupOf group) .set; other = unread (groupIn (groupOf group) .ok) (formed want) })
+    go : (want : Read (List ℕ)) → memory text ≡ want → Whole (givenIn want (groupIn (groupOf group)))
     go (got ws r) q =
         let s = memory-sound ws text r q .1 in
         record {
@@ -40,28 +39,26 @@ words-fit g w = omega arith
 pub words-length : (g : Given) → Whole g → length (givenWords g) ≡ g .count
 words-length g w = length-take-le (g .count) (g .words) (words-fit g w)
 
--- the words of the text are those that are used
-pub given-words : (text group : List ℕ) → givenWords (givenOf text group) ≡ wordsRead (memory text)
-unfolding givenOf padded
-given-words text group = take-at (wordsRead (memory text)) (replicate (1024 - length (wordsRead (memory text))) 0) (length (wordsRead (memory text))) refl
+pub given-words : (m : Read (List ℕ)) (g : Group) → givenWords (givenIn m g) ≡ wordsRead m
+unfolding givenIn padded
+given-words m g = take-at (wordsRead m) (replicate (1024 - length (wordsRead m)) 0) (length (wordsRead m)) refl
 
--- a memory that is read
+-- a memory that is read, and what is made of it
 pub memory-few : (text : List ℕ) (m : Memory) → m ≡ memoryOf text → m .count * 16 ≤ 1024
 unfolding memoryOf table
 memory-few text m e = rw e (go (memory text) refl)
   where
     go : (want : Read (List ℕ)) → memory text ≡ want → table want .count * 16 ≤ 1024
-    go (got ws r) q = let s = memory-sound ws text r q .1 in omega (arith, s .most-locations)
+    go (got ws r) q = omega (arith, memory-sound ws text r q .1 .most-locations)
     go bad q = omega arith
 
 pub given-is : (text group : List ℕ) (m : Memory) (g : Group) (k : ℕ) → m ≡ memoryOf text → g ≡ groupIn (groupOf group) → k ≡ unread (g .ok) (m .ok)
     → _≡_ {A = Given} (record { words = m .words; count = m .count * 16; group = g .set; other = k }) (givenOf text group)
-unfolding givenOf memoryOf table formed wordsRead padded
+unfolding givenOf givenIn memoryOf table formed wordsRead padded
 given-is text group m g k em eg ek = rw (ek, em, eg) (go (memory text) refl)
   where
     go : (want : Read (List ℕ)) → memory text ≡ want
-        → _≡_ {A = Given}
-        (record { words = table want .words; count = table want .count * 16; group = groupIn (groupOf group) .set; other = unread (groupIn (groupOf group) .ok) (table want .ok) })
-        (record { words = padded 1024 (wordsRead want); count = length (wordsRead want); group = groupIn (groupOf group) .set; other = unread (groupIn (groupOf group) .ok) (formed want) })
+        → record { words = table want .words; count = table want .count * 16; group = groupIn (groupOf group) .set; other = unread (groupIn (groupOf group) .ok) (table want .ok) }
+        ≡ givenIn want (groupIn (groupOf group))
     go (got ws r) q = let n : length ws / 16 * 16 ≡ length ws = omega (arith, memory-sound ws text r q .1 .whole) in rw n
     go bad q = refl

@@ -20,7 +20,7 @@ use Rattle.memory_text.specs.Reading.{memory}
 use Rattle.simp.specs.Calls.{onSheet, unless, strangers, Viewed, refusedView, viewOf}
 use Rattle.desk.specs.Fields.{groupOf, groupIn}
 use Rattle.desk.specs.Numbers.{lower, unread, asText}
-use Rattle.desk.specs.Given.{wordsRead, formed, givenOf}
+use Rattle.desk.specs.Given.{wordsRead, formed, givenIn, givenOf}
 use Rattle.desk.specs.Show.{numberLine, viewText, viewed, showOf}
 use Rattle.desk.specs.Order.{onGroup, onMemory, showInOrder}
 use Rattle.desk.specs.Theorems.{ShowOrder}
@@ -42,8 +42,8 @@ shownBy a o m =
     viewText (lower (asText (v .answer)) (unread (g .ok) (formed m))) (v .view)
 
 pub show-by : (sheet text group : List ℕ) → showOf sheet text group ≡ shownBy (sheetOf sheet) (groupOf group) (memory text)
-unfolding showOf viewed viewOf givenOf
-show-by sheet text group = rw (given-words text group)
+unfolding showOf viewed viewOf givenOf givenIn
+show-by sheet text group = rw (given-words (memory text) (groupIn (groupOf group)))
 
 -- 7, 8 or none
 refusal-is : (s : Sheet) (ws : List ℕ)

@@ -16,7 +16,7 @@ use Rattle.desk.specs.declared.Given.{Given}
 use Rattle.desk.specs.declared.Budget.{Budget}
 use Rattle.desk.specs.Fields.{groupOf, groupIn, budgetOf, budgetIn}
 use Rattle.desk.specs.Numbers.{lower, unread, asText}
-use Rattle.desk.specs.Given.{wordsRead, formed, givenOf, givenWords}
+use Rattle.desk.specs.Given.{wordsRead, formed, givenIn, givenOf, givenWords}
 use Rattle.desk.specs.Run.{outcomeLine, ranText, adjusted, ranOn, noBudget, runTextOf}
 use Rattle.desk.specs.Theorems.{RunsPlain}
 use Rattle.desk.proofs.Givens.{given-words}
@@ -59,8 +59,8 @@ plain-other r ws e = rw (ne-eqb (r .answer) 7 e, same-number (r .answer), eq-eqb
 module _ (sheet script text authority budget ws rest : List ℕ) (a n : ℕ) (ea : groupOf authority ≡ some a) (en : budgetOf budget ≡ some n)
     (em : memory text ≡ got ws rest) where
   plain : runTextOf sheet script text authority budget ≡ ranText (adjusted (runOf sheet script ws a n) ws 0)
-  unfolding runTextOf ranOn givenOf groupIn budgetIn wordsRead formed unread
-  plain = rw (given-words text authority, ea, en, em)
+  unfolding runTextOf ranOn givenOf givenIn groupIn budgetIn wordsRead formed unread
+  plain = rw (en, ea, em, given-words (got ws rest) (groupIn (some a)))
 
 pub runs-plain : RunsPlain
 runs-plain sheet script text authority budget ws rest a n ea en em =

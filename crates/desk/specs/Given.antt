@@ -7,6 +7,7 @@ use lib.ListN.{length, take}
 use Rattle.text.specs.Reading.{Read}
 use Rattle.text.specs.Reading.Read.{got, bad}
 use Rattle.memory_text.specs.Reading.{memory, padded}
+use Rattle.desk.specs.declared.Group.{Group}
 use Rattle.desk.specs.declared.Given.{Given}
 use Rattle.desk.specs.Fields.{groupOf, groupIn}
 use Rattle.desk.specs.Numbers.{unread}
@@ -21,11 +22,16 @@ formed (got _ _) = true
 formed bad = false
 
 -- A text that isn't of its form stands for no location, or for the empty group, and has the number 8 or 3.
+unfoldable pub givenIn : Read (List ℕ) → Group → Given
+givenIn m g = record {
+  words = padded 1024 (wordsRead m);
+  count = length (wordsRead m);
+  group = g .set;
+  other = unread (g .ok) (formed m);
+}
+
 unfoldable pub givenOf : List ℕ → List ℕ → Given
-givenOf memoryText group =
-    let m = memory memoryText in
-    let g = groupIn (groupOf group) in
-    record { words = padded 1024 (wordsRead m); count = length (wordsRead m); group = g .set; other = unread (g .ok) (formed m) }
+givenOf memoryText group = givenIn (memory memoryText) (groupIn (groupOf group))
 
 -- the words of the memory, without the zeros after them
 abbrev pub givenWords : Given → List ℕ

@@ -19,7 +19,7 @@ use Rattle.script.specs.Reading.{linesOf}
 use Rattle.script.specs.Script.{scriptOf}
 use Rattle.memory_text.specs.Reading.{memory}
 use Rattle.simp.specs.Calls.{runOf}
-use Rattle.desk.specs.Fields.{groupOf, groupIn, budgetOf, budgetIn}
+use Rattle.desk.specs.Fields.{groupOf, budgetOf, budgetIn}
 use Rattle.desk.specs.Given.{givenOf, givenWords}
 use Rattle.desk.specs.Run.{ranOn, runTextOf}
 use Rattle.desk.specs.Theorems.{KeptEnough, ShowsInput, RunsInput}

@@ -21,7 +21,8 @@ use Rattle.simp.specs.Calls.{onSheet, unless, strangers, Viewed, refusedView, v
 use Rattle.desk.specs.Fields.{groupOf, groupIn}
 use Rattle.desk.specs.Numbers.{lower, unread, asText}
 use Rattle.desk.specs.Given.{wordsRead, formed, givenIn, givenOf}
-use Rattle.desk.specs.Show.{numberLine, viewText, viewed, showOf}
+use Rattle.desk.specs.Output.{numberLine}
+use Rattle.desk.specs.Show.{viewText, viewed, showOf}
 use Rattle.desk.specs.Order.{onGroup, onMemory, showInOrder}
 use Rattle.desk.specs.Theorems.{ShowOrder}
 use Rattle.desk.proofs.Givens.{given-words}

@@ -1,7 +1,6 @@
 -- What is put into the buffer. Assumes nothing.
 use Prim.Native.Nat.{ℕ, suc, _+_, _-_, _/_, _%_, _≤_, _<_}
 use native.Mathlib.Omega.{arith}
-use native.Mathlib.Numerals.{add-one}
 use mathlib.Core.Path.{_≡_, refl, sym, ap, _∙_}
 use mathlib.Core.List.{List, [], _∷_, _++_, append-nil}
 use lib.ListN.{length, take, drop, getD, set, length-append, length-drop, take-append-drop, drop-of-length-le}
@@ -9,16 +8,14 @@ use lib.Seq.{sets, length-take-le, take-at, take-all}
 use borrow.Author.Tests.{le-leb, lt-leb}
 use Rattle.text.specs.Number.{decimal, most}
 use Rattle.text.specs.Writing.{written, reached}
-use Rattle.text.proofs.Readings.{drop-step}
 use Rattle.text.proofs.Writings.{reached-fits, length-decimal}
 use Rattle.memory_text.specs.Printing.{memoryText}
 use Rattle.memory_text.specs.Answers.{printedLength, printed}
 use Rattle.memory_text.specs.Writing.{Puts}
 use Rattle.memory_text.specs.Theorems.{Words}
 use Rattle.memory_text.proofs.Memories.{length-lines}
-use Rattle.memory_text.proofs.Writes.{goes-start, goes-put, goes-done, printed-all}
-use Rattle.desk.specs.Output.{places, put, putLength, PutAll}
-use Rattle.desk.specs.Show.{numberLine}
+use Rattle.memory_text.proofs.Writes.{goes-start, goes-put, goes-form, goes-done, number-reach, printed-all}
+use Rattle.desk.specs.Output.{places, numberEnd, put, putLength, PutAll}
 use Rattle.desk.specs.Run.{outcomeLine}
 
 -- whether the buffer has room
@@ -36,39 +33,43 @@ pub puts-all : (form : List ℕ → List ℕ) (room : ℕ) (out now : List ℕ) 
 puts-all form room out now r p = record { length-is = omega (arith, p .reach []); held = sym (p .bytes []) }
 
 -- a number and the end of its line
-pub line-puts : (out : List ℕ) (k : ℕ) (o₁ : List ℕ) (p : ℕ) (o₂ : List ℕ) (r : ℕ)
-    → p ≡ reached out 0 (decimal k) → o₁ ≡ written out 0 (decimal k) → r ≡ reached o₁ p (10 ∷ []) → o₂ ≡ written o₁ p (10 ∷ [])
-    → length o₁ ≡ length out → k ≤ most → places ≤ length out → PutAll out (numberLine k) o₂ r
-unfolding numberLine
-line-puts out k o₁ p o₂ r ep e₁ er e₂ l m h =
-    let d = length-decimal k m in
-    let form : List ℕ → List ℕ = λ t. decimal k ++ (10 ∷ t) in
-    let p′ : p ≡ 0 + length (decimal k) = ep ∙ reached-fits out 0 (decimal k) (omega arith) in
+pub line-puts : (out : List ℕ) (at n : ℕ) (o₁ : List ℕ) (p : ℕ) (o₂ : List ℕ) (r : ℕ)
+    → p ≡ reached out at (decimal n) → o₁ ≡ written out at (decimal n) → r ≡ reached o₁ p (10 ∷ []) → o₂ ≡ written o₁ p (10 ∷ [])
+    → length o₁ ≡ length out → n ≤ most → at + 11 ≤ length out → Puts (numberEnd n) 11 out at o₂ r
+unfolding numberEnd
+line-puts out at n o₁ p o₂ r ep e₁ er e₂ l m h =
+    let d = length-decimal n m in
+    let form : List ℕ → List ℕ = numberEnd n in
+    let p′ : p ≡ at + length (decimal n) = ep ∙ reached-fits out at (decimal n) (omega arith) in
     let r′ : r ≡ p + 1 = er ∙ reached-fits o₁ p (10 ∷ []) (omega arith) in
-    let first = goes-put form form out 0 out 0 (goes-start form out 0) (λ t. 10 ∷ t) (decimal k) o₁ p (λ t. refl) (omega arith) ep e₁ in
-    let second = goes-put form (λ t. 10 ∷ t) out 0 o₁ p first (λ t. t) (10 ∷ []) o₂ r (λ t. refl) (omega arith) er e₂ in
-    puts-all form 11 out o₂ r (goes-done form 11 out 0 o₂ r second (omega arith))
+    let first = goes-put form form out at out at (goes-start form out at) (λ t. 10 ∷ t) (decimal n) o₁ p (λ t. refl) (omega arith) ep e₁ in
+    let second = goes-put form (λ t. 10 ∷ t) out at o₁ p first (λ t. t) (10 ∷ []) o₂ r (λ t. refl) (omega arith) er e₂ in
+    goes-done form 11 out at o₂ r second (omega arith)
 
--- an answer, a tab, the steps and the end of their line
-pub outcome-puts : (out : List ℕ) (a s : ℕ) (o₁ : List ℕ) (p : ℕ) (o₂ : List ℕ) (q : ℕ) (o₃ : List ℕ) (r : ℕ) (o₄ : List ℕ) (e : ℕ)
+-- how far a number and a tab reach
+pub tab-reach : (out : List ℕ) (a : ℕ) (o₁ : List ℕ) (p q : ℕ) → p ≡ reached out 0 (decimal a) → q ≡ reached o₁ p (9 ∷ [])
+    → length o₁ ≡ length out → a ≤ most → places ≤ length out → q ≤ 11
+tab-reach out a o₁ p q ep eq l m h =
+    let p′ = number-reach out 0 a p ep m (omega arith) in
+    let q′ : q ≡ p + 1 = eq ∙ reached-fits o₁ p (9 ∷ []) (omega arith) in
+    omega arith
+
+-- an answer, a tab, and the steps with the end of their line
+pub outcome-puts : (out : List ℕ) (a s : ℕ) (o₁ : List ℕ) (p : ℕ) (o₂ : List ℕ) (q : ℕ) (o₃ : List ℕ) (e : ℕ)
     → p ≡ reached out 0 (decimal a) → o₁ ≡ written out 0 (decimal a) → q ≡ reached o₁ p (9 ∷ []) → o₂ ≡ written o₁ p (9 ∷ [])
-    → r ≡ reached o₂ q (decimal s) → o₃ ≡ written o₂ q (decimal s) → e ≡ reached o₃ r (10 ∷ []) → o₄ ≡ written o₃ r (10 ∷ [])
-    → length o₁ ≡ length out → length o₂ ≡ length out → length o₃ ≡ length out → a ≤ most → s ≤ most → places ≤ length out
-    → Puts (outcomeLine a s) 22 out 0 o₄ e
+    → Puts (numberEnd s) 11 o₂ q o₃ e → length o₁ ≡ length out → a ≤ most → places ≤ length out
+    → Puts (outcomeLine a s) 22 out 0 o₃ e
 unfolding outcomeLine
-outcome-puts out a s o₁ p o₂ q o₃ r o₄ e ep e₁ eq e₂ er e₃ ee e₄ l₁ l₂ l₃ ma ms h =
-    let da = length-decimal a ma in
-    let ds = length-decimal s ms in
+outcome-puts out a s o₁ p o₂ q o₃ e ep e₁ eq e₂ line l m h =
+    let d = length-decimal a m in
     let form : List ℕ → List ℕ = outcomeLine a s in
+    let short = line .short in
     let p′ : p ≡ 0 + length (decimal a) = ep ∙ reached-fits out 0 (decimal a) (omega arith) in
     let q′ : q ≡ p + 1 = eq ∙ reached-fits o₁ p (9 ∷ []) (omega arith) in
-    let r′ : r ≡ q + length (decimal s) = er ∙ reached-fits o₂ q (decimal s) (omega arith) in
-    let e′ : e ≡ r + 1 = ee ∙ reached-fits o₃ r (10 ∷ []) (omega arith) in
-    let first = goes-put form form out 0 out 0 (goes-start form out 0) (λ t. 9 ∷ (decimal s ++ (10 ∷ t))) (decimal a) o₁ p (λ t. refl) (omega arith) ep e₁ in
-    let second = goes-put form (λ t. 9 ∷ (decimal s ++ (10 ∷ t))) out 0 o₁ p first (λ t. decimal s ++ (10 ∷ t)) (9 ∷ []) o₂ q (λ t. refl) (omega arith) eq e₂ in
-    let third = goes-put form (λ t. decimal s ++ (10 ∷ t)) out 0 o₂ q second (λ t. 10 ∷ t) (decimal s) o₃ r (λ t. refl) (omega arith) er e₃ in
-    let fourth = goes-put form (λ t. 10 ∷ t) out 0 o₃ r third (λ t. t) (10 ∷ []) o₄ e (λ t. refl) (omega arith) ee e₄ in
-    goes-done form 22 out 0 o₄ e fourth (omega arith)
+    let first = goes-put form form out 0 out 0 (goes-start form out 0) (λ t. 9 ∷ numberEnd s t) (decimal a) o₁ p (λ t. refl) (omega arith) ep e₁ in
+    let second = goes-put form (λ t. 9 ∷ numberEnd s t) out 0 o₁ p first (numberEnd s) (9 ∷ []) o₂ q (λ t. refl) (omega arith) eq e₂ in
+    let third = goes-form form (numberEnd s) out 0 o₂ q second (λ t. t) (numberEnd s) 11 o₃ e (λ t. refl) line in
+    goes-done form 22 out 0 o₃ e third (omega arith)
 
 -- a memory that is printed whole
 pub memory-puts : (out w x now : List ℕ) (r : ℕ) → w ≡ x → r ≡ printedLength w out → now ≡ printed w out
@@ -77,9 +78,33 @@ memory-puts out w x now r e er en h l room =
     let p = printed-all x out h (omega arith) in
     record { length-is = er ∙ ap (λ (u : List ℕ). printedLength u out) e ∙ p .0; held = en ∙ ap (λ (u : List ℕ). printed u out) e ∙ p .1 }
 
--- one byte more of those that are left
-pub bytes-more : (out bytes : List ℕ) (i : ℕ) → i < length bytes → sets out i (drop i bytes) ≡ sets (set out i (getD bytes i 0)) (i + 1) (drop (i + 1) bytes)
-bytes-more out bytes i h = rw (drop-step bytes i h, add-one i)
+-- stores behind the first element, and behind the first few
+sets-cons : (x : ℕ) (l : List ℕ) (i : ℕ) (vs : List ℕ) → sets (x ∷ l) (suc i) vs ≡ x ∷ sets l i vs
+sets-cons x l i [] = refl
+sets-cons x l i (v ∷ vs) = sets-cons x (set l i v) (suc i) vs
+
+sets-behind : (xs ys vs : List ℕ) → sets (xs ++ ys) (length xs) vs ≡ xs ++ sets ys 0 vs
+sets-behind [] ys vs = refl
+sets-behind (x ∷ xs) ys vs = sets-cons x (xs ++ ys) (length xs) vs ∙ ap {B = List ℕ} (λ (l : List ℕ). x ∷ l) (sets-behind xs ys vs)
+
+sets-part : (l : List ℕ) (p : ℕ) (vs : List ℕ) → p ≤ length l → take p l ++ sets (drop p l) 0 vs ≡ sets l p vs
+sets-part l p vs h =
+    sym (sets-behind (take p l) (drop p l) vs)
+    ∙ ap (λ (i : ℕ). sets (take p l ++ drop p l) i vs) (length-take-le p l h)
+    ∙ ap (λ (k : List ℕ). sets k p vs) (take-append-drop p l)
+
+sets-front : (l vs : List ℕ) → length vs ≤ length l → sets l 0 vs ≡ vs ++ drop (length vs) l
+sets-front l [] h = refl
+sets-front [] (v ∷ vs) h = absurd (omega arith)
+sets-front (x ∷ l) (v ∷ vs) h = sets-cons v l 0 vs ∙ ap {B = List ℕ} (λ (k : List ℕ). v ∷ k) (sets-front l vs (omega arith))
+
+-- bytes that were copied to the start
+pub copy-puts : (out bytes now : List ℕ) (r : ℕ) → length bytes ≤ length out → r ≡ length bytes
+    → now ≡ take (length bytes) bytes ++ drop (length bytes) out → PutAll out bytes now r
+copy-puts out bytes now r h er en = record {
+  length-is = er;
+  held = en ∙ rw (take-all (length bytes) bytes (omega arith)) (sym (sets-front out bytes h));
+}
 
 -- other words for the same bytes
 pub put-same : (out bytes bytes′ now : List ℕ) (r : ℕ) → bytes ≡ bytes′ → PutAll out bytes now r → PutAll out bytes′ now r
@@ -98,21 +123,6 @@ module _ (n : ℕ) (x w : List ℕ) (e : length x ≡ length (take n w)) (h : n 
 
   pub part-count : n ≡ length (take n (x ++ drop n w))
   part-count = sym (length-take-le n (x ++ drop n w) part-fits)
-
--- stores behind the first element, and behind the first few
-sets-cons : (x : ℕ) (l : List ℕ) (i : ℕ) (vs : List ℕ) → sets (x ∷ l) (suc i) vs ≡ x ∷ sets l i vs
-sets-cons x l i [] = refl
-sets-cons x l i (v ∷ vs) = sets-cons x (set l i v) (suc i) vs
-
-sets-behind : (xs ys vs : List ℕ) → sets (xs ++ ys) (length xs) vs ≡ xs ++ sets ys 0 vs
-sets-behind [] ys vs = refl
-sets-behind (x ∷ xs) ys vs = sets-cons x (xs ++ ys) (length xs) vs ∙ ap {B = List ℕ} (λ (l : List ℕ). x ∷ l) (sets-behind xs ys vs)
-
-sets-part : (l : List ℕ) (p : ℕ) (vs : List ℕ) → p ≤ length l → take p l ++ sets (drop p l) 0 vs ≡ sets l p vs
-sets-part l p vs h =
-    sym (sets-behind (take p l) (drop p l) vs)
-    ∙ ap (λ (i : ℕ). sets (take p l ++ drop p l) i vs) (length-take-le p l h)
-    ∙ ap (λ (k : List ℕ). sets k p vs) (take-append-drop p l)
 
 -- words of 32 bits
 words-all : (ws : List ℕ) → ((i : ℕ) → getD ws i 0 ≤ most) → Words ws

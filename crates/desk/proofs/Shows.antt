@@ -10,7 +10,8 @@ use Rattle.simp.specs.Calls.{Viewed, viewOf}
 use Rattle.desk.specs.declared.Given.{Given}
 use Rattle.desk.specs.Numbers.{lower, asText}
 use Rattle.desk.specs.Given.{givenWords, Whole}
-use Rattle.desk.specs.Show.{numberLine, viewText, viewed}
+use Rattle.desk.specs.Output.{numberLine}
+use Rattle.desk.specs.Show.{viewText, viewed}
 use Rattle.desk.proofs.Givens.{words-length}
 
 -- the first of many zeros

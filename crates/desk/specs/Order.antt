@@ -15,7 +15,7 @@ use Rattle.memory_text.specs.Printing.{memoryText}
 use Rattle.memory_text.specs.Reading.{memory}
 use Rattle.simp.specs.Calls.{onSheet, unless, strangers}
 use Rattle.desk.specs.Fields.{groupOf}
-use Rattle.desk.specs.Show.{numberLine}
+use Rattle.desk.specs.Output.{numberLine}
 
 -- 3: the text of the group isn't of its form
 unfoldable pub onGroup : Option ℕ → (ℕ → List ℕ) → List ℕ

@@ -2,14 +2,24 @@
 use Prim.Native.Nat.{ℕ}
 use mathlib.Core.Path.{_≡_}
 use mathlib.Core.Bool.{cond}
-use mathlib.Core.List.{List}
+use mathlib.Core.List.{List, [], _++_}
 use lib.Dec.{leb}
 use lib.ListN.{length}
 use lib.Seq.{sets}
+use Rattle.text.specs.Number.{decimal}
+use Rattle.text.specs.Field.{printLineEnd}
 
 -- 64 lines of at most 176 bytes, and before them a line of at most 22
 abbrev pub places : ℕ
 places = 11286
+
+-- a number and the end of its line, before t
+unfoldable pub numberEnd : ℕ → List ℕ → List ℕ
+numberEnd k t = decimal k ++ printLineEnd t
+
+-- the number alone
+abbrev pub numberLine : ℕ → List ℕ
+numberLine k = numberEnd k []
 
 -- what the buffer then holds, and how many bytes were put
 unfoldable pub put : List ℕ → List ℕ → List ℕ

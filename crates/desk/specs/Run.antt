@@ -4,17 +4,17 @@ use mathlib.Core.Bool.{cond}
 use mathlib.Core.List.{List, [], _∷_, _++_}
 use lib.Dec.{eqb}
 use Rattle.text.specs.Number.{decimal}
-use Rattle.text.specs.Field.{printNumberField, printLineEnd}
 use Rattle.memory_text.specs.Printing.{memoryText}
 use Rattle.simp.specs.Calls.{Ran, runOf}
 use Rattle.desk.specs.declared.Given.{Given}
 use Rattle.desk.specs.Fields.{budgetOf, budgetIn}
 use Rattle.desk.specs.Numbers.{lower, asText}
 use Rattle.desk.specs.Given.{givenOf, givenWords}
+use Rattle.desk.specs.Output.{numberEnd}
 
 -- the answer, a tab, the steps and the end of the line, before t
 unfoldable pub outcomeLine : ℕ → ℕ → List ℕ → List ℕ
-outcomeLine answer steps t = decimal answer ++ printNumberField steps (printLineEnd t)
+outcomeLine answer steps t = decimal answer ++ (9 ∷ numberEnd steps t)
 
 unfoldable pub ranText : Ran → List ℕ
 ranText r = outcomeLine (r .answer) (r .steps) (memoryText (r .memory))

@@ -1,19 +1,15 @@
 -- What the program show prints (the scope, the program show).
 use Prim.Native.Nat.{ℕ}
 use mathlib.Core.Bool.{cond}
-use mathlib.Core.List.{List, [], _∷_, _++_}
+use mathlib.Core.List.{List}
 use lib.Dec.{eqb}
 use lib.ListN.{length, replicate}
-use Rattle.text.specs.Number.{decimal}
 use Rattle.memory_text.specs.Printing.{memoryText}
 use Rattle.simp.specs.Calls.{viewOf}
 use Rattle.desk.specs.declared.Given.{Given}
 use Rattle.desk.specs.Numbers.{lower, asText}
 use Rattle.desk.specs.Given.{givenOf, givenWords}
-
--- the number alone
-unfoldable pub numberLine : ℕ → List ℕ
-numberLine k = decimal k ++ (10 ∷ [])
+use Rattle.desk.specs.Output.{numberLine}
 
 -- the view as a memory text, or the number
 unfoldable pub viewText : ℕ → List ℕ → List ℕ

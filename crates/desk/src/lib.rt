@@ -4,13 +4,14 @@ pub mod run; // run.rt: the program run
 use text::Mask;
 use text::Value;
 ghost use mathlib.Core.Path.{_≡_};
-ghost use Prim.Native.Nat.{_≤_};
+ghost use Prim.Native.Nat.{_+_, _≤_};
 ghost use lib.ListN.{length, take, drop};
+ghost use Rattle.memory_text.specs.Writing.{Puts};
 ghost use Rattle.desk.specs.Fields.{closed, groupOf, groupIn, budgetOf, budgetIn};
 ghost use Rattle.desk.specs.Numbers.{lower as lowerOf, unread as unreadOf, asText};
 ghost use Rattle.desk.specs.Given.{givenOf, Whole};
-ghost use Rattle.desk.specs.Show.{numberLine, viewed, showOf};
-ghost use Rattle.desk.specs.Output.{places, put, putLength, PutAll};
+ghost use Rattle.desk.specs.Show.{viewed, showOf};
+ghost use Rattle.desk.specs.Output.{places, numberEnd, put, putLength, PutAll};
 
 // The places that a buffer must have for what is printed: 64 lines of at most 176 bytes, and before them a line of at most 22.
 pub const PLACES: usize = 11286;
@@ -128,12 +129,12 @@ fn read_given(memory: &[u8], group: &[u8]) -> Given
     }
 }
 
-// A number alone on its line; the length of the line.
-fn put_line(out: &mut [u8], k: u8) -> usize
-    requires { ⌜ places ≤ length (now out) ⌝ }
-    ensures { λ r. ⌜ PutAll (now (out .entry)) (numberLine k) (now (out .exit)) r ⌝ }
+// A number and the end of its line at `at`; the place after them.
+fn put_line(out: &mut [u8], at: usize, n: u32) -> usize
+    requires { ⌜ at + 11 ≤ length (now out) ⌝ }
+    ensures { λ r. ⌜ Puts (numberEnd n) 11 (now (out .entry)) at (now (out .exit)) r ⌝ }
 {
-    let p = text::write::put_number(out, 0, k as u32);
+    let p = text::write::put_number(out, at, n);
     text::write::put_byte(out, p, 10)
 }
 
@@ -150,7 +151,7 @@ fn show_given(sheet: &[u8], given: Given, out: &mut [u8]) -> usize
     if k == 0 {
         return memory_text::write::write_memory(&view[..n], out);
     }
-    put_line(out, k)
+    put_line(out, 0, k as u32)
 }
 
 // What show prints, at the start of a buffer; its length. Nothing is written, and the answer is 0, where the buffer has fewer

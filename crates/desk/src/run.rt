@@ -18,8 +18,7 @@ fn put_outcome(out: &mut [u8], answer: u8, steps: u32) -> usize
 {
     let p = put_number(out, 0, answer as u32);
     let q = put_byte(out, p, 9);
-    let r = put_number(out, q, steps);
-    put_byte(out, r, 10)
+    super::put_line(out, q, steps)
 }
 
 // The answer, the steps and a memory; the length of it all.
@@ -48,19 +47,6 @@ fn run_given(sheet: &[u8], script: &[u8], given: Given, budget: u32, out: &mut [
     put_run(out, k, 0, &words[..n])
 }
 
-// Bytes at the start of a buffer; how many they are.
-fn put_bytes(out: &mut [u8], bytes: &[u8]) -> usize
-    requires { ⌜ length (now bytes) ≤ length (now out) ⌝ }
-    ensures { λ r. ⌜ PutAll (now (out .entry)) (now (bytes .entry)) (now (out .exit)) r ⌝ }
-{
-    let mut i: usize = 0;
-    while i < bytes.len() {
-        out[i] = bytes[i];
-        i += 1;
-    }
-    i
-}
-
 // What run prints, at the start of a buffer; its length. Nothing is written, and the answer is 0, where the buffer has fewer
 // than PLACES places.
 pub fn run_text(
@@ -79,7 +65,7 @@ pub fn run_text(
     }
     let b = super::budget_line(budget);
     if !b.ok {
-        return put_bytes(out, b"no budget\n");
+        return bytes::copy(b"no budget\n", out);
     }
     run_given(
         sheet,

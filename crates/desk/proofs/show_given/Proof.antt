@@ -5,7 +5,7 @@ use borrow.Author.Needs.{needs}
 use Prim.Native.Nat.{ℕ, _%_}
 use lib.ListN.{replicate}
 use lib.Seq.{length-take-le}
-use Rattle.desk.proofs.Outputs.{put-same, part-length, part-is, part-fits, part-count, memory-puts}
+use Rattle.desk.proofs.Outputs.{put-same, part-length, part-is, part-fits, part-count, puts-all, memory-puts}
 use Rattle.desk.proofs.Givens.{words-fit, words-length}
 use Rattle.desk.proofs.Shows.{view-shown, view-number}
 use Rattle.desk.proofs.show_given.Statement.{statement}
@@ -63,6 +63,9 @@ returns c =
     (memory-puts (t .args .out .now) _ x _ _ (part-is (g .count) x (replicate 1024 0) (v .simp-view .kept .1 .1 .1 .0) (t .pre .0 .few))
     (m .write-memory .ensures .0) (m .write-memory .ensures .1) (ap (λ (i : ℕ). i % 16) n ∙ t .pre .0 .whole) (omega (arith, t .pre .0 .few)) (omega (arith, t .pre .1)))
 
+cast-put-line : tie.Need-cast-put-line
+cast-put-line c = search needs
+
 put-line-requires : tie.Need-put-line-requires
 put-line-requires c κs = search needs
 
@@ -77,7 +80,7 @@ returns-2 c =
     let t = v .before .before .before .before .before .before in
     put-same _ _ _ _ _
     (view-number (t .args .sheet .now) (t .args .given) _ _ (t .pre .0) (v .simp-view .ensures) _ (k .before .number .ensures) (k .if1 .left))
-    (p .put-line .ensures)
+    (puts-all _ _ _ _ _ (p .put-line .ensures))
 
 pub show-given-spec : {M : Type 1} → statement M
 show-given-spec =
@@ -94,6 +97,7 @@ show-given-spec =
     write-memory-requires
     same-length
     returns
+    cast-put-line
     put-line-requires
     same-length-2
     returns-2)

@@ -2,7 +2,7 @@
 use borrow.Author.Needs.{needs}
 use native.Mathlib.Omega.{arith}
 use borrow.Author.Tests.{not-true, not-false}
-use Rattle.desk.proofs.Outputs.{put-all, put-none, put-same}
+use Rattle.desk.proofs.Outputs.{put-all, put-none, put-same, copy-puts}
 use Rattle.desk.proofs.Givens.{given-whole}
 use Rattle.desk.proofs.Runs.{run-none, run-is}
 use Rattle.desk.proofs.run.run_text.Statement.{statement}
@@ -14,11 +14,11 @@ returns c = put-none (c .before .before .before .before .before .before .before 
 budget-line-requires : tie.Need-budget-line-requires
 budget-line-requires c κs = search needs
 
-slice-aggregate-put-bytes : tie.Need-slice-aggregate-put-bytes
-slice-aggregate-put-bytes c = search needs
+slice-aggregate-copy : tie.Need-slice-aggregate-copy
+slice-aggregate-copy c = search needs
 
-put-bytes-requires : tie.Need-put-bytes-requires
-put-bytes-requires c κs = search needs
+copy-requires : tie.Need-copy-requires
+copy-requires c κs = search needs
 
 same-length : tie.Need-same-length
 same-length c = search needs
@@ -33,7 +33,7 @@ returns-2 c =
     (put-same _ _ _ _ _
     (run-none (a .sheet .now) (a .script .now) (a .memory .now) (a .authority .now) (a .budget .now) (b .budget-line .result) (b .budget-line .ensures)
     (not-true _ (q .if2 .taken)))
-    (p .put-bytes .ensures))
+    (copy-puts (a .out .now) _ _ _ (omega (arith, b .before .if1 .left)) (p .copy .ensures .0) (p .copy .ensures .1)))
 
 read-given-requires : tie.Need-read-given-requires
 read-given-requires c κs = search needs
@@ -65,8 +65,8 @@ run-text-spec =
     (tie.spec
     returns
     budget-line-requires
-    slice-aggregate-put-bytes
-    put-bytes-requires
+    slice-aggregate-copy
+    copy-requires
     same-length
     returns-2
     read-given-requires

@@ -7,4 +7,5 @@ pub mod Runs
 pub mod ThirdDemand
 pub mod StageLaws
 pub mod SheetLaws
+mod Computing
 pub mod CasesHold

@@ -1,0 +1,100 @@
+-- The definitions that the cases compute with, by crate: to unfold `text-used` is to unfold all that its line names. Assumes nothing.
+use Rattle.text.specs.Field as field
+use Rattle.text.specs.Lines as text-lines
+use Rattle.text.specs.Number as number
+use Rattle.text.specs.Reading as reading
+use Rattle.text.specs.Set as hex
+use Rattle.sets.specs.Sets as sets
+use Rattle.labels.specs.Labels as labels
+use Rattle.language.specs.Evaluation as evaluation
+use Rattle.language.specs.Syntax as syntax
+use Rattle.language.specs.Transition as transition
+use Rattle.language.specs.Typing as typing
+use Rattle.lines.specs.Lines as lines
+use Rattle.lines.specs.Names as names
+use Rattle.tables.specs.Meaning as meaning
+use Rattle.tables.specs.Sheet as sheet
+use Rattle.tables.specs.Tables as tables
+use Rattle.sheet.specs.Building as building
+use Rattle.sheet.specs.Reading as sheet-lines
+use Rattle.sheet.specs.Repeats as repeats
+use Rattle.sheet.specs.Sheets as sheets
+use Rattle.script.specs.Parse as parse
+use Rattle.script.specs.Reading as script-lines
+use Rattle.script.specs.Script as script
+use Rattle.memory.specs.Memory as memory
+use Rattle.memory.specs.Words as words
+use Rattle.simp.specs.Calls as calls
+use Rattle.simp.specs.Texts as texts
+
+unfoldable pub text-used : Unit {0}
+unfolding field.numberField field.setField field.lastNumber
+    number.digit number.opensDigit number.digits number.number
+    reading.andThen reading.byte reading.fits
+    text-lines.front text-lines.onward text-lines.linesUpTo text-lines.allLines
+    hex.hexDigit hex.hexDigits hex.hexByte
+text-used = tt
+
+unfoldable pub sets-used : Unit {0}
+unfolding sets.both sets.either sets.member sets.union sets.intersection sets.within sets.meets sets.single sets.everyone sets.restrict sets.every
+    sets.tab
+sets-used = tt
+
+unfoldable pub labels-used : Unit {0}
+unfolding labels.own labels.openAt labels.openOf labels.policyOf labels.withPolicies labels.labelOf labels.policyOn labels.policiesOn labels.belowAt
+    labels.belowOf labels.sameAt labels.sameOf labels.joinOf labels.confidentialityOf labels.integrityOf labels.bottomOf labels.closedAt
+    labels.topOf labels.readsOf labels.writesOf labels.wholeOf labels.effective
+labels-used = tt
+
+unfoldable pub language-used : Unit {0}
+unfolding evaluation.bind evaluation.fitting evaluation.fit evaluation.addTo evaluation.add evaluation.packed evaluation.opened evaluation.wanted
+    evaluation.unpacked evaluation.lookup evaluation.eval
+    syntax.size syntax.has syntax.both
+    transition.lift transition.close-var transition.closeE transition.close transition.inst transition.put transition.at-seq
+    transition.at-assign transition.branchV transition.branch transition.step transition.after transition.run transition.iterate
+    typing.nth typing.orElse typing.isYes typing.sameTy typing.isTy typing.hasTy typing.leftIs typing.rightIs typing.onSum typing.given
+    typing.typeOfValue typing.typeOf typing.shape typing.least typing.flowE typing.flow typing.accepts typing.refusal
+language-used = tt
+
+unfoldable pub lines-used : Unit {0}
+unfolding lines.numberOf lines.exprLines lines.cmdLines
+    names.namedE names.named
+lines-used = tt
+
+unfoldable pub tables-used : Unit {0}
+unfolding meaning.effectiveIf meaning.effectively
+    sheet.givenTypes sheet.typesFrom sheet.tyOf sheet.givenParts sheet.partsOf sheet.typeCount sheet.labelsOf sheet.labelNo sheet.labelCount
+    sheet.locationNo sheet.locationCount sheet.earlier sheet.rising sheet.eachRising sheet.eachNamed sheet.formed sheet.among sheet.repeated
+    sheet.sameParts sheet.givenSums sheet.repeats
+    tables.padded
+tables-used = tt
+
+unfoldable pub sheet-used : Unit {0}
+unfolding building.blank building.addSum building.addLabel building.toLast building.addPolicy building.addLocation building.lastOf building.leastAfter
+    building.leastOwner building.sumFits building.labelFits building.policyFits building.locationFits building.begin building.step
+    building.stepOn building.steps building.build
+    sheet-lines.principalsRest sheet-lines.pairLine sheet-lines.pairRest sheet-lines.labelRest sheet-lines.policyRest sheet-lines.lineOf
+    repeats.anyFrom
+    sheets.buildIn sheets.sheetIn sheets.judged sheets.sheetOf
+sheet-used = tt
+
+unfoldable pub script-used : Unit {0}
+unfolding parse.popE parse.popC parse.onStack parse.pushOn parse.stackOf parse.single parse.parse
+    script-lines.formOf script-lines.operandsOf script-lines.lineOf script-lines.linesOf
+    script.namedOnly script.commandOf script.commandIn script.scriptOf
+script-used = tt
+
+unfoldable pub memory-used : Unit {0}
+unfolding memory.cellOf memory.memoryOf memory.cells memory.wordsOf memory.proper memory.same memory.exactly memory.formedBy memory.sliceRefusal
+    memory.refusalBy memory.fits memory.wellFormed memory.memoryRefusal
+    words.enc words.cell words.wrap words.numbered words.packaged words.tagged words.read words.readOf
+memory-used = tt
+
+unfoldable pub simp-used : Unit {0}
+unfolding calls.onSheet calls.unless calls.strangers calls.onScript calls.untyped calls.checkOf calls.ended calls.runOf
+    texts.bytes
+simp-used = tt
+
+unfoldable pub all-used : Unit {0}
+unfolding text-used sets-used labels-used language-used lines-used tables-used sheet-used script-used memory-used simp-used
+all-used = tt

@@ -1,4 +1,6 @@
-// Checks script files against a sheet file: for each script its name, a tab and the number of simp_check.
+// Checks script files against a sheet file: for each script its name, a tab and the number of simp_check. For a file that can't be
+// read words stand in the number's place, and standard error has the reason; without the sheet no script is checked.
+use libc::STDERR_FILENO;
 use libc::STDOUT_FILENO;
 ghost use Rattle.io.specs.Counts.{Counts};
 
@@ -14,6 +16,7 @@ fn load(path: &[u8], buf: &mut [u8]) -> Loaded
 {
     let fd = os::open_read(path);
     if fd < 0 {
+        os::fail(path);
         return Loaded {
             ok: false,
             count: 0,
@@ -22,6 +25,9 @@ fn load(path: &[u8], buf: &mut [u8]) -> Loaded
     let count = io::read_full(fd, buf);
     let mut more = [0u8; 1];
     let rest = libc::read(fd, &mut more);
+    if rest < 0 {
+        os::fail(path);
+    }
     libc::close(fd);
     Loaded {
         ok: rest >= 0,
@@ -29,27 +35,32 @@ fn load(path: &[u8], buf: &mut [u8]) -> Loaded
     }
 }
 
-// The words after the name of a file that can't be read.
-fn say_unread() {
+// The line of a file that can't be read.
+fn say_unread(name: &[u8]) {
+    io::write_all(STDOUT_FILENO, name);
     io::write_all(STDOUT_FILENO, b"\tcan't be read\n");
+}
+
+// The line of a script.
+fn say_answer(name: &[u8], answer: u8) {
+    io::write_all(STDOUT_FILENO, name);
+    io::write_all(STDOUT_FILENO, b"\t");
+    io::print_decimal(STDOUT_FILENO, answer as u64);
+    io::write_all(STDOUT_FILENO, b"\n");
 }
 
 // The answer for the script that argument i names.
 fn accept_one(i: usize, sheet: &[u8]) {
     let mut name = io::buffer();
     let n = os::arg(i, &mut name);
-    io::write_all(STDOUT_FILENO, &name[..n]);
     let mut script = io::large_buffer();
     let file = load(&name[..n], &mut script);
     if !file.ok {
-        say_unread();
+        say_unread(&name[..n]);
         return;
     }
     let m = file.count;
-    let answer = simp::simp_check(sheet, &script[..m]);
-    io::write_all(STDOUT_FILENO, b"\t");
-    io::print_decimal(STDOUT_FILENO, answer as u64);
-    io::write_all(STDOUT_FILENO, b"\n");
+    say_answer(&name[..n], simp::simp_check(sheet, &script[..m]));
 }
 
 // The answers for the scripts that the arguments from the second on name.
@@ -64,7 +75,7 @@ fn accept_all(sheet: &[u8]) {
 
 fn main() {
     if os::arg_count() < 3 {
-        io::write_all(STDOUT_FILENO, b"usage: accept SHEET SCRIPT..\n");
+        io::write_all(STDERR_FILENO, b"usage: accept SHEET SCRIPT..\n");
         return;
     }
     let mut name = io::buffer();
@@ -72,8 +83,7 @@ fn main() {
     let mut sheet = io::large_buffer();
     let file = load(&name[..n], &mut sheet);
     if !file.ok {
-        io::write_all(STDOUT_FILENO, &name[..n]);
-        say_unread();
+        say_unread(&name[..n]);
         return;
     }
     let m = file.count;

@@ -1,5 +1,7 @@
 -- What the program run prints: the answer and the steps, and the memory as it then is.
 use Prim.Native.Nat.{ℕ}
+use Prim.Native.Char.{code}
+use Prim.Native.String.{String, [] as ε, _∷_ as _▹_}
 use mathlib.Core.Bool.{cond}
 use mathlib.Core.List.{List, [], _∷_, _++_}
 use lib.Dec.{eqb}
@@ -31,9 +33,13 @@ ranOn sheet script g budget =
     let words = givenWords g in
     ranText (adjusted (runOf sheet script words (g .group) budget) words (g .other))
 
--- "no budget" and the end of the line
+-- the bytes of a quoted text
+abbrev pub quoted : String → List ℕ
+quoted ε = []
+quoted (c ▹ t) = code c ∷ quoted t
+
 abbrev pub noBudget : List ℕ
-noBudget = 110 ∷ 111 ∷ 32 ∷ 98 ∷ 117 ∷ 100 ∷ 103 ∷ 101 ∷ 116 ∷ 10 ∷ []
+noBudget = quoted "the budget isn't a number from 0 to 4294967295\n"
 
 -- Run's output. The scope has no number for a budget that isn't of its form, so words stand for it.
 unfoldable pub runTextOf : List ℕ → List ℕ → List ℕ → List ℕ → List ℕ → List ℕ

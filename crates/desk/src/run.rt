@@ -65,7 +65,7 @@ pub fn run_text(
     }
     let b = super::budget_line(budget);
     if !b.ok {
-        return bytes::copy(b"no budget\n", out);
+        return bytes::copy(b"the budget isn't a number from 0 to 4294967295\n", out);
     }
     run_given(
         sheet,

@@ -6,7 +6,7 @@ use mathlib.Core.Logic.{inl}
 use mathlib.Core.List.{List, [], _∷_}
 use Prim.Native.Nat.{ℕ, zero, suc, _+_, _*_, _-_, _<_, _≤_}
 use native.Mathlib.Numerals.{add-one}
-use native.Mathlib.Decide.{decLt, decLe}
+use native.Mathlib.Decide.{decLt}
 use native.Mathlib.Omega.{arith}
 use lib.Dec.{ltb, leb}
 use lib.ListN.{length, getD, set, length-set}
@@ -21,8 +21,8 @@ use Rattle.labels.proofs.TableLaws.{length-put, put-read, put-word, put-other}
 use Rattle.language.specs.Syntax.{both}
 use Rattle.language.specs.Typing.{nth}
 use Rattle.lines.specs.Names.{maxDepth}
-use Rattle.tables.specs.Tables.{entryIn}
-use Rattle.checker.specs.Bindings.{bindingSize, bindingsSize, boundType, boundLabel, upTo, boundTypes, boundLabels, enoughWords, bindOf}
+use Rattle.tables.specs.Tables.{entryIn, leftIn, rightIn}
+use Rattle.checker.specs.Bindings.{bindingSize, bindingsSize, boundType, boundLabel, upTo, boundTypes, boundLabels, bindOf}
 use Rattle.checker.specs.Nodes.{plainTyped, nothing, varTyped}
 use Rattle.checker.specs.Post.{Kept}
 
@@ -55,13 +55,13 @@ module _ {A : Type 0} where
   upTo-fewer f g d e = ap tail (rw add-one at e)
 
 pub kept-fewer : {s s′ : List ℕ} {d : ℕ} → Kept s s′ (d + 1) → Kept s s′ d
-kept-fewer {s} {s′} {d} k = record { types = upTo-fewer (boundType s′) (boundType s) d (k .types); labels = upTo-fewer (boundLabel s′) (boundLabel s) d (k .labels) }
+kept-fewer {s} {s′} {d} k = record { size = k .size; types = upTo-fewer (boundType s′) (boundType s) d (k .types); labels = upTo-fewer (boundLabel s′) (boundLabel s) d (k .labels) }
 
 pub kept-same : {s : List ℕ} {d : ℕ} → Kept s s d
-kept-same = record { types = refl; labels = refl }
+kept-same = record { size = refl; types = refl; labels = refl }
 
 pub kept-twice : {s s′ s″ : List ℕ} {d : ℕ} → Kept s s′ d → Kept s′ s″ d → Kept s s″ d
-kept-twice k l = record { types = l .types ∙ k .types; labels = l .labels ∙ k .labels }
+kept-twice k l = record { size = l .size ∙ k .size; types = l .types ∙ k .types; labels = l .labels ∙ k .labels }
 
 -- a label whose words stand before a word that is written
 label-set : (s : List ℕ) (k n at : ℕ) → at + labelSize ≤ k → labelAt (set s k n) at ≡ labelAt s at
@@ -72,39 +72,30 @@ label-set s k n at h =
     (tab-ext owners _ _ (λ o l. getD-set-other s k (at + owners + o) n 0 (λ e. omega arith)))
 
 module _ (s : List ℕ) (d n : ℕ) (a : Label) where
-  pub bind-in : d < maxDepth → bindingsSize ≤ length s → bindOf s d n a ≡ labelPut (set s (d * bindingSize) n) (d * bindingSize + 1) a
-  unfolding bindOf enoughWords both
-  bind-in h k = rw (lt-ltb d maxDepth h, le-leb bindingsSize (length s) k)
+  pub bind-in : d < maxDepth → bindOf s d n a ≡ labelPut (set s (d * bindingSize) n) (d * bindingSize + 1) a
+  unfolding bindOf
+  bind-in h = rw (lt-ltb d maxDepth h)
 
   pub bind-deep : maxDepth ≤ d → bindOf s d n a ≡ s
-  unfolding bindOf both
+  unfolding bindOf
   bind-deep h = rw (le-ltb d maxDepth h)
-
-  pub bind-short : length s < bindingsSize → bindOf s d n a ≡ s
-  unfolding bindOf enoughWords both
-  bind-short h = rw (lt-leb bindingsSize (length s) h) (on (ltb d maxDepth))
-    where
-      on : (b : Bool) → cond (both b false) (labelPut (set s (d * bindingSize) n) (d * bindingSize + 1) a) s ≡ s
-      on true = refl
-      on false = refl
 
   module _ (whole : wholeOf a ≡ true) where
     -- a claim of the words unchanged, and of the words with the binding stored, holds of what binding gives
-    by-room : (P : List ℕ → Type 0) → P s → (d < maxDepth → bindingsSize ≤ length s → P (labelPut (set s (d * bindingSize) n) (d * bindingSize + 1) a))
-        → P (bindOf s d n a)
-    by-room P same stored = on (decLt d maxDepth) (decLe bindingsSize (length s))
+    by-room : (P : List ℕ → Type 0) → P s → (d < maxDepth → P (labelPut (set s (d * bindingSize) n) (d * bindingSize + 1) a)) → P (bindOf s d n a)
+    by-room P same stored = on (decLt d maxDepth)
       where
-        on : Dec (d < maxDepth) → Dec (bindingsSize ≤ length s) → P (bindOf s d n a)
-        on (yes h) (yes k) = rw (bind-in h k) (stored h k)
-        on (yes h) (no k) = rw (bind-short (omega arith)) same
-        on (no h) k = rw (bind-deep (omega arith)) same
-
-    pub length-bind : length (bindOf s d n a) ≡ length s
-    length-bind = by-room (λ x. length x ≡ length s) refl (λ h k. length-put _ _ a whole ∙ length-set s (d * bindingSize) n)
+        on : Dec (d < maxDepth) → P (bindOf s d n a)
+        on (yes h) = rw (bind-in h) (stored h)
+        on (no h) = rw (bind-deep (omega arith)) same
 
     pub bind-kept : Kept s (bindOf s d n a) d
-    bind-kept = by-room (λ x. Kept s x d) (record { types = refl; labels = refl })
-        (λ h k. record { types = upTo-same _ _ d type; labels = upTo-same _ _ d label })
+    bind-kept = by-room (λ x. Kept s x d) kept-same
+        (λ h. record {
+          size = length-put _ _ a whole ∙ length-set s (d * bindingSize) n;
+          types = upTo-same _ _ d type;
+          labels = upTo-same _ _ d label;
+        })
       where
         s′ : List ℕ
         s′ = set s (d * bindingSize) n
@@ -120,7 +111,7 @@ module _ (s : List ℕ) (d n : ℕ) (a : Label) where
       unfolding upTo
       bind-type =
           let here : boundType (bindOf s d n a) d ≡ n =
-          ap (λ (x : List ℕ). boundType x d) (bind-in h k)
+          ap (λ (x : List ℕ). boundType x d) (bind-in h)
           ∙ put-word (set s (d * bindingSize) n) (d * bindingSize + 1) a whole (d * bindingSize) (inl (omega arith))
           ∙ getD-set-same s (d * bindingSize) n 0 (omega arith) in
           ap (upTo (boundType (bindOf s d n a))) (add-one d) ∙ ap₂ (λ (x : ℕ) (l : List ℕ). x ∷ l) here (bind-kept .types)
@@ -129,12 +120,12 @@ module _ (s : List ℕ) (d n : ℕ) (a : Label) where
       unfolding upTo
       bind-label =
           let here : boundLabel (bindOf s d n a) d ≡ a =
-          ap (λ (x : List ℕ). boundLabel x d) (bind-in h k)
+          ap (λ (x : List ℕ). boundLabel x d) (bind-in h)
           ∙ put-read (set s (d * bindingSize) n) (d * bindingSize + 1) a whole (omega (arith, length-set s (d * bindingSize) n)) in
           ap (upTo (boundLabel (bindOf s d n a))) (add-one d) ∙ ap₂ (λ (x : Label) (l : List Label). x ∷ l) here (bind-kept .labels)
 
 -- the parts of a type in a table of words are words
-pub part-small : (t : List ℕ) → ((i : ℕ) → getD t i 0 < 65536) → (count base i : ℕ) → entryIn t count base i < 65536
+part-small : (t : List ℕ) → ((i : ℕ) → getD t i 0 < 65536) → (count base i : ℕ) → entryIn t count base i < 65536
 unfolding entryIn
 part-small t small count base i = on (ltb i count)
   where
@@ -142,12 +133,20 @@ part-small t small count base i = on (ltb i count)
     on true = small (base + 2 * i)
     on false = omega arith
 
+module _ (t : List ℕ) (small : (i : ℕ) → getD t i 0 < 65536) (n : ℕ) where
+  pub left-small : leftIn t n < 65536
+  unfolding leftIn
+  left-small = part-small t small _ _ n
+
+  pub right-small : rightIn t n < 65536
+  unfolding rightIn
+  right-small = part-small t small _ _ n
+
 -- a variable is read from its place, if it has one
 module _ (t s : List ℕ) (d i next : ℕ) where
-  pub var-in : i < d → d ≤ maxDepth → bindingsSize ≤ length s
-      → varTyped t s d i next ≡ plainTyped (boundType s (d - suc i)) (boundLabel s (d - suc i)) next
-  unfolding varTyped enoughWords both
-  var-in h k l = rw (lt-ltb i d h, le-leb d maxDepth k, le-leb bindingsSize (length s) l)
+  pub var-in : i < d → d ≤ maxDepth → varTyped t s d i next ≡ plainTyped (boundType s (d - suc i)) (boundLabel s (d - suc i)) next
+  unfolding varTyped both
+  var-in h k = rw (lt-ltb i d h, le-leb d maxDepth k)
 
   pub var-past : d ≤ i → varTyped t s d i next ≡ nothing t next
   unfolding varTyped both
@@ -161,18 +160,9 @@ module _ (t s : List ℕ) (d i next : ℕ) where
       on true = refl
       on false = refl
 
-  pub var-short : length s < bindingsSize → varTyped t s d i next ≡ nothing t next
-  unfolding varTyped enoughWords both
-  var-short h = rw (lt-leb bindingsSize (length s) h) (on (ltb i d) (leb d maxDepth))
-    where
-      on : (b c : Bool) → cond (both b (both c false)) (plainTyped (boundType s (d - suc i)) (boundLabel s (d - suc i)) next) (nothing t next) ≡ nothing t next
-      on true true = refl
-      on true false = refl
-      on false c = refl
-
   pub var-next : varTyped t s d i next .next ≡ next
   unfolding varTyped nothing
-  var-next = on (both (ltb i d) (both (leb d maxDepth) (enoughWords s)))
+  var-next = on (both (ltb i d) (leb d maxDepth))
     where
       on : (b : Bool) → (cond b (plainTyped (boundType s (d - suc i)) (boundLabel s (d - suc i)) next) (nothing t next)) .next ≡ next
       on true = refl

@@ -9,7 +9,7 @@ use lib.Dec.{ltb}
 use borrow.Author.Tests.{ltb-true}
 use lib.ListN.{length, drop}
 use Rattle.labels.specs.declared.Label.{Label}
-use Rattle.labels.specs.Labels.{joinOf, wholeOf}
+use Rattle.labels.specs.Labels.{belowOf, joinOf, wholeOf}
 use Rattle.language.specs.Syntax.{Expr, Cmd, skip, seq, assign, while, case, both}
 use Rattle.language.specs.Typing.{flow}
 use Rattle.language.proofs.Booleans.{both-left, both-right}
@@ -19,14 +19,14 @@ use Rattle.lines.specs.Code.{code, rowAt}
 use Rattle.lines.specs.Names.{Counts, maxDepth, namedE, named}
 use Rattle.lines.proofs.Rows.{CmdRow, at-skip, at-seq, at-assign, at-while, at-case, cmd-row}
 use Rattle.tables.specs.TypeTest.{isSum}
-use Rattle.tables.specs.Tables.{leftIn, rightIn}
+use Rattle.tables.specs.Tables.{leftIn, rightIn, homeIn, labelIn}
 use Rattle.checker.specs.declared.Typed.{Typed}
 use Rattle.checker.specs.declared.Passed.{Passed}
 use Rattle.checker.specs.Numbers.{onSumNo, givenNo, shapeNo}
 use Rattle.checker.specs.Bindings.{bindingsSize, boundTypes, boundLabels, bindOf}
-use Rattle.checker.specs.Nodes.{refused, skipPassed, seqPassed, assignPassed, whilePassed, casePassed}
+use Rattle.checker.specs.Nodes.{refused, skipPassed, seqPassed, mayAssign, assignPassed, whilePassed, casePassed}
 use Rattle.checker.specs.Post.{Finds, Room, ChecksExpr, Kept, Passes, ChecksCmd}
-use Rattle.checker.proofs.BindingLaws.{kept-same, kept-twice, kept-fewer, length-bind, bind-kept, bind-type, bind-label}
+use Rattle.checker.proofs.BindingLaws.{kept-same, kept-twice, kept-fewer, bind-kept, bind-type, bind-label}
 use Rattle.checker.proofs.ExprLaws.{is-type}
 
 -- ---- what a node finds, from what its operands' nodes found
@@ -46,8 +46,8 @@ module _ (t Γ : List ℕ) (pc : Label) (Δ : List Label) where
   pass-seq p q = record { typed-is = rw (p .typed-is, q .typed-is); flow-is = rw (p .flow-is, q .flow-is) }
 
   module _ {e : Expr} {x : Typed} (p : Finds t Γ Δ e x) where
-    pass-assign : (n : ℕ) → Passes t Γ pc Δ (assign n e) (assignPassed t n pc x)
-    unfolding assignPassed shapeNo flow
+    pass-assign : (n : ℕ) → Passes t Γ pc Δ (assign n e) (assignPassed t n x (mayAssign t n pc (x .label)))
+    unfolding assignPassed mayAssign shapeNo flow
     pass-assign n = record { typed-is = rw (← p .type-is, is-type x _); flow-is = rw (p .flow-is, p .label-is) }
 
     pass-while : {c : Cmd} {y : Passed} → Passes t Γ (joinOf pc (x .label)) Δ c y → Passes t Γ pc Δ (while e c) (whilePassed x y)
@@ -66,6 +66,12 @@ module _ (t Γ : List ℕ) (pc : Label) (Δ : List Label) where
       typed-is = rw (← p .type-is, on-sum t (x .typed) (x .ty) _, q .typed-is, r .typed-is);
       flow-is = rw (q .flow-is, r .flow-is, p .flow-is, p .label-is);
     }
+
+-- the two tests of an assignment
+pub may-assign : (t : List ℕ) (n : ℕ) (pc a : Label) {l : ℕ} {home : Label} {p q r : Bool} → l ≡ homeIn t n → home ≡ labelIn t l
+    → p ≡ belowOf a home → q ≡ belowOf pc home → r ≡ both p q → r ≡ mayAssign t n pc a
+unfolding mayAssign
+may-assign t n pc a e f g h k = cc
 
 -- ---- the arms: the row at `at`, what the operands' checks ensure, and what the node gives
 
@@ -116,24 +122,25 @@ module _ (ws : List ℕ) (at : ℕ) (t s : List ℕ) (d : ℕ) (pc : Label) {row
       go : {rest : List Line} {a b : ℕ} {c : Cmd} → CmdRow ws at rest 1 a b c → Done c rest (skipPassed (at + 3))
       go (at-skip w) = (pass-skip t _ pc _ (at + 3), w)
 
-  pub arm-seq : row .kind ≡ 2 → {x y : Passed} {s₁ s₂ : List ℕ} → ChecksCmd ws (at + 3) t s d pc x s₁ → length s₁ ≡ length s
-      → ChecksCmd ws (x .next) t s₁ d pc y s₂ → {r : Passed} → r ≡ seqPassed x y → ChecksCmd ws at t s d pc r s₂
+  pub arm-seq : row .kind ≡ 2 → {x y : Passed} {s₁ s₂ : List ℕ} → ChecksCmd ws (at + 3) t s d pc x s₁ → ChecksCmd ws (x .next) t s₁ d pc y s₂
+      → {r : Passed} → r ≡ seqPassed x y → ChecksCmd ws at t s d pc r s₂
   unfolding Done seqPassed named
-  arm-seq h {x} {y} {s₁} cx l cy e =
+  arm-seq h {x} {y} cx cy e =
       rw e (by-row 2 h _ (omega (arith, cx .onward, cy .onward)) (kept-twice (cx .kept) (cy .kept)) (λ k c rest v names room. go k v names room))
     where
       go : (k : Counts) {rest : List Line} {a b : ℕ} {c : Cmd} → CmdRow ws at rest 2 a b c → named k d c ≡ true → Room s d → Done c rest (seqPassed x y)
       go k {rest} (at-seq {c = f} {d = g} p r w) names room =
           let m = cx .means k f (cmdLines g rest) p w (both-left _ (named k d g) names) room in
-          let n = cy .means k g rest r (m .1) (both-right (named k d f) _ names) (room .0, rw l (room .1)) in
+          let n = cy .means k g rest r (m .1) (both-right (named k d f) _ names) (room .0, rw (cx .kept .size) (room .1)) in
           (pass-seq t _ pc _ (m .0) (pass-kept (cx .kept) (n .0)), n .1)
 
   module _ {x : Typed} (cx : ChecksExpr ws (at + 3) t s d x) where
-    pub arm-assign : row .kind ≡ 3 → {r : Passed} → r ≡ assignPassed t (row .a) pc x → ChecksCmd ws at t s d pc r s
+    pub arm-assign : row .kind ≡ 3 → {b : Bool} → b ≡ mayAssign t (row .a) pc (x .label)
+        → {r : Passed} → r ≡ assignPassed t (row .a) x b → ChecksCmd ws at t s d pc r s
     unfolding Done assignPassed
-    arm-assign h e = rw e (by-row 3 h _ (omega (arith, cx .onward)) kept-same (λ k c rest v names room. go v room))
+    arm-assign h f e = rw (e, f) (by-row 3 h _ (omega (arith, cx .onward)) kept-same (λ k c rest v names room. go v room))
       where
-        go : {rest : List Line} {a b : ℕ} {c : Cmd} → CmdRow ws at rest 3 a b c → Room s d → Done c rest (assignPassed t a pc x)
+        go : {rest : List Line} {a b : ℕ} {c : Cmd} → CmdRow ws at rest 3 a b c → Room s d → Done c rest (assignPassed t a x (mayAssign t a pc (x .label)))
         go {rest} (at-assign {x = n} {e} p w) room = let m = cx .means e rest p w room in (pass-assign t _ pc _ (m .0) n, m .1)
 
     pub arm-while : row .kind ≡ 4 → {pc′ : Label} → pc′ ≡ joinOf pc (x .label) → {y : Passed} {s₁ : List ℕ}
@@ -149,38 +156,35 @@ module _ (ws : List ℕ) (at : ℕ) (t s : List ℕ) (d : ℕ) (pc : Label) {row
 
     -- a case, with the words for bindings after each step
     pub arm-case : row .kind ≡ 5 → d < maxDepth → wholeOf (x .label) ≡ true → {pc′ : Label} → pc′ ≡ joinOf pc (x .label)
-        → {s₁ s₂ s₃ s₄ : List ℕ} {y z : Passed} → s₁ ≡ bindOf s d (leftIn t (x .ty)) (x .label) → ChecksCmd ws (x .next) t s₁ (d + 1) pc′ y s₂
-        → length s₂ ≡ length s₁ → s₃ ≡ bindOf s₂ d (rightIn t (x .ty)) (x .label) → ChecksCmd ws (y .next) t s₃ (d + 1) pc′ z s₄
+        → {s₁ s₂ s₃ s₄ : List ℕ} {y z : Passed} {m : ℕ} → m ≡ leftIn t (x .ty) → s₁ ≡ bindOf s d m (x .label) → ChecksCmd ws (x .next) t s₁ (d + 1) pc′ y s₂
+        → {n : ℕ} → n ≡ rightIn t (x .ty) → s₃ ≡ bindOf s₂ d n (x .label) → ChecksCmd ws (y .next) t s₃ (d + 1) pc′ z s₄
         → {r : Passed} → r ≡ casePassed t x y z → ChecksCmd ws at t s d pc r s₄
     unfolding Done casePassed
-    arm-case h shallow whole lab {s₁} {s₂} {s₃} {y = y} {z} bl cy l br cz e =
+    arm-case h shallow whole lab {s₁} {s₂} {s₃} {y = y} {z} {m} tl bl cy {n} tr br cz e =
         rw e (by-row 5 h _ (omega (arith, cx .onward, cy .onward, cz .onward)) (kept-twice upto₃ (kept-fewer (cz .kept))) (λ k c rest v names room. go k v names room))
       where
+        upto₁ : Kept s s₁ d
+        upto₁ = rw bl (bind-kept s d m (x .label) whole)
+
         upto₂ : Kept s s₂ d
-        upto₂ = kept-twice (rw bl (bind-kept s d (leftIn t (x .ty)) (x .label) whole)) (kept-fewer (cy .kept))
+        upto₂ = kept-twice upto₁ (kept-fewer (cy .kept))
 
         upto₃ : Kept s s₃ d
-        upto₃ = kept-twice upto₂ (rw br (bind-kept s₂ d (rightIn t (x .ty)) (x .label) whole))
+        upto₃ = kept-twice upto₂ (rw br (bind-kept s₂ d n (x .label) whole))
 
-        long₁ : length s₁ ≡ length s
-        long₁ = ap length bl ∙ length-bind s d (leftIn t (x .ty)) (x .label) whole
-
-        long₃ : length s₃ ≡ length s
-        long₃ = ap length br ∙ length-bind s₂ d (rightIn t (x .ty)) (x .label) whole ∙ l ∙ long₁
-
-        inner : (s′ : List ℕ) → length s′ ≡ length s → Room s d → Room s′ (d + 1)
-        inner s′ m room = (omega arith, rw m (room .1))
+        inner : {s′ : List ℕ} → Kept s s′ d → Room s d → Room s′ (d + 1)
+        inner k room = (omega arith, rw (k .size) (room .1))
 
         go : (k : Counts) {rest : List Line} {a b : ℕ} {c : Cmd} → CmdRow ws at rest 5 a b c → named k d c ≡ true → Room s d → Done c rest (casePassed t x y z)
         go k {rest} (at-case {e} {c = f} {d = g} p r u w) names room =
             let ns = case-names k d e f g names in
-            let m = cx .means e (cmdLines f (cmdLines g rest)) p w room in
-            let n = cy .means k f (cmdLines g rest) r (m .1) (ns .1) (inner s₁ long₁ room) in
-            let o = cz .means k g rest u (n .1) (ns .2) (inner s₃ long₃ room) in
-            let long₂ : bindingsSize ≤ length s₂ = rw (l ∙ long₁) (room .1) in (
-              pass-case t _ pc _ (m .0) (pass-bound t d (leftIn t (x .ty)) (x .label) bl kept-same whole shallow (room .1) lab (n .0))
-                  (pass-bound t d (rightIn t (x .ty)) (x .label) br upto₂ whole shallow long₂ lab (o .0)),
-              o .1,
+            let me = cx .means e (cmdLines f (cmdLines g rest)) p w room in
+            let mf = cy .means k f (cmdLines g rest) r (me .1) (ns .1) (inner upto₁ room) in
+            let mg = cz .means k g rest u (mf .1) (ns .2) (inner upto₃ room) in
+            let long₂ : bindingsSize ≤ length s₂ = rw (upto₂ .size) (room .1) in (
+              pass-case t _ pc _ (me .0) (rw tl at (pass-bound t d m (x .label) bl kept-same whole shallow (room .1) lab (mf .0)))
+                  (rw tr at (pass-bound t d n (x .label) br upto₂ whole shallow long₂ lab (mg .0))),
+              mg .1,
             )
 
   -- a case deeper than a script may nest
@@ -192,14 +196,13 @@ module _ (ws : List ℕ) (at : ℕ) (t s : List ℕ) (d : ℕ) (pc : Label) {row
       go k (at-case {e} {c = f} {d = g} p r u w) names = let n = case-names k d e f g names in omega (arith, n .0)
 
   -- a row of another kind is no command's
-  pub arm-other : (row .kind ≡ 1 → ⊥) → (row .kind ≡ 2 → ⊥) → (row .kind ≡ 3 → ⊥) → (row .kind ≡ 4 → ⊥) → (row .kind ≡ 5 → ⊥)
-      → {x : Passed} → x ≡ refused at → ChecksCmd ws at t s d pc x s
+  pub arm-other : (1 ≤ row .kind → row .kind < 6 → ⊥) → {x : Passed} → x ≡ refused at → ChecksCmd ws at t s d pc x s
   unfolding Done
-  arm-other f1 f2 f3 f4 f5 e = rw e (by-row (row .kind) refl _ (omega arith) kept-same (λ k c rest v names room. absurd (go v refl)))
+  arm-other f e = rw e (by-row (row .kind) refl _ (omega arith) kept-same (λ k c rest v names room. absurd (go v refl)))
     where
       go : {rest : List Line} {j a b : ℕ} {c : Cmd} → CmdRow ws at rest j a b c → row .kind ≡ j → ⊥
-      go (at-skip w) h = f1 h
-      go (at-seq p r w) h = f2 h
-      go (at-assign p w) h = f3 h
-      go (at-while p r w) h = f4 h
-      go (at-case p r u w) h = f5 h
+      go (at-skip w) h = f (omega arith) (omega arith)
+      go (at-seq p r w) h = f (omega arith) (omega arith)
+      go (at-assign p w) h = f (omega arith) (omega arith)
+      go (at-while p r w) h = f (omega arith) (omega arith)
+      go (at-case p r u w) h = f (omega arith) (omega arith)

@@ -2,7 +2,7 @@
 use mathlib.Core.Path.{_≡_, refl, sym, ap, _∙_}
 use mathlib.Core.Bool.{Bool, true, false}
 use mathlib.Core.List.{List}
-use Prim.Native.Nat.{ℕ, suc, _+_, _≤_, _<_}
+use Prim.Native.Nat.{ℕ, zero, suc, _+_, _≤_, _<_}
 use native.Mathlib.Omega.{arith}
 use native.Mathlib.Decide.{decLt}
 use lib.Dec.{eqb}
@@ -80,7 +80,7 @@ find-var t s d i next room = on (decLt i d)
   where
     on : Dec (i < d) → Finds t (boundTypes s d) (boundLabels s d) (var i) (varTyped t s d i next)
     on (yes h) =
-        rw (var-in t s d i next h (room .0) (room .1))
+        rw (var-in t s d i next h (room .0))
         (record { type-is = sym (nth-upTo (boundType s) d i h); label-is = rw (nth-upTo (boundLabel s) d i h); flow-is = refl })
     on (no h) =
         rw (var-past t s d i next (omega arith))
@@ -89,8 +89,22 @@ find-var t s d i next room = on (decLt i d)
 -- ---- the arms: the row at `at`, what the operands' checks ensure, and what the node gives
 
 -- the lines after a row lie within the code
-pub within : (ws : List ℕ) (at : ℕ) {row : Row} (j : ℕ) → row ≡ rowAt ws at → row .kind ≡ suc j → at + 3 ≤ length ws
-within ws at j q h = row-in ws at j (ap (λ (r : Row). r .kind) (sym q) ∙ h)
+pub within : (ws : List ℕ) (at : ℕ) {row : Row} → row ≡ rowAt ws at → 0 < row .kind → at + 3 ≤ length ws
+within ws at {row} q h = on (row .kind) refl
+  where
+    on : (k : ℕ) → row .kind ≡ k → at + 3 ≤ length ws
+    on zero e = absurd (omega arith)
+    on (suc j) e = row-in ws at j (ap (λ (r : Row). r .kind) (sym q) ∙ e)
+
+past : {k n : ℕ} → n ≤ k → (k ≡ n → ⊥) → suc n ≤ k
+past h f = omega arith
+
+only : {k n : ℕ} → k < suc n → n ≤ k → k ≡ n
+only u l = omega arith
+
+-- the kind that is left, of those from 6 to 13
+pub last-kind : {k : ℕ} → 6 ≤ k → k < 14 → (k ≡ 6 → ⊥) → (k ≡ 7 → ⊥) → (k ≡ 8 → ⊥) → (k ≡ 9 → ⊥) → (k ≡ 10 → ⊥) → (k ≡ 11 → ⊥) → (k ≡ 12 → ⊥) → k ≡ 13
+last-kind l u f6 f7 f8 f9 f10 f11 f12 = only u (past (past (past (past (past (past (past l f6) f7) f8) f9) f10) f11) f12)
 
 module _ (ws : List ℕ) (at : ℕ) (t s : List ℕ) (d : ℕ) {row : Row} (q : row ≡ rowAt ws at) where
   Done : Expr → List Line → Typed → Type 0
@@ -134,16 +148,16 @@ module _ (ws : List ℕ) (at : ℕ) (t s : List ℕ) (d : ℕ) {row : Row} (q : 
             let n = cy .means f rest r (m .1) room in
             (find-plus t _ _ (m .0) (n .0), n .1)
 
-    pub arm-left : row .kind ≡ 10 → {r : Typed} → r ≡ sumTyped t (row .a) (leftIn t (row .a)) x → ChecksExpr ws at t s d r
+    pub arm-left : row .kind ≡ 10 → {m : ℕ} → m ≡ leftIn t (row .a) → {r : Typed} → r ≡ sumTyped t (row .a) m x → ChecksExpr ws at t s d r
     unfolding Done sumTyped
-    arm-left h e = rw e (by-row 10 h _ (omega (arith, cx .onward)) (λ e rest v room. go room v))
+    arm-left h p e = rw (e, p) (by-row 10 h _ (omega (arith, cx .onward)) (λ e rest v room. go room v))
       where
         go : Room s d → {rest : List Line} {a b : ℕ} {e : Expr} → ExprRow ws at rest 10 a b e → Done e rest (sumTyped t a (leftIn t a) x)
         go room {rest} (at-left {t = n} {e} p w) = let m = cx .means e rest p w room in (find-left t _ _ (m .0) n, m .1)
 
-    pub arm-right : row .kind ≡ 11 → {r : Typed} → r ≡ sumTyped t (row .a) (rightIn t (row .a)) x → ChecksExpr ws at t s d r
+    pub arm-right : row .kind ≡ 11 → {m : ℕ} → m ≡ rightIn t (row .a) → {r : Typed} → r ≡ sumTyped t (row .a) m x → ChecksExpr ws at t s d r
     unfolding Done sumTyped
-    arm-right h e = rw e (by-row 11 h _ (omega (arith, cx .onward)) (λ e rest v room. go room v))
+    arm-right h p e = rw (e, p) (by-row 11 h _ (omega (arith, cx .onward)) (λ e rest v room. go room v))
       where
         go : Room s d → {rest : List Line} {a b : ℕ} {e : Expr} → ExprRow ws at rest 11 a b e → Done e rest (sumTyped t a (rightIn t a) x)
         go room {rest} (at-right {t = n} {e} p w) = let m = cx .means e rest p w room in (find-right t _ _ (m .0) n, m .1)
@@ -163,17 +177,16 @@ module _ (ws : List ℕ) (at : ℕ) (t s : List ℕ) (d : ℕ) {row : Row} (q : 
         go room {rest} (at-unpack {t = n} {l} {e} p w) = let m = cx .means e rest p w room in (find-unpack t _ _ (m .0) n l, m .1)
 
   -- a row of another kind is no expression's
-  pub arm-other : (row .kind ≡ 6 → ⊥) → (row .kind ≡ 7 → ⊥) → (row .kind ≡ 8 → ⊥) → (row .kind ≡ 9 → ⊥) → (row .kind ≡ 10 → ⊥)
-      → (row .kind ≡ 11 → ⊥) → (row .kind ≡ 12 → ⊥) → (row .kind ≡ 13 → ⊥) → {x : Typed} → x ≡ nothing t at → ChecksExpr ws at t s d x
+  pub arm-other : (6 ≤ row .kind → row .kind < 14 → ⊥) → {x : Typed} → x ≡ nothing t at → ChecksExpr ws at t s d x
   unfolding Done nothing
-  arm-other f6 f7 f8 f9 f10 f11 f12 f13 e = rw e (by-row (row .kind) refl _ (omega arith) (λ e rest v room. absurd (go v refl)))
+  arm-other f e = rw e (by-row (row .kind) refl _ (omega arith) (λ e rest v room. absurd (go v refl)))
     where
       go : {rest : List Line} {k a b : ℕ} {e : Expr} → ExprRow ws at rest k a b e → row .kind ≡ k → ⊥
-      go (at-int w) h = f6 h
-      go (at-loc w) h = f7 h
-      go (at-var w) h = f8 h
-      go (at-plus p r w) h = f9 h
-      go (at-left p w) h = f10 h
-      go (at-right p w) h = f11 h
-      go (at-pack p w) h = f12 h
-      go (at-unpack p w) h = f13 h
+      go (at-int w) h = f (omega arith) (omega arith)
+      go (at-loc w) h = f (omega arith) (omega arith)
+      go (at-var w) h = f (omega arith) (omega arith)
+      go (at-plus p r w) h = f (omega arith) (omega arith)
+      go (at-left p w) h = f (omega arith) (omega arith)
+      go (at-right p w) h = f (omega arith) (omega arith)
+      go (at-pack p w) h = f (omega arith) (omega arith)
+      go (at-unpack p w) h = f (omega arith) (omega arith)

@@ -1,12 +1,11 @@
 -- What enclosing cases bind, as words: for each case the number of the type that it binds and its label, outermost first.
-use mathlib.Core.Bool.{Bool, cond}
+use mathlib.Core.Bool.{cond}
 use mathlib.Core.List.{List, [], _∷_}
 use Prim.Native.Nat.{ℕ, zero, suc, _+_, _*_}
-use lib.Dec.{ltb, leb}
-use lib.ListN.{length, getD, set}
+use lib.Dec.{ltb}
+use lib.ListN.{getD, set}
 use Rattle.labels.specs.declared.Label.{Label}
 use Rattle.labels.specs.Tables.{labelSize, labelAt, labelPut}
-use Rattle.language.specs.Syntax.{both}
 use Rattle.lines.specs.Names.{maxDepth}
 
 -- the words for one case, and for all
@@ -35,10 +34,6 @@ boundTypes s d = upTo (boundType s) d
 abbrev pub boundLabels : List ℕ → ℕ → List Label
 boundLabels s d = upTo (boundLabel s) d
 
--- there are words for all cases
-unfoldable pub enoughWords : List ℕ → Bool
-enoughWords s = leb bindingsSize (length s)
-
--- the words with a type and a label stored at place d; unchanged where they do not fit
+-- the words with a type and a label stored at place d; unchanged where there is no such place
 unfoldable pub bindOf : List ℕ → ℕ → ℕ → Label → List ℕ
-bindOf s d n a = cond (both (ltb d maxDepth) (enoughWords s)) (labelPut (set s (d * bindingSize) n) (d * bindingSize + 1) a) s
+bindOf s d n a = cond (ltb d maxDepth) (labelPut (set s (d * bindingSize) n) (d * bindingSize + 1) a) s

@@ -11,7 +11,7 @@ use Rattle.tables.specs.Tables.{everyoneIn, rightIn, typeIn, homeIn, labelIn}
 use Rattle.checker.specs.declared.Typed.{Typed}
 use Rattle.checker.specs.declared.Passed.{Passed}
 use Rattle.tables.specs.TypeTest.{isSum}
-use Rattle.checker.specs.Bindings.{boundType, boundLabel, enoughWords}
+use Rattle.checker.specs.Bindings.{boundType, boundLabel}
 
 -- the expression has the type number n
 unfoldable pub isType : Typed → ℕ → Bool
@@ -34,7 +34,7 @@ locTyped t x next = plainTyped (typeIn t x) (labelIn t (homeIn t x)) next
 -- variable i below d cases
 unfoldable pub varTyped : List ℕ → List ℕ → ℕ → ℕ → ℕ → Typed
 varTyped t s d i next =
-    cond (both (ltb i d) (both (leb d maxDepth) (enoughWords s)))
+    cond (both (ltb i d) (leb d maxDepth))
     (plainTyped (boundType s (d - suc i)) (boundLabel s (d - suc i)) next)
     (nothing t next)
 
@@ -83,14 +83,13 @@ skipPassed next = record { typed = true; flow = true; next = next }
 unfoldable pub seqPassed : Passed → Passed → Passed
 seqPassed x y = record { typed = both (x .typed) (y .typed); flow = both (x .flow) (y .flow); next = y .next }
 
-unfoldable pub assignPassed : List ℕ → ℕ → Label → Typed → Passed
-assignPassed t n pc x =
-    let a = labelIn t (homeIn t n) in
-    record {
-      typed = isType x (typeIn t n);
-      flow = both (x .flow) (both (belowOf (x .label) a) (belowOf pc a));
-      next = x .next;
-    }
+-- the labels a and pc are both at or below that of location n
+unfoldable pub mayAssign : List ℕ → ℕ → Label → Label → Bool
+mayAssign t n pc a = both (belowOf a (labelIn t (homeIn t n))) (belowOf pc (labelIn t (homeIn t n)))
+
+-- an assignment of x to location n, whose own label conditions are flow
+unfoldable pub assignPassed : List ℕ → ℕ → Typed → Bool → Passed
+assignPassed t n x flow = record { typed = isType x (typeIn t n); flow = both (x .flow) flow; next = x .next }
 
 unfoldable pub whilePassed : Typed → Passed → Passed
 whilePassed x y = record { typed = both (isType x 3) (y .typed); flow = both (x .flow) (y .flow); next = y .next }

@@ -34,8 +34,9 @@ pub record ChecksExpr (ws : List ℕ) (at : ℕ) (t s : List ℕ) (d : ℕ) (x :
   pub means : (e : Expr) (rest : List Line) → SourceE e → drop at ws ≡ code (exprLines e rest) → Room s d
       → Finds t (boundTypes s d) (boundLabels s d) e x × (drop (x .next) ws ≡ code rest)
 
--- s′ binds what s binds for d cases
+-- s′ has as many words as s, and binds what s binds for d cases
 pub record Kept (s s′ : List ℕ) (d : ℕ) : Type 0 where
+  pub size : length s′ ≡ length s
   pub types : boundTypes s′ d ≡ boundTypes s d
   pub labels : boundLabels s′ d ≡ boundLabels s d
 

@@ -45,14 +45,11 @@ fn of_seq(x: Passed, y: Passed) -> Passed
     }
 }
 
-// The expression and the surrounding label are both at or below the location's.
-fn of_assign(table: &[u16], x: u32, pc: Label, e: Typed) -> Passed
-    ensures { λ r. ⌜ r ≡ assignPassed (now (table .entry)) x pc e ⌝ }
+// An assignment to location x, whose label conditions hold if `flow` is true.
+fn of_assign(table: &[u16], x: u32, e: Typed, flow: bool) -> Passed
+    ensures { λ r. ⌜ r ≡ assignPassed (now (table .entry)) x e flow ⌝ }
 {
-    let home = tables::label_of(table, tables::location_label(table, x));
-    let label = e.label;
     let typed = is_type(e, tables::location_type(table, x));
-    let flow = both(label.at_or_below(home), pc.at_or_below(home));
     Passed {
         typed,
         flow: both(e.flow, flow),
@@ -88,9 +85,9 @@ pub(crate) fn check_cmd(
     code: &[u32],
     at: usize,
     table: &[u16],
-    bound: &mut [Set],
+    bound: &mut [Set; bindings::BINDINGS],
     depth: usize,
-    pc: Label,
+    mut pc: Label,
 ) -> Passed
     ensures { λ r. ⌜ ChecksCmd (now (code .entry)) at (now (table .entry)) (now (bound .entry)) depth pc r (now (bound .exit)) ⌝ }
 {
@@ -99,36 +96,36 @@ pub(crate) fn check_cmd(
     match kind {
         lines::SKIP => of_skip(at + lines::ROW),
         lines::SEQ => {
-            let x = check_cmd(code, at + lines::ROW, table, bound, depth, pc);
-            let mid = x.next;
-            let y = check_cmd(code, mid, table, bound, depth, pc);
-            of_seq(x, y)
+            let first = check_cmd(code, at + lines::ROW, table, bound, depth, pc);
+            let second = check_cmd(code, first.next, table, bound, depth, pc);
+            of_seq(first, second)
         }
-        lines::ASSIGN => {
+        // One call for the expression that each of these starts with, since each local takes its own place in every frame.
+        lines::ASSIGN | lines::WHILE | lines::CASE => {
             let x = check_expr(code, at + lines::ROW, table, bound, depth);
-            of_assign(table, row.a, pc, x)
-        }
-        lines::WHILE => {
-            let x = check_expr(code, at + lines::ROW, table, bound, depth);
-            let guard = x.label;
-            let mid = x.next;
-            let y = check_cmd(code, mid, table, bound, depth, pc.join(guard));
-            of_while(x, y)
-        }
-        lines::CASE => {
-            if depth >= bindings::DEPTH {
-                return not_passed(at);
+            match kind {
+                lines::ASSIGN => {
+                    let home = tables::label_of(table, tables::location_label(table, row.a));
+                    let flow = both(x.label.at_or_below(home), pc.at_or_below(home));
+                    of_assign(table, row.a, x, flow)
+                }
+                lines::WHILE => {
+                    pc = pc.join(x.label);
+                    let y = check_cmd(code, x.next, table, bound, depth, pc);
+                    of_while(x, y)
+                }
+                _ => {
+                    if depth >= bindings::DEPTH {
+                        return not_passed(at);
+                    }
+                    pc = pc.join(x.label);
+                    bindings::bind(bound, depth, tables::left_part(table, x.ty), x.label);
+                    let y = check_cmd(code, x.next, table, bound, depth + 1, pc);
+                    bindings::bind(bound, depth, tables::right_part(table, x.ty), x.label);
+                    let z = check_cmd(code, y.next, table, bound, depth + 1, pc);
+                    of_case(table, x, y, z)
+                }
             }
-            let x = check_expr(code, at + lines::ROW, table, bound, depth);
-            let guard = x.label;
-            let mid = x.next;
-            let within = pc.join(guard);
-            bindings::bind_left(bound, depth, table, x);
-            let y = check_cmd(code, mid, table, bound, depth + 1, within);
-            let end = y.next;
-            bindings::bind_right(bound, depth, table, x);
-            let z = check_cmd(code, end, table, bound, depth + 1, within);
-            of_case(table, x, y, z)
         }
         _ => not_passed(at),
     }

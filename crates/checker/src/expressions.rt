@@ -3,7 +3,7 @@ ghost use mathlib.Core.Path.{_≡_};
 ghost use Rattle.labels.specs.Labels.{bottomOf};
 ghost use Rattle.language.specs.Syntax.{both};
 ghost use Rattle.tables.specs.TypeTest.{isSum};
-ghost use Rattle.tables.specs.Tables.{leftIn, rightIn, everyoneIn};
+ghost use Rattle.tables.specs.Tables.{everyoneIn};
 ghost use Rattle.checker.specs.Nodes.{isType, nothing, intTyped, locTyped, varTyped, plusTyped, sumTyped, packTyped, unpackTyped};
 ghost use Rattle.checker.specs.Post.{ChecksExpr};
 use crate::Typed;
@@ -93,7 +93,13 @@ fn of_location(table: &[u16], x: u32, next: usize) -> Typed
     }
 }
 
-fn of_variable(table: &[u16], bound: &[Set], depth: usize, d: u32, next: usize) -> Typed
+fn of_variable(
+    table: &[u16],
+    bound: &[Set; bindings::BINDINGS],
+    depth: usize,
+    d: u32,
+    next: usize,
+) -> Typed
     ensures { λ r. ⌜ r ≡ varTyped (now (table .entry)) (now (bound .entry)) depth d next ⌝ }
 {
     let i = d as usize;
@@ -103,12 +109,10 @@ fn of_variable(table: &[u16], bound: &[Set], depth: usize, d: u32, next: usize) 
     if depth > bindings::DEPTH {
         return no_type(table, next);
     }
-    if bound.len() < bindings::BINDINGS {
-        return no_type(table, next);
-    }
     let at = (depth - 1 - i) * bindings::BINDING;
-    let ty = bound[at] as u32;
-    let label = labels::label_at(bound, at + 1);
+    let words: &[Set] = bound;
+    let ty = words[at] as u32;
+    let label = labels::label_at(words, at + 1);
     Typed {
         ty,
         typed: true,
@@ -150,18 +154,6 @@ fn of_sum(table: &[u16], ty: u32, part: u32, x: Typed) -> Typed
     }
 }
 
-fn of_left(table: &[u16], ty: u32, x: Typed) -> Typed
-    ensures { λ r. ⌜ r ≡ sumTyped (now (table .entry)) ty (leftIn (now (table .entry)) ty) x ⌝ }
-{
-    of_sum(table, ty, tables::left_part(table, ty), x)
-}
-
-fn of_right(table: &[u16], ty: u32, x: Typed) -> Typed
-    ensures { λ r. ⌜ r ≡ sumTyped (now (table .entry)) ty (rightIn (now (table .entry)) ty) x ⌝ }
-{
-    of_sum(table, ty, tables::right_part(table, ty), x)
-}
-
 fn of_pack(table: &[u16], l: u32, x: Typed) -> Typed
     ensures { λ r. ⌜ r ≡ packTyped (now (table .entry)) l x ⌝ }
 {
@@ -200,7 +192,7 @@ pub(crate) fn check_expr(
     code: &[u32],
     at: usize,
     table: &[u16],
-    bound: &[Set],
+    bound: &[Set; bindings::BINDINGS],
     depth: usize,
 ) -> Typed
     ensures { λ r. ⌜ ChecksExpr (now (code .entry)) at (now (table .entry)) (now (bound .entry)) depth r ⌝ }
@@ -212,27 +204,19 @@ pub(crate) fn check_expr(
         lines::INT => of_int(table, at + lines::ROW),
         lines::LOC => of_location(table, a, at + lines::ROW),
         lines::VAR => of_variable(table, bound, depth, a, at + lines::ROW),
-        lines::PLUS => {
+        // One call for the operand that each of these starts with, since each local takes its own place in every frame.
+        lines::PLUS | lines::LEFT | lines::RIGHT | lines::PACK | lines::UNPACK => {
             let x = check_expr(code, at + lines::ROW, table, bound, depth);
-            let mid = x.next;
-            let y = check_expr(code, mid, table, bound, depth);
-            of_plus(x, y)
-        }
-        lines::LEFT => {
-            let x = check_expr(code, at + lines::ROW, table, bound, depth);
-            of_left(table, a, x)
-        }
-        lines::RIGHT => {
-            let x = check_expr(code, at + lines::ROW, table, bound, depth);
-            of_right(table, a, x)
-        }
-        lines::PACK => {
-            let x = check_expr(code, at + lines::ROW, table, bound, depth);
-            of_pack(table, a, x)
-        }
-        lines::UNPACK => {
-            let x = check_expr(code, at + lines::ROW, table, bound, depth);
-            of_unpack(table, a, row.b, x)
+            match kind {
+                lines::PLUS => {
+                    let y = check_expr(code, x.next, table, bound, depth);
+                    of_plus(x, y)
+                }
+                lines::LEFT => of_sum(table, a, tables::left_part(table, a), x),
+                lines::RIGHT => of_sum(table, a, tables::right_part(table, a), x),
+                lines::PACK => of_pack(table, a, x),
+                _ => of_unpack(table, a, row.b, x),
+            }
         }
         _ => no_type(table, at),
     }

@@ -4,9 +4,6 @@ mod expressions; // expressions.rt: types and least labels of expressions
 mod commands; // commands.rt: commands
 
 ghost use mathlib.Core.Path.{_≡_};
-ghost use Prim.Native.Nat.{_≤_};
-ghost use lib.ListN.{length};
-ghost use Rattle.checker.specs.Bindings.{bindingsSize};
 ghost use Rattle.checker.specs.Nodes.{answerOf};
 ghost use Rattle.checker.specs.Post.{Answers};
 use sets::Set;
@@ -33,15 +30,8 @@ pub fn check(code: &[u32], table: &[u16]) -> u8
     ensures { λ r. ⌜ Answers (now (code .entry)) (now (table .entry)) r ⌝ }
 {
     let mut bound: [Set; bindings::BINDINGS] = [0; bindings::BINDINGS];
-    check_in(code, table, &mut bound)
-}
-
-// Checks a script's code, with the words for bindings lent.
-fn check_in(code: &[u32], table: &[u16], bound: &mut [Set]) -> u8
-    ensures { λ r. ⌜ (bindingsSize ≤ length (now (bound .entry)) → Answers (now (code .entry)) (now (table .entry)) r) ⌝ }
-{
     let pc = expressions::lowest(table);
-    let x = commands::check_cmd(code, 0, table, bound, 0, pc);
+    let x = commands::check_cmd(code, 0, table, &mut bound, 0, pc);
     answer(x.typed, x.flow)
 }
 

@@ -1,30 +1,36 @@
 -- The proof of the cycle of calls {check_cmd}. The measure is the words left; each return is a law of `CmdLaws`. Assumes nothing.
 use borrow.Author.Needs.{needs}
+use Prim.Native.Nat.{ℕ, _<_, _-_}
+use native.Mathlib.Omega.{arith}
+use lib.ListN.{length}
+use mathlib.Core.Logic.{⊎-elim}
+use Rattle.labels.proofs.OrderLaws.{whole-intro}
+use Rattle.checker.proofs.ExprLaws.{within}
+use Rattle.checker.proofs.BindingLaws.{left-small, right-small}
+use Rattle.checker.proofs.CmdLaws.{may-assign, arm-skip, arm-seq, arm-assign, arm-while, arm-case, arm-deep, arm-other}
 use borrow.Fn.Kinds.{In}
 use borrow.Fn.PlainCycle.{Measures, is, falls, and}
 use Rattle.checker.proofs.commands.check_cmd.Reads as check-cmd
 use Rattle.checker.proofs.commands.check_cmd.Kinds as check-cmd-kinds
 use Rattle.checker.proofs.commands.+check_cmd.Lts-check_cmd as check-cmd-lts
-use Rattle.checker.proofs.bindings.bind_left.Reads as bind-left-reads
-use Rattle.checker.proofs.bindings.bind_right.Reads as bind-right-reads
-use Rattle.checker.proofs.expressions.check_expr.Reads as check-expr-reads
+use Rattle.checker.proofs.bindings.bind.Reads as bind-reads
 use Rattle.checker.proofs.commands.not_passed.Reads as not-passed-reads
 use Rattle.checker.proofs.commands.of_assign.Reads as of-assign-reads
 use Rattle.checker.proofs.commands.of_case.Reads as of-case-reads
 use Rattle.checker.proofs.commands.of_seq.Reads as of-seq-reads
 use Rattle.checker.proofs.commands.of_skip.Reads as of-skip-reads
 use Rattle.checker.proofs.commands.of_while.Reads as of-while-reads
+use Rattle.checker.proofs.expressions.both.Reads as both-reads
+use Rattle.checker.proofs.expressions.check_expr.Reads as check-expr-reads
+use Rattle.labels.proofs.Label.at_or_below.Reads as at-or-below-reads
 use Rattle.labels.proofs.Label.join.Reads as join-reads
 use Rattle.lines.proofs.row_at.Reads as row-at-reads
+use Rattle.tables.proofs.label_of.Reads as label-of-reads
+use Rattle.tables.proofs.left_part.Reads as left-part-reads
+use Rattle.tables.proofs.location_label.Reads as location-label-reads
+use Rattle.tables.proofs.right_part.Reads as right-part-reads
 use Rattle.checker.proofs.commands.+check_cmd.{statement}
 use Rattle.checker.proofs.commands.+check_cmd.Tie.{close}
-use mathlib.Core.Path.{refl, _∙_}
-use Prim.Native.Nat.{ℕ, _<_, _-_}
-use native.Mathlib.Omega.{arith}
-use lib.ListN.{length}
-use Rattle.labels.proofs.OrderLaws.{whole-intro}
-use Rattle.checker.proofs.ExprLaws.{within}
-use Rattle.checker.proofs.CmdLaws.{arm-skip, arm-seq, arm-assign, arm-while, arm-case, arm-deep, arm-other}
 
 abbrev μ-check-cmd : Measures 3 check-cmd-kinds.ps ℕ
 μ-check-cmd κs a = length (a .0 .now) - a .1 .0
@@ -48,6 +54,14 @@ pub +check-cmd-spec : {M : Type 1} → statement M
   of-seq-reads.Learnt,
   check-expr-reads.Asked,
   check-expr-reads.Learnt,
+  location-label-reads.Asked,
+  location-label-reads.Learnt,
+  label-of-reads.Asked,
+  label-of-reads.Learnt,
+  at-or-below-reads.Asked,
+  at-or-below-reads.Learnt,
+  both-reads.Asked,
+  both-reads.Learnt,
   of-assign-reads.Asked,
   of-assign-reads.Learnt,
   join-reads.Asked,
@@ -56,50 +70,51 @@ pub +check-cmd-spec : {M : Type 1} → statement M
   of-while-reads.Learnt,
   not-passed-reads.Asked,
   not-passed-reads.Learnt,
-  bind-left-reads.Asked,
-  bind-left-reads.Learnt,
-  bind-right-reads.Asked,
-  bind-right-reads.Learnt,
+  left-part-reads.Asked,
+  left-part-reads.Learnt,
+  bind-reads.Asked,
+  bind-reads.Learnt,
+  right-part-reads.Asked,
+  right-part-reads.Learnt,
   of-case-reads.Asked,
   of-case-reads.Learnt,
 )
     (check-cmd-at t)
     check-cmd.Post
     (λ c κs. search needs)  -- row-at-requires
-    (λ c. let a = c .before .before .before .before .before .args in omega (arith, within (a .code .now) (a .at) 0 (c .before .row-at .ensures) (c .match .keys1)))  -- add-of-skip
+    (λ c. let r = c .before in let a = r .before .before .before .args in omega (arith, within (a .code .now) (a .at) (r .row-at .ensures) (omega (arith, c .match .keys1))))  -- add-of-skip
     (λ c κs. search needs)  -- of-skip-requires
-    (λ c. let a = c .before .before .before .before .before .args in omega (arith, within (a .code .now) (a .at) 1 (c .before .row-at .ensures) (c .match .keys2)))  -- add-check-cmd
-    (λ c κs. let a = c .before .before .before .before .before .before .args in (omega (arith, c .before .before .before .before .before .before .pre .0, within (a .code .now) (a .at) 1 (c .before .before .row-at .ensures) (c .before .match .keys2)), tt))  -- check-cmd-requires
-    (λ c κs. let a = c .before .before .before .before .before .before .before .before .before .before .args in (omega (arith, c .before .before .before .before .before .before .before .before .before .before .pre .0, within (a .code .now) (a .at) 1 (c .before .before .before .before .before .before .row-at .ensures) (c .before .before .before .before .before .match .keys2), c .before .before .before .check-cmd .ensures .onward), tt))  -- check-cmd-requires-2
+    (λ c. let r = c .before in let a = r .before .before .before .args in omega (arith, within (a .code .now) (a .at) (r .row-at .ensures) (omega (arith, c .match .keys2))))  -- add-check-cmd
+    (λ c κs. let r = c .before .before in let a = r .before .before .before .args in (omega (arith, r .before .before .before .pre .0, within (a .code .now) (a .at) (r .row-at .ensures) (omega (arith, c .before .match .keys2))), tt))  -- check-cmd-requires
+    (λ c κs. let r = c .before .before .before .before in let a = r .before .before .before .args in (omega (arith, r .before .before .before .pre .0, within (a .code .now) (a .at) (r .row-at .ensures) (omega (arith, c .before .before .before .match .keys2)), c .before .check-cmd .ensures .onward), tt))  -- check-cmd-requires-2
     (λ c κs. search needs)  -- of-seq-requires
-    (λ c. let a = c .before .before .before .before .before .args in omega (arith, within (a .code .now) (a .at) 2 (c .before .row-at .ensures) (c .match .keys3)))  -- add-check-expr
+    (λ c. let r = c .before .before .before in let a = r .before .before .before .args in omega (arith, within (a .code .now) (a .at) (r .row-at .ensures) (omega (arith, c .before .if1 .left))))  -- add-check-expr
     (λ c κs. search needs)  -- check-expr-requires
+    (λ c κs. search needs)  -- location-label-requires
+    (λ c κs. search needs)  -- label-of-requires
+    (λ c κs. search needs)  -- at-or-below-requires
+    (λ c κs. search needs)  -- at-or-below-requires-2
+    (λ c κs. search needs)  -- both-requires
     (λ c κs. search needs)  -- of-assign-requires
-    (λ c. let a = c .before .before .before .before .before .args in omega (arith, within (a .code .now) (a .at) 3 (c .before .row-at .ensures) (c .match .keys4)))  -- add-check-expr-2
-    (λ c κs. search needs)  -- check-expr-requires-2
     (λ c κs. search needs)  -- join-requires
-    (λ c κs. let a = c .before .before .before .before .before .before .before .before .before .before .args in (omega (arith, c .before .before .before .before .before .before .before .before .before .before .pre .0, within (a .code .now) (a .at) 3 (c .before .before .before .before .before .before .row-at .ensures) (c .before .before .before .before .before .match .keys4), c .before .before .before .check-expr2 .ensures .onward), tt))  -- check-cmd-requires-3
+    (λ c κs. let r = c .before .before .before .before .before .before .before .before in let a = r .before .before .before .args in (omega (arith, r .before .before .before .pre .0, within (a .code .now) (a .at) (r .row-at .ensures) (omega (arith, c .before .before .before .before .before .before .if1 .left)), c .before .before .before .check-expr .ensures .onward), tt))  -- check-cmd-requires-3
     (λ c κs. search needs)  -- of-while-requires
     (λ c κs. search needs)  -- not-passed-requires
-    (λ c. let a = c .before .before .before .before .before .before .before .args in arm-deep (a .code .now) (a .at) (a .table .now) (a .bound .now) (a .depth) (a .pc) (c .before .before .before .row-at .ensures) (c .before .before .match .keys5) (c .before .if1 .taken) (c .not-passed .ensures))  -- returns
-    (λ c. let a = c .before .before .before .before .before .before .args in omega (arith, within (a .code .now) (a .at) 4 (c .before .before .row-at .ensures) (c .before .match .keys5)))  -- add-check-expr-3
-    (λ c κs. search needs)  -- check-expr-requires-3
+    (λ c. let r = c .before .before .before .before .before .before .before .before in let a = r .before .before .before .args in arm-deep (a .code .now) (a .at) (a .table .now) (a .bound .now) (a .depth) (a .pc) (r .row-at .ensures) (omega (arith, c .before .before .before .before .before .before .if1 .left, c .before .before .before .before .before .if2 .taken, c .before .before .before .before .before .before .before .match .rest .0 .1, c .before .before .before .before .before .before .before .match .rest .1, c .before .before .match2 .rest .0 .1, c .before .before .match2 .rest .1)) (c .before .if3 .taken) (c .not-passed .ensures))  -- returns
     (λ c κs. search needs)  -- join-requires-2
-    (λ c κs. search needs)  -- bind-left-requires
-    (λ c. omega (arith, c .before .before .before .before .before .before .before .before .before .if1 .left))  -- add-check-cmd-2
-    (λ c κs. let a = c .before .before .before .before .before .before .before .before .before .before .before .before .before .before .before .args in (omega (arith, c .before .before .before .before .before .before .before .before .before .before .before .before .before .before .before .pre .0, within (a .code .now) (a .at) 4 (c .before .before .before .before .before .before .before .before .before .before .before .row-at .ensures) (c .before .before .before .before .before .before .before .before .before .before .match .keys5), c .before .before .before .before .before .before .before .check-expr3 .ensures .onward), tt))  -- check-cmd-requires-4
-    (λ c κs. search needs)  -- bind-right-requires
-    (λ c. omega (arith, c .before .before .before .before .before .before .before .before .before .before .before .before .before .before .before .before .before .if1 .left))  -- add-check-cmd-3
-    (λ c κs. let a = c .before .before .before .before .before .before .before .before .before .before .before .before .before .before .before .before .before .before .before .before .before .before .before .args in (omega (arith, c .before .before .before .before .before .before .before .before .before .before .before .before .before .before .before .before .before .before .before .before .before .before .before .pre .0, within (a .code .now) (a .at) 4 (c .before .before .before .before .before .before .before .before .before .before .before .before .before .before .before .before .before .before .before .row-at .ensures) (c .before .before .before .before .before .before .before .before .before .before .before .before .before .before .before .before .before .before .match .keys5), c .before .before .before .before .before .before .before .before .before .before .before .before .before .before .before .check-expr3 .ensures .onward, c .before .before .before .before .before .before .before .check-cmd4 .ensures .onward), tt))  -- check-cmd-requires-5
+    (λ c κs. search needs)  -- left-part-requires
+    (λ c κs. let r = c .before .before .before .before .before .before .before .before .before .before in let a = r .before .before .before .args in rw (c .left-part .ensures) (left-small (a .table .now) (λ i. r .before .shared-slice-known2 .given i .fits) _))  -- bind-requires
+    (λ c. omega (arith, c .before .before .before .before .before .if3 .left))  -- add-check-cmd-2
+    (λ c κs. let r = c .before .before .before .before .before .before .before .before .before .before .before .before in let a = r .before .before .before .args in (omega (arith, r .before .before .before .pre .0, within (a .code .now) (a .at) (r .row-at .ensures) (omega (arith, c .before .before .before .before .before .before .before .before .before .before .if1 .left)), c .before .before .before .before .before .before .before .check-expr .ensures .onward), tt))  -- check-cmd-requires-4
+    (λ c κs. search needs)  -- right-part-requires
+    (λ c κs. let r = c .before .before .before .before .before .before .before .before .before .before .before .before .before .before .before in let a = r .before .before .before .args in rw (c .right-part .ensures) (right-small (a .table .now) (λ i. r .before .shared-slice-known2 .given i .fits) _))  -- bind-requires-2
+    (λ c. omega (arith, c .before .before .before .before .before .before .before .before .before .before .if3 .left))  -- add-check-cmd-3
+    (λ c κs. let r = c .before .before .before .before .before .before .before .before .before .before .before .before .before .before .before .before .before in let a = r .before .before .before .args in (omega (arith, r .before .before .before .pre .0, within (a .code .now) (a .at) (r .row-at .ensures) (omega (arith, c .before .before .before .before .before .before .before .before .before .before .before .before .before .before .before .if1 .left)), c .before .before .before .before .before .before .before .before .before .before .before .before .check-expr .ensures .onward, c .before .before .before .before .check-cmd4 .ensures .onward), tt))  -- check-cmd-requires-5
     (λ c κs. search needs)  -- of-case-requires
     (λ c κs. search needs)  -- not-passed-requires-2
-    (λ c. let a = c .before .before .before .before .before .before .args in arm-skip (a .code .now) (a .at) (a .table .now) (a .bound .now) (a .depth) (a .pc) (c .before .before .row-at .ensures) (c .before .match .keys1) (c .of-skip .ensures))  -- returns-2
-    (λ c. c .before .before .before .check-cmd2 .kept .1 .1 .1 .0 ∙ c .before .before .before .before .before .before .before .check-cmd .kept .1 .1 .1 .0)  -- same-length
-    (λ c. let a = c .before .before .before .before .before .before .before .before .before .before .before .before .before .before .args in arm-seq (a .code .now) (a .at) (a .table .now) (a .bound .now) (a .depth) (a .pc) (c .before .before .before .before .before .before .before .before .before .before .row-at .ensures) (c .before .before .before .before .before .before .before .before .before .match .keys2) (c .before .before .before .before .before .before .before .check-cmd .ensures) (c .before .before .before .before .before .before .before .check-cmd .kept .1 .1 .1 .0) (c .before .before .before .check-cmd2 .ensures) (c .of-seq .ensures))  -- returns-3
-    (λ c. refl)  -- same-length-2
-    (λ c. let a = c .before .before .before .before .before .before .before .before .args in arm-assign (a .code .now) (a .at) (a .table .now) (a .bound .now) (a .depth) (a .pc) (c .before .before .before .before .row-at .ensures) (c .before .check-expr .ensures) (c .before .before .before .match .keys3) (c .of-assign .ensures))  -- returns-4
-    (λ c. c .before .before .before .check-cmd3 .kept .1 .1 .1 .0)  -- same-length-3
-    (λ c. let a = c .before .before .before .before .before .before .before .before .before .before .before .before .before .before .args in arm-while (a .code .now) (a .at) (a .table .now) (a .bound .now) (a .depth) (a .pc) (c .before .before .before .before .before .before .before .before .before .before .row-at .ensures) (c .before .before .before .before .before .before .before .check-expr2 .ensures) (c .before .before .before .before .before .before .before .before .before .match .keys4) (c .before .before .before .before .join .ensures) (c .before .before .before .check-cmd3 .ensures) (c .of-while .ensures))  -- returns-5
-    (λ c. c .before .before .before .check-cmd5 .kept .1 .1 .1 .0 ∙ c .before .before .before .before .before .before .before .bind-right .kept .0 ∙ c .before .before .before .before .before .before .before .before .before .before .before .check-cmd4 .kept .1 .1 .1 .0 ∙ c .before .before .before .before .before .before .before .before .before .before .before .before .before .before .before .bind-left .kept .0)  -- same-length-4
-    (λ c. let a = c .before .before .before .before .before .before .before .before .before .before .before .before .before .before .before .before .before .before .before .before .before .before .before .before .before .before .before .args in arm-case (a .code .now) (a .at) (a .table .now) (a .bound .now) (a .depth) (a .pc) (c .before .before .before .before .before .before .before .before .before .before .before .before .before .before .before .before .before .before .before .before .before .before .before .row-at .ensures) (c .before .before .before .before .before .before .before .before .before .before .before .before .before .before .before .before .before .before .before .check-expr3 .ensures) (c .before .before .before .before .before .before .before .before .before .before .before .before .before .before .before .before .before .before .before .before .before .before .match .keys5) (c .before .before .before .before .before .before .before .before .before .before .before .before .before .before .before .before .before .before .before .before .before .if1 .left) (let k = c .before .before .before .before .before .before .before .before .before .before .before .before .before .before .before .before .before .before .before .check-expr3 .ok in whole-intro (c .before .before .before .before .before .before .before .before .before .before .before .before .before .before .before .before .before .before .before .check-expr3 .result .label) (search (needs, k)) (search (needs, k))) (c .before .before .before .before .before .before .before .before .before .before .before .before .before .before .before .before .before .join2 .ensures) (c .before .before .before .before .before .before .before .before .before .before .before .before .before .before .before .bind-left .ensures) (c .before .before .before .before .before .before .before .before .before .before .before .check-cmd4 .ensures) (c .before .before .before .before .before .before .before .before .before .before .before .check-cmd4 .kept .1 .1 .1 .0) (c .before .before .before .before .before .before .before .bind-right .ensures) (c .before .before .before .check-cmd5 .ensures) (c .of-case .ensures))  -- returns-6
-    (λ c. let a = c .before .before .before .before .before .before .args in arm-other (a .code .now) (a .at) (a .table .now) (a .bound .now) (a .depth) (a .pc) (c .before .before .row-at .ensures) (c .before .match .rest .0 .0 .0 .0 .1) (c .before .match .rest .0 .0 .0 .1) (c .before .match .rest .0 .0 .1) (c .before .match .rest .0 .1) (c .before .match .rest .1) (c .not-passed2 .ensures))  -- returns-7
+    (λ c. let r = c .before .before in let a = r .before .before .before .args in arm-skip (a .code .now) (a .at) (a .table .now) (a .bound .now) (a .depth) (a .pc) (r .row-at .ensures) (c .before .match .keys1) (c .of-skip .ensures))  -- returns-2
+    (λ c. let r = c .before .before .before .before .before .before in let a = r .before .before .before .args in arm-seq (a .code .now) (a .at) (a .table .now) (a .bound .now) (a .depth) (a .pc) (r .row-at .ensures) (c .before .before .before .before .before .match .keys2) (c .before .before .before .check-cmd .ensures) (c .before .check-cmd2 .ensures) (c .of-seq .ensures))  -- returns-3
+    (λ c. let r = c .before .before .before .before .before .before .before .before .before .before .before .before in let a = r .before .before .before .args in let x = c .before .before .before .before .before .before .before .check-expr in arm-assign (a .code .now) (a .at) (a .table .now) (a .bound .now) (a .depth) (a .pc) (r .row-at .ensures) (x .ensures) (c .before .before .before .before .before .before .match2 .keys1) (may-assign (a .table .now) _ (a .pc) (x .result .label) (c .before .before .before .before .before .location-label .ensures) (c .before .before .before .before .label-of .ensures) (c .before .before .before .at-or-below .ensures) (c .before .before .at-or-below2 .ensures) (c .before .both .ensures)) (c .of-assign .ensures))  -- returns-4
+    (λ c. let r = c .before .before .before .before .before .before .before .before .before .before in let a = r .before .before .before .args in arm-while (a .code .now) (a .at) (a .table .now) (a .bound .now) (a .depth) (a .pc) (r .row-at .ensures) (c .before .before .before .before .before .check-expr .ensures) (c .before .before .before .before .match2 .keys2) (c .before .before .before .join .ensures) (c .before .check-cmd3 .ensures) (c .of-while .ensures))  -- returns-5
+    (λ c. let whole = let k = c .before .before .before .before .before .before .before .before .before .before .before .before .before .before .check-expr .ok .1 .1 .1 .1 .1 .0 in whole-intro (c .before .before .before .before .before .before .before .before .before .before .before .before .before .before .check-expr .result .label) (search (needs, k)) (search (needs, k)) in let r = c .before .before .before .before .before .before .before .before .before .before .before .before .before .before .before .before .before .before .before in let a = r .before .before .before .args in arm-case (a .code .now) (a .at) (a .table .now) (a .bound .now) (a .depth) (a .pc) (r .row-at .ensures) (c .before .before .before .before .before .before .before .before .before .before .before .before .before .before .check-expr .ensures) (omega (arith, c .before .before .before .before .before .before .before .before .before .before .before .before .before .before .before .before .before .if1 .left, c .before .before .before .before .before .before .before .before .before .before .before .before .before .before .before .before .if2 .taken, c .before .before .before .before .before .before .before .before .before .before .before .before .before .before .before .before .before .before .match .rest .0 .1, c .before .before .before .before .before .before .before .before .before .before .before .before .before .before .before .before .before .before .match .rest .1, c .before .before .before .before .before .before .before .before .before .before .before .before .before .match2 .rest .0 .1, c .before .before .before .before .before .before .before .before .before .before .before .before .before .match2 .rest .1)) (c .before .before .before .before .before .before .before .before .before .before .before .before .if3 .left) whole (c .before .before .before .before .before .before .before .before .before .before .before .join2 .ensures) (c .before .before .before .before .before .before .before .before .before .left-part .ensures) (c .before .before .before .before .before .before .before .before .bind .ensures) (c .before .before .before .before .before .before .check-cmd4 .ensures) (c .before .before .before .before .right-part .ensures) (c .before .before .before .bind2 .ensures) (c .before .check-cmd5 .ensures) (c .of-case .ensures))  -- returns-6
+    (λ c. let r = c .before .before .before in let a = r .before .before .before .args in arm-other (a .code .now) (a .at) (a .table .now) (a .bound .now) (a .depth) (a .pc) (r .row-at .ensures) (λ l u. ⊎-elim (λ w. omega (arith, w .taken)) (λ w. omega (arith, w .1 .left)) (c .before .if1 .came)) (c .not-passed2 .ensures))  -- returns-7

@@ -7,6 +7,7 @@ pub mod Agreement
 pub mod Determinacy
 pub mod Types
 pub mod Exactness
+pub mod Images
 pub mod Traces
 pub mod Invariants
 pub mod TypeSoundness

@@ -60,16 +60,18 @@ module _ {L : Type 0} (𝓛 : Labels L) (D : Declarations L) (W : World) (vis : 
 
   -- Conditions that also want an unpack's operand at or below the wanted label, writers included.
   abbrev pub trusting : Conditions L
-  trusting = record {
-    home = D .home;
-    bot = 𝓛 .bot;
-    leq = 𝓛 .leq;
-    join = 𝓛 .join;
-    packed = λ A a. 𝓛 .integ (D .label A);
-    mayPack = λ A a. 𝓛 .leq a (D .label A);
-    opened = λ A a. D .label A;
-    mayOpen = λ A a. both (𝓛 .leq (𝓛 .conf a) (𝓛 .conf (D .label A))) (𝓛 .leq a (D .label A));
-  }
+  trusting =
+      let S = conditions 𝓛 D in
+      record {
+        home = S .home;
+        bot = S .bot;
+        leq = S .leq;
+        join = S .join;
+        packed = S .packed;
+        mayPack = S .mayPack;
+        opened = S .opened;
+        mayOpen = λ A a. both (S .mayOpen A a) (S .leq a (D .label A));
+      }
 
   -- Under them any set that is closed downward will do, such as the labels that distrusted parties do not write.
   pub truster : Observer trusting W vis (λ l. vis (D .label l))

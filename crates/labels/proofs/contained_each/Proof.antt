@@ -21,53 +21,18 @@ Inv-loop x y o₀ o = (o ≤ owners) × ((k : ℕ) → k < o → within (getD x 
 abbrev μ-loop : tie.MeasureT-loop
 μ-loop x y o₀ o = owners - o
 
-loop-holds : tie.Need-loop-holds Inv-loop μ-loop
-loop-holds c = (search needs, λ k l. absurd (not-suc-le-zero l))
-
-mul-contained : tie.Need-mul-contained Inv-loop μ-loop
-mul-contained c = search needs
-
-array-read-contained : tie.Need-array-read-contained Inv-loop μ-loop
-array-read-contained c = search needs
-
-mul-contained-2 : tie.Need-mul-contained-2 Inv-loop μ-loop
-mul-contained-2 c = search needs
-
-array-read-contained-2 : tie.Need-array-read-contained-2 Inv-loop μ-loop
-array-read-contained-2 c = search needs
-
-contained-requires : tie.Need-contained-requires Inv-loop μ-loop
-contained-requires c κs = search needs
-
-returns : tie.Need-returns Inv-loop μ-loop
-returns c = sym (every-false _ _ (c .before .before .before .loop .o) (omega arith) (sym (c .before .contained .ensures) ∙ not-true _ (c .if1 .taken)))
-
-add-o : tie.Need-add-o Inv-loop μ-loop
-add-o c = search needs
-
-loop-less : tie.Need-loop-less Inv-loop μ-loop
-loop-less c = search needs
-
-loop-again : tie.Need-loop-again Inv-loop μ-loop
-loop-again c = (search needs, below-more _ _ (c .before .before .before .loop .inv .1) (sym (c .before .contained .ensures) ∙ not-false _ (c .if1 .left)))
-
-returns-2 : tie.Need-returns-2 Inv-loop μ-loop
-returns-2 c = sym (every-true _ _ (λ k l. c .before .loop .inv .1 k (omega arith)))
-
 pub contained-each-spec : {M : Type 1} → statement M
-contained-each-spec =
-    tie.close
-    (tie.spec
+contained-each-spec = tie.close (tie.spec
     Inv-loop
     μ-loop
-    loop-holds
-    mul-contained
-    array-read-contained
-    mul-contained-2
-    array-read-contained-2
-    contained-requires
-    returns
-    add-o
-    loop-less
-    loop-again
-    returns-2)
+    (λ c. (search needs, λ k l. absurd (not-suc-le-zero l)))  -- loop-holds
+    (λ c. search needs)  -- mul-contained
+    (λ c. search needs)  -- array-read-contained
+    (λ c. search needs)  -- mul-contained-2
+    (λ c. search needs)  -- array-read-contained-2
+    (λ c κs. search needs)  -- contained-requires
+    (λ c. sym (every-false _ _ (c .before .before .before .loop .o) (omega arith) (sym (c .before .contained .ensures) ∙ not-true _ (c .if1 .taken))))  -- returns
+    (λ c. search needs)  -- add-o
+    (λ c. search needs)  -- loop-less
+    (λ c. (search needs, below-more _ _ (c .before .before .before .loop .inv .1) (sym (c .before .contained .ensures) ∙ not-false _ (c .if1 .left))))  -- loop-again
+    (λ c. sym (every-true _ _ (λ k l. c .before .loop .inv .1 k (omega arith)))))  -- returns-2

@@ -6,12 +6,6 @@ use borrow.Author.Needs.{needs}
 use Rattle.labels.proofs.label_at.Statement.{statement}
 use Rattle.labels.proofs.label_at.Tie as tie
 
-sets-at-requires : tie.Need-sets-at-requires
-sets-at-requires c κs = search needs
-
-sets-at-requires-2 : tie.Need-sets-at-requires-2
-sets-at-requires-2 c κs = search needs
-
 returns : tie.Need-returns
 unfolding labelAt
 returns c =
@@ -20,4 +14,7 @@ returns c =
     λ i. record { readers = r i; writers = c .sets-at2 .ensures i }
 
 pub label-at-spec : {M : Type 1} → statement M
-label-at-spec = tie.close (tie.spec sets-at-requires sets-at-requires-2 returns)
+label-at-spec = tie.close (tie.spec
+    (λ c κs. search needs)  -- sets-at-requires
+    (λ c κs. search needs)  -- sets-at-requires-2
+    returns)

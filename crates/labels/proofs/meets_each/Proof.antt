@@ -22,52 +22,20 @@ Inv-loop n group held o₀ o = (o ≤ n) × ((k : ℕ) → k < o → meets group
 abbrev μ-loop : tie.MeasureT-loop
 μ-loop n group held o₀ o = n - o
 
-returns : tie.Need-returns Inv-loop μ-loop
-returns c =
-    sym
-    (every-false _ _ owners (omega arith)
-    (ap (meets (c .before .args .group)) (List·getD-eq-default (c .before .args .t1) 0 (search needs)) ∙ meets-empty _))
-
-loop-holds : tie.Need-loop-holds Inv-loop μ-loop
-loop-holds c = (search needs, λ k l. absurd (not-suc-le-zero l))
-
-mul-meets : tie.Need-mul-meets Inv-loop μ-loop
-mul-meets c = search needs
-
-array-read-meets : tie.Need-array-read-meets Inv-loop μ-loop
-array-read-meets c = search needs
-
-meets-requires : tie.Need-meets-requires Inv-loop μ-loop
-meets-requires c κs = search needs
-
-returns-2 : tie.Need-returns-2 Inv-loop μ-loop
-returns-2 c = sym (every-false _ _ (c .before .before .before .loop .o) (omega arith) (sym (c .before .meets .ensures) ∙ not-true _ (c .if2 .taken)))
-
-add-o : tie.Need-add-o Inv-loop μ-loop
-add-o c = search needs
-
-loop-less : tie.Need-loop-less Inv-loop μ-loop
-loop-less c = search needs
-
-loop-again : tie.Need-loop-again Inv-loop μ-loop
-loop-again c = (search needs, below-more _ _ (c .before .before .before .loop .inv .1) (sym (c .before .meets .ensures) ∙ not-false _ (c .if2 .left)))
-
-returns-3 : tie.Need-returns-3 Inv-loop μ-loop
-returns-3 c = sym (every-true _ _ (λ k l. c .before .loop .inv .1 k (omega arith)))
-
 pub meets-each-spec : {M : Type 1} → statement M
-meets-each-spec =
-    tie.close
-    (tie.spec
+meets-each-spec = tie.close (tie.spec
     Inv-loop
     μ-loop
-    returns
-    loop-holds
-    mul-meets
-    array-read-meets
-    meets-requires
-    returns-2
-    add-o
-    loop-less
-    loop-again
-    returns-3)
+    (λ c.
+    sym
+    (every-false _ _ owners (omega arith)
+    (ap (meets (c .before .args .group)) (List·getD-eq-default (c .before .args .t1) 0 (search needs)) ∙ meets-empty _)))  -- returns
+    (λ c. (search needs, λ k l. absurd (not-suc-le-zero l)))  -- loop-holds
+    (λ c. search needs)  -- mul-meets
+    (λ c. search needs)  -- array-read-meets
+    (λ c κs. search needs)  -- meets-requires
+    (λ c. sym (every-false _ _ (c .before .before .before .loop .o) (omega arith) (sym (c .before .meets .ensures) ∙ not-true _ (c .if2 .taken))))  -- returns-2
+    (λ c. search needs)  -- add-o
+    (λ c. search needs)  -- loop-less
+    (λ c. (search needs, below-more _ _ (c .before .before .before .loop .inv .1) (sym (c .before .meets .ensures) ∙ not-false _ (c .if2 .left))))  -- loop-again
+    (λ c. sym (every-true _ _ (λ k l. c .before .loop .inv .1 k (omega arith)))))  -- returns-3

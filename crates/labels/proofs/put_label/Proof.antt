@@ -13,29 +13,16 @@ use borrow.Author.Needs.{needs}
 use Rattle.labels.proofs.put_label.Statement.{statement}
 use Rattle.labels.proofs.put_label.Tie as tie
 
-returns : tie.Need-returns
-returns c = sym (put-short (now (c .before .before .args .table)) (c .before .before .args .at) (c .before .before .args .label) (omega arith))
-
-sub-if2 : tie.Need-sub-if2
-sub-if2 c = search needs
-
-returns-2 : tie.Need-returns-2
-returns-2 c = sym (put-short (now (c .before .before .before .args .table)) (c .before .before .before .args .at) (c .before .before .before .args .label) (omega arith))
-
-put-sets-requires : tie.Need-put-sets-requires
-put-sets-requires c κs = search needs
-
-add-put-sets : tie.Need-add-put-sets
-add-put-sets c = search needs
-
-put-sets-requires-2 : tie.Need-put-sets-requires-2
-put-sets-requires-2 c κs = search needs
-
-same-length : tie.Need-same-length
-same-length c = search needs
-
-returns-3 : tie.Need-returns-3
-returns-3 c =
+pub put-label-spec : {M : Type 1} → statement M
+put-label-spec = tie.close (tie.spec
+    (λ c. sym (put-short (now (c .before .before .args .table)) (c .before .before .args .at) (c .before .before .args .label) (omega arith)))  -- returns
+    (λ c. search needs)  -- sub-if2
+    (λ c. sym (put-short (now (c .before .before .before .args .table)) (c .before .before .before .args .at) (c .before .before .before .args .label) (omega arith)))  -- returns-2
+    (λ c κs. search needs)  -- put-sets-requires
+    (λ c. search needs)  -- add-put-sets
+    (λ c κs. search needs)  -- put-sets-requires-2
+    (λ c. search needs)  -- same-length
+    (λ c.
     let first = c .before .before .before .before .before .before in
     let a = first .before .before .before .before .before .before .before .args in
     let r : length (a .label .readers) ≡ owners = search needs in
@@ -43,17 +30,4 @@ returns-3 c =
     let room : a .at + labelSize ≤ length (now (a .table)) = omega arith in
     c .before .before .put-sets2 .ensures
     ∙ ap (λ (t : List ℕ). paste t (a .at + owners) (a .label .writers) owners) (first .put-sets .ensures)
-    ∙ put-rows (now (a .table)) (a .at) (a .label) (whole-intro (a .label) r w) room
-
-pub put-label-spec : {M : Type 1} → statement M
-put-label-spec =
-    tie.close
-    (tie.spec
-    returns
-    sub-if2
-    returns-2
-    put-sets-requires
-    add-put-sets
-    put-sets-requires-2
-    same-length
-    returns-3)
+    ∙ put-rows (now (a .table)) (a .at) (a .label) (whole-intro (a .label) r w) room))  -- returns-3

@@ -19,52 +19,26 @@ Inv-loop table at skip out₀ o₀ out o = (o ≤ owners) × (out ≡ filled (λ
 abbrev μ-loop : tie.MeasureT-loop
 μ-loop table at skip out₀ o₀ out o = owners - o
 
-loop-holds : tie.Need-loop-holds Inv-loop μ-loop
-loop-holds c = (search needs, filled-none _ _)
-
-add-word-at : tie.Need-add-word-at Inv-loop μ-loop
-add-word-at c = search needs
-
-word-at-requires : tie.Need-word-at-requires Inv-loop μ-loop
-word-at-requires c κs = search needs
-
-mul-out : tie.Need-mul-out Inv-loop μ-loop
-mul-out c = search needs
-
-array-write-out : tie.Need-array-write-out Inv-loop μ-loop
-array-write-out c = search needs
-
-add-o : tie.Need-add-o Inv-loop μ-loop
-add-o c = search needs
-
-loop-less : tie.Need-loop-less Inv-loop μ-loop
-loop-less c = search needs
-
-loop-again : tie.Need-loop-again Inv-loop μ-loop
-loop-again c =
-    let a = c .before .before .before .before .args in
-    let o = c .before .before .loop .o in (
-      search needs,
-      fill-store _ _ _ _ (c .before .before .loop .inv .1) (omega arith)
-          (c .word-at .ensures ∙ ap (λ (i : ℕ). getD (now (a .table)) i 0) (sym (add-assoc (a .at) (a .skip) o))),
-    )
-
 returns : tie.Need-returns Inv-loop μ-loop
 unfolding setsAt
 returns c = fill-end _ _ _ _ (c .before .loop .inv .1) owners (omega arith) (search needs)
 
 pub sets-at-spec : {M : Type 1} → statement M
-sets-at-spec =
-    tie.close
-    (tie.spec
+sets-at-spec = tie.close (tie.spec
     Inv-loop
     μ-loop
-    loop-holds
-    add-word-at
-    word-at-requires
-    mul-out
-    array-write-out
-    add-o
-    loop-less
-    loop-again
+    (λ c. (search needs, filled-none _ _))  -- loop-holds
+    (λ c. search needs)  -- add-word-at
+    (λ c κs. search needs)  -- word-at-requires
+    (λ c. search needs)  -- mul-out
+    (λ c. search needs)  -- array-write-out
+    (λ c. search needs)  -- add-o
+    (λ c. search needs)  -- loop-less
+    (λ c.
+    let a = c .before .before .before .before .args in
+    let o = c .before .before .loop .o in (
+      search needs,
+      fill-store _ _ _ _ (c .before .before .loop .inv .1) (omega arith)
+          (c .word-at .ensures ∙ ap (λ (i : ℕ). getD (now (a .table)) i 0) (sym (add-assoc (a .at) (a .skip) o))),
+    ))  -- loop-again
     returns)

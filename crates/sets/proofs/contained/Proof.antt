@@ -8,4 +8,5 @@ unfolding within
 returns c = refl
 
 pub contained-spec : {M : Type 1} → statement M
-contained-spec = tie.close (tie.spec returns)
+contained-spec = tie.close (tie.spec
+    returns)

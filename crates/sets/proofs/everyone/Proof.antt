@@ -12,9 +12,6 @@ returns : tie.Need-returns
 unfolding everyone
 returns c = sym (restrict-everyone-full width (c .before .args .n) (omega arith))
 
-single-requires : tie.Need-single-requires
-single-requires c κs = search needs
-
 sub-result : tie.Need-sub-result
 unfolding single
 sub-result c =
@@ -28,4 +25,8 @@ returns-2 c =
     ∙ sym (restrict-everyone width (c .before .before .args .n) (omega arith))
 
 pub everyone-spec : {M : Type 1} → statement M
-everyone-spec = tie.close (tie.spec returns single-requires sub-result returns-2)
+everyone-spec = tie.close (tie.spec
+    returns
+    (λ c κs. search needs)  -- single-requires
+    sub-result
+    returns-2)

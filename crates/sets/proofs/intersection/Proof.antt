@@ -8,4 +8,5 @@ unfolding intersection
 returns c = refl
 
 pub intersection-spec : {M : Type 1} → statement M
-intersection-spec = tie.close (tie.spec returns)
+intersection-spec = tie.close (tie.spec
+    returns)

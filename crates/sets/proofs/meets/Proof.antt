@@ -8,4 +8,5 @@ unfolding meets
 returns c = refl
 
 pub meets-spec : {M : Type 1} → statement M
-meets-spec = tie.close (tie.spec returns)
+meets-spec = tie.close (tie.spec
+    returns)

@@ -8,4 +8,5 @@ unfolding union
 returns c = refl
 
 pub union-spec : {M : Type 1} → statement M
-union-spec = tie.close (tie.spec returns)
+union-spec = tie.close (tie.spec
+    returns)

@@ -9,4 +9,5 @@ unfolding bottomOf own single tab
 returns c = refl
 
 pub bottom-spec : {M : Type 1} → statement M
-bottom-spec = tie.close (tie.spec returns)
+bottom-spec = tie.close (tie.spec
+    returns)

@@ -9,4 +9,5 @@ unfolding confidentialityOf own single tab
 returns c = refl
 
 pub confidentiality-spec : {M : Type 1} → statement M
-confidentiality-spec = tie.close (tie.spec returns)
+confidentiality-spec = tie.close (tie.spec
+    returns)

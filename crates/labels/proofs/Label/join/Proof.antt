@@ -20,51 +20,6 @@ Inv-loop other out₀ o₀ out o =
 abbrev μ-loop : tie.MeasureT-loop
 μ-loop other out₀ o₀ out o = owners - o
 
-loop-holds : tie.Need-loop-holds Inv-loop μ-loop
-loop-holds c = (search needs, filled-none _ _, filled-none _ _)
-
-mul-out : tie.Need-mul-out Inv-loop μ-loop
-mul-out c = search needs
-
-element-copy-out-out : tie.Need-element-copy-out-out Inv-loop μ-loop
-element-copy-out-out c = search needs
-
-mul-out-2 : tie.Need-mul-out-2 Inv-loop μ-loop
-mul-out-2 c = search needs
-
-element-copy-out-out-2 : tie.Need-element-copy-out-out-2 Inv-loop μ-loop
-element-copy-out-out-2 c = search needs
-
-mul-out-3 : tie.Need-mul-out-3 Inv-loop μ-loop
-mul-out-3 c = search needs
-
-element-write-out : tie.Need-element-write-out Inv-loop μ-loop
-element-write-out c = search needs
-
-mul-out-4 : tie.Need-mul-out-4 Inv-loop μ-loop
-mul-out-4 c = search needs
-
-element-copy-out-out-3 : tie.Need-element-copy-out-out-3 Inv-loop μ-loop
-element-copy-out-out-3 c = search needs
-
-mul-out-5 : tie.Need-mul-out-5 Inv-loop μ-loop
-mul-out-5 c = search needs
-
-element-copy-out-out-4 : tie.Need-element-copy-out-out-4 Inv-loop μ-loop
-element-copy-out-out-4 c = search needs
-
-mul-out-6 : tie.Need-mul-out-6 Inv-loop μ-loop
-mul-out-6 c = search needs
-
-element-write-out-2 : tie.Need-element-write-out-2 Inv-loop μ-loop
-element-write-out-2 c = search needs
-
-add-o : tie.Need-add-o Inv-loop μ-loop
-add-o c = search needs
-
-loop-less : tie.Need-loop-less Inv-loop μ-loop
-loop-less c = search needs
-
 loop-again : tie.Need-loop-again Inv-loop μ-loop
 unfolding union intersection
 loop-again c =
@@ -85,25 +40,23 @@ returns c =
     λ i. record { readers = r i; writers = w i }
 
 pub join-spec : {M : Type 1} → statement M
-join-spec =
-    tie.close
-    (tie.spec
+join-spec = tie.close (tie.spec
     Inv-loop
     μ-loop
-    loop-holds
-    mul-out
-    element-copy-out-out
-    mul-out-2
-    element-copy-out-out-2
-    mul-out-3
-    element-write-out
-    mul-out-4
-    element-copy-out-out-3
-    mul-out-5
-    element-copy-out-out-4
-    mul-out-6
-    element-write-out-2
-    add-o
-    loop-less
+    (λ c. (search needs, filled-none _ _, filled-none _ _))  -- loop-holds
+    (λ c. search needs)  -- mul-out
+    (λ c. search needs)  -- element-copy-out-out
+    (λ c. search needs)  -- mul-out-2
+    (λ c. search needs)  -- element-copy-out-out-2
+    (λ c. search needs)  -- mul-out-3
+    (λ c. search needs)  -- element-write-out
+    (λ c. search needs)  -- mul-out-4
+    (λ c. search needs)  -- element-copy-out-out-3
+    (λ c. search needs)  -- mul-out-5
+    (λ c. search needs)  -- element-copy-out-out-4
+    (λ c. search needs)  -- mul-out-6
+    (λ c. search needs)  -- element-write-out-2
+    (λ c. search needs)  -- add-o
+    (λ c. search needs)  -- loop-less
     loop-again
     returns)

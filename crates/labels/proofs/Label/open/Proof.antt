@@ -20,21 +20,6 @@ Inv-loop n all writers₀ o₀ writers o = (o ≤ owners) × (writers ≡ filled
 abbrev μ-loop : tie.MeasureT-loop
 μ-loop n all writers₀ o₀ writers o = owners - o
 
-loop-holds : tie.Need-loop-holds Inv-loop μ-loop
-loop-holds c = (search needs, filled-none _ _)
-
-mul-writers : tie.Need-mul-writers Inv-loop μ-loop
-mul-writers c = search needs
-
-array-write-writers : tie.Need-array-write-writers Inv-loop μ-loop
-array-write-writers c = search needs
-
-add-o : tie.Need-add-o Inv-loop μ-loop
-add-o c = search needs
-
-loop-less : tie.Need-loop-less Inv-loop μ-loop
-loop-less c = search needs
-
 loop-again : tie.Need-loop-again Inv-loop μ-loop
 unfolding own single tab
 loop-again c =
@@ -53,15 +38,13 @@ returns c =
     λ i. record { readers = replicate owners (c .before .before .args .all); writers = w i }
 
 pub open-spec : {M : Type 1} → statement M
-open-spec =
-    tie.close
-    (tie.spec
+open-spec = tie.close (tie.spec
     Inv-loop
     μ-loop
-    loop-holds
-    mul-writers
-    array-write-writers
-    add-o
-    loop-less
+    (λ c. (search needs, filled-none _ _))  -- loop-holds
+    (λ c. search needs)  -- mul-writers
+    (λ c. search needs)  -- array-write-writers
+    (λ c. search needs)  -- add-o
+    (λ c. search needs)  -- loop-less
     loop-again
     returns)

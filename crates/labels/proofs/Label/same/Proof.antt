@@ -6,23 +6,15 @@ use borrow.Author.Needs.{needs}
 use Rattle.labels.proofs.Label.same.Statement.{statement}
 use Rattle.labels.proofs.Label.same.Tie as tie
 
-at-or-below-requires : tie.Need-at-or-below-requires
-at-or-below-requires c κs = search needs
-
-returns : tie.Need-returns
-returns c =
+pub same-spec : {M : Type 1} → statement M
+same-spec = tie.close (tie.spec
+    (λ c κs. search needs)  -- at-or-below-requires
+    (λ c.
     let a = c .before .before .args in
-    sym (same-both-ways (a .self) (a .other) ∙ both-no-left _ _ (sym (c .before .at-or-below .ensures) ∙ not-true _ (c .if1 .taken)))
-
-at-or-below-requires-2 : tie.Need-at-or-below-requires-2
-at-or-below-requires-2 c κs = search needs
-
-returns-2 : tie.Need-returns-2
-returns-2 c =
+    sym (same-both-ways (a .self) (a .other) ∙ both-no-left _ _ (sym (c .before .at-or-below .ensures) ∙ not-true _ (c .if1 .taken))))  -- returns
+    (λ c κs. search needs)  -- at-or-below-requires-2
+    (λ c.
     let a = c .before .before .before .args in
     c .at-or-below2 .ensures
     ∙ sym (same-both-ways (a .self) (a .other)
-    ∙ both-yes-left _ _ (sym (c .before .before .at-or-below .ensures) ∙ not-false _ (c .before .if1 .left)))
-
-pub same-spec : {M : Type 1} → statement M
-same-spec = tie.close (tie.spec at-or-below-requires returns at-or-below-requires-2 returns-2)
+    ∙ both-yes-left _ _ (sym (c .before .before .at-or-below .ensures) ∙ not-false _ (c .before .if1 .left)))))  -- returns-2

@@ -20,33 +20,16 @@ returns c =
     (sym (set-out (a .t1 .readers) (a .owner) _ (omega arith)))
     (sym (set-out (a .t1 .writers) (a .owner) _ (omega arith)))
 
-single-requires : tie.Need-single-requires
-single-requires c κs = search needs
-
-mul-self : tie.Need-mul-self
-mul-self c = search needs
-
-element-write-self : tie.Need-element-write-self
-element-write-self c = search needs
-
-mul-self-2 : tie.Need-mul-self-2
-mul-self-2 c = search needs
-
-element-write-self-2 : tie.Need-element-write-self-2
-element-write-self-2 c = search needs
-
 returns-2 : tie.Need-returns-2
 unfolding policyOf union
 returns-2 c = rw (c .single .ensures ∙ restrict-single width (c .before .before .args .owner) (omega arith))
 
 pub with-policy-spec : {M : Type 1} → statement M
-with-policy-spec =
-    tie.close
-    (tie.spec
+with-policy-spec = tie.close (tie.spec
     returns
-    single-requires
-    mul-self
-    element-write-self
-    mul-self-2
-    element-write-self-2
+    (λ c κs. search needs)  -- single-requires
+    (λ c. search needs)  -- mul-self
+    (λ c. search needs)  -- element-write-self
+    (λ c. search needs)  -- mul-self-2
+    (λ c. search needs)  -- element-write-self-2
     returns-2)

@@ -9,6 +9,8 @@ mod differential;
 mod fenced;
 mod hostile;
 mod noninterference;
+#[cfg(programs)]
+mod program;
 mod refusals;
 mod show;
 mod steps;

@@ -1,4 +1,4 @@
-//! The program *show*: its example, its refusals, and the program itself where `SIMP_SHOW` names it.
+//! The program *show*: its example, its refusals, and the program itself where it is there.
 
 use crate::common::{sheet, text};
 use second::generate::show_input::show_input;
@@ -78,25 +78,10 @@ fn generated_inputs_reach_every_answer() {
     assert!(counts.values().all(|&count| count >= 20), "{counts:?}");
 }
 
-#[cfg(show_program)]
+#[cfg(programs)]
 mod program {
     use super::{show, show_input, table};
-    use std::io::Write;
-    use std::process::{Command, Stdio};
-
-    /// What the program prints for an input.
-    fn printed(input: &[u8]) -> Vec<u8> {
-        let mut program = Command::new(env!("SIMP_SHOW"))
-            .stdin(Stdio::piped())
-            .stdout(Stdio::piped())
-            .spawn()
-            .expect("the program starts");
-        let mut stdin = program.stdin.take().expect("an input");
-        // A program may stop reading once it knows its answer.
-        let _ = stdin.write_all(input);
-        drop(stdin);
-        program.wait_with_output().expect("the program ends").stdout
-    }
+    use crate::program::printed;
 
     #[test]
     fn the_program_prints_the_same() {
@@ -104,7 +89,7 @@ mod program {
         for input in inputs.chain((0..500).map(show_input)) {
             let shown = input.escape_ascii().to_string();
             assert_eq!(
-                printed(&input).escape_ascii().to_string(),
+                printed("show", &input).escape_ascii().to_string(),
                 show(&input).escape_ascii().to_string(),
                 "{shown}"
             );

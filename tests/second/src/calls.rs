@@ -31,7 +31,7 @@ pub(crate) fn known_group(sheet: &Sheet, bits: u16) -> Result<Principals, Refusa
 }
 
 /// Reads and checks a script: 4, 5 and 6.
-fn accepted_script(sheet: &Sheet, text: &[u8]) -> Result<Command, Refusal> {
+pub(crate) fn accepted_script(sheet: &Sheet, text: &[u8]) -> Result<Command, Refusal> {
     let script = script_text::parse(sheet, text).map_err(|_| Refusal::ScriptForm)?;
     shape::check(sheet, &script).map_err(|_| Refusal::NoShape)?;
     flow::check(sheet, &script).map_err(|_| Refusal::NoFlow)?;

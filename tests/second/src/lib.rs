@@ -14,12 +14,12 @@ pub mod machine;
 pub mod memory;
 pub mod memory_text;
 pub mod principals;
+pub mod programs;
 pub mod script;
 pub mod script_text;
 pub mod shape;
 pub mod sheet;
 pub mod sheet_text;
-pub mod show;
 pub mod text;
 pub mod types;
 pub mod value;
@@ -30,4 +30,3 @@ mod calls;
 
 pub use answer::{Outcome, Refusal, DONE};
 pub use calls::{check, run, view};
-pub use show::show;

@@ -1,12 +1,23 @@
 //! A memory or a view as text.
 
+use crate::sheet_text::MOST_LOCATIONS;
 use crate::text::{fields, lines, number, Fault};
 use crate::value::{padded, MOST_WORDS};
 
 /// The words of a text with one line for each of `locations` locations.
 pub fn parse(text: &[u8], locations: usize) -> Result<Vec<u32>, Fault> {
+    let words = parse_any(text)?;
+    if words.len() == locations * MOST_WORDS {
+        Ok(words)
+    } else {
+        Err(Fault::Count)
+    }
+}
+
+/// The words of a text with as many lines as some sheet has locations.
+pub fn parse_any(text: &[u8]) -> Result<Vec<u32>, Fault> {
     let lines = lines(text)?;
-    if lines.len() != locations {
+    if lines.len() > MOST_LOCATIONS {
         return Err(Fault::Count);
     }
     let mut words = Vec::new();
@@ -45,7 +56,7 @@ pub fn print(words: &[u32]) -> Vec<u8> {
 
 #[cfg(test)]
 mod tests {
-    use super::{parse, print};
+    use super::{parse, parse_any, print};
     use crate::text::Fault;
 
     #[test]
@@ -72,5 +83,12 @@ mod tests {
             parse(b"1\t1\t1\t1\t1\t1\t1\t1\t1\t1\t1\t1\t1\t1\t1\t1\t1\n", 1),
             Err(Fault::Count)
         );
+    }
+
+    #[test]
+    fn a_text_has_a_line_for_each_location_of_some_sheet() {
+        assert_eq!(parse_any(b""), Ok(vec![]));
+        assert_eq!(parse_any(&b"1\n".repeat(64)).map(|words| words.len()), Ok(1024));
+        assert_eq!(parse_any(&b"1\n".repeat(65)), Err(Fault::Count));
     }
 }

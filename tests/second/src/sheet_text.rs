@@ -9,7 +9,7 @@ use crate::types::{given, Type};
 /// The most lines of each kind.
 const MOST_SUMS: usize = 27;
 const MOST_LABELS: usize = 32;
-const MOST_LOCATIONS: usize = 64;
+pub const MOST_LOCATIONS: usize = 64;
 
 type Line<'a> = Vec<&'a [u8]>;
 

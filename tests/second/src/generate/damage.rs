@@ -1,4 +1,4 @@
-//! Damage to texts and memories.
+//! Damage to texts, memories and the inputs of programs.
 
 use super::prng::Prng;
 use crate::value::MOST_WORDS;
@@ -83,6 +83,38 @@ const SCRIPT_LINES: &[&str] = &[
     "ss",
     "v\t99999999999999999999",
     "i\t-1",
+];
+
+/// Texts that can replace one of an input: sets, numbers and what is nearly one.
+const FIELDS: &[&str] = &[
+    "0001\n",
+    "0000\n",
+    "ffff\n",
+    "0001",
+    "001\n",
+    "00001\n",
+    "000A\n",
+    "0x01\n",
+    "0001\n0001\n",
+    "0001\r\n",
+    "0001\t\n",
+    "0\n",
+    "7\n",
+    "7",
+    "07\n",
+    "+7\n",
+    "-7\n",
+    " 7\n",
+    "7 \n",
+    "7\t\n",
+    "7\r\n",
+    "7.0\n",
+    "4294967295\n",
+    "4294967296\n",
+    "18446744073709551616\n",
+    "no budget\n",
+    "\n",
+    "",
 ];
 
 pub fn sheet(prng: &mut Prng, text: &[u8]) -> Vec<u8> {
@@ -187,4 +219,41 @@ pub fn memory(prng: &mut Prng, words: &[u32]) -> Vec<u32> {
         words[location * MOST_WORDS + place] = prng.pick(&[0, 1, 2, 3, 4, 5, 6, 31, 32, u32::MAX]);
     }
     words
+}
+
+/// An input of several texts with damage to it as a whole: a text that is missing, one too many, in another's
+/// place, huge, of any bytes, or another field; or a line or a byte changed anywhere.
+pub fn input(prng: &mut Prng, mut texts: Vec<Vec<u8>>) -> Vec<u8> {
+    let at = prng.below(texts.len());
+    let other = prng.below(texts.len());
+    match prng.below(10) {
+        0 => drop(texts.remove(at)),
+        1 => texts.truncate(at),
+        2 => texts[at].clear(),
+        3 => texts.insert(at, texts[other].clone()),
+        4 => texts.swap(at, other),
+        5 => texts[at] = huge(prng, &texts[at]),
+        6 => texts[at] = binary(prng),
+        7 => texts[at] = prng.pick(FIELDS).into(),
+        8 => *texts.last_mut().expect("an input has a text") = prng.pick(FIELDS).into(),
+        _ => return script(prng, &texts.join(&b'\n')),
+    }
+    texts.join(&b'\n')
+}
+
+/// A text of more bytes than any may have, mostly by little.
+fn huge(prng: &mut Prng, text: &[u8]) -> Vec<u8> {
+    let length = prng.pick(&[16_385, 16_386, 20_000, 70_000, 300_000]);
+    let filling = if text.is_empty() || prng.chance(50) { b"1\n" } else { text };
+    let mut huge = text.to_vec();
+    while huge.len() < length {
+        huge.extend(filling);
+    }
+    huge
+}
+
+/// Bytes of every kind, byte 10 among the commoner ones.
+fn binary(prng: &mut Prng) -> Vec<u8> {
+    let length = prng.below(400);
+    (0..length).map(|_| if prng.chance(10) { b'\n' } else { prng.draw() as u8 }).collect()
 }

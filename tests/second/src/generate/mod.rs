@@ -9,6 +9,6 @@ pub mod expression;
 pub mod memory;
 pub mod pair;
 pub mod prng;
+pub mod program_input;
 pub mod script;
 pub mod sheet;
-pub mod show_input;

@@ -32,6 +32,19 @@ pub fn sheet() -> Vec<u8> {
     ])
 }
 
+/// A sheet with as many lines of each kind as there may be.
+#[cfg(programs)]
+pub fn largest_sheet() -> Vec<u8> {
+    let mut sheet = lines(&["P 16", "T 3 0"]);
+    sheet.extend((5..31).map(|t| format!("T {t} 0")));
+    for label in 0..32 {
+        sheet.push("L".to_string());
+        sheet.extend((0..16).map(|owner| format!("O {owner} {:04x} ffff", label << 11)));
+    }
+    sheet.extend((0..64).map(|location| format!("X 4 {}", location / 2)));
+    text_of(&[&sheet])
+}
+
 /// The memory of the scope's cases.
 pub fn start() -> Vec<u32> {
     memory(&[&[1, 5], &[1, 62], &[4, 2, 1], &[4, 2, 1]])

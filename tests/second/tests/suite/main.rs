@@ -12,6 +12,7 @@ mod noninterference;
 #[cfg(programs)]
 mod program;
 mod refusals;
+mod run;
 mod show;
 mod steps;
 mod views;

@@ -1,20 +1,78 @@
 //! The programs in the folder that `SIMP_PROGRAMS` named when this was built.
 
+use crate::common::{largest_sheet, sheet, text};
+use second::programs::run::run;
+use second::programs::show::show;
+use std::fs::File;
 use std::io::Write;
 use std::path::Path;
-use std::process::{Command, Stdio};
+use std::process::{Child, Command, Stdio};
+use std::time::Duration;
+
+/// A program that is ready to be started.
+pub fn command(program: &str) -> Command {
+    Command::new(Path::new(env!("SIMP_PROGRAMS")).join(program))
+}
 
 /// What a program prints for a standard input. It reads it to its end, whatever it is.
 pub fn printed(program: &str, input: &[u8]) -> Vec<u8> {
-    let mut child = Command::new(Path::new(env!("SIMP_PROGRAMS")).join(program))
-        .stdin(Stdio::piped())
-        .stdout(Stdio::piped())
-        .spawn()
-        .expect("the program starts");
+    printed_for_pieces(program, &[input])
+}
+
+/// What a program prints for a standard input that comes in pieces.
+fn printed_for_pieces(program: &str, pieces: &[&[u8]]) -> Vec<u8> {
+    let mut child = started(command(program).stdin(Stdio::piped()));
     let mut stdin = child.stdin.take().expect("an input");
-    stdin.write_all(input).expect("the program reads its input to the end");
+    for piece in pieces {
+        stdin.write_all(piece).expect("the program reads its input to the end");
+        if pieces.len() > 1 {
+            std::thread::sleep(Duration::from_millis(1));
+        }
+    }
     drop(stdin);
+    ended(child)
+}
+
+pub fn started(command: &mut Command) -> Child {
+    command.stdout(Stdio::piped()).spawn().expect("the program starts")
+}
+
+/// What a program has printed when it ends, which it does by itself.
+pub fn ended(child: Child) -> Vec<u8> {
     let output = child.wait_with_output().expect("the program ends");
-    assert!(output.status.code().is_some(), "{program} ends by itself: {}", output.status);
+    assert!(output.status.code().is_some(), "the program ends by itself: {}", output.status);
     output.stdout
+}
+
+#[test]
+fn an_input_may_come_in_pieces() {
+    let memory = text(&["1 5", "1 62", "3 5 2 1 62", "4 2 1"]);
+    let small = [&sheet()[..], &memory, b"0002\n"].join(&b'\n');
+    let ran =
+        [&sheet()[..], &text(&["= 2", "k 2", "x 1"]), &memory, b"0002\n", b"9\n"].join(&b'\n');
+    let large = [&largest_sheet()[..], &b"3\t5\t1\t1\t9\n".repeat(64), b"ffff\n"].join(&b'\n');
+    assert_eq!(show(&small), text(&["1 5", "", "3 5 2", ""]));
+    assert_eq!(run(&ran), [b"0\t1\n", &memory[..]].concat());
+    assert_eq!(show(&large), b"3\t5\t1\t1\t9\n".repeat(64));
+    for (input, size) in [(&small, 1), (&small, 7), (&large, 500), (&large, 4095)] {
+        let pieces: Vec<&[u8]> = input.chunks(size).collect();
+        assert_eq!(
+            printed_for_pieces("show", &pieces),
+            show(input),
+            "show, pieces of {size} bytes"
+        );
+    }
+    for size in [1, 7, 64] {
+        let pieces: Vec<&[u8]> = ran.chunks(size).collect();
+        assert_eq!(printed_for_pieces("run", &pieces), run(&ran), "run, pieces of {size} bytes");
+    }
+}
+
+#[test]
+fn an_input_that_cannot_be_read_is_an_empty_one() {
+    for (program, expected) in [("show", show(b"")), ("run", run(b""))] {
+        let folder = File::open(env!("CARGO_MANIFEST_DIR")).expect("a folder opens");
+        let child = started(command(program).stdin(folder));
+        assert_eq!(ended(child), expected, "{program}");
+    }
 }

@@ -1,8 +1,8 @@
 //! The program *show*: its example, its refusals, and the program itself where it is there.
 
 use crate::common::{sheet, text};
-use second::generate::show_input::show_input;
-use second::show::{answer, show};
+use second::generate::program_input::show_input;
+use second::programs::show::{answer, show};
 use second::{Refusal, DONE};
 use std::collections::BTreeMap;
 

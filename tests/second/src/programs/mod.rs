@@ -1,0 +1,6 @@
+//! The programs at the desk: from the bytes of an input to the bytes printed.
+
+pub mod run;
+pub mod show;
+
+mod parts;

@@ -1,5 +1,7 @@
 //! The tests of the second implementation and of the library against it, in one program.
 
+#[cfg(programs)]
+mod accept;
 mod bounds;
 mod cases;
 mod common;
@@ -7,6 +9,8 @@ mod coverage;
 #[cfg(library)]
 mod differential;
 mod fenced;
+#[cfg(programs)]
+mod folder;
 mod hostile;
 mod noninterference;
 #[cfg(programs)]

@@ -15,6 +15,8 @@ mod hostile;
 mod noninterference;
 #[cfg(programs)]
 mod program;
+#[cfg(programs)]
+mod readme;
 mod refusals;
 mod run;
 mod show;

@@ -221,8 +221,8 @@ pub fn memory(prng: &mut Prng, words: &[u32]) -> Vec<u32> {
     words
 }
 
-/// An input of several texts with damage to it as a whole: a text that is missing, one too many, in another's
-/// place, huge, of any bytes, or another field; or a line or a byte changed anywhere.
+/// An input of several texts with damage to it as a whole: a text that is missing, one too many, in
+/// another's place, huge, of any bytes, or another field; or a line or a byte changed anywhere.
 pub fn input(prng: &mut Prng, mut texts: Vec<Vec<u8>>) -> Vec<u8> {
     let at = prng.below(texts.len());
     let other = prng.below(texts.len());

@@ -4,6 +4,7 @@ use super::case::{case, undamaged};
 use super::prng::Prng;
 use super::script::Wrong;
 use super::{damage, script, sheet};
+use crate::programs::parts::{number, parts};
 use crate::{memory_text, sheet_text};
 
 /// An input of *show*: a sheet, a memory and a group, damaged in a third of the seeds.
@@ -23,13 +24,27 @@ pub fn show_input(seed: u64) -> Vec<u8> {
     input(prng, texts)
 }
 
-/// An input of *run*: a sheet, a script, a memory, an authority and a budget, damaged in half of the seeds.
+/// An input of *run*: a sheet, a script, a memory, an authority and a budget, damaged in half of the
+/// seeds.
 pub fn run_input(seed: u64) -> Vec<u8> {
     let case = case(seed);
     let prng = &mut Prng::new(!seed);
     let memory = memory_text::print(&case.memory);
     let budget = format!("{}\n", case.budget).into_bytes();
-    input(prng, vec![case.sheet, case.script, memory, set(case.authority), budget])
+    let texts = vec![case.sheet, case.script, memory, set(case.authority), budget];
+    let input = input(prng, texts.clone());
+    if may_run_long(&input) {
+        texts.join(&b'\n')
+    } else {
+        input
+    }
+}
+
+/// Whether damage has brought a loop and a large budget together.
+fn may_run_long(input: &[u8]) -> bool {
+    let [_, script, _, _, budget] = parts(input);
+    let loops = script.split(|&b| b == b'\n').any(|line| line == b"w");
+    loops && number(budget).is_some_and(|budget| budget > 10_000)
 }
 
 /// The files of *accept*: a sheet and scripts, some of which are damaged.

@@ -2,7 +2,8 @@
 
 use crate::text;
 
-/// The texts that the first empty lines of an input part. A missing one is empty; the last has all that is left.
+/// The texts that the first empty lines of an input part. A missing one is empty; the last has all
+/// that is left.
 pub fn parts<const COUNT: usize>(input: &[u8]) -> [&[u8]; COUNT] {
     let mut texts = [&input[..0]; COUNT];
     let (last, others) = texts.split_last_mut().expect("an input has a text");

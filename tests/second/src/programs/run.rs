@@ -5,7 +5,8 @@ use crate::answer::{Outcome, Refusal};
 use crate::calls::{self, accepted_script, known_group, read_sheet};
 use crate::memory_text;
 
-/// A line with the answer and the steps, then the memory as a memory text; or that there is no budget.
+/// A line with the answer and the steps, then the memory as a memory text; or that there is no
+/// budget.
 pub fn run(input: &[u8]) -> Vec<u8> {
     match answer(input) {
         Some((outcome, memory)) => {
@@ -16,8 +17,8 @@ pub fn run(input: &[u8]) -> Vec<u8> {
     }
 }
 
-/// The outcome and the words of the memory that is printed, or nothing where there is no budget, whatever else
-/// is wrong.
+/// The outcome and the words of the memory that is printed, or nothing where there is no budget,
+/// whatever else is wrong.
 pub fn answer(input: &[u8]) -> Option<(Outcome, Vec<u32>)> {
     let [sheet, script, memory, authority, budget] = parts(input);
     let budget = parts::number(budget)?;
@@ -30,8 +31,8 @@ pub fn answer(input: &[u8]) -> Option<(Outcome, Vec<u32>)> {
     })
 }
 
-/// The authority and the memory's words where both are of their form, or else the lowest number from 1 to 8 that
-/// applies. A text with more or fewer lines than locations isn't of its form, so 7 never comes.
+/// The authority and the memory's words where both are of their form, or else the lowest number
+/// that applies. A text with more or fewer lines than locations isn't of its form, so 7 never comes.
 fn formed(
     sheet: &[u8],
     script: &[u8],
@@ -46,7 +47,7 @@ fn formed(
     Ok((authority, words.map_err(|_| Refusal::MemoryForm)?))
 }
 
-/// The memory of a refused run: what was given, if it is of the form for any sheet, and nothing if not.
+/// The memory of a refused run: what was given, if it is of the form for some sheet, else nothing.
 fn given(memory: &[u8]) -> Vec<u32> {
     memory_text::parse_any(memory).unwrap_or_default()
 }

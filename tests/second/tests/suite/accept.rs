@@ -110,7 +110,7 @@ fn files_of_every_length() {
     }
 }
 
-/// A script of `size` bytes, at least 17 and at most 3842, that is accepted on the scope's sheet: a sum.
+/// A script of `size` bytes, 17 to 3842, that is accepted on the scope's sheet: a sum.
 fn script_of(size: usize) -> Vec<u8> {
     let sums = (size - 17).div_ceil(15);
     let mut digits = vec![10; sums + 1];

@@ -2,6 +2,7 @@
 
 use crate::common::{lines, memory, sheet, start, text, text_of};
 use second::implementation::ALL;
+use second::Outcome;
 
 /// The check of a script on a sheet, the same from every implementation.
 fn check(sheet: &[u8], script: &[u8]) -> u8 {
@@ -210,10 +211,13 @@ fn lengths_of_slices() {
 #[test]
 fn a_sheet_without_locations() {
     for i in ALL {
-        assert_eq!((i.run)(b"P\t1\n", b"s\n", &mut [], 1, 0).answer, 0, "{}", i.name);
+        let done = Outcome { answer: 0, steps: 0 };
+        assert_eq!((i.run)(b"P\t1\n", b"s\n", &mut [], 1, 0), done, "{}", i.name);
         assert_eq!((i.view)(b"P\t1\n", &[], 1, &mut []), 0, "{}", i.name);
         assert_eq!((i.view)(b"P\t1\n", &[], 2, &mut []), 3, "{}", i.name);
-        assert_eq!((i.run)(b"P\t1\n", b"s\n", &mut [0; 16], 1, 0).answer, 7, "{}", i.name);
+        let mut lent = [1; 16];
+        let outcome = (i.run)(b"P\t1\n", b"s\n", &mut lent, 1, 0);
+        assert_eq!((outcome, lent), (Outcome { answer: 7, steps: 0 }, [1; 16]), "{}", i.name);
     }
 }
 
@@ -242,10 +246,14 @@ fn memories() {
             let mut words = memory(&[&[1, 0], value]);
             let before = words.clone();
             for i in ALL {
-                assert_eq!((i.run)(&sheet, b"s\n", &mut words, 1, 9).answer, answer, "{value:?}");
+                let outcome = (i.run)(&sheet, b"s\n", &mut words, 1, 9);
+                assert_eq!(outcome, Outcome { answer, steps: 0 }, "{}: {value:?}", i.name);
                 assert_eq!(words, before, "{}: {value:?}", i.name);
                 let mut view = vec![9; 32];
                 assert_eq!((i.view)(&sheet, &words, 1, &mut view), answer, "{}: {value:?}", i.name);
+                // The only principal reads everything.
+                let shown = if answer == 0 { before.clone() } else { vec![9; 32] };
+                assert_eq!(view, shown, "{}: {value:?}", i.name);
             }
         }
     }

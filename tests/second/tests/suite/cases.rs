@@ -25,20 +25,24 @@ fn spent(budget: u32) -> Outcome {
     Outcome { answer: 9, steps: budget }
 }
 
-/// Whether a group reads label 0 of a sheet: then its view shows location 0.
+/// Whether a group reads label 0 of a sheet: then its view shows both locations, and else neither.
 fn reads(i: &Implementation, sheet: &[u8], group: u16) -> bool {
+    let before = memory(&[&[1, 5], &[4, 2, 1]]);
     let mut view = vec![7; 32];
-    let answer = (i.view)(sheet, &memory(&[&[1, 5], &[4, 2, 1]]), group, &mut view);
-    assert_eq!(answer, 0, "{}", i.name);
-    view[0] == 1
+    assert_eq!((i.view)(sheet, &before, group, &mut view), 0, "{}", i.name);
+    let shown = view == before;
+    assert!(shown || view == [0; 32], "{}: {view:?}", i.name);
+    shown
 }
 
-/// Whether an authority writes label 0 of a sheet: then a pack succeeds.
+/// Whether an authority writes label 0 of a sheet: then a pack succeeds, and else it leaves error 1.
 fn writes(i: &Implementation, sheet: &[u8], authority: u16) -> bool {
     let (outcome, after) =
-        run(i, sheet, &["= 1", "k 0", "i 9"], memory(&[&[1, 5], &[4, 2, 1]]), authority, 1);
+        run(i, sheet, &["= 1", "k 0", "i 9"], memory(&[&[1, 5], &[4, 2, 3]]), authority, 1);
     assert_eq!(outcome, done(1), "{}", i.name);
-    after[16] == 3
+    let packed = after == memory(&[&[1, 5], &[3, 5, 0, 1, 9]]);
+    assert!(packed || after == memory(&[&[1, 5], &[4, 2, 1]]), "{}: {after:?}", i.name);
+    packed
 }
 
 /// A sheet with one label, an integer and a place for a package, both at that label.
@@ -94,14 +98,18 @@ fn packs() {
     for i in ALL {
         let packed = memory(&[&[1, 5], &[1, 62], &[3, 5, 2, 1, 62], &[4, 2, 1]]);
         assert_eq!(run(i, &sheet(), &script, start(), 2, 100), (done(1), packed), "{}", i.name);
-        let nobody = run(i, &sheet(), &script, start(), 0, 100);
-        assert_eq!(nobody, (done(1), start()), "{}: location 2 is 4 2 1 again", i.name);
+        let other_error = memory(&[&[1, 5], &[1, 62], &[4, 2, 3], &[4, 2, 1]]);
+        for before in [start(), other_error] {
+            let nobody = run(i, &sheet(), &script, before, 0, 100);
+            assert_eq!(nobody, (done(1), start()), "{}: location 2 is 4 2 1", i.name);
+        }
     }
 }
 
 #[test]
 fn unpacks_after_a_pack() {
-    let before = memory(&[&[1, 5], &[1, 62], &[3, 5, 2, 1, 62], &[4, 2, 1]]);
+    // Location 3 starts as what no row leaves there.
+    let before = memory(&[&[1, 5], &[1, 62], &[3, 5, 2, 1, 62], &[4, 2, 3]]);
     let table: &[(&str, u16, &[u32])] = &[
         ("u 5 2", 0b001, &[3, 1, 62]),
         ("u 5 2", 0b010, &[4, 2, 1]),

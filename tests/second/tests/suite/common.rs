@@ -73,8 +73,10 @@ pub fn lines(lines: &[&str]) -> Vec<String> {
 
 /// The number of generated cases: `SIMP_CASES`, or what the gate takes.
 pub fn case_count() -> u64 {
-    match std::env::var("SIMP_CASES") {
+    let count = match std::env::var("SIMP_CASES") {
         Ok(count) => count.parse().expect("SIMP_CASES is a number"),
         Err(_) => 20_000,
-    }
+    };
+    assert!(count >= 2000, "fewer than 2000 cases don't reach every answer");
+    count
 }

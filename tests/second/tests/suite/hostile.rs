@@ -1,9 +1,9 @@
 //! Texts that mean to mislead a reader, on every implementation.
 
-use crate::common::{sheet, start, text};
+use crate::common::{memory, sheet, start, text};
 use second::implementation::ALL;
 use second::text::{Fault, Thing};
-use second::{script_text, sheet_text};
+use second::{script_text, sheet_text, Outcome};
 
 #[test]
 fn sheets_and_why_they_are_refused() {
@@ -136,23 +136,37 @@ fn long_texts() {
 #[test]
 fn the_deepest_scripts() {
     let deep = |line: &str, count: usize| format!("{line}\n").replace(' ', "\t").repeat(count);
-    let scripts = [
-        (deep("w\nl 3\ni 0", 170) + "s\n", 0),
-        (format!("=\t0\n{}{}", deep("+", 255), deep("i 1", 256)), 0),
-        (format!("=\t2\n{}i\t1\n", deep("k 2", 510)), 0),
-        (format!("=\t2\n{}i\t1\n", deep("k 2", 511)), 4),
-        (deep(";", 255) + &deep("s", 256), 0),
-        (deep(";\ns", 255) + "s\n", 0),
-        (deep("+", 512), 4),
-        (deep(";", 512), 4),
-        (deep("c", 512), 4),
+    let packs = |count: usize| format!("=\t2\n{}i\t1\n", deep("k 2", count));
+    let whiles = deep("w\nl 3\ni 0", 170) + "s\n";
+    let plus = format!("=\t0\n{}{}", deep("+", 255), deep("i 1", 256));
+    let (left, right) = (deep(";", 255) + &deep("s", 256), deep(";\ns", 255) + "s\n");
+    let added = memory(&[&[1, 256], &[1, 62], &[4, 2, 1], &[4, 2, 1]]);
+    let done = |steps| Outcome { answer: 0, steps };
+    let refused = |answer, steps| Outcome { answer, steps };
+    // A script, the answer of its check, an authority, a budget, the outcome and the memory after it.
+    let table = [
+        (whiles, 0, 0, 50, refused(9, 50), start()),
+        (plus, 0, 0, 1, done(1), added),
+        // Each pack fails and the next one packs its error; or each succeeds, and the fifth doesn't fit.
+        (packs(510), 0, 0, 1, done(1), start()),
+        (packs(510), 0, 1, 1, refused(10, 0), start()),
+        (packs(511), 4, 0, 1, refused(4, 0), start()),
+        (left.clone(), 0, 0, 254, refused(9, 254), start()),
+        (left, 0, 0, 255, done(255), start()),
+        (right.clone(), 0, 0, 254, refused(9, 254), start()),
+        (right, 0, 0, 255, done(255), start()),
+        (deep("+", 512), 4, 0, 50, refused(4, 0), start()),
+        (deep(";", 512), 4, 0, 50, refused(4, 0), start()),
+        (deep("c", 512), 4, 0, 50, refused(4, 0), start()),
     ];
-    for (script, answer) in scripts {
+    for (script, check, authority, budget, outcome, after) in table {
+        let script = script.as_bytes();
+        let shown = script[..40].escape_ascii();
         for i in ALL {
-            assert_eq!((i.check)(&sheet(), script.as_bytes()), answer, "{}: {script}", i.name);
-            let mut memory = start();
-            let ran = (i.run)(&sheet(), script.as_bytes(), &mut memory, 0, 50).answer;
-            assert!(ran == answer || answer == 0 && ran == 9, "{}: {ran} {script}", i.name);
+            assert_eq!((i.check)(&sheet(), script), check, "{}: {shown}", i.name);
+            let mut words = start();
+            let ran = (i.run)(&sheet(), script, &mut words, authority, budget);
+            assert_eq!((ran, words), (outcome, after.clone()), "{}: {shown} {budget}", i.name);
         }
     }
 }
@@ -162,7 +176,7 @@ type Row<'a> = (&'a [u8], u16, &'a [u8], usize, u32, u8);
 
 #[test]
 fn the_lowest_number_is_given() {
-    let (good, script, memory) = (sheet(), text(&["= 0", "i 1"]), start());
+    let (good, script) = (sheet(), text(&["= 0", "i 1"]));
     let form = text(&["P 3", "T 0 9"]);
     let repeats = text(&["P 3", "L", "L", "X 0 0"]);
     let (unformed, shapeless, flowless) =
@@ -185,9 +199,12 @@ fn the_lowest_number_is_given() {
             assert_eq!((outcome.answer, outcome.steps), (*answer, 0), "{}", i.name);
             assert_eq!(lent, vec![9; *length], "{}", i.name);
         }
-        let mut lent = memory.clone();
-        assert_eq!((i.run)(&good, &script, &mut lent, 1, 0).answer, 9, "{}", i.name);
-        assert_eq!((i.run)(&good, &script, &mut lent, 1, 1).answer, 0, "{}", i.name);
+        let mut lent = start();
+        let outcome = (i.run)(&good, &script, &mut lent, 1, 0);
+        assert_eq!((outcome, &lent), (Outcome { answer: 9, steps: 0 }, &start()), "{}", i.name);
+        let outcome = (i.run)(&good, &script, &mut lent, 1, 1);
+        let written = memory(&[&[1, 1], &[1, 62], &[4, 2, 1], &[4, 2, 1]]);
+        assert_eq!((outcome, lent), (Outcome { answer: 0, steps: 1 }, written), "{}", i.name);
     }
 }
 

@@ -13,8 +13,8 @@ struct Step {
     output: String,
 }
 
-/// The commands of one part of a README, in indented blocks. An output goes on to the next text or command, but for the
-/// empty line before that.
+/// The commands of one part of a README, in indented blocks. An output goes on to the next text or
+/// command, but for the empty line before that.
 fn steps(readme: &str, part: &str) -> Vec<Step> {
     let mut steps: Vec<Step> = Vec::new();
     let mut inside = false;
@@ -49,12 +49,13 @@ fn close(steps: &mut [Step], inside: bool) {
 
 #[test]
 fn steps_are_found() {
-    let readme = "## A\n\n    $ no\n\n## B\n\ntext\n\n    $ one\n    1\t2\n\n    3\n\n\ntext\n\n    other\n\n    $ two\n\n## C\n\n    $ no\n";
+    let part = "text\n\n    $ one\n    1\t2\n\n    3\n\n\ntext\n\n    other\n\n    $ two\n";
+    let readme = format!("## A\n\n    $ no\n\n## B\n\n{part}\n## C\n\n    $ no\n");
     let step = |command: &str, output: &str| Step {
         command: command.to_string(),
         output: output.to_string(),
     };
-    assert_eq!(steps(readme, "## B"), [step("one", "1\t2\n\n3\n\n"), step("two", "")]);
+    assert_eq!(steps(&readme, "## B"), [step("one", "1\t2\n\n3\n\n"), step("two", "")]);
 }
 
 #[test]

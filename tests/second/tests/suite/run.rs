@@ -20,7 +20,8 @@ const NO_BUDGET: &[u8] = b"no budget\n";
 
 type Rows = Vec<(Vec<u8>, Vec<u8>)>;
 
-/// Runs on the scope's sheet: a script, a memory, an authority, a budget, the line of the outcome and the memory after it.
+/// Runs on the scope's sheet: a script, a memory, an authority, a budget, the line of the outcome
+/// and the memory after it.
 fn runs() -> Rows {
     type Row<'a> = (&'a [&'a str], &'a [&'a str], &'a str, &'a str, &'a str, &'a [&'a str]);
     let forever = &["w", "l 3", "i 1", "s"];
@@ -83,7 +84,7 @@ fn refusals() -> Rows {
     table.into_iter().map(|(texts, output)| (input(texts), output)).collect()
 }
 
-/// Memories of a refused run: printed as given where some sheet could have them, 64 lines at most; else nothing.
+/// Memories of a refused run: printed as given where some sheet could have them, else nothing.
 fn memories() -> Rows {
     let sixteen = "1 ".repeat(15) + "1";
     let seventeen = format!("{sixteen} 1");
@@ -162,7 +163,7 @@ fn budgets() -> Rows {
     rows
 }
 
-/// Sheets at the edges: without locations, with a value that takes more than 16 words, and texts of any length.
+/// A sheet without locations, a value of more than 16 words, and texts of more bytes than any has.
 fn edges() -> Rows {
     let (good, pack, start) = (sheet(), text(PACK), text(START));
     let (sums, lefts) = lefts(15);

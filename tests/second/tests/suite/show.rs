@@ -66,27 +66,30 @@ fn the_example_and_the_refusals() {
     }
 }
 
+/// The seeds of the inputs that the program is tried on.
+const SEEDS: std::ops::Range<u64> = 0..1000;
+
 #[test]
 fn generated_inputs_reach_every_answer() {
     let mut counts = BTreeMap::new();
-    for seed in 0..2000 {
+    for seed in SEEDS {
         let answer = answer(&show_input(seed)).err().map_or(DONE, Refusal::number);
         *counts.entry(answer).or_insert(0) += 1;
     }
     println!("show: {counts:?}");
     assert_eq!(counts.keys().copied().collect::<Vec<u8>>(), [0, 1, 2, 3, 8]);
-    assert!(counts.values().all(|&count| count >= 20), "{counts:?}");
+    assert!(counts.values().all(|&count| count >= 10), "{counts:?}");
 }
 
 #[cfg(programs)]
 mod program {
-    use super::{show, show_input, table};
+    use super::{show, show_input, table, SEEDS};
     use crate::program::printed;
 
     #[test]
     fn the_program_prints_the_same() {
         let inputs = table().into_iter().map(|(input, _)| input);
-        for input in inputs.chain((0..500).map(show_input)) {
+        for input in inputs.chain(SEEDS.map(show_input)) {
             let shown = input.escape_ascii().to_string();
             assert_eq!(
                 printed("show", &input).escape_ascii().to_string(),

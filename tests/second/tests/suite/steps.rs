@@ -10,20 +10,31 @@ fn open_sheet() -> Vec<u8> {
 }
 
 fn open_start() -> Vec<u32> {
-    memory(&[&[1, 0], &[4, 2, 1], &[3, 1, 0]])
+    memory(&[&[1, 3], &[4, 2, 1], &[3, 1, 0]])
 }
 
 #[test]
 fn every_part_of_an_expression_counts() {
     // Five packs on one another need 17 words, four 14.
     let five = ["= 1", "k 0", "k 0", "k 0", "k 0", "k 0", "i 1"];
-    let table: &[(&[&str], u16, u8)] =
-        &[(&five, 1, 10), (&["= 1", "k 0", "k 0", "k 0", "k 0", "i 1"], 1, 0), (&five, 0, 0)];
+    let four = ["= 1", "k 0", "k 0", "k 0", "k 0", "i 1"];
+    let packed: &[u32] = &[3, 5, 0, 3, 5, 0, 3, 5, 0, 3, 5, 0, 1, 1];
+    /// A script, an authority, the answer, the steps and what location 1 holds after it.
+    type Row<'a> = (&'a [&'a str], u16, u8, u32, &'a [u32]);
+    let table: &[Row] = &[
+        (&five, 1, 10, 0, &[4, 2, 3]),
+        (&four, 1, 0, 1, packed),
+        (&five, 0, 0, 1, &[4, 2, 1]),
+        (&four, 0, 0, 1, &[4, 2, 1]),
+    ];
     for i in ALL {
-        for (script, authority, answer) in table {
-            let mut memory = open_start();
-            let outcome = (i.run)(&open_sheet(), &text(script), &mut memory, *authority, 9);
-            assert_eq!(outcome.answer, *answer, "{}: {script:?} {authority}", i.name);
+        for (script, authority, answer, steps, location) in table {
+            let mut words = memory(&[&[1, 3], &[4, 2, 3], &[3, 1, 0]]);
+            let outcome = (i.run)(&open_sheet(), &text(script), &mut words, *authority, 9);
+            let expected = Outcome { answer: *answer, steps: *steps };
+            assert_eq!(outcome, expected, "{}: {script:?} {authority}", i.name);
+            let after = memory(&[&[1, 3], location, &[3, 1, 0]]);
+            assert_eq!(words, after, "{}: {script:?} {authority}", i.name);
         }
     }
 }
@@ -67,25 +78,32 @@ fn ten_gives_the_steps_before_it_and_leaves_the_memory() {
 
 #[test]
 fn transitions_of_each_command() {
-    let table: &[(&[&str], u32)] = &[
-        (&["s"], 0),
-        (&["= 0", "i 1"], 1),
-        (&[";", "s", "= 0", "i 1"], 2),
-        (&[";", "= 0", "i 1", "s"], 2),
-        (&[";", ";", "s", "s", "s"], 2),
-        (&[";", "s", ";", "s", "s"], 2),
-        (&["w", "r 3", "i 1", "s"], 1),
+    let (start, one): (&[u32], &[u32]) = (&[1, 3], &[1, 1]);
+    let (left, right): (&[u32], &[u32]) = (&[3, 1, 0], &[4, 1, 3]);
+    /// A script, its steps, and what locations 0 and 2 hold after it.
+    type Row<'a> = (&'a [&'a str], u32, &'a [u32], &'a [u32]);
+    let table: &[Row] = &[
+        (&["s"], 0, start, left),
+        (&["= 0", "i 1"], 1, one, left),
+        (&[";", "s", "= 0", "i 1"], 2, one, left),
+        (&[";", "= 0", "i 1", "s"], 2, one, left),
+        (&[";", "= 0", "i 2", "= 0", "i 1"], 3, one, left),
+        (&[";", ";", "s", "s", "s"], 2, start, left),
+        (&[";", "s", ";", "s", "s"], 2, start, left),
+        (&["w", "r 3", "i 1", "= 0", "i 1"], 1, start, left),
         // left: body, `;`, then the guard is right
-        (&["w", "x 2", "= 2", "r 3", "x 0"], 4),
-        (&["c", "x 2", "s", "= 0", "i 1"], 1),
-        (&["c", "r 3", "i 4", "s", "= 0", "v 0"], 2),
-        (&["c", "x 2", "c", "x 1", "s", "= 0", "v 1", "s"], 3),
+        (&["w", "x 2", "= 2", "r 3", "x 0"], 4, start, right),
+        (&["c", "x 2", "s", "= 0", "i 1"], 1, start, left),
+        (&["c", "r 3", "i 4", "s", "= 0", "v 0"], 2, &[1, 4], left),
+        (&["c", "x 2", "c", "x 1", "s", "= 0", "v 1", "s"], 3, &[1, 0], left),
     ];
     for i in ALL {
-        for (script, steps) in table {
+        for (script, steps, integer, choice) in table {
             let mut words = open_start();
             let outcome = (i.run)(&open_sheet(), &text(script), &mut words, 1, *steps);
             assert_eq!(outcome, Outcome { answer: 0, steps: *steps }, "{}: {script:?}", i.name);
+            let after = memory(&[integer, &[4, 2, 1], choice]);
+            assert_eq!(words, after, "{}: {script:?}", i.name);
             if *steps > 0 {
                 let mut words = open_start();
                 let short = (i.run)(&open_sheet(), &text(script), &mut words, 1, steps - 1);
@@ -106,7 +124,7 @@ fn a_loop_keeps_the_value_its_case_bound() {
     for i in ALL {
         let mut words = memory(&[&[1, 9], &[4, 2, 1], &[3, 1, 2]]);
         let outcome = (i.run)(&open_sheet(), &text(&script), &mut words, 1, 99);
-        assert_eq!(outcome.answer, 0, "{}", i.name);
+        assert_eq!(outcome, Outcome { answer: 0, steps: 9 }, "{}", i.name);
         assert_eq!(words, memory(&[&[1, 42], &[4, 2, 1], &[4, 1, 2]]), "{}", i.name);
     }
 }
@@ -130,7 +148,8 @@ fn unpack_tests_in_its_order() {
             let mut words = with(before);
             let outcome = (i.run)(&sheet(), &script(unpack), &mut words, *authority, 9);
             assert_eq!(outcome, Outcome { answer: 0, steps: 2 }, "{}: {unpack}", i.name);
-            assert_eq!(words[48..51], *after, "{}: {unpack} {before:?} {authority}", i.name);
+            let after = memory(&[&[1, 5], &[1, 62], before, after]);
+            assert_eq!(words, after, "{}: {unpack} {before:?} {authority}", i.name);
         }
     }
 }

@@ -1,6 +1,7 @@
 //! The view, on every implementation.
 
 use crate::common::{memory, sheet, start, text};
+use crate::fenced::Fenced;
 use second::implementation::ALL;
 
 fn view(sheet: &[u8], memory: &[u32], group: u16) -> Vec<(u8, Vec<u32>)> {
@@ -37,12 +38,14 @@ fn hidden_contents_become_one_zero_word() {
 }
 
 #[test]
-fn the_view_passes_over_the_memory_it_is_lent() {
+fn a_view_leaves_the_memory_it_is_lent() {
     for i in ALL {
-        let before = start();
-        let lent = before.clone();
-        let mut view = vec![1; 64];
-        assert_eq!((i.view)(&sheet(), &lent, 2, &mut view), 0, "{}", i.name);
-        assert_eq!(lent, before, "{}", i.name);
+        let lent = Fenced::new(&start());
+        let mut view = Fenced::blank(64);
+        let answer = (i.view)(&sheet(), lent.words(), 2, view.words_mut());
+        assert_eq!(answer, 0, "{}", i.name);
+        assert_eq!(view.words(), memory(&[&[1, 5], &[], &[4, 2, 1], &[]]), "{}", i.name);
+        assert_eq!(lent.words(), start(), "{}", i.name);
+        assert!(lent.is_intact() && view.is_intact(), "{}", i.name);
     }
 }

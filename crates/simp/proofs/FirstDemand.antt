@@ -1,7 +1,7 @@
 -- Demand 1, read off the judgements: what a call leaves and answers, number by number. Assumes nothing.
 use mathlib.Core.Path.{_≡_, refl}
 use mathlib.Core.List.{List, [], _∷_}
-use Prim.Native.Nat.{ℕ, suc}
+use Prim.Native.Nat.{ℕ, suc, _<_}
 use native.Mathlib.Omega.{arith}
 use Rattle.simp.specs.Calls.{Ran, Viewed}
 use Rattle.simp.specs.Judgements.{Checked, check-0, check-1, check-2, check-4, check-5, check-6, Run, run-0, run-1, run-2, run-3, run-4, run-5, run-6, run-7, run-8, run-9, run-10, View, view-0, view-1, view-2, view-3, view-7, view-8}
@@ -12,7 +12,7 @@ refused : {k : ℕ} {A : Type 0} → suc k ≡ 0 → A
 refused h = absurd (omega arith)
 
 module _ {sheet script memory : List ℕ} {authority budget : ℕ} where
-  finished : {r : Ran} → Run sheet script memory authority budget r → r .answer ≡ 0 → Finished sheet script memory authority (r .steps) (r .memory)
+  finished : {r : Ran} → Run sheet script memory authority budget r → r .answer ≡ 0 → Finished sheet script memory authority budget (r .steps) (r .memory)
   finished (run-1 n) h = refused h
   finished (run-2 i r) h = refused h
   finished (run-3 i p) h = refused h
@@ -23,7 +23,7 @@ module _ {sheet script memory : List ℕ} {authority budget : ℕ} where
   finished (run-8 i p c t z w) h = refused h
   finished (run-9 st t n l) h = refused h
   finished (run-10 st k t n l) h = refused h
-  finished (run-0 {s} {c} {M′} st k t n) h = record { its-sheet = s; its-command = c; reached = M′; started = st; run = t; words = refl }
+  finished (run-0 {s} {c} {M′} st k t n) h = record { its-sheet = s; its-command = c; reached = M′; started = st; run = t; words = refl; within = k }
 
   kept : {r : Ran} → Run sheet script memory authority budget r → ¬ (r .answer ≡ 0) → r .memory ≡ memory
   kept (run-1 n) h = refl
@@ -64,7 +64,7 @@ module _ {sheet script memory : List ℕ} {authority budget : ℕ} where
   no-steps (run-10 st m t n l) h j k = absurd (k refl)
   no-steps (run-0 st m t n) h j k = absurd (h refl)
 
-  -- a number below 9 is not 9, and 10 is not
+  -- each other number differs from 9; below, from 10
   all-steps : {r : Ran} → Run sheet script memory authority budget r → r .answer ≡ 9 → r .steps ≡ budget
   all-steps (run-1 n) h = absurd (omega arith)
   all-steps (run-2 i r) h = absurd (omega arith)
@@ -77,6 +77,19 @@ module _ {sheet script memory : List ℕ} {authority budget : ℕ} where
   all-steps (run-9 st t n l) h = refl
   all-steps (run-10 st m t n l) h = absurd (omega arith)
   all-steps (run-0 st m t n) h = absurd (omega arith)
+
+  fewer-steps : {r : Ran} → Run sheet script memory authority budget r → r .answer ≡ 10 → r .steps < budget
+  fewer-steps (run-1 n) h = absurd (omega arith)
+  fewer-steps (run-2 i r) h = absurd (omega arith)
+  fewer-steps (run-3 i p) h = absurd (omega arith)
+  fewer-steps (run-4 i p n) h = absurd (omega arith)
+  fewer-steps (run-5 i p c n) h = absurd (omega arith)
+  fewer-steps (run-6 i p c t n) h = absurd (omega arith)
+  fewer-steps (run-7 i p c t n) h = absurd (omega arith)
+  fewer-steps (run-8 i p c t z w) h = absurd (omega arith)
+  fewer-steps (run-9 st t n l) h = absurd (omega arith)
+  fewer-steps (run-10 st k t n l) h = k
+  fewer-steps (run-0 st k t n) h = absurd (omega arith)
 
 check-among : {sheet script : List ℕ} {k : ℕ} → Checked sheet script k → Among (0 ∷ 1 ∷ 2 ∷ 4 ∷ 5 ∷ 6 ∷ []) k
 check-among (check-0 i c t) = here
@@ -105,6 +118,9 @@ module _ {sheet memory : List ℕ} {group : ℕ} {view : List ℕ} where
 
 pub demand-1 : Demand1
 demand-1 = record {
+  check-number = checked;
+  run-number = run-judged;
+  view-number = view-judged;
   run-finished = λ sheet script memory authority budget. finished (run-judged sheet script memory authority budget);
   run-refused = λ sheet script memory authority budget. kept (run-judged sheet script memory authority budget);
   view-refused = λ sheet memory group view. view-kept (view-judged sheet memory group view);
@@ -113,4 +129,5 @@ demand-1 = record {
   view-answers = λ sheet memory group view. view-among (view-judged sheet memory group view);
   no-steps = λ sheet script memory authority budget. no-steps (run-judged sheet script memory authority budget);
   all-steps = λ sheet script memory authority budget. all-steps (run-judged sheet script memory authority budget);
+  fewer-steps = λ sheet script memory authority budget. fewer-steps (run-judged sheet script memory authority budget);
 }

@@ -2,7 +2,7 @@
 use mathlib.Core.Logic.{_↔_}
 use mathlib.Core.Path.{_≡_}
 use mathlib.Core.List.{List, [], _∷_}
-use Prim.Native.Nat.{ℕ}
+use Prim.Native.Nat.{ℕ, _≤_, _<_}
 use Rattle.language.specs.Syntax.{Cmd, skip}
 use Rattle.language.specs.Evaluation.{Mem}
 use Rattle.language.specs.Figures.{Steps}
@@ -17,20 +17,26 @@ pub data Among : List ℕ → ℕ → Type 0 where
   here : {n : ℕ} {ns : List ℕ} → Among (n ∷ ns) n
   later : {m n : ℕ} {ns : List ℕ} → Among ns n → Among (m ∷ ns) n
 
--- The run was started and reached skip, and these are the words of the memory that it reached, after so many steps.
-pub record Finished (sheet script memory : List ℕ) (authority steps : ℕ) (left : List ℕ) : Type 0 where
+-- The run was started and reached skip within the budget, and these are the words of the memory that it reached, after so many steps.
+pub record Finished (sheet script memory : List ℕ) (authority budget steps : ℕ) (left : List ℕ) : Type 0 where
   pub its-sheet : Sheet
   pub its-command : Cmd
   pub reached : Mem
   pub started : Started sheet script memory authority its-sheet its-command
   pub run : Steps (worldOf its-sheet authority) steps (memoryOf memory) its-command reached skip
   pub words : left ≡ wordsOf (locationCount its-sheet) reached
+  pub within : steps ≤ budget
 
--- Demand 1. After any call the lent memory holds the finished run's values or exactly what it held before; a refused call writes to
--- no lent slice. Each answer is 0 or one of the call's numbers; beside 1 to 8 there are no steps, and beside 9 as many as the budget.
+-- Demand 1. Each call gives the number that applies, in their fixed order; each answer is 0 or one of the call's numbers. After any call
+-- the lent memory holds the finished run's values or exactly what it held before; a refused call writes to no lent slice. Beside 1 to 8 there
+-- are no steps, beside 9 as many as the budget, beside 10 fewer. That a call ends is proved with each function; simp_check is lent nothing
+-- to write, and simp_view is lent its memory for reading.
 pub record Demand1 : Type 0 where
+  pub check-number : (sheet script : List ℕ) → Checked sheet script (checkOf sheet script)
+  pub run-number : (sheet script memory : List ℕ) (authority budget : ℕ) → Run sheet script memory authority budget (runOf sheet script memory authority budget)
+  pub view-number : (sheet memory : List ℕ) (group : ℕ) (view : List ℕ) → View sheet memory group view (viewOf sheet memory group view)
   pub run-finished : (sheet script memory : List ℕ) (authority budget : ℕ) → runOf sheet script memory authority budget .answer ≡ 0
-      → Finished sheet script memory authority (runOf sheet script memory authority budget .steps) (runOf sheet script memory authority budget .memory)
+      → Finished sheet script memory authority budget (runOf sheet script memory authority budget .steps) (runOf sheet script memory authority budget .memory)
   pub run-refused : (sheet script memory : List ℕ) (authority budget : ℕ)
       → ¬ (runOf sheet script memory authority budget .answer ≡ 0) → runOf sheet script memory authority budget .memory ≡ memory
   pub view-refused : (sheet memory : List ℕ) (group : ℕ) (view : List ℕ)
@@ -44,6 +50,8 @@ pub record Demand1 : Type 0 where
       → ¬ (runOf sheet script memory authority budget .answer ≡ 10) → runOf sheet script memory authority budget .steps ≡ 0
   pub all-steps : (sheet script memory : List ℕ) (authority budget : ℕ)
       → runOf sheet script memory authority budget .answer ≡ 9 → runOf sheet script memory authority budget .steps ≡ budget
+  pub fewer-steps : (sheet script memory : List ℕ) (authority budget : ℕ)
+      → runOf sheet script memory authority budget .answer ≡ 10 → runOf sheet script memory authority budget .steps < budget
 
 -- Demand 2. Each call answers exactly what the papers say: the numbers in their order, acceptance by the typing rules, and the
 -- memory and the step count of the evaluation rules.
@@ -54,13 +62,16 @@ pub record Demand2 : Type 0 where
   pub view : (sheet memory : List ℕ) (group : ℕ) (words : List ℕ) (v : Viewed) → (viewOf sheet memory group words ≡ v) ↔ View sheet memory group words v
 
 -- Two memories give a group the same view: the view of each is handed out into a lent slice, and these agree in every word.
+-- `shown` holds exactly if the memory is well-formed, the slices have their size and the group is on the sheet; `view` and `view′` are what the
+-- lent slices held before.
 pub record SameView (sheet : List ℕ) (group : ℕ) (memory memory′ view view′ : List ℕ) : Type 0 where
   pub shown : viewOf sheet memory group view .answer ≡ 0
   pub shown′ : viewOf sheet memory′ group view′ .answer ≡ 0
   pub same : viewOf sheet memory group view .view ≡ viewOf sheet memory′ group view′ .view
 
 -- Demand 3, noninterference. Any sheet, any script accepted on it, any authority, any two budgets, any two memories, any group: if both memories give
--- the group the same view and both runs are done, the memories left behind give it the same view.
+-- the group the same view and both runs are done, the memories left behind give it the same view. (That the script is accepted follows from a done
+-- run too; it stands because the demand names it.)
 abbrev pub Demand3 : Type 0
 Demand3 = (sheet script : List ℕ) → checkOf sheet script ≡ 0 → (authority budget budget′ group : ℕ) (memory memory′ view view′ : List ℕ)
     → SameView sheet group memory memory′ view view′

@@ -2,11 +2,13 @@
  * SImp scripts on a sheet: checking, running, viewing.
  *
  * Link with libsimp.a. The calls keep no state, allocate nothing and read and write only what they are lent.
- * They settle every input: each call ends, and bad input gets one of the numbers below, the lowest that applies.
- * A refused call writes to no lent slice.
+ * They settle every input: bad input gets one of the numbers below, the lowest that applies, and a refused call
+ * writes to no lent slice. Each call ends, given stack (docs/PERFORMANCE.md has what was measured); a large budget
+ * can take hours, so choose it for the time that you have.
  *
  * A slice is a pointer and the number of its elements. A pointer is not null and suitably aligned, also where the
- * number is 0, and the slices of one call do not overlap.
+ * number is 0, and no other slice of the call overlaps one that the call may write (a memory of simp_run, a view of
+ * simp_view). Calls are reentrant: two may go on at once if neither may write what the other is lent.
  */
 #ifndef SIMP_H
 #define SIMP_H
@@ -20,6 +22,10 @@ extern "C" {
 
 /* Words of 32 bits that a location takes in a memory or a view. */
 #define SIMP_CELL 16
+
+/* The most locations that a sheet has, and the most bytes of a text. A longer text is refused. */
+#define SIMP_MOST_LOCATIONS 64
+#define SIMP_MOST_TEXT 16384
 
 /* Answers. */
 enum {
@@ -37,7 +43,7 @@ enum {
 };
 
 /* How a run ended. Steps are the transitions taken: 0 for 1 to 8, the budget for SIMP_SPENT, those before the
- * stopping one for SIMP_TOO_LONG. */
+ * stopping one for SIMP_TOO_LONG. Compare the members: there is padding between them. */
 typedef struct {
     uint8_t answer;
     uint32_t steps;

@@ -33,10 +33,14 @@ static simp_outcome run(const char *script, uint32_t *memory, size_t words)
     return simp_run(bytes(sheet), strlen(sheet), bytes(script), strlen(script), memory, words, 1u << 1, 100);
 }
 
+/* Prints the words of a location without the zeros at their end. A zero may stand between others: label 0. */
 static void print(const char *name, const uint32_t *words)
 {
+    size_t n = SIMP_CELL;
+    while (n > 0 && words[n - 1] == 0)
+        n--;
     printf("%s:", name);
-    for (size_t i = 0; i < SIMP_CELL && words[i] != 0; i++)
+    for (size_t i = 0; i < n; i++)
         printf(" %u", (unsigned)words[i]);
     printf("\n");
 }

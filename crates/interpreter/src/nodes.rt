@@ -21,6 +21,9 @@ pub(crate) const TOO_LONG: u8 = 10;
 
 pub(crate) const NO_RULE: u8 = 11;
 
+// The most words of a value that fits into the left of a package.
+const ROOM: usize = CELL - memory::CONTENT - 1;
+
 // The errors of pack and unpack.
 const INSUFFICIENT_AUTH: u32 = 1;
 
@@ -118,7 +121,7 @@ pub(crate) fn pack(
         fail(work, INSUFFICIENT_AUTH);
         return v;
     }
-    if memory::value_end(work, 0) > CELL - 3 {
+    if memory::value_end(work, 0) > ROOM {
         return Evaluated {
             state: TOO_LONG,
             next: v.next,
@@ -139,10 +142,10 @@ fn refusal(work: &[u32], table: &[u16], authority: u16, t: u32, l: u32) -> u32
     if !tables::reads(table, authority, l) {
         return INSUFFICIENT_AUTH;
     }
-    if !tables::below(table, cells::word(work, 1), l) {
+    if !tables::below(table, cells::word(work, memory::LABEL), l) {
         return ILLEGAL_FLOW;
     }
-    if !memory::has_type(table, work, 2, tables::left_part(table, t)) {
+    if !memory::has_type(table, work, memory::CONTENT, tables::left_part(table, t)) {
         return TYPE_MISMATCH;
     }
     0

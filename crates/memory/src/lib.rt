@@ -32,6 +32,11 @@ pub const RIGHT: u32 = 4;
 
 pub const PACKAGE: u32 = 5;
 
+// Where a package has its label and its content, counted from its first word.
+pub const LABEL: usize = 1;
+
+pub const CONTENT: usize = 2;
+
 // The place after the value whose words start at `at`.
 pub fn value_end(words: &[u32], at: usize) -> usize
     ensures { λ r. ⌜ r ≡ endOf (now (words .entry)) at ⌝ }

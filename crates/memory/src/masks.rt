@@ -44,7 +44,7 @@ pub(crate) fn mask_at(
             mask_at(table, group, words, at + 1, out, to + 1)
         }
         crate::PACKAGE => {
-            let label = at + 1;
+            let label = at + crate::LABEL;
             let second = to + 1;
             let head = mask_label(table, group, words, label, out, to);
             if head.shown {

@@ -31,7 +31,7 @@ pub(crate) fn value_at(labels: u32, words: &[u32], at: usize) -> Walked
         crate::LEFT => value_at(labels, words, at + 1),
         crate::RIGHT => value_at(labels, words, at + 1),
         crate::PACKAGE => {
-            let label = at + 1;
+            let label = at + crate::LABEL;
             let content = value_at(labels, words, label + 1);
             package_at(labels, words, label, content)
         }

@@ -13,7 +13,6 @@ pack-spec = tie.close (tie.spec
     (λ c. search needs)  -- same-length
     (λ c. laws.pack-error _ (c .before .before .before .before .before .writes .ensures) (c .before .before .before .before .before .before .if1 .left) (not-true _ (c .before .before .before .before .if2 .taken)) (c .before .before .fail .ensures))  -- returns-2
     (λ c κs. search needs)  -- value-end-requires
-    (λ c. search needs)  -- sub-if3
     (λ c. search needs)  -- same-length-2
     (λ c. laws.pack-long _ (c .before .before .before .before .writes .ensures) (c .before .before .before .before .before .if1 .left) (not-false _ (c .before .before .before .if2 .left)) (c .before .value-end .ensures) (c .if3 .taken))  -- returns-3
     (λ c κs. search needs)  -- load-requires

@@ -1,6 +1,6 @@
 -- From an answer in a text back to the line that was read, and from a line to its answer. Assumes nothing.
 use mathlib.Core.Path.{_≡_, ap, _∙_}
-use mathlib.Core.Bool.{Bool, true, false}
+use mathlib.Core.Bool.{true, false}
 use mathlib.Core.List.{List, _∷_}
 use Prim.Native.Nat.{ℕ, _+_, _≤_, _<_}
 use native.Mathlib.Omega.{arith}
@@ -8,16 +8,13 @@ use lib.ListN.{length, drop, getD, drop-of-length-le, length-drop}
 use borrow.Author.Tests.{ne-eqb}
 use Rattle.text.specs.Reading.{Read}
 use Rattle.text.specs.Reading.Read.{got, bad}
-use Rattle.text.specs.Number.{most}
-use Rattle.text.specs.Field.{numberField, setField, lineEnd, lastNumber}
-use Rattle.text.proofs.Readings.{drop-step, andThen-got, andThen-bad}
+use Rattle.text.proofs.Readings.{drop-step}
 use Rattle.text.proofs.Places.{placed-got, placed-bad, placed-split}
 use Rattle.text.proofs.Lines.{line-within, line-shorter}
 use Rattle.sheet.specs.declared.line.Line.{Line}
-use Rattle.sheet.specs.declared.line.Line.the-variants.{P, L, O}
 use Rattle.sheet.specs.declared.line.Found.{Found}
 use Rattle.sheet.specs.declared.line.Found.the-variants as found
-use Rattle.sheet.specs.Reading.{principalsRest, pairLine, pairRest, labelRest, policyRest, lineOf, foundIn}
+use Rattle.sheet.specs.Reading.{principalsRest, pairRest, labelRest, policyRest, lineOf, foundIn}
 use Rattle.sheet.proofs.LineLaws.{sheet-lines}
 
 -- ---- answers
@@ -45,63 +42,6 @@ module _ (s : List ℕ) (i : ℕ) (r : Found) (e : r ≡ foundIn s (lineOf (drop
 -- the place after a line is past the line's own
 pub line-onward : (s : List ℕ) (i : ℕ) (l : Line) (p : ℕ) → lineOf (drop i s) ≡ got l (drop p s) → p ≤ length s → i < p
 line-onward s i l p e h = omega (arith, line-shorter sheet-lines (drop i s) l (drop p s) e, length-drop i s, length-drop p s)
-
--- ---- the cases of a line, by what is read after its letter
-
-module _ (t : List ℕ) where
-  pub principals-on : (n : ℕ) (u : List ℕ) → lastNumber most t ≡ got n u → principalsRest t ≡ got (P n) u
-  unfolding principalsRest
-  principals-on n u e = andThen-got _ _ n u e
-
-  pub principals-none : lastNumber most t ≡ bad → principalsRest t ≡ bad
-  unfolding principalsRest
-  principals-none e = andThen-bad _ _ e
-
-  pub label-on : (u : List ℕ) → lineEnd t ≡ got tt u → labelRest t ≡ got L u
-  unfolding labelRest
-  label-on u e = andThen-got _ _ tt u e
-
-  pub label-none : lineEnd t ≡ bad → labelRest t ≡ bad
-  unfolding labelRest
-  label-none e = andThen-bad _ _ e
-
-module _ (sum : Bool) (t : List ℕ) where
-  pub pair-none : numberField most t ≡ bad → pairRest sum t ≡ bad
-  unfolding pairRest
-  pair-none e = andThen-bad _ _ e
-
-  module _ (a : ℕ) (u : List ℕ) (e : numberField most t ≡ got a u) where
-    pub pair-on : (b : ℕ) (v : List ℕ) → lastNumber most u ≡ got b v → pairRest sum t ≡ got (pairLine sum a b) v
-    unfolding pairRest
-    pair-on b v f = andThen-got _ _ a u e ∙ andThen-got _ _ b v f
-
-    pub pair-short : lastNumber most u ≡ bad → pairRest sum t ≡ bad
-    unfolding pairRest
-    pair-short f = andThen-got _ _ a u e ∙ andThen-bad _ _ f
-
-module _ (t : List ℕ) where
-  pub policy-none : numberField most t ≡ bad → policyRest t ≡ bad
-  unfolding policyRest
-  policy-none e = andThen-bad _ _ e
-
-  module _ (o : ℕ) (u : List ℕ) (e : numberField most t ≡ got o u) where
-    pub policy-no-readers : setField u ≡ bad → policyRest t ≡ bad
-    unfolding policyRest
-    policy-no-readers f = andThen-got _ _ o u e ∙ andThen-bad _ _ f
-
-    module _ (r : ℕ) (v : List ℕ) (f : setField u ≡ got r v) where
-      pub policy-no-writers : setField v ≡ bad → policyRest t ≡ bad
-      unfolding policyRest
-      policy-no-writers g = andThen-got _ _ o u e ∙ andThen-got _ _ r v f ∙ andThen-bad _ _ g
-
-      module _ (w : ℕ) (x : List ℕ) (g : setField v ≡ got w x) where
-        pub policy-open : lineEnd x ≡ bad → policyRest t ≡ bad
-        unfolding policyRest
-        policy-open h = andThen-got _ _ o u e ∙ andThen-got _ _ r v f ∙ andThen-got _ _ w x g ∙ andThen-bad _ _ h
-
-        pub policy-on : (y : List ℕ) → lineEnd x ≡ got tt y → policyRest t ≡ got (O o r w) y
-        unfolding policyRest
-        policy-on y h = andThen-got _ _ o u e ∙ andThen-got _ _ r v f ∙ andThen-got _ _ w x g ∙ andThen-got _ _ tt y h
 
 -- ---- the cases of a line, by its letter, at a place of a text
 

@@ -1,11 +1,13 @@
 -- `sheet::line::pair_rest` meets its contract. Assumes nothing.
-use mathlib.Core.Path.{_≡_}
+use mathlib.Core.Path.{_≡_, _∙_}
 use lib.ListN.{drop}
 use Rattle.text.specs.Reading.Read.{got}
 use Rattle.text.specs.Number.{most}
 use Rattle.text.specs.Field.{numberField}
+use Rattle.text.proofs.Readings.{andThen-got, andThen-bad}
 use Rattle.text.proofs.Fields.{number-field-at, number-field-bad, last-number-at, last-number-bad}
-use Rattle.sheet.proofs.FoundLaws.{found-got, found-none, pair-on, pair-short, pair-none}
+use Rattle.sheet.specs.Reading.{pairRest}
+use Rattle.sheet.proofs.FoundLaws.{found-got, found-none}
 use borrow.Author.Needs.{needs}
 use Rattle.sheet.proofs.line.pair_rest.Statement.{statement}
 use Rattle.sheet.proofs.line.pair_rest.Tie as tie
@@ -28,9 +30,10 @@ enum-told : tie.Need-enum-told
 enum-told c = search needs
 
 returns : tie.Need-returns
+unfolding pairRest
 returns c =
     let a = c .before .before .before .before .args in
-    found-none _ _ (pair-none _ _ (number-field-bad (a .s .now) (a .at) most _ (c .before .before .number-field .ensures) (c .enum-told .given .1)))
+    found-none _ _ (andThen-bad _ _ (number-field-bad (a .s .now) (a .at) most _ (c .before .before .number-field .ensures) (c .enum-told .given .1)))
 
 last-number-requires : tie.Need-last-number-requires
 last-number-requires c κs = search needs
@@ -45,18 +48,20 @@ enum-told-2 : tie.Need-enum-told-2
 enum-told-2 c = search needs
 
 returns-2 : tie.Need-returns-2
+unfolding pairRest
 returns-2 c =
     let k = c .before .before .before .before .before .before in
     let a = k .before .before .before .before .args in
     let f = last-number-at (a .s .now) (k .a .given .0 .1 .0) most _ (c .before .before .before .before .last-number .ensures) _ _ (c .before .before .b .given .1) in
-    rw (c .pair-line .ensures) (found-got _ _ _ _ (pair-on _ _ _ _ (known k) _ _ (f .0)) (f .1))
+    rw (c .pair-line .ensures) (found-got _ _ _ _ (andThen-got _ _ _ _ (known k) ∙ andThen-got _ _ _ _ (f .0)) (f .1))
 
 returns-3 : tie.Need-returns-3
+unfolding pairRest
 returns-3 c =
     let k = c .before .before .before .before in
     let a = k .before .before .before .before .args in
     found-none _ _
-    (pair-short _ _ _ _ (known k) (last-number-bad (a .s .now) (k .a .given .0 .1 .0) most _ (c .before .before .last-number .ensures) (c .enum-told2 .given .1)))
+    (andThen-got _ _ _ _ (known k) ∙ andThen-bad _ _ (last-number-bad (a .s .now) (k .a .given .0 .1 .0) most _ (c .before .before .last-number .ensures) (c .enum-told2 .given .1)))
 
 pub pair-rest-spec : {M : Type 1} → statement M
 pair-rest-spec =

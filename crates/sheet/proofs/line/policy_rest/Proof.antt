@@ -1,13 +1,15 @@
 -- `sheet::line::policy_rest` meets its contract. Assumes nothing.
-use mathlib.Core.Path.{_≡_}
+use mathlib.Core.Path.{_≡_, _∙_}
 use mathlib.Core.List.{List}
 use Prim.Native.Nat.{ℕ}
 use lib.ListN.{drop}
 use Rattle.text.specs.Reading.Read.{got}
 use Rattle.text.specs.Number.{most}
 use Rattle.text.specs.Field.{numberField, setField}
+use Rattle.text.proofs.Readings.{andThen-got, andThen-bad}
 use Rattle.text.proofs.Fields.{number-field-at, number-field-bad, set-field-at, set-field-bad, byte-at, byte-bad}
-use Rattle.sheet.proofs.FoundLaws.{found-got, found-none, policy-none, policy-no-readers, policy-no-writers, policy-open, policy-on}
+use Rattle.sheet.specs.Reading.{policyRest}
+use Rattle.sheet.proofs.FoundLaws.{found-got, found-none}
 use borrow.Author.Needs.{needs}
 use Rattle.sheet.proofs.line.policy_rest.Statement.{statement}
 use Rattle.sheet.proofs.line.policy_rest.Tie as tie
@@ -47,9 +49,10 @@ enum-told : tie.Need-enum-told
 enum-told c = search needs
 
 returns : tie.Need-returns
+unfolding policyRest
 returns c =
     let a = c .before .before .before .before .args in
-    found-none _ _ (policy-none _ (number-field-bad (a .s .now) (a .at) most _ (c .before .before .number-field .ensures) (c .enum-told .given .1)))
+    found-none _ _ (andThen-bad _ _ (number-field-bad (a .s .now) (a .at) most _ (c .before .before .number-field .ensures) (c .enum-told .given .1)))
 
 set-field-requires : tie.Need-set-field-requires
 set-field-requires c κs = search needs
@@ -61,10 +64,11 @@ enum-told-2 : tie.Need-enum-told-2
 enum-told-2 c = search needs
 
 returns-2 : tie.Need-returns-2
+unfolding policyRest
 returns-2 c =
     let k = c .before .before .before .before in
     found-none _ _
-    (policy-no-readers _ _ _ (owner-known k)
+    (andThen-got _ _ _ _ (owner-known k) ∙ andThen-bad _ _
     (set-field-bad (textOf k) (k .owner .given .0 .1 .0) _ (c .before .before .set-field .ensures) (c .enum-told2 .given .1)))
 
 set-field-requires-2 : tie.Need-set-field-requires-2
@@ -77,11 +81,12 @@ enum-told-3 : tie.Need-enum-told-3
 enum-told-3 c = search needs
 
 returns-3 : tie.Need-returns-3
+unfolding policyRest
 returns-3 c =
     let j = c .before .before .before .before in
     let k = j .before .before .before .before in
     found-none _ _
-    (policy-no-writers _ _ _ (owner-known k) _ _ (readers-known j)
+    (andThen-got _ _ _ _ (owner-known k) ∙ andThen-got _ _ _ _ (readers-known j) ∙ andThen-bad _ _
     (set-field-bad (textOf k) (j .readers .given .0 .1 .0) _ (c .before .before .set-field2 .ensures) (c .enum-told3 .given .1)))
 
 line-end-requires : tie.Need-line-end-requires
@@ -94,20 +99,22 @@ enum-told-4 : tie.Need-enum-told-4
 enum-told-4 c = search needs
 
 returns-4 : tie.Need-returns-4
+unfolding policyRest
 returns-4 c =
     let i = c .before .before .before .before .before in
     let j = i .before .before .before .before in
     let k = j .before .before .before .before in
     let f = byte-at (textOf k) (i .writers .given .0 .1 .0) 10 _ (c .before .before .before .line-end .ensures) _ (c .before .e .given .1) in
-    found-got _ _ _ _ (policy-on _ _ _ (owner-known k) _ _ (readers-known j) _ _ (writers-known i) _ (f .0)) (f .1)
+    found-got _ _ _ _ (andThen-got _ _ _ _ (owner-known k) ∙ andThen-got _ _ _ _ (readers-known j) ∙ andThen-got _ _ _ _ (writers-known i) ∙ andThen-got _ _ _ _ (f .0)) (f .1)
 
 returns-5 : tie.Need-returns-5
+unfolding policyRest
 returns-5 c =
     let i = c .before .before .before .before in
     let j = i .before .before .before .before in
     let k = j .before .before .before .before in
     found-none _ _
-    (policy-open _ _ _ (owner-known k) _ _ (readers-known j) _ _ (writers-known i)
+    (andThen-got _ _ _ _ (owner-known k) ∙ andThen-got _ _ _ _ (readers-known j) ∙ andThen-got _ _ _ _ (writers-known i) ∙ andThen-bad _ _
     (byte-bad (textOf k) (i .writers .given .0 .1 .0) 10 _ (c .before .before .line-end .ensures) (c .enum-told4 .given .1)))
 
 pub policy-rest-spec : {M : Type 1} → statement M

@@ -6,7 +6,6 @@ use mathlib.Core.Logic.{inl}
 use mathlib.Core.List.{List, [], _∷_}
 use Prim.Native.Nat.{ℕ, zero, suc, _+_, _*_, _-_, _<_, _≤_}
 use native.Mathlib.Numerals.{add-one}
-use native.Mathlib.Decide.{decLt}
 use native.Mathlib.Omega.{arith}
 use lib.Dec.{ltb, leb}
 use lib.ListN.{length, getD, set, length-set}
@@ -71,58 +70,39 @@ label-set s k n at h =
     (tab-ext owners _ _ (λ o l. getD-set-other s k (at + o) n 0 (λ e. omega arith)))
     (tab-ext owners _ _ (λ o l. getD-set-other s k (at + owners + o) n 0 (λ e. omega arith)))
 
-module _ (s : List ℕ) (d n : ℕ) (a : Label) where
-  pub bind-in : d < maxDepth → bindOf s d n a ≡ labelPut (set s (d * bindingSize) n) (d * bindingSize + 1) a
+module _ (s : List ℕ) (d n : ℕ) (a : Label) (whole : wholeOf a ≡ true) where
+  pub bind-kept : Kept s (bindOf s d n a) d
   unfolding bindOf
-  bind-in h = rw (lt-ltb d maxDepth h)
+  bind-kept = record {
+    size = length-put _ _ a whole ∙ length-set s (d * bindingSize) n;
+    types = upTo-same _ _ d type;
+    labels = upTo-same _ _ d label;
+  }
+    where
+      s′ : List ℕ
+      s′ = set s (d * bindingSize) n
 
-  pub bind-deep : maxDepth ≤ d → bindOf s d n a ≡ s
-  unfolding bindOf
-  bind-deep h = rw (le-ltb d maxDepth h)
+      type : (i : ℕ) → i < d → boundType (labelPut s′ (d * bindingSize + 1) a) i ≡ boundType s i
+      type i l = put-word s′ (d * bindingSize + 1) a whole (i * bindingSize) (inl (omega arith)) ∙ getD-set-other s (d * bindingSize) (i * bindingSize) n 0 (λ e. omega arith)
 
-  module _ (whole : wholeOf a ≡ true) where
-    -- a claim of the words unchanged, and of the words with the binding stored, holds of what binding gives
-    by-room : (P : List ℕ → Type 0) → P s → (d < maxDepth → P (labelPut (set s (d * bindingSize) n) (d * bindingSize + 1) a)) → P (bindOf s d n a)
-    by-room P same stored = on (decLt d maxDepth)
-      where
-        on : Dec (d < maxDepth) → P (bindOf s d n a)
-        on (yes h) = rw (bind-in h) (stored h)
-        on (no h) = rw (bind-deep (omega arith)) same
+      label : (i : ℕ) → i < d → boundLabel (labelPut s′ (d * bindingSize + 1) a) i ≡ boundLabel s i
+      label i l = put-other s′ (d * bindingSize + 1) a whole (i * bindingSize + 1) (inl (omega arith)) ∙ label-set s (d * bindingSize) n (i * bindingSize + 1) (omega arith)
 
-    pub bind-kept : Kept s (bindOf s d n a) d
-    bind-kept = by-room (λ x. Kept s x d) kept-same
-        (λ h. record {
-          size = length-put _ _ a whole ∙ length-set s (d * bindingSize) n;
-          types = upTo-same _ _ d type;
-          labels = upTo-same _ _ d label;
-        })
-      where
-        s′ : List ℕ
-        s′ = set s (d * bindingSize) n
+  module _ (h : d < maxDepth) (k : bindingsSize ≤ length s) where
+    pub bind-type : boundTypes (bindOf s d n a) (d + 1) ≡ n ∷ boundTypes s d
+    unfolding upTo bindOf
+    bind-type =
+        let here : boundType (bindOf s d n a) d ≡ n =
+        put-word (set s (d * bindingSize) n) (d * bindingSize + 1) a whole (d * bindingSize) (inl (omega arith))
+        ∙ getD-set-same s (d * bindingSize) n 0 (omega arith) in
+        ap (upTo (boundType (bindOf s d n a))) (add-one d) ∙ ap₂ (λ (x : ℕ) (l : List ℕ). x ∷ l) here (bind-kept .types)
 
-        type : (i : ℕ) → i < d → boundType (labelPut s′ (d * bindingSize + 1) a) i ≡ boundType s i
-        type i l = put-word s′ (d * bindingSize + 1) a whole (i * bindingSize) (inl (omega arith)) ∙ getD-set-other s (d * bindingSize) (i * bindingSize) n 0 (λ e. omega arith)
-
-        label : (i : ℕ) → i < d → boundLabel (labelPut s′ (d * bindingSize + 1) a) i ≡ boundLabel s i
-        label i l = put-other s′ (d * bindingSize + 1) a whole (i * bindingSize + 1) (inl (omega arith)) ∙ label-set s (d * bindingSize) n (i * bindingSize + 1) (omega arith)
-
-    module _ (h : d < maxDepth) (k : bindingsSize ≤ length s) where
-      pub bind-type : boundTypes (bindOf s d n a) (d + 1) ≡ n ∷ boundTypes s d
-      unfolding upTo
-      bind-type =
-          let here : boundType (bindOf s d n a) d ≡ n =
-          ap (λ (x : List ℕ). boundType x d) (bind-in h)
-          ∙ put-word (set s (d * bindingSize) n) (d * bindingSize + 1) a whole (d * bindingSize) (inl (omega arith))
-          ∙ getD-set-same s (d * bindingSize) n 0 (omega arith) in
-          ap (upTo (boundType (bindOf s d n a))) (add-one d) ∙ ap₂ (λ (x : ℕ) (l : List ℕ). x ∷ l) here (bind-kept .types)
-
-      pub bind-label : boundLabels (bindOf s d n a) (d + 1) ≡ a ∷ boundLabels s d
-      unfolding upTo
-      bind-label =
-          let here : boundLabel (bindOf s d n a) d ≡ a =
-          ap (λ (x : List ℕ). boundLabel x d) (bind-in h)
-          ∙ put-read (set s (d * bindingSize) n) (d * bindingSize + 1) a whole (omega (arith, length-set s (d * bindingSize) n)) in
-          ap (upTo (boundLabel (bindOf s d n a))) (add-one d) ∙ ap₂ (λ (x : Label) (l : List Label). x ∷ l) here (bind-kept .labels)
+    pub bind-label : boundLabels (bindOf s d n a) (d + 1) ≡ a ∷ boundLabels s d
+    unfolding upTo bindOf
+    bind-label =
+        let here : boundLabel (bindOf s d n a) d ≡ a =
+        put-read (set s (d * bindingSize) n) (d * bindingSize + 1) a whole (omega (arith, length-set s (d * bindingSize) n)) in
+        ap (upTo (boundLabel (bindOf s d n a))) (add-one d) ∙ ap₂ (λ (x : Label) (l : List Label). x ∷ l) here (bind-kept .labels)
 
 -- the parts of a type in a table of words are words
 part-small : (t : List ℕ) → ((i : ℕ) → getD t i 0 < 65536) → (count base i : ℕ) → entryIn t count base i < 65536

@@ -1,8 +1,6 @@
 -- What enclosing cases bind, as words: for each case the number of the type that it binds and its label, outermost first.
-use mathlib.Core.Bool.{cond}
 use mathlib.Core.List.{List, [], _∷_}
 use Prim.Native.Nat.{ℕ, zero, suc, _+_, _*_}
-use lib.Dec.{ltb}
 use lib.ListN.{getD, set}
 use Rattle.labels.specs.declared.Label.{Label}
 use Rattle.labels.specs.Tables.{labelSize, labelAt, labelPut}
@@ -34,6 +32,6 @@ boundTypes s d = upTo (boundType s) d
 abbrev pub boundLabels : List ℕ → ℕ → List Label
 boundLabels s d = upTo (boundLabel s) d
 
--- the words with a type and a label stored at place d; unchanged where there is no such place
+-- the words with a type and a label stored at place d
 unfoldable pub bindOf : List ℕ → ℕ → ℕ → Label → List ℕ
-bindOf s d n a = cond (ltb d maxDepth) (labelPut (set s (d * bindingSize) n) (d * bindingSize + 1) a) s
+bindOf s d n a = labelPut (set s (d * bindingSize) n) (d * bindingSize + 1) a

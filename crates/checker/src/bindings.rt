@@ -2,6 +2,7 @@
 ghost use mathlib.Core.Path.{_≡_};
 ghost use Prim.Native.Nat.{_<_, _^_};
 ghost use Rattle.sets.specs.Sets.{width};
+ghost use Rattle.lines.specs.Names.{maxDepth};
 ghost use Rattle.checker.specs.Bindings.{bindOf};
 use labels::Label;
 use sets::Set;
@@ -16,12 +17,9 @@ pub(crate) const BINDINGS: usize = DEPTH * BINDING;
 
 // Stores the type and the label that the case at a depth binds.
 pub(crate) fn bind(bound: &mut [Set; BINDINGS], depth: usize, ty: u32, label: Label)
-    requires { ⌜ ty < 2 ^ width ⌝ }
+    requires { ⌜ (depth < maxDepth) × (ty < 2 ^ width) ⌝ }
     ensures { λ _. ⌜ now (bound .exit) ≡ bindOf (now (bound .entry)) depth ty label ⌝ }
 {
-    if depth >= DEPTH {
-        return;
-    }
     let at = depth * BINDING;
     bound[at] = ty as Set;
     labels::put_label(bound, at + 1, label);

@@ -110,7 +110,7 @@ fn of_variable(
         return no_type(table, next);
     }
     let at = (depth - 1 - i) * bindings::BINDING;
-    let words: &[Set] = bound;
+    let words: &[Set] = bound; // that a word fits its type is known of a slice's words
     let ty = words[at] as u32;
     let label = labels::label_at(words, at + 1);
     Typed {

@@ -103,11 +103,11 @@ pub +check-cmd-spec : {M : Type 1} → statement M
     (λ c. let r = c .before .before .before .before .before .before .before .before in let a = r .before .before .before .args in arm-deep (a .code .now) (a .at) (a .table .now) (a .bound .now) (a .depth) (a .pc) (r .row-at .ensures) (omega (arith, c .before .before .before .before .before .before .if1 .left, c .before .before .before .before .before .if2 .taken, c .before .before .before .before .before .before .before .match .rest .0 .1, c .before .before .before .before .before .before .before .match .rest .1, c .before .before .match2 .rest .0 .1, c .before .before .match2 .rest .1)) (c .before .if3 .taken) (c .not-passed .ensures))  -- returns
     (λ c κs. search needs)  -- join-requires-2
     (λ c κs. search needs)  -- left-part-requires
-    (λ c κs. let r = c .before .before .before .before .before .before .before .before .before .before in let a = r .before .before .before .args in rw (c .left-part .ensures) (left-small (a .table .now) (λ i. r .before .shared-slice-known2 .given i .fits) _))  -- bind-requires
+    (λ c κs. let r = c .before .before .before .before .before .before .before .before .before .before in let a = r .before .before .before .args in (c .before .before .before .if3 .left, rw (c .left-part .ensures) (left-small (a .table .now) (λ i. r .before .shared-slice-known2 .given i .fits) _)))  -- bind-requires
     (λ c. omega (arith, c .before .before .before .before .before .if3 .left))  -- add-check-cmd-2
     (λ c κs. let r = c .before .before .before .before .before .before .before .before .before .before .before .before in let a = r .before .before .before .args in (omega (arith, r .before .before .before .pre .0, within (a .code .now) (a .at) (r .row-at .ensures) (omega (arith, c .before .before .before .before .before .before .before .before .before .before .if1 .left)), c .before .before .before .before .before .before .before .check-expr .ensures .onward), tt))  -- check-cmd-requires-4
     (λ c κs. search needs)  -- right-part-requires
-    (λ c κs. let r = c .before .before .before .before .before .before .before .before .before .before .before .before .before .before .before in let a = r .before .before .before .args in rw (c .right-part .ensures) (right-small (a .table .now) (λ i. r .before .shared-slice-known2 .given i .fits) _))  -- bind-requires-2
+    (λ c κs. let r = c .before .before .before .before .before .before .before .before .before .before .before .before .before .before .before in let a = r .before .before .before .args in (c .before .before .before .before .before .before .before .before .if3 .left, rw (c .right-part .ensures) (right-small (a .table .now) (λ i. r .before .shared-slice-known2 .given i .fits) _)))  -- bind-requires-2
     (λ c. omega (arith, c .before .before .before .before .before .before .before .before .before .before .if3 .left))  -- add-check-cmd-3
     (λ c κs. let r = c .before .before .before .before .before .before .before .before .before .before .before .before .before .before .before .before .before in let a = r .before .before .before .args in (omega (arith, r .before .before .before .pre .0, within (a .code .now) (a .at) (r .row-at .ensures) (omega (arith, c .before .before .before .before .before .before .before .before .before .before .before .before .before .before .before .if1 .left)), c .before .before .before .before .before .before .before .before .before .before .before .before .check-expr .ensures .onward, c .before .before .before .before .check-cmd4 .ensures .onward), tt))  -- check-cmd-requires-5
     (λ c κs. search needs)  -- of-case-requires

@@ -1,4 +1,5 @@
 // Runs the cases of the scope that are not in the proved table, and prints each one's name and what it gives.
+use desk::PLACES;
 use libc::STDOUT_FILENO;
 
 // The first n bytes of a buffer, on standard output.
@@ -20,14 +21,14 @@ fn run_case(
     budget: &[u8],
 ) {
     print_name(name);
-    let mut out = [0u8; 11286];
+    let mut out = [0u8; PLACES];
     let n = desk::run::run_text(sheet, script, memory, authority, budget, &mut out);
     print(&out, n);
 }
 
 fn show_case(name: &[u8], sheet: &[u8], memory: &[u8], group: &[u8]) {
     print_name(name);
-    let mut out = [0u8; 11286];
+    let mut out = [0u8; PLACES];
     let n = desk::show(sheet, memory, group, &mut out);
     print(&out, n);
 }

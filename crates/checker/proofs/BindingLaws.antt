@@ -17,7 +17,7 @@ use Rattle.labels.specs.Labels.{owners, wholeOf}
 use Rattle.labels.specs.Tables.{labelSize, setsAt, labelAt, labelPut}
 use Rattle.labels.proofs.OrderLaws.{label-path}
 use Rattle.labels.proofs.TableLaws.{length-put, put-read, put-word, put-other}
-use Rattle.language.specs.Syntax.{both}
+use Rattle.booleans.specs.Booleans.{both}
 use Rattle.language.specs.Typing.{nth}
 use Rattle.lines.specs.Names.{maxDepth}
 use Rattle.tables.specs.Tables.{entryIn, leftIn, rightIn}

@@ -1,6 +1,6 @@
 -- What each arm of `check_cmd` shows. Assumes nothing.
 use mathlib.Core.Path.{_≡_, refl, ap, _∙_}
-use mathlib.Core.Bool.{Bool, true, false}
+use mathlib.Core.Bool.{Bool, true, false, _&&_}
 use mathlib.Core.List.{List, _∷_}
 use Prim.Native.Nat.{ℕ, suc, _+_, _≤_, _<_}
 use native.Mathlib.Numerals.{add-one}
@@ -10,9 +10,10 @@ use borrow.Author.Tests.{ltb-true}
 use lib.ListN.{length, drop}
 use Rattle.labels.specs.declared.Label.{Label}
 use Rattle.labels.specs.Labels.{belowOf, joinOf, wholeOf}
-use Rattle.language.specs.Syntax.{Expr, Cmd, skip, seq, assign, while, case, both}
+use Rattle.booleans.specs.Booleans.{both}
+use Rattle.booleans.proofs.BooleanLaws.{both-left, both-right}
+use Rattle.language.specs.Syntax.{Expr, Cmd, skip, seq, assign, while, case}
 use Rattle.language.specs.Typing.{flow}
-use Rattle.language.proofs.Booleans.{both-left, both-right}
 use Rattle.lines.specs.declared.Row.{Row}
 use Rattle.lines.specs.Lines.{Line, cmdLines}
 use Rattle.lines.specs.Code.{code, rowAt}
@@ -68,10 +69,10 @@ module _ (t Γ : List ℕ) (pc : Label) (Δ : List Label) where
     }
 
 -- the two tests of an assignment
-pub may-assign : (t : List ℕ) (n : ℕ) (pc a : Label) {l : ℕ} {home : Label} {p q r : Bool} → l ≡ homeIn t n → home ≡ labelIn t l
-    → p ≡ belowOf a home → q ≡ belowOf pc home → r ≡ both p q → r ≡ mayAssign t n pc a
-unfolding mayAssign
-may-assign t n pc a e f g h k = cc
+pub may-assign : (t : List ℕ) (n : ℕ) (pc a : Label) {l : ℕ} {home : Label} {p q : Bool} → l ≡ homeIn t n → home ≡ labelIn t l
+    → p ≡ belowOf a home → q ≡ belowOf pc home → (p && q) ≡ mayAssign t n pc a
+unfolding mayAssign both
+may-assign t n pc a e f g h = cc
 
 -- ---- the arms: the row at `at`, what the operands' checks ensure, and what the node gives
 

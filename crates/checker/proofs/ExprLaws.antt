@@ -8,7 +8,8 @@ use native.Mathlib.Decide.{decLt}
 use lib.Dec.{eqb}
 use lib.ListN.{length, drop}
 use Rattle.labels.specs.declared.Label.{Label}
-use Rattle.language.specs.Syntax.{int, Expr, val, loc, var, plus, left, right, pack, unpack, both}
+use Rattle.booleans.specs.Booleans.{both}
+use Rattle.language.specs.Syntax.{int, Expr, val, loc, var, plus, left, right, pack, unpack}
 use Rattle.language.specs.Typing.{orElse, least, flowE}
 use Rattle.lines.specs.declared.Row.{Row}
 use Rattle.lines.specs.Lines.{Line, exprLines}

@@ -8,10 +8,10 @@ use native.Mathlib.Decide.{decLt, decLe}
 use native.Mathlib.Omega.{arith}
 use lib.Dec.{ltb}
 use borrow.Author.Tests.{le-leb, lt-leb, lt-ltb, le-ltb}
-use Rattle.sets.specs.Sets as sets
-use Rattle.language.specs.Syntax.{Ty, t-int, t-err, t-pkg, t-sum, Expr, Cmd, both}
+use Rattle.booleans.specs.Booleans.{both}
+use Rattle.booleans.proofs.BooleanLaws.{both-left, both-right}
+use Rattle.language.specs.Syntax.{Ty, t-int, t-err, t-pkg, t-sum, Expr, Cmd}
 use Rattle.language.specs.Typing.{nth, isTy, hasTy, leftIs, rightIs, onSum, given, typeOfValue, typeOf, shape}
-use Rattle.language.proofs.Booleans.{both-left, both-right}
 use Rattle.lines.specs.Lines.{SourceE, s-int, s-loc, s-var, s-plus, s-left, s-right, s-pack, s-unpack, Source, s-skip, s-seq, s-assign, s-while, s-case}
 use Rattle.tables.specs.Sheet.{Sheet, tyOf, formed, repeats}
 use Rattle.tables.specs.Tables.{tableOf, typesIn, leftIn, rightIn, typeIn}
@@ -23,19 +23,19 @@ use Rattle.tables.proofs.NumberLaws.{sum-in, left-in-there, right-in-there, sam
 use Rattle.checker.specs.Numbers.{isNo, someNo, leftIsNo, rightIsNo, onSumNo, givenNo, typeNo, shapeNo}
 
 sum-yes : (t : List ℕ) (n : ℕ) → 3 ≤ n → n < typesIn t → isSum t n ≡ true
-unfolding isSum sets.both
+unfolding isSum both
 sum-yes t n h k = rw (le-leb 3 n h, lt-ltb n (typesIn t) k)
 
 pub sum-high : (t : List ℕ) (n m : ℕ) → m ≡ typesIn t → 3 ≤ n → ltb n m ≡ isSum t n
-unfolding isSum sets.both
+unfolding isSum both
 sum-high t n m e h = rw (e, le-leb 3 n h)
 
 pub sum-low : (t : List ℕ) (n : ℕ) → n < 3 → isSum t n ≡ false
-unfolding isSum sets.both
+unfolding isSum both
 sum-low t n h = rw (lt-leb 3 n h)
 
 sum-past : (t : List ℕ) (n : ℕ) → 3 ≤ n → typesIn t ≤ n → isSum t n ≡ false
-unfolding isSum sets.both
+unfolding isSum both
 sum-past t n h k = rw (le-leb 3 n h, le-ltb n (typesIn t) k)
 
 -- a test that fails at once fails with what follows it

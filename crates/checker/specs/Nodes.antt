@@ -5,7 +5,7 @@ use Prim.Native.Nat.{ℕ, suc, _-_}
 use lib.Dec.{eqb, leb, ltb}
 use Rattle.labels.specs.declared.Label.{Label}
 use Rattle.labels.specs.Labels.{belowOf, joinOf, confidentialityOf, integrityOf, bottomOf}
-use Rattle.language.specs.Syntax.{both}
+use Rattle.booleans.specs.Booleans.{both}
 use Rattle.lines.specs.Names.{maxDepth}
 use Rattle.tables.specs.Tables.{everyoneIn, rightIn, typeIn, homeIn, labelIn}
 use Rattle.checker.specs.declared.Typed.{Typed}

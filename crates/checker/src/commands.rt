@@ -5,7 +5,6 @@ ghost use Rattle.checker.specs.Post.{ChecksCmd};
 use crate::Passed;
 use crate::Typed;
 use crate::bindings;
-use crate::expressions::both;
 use crate::expressions::check_expr;
 use crate::expressions::is_sum;
 use crate::expressions::is_type;
@@ -39,8 +38,8 @@ fn of_seq(x: Passed, y: Passed) -> Passed
     ensures { λ r. ⌜ r ≡ seqPassed x y ⌝ }
 {
     Passed {
-        typed: both(x.typed, y.typed),
-        flow: both(x.flow, y.flow),
+        typed: x.typed & y.typed,
+        flow: x.flow & y.flow,
         next: y.next,
     }
 }
@@ -52,7 +51,7 @@ fn of_assign(table: &[u16], x: u32, e: Typed, flow: bool) -> Passed
     let typed = is_type(e, tables::location_type(table, x));
     Passed {
         typed,
-        flow: both(e.flow, flow),
+        flow: e.flow & flow,
         next: e.next,
     }
 }
@@ -60,10 +59,10 @@ fn of_assign(table: &[u16], x: u32, e: Typed, flow: bool) -> Passed
 fn of_while(x: Typed, y: Passed) -> Passed
     ensures { λ r. ⌜ r ≡ whilePassed x y ⌝ }
 {
-    let typed = both(is_type(x, INT_OR_INT), y.typed);
+    let typed = is_type(x, INT_OR_INT) & y.typed;
     Passed {
         typed,
-        flow: both(x.flow, y.flow),
+        flow: x.flow & y.flow,
         next: y.next,
     }
 }
@@ -71,11 +70,11 @@ fn of_while(x: Typed, y: Passed) -> Passed
 fn of_case(table: &[u16], x: Typed, y: Passed, z: Passed) -> Passed
     ensures { λ r. ⌜ r ≡ casePassed (now (table .entry)) x y z ⌝ }
 {
-    let typed = both(is_sum(table, x.ty), both(y.typed, z.typed));
-    let flow = both(y.flow, z.flow);
+    let typed = is_sum(table, x.ty) & (y.typed & z.typed);
+    let flow = y.flow & z.flow;
     Passed {
-        typed: both(x.typed, typed),
-        flow: both(x.flow, flow),
+        typed: x.typed & typed,
+        flow: x.flow & flow,
         next: z.next,
     }
 }
@@ -106,7 +105,7 @@ pub(crate) fn check_cmd(
             match kind {
                 lines::ASSIGN => {
                     let home = tables::label_of(table, tables::location_label(table, row.a));
-                    let flow = both(x.label.at_or_below(home), pc.at_or_below(home));
+                    let flow = x.label.at_or_below(home) & pc.at_or_below(home);
                     of_assign(table, row.a, x, flow)
                 }
                 lines::WHILE => {

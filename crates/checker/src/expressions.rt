@@ -1,7 +1,6 @@
 // Types and least labels of expressions over the lines (the scope, "Typing"; the paper, figure 4).
 ghost use mathlib.Core.Path.{_≡_};
 ghost use Rattle.labels.specs.Labels.{bottomOf};
-ghost use Rattle.language.specs.Syntax.{both};
 ghost use Rattle.tables.specs.TypeTest.{isSum};
 ghost use Rattle.tables.specs.Tables.{everyoneIn};
 ghost use Rattle.checker.specs.Nodes.{isType, nothing, intTyped, locTyped, varTyped, plusTyped, sumTyped, packTyped, unpackTyped};
@@ -22,12 +21,6 @@ const PKG_OR_ERROR: u32 = 4;
 
 const SUMS: u32 = 3;
 
-pub(crate) fn both(a: bool, b: bool) -> bool
-    ensures { λ r. ⌜ r ≡ both a b ⌝ }
-{
-    a && b
-}
-
 // Whether a type is a sum.
 pub(crate) fn is_sum(table: &[u16], ty: u32) -> bool
     ensures { λ r. ⌜ r ≡ isSum (now (table .entry)) ty ⌝ }
@@ -43,7 +36,7 @@ pub(crate) fn is_sum(table: &[u16], ty: u32) -> bool
 pub(crate) fn is_type(x: Typed, ty: u32) -> bool
     ensures { λ r. ⌜ r ≡ isType x ty ⌝ }
 {
-    both(x.typed, ty == x.ty)
+    x.typed & (ty == x.ty)
 }
 
 // The least label on the sheet.
@@ -128,8 +121,8 @@ fn of_plus(x: Typed, y: Typed) -> Typed
     let a = x.label;
     let b = y.label;
     let label = a.join(b);
-    let typed = both(is_type(x, INT), is_type(y, INT));
-    let flow = both(x.flow, y.flow);
+    let typed = is_type(x, INT) & is_type(y, INT);
+    let flow = x.flow & y.flow;
     Typed {
         ty: INT,
         typed,
@@ -144,7 +137,7 @@ fn of_sum(table: &[u16], ty: u32, part: u32, x: Typed) -> Typed
     ensures { λ r. ⌜ r ≡ sumTyped (now (table .entry)) ty part x ⌝ }
 {
     let label = x.label;
-    let typed = both(is_sum(table, ty), is_type(x, part));
+    let typed = is_sum(table, ty) & is_type(x, part);
     Typed {
         ty,
         typed,
@@ -159,7 +152,7 @@ fn of_pack(table: &[u16], l: u32, x: Typed) -> Typed
 {
     let a = tables::label_of(table, l);
     let operand = x.label;
-    let flow = both(x.flow, operand.at_or_below(a));
+    let flow = x.flow & operand.at_or_below(a);
     let integrity = a.integrity(tables::everyone(table));
     Typed {
         ty: PKG_OR_ERROR,
@@ -175,9 +168,9 @@ fn of_unpack(table: &[u16], ty: u32, l: u32, x: Typed) -> Typed
 {
     let label = tables::label_of(table, l);
     let operand = x.label;
-    let flow = both(x.flow, operand.confidentiality_at_or_below(label));
-    let or_error = both(is_sum(table, ty), tables::right_part(table, ty) == ERROR);
-    let typed = both(is_type(x, PKG), or_error);
+    let flow = x.flow & operand.confidentiality_at_or_below(label);
+    let or_error = is_sum(table, ty) & (tables::right_part(table, ty) == ERROR);
+    let typed = is_type(x, PKG) & or_error;
     Typed {
         ty,
         typed,

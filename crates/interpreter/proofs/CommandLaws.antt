@@ -11,7 +11,7 @@ use lib.ListN.{drop}
 use Rattle.language.specs.Syntax.{Value, int, err, inl, inr, pkg, blank, Expr, Cmd, seq, while, case}
 use Rattle.language.specs.Evaluation.{World, Mem, Env, Res, ok, long, stuck, eval}
 use Rattle.language.specs.Transition.{branch, branchV, Out, done, spent, over, wrong}
-use Rattle.language.proofs.Booleans.{both-left, both-right}
+use Rattle.booleans.proofs.BooleanLaws.{both-left, both-right}
 use Rattle.language.proofs.Interpreter.{go, andThen, spend, go-skip, go-seq, go-case, go-while}
 use Rattle.lines.specs.Lines.{Line, SourceE, Source, exprLines, cmdLines}
 use Rattle.lines.specs.Code.{code, rowAt}

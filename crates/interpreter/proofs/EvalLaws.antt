@@ -9,7 +9,7 @@ use borrow.Author.Tests.{ltb-true}
 use lib.ListN.{length, drop, getD}
 use Rattle.language.specs.Syntax.{Value, int, Expr, inl, inr}
 use Rattle.language.specs.Evaluation.{World, Mem, Env, Res, ok, long, stuck, bind, fit, add, packed, unpacked, eval, cell-words}
-use Rattle.language.proofs.Booleans.{both-left, both-right}
+use Rattle.booleans.proofs.BooleanLaws.{both-left, both-right}
 use Rattle.lines.specs.Lines.{Line, exprLines}
 use Rattle.lines.specs.Code.{code, rowAt}
 use Rattle.lines.specs.Names.{Counts, namedE}

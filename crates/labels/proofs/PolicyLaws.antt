@@ -10,8 +10,9 @@ use lib.Dec.{ltb}
 use lib.ListN.{length, length-set, length-replicate}
 use lib.Seq.{getD-set-same, getD-set-other}
 use borrow.Author.Tests.{ltb-true}
-use Rattle.sets.specs.Sets.{both, union, within, single, everyone}
-use Rattle.sets.proofs.BoolLaws.{both-left, both-right}
+use Rattle.booleans.specs.Booleans.{both}
+use Rattle.booleans.proofs.BooleanLaws.{both-left, both-right}
+use Rattle.sets.specs.Sets.{union, within, single, everyone}
 use Rattle.sets.proofs.Walks.{getD-tab, length-tab}
 use Rattle.sets.proofs.SetLaws.{within-refl, within-union-right, union-within, single-within-everyone}
 use Rattle.labels.specs.declared.Label.{Label}

@@ -4,7 +4,8 @@ use mathlib.Core.Path.{_≡_, refl, sym, _∙_}
 use mathlib.Core.Bool.{true}
 use Prim.Native.Nat.{ℕ, suc, _<_, _≤_}
 use native.Mathlib.Nat.{lt-of-lt-of-le}
-use Rattle.sets.specs.Sets.{both, member, within, meets, everyone, every}
+use Rattle.booleans.specs.Booleans.{both}
+use Rattle.sets.specs.Sets.{member, within, meets, everyone, every}
 use Rattle.sets.proofs.Walks.{every-true, every-at}
 use Rattle.sets.proofs.SetLaws.{within-elim, meets-elim, meets-intro, meets-mono, meets-within}
 use Rattle.labels.specs.declared.Label.{Label}

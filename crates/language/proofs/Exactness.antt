@@ -6,12 +6,13 @@ use mathlib.Core.Option.{some}
 use mathlib.Core.List.{List, [], _∷_}
 use Prim.Native.Nat.{ℕ, zero, suc}
 use native.Mathlib.Omega.{arith}
-use Rattle.language.specs.Syntax.{Ty, t-int, t-err, t-pkg, t-sum, int, err, inl, inr, pkg, blank, Expr, val, loc, var, plus, left, right, pack, unpack, Cmd, skip, seq, assign, while, case, both}
+use Rattle.booleans.specs.Booleans.{both}
+use Rattle.booleans.proofs.BooleanLaws.{both-left, both-right, both-true, not-so}
+use Rattle.language.specs.Syntax.{Ty, t-int, t-err, t-pkg, t-sum, int, err, inl, inr, pkg, blank, Expr, val, loc, var, plus, left, right, pack, unpack, Cmd, skip, seq, assign, while, case}
 use Rattle.language.specs.Labels.{Labels, Lattice, struck}
 use Rattle.language.specs.Typing.{Declarations, unlabelled, nth, orElse, typeOfValue, typeOf, shape, least, flowE, flow, conditions, accepts, refusal}
 use Rattle.language.specs.Rules.{LabelledType, Typed, te-int, te-loc, te-var, te-plus, te-suml, te-sumr, te-pack, te-unpack, te-sub, Safe, tc-skip, tc-assign, tc-seq, tc-while, tc-case, tc-subs, Derivable}
 use Rattle.language.specs.Theorems.{Exactness}
-use Rattle.language.proofs.Booleans.{both-left, both-right, both-true, not-true}
 use Rattle.language.proofs.Types.{some-path, none-some, isTy-true, isTy-path, hasTy-true, hasTy-path, given-true, given-path, leftIs-true, leftIs-path, rightIs-true, rightIs-path, onSum-true, onSum-path}
 
 pub struck-lattice : Lattice struck
@@ -304,11 +305,11 @@ module _ {L : Type 0} (𝓛 : Labels L) (law : Lattice 𝓛) (D : Declarations L
     );
     refused-5 = λ c. (
       (λ h d. true≢false (sym (shape-iff D c .1 d) ∙ number-5 (shape (D .shapes) [] c) (flow (conditions 𝓛 D) (𝓛 .bot) [] c) h)),
-      (λ n. number {f = flow (conditions 𝓛 D) (𝓛 .bot) [] c} (not-true (shape (D .shapes) [] c) (λ h. n (shape-iff D c .0 h))) refl),
+      (λ n. number {f = flow (conditions 𝓛 D) (𝓛 .bot) [] c} (not-so (shape (D .shapes) [] c) (λ h. n (shape-iff D c .0 h))) refl),
     );
     refused-6 = λ c. (
       (λ h. let n = number-6 (shape (D .shapes) [] c) (flow (conditions 𝓛 D) (𝓛 .bot) [] c) h in
           (shape-iff D c .0 (n .0), λ d. true≢false (sym (flow-iff (𝓛 .bot) c .1 d .1) ∙ n .1))),
-      (λ n. number (shape-iff D c .1 (n .0)) (not-true (flow (conditions 𝓛 D) (𝓛 .bot) [] c) (λ f. n .1 (flow-iff (𝓛 .bot) c .0 (shape-iff D c .1 (n .0), f))))),
+      (λ n. number (shape-iff D c .1 (n .0)) (not-so (flow (conditions 𝓛 D) (𝓛 .bot) [] c) (λ f. n .1 (flow-iff (𝓛 .bot) c .0 (shape-iff D c .1 (n .0), f))))),
     );
   }

@@ -1,4 +1,3 @@
-pub mod Booleans
 pub mod Masking
 pub mod Substitution
 pub mod Interpreter

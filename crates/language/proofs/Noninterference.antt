@@ -10,7 +10,7 @@ use Rattle.language.specs.Transition.{put}
 use Rattle.language.specs.Typing.{Conditions, nth, orElse, least, flowE, flow}
 use Rattle.language.specs.View.{Equiv, ve-int, ve-err, ve-inl, ve-inr, ve-pack-in, ve-pack-lab, ve-blank, EquivMem}
 use Rattle.language.specs.Theorems.{Observer, Noninterference}
-use Rattle.language.proofs.Booleans.{both-left, both-right, not-true, T-of, by-test}
+use Rattle.booleans.proofs.BooleanLaws.{T-of, both-left, both-right, by-test, not-so}
 use Rattle.language.proofs.Fit.{by-fit}
 use Rattle.language.proofs.Masking.{equiv-refl, has-equiv, equiv-of-view, view-of-equiv}
 use Rattle.language.proofs.Confinement.{Quiet, q-seq, q-assign, q-while, q-case, put-unseen, while-quiet, case-quiet}
@@ -109,7 +109,7 @@ module _ (vis : ℕ → Bool) where
   agree-unpack W t m s (ve-pack-in {l} {v₂ = w} h) =
       rw (has-equiv vis h (wanted (W .ty t))) (agree-open (W .reads m) (W .below l m) (has w (wanted (W .ty t))) h)
   agree-unpack W t m s (ve-pack-lab {l} {v₁} {v₂} e) =
-      rw (not-true (W .below l m) (λ b. false≢true (sym e ∙ s l b)))
+      rw (not-so (W .below l m) (λ b. false≢true (sym e ∙ s l b)))
       (agree-illegal (W .reads m) (has v₁ (wanted (W .ty t))) (has v₂ (wanted (W .ty t))) v₁ v₂)
   agree-unpack W t m s ve-blank = tt
 

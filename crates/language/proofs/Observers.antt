@@ -4,14 +4,15 @@ use mathlib.Core.Path.{_≡_, refl, ap, sym, _∙_}
 use mathlib.Core.Bool.{Bool, true, true≢false}
 use mathlib.Core.List.{[]}
 use Prim.Native.Nat.{ℕ}
-use Rattle.language.specs.Syntax.{Value, inl, inr, pkg, Cmd, both}
+use Rattle.booleans.specs.Booleans.{both}
+use Rattle.booleans.proofs.BooleanLaws.{both-right}
+use Rattle.language.specs.Syntax.{Value, inl, inr, pkg, Cmd}
 use Rattle.language.specs.Evaluation.{World, Mem}
 use Rattle.language.specs.Transition.{done, iterate}
 use Rattle.language.specs.Labels.{Labels, Lattice}
 use Rattle.language.specs.Typing.{Declarations, Conditions, conditions, flow}
 use Rattle.language.specs.View.{Equiv, ve-int, ve-err, ve-inl, ve-inr, ve-pack-in, ve-pack-lab, ve-blank}
 use Rattle.language.specs.Theorems.{Observer}
-use Rattle.language.proofs.Booleans.{both-right}
 use Rattle.language.proofs.Masking.{equiv-refl, equiv-of-view, view-of-equiv}
 use Rattle.language.proofs.Noninterference.{noninterference}
 

@@ -70,8 +70,3 @@ has (pkg l v) t-err = false
 has (pkg l v) t-pkg = true
 has (pkg l v) (t-sum a b) = false
 has blank t = false
-
--- Conjunction.
-unfoldable pub both : Bool → Bool → Bool
-both true b = b
-both false b = false

@@ -1,5 +1,5 @@
 -- The code of a script: three words a line, its kind's number and two operands; a word without an operand is 0.
-use mathlib.Core.Bool.{Bool, true, false, cond}
+use mathlib.Core.Bool.{cond}
 use mathlib.Core.List.{List, [], _∷_}
 use Prim.Native.Nat.{ℕ, _+_}
 use lib.Dec.{leb}

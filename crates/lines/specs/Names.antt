@@ -1,8 +1,9 @@
 -- What a script may name (the scope, "The three texts"): what is on the sheet, variables that a case binds; and how deep cases nest.
-use mathlib.Core.Bool.{Bool, true, false}
+use mathlib.Core.Bool.{Bool, true}
 use Prim.Native.Nat.{ℕ, suc, _^_}
 use lib.Dec.{ltb}
-use Rattle.language.specs.Syntax.{Value, Expr, val, loc, var, plus, left, right, pack, unpack, Cmd, skip, seq, assign, while, case, both}
+use Rattle.booleans.specs.Booleans.{both}
+use Rattle.language.specs.Syntax.{Expr, val, loc, var, plus, left, right, pack, unpack, Cmd, skip, seq, assign, while, case}
 use Rattle.lines.specs.Lines.{numberOf}
 
 -- How many types, labels and locations a sheet has.

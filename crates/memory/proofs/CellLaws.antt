@@ -8,13 +8,12 @@ use native.Mathlib.Omega.{arith}
 use borrow.Author.Tests.{eq-eqb, eqb-true, ne-eqb}
 use lib.Dec.{eqb}
 use lib.ListN.{length, getD, drop, length-drop}
-use Rattle.sets.proofs.BoolLaws.{absurd-false, both-true, both-left, both-right}
+use Rattle.booleans.proofs.BooleanLaws.{absurd-false, both-left, both-off, both-on, both-right, both-true}
 use Rattle.language.specs.Syntax.{Value, int, err, inl, inr, pkg, blank, size}
 use Rattle.language.specs.Evaluation.{cell-words}
 use Rattle.memory.specs.Words.{enc, zeros, cell, readOf, valueOf}
 use Rattle.memory.specs.Memory.{proper, same, exactly, holdsBy}
 use Rattle.memory.specs.Post.{Walks}
-use Rattle.memory.proofs.Booleans.{both-on, both-off}
 use Rattle.memory.proofs.WordLaws.{length-enc, read-exact}
 use Rattle.memory.proofs.PlaceLaws.{here, past}
 

@@ -1,4 +1,3 @@
-pub mod Booleans
 pub mod WordLaws
 pub mod ProperLaws
 pub mod PlaceLaws

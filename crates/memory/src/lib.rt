@@ -7,7 +7,7 @@ ghost use Prim.Native.Nat.{_+_, _*_, _≤_};
 ghost use lib.Dec.{eqb, ltb};
 ghost use lib.ListN.{length, drop};
 ghost use lib.Seq.{paste};
-ghost use Rattle.sets.specs.Sets.{both};
+ghost use Rattle.booleans.specs.Booleans.{both};
 ghost use Rattle.language.specs.Syntax.{size};
 ghost use Rattle.language.specs.View.{mask};
 ghost use Rattle.tables.specs.Tables.{labelsIn, locationsIn, readsIn};

@@ -8,7 +8,8 @@ use Rattle.text.specs.Reading.{andThen, byte, fits}
 use Rattle.text.specs.Number.{digit, digits, opensDigit, number, decimal, decimalOn}
 use Rattle.text.specs.Field.{numberField, lastNumber}
 use Rattle.text.specs.Lines.{front, onward, linesUpTo, printLines}
-use Rattle.language.specs.Syntax.{both, loc, var, unpack, Cmd, skip, assign, case}
+use Rattle.booleans.specs.Booleans.{both}
+use Rattle.language.specs.Syntax.{loc, var, unpack, Cmd, skip, assign, case}
 use Rattle.lines.specs.Lines.{cmdLines, exprLines}
 use Rattle.lines.specs.Names.{Counts, named, namedE}
 use Rattle.script.specs.Bytes.{lineBytes, scriptBytes}

@@ -14,7 +14,7 @@ use Rattle.text.specs.Lines.{none-left, and-then}
 use Rattle.text.proofs.Cases.{cond-split, not-none, some-same}
 use Rattle.text.proofs.Lines.{lines-exact}
 use Rattle.language.specs.Syntax.{Expr, Cmd}
-use Rattle.language.proofs.Booleans.{both-left, both-right}
+use Rattle.booleans.proofs.BooleanLaws.{both-left, both-right}
 use Rattle.lines.specs.Lines.{Line, l-skip, l-seq, l-assign, l-while, l-case, l-int, l-loc, l-var, l-plus, l-left, l-right, l-pack, l-unpack, SourceE, s-int, s-loc, s-var, s-plus, s-left, s-right, s-pack, s-unpack, Source, s-skip, s-seq, s-assign, s-while, s-case, numberOf, exprLines, cmdLines}
 use Rattle.lines.specs.Code.{lineWords}
 use Rattle.lines.specs.Names.{Counts, maxDepth, namedE, named}

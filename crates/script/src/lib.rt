@@ -3,7 +3,7 @@ ghost use mathlib.Core.Path.{_≡_};
 ghost use Prim.Native.Nat.{ℕ, _*_};
 ghost use lib.Dec.{ltb};
 ghost use lib.ListN.{take, drop};
-ghost use Rattle.language.specs.Syntax.{both};
+ghost use Rattle.booleans.specs.Booleans.{both};
 ghost use Rattle.lines.specs.Lines.{Line};
 ghost use Rattle.tables.specs.Tables.{typesIn, labelsIn, locationsIn};
 ghost use Rattle.script.specs.Reading.{Form, bare, one, two, operandsOf, lineOf, linesOf};

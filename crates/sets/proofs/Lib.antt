@@ -1,4 +1,3 @@
-pub mod BoolLaws
 pub mod Walks
 pub mod SetLaws
 pub mod GatherLaws

@@ -8,8 +8,9 @@ use native.Mathlib.Nat.{not-suc-le-zero, le-of-suc-le-suc, zero-lt-suc}
 use native.Mathlib.Numerals.{add-one}
 use lib.ListN.{length, getD, set, drop, replicate}
 use lib.Seq.{set-getD}
-use Rattle.sets.specs.Sets.{both, every, tab}
-use Rattle.sets.proofs.BoolLaws.{both-true, both-left, both-right, both-no-left, both-no-right, bool-ext}
+use Rattle.booleans.specs.Booleans.{both}
+use Rattle.booleans.proofs.BooleanLaws.{bool-ext, both-left, both-no-left, both-no-right, both-right, both-true}
+use Rattle.sets.specs.Sets.{every, tab}
 
 -- ---- every
 pub every-true : (n : ℕ) (f : ℕ → Bool) → ((i : ℕ) → i < n → f i ≡ true) → every n f ≡ true

@@ -6,20 +6,11 @@ use mathlib.Core.List.{List, [], _∷_}
 use Prim.Native.Nat.{ℕ, zero, suc, _/_, _%_, _^_, _+_, _*_, _-_}
 use lib.Bits.{bitAnd, bitOr}
 use lib.Dec.{eqb}
+use Rattle.booleans.specs.Booleans.{both}
 
 -- the number of bits of a set in the code
 abbrev pub width : ℕ
 width = 16
-
--- ---- truth values
-
-unfoldable pub both : Bool → Bool → Bool
-both true b = b
-both false b = false
-
-unfoldable pub either : Bool → Bool → Bool
-either true b = true
-either false b = b
 
 -- ---- sets
 

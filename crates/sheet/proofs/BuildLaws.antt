@@ -6,12 +6,12 @@ use mathlib.Core.Option.{Option, none, some}
 use Prim.Native.Nat.{ℕ, _^_, _<_, _≤_}
 use native.Mathlib.Omega.{arith}
 use native.Mathlib.Nat.{lt-of-lt-of-le}
-use lib.Dec.{ltb, leb, eqb}
+use lib.Dec.{leb, eqb}
 use lib.ListN.{length}
 use lib.Pow.{pow-mono}
 use borrow.Author.Tests.{le-leb, ltb-true, leb-true, eqb-true}
-use Rattle.sets.specs.Sets.{both}
-use Rattle.sets.proofs.BoolLaws.{both-true, both-left, both-right}
+use Rattle.booleans.specs.Booleans.{both}
+use Rattle.booleans.proofs.BooleanLaws.{both-left, both-right, both-true}
 use Rattle.text.specs.Lines.{none-left, and-then}
 use Rattle.text.proofs.Cases.{cond-split, not-none, some-same}
 use Rattle.labels.specs.Labels.{policy}
@@ -20,7 +20,7 @@ use Rattle.tables.proofs.FormLaws.{Formed, formed-facts, type-count}
 use Rattle.sheet.specs.declared.line.Line.{Line}
 use Rattle.sheet.specs.declared.line.Line.the-variants.{P, T, L, O, X}
 use Rattle.sheet.specs.Lines.{sumLine, policyLine, locationLine, each, labelLines, linesThen, sheetLines}
-use Rattle.sheet.specs.Building.{blank, addSum, addLabel, toLast, addPolicy, addLocation, leastOwner, sumFits, labelFits, policyFits, locationFits, begin, step, stepOn, steps, build}
+use Rattle.sheet.specs.Building.{blank, addSum, addLabel, addPolicy, addLocation, leastOwner, sumFits, labelFits, policyFits, locationFits, begin, step, stepOn, steps, build}
 use Rattle.sheet.proofs.LineLaws.{Fits, AllFit}
 use Rattle.sheet.proofs.GrowthLaws.{length-more, no-entries, each-more, labels-more, policies-more, length-toLast, earlier-more, each-rising-more, each-rising-last, each-named-more}
 

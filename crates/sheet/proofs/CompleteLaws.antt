@@ -8,8 +8,8 @@ use native.Mathlib.Omega.{arith}
 use lib.Dec.{ltb, leb}
 use lib.ListN.{length}
 use borrow.Author.Tests.{lt-ltb, le-leb, ltb-true}
-use Rattle.sets.specs.Sets.{both}
-use Rattle.sets.proofs.BoolLaws.{both-true, both-left, both-right}
+use Rattle.booleans.specs.Booleans.{both}
+use Rattle.booleans.proofs.BooleanLaws.{both-left, both-right, both-true}
 use Rattle.labels.specs.Labels.{Policy, policy}
 use Rattle.tables.specs.Sheet.{Sum, Location, Sheet, typeCount, labelCount, locationCount, earlier, rising, eachRising, eachNamed, formed}
 use Rattle.tables.proofs.FormLaws.{formed-facts, type-count}

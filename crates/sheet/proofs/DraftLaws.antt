@@ -3,21 +3,21 @@ use mathlib.Core.Path.{_≡_, refl, sym, ap, _∙_}
 use mathlib.Core.Bool.{Bool, true, false, cond}
 use mathlib.Core.List.{List, []}
 use mathlib.Core.Option.{Option, none, some}
-use Prim.Native.Nat.{ℕ, _+_, _*_, _-_, _%_, _^_, _<_, _≤_}
+use Prim.Native.Nat.{ℕ, _+_, _-_, _%_, _^_, _<_, _≤_}
 use native.Mathlib.Omega.{arith}
 use native.Mathlib.Nat.{mod-eq-of-lt}
 use native.Mathlib.Numerals.{add-one}
-use lib.Dec.{eqb, leb, ltb}
+use lib.Dec.{leb, ltb}
 use lib.ListN.{length, set, replicate}
 use lib.Pow.{pow-pos, pow-mono}
 use borrow.Author.Tests.{ltb-true, leb-true, le-leb, lt-ltb}
-use Rattle.sets.specs.Sets.{width, both, everyone, restrict}
+use Rattle.booleans.specs.Booleans.{both}
+use Rattle.booleans.proofs.BooleanLaws.{absurd-false, bool-ext, both-left, both-no-right, both-right}
+use Rattle.sets.specs.Sets.{width, everyone, restrict}
 use Rattle.sets.proofs.SetLaws.{restrict-id}
-use Rattle.sets.proofs.BoolLaws.{absurd-false, bool-ext, both-left, both-right, both-no-right}
-use Rattle.labels.specs.Labels.{policy, openOf, policyOf}
-use Rattle.labels.specs.Tables.{labelSize, labelPut}
-use Rattle.tables.specs.Sheet.{Sum, Location, Sheet, givenParts, partsOf, typeCount, labelsOf, labelCount, locationCount, formed}
-use Rattle.tables.specs.Tables.{padded, pairWords, labelsWords, tableOf, tableWords, principalsIn, everyoneIn, typesIn, labelsIn, locationsIn, labelIn}
+use Rattle.labels.specs.Labels.{policy}
+use Rattle.tables.specs.Sheet.{Sum, Sheet, givenParts, partsOf, typeCount, labelsOf, labelCount, locationCount, formed}
+use Rattle.tables.specs.Tables.{padded, pairWords, labelsWords, tableOf, tableWords, labelsIn}
 use Rattle.tables.proofs.FormLaws.{formed-facts, type-count}
 use Rattle.tables.proofs.TableLaws.{types-in, labels-in, locations-in, principals-in, everyone-in}
 use Rattle.sheet.specs.declared.line.Line.{Line}

@@ -4,7 +4,8 @@ use mathlib.Core.Bool.{true}
 use mathlib.Core.List.{List, [], _∷_, map}
 use Prim.Native.Nat.{ℕ}
 use lib.ListN.{replicate}
-use Rattle.sets.specs.Sets.{both, either, union, every, tab, single, everyone}
+use Rattle.booleans.specs.Booleans.{both, either}
+use Rattle.sets.specs.Sets.{union, every, tab, single, everyone}
 use Rattle.text.specs.Reading.{andThen, byte, fits}
 use Rattle.text.specs.Number.{digit, opensDigit, digits, number, decimalOn, decimal}
 use Rattle.text.specs.Set.{hexDigit, hexDigits, hexByte, hex4}

@@ -2,14 +2,12 @@
 use mathlib.Core.Path.{_≡_, refl, ap}
 use mathlib.Core.Bool.{true}
 use mathlib.Core.List.{List, [], _∷_, _++_}
-use Prim.Native.Nat.{ℕ, zero, suc, _+_, _<_, _≤_}
+use Prim.Native.Nat.{ℕ, suc, _+_, _<_, _≤_}
 use native.Mathlib.Omega.{arith}
 use native.Mathlib.Nat.{add-zero}
-use lib.Dec.{ltb}
 use lib.ListN.{length, length-append}
 use borrow.Author.Tests.{lt-ltb}
-use Rattle.sets.specs.Sets.{both}
-use Rattle.sets.proofs.BoolLaws.{both-true, both-left, both-right}
+use Rattle.booleans.proofs.BooleanLaws.{both-left, both-right, both-true}
 use Rattle.labels.specs.Labels.{Policy, policy}
 use Rattle.tables.specs.Sheet.{Sum, Location, earlier, rising, eachRising, eachNamed}
 use Rattle.sheet.specs.declared.line.Line.{Line}

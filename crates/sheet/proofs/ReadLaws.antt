@@ -6,12 +6,12 @@ use mathlib.Core.Option.{Option, none, some}
 use Prim.Native.Nat.{ℕ, _≤_, _<_}
 use native.Mathlib.Omega.{arith}
 use lib.ListN.{length, drop, length-drop, drop-of-length-le}
-use Rattle.sets.proofs.BoolLaws.{absurd-false}
+use Rattle.booleans.proofs.BooleanLaws.{absurd-false}
 use Rattle.text.specs.Reading.{fits}
 use Rattle.text.specs.Reading.Read.{got, bad}
 use Rattle.text.specs.Lines.{front}
 use Rattle.text.proofs.Lines.{all-none, all-more, all-bad}
-use Rattle.tables.specs.Sheet.{Sheet, typeCount, labelCount, formed, repeats}
+use Rattle.tables.specs.Sheet.{Sheet, typeCount, labelCount}
 use Rattle.tables.specs.Tables.{typesIn, labelsIn}
 use Rattle.tables.proofs.FormLaws.{formed-facts, type-count}
 use Rattle.tables.proofs.TableLaws.{types-in, labels-in}

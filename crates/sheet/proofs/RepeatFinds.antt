@@ -8,8 +8,9 @@ use native.Mathlib.Decide.{decLe}
 use lib.Dec.{eqb}
 use lib.ListN.{length, getD, length-map}
 use borrow.Author.Tests.{lt-ltb}
-use Rattle.sets.specs.Sets.{both, either, every, everyone}
-use Rattle.sets.proofs.BoolLaws.{bool-ext, both-true, both-left, both-right}
+use Rattle.booleans.specs.Booleans.{both, either}
+use Rattle.booleans.proofs.BooleanLaws.{bool-ext, both-left, both-right, both-true}
+use Rattle.sets.specs.Sets.{every, everyone}
 use Rattle.sets.proofs.Walks.{every-true, every-at, getD-tab}
 use Rattle.labels.specs.Labels.{owners, labelOf, bottomOf, readersOf, writersOf, sameAt, sameOf}
 use Rattle.labels.specs.Tables.{labelSize, setsAt, labelAt}

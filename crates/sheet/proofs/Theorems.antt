@@ -1,6 +1,6 @@
 -- Each answer is given exactly to the texts that it is for. Assumes nothing.
 use mathlib.Core.Path.{_≡_, refl, sym, ap, _∙_}
-use mathlib.Core.Bool.{true, false, cond}
+use mathlib.Core.Bool.{true, false}
 use mathlib.Core.List.{List}
 use mathlib.Core.Option.{Option, none, some}
 use Prim.Native.Nat.{ℕ, _≤_}
@@ -16,7 +16,6 @@ use Rattle.tables.specs.Sheet.{Sheet, repeats}
 use Rattle.sheet.specs.declared.line.Line.{Line}
 use Rattle.sheet.specs.Lines.{sheetLines, lineBytes, sheetBytes}
 use Rattle.sheet.specs.Reading.{linesOf}
-use Rattle.sheet.specs.Building.{build}
 use Rattle.sheet.specs.Sheets.{buildIn, sheetIn, Answer, malformed, repeating, accepted, judged, sheetOf}
 use Rattle.sheet.specs.Theorems.{IsSheet, AcceptedExact, RepeatingExact, MalformedExact, OneSheet}
 use Rattle.sheet.proofs.LineLaws.{sheet-lines}

@@ -5,7 +5,7 @@ use mathlib.Core.Option.{Option, none, some}
 use Prim.Native.Nat.{ℕ, suc, _^_}
 use lib.Dec.{eqb, leb, ltb}
 use lib.ListN.{length}
-use Rattle.sets.specs.Sets.{both}
+use Rattle.booleans.specs.Booleans.{both}
 use Rattle.labels.specs.Labels.{Policy, policy}
 use Rattle.tables.specs.Sheet.{Sum, Location, Sheet, typeCount, labelCount, locationCount, maxPrincipals, maxSums, maxLabels, maxLocations}
 use Rattle.sheet.specs.declared.line.Line.{Line}

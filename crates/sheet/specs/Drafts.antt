@@ -6,7 +6,8 @@ use mathlib.Core.Option.{Option, none, some}
 use Prim.Native.Nat.{ℕ, _+_, _*_, _-_, _%_}
 use lib.Dec.{eqb, leb, ltb}
 use lib.ListN.{getD, set}
-use Rattle.sets.specs.Sets.{both, width, everyone, restrict}
+use Rattle.booleans.specs.Booleans.{both}
+use Rattle.sets.specs.Sets.{width, everyone, restrict}
 use Rattle.labels.specs.Labels.{openOf, policyOf}
 use Rattle.labels.specs.Tables.{labelSize, labelPut}
 use Rattle.tables.specs.Sheet.{Sheet, formed, maxPrincipals, maxLabels, maxLocations}

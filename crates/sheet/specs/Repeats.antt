@@ -4,7 +4,8 @@ use mathlib.Core.List.{List}
 use Prim.Native.Nat.{ℕ, zero, suc, _+_, _*_, _-_}
 use lib.Dec.{eqb}
 use lib.ListN.{getD}
-use Rattle.sets.specs.Sets.{every, either}
+use Rattle.booleans.specs.Booleans.{either}
+use Rattle.sets.specs.Sets.{every}
 use Rattle.labels.specs.Tables.{labelSize}
 use Rattle.tables.specs.Tables.{partsBase, labelsBase, typesIn, labelsIn}
 

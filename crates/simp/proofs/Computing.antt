@@ -4,6 +4,7 @@ use Rattle.text.specs.Lines as text-lines
 use Rattle.text.specs.Number as number
 use Rattle.text.specs.Reading as reading
 use Rattle.text.specs.Set as hex
+use Rattle.booleans.specs.Booleans as booleans
 use Rattle.sets.specs.Sets as sets
 use Rattle.labels.specs.Labels as labels
 use Rattle.language.specs.Evaluation as evaluation
@@ -35,8 +36,12 @@ unfolding field.numberField field.setField field.lastNumber
     hex.hexDigit hex.hexDigits hex.hexByte
 text-used = tt
 
+unfoldable pub booleans-used : Unit {0}
+unfolding booleans.both booleans.either
+booleans-used = tt
+
 unfoldable pub sets-used : Unit {0}
-unfolding sets.both sets.either sets.member sets.union sets.intersection sets.within sets.meets sets.single sets.everyone sets.restrict sets.every
+unfolding sets.member sets.union sets.intersection sets.within sets.meets sets.single sets.everyone sets.restrict sets.every
     sets.tab
 sets-used = tt
 
@@ -49,7 +54,7 @@ labels-used = tt
 unfoldable pub language-used : Unit {0}
 unfolding evaluation.bind evaluation.fitting evaluation.fit evaluation.addTo evaluation.add evaluation.packed evaluation.opened evaluation.wanted
     evaluation.unpacked evaluation.lookup evaluation.eval
-    syntax.size syntax.has syntax.both
+    syntax.size syntax.has
     transition.lift transition.close-var transition.closeE transition.close transition.inst transition.put transition.at-seq
     transition.at-assign transition.branchV transition.branch transition.step transition.after transition.run transition.iterate
     typing.nth typing.orElse typing.isYes typing.sameTy typing.isTy typing.hasTy typing.leftIs typing.rightIs typing.onSum typing.given
@@ -96,5 +101,5 @@ unfolding calls.onSheet calls.unless calls.strangers calls.onScript calls.untype
 simp-used = tt
 
 unfoldable pub all-used : Unit {0}
-unfolding text-used sets-used labels-used language-used lines-used tables-used sheet-used script-used memory-used simp-used
+unfolding booleans-used text-used sets-used labels-used language-used lines-used tables-used sheet-used script-used memory-used simp-used
 all-used = tt

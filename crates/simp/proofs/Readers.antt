@@ -1,20 +1,19 @@
 -- A group that reads by the scope's rule is an observer of a sheet's labels: noninterference for it. Assumes nothing.
 use mathlib.Core.Path.{_≡_, refl, sym, ap, subst₂, fun-ext}
-use mathlib.Core.Bool.{Bool, true, false}
-use mathlib.Core.List.{List, []}
+use mathlib.Core.Bool.{Bool, true}
 use Prim.Native.Nat.{ℕ, _≤_}
-use Rattle.labels.specs.Labels.{owners, belowOf, confidentialityOf, readsOf, EffectiveLabel}
+use Rattle.labels.specs.Labels.{owners, readsOf, EffectiveLabel}
 use Rattle.labels.proofs.ReadingLaws.{reads-down, reads-down-C}
 use Rattle.language.specs.Syntax.{Cmd}
 use Rattle.language.specs.Evaluation.{Mem}
 use Rattle.language.specs.Transition.{done, iterate}
-use Rattle.language.specs.Typing.{conditions, flow}
+use Rattle.language.specs.Typing.{conditions}
 use Rattle.language.specs.View.{maskMem}
 use Rattle.language.specs.Theorems.{Observer}
 use Rattle.language.proofs.Exactness.{flow-iff}
 use Rattle.language.proofs.Noninterference.{noninterference}
 use Rattle.language.proofs.Observers.{lattice-joins, reader}
-use Rattle.tables.specs.Sheet.{Sheet, formed, labelNo, locationNo}
+use Rattle.tables.specs.Sheet.{Sheet, formed}
 use Rattle.tables.specs.Meaning.{labelsOver, declarationsOf, worldOf, readsNo}
 use Rattle.tables.proofs.FormLaws.{formed-facts}
 use Rattle.tables.proofs.MeaningLaws.{labels-lattice, declared-label, declared-home}

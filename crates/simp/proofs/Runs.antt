@@ -1,14 +1,14 @@
 -- A done run of an accepted script leaves values as the sheet declares them. Assumes nothing.
-use mathlib.Core.Path.{_≡_, refl, sym, _∙_}
-use mathlib.Core.Bool.{Bool, true, false}
-use mathlib.Core.List.{List, []}
-use Prim.Native.Nat.{ℕ, suc, _<_, _≤_}
+use mathlib.Core.Path.{_≡_, refl}
+use mathlib.Core.Bool.{true}
+use mathlib.Core.List.{List}
+use Prim.Native.Nat.{ℕ, suc, _<_}
 use native.Mathlib.Omega.{arith}
 use borrow.Author.Tests.{ltb-true}
-use Rattle.language.specs.Syntax.{Value, int, Expr, Cmd, both, size}
-use Rattle.language.specs.Evaluation.{Mem, cell-words}
+use Rattle.booleans.proofs.BooleanLaws.{both-left, both-right}
+use Rattle.language.specs.Syntax.{Value, int, Expr, Cmd, size}
+use Rattle.language.specs.Evaluation.{Mem}
 use Rattle.language.specs.Transition.{done, iterate}
-use Rattle.language.proofs.Booleans.{both-left, both-right}
 use Rattle.language.proofs.Invariants.{UsesE, u-val, u-loc, u-var, u-plus, u-left, u-right, u-pack, u-unpack, Uses, u-skip, u-seq, u-assign, u-while, u-case, keeps, Fits, fits-kept}
 use Rattle.language.proofs.TypeSoundness.{type-soundness}
 use Rattle.lines.specs.Lines.{SourceE, s-int, s-loc, s-var, s-plus, s-left, s-right, s-pack, s-unpack, Source, s-skip, s-seq, s-assign, s-while, s-case}

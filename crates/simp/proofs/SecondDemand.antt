@@ -1,29 +1,26 @@
 -- Demand 2: each call answers what the papers say. Assumes nothing.
 use mathlib.Core.Logic.{_↔_}
 use mathlib.Core.Path.{_≡_, refl, sym, ap, _∙_, subst}
-use mathlib.Core.Bool.{Bool, true, false}
-use mathlib.Core.List.{List, []}
+use mathlib.Core.List.{List}
 use mathlib.Core.Option.{Option, none, some}
-use Prim.Native.Nat.{ℕ, zero, suc, _+_, _-_, _≤_, _<_}
+use Prim.Native.Nat.{ℕ, suc, _+_, _-_}
 use native.Mathlib.Omega.{arith}
-use Rattle.language.specs.Syntax.{Cmd, skip}
-use Rattle.language.specs.Evaluation.{World, Mem}
-use Rattle.language.specs.Transition.{Out, done, spent, over, wrong, iterate}
+use Rattle.language.specs.Syntax.{Cmd}
+use Rattle.language.specs.Transition.{Out, done, spent, over, iterate}
 use Rattle.language.specs.Theorems.{Ends, ends-done, ends-spent, ends-over}
 use Rattle.language.proofs.Outcome.{outcome}
-use Rattle.tables.specs.Sheet.{Sheet, formed, repeats, locationCount}
+use Rattle.tables.specs.Sheet.{Sheet, locationCount}
 use Rattle.tables.specs.Meaning.{shapesOf, worldOf}
-use Rattle.sheet.specs.Sheets.{malformed, repeating, accepted, sheetOf}
-use Rattle.sheet.specs.Theorems.{IsSheet}
+use Rattle.sheet.specs.Sheets.{accepted, sheetOf}
 use Rattle.sheet.proofs.Theorems.{accepted-exact, repeating-exact, malformed-exact}
 use Rattle.script.specs.Script.{countsOf, scriptOf}
 use Rattle.script.specs.Theorems.{IsScript}
 use Rattle.script.proofs.ScriptLaws.{script-exact}
-use Rattle.memory.specs.Memory.{memoryOf, wordsOf, wellFormed, memoryRefusal}
+use Rattle.memory.specs.Memory.{memoryOf, wordsOf}
 use Rattle.memory.specs.Theorems.{Declared}
 use Rattle.memory.proofs.Exactness.{memory-exactly}
-use Rattle.simp.specs.Calls.{onSheet, unless, onScript, strangers, untyped, checkOf, Ran, refusedRun, ended, runOf, Viewed, viewOf}
-use Rattle.simp.specs.Judgements.{OnSheet, Typable, TypableUnlabelled, Principals, Sized, Checked, check-0, check-1, check-2, check-4, check-5, check-6, Started, Run, run-0, run-1, run-2, run-3, run-4, run-5, run-6, run-7, run-8, run-9, run-10, View, view-0, view-1, view-2, view-3, view-7, view-8}
+use Rattle.simp.specs.Calls.{onSheet, unless, onScript, checkOf, Ran, ended, runOf, Viewed, viewOf}
+use Rattle.simp.specs.Judgements.{OnSheet, Checked, check-0, check-1, check-2, check-4, check-5, check-6, Started, Run, run-0, run-1, run-2, run-3, run-4, run-5, run-6, run-7, run-8, run-9, run-10, View, view-0, view-1, view-2, view-3, view-7, view-8}
 use Rattle.simp.specs.Demands.{Demand2}
 use Rattle.simp.proofs.Answers.{on-sheet, on-script}
 use Rattle.simp.proofs.Numbers.{no-strangers, some-strangers, typable-0, unlabelled-5, labelled-6, by-typing, typable-shape, sized-0, unsized-7, ill-formed-8, view-sized, unsized-view, past-3, past-6, past-8, past-view-8}

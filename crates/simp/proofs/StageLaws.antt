@@ -1,21 +1,21 @@
 -- The stages of a call: what each leaves, from what it calls. Assumes nothing.
 use mathlib.Core.Path.{_≡_, refl, sym, ap, _∙_, subst}
 use mathlib.Core.Bool.{Bool, true, false, cond}
-use mathlib.Core.List.{List, [], _∷_}
+use mathlib.Core.List.{List, []}
 use mathlib.Core.Option.{Option, none, some}
-use Prim.Native.Nat.{ℕ, zero, suc, _*_, _≤_}
+use Prim.Native.Nat.{ℕ, zero, suc, _*_}
 use native.Mathlib.Omega.{arith}
 use borrow.Author.Tests.{ne-eqb}
 use lib.ListN.{length, take}
 use Rattle.language.specs.Syntax.{Cmd, skip, seq, assign, while, case}
 use Rattle.language.specs.Transition.{Out, done, spent, over, wrong, iterate}
 use Rattle.language.proofs.TypeSoundness.{type-soundness}
-use Rattle.lines.specs.Lines.{Line, l-skip, l-seq, l-assign, l-while, l-case, Source, cmdLines}
+use Rattle.lines.specs.Lines.{Source, cmdLines}
 use Rattle.lines.specs.Code.{lineWords, code}
 use Rattle.lines.specs.Names.{named}
-use Rattle.tables.specs.Sheet.{Sheet, formed, locationCount}
+use Rattle.tables.specs.Sheet.{Sheet, locationCount}
 use Rattle.sets.specs.Sets.{within, everyone}
-use Rattle.tables.specs.Tables.{tableOf, everyoneIn}
+use Rattle.tables.specs.Tables.{everyoneIn}
 use Rattle.tables.proofs.TableLaws.{everyone-in}
 use Rattle.tables.specs.Meaning.{shapesOf, worldOf}
 use Rattle.script.specs.declared.Script.{Script}
@@ -29,7 +29,7 @@ use Rattle.memory.proofs.Exactness.{memory-exactly, table-agrees}
 use Rattle.memory.proofs.MemoryLaws.{unrefused-length, unrefused-formed}
 use Rattle.checker.specs.Post.{Answers}
 use Rattle.interpreter.specs.Run.{RunEnds, Runs}
-use Rattle.simp.specs.Calls.{unless, strangers, onScript, untyped, Ran, refusedRun, ended, Viewed, refusedView}
+use Rattle.simp.specs.Calls.{unless, strangers, onScript, untyped, refusedRun, ended, refusedView}
 use Rattle.simp.specs.Stages.{TableOf, CodeOf, no-code, its-code, Judges, ChecksOn, RunsCode, runFrom, RunsOn, ViewsOn}
 use Rattle.simp.proofs.Numbers.{0-typable, typable-shape}
 

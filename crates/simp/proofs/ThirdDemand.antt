@@ -1,6 +1,6 @@
 -- Demand 3, from noninterference of the language. Assumes nothing.
-use mathlib.Core.Path.{_≡_, refl, sym, ap, _∙_, subst, subst₂}
-use mathlib.Core.Bool.{Bool, true, false}
+use mathlib.Core.Path.{_≡_, refl, sym, ap, _∙_, subst}
+use mathlib.Core.Bool.{true}
 use mathlib.Core.List.{List}
 use Prim.Native.Nat.{ℕ, suc}
 use native.Mathlib.Omega.{arith}
@@ -9,8 +9,7 @@ use Rattle.language.specs.Evaluation.{Mem}
 use Rattle.language.specs.Transition.{Out, done, spent, over, wrong, iterate}
 use Rattle.tables.specs.Sheet.{Sheet, locationCount}
 use Rattle.tables.specs.Meaning.{worldOf}
-use Rattle.sheet.specs.Sheets.{accepted, sheetOf}
-use Rattle.script.specs.Script.{countsOf}
+use Rattle.sheet.specs.Sheets.{accepted}
 use Rattle.memory.specs.Memory.{memoryOf, wordsOf, wellFormed, memoryRefusal}
 use Rattle.memory.specs.View.{viewWords}
 use Rattle.memory.specs.Theorems.{Declared}
@@ -18,7 +17,7 @@ use Rattle.memory.proofs.Exactness.{memory-exactly, view-exactly}
 use Rattle.memory.proofs.MemoryLaws.{unrefused-length, unrefused-formed}
 use Rattle.simp.specs.Calls.{Ran, ended, runOf, Viewed, viewOf}
 use Rattle.simp.specs.Judgements.{OnSheet, Principals, Sized, Started, Run, run-0, run-1, run-2, run-3, run-4, run-5, run-6, run-7, run-8, run-9, run-10, View, view-0, view-1, view-2, view-3, view-7, view-8}
-use Rattle.simp.specs.Demands.{SameView, Demand3}
+use Rattle.simp.specs.Demands.{Demand3}
 use Rattle.simp.proofs.Numbers.{sized-0}
 use Rattle.simp.proofs.SecondDemand.{read, parsed, started-run, run-judged, view-judged, view-answered}
 use Rattle.simp.proofs.Readers.{shown-kept}

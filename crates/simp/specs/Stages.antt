@@ -16,7 +16,7 @@ use Rattle.tables.specs.Meaning.{worldOf}
 use Rattle.script.specs.Script.{countsOf, scriptOf}
 use Rattle.memory.specs.Memory.{memoryOf, memoryRefusal}
 use Rattle.memory.specs.View.{viewWords, viewRefusal}
-use Rattle.simp.specs.Calls.{unless, strangers, onScript, untyped, Ran, refusedRun, ended, Viewed, refusedView}
+use Rattle.simp.specs.Calls.{unless, strangers, onScript, untyped, Ran, refusedRun, ended, refusedView}
 
 -- t is the table of the sheet s, which is of the form and repeats nothing
 pub record TableOf (t : List ℕ) (s : Sheet) : Type 0 where

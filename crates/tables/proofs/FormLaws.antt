@@ -9,7 +9,7 @@ use native.Mathlib.Omega.{arith}
 use lib.Dec.{ltb}
 use lib.ListN.{length, getD, List·getD-eq-default}
 use borrow.Author.Tests.{ltb-true, ltb-false, leb-true}
-use Rattle.sets.proofs.BoolLaws.{both-left, both-right}
+use Rattle.booleans.proofs.BooleanLaws.{both-left, both-right}
 use Rattle.labels.specs.Labels.{Policy}
 use Rattle.tables.specs.Sheet.{Sum, Location, Sheet, givenParts, partsOf, partsNo, typeCount, labelCount, locationNo, locationCount, earlier, rising, eachRising, eachNamed, maxPrincipals, maxSums, maxLabels, maxLocations, formed}
 

@@ -9,7 +9,7 @@ use lib.Dec.{ltb}
 use lib.ListN.{length, getD, replicate, length-append, length-map, List·getD-eq-default}
 use borrow.Author.Tests.{ltb-true, ltb-false}
 use Rattle.sets.specs.Sets.{everyone}
-use Rattle.sets.proofs.BoolLaws.{both-true, both-left, both-right}
+use Rattle.booleans.proofs.BooleanLaws.{both-left, both-right, both-true}
 use Rattle.sets.proofs.SetLaws.{within-everyone}
 use Rattle.labels.specs.Labels.{Policy, policy, policyOn, policiesOn, labelOf, bottomOf, wholeOf, effective}
 use Rattle.labels.specs.Tables.{labelSize, labelWords, labelAt}

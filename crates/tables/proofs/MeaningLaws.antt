@@ -3,7 +3,7 @@
 use mathlib.Core.Path.{_≡_, refl, ap₂}
 use mathlib.Core.Bool.{Bool, true, false}
 use Prim.Native.Nat.{ℕ}
-use Rattle.sets.proofs.BoolLaws.{absurd-false}
+use Rattle.booleans.proofs.BooleanLaws.{absurd-false}
 use Rattle.labels.specs.Labels.{belowOf, readsOf, writesOf, effective}
 use Rattle.labels.specs.declared.Label.{Label}
 use Rattle.labels.proofs.LatticeLaws as lattice

@@ -6,8 +6,8 @@ use Prim.Native.Nat.{ℕ, _<_, _≤_}
 use native.Mathlib.Omega.{arith}
 use lib.Dec.{ltb, eqb}
 use borrow.Author.Tests.{ltb-true, ltb-false, lt-ltb, le-leb, eqb-true, eq-eqb, ne-eqb}
-use Rattle.sets.specs.Sets.{both}
-use Rattle.sets.proofs.BoolLaws.{absurd-false, bool-ext, both-true}
+use Rattle.booleans.specs.Booleans.{both}
+use Rattle.booleans.proofs.BooleanLaws.{absurd-false, bool-ext, both-true}
 use Rattle.language.specs.Syntax.{Ty, t-int, t-err, t-pkg, t-sum, Ty-discrete, Value, int, err, inl, inr, pkg, blank, has}
 use Rattle.language.specs.Evaluation.{wanted}
 use Rattle.language.specs.Typing.{isYes, sameTy}

@@ -8,8 +8,9 @@ use native.Mathlib.Omega.{arith}
 use lib.Dec.{ltb}
 use lib.ListN.{length, getD, length-map}
 use borrow.Author.Tests.{ltb-true, ltb-false, eq-eqb}
-use Rattle.sets.specs.Sets.{either, everyone}
-use Rattle.sets.proofs.BoolLaws.{absurd-false, both-true, either-left, either-right}
+use Rattle.booleans.specs.Booleans.{either}
+use Rattle.booleans.proofs.BooleanLaws.{absurd-false, both-true, either-left, either-right}
+use Rattle.sets.specs.Sets.{everyone}
 use Rattle.labels.specs.Labels.{labelOf, bottomOf, sameOf}
 use Rattle.labels.proofs.OrderLaws.{same-refl}
 use Rattle.tables.specs.Sheet.{Sum, Sheet, givenParts, partsOf, partsNo, typeCount, labelsOf, labelNo, labelCount, among, repeated, sameParts, givenSums, repeats}

@@ -10,7 +10,7 @@ use lib.Dec.{ltb}
 use lib.ListN.{length, getD, length-append, List·getD-append, List·getD-eq-default}
 use lib.Seq.{getD-append-seam}
 use borrow.Author.Tests.{ltb-true, ltb-false}
-use Rattle.sets.proofs.BoolLaws.{both-left, both-right}
+use Rattle.booleans.proofs.BooleanLaws.{both-left, both-right}
 use Rattle.language.specs.Syntax.{Ty, t-int, t-err, t-pkg, t-sum}
 use Rattle.tables.specs.Sheet.{Sum, Sheet, givenTypes, typesFrom, tyOf, givenParts, partsOf, partsNo, typeCount, earlier, formed, repeats}
 use Rattle.tables.proofs.RepeatLaws.{parts-once}

@@ -4,7 +4,8 @@ use mathlib.Core.List.{List, [], _∷_, _++_, map}
 use Prim.Native.Nat.{ℕ, suc, _^_}
 use lib.Dec.{eqb, leb, ltb}
 use lib.ListN.{length, getD}
-use Rattle.sets.specs.Sets.{both, either, everyone}
+use Rattle.booleans.specs.Booleans.{both, either}
+use Rattle.sets.specs.Sets.{everyone}
 use Rattle.labels.specs.Labels.{Policy, policy, labelOf, bottomOf, sameOf}
 use Rattle.labels.specs.declared.Label.{Label}
 use Rattle.language.specs.Syntax.{Ty, t-int, t-err, t-pkg, t-sum}

@@ -3,7 +3,7 @@ use mathlib.Core.Bool.{Bool, false}
 use mathlib.Core.List.{List}
 use Prim.Native.Nat.{ℕ}
 use lib.Dec.{eqb, leb, ltb}
-use Rattle.sets.specs.Sets.{both}
+use Rattle.booleans.specs.Booleans.{both}
 use Rattle.language.specs.Syntax.{Value, int, err, inl, inr, pkg, blank}
 use Rattle.tables.specs.Tables.{typesIn, leftIn, rightIn}
 

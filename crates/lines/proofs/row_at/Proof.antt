@@ -1,53 +1,40 @@
-use mathlib.Core.Path.{_≡_, sym}
+use mathlib.Core.Path.{sym}
 use native.Mathlib.Omega.{arith}
 use Rattle.lines.proofs.Rows.{row-there, row-none}
 use borrow.Author.Needs.{needs}
 use Rattle.lines.proofs.row_at.Statement.{statement}
 use Rattle.lines.proofs.row_at.Tie as tie
-use Rattle.lines.proofs.row_at.Reads as reads
-use Rattle.lines.proofs.row_at.Lts as lts
 
--- src/lib.rt:36:9
 returns : tie.Need-returns
 returns c = sym (row-none _ _ (omega arith))
 
--- src/lib.rt:39:9
 returns-2 : tie.Need-returns-2
 returns-2 c = sym (row-none _ _ (omega arith))
 
--- src/lib.rt:42:15
 mul-t5 : tie.Need-mul-t5
 mul-t5 c = search needs
 
--- src/lib.rt:42:15
 shared-slice-read-t7 : tie.Need-shared-slice-read-t7
 shared-slice-read-t7 c = search needs
 
--- src/lib.rt:43:17
 add-t8 : tie.Need-add-t8
 add-t8 c = search needs
 
--- src/lib.rt:43:12
 mul-t9 : tie.Need-mul-t9
 mul-t9 c = search needs
 
--- src/lib.rt:43:12
 shared-slice-read-t11 : tie.Need-shared-slice-read-t11
 shared-slice-read-t11 c = search needs
 
--- src/lib.rt:44:17
 add-t12 : tie.Need-add-t12
 add-t12 c = search needs
 
--- src/lib.rt:44:12
 mul-t13 : tie.Need-mul-t13
 mul-t13 c = search needs
 
--- src/lib.rt:44:12
 shared-slice-read-t15 : tie.Need-shared-slice-read-t15
 shared-slice-read-t15 c = search needs
 
--- src/lib.rt:31:1
 returns-3 : tie.Need-returns-3
 returns-3 c = sym (row-there _ _ (omega arith))
 

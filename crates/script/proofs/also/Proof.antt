@@ -1,5 +1,5 @@
 -- `script::also` meets its contract. Assumes nothing.
-use Rattle.language.specs.Syntax.{both}
+use Rattle.booleans.specs.Booleans.{both}
 use Rattle.script.proofs.also.Statement.{statement}
 use Rattle.script.proofs.also.Tie as tie
 

@@ -2,7 +2,7 @@
 use borrow.Author.Needs.{needs}
 use mathlib.Core.Path.{refl}
 use borrow.Author.Tests.{lt-leb, le-leb}
-use Rattle.sets.specs.Sets.{both}
+use Rattle.booleans.specs.Booleans.{both}
 use Rattle.tables.specs.TypeTest.{isSum}
 use Rattle.tables.proofs.is_sum.Statement.{statement}
 use Rattle.tables.proofs.is_sum.Tie as tie

@@ -20,7 +20,6 @@ use Rattle.checker.proofs.commands.of_case.Reads as of-case-reads
 use Rattle.checker.proofs.commands.of_seq.Reads as of-seq-reads
 use Rattle.checker.proofs.commands.of_skip.Reads as of-skip-reads
 use Rattle.checker.proofs.commands.of_while.Reads as of-while-reads
-use Rattle.checker.proofs.expressions.both.Reads as both-reads
 use Rattle.checker.proofs.expressions.check_expr.Reads as check-expr-reads
 use Rattle.labels.proofs.Label.at_or_below.Reads as at-or-below-reads
 use Rattle.labels.proofs.Label.join.Reads as join-reads
@@ -60,8 +59,6 @@ pub +check-cmd-spec : {M : Type 1} → statement M
   label-of-reads.Learnt,
   at-or-below-reads.Asked,
   at-or-below-reads.Learnt,
-  both-reads.Asked,
-  both-reads.Learnt,
   of-assign-reads.Asked,
   of-assign-reads.Learnt,
   join-reads.Asked,
@@ -94,7 +91,6 @@ pub +check-cmd-spec : {M : Type 1} → statement M
     (λ c κs. search needs)  -- label-of-requires
     (λ c κs. search needs)  -- at-or-below-requires
     (λ c κs. search needs)  -- at-or-below-requires-2
-    (λ c κs. search needs)  -- both-requires
     (λ c κs. search needs)  -- of-assign-requires
     (λ c κs. search needs)  -- join-requires
     (λ c κs. let r = c .before .before .before .before .before .before .before .before in let a = r .before .before .before .args in (omega (arith, r .before .before .before .pre .0, within (a .code .now) (a .at) (r .row-at .ensures) (omega (arith, c .before .before .before .before .before .before .if1 .left)), c .before .before .before .check-expr .ensures .onward), tt))  -- check-cmd-requires-3
@@ -114,7 +110,7 @@ pub +check-cmd-spec : {M : Type 1} → statement M
     (λ c κs. search needs)  -- not-passed-requires-2
     (λ c. let r = c .before .before in let a = r .before .before .before .args in arm-skip (a .code .now) (a .at) (a .table .now) (a .bound .now) (a .depth) (a .pc) (r .row-at .ensures) (c .before .match .keys1) (c .of-skip .ensures))  -- returns-2
     (λ c. let r = c .before .before .before .before .before .before in let a = r .before .before .before .args in arm-seq (a .code .now) (a .at) (a .table .now) (a .bound .now) (a .depth) (a .pc) (r .row-at .ensures) (c .before .before .before .before .before .match .keys2) (c .before .before .before .check-cmd .ensures) (c .before .check-cmd2 .ensures) (c .of-seq .ensures))  -- returns-3
-    (λ c. let r = c .before .before .before .before .before .before .before .before .before .before .before .before in let a = r .before .before .before .args in let x = c .before .before .before .before .before .before .before .check-expr in arm-assign (a .code .now) (a .at) (a .table .now) (a .bound .now) (a .depth) (a .pc) (r .row-at .ensures) (x .ensures) (c .before .before .before .before .before .before .match2 .keys1) (may-assign (a .table .now) _ (a .pc) (x .result .label) (c .before .before .before .before .before .location-label .ensures) (c .before .before .before .before .label-of .ensures) (c .before .before .before .at-or-below .ensures) (c .before .before .at-or-below2 .ensures) (c .before .both .ensures)) (c .of-assign .ensures))  -- returns-4
+    (λ c. let r = c .before .before .before .before .before .before .before .before .before .before .before in let a = r .before .before .before .args in let x = c .before .before .before .before .before .before .check-expr in arm-assign (a .code .now) (a .at) (a .table .now) (a .bound .now) (a .depth) (a .pc) (r .row-at .ensures) (x .ensures) (c .before .before .before .before .before .match2 .keys1) (may-assign (a .table .now) _ (a .pc) (x .result .label) (c .before .before .before .before .location-label .ensures) (c .before .before .before .label-of .ensures) (c .before .before .at-or-below .ensures) (c .before .at-or-below2 .ensures)) (c .of-assign .ensures))  -- returns-4
     (λ c. let r = c .before .before .before .before .before .before .before .before .before .before in let a = r .before .before .before .args in arm-while (a .code .now) (a .at) (a .table .now) (a .bound .now) (a .depth) (a .pc) (r .row-at .ensures) (c .before .before .before .before .before .check-expr .ensures) (c .before .before .before .before .match2 .keys2) (c .before .before .before .join .ensures) (c .before .check-cmd3 .ensures) (c .of-while .ensures))  -- returns-5
     (λ c. let whole = let k = c .before .before .before .before .before .before .before .before .before .before .before .before .before .before .check-expr .ok .1 .1 .1 .1 .1 .0 in whole-intro (c .before .before .before .before .before .before .before .before .before .before .before .before .before .before .check-expr .result .label) (search (needs, k)) (search (needs, k)) in let r = c .before .before .before .before .before .before .before .before .before .before .before .before .before .before .before .before .before .before .before in let a = r .before .before .before .args in arm-case (a .code .now) (a .at) (a .table .now) (a .bound .now) (a .depth) (a .pc) (r .row-at .ensures) (c .before .before .before .before .before .before .before .before .before .before .before .before .before .before .check-expr .ensures) (omega (arith, c .before .before .before .before .before .before .before .before .before .before .before .before .before .before .before .before .before .if1 .left, c .before .before .before .before .before .before .before .before .before .before .before .before .before .before .before .before .if2 .taken, c .before .before .before .before .before .before .before .before .before .before .before .before .before .before .before .before .before .before .match .rest .0 .1, c .before .before .before .before .before .before .before .before .before .before .before .before .before .before .before .before .before .before .match .rest .1, c .before .before .before .before .before .before .before .before .before .before .before .before .before .match2 .rest .0 .1, c .before .before .before .before .before .before .before .before .before .before .before .before .before .match2 .rest .1)) (c .before .before .before .before .before .before .before .before .before .before .before .before .if3 .left) whole (c .before .before .before .before .before .before .before .before .before .before .before .join2 .ensures) (c .before .before .before .before .before .before .before .before .before .left-part .ensures) (c .before .before .before .before .before .before .before .before .bind .ensures) (c .before .before .before .before .before .before .check-cmd4 .ensures) (c .before .before .before .before .right-part .ensures) (c .before .before .before .bind2 .ensures) (c .before .check-cmd5 .ensures) (c .of-case .ensures))  -- returns-6
     (λ c. let r = c .before .before .before in let a = r .before .before .before .args in arm-other (a .code .now) (a .at) (a .table .now) (a .bound .now) (a .depth) (a .pc) (r .row-at .ensures) (λ l u. ⊎-elim (λ w. omega (arith, w .taken)) (λ w. omega (arith, w .1 .left)) (c .before .if1 .came)) (c .not-passed2 .ensures))  -- returns-7

@@ -1,16 +1,15 @@
+use Rattle.booleans.specs.Booleans.{both}
 use Rattle.checker.specs.Nodes.{assignPassed}
 use borrow.Author.Needs.{needs}
 use Rattle.checker.proofs.commands.of_assign.Statement.{statement}
 use Rattle.checker.proofs.commands.of_assign.Tie as tie
 
 returns : tie.Need-returns
-unfolding assignPassed
-returns c =
-    cc
+unfolding assignPassed both
+returns c = cc
 
 pub of-assign-spec : {M : Type 1} → statement M
 of-assign-spec = tie.close (tie.spec
     (λ c κs. search needs)  -- location-type-requires
     (λ c κs. search needs)  -- is-type-requires
-    (λ c κs. search needs)  -- both-requires
     returns)

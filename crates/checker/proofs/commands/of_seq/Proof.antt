@@ -1,14 +1,12 @@
-use borrow.Author.Needs.{needs}
+use Rattle.booleans.specs.Booleans.{both}
 use Rattle.checker.specs.Nodes.{seqPassed}
 use Rattle.checker.proofs.commands.of_seq.Statement.{statement}
 use Rattle.checker.proofs.commands.of_seq.Tie as tie
 
 returns : tie.Need-returns
-unfolding seqPassed
+unfolding seqPassed both
 returns c = cc
 
 pub of-seq-spec : {M : Type 1} → statement M
 of-seq-spec = tie.close (tie.spec
-    (λ c κs. search needs)  -- both-requires
-    (λ c κs. search needs)  -- both-requires-2
     returns)

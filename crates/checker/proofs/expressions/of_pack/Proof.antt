@@ -1,17 +1,17 @@
 use borrow.Author.Needs.{needs}
+use Rattle.booleans.specs.Booleans.{both}
 use Rattle.checker.specs.Nodes.{packTyped}
 use Rattle.checker.proofs.expressions.of_pack.Statement.{statement}
 use Rattle.checker.proofs.expressions.of_pack.Tie as tie
 
 returns : tie.Need-returns
-unfolding packTyped
+unfolding packTyped both
 returns c = cc
 
 pub of-pack-spec : {M : Type 1} → statement M
 of-pack-spec = tie.close (tie.spec
     (λ c κs. search needs)  -- label-of-requires
     (λ c κs. search needs)  -- at-or-below-requires
-    (λ c κs. search needs)  -- both-requires
     (λ c κs. search needs)  -- everyone-requires
     (λ c κs. search needs)  -- integrity-requires
     returns)

@@ -1,10 +1,11 @@
 use borrow.Author.Needs.{needs}
+use Rattle.booleans.specs.Booleans.{both}
 use Rattle.checker.specs.Nodes.{plusTyped}
 use Rattle.checker.proofs.expressions.of_plus.Statement.{statement}
 use Rattle.checker.proofs.expressions.of_plus.Tie as tie
 
 returns : tie.Need-returns
-unfolding plusTyped
+unfolding plusTyped both
 returns c = cc
 
 pub of-plus-spec : {M : Type 1} → statement M
@@ -12,6 +13,4 @@ of-plus-spec = tie.close (tie.spec
     (λ c κs. search needs)  -- join-requires
     (λ c κs. search needs)  -- is-type-requires
     (λ c κs. search needs)  -- is-type-requires-2
-    (λ c κs. search needs)  -- both-requires
-    (λ c κs. search needs)  -- both-requires-2
     returns)

@@ -1,15 +1,15 @@
 use borrow.Author.Needs.{needs}
+use Rattle.booleans.specs.Booleans.{both}
 use Rattle.checker.specs.Nodes.{sumTyped}
 use Rattle.checker.proofs.expressions.of_sum.Statement.{statement}
 use Rattle.checker.proofs.expressions.of_sum.Tie as tie
 
 returns : tie.Need-returns
-unfolding sumTyped
+unfolding sumTyped both
 returns c = cc
 
 pub of-sum-spec : {M : Type 1} → statement M
 of-sum-spec = tie.close (tie.spec
     (λ c κs. search needs)  -- is-sum-requires
     (λ c κs. search needs)  -- is-type-requires
-    (λ c κs. search needs)  -- both-requires
     returns)

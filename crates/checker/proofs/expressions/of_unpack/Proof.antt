@@ -1,20 +1,18 @@
 use borrow.Author.Needs.{needs}
+use Rattle.booleans.specs.Booleans.{both}
 use Rattle.checker.specs.Nodes.{unpackTyped}
 use Rattle.checker.proofs.expressions.of_unpack.Statement.{statement}
 use Rattle.checker.proofs.expressions.of_unpack.Tie as tie
 
 returns : tie.Need-returns
-unfolding unpackTyped
+unfolding unpackTyped both
 returns c = cc
 
 pub of-unpack-spec : {M : Type 1} → statement M
 of-unpack-spec = tie.close (tie.spec
     (λ c κs. search needs)  -- label-of-requires
     (λ c κs. search needs)  -- confidentiality-at-or-below-requires
-    (λ c κs. search needs)  -- both-requires
     (λ c κs. search needs)  -- is-sum-requires
     (λ c κs. search needs)  -- right-part-requires
-    (λ c κs. search needs)  -- both-requires-2
     (λ c κs. search needs)  -- is-type-requires
-    (λ c κs. search needs)  -- both-requires-3
     returns)

@@ -1,5 +1,5 @@
 -- `sheet::draft::add_location` meets its contract. Assumes nothing.
-use Rattle.sets.specs.Sets.{both}
+use Rattle.booleans.specs.Booleans.{both}
 use Rattle.sheet.proofs.DraftLaws.{tested-as}
 use borrow.Author.Needs.{needs}
 use Rattle.sheet.proofs.draft.add_location.Statement.{statement}

@@ -1,6 +1,6 @@
 -- `sheet::draft::add_pair` meets its contract. Assumes nothing.
 use borrow.Author.Tests.{not-true, not-false, le-ltb, lt-ltb}
-use Rattle.sets.proofs.BoolLaws.{both-true, both-no-left, both-no-right}
+use Rattle.booleans.proofs.BooleanLaws.{both-no-left, both-no-right, both-true}
 use Rattle.sheet.proofs.DraftLaws.{passed-over, taken}
 use borrow.Author.Needs.{needs}
 use Rattle.sheet.proofs.draft.add_pair.Statement.{statement}

@@ -1,5 +1,5 @@
 -- `sheet::draft::label_fits` meets its contract. Assumes nothing.
-use Rattle.sets.specs.Sets.{both}
+use Rattle.booleans.specs.Booleans.{both}
 use borrow.Author.Needs.{needs}
 use Rattle.sheet.proofs.draft.label_fits.Statement.{statement}
 use Rattle.sheet.proofs.draft.label_fits.Tie as tie

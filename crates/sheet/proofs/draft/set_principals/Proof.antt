@@ -1,6 +1,6 @@
 -- `sheet::draft::set_principals` meets its contract. Assumes nothing.
 use borrow.Author.Tests.{not-true, not-false}
-use Rattle.sets.specs.Sets.{both}
+use Rattle.booleans.specs.Booleans.{both}
 use Rattle.sheet.proofs.DraftLaws.{passed-over, taken}
 use borrow.Author.Needs.{needs}
 use Rattle.sheet.proofs.draft.set_principals.Statement.{statement}

@@ -2,19 +2,13 @@ use Rattle.simp.proofs.StageLaws.{judge-empty, judge-some}
 use borrow.Author.Needs.{needs}
 use Rattle.simp.proofs.stages.judge.Statement.{statement}
 use Rattle.simp.proofs.stages.judge.Tie as tie
-use Rattle.simp.proofs.stages.judge.Reads as reads
-use Rattle.simp.proofs.stages.judge.Lts as lts
-use Rattle.checker.proofs.check.Reads as check-reads
 
--- src/stages.rt:31:9
 returns : tie.Need-returns
 returns c = judge-empty _ _ (c .if1 .taken)
 
--- src/stages.rt:33:5
 check-requires : tie.Need-check-requires
 check-requires c κs = search needs
 
--- src/stages.rt:27:1
 returns-2 : tie.Need-returns-2
 returns-2 c = judge-some _ _ _ (c .before .if1 .left) (c .check .ensures)
 

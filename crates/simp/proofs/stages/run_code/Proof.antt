@@ -3,53 +3,37 @@ use Rattle.simp.proofs.StageLaws.{judged-0, refusal-in, run-judged, run
 use borrow.Author.Needs.{needs}
 use Rattle.simp.proofs.stages.run_code.Statement.{statement}
 use Rattle.simp.proofs.stages.run_code.Tie as tie
-use Rattle.simp.proofs.stages.run_code.Reads as reads
-use Rattle.simp.proofs.stages.run_code.Lts as lts
-use Rattle.interpreter.proofs.run.Reads as run-reads
-use Rattle.memory.proofs.refusal.Reads as refusal-reads
-use Rattle.simp.proofs.stages.judge.Reads as judge-reads
-use Rattle.simp.proofs.stages.refused.Reads as refused-reads
 
--- src/stages.rt:50:9
 judge-requires : tie.Need-judge-requires
 judge-requires c κs = search needs
 
--- src/stages.rt:52:9
 refused-requires : tie.Need-refused-requires
 refused-requires c κs = search needs
 
--- src/stages.rt:52:9
 returns : tie.Need-returns
 returns c = rw (c .refused .ensures) (run-judged _ _ _ _ _ _ (c .before .before .judge .ensures) (c .before .if1 .taken))
 
--- src/stages.rt:54:9
 refusal-requires : tie.Need-refusal-requires
 refusal-requires c κs = search needs
 
--- src/stages.rt:56:9
 refused-requires-2 : tie.Need-refused-requires-2
 refused-requires-2 c κs = search needs
 
--- src/stages.rt:56:9
 same-length : tie.Need-same-length
 same-length c = search needs
 
--- src/stages.rt:56:9
 returns-2 : tie.Need-returns-2
 returns-2 c =
     rw (c .refused2 .ensures)
     (run-refused _ _ _ _ _ _ (judged-0 _ _ _ (c .before .before .before .before .before .judge .ensures) (c .before .before .before .before .if1 .left)) (refusal-in _ _ _ (c .before .before .refusal .ensures))
     (c .before .if2 .taken))
 
--- src/stages.rt:58:9
 run-requires : tie.Need-run-requires
 run-requires c κs = search needs
 
--- src/stages.rt:47:1
 same-length-2 : tie.Need-same-length-2
 same-length-2 c = search needs
 
--- src/stages.rt:47:1
 returns-3 : tie.Need-returns-3
 returns-3 c =
     let k = c .before .before .before .before in

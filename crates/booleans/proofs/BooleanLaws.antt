@@ -1,12 +1,15 @@
 -- Laws of the truth values: `both`, `either`, and when two are equal.
 -- Assumes nothing.
 use mathlib.Core.Path.{_≡_, refl, sym, subst}
-use mathlib.Core.Bool.{Bool, true, false}
+use mathlib.Core.Bool.{Bool, true, false, false≢true}
 use lib.Dec.{T}
-use Rattle.sets.specs.Sets.{both, either}
+use Rattle.booleans.specs.Booleans.{both, either}
 
 pub absurd-false : false ≡ true → ⊥
 absurd-false p = subst T (sym p) tt
+
+pub T-of : {b : Bool} → b ≡ true → T b
+T-of e = rw e tt
 
 -- two truth values that imply each other are equal
 pub bool-ext : (x y : Bool) → (x ≡ true → y ≡ true) → (y ≡ true → x ≡ true) → x ≡ y
@@ -18,6 +21,11 @@ bool-ext false false f g = refl
 pub not-so : (x : Bool) → (x ≡ true → ⊥) → x ≡ false
 not-so true h = absurd (h refl)
 not-so false h = refl
+
+-- a test passes or not
+pub by-test {ℓ} : {A : Type ℓ} (b : Bool) → (b ≡ true → A) → (¬ (b ≡ true) → A) → A
+by-test true f g = f refl
+by-test false f g = g false≢true
 
 -- ---- both
 pub both-true : {a b : Bool} → a ≡ true → b ≡ true → both a b ≡ true
@@ -42,6 +50,13 @@ pub both-yes-left : (a b : Bool) → a ≡ true → both a b ≡ b
 unfolding both
 both-yes-left a b p = rw p
 
+-- a first test that passes leaves the second; one that fails settles both
+pub both-on : (a b : Bool) → a ≡ true → b ≡ both a b
+both-on a b e = sym (both-yes-left a b e)
+
+pub both-off : (a b : Bool) → a ≡ false → false ≡ both a b
+both-off a b e = sym (both-no-left a b e)
+
 both-false-right : (a : Bool) → both a false ≡ false
 unfolding both
 both-false-right true = refl
@@ -55,6 +70,11 @@ pub both-implied : (a b : Bool) → (a ≡ true → b ≡ true) → both a b ≡
 unfolding both
 both-implied true b h = h refl
 both-implied false b h = refl
+
+pub both-assoc : (a b c : Bool) → both a (both b c) ≡ both (both a b) c
+unfolding both
+both-assoc true b c = refl
+both-assoc false b c = refl
 
 -- ---- either
 pub either-left : (a b : Bool) → a ≡ true → either a b ≡ true

@@ -1,0 +1,1 @@
+// Truth values: the definitions and their laws. There is no code.

@@ -54,7 +54,11 @@ module _ {A : Type 0} where
   upTo-fewer f g d e = ap tail (rw add-one at e)
 
 pub kept-fewer : {s s′ : List ℕ} {d : ℕ} → Kept s s′ (d + 1) → Kept s s′ d
-kept-fewer {s} {s′} {d} k = record { size = k .size; types = upTo-fewer (boundType s′) (boundType s) d (k .types); labels = upTo-fewer (boundLabel s′) (boundLabel s) d (k .labels) }
+kept-fewer {s} {s′} {d} k = record {
+  size = k .size;
+  types = upTo-fewer (boundType s′) (boundType s) d (k .types);
+  labels = upTo-fewer (boundLabel s′) (boundLabel s) d (k .labels);
+}
 
 pub kept-same : {s : List ℕ} {d : ℕ} → Kept s s d
 kept-same = record { size = refl; types = refl; labels = refl }

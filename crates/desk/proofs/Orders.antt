@@ -89,7 +89,8 @@ module _ (s : Sheet) (ws : List ℕ) (g : ℕ) {P : Type 0} where
       (λ e. let z : strangers s g ≡ 3 = rw e in d z (rw z))
 
 -- 7 and 8 are both said as 8, below 3
-said-8 : (k : ℕ) (zeros : List ℕ) → (k ≡ 7) ⊎ (k ≡ 8) → (said 0 (refusedView zeros k) ≡ numberLine 8) × (said 3 (refusedView zeros k) ≡ numberLine 3) × (said 8 (refusedView zeros k) ≡ numberLine 8)
+said-8 : (k : ℕ) (zeros : List ℕ) → (k ≡ 7) ⊎ (k ≡ 8) → (said 0 (refusedView zeros k) ≡ numberLine 8) × (said 3 (refusedView zeros k) ≡ numberLine 3) ×
+    (said 8 (refusedView zeros k) ≡ numberLine 8)
 unfolding viewText lower asText
 said-8 k zeros (inl e) = rw e (refl, refl, refl)
 said-8 k zeros (inr e) = rw e (refl, refl, refl)

@@ -65,7 +65,8 @@ unfolding cellOf
 cell-back p q x j e h =
     let a : 16 * j ≡ length p + (16 * j - length p) = omega arith in
     let b : 16 * j ≡ length q + (16 * j - length p) = omega arith in
-    ap (take 16) (ap (λ (n : ℕ). drop n (p ++ x)) a ∙ drop-append-add p x (16 * j - length p) ∙ sym (drop-append-add q x (16 * j - length p)) ∙ ap (λ (n : ℕ). drop n (q ++ x)) (sym b))
+    ap (take 16) (ap (λ (n : ℕ). drop n (p ++ x)) a ∙ drop-append-add p x (16 * j - length p) ∙ sym (drop-append-add q x (16 * j - length p)) ∙ ap (λ (n : ℕ). drop n (q ++ x))
+    (sym b))
 
 -- ---- load and store
 

@@ -191,14 +191,16 @@ module _ {ws : List ℕ} (at : ℕ) {table : List ℕ} {authority depth : ℕ} {
           → Ends ws rest (k .locations) depth ρ (go W ρ c M fuel) ts tl work″ end
       while-end-case {rest} (at-while {e = e} {c = c} s r h) n z =
           rw (while-is e c)
-          (turns-on ws rest (cmdLines c rest) (k .locations) depth M ρ (round e c) (λ v b. done M b) (choice fuel (eval W ρ M e)) gs gl gn on (cellOf work′ 0) ts tl end work″ (g .settled o) o
+          (turns-on ws rest (cmdLines c rest) (k .locations) depth M ρ (round e c) (λ v b. done M b) (choice fuel (eval W ρ M e)) gs gl gn on (cellOf work′ 0) ts tl end work″
+          (g .settled o) o
           (guard-chooses e c rest s r n h) (λ v. round-stops e c rest s r n h x y v z))
 
       while-again-case : {rest : List Line} {a b : ℕ} {c : Cmd} {state left next : ℕ} {work‴ : List ℕ} → CmdRow ws at rest 4 a b c → CmdAt ws at rest k depth c → ts ≡ 0
           → Execs ws at table authority depth work″ tl state left next work‴ → Ends ws rest (k .locations) depth ρ (go W ρ c M fuel) state left work‴ next
       while-again-case {rest} {state = state} {left = left} {next = next} {work‴ = work‴} (at-while {e = e} {c = c} s r h) p z u =
           rw (while-is e c)
-          (turns-on ws rest (cmdLines c rest) (k .locations) depth M ρ (round e c) (λ v b. done M b) (choice fuel (eval W ρ M e)) gs gl gn on (cellOf work′ 0) state left next work‴ (g .settled o) o
+          (turns-on ws rest (cmdLines c rest) (k .locations) depth M ρ (round e c) (λ v b. done M b) (choice fuel (eval W ρ M e)) gs gl gn on (cellOf work′ 0) state left next work‴
+          (g .settled o) o
           (guard-chooses e c rest s r (p .names) h) (λ v. round-goes e c rest s r (p .names) h x y v z (p .lines) (p .source) u))
 
   -- a case

@@ -83,7 +83,11 @@ module _ (s : Sheet) where
     pub words-accepted : memoryRefusal s (wordsOf (locationCount s) M) ≡ 0
     unfolding memoryRefusal refusalBy sliceRefusal wellFormed fits
     words-accepted =
-        simp (eq-eqb _ _ (length-words (locationCount s) M (λ x l. d .fitting x)), words-formed (locationCount s) M (λ x l. d .fitting x) (labelCount s) (fits s) (λ x l. d .named x) (λ x l. d .typed x))
+        simp (
+          eq-eqb _ _ (length-words (locationCount s) M (λ x l. d .fitting x)),
+          words-formed (locationCount s) M (λ x l. d .fitting x) (labelCount s) (fits s)
+              (λ x l. d .named x) (λ x l. d .typed x),
+        )
 
     pub declared-back : (x : ℕ) → x < locationCount s → memoryOf (wordsOf (locationCount s) M) x ≡ M x
     declared-back = values-back (locationCount s) M (λ x l. d .fitting x)
@@ -155,7 +159,8 @@ module _ (s : Sheet) (g : ℕ) where
   unfolding viewWords maskMem
   same-left M N d e h =
       view-of-masks (locationCount s) (seesNo s g) (readsNo s g) _ _
-      (λ x l. ap (λ v. seen (seesNo s g x) (mask (readsNo s g) v)) (declared-back s M d x l) ∙ h x ∙ ap (λ v. seen (seesNo s g x) (mask (readsNo s g) v)) (sym (declared-back s N e x l)))
+      (λ x l. ap (λ v. seen (seesNo s g x) (mask (readsNo s g) v)) (declared-back s M d x l) ∙ h x ∙ ap (λ v. seen (seesNo s g x) (mask (readsNo s g) v))
+      (sym (declared-back s N e x l)))
 
   pub view-exactly : ViewExactly s g
   view-exactly = record { same-view = same-view; same-left = same-left; no-longer = mask-size (readsNo s g) }

@@ -55,7 +55,8 @@ module _ (t ws : List ℕ) where
         → vs ≡ paste us (cell-words * x) c cell-words → vs ≡ cells (x + 1) (Shown g) ++ drop (cell-words * (x + 1)) d
     view-more g x d us vs c e l k p = stored-more (Shown g) x d us vs c (λ y m. shown-cellwise g _ y m) e (shown-is g x l k) p
 
-  pub view-all : (g : ℕ) (d us : List ℕ) (n : ℕ) → us ≡ cells n (Shown g) ++ drop (cell-words * n) d → n ≡ locationsIn t → length d ≡ cell-words * locationsIn t → us ≡ viewIn t g ws
+  pub view-all : (g : ℕ) (d us : List ℕ) (n : ℕ) → us ≡ cells n (Shown g) ++ drop (cell-words * n) d → n ≡ locationsIn t → length d ≡ cell-words * locationsIn t
+      → us ≡ viewIn t g ws
   unfolding viewIn viewBy
   view-all g d us n e k m = stored-all (Shown g) n d us (omega arith) e ∙ ap (λ (j : ℕ). cells j (Shown g)) k
 

@@ -69,7 +69,8 @@ module _ (n : ℕ) (words s : List ℕ) (i : ℕ) where
       rest-bad e = rw (lines-at-bad location maxLocations n s i l h e)
 
       pub rest-more : (row : List ℕ) (p : ℕ) → location (drop i s) ≡ got row (drop p s)
-          → tabled n words (linesUpTo location (maxLocations - n) (drop i s)) ≡ tabled (n + 1) (sets words (n * cell-words) row) (linesUpTo location (maxLocations - (n + 1)) (drop p s))
+          → tabled n words (linesUpTo location (maxLocations - n) (drop i s)) ≡ tabled (n + 1) (sets words (n * cell-words) row)
+          (linesUpTo location (maxLocations - (n + 1)) (drop p s))
       rest-more row p e =
           rw (lines-at-more location maxLocations n s i l (memory-lines .no-end) row p e)
           (tabled-front n words row _ (line-sound memory-lines (drop i s) row (drop p s) e .1 .0))

@@ -114,8 +114,11 @@ field-goes whole ws to i out at now p now₁ q now₂ r g eq e₁ er e₂ n h l 
     let q′ : q ≡ p + 1 = eq ∙ reached-fits now p (9 ∷ []) (omega arith) in
     let f : q + length (decimal (getD ws i 0)) ≤ length now₁ = omega arith in
     let r′ : r ≡ q + length (decimal (getD ws i 0)) = er ∙ reached-fits now₁ q (decimal (getD ws i 0)) f in
-    let tab = goes-put whole (fieldsFrom ws to i) out at now p g (λ t. decimal (getD ws i 0) ++ fieldsFrom ws to (i + 1) t) (9 ∷ []) now₁ q (fields-more ws to i h l) (omega arith) eq e₁ in
-    (goes-put whole (λ t. decimal (getD ws i 0) ++ fieldsFrom ws to (i + 1) t) out at now₁ q tab (fieldsFrom ws to (i + 1)) (decimal (getD ws i 0)) now₂ r (λ t. refl) f er e₂, omega arith)
+    let tab = goes-put whole (fieldsFrom ws to i) out at now p g (λ t. decimal (getD ws i 0) ++ fieldsFrom ws to (i + 1) t) (9 ∷ []) now₁ q (fields-more ws to i h l) (omega arith)
+    eq e₁ in (
+      goes-put whole (λ t. decimal (getD ws i 0) ++ fieldsFrom ws to (i + 1) t) out at now₁ q tab (fieldsFrom ws to (i + 1)) (decimal (getD ws i 0)) now₂ r (λ t. refl) f er e₂,
+      omega arith,
+    )
 
 -- the line of the location whose words stand from `from` on
 abbrev pub lineAt : List ℕ → ℕ → List ℕ → List ℕ
@@ -161,8 +164,10 @@ line-puts ws from n out at o₁ p o₂ q o₃ r u z ep e₁ f er e₃ l h m room
     let short = f .short in
     let p′ : p ≤ at + 10 = number-reach out at (getD ws from 0) p ep m (omega arith) in
     let r′ : r ≡ q + 1 = er ∙ reached-fits o₂ q (10 ∷ []) (omega arith) in
-    let first = goes-put (lineAt ws from) (lineAt ws from) out at out at (goes-start (lineAt ws from) out at) (λ t. fieldsFrom ws (from + n) (from + 1) (10 ∷ t)) (decimal (getD ws from 0)) o₁ p (line-more ws from n u z h) (omega arith) ep e₁ in
-    let second = goes-form (lineAt ws from) (λ t. fieldsFrom ws (from + n) (from + 1) (10 ∷ t)) out at o₁ p first (λ t. 10 ∷ t) (fieldsFrom ws (from + n) (from + 1)) _ o₂ q (λ t. refl) f in
+    let first = goes-put (lineAt ws from) (lineAt ws from) out at out at (goes-start (lineAt ws from) out at) (λ t. fieldsFrom ws (from + n) (from + 1) (10 ∷ t))
+    (decimal (getD ws from 0)) o₁ p (line-more ws from n u z h) (omega arith) ep e₁ in
+    let second = goes-form (lineAt ws from) (λ t. fieldsFrom ws (from + n) (from + 1) (10 ∷ t)) out at o₁ p first (λ t. 10 ∷ t) (fieldsFrom ws (from + n) (from + 1)) _ o₂ q
+    (λ t. refl) f in
     goes-done (lineAt ws from) lineRoom out at o₃ r
     (goes-put (lineAt ws from) (λ t. 10 ∷ t) out at o₂ q second (λ t. t) (10 ∷ []) o₃ r (λ t. refl) (omega arith) er e₃)
     (omega arith)

@@ -61,7 +61,8 @@ abbrev pub struct : (S : Declared) → LL.Laws S → LL.Lowered S → Result
 struct S L low = record { row = row S; low = low; lawful = λ 𝓤 H A W. LL.lawful S L 𝓤 H A W }
 
 -- the machine value of a result has the result's type
-pub typed : (R : Result) {M : Type 1} (𝓤 : URA M) (H : Heap 𝓤) (A : Atoms 𝓤) → Given 𝓤 H A → (r : R .row .Denot) (u : Val) → Is (R .row) r (u ∷ []) → Holds (hasTy (R .low .mir) u) × WT u
+pub typed : (R : Result) {M : Type 1} (𝓤 : URA M) (H : Heap 𝓤) (A : Atoms 𝓤) → Given 𝓤 H A → (r : R .row .Denot) (u : Val) → Is (R .row) r (u ∷ [])
+    → Holds (hasTy (R .low .mir) u) × WT u
 typed R 𝓤 H A W r u is = subst (λ (ts : List Ty). Typed ts (u ∷ [])) (R .low .layout-is) (R .lawful 𝓤 H A W .typed r (u ∷ []) is) .0
 
 -- the struct's type, over the signature's lifetimes
@@ -83,7 +84,8 @@ module _ (R : Result) where
     lifetimes = 1;
     outlives = [];
     params = 1;
-    locals = syn.local (R .low .mir) syn.valueLocal ∷ syn.local (T′.mir (named 0)) syn.valueLocal ∷ syn.local (sliceTy (tyRef erased imm (tyInt w8))) syn.valueLocal ∷ syn.local (tyInt w64) syn.valueLocal ∷ [];
+    locals = syn.local (R .low .mir) syn.valueLocal ∷ syn.local (T′.mir (named 0)) syn.valueLocal ∷ syn.local (sliceTy (tyRef erased imm (tyInt w8))) syn.valueLocal ∷ syn.local
+        (tyInt w64) syn.valueLocal ∷ [];
     body = syn.seq (syn.assign (syn.place 2 []) (syn.rvOpd (syn.copy (syn.place 1 (syn.field 0 ∷ [])))))
         (syn.seq (syn.assign (syn.place 3 []) (syn.rvOpd (syn.copy (syn.place 1 (syn.field 1 ∷ [])))))
         (syn.seq (syn.call callee (syn.copy (syn.place 2 []) ∷ syn.copy (syn.place 3 []) ∷ []) (syn.place 0 [])) syn.return));
@@ -148,8 +150,10 @@ module _ (R : Result) where
       parted : d .at < 2 ^ 64 → ent 𝓤 (onEntry 𝓤 H A (here .signature) (κ, tt) (q, tt) (d, tt) (mach ∷ [], tt)) (sep 𝓤 (From .pre to) (sem 𝓤 H A Own))
       parted fits =
           qed W ((‵ (flft κ q) ⊛ ‵ ftrue) ∷ ‵ (owns (B (κ, tt) ∷ []) (d, tt) (mach ∷ [], tt)) ∷ []) ∵
-          move ! (1 ∷ []) $ fsplit ! $ move ! (1 ∷ []) $ drop ! $ use1 W (‵ Own ⊛ ‵ Own) (LL.copy D (T′.the-copy (namedLft 1 0 tt (κ, tt))) 𝓤 H A W .twice d (mach ∷ [])) $ split ! $
-          use1 W (given (mach ∷ [] ≡ mach ∷ []) (‵ (all-own (D .parts) L vd))) (own-open 𝓤 H A W D L vd mach) $ learn ! (λ _. use1 W (‵ (ownAt (D .parts) L 0 (d .text)) ⊛ ‵ (rest (D .parts) L 0 vd)) (own-out 𝓤 H A W (D .parts) L 0 vd) $ split ! $
+          move ! (1 ∷ []) $ fsplit ! $ move ! (1 ∷ []) $ drop ! $ use1 W (‵ Own ⊛ ‵ Own) (LL.copy D (T′.the-copy (namedLft 1 0 tt (κ, tt))) 𝓤 H A W .twice d (mach ∷ [])) $ split !
+          $
+          use1 W (given (mach ∷ [] ≡ mach ∷ []) (‵ (all-own (D .parts) L vd))) (own-open 𝓤 H A W D L vd mach) $ learn !
+          (λ _. use1 W (‵ (ownAt (D .parts) L 0 (d .text)) ⊛ ‵ (rest (D .parts) L 0 vd)) (own-out 𝓤 H A W (D .parts) L 0 vd) $ split ! $
           -- [what text owns; what at owns; what the struct owns; the token]
           move ! (1 ∷ []) $ drop ! $ nothing ! $ owned ! usize (Is usize) (uint-makes 𝓤 H A W w64) (d .at) _ (refl, fits) $ fjoin ! $ move ! (1 ∷ 0 ∷ []) $ fjoin ! $
           move ! (2 ∷ 0 ∷ []) $ use2 W (raw (From .pre to)) asked $ frame ! $ done !)
@@ -165,7 +169,8 @@ module _ (R : Result) where
           move ! (1 ∷ []) $ frame ! $ nothing ! $ move ! (2 ∷ 0 ∷ []) $ fjoin ! $ frame ! $ done !
 
       module _ (callee : Name) (C : Calls 𝓤 H) (Λ : Loops 𝓤 H) (fm : FmC 𝓤 H (W .laws) C) (known : Triple 𝓤 (C callee) From) where
-        walk : Holds (hasTy (T′.mir (named 0)) mach) × WT mach → ent 𝓤 (onEntry 𝓤 H A (here .signature) (κ, tt) (q, tt) (d, tt) (mach ∷ [], tt)) (WpFn 𝓤 H C Λ (function callee) (mach ∷ []) Post)
+        walk : Holds (hasTy (T′.mir (named 0)) mach) × WT mach
+            → ent 𝓤 (onEntry 𝓤 H A (here .signature) (κ, tt) (q, tt) (d, tt) (mach ∷ [], tt)) (WpFn 𝓤 H C Λ (function callee) (mach ∷ []) Post)
         walk wt =
             qed W (raw (onEntry 𝓤 H A (here .signature) (κ, tt) (q, tt) (d, tt) (mach ∷ [], tt)) ∷ []) ∵ enter ! C Λ (function callee) (mach ∷ []) _ $
             alloc1 ! (λ l₀. alloc1 ! (λ l₁. alloc1 ! (λ l₂. alloc1 ! (λ l₃. alloc0 ! $ params1 ! $ pass1 ! (init ! 4 refl wt) $ pass0 ! $
@@ -173,7 +178,8 @@ module _ (R : Result) where
             assigns ! (of-opd ! (load ! (from ! (fld ! refl (stop !))) (look-in ! 4 (sub ! 1 refl (whole !))))) (from ! (stop !)) (init ! 0 refl (tt, wt .1 .1 .0)) $
             move ! (8 ∷ []) $ use1 W (raw (From .pre to) ⊛ ‵ Own) (parted (wt .1 .1 .0 .fits)) $ split ! $
             calls-at ! fm From known to (and-then ! (load ! (from ! (stop !)) (look ! 4 refl)) (and-then ! (load ! (from ! (stop !)) (look ! 2 refl)) (no-more !))) (λ u.
-            use1 W (later (some (λ (r : R .row .Denot). ((‵ (flft κ q) ⊛ ‵ ftrue) ⊛ ‵ (R .row .own r (u ∷ []))) ⊛ raw (ensured 𝓤 H A from-at from-clauses (κ, tt) (d .text, (d .at, tt)) tt r)))) (id⊢ 𝓤 _) $ await ! tt $ pick ! (λ r.
+            use1 W (later (some (λ (r : R .row .Denot). ((‵ (flft κ q) ⊛ ‵ ftrue) ⊛ ‵ (R .row .own r (u ∷ []))) ⊛ raw
+            (ensured 𝓤 H A from-at from-clauses (κ, tt) (d .text, (d .at, tt)) tt r)))) (id⊢ 𝓤 _) $ await ! tt $ pick ! (λ r.
             split ! $ move ! (1 ∷ []) $ use1 W (raw (fact 𝓤 (Said r))) (said r) $ heard ! (Said r) (λ e. split ! $ move ! (1 ∷ []) $
             -- [the result; the token; what the struct owns; _3; …; _2; …; _1; …; room for _0; …]
             peeks ! (R .row) (Is (R .row)) (shows 𝓤 H A (R .row)) r (u ∷ []) (λ is.
@@ -183,14 +189,20 @@ module _ (R : Result) where
 
     module _ (W : Given 𝓤 H A) (callee : Name) where
       walks : (C : Calls 𝓤 H) (Λ : Loops 𝓤 H) → FmC 𝓤 H (W .laws) C → Triple 𝓤 (C callee) From → Walks 𝓤 H A here stayed (WpFn 𝓤 H C Λ (function callee)) here-clauses
-      walks C Λ fm known = walked 𝓤 H A here stayed here-clauses (WpFn 𝓤 H C Λ (function callee)) (λ κs. (LL.vals (T.the-type (namedLft 1 0 tt κs)) (T′.the-laws (namedLft 1 0 tt κs)), tt)) (λ κs. (LL.tells (T.the-type (namedLft 1 0 tt κs)) (T′.the-laws (namedLft 1 0 tt κs)), tt))
-          (λ κs qs bounds a g are. via 𝓤 _ (fst∗ 𝓤 _ (emp 𝓤)) (walk W (κs .0) (qs .0) (a .0) callee C Λ fm known (LL.lawful (T.the-type (namedLft 1 0 tt κs)) (T′.the-laws (namedLft 1 0 tt κs)) 𝓤 H A W .typed (a .0) _ (are .0) .0)))
+      walks C Λ fm known = walked 𝓤 H A here stayed here-clauses (WpFn 𝓤 H C Λ (function callee))
+          (λ κs. (LL.vals (T.the-type (namedLft 1 0 tt κs)) (T′.the-laws (namedLft 1 0 tt κs)), tt))
+          (λ κs. (LL.tells (T.the-type (namedLft 1 0 tt κs)) (T′.the-laws (namedLft 1 0 tt κs)), tt))
+          (λ κs qs bounds a g are. via 𝓤 _ (fst∗ 𝓤 _ (emp 𝓤))
+          (walk W (κs .0) (qs .0) (a .0) callee C Λ fm known
+          (LL.lawful (T.the-type (namedLft 1 0 tt κs)) (T′.the-laws (namedLft 1 0 tt κs)) 𝓤 H A W .typed (a .0) _ (are .0) .0)))
 
       apart : (𝓣 : Tables 𝓤 H) → Triple 𝓤 (𝓣 .C callee) From → Meets 𝓤 H A (here .signature) (WpFn 𝓤 H (𝓣 .C) (𝓣 .Λ) (function callee)) (closing 𝓤 H A here here-clauses)
-      apart 𝓣 known = walk-meets 𝓤 H A here stayed W (goes-none 𝓤 H A W 1 B yes (λ κs x f. refl), tt) here-clauses (WpFn 𝓤 H (𝓣 .C) (𝓣 .Λ) (function callee)) (WpFn-mono 𝓤 H (W .laws) 𝓣 (function callee))
+      apart 𝓣 known = walk-meets 𝓤 H A here stayed W (goes-none 𝓤 H A W 1 B yes (λ κs x f. refl), tt) here-clauses (WpFn 𝓤 H (𝓣 .C) (𝓣 .Λ) (function callee))
+          (WpFn-mono 𝓤 H (W .laws) 𝓣 (function callee))
           (walks (𝓣 .C) (𝓣 .Λ) (fmOf 𝓤 H (W .laws) 𝓣) known)
 
-  module _ (want : List ℕ → ℕ → R .row .Denot) {M : Type 1} (𝓤 : URA M) (H : Heap 𝓤) (𝓜 : Model 𝓤 H) (𝓖 : GhostRules 𝓤 H) (𝓡 : Running 𝓤 H 𝓜) (γ : Env) (name callee : Name) (routine : Routine) where
+  module _ (want : List ℕ → ℕ → R .row .Denot) {M : Type 1} (𝓤 : URA M) (H : Heap 𝓤) (𝓜 : Model 𝓤 H) (𝓖 : GhostRules 𝓤 H) (𝓡 : Running 𝓤 H 𝓜) (γ : Env) (name callee : Name)
+      (routine : Routine) where
     pub taken : Closed 𝓤 H (tables 𝓤 H 𝓜 𝓡 γ .C) (tables 𝓤 H 𝓜 𝓡 γ .Λ) name (function callee) → γ callee ≡ routine
         → Triple 𝓤 (𝓡 .run routine) (From want 𝓤 H (𝓖 .A)) → Meets 𝓤 H (𝓖 .A) (here .signature) (tables 𝓤 H 𝓜 𝓡 γ .C name) (closing 𝓤 H (𝓖 .A) here (here-clauses want 𝓤 H (𝓖 .A)))
     unfolding tablesOf

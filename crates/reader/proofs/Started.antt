@@ -61,7 +61,8 @@ module _ (R : Result) where
     outlives = [];
     params = 1;
     locals = syn.local (R .low .mir) syn.valueLocal ∷ syn.local (sliceTy (tyRef (named 0) imm (tyInt w8))) syn.valueLocal ∷ syn.local (T′.mir erased) syn.valueLocal ∷ [];
-    body = syn.seq (syn.call new-def.name (syn.copy (syn.place 1 []) ∷ []) (syn.place 2 [])) (syn.seq (syn.call callee (syn.copy (syn.place 2 []) ∷ []) (syn.place 0 [])) syn.return);
+    body = syn.seq (syn.call new-def.name (syn.copy (syn.place 1 []) ∷ []) (syn.place 2 []))
+        (syn.seq (syn.call callee (syn.copy (syn.place 2 []) ∷ []) (syn.place 0 [])) syn.return);
   }
 
   abbrev stayed : Stays (all .signature .params) (all .kept)
@@ -105,7 +106,8 @@ module _ (R : Result) where
       goes-new =
           qed W ((‵ (flft κ q) ⊛ ‵ ftrue) ∷ ‵ (owns (ShrSlice (named 0) κ u8 ∷ []) (s, tt) (v ∷ [], tt)) ∷ []) ∵
           move ! (1 ∷ []) $ fsplit ! $ use1 W (‵ Own ⊛ ‵ Own) (shr-slice-copy 𝓤 H A W (named 0) κ u8 .twice s (v ∷ [])) $ split ! $
-          move ! (0 ∷ 2 ∷ []) $ fjoin ! $ move ! (2 ∷ 0 ∷ []) $ use2 W (raw (New .pre to-new)) (qed W ((‵ (flft κ q) ⊛ ‵ ftrue) ∷ ‵ (owns (ShrSlice (named 0) κ u8 ∷ []) (s, tt) (v ∷ [], tt)) ∷ []) ∵ join ! $ frame ! $ done !) $ frame ! $ done !
+          move ! (0 ∷ 2 ∷ []) $ fjoin ! $ move ! (2 ∷ 0 ∷ []) $ use2 W (raw (New .pre to-new))
+          (qed W ((‵ (flft κ q) ⊛ ‵ ftrue) ∷ ‵ (owns (ShrSlice (named 0) κ u8 ∷ []) (s, tt) (v ∷ [], tt)) ∷ []) ∵ join ! $ frame ! $ done !) $ frame ! $ done !
 
       new-said : (r : Reader) → ent 𝓤 (ensured 𝓤 H A new.ended (new.clauses 𝓤 H A mem run) (κ, tt) (s, tt) tt r) (fact 𝓤 ((r .text ≡ s) × (r .at ≡ 0)))
       new-said r = exE 𝓤 _ (λ ws. snd∗ 𝓤 (sem 𝓤 H A (lasts new.ended (κ, tt) (s, tt) ws)) (fact 𝓤 ((r .text ≡ s) × (r .at ≡ 0))))
@@ -115,7 +117,8 @@ module _ (R : Result) where
       to-next r u = (((κ, tt), (q, tt), tt, (r, tt), (u ∷ [], tt)), tt)
 
       goes-next : (r : Reader) (u : Val) → ent 𝓤 (⋆ 𝓤 H A (‵ (B (κ, tt) .own r (u ∷ [])) ∷ (‵ (flft κ q) ⊛ ‵ ftrue) ∷ [])) (Next .pre (to-next r u))
-      goes-next r u = qed W (‵ (B (κ, tt) .own r (u ∷ [])) ∷ (‵ (flft κ q) ⊛ ‵ ftrue) ∷ []) ∵ nothing ! $ move ! (1 ∷ 0 ∷ []) $ fjoin ! $ move ! (1 ∷ 0 ∷ []) $ join ! $ frame ! $ done !
+      goes-next r u = qed W (‵ (B (κ, tt) .own r (u ∷ [])) ∷ (‵ (flft κ q) ⊛ ‵ ftrue) ∷ []) ∵ nothing ! $ move ! (1 ∷ 0 ∷ []) $ fjoin ! $ move ! (1 ∷ 0 ∷ []) $ join ! $ frame ! $
+          done !
 
       next-said : (r : Reader) (t : R .row .Denot) → ent 𝓤 (ensured 𝓤 H A (here R) (here-clauses R want 𝓤 H A) (κ, tt) (r, tt) tt t) (fact 𝓤 (Said (r .text) (r .at) t))
       next-said r t = exE 𝓤 _ (λ ws. snd∗ 𝓤 (sem 𝓤 H A (lasts (here R) (κ, tt) (r, tt) ws)) (fact 𝓤 (Said (r .text) (r .at) t)))
@@ -130,36 +133,46 @@ module _ (R : Result) where
         walk : Is (ShrSlice (named 0) κ u8) s (v ∷ []) → ent 𝓤 (onEntry 𝓤 H A (all .signature) (κ, tt) (q, tt) (s, tt) (v ∷ [], tt)) (WpFn 𝓤 H C Λ (function callee) (v ∷ []) Post)
         walk p =
             qed W (raw (onEntry 𝓤 H A (all .signature) (κ, tt) (q, tt) (s, tt) (v ∷ [], tt)) ∷ []) ∵ enter ! C Λ (function callee) (v ∷ []) _ $
-            alloc1 ! (λ l₀. alloc1 ! (λ l₁. alloc1 ! (λ l₂. alloc0 ! $ params1 ! $ pass1 ! (init ! 2 refl (shr-slice-lawful 𝓤 H A W (named 0) κ u8 .typed s (v ∷ []) p .0)) $ pass0 ! $
+            alloc1 ! (λ l₀. alloc1 ! (λ l₁. alloc1 ! (λ l₂. alloc0 ! $ params1 ! $ pass1 ! (init ! 2 refl (shr-slice-lawful 𝓤 H A W (named 0) κ u8 .typed s (v ∷ []) p .0)) $ pass0
+            ! $
             move ! (6 ∷ []) $ use1 W (raw (New .pre to-new) ⊛ ‵ Own) goes-new $ split ! $
             calls-at ! fm New known-new to-new (and-then ! (load ! (from ! (stop !)) (look ! 4 refl)) (no-more !)) (λ u.
-            use1 W (later (some (λ (r : Reader). ((‵ (flft κ q) ⊛ ‵ ftrue) ⊛ ‵ (B (κ, tt) .own r (u ∷ []))) ⊛ raw (ensured 𝓤 H A new.ended (new.clauses 𝓤 H A mem run) (κ, tt) (s, tt) tt r)))) (id⊢ 𝓤 _) $ await ! tt $ pick ! (λ r.
+            use1 W (later (some (λ (r : Reader). ((‵ (flft κ q) ⊛ ‵ ftrue) ⊛ ‵ (B (κ, tt) .own r (u ∷ []))) ⊛ raw
+            (ensured 𝓤 H A new.ended (new.clauses 𝓤 H A mem run) (κ, tt) (s, tt) tt r)))) (id⊢ 𝓤 _) $ await ! tt $ pick ! (λ r.
             split ! $ move ! (1 ∷ []) $ use1 W (raw (fact 𝓤 ((r .text ≡ s) × (r .at ≡ 0)))) (new-said r) $ heard ! ((r .text ≡ s) × (r .at ≡ 0)) (λ e. split ! $ move ! (1 ∷ []) $
             -- [what the struct owns; the token; what s owns; room for _2; …; _1; …; room for _0; …]
             peeks ! (B (κ, tt)) (Is (B (κ, tt))) (shows 𝓤 H A (B (κ, tt))) r (u ∷ []) (λ is.
             land ! (from ! (stop !)) (init ! 3 refl (LL.lawful (T.the-type αᵉ) (T′.the-laws αᵉ) 𝓤 H A W .typed r _ is .0)) $
             use2 W (raw (Next .pre (to-next r u))) (goes-next r u) $
             calls-at ! fm Next known-next (to-next r u) (and-then ! (load ! (from ! (stop !)) (look ! 2 refl)) (no-more !)) (λ u′.
-            use1 W (later (some (λ (t : R .row .Denot). ((‵ (flft κ q) ⊛ ‵ ftrue) ⊛ ‵ (R .row .own t (u′ ∷ []))) ⊛ raw (ensured 𝓤 H A (here R) (here-clauses R want 𝓤 H A) (κ, tt) (r, tt) tt t)))) (id⊢ 𝓤 _) $ await ! tt $ pick ! (λ t.
+            use1 W (later (some (λ (t : R .row .Denot). ((‵ (flft κ q) ⊛ ‵ ftrue) ⊛ ‵ (R .row .own t (u′ ∷ []))) ⊛ raw
+            (ensured 𝓤 H A (here R) (here-clauses R want 𝓤 H A) (κ, tt) (r, tt) tt t)))) (id⊢ 𝓤 _) $ await ! tt $ pick ! (λ t.
             split ! $ move ! (1 ∷ []) $ use1 W (raw (fact 𝓤 (Said (r .text) (r .at) t))) (next-said r t) $ heard ! (Said (r .text) (r .at) t) (λ e′. split ! $ move ! (1 ∷ []) $
             -- [the result; the token; what s owns; _2; …; _1; …; room for _0; …]
             peeks ! (R .row) (Is (R .row)) (shows 𝓤 H A (R .row)) t (u′ ∷ []) (λ is′.
             land ! (from ! (stop !)) (init ! 7 refl (typed R 𝓤 H A W t u′ is′)) $
-            returns ! (look ! 7 refl) $ forget ! 3 refl $ forget ! 5 refl $ forget ! 7 refl $ move ! (7 ∷ 8 ∷ []) $ free1 ! $ move ! (5 ∷ 6 ∷ []) $ free1 ! $ move ! (3 ∷ 4 ∷ []) $ free1 ! $ free0 ! $
+            returns ! (look ! 7 refl) $ forget ! 3 refl $ forget ! 5 refl $ forget ! 7 refl $ move ! (7 ∷ 8 ∷ []) $ free1 ! $ move ! (5 ∷ 6 ∷ []) $ free1 ! $ move ! (3 ∷ 4 ∷ []) $
+            free1 ! $ free0 ! $
             by ! (exits t u′ (subst (λ (i : ℕ). Said s i t) (e .1) (subst (λ (x : RefT (List ℕ)). Said x (r .at) t) (e .0) e′))))))))))))))
 
     module _ (W : Given 𝓤 H A) (callee : Name) where
-      walks : (C : Calls 𝓤 H) (Λ : Loops 𝓤 H) → FmC 𝓤 H (W .laws) C → Triple 𝓤 (C new-def.name) New → Triple 𝓤 (C callee) Next → Walks 𝓤 H A all stayed (WpFn 𝓤 H C Λ (function callee)) all-clauses
-      walks C Λ fm known-new known-next = walked 𝓤 H A all stayed all-clauses (WpFn 𝓤 H C Λ (function callee)) (λ κs. (slice-vals, tt)) (λ κs. (shr-slice-tells (named 0) (κs .0) u8, tt))
+      walks : (C : Calls 𝓤 H) (Λ : Loops 𝓤 H) → FmC 𝓤 H (W .laws) C → Triple 𝓤 (C new-def.name) New → Triple 𝓤 (C callee) Next
+          → Walks 𝓤 H A all stayed (WpFn 𝓤 H C Λ (function callee)) all-clauses
+      walks C Λ fm known-new known-next = walked 𝓤 H A all stayed all-clauses (WpFn 𝓤 H C Λ (function callee)) (λ κs. (slice-vals, tt))
+          (λ κs. (shr-slice-tells (named 0) (κs .0) u8, tt))
           (λ κs qs bounds a g are. via 𝓤 _ (fst∗ 𝓤 _ (emp 𝓤)) (walk W (κs .0) (qs .0) (a .0) callee C Λ fm known-new known-next (are .0)))
 
-      starts : (𝓣 : Tables 𝓤 H) → Triple 𝓤 (𝓣 .C new-def.name) New → Triple 𝓤 (𝓣 .C callee) Next → Meets 𝓤 H A (all .signature) (WpFn 𝓤 H (𝓣 .C) (𝓣 .Λ) (function callee)) (closing 𝓤 H A all all-clauses)
-      starts 𝓣 known-new known-next = walk-meets 𝓤 H A all stayed W (goes-none-slice 𝓤 H A W 1 (0 ∷ []) tt (plain (λ _. u8)) yes, tt) all-clauses (WpFn 𝓤 H (𝓣 .C) (𝓣 .Λ) (function callee)) (WpFn-mono 𝓤 H (W .laws) 𝓣 (function callee))
+      starts : (𝓣 : Tables 𝓤 H) → Triple 𝓤 (𝓣 .C new-def.name) New → Triple 𝓤 (𝓣 .C callee) Next
+          → Meets 𝓤 H A (all .signature) (WpFn 𝓤 H (𝓣 .C) (𝓣 .Λ) (function callee)) (closing 𝓤 H A all all-clauses)
+      starts 𝓣 known-new known-next = walk-meets 𝓤 H A all stayed W (goes-none-slice 𝓤 H A W 1 (0 ∷ []) tt (plain (λ _. u8)) yes, tt) all-clauses
+          (WpFn 𝓤 H (𝓣 .C) (𝓣 .Λ) (function callee)) (WpFn-mono 𝓤 H (W .laws) 𝓣 (function callee))
           (walks (𝓣 .C) (𝓣 .Λ) (fmOf 𝓤 H (W .laws) 𝓣) known-new known-next)
 
-  module _ (want : List ℕ → ℕ → R .row .Denot) {M : Type 1} (𝓤 : URA M) (H : Heap 𝓤) (𝓜 : Model 𝓤 H) (𝓖 : GhostRules 𝓤 H) (𝓡 : Running 𝓤 H 𝓜) (γ : Env) (name callee : Name) (routine : Routine) where
+  module _ (want : List ℕ → ℕ → R .row .Denot) {M : Type 1} (𝓤 : URA M) (H : Heap 𝓤) (𝓜 : Model 𝓤 H) (𝓖 : GhostRules 𝓤 H) (𝓡 : Running 𝓤 H 𝓜) (γ : Env) (name callee : Name)
+      (routine : Routine) where
     pub started : Closed 𝓤 H (tables 𝓤 H 𝓜 𝓡 γ .C) (tables 𝓤 H 𝓜 𝓡 γ .Λ) name (function callee) → γ new-def.name ≡ new-def.routine → γ callee ≡ routine
-        → Triple 𝓤 (𝓡 .run routine) (Here R want 𝓤 H (𝓖 .A)) → Meets 𝓤 H (𝓖 .A) (all .signature) (tables 𝓤 H 𝓜 𝓡 γ .C name) (closing 𝓤 H (𝓖 .A) all (all-clauses want 𝓤 H (𝓖 .A) (𝓜 .mem) (𝓡 .run)))
+        → Triple 𝓤 (𝓡 .run routine) (Here R want 𝓤 H (𝓖 .A))
+        → Meets 𝓤 H (𝓖 .A) (all .signature) (tables 𝓤 H 𝓜 𝓡 γ .C name) (closing 𝓤 H (𝓖 .A) all (all-clauses want 𝓤 H (𝓖 .A) (𝓜 .mem) (𝓡 .run)))
     unfolding tablesOf
     started closed is-new is-callee met =
         entered 𝓤 H _ (tables 𝓤 H 𝓜 𝓡 γ .C) (tables 𝓤 H 𝓜 𝓡 γ .Λ) name (function callee) closed

@@ -26,7 +26,8 @@ abbrev opened : List ℕ
 opened = 99 ∷ 10 ∷ 120 ∷ 9 ∷ 50 ∷ 10 ∷ 61 ∷ 9 ∷ 51 ∷ 10 ∷ 117 ∷ 9 ∷ 53 ∷ 9 ∷ 50 ∷ 10 ∷ 118 ∷ 9 ∷ 48 ∷ 10 ∷ 115 ∷ 10 ∷ []
 
 opened-read : scriptOf counts opened ≡ some (case (loc 2) (assign 3 (unpack 5 2 (var 0))) skip)
-unfolding andThen byte fits digit digits opensDigit number both named namedE numberField lastNumber formOf operandsOf lineOf front onward linesUpTo linesOf popE popC onStack pushOn stackOf single parse namedOnly commandOf commandIn scriptOf
+unfolding andThen byte fits digit digits opensDigit number both named namedE numberField lastNumber formOf operandsOf lineOf front onward linesUpTo linesOf popE popC onStack pushOn
+    stackOf single parse namedOnly commandOf commandIn scriptOf
 opened-read = refl
 
 opened-printed : scriptBytes (cmdLines (case (loc 2) (assign 3 (unpack 5 2 (var 0))) skip) []) ≡ opened
@@ -38,7 +39,8 @@ refused : (scriptOf counts [] ≡ none) × (scriptOf counts (115 ∷ 10 ∷ 115 
     × (scriptOf counts (99 ∷ 10 ∷ 118 ∷ 9 ∷ 48 ∷ 10 ∷ 115 ∷ 10 ∷ 115 ∷ 10 ∷ []) ≡ none)
     × (scriptOf counts (61 ∷ 9 ∷ 48 ∷ 10 ∷ 120 ∷ 9 ∷ 52 ∷ 10 ∷ []) ≡ none)
     × (scriptOf counts (115 ∷ []) ≡ none) × (scriptOf counts (115 ∷ 13 ∷ 10 ∷ []) ≡ none)
-unfolding andThen byte fits digit digits opensDigit number both named namedE numberField lastNumber formOf operandsOf lineOf front onward linesUpTo linesOf popE popC onStack pushOn stackOf single parse namedOnly commandOf commandIn scriptOf
+unfolding andThen byte fits digit digits opensDigit number both named namedE numberField lastNumber formOf operandsOf lineOf front onward linesUpTo linesOf popE popC onStack pushOn
+    stackOf single parse namedOnly commandOf commandIn scriptOf
 refused = (refl, refl, refl, refl, refl, refl)
 
 -- n cases, each in the left branch of the one before

@@ -49,9 +49,12 @@ module _ (k : Counts) (narrow : Narrow k) where
   fit-expr d (s-loc {x = n}) h m r = and-then {l = l-loc n} (small n (k .locations) m (omega (arith, narrow .locations)), omega arith) r
   fit-expr d (s-var {d = n}) h m r = and-then {l = l-var n} (small n d m (omega arith), omega arith) r
   fit-expr d (s-plus s q) h n r = and-then {l = l-plus} (omega arith, omega arith) (fit-expr d s h (both-left _ _ n) (fit-expr d q h (both-right _ _ n) r))
-  fit-expr d (s-left {t = x} s) h n r = and-then {l = l-left x} (small x (k .types) (both-left _ _ n) (omega (arith, narrow .types)), omega arith) (fit-expr d s h (both-right _ _ n) r)
-  fit-expr d (s-right {t = x} s) h n r = and-then {l = l-right x} (small x (k .types) (both-left _ _ n) (omega (arith, narrow .types)), omega arith) (fit-expr d s h (both-right _ _ n) r)
-  fit-expr d (s-pack {l = x} s) h n r = and-then {l = l-pack x} (small x (k .labels) (both-left _ _ n) (omega (arith, narrow .labels)), omega arith) (fit-expr d s h (both-right _ _ n) r)
+  fit-expr d (s-left {t = x} s) h n r = and-then {l = l-left x} (small x (k .types) (both-left _ _ n) (omega (arith, narrow .types)), omega arith)
+      (fit-expr d s h (both-right _ _ n) r)
+  fit-expr d (s-right {t = x} s) h n r = and-then {l = l-right x} (small x (k .types) (both-left _ _ n) (omega (arith, narrow .types)), omega arith)
+      (fit-expr d s h (both-right _ _ n) r)
+  fit-expr d (s-pack {l = x} s) h n r = and-then {l = l-pack x} (small x (k .labels) (both-left _ _ n) (omega (arith, narrow .labels)), omega arith)
+      (fit-expr d s h (both-right _ _ n) r)
   fit-expr d (s-unpack {t = x} {l = y} s) h n r =
       let t = both-left _ _ n in
       and-then {l = l-unpack x y} (small x (k .types) (both-left _ _ t) (omega (arith, narrow .types)), small y (k .labels) (both-right _ _ t) (omega (arith, narrow .labels)))

@@ -69,7 +69,10 @@ unfolding caseSheet caseText sheetBytes printLines lineBytes sheetLines linesThe
 case-printed = refl
 
 texts-read : map sheetOf texts ≡ answers
-unfolding caseSheet caseText texts answers sheetOf judged sheetIn buildIn build steps stepOn step begin sumFits labelFits policyFits locationFits leastOwner leastAfter lastOf blank addSum addLabel addPolicy toLast addLocation allLines linesUpTo onward front lineOf principalsRest pairRest pairLine labelRest policyRest andThen byte fits digit opensDigit digits number hexDigit hexDigits numberField setField lastNumber both either union every tab single everyone openAt openOf policyOf withPolicies labelOf sameAt sameOf givenParts partsOf typeCount labelsOf labelCount locationCount among repeated sameParts givenSums repeats
+unfolding caseSheet caseText texts answers sheetOf judged sheetIn buildIn build steps stepOn step begin sumFits labelFits policyFits locationFits leastOwner leastAfter lastOf blank
+    addSum addLabel addPolicy toLast addLocation allLines linesUpTo onward front lineOf principalsRest pairRest pairLine labelRest policyRest andThen byte fits digit opensDigit
+    digits number hexDigit hexDigits numberField setField lastNumber both either union every tab single everyone openAt openOf policyOf withPolicies labelOf sameAt sameOf
+    givenParts partsOf typeCount labelsOf labelCount locationCount among repeated sameParts givenSums repeats
 texts-read = refl
 
 case-formed : formed caseSheet ≡ true

@@ -122,7 +122,8 @@ module _ (ws t memory : List ℕ) (authority budget : ℕ) where
           → refusedRun memory a ≡ onScript (refusedRun memory) o (runFrom s memory authority budget)
       go s T none e = absurd (no-number s e)
       go s T (some c) e =
-          ap (refusedRun memory) (m s T) ∙ sym (goes (refusedRun memory) (untyped s c) _ (accepted s c e) ∙ stops (refusedRun memory) (memoryRefusal s memory) _ (λ z. n (m s T ∙ z)))
+          ap (refusedRun memory) (m s T) ∙ sym (goes (refusedRun memory) (untyped s c) _ (accepted s c e) ∙ stops (refusedRun memory) (memoryRefusal s memory) _
+          (λ z. n (m s T ∙ z)))
 
   -- an accepted script from a well-formed memory is never stuck, so that its outcome is the answer
   ends : (s : Sheet) (c : Cmd) → untyped s c ≡ 0 → memoryRefusal s memory ≡ 0 → (state steps : ℕ) (left : List ℕ) (o : Out)
@@ -146,7 +147,8 @@ module _ (ws t memory : List ℕ) (authority budget : ℕ) where
       run-of s T c src nm w u =
           let z : memoryRefusal s memory ≡ 0 = sym (m s T) in
           ends s c u z state steps left _ refl
-          (r .means s (countsOf s) c (T .form) (T .words) refl src nm w (unrefused-length (locationCount s) (wellFormed s memory) memory z) (unrefused-formed (locationCount s) (wellFormed s memory) memory z))
+          (r .means s (countsOf s) c (T .form) (T .words) refl src nm w (unrefused-length (locationCount s) (wellFormed s memory) memory z)
+          (unrefused-formed (locationCount s) (wellFormed s memory) memory z))
           ∙ sym (goes (refusedRun memory) (untyped s c) _ u ∙ goes (refusedRun memory) (memoryRefusal s memory) _ z)
 
       go : (s : Sheet) → TableOf t s → {us : List ℕ} → us ≡ ws → {o : Option Cmd} → CodeOf s us o → 0 ≡ onScript (λ k. k) o (untyped s)

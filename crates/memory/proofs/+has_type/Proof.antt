@@ -49,19 +49,32 @@ pub +has-type-spec : {M : Type 1} → statement M
     (λ c κs. search needs)
     (λ c κs. search needs)
     (λ c κs. search needs)  -- is-sum-requires
-    (λ c. let a = c .before .before .before .before .before .before .before .args in laws.not-inl (a .table .now) (a .words .now) (a .ty) (a .at) (omega arith) (c .before .before .match .keys3) (sym (c .before .is-sum .ensures) ∙ not-true _ (c .if2 .taken)))  -- returns-2
+    (λ c. let a = c .before .before .before .before .before .before .before .args
+    in laws.not-inl (a .table .now) (a .words .now) (a .ty) (a .at) (omega arith) (c .before .before .match .keys3)
+    (sym (c .before .is-sum .ensures) ∙ not-true _ (c .if2 .taken)))  -- returns-2
     (λ c. search needs)  -- add-has-type
     (λ c κs. search needs)
     (λ c κs. (omega arith, tt))
     (λ c κs. search needs)  -- is-sum-requires-2
-    (λ c. let a = c .before .before .before .before .before .before .before .args in laws.not-inr (a .table .now) (a .words .now) (a .ty) (a .at) (omega arith) (c .before .before .match .keys4) (sym (c .before .is-sum2 .ensures) ∙ not-true _ (c .if3 .taken)))  -- returns-3
+    (λ c. let a = c .before .before .before .before .before .before .before .args
+    in laws.not-inr (a .table .now) (a .words .now) (a .ty) (a .at) (omega arith) (c .before .before .match .keys4)
+    (sym (c .before .is-sum2 .ensures) ∙ not-true _ (c .if3 .taken)))  -- returns-3
     (λ c. search needs)
     (λ c κs. search needs)
     (λ c κs. (omega arith, tt))
     (λ c κs. search needs)  -- one-more-requires-3
-    (λ c. let a = c .before .before .before .before .before .before .args in c .one-more .ensures ∙ laws.type-int (a .table .now) (a .words .now) (a .ty) (a .at) (omega arith) (c .before .match .keys1))  -- returns-4
-    (λ c. let a = c .before .before .before .before .before .before .args in c .one-more2 .ensures ∙ laws.type-err (a .table .now) (a .words .now) (a .ty) (a .at) (omega arith) (c .before .match .keys2))
-    (λ c. let a = c .before .before .before .before .before .before .before .before .before .args in laws.type-inl (a .table .now) (a .words .now) (a .ty) (a .at) (omega arith) (c .before .before .before .before .match .keys3) (sym (c .before .before .before .is-sum .ensures) ∙ not-false _ (c .before .before .if2 .left)) (c .before .left-part .ensures) (c .has-type .ensures))
-    (λ c. let a = c .before .before .before .before .before .before .before .before .before .args in laws.type-inr (a .table .now) (a .words .now) (a .ty) (a .at) (omega arith) (c .before .before .before .before .match .keys4) (sym (c .before .before .before .is-sum2 .ensures) ∙ not-false _ (c .before .before .if3 .left)) (c .before .right-part .ensures) (c .has-type2 .ensures))
-    (λ c. let a = c .before .before .before .before .before .before .args in c .one-more3 .ensures ∙ laws.type-pkg (a .table .now) (a .words .now) (a .ty) (a .at) (omega arith) (c .before .match .keys5))
-    (λ c. let a = c .before .before .before .before .before .args in laws.type-none (a .table .now) (a .words .now) (a .ty) (a .at) (omega arith) (c .match .rest .0 .0 .0 .0 .1) (c .match .rest .0 .0 .0 .1) (c .match .rest .0 .0 .1) (c .match .rest .0 .1) (c .match .rest .1))
+    (λ c. let a = c .before .before .before .before .before .before .args
+    in c .one-more .ensures ∙ laws.type-int (a .table .now) (a .words .now) (a .ty) (a .at) (omega arith) (c .before .match .keys1))  -- returns-4
+    (λ c. let a = c .before .before .before .before .before .before .args
+    in c .one-more2 .ensures ∙ laws.type-err (a .table .now) (a .words .now) (a .ty) (a .at) (omega arith) (c .before .match .keys2))
+    (λ c. let a = c .before .before .before .before .before .before .before .before .before .args
+    in laws.type-inl (a .table .now) (a .words .now) (a .ty) (a .at) (omega arith) (c .before .before .before .before .match .keys3)
+    (sym (c .before .before .before .is-sum .ensures) ∙ not-false _ (c .before .before .if2 .left)) (c .before .left-part .ensures) (c .has-type .ensures))
+    (λ c. let a = c .before .before .before .before .before .before .before .before .before .args
+    in laws.type-inr (a .table .now) (a .words .now) (a .ty) (a .at) (omega arith) (c .before .before .before .before .match .keys4)
+    (sym (c .before .before .before .is-sum2 .ensures) ∙ not-false _ (c .before .before .if3 .left)) (c .before .right-part .ensures) (c .has-type2 .ensures))
+    (λ c. let a = c .before .before .before .before .before .before .args
+    in c .one-more3 .ensures ∙ laws.type-pkg (a .table .now) (a .words .now) (a .ty) (a .at) (omega arith) (c .before .match .keys5))
+    (λ c. let a = c .before .before .before .before .before .args
+    in laws.type-none (a .table .now) (a .words .now) (a .ty) (a .at) (omega arith) (c .match .rest .0 .0 .0 .0 .1) (c .match .rest .0 .0 .0 .1) (c .match .rest .0 .0 .1)
+    (c .match .rest .0 .1) (c .match .rest .1))

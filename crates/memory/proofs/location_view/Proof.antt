@@ -19,7 +19,8 @@ location-view-spec = tie.close (tie.spec
     (λ c. λ s.
     let b = c .before .before .before .before .before in
     let a = b .before .before .before .before .args in
-    shown-view (a .table .now) (a .memory .now) (a .group) (a .x) (b .before .location-label .ensures) (b .reads .ensures) (c .before .before .before .before .if1 .taken) (c .before .mask-at .ensures) s)  -- returns
+    shown-view (a .table .now) (a .memory .now) (a .group) (a .x) (b .before .location-label .ensures) (b .reads .ensures) (c .before .before .before .before .if1 .taken)
+    (c .before .mask-at .ensures) s)  -- returns
     (λ c. λ s.
     let b = c .before in
     let a = b .before .before .before .before .args in

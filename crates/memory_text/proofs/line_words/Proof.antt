@@ -85,7 +85,8 @@ returns-3 c =
     let s = at .before .before .args .s .now in
     c .no-row3 .ensures s
     ∙ ap (rowIn s)
-    (sym (rows.left-zero (at .loop .i) (at .loop .words) _ (k .before .before .before .loop-test .taken) _ s _ (known k) (f .if1 .left) (c .before .before .if2 .taken) (c .before .if3 .taken))
+    (sym (rows.left-zero (at .loop .i) (at .loop .words) _ (k .before .before .before .loop-test .taken) _ s _ (known k) (f .if1 .left) (c .before .before .if2 .taken)
+    (c .before .if3 .taken))
     ∙ at .loop .inv .1)
 
 add-t17 : tie.Need-add-t17 Inv-loop μ-loop
@@ -133,7 +134,8 @@ returns-5 c =
     let s = at .before .before .args .s .now in
     c .no-row4 .ensures s
     ∙ ap (rowIn s)
-    (sym (rows.left-other (at .loop .i) (at .loop .words) _ (k .before .before .before .loop-test .taken) _ s _ (known k) (f .if1 .left) (c .before .before .if2 .left) (c .before .if4 .left))
+    (sym (rows.left-other (at .loop .i) (at .loop .words) _ (k .before .before .before .loop-test .taken) _ s _ (known k) (f .if1 .left) (c .before .before .if2 .left)
+    (c .before .if4 .left))
     ∙ at .loop .inv .1)
 
 no-row-requires-5 : tie.Need-no-row-requires-5 Inv-loop μ-loop

@@ -62,7 +62,8 @@ loop-again c =
       omega arith,
       st .kept .0 ∙ at .loop .inv .1,
       rw (st .ensures)
-          (sym (rest-more (at .loop .n) (at .loop .words) s (at .loop .at) (r .before .before .loop-test .taken) (r .before .if1 .left) (r .location .result .words) (r .location .result .next) read)
+          (sym (rest-more (at .loop .n) (at .loop .words) s (at .loop .at) (r .before .before .loop-test .taken) (r .before .if1 .left) (r .location .result .words)
+          (r .location .result .next) read)
           ∙ at .loop .inv .2),
     )
 
@@ -75,7 +76,8 @@ returns-2 c =
     let at = r .before .before .before in
     let s = at .before .before .args .s .now in
     c .no-memory2 .ensures
-    ∙ sym (rest-bad (at .loop .n) (at .loop .words) s (at .loop .at) (r .before .before .loop-test .taken) (r .before .if1 .left) (row-off s (at .loop .at) _ (r .location .ensures) (c .before .if2 .left)))
+    ∙ sym (rest-bad (at .loop .n) (at .loop .words) s (at .loop .at) (r .before .before .loop-test .taken) (r .before .if1 .left)
+    (row-off s (at .loop .at) _ (r .location .ensures) (c .before .if2 .left)))
     ∙ at .loop .inv .2
 
 returns-3 : tie.Need-returns-3 Inv-loop μ-loop

@@ -66,12 +66,27 @@ pub +scan-cmd-spec : {M : Type 1} → statement M
     (λ c. omega arith)
     (λ c κs. (omega (arith, row-room _ _ _ 4 (c .before .before .before .row-at .ensures) (c .before .before .match .keys5), c .scan-expr3 .ensures .forward), tt))
     (λ c. omega arith)
-    (λ c κs. (omega (arith, row-room _ _ _ 4 (c .before .before .before .before .row-at .ensures) (c .before .before .before .match .keys5), c .before .scan-expr3 .ensures .forward, c .scan-cmd4 .ensures .forward), tt))
+    (λ c κs. (
+      omega (
+        arith,
+        row-room _ _ _ 4 (c .before .before .before .before .row-at .ensures) (c .before .before .before .match .keys5),
+        c .before .scan-expr3 .ensures .forward,
+        c .scan-cmd4 .ensures .forward,
+      ),
+      tt,
+    ))
     (λ c κs. search needs)
     (λ c κs. search needs)
     (λ c. laws.scan-skip _ _ _ _ _ (c .before .row-at .ensures) (c .match .keys1))
-    (λ c. laws.scan-seq _ _ _ _ _ (c .before .before .before .before .row-at .ensures) _ _ _ (c .before .before .before .match .keys2) (c .before .before .scan-cmd .ensures) (c .before .scan-cmd2 .ensures) (c .also .ensures))
-    (λ c. laws.scan-assign _ _ _ _ _ (c .before .before .before .before .row-at .ensures) _ _ _ (c .before .before .before .match .keys3) (c .before .before .is-location .ensures) (c .before .scan-expr .ensures) (c .also2 .ensures))
-    (λ c. laws.scan-while _ _ _ _ _ (c .before .before .before .before .row-at .ensures) _ _ _ (c .before .before .before .match .keys4) (c .before .before .scan-expr2 .ensures) (c .before .scan-cmd3 .ensures) (c .also3 .ensures))
-    (λ c. laws.scan-case _ _ _ _ _ (c .before .before .before .before .before .before .before .row-at .ensures) _ _ _ _ _ (c .before .before .before .before .before .before .match .keys5) (c .before .before .before .before .before .if1 .left) (c .before .before .before .before .scan-expr3 .ensures) (c .before .before .before .scan-cmd4 .ensures) (c .before .before .scan-cmd5 .ensures) (c .before .also4 .ensures) (c .also5 .ensures))
-    (λ c. laws.scan-no-cmd _ _ _ _ _ (c .before .row-at .ensures) (c .match .rest .0 .0 .0 .0 .1) (c .match .rest .0 .0 .0 .1) (c .match .rest .0 .0 .1) (c .match .rest .0 .1) (c .match .rest .1))
+    (λ c. laws.scan-seq _ _ _ _ _ (c .before .before .before .before .row-at .ensures) _ _ _ (c .before .before .before .match .keys2) (c .before .before .scan-cmd .ensures)
+    (c .before .scan-cmd2 .ensures) (c .also .ensures))
+    (λ c. laws.scan-assign _ _ _ _ _ (c .before .before .before .before .row-at .ensures) _ _ _ (c .before .before .before .match .keys3) (c .before .before .is-location .ensures)
+    (c .before .scan-expr .ensures) (c .also2 .ensures))
+    (λ c. laws.scan-while _ _ _ _ _ (c .before .before .before .before .row-at .ensures) _ _ _ (c .before .before .before .match .keys4) (c .before .before .scan-expr2 .ensures)
+    (c .before .scan-cmd3 .ensures) (c .also3 .ensures))
+    (λ c. laws.scan-case _ _ _ _ _ (c .before .before .before .before .before .before .before .row-at .ensures) _ _ _ _ _
+    (c .before .before .before .before .before .before .match .keys5) (c .before .before .before .before .before .if1 .left)
+    (c .before .before .before .before .scan-expr3 .ensures) (c .before .before .before .scan-cmd4 .ensures) (c .before .before .scan-cmd5 .ensures) (c .before .also4 .ensures)
+    (c .also5 .ensures))
+    (λ c. laws.scan-no-cmd _ _ _ _ _ (c .before .row-at .ensures) (c .match .rest .0 .0 .0 .0 .1) (c .match .rest .0 .0 .0 .1) (c .match .rest .0 .0 .1) (c .match .rest .0 .1)
+    (c .match .rest .1))

@@ -121,4 +121,6 @@ returns-4 c = sym (table-done _ _ _ _ (c .loop-test .left)) ∙ c .before .loop 
 pub decode-text-spec : {M : Type 1} → statement M
 decode-text-spec =
     tie.close
-    (tie.spec Inv-loop μ-loop fits-requires refused-requires returns refused-requires-2 loop-holds refused-requires-3 returns-2 line-at-requires enum-known-kind mul-out mul-out-2 element-write-out mul-out-3 add-out mul-out-4 element-write-out-2 mul-out-5 add-out-2 mul-out-6 element-write-out-3 add-n loop-less loop-again enum-told refused-requires-4 returns-3 returns-4)
+    (tie.spec Inv-loop μ-loop fits-requires refused-requires returns refused-requires-2 loop-holds refused-requires-3 returns-2 line-at-requires enum-known-kind mul-out mul-out-2
+    element-write-out mul-out-3 add-out mul-out-4 element-write-out-2 mul-out-5 add-out-2 mul-out-6 element-write-out-3 add-n loop-less loop-again enum-told refused-requires-4
+    returns-3 returns-4)

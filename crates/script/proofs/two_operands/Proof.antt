@@ -27,7 +27,8 @@ returns c =
     let second = c .before .before .before in
     let first = second .before .before in
     let start = first .before .before .before .before in
-    λ f q. two-got _ (start .args .at) _ f _ (first .before .before .number-field .ensures) _ _ _ _ _ (first .a .given .1) (second .last-number .ensures) (c .before .b .given .1) (q _ _)
+    λ f q. two-got _ (start .args .at) _ f _ (first .before .before .number-field .ensures) _ _ _ _ _ (first .a .given .1) (second .last-number .ensures) (c .before .b .given .1)
+    (q _ _)
 
 returns-2 : tie.Need-returns-2
 returns-2 c =

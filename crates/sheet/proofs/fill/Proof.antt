@@ -20,12 +20,14 @@ repeats-requires c κs = counts-few _ _ (not-false _ (c .before .if1 .left)) _ (
 returns-2 : tie.Need-returns-2
 unfolding sheetOf refusedBy
 returns-2 c =
-    answer-repeating _ _ (not-false _ (c .before .before .before .before .if1 .left)) _ (formed-read _) (c .before .before .before .before .before .before .draft-of .ensures) (sym (c .before .before .repeats .ensures) ∙ c .before .if2 .taken)
+    answer-repeating _ _ (not-false _ (c .before .before .before .before .if1 .left)) _ (formed-read _) (c .before .before .before .before .before .before .draft-of .ensures)
+    (sym (c .before .before .repeats .ensures) ∙ c .before .if2 .taken)
 
 returns-3 : tie.Need-returns-3
 unfolding sheetOf
 returns-3 c =
-    answer-accepted _ _ (not-false _ (c .before .before .before .if1 .left)) _ (formed-read _) (c .before .before .before .before .before .draft-of .ensures) (sym (c .before .repeats .ensures) ∙ c .if2 .left)
+    answer-accepted _ _ (not-false _ (c .before .before .before .if1 .left)) _ (formed-read _) (c .before .before .before .before .before .draft-of .ensures)
+    (sym (c .before .repeats .ensures) ∙ c .if2 .left)
 
 pub fill-spec : {M : Type 1} → statement M
 fill-spec = tie.close (tie.spec draft-of-requires returns repeats-requires returns-2 returns-3)

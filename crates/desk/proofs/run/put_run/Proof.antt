@@ -27,7 +27,8 @@ add-result c =
     let t = o .before .before .before .before in
     let a = t .args in
     let short = o .put-outcome .ensures .short in
-    let n = rest-length (a .words .now) (t .pre .0) (t .pre .1) (a .out .now) (a .answer) (a .steps) _ _ (o .put-outcome .ensures) (o .put-outcome .kept .0) (t .pre .2) _ (w .write-memory .ensures .0) in
+    let n = rest-length (a .words .now) (t .pre .0) (t .pre .1) (a .out .now) (a .answer) (a .steps) _ _ (o .put-outcome .ensures) (o .put-outcome .kept .0) (t .pre .2) _
+    (w .write-memory .ensures .0) in
     let l = length-memory (a .words .now) (t .pre .0) (t .pre .1) (λ i. omega (arith, o .before .before .shared-slice-known .given i)) in
     omega arith
 
@@ -40,7 +41,8 @@ returns c =
     let o = w .before .before .before .before in
     let t = o .before .before .before .before in
     let a = t .args in
-    run-puts (a .words .now) (t .pre .0) (t .pre .1) (a .out .now) (a .answer) (a .steps) _ _ (o .put-outcome .ensures) (o .put-outcome .kept .0) (t .pre .2) _ _ (w .write-memory .ensures .0) (w .write-memory .ensures .1)
+    run-puts (a .words .now) (t .pre .0) (t .pre .1) (a .out .now) (a .answer) (a .steps) _ _ (o .put-outcome .ensures) (o .put-outcome .kept .0) (t .pre .2) _ _
+    (w .write-memory .ensures .0) (w .write-memory .ensures .1)
 
 pub put-run-spec : {M : Type 1} → statement M
 put-run-spec =

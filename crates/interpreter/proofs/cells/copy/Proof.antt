@@ -28,6 +28,13 @@ copy-spec = tie.close (tie.spec
     (λ c. search needs)  -- slice-write-dst
     (λ c. search needs)  -- add-i
     (λ c. search needs)  -- loop-less
-    (λ c. (search needs, copy-turn (c .before .before .before .args .dst .now) (c .before .before .before .args .src .now) (c .before .before .before .args .to) (c .before .before .before .args .from) (c .before .before .loop .i) (c .before .before .loop .dst) (c .before .before .loop .inv .1) (omega arith) (omega arith), simp length-set (omega arith)))  -- loop-again
+    (λ c. (
+      search needs,
+      copy-turn (c .before .before .before .args .dst .now) (c .before .before .before .args .src .now) (c .before .before .before .args .to)
+          (c .before .before .before .args .from) (c .before .before .loop .i) (c .before .before .loop .dst) (c .before .before .loop .inv .1) (omega arith) (omega arith),
+      simp
+          length-set (omega arith),
+    ))  -- loop-again
     (λ c. search needs)  -- same-length
-    (λ c. copy-done (c .before .before .args .dst .now) (c .before .before .args .to) (drop (c .before .before .args .from) (c .before .before .args .src .now)) (c .before .loop .i) (c .before .before .args .n) (c .before .loop .dst) (c .before .loop .inv .1) (omega arith)))  -- returns
+    (λ c. copy-done (c .before .before .args .dst .now) (c .before .before .args .to) (drop (c .before .before .args .from) (c .before .before .args .src .now))
+    (c .before .loop .i) (c .before .before .args .n) (c .before .loop .dst) (c .before .loop .inv .1) (omega arith)))  -- returns

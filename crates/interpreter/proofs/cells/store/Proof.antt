@@ -13,6 +13,10 @@ store-spec = tie.close (tie.spec
     (λ c. sym (store-past _ _ _ (c .if1 .taken)))  -- returns
     (λ c. omega (arith, room-left (c .before .before .before .args .work .now) (c .before .before .before .args .k) (c .before .if1 .left)))  -- mul-copy
     (λ c. search needs)  -- slice-aggregate-copy
-    (λ c κs. (omega (arith, room-left (c .before .before .before .before .args .work .now) (c .before .before .before .before .args .k) (c .before .before .if1 .left)), search needs))  -- copy-requires
+    (λ c κs. (
+      omega (arith, room-left (c .before .before .before .before .args .work .now) (c .before .before .before .before .args .k) (c .before .before .if1 .left)),
+      search
+          needs,
+    ))  -- copy-requires
     (λ c. search needs)  -- same-length
     (λ c. store-done _ _ _ _ (c .before .before .copy .ensures) (search needs) (c .before .before .before .before .before .if1 .left)))  -- returns-2

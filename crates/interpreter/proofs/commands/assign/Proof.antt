@@ -14,4 +14,5 @@ assign-spec = tie.close (tie.spec
     (λ c κs. search needs)  -- copy-cell-requires
     (λ c. search needs)  -- sub-t18
     (λ c. search needs)  -- same-length-2
-    (λ c. laws.assign-done (c .before .before .before .before .before .before .before .before .before .before .if1 .left) (c .before .before .before .before .before .before .before .before .eval .ensures) (c .before .before .before .before .if2 .left) (c .before .before .copy-cell .ensures)))  -- returns-3
+    (λ c. laws.assign-done (c .before .before .before .before .before .before .before .before .before .before .if1 .left)
+    (c .before .before .before .before .before .before .before .before .eval .ensures) (c .before .before .before .before .if2 .left) (c .before .before .copy-cell .ensures)))  -- returns-3

@@ -16,6 +16,12 @@ branch-spec = tie.close (tie.spec
     (λ c κs. search needs)  -- skip-requires
     (λ c κs. search needs)  -- skip-requires-2
     (λ c. search needs)  -- same-length-2
-    (λ c. laws.branch-left (c .before .before .before .before .before .before .before .before .before .before .before .decide .ensures) (c .before .before .before .before .before .before .before .before .before .before .before .before .before .if1 .left) (rw add-one at (c .before .before .before .before .before .bind-inside .ensures)) (c .before .before .skip .ensures) (c .before .skip2 .ensures) (c .before .before .before .before .before .before .before .if2 .left) (c .if3 .taken))  -- returns-3
+    (λ c. laws.branch-left (c .before .before .before .before .before .before .before .before .before .before .before .decide .ensures)
+    (c .before .before .before .before .before .before .before .before .before .before .before .before .before .if1 .left)
+    (rw add-one at (c .before .before .before .before .before .bind-inside .ensures)) (c .before .before .skip .ensures) (c .before .skip2 .ensures)
+    (c .before .before .before .before .before .before .before .if2 .left) (c .if3 .taken))  -- returns-3
     (λ c. search needs)  -- same-length-3
-    (λ c. laws.branch-right (c .before .before .before .before .before .before .before .before .before .before .before .decide .ensures) (c .before .before .before .before .before .before .before .before .before .before .before .before .before .if1 .left) (rw add-one at (c .before .before .before .before .before .bind-inside .ensures)) (c .before .before .skip .ensures) (c .before .skip2 .ensures) (c .before .before .before .before .before .before .before .if2 .left) (c .if3 .left)))  -- returns-4
+    (λ c. laws.branch-right (c .before .before .before .before .before .before .before .before .before .before .before .decide .ensures)
+    (c .before .before .before .before .before .before .before .before .before .before .before .before .before .if1 .left)
+    (rw add-one at (c .before .before .before .before .before .bind-inside .ensures)) (c .before .before .skip .ensures) (c .before .skip2 .ensures)
+    (c .before .before .before .before .before .before .before .if2 .left) (c .if3 .left)))  -- returns-4

@@ -66,9 +66,18 @@ pub +eval-spec : {M : Type 1} → statement M
     (λ c. omega (arith, row-inside _ _ 8 (c .before .row-at .ensures) (c .match .keys4)))  -- add-eval
     (λ c κs. (omega (arith, row-inside _ _ 8 (c .before .before .row-at .ensures) (c .before .match .keys4)), tt))  -- eval-requires
     (λ c. search needs)  -- same-length
-    (λ c. laws.eval-plus-end (c .before .before .before .before .before .before .before .row-at .ensures) (c .before .before .before .before .before .before .match .keys4) (c .before .before .before .before .eval .ensures) (c .if1 .taken))  -- returns
+    (λ c. laws.eval-plus-end (c .before .before .before .before .before .before .before .row-at .ensures) (c .before .before .before .before .before .before .match .keys4)
+    (c .before .before .before .before .eval .ensures) (c .if1 .taken))  -- returns
     (λ c κs. search needs)  -- word-requires
-    (λ c κs. (omega (arith, row-inside _ _ 8 (c .before .before .before .before .before .before .before .before .before .before .row-at .ensures) (c .before .before .before .before .before .before .before .before .before .match .keys4), c .before .before .before .before .before .before .before .eval .ensures .forward), tt))  -- eval-requires-2
+    (λ c κs. (
+      omega (
+        arith,
+        row-inside _ _ 8 (c .before .before .before .before .before .before .before .before .before .before .row-at .ensures)
+            (c .before .before .before .before .before .before .before .before .before .match .keys4),
+        c .before .before .before .before .before .before .before .eval .ensures .forward,
+      ),
+      tt,
+    ))  -- eval-requires-2
     (λ c κs. search needs)  -- sum-requires
     (λ c. omega (arith, row-inside _ _ 9 (c .before .row-at .ensures) (c .match .keys5)))  -- add-eval-2
     (λ c κs. (omega (arith, row-inside _ _ 9 (c .before .before .row-at .ensures) (c .before .match .keys5)), tt))  -- eval-requires-3
@@ -89,13 +98,27 @@ pub +eval-spec : {M : Type 1} → statement M
     (λ c. search needs)  -- same-length-4
     (λ c. laws.eval-var (c .before .before .before .before .before .row-at .ensures) (c .before .before .before .before .match .keys3) (c .before .before .variable .ensures))  -- returns-4
     (λ c. search needs)  -- same-length-5
-    (λ c. laws.eval-plus (c .before .before .before .before .before .before .before .before .before .before .before .before .before .before .before .before .before .row-at .ensures) (c .before .before .before .before .before .before .before .before .before .before .before .before .before .before .before .before .match .keys4) (c .before .before .before .before .before .before .before .before .before .before .before .before .before .before .eval .ensures) (c .before .before .before .before .before .before .before .before .before .before .if1 .left) (c .before .before .before .before .before .before .before .before .word .ensures) (c .before .before .before .before .before .before .eval2 .ensures) (c .before .before .sum .ensures))  -- returns-5
+    (λ c. laws.eval-plus (c .before .before .before .before .before .before .before .before .before .before .before .before .before .before .before .before .before .row-at
+    .ensures) (c .before .before .before .before .before .before .before .before .before .before .before .before .before .before .before .before .match .keys4)
+    (c .before .before .before .before .before .before .before .before .before .before .before .before .before .before .eval .ensures)
+    (c .before .before .before .before .before .before .before .before .before .before .if1 .left)
+    (c .before .before .before .before .before .before .before .before .word .ensures) (c .before .before .before .before .before .before .eval2 .ensures)
+    (c .before .before .sum .ensures))  -- returns-5
     (λ c. search needs)  -- same-length-6
-    (λ c. laws.eval-left (c .before .before .before .before .before .before .before .before .before .row-at .ensures) (c .before .before .before .before .before .before .eval3 .ensures) (c .before .before .before .before .before .before .before .before .match .keys5) (c .before .before .tagged .ensures))  -- returns-6
+    (λ c. laws.eval-left (c .before .before .before .before .before .before .before .before .before .row-at .ensures)
+    (c .before .before .before .before .before .before .eval3 .ensures) (c .before .before .before .before .before .before .before .before .match .keys5)
+    (c .before .before .tagged .ensures))  -- returns-6
     (λ c. search needs)  -- same-length-7
-    (λ c. laws.eval-right (c .before .before .before .before .before .before .before .before .before .row-at .ensures) (c .before .before .before .before .before .before .eval4 .ensures) (c .before .before .before .before .before .before .before .before .match .keys6) (c .before .before .tagged2 .ensures))  -- returns-7
+    (λ c. laws.eval-right (c .before .before .before .before .before .before .before .before .before .row-at .ensures)
+    (c .before .before .before .before .before .before .eval4 .ensures) (c .before .before .before .before .before .before .before .before .match .keys6)
+    (c .before .before .tagged2 .ensures))  -- returns-7
     (λ c. search needs)  -- same-length-8
-    (λ c. laws.eval-pack (c .before .before .before .before .before .before .before .before .before .row-at .ensures) (c .before .before .before .before .before .before .eval5 .ensures) (c .before .before .before .before .before .before .before .before .match .keys7) (c .before .before .pack .ensures))  -- returns-8
+    (λ c. laws.eval-pack (c .before .before .before .before .before .before .before .before .before .row-at .ensures)
+    (c .before .before .before .before .before .before .eval5 .ensures) (c .before .before .before .before .before .before .before .before .match .keys7)
+    (c .before .before .pack .ensures))  -- returns-8
     (λ c. search needs)  -- same-length-9
-    (λ c. laws.eval-unpack (c .before .before .before .before .before .before .before .before .before .row-at .ensures) (c .before .before .before .before .before .before .eval6 .ensures) (c .before .before .before .before .before .before .before .before .match .keys8) (c .before .before .unpack .ensures))  -- returns-9
-    (λ c. laws.eval-none (c .before .row-at .ensures) (c .match .rest .0 .0 .0 .0 .0 .0 .0 .1) (c .match .rest .0 .0 .0 .0 .0 .0 .1) (c .match .rest .0 .0 .0 .0 .0 .1) (c .match .rest .0 .0 .0 .0 .1) (c .match .rest .0 .0 .0 .1) (c .match .rest .0 .0 .1) (c .match .rest .0 .1) (c .match .rest .1))  -- returns-10
+    (λ c. laws.eval-unpack (c .before .before .before .before .before .before .before .before .before .row-at .ensures)
+    (c .before .before .before .before .before .before .eval6 .ensures) (c .before .before .before .before .before .before .before .before .match .keys8)
+    (c .before .before .unpack .ensures))  -- returns-9
+    (λ c. laws.eval-none (c .before .row-at .ensures) (c .match .rest .0 .0 .0 .0 .0 .0 .0 .1) (c .match .rest .0 .0 .0 .0 .0 .0 .1) (c .match .rest .0 .0 .0 .0 .0 .1)
+    (c .match .rest .0 .0 .0 .0 .1) (c .match .rest .0 .0 .0 .1) (c .match .rest .0 .0 .1) (c .match .rest .0 .1) (c .match .rest .1))  -- returns-10

@@ -13,4 +13,6 @@ fail-spec = tie.close (tie.spec
     (λ c κs. search needs)  -- push-requires-3
     (λ c κs. search needs)  -- store-requires
     (λ c. search needs)  -- same-length
-    (λ c. c .before .before .store .ensures ∙ ap (storeOf _ 0) (c .before .before .before .before .push3 .ensures ∙ ap (pushOf 4) (c .before .before .before .before .before .push2 .ensures ∙ ap (pushOf 2) (c .before .before .before .before .before .before .push .ensures)) ∙ push-failure _)))  -- returns
+    (λ c. c .before .before .store .ensures ∙ ap (storeOf _ 0)
+    (c .before .before .before .before .push3 .ensures ∙ ap (pushOf 4)
+    (c .before .before .before .before .before .push2 .ensures ∙ ap (pushOf 2) (c .before .before .before .before .before .before .push .ensures)) ∙ push-failure _)))  -- returns

@@ -12,4 +12,5 @@ literal-spec = tie.close (tie.spec
     (λ c κs. search needs)  -- push-requires-2
     (λ c κs. search needs)  -- store-requires
     (λ c. search needs)  -- same-length
-    (λ c. c .before .before .store .ensures ∙ ap (storeOf _ 0) (c .before .before .before .before .push2 .ensures ∙ ap (pushOf 1) (c .before .before .before .before .before .push .ensures) ∙ push-int _)))  -- returns
+    (λ c. c .before .before .store .ensures ∙ ap (storeOf _ 0)
+    (c .before .before .before .before .push2 .ensures ∙ ap (pushOf 1) (c .before .before .before .before .before .push .ensures) ∙ push-int _)))  -- returns

@@ -11,14 +11,20 @@ pack-spec = tie.close (tie.spec
     (λ c κs. search needs)  -- writes-requires
     (λ c κs. search needs)  -- fail-requires
     (λ c. search needs)  -- same-length
-    (λ c. laws.pack-error _ (c .before .before .before .before .before .writes .ensures) (c .before .before .before .before .before .before .if1 .left) (not-true _ (c .before .before .before .before .if2 .taken)) (c .before .before .fail .ensures))  -- returns-2
+    (λ c. laws.pack-error _ (c .before .before .before .before .before .writes .ensures) (c .before .before .before .before .before .before .if1 .left)
+    (not-true _ (c .before .before .before .before .if2 .taken)) (c .before .before .fail .ensures))  -- returns-2
     (λ c κs. search needs)  -- value-end-requires
     (λ c. search needs)  -- same-length-2
-    (λ c. laws.pack-long _ (c .before .before .before .before .writes .ensures) (c .before .before .before .before .before .if1 .left) (not-false _ (c .before .before .before .if2 .left)) (c .before .value-end .ensures) (c .if3 .taken))  -- returns-3
+    (λ c. laws.pack-long _ (c .before .before .before .before .writes .ensures) (c .before .before .before .before .before .if1 .left)
+    (not-false _ (c .before .before .before .if2 .left)) (c .before .value-end .ensures) (c .if3 .taken))  -- returns-3
     (λ c κs. search needs)  -- load-requires
     (λ c κs. search needs)  -- push-requires
     (λ c κs. search needs)  -- push-requires-2
     (λ c κs. search needs)  -- push-requires-3
     (λ c κs. search needs)  -- store-requires
     (λ c. search needs)  -- same-length-3
-    (λ c. laws.pack-done _ (c .before .before .before .before .before .before .before .before .before .before .before .before .before .writes .ensures) (c .before .before .before .before .before .before .before .before .before .before .before .before .before .before .if1 .left) (not-false _ (c .before .before .before .before .before .before .before .before .before .before .before .before .if2 .left)) (c .before .before .before .before .before .before .before .before .before .before .value-end .ensures) (c .before .before .before .before .before .before .before .before .before .if3 .left) (c .before .before .before .before .before .before .before .load .ensures) cc))  -- returns-4
+    (λ c. laws.pack-done _ (c .before .before .before .before .before .before .before .before .before .before .before .before .before .writes .ensures)
+    (c .before .before .before .before .before .before .before .before .before .before .before .before .before .before .if1 .left)
+    (not-false _ (c .before .before .before .before .before .before .before .before .before .before .before .before .if2 .left))
+    (c .before .before .before .before .before .before .before .before .before .before .value-end .ensures)
+    (c .before .before .before .before .before .before .before .before .before .if3 .left) (c .before .before .before .before .before .before .before .load .ensures) cc))  -- returns-4

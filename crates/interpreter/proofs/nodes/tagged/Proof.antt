@@ -14,4 +14,6 @@ tagged-spec = tie.close (tie.spec
     (λ c κs. search needs)  -- push-requires
     (λ c κs. search needs)  -- store-requires
     (λ c. search needs)  -- same-length-2
-    (λ c. laws.tagged-done (c .before .before .before .before .before .before .before .before .before .before .if1 .left) (c .before .before .before .before .before .before .before .before .value-end .ensures) (c .before .before .before .before .before .before .before .if2 .left) (c .before .before .before .before .before .load .ensures) (cc)))  -- returns-3
+    (λ c. laws.tagged-done (c .before .before .before .before .before .before .before .before .before .before .if1 .left)
+    (c .before .before .before .before .before .before .before .before .value-end .ensures) (c .before .before .before .before .before .before .before .if2 .left)
+    (c .before .before .before .before .before .load .ensures) (cc)))  -- returns-3

@@ -13,11 +13,15 @@ unpack-spec = tie.close (tie.spec
     (λ c κs. search needs)  -- refusal-requires
     (λ c κs. search needs)  -- fail-requires
     (λ c. search needs)  -- same-length-2
-    (λ c. laws.unpack-error _ _ _ _ _ _ (c .before .before .before .before .before .refusal .ensures) (c .before .before .before .before .before .before .before .before .before .before .if1 .left) (c .before .before .before .before .if3 .taken) (c .before .before .fail .ensures))  -- returns-3
+    (λ c. laws.unpack-error _ _ _ _ _ _ (c .before .before .before .before .before .refusal .ensures)
+    (c .before .before .before .before .before .before .before .before .before .before .if1 .left) (c .before .before .before .before .if3 .taken)
+    (c .before .before .fail .ensures))  -- returns-3
     (λ c κs. search needs)  -- load-requires
     (λ c κs. search needs)  -- pop-requires
     (λ c κs. search needs)  -- pop-requires-2
     (λ c κs. search needs)  -- push-requires
     (λ c κs. search needs)  -- store-requires
     (λ c. search needs)  -- same-length-3
-    (λ c. laws.unpack-done _ _ _ _ _ _ (c .before .before .before .before .before .before .before .before .before .before .refusal .ensures) (c .before .before .before .before .before .before .before .before .before .before .before .before .before .before .before .if1 .left) (c .before .before .before .before .before .before .before .before .before .if3 .left) (c .before .before .before .before .before .before .before .load .ensures) cc))  -- returns-4
+    (λ c. laws.unpack-done _ _ _ _ _ _ (c .before .before .before .before .before .before .before .before .before .before .refusal .ensures)
+    (c .before .before .before .before .before .before .before .before .before .before .before .before .before .before .before .if1 .left)
+    (c .before .before .before .before .before .before .before .before .before .if3 .left) (c .before .before .before .before .before .before .before .load .ensures) cc))  -- returns-4

@@ -68,12 +68,16 @@ pub +mask-at-spec : {M : Type 1} → statement M
     (λ c. search needs)  -- same-length-3
     (λ c. laws.mask-err _ _ _ _ _ (omega arith) (c .before .before .before .before .match .keys2) (c .before .before .mask-number2 .ensures _))  -- returns-3
     (λ c. search needs)  -- same-length-4
-    (λ c. laws.mask-inl _ _ _ _ _ (omega arith) (c .before .before .before .before .before .before .before .before .match .keys3) (c .before .before .before .before .before .before .store .ensures) (c .before .before .mask-at .ensures))  -- returns-4
+    (λ c. laws.mask-inl _ _ _ _ _ (omega arith) (c .before .before .before .before .before .before .before .before .match .keys3)
+    (c .before .before .before .before .before .before .store .ensures) (c .before .before .mask-at .ensures))  -- returns-4
     (λ c. search needs)  -- same-length-5
-    (λ c. laws.mask-inr _ _ _ _ _ (omega arith) (c .before .before .before .before .before .before .before .before .match .keys4) (c .before .before .before .before .before .before .store2 .ensures) (c .before .before .mask-at2 .ensures))  -- returns-5
+    (λ c. laws.mask-inr _ _ _ _ _ (omega arith) (c .before .before .before .before .before .before .before .before .match .keys4)
+    (c .before .before .before .before .before .before .store2 .ensures) (c .before .before .mask-at2 .ensures))  -- returns-5
     (λ c. search needs)  -- same-length-6
-    (λ c. laws.mask-open _ _ _ _ _ (omega arith) (c .before .before .before .before .before .before .before .before .before .match .keys5) (c .before .before .before .before .before .before .before .mask-label .ensures) (c .before .before .before .before .if2 .taken) (c .before .before .mask-at3 .ensures))  -- returns-6
+    (λ c. laws.mask-open _ _ _ _ _ (omega arith) (c .before .before .before .before .before .before .before .before .before .match .keys5)
+    (c .before .before .before .before .before .before .before .mask-label .ensures) (c .before .before .before .before .if2 .taken) (c .before .before .mask-at3 .ensures))  -- returns-6
     (λ c. search needs)  -- same-length-7
     (λ c. laws.mask-closed _ _ _ _ _ (omega arith) (c .before .before .before .before .before .match .keys5) (c .before .before .before .mask-label .ensures) (c .if2 .left))  -- returns-7
     (λ c. search needs)  -- same-length-8
-    (λ c. let r = c .before .before .before .before .match .rest in let b = c .before .before .mask-blank2 .ensures in laws.mask-none _ _ _ _ _ (omega arith) (r .0 .0 .0 .0 .1) (r .0 .0 .0 .1) (r .0 .0 .1) (r .0 .1) (r .1) (b .0) (b .1 .0) (b .1 .1))  -- returns-8
+    (λ c. let r = c .before .before .before .before .match .rest in let b = c .before .before .mask-blank2 .ensures
+    in laws.mask-none _ _ _ _ _ (omega arith) (r .0 .0 .0 .0 .1) (r .0 .0 .0 .1) (r .0 .0 .1) (r .0 .1) (r .1) (b .0) (b .1 .0) (b .1 .1))  -- returns-8

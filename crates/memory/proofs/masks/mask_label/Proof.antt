@@ -33,4 +33,5 @@ mask-label-spec = tie.close (tie.spec
     (λ c.
     let r = c .before .before .before .before .before .before .before in
     laws.opens-hidden _ _ _ _ _ (omega arith) (sym (r .reads .ensures) ∙ c .before .before .before .before .before .before .if2 .left)
-    (r .before .before .before .before .before .before .before .before .before .store .ensures) (r .before .before .before .before .store2 .ensures) (c .before .before .store3 .ensures) refl (c .before .before .before .before .value-at .ensures)))  -- returns-3
+    (r .before .before .before .before .before .before .before .before .before .store .ensures) (r .before .before .before .before .store2 .ensures)
+    (c .before .before .store3 .ensures) refl (c .before .before .before .before .value-at .ensures)))  -- returns-3

@@ -22,4 +22,5 @@ mask-number-spec = tie.close (tie.spec
     (λ c. search needs)  -- add-t7
     (λ c. search needs)  -- add-t19
     (λ c. search needs)  -- same-length-2
-    (λ c. λ shows f k. laws.mask-number shows _ _ _ _ f k (omega arith) (c .before .before .before .before .before .before .before .store .ensures) (c .before .before .store2 .ensures) refl refl))  -- returns-2
+    (λ c. λ shows f k. laws.mask-number shows _ _ _ _ f k (omega arith) (c .before .before .before .before .before .before .before .store .ensures)
+    (c .before .before .store2 .ensures) refl refl))  -- returns-2

@@ -43,7 +43,9 @@ loop-again c =
     let b = n .before .before .before .before .before in
     let at = b .before .before .before in
     let a = at .before .before .before .args in
-    let w = field-goes _ (a .words .now) (a .to) (at .loop .i) _ _ (at .loop .out) (at .loop .p) _ _ _ _ (at .loop .inv .4) (b .put-byte .ensures .0) (b .put-byte .ensures .1) (n .put-number .ensures .0) (n .put-number .ensures .1) (b .put-byte .kept .0) (b .before .before .loop-test .taken) (omega arith) (omega (arith, n .before .shared-slice-known2 .given (at .loop .i))) (omega arith) in
+    let w = field-goes _ (a .words .now) (a .to) (at .loop .i) _ _ (at .loop .out) (at .loop .p) _ _ _ _ (at .loop .inv .4) (b .put-byte .ensures .0) (b .put-byte .ensures .1)
+    (n .put-number .ensures .0) (n .put-number .ensures .1) (b .put-byte .kept .0) (b .before .before .loop-test .taken) (omega arith)
+    (omega (arith, n .before .shared-slice-known2 .given (at .loop .i))) (omega arith) in
     (omega arith, omega arith, n .put-number .kept .0 ∙ b .put-byte .kept .0 ∙ at .loop .inv .2, omega (arith, w .1), w .0)
 
 same-length : tie.Need-same-length Inv-loop μ-loop

@@ -33,7 +33,9 @@ set-label-requires c κs = search needs
 
 add-low : tie.Need-add-low
 add-low c =
-    let room = label-room (c .before .before .before .before .before .before .before .before .before .before .before .before .before .before .before .before .args .table .now) (sym (c .before .before .before .before .before .before .before .before .before .before .before .before .before .label-fits .ensures) ∙ not-false _ (c .before .before .before .before .before .before .before .before .before .before .before .before .if1 .left)) in
+    let room = label-room (c .before .before .before .before .before .before .before .before .before .before .before .before .before .before .before .before .args .table .now)
+    (sym (c .before .before .before .before .before .before .before .before .before .before .before .before .before .label-fits .ensures) ∙ not-false _
+    (c .before .before .before .before .before .before .before .before .before .before .before .before .if1 .left)) in
     omega (arith, room, c .before .before .before .before .before .before .before .before .before .labels .ensures)
 
 low-requires : tie.Need-low-requires
@@ -44,8 +46,16 @@ element-write-table c = search needs
 
 returns-2 : tie.Need-returns-2
 returns-2 c =
-    taken _ _ _ (sym (c .before .before .before .before .before .before .before .before .before .before .before .before .before .before .label-fits .ensures) ∙ not-false _ (c .before .before .before .before .before .before .before .before .before .before .before .before .before .if1 .left)) _
-    (rw (c .low .ensures, c .before .set-label .ensures, c .before .before .before .open .ensures, c .before .before .before .before .everyone .ensures, c .before .before .before .before .before .before .before .principals .ensures, c .before .before .before .before .before .before .before .before .before .before .labels .ensures))
+    taken _ _ _ (sym (c .before .before .before .before .before .before .before .before .before .before .before .before .before .before .label-fits .ensures) ∙ not-false _
+    (c .before .before .before .before .before .before .before .before .before .before .before .before .before .if1 .left)) _
+    (rw (
+      c .low .ensures,
+      c .before .set-label .ensures,
+      c .before .before .before .open .ensures,
+      c .before .before .before .before .everyone .ensures,
+      c .before .before .before .before .before .before .before .principals .ensures,
+      c .before .before .before .before .before .before .before .before .before .before .labels .ensures,
+    ))
 
 pub add-label-spec : {M : Type 1} → statement M
 add-label-spec =

@@ -65,7 +65,8 @@ element-write-table-3 c = search needs
 
 returns-3 : tie.Need-returns-3
 returns-3 c =
-    taken _ _ _ (both-true (rw (c .before .before .before .before .before .wide .ensures) at (lt-ltb _ _ (c .before .before .before .before .if1 .left))) (not-false _ (c .before .before .before .if2 .left))) _
+    taken _ _ _ (both-true (rw (c .before .before .before .before .before .wide .ensures) at (lt-ltb _ _ (c .before .before .before .before .if1 .left)))
+    (not-false _ (c .before .before .before .if2 .left))) _
     (rw (c .low3 .ensures, c .before .low2 .ensures, c .before .before .low .ensures, c .before .before .before .before .before .wide .ensures))
 
 pub add-pair-spec : {M : Type 1} → statement M

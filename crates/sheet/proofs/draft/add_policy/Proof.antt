@@ -19,7 +19,8 @@ labels-requires c κs = search needs
 sub-last : tie.Need-sub-last
 sub-last c =
     let a = c .before .before .before .before .before .before .before .args in
-    let room = some-label (a .table .now) (a .least) (a .owner) (a .readers) (a .writers) (sym (c .before .before .before .before .policy-fits .ensures) ∙ not-false _ (c .before .before .before .if1 .left)) in
+    let room = some-label (a .table .now) (a .least) (a .owner) (a .readers) (a .writers)
+    (sym (c .before .before .before .before .policy-fits .ensures) ∙ not-false _ (c .before .before .before .if1 .left)) in
     omega (arith, room, c .labels .ensures)
 
 label-of-requires : tie.Need-label-of-requires
@@ -33,8 +34,14 @@ set-label-requires c κs = search needs
 
 returns-2 : tie.Need-returns-2
 returns-2 c =
-    taken _ _ _ (sym (c .before .before .before .before .before .before .before .before .before .before .policy-fits .ensures) ∙ not-false _ (c .before .before .before .before .before .before .before .before .before .if1 .left)) _
-    (rw (c .set-label .ensures, c .before .before .with-policy .ensures, c .before .before .before .label-of .ensures, c .before .before .before .before .before .before .labels .ensures))
+    taken _ _ _ (sym (c .before .before .before .before .before .before .before .before .before .before .policy-fits .ensures) ∙ not-false _
+    (c .before .before .before .before .before .before .before .before .before .if1 .left)) _
+    (rw (
+      c .set-label .ensures,
+      c .before .before .with-policy .ensures,
+      c .before .before .before .label-of .ensures,
+      c .before .before .before .before .before .before .labels .ensures,
+    ))
 
 pub add-policy-spec : {M : Type 1} → statement M
 add-policy-spec =

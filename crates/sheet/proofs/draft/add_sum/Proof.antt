@@ -19,7 +19,11 @@ add-pair-requires c κs = search needs
 
 returns : tie.Need-returns
 unfolding both
-returns c = tested-as _ _ _ _ _ _ (rw (c .before .before .before .before .before .before .before .before .types .ensures, c .before .before .before .before .before .labels .ensures, c .before .before .locations .ensures)) (c .add-pair .ensures)
+returns c = tested-as _ _ _ _ _ _ (rw (
+  c .before .before .before .before .before .before .before .before .types .ensures,
+  c .before .before .before .before .before .labels .ensures,
+  c .before .before .locations .ensures,
+)) (c .add-pair .ensures)
 
 pub add-sum-spec : {M : Type 1} → statement M
 add-sum-spec =

@@ -39,7 +39,8 @@ refused-requires-2 c κs = search needs
 returns-2 : tie.Need-returns-2
 returns-2 c =
     let s = c .before .before .before .before .before .before .before .before .before .before .before .args .s .now in
-    let fits = sym (c .before .before .before .before .before .before .before .before .before .fits2 .ensures) ∙ not-false _ (c .before .before .before .before .before .before .before .before .if1 .left) in
+    let fits = sym (c .before .before .before .before .before .before .before .before .before .fits2 .ensures) ∙ not-false _
+    (c .before .before .before .before .before .before .before .before .if1 .left) in
     let l = line-found s 0 _ (c .before .before .before .before .before .before .before .line-at .ensures) _ _ (c .before .before .before .before .before .line .given .1) in
     rw (← sheet-first s _ _ fits (l .0)) (c .follow .ensures _ (formed-begun _) (c .before .before .begin .ensures))
 

@@ -52,23 +52,28 @@ add-location-requires c κs = search needs
 
 returns-2 : tie.Need-returns-2
 returns-2 c =
-    λ o f e. step-made _ _ o _ _ _ _ (not-false _ (c .before .before .before .if1 .left)) (c .before .enum-told .given .1) f e (λ s fm k t. no-principals s _ _ _ (c .refused2 .ensures))
+    λ o f e. step-made _ _ o _ _ _ _ (not-false _ (c .before .before .before .if1 .left)) (c .before .enum-told .given .1) f e
+    (λ s fm k t. no-principals s _ _ _ (c .refused2 .ensures))
 
 returns-3 : tie.Need-returns-3
 returns-3 c =
-    λ o f e. step-made _ _ o _ _ _ _ (not-false _ (c .before .before .before .before .before .if1 .left)) (c .before .before .before .line .given .1) f e (λ s fm k t. sum-holds s _ t _ _ _ _ (c .add-sum .ensures))
+    λ o f e. step-made _ _ o _ _ _ _ (not-false _ (c .before .before .before .before .before .if1 .left)) (c .before .before .before .line .given .1) f e
+    (λ s fm k t. sum-holds s _ t _ _ _ _ (c .add-sum .ensures))
 
 returns-4 : tie.Need-returns-4
 returns-4 c =
-    λ o f e. step-made _ _ o _ _ _ _ (not-false _ (c .before .before .before .before .if1 .left)) (c .before .before .enum-told2 .given .1) f e (λ s fm k t. label-holds s _ t _ _ fm (c .add-label .ensures))
+    λ o f e. step-made _ _ o _ _ _ _ (not-false _ (c .before .before .before .before .if1 .left)) (c .before .before .enum-told2 .given .1) f e
+    (λ s fm k t. label-holds s _ t _ _ fm (c .add-label .ensures))
 
 returns-5 : tie.Need-returns-5
 returns-5 c =
-    λ o f e. step-made _ _ o _ _ _ _ (not-false _ (c .before .before .before .before .before .before .if1 .left)) (c .before .before .before .before .line2 .given .1) f e (λ s fm k t. policy-holds s _ t _ _ _ _ _ fm _ k _ (c .low .ensures) (c .before .add-policy .ensures))
+    λ o f e. step-made _ _ o _ _ _ _ (not-false _ (c .before .before .before .before .before .before .if1 .left)) (c .before .before .before .before .line2 .given .1) f e
+    (λ s fm k t. policy-holds s _ t _ _ _ _ _ fm _ k _ (c .low .ensures) (c .before .add-policy .ensures))
 
 returns-6 : tie.Need-returns-6
 returns-6 c =
-    λ o f e. step-made _ _ o _ _ _ _ (not-false _ (c .before .before .before .before .before .if1 .left)) (c .before .before .before .line3 .given .1) f e (λ s fm k t. location-holds s _ t _ _ _ _ fm _ k (c .add-location .ensures))
+    λ o f e. step-made _ _ o _ _ _ _ (not-false _ (c .before .before .before .before .before .if1 .left)) (c .before .before .before .line3 .given .1) f e
+    (λ s fm k t. location-holds s _ t _ _ _ _ fm _ k (c .add-location .ensures))
 
 pub step-spec : {M : Type 1} → statement M
 step-spec =

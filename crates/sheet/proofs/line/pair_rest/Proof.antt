@@ -61,7 +61,8 @@ returns-3 c =
     let k = c .before .before .before .before in
     let a = k .before .before .before .before .args in
     found-none _ _
-    (andThen-got _ _ _ _ (known k) ∙ andThen-bad _ _ (last-number-bad (a .s .now) (k .a .given .0 .1 .0) most _ (c .before .before .last-number .ensures) (c .enum-told2 .given .1)))
+    (andThen-got _ _ _ _ (known k) ∙ andThen-bad _ _ (last-number-bad (a .s .now) (k .a .given .0 .1 .0) most _ (c .before .before .last-number .ensures)
+    (c .enum-told2 .given .1)))
 
 pub pair-rest-spec : {M : Type 1} → statement M
 pair-rest-spec =

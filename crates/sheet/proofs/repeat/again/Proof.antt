@@ -24,7 +24,8 @@ returns : tie.Need-returns Inv-loop μ-loop
 returns c =
     let at = c .before .before .before in
     let a = at .before .args in
-    sym (any-here (sameIn (a .table .now) (a .labels) (a .i)) (at .loop .j) (a .n) (c .before .before .loop-test .taken) (sym (c .before .same .ensures) ∙ c .if1 .taken)) ∙ at .loop .inv
+    sym (any-here (sameIn (a .table .now) (a .labels) (a .i)) (at .loop .j) (a .n) (c .before .before .loop-test .taken) (sym (c .before .same .ensures) ∙ c .if1 .taken)) ∙
+    at .loop .inv
 
 add-j : tie.Need-add-j Inv-loop μ-loop
 add-j c = omega arith
@@ -36,7 +37,8 @@ loop-again : tie.Need-loop-again Inv-loop μ-loop
 loop-again c =
     let at = c .before .before .before in
     let a = at .before .args in
-    sym (any-on (sameIn (a .table .now) (a .labels) (a .i)) (at .loop .j) (a .n) (c .before .before .loop-test .taken) (sym (c .before .same .ensures) ∙ c .if1 .left)) ∙ at .loop .inv
+    sym (any-on (sameIn (a .table .now) (a .labels) (a .i)) (at .loop .j) (a .n) (c .before .before .loop-test .taken) (sym (c .before .same .ensures) ∙ c .if1 .left)) ∙
+    at .loop .inv
 
 returns-2 : tie.Need-returns-2 Inv-loop μ-loop
 returns-2 c =

@@ -28,7 +28,8 @@ unfolding againIn
 returns c =
     let at = c .before .before .before in
     let a = at .before .args in
-    sym (any-here (againIn (a .table .now) (a .labels) (a .n)) (at .loop .i) (a .n) (c .before .before .loop-test .taken) (sym (c .before .again .ensures) ∙ c .if1 .taken)) ∙ at .loop .inv
+    sym (any-here (againIn (a .table .now) (a .labels) (a .n)) (at .loop .i) (a .n) (c .before .before .loop-test .taken) (sym (c .before .again .ensures) ∙ c .if1 .taken)) ∙
+    at .loop .inv
 
 add-i : tie.Need-add-i Inv-loop μ-loop
 add-i c = omega arith
@@ -41,7 +42,8 @@ unfolding againIn
 loop-again c =
     let at = c .before .before .before in
     let a = at .before .args in
-    sym (any-on (againIn (a .table .now) (a .labels) (a .n)) (at .loop .i) (a .n) (c .before .before .loop-test .taken) (sym (c .before .again .ensures) ∙ c .if1 .left)) ∙ at .loop .inv
+    sym (any-on (againIn (a .table .now) (a .labels) (a .n)) (at .loop .i) (a .n) (c .before .before .loop-test .taken) (sym (c .before .again .ensures) ∙ c .if1 .left)) ∙
+    at .loop .inv
 
 returns-2 : tie.Need-returns-2 Inv-loop μ-loop
 returns-2 c =

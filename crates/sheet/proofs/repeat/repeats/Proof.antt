@@ -24,7 +24,8 @@ repeated-requires-2 c κs = search needs
 returns-2 : tie.Need-returns-2
 returns-2 c =
     c .repeated2 .ensures
-    ∙ repeats-label _ _ _ (c .before .before .before .before .before .types .ensures) (c .before .labels .ensures) (sym (c .before .before .before .before .repeated .ensures) ∙ c .before .before .before .if1 .left)
+    ∙ repeats-label _ _ _ (c .before .before .before .before .before .types .ensures) (c .before .labels .ensures)
+    (sym (c .before .before .before .before .repeated .ensures) ∙ c .before .before .before .if1 .left)
 
 pub repeats-spec : {M : Type 1} → statement M
 repeats-spec =

@@ -25,7 +25,8 @@ same-length c = search needs
 returns-2 : tie.Need-returns-2
 returns-2 c =
     rw (c .refused2 .ensures)
-    (run-refused _ _ _ _ _ _ (judged-0 _ _ _ (c .before .before .before .before .before .judge .ensures) (c .before .before .before .before .if1 .left)) (refusal-in _ _ _ (c .before .before .refusal .ensures))
+    (run-refused _ _ _ _ _ _ (judged-0 _ _ _ (c .before .before .before .before .before .judge .ensures) (c .before .before .before .before .if1 .left))
+    (refusal-in _ _ _ (c .before .before .refusal .ensures))
     (c .before .if2 .taken))
 
 run-requires : tie.Need-run-requires

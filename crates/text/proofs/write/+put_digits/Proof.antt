@@ -92,14 +92,23 @@ put-digits-slice-write-out-2 : (t : ℕ) → put-digits-lts.Need-slice-write-out
   put-digits.Post,
 ) (put-digits-at t) put-digits.Post
 put-digits-slice-write-out-2 t c =
-    omega (arith, laws.length-more (c .before .before .before .before .before .before .args .v) (c .before .before .before .before .if1 .left), c .before .before .put-digits .kept .0, c .before .before .put-digits .ensures .0)
+    omega (
+      arith,
+      laws.length-more (c .before .before .before .before .before .before .args .v) (c .before .before .before .before .if1 .left),
+      c .before .before .put-digits .kept .0,
+      c .before .before .put-digits .ensures .0,
+    )
 
 put-digits-add-result-2 : (t : ℕ) → put-digits-lts.Need-add-result-2 (
   put-digits-below t,
   put-digits.Post,
 ) (put-digits-at t) put-digits.Post
 put-digits-add-result-2 t c =
-    omega (arith, laws.length-more (c .before .before .before .before .before .before .args .v) (c .before .before .before .before .if1 .left), c .before .before .put-digits .ensures .0)
+    omega (
+      arith,
+      laws.length-more (c .before .before .before .before .before .before .args .v) (c .before .before .before .before .if1 .left),
+      c .before .before .put-digits .ensures .0,
+    )
 
 put-digits-same-length-2 : (t : ℕ) → put-digits-lts.Need-same-length-2 (
   put-digits-below t,
@@ -112,8 +121,15 @@ put-digits-returns-2 : (t : ℕ) → put-digits-lts.Need-returns-2 (
   put-digits-below t,
   put-digits.Post,
 ) (put-digits-at t) put-digits.Post
-put-digits-returns-2 t c =
-    (omega (arith, laws.length-more (c .before .before .before .before .before .before .args .v) (c .before .before .before .before .if1 .left), c .before .before .put-digits .ensures .0), rw (c .before .before .put-digits .ensures .0, c .before .before .put-digits .ensures .1) (laws.sets-more _ _ _ (c .before .before .before .before .if1 .left)))
+put-digits-returns-2 t c = (
+  omega (
+    arith,
+    laws.length-more (c .before .before .before .before .before .before .args .v) (c .before .before .before .before .if1 .left),
+    c .before .before .put-digits .ensures .0,
+  ),
+  rw (c .before .before .put-digits .ensures .0, c .before .before .put-digits .ensures .1)
+      (laws.sets-more _ _ _ (c .before .before .before .before .if1 .left)),
+)
 
 pub +put-digits-spec : {M : Type 1} → statement M
 +put-digits-spec = close μ-put-digits λ t. put-digits-lts.spec (

@@ -13,7 +13,7 @@ pub fn run(input: &[u8]) -> Vec<u8> {
             let line = format!("{}\t{}\n", outcome.answer, outcome.steps);
             [line.into_bytes(), memory_text::print(&memory)].concat()
         }
-        None => b"no budget\n".to_vec(),
+        None => b"the budget isn't a number from 0 to 4294967295\n".to_vec(),
     }
 }
 

@@ -16,7 +16,7 @@ const PACKED: &[&str] = &["1 5", "1 62", "3 5 2 1 62", "4 2 1"];
 const OPENED: &[&str] = &["1 5", "1 62", "3 5 2 1 62", "3 1 62"];
 const PACK: &[&str] = &["= 2", "k 2", "x 1"];
 const OPEN: &[&str] = &["c", "x 2", "= 3", "u 5 2", "v 0", "s"];
-const NO_BUDGET: &[u8] = b"no budget\n";
+const NO_BUDGET: &[u8] = b"the budget isn't a number from 0 to 4294967295\n";
 
 type Rows = Vec<(Vec<u8>, Vec<u8>)>;
 

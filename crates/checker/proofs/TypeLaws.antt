@@ -26,11 +26,7 @@ sum-yes : (t : List ℕ) (n : ℕ) → 3 ≤ n → n < typesIn t → isSum t n �
 unfolding isSum both
 sum-yes t n h k = rw (le-leb 3 n h, lt-ltb n (typesIn t) k)
 
-pub sum-high : (t : List ℕ) (n m : ℕ) → m ≡ typesIn t → 3 ≤ n → ltb n m ≡ isSum t n
-unfolding isSum both
-sum-high t n m e h = rw (e, le-leb 3 n h)
-
-pub sum-low : (t : List ℕ) (n : ℕ) → n < 3 → isSum t n ≡ false
+sum-low : (t : List ℕ) (n : ℕ) → n < 3 → isSum t n ≡ false
 unfolding isSum both
 sum-low t n h = rw (lt-leb 3 n h)
 

@@ -6,13 +6,11 @@ use crate::Passed;
 use crate::Typed;
 use crate::bindings;
 use crate::expressions::check_expr;
-use crate::expressions::is_sum;
 use crate::expressions::is_type;
 use labels::Label;
 use sets::Set;
-
-// The number of the type int+int, which a guard has.
-const INT_OR_INT: u32 = 3;
+use tables::INT_OR_INT;
+use tables::is_sum;
 
 fn not_passed(next: usize) -> Passed
     ensures { λ r. ⌜ r ≡ refused next ⌝ }
@@ -48,9 +46,8 @@ fn of_seq(x: Passed, y: Passed) -> Passed
 fn of_assign(table: &[u16], x: u32, e: Typed, flow: bool) -> Passed
     ensures { λ r. ⌜ r ≡ assignPassed (now (table .entry)) x e flow ⌝ }
 {
-    let typed = is_type(e, tables::location_type(table, x));
     Passed {
-        typed,
+        typed: is_type(e, tables::location_type(table, x)),
         flow: e.flow & flow,
         next: e.next,
     }
@@ -59,9 +56,8 @@ fn of_assign(table: &[u16], x: u32, e: Typed, flow: bool) -> Passed
 fn of_while(x: Typed, y: Passed) -> Passed
     ensures { λ r. ⌜ r ≡ whilePassed x y ⌝ }
 {
-    let typed = is_type(x, INT_OR_INT) & y.typed;
     Passed {
-        typed,
+        typed: is_type(x, INT_OR_INT) & y.typed,
         flow: x.flow & y.flow,
         next: y.next,
     }
@@ -71,10 +67,9 @@ fn of_case(table: &[u16], x: Typed, y: Passed, z: Passed) -> Passed
     ensures { λ r. ⌜ r ≡ casePassed (now (table .entry)) x y z ⌝ }
 {
     let typed = is_sum(table, x.ty) & (y.typed & z.typed);
-    let flow = y.flow & z.flow;
     Passed {
         typed: x.typed & typed,
-        flow: x.flow & flow,
+        flow: x.flow & (y.flow & z.flow),
         next: z.next,
     }
 }

@@ -1,7 +1,6 @@
 // Types and least labels of expressions over the lines (the scope, "Typing"; the paper, figure 4).
 ghost use mathlib.Core.Path.{_≡_};
 ghost use Rattle.labels.specs.Labels.{bottomOf};
-ghost use Rattle.tables.specs.TypeTest.{isSum};
 ghost use Rattle.tables.specs.Tables.{everyoneIn};
 ghost use Rattle.checker.specs.Nodes.{isType, nothing, intTyped, locTyped, varTyped, plusTyped, sumTyped, packTyped, unpackTyped};
 ghost use Rattle.checker.specs.Post.{ChecksExpr};
@@ -9,28 +8,11 @@ use crate::Typed;
 use crate::bindings;
 use labels::Label;
 use sets::Set;
-
-// The numbers of the given types that a line asks for, and of the first sum.
-const INT: u32 = 0;
-
-const ERROR: u32 = 1;
-
-const PKG: u32 = 2;
-
-const PKG_OR_ERROR: u32 = 4;
-
-const SUMS: u32 = 3;
-
-// Whether a type is a sum.
-pub(crate) fn is_sum(table: &[u16], ty: u32) -> bool
-    ensures { λ r. ⌜ r ≡ isSum (now (table .entry)) ty ⌝ }
-{
-    if SUMS <= ty {
-        ty < tables::types(table)
-    } else {
-        false
-    }
-}
+use tables::ERROR;
+use tables::INT;
+use tables::PKG;
+use tables::PKG_OR_ERROR;
+use tables::is_sum;
 
 // Whether an expression has a type.
 pub(crate) fn is_type(x: Typed, ty: u32) -> bool
@@ -49,12 +31,11 @@ pub(crate) fn lowest(table: &[u16]) -> Label
 fn no_type(table: &[u16], next: usize) -> Typed
     ensures { λ r. ⌜ r ≡ nothing (now (table .entry)) next ⌝ }
 {
-    let label = lowest(table);
     Typed {
         ty: INT,
         typed: false,
         flow: true,
-        label,
+        label: lowest(table),
         next,
     }
 }
@@ -62,12 +43,11 @@ fn no_type(table: &[u16], next: usize) -> Typed
 fn of_int(table: &[u16], next: usize) -> Typed
     ensures { λ r. ⌜ r ≡ intTyped (now (table .entry)) next ⌝ }
 {
-    let label = lowest(table);
     Typed {
         ty: INT,
         typed: true,
         flow: true,
-        label,
+        label: lowest(table),
         next,
     }
 }
@@ -75,13 +55,11 @@ fn of_int(table: &[u16], next: usize) -> Typed
 fn of_location(table: &[u16], x: u32, next: usize) -> Typed
     ensures { λ r. ⌜ r ≡ locTyped (now (table .entry)) x next ⌝ }
 {
-    let ty = tables::location_type(table, x);
-    let label = tables::label_of(table, tables::location_label(table, x));
     Typed {
-        ty,
+        ty: tables::location_type(table, x),
         typed: true,
         flow: true,
-        label,
+        label: tables::label_of(table, tables::location_label(table, x)),
         next,
     }
 }
@@ -104,13 +82,11 @@ fn of_variable(
     }
     let at = (depth - 1 - i) * bindings::BINDING;
     let words: &[Set] = bound; // that a word fits its type is known of a slice's words
-    let ty = words[at] as u32;
-    let label = labels::label_at(words, at + 1);
     Typed {
-        ty,
+        ty: words[at] as u32,
         typed: true,
         flow: true,
-        label,
+        label: labels::label_at(words, at + 1),
         next,
     }
 }
@@ -118,16 +94,11 @@ fn of_variable(
 fn of_plus(x: Typed, y: Typed) -> Typed
     ensures { λ r. ⌜ r ≡ plusTyped x y ⌝ }
 {
-    let a = x.label;
-    let b = y.label;
-    let label = a.join(b);
-    let typed = is_type(x, INT) & is_type(y, INT);
-    let flow = x.flow & y.flow;
     Typed {
         ty: INT,
-        typed,
-        flow,
-        label,
+        typed: is_type(x, INT) & is_type(y, INT),
+        flow: x.flow & y.flow,
+        label: x.label.join(y.label),
         next: y.next,
     }
 }
@@ -137,10 +108,9 @@ fn of_sum(table: &[u16], ty: u32, part: u32, x: Typed) -> Typed
     ensures { λ r. ⌜ r ≡ sumTyped (now (table .entry)) ty part x ⌝ }
 {
     let label = x.label;
-    let typed = is_sum(table, ty) & is_type(x, part);
     Typed {
         ty,
-        typed,
+        typed: is_sum(table, ty) & is_type(x, part),
         flow: x.flow,
         label,
         next: x.next,
@@ -168,13 +138,11 @@ fn of_unpack(table: &[u16], ty: u32, l: u32, x: Typed) -> Typed
 {
     let label = tables::label_of(table, l);
     let operand = x.label;
-    let flow = x.flow & operand.confidentiality_at_or_below(label);
     let or_error = is_sum(table, ty) & (tables::right_part(table, ty) == ERROR);
-    let typed = is_type(x, PKG) & or_error;
     Typed {
         ty,
-        typed,
-        flow,
+        typed: is_type(x, PKG) & or_error,
+        flow: x.flow & operand.confidentiality_at_or_below(label),
         label,
         next: x.next,
     }

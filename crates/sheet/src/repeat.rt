@@ -6,10 +6,8 @@ ghost use Rattle.sheet.specs.Repeats.{mostIn, sameWords, sameIn, anyFrom
 use labels::LABEL_SIZE;
 use tables::LABELS;
 use tables::PARTS;
+use tables::SUMS;
 use tables::WORDS;
-
-// The first type that is a sum.
-const SUMS: u32 = 3;
 
 // Whether the n words from a on are those from b on.
 fn same_words(table: &[u16; WORDS], a: usize, b: usize, n: usize) -> bool

@@ -41,14 +41,18 @@ fn entry(table: &[u16], count: u32, base: u32, i: u32) -> u32
     }
 }
 
-// The numbers of the types that are no sums, and of the first sum.
+// The numbers of the types that are given; the sums start with int+int.
 pub const INT: u32 = 0;
 
 pub const ERROR: u32 = 1;
 
 pub const PKG: u32 = 2;
 
-pub const SUMS: u32 = 3;
+pub const INT_OR_INT: u32 = 3;
+
+pub const PKG_OR_ERROR: u32 = 4;
+
+pub const SUMS: u32 = INT_OR_INT;
 
 // The number of principals.
 pub fn principals(table: &[u16]) -> u32

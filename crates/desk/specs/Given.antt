@@ -6,7 +6,8 @@ use mathlib.Core.List.{List, []}
 use lib.ListN.{length, take}
 use Rattle.text.specs.Reading.{Read}
 use Rattle.text.specs.Reading.Read.{got, bad}
-use Rattle.memory_text.specs.Reading.{memory, padded}
+use Rattle.tables.specs.Tables.{padded}
+use Rattle.memory_text.specs.Reading.{memory}
 use Rattle.desk.specs.declared.Group.{Group}
 use Rattle.desk.specs.declared.Given.{Given}
 use Rattle.desk.specs.Fields.{groupOf, groupIn}

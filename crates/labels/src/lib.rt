@@ -4,7 +4,7 @@ ghost use Prim.Native.Nat.{_+_, _≤_};
 ghost use lib.ListN.{length, getD};
 ghost use lib.Seq.{paste};
 ghost use Rattle.sets.specs.Sets.{within, meets, every};
-ghost use Rattle.labels.specs.Labels.{owners, openOf, policyOf, belowOf, sameOf, joinOf, confidentialityOf, integrityOf, bottomOf, readsOf, writesOf};
+ghost use Rattle.labels.specs.Labels.{owners, openOf, policyOf, belowOf, joinOf, confidentialityOf, integrityOf, bottomOf, readsOf, writesOf};
 ghost use Rattle.labels.specs.Tables.{setsAt, labelAt, labelPut};
 use sets::Set;
 
@@ -81,16 +81,6 @@ impl Label {
         let lower = self.writers;
         let upper = other.writers;
         contained_each(lower, upper)
-    }
-
-    // Whether the two labels have the same effective sets.
-    pub fn same(self, other: Label) -> bool
-        ensures { λ r. ⌜ r ≡ sameOf self other ⌝ }
-    {
-        if !self.at_or_below(other) {
-            return false;
-        }
-        other.at_or_below(self)
     }
 
     // The least label that both are at or below: readers intersected, writers united.

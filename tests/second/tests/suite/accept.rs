@@ -2,7 +2,7 @@
 
 use crate::common::{largest_sheet, sheet, text};
 use crate::folder::{repository, Folder};
-use crate::program::{command, ended, started};
+use crate::program::{command, started};
 use second::check;
 use second::generate::program_input::accept_files;
 use second::text::MOST_BYTES;
@@ -16,11 +16,18 @@ use std::process::Stdio;
 
 const UNREADABLE: &str = "can't be read";
 
+/// What accept prints for the arguments, run in a folder, and what it says on standard error.
+fn said<A: AsRef<OsStr>>(folder: impl AsRef<Path>, arguments: &[A]) -> (String, String) {
+    let mut accept = command("accept");
+    accept.current_dir(folder).args(arguments).stdin(Stdio::null()).env("LC_ALL", "C");
+    let output = started(accept.stderr(Stdio::piped())).wait_with_output().expect("accept ends");
+    assert!(output.status.code().is_some(), "accept ends by itself: {}", output.status);
+    (output.stdout.escape_ascii().to_string(), output.stderr.escape_ascii().to_string())
+}
+
 /// What accept prints for the arguments, run in a folder.
 fn accept<A: AsRef<OsStr>>(folder: impl AsRef<Path>, arguments: &[A]) -> String {
-    let mut accept = command("accept");
-    accept.current_dir(folder).args(arguments).stdin(Stdio::null());
-    ended(started(&mut accept)).escape_ascii().to_string()
+    said(folder, arguments).0
 }
 
 /// The lines of names and what is said of them, as `accept` here gives them.
@@ -188,10 +195,24 @@ fn many_scripts() {
 fn too_few_arguments_say_how_it_is_used() {
     let folder = folder("arguments");
     for arguments in [&[][..], &["sheet"], &["missing"]] {
-        let said = accept(&folder, arguments);
-        assert!(said.starts_with("usage: accept SHEET SCRIPT"), "{arguments:?}: {said}");
-        assert_eq!(said.matches("\\n").count(), 1, "{arguments:?}: {said}");
+        let (printed, usage) = said(&folder, arguments);
+        assert_eq!(printed, "", "{arguments:?}");
+        assert!(usage.starts_with("usage: accept SHEET SCRIPT"), "{arguments:?}: {usage}");
+        assert_eq!(usage.matches("\\n").count(), 1, "{arguments:?}: {usage}");
     }
+}
+
+/// Standard error has the reason, with the name, for each file that can't be read and for no other.
+#[test]
+fn a_file_that_cannot_be_read_has_its_reason() {
+    let folder = folder("reasons");
+    fs::create_dir(folder.as_ref().join("inner")).expect("a folder");
+    let (printed, reasons) = said(&folder, &["sheet", "missing", "good", "inner"]);
+    assert_eq!(printed, lines(&[("missing", UNREADABLE), ("good", "0"), ("inner", UNREADABLE)]));
+    let reasons: Vec<&str> = reasons.split_terminator("\\n").collect();
+    assert_eq!(reasons.len(), 2, "{reasons:?}");
+    assert!(reasons[0].contains("missing") && reasons[0].contains("No such file"), "{reasons:?}");
+    assert!(reasons[1].contains("inner") && reasons[1].contains("directory"), "{reasons:?}");
 }
 
 #[test]

@@ -43,17 +43,17 @@ fn seen(case: &Case, memory: &[u32]) -> Vec<u32> {
     view
 }
 
-/// The memory that a run of the implementation tested leaves, where it is done.
-fn left(case: &Case, memory: &Memory) -> Option<Vec<u32>> {
+/// The memory that a run of the implementation tested leaves, where it is done, and the steps taken.
+fn left(case: &Case, memory: &Memory, budget: u32) -> Option<(Vec<u32>, u32)> {
     let mut words = encode(memory);
-    let outcome = (TESTED.run)(&case.sheet, &case.script, &mut words, case.authority, case.budget);
+    let outcome = (TESTED.run)(&case.sheet, &case.script, &mut words, case.authority, budget);
     assert!([0, 9, 10].contains(&outcome.answer), "an accepted script runs: {}", outcome.answer);
-    (outcome.answer == DONE).then_some(words)
+    (outcome.answer == DONE).then_some((words, outcome.steps))
 }
 
 #[test]
 fn what_a_group_sees_follows_from_what_it_saw() {
-    let (mut pairs, mut compared, mut hidden, mut shown) = (0, 0, 0, 0);
+    let (mut pairs, mut compared, mut hidden, mut shown, mut stepped) = (0, 0, 0, 0, 0);
     for seed in 0..case_count() {
         let Some(Pair { case, first, other, .. }) = pair(seed, Wrong::Nothing) else {
             continue;
@@ -66,8 +66,9 @@ fn what_a_group_sees_follows_from_what_it_saw() {
         let before = seen(&case, &encode(&first));
         assert_eq!(before, seen(&case, &encode(&other)), "seed {seed}: the views before");
         pairs += 1;
-        let (Some(after_first), Some(after_other)) = (left(&case, &first), left(&case, &other))
-        else {
+        let budget = case.budget / 2 + 1 + (seed % 997) as u32; // another budget for the second run
+        let runs = (left(&case, &first, case.budget), left(&case, &other, budget));
+        let (Some((after_first, steps)), Some((after_other, other_steps))) = runs else {
             continue;
         };
         let after = seen(&case, &after_first);
@@ -76,10 +77,12 @@ fn what_a_group_sees_follows_from_what_it_saw() {
         let differ = encode(&first) != encode(&other);
         hidden += u64::from(differ && after_first != encode(&first));
         shown += u64::from(differ && after != before);
+        stepped += u64::from(steps != other_steps);
     }
-    println!("{pairs} pairs, {compared} done twice; {hidden} differ and write, {shown} write what is seen");
+    println!("{pairs} pairs, {compared} done twice; {hidden} differ and write, {shown} write what is seen, {stepped} differ in steps");
     assert!(pairs * 2 > case_count() && compared * 2 > pairs, "{pairs} pairs, {compared} compared");
     assert!(hidden * 20 > compared && shown * 40 > compared, "{hidden} hidden, {shown} shown");
+    assert!(stepped * 100 > compared, "{stepped} differ in steps");
 }
 
 /// The memory that the second implementation leaves, label conditions passed over.

@@ -73,8 +73,8 @@ fn the_technician_s_commands_print_what_stands_below_them() {
         let printed = ended(started(shell.current_dir(&folder)));
         assert_eq!(String::from_utf8_lossy(&printed), *output, "{command}");
     }
-    assert_eq!(steps.len(), 3, "{steps:?}");
-    for (step, program) in steps.iter().zip(["accept", "run", "show"]) {
+    assert_eq!(steps.len(), 4, "{steps:?}");
+    for (step, program) in steps.iter().zip(["accept", "run", "run", "show"]) {
         assert!(step.command.contains(&format!("target/bin/{program}")), "{step:?}");
     }
 }

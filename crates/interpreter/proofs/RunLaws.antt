@@ -123,6 +123,7 @@ run-large h =
     record {
       long = refl;
       untouched = λ z. refl;
+      within = omega arith;
       means = λ s k c fm te ke src nm w n wf. absurd (omega (arith, locations-few s fm));
     }
 
@@ -145,6 +146,7 @@ module _ {ws table : List ℕ} {authority budget : ℕ} (work memory : List ℕ)
       record {
         long = l;
         untouched = λ q. absurd (q refl);
+        within = omega arith;
         means = λ s k c fm te ke src nm w n wf.
             done-at ws work″ memory memory′ (locationCount s) budget left next _ state z (run-ends s k c fm te ke src nm w n wf)
             (λ M held. copied-out work memory whole (locationCount s) n (locations-few s fm) work″ memory′ M held d);
@@ -155,6 +157,7 @@ module _ {ws table : List ℕ} {authority budget : ℕ} (work memory : List ℕ)
       record {
         long = refl;
         untouched = λ q. refl;
+        within = omega arith;
         means = λ s k c fm te ke src nm w n wf.
             kept-at ws work″ memory (locationCount s) budget left next _ state z (run-ends s k c fm te ke src nm w n wf);
       }

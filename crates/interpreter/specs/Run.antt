@@ -2,7 +2,7 @@
 use mathlib.Core.Path.{_≡_}
 use mathlib.Core.Bool.{true}
 use mathlib.Core.List.{List, []}
-use Prim.Native.Nat.{ℕ, _-_, _*_}
+use Prim.Native.Nat.{ℕ, _-_, _*_, _≤_}
 use lib.ListN.{length}
 use Rattle.language.specs.Syntax.{Cmd}
 use Rattle.language.specs.Evaluation.{cell-words}
@@ -23,10 +23,12 @@ RunEnds n budget memory spent state steps memory′ = (state ≡ 9) × (steps �
 RunEnds n budget memory (over b) state steps memory′ = (state ≡ 10) × (steps ≡ budget - b) × (memory′ ≡ memory)
 RunEnds n budget memory wrong state steps memory′ = Unit {0}
 
--- A run of the code ws: it ends as the command does whose code it is, and changes the memory only where it is done.
+-- A run of the code ws: it ends as the command does whose code it is, takes no more steps than the budget, and changes the memory only where it
+-- is done.
 pub record Runs (ws table memory : List ℕ) (authority budget state steps : ℕ) (memory′ : List ℕ) : Type 0 where
   pub long : length memory′ ≡ length memory
   pub untouched : (state ≡ 0 → ⊥) → memory′ ≡ memory
+  pub within : steps ≤ budget
   pub means : (s : Sheet) (k : Counts) (c : Cmd) → formed s ≡ true → table ≡ tableOf s → k .locations ≡ locationCount s
       → Source c → named k 0 c ≡ true → ws ≡ code (cmdLines c [])
       → length memory ≡ cell-words * locationCount s → wellFormed s memory ≡ true

@@ -6,7 +6,7 @@ use crate::evaluation;
 use crate::nodes;
 use lines::ROW;
 
-// State 0: skip is reached. 9: the budget is used up.
+// State 0: skip is reached. 9: the budget is used up. 10 and 11 are passed on from an evaluation.
 const DONE: u8 = 0;
 
 const SPENT: u8 = 9;

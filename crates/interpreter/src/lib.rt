@@ -9,7 +9,8 @@ ghost use lib.ListN.{length};
 ghost use Rattle.interpreter.specs.Cells.{workWords};
 ghost use Rattle.interpreter.specs.Run.{Runs};
 
-// How a run ended: 0 done, 9 the budget used up, 10 a value too long; and the steps taken.
+// How a run ended: 0 done, 9 the budget used up, 10 a value too long; and the steps taken. On words that are no script's code or no sheet's
+// memory it may be 7, the memory has too many words, or 11, no rule applies.
 pub struct Ran {
     pub state: u8,
     pub steps: u32,

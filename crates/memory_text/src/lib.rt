@@ -65,7 +65,7 @@ fn line_words(s: &[u8], at: usize) -> Row
         }
         let e = s[q];
         words[i] = v;
-        if e == 10 {
+        if e == b'\n' {
             if v == 0 {
                 return no_row();
             }
@@ -75,7 +75,7 @@ fn line_words(s: &[u8], at: usize) -> Row
                 words,
             };
         }
-        if e == 9 {
+        if e == b'\t' {
             i += 1;
             p = q + 1;
         } else {

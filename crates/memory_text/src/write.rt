@@ -38,7 +38,7 @@ fn put_fields(words: &[u32], from: usize, to: usize, out: &mut [u8], at: usize) 
     let mut i = from;
     let mut p = at;
     while i < to {
-        let q = put_byte(out, p, 9);
+        let q = put_byte(out, p, b'\t');
         p = put_number(out, q, words[i]);
         i += 1;
     }
@@ -52,11 +52,11 @@ fn put_line(words: &[u32], from: usize, out: &mut [u8], at: usize) -> usize
 {
     let n = used(words, from);
     if n == 0 {
-        return put_byte(out, at, 10);
+        return put_byte(out, at, b'\n');
     }
     let p = put_number(out, at, words[from]);
     let q = put_fields(words, from + 1, from + n, out, p);
-    put_byte(out, q, 10)
+    put_byte(out, q, b'\n')
 }
 
 // A memory, 16 words for each location; the length of its text. Nothing is written, and the answer is 0, where the words

@@ -32,7 +32,7 @@ fn parts_here(state: State, b: u8, last: usize) -> bool
     ensures { λ r. ⌜ r ≡ parting last (state .text) (state .start) b ⌝ }
 {
     if state.start {
-        if b == 10 {
+        if b == b'\n' {
             return state.text < last;
         }
     }
@@ -45,7 +45,7 @@ fn store(state: State, b: u8, buffer: &mut [u8]) -> State
     ensures { λ _. ⌜ now (buffer .exit) ≡ stored (held state (now (buffer .entry))) b .buffer ⌝ }
 {
     let text = state.text;
-    let start = b == 10;
+    let start = b == b'\n';
     let mut kept = state.kept;
     if TEXTS <= text {
         return State { text, start, kept };

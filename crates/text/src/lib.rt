@@ -59,7 +59,7 @@ pub fn byte(s: &[u8], at: usize, b: u8) -> Place
 pub fn line_end(s: &[u8], at: usize) -> Place
     ensures { λ r. ⌜ r ≡ placeIn (now (s .entry)) (lineEnd (drop at (now (s .entry)))) ⌝ }
 {
-    byte(s, at, 10)
+    byte(s, at, b'\n')
 }
 
 // Whether a digit stands at `at`.
@@ -69,10 +69,10 @@ fn digit_at(s: &[u8], at: usize) -> bool
     if s.len() <= at {
         return false;
     }
-    if s[at] < 48 {
+    if s[at] < b'0' {
         return false;
     }
-    s[at] <= 57
+    s[at] <= b'9'
 }
 
 // The value of the digits from `from` on, up to the bound.
@@ -84,13 +84,13 @@ fn digits(s: &[u8], from: usize, bound: u32) -> Value
     let mut v: u64 = 0;
     while i < s.len() {
         let b = s[i];
-        if b < 48 {
+        if b < b'0' {
             return Value::At(v as u32, i);
         }
-        if 57 < b {
+        if b'9' < b {
             return Value::At(v as u32, i);
         }
-        let w = v * 10 + (b - 48) as u64;
+        let w = v * 10 + (b - b'0') as u64;
         if (bound as u64) < w {
             return Value::Bad;
         }
@@ -105,7 +105,7 @@ pub fn number(s: &[u8], at: usize, bound: u32) -> Value
     ensures { λ r. ⌜ r ≡ valueIn (now (s .entry)) (numberOf bound (drop at (now (s .entry)))) ⌝ }
 {
     if digit_at(s, at) {
-        if s[at] == 48 {
+        if s[at] == b'0' {
             if digit_at(s, at + 1) {
                 Value::Bad
             } else {
@@ -119,17 +119,17 @@ pub fn number(s: &[u8], at: usize, bound: u32) -> Value
     }
 }
 
-// The value of a lowercase hexadecimal digit, 16 for any other byte.
+// The value of a lowercase hexadecimal digit, 16 for any other byte. After b'9' comes b':', after b'f' b'g', and b'a' is 87 and 10.
 fn hex_digit(b: u8) -> u16
     ensures { λ r. ⌜ r ≡ hexDigit b ⌝ }
 {
-    if b < 48 {
+    if b < b'0' {
         16
-    } else if b < 58 {
-        (b - 48) as u16
-    } else if b < 97 {
+    } else if b < b':' {
+        (b - b'0') as u16
+    } else if b < b'a' {
         16
-    } else if b < 103 {
+    } else if b < b'g' {
         (b - 87) as u16
     } else {
         16
@@ -165,7 +165,7 @@ pub fn set(s: &[u8], at: usize) -> Mask
 pub fn number_field(s: &[u8], at: usize, bound: u32) -> Value
     ensures { λ r. ⌜ r ≡ valueIn (now (s .entry)) (numberField bound (drop at (now (s .entry)))) ⌝ }
 {
-    match byte(s, at, 9) {
+    match byte(s, at, b'\t') {
         Place::At(p) => number(s, p, bound),
         Place::Bad => Value::Bad,
     }
@@ -175,7 +175,7 @@ pub fn number_field(s: &[u8], at: usize, bound: u32) -> Value
 pub fn set_field(s: &[u8], at: usize) -> Mask
     ensures { λ r. ⌜ r ≡ maskIn (now (s .entry)) (setField (drop at (now (s .entry)))) ⌝ }
 {
-    match byte(s, at, 9) {
+    match byte(s, at, b'\t') {
         Place::At(p) => set(s, p),
         Place::Bad => Mask::Bad,
     }

@@ -22,6 +22,7 @@ use Rattle.simp.specs.Calls.{runOf}
 use Rattle.desk.specs.Fields.{groupOf, budgetOf, budgetIn}
 use Rattle.desk.specs.Given.{givenOf, givenWords}
 use Rattle.desk.specs.Run.{ranOn, runTextOf}
+use Rattle.desk.specs.Inputs.{showParts, runParts, shownFor, ranFor, showIn, runIn}
 use Rattle.desk.specs.Theorems.{KeptEnough, ShowsInput, RunsInput}
 use Rattle.desk.proofs.Exact.{group-length, budget-length}
 use Rattle.desk.proofs.Orders.{show-by}
@@ -99,12 +100,14 @@ module _ (last : ℕ) (small : last < 8) (buffer : List ℕ) (long : suc last * 
   part-kept i h = holds-parts last buffer input small long i h
 
 pub shows-input : ShowsInput
+unfolding showIn shownFor showParts
 shows-input buffer input l =
     let part = part-kept 2 (omega arith) buffer l input in
     rw (part 0 (omega arith), part 1 (omega arith), part 2 (omega arith))
     (kept-enough .show (textOf 2 0 input) (textOf 2 1 input) (textOf 2 2 input))
 
 pub runs-input : RunsInput
+unfolding runIn ranFor runParts
 runs-input buffer input l =
     let part = part-kept 4 (omega arith) buffer l input in
     rw (part 0 (omega arith), part 1 (omega arith), part 2 (omega arith), part 3 (omega arith), part 4 (omega arith))

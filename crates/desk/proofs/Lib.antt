@@ -7,3 +7,4 @@ pub mod Runs
 pub mod Exact
 pub mod Orders
 pub mod Kept
+pub mod Parts

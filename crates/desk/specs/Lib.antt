@@ -6,4 +6,5 @@ pub mod Output
 pub mod Show
 pub mod Run
 pub mod Order
+pub mod Inputs
 pub mod Theorems

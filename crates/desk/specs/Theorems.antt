@@ -10,12 +10,13 @@ use Rattle.text.specs.Set.{hex4}
 use Rattle.text.specs.Reading.Read.{got}
 use Rattle.memory_text.specs.Reading.{memory}
 use Rattle.simp.specs.Calls.{runOf}
-use Rattle.parts.specs.Parts.{keep, textOf}
-use Rattle.parts.specs.Feeding.{beginning, held, fed, textIn}
+use Rattle.parts.specs.Parts.{keep}
+use Rattle.parts.specs.Feeding.{beginning, held, fed}
 use Rattle.desk.specs.Fields.{groupOf, budgetOf}
 use Rattle.desk.specs.Show.{showOf}
 use Rattle.desk.specs.Run.{outcomeLine, ranText, runTextOf}
 use Rattle.desk.specs.Order.{showInOrder}
+use Rattle.desk.specs.Inputs.{shownFor, ranFor, showIn, runIn}
 
 -- a group is four digits and byte 10
 abbrev pub GroupExact : Type 0
@@ -46,18 +47,15 @@ pub record KeptEnough : Type 0 where
       → runTextOf (take keep sheet) (take keep script) (take keep text) (take keep authority) (take keep budget)
       ≡ runTextOf sheet script text authority budget
 
--- From the input to the output: what the program prints is what the parts of its input give.
+-- From the input to the output: what the buffer holds of an input gives what the input gives.
 abbrev pub ShowsInput : Type 0
 ShowsInput =
     (buffer input : List ℕ) → 3 * keep ≤ length buffer
     → let h = fed 2 (held beginning buffer) input in
-    let text : ℕ → List ℕ = textIn (h .state) (h .buffer) in
-    showOf (text 0) (text 1) (text 2) ≡ showOf (textOf 2 0 input) (textOf 2 1 input) (textOf 2 2 input)
+    showIn (h .state) (h .buffer) ≡ shownFor input
 
 abbrev pub RunsInput : Type 0
 RunsInput =
     (buffer input : List ℕ) → 5 * keep ≤ length buffer
     → let h = fed 4 (held beginning buffer) input in
-    let text : ℕ → List ℕ = textIn (h .state) (h .buffer) in
-    runTextOf (text 0) (text 1) (text 2) (text 3) (text 4)
-    ≡ runTextOf (textOf 4 0 input) (textOf 4 1 input) (textOf 4 2 input) (textOf 4 3 input) (textOf 4 4 input)
+    runIn (h .state) (h .buffer) ≡ ranFor input

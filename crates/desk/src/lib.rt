@@ -1,6 +1,7 @@
 // What the desk programs print, made from the texts that they are given.
 pub mod run; // run.rt: the program run
 
+use parts::State;
 use text::Mask;
 use text::Value;
 ghost use mathlib.Core.Path.{_≡_};
@@ -11,6 +12,7 @@ ghost use Rattle.desk.specs.Fields.{closed, groupOf, groupIn, budgetOf, 
 ghost use Rattle.desk.specs.Numbers.{lower as lowerOf, unread as unreadOf, asText};
 ghost use Rattle.desk.specs.Given.{givenOf, Whole};
 ghost use Rattle.desk.specs.Show.{viewed, showOf};
+ghost use Rattle.desk.specs.Inputs.{showIn};
 ghost use Rattle.desk.specs.Output.{places, numberEnd, put, putLength, PutAll};
 
 // The places that a buffer must have for what is printed: 64 lines of at most 176 bytes, and before them a line of at most 22.
@@ -164,6 +166,17 @@ pub fn show(sheet: &[u8], memory: &[u8], group: &[u8], out: &mut [u8]) -> usize
         return 0;
     }
     show_given(sheet, read_given(memory, group), out)
+}
+
+// What show prints of an input whose texts 0 to 2 are kept in a buffer: sheet, memory and group.
+pub fn show_input(state: State, buffer: &[u8], out: &mut [u8]) -> usize
+    ensures { λ r. ⌜ r ≡ putLength (now (out .entry)) (showIn state (now (buffer .entry))) ⌝ }
+    ensures { λ _. ⌜ now (out .exit) ≡ put (now (out .entry)) (showIn state (now (buffer .entry))) ⌝ }
+{
+    let sheet = parts::text_in(state, buffer, 0);
+    let memory = parts::text_in(state, buffer, 1);
+    let group = parts::text_in(state, buffer, 2);
+    show(sheet, memory, group, out)
 }
 
 // The first n bytes of a buffer, or all of them.

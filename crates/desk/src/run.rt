@@ -7,6 +7,8 @@ ghost use Rattle.memory_text.specs.Writing.{Puts};
 ghost use Rattle.desk.specs.Given.{Whole};
 ghost use Rattle.desk.specs.Output.{places, put, putLength, PutAll};
 ghost use Rattle.desk.specs.Run.{outcomeLine, ranOn, runTextOf};
+ghost use Rattle.desk.specs.Inputs.{runIn};
+use parts::State;
 use super::Given;
 use text::write::put_byte;
 use text::write::put_number;
@@ -74,4 +76,17 @@ pub fn run_text(
         b.number,
         out,
     )
+}
+
+// What run prints of an input whose texts 0 to 4 are kept in a buffer: sheet, script, memory, authority and budget.
+pub fn run_input(state: State, buffer: &[u8], out: &mut [u8]) -> usize
+    ensures { λ r. ⌜ r ≡ putLength (now (out .entry)) (runIn state (now (buffer .entry))) ⌝ }
+    ensures { λ _. ⌜ now (out .exit) ≡ put (now (out .entry)) (runIn state (now (buffer .entry))) ⌝ }
+{
+    let sheet = parts::text_in(state, buffer, 0);
+    let script = parts::text_in(state, buffer, 1);
+    let memory = parts::text_in(state, buffer, 2);
+    let authority = parts::text_in(state, buffer, 3);
+    let budget = parts::text_in(state, buffer, 4);
+    run_text(sheet, script, memory, authority, budget, out)
 }

@@ -1,0 +1,52 @@
+-- `desk::run::run_input` meets its contract. Assumes nothing.
+use borrow.Author.Needs.{needs}
+use mathlib.Core.Path.{ap, _∙_}
+use Rattle.desk.specs.Output.{put, putLength}
+use Rattle.desk.proofs.Parts.{run-in}
+use Rattle.desk.proofs.run.run_input.Statement.{statement}
+use Rattle.desk.proofs.run.run_input.Tie as tie
+
+text-in-requires : tie.Need-text-in-requires
+text-in-requires c κs = search needs
+
+text-in-requires-2 : tie.Need-text-in-requires-2
+text-in-requires-2 c κs = search needs
+
+text-in-requires-3 : tie.Need-text-in-requires-3
+text-in-requires-3 c κs = search needs
+
+text-in-requires-4 : tie.Need-text-in-requires-4
+text-in-requires-4 c κs = search needs
+
+text-in-requires-5 : tie.Need-text-in-requires-5
+text-in-requires-5 c κs = search needs
+
+run-text-requires : tie.Need-run-text-requires
+run-text-requires c κs = search needs
+
+same-length : tie.Need-same-length
+same-length c = search needs
+
+returns : tie.Need-returns
+returns c =
+    let r = c .before .before in
+    let t = r .before .before in
+    let u = t .before .before in
+    let a = u .before .before .before .before .before .args in
+    let e =
+      run-in (a .state) (a .buffer .now) _ _ _ _ _ (u .before .before .text-in .ensures) (u .before .text-in2 .ensures) (u .text-in3 .ensures)
+      (t .before .text-in4 .ensures) (t .text-in5 .ensures) in
+    (r .run-text .ensures .0 ∙ ap (putLength (a .out .now)) e, r .run-text .ensures .1 ∙ ap (put (a .out .now)) e)
+
+pub run-input-spec : {M : Type 1} → statement M
+run-input-spec =
+    tie.close
+    (tie.spec
+    text-in-requires
+    text-in-requires-2
+    text-in-requires-3
+    text-in-requires-4
+    text-in-requires-5
+    run-text-requires
+    same-length
+    returns)

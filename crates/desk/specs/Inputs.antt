@@ -1,0 +1,30 @@
+-- The programs' outputs for a whole input: its texts are parted by empty lines (the scope, the program show).
+use Prim.Native.Nat.{ℕ}
+use mathlib.Core.List.{List}
+use Rattle.parts.specs.declared.State.{State}
+use Rattle.parts.specs.Parts.{textOf}
+use Rattle.parts.specs.Feeding.{textIn}
+use Rattle.desk.specs.Show.{showOf}
+use Rattle.desk.specs.Run.{runTextOf}
+
+-- show: a sheet, a memory and a group
+unfoldable pub showParts : (ℕ → List ℕ) → List ℕ
+showParts text = showOf (text 0) (text 1) (text 2)
+
+-- run: a sheet, a script, a memory, an authority and a budget
+unfoldable pub runParts : (ℕ → List ℕ) → List ℕ
+runParts text = runTextOf (text 0) (text 1) (text 2) (text 3) (text 4)
+
+-- the outputs for an input
+unfoldable pub shownFor : List ℕ → List ℕ
+shownFor input = showParts (λ i. textOf 2 i input)
+
+unfoldable pub ranFor : List ℕ → List ℕ
+ranFor input = runParts (λ i. textOf 4 i input)
+
+-- the outputs for what a buffer holds of an input
+unfoldable pub showIn : State → List ℕ → List ℕ
+showIn s buffer = showParts (textIn s buffer)
+
+unfoldable pub runIn : State → List ℕ → List ℕ
+runIn s buffer = runParts (textIn s buffer)

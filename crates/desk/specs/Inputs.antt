@@ -1,11 +1,13 @@
 -- The programs' outputs for a whole input: its texts are parted by empty lines (the scope, the program show).
 use Prim.Native.Nat.{ℕ}
+use mathlib.Core.Path.{_≡_}
 use mathlib.Core.List.{List}
 use Rattle.parts.specs.declared.State.{State}
 use Rattle.parts.specs.Parts.{textOf}
 use Rattle.parts.specs.Feeding.{textIn}
 use Rattle.desk.specs.Show.{showOf}
 use Rattle.desk.specs.Run.{runTextOf}
+use Rattle.desk.specs.Output.{put, putLength}
 
 -- show: a sheet, a memory and a group
 unfoldable pub showParts : (ℕ → List ℕ) → List ℕ
@@ -28,3 +30,7 @@ showIn s buffer = showParts (textIn s buffer)
 
 unfoldable pub runIn : State → List ℕ → List ℕ
 runIn s buffer = runParts (textIn s buffer)
+
+-- The output for some input was put; which input that is, no contract can say (crate input).
+abbrev pub PutFor : (List ℕ → List ℕ) → List ℕ → List ℕ → ℕ → Type 0
+PutFor output out now next = (input : List ℕ) × (next ≡ putLength out (output input)) × (now ≡ put out (output input))

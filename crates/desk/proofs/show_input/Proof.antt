@@ -1,8 +1,6 @@
 -- `desk::show_input` meets its contract. Assumes nothing.
 use borrow.Author.Needs.{needs}
-use mathlib.Core.Path.{ap, _∙_}
-use Rattle.desk.specs.Output.{put, putLength}
-use Rattle.desk.proofs.Parts.{show-in}
+use Rattle.desk.proofs.Parts.{show-in, put-as}
 use Rattle.desk.proofs.show_input.Statement.{statement}
 use Rattle.desk.proofs.show_input.Tie as tie
 
@@ -27,7 +25,7 @@ returns c =
     let t = s .before .before in
     let a = t .before .before .before .before .before .args in
     let e = show-in (a .state) (a .buffer .now) _ _ _ (t .before .before .text-in .ensures) (t .before .text-in2 .ensures) (t .text-in3 .ensures) in
-    (s .show .ensures .0 ∙ ap (putLength (a .out .now)) e, s .show .ensures .1 ∙ ap (put (a .out .now)) e)
+    put-as (a .out .now) _ _ _ _ e (s .show .ensures)
 
 pub show-input-spec : {M : Type 1} → statement M
 show-input-spec =

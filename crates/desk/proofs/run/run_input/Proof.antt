@@ -1,8 +1,6 @@
 -- `desk::run::run_input` meets its contract. Assumes nothing.
 use borrow.Author.Needs.{needs}
-use mathlib.Core.Path.{ap, _∙_}
-use Rattle.desk.specs.Output.{put, putLength}
-use Rattle.desk.proofs.Parts.{run-in}
+use Rattle.desk.proofs.Parts.{run-in, put-as}
 use Rattle.desk.proofs.run.run_input.Statement.{statement}
 use Rattle.desk.proofs.run.run_input.Tie as tie
 
@@ -36,7 +34,7 @@ returns c =
     let e =
       run-in (a .state) (a .buffer .now) _ _ _ _ _ (u .before .before .text-in .ensures) (u .before .text-in2 .ensures) (u .text-in3 .ensures)
       (t .before .text-in4 .ensures) (t .text-in5 .ensures) in
-    (r .run-text .ensures .0 ∙ ap (putLength (a .out .now)) e, r .run-text .ensures .1 ∙ ap (put (a .out .now)) e)
+    put-as (a .out .now) _ _ _ _ e (r .run-text .ensures)
 
 pub run-input-spec : {M : Type 1} → statement M
 run-input-spec =

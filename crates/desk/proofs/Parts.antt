@@ -1,8 +1,9 @@
 -- The texts of an input, taken out of its buffer one by one. Assumes nothing.
 use Prim.Native.Nat.{ℕ, _*_, _≤_}
+use native.Mathlib.Omega.{arith}
 use mathlib.Core.Path.{_≡_, ap, _∙_}
 use mathlib.Core.List.{List}
-use lib.ListN.{length}
+use lib.ListN.{length, replicate, length-replicate}
 use Rattle.parts.specs.declared.State.{State}
 use Rattle.parts.specs.Parts.{keep}
 use Rattle.parts.specs.Feeding.{beginning, Held, held, fed, textIn}
@@ -29,16 +30,23 @@ pub put-as : (out bytes bytes′ now : List ℕ) (r : ℕ) → bytes ≡ bytes�
     → (r ≡ putLength out bytes′) × (now ≡ put out bytes′)
 put-as out bytes bytes′ now r e p = rw e at p
 
--- the output of an input that was fed whole
-module _ (buffer input : List ℕ) (s : State) (b : List ℕ) where
-  pub put-shown : 3 * keep ≤ length buffer → held s b ≡ fed 2 (held beginning buffer) input
-      → (out now : List ℕ) (r : ℕ) → (r ≡ putLength out (showIn s b)) × (now ≡ put out (showIn s b)) → PutFor shownFor out now r
-  put-shown l e out now r p =
-      let q = put-as out _ _ now r (ap (λ (h : Held). showIn (h .state) (h .buffer)) e ∙ shows-input buffer input l) p in
-      (input, q .0, q .1)
+zeros-fill : (n : ℕ) → n ≤ length (replicate {A = ℕ} n 0)
+zeros-fill n = omega (arith, length-replicate {A = ℕ} n 0)
 
-  pub put-ran : 5 * keep ≤ length buffer → held s b ≡ fed 4 (held beginning buffer) input
+-- the output of an input that was fed whole into a buffer of zeros
+module _ (input : List ℕ) (s : State) (b : List ℕ) where
+  pub put-shown : held s b ≡ fed 2 (held beginning (replicate (3 * keep) 0)) input
+      → (out now : List ℕ) (r : ℕ) → (r ≡ putLength out (showIn s b)) × (now ≡ put out (showIn s b)) → PutFor shownFor out now r
+  put-shown e out now r p =
+      let q : showIn s b ≡ shownFor input
+      = ap (λ (h : Held). showIn (h .state) (h .buffer)) e ∙ shows-input (replicate (3 * keep) 0) input (zeros-fill (3 * keep)) in
+      let u = put-as out _ _ now r q p in
+      (input, u .0, u .1)
+
+  pub put-ran : held s b ≡ fed 4 (held beginning (replicate (5 * keep) 0)) input
       → (out now : List ℕ) (r : ℕ) → (r ≡ putLength out (runIn s b)) × (now ≡ put out (runIn s b)) → PutFor ranFor out now r
-  put-ran l e out now r p =
-      let q = put-as out _ _ now r (ap (λ (h : Held). runIn (h .state) (h .buffer)) e ∙ runs-input buffer input l) p in
-      (input, q .0, q .1)
+  put-ran e out now r p =
+      let q : runIn s b ≡ ranFor input
+      = ap (λ (h : Held). runIn (h .state) (h .buffer)) e ∙ runs-input (replicate (5 * keep) 0) input (zeros-fill (5 * keep)) in
+      let u = put-as out _ _ now r q p in
+      (input, u .0, u .1)

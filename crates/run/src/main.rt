@@ -3,16 +3,19 @@
 use desk::PLACES;
 use libc::STDOUT_FILENO;
 use parts::KEEP;
+ghost use Rattle.desk.specs.Inputs.{ranFor, PutFor};
 
-fn main() {
+// What is printed for standard input, at the start of a buffer; its length.
+fn run_stdin(out: &mut [u8]) -> usize
+    ensures { λ r. ⌜ PutFor ranFor (now (out .entry)) (now (out .exit)) r ⌝ }
+{
     let mut buffer = [0u8; 5 * KEEP];
     let state = input::read_texts(&mut buffer, 4);
+    desk::run::run_input(state, &buffer, out)
+}
+
+fn main() {
     let mut out = [0u8; PLACES];
-    let sheet = parts::text_in(state, &buffer, 0);
-    let script = parts::text_in(state, &buffer, 1);
-    let memory = parts::text_in(state, &buffer, 2);
-    let authority = parts::text_in(state, &buffer, 3);
-    let budget = parts::text_in(state, &buffer, 4);
-    let n = desk::run::run_text(sheet, script, memory, authority, budget, &mut out);
+    let n = run_stdin(&mut out);
     io::write_all(STDOUT_FILENO, desk::first(&out, n));
 }

@@ -2,14 +2,19 @@
 use desk::PLACES;
 use libc::STDOUT_FILENO;
 use parts::KEEP;
+ghost use Rattle.desk.specs.Inputs.{shownFor, PutFor};
 
-fn main() {
+// What is printed for standard input, at the start of a buffer; its length.
+fn show_stdin(out: &mut [u8]) -> usize
+    ensures { λ r. ⌜ PutFor shownFor (now (out .entry)) (now (out .exit)) r ⌝ }
+{
     let mut buffer = [0u8; 3 * KEEP];
     let state = input::read_texts(&mut buffer, 2);
+    desk::show_input(state, &buffer, out)
+}
+
+fn main() {
     let mut out = [0u8; PLACES];
-    let sheet = parts::text_in(state, &buffer, 0);
-    let memory = parts::text_in(state, &buffer, 1);
-    let group = parts::text_in(state, &buffer, 2);
-    let n = desk::show(sheet, memory, group, &mut out);
+    let n = show_stdin(&mut out);
     io::write_all(STDOUT_FILENO, desk::first(&out, n));
 }

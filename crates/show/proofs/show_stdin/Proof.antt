@@ -1,10 +1,5 @@
 -- `show::show_stdin` meets its contract: what the buffer holds of the input is what the output is made of. Assumes nothing.
 use borrow.Author.Needs.{needs}
-use Prim.Native.Nat.{ℕ, _*_, _≤_}
-use native.Mathlib.Nat.{le-refl}
-use mathlib.Core.Path.{sym, subst}
-use lib.ListN.{length, replicate, length-replicate}
-use Rattle.parts.specs.Parts.{keep}
 use Rattle.desk.proofs.Parts.{put-shown}
 use Rattle.show.proofs.show_stdin.Statement.{statement}
 use Rattle.show.proofs.show_stdin.Tie as tie
@@ -24,16 +19,13 @@ show-input-requires c κs = search needs
 same-length : tie.Need-same-length
 same-length c = search needs
 
-room : 3 * keep ≤ length (replicate {A = ℕ} (3 * keep) 0)
-room = subst (λ (n : ℕ). 3 * keep ≤ n) (sym (length-replicate {A = ℕ} (3 * keep) 0)) (le-refl (3 * keep))
-
 returns : tie.Need-returns
 returns c =
     let o = c .before .before in
     let r = o .before .before .before .before in
     let a = r .before .before .before .args in
     let i = r .read-texts .ensures in
-    put-shown (replicate (3 * keep) 0) (i .0) _ _ room (i .1) (a .out .now) _ _ (o .show-input .ensures)
+    put-shown (i .0) _ _ (i .1) (a .out .now) _ _ (o .show-input .ensures)
 
 pub show-stdin-spec : {M : Type 1} → statement M
 show-stdin-spec =

@@ -8,8 +8,8 @@ ghost use Rattle.desk.specs.Given.{Whole};
 ghost use Rattle.desk.specs.Output.{places, put, putLength, PutAll};
 ghost use Rattle.desk.specs.Run.{outcomeLine, ranOn, runTextOf};
 ghost use Rattle.desk.specs.Inputs.{runIn};
-use parts::State;
 use super::Given;
+use parts::State;
 use text::write::put_byte;
 use text::write::put_number;
 

@@ -37,10 +37,13 @@ returns-2 c =
     let s = e .before .before .before in
     let a = s .args in
     let g = read-some (a .got) _ (toZ-ofZ _ (a .got) (s .fits .got)) (a .chunk .now) (e .if1 .left) _ (k .count .ensures .1) in
-    let h = held (a .state) (a .buffer .now) in
-    (sym (g .0),
-    (f .feed .ensures .0 ∙ ap (λ (l : List ℕ). fed (a .last) h l .state) (g .1),
-    f .feed .ensures .1 ∙ ap (λ (l : List ℕ). fed (a .last) h l .buffer) (g .1)))
+    let h = held (a .state) (a .buffer .now) in (
+      sym (g .0),
+      (
+        f .feed .ensures .0 ∙ ap (λ (l : List ℕ). fed (a .last) h l .state) (g .1),
+        f .feed .ensures .1 ∙ ap (λ (l : List ℕ). fed (a .last) h l .buffer) (g .1),
+      ),
+    )
 
 pub feed-got-spec : {M : Type 1} → statement M
 feed-got-spec =

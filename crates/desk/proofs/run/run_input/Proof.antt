@@ -32,8 +32,8 @@ returns c =
     let u = t .before .before in
     let a = u .before .before .before .before .before .args in
     let e =
-      run-in (a .state) (a .buffer .now) _ _ _ _ _ (u .before .before .text-in .ensures) (u .before .text-in2 .ensures) (u .text-in3 .ensures)
-      (t .before .text-in4 .ensures) (t .text-in5 .ensures) in
+    run-in (a .state) (a .buffer .now) _ _ _ _ _ (u .before .before .text-in .ensures) (u .before .text-in2 .ensures) (u .text-in3 .ensures)
+    (t .before .text-in4 .ensures) (t .text-in5 .ensures) in
     put-as (a .out .now) _ _ _ _ e (r .run-text .ensures)
 
 pub run-input-spec : {M : Type 1} → statement M

@@ -6,7 +6,9 @@ use mathlib.Core.List.{List, []}
 use lib.ListN.{length, take}
 use Rattle.text.specs.Reading.{Read}
 use Rattle.text.specs.Reading.Read.{got, bad}
+use Rattle.language.specs.Evaluation.{cell-words}
 use Rattle.tables.specs.Tables.{padded}
+use Rattle.memory_text.specs.Sizes.{memoryWords}
 use Rattle.memory_text.specs.Reading.{memory}
 use Rattle.desk.specs.declared.Group.{Group}
 use Rattle.desk.specs.declared.Given.{Given}
@@ -25,7 +27,7 @@ formed bad = false
 -- A text that isn't of its form stands for no location, or for the empty group, and has the number 8 or 3.
 unfoldable pub givenIn : Read (List ℕ) → Group → Given
 givenIn m g = record {
-  words = padded 1024 (wordsRead m);
+  words = padded memoryWords (wordsRead m);
   count = length (wordsRead m);
   group = g .set;
   other = unread (g .ok) (formed m);
@@ -40,6 +42,6 @@ givenWords g = take (g .count) (g .words)
 
 -- whole locations, at most 64
 pub record Whole (g : Given) : Type 0 where
-  pub whole : g .count % 16 ≡ 0
-  pub few : g .count ≤ 1024
-  pub all : length (g .words) ≡ 1024
+  pub whole : g .count % cell-words ≡ 0
+  pub few : g .count ≤ memoryWords
+  pub all : length (g .words) ≡ memoryWords

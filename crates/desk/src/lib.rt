@@ -33,7 +33,7 @@ pub struct Budget {
 // What show and run take from the texts of a memory and of a group or an authority: the words, of which the first `count` are
 // the memory's, the group, and the number of a text that isn't of its form (0: none).
 struct Given {
-    words: [u32; 1024],
+    words: [u32; memory_text::WORDS],
     count: usize,
     group: u16,
     other: u8,
@@ -46,7 +46,7 @@ fn closes(s: &[u8], p: usize) -> bool
     if s.len() <= p {
         return false;
     }
-    if s[p] != 10 {
+    if s[p] != b'\n' {
         return false;
     }
     s.len() - p == 1
@@ -68,7 +68,7 @@ fn group_line(s: &[u8]) -> Group
 fn budget_line(s: &[u8]) -> Budget
     ensures { λ r. ⌜ r ≡ budgetIn (budgetOf (now (s .entry))) ⌝ }
 {
-    if let Value::At(n, p) = text::number(s, 0, 4294967295) {
+    if let Value::At(n, p) = text::number(s, 0, text::MOST) {
         if closes(s, p) {
             return Budget {
                 ok: true,
@@ -125,7 +125,7 @@ fn read_given(memory: &[u8], group: &[u8]) -> Given
     let words = m.words;
     Given {
         words,
-        count: m.count * 16,
+        count: m.count * memory::CELL,
         group: g.set,
         other: unread(g.ok, m.ok),
     }
@@ -137,7 +137,7 @@ fn put_line(out: &mut [u8], at: usize, n: u32) -> usize
     ensures { λ r. ⌜ Puts (numberEnd n) 11 (now (out .entry)) at (now (out .exit)) r ⌝ }
 {
     let p = text::write::put_number(out, at, n);
-    text::write::put_byte(out, p, 10)
+    text::write::put_byte(out, p, b'\n')
 }
 
 // The view, or the number.
@@ -146,7 +146,7 @@ fn show_given(sheet: &[u8], given: Given, out: &mut [u8]) -> usize
     ensures { λ r. ⌜ PutAll (now (out .entry)) (viewed (now (sheet .entry)) given) (now (out .exit)) r ⌝ }
 {
     let words = given.words;
-    let mut view = [0u32; 1024];
+    let mut view = [0u32; memory_text::WORDS];
     let n = given.count;
     let answer = simp::simp_view(sheet, &words[..n], given.group, &mut view[..n]);
     let k = number(answer, given.other);

@@ -3,6 +3,8 @@ ghost use mathlib.Core.Path.{_≡_};
 ghost use Prim.Native.Nat.{_≤_, _%_};
 ghost use lib.ListN.{length};
 ghost use Rattle.memory_text.specs.Printing.{memoryText};
+ghost use Rattle.language.specs.Evaluation.{cell-words};
+ghost use Rattle.memory_text.specs.Sizes.{memoryWords};
 ghost use Rattle.memory_text.specs.Writing.{Puts};
 ghost use Rattle.desk.specs.Given.{Whole};
 ghost use Rattle.desk.specs.Output.{places, put, putLength, PutAll};
@@ -19,13 +21,13 @@ fn put_outcome(out: &mut [u8], answer: u8, steps: u32) -> usize
     ensures { λ r. ⌜ Puts (outcomeLine answer steps) 22 (now (out .entry)) 0 (now (out .exit)) r ⌝ }
 {
     let p = put_number(out, 0, answer as u32);
-    let q = put_byte(out, p, 9);
+    let q = put_byte(out, p, b'\t');
     super::put_line(out, q, steps)
 }
 
 // The answer, the steps and a memory; the length of it all.
 fn put_run(out: &mut [u8], answer: u8, steps: u32, words: &[u32]) -> usize
-    requires { ⌜ (length (now words) % 16 ≡ 0) × (length (now words) ≤ 1024) × (places ≤ length (now out)) ⌝ }
+    requires { ⌜ (length (now words) % cell-words ≡ 0) × (length (now words) ≤ memoryWords) × (places ≤ length (now out)) ⌝ }
     ensures { λ r. ⌜ PutAll (now (out .entry)) (outcomeLine answer steps (memoryText (now (words .entry)))) (now (out .exit)) r ⌝ }
 {
     let p = put_outcome(out, answer, steps);

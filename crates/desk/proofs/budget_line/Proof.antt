@@ -8,15 +8,6 @@ use Rattle.desk.proofs.Fields.{only-whole, only-part, only-none}
 use Rattle.desk.proofs.budget_line.Statement.{statement}
 use Rattle.desk.proofs.budget_line.Tie as tie
 
-number-requires : tie.Need-number-requires
-number-requires c κs = search needs
-
-enum-known-n : tie.Need-enum-known-n
-enum-known-n c = search needs
-
-closes-requires : tie.Need-closes-requires
-closes-requires c κs = search needs
-
 returns : tie.Need-returns
 unfolding budgetOf budgetIn
 returns c =
@@ -24,9 +15,6 @@ returns c =
     let s = k .before .before .before .before .args .s .now in
     let e = number-at s 0 most _ (k .before .before .number .ensures) _ _ (k .n .given .1) in
     sym (ap budgetIn (only-whole _ s (k .n .given .0 .0) (k .n .given .0 .1 .0) (e .0) (sym (c .before .closes .ensures) ∙ c .if1 .taken)))
-
-enum-told : tie.Need-enum-told
-enum-told c = search needs
 
 returns-2 : tie.Need-returns-2
 unfolding budgetOf budgetIn
@@ -44,6 +32,11 @@ returns-3 c =
     sym (ap budgetIn (only-none _ (number-bad s 0 most _ (k .number .ensures) (c .enum-told .given .1))))
 
 pub budget-line-spec : {M : Type 1} → statement M
-budget-line-spec =
-    tie.close
-    (tie.spec number-requires enum-known-n closes-requires returns enum-told returns-2 returns-3)
+budget-line-spec = tie.close (tie.spec
+    (λ c κs. search needs)  -- number-requires
+    (λ c. search needs)  -- enum-known-n
+    (λ c κs. search needs)  -- closes-requires
+    returns
+    (λ c. search needs)  -- enum-told
+    returns-2
+    returns-3)

@@ -11,8 +11,8 @@ returns c = let a = c .before .args in sym (take-all (a .n) (a .out .now) (omega
 slice-aggregate-result : tie.Need-slice-aggregate-result
 slice-aggregate-result c = let a = c .before .before .args in sym (length-take-le (a .n) (a .out .now) (omega arith))
 
-returns-2 : tie.Need-returns-2
-returns-2 c = refl
-
 pub first-spec : {M : Type 1} → statement M
-first-spec = tie.close (tie.spec returns slice-aggregate-result returns-2)
+first-spec = tie.close (tie.spec
+    returns
+    slice-aggregate-result
+    (λ c. refl))  -- returns-2

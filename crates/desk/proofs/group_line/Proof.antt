@@ -7,15 +7,6 @@ use Rattle.desk.proofs.Fields.{only-whole, only-part, only-none}
 use Rattle.desk.proofs.group_line.Statement.{statement}
 use Rattle.desk.proofs.group_line.Tie as tie
 
-set-requires : tie.Need-set-requires
-set-requires c κs = search needs
-
-enum-known-m : tie.Need-enum-known-m
-enum-known-m c = search needs
-
-closes-requires : tie.Need-closes-requires
-closes-requires c κs = search needs
-
 returns : tie.Need-returns
 unfolding groupOf groupIn
 returns c =
@@ -23,9 +14,6 @@ returns c =
     let s = k .before .before .before .before .args .s .now in
     let e = set-at s 0 _ (k .before .before .set .ensures) _ _ (k .m .given .1) in
     sym (ap groupIn (only-whole _ s (k .m .given .0 .0) (k .m .given .0 .1 .0) (e .0) (sym (c .before .closes .ensures) ∙ c .if1 .taken)))
-
-enum-told : tie.Need-enum-told
-enum-told c = search needs
 
 returns-2 : tie.Need-returns-2
 unfolding groupOf groupIn
@@ -43,6 +31,11 @@ returns-3 c =
     sym (ap groupIn (only-none _ (set-bad s 0 _ (k .set .ensures) (c .enum-told .given .1))))
 
 pub group-line-spec : {M : Type 1} → statement M
-group-line-spec =
-    tie.close
-    (tie.spec set-requires enum-known-m closes-requires returns enum-told returns-2 returns-3)
+group-line-spec = tie.close (tie.spec
+    (λ c κs. search needs)  -- set-requires
+    (λ c. search needs)  -- enum-known-m
+    (λ c κs. search needs)  -- closes-requires
+    returns
+    (λ c. search needs)  -- enum-told
+    returns-2
+    returns-3)

@@ -5,19 +5,17 @@ use Rattle.desk.specs.Numbers.{asText}
 use Rattle.desk.proofs.number.Statement.{statement}
 use Rattle.desk.proofs.number.Tie as tie
 
-lower-requires : tie.Need-lower-requires
-lower-requires c κs = search needs
-
 returns : tie.Need-returns
 unfolding asText
 returns c = rw (eq-eqb _ _ (c .before .if1 .taken)) (c .lower .ensures)
-
-lower-requires-2 : tie.Need-lower-requires-2
-lower-requires-2 c κs = search needs
 
 returns-2 : tie.Need-returns-2
 unfolding asText
 returns-2 c = rw (ne-eqb _ _ (c .before .if1 .left)) (c .lower2 .ensures)
 
 pub number-spec : {M : Type 1} → statement M
-number-spec = tie.close (tie.spec lower-requires returns lower-requires-2 returns-2)
+number-spec = tie.close (tie.spec
+    (λ c κs. search needs)  -- lower-requires
+    returns
+    (λ c κs. search needs)  -- lower-requires-2
+    returns-2)

@@ -5,15 +5,6 @@ use Rattle.desk.proofs.Outputs.{line-puts}
 use Rattle.desk.proofs.put_line.Statement.{statement}
 use Rattle.desk.proofs.put_line.Tie as tie
 
-put-number-requires : tie.Need-put-number-requires
-put-number-requires c κs = search needs
-
-put-byte-requires : tie.Need-put-byte-requires
-put-byte-requires c κs = search needs
-
-same-length : tie.Need-same-length
-same-length c = search needs
-
 returns : tie.Need-returns
 returns c =
     let b = c .before .before in
@@ -23,4 +14,8 @@ returns c =
     (n .put-number .kept .0) (omega (arith, s .fits .n .fits)) (s .pre)
 
 pub put-line-spec : {M : Type 1} → statement M
-put-line-spec = tie.close (tie.spec put-number-requires put-byte-requires same-length returns)
+put-line-spec = tie.close (tie.spec
+    (λ c κs. search needs)  -- put-number-requires
+    (λ c κs. search needs)  -- put-byte-requires
+    (λ c. search needs)  -- same-length
+    returns)

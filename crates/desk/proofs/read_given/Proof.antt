@@ -5,17 +5,8 @@ use Rattle.desk.proofs.Givens.{memory-few, given-is}
 use Rattle.desk.proofs.read_given.Statement.{statement}
 use Rattle.desk.proofs.read_given.Tie as tie
 
-group-line-requires : tie.Need-group-line-requires
-group-line-requires c κs = search needs
-
-read-memory-requires : tie.Need-read-memory-requires
-read-memory-requires c κs = search needs
-
 mul-t6 : tie.Need-mul-t6
 mul-t6 c = omega (arith, memory-few _ _ (c .before .before .read-memory .ensures))
-
-unread-requires : tie.Need-unread-requires
-unread-requires c κs = search needs
 
 returns : tie.Need-returns
 returns c =
@@ -25,6 +16,9 @@ returns c =
     given-is (a .memory .now) (a .group .now) (m .read-memory .result) (g .group-line .result) _ (m .read-memory .ensures) (g .group-line .ensures) (c .unread .ensures)
 
 pub read-given-spec : {M : Type 1} → statement M
-read-given-spec =
-    tie.close
-    (tie.spec group-line-requires read-memory-requires mul-t6 unread-requires returns)
+read-given-spec = tie.close (tie.spec
+    (λ c κs. search needs)  -- group-line-requires
+    (λ c κs. search needs)  -- read-memory-requires
+    mul-t6
+    (λ c κs. search needs)  -- unread-requires
+    returns)

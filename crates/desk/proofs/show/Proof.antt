@@ -11,16 +11,10 @@ use Rattle.desk.proofs.show.Tie as tie
 returns : tie.Need-returns
 returns c = put-none (c .before .before .before .before .before .args .out .now) _ (c .if1 .taken)
 
-read-given-requires : tie.Need-read-given-requires
-read-given-requires c κs = search needs
-
 show-given-requires : tie.Need-show-given-requires
 show-given-requires c κs =
     let g = c .before in
     (given-whole _ _ _ (g .read-given .ensures), omega (arith, g .before .if1 .left))
-
-same-length : tie.Need-same-length
-same-length c = search needs
 
 returns-2 : tie.Need-returns-2
 unfolding showOf
@@ -32,5 +26,9 @@ returns-2 c =
     (put-same _ _ _ _ _ (ap (viewed (a .sheet .now)) (g .read-given .ensures)) (s .show-given .ensures))
 
 pub show-spec : {M : Type 1} → statement M
-show-spec =
-    tie.close (tie.spec returns read-given-requires show-given-requires same-length returns-2)
+show-spec = tie.close (tie.spec
+    returns
+    (λ c κs. search needs)  -- read-given-requires
+    show-given-requires
+    (λ c. search needs)  -- same-length
+    returns-2)

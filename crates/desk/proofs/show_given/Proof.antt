@@ -17,19 +17,10 @@ array-share-prefix-words c = let t = c .before .before .before in words-fit (t .
 slice-aggregate-simp-view : tie.Need-slice-aggregate-simp-view
 slice-aggregate-simp-view c = let t = c .before .before .before .before in sym (words-length (t .args .given) (t .pre .0))
 
-array-borrow-prefix-view : tie.Need-array-borrow-prefix-view
-array-borrow-prefix-view c = search needs
-
 slice-aggregate-simp-view-2 : tie.Need-slice-aggregate-simp-view-2
 slice-aggregate-simp-view-2 c =
     let t = c .before .before .before .before .before in
     sym (length-take-le (t .args .given .count) (replicate 1024 0) (t .pre .0 .few))
-
-simp-view-requires : tie.Need-simp-view-requires
-simp-view-requires c κs = search needs
-
-number-requires : tie.Need-number-requires
-number-requires c κs = search needs
 
 array-share-prefix-view : tie.Need-array-share-prefix-view
 array-share-prefix-view c =
@@ -42,12 +33,6 @@ slice-aggregate-write-memory c =
     let v = c .before .before .before .before in
     let t = v .before .before .before .before .before .before in
     part-count (t .args .given .count) (v .simp-view .last .1 .1 .1 .0) (replicate 1024 0) (v .simp-view .kept .1 .1 .1 .0) (t .pre .0 .few)
-
-write-memory-requires : tie.Need-write-memory-requires
-write-memory-requires c κs = search needs
-
-same-length : tie.Need-same-length
-same-length c = search needs
 
 returns : tie.Need-returns
 returns c =
@@ -63,15 +48,6 @@ returns c =
     (memory-puts (t .args .out .now) _ x _ _ (part-is (g .count) x (replicate 1024 0) (v .simp-view .kept .1 .1 .1 .0) (t .pre .0 .few))
     (m .write-memory .ensures .0) (m .write-memory .ensures .1) (ap (λ (i : ℕ). i % 16) n ∙ t .pre .0 .whole) (omega (arith, t .pre .0 .few)) (omega (arith, t .pre .1)))
 
-cast-put-line : tie.Need-cast-put-line
-cast-put-line c = search needs
-
-put-line-requires : tie.Need-put-line-requires
-put-line-requires c κs = search needs
-
-same-length-2 : tie.Need-same-length-2
-same-length-2 c = search needs
-
 returns-2 : tie.Need-returns-2
 returns-2 c =
     let p = c .before .before in
@@ -83,21 +59,19 @@ returns-2 c =
     (puts-all _ _ _ _ _ (p .put-line .ensures))
 
 pub show-given-spec : {M : Type 1} → statement M
-show-given-spec =
-    tie.close
-    (tie.spec
+show-given-spec = tie.close (tie.spec
     array-share-prefix-words
     slice-aggregate-simp-view
-    array-borrow-prefix-view
+    (λ c. search needs)  -- array-borrow-prefix-view
     slice-aggregate-simp-view-2
-    simp-view-requires
-    number-requires
+    (λ c κs. search needs)  -- simp-view-requires
+    (λ c κs. search needs)  -- number-requires
     array-share-prefix-view
     slice-aggregate-write-memory
-    write-memory-requires
-    same-length
+    (λ c κs. search needs)  -- write-memory-requires
+    (λ c. search needs)  -- same-length
     returns
-    cast-put-line
-    put-line-requires
-    same-length-2
+    (λ c. search needs)  -- cast-put-line
+    (λ c κs. search needs)  -- put-line-requires
+    (λ c. search needs)  -- same-length-2
     returns-2)

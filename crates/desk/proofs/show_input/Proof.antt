@@ -4,21 +4,6 @@ use Rattle.desk.proofs.Parts.{show-in, put-as}
 use Rattle.desk.proofs.show_input.Statement.{statement}
 use Rattle.desk.proofs.show_input.Tie as tie
 
-text-in-requires : tie.Need-text-in-requires
-text-in-requires c κs = search needs
-
-text-in-requires-2 : tie.Need-text-in-requires-2
-text-in-requires-2 c κs = search needs
-
-text-in-requires-3 : tie.Need-text-in-requires-3
-text-in-requires-3 c κs = search needs
-
-show-requires : tie.Need-show-requires
-show-requires c κs = search needs
-
-same-length : tie.Need-same-length
-same-length c = search needs
-
 returns : tie.Need-returns
 returns c =
     let s = c .before .before in
@@ -28,12 +13,10 @@ returns c =
     put-as (a .out .now) _ _ _ _ e (s .show .ensures)
 
 pub show-input-spec : {M : Type 1} → statement M
-show-input-spec =
-    tie.close
-    (tie.spec
-    text-in-requires
-    text-in-requires-2
-    text-in-requires-3
-    show-requires
-    same-length
+show-input-spec = tie.close (tie.spec
+    (λ c κs. search needs)  -- text-in-requires
+    (λ c κs. search needs)  -- text-in-requires-2
+    (λ c κs. search needs)  -- text-in-requires-3
+    (λ c κs. search needs)  -- show-requires
+    (λ c. search needs)  -- same-length
     returns)

@@ -17,18 +17,6 @@ returns c =
     let n = read-none (a .got) _ (toZ-ofZ _ (a .got) (s .fits .got)) (a .chunk .now) (c .if1 .taken) in
     (sym (n .0), (rw (n .1), rw (n .1)))
 
-count-requires : tie.Need-count-requires
-count-requires c κs = search needs
-
-slice-aggregate-feed : tie.Need-slice-aggregate-feed
-slice-aggregate-feed c = search needs
-
-feed-requires : tie.Need-feed-requires
-feed-requires c κs = search needs
-
-same-length : tie.Need-same-length
-same-length c = search needs
-
 returns-2 : tie.Need-returns-2
 returns-2 c =
     let f = c .before .before in
@@ -46,6 +34,10 @@ returns-2 c =
     )
 
 pub feed-got-spec : {M : Type 1} → statement M
-feed-got-spec =
-    tie.close
-    (tie.spec returns count-requires slice-aggregate-feed feed-requires same-length returns-2)
+feed-got-spec = tie.close (tie.spec
+    returns
+    (λ c κs. search needs)  -- count-requires
+    (λ c. search needs)  -- slice-aggregate-feed
+    (λ c κs. search needs)  -- feed-requires
+    (λ c. search needs)  -- same-length
+    returns-2)

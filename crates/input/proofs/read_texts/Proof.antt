@@ -17,15 +17,9 @@ Inv-loop buffer₀ last state₀ turns₀ buffer state turns =
 abbrev μ-loop : tie.MeasureT-loop
 μ-loop buffer₀ last state₀ turns₀ buffer state turns = turns
 
-begin-requires : tie.Need-begin-requires Inv-loop μ-loop
-begin-requires c κs = search needs
-
 loop-holds : tie.Need-loop-holds Inv-loop μ-loop
 unfolding fed
 loop-holds c = (refl, ([], ap (λ (s : State). held s (c .before .before .args .buffer .now)) (c .begin .ensures)))
-
-feed-some-requires : tie.Need-feed-some-requires Inv-loop μ-loop
-feed-some-requires c κs = search needs
 
 same-length : tie.Need-same-length Inv-loop μ-loop
 same-length c =
@@ -37,37 +31,23 @@ returns c =
     let f = c .before .before .before .before .before in
     after-more _ _ _ _ (f .before .before .before .loop .inv .1) (f .feed-some .ensures)
 
-sub-turns : tie.Need-sub-turns Inv-loop μ-loop
-sub-turns c = search needs
-
-loop-less : tie.Need-loop-less Inv-loop μ-loop
-loop-less c = search needs
-
 loop-again : tie.Need-loop-again Inv-loop μ-loop
 loop-again c =
     let f = c .before .before .before .before .before in
     let at = f .before .before .before in
     (f .feed-some .kept .1 .0 ∙ at .loop .inv .0, after-more _ _ _ _ (at .loop .inv .1) (f .feed-some .ensures))
 
-same-length-2 : tie.Need-same-length-2 Inv-loop μ-loop
-same-length-2 c = c .before .loop .inv .0
-
-returns-2 : tie.Need-returns-2 Inv-loop μ-loop
-returns-2 c = c .before .loop .inv .1
-
 pub read-texts-spec : {M : Type 1} → statement M
-read-texts-spec =
-    tie.close
-    (tie.spec
+read-texts-spec = tie.close (tie.spec
     Inv-loop
     μ-loop
-    begin-requires
+    (λ c κs. search needs)  -- begin-requires
     loop-holds
-    feed-some-requires
+    (λ c κs. search needs)  -- feed-some-requires
     same-length
     returns
-    sub-turns
-    loop-less
+    (λ c. search needs)  -- sub-turns
+    (λ c. search needs)  -- loop-less
     loop-again
-    same-length-2
-    returns-2)
+    (λ c. c .before .loop .inv .0)  -- same-length-2
+    (λ c. c .before .loop .inv .1))  -- returns-2

@@ -8,18 +8,6 @@ use Rattle.memory_text.proofs.Lines.{location-blank, location-words}
 use Rattle.memory_text.proofs.location.Statement.{statement}
 use Rattle.memory_text.proofs.location.Tie as tie
 
-line-end-requires : tie.Need-line-end-requires
-line-end-requires c κs = search needs
-
-enum-known-p : tie.Need-enum-known-p
-enum-known-p c = search needs
-
-enum-told : tie.Need-enum-told
-enum-told c = search needs
-
-line-words-requires : tie.Need-line-words-requires
-line-words-requires c κs = search needs
-
 returns : tie.Need-returns
 returns c =
     let k = c .before in
@@ -35,6 +23,10 @@ returns-2 c =
     c .line-words .ensures ∙ ap (rowIn (a .s .now)) (sym (location-words _ end))
 
 pub location-spec : {M : Type 1} → statement M
-location-spec =
-    tie.close
-    (tie.spec line-end-requires enum-known-p enum-told line-words-requires returns returns-2)
+location-spec = tie.close (tie.spec
+    (λ c κs. search needs)  -- line-end-requires
+    (λ c. search needs)  -- enum-known-p
+    (λ c. search needs)  -- enum-told
+    (λ c κs. search needs)  -- line-words-requires
+    returns
+    returns-2)

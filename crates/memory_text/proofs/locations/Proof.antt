@@ -20,12 +20,6 @@ Inv-loop s words₀ n₀ at₀ words n at =
 abbrev μ-loop : tie.MeasureT-loop
 μ-loop s words₀ n₀ at₀ words n at = maxLocations - n
 
-loop-holds : tie.Need-loop-holds Inv-loop μ-loop
-loop-holds c = (omega arith, refl, tabled-start _)
-
-no-memory-requires : tie.Need-no-memory-requires Inv-loop μ-loop
-no-memory-requires c κs = search needs
-
 returns : tie.Need-returns Inv-loop μ-loop
 returns c =
     let at = c .before .before .before in
@@ -33,24 +27,6 @@ returns c =
     c .no-memory .ensures
     ∙ sym (rest-full (at .loop .n) (at .loop .words) s (at .loop .at) (c .before .before .loop-test .taken) (c .before .if1 .taken))
     ∙ at .loop .inv .2
-
-location-requires : tie.Need-location-requires Inv-loop μ-loop
-location-requires c κs = search needs
-
-slice-aggregate-store : tie.Need-slice-aggregate-store Inv-loop μ-loop
-slice-aggregate-store c = search needs
-
-mul-store : tie.Need-mul-store Inv-loop μ-loop
-mul-store c = omega arith
-
-store-requires : tie.Need-store-requires Inv-loop μ-loop
-store-requires c κs = omega arith
-
-add-n : tie.Need-add-n Inv-loop μ-loop
-add-n c = omega arith
-
-loop-less : tie.Need-loop-less Inv-loop μ-loop
-loop-less c = omega arith
 
 loop-again : tie.Need-loop-again Inv-loop μ-loop
 loop-again c =
@@ -66,9 +42,6 @@ loop-again c =
           (r .location .result .next) read)
           ∙ at .loop .inv .2),
     )
-
-no-memory-requires-2 : tie.Need-no-memory-requires-2 Inv-loop μ-loop
-no-memory-requires-2 c κs = search needs
 
 returns-2 : tie.Need-returns-2 Inv-loop μ-loop
 returns-2 c =
@@ -86,21 +59,19 @@ returns-3 c =
     sym (rest-done (at .loop .n) (at .loop .words) (at .before .before .args .s .now) (at .loop .at) (c .loop-test .left)) ∙ at .loop .inv .2
 
 pub locations-spec : {M : Type 1} → statement M
-locations-spec =
-    tie.close
-    (tie.spec
+locations-spec = tie.close (tie.spec
     Inv-loop
     μ-loop
-    loop-holds
-    no-memory-requires
+    (λ c. (omega arith, refl, tabled-start _))  -- loop-holds
+    (λ c κs. search needs)  -- no-memory-requires
     returns
-    location-requires
-    slice-aggregate-store
-    mul-store
-    store-requires
-    add-n
-    loop-less
+    (λ c κs. search needs)  -- location-requires
+    (λ c. search needs)  -- slice-aggregate-store
+    (λ c. omega arith)  -- mul-store
+    (λ c κs. omega arith)  -- store-requires
+    (λ c. omega arith)  -- add-n
+    (λ c. omega arith)  -- loop-less
     loop-again
-    no-memory-requires-2
+    (λ c κs. search needs)  -- no-memory-requires-2
     returns-2
     returns-3)

@@ -4,8 +4,6 @@ use mathlib.Core.Path.{refl}
 use Rattle.memory_text.proofs.no_row.Statement.{statement}
 use Rattle.memory_text.proofs.no_row.Tie as tie
 
-returns : tie.Need-returns
-returns c s = placed-bad _ _ s _ refl
-
 pub no-row-spec : {M : Type 1} → statement M
-no-row-spec = tie.close (tie.spec returns)
+no-row-spec = tie.close (tie.spec
+    (λ c s. placed-bad _ _ s _ refl))  -- returns

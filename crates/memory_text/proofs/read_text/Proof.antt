@@ -5,15 +5,6 @@ use Rattle.memory_text.proofs.Tables.{memory-fits, memory-long}
 use Rattle.memory_text.proofs.read_text.Statement.{statement}
 use Rattle.memory_text.proofs.read_text.Tie as tie
 
-fits-requires : tie.Need-fits-requires
-fits-requires c κs = search needs
-
-locations-requires : tie.Need-locations-requires
-locations-requires c κs = search needs
-
-no-memory-requires : tie.Need-no-memory-requires
-no-memory-requires c κs = search needs
-
 returns : tie.Need-returns
 returns c = c .locations .ensures ∙ sym (memory-fits _ (sym (c .before .before .fits2 .ensures) ∙ c .before .if1 .taken))
 
@@ -21,5 +12,9 @@ returns-2 : tie.Need-returns-2
 returns-2 c = c .no-memory .ensures ∙ sym (memory-long _ (sym (c .before .before .fits2 .ensures) ∙ c .before .if1 .left))
 
 pub read-text-spec : {M : Type 1} → statement M
-read-text-spec =
-    tie.close (tie.spec fits-requires locations-requires no-memory-requires returns returns-2)
+read-text-spec = tie.close (tie.spec
+    (λ c κs. search needs)  -- fits-requires
+    (λ c κs. search needs)  -- locations-requires
+    (λ c κs. search needs)  -- no-memory-requires
+    returns
+    returns-2)

@@ -20,27 +20,6 @@ abbrev μ-loop : tie.MeasureT-loop
 loop-holds : tie.Need-loop-holds Inv-loop μ-loop
 loop-holds c = (omega arith, refl, let a = c .args in let z : a .at + 0 ≡ a .at = omega arith in rw z)
 
-mul-words : tie.Need-mul-words Inv-loop μ-loop
-mul-words c = omega arith
-
-array-read-words : tie.Need-array-read-words Inv-loop μ-loop
-array-read-words c = omega arith
-
-add-words : tie.Need-add-words Inv-loop μ-loop
-add-words c = omega arith
-
-mul-words-2 : tie.Need-mul-words-2 Inv-loop μ-loop
-mul-words-2 c = omega arith
-
-slice-write-words : tie.Need-slice-write-words Inv-loop μ-loop
-slice-write-words c = omega arith
-
-add-i : tie.Need-add-i Inv-loop μ-loop
-add-i c = omega arith
-
-loop-less : tie.Need-loop-less Inv-loop μ-loop
-loop-less c = omega arith
-
 loop-again : tie.Need-loop-again Inv-loop μ-loop
 loop-again c =
     let at = c .before in
@@ -50,9 +29,6 @@ loop-again c =
       sym (store-more (at .loop .words) (a .at) (at .loop .i) (a .t3) (omega (arith, at .before .good .1 .1 .0 .1 .0 .1))) ∙ at .loop .inv .2,
     )
 
-same-length : tie.Need-same-length Inv-loop μ-loop
-same-length c = c .before .loop .inv .1
-
 returns : tie.Need-returns Inv-loop μ-loop
 returns c =
     let at = c .before in
@@ -61,19 +37,17 @@ returns c =
     ap (sets (at .loop .words) (a .at + at .loop .i)) (sym done) ∙ at .loop .inv .2
 
 pub store-spec : {M : Type 1} → statement M
-store-spec =
-    tie.close
-    (tie.spec
+store-spec = tie.close (tie.spec
     Inv-loop
     μ-loop
     loop-holds
-    mul-words
-    array-read-words
-    add-words
-    mul-words-2
-    slice-write-words
-    add-i
-    loop-less
+    (λ c. omega arith)  -- mul-words
+    (λ c. omega arith)  -- array-read-words
+    (λ c. omega arith)  -- add-words
+    (λ c. omega arith)  -- mul-words-2
+    (λ c. omega arith)  -- slice-write-words
+    (λ c. omega arith)  -- add-i
+    (λ c. omega arith)  -- loop-less
     loop-again
-    same-length
+    (λ c. c .before .loop .inv .1)  -- same-length
     returns)

@@ -16,21 +16,6 @@ Inv-loop chunk buffer₀ last s₀ i₀ buffer s i =
 abbrev μ-loop : tie.MeasureT-loop
 μ-loop chunk buffer₀ last s₀ i₀ buffer s i = length chunk - i
 
-loop-holds : tie.Need-loop-holds Inv-loop μ-loop
-loop-holds c = (omega arith, refl, refl)
-
-shared-slice-read-step : tie.Need-shared-slice-read-step Inv-loop μ-loop
-shared-slice-read-step c = omega arith
-
-step-requires : tie.Need-step-requires Inv-loop μ-loop
-step-requires c κs = search needs
-
-add-i : tie.Need-add-i Inv-loop μ-loop
-add-i c = omega arith
-
-loop-less : tie.Need-loop-less Inv-loop μ-loop
-loop-less c = omega arith
-
 loop-again : tie.Need-loop-again Inv-loop μ-loop
 loop-again c =
     let st = c .before .before in
@@ -43,9 +28,6 @@ loop-again c =
           (sym (fed-more (a .last) (held (at .loop .s) (at .loop .buffer)) (a .chunk .now) (at .loop .i) (turn .loop-test .taken)) ∙ at .loop .inv .2),
     )
 
-same-length : tie.Need-same-length Inv-loop μ-loop
-same-length c = c .before .loop .inv .1
-
 returns : tie.Need-returns Inv-loop μ-loop
 returns c =
     let at = c .before in
@@ -54,16 +36,14 @@ returns c =
     (ap (λ (h : Held). h .state) e, ap (λ (h : Held). h .buffer) e)
 
 pub feed-spec : {M : Type 1} → statement M
-feed-spec =
-    tie.close
-    (tie.spec
+feed-spec = tie.close (tie.spec
     Inv-loop
     μ-loop
-    loop-holds
-    shared-slice-read-step
-    step-requires
-    add-i
-    loop-less
+    (λ c. (omega arith, refl, refl))  -- loop-holds
+    (λ c. omega arith)  -- shared-slice-read-step
+    (λ c κs. search needs)  -- step-requires
+    (λ c. omega arith)  -- add-i
+    (λ c. omega arith)  -- loop-less
     loop-again
-    same-length
+    (λ c. c .before .loop .inv .1)  -- same-length
     returns)

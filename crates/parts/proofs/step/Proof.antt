@@ -7,9 +7,6 @@ use Rattle.parts.proofs.Steps.{parting-below, stepped-on, stepped-in}
 use Rattle.parts.proofs.step.Statement.{statement}
 use Rattle.parts.proofs.step.Tie as tie
 
-parts-here-requires : tie.Need-parts-here-requires
-parts-here-requires c κs = search needs
-
 add-t7 : tie.Need-add-t7
 add-t7 c =
     let p = c .before .before .before in
@@ -24,12 +21,6 @@ returns c =
     let e = stepped-on (a .last) (held (a .state) (a .buffer .now)) (a .b) (sym (p .parts-here .ensures) ∙ c .before .before .if1 .taken) in
     (sym (ap (λ (h : Held). h .state) e), sym (ap (λ (h : Held). h .buffer) e))
 
-store-requires : tie.Need-store-requires
-store-requires c κs = search needs
-
-same-length : tie.Need-same-length
-same-length c = search needs
-
 returns-2 : tie.Need-returns-2
 returns-2 c =
     let st = c .before .before in
@@ -39,4 +30,10 @@ returns-2 c =
     (st .store .ensures .0 ∙ sym (ap (λ (h : Held). h .state) e), st .store .ensures .1 ∙ sym (ap (λ (h : Held). h .buffer) e))
 
 pub step-spec : {M : Type 1} → statement M
-step-spec = tie.close (tie.spec parts-here-requires add-t7 returns store-requires same-length returns-2)
+step-spec = tie.close (tie.spec
+    (λ c κs. search needs)  -- parts-here-requires
+    add-t7
+    returns
+    (λ c κs. search needs)  -- store-requires
+    (λ c. search needs)  -- same-length
+    returns-2)

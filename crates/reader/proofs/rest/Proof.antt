@@ -8,23 +8,11 @@ use borrow.Author.Needs.{needs}
 use Rattle.reader.proofs.rest.Statement.{statement}
 use Rattle.reader.proofs.rest.Tie as tie
 
-sub-result : tie.Need-sub-result
-sub-result c = search needs
-
-part-result-start : tie.Need-part-result-start
-part-result-start c = search needs
-
-part-result-end : tie.Need-part-result-end
-part-result-end c = search needs
-
 returns : tie.Need-returns
 returns c =
     let a = c .before .before .args in
     let left = length-drop (a .at) (a .text .now) in
     take-all (length (a .text .now) - a .at) (drop (a .at) (a .text .now)) (omega arith)
-
-slice-aggregate-result : tie.Need-slice-aggregate-result
-slice-aggregate-result c = search needs
 
 returns-2 : tie.Need-returns-2
 returns-2 c =
@@ -32,4 +20,10 @@ returns-2 c =
     sym (drop-of-length-le (a .text .now) {i = a .at} (omega arith))
 
 pub rest-spec : {M : Type 1} → statement M
-rest-spec = tie.close (tie.spec sub-result part-result-start part-result-end returns slice-aggregate-result returns-2)
+rest-spec = tie.close (tie.spec
+    (λ c. search needs)  -- sub-result
+    (λ c. search needs)  -- part-result-start
+    (λ c. search needs)  -- part-result-end
+    returns
+    (λ c. search needs)  -- slice-aggregate-result
+    returns-2)

@@ -4,21 +4,6 @@ use Rattle.desk.proofs.Parts.{put-ran}
 use Rattle.run.proofs.run_stdin.Statement.{statement}
 use Rattle.run.proofs.run_stdin.Tie as tie
 
-slice-aggregate-read-texts : tie.Need-slice-aggregate-read-texts
-slice-aggregate-read-texts c = search needs
-
-read-texts-requires : tie.Need-read-texts-requires
-read-texts-requires c κs = search needs
-
-slice-aggregate-run-input : tie.Need-slice-aggregate-run-input
-slice-aggregate-run-input c = search needs
-
-run-input-requires : tie.Need-run-input-requires
-run-input-requires c κs = search needs
-
-same-length : tie.Need-same-length
-same-length c = search needs
-
 returns : tie.Need-returns
 returns c =
     let o = c .before .before in
@@ -28,12 +13,10 @@ returns c =
     put-ran (i .0) _ _ (i .1) (a .out .now) _ _ (o .run-input .ensures)
 
 pub run-stdin-spec : {M : Type 1} → statement M
-run-stdin-spec =
-    tie.close
-    (tie.spec
-    slice-aggregate-read-texts
-    read-texts-requires
-    slice-aggregate-run-input
-    run-input-requires
-    same-length
+run-stdin-spec = tie.close (tie.spec
+    (λ c. search needs)  -- slice-aggregate-read-texts
+    (λ c κs. search needs)  -- read-texts-requires
+    (λ c. search needs)  -- slice-aggregate-run-input
+    (λ c κs. search needs)  -- run-input-requires
+    (λ c. search needs)  -- same-length
     returns)

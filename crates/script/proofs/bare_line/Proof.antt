@@ -4,15 +4,6 @@ use Rattle.script.proofs.FoundLaws.{bare-got, bare-none}
 use Rattle.script.proofs.bare_line.Statement.{statement}
 use Rattle.script.proofs.bare_line.Tie as tie
 
-line-end-requires : tie.Need-line-end-requires
-line-end-requires c κs = search needs
-
-enum-known-p : tie.Need-enum-known-p
-enum-known-p c = search needs
-
-enum-told : tie.Need-enum-told
-enum-told c = search needs
-
 returns : tie.Need-returns
 returns c =
     let end = c .before .before .before in
@@ -24,4 +15,9 @@ returns-2 c =
     λ l q. bare-none _ (end .before .before .args .at) 0 l _ (end .line-end .ensures) (c .enum-told .given .1)
 
 pub bare-line-spec : {M : Type 1} → statement M
-bare-line-spec = tie.close (tie.spec line-end-requires enum-known-p enum-told returns returns-2)
+bare-line-spec = tie.close (tie.spec
+    (λ c κs. search needs)  -- line-end-requires
+    (λ c. search needs)  -- enum-known-p
+    (λ c. search needs)  -- enum-told
+    returns
+    returns-2)

@@ -8,14 +8,11 @@ use borrow.Author.Needs.{needs}
 use Rattle.script.proofs.decode_from.Statement.{statement}
 use Rattle.script.proofs.decode_from.Tie as tie
 
-rest-requires : tie.Need-rest-requires
-rest-requires c κs = search needs
-
-decode-text-requires : tie.Need-decode-text-requires
-decode-text-requires c κs = search needs
-
 returns : tie.Need-returns
 returns c = c .decode-text .ensures ∙ ap (λ (t : List ℕ). codedLines (linesOf t)) (c .before .rest .ensures)
 
 pub decode-from-spec : {M : Type 1} → statement M
-decode-from-spec = tie.close (tie.spec rest-requires decode-text-requires returns)
+decode-from-spec = tie.close (tie.spec
+    (λ c κs. search needs)  -- rest-requires
+    (λ c κs. search needs)  -- decode-text-requires
+    returns)

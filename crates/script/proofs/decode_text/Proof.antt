@@ -21,19 +21,10 @@ Inv-loop s out₀ n₀ at₀ out n at =
 abbrev μ-loop : tie.MeasureT-loop
 μ-loop s out₀ n₀ at₀ out n at = maxLines - n
 
-fits-requires : tie.Need-fits-requires Inv-loop μ-loop
-fits-requires c κs = search needs
-
-refused-requires : tie.Need-refused-requires Inv-loop μ-loop
-refused-requires c κs = search needs
-
 returns : tie.Need-returns Inv-loop μ-loop
 returns c =
     let test = c .before in
     c .refused .ensures ∙ sym (decode-long _ (sym (test .before .fits2 .ensures) ∙ not-true _ (test .if1 .taken)))
-
-refused-requires-2 : tie.Need-refused-requires-2 Inv-loop μ-loop
-refused-requires-2 c κs = search needs
 
 loop-holds : tie.Need-loop-holds Inv-loop μ-loop
 unfolding noCode
@@ -41,58 +32,10 @@ loop-holds c =
     rw (c .refused2 .ensures)
     (omega arith, omega arith, refl, decode-start _ (sym (c .before .before .fits2 .ensures) ∙ not-false _ (c .before .if1 .left)))
 
-refused-requires-3 : tie.Need-refused-requires-3 Inv-loop μ-loop
-refused-requires-3 c κs = search needs
-
 returns-2 : tie.Need-returns-2 Inv-loop μ-loop
 returns-2 c =
     let full = c .before in
     c .refused3 .ensures ∙ sym (table-full _ _ _ _ (full .before .loop-test .taken) (full .if2 .taken)) ∙ full .before .before .loop .inv .3
-
-line-at-requires : tie.Need-line-at-requires Inv-loop μ-loop
-line-at-requires c κs = search needs
-
-enum-known-kind : tie.Need-enum-known-kind Inv-loop μ-loop
-enum-known-kind c = search needs
-
-mul-out : tie.Need-mul-out Inv-loop μ-loop
-mul-out c = omega arith
-
-mul-out-2 : tie.Need-mul-out-2 Inv-loop μ-loop
-mul-out-2 c = omega arith
-
-element-write-out : tie.Need-element-write-out Inv-loop μ-loop
-element-write-out c = omega arith
-
-mul-out-3 : tie.Need-mul-out-3 Inv-loop μ-loop
-mul-out-3 c = omega arith
-
-add-out : tie.Need-add-out Inv-loop μ-loop
-add-out c = omega arith
-
-mul-out-4 : tie.Need-mul-out-4 Inv-loop μ-loop
-mul-out-4 c = omega arith
-
-element-write-out-2 : tie.Need-element-write-out-2 Inv-loop μ-loop
-element-write-out-2 c = omega arith
-
-mul-out-5 : tie.Need-mul-out-5 Inv-loop μ-loop
-mul-out-5 c = omega arith
-
-add-out-2 : tie.Need-add-out-2 Inv-loop μ-loop
-add-out-2 c = omega arith
-
-mul-out-6 : tie.Need-mul-out-6 Inv-loop μ-loop
-mul-out-6 c = omega arith
-
-element-write-out-3 : tie.Need-element-write-out-3 Inv-loop μ-loop
-element-write-out-3 c = omega arith
-
-add-n : tie.Need-add-n Inv-loop μ-loop
-add-n c = omega arith
-
-loop-less : tie.Need-loop-less Inv-loop μ-loop
-loop-less c = omega arith
 
 loop-again : tie.Need-loop-again Inv-loop μ-loop
 loop-again c =
@@ -101,12 +44,6 @@ loop-again c =
     let inv = in-loop .before .loop .inv in
     let more = table-more _ _ _ _ (in-loop .loop-test .taken) (row .before .if2 .left) _ (row .line-at .ensures) _ _ _ _ (c .before .kind .given .1) in
     (more .0, omega arith, simp length-set (inv .2), sym (more .1) ∙ inv .3)
-
-enum-told : tie.Need-enum-told Inv-loop μ-loop
-enum-told c = search needs
-
-refused-requires-4 : tie.Need-refused-requires-4 Inv-loop μ-loop
-refused-requires-4 c κs = search needs
 
 returns-3 : tie.Need-returns-3 Inv-loop μ-loop
 returns-3 c =
@@ -119,8 +56,33 @@ returns-4 : tie.Need-returns-4 Inv-loop μ-loop
 returns-4 c = sym (table-done _ _ _ _ (c .loop-test .left)) ∙ c .before .loop .inv .3
 
 pub decode-text-spec : {M : Type 1} → statement M
-decode-text-spec =
-    tie.close
-    (tie.spec Inv-loop μ-loop fits-requires refused-requires returns refused-requires-2 loop-holds refused-requires-3 returns-2 line-at-requires enum-known-kind mul-out mul-out-2
-    element-write-out mul-out-3 add-out mul-out-4 element-write-out-2 mul-out-5 add-out-2 mul-out-6 element-write-out-3 add-n loop-less loop-again enum-told refused-requires-4
-    returns-3 returns-4)
+decode-text-spec = tie.close (tie.spec
+    Inv-loop
+    μ-loop
+    (λ c κs. search needs)  -- fits-requires
+    (λ c κs. search needs)  -- refused-requires
+    returns
+    (λ c κs. search needs)  -- refused-requires-2
+    loop-holds
+    (λ c κs. search needs)  -- refused-requires-3
+    returns-2
+    (λ c κs. search needs)  -- line-at-requires
+    (λ c. search needs)  -- enum-known-kind
+    (λ c. omega arith)  -- mul-out
+    (λ c. omega arith)  -- mul-out-2
+    (λ c. omega arith)  -- element-write-out
+    (λ c. omega arith)  -- mul-out-3
+    (λ c. omega arith)  -- add-out
+    (λ c. omega arith)  -- mul-out-4
+    (λ c. omega arith)  -- element-write-out-2
+    (λ c. omega arith)  -- mul-out-5
+    (λ c. omega arith)  -- add-out-2
+    (λ c. omega arith)  -- mul-out-6
+    (λ c. omega arith)  -- element-write-out-3
+    (λ c. omega arith)  -- add-n
+    (λ c. omega arith)  -- loop-less
+    loop-again
+    (λ c. search needs)  -- enum-told
+    (λ c κs. search needs)  -- refused-requires-4
+    returns-3
+    returns-4)

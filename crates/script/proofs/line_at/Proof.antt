@@ -9,90 +9,6 @@ use Rattle.script.proofs.FoundLaws.{line-none, line-kind, line-other, o
 use Rattle.script.proofs.line_at.Statement.{statement}
 use Rattle.script.proofs.line_at.Tie as tie
 
-returns : tie.Need-returns
-returns c = line-none _ (c .before .before .args .at) (c .if1 .taken)
-
-shared-slice-read-first : tie.Need-shared-slice-read-first
-shared-slice-read-first c = search needs
-
-add-bare-line : tie.Need-add-bare-line
-add-bare-line c = search needs
-
-bare-line-requires : tie.Need-bare-line-requires
-bare-line-requires c κs = search needs
-
-add-bare-line-2 : tie.Need-add-bare-line-2
-add-bare-line-2 c = search needs
-
-bare-line-requires-2 : tie.Need-bare-line-requires-2
-bare-line-requires-2 c κs = search needs
-
-add-one-operand : tie.Need-add-one-operand
-add-one-operand c = search needs
-
-one-operand-requires : tie.Need-one-operand-requires
-one-operand-requires c κs = search needs
-
-add-bare-line-3 : tie.Need-add-bare-line-3
-add-bare-line-3 c = search needs
-
-bare-line-requires-3 : tie.Need-bare-line-requires-3
-bare-line-requires-3 c κs = search needs
-
-add-bare-line-4 : tie.Need-add-bare-line-4
-add-bare-line-4 c = search needs
-
-bare-line-requires-4 : tie.Need-bare-line-requires-4
-bare-line-requires-4 c κs = search needs
-
-add-one-operand-2 : tie.Need-add-one-operand-2
-add-one-operand-2 c = search needs
-
-one-operand-requires-2 : tie.Need-one-operand-requires-2
-one-operand-requires-2 c κs = search needs
-
-add-one-operand-3 : tie.Need-add-one-operand-3
-add-one-operand-3 c = search needs
-
-one-operand-requires-3 : tie.Need-one-operand-requires-3
-one-operand-requires-3 c κs = search needs
-
-add-one-operand-4 : tie.Need-add-one-operand-4
-add-one-operand-4 c = search needs
-
-one-operand-requires-4 : tie.Need-one-operand-requires-4
-one-operand-requires-4 c κs = search needs
-
-add-bare-line-5 : tie.Need-add-bare-line-5
-add-bare-line-5 c = search needs
-
-bare-line-requires-5 : tie.Need-bare-line-requires-5
-bare-line-requires-5 c κs = search needs
-
-add-one-operand-5 : tie.Need-add-one-operand-5
-add-one-operand-5 c = search needs
-
-one-operand-requires-5 : tie.Need-one-operand-requires-5
-one-operand-requires-5 c κs = search needs
-
-add-one-operand-6 : tie.Need-add-one-operand-6
-add-one-operand-6 c = search needs
-
-one-operand-requires-6 : tie.Need-one-operand-requires-6
-one-operand-requires-6 c κs = search needs
-
-add-one-operand-7 : tie.Need-add-one-operand-7
-add-one-operand-7 c = search needs
-
-one-operand-requires-7 : tie.Need-one-operand-requires-7
-one-operand-requires-7 c κs = search needs
-
-add-two-operands : tie.Need-add-two-operands
-add-two-operands c = search needs
-
-two-operands-requires : tie.Need-two-operands-requires
-two-operands-requires c κs = search needs
-
 returns-2 : tie.Need-returns-2
 unfolding formOf rowOf lineWords
 returns-2 c =
@@ -190,10 +106,46 @@ returns-15 c =
     (r .0 .0 .0 .0 .0 .0 .0 .0 .1) (r .0 .0 .0 .0 .0 .0 .0 .1) (r .0 .0 .0 .0 .0 .0 .1) (r .0 .0 .0 .0 .0 .1) (r .0 .0 .0 .0 .1) (r .0 .0 .0 .1) (r .0 .0 .1) (r .0 .1) (r .1))
 
 pub line-at-spec : {M : Type 1} → statement M
-line-at-spec =
-    tie.close
-    (tie.spec returns shared-slice-read-first add-bare-line bare-line-requires add-bare-line-2 bare-line-requires-2 add-one-operand one-operand-requires add-bare-line-3
-    bare-line-requires-3 add-bare-line-4 bare-line-requires-4 add-one-operand-2 one-operand-requires-2 add-one-operand-3 one-operand-requires-3 add-one-operand-4
-    one-operand-requires-4 add-bare-line-5 bare-line-requires-5 add-one-operand-5 one-operand-requires-5 add-one-operand-6 one-operand-requires-6 add-one-operand-7
-    one-operand-requires-7 add-two-operands two-operands-requires returns-2 returns-3 returns-4 returns-5 returns-6 returns-7 returns-8 returns-9 returns-10 returns-11
-    returns-12 returns-13 returns-14 returns-15)
+line-at-spec = tie.close (tie.spec
+    (λ c. line-none _ (c .before .before .args .at) (c .if1 .taken))  -- returns
+    (λ c. search needs)  -- shared-slice-read-first
+    (λ c. search needs)  -- add-bare-line
+    (λ c κs. search needs)  -- bare-line-requires
+    (λ c. search needs)  -- add-bare-line-2
+    (λ c κs. search needs)  -- bare-line-requires-2
+    (λ c. search needs)  -- add-one-operand
+    (λ c κs. search needs)  -- one-operand-requires
+    (λ c. search needs)  -- add-bare-line-3
+    (λ c κs. search needs)  -- bare-line-requires-3
+    (λ c. search needs)  -- add-bare-line-4
+    (λ c κs. search needs)  -- bare-line-requires-4
+    (λ c. search needs)  -- add-one-operand-2
+    (λ c κs. search needs)  -- one-operand-requires-2
+    (λ c. search needs)  -- add-one-operand-3
+    (λ c κs. search needs)  -- one-operand-requires-3
+    (λ c. search needs)  -- add-one-operand-4
+    (λ c κs. search needs)  -- one-operand-requires-4
+    (λ c. search needs)  -- add-bare-line-5
+    (λ c κs. search needs)  -- bare-line-requires-5
+    (λ c. search needs)  -- add-one-operand-5
+    (λ c κs. search needs)  -- one-operand-requires-5
+    (λ c. search needs)  -- add-one-operand-6
+    (λ c κs. search needs)  -- one-operand-requires-6
+    (λ c. search needs)  -- add-one-operand-7
+    (λ c κs. search needs)  -- one-operand-requires-7
+    (λ c. search needs)  -- add-two-operands
+    (λ c κs. search needs)  -- two-operands-requires
+    returns-2
+    returns-3
+    returns-4
+    returns-5
+    returns-6
+    returns-7
+    returns-8
+    returns-9
+    returns-10
+    returns-11
+    returns-12
+    returns-13
+    returns-14
+    returns-15)

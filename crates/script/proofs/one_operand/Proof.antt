@@ -4,15 +4,6 @@ use Rattle.script.proofs.FoundLaws.{one-got, one-none}
 use Rattle.script.proofs.one_operand.Statement.{statement}
 use Rattle.script.proofs.one_operand.Tie as tie
 
-last-number-requires : tie.Need-last-number-requires
-last-number-requires c κs = search needs
-
-enum-known-a : tie.Need-enum-known-a
-enum-known-a c = search needs
-
-enum-told : tie.Need-enum-told
-enum-told c = search needs
-
 returns : tie.Need-returns
 returns c =
     let end = c .before .before .before in
@@ -24,4 +15,9 @@ returns-2 c =
     λ f q. one-none _ (end .before .before .args .at) 0 f _ (end .last-number .ensures) (c .enum-told .given .1)
 
 pub one-operand-spec : {M : Type 1} → statement M
-one-operand-spec = tie.close (tie.spec last-number-requires enum-known-a enum-told returns returns-2)
+one-operand-spec = tie.close (tie.spec
+    (λ c κs. search needs)  -- last-number-requires
+    (λ c. search needs)  -- enum-known-a
+    (λ c. search needs)  -- enum-told
+    returns
+    returns-2)

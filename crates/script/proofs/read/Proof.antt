@@ -6,18 +6,6 @@ use Rattle.script.proofs.ReadLaws.{read-yes, read-no}
 use Rattle.script.proofs.read.Statement.{statement}
 use Rattle.script.proofs.read.Tie as tie
 
-decode-requires : tie.Need-decode-requires
-decode-requires c κs = search needs
-
-rows-requires : tie.Need-rows-requires
-rows-requires c κs = search needs
-
-whole-requires : tie.Need-whole-requires
-whole-requires c κs = search needs
-
-refused-requires : tie.Need-refused-requires
-refused-requires c κs = search needs
-
 returns : tie.Need-returns
 returns c =
     let test = c .before .before in
@@ -32,4 +20,10 @@ returns-2 c =
     read-yes _ _ _ (rows .before .before .before .before .decode .ensures) _ (rows .rows .ensures) _ (test .whole .ensures) (not-false _ (c .if1 .left))
 
 pub read-spec : {M : Type 1} → statement M
-read-spec = tie.close (tie.spec decode-requires rows-requires whole-requires refused-requires returns returns-2)
+read-spec = tie.close (tie.spec
+    (λ c κs. search needs)  -- decode-requires
+    (λ c κs. search needs)  -- rows-requires
+    (λ c κs. search needs)  -- whole-requires
+    (λ c κs. search needs)  -- refused-requires
+    returns
+    returns-2)

@@ -11,14 +11,9 @@ use Rattle.script.proofs.rows.Tie as tie
 returns : tie.Need-returns
 returns c = sym (take-all (c .before .args .count * 3) (c .before .args .code .now) (omega (arith, c .if1 .taken)))
 
-mul-end : tie.Need-mul-end
-mul-end c = search needs
-
-slice-aggregate-result : tie.Need-slice-aggregate-result
-slice-aggregate-result c = simp length-take (omega (arith, c .before .if1 .left))
-
-returns-2 : tie.Need-returns-2
-returns-2 c = search needs
-
 pub rows-spec : {M : Type 1} → statement M
-rows-spec = tie.close (tie.spec returns mul-end slice-aggregate-result returns-2)
+rows-spec = tie.close (tie.spec
+    returns
+    (λ c. search needs)  -- mul-end
+    (λ c. simp length-take (omega (arith, c .before .if1 .left)))  -- slice-aggregate-result
+    (λ c. search needs))  -- returns-2

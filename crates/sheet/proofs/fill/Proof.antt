@@ -7,9 +7,6 @@ use borrow.Author.Needs.{needs}
 use Rattle.sheet.proofs.fill.Statement.{statement}
 use Rattle.sheet.proofs.fill.Tie as tie
 
-draft-of-requires : tie.Need-draft-of-requires
-draft-of-requires c κs = search needs
-
 returns : tie.Need-returns
 unfolding sheetOf refusedBy
 returns c = answer-malformed _ _ _ (c .before .before .before .draft-of .ensures) (not-true _ (c .before .if1 .taken))
@@ -30,4 +27,9 @@ returns-3 c =
     (sym (c .before .repeats .ensures) ∙ c .if2 .left)
 
 pub fill-spec : {M : Type 1} → statement M
-fill-spec = tie.close (tie.spec draft-of-requires returns repeats-requires returns-2 returns-3)
+fill-spec = tie.close (tie.spec
+    (λ c κs. search needs)  -- draft-of-requires
+    returns
+    repeats-requires
+    returns-2
+    returns-3)

@@ -4,21 +4,6 @@ use Rattle.desk.proofs.Parts.{put-shown}
 use Rattle.show.proofs.show_stdin.Statement.{statement}
 use Rattle.show.proofs.show_stdin.Tie as tie
 
-slice-aggregate-read-texts : tie.Need-slice-aggregate-read-texts
-slice-aggregate-read-texts c = search needs
-
-read-texts-requires : tie.Need-read-texts-requires
-read-texts-requires c κs = search needs
-
-slice-aggregate-show-input : tie.Need-slice-aggregate-show-input
-slice-aggregate-show-input c = search needs
-
-show-input-requires : tie.Need-show-input-requires
-show-input-requires c κs = search needs
-
-same-length : tie.Need-same-length
-same-length c = search needs
-
 returns : tie.Need-returns
 returns c =
     let o = c .before .before in
@@ -28,12 +13,10 @@ returns c =
     put-shown (i .0) _ _ (i .1) (a .out .now) _ _ (o .show-input .ensures)
 
 pub show-stdin-spec : {M : Type 1} → statement M
-show-stdin-spec =
-    tie.close
-    (tie.spec
-    slice-aggregate-read-texts
-    read-texts-requires
-    slice-aggregate-show-input
-    show-input-requires
-    same-length
+show-stdin-spec = tie.close (tie.spec
+    (λ c. search needs)  -- slice-aggregate-read-texts
+    (λ c κs. search needs)  -- read-texts-requires
+    (λ c. search needs)  -- slice-aggregate-show-input
+    (λ c κs. search needs)  -- show-input-requires
+    (λ c. search needs)  -- same-length
     returns)

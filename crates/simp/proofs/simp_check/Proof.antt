@@ -5,20 +5,17 @@ use borrow.Author.Needs.{needs}
 use Rattle.simp.proofs.simp_check.Statement.{statement}
 use Rattle.simp.proofs.simp_check.Tie as tie
 
-read-requires : tie.Need-read-requires
-read-requires c κs = search needs
-
 returns : tie.Need-returns
 unfolding checkOf
 returns c = sheet-refused (λ k. k) _ _ _ (c .before .read .ensures) (c .if1 .taken)
-
-check-on-requires : tie.Need-check-on-requires
-check-on-requires c κs = search needs
 
 returns-2 : tie.Need-returns-2
 unfolding checkOf
 returns-2 c = sheet-read (λ k. k) _ _ _ _ (c .before .before .before .before .before .read .ensures) (c .before .before .before .before .if1 .left) (c .check-on .ensures .checked)
 
 pub simp-check-spec : {M : Type 1} → statement M
-simp-check-spec =
-    tie.close (tie.spec read-requires returns check-on-requires returns-2)
+simp-check-spec = tie.close (tie.spec
+    (λ c κs. search needs)  -- read-requires
+    returns
+    (λ c κs. search needs)  -- check-on-requires
+    returns-2)

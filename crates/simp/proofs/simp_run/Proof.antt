@@ -5,21 +5,9 @@ use borrow.Author.Needs.{needs}
 use Rattle.simp.proofs.simp_run.Statement.{statement}
 use Rattle.simp.proofs.simp_run.Tie as tie
 
-read-requires : tie.Need-read-requires
-read-requires c κs = search needs
-
-refused-requires : tie.Need-refused-requires
-refused-requires c κs = search needs
-
 returns : tie.Need-returns
 unfolding runOf
 returns c = rw (c .refused .ensures) (sheet-refused _ _ _ _ (c .before .before .read .ensures) (c .before .if1 .taken))
-
-run-on-requires : tie.Need-run-on-requires
-run-on-requires c κs = search needs
-
-same-length : tie.Need-same-length
-same-length c = search needs
 
 returns-2 : tie.Need-returns-2
 unfolding runOf
@@ -28,12 +16,10 @@ returns-2 c =
     sheet-read _ _ _ _ _ (k .before .read .ensures) (k .if1 .left) (c .before .before .run-on .ensures .ran)
 
 pub simp-run-spec : {M : Type 1} → statement M
-simp-run-spec =
-    tie.close
-    (tie.spec
-    read-requires
-    refused-requires
+simp-run-spec = tie.close (tie.spec
+    (λ c κs. search needs)  -- read-requires
+    (λ c κs. search needs)  -- refused-requires
     returns
-    run-on-requires
-    same-length
+    (λ c κs. search needs)  -- run-on-requires
+    (λ c. search needs)  -- same-length
     returns-2)

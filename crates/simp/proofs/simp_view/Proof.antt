@@ -5,18 +5,9 @@ use borrow.Author.Needs.{needs}
 use Rattle.simp.proofs.simp_view.Statement.{statement}
 use Rattle.simp.proofs.simp_view.Tie as tie
 
-read-requires : tie.Need-read-requires
-read-requires c κs = search needs
-
 returns : tie.Need-returns
 unfolding viewOf
 returns c = sheet-refused _ _ _ _ (c .before .read .ensures) (c .if1 .taken)
-
-view-on-requires : tie.Need-view-on-requires
-view-on-requires c κs = search needs
-
-same-length : tie.Need-same-length
-same-length c = search needs
 
 returns-2 : tie.Need-returns-2
 unfolding viewOf
@@ -25,6 +16,9 @@ returns-2 c =
     sheet-read _ _ _ _ _ (k .before .read .ensures) (k .if1 .left) (c .before .before .view-on .ensures .viewed)
 
 pub simp-view-spec : {M : Type 1} → statement M
-simp-view-spec =
-    tie.close
-    (tie.spec read-requires returns view-on-requires same-length returns-2)
+simp-view-spec = tie.close (tie.spec
+    (λ c κs. search needs)  -- read-requires
+    returns
+    (λ c κs. search needs)  -- view-on-requires
+    (λ c. search needs)  -- same-length
+    returns-2)

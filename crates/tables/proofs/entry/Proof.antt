@@ -4,20 +4,10 @@ use borrow.Author.Needs.{needs}
 use Rattle.tables.proofs.entry.Statement.{statement}
 use Rattle.tables.proofs.entry.Tie as tie
 
-mul-number : tie.Need-mul-number
-mul-number c = search needs
-
-add-number : tie.Need-add-number
-add-number c = search needs
-
-number-requires : tie.Need-number-requires
-number-requires c κs = search needs
-
-returns : tie.Need-returns
-returns c = c .number .ensures ∙ sym (entry-there _ _ _ _ (c .before .if1 .taken))
-
-returns-2 : tie.Need-returns-2
-returns-2 c = sym (entry-past _ _ _ _ (c .if1 .left))
-
 pub entry-spec : {M : Type 1} → statement M
-entry-spec = tie.close (tie.spec mul-number add-number number-requires returns returns-2)
+entry-spec = tie.close (tie.spec
+    (λ c. search needs)  -- mul-number
+    (λ c. search needs)  -- add-number
+    (λ c κs. search needs)  -- number-requires
+    (λ c. c .number .ensures ∙ sym (entry-there _ _ _ _ (c .before .if1 .taken)))  -- returns
+    (λ c. sym (entry-past _ _ _ _ (c .if1 .left))))  -- returns-2

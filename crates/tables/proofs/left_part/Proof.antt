@@ -3,15 +3,12 @@ use borrow.Author.Needs.{needs}
 use Rattle.tables.proofs.left_part.Statement.{statement}
 use Rattle.tables.proofs.left_part.Tie as tie
 
-types-requires : tie.Need-types-requires
-types-requires c κs = search needs
-
-entry-requires : tie.Need-entry-requires
-entry-requires c κs = search needs
-
 returns : tie.Need-returns
 unfolding leftIn
 returns c = cc
 
 pub left-part-spec : {M : Type 1} → statement M
-left-part-spec = tie.close (tie.spec types-requires entry-requires returns)
+left-part-spec = tie.close (tie.spec
+    (λ c κs. search needs)  -- types-requires
+    (λ c κs. search needs)  -- entry-requires
+    returns)

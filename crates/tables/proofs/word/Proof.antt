@@ -4,17 +4,12 @@ use borrow.Author.Needs.{needs}
 use Rattle.tables.proofs.word.Statement.{statement}
 use Rattle.tables.proofs.word.Tie as tie
 
-mul-result : tie.Need-mul-result
-mul-result c = search needs
-
-shared-slice-read-result : tie.Need-shared-slice-read-result
-shared-slice-read-result c = search needs
-
-returns : tie.Need-returns
-returns c = search needs
-
 returns-2 : tie.Need-returns-2
 returns-2 c = sym (List·getD-eq-default (c .before .args .table .now) 0 (c .if1 .left))
 
 pub word-spec : {M : Type 1} → statement M
-word-spec = tie.close (tie.spec mul-result shared-slice-read-result returns returns-2)
+word-spec = tie.close (tie.spec
+    (λ c. search needs)  -- mul-result
+    (λ c. search needs)  -- shared-slice-read-result
+    (λ c. search needs)  -- returns
+    returns-2)

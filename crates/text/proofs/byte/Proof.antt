@@ -11,12 +11,6 @@ returns c =
     let a = c .before .args in
     place-none _ _ (byte-at-end (a .b) (a .s .now) (a .at) (c .if1 .taken))
 
-shared-slice-read-if2 : tie.Need-shared-slice-read-if2
-shared-slice-read-if2 c = search needs
-
-add-t9 : tie.Need-add-t9
-add-t9 c = search needs
-
 returns-2 : tie.Need-returns-2
 returns-2 c =
     let a = c .before .before .before .args in
@@ -28,4 +22,9 @@ returns-3 c =
     place-none _ _ (byte-at-other (a .b) (a .s .now) (a .at) (omega arith) (c .if2 .left))
 
 pub byte-spec : {M : Type 1} → statement M
-byte-spec = tie.close (tie.spec returns shared-slice-read-if2 add-t9 returns-2 returns-3)
+byte-spec = tie.close (tie.spec
+    returns
+    (λ c. search needs)  -- shared-slice-read-if2
+    (λ c. search needs)  -- add-t9
+    returns-2
+    returns-3)

@@ -11,16 +11,10 @@ use Rattle.text.proofs.digit_at.Tie as tie
 returns : tie.Need-returns
 returns c = let a = c .before .args in sym (opens-at-end (a .s .now) (a .at) (c .if1 .taken))
 
-shared-slice-read-if2 : tie.Need-shared-slice-read-if2
-shared-slice-read-if2 c = search needs
-
 returns-2 : tie.Need-returns-2
 returns-2 c =
     let a = c .before .before .before .args in
     sym (opens-at (a .s .now) (a .at) (omega arith) ∙ digit-low _ (c .if2 .taken))
-
-shared-slice-read-result : tie.Need-shared-slice-read-result
-shared-slice-read-result c = search needs
 
 returns-3 : tie.Need-returns-3
 unfolding digit
@@ -29,5 +23,9 @@ returns-3 c =
     sym (opens-at (a .s .now) (a .at) (omega arith) ∙ rw (le-leb _ _ (c .before .if2 .left)))
 
 pub digit-at-spec : {M : Type 1} → statement M
-digit-at-spec =
-    tie.close (tie.spec returns shared-slice-read-if2 returns-2 shared-slice-read-result returns-3)
+digit-at-spec = tie.close (tie.spec
+    returns
+    (λ c. search needs)  -- shared-slice-read-if2
+    returns-2
+    (λ c. search needs)  -- shared-slice-read-result
+    returns-3)

@@ -16,24 +16,12 @@ Inv-loop s from bound i₀ v₀ i v =
 abbrev μ-loop : tie.MeasureT-loop
 μ-loop s from bound i₀ v₀ i v = length s - i
 
-loop-holds : tie.Need-loop-holds Inv-loop μ-loop
-loop-holds c = (omega arith, omega arith, refl)
-
-shared-slice-read-b : tie.Need-shared-slice-read-b Inv-loop μ-loop
-shared-slice-read-b c = omega arith
-
-cast-t12 : tie.Need-cast-t12 Inv-loop μ-loop
-cast-t12 c = omega arith
-
 returns : tie.Need-returns Inv-loop μ-loop
 returns c =
     let at = c .before .before .before in
     let a = at .before .args in
     let here = opens-at (a .s .now) (at .loop .i) (omega arith) ∙ digit-low _ (c .if1 .taken) in
     value-got _ _ _ _ (sym (at .loop .inv .2) ∙ digits-end (a .bound) (at .loop .v) _ here) (omega arith)
-
-cast-t13 : tie.Need-cast-t13 Inv-loop μ-loop
-cast-t13 c = omega arith
 
 returns-2 : tie.Need-returns-2 Inv-loop μ-loop
 returns-2 c =
@@ -42,15 +30,6 @@ returns-2 c =
     let here = opens-at (a .s .now) (at .loop .i) (omega arith) ∙ digit-high _ (c .if2 .taken) in
     value-got _ _ _ _ (sym (at .loop .inv .2) ∙ digits-end (a .bound) (at .loop .v) _ here) (omega arith)
 
-mul-w : tie.Need-mul-w Inv-loop μ-loop
-mul-w c = omega arith
-
-cast-w : tie.Need-cast-w Inv-loop μ-loop
-cast-w c = omega arith
-
-add-w : tie.Need-add-w Inv-loop μ-loop
-add-w c = omega arith
-
 returns-3 : tie.Need-returns-3 Inv-loop μ-loop
 returns-3 c =
     let at = c .before .before .before .before .before in
@@ -58,12 +37,6 @@ returns-3 c =
     value-none _ _
     (sym (at .loop .inv .2)
     ∙ digits-at-over (a .s .now) (at .loop .i) (omega arith) (a .bound) (at .loop .v) (digit-in _ (c .before .before .if1 .left) (c .before .if2 .left)) (omega arith))
-
-add-i : tie.Need-add-i Inv-loop μ-loop
-add-i c = omega arith
-
-loop-less : tie.Need-loop-less Inv-loop μ-loop
-loop-less c = omega arith
 
 loop-again : tie.Need-loop-again Inv-loop μ-loop
 loop-again c =
@@ -75,9 +48,6 @@ loop-again c =
           ∙ at .loop .inv .2,
     )
 
-cast-t16 : tie.Need-cast-t16 Inv-loop μ-loop
-cast-t16 c = omega arith
-
 returns-4 : tie.Need-returns-4 Inv-loop μ-loop
 returns-4 c =
     let at = c .before in
@@ -87,23 +57,21 @@ returns-4 c =
     (omega arith)
 
 pub digits-spec : {M : Type 1} → statement M
-digits-spec =
-    tie.close
-    (tie.spec
+digits-spec = tie.close (tie.spec
     Inv-loop
     μ-loop
-    loop-holds
-    shared-slice-read-b
-    cast-t12
+    (λ c. (omega arith, omega arith, refl))  -- loop-holds
+    (λ c. omega arith)  -- shared-slice-read-b
+    (λ c. omega arith)  -- cast-t12
     returns
-    cast-t13
+    (λ c. omega arith)  -- cast-t13
     returns-2
-    mul-w
-    cast-w
-    add-w
+    (λ c. omega arith)  -- mul-w
+    (λ c. omega arith)  -- cast-w
+    (λ c. omega arith)  -- add-w
     returns-3
-    add-i
-    loop-less
+    (λ c. omega arith)  -- add-i
+    (λ c. omega arith)  -- loop-less
     loop-again
-    cast-t16
+    (λ c. omega arith)  -- cast-t16
     returns-4)

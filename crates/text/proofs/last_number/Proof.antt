@@ -17,29 +17,11 @@ known k =
     let a = k .before .before .before .before .args in
     number-field-at (a .s .now) (a .at) (a .bound) _ (k .before .before .number-field .ensures) _ _ (k .v .given .1) .0
 
-number-field-requires : tie.Need-number-field-requires
-number-field-requires c κs = search needs
-
-enum-known-v : tie.Need-enum-known-v
-enum-known-v c = search needs
-
-enum-told : tie.Need-enum-told
-enum-told c = search needs
-
 returns : tie.Need-returns
 returns c =
     let a = c .before .before .before .before .args in
     value-none _ _
     (last-number-none _ (a .bound) (number-field-bad (a .s .now) (a .at) (a .bound) _ (c .before .before .number-field .ensures) (c .enum-told .given .1)))
-
-line-end-requires : tie.Need-line-end-requires
-line-end-requires c κs = search needs
-
-enum-known-q : tie.Need-enum-known-q
-enum-known-q c = search needs
-
-enum-told-2 : tie.Need-enum-told-2
-enum-told-2 c = search needs
 
 returns-2 : tie.Need-returns-2
 returns-2 c =
@@ -57,15 +39,13 @@ returns-3 c =
     (byte-bad (a .s .now) (k .v .given .0 .1 .0) 10 _ (c .before .before .line-end .ensures) (c .enum-told2 .given .1)))
 
 pub last-number-spec : {M : Type 1} → statement M
-last-number-spec =
-    tie.close
-    (tie.spec
-    number-field-requires
-    enum-known-v
-    enum-told
+last-number-spec = tie.close (tie.spec
+    (λ c κs. search needs)  -- number-field-requires
+    (λ c. search needs)  -- enum-known-v
+    (λ c. search needs)  -- enum-told
     returns
-    line-end-requires
-    enum-known-q
-    enum-told-2
+    (λ c κs. search needs)  -- line-end-requires
+    (λ c. search needs)  -- enum-known-q
+    (λ c. search needs)  -- enum-told-2
     returns-2
     returns-3)

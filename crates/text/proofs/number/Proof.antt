@@ -16,24 +16,6 @@ inside k =
     let a = k .before .before .before .args in
     opens-inside (a .s .now) (a .at) (sym (k .before .digit-at .ensures) ∙ k .if1 .taken)
 
-digit-at-requires : tie.Need-digit-at-requires
-digit-at-requires c κs = search needs
-
-shared-slice-read-if2 : tie.Need-shared-slice-read-if2
-shared-slice-read-if2 c = omega (arith, inside (c .before))
-
-add-digit-at : tie.Need-add-digit-at
-add-digit-at c = omega (arith, inside (c .before .before))
-
-digit-at-requires-2 : tie.Need-digit-at-requires-2
-digit-at-requires-2 c κs = search needs
-
-add-t13 : tie.Need-add-t13
-add-t13 c = omega (arith, inside (c .before .before .before .before))
-
-digits-requires : tie.Need-digits-requires
-digits-requires c κs = omega (arith, inside (c .before .before))
-
 returns : tie.Need-returns
 returns c =
     let k = c .before .before .before .before in
@@ -61,15 +43,13 @@ returns-4 c =
     value-none _ _ (number-none (a .bound) _ (sym (c .before .digit-at .ensures) ∙ c .if1 .left))
 
 pub number-spec : {M : Type 1} → statement M
-number-spec =
-    tie.close
-    (tie.spec
-    digit-at-requires
-    shared-slice-read-if2
-    add-digit-at
-    digit-at-requires-2
-    add-t13
-    digits-requires
+number-spec = tie.close (tie.spec
+    (λ c κs. search needs)  -- digit-at-requires
+    (λ c. omega (arith, inside (c .before)))  -- shared-slice-read-if2
+    (λ c. omega (arith, inside (c .before .before)))  -- add-digit-at
+    (λ c κs. search needs)  -- digit-at-requires-2
+    (λ c. omega (arith, inside (c .before .before .before .before)))  -- add-t13
+    (λ c κs. omega (arith, inside (c .before .before)))  -- digits-requires
     returns
     returns-2
     returns-3

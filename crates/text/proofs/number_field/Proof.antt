@@ -7,18 +7,6 @@ use Rattle.text.proofs.Fields.{byte-at, byte-bad, number-field-on, numb
 use Rattle.text.proofs.number_field.Statement.{statement}
 use Rattle.text.proofs.number_field.Tie as tie
 
-byte-requires : tie.Need-byte-requires
-byte-requires c κs = search needs
-
-enum-known-p : tie.Need-enum-known-p
-enum-known-p c = search needs
-
-number-requires : tie.Need-number-requires
-number-requires c κs = search needs
-
-enum-told : tie.Need-enum-told
-enum-told c = search needs
-
 returns : tie.Need-returns
 returns c =
     let k = c .before .before in
@@ -32,5 +20,10 @@ returns-2 c =
     value-none _ _ (number-field-none _ (a .bound) (byte-bad (a .s .now) (a .at) 9 _ (c .before .before .byte .ensures) (c .enum-told .given .1)))
 
 pub number-field-spec : {M : Type 1} → statement M
-number-field-spec =
-    tie.close (tie.spec byte-requires enum-known-p number-requires enum-told returns returns-2)
+number-field-spec = tie.close (tie.spec
+    (λ c κs. search needs)  -- byte-requires
+    (λ c. search needs)  -- enum-known-p
+    (λ c κs. search needs)  -- number-requires
+    (λ c. search needs)  -- enum-told
+    returns
+    returns-2)

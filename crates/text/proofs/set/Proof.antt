@@ -22,20 +22,11 @@ returns c =
     let a = c .before .before .args in
     mask-none _ _ (hex-at-end 0 0 (a .s .now) (a .at) (omega arith) (c .if1 .taken))
 
-loop-holds : tie.Need-loop-holds Inv-loop μ-loop
-loop-holds c = (omega arith, omega arith, omega arith, refl)
-
 returns-2 : tie.Need-returns-2 Inv-loop μ-loop
 returns-2 c =
     let at = c .before .before in
     let s = at .before .before .before .args .s .now in
     mask-none _ _ (sym (at .loop .inv .3) ∙ hex-at-end (at .loop .i) (at .loop .m) s (at .loop .p) (omega arith) (c .if2 .taken))
-
-shared-slice-read-hex-digit : tie.Need-shared-slice-read-hex-digit Inv-loop μ-loop
-shared-slice-read-hex-digit c = omega arith
-
-hex-digit-requires : tie.Need-hex-digit-requires Inv-loop μ-loop
-hex-digit-requires c κs = search needs
 
 returns-3 : tie.Need-returns-3 Inv-loop μ-loop
 returns-3 c =
@@ -54,15 +45,6 @@ add-m : tie.Need-add-m Inv-loop μ-loop
 add-m c =
     let at = c .before .before .before .before .before in
     omega (arith, hex-fits (at .loop .i) (at .loop .m) (omega arith) (at .loop .inv .2))
-
-add-p : tie.Need-add-p Inv-loop μ-loop
-add-p c = omega arith
-
-add-i : tie.Need-add-i Inv-loop μ-loop
-add-i c = omega arith
-
-loop-less : tie.Need-loop-less Inv-loop μ-loop
-loop-less c = omega arith
 
 loop-again : tie.Need-loop-again Inv-loop μ-loop
 loop-again c =
@@ -84,21 +66,19 @@ returns-4 c =
     (omega arith)
 
 pub set-spec : {M : Type 1} → statement M
-set-spec =
-    tie.close
-    (tie.spec
+set-spec = tie.close (tie.spec
     Inv-loop
     μ-loop
     returns
-    loop-holds
+    (λ c. (omega arith, omega arith, omega arith, refl))  -- loop-holds
     returns-2
-    shared-slice-read-hex-digit
-    hex-digit-requires
+    (λ c. omega arith)  -- shared-slice-read-hex-digit
+    (λ c κs. search needs)  -- hex-digit-requires
     returns-3
     mul-m
     add-m
-    add-p
-    add-i
-    loop-less
+    (λ c. omega arith)  -- add-p
+    (λ c. omega arith)  -- add-i
+    (λ c. omega arith)  -- loop-less
     loop-again
     returns-4)

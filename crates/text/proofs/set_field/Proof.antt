@@ -7,18 +7,6 @@ use Rattle.text.proofs.Fields.{byte-at, byte-bad, set-field-on, set-fie
 use Rattle.text.proofs.set_field.Statement.{statement}
 use Rattle.text.proofs.set_field.Tie as tie
 
-byte-requires : tie.Need-byte-requires
-byte-requires c κs = search needs
-
-enum-known-p : tie.Need-enum-known-p
-enum-known-p c = search needs
-
-set-requires : tie.Need-set-requires
-set-requires c κs = search needs
-
-enum-told : tie.Need-enum-told
-enum-told c = search needs
-
 returns : tie.Need-returns
 returns c =
     let k = c .before .before in
@@ -32,5 +20,10 @@ returns-2 c =
     mask-none _ _ (set-field-none _ (byte-bad (a .s .now) (a .at) 9 _ (c .before .before .byte .ensures) (c .enum-told .given .1)))
 
 pub set-field-spec : {M : Type 1} → statement M
-set-field-spec =
-    tie.close (tie.spec byte-requires enum-known-p set-requires enum-told returns returns-2)
+set-field-spec = tie.close (tie.spec
+    (λ c κs. search needs)  -- byte-requires
+    (λ c. search needs)  -- enum-known-p
+    (λ c κs. search needs)  -- set-requires
+    (λ c. search needs)  -- enum-told
+    returns
+    returns-2)

@@ -5,12 +5,6 @@ use Rattle.desk.proofs.Outputs.{tab-reach, outcome-puts}
 use Rattle.desk.proofs.run.put_outcome.Statement.{statement}
 use Rattle.desk.proofs.run.put_outcome.Tie as tie
 
-put-number-requires : tie.Need-put-number-requires
-put-number-requires c κs = search needs
-
-put-byte-requires : tie.Need-put-byte-requires
-put-byte-requires c κs = search needs
-
 put-line-requires : tie.Need-put-line-requires
 put-line-requires c κs =
     let b = c .before .before .before in
@@ -19,9 +13,6 @@ put-line-requires c κs =
     let q = tab-reach (s .args .out .now) (s .args .answer) _ _ _ (m .put-number .ensures .0) (b .put-byte .ensures .0) (m .put-number .kept .0)
     (omega (arith, s .fits .answer .fits)) (s .pre) in
     omega (arith, b .put-byte .kept .0, m .put-number .kept .0, s .pre)
-
-same-length : tie.Need-same-length
-same-length c = search needs
 
 returns : tie.Need-returns
 returns c =
@@ -34,6 +25,9 @@ returns c =
     (d .put-line .ensures) (m .put-number .kept .0) (omega (arith, s .fits .answer .fits)) (s .pre)
 
 pub put-outcome-spec : {M : Type 1} → statement M
-put-outcome-spec =
-    tie.close
-    (tie.spec put-number-requires put-byte-requires put-line-requires same-length returns)
+put-outcome-spec = tie.close (tie.spec
+    (λ c κs. search needs)  -- put-number-requires
+    (λ c κs. search needs)  -- put-byte-requires
+    put-line-requires
+    (λ c. search needs)  -- same-length
+    returns)

@@ -5,21 +5,6 @@ use Rattle.desk.proofs.Outputs.{rest-length, length-memory, run-puts}
 use Rattle.desk.proofs.run.put_run.Statement.{statement}
 use Rattle.desk.proofs.run.put_run.Tie as tie
 
-put-outcome-requires : tie.Need-put-outcome-requires
-put-outcome-requires c κs = search needs
-
-sub-write-memory : tie.Need-sub-write-memory
-sub-write-memory c = search needs
-
-part-write-memory-start : tie.Need-part-write-memory-start
-part-write-memory-start c = search needs
-
-part-write-memory-end : tie.Need-part-write-memory-end
-part-write-memory-end c = search needs
-
-write-memory-requires : tie.Need-write-memory-requires
-write-memory-requires c κs = search needs
-
 add-result : tie.Need-add-result
 add-result c =
     let w = c .before .before in
@@ -32,9 +17,6 @@ add-result c =
     let l = length-memory (a .words .now) (t .pre .0) (t .pre .1) (λ i. omega (arith, o .before .before .shared-slice-known .given i)) in
     omega arith
 
-same-length : tie.Need-same-length
-same-length c = search needs
-
 returns : tie.Need-returns
 returns c =
     let w = c .before .before in
@@ -45,14 +27,12 @@ returns c =
     (w .write-memory .ensures .0) (w .write-memory .ensures .1)
 
 pub put-run-spec : {M : Type 1} → statement M
-put-run-spec =
-    tie.close
-    (tie.spec
-    put-outcome-requires
-    sub-write-memory
-    part-write-memory-start
-    part-write-memory-end
-    write-memory-requires
+put-run-spec = tie.close (tie.spec
+    (λ c κs. search needs)  -- put-outcome-requires
+    (λ c. search needs)  -- sub-write-memory
+    (λ c. search needs)  -- part-write-memory-start
+    (λ c. search needs)  -- part-write-memory-end
+    (λ c κs. search needs)  -- write-memory-requires
     add-result
-    same-length
+    (λ c. search needs)  -- same-length
     returns)

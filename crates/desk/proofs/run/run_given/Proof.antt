@@ -18,12 +18,6 @@ array-borrow-prefix-work c = let t = c .before .before .before .before in words-
 slice-aggregate-simp-run : tie.Need-slice-aggregate-simp-run
 slice-aggregate-simp-run c = let t = c .before .before .before .before .before in sym (words-length (t .args .given) (t .pre .0))
 
-simp-run-requires : tie.Need-simp-run-requires
-simp-run-requires c κs = search needs
-
-number-requires : tie.Need-number-requires
-number-requires c κs = search needs
-
 array-share-prefix-work : tie.Need-array-share-prefix-work
 array-share-prefix-work c =
     let r = c .before .before .before .before .before in
@@ -45,9 +39,6 @@ put-run-requires c κs =
     let g = t .args .given in
     let n = part-count (g .count) (r .simp-run .last .1 .1 .0) (g .words) (r .simp-run .kept .1 .1 .0) (words-fit g (t .pre .0)) in
     (ap (λ (k : ℕ). k % 16) (sym n) ∙ t .pre .0 .whole, omega (arith, t .pre .0 .few), t .pre .1)
-
-same-length : tie.Need-same-length
-same-length c = search needs
 
 returns : tie.Need-returns
 returns c =
@@ -82,9 +73,6 @@ put-run-requires-2 c κs =
     let n = words-length (t .args .given) (t .pre .0) in
     (ap (λ (k : ℕ). k % 16) n ∙ t .pre .0 .whole, omega (arith, t .pre .0 .few), t .pre .1)
 
-same-length-2 : tie.Need-same-length-2
-same-length-2 c = search needs
-
 returns-2 : tie.Need-returns-2
 returns-2 c =
     let p = c .before .before in
@@ -97,20 +85,18 @@ returns-2 c =
     (p .put-run2 .ensures)
 
 pub run-given-spec : {M : Type 1} → statement M
-run-given-spec =
-    tie.close
-    (tie.spec
+run-given-spec = tie.close (tie.spec
     array-borrow-prefix-work
     slice-aggregate-simp-run
-    simp-run-requires
-    number-requires
+    (λ c κs. search needs)  -- simp-run-requires
+    (λ c κs. search needs)  -- number-requires
     array-share-prefix-work
     slice-aggregate-put-run
     put-run-requires
-    same-length
+    (λ c. search needs)  -- same-length
     returns
     array-share-prefix-words
     slice-aggregate-put-run-2
     put-run-requires-2
-    same-length-2
+    (λ c. search needs)  -- same-length-2
     returns-2)

@@ -4,27 +4,6 @@ use Rattle.desk.proofs.Parts.{run-in, put-as}
 use Rattle.desk.proofs.run.run_input.Statement.{statement}
 use Rattle.desk.proofs.run.run_input.Tie as tie
 
-text-in-requires : tie.Need-text-in-requires
-text-in-requires c κs = search needs
-
-text-in-requires-2 : tie.Need-text-in-requires-2
-text-in-requires-2 c κs = search needs
-
-text-in-requires-3 : tie.Need-text-in-requires-3
-text-in-requires-3 c κs = search needs
-
-text-in-requires-4 : tie.Need-text-in-requires-4
-text-in-requires-4 c κs = search needs
-
-text-in-requires-5 : tie.Need-text-in-requires-5
-text-in-requires-5 c κs = search needs
-
-run-text-requires : tie.Need-run-text-requires
-run-text-requires c κs = search needs
-
-same-length : tie.Need-same-length
-same-length c = search needs
-
 returns : tie.Need-returns
 returns c =
     let r = c .before .before in
@@ -37,14 +16,12 @@ returns c =
     put-as (a .out .now) _ _ _ _ e (r .run-text .ensures)
 
 pub run-input-spec : {M : Type 1} → statement M
-run-input-spec =
-    tie.close
-    (tie.spec
-    text-in-requires
-    text-in-requires-2
-    text-in-requires-3
-    text-in-requires-4
-    text-in-requires-5
-    run-text-requires
-    same-length
+run-input-spec = tie.close (tie.spec
+    (λ c κs. search needs)  -- text-in-requires
+    (λ c κs. search needs)  -- text-in-requires-2
+    (λ c κs. search needs)  -- text-in-requires-3
+    (λ c κs. search needs)  -- text-in-requires-4
+    (λ c κs. search needs)  -- text-in-requires-5
+    (λ c κs. search needs)  -- run-text-requires
+    (λ c. search needs)  -- same-length
     returns)

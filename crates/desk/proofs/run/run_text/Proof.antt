@@ -11,18 +11,6 @@ use Rattle.desk.proofs.run.run_text.Tie as tie
 returns : tie.Need-returns
 returns c = put-none (c .before .before .before .before .before .before .before .args .out .now) _ (c .if1 .taken)
 
-budget-line-requires : tie.Need-budget-line-requires
-budget-line-requires c κs = search needs
-
-slice-aggregate-copy : tie.Need-slice-aggregate-copy
-slice-aggregate-copy c = search needs
-
-copy-requires : tie.Need-copy-requires
-copy-requires c κs = search needs
-
-same-length : tie.Need-same-length
-same-length c = search needs
-
 returns-2 : tie.Need-returns-2
 returns-2 c =
     let p = c .before .before in
@@ -35,16 +23,10 @@ returns-2 c =
     (not-true _ (q .if2 .taken)))
     (copy-puts (a .out .now) _ _ _ (omega (arith, b .before .if1 .left)) (p .copy .ensures .0) (p .copy .ensures .1)))
 
-read-given-requires : tie.Need-read-given-requires
-read-given-requires c κs = search needs
-
 run-given-requires : tie.Need-run-given-requires
 run-given-requires c κs =
     let g = c .before in
     (given-whole _ _ _ (g .read-given .ensures), omega (arith, g .before .before .before .before .if1 .left))
-
-same-length-2 : tie.Need-same-length-2
-same-length-2 c = search needs
 
 returns-3 : tie.Need-returns-3
 returns-3 c =
@@ -60,16 +42,14 @@ returns-3 c =
     (r .run-given .ensures))
 
 pub run-text-spec : {M : Type 1} → statement M
-run-text-spec =
-    tie.close
-    (tie.spec
+run-text-spec = tie.close (tie.spec
     returns
-    budget-line-requires
-    slice-aggregate-copy
-    copy-requires
-    same-length
+    (λ c κs. search needs)  -- budget-line-requires
+    (λ c. search needs)  -- slice-aggregate-copy
+    (λ c κs. search needs)  -- copy-requires
+    (λ c. search needs)  -- same-length
     returns-2
-    read-given-requires
+    (λ c κs. search needs)  -- read-given-requires
     run-given-requires
-    same-length-2
+    (λ c. search needs)  -- same-length-2
     returns-3)

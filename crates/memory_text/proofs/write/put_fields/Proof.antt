@@ -16,27 +16,6 @@ Inv-loop words from to out₀ at i₀ p₀ out i p =
 abbrev μ-loop : tie.MeasureT-loop
 μ-loop words from to out₀ at i₀ p₀ out i p = to - i
 
-loop-holds : tie.Need-loop-holds Inv-loop μ-loop
-loop-holds c = (omega arith, omega arith, refl, omega arith, goes-start _ _ _)
-
-put-byte-requires : tie.Need-put-byte-requires Inv-loop μ-loop
-put-byte-requires c κs = search needs
-
-mul-put-number : tie.Need-mul-put-number Inv-loop μ-loop
-mul-put-number c = omega arith
-
-shared-slice-read-put-number : tie.Need-shared-slice-read-put-number Inv-loop μ-loop
-shared-slice-read-put-number c = omega arith
-
-put-number-requires : tie.Need-put-number-requires Inv-loop μ-loop
-put-number-requires c κs = search needs
-
-add-i : tie.Need-add-i Inv-loop μ-loop
-add-i c = omega arith
-
-loop-less : tie.Need-loop-less Inv-loop μ-loop
-loop-less c = omega arith
-
 loop-again : tie.Need-loop-again Inv-loop μ-loop
 loop-again c =
     let n = c .before .before in
@@ -48,9 +27,6 @@ loop-again c =
     (omega (arith, n .before .shared-slice-known2 .given (at .loop .i))) (omega arith) in
     (omega arith, omega arith, n .put-number .kept .0 ∙ b .put-byte .kept .0 ∙ at .loop .inv .2, omega (arith, w .1), w .0)
 
-same-length : tie.Need-same-length Inv-loop μ-loop
-same-length c = c .before .loop .inv .2
-
 returns : tie.Need-returns Inv-loop μ-loop
 returns c =
     let at = c .before in
@@ -59,18 +35,16 @@ returns c =
     goes-done _ _ _ _ _ _ (goes-same _ _ _ _ _ _ (at .loop .inv .4) (λ t. t) e) (omega arith)
 
 pub put-fields-spec : {M : Type 1} → statement M
-put-fields-spec =
-    tie.close
-    (tie.spec
+put-fields-spec = tie.close (tie.spec
     Inv-loop
     μ-loop
-    loop-holds
-    put-byte-requires
-    mul-put-number
-    shared-slice-read-put-number
-    put-number-requires
-    add-i
-    loop-less
+    (λ c. (omega arith, omega arith, refl, omega arith, goes-start _ _ _))  -- loop-holds
+    (λ c κs. search needs)  -- put-byte-requires
+    (λ c. omega arith)  -- mul-put-number
+    (λ c. omega arith)  -- shared-slice-read-put-number
+    (λ c κs. search needs)  -- put-number-requires
+    (λ c. omega arith)  -- add-i
+    (λ c. omega arith)  -- loop-less
     loop-again
-    same-length
+    (λ c. c .before .loop .inv .2)  -- same-length
     returns)

@@ -6,36 +6,12 @@ use Rattle.memory_text.proofs.Writes.{number-reach, empty-puts, line-pu
 use Rattle.memory_text.proofs.write.put_line.Statement.{statement}
 use Rattle.memory_text.proofs.write.put_line.Tie as tie
 
-used-requires : tie.Need-used-requires
-used-requires c κs = search needs
-
-put-byte-requires : tie.Need-put-byte-requires
-put-byte-requires c κs = search needs
-
-same-length : tie.Need-same-length
-same-length c = search needs
-
 returns : tie.Need-returns
 returns c =
     let b = c .before .before in
     let u = b .before .before .before in
     let a = u .before .before .before .args in
     empty-puts (a .words .now) (a .from) _ _ _ _ _ (u .used .ensures) (b .before .before .if1 .taken) (b .put-byte .ensures .0) (b .put-byte .ensures .1) (omega arith)
-
-mul-put-number : tie.Need-mul-put-number
-mul-put-number c = search needs
-
-shared-slice-read-put-number : tie.Need-shared-slice-read-put-number
-shared-slice-read-put-number c = search needs
-
-put-number-requires : tie.Need-put-number-requires
-put-number-requires c κs = search needs
-
-add-put-fields : tie.Need-add-put-fields
-add-put-fields c = search needs
-
-add-put-fields-2 : tie.Need-add-put-fields-2
-add-put-fields-2 c = search needs
 
 put-fields-requires : tie.Need-put-fields-requires
 put-fields-requires c κs =
@@ -46,12 +22,6 @@ put-fields-requires c κs =
     let some = n .before .before .before .if1 .left in
     let p = number-reach _ _ _ _ (n .put-number .ensures .0) (omega (arith, n .before .shared-slice-known2 .given (a .from))) (omega arith) in
     (omega arith, omega arith, omega (arith, p, n .put-number .kept .0))
-
-put-byte-requires-2 : tie.Need-put-byte-requires-2
-put-byte-requires-2 c κs = search needs
-
-same-length-2 : tie.Need-same-length-2
-same-length-2 c = search needs
 
 returns-2 : tie.Need-returns-2
 returns-2 c =
@@ -65,19 +35,17 @@ returns-2 c =
     (f .put-fields .kept .1 .1 .1 .0 ∙ n .put-number .kept .0) (omega arith) (omega (arith, n .before .shared-slice-known2 .given (a .from))) (omega arith)
 
 pub put-line-spec : {M : Type 1} → statement M
-put-line-spec =
-    tie.close
-    (tie.spec
-    used-requires
-    put-byte-requires
-    same-length
+put-line-spec = tie.close (tie.spec
+    (λ c κs. search needs)  -- used-requires
+    (λ c κs. search needs)  -- put-byte-requires
+    (λ c. search needs)  -- same-length
     returns
-    mul-put-number
-    shared-slice-read-put-number
-    put-number-requires
-    add-put-fields
-    add-put-fields-2
+    (λ c. search needs)  -- mul-put-number
+    (λ c. search needs)  -- shared-slice-read-put-number
+    (λ c κs. search needs)  -- put-number-requires
+    (λ c. search needs)  -- add-put-fields
+    (λ c. search needs)  -- add-put-fields-2
     put-fields-requires
-    put-byte-requires-2
-    same-length-2
+    (λ c κs. search needs)  -- put-byte-requires-2
+    (λ c. search needs)  -- same-length-2
     returns-2)

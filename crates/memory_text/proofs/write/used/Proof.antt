@@ -15,21 +15,6 @@ Inv-loop words from n₀ n = (n ≤ cell-words) × (trim (take cell-words (drop 
 abbrev μ-loop : tie.MeasureT-loop
 μ-loop words from n₀ n = n
 
-loop-holds : tie.Need-loop-holds Inv-loop μ-loop
-loop-holds c = (omega arith, refl)
-
-sub-last : tie.Need-sub-last Inv-loop μ-loop
-sub-last c = omega arith
-
-add-if1 : tie.Need-add-if1 Inv-loop μ-loop
-add-if1 c = omega arith
-
-mul-if1 : tie.Need-mul-if1 Inv-loop μ-loop
-mul-if1 c = omega arith
-
-shared-slice-read-if1 : tie.Need-shared-slice-read-if1 Inv-loop μ-loop
-shared-slice-read-if1 c = omega arith
-
 returns : tie.Need-returns Inv-loop μ-loop
 returns c =
     let at = c .before .before .before in
@@ -40,9 +25,6 @@ returns c =
       few = omega arith;
       kept = at .loop .inv .1 ∙ (rw z at (trim-kept (a .words .now) (a .from) (n - 1) (omega arith) (c .if1 .taken)));
     }
-
-loop-less : tie.Need-loop-less Inv-loop μ-loop
-loop-less c = omega arith
 
 loop-again : tie.Need-loop-again Inv-loop μ-loop
 loop-again c =
@@ -60,17 +42,15 @@ returns-2 c =
     record { few = omega arith; kept = at .loop .inv .1 ∙ rw z }
 
 pub used-spec : {M : Type 1} → statement M
-used-spec =
-    tie.close
-    (tie.spec
+used-spec = tie.close (tie.spec
     Inv-loop
     μ-loop
-    loop-holds
-    sub-last
-    add-if1
-    mul-if1
-    shared-slice-read-if1
+    (λ c. (omega arith, refl))  -- loop-holds
+    (λ c. omega arith)  -- sub-last
+    (λ c. omega arith)  -- add-if1
+    (λ c. omega arith)  -- mul-if1
+    (λ c. omega arith)  -- shared-slice-read-if1
     returns
-    loop-less
+    (λ c. omega arith)  -- loop-less
     loop-again
     returns-2)

@@ -26,21 +26,6 @@ returns-2 c =
     let p = printed-small _ _ (c .before .if1 .left) (c .if2 .taken) in
     (sym (p .0), sym (p .1))
 
-loop-holds : tie.Need-loop-holds Inv-loop μ-loop
-loop-holds c = (omega arith, refl, omega arith, lines-start _ _ _)
-
-mul-put-line : tie.Need-mul-put-line Inv-loop μ-loop
-mul-put-line c = omega arith
-
-put-line-requires : tie.Need-put-line-requires Inv-loop μ-loop
-put-line-requires c κs = (omega arith, omega arith)
-
-add-n : tie.Need-add-n Inv-loop μ-loop
-add-n c = omega arith
-
-loop-less : tie.Need-loop-less Inv-loop μ-loop
-loop-less c = omega arith
-
 loop-again : tie.Need-loop-again Inv-loop μ-loop
 loop-again c =
     let l = c .before .before in
@@ -53,9 +38,6 @@ loop-again c =
       lines-goes _ (a .words .now) _ (at .loop .n) _ _ _ _ _ _ (at .loop .inv .3) (l .before .before .loop-test .taken) (l .put-line .ensures),
     )
 
-same-length : tie.Need-same-length Inv-loop μ-loop
-same-length c = c .before .loop .inv .1
-
 returns-3 : tie.Need-returns-3 Inv-loop μ-loop
 unfolding memoryText
 returns-3 c =
@@ -66,18 +48,16 @@ returns-3 c =
     (d .0 ∙ sym (p .0), d .1 ∙ sym (p .1))
 
 pub write-memory-spec : {M : Type 1} → statement M
-write-memory-spec =
-    tie.close
-    (tie.spec
+write-memory-spec = tie.close (tie.spec
     Inv-loop
     μ-loop
     returns
     returns-2
-    loop-holds
-    mul-put-line
-    put-line-requires
-    add-n
-    loop-less
+    (λ c. (omega arith, refl, omega arith, lines-start _ _ _))  -- loop-holds
+    (λ c. omega arith)  -- mul-put-line
+    (λ c κs. (omega arith, omega arith))  -- put-line-requires
+    (λ c. omega arith)  -- add-n
+    (λ c. omega arith)  -- loop-less
     loop-again
-    same-length
+    (λ c. c .before .loop .inv .1)  -- same-length
     returns-3)

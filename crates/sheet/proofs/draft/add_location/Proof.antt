@@ -5,18 +5,13 @@ use borrow.Author.Needs.{needs}
 use Rattle.sheet.proofs.draft.add_location.Statement.{statement}
 use Rattle.sheet.proofs.draft.add_location.Tie as tie
 
-types-requires : tie.Need-types-requires
-types-requires c κs = search needs
-
-labels-requires : tie.Need-labels-requires
-labels-requires c κs = search needs
-
-add-pair-requires : tie.Need-add-pair-requires
-add-pair-requires c κs = search needs
-
 returns : tie.Need-returns
 unfolding both
 returns c = tested-as _ _ _ _ _ _ (rw (c .before .before .before .before .before .types .ensures, c .before .before .labels .ensures)) (c .add-pair .ensures)
 
 pub add-location-spec : {M : Type 1} → statement M
-add-location-spec = tie.close (tie.spec types-requires labels-requires add-pair-requires returns)
+add-location-spec = tie.close (tie.spec
+    (λ c κs. search needs)  -- types-requires
+    (λ c κs. search needs)  -- labels-requires
+    (λ c κs. search needs)  -- add-pair-requires
+    returns)

@@ -7,14 +7,8 @@ use borrow.Author.Needs.{needs}
 use Rattle.sheet.proofs.draft.add_policy.Statement.{statement}
 use Rattle.sheet.proofs.draft.add_policy.Tie as tie
 
-policy-fits-requires : tie.Need-policy-fits-requires
-policy-fits-requires c κs = search needs
-
 returns : tie.Need-returns
 returns c = passed-over _ _ _ (sym (c .before .policy-fits .ensures) ∙ not-true _ (c .if1 .taken))
-
-labels-requires : tie.Need-labels-requires
-labels-requires c κs = search needs
 
 sub-last : tie.Need-sub-last
 sub-last c =
@@ -22,15 +16,6 @@ sub-last c =
     let room = some-label (a .table .now) (a .least) (a .owner) (a .readers) (a .writers)
     (sym (c .before .before .before .before .policy-fits .ensures) ∙ not-false _ (c .before .before .before .if1 .left)) in
     omega (arith, room, c .labels .ensures)
-
-label-of-requires : tie.Need-label-of-requires
-label-of-requires c κs = search needs
-
-with-policy-requires : tie.Need-with-policy-requires
-with-policy-requires c κs = search needs
-
-set-label-requires : tie.Need-set-label-requires
-set-label-requires c κs = search needs
 
 returns-2 : tie.Need-returns-2
 returns-2 c =
@@ -44,14 +29,12 @@ returns-2 c =
     ))
 
 pub add-policy-spec : {M : Type 1} → statement M
-add-policy-spec =
-    tie.close
-    (tie.spec
-    policy-fits-requires
+add-policy-spec = tie.close (tie.spec
+    (λ c κs. search needs)  -- policy-fits-requires
     returns
-    labels-requires
+    (λ c κs. search needs)  -- labels-requires
     sub-last
-    label-of-requires
-    with-policy-requires
-    set-label-requires
+    (λ c κs. search needs)  -- label-of-requires
+    (λ c κs. search needs)  -- with-policy-requires
+    (λ c κs. search needs)  -- set-label-requires
     returns-2)

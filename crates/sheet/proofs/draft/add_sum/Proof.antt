@@ -5,18 +5,6 @@ use borrow.Author.Needs.{needs}
 use Rattle.sheet.proofs.draft.add_sum.Statement.{statement}
 use Rattle.sheet.proofs.draft.add_sum.Tie as tie
 
-types-requires : tie.Need-types-requires
-types-requires c κs = search needs
-
-labels-requires : tie.Need-labels-requires
-labels-requires c κs = search needs
-
-locations-requires : tie.Need-locations-requires
-locations-requires c κs = search needs
-
-add-pair-requires : tie.Need-add-pair-requires
-add-pair-requires c κs = search needs
-
 returns : tie.Need-returns
 unfolding both
 returns c = tested-as _ _ _ _ _ _ (rw (
@@ -26,6 +14,9 @@ returns c = tested-as _ _ _ _ _ _ (rw (
 )) (c .add-pair .ensures)
 
 pub add-sum-spec : {M : Type 1} → statement M
-add-sum-spec =
-    tie.close
-    (tie.spec types-requires labels-requires locations-requires add-pair-requires returns)
+add-sum-spec = tie.close (tie.spec
+    (λ c κs. search needs)  -- types-requires
+    (λ c κs. search needs)  -- labels-requires
+    (λ c κs. search needs)  -- locations-requires
+    (λ c κs. search needs)  -- add-pair-requires
+    returns)

@@ -24,21 +24,16 @@ begin-other L h = refl
 begin-other (O o r w) h = refl
 begin-other (X t l) h = refl
 
-enum-known-line : tie.Need-enum-known-line
-enum-known-line c = search needs
-
-refused-requires : tie.Need-refused-requires
-refused-requires c κs = search needs
-
 returns : tie.Need-returns
 returns c = holds-none _ _ _ (sym (begin-other _ (c .before .match .keys2))) (c .refused .ensures)
-
-set-principals-requires : tie.Need-set-principals-requires
-set-principals-requires c κs = search needs
 
 returns-2 : tie.Need-returns-2
 returns-2 c = rw (c .before .before .before .line .given .1) (begin-holds _ _ (c .before .before .before .before .before .pre) _ _ (c .set-principals .ensures))
 
 pub begin-spec : {M : Type 1} → statement M
-begin-spec =
-    tie.close (tie.spec enum-known-line refused-requires returns set-principals-requires returns-2)
+begin-spec = tie.close (tie.spec
+    (λ c. search needs)  -- enum-known-line
+    (λ c κs. search needs)  -- refused-requires
+    returns
+    (λ c κs. search needs)  -- set-principals-requires
+    returns-2)

@@ -8,33 +8,9 @@ use borrow.Author.Needs.{needs}
 use Rattle.sheet.proofs.draft.draft_of.Statement.{statement}
 use Rattle.sheet.proofs.draft.draft_of.Tie as tie
 
-fits-requires : tie.Need-fits-requires
-fits-requires c κs = search needs
-
-refused-requires : tie.Need-refused-requires
-refused-requires c κs = search needs
-
 returns : tie.Need-returns
 returns c =
     holds-none _ _ _ (sheet-long _ (sym (c .before .before .fits2 .ensures) ∙ not-true _ (c .before .if1 .taken))) (c .refused .ensures)
-
-line-at-requires : tie.Need-line-at-requires
-line-at-requires c κs = search needs
-
-enum-known-line : tie.Need-enum-known-line
-enum-known-line c = search needs
-
-begin-requires : tie.Need-begin-requires
-begin-requires c κs = c .before .before .before .before .before .before .before .before .pre
-
-follow-requires : tie.Need-follow-requires
-follow-requires c κs = search needs
-
-enum-told : tie.Need-enum-told
-enum-told c = search needs
-
-refused-requires-2 : tie.Need-refused-requires-2
-refused-requires-2 c κs = search needs
 
 returns-2 : tie.Need-returns-2
 returns-2 c =
@@ -52,17 +28,15 @@ returns-3 c =
     holds-none _ _ _ (sheet-none s fits missed) (c .refused2 .ensures)
 
 pub draft-of-spec : {M : Type 1} → statement M
-draft-of-spec =
-    tie.close
-    (tie.spec
-    fits-requires
-    refused-requires
+draft-of-spec = tie.close (tie.spec
+    (λ c κs. search needs)  -- fits-requires
+    (λ c κs. search needs)  -- refused-requires
     returns
-    line-at-requires
-    enum-known-line
-    begin-requires
-    follow-requires
-    enum-told
-    refused-requires-2
+    (λ c κs. search needs)  -- line-at-requires
+    (λ c. search needs)  -- enum-known-line
+    (λ c κs. c .before .before .before .before .before .before .before .before .pre)  -- begin-requires
+    (λ c κs. search needs)  -- follow-requires
+    (λ c. search needs)  -- enum-told
+    (λ c κs. search needs)  -- refused-requires-2
     returns-2
     returns-3)

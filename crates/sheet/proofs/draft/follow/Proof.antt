@@ -34,18 +34,6 @@ found k =
     let s = at .before .before .args .s .now in
     line-found s (at .loop .at) _ (k .before .before .line-at .ensures) _ _ (k .line .given .1)
 
-loop-holds : tie.Need-loop-holds Inv-loop μ-loop
-loop-holds c = λ o f e. (o, f, e, refl)
-
-line-at-requires : tie.Need-line-at-requires Inv-loop μ-loop
-line-at-requires c κs = search needs
-
-enum-known-line : tie.Need-enum-known-line Inv-loop μ-loop
-enum-known-line c = search needs
-
-step-requires : tie.Need-step-requires Inv-loop μ-loop
-step-requires c κs = search needs
-
 loop-less : tie.Need-loop-less Inv-loop μ-loop
 loop-less c =
     let k = c .before .before .before in
@@ -67,12 +55,6 @@ loop-again c =
       steps-on o′ s (at .loop .at) _ (k .line .given .0 .1 .0) (found k .0) ∙ g,
     )
 
-enum-told : tie.Need-enum-told Inv-loop μ-loop
-enum-told c = search needs
-
-refused-requires : tie.Need-refused-requires Inv-loop μ-loop
-refused-requires c κs = search needs
-
 returns : tie.Need-returns Inv-loop μ-loop
 returns c =
     λ o f e.
@@ -92,18 +74,16 @@ returns-2 c =
     rw (← steps-end o′ s (at .loop .at) (c .loop-test .left) ∙ g) e′
 
 pub follow-spec : {M : Type 1} → statement M
-follow-spec =
-    tie.close
-    (tie.spec
+follow-spec = tie.close (tie.spec
     Inv-loop
     μ-loop
-    loop-holds
-    line-at-requires
-    enum-known-line
-    step-requires
+    (λ c. λ o f e. (o, f, e, refl))  -- loop-holds
+    (λ c κs. search needs)  -- line-at-requires
+    (λ c. search needs)  -- enum-known-line
+    (λ c κs. search needs)  -- step-requires
     loop-less
     loop-again
-    enum-told
-    refused-requires
+    (λ c. search needs)  -- enum-told
+    (λ c κs. search needs)  -- refused-requires
     returns
     returns-2)

@@ -4,15 +4,12 @@ use borrow.Author.Needs.{needs}
 use Rattle.sheet.proofs.draft.label_fits.Statement.{statement}
 use Rattle.sheet.proofs.draft.label_fits.Tie as tie
 
-locations-requires : tie.Need-locations-requires
-locations-requires c κs = search needs
-
-labels-requires : tie.Need-labels-requires
-labels-requires c κs = search needs
-
 returns : tie.Need-returns
 unfolding both
 returns c = rw (c .labels .ensures, c .before .locations .ensures)
 
 pub label-fits-spec : {M : Type 1} → statement M
-label-fits-spec = tie.close (tie.spec locations-requires labels-requires returns)
+label-fits-spec = tie.close (tie.spec
+    (λ c κs. search needs)  -- locations-requires
+    (λ c κs. search needs)  -- labels-requires
+    returns)

@@ -10,41 +10,18 @@ returns : tie.Need-returns
 unfolding both
 returns c = passed-over _ _ _ (not-true _ (c .if1 .taken))
 
-low-requires : tie.Need-low-requires
-low-requires c κs = search needs
-
-element-write-table : tie.Need-element-write-table
-element-write-table c = search needs
-
-everyone-requires : tie.Need-everyone-requires
-everyone-requires c κs = search needs
-
-element-write-table-2 : tie.Need-element-write-table-2
-element-write-table-2 c = search needs
-
-element-write-table-3 : tie.Need-element-write-table-3
-element-write-table-3 c = search needs
-
-element-write-table-4 : tie.Need-element-write-table-4
-element-write-table-4 c = search needs
-
-element-write-table-5 : tie.Need-element-write-table-5
-element-write-table-5 c = search needs
-
 returns-2 : tie.Need-returns-2
 unfolding both
 returns-2 c = taken _ _ _ (not-false _ (c .before .before .if1 .left)) _ (rw (c .everyone .ensures, c .before .low .ensures))
 
 pub set-principals-spec : {M : Type 1} → statement M
-set-principals-spec =
-    tie.close
-    (tie.spec
+set-principals-spec = tie.close (tie.spec
     returns
-    low-requires
-    element-write-table
-    everyone-requires
-    element-write-table-2
-    element-write-table-3
-    element-write-table-4
-    element-write-table-5
+    (λ c κs. search needs)  -- low-requires
+    (λ c. search needs)  -- element-write-table
+    (λ c κs. search needs)  -- everyone-requires
+    (λ c. search needs)  -- element-write-table-2
+    (λ c. search needs)  -- element-write-table-3
+    (λ c. search needs)  -- element-write-table-4
+    (λ c. search needs)  -- element-write-table-5
     returns-2)

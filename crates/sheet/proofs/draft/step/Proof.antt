@@ -5,50 +5,8 @@ use borrow.Author.Needs.{needs}
 use Rattle.sheet.proofs.draft.step.Statement.{statement}
 use Rattle.sheet.proofs.draft.step.Tie as tie
 
-refused-requires : tie.Need-refused-requires
-refused-requires c κs = search needs
-
 returns : tie.Need-returns
 returns c = λ o f e. step-refused _ _ o _ _ _ (not-true _ (c .before .if1 .taken)) (c .refused .ensures) e
-
-enum-told : tie.Need-enum-told
-enum-told c = search needs
-
-refused-requires-2 : tie.Need-refused-requires-2
-refused-requires-2 c κs = search needs
-
-enum-known-line : tie.Need-enum-known-line
-enum-known-line c = search needs
-
-add-sum-requires : tie.Need-add-sum-requires
-add-sum-requires c κs = search needs
-
-enum-told-2 : tie.Need-enum-told-2
-enum-told-2 c = search needs
-
-add-label-requires : tie.Need-add-label-requires
-add-label-requires c κs = search needs
-
-enum-known-line-2 : tie.Need-enum-known-line-2
-enum-known-line-2 c = search needs
-
-add-policy-requires : tie.Need-add-policy-requires
-add-policy-requires c κs = search needs
-
-low-requires : tie.Need-low-requires
-low-requires c κs = search needs
-
-cast-t20 : tie.Need-cast-t20
-cast-t20 c = search needs
-
-add-t21 : tie.Need-add-t21
-add-t21 c = search needs
-
-enum-known-line-3 : tie.Need-enum-known-line-3
-enum-known-line-3 c = search needs
-
-add-location-requires : tie.Need-add-location-requires
-add-location-requires c κs = search needs
 
 returns-2 : tie.Need-returns-2
 returns-2 c =
@@ -76,24 +34,22 @@ returns-6 c =
     (λ s fm k t. location-holds s _ t _ _ _ _ fm _ k (c .add-location .ensures))
 
 pub step-spec : {M : Type 1} → statement M
-step-spec =
-    tie.close
-    (tie.spec
-    refused-requires
+step-spec = tie.close (tie.spec
+    (λ c κs. search needs)  -- refused-requires
     returns
-    enum-told
-    refused-requires-2
-    enum-known-line
-    add-sum-requires
-    enum-told-2
-    add-label-requires
-    enum-known-line-2
-    add-policy-requires
-    low-requires
-    cast-t20
-    add-t21
-    enum-known-line-3
-    add-location-requires
+    (λ c. search needs)  -- enum-told
+    (λ c κs. search needs)  -- refused-requires-2
+    (λ c. search needs)  -- enum-known-line
+    (λ c κs. search needs)  -- add-sum-requires
+    (λ c. search needs)  -- enum-told-2
+    (λ c κs. search needs)  -- add-label-requires
+    (λ c. search needs)  -- enum-known-line-2
+    (λ c κs. search needs)  -- add-policy-requires
+    (λ c κs. search needs)  -- low-requires
+    (λ c. search needs)  -- cast-t20
+    (λ c. search needs)  -- add-t21
+    (λ c. search needs)  -- enum-known-line-3
+    (λ c κs. search needs)  -- add-location-requires
     returns-2
     returns-3
     returns-4

@@ -7,15 +7,6 @@ use borrow.Author.Needs.{needs}
 use Rattle.sheet.proofs.line.label_rest.Statement.{statement}
 use Rattle.sheet.proofs.line.label_rest.Tie as tie
 
-line-end-requires : tie.Need-line-end-requires
-line-end-requires c κs = search needs
-
-enum-known-p : tie.Need-enum-known-p
-enum-known-p c = search needs
-
-enum-told : tie.Need-enum-told
-enum-told c = search needs
-
 returns : tie.Need-returns
 unfolding labelRest
 returns c =
@@ -30,4 +21,9 @@ returns-2 c =
     found-none _ _ (andThen-bad _ _ (byte-bad (a .s .now) (a .at) 10 _ (c .before .before .line-end .ensures) (c .enum-told .given .1)))
 
 pub label-rest-spec : {M : Type 1} → statement M
-label-rest-spec = tie.close (tie.spec line-end-requires enum-known-p enum-told returns returns-2)
+label-rest-spec = tie.close (tie.spec
+    (λ c κs. search needs)  -- line-end-requires
+    (λ c. search needs)  -- enum-known-p
+    (λ c. search needs)  -- enum-told
+    returns
+    returns-2)

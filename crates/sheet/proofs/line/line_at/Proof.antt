@@ -11,39 +11,6 @@ returns c =
     let a = c .before .before .args in
     found-none _ _ (line-past (a .s .now) (a .at) (c .if1 .taken))
 
-shared-slice-read-first : tie.Need-shared-slice-read-first
-shared-slice-read-first c = search needs
-
-add-principals-rest : tie.Need-add-principals-rest
-add-principals-rest c = search needs
-
-principals-rest-requires : tie.Need-principals-rest-requires
-principals-rest-requires c κs = search needs
-
-add-pair-rest : tie.Need-add-pair-rest
-add-pair-rest c = search needs
-
-pair-rest-requires : tie.Need-pair-rest-requires
-pair-rest-requires c κs = search needs
-
-add-label-rest : tie.Need-add-label-rest
-add-label-rest c = search needs
-
-label-rest-requires : tie.Need-label-rest-requires
-label-rest-requires c κs = search needs
-
-add-policy-rest : tie.Need-add-policy-rest
-add-policy-rest c = search needs
-
-policy-rest-requires : tie.Need-policy-rest-requires
-policy-rest-requires c κs = search needs
-
-add-pair-rest-2 : tie.Need-add-pair-rest-2
-add-pair-rest-2 c = search needs
-
-pair-rest-requires-2 : tie.Need-pair-rest-requires-2
-pair-rest-requires-2 c κs = search needs
-
 returns-2 : tie.Need-returns-2
 returns-2 c =
     let a = c .before .before .before .before .before .args in
@@ -77,21 +44,19 @@ returns-7 c =
     (line-other (a .s .now) (a .at) (c .before .before .if1 .left) (r .0 .0 .0 .0 .1) (r .0 .0 .0 .1) (r .0 .0 .1) (r .0 .1) (r .1))
 
 pub line-at-spec : {M : Type 1} → statement M
-line-at-spec =
-    tie.close
-    (tie.spec
+line-at-spec = tie.close (tie.spec
     returns
-    shared-slice-read-first
-    add-principals-rest
-    principals-rest-requires
-    add-pair-rest
-    pair-rest-requires
-    add-label-rest
-    label-rest-requires
-    add-policy-rest
-    policy-rest-requires
-    add-pair-rest-2
-    pair-rest-requires-2
+    (λ c. search needs)  -- shared-slice-read-first
+    (λ c. search needs)  -- add-principals-rest
+    (λ c κs. search needs)  -- principals-rest-requires
+    (λ c. search needs)  -- add-pair-rest
+    (λ c κs. search needs)  -- pair-rest-requires
+    (λ c. search needs)  -- add-label-rest
+    (λ c κs. search needs)  -- label-rest-requires
+    (λ c. search needs)  -- add-policy-rest
+    (λ c κs. search needs)  -- policy-rest-requires
+    (λ c. search needs)  -- add-pair-rest-2
+    (λ c κs. search needs)  -- pair-rest-requires-2
     returns-2
     returns-3
     returns-4

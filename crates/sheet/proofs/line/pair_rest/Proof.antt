@@ -20,32 +20,11 @@ known k =
     let a = k .before .before .before .before .args in
     number-field-at (a .s .now) (a .at) most _ (k .before .before .number-field .ensures) _ _ (k .a .given .1) .0
 
-number-field-requires : tie.Need-number-field-requires
-number-field-requires c κs = search needs
-
-enum-known-a : tie.Need-enum-known-a
-enum-known-a c = search needs
-
-enum-told : tie.Need-enum-told
-enum-told c = search needs
-
 returns : tie.Need-returns
 unfolding pairRest
 returns c =
     let a = c .before .before .before .before .args in
     found-none _ _ (andThen-bad _ _ (number-field-bad (a .s .now) (a .at) most _ (c .before .before .number-field .ensures) (c .enum-told .given .1)))
-
-last-number-requires : tie.Need-last-number-requires
-last-number-requires c κs = search needs
-
-enum-known-b : tie.Need-enum-known-b
-enum-known-b c = search needs
-
-pair-line-requires : tie.Need-pair-line-requires
-pair-line-requires c κs = search needs
-
-enum-told-2 : tie.Need-enum-told-2
-enum-told-2 c = search needs
 
 returns-2 : tie.Need-returns-2
 unfolding pairRest
@@ -65,16 +44,14 @@ returns-3 c =
     (c .enum-told2 .given .1)))
 
 pub pair-rest-spec : {M : Type 1} → statement M
-pair-rest-spec =
-    tie.close
-    (tie.spec
-    number-field-requires
-    enum-known-a
-    enum-told
+pair-rest-spec = tie.close (tie.spec
+    (λ c κs. search needs)  -- number-field-requires
+    (λ c. search needs)  -- enum-known-a
+    (λ c. search needs)  -- enum-told
     returns
-    last-number-requires
-    enum-known-b
-    pair-line-requires
-    enum-told-2
+    (λ c κs. search needs)  -- last-number-requires
+    (λ c. search needs)  -- enum-known-b
+    (λ c κs. search needs)  -- pair-line-requires
+    (λ c. search needs)  -- enum-told-2
     returns-2
     returns-3)

@@ -39,29 +39,11 @@ writers-known i =
     let k = j .before .before .before .before in
     set-field-at (textOf k) (j .readers .given .0 .1 .0) _ (i .before .before .set-field2 .ensures) _ _ (i .writers .given .1) .0
 
-number-field-requires : tie.Need-number-field-requires
-number-field-requires c κs = search needs
-
-enum-known-owner : tie.Need-enum-known-owner
-enum-known-owner c = search needs
-
-enum-told : tie.Need-enum-told
-enum-told c = search needs
-
 returns : tie.Need-returns
 unfolding policyRest
 returns c =
     let a = c .before .before .before .before .args in
     found-none _ _ (andThen-bad _ _ (number-field-bad (a .s .now) (a .at) most _ (c .before .before .number-field .ensures) (c .enum-told .given .1)))
-
-set-field-requires : tie.Need-set-field-requires
-set-field-requires c κs = search needs
-
-enum-known-readers : tie.Need-enum-known-readers
-enum-known-readers c = search needs
-
-enum-told-2 : tie.Need-enum-told-2
-enum-told-2 c = search needs
 
 returns-2 : tie.Need-returns-2
 unfolding policyRest
@@ -71,15 +53,6 @@ returns-2 c =
     (andThen-got _ _ _ _ (owner-known k) ∙ andThen-bad _ _
     (set-field-bad (textOf k) (k .owner .given .0 .1 .0) _ (c .before .before .set-field .ensures) (c .enum-told2 .given .1)))
 
-set-field-requires-2 : tie.Need-set-field-requires-2
-set-field-requires-2 c κs = search needs
-
-enum-known-writers : tie.Need-enum-known-writers
-enum-known-writers c = search needs
-
-enum-told-3 : tie.Need-enum-told-3
-enum-told-3 c = search needs
-
 returns-3 : tie.Need-returns-3
 unfolding policyRest
 returns-3 c =
@@ -88,15 +61,6 @@ returns-3 c =
     found-none _ _
     (andThen-got _ _ _ _ (owner-known k) ∙ andThen-got _ _ _ _ (readers-known j) ∙ andThen-bad _ _
     (set-field-bad (textOf k) (j .readers .given .0 .1 .0) _ (c .before .before .set-field2 .ensures) (c .enum-told3 .given .1)))
-
-line-end-requires : tie.Need-line-end-requires
-line-end-requires c κs = search needs
-
-enum-known-e : tie.Need-enum-known-e
-enum-known-e c = search needs
-
-enum-told-4 : tie.Need-enum-told-4
-enum-told-4 c = search needs
 
 returns-4 : tie.Need-returns-4
 unfolding policyRest
@@ -118,23 +82,21 @@ returns-5 c =
     (byte-bad (textOf k) (i .writers .given .0 .1 .0) 10 _ (c .before .before .line-end .ensures) (c .enum-told4 .given .1)))
 
 pub policy-rest-spec : {M : Type 1} → statement M
-policy-rest-spec =
-    tie.close
-    (tie.spec
-    number-field-requires
-    enum-known-owner
-    enum-told
+policy-rest-spec = tie.close (tie.spec
+    (λ c κs. search needs)  -- number-field-requires
+    (λ c. search needs)  -- enum-known-owner
+    (λ c. search needs)  -- enum-told
     returns
-    set-field-requires
-    enum-known-readers
-    enum-told-2
+    (λ c κs. search needs)  -- set-field-requires
+    (λ c. search needs)  -- enum-known-readers
+    (λ c. search needs)  -- enum-told-2
     returns-2
-    set-field-requires-2
-    enum-known-writers
-    enum-told-3
+    (λ c κs. search needs)  -- set-field-requires-2
+    (λ c. search needs)  -- enum-known-writers
+    (λ c. search needs)  -- enum-told-3
     returns-3
-    line-end-requires
-    enum-known-e
-    enum-told-4
+    (λ c κs. search needs)  -- line-end-requires
+    (λ c. search needs)  -- enum-known-e
+    (λ c. search needs)  -- enum-told-4
     returns-4
     returns-5)

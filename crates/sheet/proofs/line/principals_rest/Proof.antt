@@ -8,15 +8,6 @@ use borrow.Author.Needs.{needs}
 use Rattle.sheet.proofs.line.principals_rest.Statement.{statement}
 use Rattle.sheet.proofs.line.principals_rest.Tie as tie
 
-last-number-requires : tie.Need-last-number-requires
-last-number-requires c κs = search needs
-
-enum-known-n : tie.Need-enum-known-n
-enum-known-n c = search needs
-
-enum-told : tie.Need-enum-told
-enum-told c = search needs
-
 returns : tie.Need-returns
 unfolding principalsRest
 returns c =
@@ -31,5 +22,9 @@ returns-2 c =
     found-none _ _ (andThen-bad _ _ (last-number-bad (a .s .now) (a .at) most _ (c .before .before .last-number .ensures) (c .enum-told .given .1)))
 
 pub principals-rest-spec : {M : Type 1} → statement M
-principals-rest-spec =
-    tie.close (tie.spec last-number-requires enum-known-n enum-told returns returns-2)
+principals-rest-spec = tie.close (tie.spec
+    (λ c κs. search needs)  -- last-number-requires
+    (λ c. search needs)  -- enum-known-n
+    (λ c. search needs)  -- enum-told
+    returns
+    returns-2)

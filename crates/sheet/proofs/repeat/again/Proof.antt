@@ -14,24 +14,12 @@ Inv-loop table labels i from n j₀ j = anyFrom (sameIn table labels i) j (n - j
 abbrev μ-loop : tie.MeasureT-loop
 μ-loop table labels i from n j₀ j = n - j
 
-loop-holds : tie.Need-loop-holds Inv-loop μ-loop
-loop-holds c = refl
-
-same-requires : tie.Need-same-requires Inv-loop μ-loop
-same-requires c κs = search needs
-
 returns : tie.Need-returns Inv-loop μ-loop
 returns c =
     let at = c .before .before .before in
     let a = at .before .args in
     sym (any-here (sameIn (a .table .now) (a .labels) (a .i)) (at .loop .j) (a .n) (c .before .before .loop-test .taken) (sym (c .before .same .ensures) ∙ c .if1 .taken)) ∙
     at .loop .inv
-
-add-j : tie.Need-add-j Inv-loop μ-loop
-add-j c = omega arith
-
-loop-less : tie.Need-loop-less Inv-loop μ-loop
-loop-less c = omega arith
 
 loop-again : tie.Need-loop-again Inv-loop μ-loop
 loop-again c =
@@ -47,15 +35,13 @@ returns-2 c =
     sym (any-end (sameIn (a .table .now) (a .labels) (a .i)) (at .loop .j) (a .n) (c .loop-test .left)) ∙ at .loop .inv
 
 pub again-spec : {M : Type 1} → statement M
-again-spec =
-    tie.close
-    (tie.spec
+again-spec = tie.close (tie.spec
     Inv-loop
     μ-loop
-    loop-holds
-    same-requires
+    (λ c. refl)  -- loop-holds
+    (λ c κs. search needs)  -- same-requires
     returns
-    add-j
-    loop-less
+    (λ c. omega arith)  -- add-j
+    (λ c. omega arith)  -- loop-less
     loop-again
     returns-2)

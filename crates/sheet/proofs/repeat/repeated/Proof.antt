@@ -14,15 +14,6 @@ Inv-loop table labels from n i₀ i = anyFrom (againIn table labels n) i (n - i)
 abbrev μ-loop : tie.MeasureT-loop
 μ-loop table labels from n i₀ i = n - i
 
-loop-holds : tie.Need-loop-holds Inv-loop μ-loop
-loop-holds c = refl
-
-add-again : tie.Need-add-again Inv-loop μ-loop
-add-again c = search needs
-
-again-requires : tie.Need-again-requires Inv-loop μ-loop
-again-requires c κs = search needs
-
 returns : tie.Need-returns Inv-loop μ-loop
 unfolding againIn
 returns c =
@@ -30,12 +21,6 @@ returns c =
     let a = at .before .args in
     sym (any-here (againIn (a .table .now) (a .labels) (a .n)) (at .loop .i) (a .n) (c .before .before .loop-test .taken) (sym (c .before .again .ensures) ∙ c .if1 .taken)) ∙
     at .loop .inv
-
-add-i : tie.Need-add-i Inv-loop μ-loop
-add-i c = omega arith
-
-loop-less : tie.Need-loop-less Inv-loop μ-loop
-loop-less c = omega arith
 
 loop-again : tie.Need-loop-again Inv-loop μ-loop
 unfolding againIn
@@ -52,16 +37,14 @@ returns-2 c =
     sym (any-end (againIn (a .table .now) (a .labels) (a .n)) (at .loop .i) (a .n) (c .loop-test .left)) ∙ at .loop .inv
 
 pub repeated-spec : {M : Type 1} → statement M
-repeated-spec =
-    tie.close
-    (tie.spec
+repeated-spec = tie.close (tie.spec
     Inv-loop
     μ-loop
-    loop-holds
-    add-again
-    again-requires
+    (λ c. refl)  -- loop-holds
+    (λ c. search needs)  -- add-again
+    (λ c κs. search needs)  -- again-requires
     returns
-    add-i
-    loop-less
+    (λ c. omega arith)  -- add-i
+    (λ c. omega arith)  -- loop-less
     loop-again
     returns-2)

@@ -5,21 +5,9 @@ use borrow.Author.Needs.{needs}
 use Rattle.sheet.proofs.repeat.repeats.Statement.{statement}
 use Rattle.sheet.proofs.repeat.repeats.Tie as tie
 
-types-requires : tie.Need-types-requires
-types-requires c κs = search needs
-
-repeated-requires : tie.Need-repeated-requires
-repeated-requires c κs = search needs
-
 returns : tie.Need-returns
 returns c =
     repeats-type _ _ (c .before .before .types .ensures) (sym (c .before .repeated .ensures) ∙ c .if1 .taken)
-
-labels-requires : tie.Need-labels-requires
-labels-requires c κs = search needs
-
-repeated-requires-2 : tie.Need-repeated-requires-2
-repeated-requires-2 c κs = search needs
 
 returns-2 : tie.Need-returns-2
 returns-2 c =
@@ -28,12 +16,10 @@ returns-2 c =
     (sym (c .before .before .before .before .repeated .ensures) ∙ c .before .before .before .if1 .left)
 
 pub repeats-spec : {M : Type 1} → statement M
-repeats-spec =
-    tie.close
-    (tie.spec
-    types-requires
-    repeated-requires
+repeats-spec = tie.close (tie.spec
+    (λ c κs. search needs)  -- types-requires
+    (λ c κs. search needs)  -- repeated-requires
     returns
-    labels-requires
-    repeated-requires-2
+    (λ c κs. search needs)  -- labels-requires
+    (λ c κs. search needs)  -- repeated-requires-2
     returns-2)

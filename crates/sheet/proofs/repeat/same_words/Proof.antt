@@ -20,36 +20,9 @@ Inv-loop table a b n k₀ k = (k ≤ n) × ((i : ℕ) → i < k → eqb (getD ta
 abbrev μ-loop : tie.MeasureT-loop
 μ-loop table a b n k₀ k = n - k
 
-loop-holds : tie.Need-loop-holds Inv-loop μ-loop
-loop-holds c = (search needs, λ i l. absurd (not-suc-le-zero l))
-
-add-if1 : tie.Need-add-if1 Inv-loop μ-loop
-add-if1 c = search needs
-
-mul-if1 : tie.Need-mul-if1 Inv-loop μ-loop
-mul-if1 c = search needs
-
-element-copy-out-if1 : tie.Need-element-copy-out-if1 Inv-loop μ-loop
-element-copy-out-if1 c = search needs
-
-add-if1-2 : tie.Need-add-if1-2 Inv-loop μ-loop
-add-if1-2 c = search needs
-
-mul-if1-2 : tie.Need-mul-if1-2 Inv-loop μ-loop
-mul-if1-2 c = search needs
-
-element-copy-out-if1-2 : tie.Need-element-copy-out-if1-2 Inv-loop μ-loop
-element-copy-out-if1-2 c = search needs
-
 returns : tie.Need-returns Inv-loop μ-loop
 unfolding sameWords
 returns c = sym (every-false _ _ (c .before .before .before .before .loop .k) (omega arith) (ne-eqb _ _ (c .if1 .taken)))
-
-add-k : tie.Need-add-k Inv-loop μ-loop
-add-k c = search needs
-
-loop-less : tie.Need-loop-less Inv-loop μ-loop
-loop-less c = search needs
 
 loop-again : tie.Need-loop-again Inv-loop μ-loop
 loop-again c = (search needs, below-more _ _ (c .before .before .before .before .loop .inv .1) (eq-eqb _ _ (c .if1 .left)))
@@ -59,20 +32,18 @@ unfolding sameWords
 returns-2 c = sym (every-true _ _ (λ i l. c .before .loop .inv .1 i (omega arith)))
 
 pub same-words-spec : {M : Type 1} → statement M
-same-words-spec =
-    tie.close
-    (tie.spec
+same-words-spec = tie.close (tie.spec
     Inv-loop
     μ-loop
-    loop-holds
-    add-if1
-    mul-if1
-    element-copy-out-if1
-    add-if1-2
-    mul-if1-2
-    element-copy-out-if1-2
+    (λ c. (search needs, λ i l. absurd (not-suc-le-zero l)))  -- loop-holds
+    (λ c. search needs)  -- add-if1
+    (λ c. search needs)  -- mul-if1
+    (λ c. search needs)  -- element-copy-out-if1
+    (λ c. search needs)  -- add-if1-2
+    (λ c. search needs)  -- mul-if1-2
+    (λ c. search needs)  -- element-copy-out-if1-2
     returns
-    add-k
-    loop-less
+    (λ c. search needs)  -- add-k
+    (λ c. search needs)  -- loop-less
     loop-again
     returns-2)

@@ -3,14 +3,8 @@ use borrow.Author.Needs.{needs}
 use Rattle.simp.proofs.stages.judge.Statement.{statement}
 use Rattle.simp.proofs.stages.judge.Tie as tie
 
-returns : tie.Need-returns
-returns c = judge-empty _ _ (c .if1 .taken)
-
-check-requires : tie.Need-check-requires
-check-requires c κs = search needs
-
-returns-2 : tie.Need-returns-2
-returns-2 c = judge-some _ _ _ (c .before .if1 .left) (c .check .ensures)
-
 pub judge-spec : {M : Type 1} → statement M
-judge-spec = tie.close (tie.spec returns check-requires returns-2)
+judge-spec = tie.close (tie.spec
+    (λ c. judge-empty _ _ (c .if1 .taken))  -- returns
+    (λ c κs. search needs)  -- check-requires
+    (λ c. judge-some _ _ _ (c .before .if1 .left) (c .check .ensures)))  -- returns-2

@@ -4,23 +4,8 @@ use borrow.Author.Needs.{needs}
 use Rattle.simp.proofs.stages.run_code.Statement.{statement}
 use Rattle.simp.proofs.stages.run_code.Tie as tie
 
-judge-requires : tie.Need-judge-requires
-judge-requires c κs = search needs
-
-refused-requires : tie.Need-refused-requires
-refused-requires c κs = search needs
-
 returns : tie.Need-returns
 returns c = rw (c .refused .ensures) (run-judged _ _ _ _ _ _ (c .before .before .judge .ensures) (c .before .if1 .taken))
-
-refusal-requires : tie.Need-refusal-requires
-refusal-requires c κs = search needs
-
-refused-requires-2 : tie.Need-refused-requires-2
-refused-requires-2 c κs = search needs
-
-same-length : tie.Need-same-length
-same-length c = search needs
 
 returns-2 : tie.Need-returns-2
 returns-2 c =
@@ -29,12 +14,6 @@ returns-2 c =
     (refusal-in _ _ _ (c .before .before .refusal .ensures))
     (c .before .if2 .taken))
 
-run-requires : tie.Need-run-requires
-run-requires c κs = search needs
-
-same-length-2 : tie.Need-same-length-2
-same-length-2 c = search needs
-
 returns-3 : tie.Need-returns-3
 returns-3 c =
     let k = c .before .before .before .before in
@@ -42,16 +21,14 @@ returns-3 c =
     (refusal-in _ _ _ (sym (k .if2 .left) ∙ k .before .refusal .ensures)) (c .before .before .run .ensures)
 
 pub run-code-spec : {M : Type 1} → statement M
-run-code-spec =
-    tie.close
-    (tie.spec
-    judge-requires
-    refused-requires
+run-code-spec = tie.close (tie.spec
+    (λ c κs. search needs)  -- judge-requires
+    (λ c κs. search needs)  -- refused-requires
     returns
-    refusal-requires
-    refused-requires-2
-    same-length
+    (λ c κs. search needs)  -- refusal-requires
+    (λ c κs. search needs)  -- refused-requires-2
+    (λ c. search needs)  -- same-length
     returns-2
-    run-requires
-    same-length-2
+    (λ c κs. search needs)  -- run-requires
+    (λ c. search needs)  -- same-length-2
     returns-3)

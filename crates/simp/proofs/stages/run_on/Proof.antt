@@ -7,31 +7,10 @@ use borrow.Author.Needs.{needs}
 use Rattle.simp.proofs.stages.run_on.Statement.{statement}
 use Rattle.simp.proofs.stages.run_on.Tie as tie
 
-everyone-requires : tie.Need-everyone-requires
-everyone-requires c κs = search needs
-
-contained-requires : tie.Need-contained-requires
-contained-requires c κs = search needs
-
-refused-requires : tie.Need-refused-requires
-refused-requires c κs = search needs
-
 returns : tie.Need-returns
 returns c =
     rw (c .refused .ensures)
     (run-stranger _ _ _ _ _ (ap (within _) (sym (c .before .before .before .everyone .ensures)) ∙ sym (c .before .before .contained .ensures) ∙ not-true _ (c .before .if1 .taken)))
-
-read-requires : tie.Need-read-requires
-read-requires c κs = search needs
-
-rows-requires : tie.Need-rows-requires
-rows-requires c κs = search needs
-
-run-code-requires : tie.Need-run-code-requires
-run-code-requires c κs = search needs
-
-same-length : tie.Need-same-length
-same-length c = search needs
 
 returns-2 : tie.Need-returns-2
 returns-2 c =
@@ -43,15 +22,13 @@ returns-2 c =
     (read .read .ensures) (rows .rows .ensures) (c .before .before .run-code .ensures)
 
 pub run-on-spec : {M : Type 1} → statement M
-run-on-spec =
-    tie.close
-    (tie.spec
-    everyone-requires
-    contained-requires
-    refused-requires
+run-on-spec = tie.close (tie.spec
+    (λ c κs. search needs)  -- everyone-requires
+    (λ c κs. search needs)  -- contained-requires
+    (λ c κs. search needs)  -- refused-requires
     returns
-    read-requires
-    rows-requires
-    run-code-requires
-    same-length
+    (λ c κs. search needs)  -- read-requires
+    (λ c κs. search needs)  -- rows-requires
+    (λ c κs. search needs)  -- run-code-requires
+    (λ c. search needs)  -- same-length
     returns-2)

@@ -6,22 +6,10 @@ use borrow.Author.Needs.{needs}
 use Rattle.simp.proofs.stages.view_on.Statement.{statement}
 use Rattle.simp.proofs.stages.view_on.Tie as tie
 
-everyone-requires : tie.Need-everyone-requires
-everyone-requires c κs = search needs
-
-contained-requires : tie.Need-contained-requires
-contained-requires c κs = search needs
-
 returns : tie.Need-returns
 returns c =
     view-stranger _ _ _ _
     (ap (within _) (sym (c .before .before .everyone .ensures)) ∙ sym (c .before .contained .ensures) ∙ not-true _ (c .if1 .taken))
-
-view-requires : tie.Need-view-requires
-view-requires c κs = search needs
-
-same-length : tie.Need-same-length
-same-length c = search needs
 
 returns-2 : tie.Need-returns-2
 returns-2 c =
@@ -31,6 +19,10 @@ returns-2 c =
     (c .before .before .view .ensures .0) (c .before .before .view .ensures .1)
 
 pub view-on-spec : {M : Type 1} → statement M
-view-on-spec =
-    tie.close
-    (tie.spec everyone-requires contained-requires returns view-requires same-length returns-2)
+view-on-spec = tie.close (tie.spec
+    (λ c κs. search needs)  -- everyone-requires
+    (λ c κs. search needs)  -- contained-requires
+    returns
+    (λ c κs. search needs)  -- view-requires
+    (λ c. search needs)  -- same-length
+    returns-2)

@@ -11,20 +11,8 @@ returns c =
     let a = c .before .before .args in
     (sym (reached-none _ _ _ (omega (arith, length-positive (a .v)))), sym (written-none _ _ _ (omega (arith, length-positive (a .v)))))
 
-sub-if2 : tie.Need-sub-if2
-sub-if2 c = search needs
-
-width-requires : tie.Need-width-requires
-width-requires c κs = search needs
-
 returns-2 : tie.Need-returns-2
 returns-2 c = (sym (reached-none _ _ _ (omega arith)), sym (written-none _ _ _ (omega arith)))
-
-put-digits-requires : tie.Need-put-digits-requires
-put-digits-requires c κs = omega arith
-
-same-length : tie.Need-same-length
-same-length c = search needs
 
 returns-3 : tie.Need-returns-3
 returns-3 c =
@@ -32,6 +20,11 @@ returns-3 c =
     (d .ensures .0 ∙ sym (reached-fits _ _ _ (omega arith)), d .ensures .1 ∙ sym (written-fits _ _ _ (omega arith)))
 
 pub put-number-spec : {M : Type 1} → statement M
-put-number-spec =
-    tie.close
-    (tie.spec returns sub-if2 width-requires returns-2 put-digits-requires same-length returns-3)
+put-number-spec = tie.close (tie.spec
+    returns
+    (λ c. search needs)  -- sub-if2
+    (λ c κs. search needs)  -- width-requires
+    returns-2
+    (λ c κs. omega arith)  -- put-digits-requires
+    (λ c. search needs)  -- same-length
+    returns-3)

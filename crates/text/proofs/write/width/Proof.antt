@@ -14,20 +14,15 @@ Inv-loop v n₀ w₀ n w = n + length (decimal w) ≡ length (decimal v) + 1
 abbrev μ-loop : tie.MeasureT-loop
 μ-loop v n₀ w₀ n w = w
 
-loop-holds : tie.Need-loop-holds Inv-loop μ-loop
-loop-holds c = omega arith
-
 add-n : tie.Need-add-n Inv-loop μ-loop
 add-n c = omega (arith, length-decimal (c .before .before .args .v) (omega arith))
 
-loop-less : tie.Need-loop-less Inv-loop μ-loop
-loop-less c = omega arith
-
-loop-again : tie.Need-loop-again Inv-loop μ-loop
-loop-again c = omega (arith, length-more (c .before .loop .w) (omega arith))
-
-returns : tie.Need-returns Inv-loop μ-loop
-returns c = omega (arith, length-low (c .before .loop .w) (omega arith))
-
 pub width-spec : {M : Type 1} → statement M
-width-spec = tie.close (tie.spec Inv-loop μ-loop loop-holds add-n loop-less loop-again returns)
+width-spec = tie.close (tie.spec
+    Inv-loop
+    μ-loop
+    (λ c. omega arith)  -- loop-holds
+    add-n
+    (λ c. omega arith)  -- loop-less
+    (λ c. omega (arith, length-more (c .before .loop .w) (omega arith)))  -- loop-again
+    (λ c. omega (arith, length-low (c .before .loop .w) (omega arith))))  -- returns

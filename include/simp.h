@@ -37,7 +37,7 @@ enum {
     SIMP_ILL_TYPED = 5,          /* the script has no derivation, even with every label condition struck out */
     SIMP_ILL_LABELLED = 6,       /* the script has a derivation only with the label conditions struck out */
     SIMP_SLICE_SIZE = 7,         /* a lent memory or view isn't SIMP_CELL words for each location */
-    SIMP_MEMORY_ILL_FORMED = 8,  /* a location's words aren't a value of its type */
+    SIMP_MEMORY_ILL_FORMED = 8,  /* a location's words aren't a value of its type and zeros, or name a label not on the sheet */
     SIMP_SPENT = 9,              /* the budget was used up before the script ended */
     SIMP_TOO_LONG = 10           /* in a step within the budget a value took more than SIMP_CELL words */
 };

@@ -1,4 +1,4 @@
--- The three demands, over the definitions that the contracts of the three calls equate them with.
+-- The three demands, stated of the definitions that the contracts equate the three calls with.
 use mathlib.Core.Logic.{_↔_}
 use mathlib.Core.Path.{_≡_}
 use mathlib.Core.List.{List, [], _∷_}
@@ -62,8 +62,8 @@ pub record Demand2 : Type 0 where
   pub view : (sheet memory : List ℕ) (group : ℕ) (words : List ℕ) (v : Viewed) → (viewOf sheet memory group words ≡ v) ↔ View sheet memory group words v
 
 -- Two memories give a group the same view: the view of each is handed out into a lent slice, and these agree in every word.
--- `shown` holds exactly if the memory is well-formed, the slices have their size and the group is on the sheet; `view` and `view′` are what the
--- lent slices held before.
+-- `shown` holds exactly if the sheet is of its form and repeats nothing, the group is on it, the slices have their size and the memory is
+-- well-formed; `view` and `view′` are what the lent slices held before.
 pub record SameView (sheet : List ℕ) (group : ℕ) (memory memory′ view view′ : List ℕ) : Type 0 where
   pub shown : viewOf sheet memory group view .answer ≡ 0
   pub shown′ : viewOf sheet memory′ group view′ .answer ≡ 0

@@ -1,133 +1,111 @@
--- Demand 1, read off the judgements: what a call leaves and answers, number by number. Assumes nothing.
-use mathlib.Core.Path.{_≡_, refl}
+-- Demand 1, read off the tables: what a call leaves and answers. Assumes nothing.
+use mathlib.Core.Path.{_≡_, refl, ap}
 use mathlib.Core.List.{List, [], _∷_}
-use Prim.Native.Nat.{ℕ, suc, _<_}
+use Prim.Native.Nat.{ℕ}
 use native.Mathlib.Omega.{arith}
-use Rattle.simp.specs.Calls.{Ran, Viewed}
-use Rattle.simp.specs.Judgements.{Checked, check-0, check-1, check-2, check-4, check-5, check-6, Run, run-0, run-1, run-2, run-3, run-4, run-5, run-6, run-7, run-8, run-9, run-10, View, view-0, view-1, view-2, view-3, view-7, view-8}
-use Rattle.simp.specs.Demands.{Among, here, later, Finished, Demand1}
-use Rattle.simp.proofs.SecondDemand.{checked, run-judged, view-judged}
+use Rattle.tables.specs.Sheet.{Sheet}
+use Rattle.language.specs.Syntax.{Cmd}
+use Rattle.simp.specs.Calls.{checkOf, Ran, refusedRun, runOf, Viewed, refusedView, viewOf}
+use Rattle.simp.specs.Rows.{numbers, Among, here, later}
+use Rattle.simp.specs.Judgements.{checkRows, Started, Ends, ends-0, ends-9, ends-10, runRows, viewRows}
+use Rattle.simp.specs.Demands.{Finished, RunAnswers, ViewAnswers, Demand1}
+use Rattle.simp.proofs.RowLaws.{by-rows, not-one, among-more, every-table}
+use Rattle.simp.proofs.SecondDemand.{checked, Starts, run-starts, run-ends, run-exactly, Shows, view-shows, view-exactly}
 
-refused : {k : ℕ} {A : Type 0} → suc k ≡ 0 → A
-refused h = absurd (omega arith)
+module _ {memory : List ℕ} {budget : ℕ} where
+  finished : {sheet script : List ℕ} {authority : ℕ} {s : Sheet} {c : Cmd} {r : Ran} → Started sheet script memory authority s c → Ends s c memory authority budget r → r .answer ≡ 0
+      → Finished sheet script memory authority budget (r .steps) (r .memory)
+  finished st (ends-9 t n l) h = absurd (omega arith)
+  finished st (ends-10 k t n l) h = absurd (omega arith)
+  finished {s = s} {c = c} st (ends-0 {M′} k t n) h = record { its-sheet = s; its-command = c; reached = M′; started = st; run = t; words = refl; within = k }
 
-module _ {sheet script memory : List ℕ} {authority budget : ℕ} where
-  finished : {r : Ran} → Run sheet script memory authority budget r → r .answer ≡ 0 → Finished sheet script memory authority budget (r .steps) (r .memory)
-  finished (run-1 n) h = refused h
-  finished (run-2 i r) h = refused h
-  finished (run-3 i p) h = refused h
-  finished (run-4 i p n) h = refused h
-  finished (run-5 i p c n) h = refused h
-  finished (run-6 i p c t n) h = refused h
-  finished (run-7 i p c t n) h = refused h
-  finished (run-8 i p c t z w) h = refused h
-  finished (run-9 st t n l) h = refused h
-  finished (run-10 st k t n l) h = refused h
-  finished (run-0 {s} {c} {M′} st k t n) h = record { its-sheet = s; its-command = c; reached = M′; started = st; run = t; words = refl; within = k }
+  ended : {authority : ℕ} {s : Sheet} {c : Cmd} {r : Ran} → Ends s c memory authority budget r → RunAnswers memory budget r
+  ended (ends-0 k t n) = record {
+    number = here;
+    kept = λ h. absurd (h refl);
+    no-steps = λ h j i. absurd (h refl);
+    all-steps = λ h. absurd (omega arith);
+    fewer-steps = λ h. absurd (omega arith);
+  }
+  ended (ends-9 t n l) = record {
+    number = later (later (later (later (later (later (later (later (later here))))))));
+    kept = λ h. refl;
+    no-steps = λ h j i. absurd (j refl);
+    all-steps = λ h. refl;
+    fewer-steps = λ h. absurd (omega arith);
+  }
+  ended (ends-10 k t n l) = record {
+    number = later (later (later (later (later (later (later (later (later (later here)))))))));
+    kept = λ h. refl;
+    no-steps = λ h j i. absurd (i refl);
+    all-steps = λ h. absurd (omega arith);
+    fewer-steps = λ h. k;
+  }
 
-  kept : {r : Ran} → Run sheet script memory authority budget r → ¬ (r .answer ≡ 0) → r .memory ≡ memory
-  kept (run-1 n) h = refl
-  kept (run-2 i r) h = refl
-  kept (run-3 i p) h = refl
-  kept (run-4 i p n) h = refl
-  kept (run-5 i p c n) h = refl
-  kept (run-6 i p c t n) h = refl
-  kept (run-7 i p c t n) h = refl
-  kept (run-8 i p c t z w) h = refl
-  kept (run-9 st t n l) h = refl
-  kept (run-10 st k t n l) h = refl
-  kept (run-0 st k t n) h = absurd (h refl)
+  refused : (k : ℕ) → Among (1 ∷ 2 ∷ 3 ∷ 4 ∷ 5 ∷ 6 ∷ 7 ∷ 8 ∷ []) k → RunAnswers memory budget (refusedRun memory k)
+  refused k i = record {
+    number = later (among-more (9 ∷ 10 ∷ []) i);
+    kept = λ h. refl;
+    no-steps = λ h j l. refl;
+    all-steps = λ h. absurd (not-one 9 i refl h);
+    fewer-steps = λ h. absurd (not-one 10 i refl h);
+  }
 
-  among : {r : Ran} → Run sheet script memory authority budget r → Among (0 ∷ 1 ∷ 2 ∷ 3 ∷ 4 ∷ 5 ∷ 6 ∷ 7 ∷ 8 ∷ 9 ∷ 10 ∷ []) (r .answer)
-  among (run-0 st k t n) = here
-  among (run-1 n) = later here
-  among (run-2 i r) = later (later here)
-  among (run-3 i p) = later (later (later here))
-  among (run-4 i p n) = later (later (later (later here)))
-  among (run-5 i p c n) = later (later (later (later (later here))))
-  among (run-6 i p c t n) = later (later (later (later (later (later here)))))
-  among (run-7 i p c t n) = later (later (later (later (later (later (later here))))))
-  among (run-8 i p c t z w) = later (later (later (later (later (later (later (later here)))))))
-  among (run-9 st t n l) = later (later (later (later (later (later (later (later (later here))))))))
-  among (run-10 st k t n l) = later (later (later (later (later (later (later (later (later (later here)))))))))
+-- a run that is done has started, and a view that is handed out is refused by nothing
+pub starts : (sheet script memory : List ℕ) (authority budget : ℕ) → runOf sheet script memory authority budget .answer ≡ 0 → Starts sheet script memory authority
+unfolding numbers
+starts sheet script memory authority budget =
+    by-rows (refusedRun memory) _ (λ (r : Ran). r .answer ≡ 0 → Starts sheet script memory authority) (runRows sheet script memory authority)
+    (λ k i g h. absurd (not-one 0 i refl h)) (λ r n st h. st) _ (run-starts sheet script memory authority budget)
 
-  no-steps : {r : Ran} → Run sheet script memory authority budget r → ¬ (r .answer ≡ 0) → ¬ (r .answer ≡ 9) → ¬ (r .answer ≡ 10) → r .steps ≡ 0
-  no-steps (run-1 n) h j k = refl
-  no-steps (run-2 i r) h j k = refl
-  no-steps (run-3 i p) h j k = refl
-  no-steps (run-4 i p n) h j k = refl
-  no-steps (run-5 i p c n) h j k = refl
-  no-steps (run-6 i p c t n) h j k = refl
-  no-steps (run-7 i p c t n) h j k = refl
-  no-steps (run-8 i p c t z w) h j k = refl
-  no-steps (run-9 st t n l) h j k = absurd (j refl)
-  no-steps (run-10 st m t n l) h j k = absurd (k refl)
-  no-steps (run-0 st m t n) h j k = absurd (h refl)
+pub shows : (sheet memory : List ℕ) (group : ℕ) (view : List ℕ) → viewOf sheet memory group view .answer ≡ 0 → Shows sheet memory group view
+unfolding numbers
+shows sheet memory group view =
+    by-rows (refusedView view) _ (λ (v : Viewed). v .answer ≡ 0 → Shows sheet memory group view) (viewRows sheet memory group view)
+    (λ k i g h. absurd (not-one 0 i refl h)) (λ v n z h. z) _ (view-shows sheet memory group view)
 
-  -- each other number differs from 9; below, from 10
-  all-steps : {r : Ran} → Run sheet script memory authority budget r → r .answer ≡ 9 → r .steps ≡ budget
-  all-steps (run-1 n) h = absurd (omega arith)
-  all-steps (run-2 i r) h = absurd (omega arith)
-  all-steps (run-3 i p) h = absurd (omega arith)
-  all-steps (run-4 i p n) h = absurd (omega arith)
-  all-steps (run-5 i p c n) h = absurd (omega arith)
-  all-steps (run-6 i p c t n) h = absurd (omega arith)
-  all-steps (run-7 i p c t n) h = absurd (omega arith)
-  all-steps (run-8 i p c t z w) h = absurd (omega arith)
-  all-steps (run-9 st t n l) h = refl
-  all-steps (run-10 st m t n l) h = absurd (omega arith)
-  all-steps (run-0 st m t n) h = absurd (omega arith)
+run-answers : (sheet script memory : List ℕ) (authority budget : ℕ) → RunAnswers memory budget (runOf sheet script memory authority budget)
+unfolding numbers
+run-answers sheet script memory authority budget =
+    by-rows (refusedRun memory) _ (RunAnswers memory budget) (runRows sheet script memory authority) (λ k i g. refused k i) (λ r n e. ended (e .2 .2)) _
+    (run-exactly sheet script memory authority budget _ .0 refl)
 
-  fewer-steps : {r : Ran} → Run sheet script memory authority budget r → r .answer ≡ 10 → r .steps < budget
-  fewer-steps (run-1 n) h = absurd (omega arith)
-  fewer-steps (run-2 i r) h = absurd (omega arith)
-  fewer-steps (run-3 i p) h = absurd (omega arith)
-  fewer-steps (run-4 i p n) h = absurd (omega arith)
-  fewer-steps (run-5 i p c n) h = absurd (omega arith)
-  fewer-steps (run-6 i p c t n) h = absurd (omega arith)
-  fewer-steps (run-7 i p c t n) h = absurd (omega arith)
-  fewer-steps (run-8 i p c t z w) h = absurd (omega arith)
-  fewer-steps (run-9 st t n l) h = absurd (omega arith)
-  fewer-steps (run-10 st k t n l) h = k
-  fewer-steps (run-0 st k t n) h = absurd (omega arith)
+check-answers : (sheet script : List ℕ) → Among (0 ∷ 1 ∷ 2 ∷ 4 ∷ 5 ∷ 6 ∷ []) (checkOf sheet script)
+unfolding numbers
+check-answers sheet script = by-rows (λ k. k) _ (Among (0 ∷ 1 ∷ 2 ∷ 4 ∷ 5 ∷ 6 ∷ [])) (checkRows sheet script) (λ k i g. later i) (λ r n e. rw e here) _ (checked sheet script)
 
-check-among : {sheet script : List ℕ} {k : ℕ} → Checked sheet script k → Among (0 ∷ 1 ∷ 2 ∷ 4 ∷ 5 ∷ 6 ∷ []) k
-check-among (check-0 i c t) = here
-check-among (check-1 n) = later here
-check-among (check-2 i r) = later (later here)
-check-among (check-4 i n) = later (later (later here))
-check-among (check-5 i c n) = later (later (later (later here)))
-check-among (check-6 i c t n) = later (later (later (later (later here))))
+view-answers : (sheet memory : List ℕ) (group : ℕ) (view : List ℕ) → ViewAnswers view (viewOf sheet memory group view)
+unfolding numbers
+view-answers sheet memory group view =
+    by-rows (refusedView view) _ (ViewAnswers view) (viewRows sheet memory group view)
+    (λ k i g. record { number = later i; kept = λ h. refl })
+    (λ v n e. let z : v .answer ≡ 0 = ap (λ (x : Viewed). x .answer) (e .2) in record { number = rw z here; kept = λ h. absurd (h z) })
+    _ (view-exactly sheet memory group view _ .0 refl)
 
-module _ {sheet memory : List ℕ} {group : ℕ} {view : List ℕ} where
-  view-kept : {v : Viewed} → View sheet memory group view v → ¬ (v .answer ≡ 0) → v .view ≡ view
-  view-kept (view-1 n) h = refl
-  view-kept (view-2 i r) h = refl
-  view-kept (view-3 i p) h = refl
-  view-kept (view-7 i p n) h = refl
-  view-kept (view-8 i p z y w) h = refl
-  view-kept (view-0 i p z y w) h = absurd (h refl)
-
-  view-among : {v : Viewed} → View sheet memory group view v → Among (0 ∷ 1 ∷ 2 ∷ 3 ∷ 7 ∷ 8 ∷ []) (v .answer)
-  view-among (view-0 i p z y w) = here
-  view-among (view-1 n) = later here
-  view-among (view-2 i r) = later (later here)
-  view-among (view-3 i p) = later (later (later here))
-  view-among (view-7 i p n) = later (later (later (later here)))
-  view-among (view-8 i p z y w) = later (later (later (later (later here))))
+-- the numbers past the table of a run
+past-8 : {s : Sheet} {c : Cmd} {memory : List ℕ} {authority budget : ℕ} {r : Ran} → Ends s c memory authority budget r
+    → ¬ Among (1 ∷ 2 ∷ 3 ∷ 4 ∷ 5 ∷ 6 ∷ 7 ∷ 8 ∷ []) (r .answer)
+past-8 (ends-0 k t n) i = not-one 0 i refl refl
+past-8 (ends-9 t n l) i = not-one 9 i refl refl
+past-8 (ends-10 k t n l) i = not-one 10 i refl refl
 
 pub demand-1 : Demand1
+unfolding numbers
 demand-1 = record {
+  check-order = λ sheet script. every-table (λ k. k) _ (checkRows sheet script) .number-in-order (λ k. k) (λ k. refl) (λ r e i. not-one 0 i refl e) _ (checked sheet script);
+  run-order = λ sheet script memory authority budget.
+      every-table (refusedRun memory) _ (runRows sheet script memory authority) .number-in-order (λ r. r .answer) (λ k. refl) (λ r e. past-8 (e .2 .2)) _
+      (run-exactly sheet script memory authority budget _ .0 refl);
+  view-order = λ sheet memory group view.
+      every-table (refusedView view) _ (viewRows sheet memory group view) .number-in-order (λ v. v .answer) (λ k. refl)
+      (λ v e i. not-one 0 i refl (ap (λ (x : Viewed). x .answer) (e .2))) _ (view-exactly sheet memory group view _ .0 refl);
   check-number = checked;
-  run-number = run-judged;
-  view-number = view-judged;
-  run-finished = λ sheet script memory authority budget. finished (run-judged sheet script memory authority budget);
-  run-refused = λ sheet script memory authority budget. kept (run-judged sheet script memory authority budget);
-  view-refused = λ sheet memory group view. view-kept (view-judged sheet memory group view);
-  check-answers = λ sheet script. check-among (checked sheet script);
-  run-answers = λ sheet script memory authority budget. among (run-judged sheet script memory authority budget);
-  view-answers = λ sheet memory group view. view-among (view-judged sheet memory group view);
-  no-steps = λ sheet script memory authority budget. no-steps (run-judged sheet script memory authority budget);
-  all-steps = λ sheet script memory authority budget. all-steps (run-judged sheet script memory authority budget);
-  fewer-steps = λ sheet script memory authority budget. fewer-steps (run-judged sheet script memory authority budget);
+  run-number = λ sheet script memory authority budget. run-exactly sheet script memory authority budget _ .0 refl;
+  view-number = λ sheet memory group view. view-exactly sheet memory group view _ .0 refl;
+  run-finished = λ sheet script memory authority budget h.
+      let st = starts sheet script memory authority budget h in
+      finished (st .2) (run-ends (st .2) budget) h;
+  check-answers = check-answers;
+  run-answers = run-answers;
+  view-answers = view-answers;
 }

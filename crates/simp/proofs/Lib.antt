@@ -1,6 +1,7 @@
-pub mod Answers
+pub mod RowLaws
 pub mod FirstDemand
 pub mod Numbers
+pub mod Judged
 pub mod SecondDemand
 pub mod Readers
 pub mod Runs

@@ -1,104 +1,76 @@
 -- Demand 2: each call answers what the papers say. Assumes nothing.
 use mathlib.Core.Logic.{_↔_}
 use mathlib.Core.Path.{_≡_, refl, sym, ap, _∙_, subst}
+use mathlib.Core.Bool.{true}
 use mathlib.Core.List.{List}
-use mathlib.Core.Option.{Option, none, some}
-use Prim.Native.Nat.{ℕ, suc, _+_, _-_}
+use Prim.Native.Nat.{ℕ, zero, suc, _+_, _-_}
 use native.Mathlib.Omega.{arith}
 use Rattle.language.specs.Syntax.{Cmd}
 use Rattle.language.specs.Transition.{Out, done, spent, over, iterate}
-use Rattle.language.specs.Theorems.{Ends, ends-done, ends-spent, ends-over}
+use Rattle.language.specs.Theorems.{ends-done, ends-spent, ends-over}
+use Rattle.language.specs.Theorems as theorems
 use Rattle.language.proofs.Outcome.{outcome}
 use Rattle.tables.specs.Sheet.{Sheet, locationCount}
 use Rattle.tables.specs.Meaning.{shapesOf, worldOf}
-use Rattle.sheet.specs.Sheets.{accepted, sheetOf}
-use Rattle.sheet.proofs.Theorems.{accepted-exact, repeating-exact, malformed-exact}
-use Rattle.script.specs.Script.{countsOf, scriptOf}
-use Rattle.script.specs.Theorems.{IsScript}
-use Rattle.script.proofs.ScriptLaws.{script-exact}
-use Rattle.memory.specs.Memory.{memoryOf, wordsOf}
+use Rattle.memory.specs.Memory.{memoryOf, wordsOf, wellFormed}
+use Rattle.memory.specs.View.{viewWords}
 use Rattle.memory.specs.Theorems.{Declared}
 use Rattle.memory.proofs.Exactness.{memory-exactly}
-use Rattle.simp.specs.Calls.{onSheet, unless, onScript, checkOf, Ran, ended, runOf, Viewed, viewOf}
-use Rattle.simp.specs.Judgements.{OnSheet, Checked, check-0, check-1, check-2, check-4, check-5, check-6, Started, Run, run-0, run-1, run-2, run-3, run-4, run-5, run-6, run-7, run-8, run-9, run-10, View, view-0, view-1, view-2, view-3, view-7, view-8}
+use Rattle.simp.specs.Calls.{onSheet, unless, onScript, untyped, checkOf, Ran, refusedRun, ended, runOf, Viewed, refusedView, viewOf}
+use Rattle.simp.specs.Rows.{First}
+use Rattle.simp.specs.Judgements.{OnSheet, Principals, Sized, checkRows, Checked, Started, Ends, ends-0, ends-9, ends-10, runRows, Run, viewRows, View}
 use Rattle.simp.specs.Demands.{Demand2}
-use Rattle.simp.proofs.Answers.{on-sheet, on-script}
-use Rattle.simp.proofs.Numbers.{no-strangers, some-strangers, typable-0, unlabelled-5, labelled-6, by-typing, typable-shape, sized-0, unsized-7, ill-formed-8, view-sized, unsized-view, past-3, past-6, past-8, past-view-8}
-
-none-some : {c : Cmd} → none ≡ some c → ⊥
-none-some h = let z : _≡_ {A = ℕ} 0 1 = cc in omega arith
-
--- ---- sheets and scripts
-
-pub read : {sheet : List ℕ} {s : Sheet} → OnSheet sheet s → sheetOf sheet ≡ accepted s
-read {sheet} {s} h = accepted-exact sheet s .1 (h .form, h .once)
-
-on : (sheet : List ℕ) (s : Sheet) → sheetOf sheet ≡ accepted s → OnSheet sheet s
-on sheet s e = let h = accepted-exact sheet s .0 e in record { form = h .0; once = h .1 }
-
-pub parsed : {sheet : List ℕ} {s : Sheet} (script : List ℕ) {c : Cmd} → OnSheet sheet s → IsScript (countsOf s) script c → scriptOf (countsOf s) script ≡ some c
-parsed {s = s} script {c} h i = script-exact s (h .form .right) script c .1 i
-
-is-script : {sheet : List ℕ} {s : Sheet} (script : List ℕ) {c : Cmd} → OnSheet sheet s → scriptOf (countsOf s) script ≡ some c → IsScript (countsOf s) script c
-is-script {s = s} script {c} h e = script-exact s (h .form .right) script c .0 e
-
-no-script : {sheet : List ℕ} {s : Sheet} (script : List ℕ) → OnSheet sheet s → scriptOf (countsOf s) script ≡ none → (c : Cmd) → ¬ IsScript (countsOf s) script c
-no-script script h e c i = none-some (sym e ∙ parsed script h i)
-
-unparsed : {sheet : List ℕ} {s : Sheet} (script : List ℕ) → OnSheet sheet s → ((c : Cmd) → ¬ IsScript (countsOf s) script c) → scriptOf (countsOf s) script ≡ none
-unparsed {s = s} script h n = go (scriptOf (countsOf s) script) refl
-  where
-    go : (o : Option Cmd) → scriptOf (countsOf s) script ≡ o → scriptOf (countsOf s) script ≡ none
-    go none e = e
-    go (some c) e = absurd (n c (is-script script h e))
+use Rattle.simp.proofs.Numbers.{no-strangers, typable-0, typable-shape, sized-0, view-sized}
+use Rattle.simp.proofs.RowLaws.{exactly}
+use Rattle.simp.proofs.Judged.{read, parsed, its, their, past-all, past-2, past-3, past-4, past-6, past-8, past-view-8}
 
 -- ---- check
+
+pub unless-0 : (k : ℕ) → unless (λ j. j) k 0 ≡ k
+unfolding unless
+unless-0 zero = refl
+unless-0 (suc k) = refl
 
 pub checked : (sheet script : List ℕ) → Checked sheet script (checkOf sheet script)
 unfolding checkOf
 checked sheet script =
-    on-sheet (Checked sheet script) _ (sheetOf sheet) _ (λ e. check-1 (malformed-exact sheet .0 e))
-    (λ e. let r = repeating-exact sheet .0 e in check-2 (r .1) (r .2)) λ s e.
-    let h = on sheet s e in
-    on-script (Checked sheet script) _ (scriptOf (countsOf s) script) _ (λ n. check-4 h (no-script script h n)) λ c p.
-    let i = is-script script h p in
-    by-typing s c (Checked sheet script) (check-5 h i) (check-6 h i) (check-0 h i)
-
-answered : {sheet script : List ℕ} {k : ℕ} → Checked sheet script k → checkOf sheet script ≡ k
-unfolding checkOf onSheet onScript
-answered {sheet} (check-1 n) = rw (malformed-exact sheet .1 n) refl
-answered {sheet} (check-2 {s} h r) = rw (repeating-exact sheet .1 (s, h, r)) refl
-answered {script = script} (check-4 h n) = rw (read h, unparsed script h n) refl
-answered {script = script} (check-5 {s} {c} h i n) = rw (read h, parsed script h i) (unlabelled-5 s c n)
-answered {script = script} (check-6 {s} {c} h i t n) = rw (read h, parsed script h i) (labelled-6 s c t n)
-answered {script = script} (check-0 {s} {c} h i t) = rw (read h, parsed script h i) (typable-0 s c t)
+    past-2 (λ k. k) (λ r. r ≡ 0) sheet _ _ λ s h.
+    past-4 (λ k. k) (λ r. r ≡ 0) h _ script _ λ c i.
+    subst (First (λ k. k) (λ r. r ≡ 0) _) (unless-0 (untyped s c))
+    (past-6 (λ k. k) (λ r. r ≡ 0) h _ script c 0 i λ t. past-all (λ k. k) (λ r. r ≡ 0) refl)
 
 -- ---- run
 
+-- none of 1 to 8 applies
+abbrev pub Starts : List ℕ → List ℕ → List ℕ → ℕ → Type 0
+Starts sheet script memory authority = (s : Sheet) × (c : Cmd) × Started sheet script memory authority s c
+
+pub run-starts : (sheet script memory : List ℕ) (authority budget : ℕ)
+    → First (refusedRun memory) (λ _. Starts sheet script memory authority) (runRows sheet script memory authority) (runOf sheet script memory authority budget)
+unfolding runOf
+run-starts sheet script memory authority budget =
+    let R = refusedRun memory in
+    let E : Ran → Type 0 = λ _. Starts sheet script memory authority in
+    past-2 R E sheet _ _ λ s h.
+    past-3 R E h _ authority _ λ a.
+    past-4 R E h _ script _ λ c i.
+    past-6 R E h _ script c _ i λ t.
+    past-8 R E h _ memory _ λ z w.
+    past-all R E (s, c, record { on-sheet = h; principals = a; of-script = i; typable = t; sized = z; well-formed = w })
+
 module _ {sheet script memory : List ℕ} {authority : ℕ} {s : Sheet} {c : Cmd} (st : Started sheet script memory authority s c) where
-  declared : Declared s (memoryOf memory)
+  pub declared : Declared s (memoryOf memory)
   declared = memory-exactly s .values memory (sized-0 s memory (st .sized) (st .well-formed))
 
-  by-figures : (budget : ℕ) (o : Out) → (iterate (worldOf s authority) budget (memoryOf memory) c ≡ o) ↔ Ends (worldOf s authority) budget (memoryOf memory) c o
-  by-figures budget o = outcome (shapesOf s) (worldOf s authority) (λ t. refl) c (typable-shape s c (st .typable)) (memoryOf memory)
-      (declared .typed) (declared .fitting) budget o
-
-  -- the outcome of a run that started, as the figures have it
-  ended-run : (budget : ℕ) (o : Out) → Ends (worldOf s authority) budget (memoryOf memory) c o → Run sheet script memory authority budget (ended (locationCount s) budget memory o)
-  unfolding ended
-  ended-run budget o (ends-done {k} {l} {M′} e t n) =
-      let z : k ≡ budget - l = omega arith in
-      subst (λ (j : ℕ). Run sheet script memory authority budget (record { answer = 0; steps = j; memory = wordsOf (locationCount s) M′ })) z
-      (run-0 st (omega arith) t n)
-  ended-run budget o (ends-spent t h n) = run-9 st t h n
-  ended-run budget o (ends-over {k} {l} e t h n) =
-      let z : k ≡ budget - suc l = omega arith in
-      subst (λ (j : ℕ). Run sheet script memory authority budget (record { answer = 10; steps = j; memory = memory })) z (run-10 st (omega arith) t h n)
+module _ {sheet script memory : List ℕ} {authority : ℕ} {s : Sheet} {c : Cmd} (st : Started sheet script memory authority s c) (budget : ℕ) where
+  by-figures : (o : Out) → (iterate (worldOf s authority) budget (memoryOf memory) c ≡ o) ↔ theorems.Ends (worldOf s authority) budget (memoryOf memory) c o
+  by-figures o = outcome (shapesOf s) (worldOf s authority) (λ t. refl) c (typable-shape s c (st .typable)) (memoryOf memory)
+      (declared st .typed) (declared st .fitting) budget o
 
   -- a run that starts is refused by none of 1 to 8
-  pub started-run : (budget : ℕ) → runOf sheet script memory authority budget ≡ ended (locationCount s) budget memory (iterate (worldOf s authority) budget (memoryOf memory) c)
+  pub started-run : runOf sheet script memory authority budget ≡ ended (locationCount s) budget memory (iterate (worldOf s authority) budget (memoryOf memory) c)
   unfolding runOf onSheet onScript unless
-  started-run budget =
+  started-run =
       rw (
         read (st .on-sheet),
         no-strangers s authority (st .principals),
@@ -107,76 +79,88 @@ module _ {sheet script memory : List ℕ} {authority : ℕ} {s : Sheet} {c : Cmd
         sized-0 s memory (st .sized) (st .well-formed),
       ) refl
 
-pub run-judged : (sheet script memory : List ℕ) (authority budget : ℕ) → Run sheet script memory authority budget (runOf sheet script memory authority budget)
-unfolding runOf
-run-judged sheet script memory authority budget =
-    let R : Ran → Type 0 = Run sheet script memory authority budget in
-    on-sheet R _ (sheetOf sheet) _ (λ e. run-1 (malformed-exact sheet .0 e))
-    (λ e. let r = repeating-exact sheet .0 e in run-2 (r .1) (r .2)) λ s e.
-    let h = on sheet s e in
-    past-3 s R _ authority _ (run-3 h) λ a.
-    on-script R _ (scriptOf (countsOf s) script) _ (λ n. run-4 h a (no-script script h n)) λ c p.
-    let i = is-script script h p in
-    past-6 s R _ c _ (run-5 h a i) (run-6 h a i) λ t.
-    past-8 s R _ memory _ (run-7 h a i t) (run-8 h a i t) λ z w.
-    let st : Started sheet script memory authority s c =
-    record { on-sheet = h; principals = a; of-script = i; typable = t; sized = z; well-formed = w } in
-    ended-run st budget _ (by-figures st budget _ .0 refl)
+  -- it ends as the figures have it
+  so-ends : (o : Out) → theorems.Ends (worldOf s authority) budget (memoryOf memory) c o → Ends s c memory authority budget (ended (locationCount s) budget memory o)
+  unfolding ended
+  so-ends o (ends-done {k} {l} {M′} e t n) =
+      let z : k ≡ budget - l = omega arith in
+      subst (λ (j : ℕ). Ends s c memory authority budget (record { answer = 0; steps = j; memory = wordsOf (locationCount s) M′ })) z (ends-0 (omega arith) t n)
+  so-ends o (ends-spent t h n) = ends-9 t h n
+  so-ends o (ends-over {k} {l} e t h n) =
+      let z : k ≡ budget - suc l = omega arith in
+      subst (λ (j : ℕ). Ends s c memory authority budget (record { answer = 10; steps = j; memory = memory })) z (ends-10 (omega arith) t h n)
 
--- a run that started and ended so
-ran : {sheet script memory : List ℕ} {authority budget : ℕ} {s : Sheet} {c : Cmd} (st : Started sheet script memory authority s c) (o : Out)
-    → Ends (worldOf s authority) budget (memoryOf memory) c o → runOf sheet script memory authority budget ≡ ended (locationCount s) budget memory o
-ran {memory = memory} {budget = budget} {s = s} st o e = started-run st budget ∙ ap (ended (locationCount s) budget memory) (by-figures st budget o .1 e)
+  pub run-ends : Ends s c memory authority budget (runOf sheet script memory authority budget)
+  run-ends = subst (Ends s c memory authority budget) (sym started-run) (so-ends _ (by-figures _ .0 refl))
 
-run-answered : {sheet script memory : List ℕ} {authority budget : ℕ} {r : Ran} → Run sheet script memory authority budget r
-    → runOf sheet script memory authority budget ≡ r
-unfolding runOf onSheet onScript unless ended
-run-answered {sheet} (run-1 n) = rw (malformed-exact sheet .1 n) refl
-run-answered {sheet} (run-2 {s} h r) = rw (repeating-exact sheet .1 (s, h, r)) refl
-run-answered {authority = a} (run-3 {s} h n) = rw (read h, some-strangers s a n) refl
-run-answered {script = script} {authority = a} (run-4 {s} h p n) = rw (read h, no-strangers s a p, unparsed script h n) refl
-run-answered {script = script} {authority = a} (run-5 {s} {c} h p i n) = rw (read h, no-strangers s a p, parsed script h i, unlabelled-5 s c n) refl
-run-answered {script = script} {authority = a} (run-6 {s} {c} h p i t n) = rw (read h, no-strangers s a p, parsed script h i, labelled-6 s c t n) refl
-run-answered {script = script} {memory = memory} {authority = a} (run-7 {s} {c} h p i t n) =
-    rw (read h, no-strangers s a p, parsed script h i, typable-0 s c t, unsized-7 s memory n) refl
-run-answered {script = script} {memory = memory} {authority = a} (run-8 {s} {c} h p i t z w) =
-    rw (read h, no-strangers s a p, parsed script h i, typable-0 s c t, ill-formed-8 s memory z w) refl
-run-answered (run-9 st t h n) = ran st spent (ends-spent t h n)
-run-answered {memory = memory} {budget = b} (run-10 {k = k} st l t h n) =
-    let left : ℕ = b - suc k in
-    let z : k + suc left ≡ b = omega arith in
-    let y : b - suc left ≡ k = omega arith in
-    ran st (over (suc left)) (ends-over z t h n) ∙ ap (λ (j : ℕ). record { answer = 10; steps = j; memory = memory }) y
-run-answered {budget = b} (run-0 {s} {M′ = M′} {k = k} st l t n) =
-    let z : k + (b - k) ≡ b = omega arith in
-    let y : b - (b - k) ≡ k = omega arith in
-    ran st (done M′ (b - k)) (ends-done z t n) ∙ ap (λ (j : ℕ). record { answer = 0; steps = j; memory = wordsOf (locationCount s) M′ }) y
+  ran : (o : Out) → theorems.Ends (worldOf s authority) budget (memoryOf memory) c o → runOf sheet script memory authority budget ≡ ended (locationCount s) budget memory o
+  ran o e = started-run ∙ ap (ended (locationCount s) budget memory) (by-figures o .1 e)
+
+  -- and in one way
+  ran-so : {r : Ran} → Ends s c memory authority budget r → runOf sheet script memory authority budget ≡ r
+  unfolding ended
+  ran-so (ends-9 t h n) = ran spent (ends-spent t h n)
+  ran-so (ends-10 {k = k} l t h n) =
+      let left : ℕ = budget - suc k in
+      let z : k + suc left ≡ budget = omega arith in
+      let y : budget - suc left ≡ k = omega arith in
+      ran (over (suc left)) (ends-over z t h n) ∙ ap (λ (j : ℕ). record { answer = 10; steps = j; memory = memory }) y
+  ran-so (ends-0 {M′ = M′} {k = k} l t n) =
+      let z : k + (budget - k) ≡ budget = omega arith in
+      let y : budget - (budget - k) ≡ k = omega arith in
+      ran (done M′ (budget - k)) (ends-done z t n) ∙ ap (λ (j : ℕ). record { answer = 0; steps = j; memory = wordsOf (locationCount s) M′ }) y
+
+pub run-exactly : (sheet script memory : List ℕ) (authority budget : ℕ) (r : Ran)
+    → (runOf sheet script memory authority budget ≡ r) ↔ Run sheet script memory authority budget r
+run-exactly sheet script memory authority budget =
+    exactly (refusedRun memory) _ _ (runOf sheet script memory authority budget) (runRows sheet script memory authority)
+    (λ n (s, c, st) r. (
+      λ e. (s, st .on-sheet .form, (c, st .of-script, subst (Ends s c memory authority budget) e (run-ends st budget))),
+      λ o. ran-so st budget (their (λ z d. Ends z d memory authority budget r) (st .on-sheet) (st .of-script) o),
+    ))
+    (run-starts sheet script memory authority budget)
 
 -- ---- view
 
-pub view-judged : (sheet memory : List ℕ) (group : ℕ) (view : List ℕ) → View sheet memory group view (viewOf sheet memory group view)
-unfolding viewOf
-view-judged sheet memory group view =
-    let R : Viewed → Type 0 = View sheet memory group view in
-    on-sheet R _ (sheetOf sheet) _ (λ e. view-1 (malformed-exact sheet .0 e))
-    (λ e. let r = repeating-exact sheet .0 e in view-2 (r .1) (r .2)) λ s e.
-    let h = on sheet s e in
-    past-3 s R _ group _ (view-3 h) λ p.
-    past-view-8 s R _ memory view _ (view-7 h p) (view-8 h p) λ z y w. view-0 h p z y w
+-- none of 1, 2, 3, 7 and 8 applies
+pub record Shows (sheet memory : List ℕ) (group : ℕ) (view : List ℕ) : Type 0 where
+  pub its-sheet : Sheet
+  pub on-sheet : OnSheet sheet its-sheet
+  pub known : Principals its-sheet group
+  pub sized : Sized its-sheet memory
+  pub room : Sized its-sheet view
+  pub well-formed : wellFormed its-sheet memory ≡ true
 
-pub view-answered : {sheet memory : List ℕ} {group : ℕ} {view : List ℕ} {v : Viewed} → View sheet memory group view v → viewOf sheet memory group view ≡ v
+pub view-shows : (sheet memory : List ℕ) (group : ℕ) (view : List ℕ)
+    → First (refusedView view) (λ _. Shows sheet memory group view) (viewRows sheet memory group view) (viewOf sheet memory group view)
+unfolding viewOf
+view-shows sheet memory group view =
+    let R = refusedView view in
+    let E : Viewed → Type 0 = λ _. Shows sheet memory group view in
+    past-2 R E sheet _ _ λ s h.
+    past-3 R E h _ group _ λ p.
+    past-view-8 R E h _ memory view _ λ z y w.
+    past-all R E (record { its-sheet = s; on-sheet = h; known = p; sized = z; room = y; well-formed = w })
+
+pub shown-view : {sheet memory : List ℕ} {group : ℕ} {view : List ℕ} (h : Shows sheet memory group view)
+    → viewOf sheet memory group view ≡ record { answer = 0; view = viewWords (h .its-sheet) group memory }
 unfolding viewOf onSheet unless
-view-answered {sheet} (view-1 n) = rw (malformed-exact sheet .1 n) refl
-view-answered {sheet} (view-2 {s} h r) = rw (repeating-exact sheet .1 (s, h, r)) refl
-view-answered {group = g} (view-3 {s} h n) = rw (read h, some-strangers s g n) refl
-view-answered {memory = m} {group = g} {view = v} (view-7 {s} h p n) = rw (read h, no-strangers s g p, unsized-view s m v n) refl
-view-answered {memory = m} {group = g} {view = v} (view-8 {s} h p z y w) = rw (read h, no-strangers s g p, view-sized s m v y, ill-formed-8 s m z w) refl
-view-answered {memory = m} {group = g} {view = v} (view-0 {s} h p z y w) = rw (read h, no-strangers s g p, view-sized s m v y, sized-0 s m z w) refl
+shown-view {sheet} {memory} {group} {view} h =
+    let s : Sheet = h .its-sheet in
+    rw (read (h .on-sheet), no-strangers s group (h .known), view-sized s memory view (h .room), sized-0 s memory (h .sized) (h .well-formed)) refl
+
+pub view-exactly : (sheet memory : List ℕ) (group : ℕ) (view : List ℕ) (v : Viewed) → (viewOf sheet memory group view ≡ v) ↔ View sheet memory group view v
+view-exactly sheet memory group view =
+    exactly (refusedView view) _ _ (viewOf sheet memory group view) (viewRows sheet memory group view)
+    (λ n h v. (
+      λ e. (h .its-sheet, h .on-sheet .form, sym e ∙ shown-view h),
+      λ o. shown-view h ∙ sym (its (λ s. v ≡ record { answer = 0; view = viewWords s group memory }) (h .on-sheet .form) o),
+    ))
+    (view-shows sheet memory group view)
 
 pub demand-2 : Demand2
 demand-2 = record {
-  check = λ sheet script k. ((λ e. subst (Checked sheet script) e (checked sheet script)), answered);
-  run = λ sheet script memory authority budget r.
-      ((λ e. subst (Run sheet script memory authority budget) e (run-judged sheet script memory authority budget)), run-answered);
-  view = λ sheet memory group words v. ((λ e. subst (View sheet memory group words) e (view-judged sheet memory group words)), view-answered);
+  check = λ sheet script. exactly (λ k. k) _ _ (checkOf sheet script) (checkRows sheet script) (λ n z r. (λ e. sym e ∙ z, λ y. z ∙ sym y)) (checked sheet script);
+  run = run-exactly;
+  view = view-exactly;
 }

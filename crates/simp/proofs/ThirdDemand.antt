@@ -1,6 +1,5 @@
 -- Demand 3, from noninterference of the language. Assumes nothing.
 use mathlib.Core.Path.{_≡_, refl, sym, ap, _∙_, subst}
-use mathlib.Core.Bool.{true}
 use mathlib.Core.List.{List}
 use Prim.Native.Nat.{ℕ, suc}
 use native.Mathlib.Omega.{arith}
@@ -9,65 +8,24 @@ use Rattle.language.specs.Evaluation.{Mem}
 use Rattle.language.specs.Transition.{Out, done, spent, over, wrong, iterate}
 use Rattle.tables.specs.Sheet.{Sheet, locationCount}
 use Rattle.tables.specs.Meaning.{worldOf}
-use Rattle.sheet.specs.Sheets.{accepted}
+use Rattle.sheet.proofs.Theorems.{one-sheet}
 use Rattle.memory.specs.Memory.{memoryOf, wordsOf, wellFormed, memoryRefusal}
 use Rattle.memory.specs.View.{viewWords}
 use Rattle.memory.specs.Theorems.{Declared}
 use Rattle.memory.proofs.Exactness.{memory-exactly, view-exactly}
 use Rattle.memory.proofs.MemoryLaws.{unrefused-length, unrefused-formed}
 use Rattle.simp.specs.Calls.{Ran, ended, runOf, Viewed, viewOf}
-use Rattle.simp.specs.Judgements.{OnSheet, Principals, Sized, Started, Run, run-0, run-1, run-2, run-3, run-4, run-5, run-6, run-7, run-8, run-9, run-10, View, view-0, view-1, view-2, view-3, view-7, view-8}
+use Rattle.simp.specs.Judgements.{OnSheet, Principals, Sized, Started}
 use Rattle.simp.specs.Demands.{Demand3}
 use Rattle.simp.proofs.Numbers.{sized-0}
-use Rattle.simp.proofs.SecondDemand.{read, parsed, started-run, run-judged, view-judged, view-answered}
+use Rattle.simp.proofs.Judged.{one-command}
+use Rattle.simp.proofs.SecondDemand.{declared, started-run, Shows, shown-view}
+use Rattle.simp.proofs.FirstDemand.{starts, shows}
 use Rattle.simp.proofs.Readers.{shown-kept}
 use Rattle.simp.proofs.Runs.{left-declared}
 
 refused : {k : ℕ} {A : Type 0} → suc k ≡ 0 → A
 refused h = absurd (omega arith)
-
--- a run that is done has started
-record Starts (sheet script memory : List ℕ) (authority : ℕ) : Type 0 where
-  its-sheet : Sheet
-  its-command : Cmd
-  start : Started sheet script memory authority its-sheet its-command
-
-starts : {sheet script memory : List ℕ} {authority budget : ℕ} {r : Ran} → Run sheet script memory authority budget r → r .answer ≡ 0
-    → Starts sheet script memory authority
-starts (run-1 n) h = refused h
-starts (run-2 i r) h = refused h
-starts (run-3 i p) h = refused h
-starts (run-4 i p n) h = refused h
-starts (run-5 i p c n) h = refused h
-starts (run-6 i p c t n) h = refused h
-starts (run-7 i p c t n) h = refused h
-starts (run-8 i p c t z w) h = refused h
-starts (run-9 st t n l) h = refused h
-starts (run-10 st k t n l) h = refused h
-starts (run-0 {s} {c} st k t n) h = record { its-sheet = s; its-command = c; start = st }
-
--- a view that was handed out on the sheet s
-record Shown (sheet : List ℕ) (group : ℕ) (memory view out : List ℕ) (s : Sheet) : Type 0 where
-  on-sheet : OnSheet sheet s
-  known : Principals s group
-  sized : Sized s memory
-  room : Sized s view
-  well-formed : wellFormed s memory ≡ true
-  words : out ≡ viewWords s group memory
-
-record ShownBy (sheet : List ℕ) (group : ℕ) (memory view out : List ℕ) : Type 0 where
-  its-sheet : Sheet
-  shown : Shown sheet group memory view out its-sheet
-
-shows : {sheet memory : List ℕ} {group : ℕ} {view : List ℕ} {v : Viewed} → View sheet memory group view v → v .answer ≡ 0
-    → ShownBy sheet group memory view (v .view)
-shows (view-1 n) h = refused h
-shows (view-2 i r) h = refused h
-shows (view-3 i p) h = refused h
-shows (view-7 i p n) h = refused h
-shows (view-8 i p z y w) h = refused h
-shows (view-0 {s} i p z y w) h =
-    record { its-sheet = s; shown = record { on-sheet = i; known = p; sized = z; room = y; well-formed = w; words = refl } }
 
 -- how a run of c on s from a well-formed memory ended, if it is done
 record Done (s : Sheet) (c : Cmd) (memory : List ℕ) (authority budget : ℕ) (left : List ℕ) : Type 0 where
@@ -88,22 +46,13 @@ ended-done s c memory authority budget wrong e h = refused h
 started : {sheet script memory : List ℕ} {authority : ℕ} {s : Sheet} {c : Cmd} → Started sheet script memory authority s c → memoryRefusal s memory ≡ 0
 started {memory = memory} {s = s} st = sized-0 s memory (st .sized) (st .well-formed)
 
-declared : {sheet script memory : List ℕ} {authority : ℕ} {s : Sheet} {c : Cmd} → Started sheet script memory authority s c → Declared s (memoryOf memory)
-declared {memory = memory} {s = s} st = memory-exactly s .values memory (started st)
-
 -- a text is that of one sheet, and a script of one command
-same-sheet : {sheet : List ℕ} {s s′ : Sheet} → OnSheet sheet s → OnSheet sheet s′ → s′ ≡ s
-same-sheet h h′ = let p = read h in let q = read h′ in cc
-
 same-start : {sheet script memory memory′ : List ℕ} {authority : ℕ} {s s′ : Sheet} {c c′ : Cmd} → Started sheet script memory authority s c
     → Started sheet script memory′ authority s′ c′ → Started sheet script memory′ authority s c
 same-start {sheet} {script} {memory} {memory′} {authority} {s} {s′} {c} {c′} st st′ =
     let moved : Started sheet script memory′ authority s c′ =
-    subst (λ (z : Sheet). Started sheet script memory′ authority z c′) (same-sheet (st .on-sheet) (st′ .on-sheet)) st′ in
-    let p = parsed script (st .on-sheet) (st .of-script) in
-    let q = parsed script (moved .on-sheet) (moved .of-script) in
-    let e : c′ ≡ c = cc in
-    subst (λ (d : Cmd). Started sheet script memory′ authority s d) e moved
+    subst (λ (z : Sheet). Started sheet script memory′ authority z c′) (one-sheet sheet s′ s (st′ .on-sheet .form) (st .on-sheet .form)) st′ in
+    subst (λ (d : Cmd). Started sheet script memory′ authority s d) (one-command script (st .on-sheet) (st .of-script) (moved .of-script)) moved
 
 done-run : {sheet script memory : List ℕ} {authority : ℕ} {s : Sheet} {c : Cmd} (budget : ℕ) → Started sheet script memory authority s c
     → runOf sheet script memory authority budget .answer ≡ 0 → Done s c memory authority budget (runOf sheet script memory authority budget .memory)
@@ -113,11 +62,17 @@ done-run {sheet} {script} {memory} {authority} {s} {c} budget st h =
     (ended-done s c memory authority budget (iterate (worldOf s authority) budget (memoryOf memory) c) refl (sym (ap (λ (r : Ran). r .answer) e) ∙ h))
 
 -- a view that was handed out, on the sheet of a run
+record Shown (sheet memory : List ℕ) (group : ℕ) (view : List ℕ) (s : Sheet) : Type 0 where
+  known : Principals s group
+  room : Sized s view
+  words : viewOf sheet memory group view .view ≡ viewWords s group memory
+
 shown-on : {sheet : List ℕ} {s : Sheet} (group : ℕ) (memory view : List ℕ) → OnSheet sheet s → viewOf sheet memory group view .answer ≡ 0
-    → Shown sheet group memory view (viewOf sheet memory group view .view) s
+    → Shown sheet memory group view s
 shown-on {sheet} {s} group memory view i h =
-    let z = shows (view-judged sheet memory group view) h in
-    subst (λ (t : Sheet). Shown sheet group memory view (viewOf sheet memory group view .view) t) (same-sheet i (z .shown .on-sheet)) (z .shown)
+    let z = shows sheet memory group view h in
+    subst (Shown sheet memory group view) (one-sheet sheet (z .its-sheet) s (z .on-sheet .form) (i .form))
+    (record { known = z .known; room = z .room; words = ap (λ (v : Viewed). v .view) (shown-view z) })
 
 -- the view of the words of a memory as declared
 left-view : {sheet : List ℕ} {s : Sheet} (group : ℕ) (left view : List ℕ) (M : Mem) → OnSheet sheet s → Principals s group → Sized s view → Declared s M
@@ -126,16 +81,23 @@ unfolding memoryRefusal
 left-view {sheet} {s} group left view M i p y d e =
     let z = memory-exactly s .accepted M d in
     let ws = wordsOf (locationCount s) M in
-    ap (λ (us : List ℕ). viewOf sheet us group view) e
-    ∙ view-answered (view-0 i p (unrefused-length (locationCount s) (wellFormed s ws) ws z) y (unrefused-formed (locationCount s) (wellFormed s ws) ws z))
+    let h : Shows sheet ws group view = record {
+      its-sheet = s;
+      on-sheet = i;
+      known = p;
+      sized = unrefused-length (locationCount s) (wellFormed s ws) ws z;
+      room = y;
+      well-formed = unrefused-formed (locationCount s) (wellFormed s ws) ws z;
+    } in
+    ap (λ (us : List ℕ). viewOf sheet us group view) e ∙ shown-view h
 
 pub demand-3 : Demand3
 demand-3 sheet script k authority b b′ group m m′ v v′ same r r′ =
-    let st = starts (run-judged sheet script m authority b) r in
-    let s : Sheet = st .its-sheet in
-    let c : Cmd = st .its-command in
-    let one : Started sheet script m authority s c = st .start in
-    let two : Started sheet script m′ authority s c = same-start one (starts (run-judged sheet script m′ authority b′) r′ .start) in
+    let st = starts sheet script m authority b r in
+    let s : Sheet = st .0 in
+    let c : Cmd = st .1 in
+    let one : Started sheet script m authority s c = st .2 in
+    let two : Started sheet script m′ authority s c = same-start one (starts sheet script m′ authority b′ r′ .2) in
     let on : OnSheet sheet s = one .on-sheet in
     let ran = done-run b one r in
     let ran′ = done-run b′ two r′ in

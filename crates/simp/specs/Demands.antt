@@ -10,12 +10,8 @@ use Rattle.tables.specs.Sheet.{Sheet, locationCount}
 use Rattle.tables.specs.Meaning.{worldOf}
 use Rattle.memory.specs.Memory.{memoryOf, wordsOf}
 use Rattle.simp.specs.Calls.{checkOf, Ran, runOf, Viewed, viewOf}
-use Rattle.simp.specs.Judgements.{Started, Checked, Run, View}
-
--- n is one of the numbers
-pub data Among : List ℕ → ℕ → Type 0 where
-  here : {n : ℕ} {ns : List ℕ} → Among (n ∷ ns) n
-  later : {m n : ℕ} {ns : List ℕ} → Among ns n → Among (m ∷ ns) n
+use Rattle.simp.specs.Rows.{Among, GivenInOrder}
+use Rattle.simp.specs.Judgements.{checkRows, Checked, runRows, Started, Run, viewRows, View}
 
 -- The run was started and reached skip within the budget, and these are the words of the memory that it reached, after so many steps.
 pub record Finished (sheet script memory : List ℕ) (authority budget steps : ℕ) (left : List ℕ) : Type 0 where
@@ -27,31 +23,37 @@ pub record Finished (sheet script memory : List ℕ) (authority budget steps : �
   pub words : left ≡ wordsOf (locationCount its-sheet) reached
   pub within : steps ≤ budget
 
+-- What a run answers and leaves, whatever it is given: one of its numbers; the memory as it was, unless it is done; and beside 1 to 8
+-- no steps, beside 9 as many as the budget, beside 10 fewer.
+pub record RunAnswers (memory : List ℕ) (budget : ℕ) (r : Ran) : Type 0 where
+  pub number : Among (0 ∷ 1 ∷ 2 ∷ 3 ∷ 4 ∷ 5 ∷ 6 ∷ 7 ∷ 8 ∷ 9 ∷ 10 ∷ []) (r .answer)
+  pub kept : ¬ (r .answer ≡ 0) → r .memory ≡ memory
+  pub no-steps : ¬ (r .answer ≡ 0) → ¬ (r .answer ≡ 9) → ¬ (r .answer ≡ 10) → r .steps ≡ 0
+  pub all-steps : r .answer ≡ 9 → r .steps ≡ budget
+  pub fewer-steps : r .answer ≡ 10 → r .steps < budget
+
+pub record ViewAnswers (view : List ℕ) (v : Viewed) : Type 0 where
+  pub number : Among (0 ∷ 1 ∷ 2 ∷ 3 ∷ 7 ∷ 8 ∷ []) (v .answer)
+  pub kept : ¬ (v .answer ≡ 0) → v .view ≡ view
+
 -- Demand 1. Each call gives the number that applies, in their fixed order; each answer is 0 or one of the call's numbers. After any call
--- the lent memory holds the finished run's values or exactly what it held before; a refused call writes to no lent slice. Beside 1 to 8 there
--- are no steps, beside 9 as many as the budget, beside 10 fewer. That a call ends is proved with each function; simp_check is lent nothing
--- to write, and simp_view is lent its memory for reading.
-pub record Demand1 : Type 0 where
+-- the lent memory holds the finished run's values or exactly what it held before; a refused call writes to no lent slice.
+-- That a call ends is proved with each function; simp_check is lent nothing to write, and simp_view is lent its memory for reading.
+pub record Demand1 : Type 1 where
+  -- the number given applies, and none that comes before it in the order does
+  pub check-order : (sheet script : List ℕ) → GivenInOrder (checkRows sheet script) (checkOf sheet script)
+  pub run-order : (sheet script memory : List ℕ) (authority budget : ℕ)
+      → GivenInOrder (runRows sheet script memory authority) (runOf sheet script memory authority budget .answer)
+  pub view-order : (sheet memory : List ℕ) (group : ℕ) (view : List ℕ) → GivenInOrder (viewRows sheet memory group view) (viewOf sheet memory group view .answer)
+  -- and the whole answer is as the table has it
   pub check-number : (sheet script : List ℕ) → Checked sheet script (checkOf sheet script)
   pub run-number : (sheet script memory : List ℕ) (authority budget : ℕ) → Run sheet script memory authority budget (runOf sheet script memory authority budget)
   pub view-number : (sheet memory : List ℕ) (group : ℕ) (view : List ℕ) → View sheet memory group view (viewOf sheet memory group view)
   pub run-finished : (sheet script memory : List ℕ) (authority budget : ℕ) → runOf sheet script memory authority budget .answer ≡ 0
       → Finished sheet script memory authority budget (runOf sheet script memory authority budget .steps) (runOf sheet script memory authority budget .memory)
-  pub run-refused : (sheet script memory : List ℕ) (authority budget : ℕ)
-      → ¬ (runOf sheet script memory authority budget .answer ≡ 0) → runOf sheet script memory authority budget .memory ≡ memory
-  pub view-refused : (sheet memory : List ℕ) (group : ℕ) (view : List ℕ)
-      → ¬ (viewOf sheet memory group view .answer ≡ 0) → viewOf sheet memory group view .view ≡ view
   pub check-answers : (sheet script : List ℕ) → Among (0 ∷ 1 ∷ 2 ∷ 4 ∷ 5 ∷ 6 ∷ []) (checkOf sheet script)
-  pub run-answers : (sheet script memory : List ℕ) (authority budget : ℕ)
-      → Among (0 ∷ 1 ∷ 2 ∷ 3 ∷ 4 ∷ 5 ∷ 6 ∷ 7 ∷ 8 ∷ 9 ∷ 10 ∷ []) (runOf sheet script memory authority budget .answer)
-  pub view-answers : (sheet memory : List ℕ) (group : ℕ) (view : List ℕ) → Among (0 ∷ 1 ∷ 2 ∷ 3 ∷ 7 ∷ 8 ∷ []) (viewOf sheet memory group view .answer)
-  pub no-steps : (sheet script memory : List ℕ) (authority budget : ℕ)
-      → ¬ (runOf sheet script memory authority budget .answer ≡ 0) → ¬ (runOf sheet script memory authority budget .answer ≡ 9)
-      → ¬ (runOf sheet script memory authority budget .answer ≡ 10) → runOf sheet script memory authority budget .steps ≡ 0
-  pub all-steps : (sheet script memory : List ℕ) (authority budget : ℕ)
-      → runOf sheet script memory authority budget .answer ≡ 9 → runOf sheet script memory authority budget .steps ≡ budget
-  pub fewer-steps : (sheet script memory : List ℕ) (authority budget : ℕ)
-      → runOf sheet script memory authority budget .answer ≡ 10 → runOf sheet script memory authority budget .steps < budget
+  pub run-answers : (sheet script memory : List ℕ) (authority budget : ℕ) → RunAnswers memory budget (runOf sheet script memory authority budget)
+  pub view-answers : (sheet memory : List ℕ) (group : ℕ) (view : List ℕ) → ViewAnswers view (viewOf sheet memory group view)
 
 -- Demand 2. Each call answers exactly what the papers say: the numbers in their order, acceptance by the typing rules, and the
 -- memory and the step count of the evaluation rules.

@@ -1,0 +1,136 @@
+-- The stages of a call's function against the rows of its table: each stage judges its rows, and goes on where none of them applies.
+-- Assumes nothing.
+use mathlib.Core.Logic.{_⊎_, inl, inr, ⊎-elim}
+use mathlib.Core.Path.{_≡_, refl, sym, _∙_, subst}
+use mathlib.Core.Bool.{Bool, true, false, cond, true≢false}
+use mathlib.Core.List.{List, [], _∷_}
+use mathlib.Core.Option.{Option, none, some}
+use Prim.Native.Nat.{ℕ}
+use lib.ListN.{length}
+use native.Mathlib.Omega.{arith}
+use borrow.Author.Tests.{eqb-true, eqb-false}
+use Rattle.language.specs.Syntax.{Cmd}
+use Rattle.language.specs.Typing.{refusal}
+use Rattle.language.proofs.Exactness.{shape-iff, flow-iff}
+use Rattle.tables.specs.Sheet.{Sheet, repeats}
+use Rattle.tables.specs.Meaning.{labelsOver, declarationsOf}
+use Rattle.tables.proofs.MeaningLaws.{labels-lattice}
+use Rattle.sheet.specs.Sheets.{Answer, malformed, repeating, accepted, sheetOf}
+use Rattle.sheet.specs.Theorems.{IsSheet}
+use Rattle.sheet.proofs.Theorems.{accepted-exact, repeating-exact, malformed-exact, one-sheet}
+use Rattle.script.specs.Script.{countsOf, scriptOf}
+use Rattle.script.specs.Theorems.{IsScript}
+use Rattle.script.proofs.ScriptLaws.{script-exact}
+use Rattle.memory.specs.Memory.{wellFormed, sliceRefusal, refusalBy, memoryRefusal}
+use Rattle.memory.specs.View.{viewRefusal}
+use Rattle.simp.specs.Calls.{onSheet, unless, strangers, onScript, untyped}
+use Rattle.simp.specs.Rows.{Row, _when_, First}
+use Rattle.simp.specs.Judgements.{OnSheet, OfSheet, OfScript, NoSheet, Repeats, Strangers, NoScript, IllTyped, IllLabelled, OtherSize, IllFormed, Principals, Typable, TypableUnlabelled, Sized}
+
+-- ---- a text is that of one sheet, and a script of one command
+
+pub read : {sheet : List ℕ} {s : Sheet} → OnSheet sheet s → sheetOf sheet ≡ accepted s
+read {sheet} {s} h = accepted-exact sheet s .1 (h .form, h .once)
+
+pub parsed : {sheet : List ℕ} {s : Sheet} (script : List ℕ) {c : Cmd} → OnSheet sheet s → IsScript (countsOf s) script c → scriptOf (countsOf s) script ≡ some c
+parsed {s = s} script {c} h i = script-exact s (h .form .right) script c .1 i
+
+-- what holds of the text's sheet holds of this one
+pub its : {sheet : List ℕ} {s : Sheet} (P : Sheet → Type 0) → IsSheet sheet s → OfSheet sheet P → P s
+its {sheet} {s} P i h = subst P (one-sheet sheet (h .0) s (h .1) i) (h .2)
+
+fails : {b : Bool} → b ≡ false → ¬ (b ≡ true)
+fails f t = true≢false (sym t ∙ f)
+
+none-some : {c : Cmd} → none ≡ some c → ⊥
+none-some h = let z : _≡_ {A = ℕ} 0 1 = cc in omega arith
+
+pub one-command : {sheet : List ℕ} {s : Sheet} (script : List ℕ) {c c′ : Cmd} → OnSheet sheet s → IsScript (countsOf s) script c → IsScript (countsOf s) script c′
+    → c′ ≡ c
+one-command script h i i′ = let p = parsed script h i in let q = parsed script h i′ in cc
+
+pub their : {sheet script : List ℕ} {s : Sheet} {c : Cmd} (P : Sheet → Cmd → Type 0) → OnSheet sheet s → IsScript (countsOf s) script c
+    → OfScript sheet script P → P s c
+their {sheet} {script} {s} P h i o =
+    let d = its (λ (z : Sheet). (c : Cmd) × IsScript (countsOf z) script c × P z c) (h .form) o in
+    subst (P s) (one-command script h i (d .1)) (d .2)
+
+-- ---- the stages
+
+module _ {A : Type 0} (refuse : ℕ → A) (Else : A → Type 0) where
+  pub past-all : {r : A} → Else r → First refuse Else [] r
+  unfolding First
+  past-all e = e
+
+  pub past-2 : (sheet : List ℕ) (rows : List Row) (go : Sheet → A) → ((s : Sheet) → OnSheet sheet s → First refuse Else rows (go s))
+      → First refuse Else (1 when NoSheet sheet ∷ 2 when Repeats sheet ∷ rows) (onSheet refuse (sheetOf sheet) go)
+  unfolding First onSheet
+  past-2 sheet rows go k = on (sheetOf sheet) refl
+    where
+      on : (a : Answer) → sheetOf sheet ≡ a → First refuse Else (1 when NoSheet sheet ∷ 2 when Repeats sheet ∷ rows) (onSheet refuse a go)
+      on malformed e = inl (malformed-exact sheet .0 e, refl)
+      on repeating e = let r = repeating-exact sheet .0 e in inr (λ n. n (r .0) (r .1), inl (r, refl))
+      on (accepted s) e =
+          let h = accepted-exact sheet s .0 e in
+          inr (λ n. n s (h .0), inr (λ r. fails (h .1) (its (λ (z : Sheet). repeats z ≡ true) (h .0) r), k s (record { form = h .0; once = h .1 })))
+
+  -- a test that gives the number k where it fails
+  tests : (b : Bool) (k j : ℕ) {P : Type 0} (go : A) (rows : List Row) → unless refuse k go ≡ refuse k → (b ≡ false → P)
+      → (b ≡ true → First refuse Else (k when P ∷ rows) (unless refuse j go)) → First refuse Else (k when P ∷ rows) (unless refuse (cond b j k) go)
+  unfolding First
+  tests true k j go rows e p q = q refl
+  tests false k j go rows e p q = inl (p refl, e)
+
+  -- a row that does not apply
+  row : {P : Type 0} (k : ℕ) (rows : List Row) (r : A) → ¬ P → First refuse Else rows r → First refuse Else (k when P ∷ rows) r
+  unfolding First
+  row k rows r n f = inr (n, f)
+
+  module _ {sheet : List ℕ} {s : Sheet} (h : OnSheet sheet s) (rows : List Row) where
+    no : (P : Sheet → Type 0) → P s → ¬ OfSheet sheet (λ z. ¬ P z)
+    no P p o = its (λ (z : Sheet). ¬ P z) (h .form) o p
+
+    pub past-3 : (g : ℕ) (go : A) → (Principals s g → First refuse Else rows go)
+        → First refuse Else (3 when Strangers sheet g ∷ rows) (unless refuse (strangers s g) go)
+    unfolding unless strangers
+    past-3 g go k = tests _ 3 0 go rows refl (λ f. (s, h .form, fails f)) (λ t. row 3 rows go (no (λ z. Principals z g) t) (k t))
+
+    pub past-4 : (script : List ℕ) (go : Cmd → A) → ((c : Cmd) → IsScript (countsOf s) script c → First refuse Else rows (go c))
+        → First refuse Else (4 when NoScript sheet script ∷ rows) (onScript refuse (scriptOf (countsOf s) script) go)
+    unfolding First onScript
+    past-4 script go k = on (scriptOf (countsOf s) script) refl
+      where
+        on : (o : Option Cmd) → scriptOf (countsOf s) script ≡ o → First refuse Else (4 when NoScript sheet script ∷ rows) (onScript refuse o go)
+        on none e = inl ((s, h .form, λ c i. none-some (sym e ∙ parsed script h i)), refl)
+        on (some c) e = let i = script-exact s (h .form .right) script c .0 e in inr (λ o. its _ (h .form) o c i, k c i)
+
+    pub past-6 : (script : List ℕ) (c : Cmd) (go : A) → IsScript (countsOf s) script c → (Typable s c → First refuse Else rows go)
+        → First refuse Else (5 when IllTyped sheet script ∷ 6 when IllLabelled sheet script ∷ rows) (unless refuse (untyped s c) go)
+    unfolding unless untyped refusal
+    past-6 script c go i k =
+        let D = declarationsOf s in
+        let typed = flow-iff (labelsOver (s .principals)) (labels-lattice (s .principals)) D (labelsOver (s .principals) .bot) c in
+        tests _ 5 _ go _ refl (λ f. (s, h .form, (c, i, λ d. fails f (shape-iff D c .1 d)))) λ t.
+        row 5 _ _ (λ o. their (λ z d. ¬ TypableUnlabelled z d) h i o (shape-iff D c .0 t))
+        (tests _ 6 0 go rows refl (λ f. (s, h .form, (c, i, λ d. fails f (typed .1 d .1)))) λ u.
+        row 6 rows go (λ o. their (λ z d. ¬ Typable z d) h i o (typed .0 (t, u))) (k (typed .0 (t, u))))
+
+    pub past-8 : (memory : List ℕ) (go : A) → (Sized s memory → wellFormed s memory ≡ true → First refuse Else rows go)
+        → First refuse Else (7 when OtherSize sheet memory ∷ 8 when IllFormed sheet memory ∷ rows) (unless refuse (memoryRefusal s memory) go)
+    unfolding unless memoryRefusal refusalBy sliceRefusal
+    past-8 memory go k =
+        tests _ 7 _ go _ refl (λ f. (s, h .form, eqb-false _ _ f)) λ t.
+        row 7 _ _ (no (λ z. Sized z memory) (eqb-true _ _ t))
+        (tests _ 8 0 go rows refl (λ f. (s, h .form, f)) λ w.
+        row 8 rows go (λ o. fails (its _ (h .form) o) w) (k (eqb-true _ _ t) w))
+
+    pub past-view-8 : (memory view : List ℕ) (go : A) → (Sized s memory → Sized s view → wellFormed s memory ≡ true → First refuse Else rows go)
+        → First refuse Else (7 when (OtherSize sheet memory ⊎ OtherSize sheet view) ∷ 8 when IllFormed sheet memory ∷ rows)
+        (unless refuse (viewRefusal s memory (length view)) go)
+    unfolding unless viewRefusal memoryRefusal refusalBy sliceRefusal
+    past-view-8 memory view go k =
+        tests _ 7 _ go _ refl (λ f. inr (s, h .form, eqb-false _ _ f)) λ v.
+        tests _ 7 _ go _ refl (λ f. inl (s, h .form, eqb-false _ _ f)) λ t.
+        row 7 _ _ (⊎-elim (no (λ z. Sized z memory) (eqb-true _ _ t)) (no (λ z. Sized z view) (eqb-true _ _ v)))
+        (tests _ 8 0 go rows refl (λ f. (s, h .form, f)) λ w.
+        row 8 rows go (λ o. fails (its _ (h .form) o) w) (k (eqb-true _ _ t) (eqb-true _ _ v) w))

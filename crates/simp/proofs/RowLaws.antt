@@ -1,0 +1,88 @@
+-- What holds of every table of numbers, by induction over its rows. Assumes nothing.
+use mathlib.Core.Logic.{_↔_, inl, inr, ⊎-elim}
+use mathlib.Core.Path.{_≡_, refl, sym, ap, _∙_, subst}
+use mathlib.Core.Bool.{Bool, true, false, cond, true≢false}
+use mathlib.Core.List.{List, [], _∷_, _++_}
+use Prim.Native.Nat.{ℕ}
+use borrow.Author.Tests.{eq-eqb}
+use lib.Dec.{eqb}
+use Rattle.simp.specs.Rows.{Row, _when_, numbers, None, First, Among, here, later, FirstToApply, GivenInOrder, InOrder, given, none-applies, EveryTable}
+
+-- a row that does not apply, before one that does
+below : {P : Type 0} {rows : List Row} {j : ℕ} (k : ℕ) → ¬ P → FirstToApply rows j → FirstToApply ((k when P) ∷ rows) j
+unfolding None
+below {P} k n g = record {
+  before = (k when P) ∷ g .before;
+  Condition = g .Condition;
+  after = g .after;
+  order = ap (λ (rs : List Row). (k when P) ∷ rs) (g .order);
+  applies = g .applies;
+  none-before = (n, g .none-before);
+}
+
+module _ {A : Type 0} (refuse : ℕ → A) (Else : A → Type 0) where
+  -- what holds of each refusal, and of each answer where none applies, holds of the answer by the table
+  pub by-rows {ℓ} : (Q : A → Type ℓ) (rows : List Row) → ((k : ℕ) → Among (numbers rows) k → FirstToApply rows k → Q (refuse k))
+      → ((r : A) → None rows → Else r → Q r) → (r : A) → First refuse Else rows r → Q r
+  unfolding First numbers None
+  by-rows Q [] p q r h = q r tt h
+  by-rows Q ((k when P) ∷ rows) p q r (inl (a, e)) =
+      subst Q (sym e) (p k here (record { before = []; Condition = P; after = rows; order = refl; applies = a; none-before = tt }))
+  by-rows Q ((k when P) ∷ rows) p q r (inr (n, h)) = by-rows Q rows (λ j i g. p j (later i) (below k n g)) (λ x m. q x (n, m)) r h
+
+  -- f is the answer by the table, and the only one, if that is so where none applies
+  pub exactly : (Else′ : A → Type 0) (f : A) (rows : List Row) → (None rows → Else f → (r : A) → (f ≡ r) ↔ Else′ r) → First refuse Else rows f
+      → (r : A) → (f ≡ r) ↔ First refuse Else′ rows r
+  unfolding First None
+  exactly Else′ f [] k h r = k tt h r
+  exactly Else′ f ((n when P) ∷ rows) k (inl (a, e)) r =
+      (λ z. inl (a, sym z ∙ e), ⊎-elim (λ d. e ∙ sym (d .1)) (λ d. absurd (d .0 a)))
+  exactly Else′ f ((n when P) ∷ rows) k (inr (a, h)) r =
+      let later = exactly Else′ f rows (λ m. k (a, m)) h r in
+      (λ z. inr (a, later .0 z), ⊎-elim (λ d. absurd (a (d .0))) (λ d. later .1 (d .1)))
+
+  -- ---- in order
+
+  at-row : (k : ℕ) {P : Type 0} (after : List Row) → P → (before : List Row) → None before → First refuse Else (before ++ ((k when P) ∷ after)) (refuse k)
+  unfolding First None
+  at-row k after a [] n = inl (a, refl)
+  at-row k after a ((j when Q) ∷ rows) n = inr (n .0, at-row k after a rows (n .1))
+
+  past-all : (r : A) (rows : List Row) → None rows → Else r → First refuse Else rows r
+  unfolding First None
+  past-all r [] n e = e
+  past-all r ((j when Q) ∷ rows) n e = inr (n .0, past-all r rows (n .1) e)
+
+  judged : {rows : List Row} {r : A} → InOrder refuse Else rows r → First refuse Else rows r
+  judged (given {k} g) = subst (λ (rs : List Row). First refuse Else rs (refuse k)) (sym (g .order)) (at-row k (g .after) (g .applies) (g .before) (g .none-before))
+  judged {rows} (none-applies {r} n e) = past-all r rows n e
+
+pub every-table : {A : Type 0} (refuse : ℕ → A) (Else : A → Type 0) (rows : List Row) → EveryTable refuse Else rows
+every-table refuse Else rows = record {
+  in-order = λ r. (by-rows refuse Else (InOrder refuse Else rows) rows (λ k i g. given g) (λ x n e. none-applies n e) r, judged refuse Else);
+  one-answer = λ u r r′ h. exactly refuse Else Else r rows (λ n e x. (λ z. subst Else z e, λ d. u n r x e d)) h r′ .1;
+  refused-by = by-rows refuse Else _ rows (λ k i g. inl (k, i, refl)) (λ r n e. inr (n, e));
+  number-in-order = λ number same past. by-rows refuse Else (λ r. GivenInOrder rows (number r)) rows
+      (λ k i g. subst (GivenInOrder rows) (sym (same k)) (record { refused = λ _. g; not-refused = λ n. absurd (n i) }))
+      (λ r n e. record { refused = λ i. absurd (past r e i); not-refused = λ _. n });
+}
+
+-- ---- the numbers of a table
+
+-- n is none of these, by computing
+abbrev pub free : ℕ → List ℕ → Bool
+free n [] = true
+free n (m ∷ ms) = cond (eqb m n) false (free n ms)
+
+pub not-one : (n : ℕ) {k : ℕ} {ns : List ℕ} → Among ns k → free n ns ≡ true → ¬ (k ≡ n)
+not-one n (here {x} {xs}) h e = true≢false (sym h ∙ ap (λ (b : Bool). cond b false (free n xs)) (eq-eqb x n e))
+not-one n (later {y = y} {xs = xs} i) h e = not-one n i (rest (eqb y n) h) e
+  where
+    rest : (b : Bool) → cond b false (free n xs) ≡ true → free n xs ≡ true
+    rest true d = absurd (true≢false (sym d))
+    rest false d = d
+
+-- a number among the first is among all
+pub among-more : {k : ℕ} {ns : List ℕ} (ms : List ℕ) → Among ns k → Among (ns ++ ms) k
+among-more ms here = here
+among-more ms (later i) = later (among-more ms i)

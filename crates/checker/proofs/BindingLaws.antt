@@ -2,25 +2,18 @@
 use mathlib.Core.Path.{_≡_, refl, ap, ap₂, _∙_}
 use mathlib.Core.Bool.{Bool, true, false, cond}
 use mathlib.Core.Option.{none, some}
-use mathlib.Core.Logic.{inl}
 use mathlib.Core.List.{List, [], _∷_}
-use Prim.Native.Nat.{ℕ, zero, suc, _+_, _*_, _-_, _<_, _≤_}
+use Prim.Native.Nat.{ℕ, zero, suc, _+_, _*_, _-_, _%_, _<_, _≤_}
 use native.Mathlib.Numerals.{add-one}
 use native.Mathlib.Omega.{arith}
+use native.Mathlib.Nat.{mod-eq-of-lt}
 use lib.Dec.{ltb, leb}
 use lib.ListN.{length, getD, set, length-set}
 use lib.Seq.{getD-set-same, getD-set-other}
 use borrow.Author.Tests.{lt-ltb, le-ltb, le-leb, lt-leb}
-use Rattle.sets.proofs.Walks.{tab-ext}
-use Rattle.labels.specs.declared.Label.{Label}
-use Rattle.labels.specs.Labels.{owners, wholeOf}
-use Rattle.labels.specs.Tables.{labelSize, setsAt, labelAt, labelPut}
-use Rattle.labels.proofs.OrderLaws.{label-path}
-use Rattle.labels.proofs.TableLaws.{length-put, put-read, put-word, put-other}
 use Rattle.booleans.specs.Booleans.{both}
 use Rattle.language.specs.Typing.{nth}
 use Rattle.lines.specs.Names.{maxDepth}
-use Rattle.tables.specs.Tables.{entryIn, leftIn, rightIn}
 use Rattle.checker.specs.Bindings.{bindingSize, bindingsSize, boundType, boundLabel, upTo, boundTypes, boundLabels, bindOf}
 use Rattle.checker.specs.Nodes.{plainTyped, nothing, varTyped}
 use Rattle.checker.specs.Post.{Kept}
@@ -66,88 +59,56 @@ kept-same = record { size = refl; types = refl; labels = refl }
 pub kept-twice : {s s′ s″ : List ℕ} {d : ℕ} → Kept s s′ d → Kept s′ s″ d → Kept s s″ d
 kept-twice k l = record { size = l .size ∙ k .size; types = l .types ∙ k .types; labels = l .labels ∙ k .labels }
 
--- a label whose words stand before a word that is written
-label-set : (s : List ℕ) (k n at : ℕ) → at + labelSize ≤ k → labelAt (set s k n) at ≡ labelAt s at
-unfolding labelAt setsAt
-label-set s k n at h =
-    label-path (labelAt (set s k n) at) (labelAt s at)
-    (tab-ext owners _ _ (λ o l. getD-set-other s k (at + o) n 0 (λ e. omega arith)))
-    (tab-ext owners _ _ (λ o l. getD-set-other s k (at + owners + o) n 0 (λ e. omega arith)))
-
-module _ (s : List ℕ) (d n : ℕ) (a : Label) (whole : wholeOf a ≡ true) where
+module _ (s : List ℕ) (d n a : ℕ) where
   pub bind-kept : Kept s (bindOf s d n a) d
   unfolding bindOf
   bind-kept = record {
-    size = length-put _ _ a whole ∙ length-set s (d * bindingSize) n;
-    types = upTo-same _ _ d type;
-    labels = upTo-same _ _ d label;
+    size = length-set (set s (d * bindingSize) n) (d * bindingSize + 1) a ∙ length-set s (d * bindingSize) n;
+    types = upTo-same _ _ d (λ i l. ap (λ (w : ℕ). w % 4294967296) (kept (i * bindingSize) (omega arith)));
+    labels = upTo-same _ _ d (λ i l. kept (i * bindingSize + 1) (omega arith));
   }
     where
-      s′ : List ℕ
-      s′ = set s (d * bindingSize) n
-
-      type : (i : ℕ) → i < d → boundType (labelPut s′ (d * bindingSize + 1) a) i ≡ boundType s i
-      type i l = put-word s′ (d * bindingSize + 1) a whole (i * bindingSize) (inl (omega arith)) ∙ getD-set-other s (d * bindingSize) (i * bindingSize) n 0 (λ e. omega arith)
-
-      label : (i : ℕ) → i < d → boundLabel (labelPut s′ (d * bindingSize + 1) a) i ≡ boundLabel s i
-      label i l = put-other s′ (d * bindingSize + 1) a whole (i * bindingSize + 1) (inl (omega arith)) ∙ label-set s (d * bindingSize) n (i * bindingSize + 1) (omega arith)
+      kept : (i : ℕ) → i < d * bindingSize → getD (set (set s (d * bindingSize) n) (d * bindingSize + 1) a) i 0 ≡ getD s i 0
+      kept i l = getD-set-other (set s (d * bindingSize) n) (d * bindingSize + 1) i a 0 (λ e. omega arith) ∙ getD-set-other s (d * bindingSize) i n 0 (λ e. omega arith)
 
   module _ (h : d < maxDepth) (k : bindingsSize ≤ length s) where
-    pub bind-type : boundTypes (bindOf s d n a) (d + 1) ≡ n ∷ boundTypes s d
+    pub bind-type : n < 4294967296 → boundTypes (bindOf s d n a) (d + 1) ≡ n ∷ boundTypes s d
     unfolding upTo bindOf
-    bind-type =
+    bind-type small =
         let here : boundType (bindOf s d n a) d ≡ n =
-        put-word (set s (d * bindingSize) n) (d * bindingSize + 1) a whole (d * bindingSize) (inl (omega arith))
-        ∙ getD-set-same s (d * bindingSize) n 0 (omega arith) in
+        ap (λ (w : ℕ). w % 4294967296) (getD-set-other (set s (d * bindingSize) n) (d * bindingSize + 1) (d * bindingSize) a 0 (λ e. omega arith) ∙ getD-set-same s (d * bindingSize) n 0 (omega arith))
+        ∙ mod-eq-of-lt small in
         ap (upTo (boundType (bindOf s d n a))) (add-one d) ∙ ap₂ (λ (x : ℕ) (l : List ℕ). x ∷ l) here (bind-kept .types)
 
     pub bind-label : boundLabels (bindOf s d n a) (d + 1) ≡ a ∷ boundLabels s d
     unfolding upTo bindOf
     bind-label =
         let here : boundLabel (bindOf s d n a) d ≡ a =
-        put-read (set s (d * bindingSize) n) (d * bindingSize + 1) a whole (omega (arith, length-set s (d * bindingSize) n)) in
-        ap (upTo (boundLabel (bindOf s d n a))) (add-one d) ∙ ap₂ (λ (x : Label) (l : List Label). x ∷ l) here (bind-kept .labels)
-
--- the parts of a type in a table of words are words
-part-small : (t : List ℕ) → ((i : ℕ) → getD t i 0 < 65536) → (count base i : ℕ) → entryIn t count base i < 65536
-unfolding entryIn
-part-small t small count base i = on (ltb i count)
-  where
-    on : (b : Bool) → cond b (getD t (base + 2 * i) 0) 0 < 65536
-    on true = small (base + 2 * i)
-    on false = omega arith
-
-module _ (t : List ℕ) (small : (i : ℕ) → getD t i 0 < 65536) (n : ℕ) where
-  pub left-small : leftIn t n < 65536
-  unfolding leftIn
-  left-small = part-small t small _ _ n
-
-  pub right-small : rightIn t n < 65536
-  unfolding rightIn
-  right-small = part-small t small _ _ n
+        getD-set-same (set s (d * bindingSize) n) (d * bindingSize + 1) a 0 (omega (arith, length-set s (d * bindingSize) n)) in
+        ap (upTo (boundLabel (bindOf s d n a))) (add-one d) ∙ ap₂ (λ (x : ℕ) (l : List ℕ). x ∷ l) here (bind-kept .labels)
 
 -- a variable is read from its place, if it has one
-module _ (t s : List ℕ) (d i next : ℕ) where
-  pub var-in : i < d → d ≤ maxDepth → varTyped t s d i next ≡ plainTyped (boundType s (d - suc i)) (boundLabel s (d - suc i)) next
+module _ (s : List ℕ) (d i next : ℕ) where
+  pub var-in : i < d → d ≤ maxDepth → varTyped s d i next ≡ plainTyped (boundType s (d - suc i)) (boundLabel s (d - suc i)) next
   unfolding varTyped both
   var-in h k = rw (lt-ltb i d h, le-leb d maxDepth k)
 
-  pub var-past : d ≤ i → varTyped t s d i next ≡ nothing t next
+  pub var-past : d ≤ i → varTyped s d i next ≡ nothing next
   unfolding varTyped both
   var-past h = rw (le-ltb i d h)
 
-  pub var-deep : maxDepth < d → varTyped t s d i next ≡ nothing t next
+  pub var-deep : maxDepth < d → varTyped s d i next ≡ nothing next
   unfolding varTyped both
   var-deep h = rw (lt-leb d maxDepth h) (on (ltb i d))
     where
-      on : (b : Bool) → cond (both b false) (plainTyped (boundType s (d - suc i)) (boundLabel s (d - suc i)) next) (nothing t next) ≡ nothing t next
+      on : (b : Bool) → cond (both b false) (plainTyped (boundType s (d - suc i)) (boundLabel s (d - suc i)) next) (nothing next) ≡ nothing next
       on true = refl
       on false = refl
 
-  pub var-next : varTyped t s d i next .next ≡ next
+  pub var-next : varTyped s d i next .next ≡ next
   unfolding varTyped nothing
   var-next = on (both (ltb i d) (leb d maxDepth))
     where
-      on : (b : Bool) → (cond b (plainTyped (boundType s (d - suc i)) (boundLabel s (d - suc i)) next) (nothing t next)) .next ≡ next
+      on : (b : Bool) → (cond b (plainTyped (boundType s (d - suc i)) (boundLabel s (d - suc i)) next) (nothing next)) .next ≡ next
       on true = refl
       on false = refl

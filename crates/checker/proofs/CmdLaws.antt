@@ -1,6 +1,6 @@
 -- What each arm of `check_cmd` shows. Assumes nothing.
 use mathlib.Core.Path.{_≡_, refl, ap, _∙_}
-use mathlib.Core.Bool.{Bool, true, false, _&&_}
+use mathlib.Core.Bool.{Bool, true, false}
 use mathlib.Core.List.{List, _∷_}
 use Prim.Native.Nat.{ℕ, suc, _+_, _≤_, _<_}
 use native.Mathlib.Numerals.{add-one}
@@ -8,8 +8,7 @@ use native.Mathlib.Omega.{arith}
 use lib.Dec.{ltb}
 use borrow.Author.Tests.{ltb-true}
 use lib.ListN.{length, drop}
-use Rattle.labels.specs.declared.Label.{Label}
-use Rattle.labels.specs.Labels.{belowOf, joinOf, wholeOf}
+use Rattle.sets.specs.Sets.{union}
 use Rattle.booleans.specs.Booleans.{both}
 use Rattle.booleans.proofs.BooleanLaws.{both-left, both-right}
 use Rattle.language.specs.Syntax.{Expr, Cmd, skip, seq, assign, while, case}
@@ -25,9 +24,10 @@ use Rattle.checker.specs.declared.Typed.{Typed}
 use Rattle.checker.specs.declared.Passed.{Passed}
 use Rattle.checker.specs.Numbers.{onSumNo, givenNo, shapeNo}
 use Rattle.checker.specs.Bindings.{bindingsSize, boundTypes, boundLabels, bindOf}
-use Rattle.checker.specs.Nodes.{refused, skipPassed, seqPassed, mayAssign, assignPassed, whilePassed, casePassed}
+use Rattle.checker.specs.Nodes.{refused, skipPassed, seqPassed, assignPassed, whilePassed, casePassed}
 use Rattle.checker.specs.Post.{Finds, Room, ChecksExpr, Kept, Passes, ChecksCmd}
 use Rattle.checker.proofs.BindingLaws.{kept-same, kept-twice, kept-fewer, bind-kept, bind-type, bind-label}
+use Rattle.checker.proofs.MemberLaws.{union-below}
 use Rattle.checker.proofs.ExprLaws.{is-type}
 
 -- ---- what a node finds, from what its operands' nodes found
@@ -37,7 +37,7 @@ unfolding onSumNo givenNo both
 on-sum t true n k = refl
 on-sum t false n k = refl
 
-module _ (t Γ : List ℕ) (pc : Label) (Δ : List Label) where
+module _ (t Γ : List ℕ) (pc : ℕ) (Δ : List ℕ) where
   pass-skip : (next : ℕ) → Passes t Γ pc Δ skip (skipPassed next)
   unfolding shapeNo flow
   pass-skip next = record { typed-is = refl; flow-is = refl }
@@ -47,11 +47,11 @@ module _ (t Γ : List ℕ) (pc : Label) (Δ : List Label) where
   pass-seq p q = record { typed-is = rw (p .typed-is, q .typed-is); flow-is = rw (p .flow-is, q .flow-is) }
 
   module _ {e : Expr} {x : Typed} (p : Finds t Γ Δ e x) where
-    pass-assign : (n : ℕ) → Passes t Γ pc Δ (assign n e) (assignPassed t n x (mayAssign t n pc (x .label)))
-    unfolding assignPassed mayAssign shapeNo flow
-    pass-assign n = record { typed-is = rw (← p .type-is, is-type x _); flow-is = rw (p .flow-is, p .label-is) }
+    pass-assign : (n : ℕ) → Passes t Γ pc Δ (assign n e) (assignPassed t n pc x)
+    unfolding assignPassed shapeNo flow
+    pass-assign n = record { typed-is = rw (← p .type-is, is-type x _); flow-is = rw (union-below t (x .label) pc (labelIn t (homeIn t n)), p .flow-is, p .label-is) }
 
-    pass-while : {c : Cmd} {y : Passed} → Passes t Γ (joinOf pc (x .label)) Δ c y → Passes t Γ pc Δ (while e c) (whilePassed x y)
+    pass-while : {c : Cmd} {y : Passed} → Passes t Γ (union pc (x .label)) Δ c y → Passes t Γ pc Δ (while e c) (whilePassed x y)
     unfolding whilePassed shapeNo flow
     pass-while {c} {y} q = record {
       typed-is = rw (← p .type-is, is-type x 3, q .typed-is);
@@ -59,20 +59,14 @@ module _ (t Γ : List ℕ) (pc : Label) (Δ : List Label) where
     }
 
     pass-case : {c d : Cmd} {y z : Passed}
-        → Passes t (leftIn t (x .ty) ∷ Γ) (joinOf pc (x .label)) (x .label ∷ Δ) c y
-        → Passes t (rightIn t (x .ty) ∷ Γ) (joinOf pc (x .label)) (x .label ∷ Δ) d z
+        → Passes t (leftIn t (x .ty) ∷ Γ) (union pc (x .label)) (x .label ∷ Δ) c y
+        → Passes t (rightIn t (x .ty) ∷ Γ) (union pc (x .label)) (x .label ∷ Δ) d z
         → Passes t Γ pc Δ (case e c d) (casePassed t x y z)
     unfolding casePassed shapeNo flow
     pass-case q r = record {
       typed-is = rw (← p .type-is, on-sum t (x .typed) (x .ty) _, q .typed-is, r .typed-is);
       flow-is = rw (q .flow-is, r .flow-is, p .flow-is, p .label-is);
     }
-
--- the two tests of an assignment
-pub may-assign : (t : List ℕ) (n : ℕ) (pc a : Label) {l : ℕ} {home : Label} {p q : Bool} → l ≡ homeIn t n → home ≡ labelIn t l
-    → p ≡ belowOf a home → q ≡ belowOf pc home → (p && q) ≡ mayAssign t n pc a
-unfolding mayAssign both
-may-assign t n pc a e f g h = cc
 
 -- ---- the arms: the row at `at`, what the operands' checks ensure, and what the node gives
 
@@ -89,20 +83,20 @@ case-names k d e f g h =
     )
 
 -- what is found over words is found over words that bind the same
-pass-kept : {t s s′ : List ℕ} {d : ℕ} {pc : Label} {c : Cmd} {x : Passed} → Kept s s′ d
+pass-kept : {t s s′ : List ℕ} {d : ℕ} {pc : ℕ} {c : Cmd} {x : Passed} → Kept s s′ d
     → Passes t (boundTypes s′ d) pc (boundLabels s′ d) c x → Passes t (boundTypes s d) pc (boundLabels s d) c x
 pass-kept k p = record { typed-is = rw (← k .types) (p .typed-is); flow-is = rw (← k .labels) (p .flow-is) }
 
 -- what is found over words that bind one case more, where the cases below it are those of s
-pass-bound : (t : List ℕ) {s s′ s″ : List ℕ} (d n : ℕ) (a : Label) {pc pc′ : Label} {c : Cmd} {x : Passed} → s″ ≡ bindOf s′ d n a → Kept s s′ d
-    → wholeOf a ≡ true → d < maxDepth → bindingsSize ≤ length s′ → pc ≡ pc′
+pass-bound : (t : List ℕ) {s s′ s″ : List ℕ} (d n a : ℕ) {pc pc′ : ℕ} {c : Cmd} {x : Passed} → s″ ≡ bindOf s′ d n a → Kept s s′ d
+    → n < 4294967296 → d < maxDepth → bindingsSize ≤ length s′ → pc ≡ pc′
     → Passes t (boundTypes s″ (d + 1)) pc (boundLabels s″ (d + 1)) c x → Passes t (n ∷ boundTypes s d) pc′ (a ∷ boundLabels s d) c x
-pass-bound t {s} {s′} d n a e k whole h l lab p =
-    let types = ap (λ (z : List ℕ). boundTypes z (d + 1)) e ∙ bind-type s′ d n a whole h l ∙ ap (λ (z : List ℕ). n ∷ z) (k .types) in
-    let labels = ap (λ (z : List ℕ). boundLabels z (d + 1)) e ∙ bind-label s′ d n a whole h l ∙ ap (λ (z : List Label). a ∷ z) (k .labels) in
+pass-bound t {s} {s′} d n a e k small h l lab p =
+    let types = ap (λ (z : List ℕ). boundTypes z (d + 1)) e ∙ bind-type s′ d n a h l small ∙ ap (λ (z : List ℕ). n ∷ z) (k .types) in
+    let labels = ap (λ (z : List ℕ). boundLabels z (d + 1)) e ∙ bind-label s′ d n a h l ∙ ap (λ (z : List ℕ). a ∷ z) (k .labels) in
     record { typed-is = rw (← types) (p .typed-is); flow-is = rw (← labels, ← lab) (p .flow-is) }
 
-module _ (ws : List ℕ) (at : ℕ) (t s : List ℕ) (d : ℕ) (pc : Label) {row : Row} (q : row ≡ rowAt ws at) where
+module _ (ws : List ℕ) (at : ℕ) (t s : List ℕ) (d pc : ℕ) {row : Row} (q : row ≡ rowAt ws at) where
   Done : Cmd → List Line → Passed → Type 0
   Done c rest x = Passes t (boundTypes s d) pc (boundLabels s d) c x × (drop (x .next) ws ≡ code rest)
 
@@ -136,15 +130,14 @@ module _ (ws : List ℕ) (at : ℕ) (t s : List ℕ) (d : ℕ) (pc : Label) {row
           (pass-seq t _ pc _ (m .0) (pass-kept (cx .kept) (n .0)), n .1)
 
   module _ {x : Typed} (cx : ChecksExpr ws (at + 3) t s d x) where
-    pub arm-assign : row .kind ≡ 3 → {b : Bool} → b ≡ mayAssign t (row .a) pc (x .label)
-        → {r : Passed} → r ≡ assignPassed t (row .a) x b → ChecksCmd ws at t s d pc r s
+    pub arm-assign : row .kind ≡ 3 → {r : Passed} → r ≡ assignPassed t (row .a) pc x → ChecksCmd ws at t s d pc r s
     unfolding Done assignPassed
-    arm-assign h f e = rw (e, f) (by-row 3 h _ (omega (arith, cx .onward)) kept-same (λ k c rest v names room. go v room))
+    arm-assign h e = rw e (by-row 3 h _ (omega (arith, cx .onward)) kept-same (λ k c rest v names room. go v room))
       where
-        go : {rest : List Line} {a b : ℕ} {c : Cmd} → CmdRow ws at rest 3 a b c → Room s d → Done c rest (assignPassed t a x (mayAssign t a pc (x .label)))
+        go : {rest : List Line} {a b : ℕ} {c : Cmd} → CmdRow ws at rest 3 a b c → Room s d → Done c rest (assignPassed t a pc x)
         go {rest} (at-assign {x = n} {e} p w) room = let m = cx .means e rest p w room in (pass-assign t _ pc _ (m .0) n, m .1)
 
-    pub arm-while : row .kind ≡ 4 → {pc′ : Label} → pc′ ≡ joinOf pc (x .label) → {y : Passed} {s₁ : List ℕ}
+    pub arm-while : row .kind ≡ 4 → {pc′ : ℕ} → pc′ ≡ union pc (x .label) → {y : Passed} {s₁ : List ℕ}
         → ChecksCmd ws (x .next) t s d pc′ y s₁ → {r : Passed} → r ≡ whilePassed x y → ChecksCmd ws at t s d pc r s₁
     unfolding Done whilePassed named
     arm-while h lab {y} cy e = rw e (by-row 4 h _ (omega (arith, cx .onward, cy .onward)) (cy .kept) (λ k c rest v names room. go k v names room))
@@ -156,22 +149,22 @@ module _ (ws : List ℕ) (at : ℕ) (t s : List ℕ) (d : ℕ) (pc : Label) {row
             (pass-while t _ pc _ (m .0) (rw lab at (n .0)), n .1)
 
     -- a case, with the words for bindings after each step
-    pub arm-case : row .kind ≡ 5 → d < maxDepth → wholeOf (x .label) ≡ true → {pc′ : Label} → pc′ ≡ joinOf pc (x .label)
-        → {s₁ s₂ s₃ s₄ : List ℕ} {y z : Passed} {m : ℕ} → m ≡ leftIn t (x .ty) → s₁ ≡ bindOf s d m (x .label) → ChecksCmd ws (x .next) t s₁ (d + 1) pc′ y s₂
-        → {n : ℕ} → n ≡ rightIn t (x .ty) → s₃ ≡ bindOf s₂ d n (x .label) → ChecksCmd ws (y .next) t s₃ (d + 1) pc′ z s₄
+    pub arm-case : row .kind ≡ 5 → d < maxDepth → {pc′ : ℕ} → pc′ ≡ union pc (x .label)
+        → {s₁ s₂ s₃ s₄ : List ℕ} {y z : Passed} {m : ℕ} → m < 4294967296 → m ≡ leftIn t (x .ty) → s₁ ≡ bindOf s d m (x .label) → ChecksCmd ws (x .next) t s₁ (d + 1) pc′ y s₂
+        → {n : ℕ} → n < 4294967296 → n ≡ rightIn t (x .ty) → s₃ ≡ bindOf s₂ d n (x .label) → ChecksCmd ws (y .next) t s₃ (d + 1) pc′ z s₄
         → {r : Passed} → r ≡ casePassed t x y z → ChecksCmd ws at t s d pc r s₄
     unfolding Done casePassed
-    arm-case h shallow whole lab {s₁} {s₂} {s₃} {y = y} {z} {m} tl bl cy {n} tr br cz e =
+    arm-case h shallow lab {s₁} {s₂} {s₃} {y = y} {z} {m} ml tl bl cy {n} nl tr br cz e =
         rw e (by-row 5 h _ (omega (arith, cx .onward, cy .onward, cz .onward)) (kept-twice upto₃ (kept-fewer (cz .kept))) (λ k c rest v names room. go k v names room))
       where
         upto₁ : Kept s s₁ d
-        upto₁ = rw bl (bind-kept s d m (x .label) whole)
+        upto₁ = rw bl (bind-kept s d m (x .label))
 
         upto₂ : Kept s s₂ d
         upto₂ = kept-twice upto₁ (kept-fewer (cy .kept))
 
         upto₃ : Kept s s₃ d
-        upto₃ = kept-twice upto₂ (rw br (bind-kept s₂ d n (x .label) whole))
+        upto₃ = kept-twice upto₂ (rw br (bind-kept s₂ d n (x .label)))
 
         inner : {s′ : List ℕ} → Kept s s′ d → Room s d → Room s′ (d + 1)
         inner k room = (omega arith, rw (k .size) (room .1))
@@ -183,8 +176,8 @@ module _ (ws : List ℕ) (at : ℕ) (t s : List ℕ) (d : ℕ) (pc : Label) {row
             let mf = cy .means k f (cmdLines g rest) r (me .1) (ns .1) (inner upto₁ room) in
             let mg = cz .means k g rest u (mf .1) (ns .2) (inner upto₃ room) in
             let long₂ : bindingsSize ≤ length s₂ = rw (upto₂ .size) (room .1) in (
-              pass-case t _ pc _ (me .0) (rw tl at (pass-bound t d m (x .label) bl kept-same whole shallow (room .1) lab (mf .0)))
-                  (rw tr at (pass-bound t d n (x .label) br upto₂ whole shallow long₂ lab (mg .0))),
+              pass-case t _ pc _ (me .0) (rw tl at (pass-bound t d m (x .label) bl kept-same ml shallow (room .1) lab (mf .0)))
+                  (rw tr at (pass-bound t d n (x .label) br upto₂ nl shallow long₂ lab (mg .0))),
               mg .1,
             )
 

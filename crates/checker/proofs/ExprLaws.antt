@@ -7,7 +7,6 @@ use native.Mathlib.Omega.{arith}
 use native.Mathlib.Decide.{decLt}
 use lib.Dec.{eqb}
 use lib.ListN.{length, drop}
-use Rattle.labels.specs.declared.Label.{Label}
 use Rattle.booleans.specs.Booleans.{both}
 use Rattle.language.specs.Syntax.{int, Expr, val, loc, var, plus, left, right, pack, unpack}
 use Rattle.language.specs.Typing.{orElse, least, flowE}
@@ -41,8 +40,8 @@ some-type x = on (x .typed)
     on true = refl
     on false = refl
 
-module _ (t Γ : List ℕ) (Δ : List Label) where
-  find-int : (n next : ℕ) → Finds t Γ Δ (val (int n)) (intTyped t next)
+module _ (t Γ Δ : List ℕ) where
+  find-int : (n next : ℕ) → Finds t Γ Δ (val (int n)) (intTyped next)
   unfolding intTyped typeNo least flowE givenNo
   find-int n next = record { type-is = refl; label-is = refl; flow-is = refl }
 
@@ -75,16 +74,16 @@ module _ (t Γ : List ℕ) (Δ : List Label) where
     unfolding unpackTyped typeNo rightIsNo isNo least flowE
     find-unpack n l = record { type-is = rw (← p .type-is, is-type x 2); label-is = refl; flow-is = rw (p .flow-is, p .label-is) }
 
-find-var : (t s : List ℕ) (d i next : ℕ) → Room s d → Finds t (boundTypes s d) (boundLabels s d) (var i) (varTyped t s d i next)
+find-var : (t s : List ℕ) (d i next : ℕ) → Room s d → Finds t (boundTypes s d) (boundLabels s d) (var i) (varTyped s d i next)
 unfolding typeNo least flowE givenNo orElse nothing
 find-var t s d i next room = on (decLt i d)
   where
-    on : Dec (i < d) → Finds t (boundTypes s d) (boundLabels s d) (var i) (varTyped t s d i next)
+    on : Dec (i < d) → Finds t (boundTypes s d) (boundLabels s d) (var i) (varTyped s d i next)
     on (yes h) =
-        rw (var-in t s d i next h (room .0))
+        rw (var-in s d i next h (room .0))
         (record { type-is = sym (nth-upTo (boundType s) d i h); label-is = rw (nth-upTo (boundLabel s) d i h); flow-is = refl })
     on (no h) =
-        rw (var-past t s d i next (omega arith))
+        rw (var-past s d i next (omega arith))
         (record { type-is = sym (nth-past (boundType s) d i (omega arith)); label-is = rw (nth-past (boundLabel s) d i (omega arith)); flow-is = refl })
 
 -- ---- the arms: the row at `at`, what the operands' checks ensure, and what the node gives
@@ -117,11 +116,11 @@ module _ (ws : List ℕ) (at : ℕ) (t s : List ℕ) (d : ℕ) {row : Row} (q : 
   unfolding Done
   by-row k h x n m = record { onward = n; means = λ e rest src w room. m e rest (rw (← q, h) at (expr-row ws at src w)) room }
 
-  pub arm-int : row .kind ≡ 6 → {x : Typed} → x ≡ intTyped t (at + 3) → ChecksExpr ws at t s d x
+  pub arm-int : row .kind ≡ 6 → {x : Typed} → x ≡ intTyped (at + 3) → ChecksExpr ws at t s d x
   unfolding Done intTyped
   arm-int h e = rw e (by-row 6 h _ (omega arith) (λ e rest v room. go v))
     where
-      go : {rest : List Line} {a b : ℕ} {e : Expr} → ExprRow ws at rest 6 a b e → Done e rest (intTyped t (at + 3))
+      go : {rest : List Line} {a b : ℕ} {e : Expr} → ExprRow ws at rest 6 a b e → Done e rest (intTyped (at + 3))
       go (at-int {n} w) = (find-int t _ _ n (at + 3), w)
 
   pub arm-loc : row .kind ≡ 7 → {x : Typed} → x ≡ locTyped t (row .a) (at + 3) → ChecksExpr ws at t s d x
@@ -131,12 +130,12 @@ module _ (ws : List ℕ) (at : ℕ) (t s : List ℕ) (d : ℕ) {row : Row} (q : 
       go : {rest : List Line} {a b : ℕ} {e : Expr} → ExprRow ws at rest 7 a b e → Done e rest (locTyped t a (at + 3))
       go (at-loc {x} w) = (find-loc t _ _ x (at + 3), w)
 
-  pub arm-var : row .kind ≡ 8 → {x : Typed} → x ≡ varTyped t s d (row .a) (at + 3) → ChecksExpr ws at t s d x
+  pub arm-var : row .kind ≡ 8 → {x : Typed} → x ≡ varTyped s d (row .a) (at + 3) → ChecksExpr ws at t s d x
   unfolding Done
-  arm-var h e = rw e (by-row 8 h _ (omega (arith, var-next t s d (row .a) (at + 3))) (λ e rest v room. go room v))
+  arm-var h e = rw e (by-row 8 h _ (omega (arith, var-next s d (row .a) (at + 3))) (λ e rest v room. go room v))
     where
-      go : Room s d → {rest : List Line} {a b : ℕ} {e : Expr} → ExprRow ws at rest 8 a b e → Done e rest (varTyped t s d a (at + 3))
-      go room (at-var {d = i} w) = (find-var t s d i (at + 3) room, ap (λ (m : ℕ). drop m ws) (var-next t s d i (at + 3)) ∙ w)
+      go : Room s d → {rest : List Line} {a b : ℕ} {e : Expr} → ExprRow ws at rest 8 a b e → Done e rest (varTyped s d a (at + 3))
+      go room (at-var {d = i} w) = (find-var t s d i (at + 3) room, ap (λ (m : ℕ). drop m ws) (var-next s d i (at + 3)) ∙ w)
 
   module _ {x : Typed} (cx : ChecksExpr ws (at + 3) t s d x) where
     pub arm-plus : row .kind ≡ 9 → {y : Typed} → ChecksExpr ws (x .next) t s d y → {r : Typed} → r ≡ plusTyped x y → ChecksExpr ws at t s d r
@@ -178,7 +177,7 @@ module _ (ws : List ℕ) (at : ℕ) (t s : List ℕ) (d : ℕ) {row : Row} (q : 
         go room {rest} (at-unpack {t = n} {l} {e} p w) = let m = cx .means e rest p w room in (find-unpack t _ _ (m .0) n l, m .1)
 
   -- a row of another kind is no expression's
-  pub arm-other : (6 ≤ row .kind → row .kind < 14 → ⊥) → {x : Typed} → x ≡ nothing t at → ChecksExpr ws at t s d x
+  pub arm-other : (6 ≤ row .kind → row .kind < 14 → ⊥) → {x : Typed} → x ≡ nothing at → ChecksExpr ws at t s d x
   unfolding Done nothing
   arm-other f e = rw e (by-row (row .kind) refl _ (omega arith) (λ e rest v room. absurd (go v refl)))
     where

@@ -2,20 +2,31 @@
 use mathlib.Core.Path.{_≡_, refl, sym, ap, ap₂, _∙_}
 use mathlib.Core.Bool.{true}
 use mathlib.Core.List.{List, []}
-use Prim.Native.Nat.{ℕ}
+use Prim.Native.Nat.{ℕ, _≤_}
+use native.Mathlib.Omega.{arith}
 use Rattle.sets.specs.Sets.{everyone}
 use Rattle.labels.specs.declared.Label.{Label}
-use Rattle.labels.specs.Labels.{belowOf, confidentialityOf, integrityOf, bottomOf}
+use Rattle.labels.specs.Labels.{belowOf, confidentialityOf, integrityOf, bottomOf, effective}
+use Rattle.labels.proofs.EffectiveLaws.{effective-whole, bottom-least, I-effective}
+use Rattle.labels.proofs.PartLaws.{I-bottom}
 use Rattle.language.specs.Syntax.{Cmd}
 use Rattle.language.specs.Typing.{conditions, flow}
 use Rattle.language.proofs.Images.{Image, flow-image}
-use Rattle.tables.specs.Sheet.{Sheet, formed}
+use Rattle.tables.specs.Sheet.{Sheet, formed, labelCount, maxLabels}
 use Rattle.tables.specs.Tables.{tableOf, everyoneIn, homeIn, labelIn}
 use Rattle.tables.specs.Meaning.{labelsOver, declarationsOf}
-use Rattle.tables.proofs.TableLaws.{everyone-in, home-in}
-use Rattle.tables.proofs.LabelLaws.{label-in}
+use Rattle.tables.proofs.FormLaws.{formed-facts}
+use Rattle.tables.proofs.Entries.{label-past}
+use Rattle.tables.proofs.TableLaws.{everyone-in, home-in, labels-in}
+use Rattle.tables.proofs.LabelLaws.{label-in, label-no-effective}
 use Rattle.tables.proofs.MeaningLaws.{declared-label, declared-home}
-use Rattle.checker.specs.Numbers.{conditionsIn}
+use Rattle.checker.specs.Members.{labelMember, integrityMember, joinIn}
+use Rattle.checker.specs.Numbers.{conditionsIn, conditionsOn}
+use Rattle.checker.proofs.MemberLaws.{join-none, join-union, join-label, join-integrity}
+
+few-of : (s : Sheet) → formed s ≡ true → labelCount s ≤ maxLabels
+unfolding labelCount
+few-of s fm = formed-facts s fm .few-labels
 
 module _ (s : Sheet) (fm : formed s ≡ true) where
   abbrev T : List ℕ
@@ -39,13 +50,46 @@ module _ (s : Sheet) (fm : formed s ≡ true) where
         join-is = λ a b. refl;
         packed-is = λ l a. ap₂ integrityOf all-is (label-is l);
         opened-is = λ l a. label-is l;
-        leq-is = λ a b. refl;
+        assign-is = λ x a. ap (belowOf (a .raw)) (home-is x);
         pack-is = λ l a. ap (belowOf (a .raw)) (label-is l);
         open-is = λ l a. ap (λ (b : Label). belowOf (confidentialityOf (a .raw)) (confidentialityOf b)) (label-is l);
       }
 
+  -- the labels of the table lie above bottom, and so do their integrity parts
+  effective-in : (l : ℕ) → effective (s .principals) (labelIn T l) ≡ true
+  effective-in l = rw (label-in s fm l) (label-no-effective s fm l)
+
+  bottom-under : (a : Label) → effective (s .principals) a ≡ true → belowOf (bottomOf (everyoneIn T)) a ≡ true
+  bottom-under a h = rw all-is at (bottom-least (s .principals) a h)
+
+  past : (l : ℕ) → maxLabels ≤ l → labelIn T l ≡ bottomOf (everyoneIn T)
+  past l h = let few : labelCount s ≤ maxLabels = few-of s fm in label-past T l (sym (labels-in s)) refl (omega arith)
+
+  -- the conditions over sets of members, and those over the labels that they stand for
+  members-image : Image (conditionsOn T) (conditionsIn T) (joinIn T)
+  members-image =
+      record {
+        home-is = λ x. label-joined (homeIn T x);
+        bot-is = join-none T;
+        join-is = join-union T;
+        packed-is = λ l a. integrity-joined l;
+        opened-is = λ l a. label-joined l;
+        assign-is = λ x a. refl;
+        pack-is = λ l a. refl;
+        open-is = λ l a. refl;
+      }
+    where
+      label-joined : (l : ℕ) → joinIn T (labelMember l) ≡ labelIn T l
+      label-joined l = join-label T past l (effective-whole _ _ (effective-in l)) (bottom-under (labelIn T l) (effective-in l))
+
+      integrity-joined : (l : ℕ) → joinIn T (integrityMember l) ≡ integrityOf (everyoneIn T) (labelIn T l)
+      integrity-joined l =
+          let ok = rw all-is at (I-effective (s .principals) (labelIn T l) (effective-in l)) in
+          join-integrity T past l (I-bottom _) (effective-whole _ _ ok) (bottom-under _ ok)
+
   pub flow-table : (c : Cmd) → flow (conditions (labelsOver (s .principals)) (declarationsOf s)) (labelsOver (s .principals) .bot) [] c
-      ≡ flow (conditionsIn T) (bottomOf (everyoneIn T)) [] c
+      ≡ flow (conditionsOn T) 0 [] c
   flow-table c =
       flow-image _ _ (λ a. a .raw) table-image (labelsOver (s .principals) .bot) [] c
       ∙ ap (λ (n : ℕ). flow (conditionsIn T) (bottomOf n) [] c) all-is
+      ∙ sym (flow-image _ _ (joinIn T) members-image 0 [] c ∙ ap (λ (a : Label). flow (conditionsIn T) a [] c) (join-none T))

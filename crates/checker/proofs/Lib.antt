@@ -1,3 +1,4 @@
+pub mod MemberLaws
 pub mod BindingLaws
 pub mod ExprLaws
 pub mod CmdLaws

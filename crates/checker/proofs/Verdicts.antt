@@ -6,18 +6,16 @@ use mathlib.Core.List.{List, []}
 use Prim.Native.Nat.{ℕ, _≤_}
 use native.Mathlib.Omega.{arith}
 use lib.ListN.{length}
-use Rattle.labels.specs.declared.Label.{Label}
-use Rattle.labels.specs.Labels.{bottomOf}
 use Rattle.language.specs.Syntax.{Cmd}
 use Rattle.language.specs.Typing.{flow, refusal}
 use Rattle.language.proofs.Exactness.{exactness}
 use Rattle.lines.specs.Lines.{Source}
 use Rattle.tables.specs.Sheet.{Sheet, formed, repeats}
-use Rattle.tables.specs.Tables.{tableOf, everyoneIn}
+use Rattle.tables.specs.Tables.{tableOf}
 use Rattle.tables.specs.Meaning.{labelsOver, declarationsOf}
 use Rattle.tables.proofs.MeaningLaws.{labels-lattice}
 use Rattle.checker.specs.declared.Passed.{Passed}
-use Rattle.checker.specs.Numbers.{shapeNo, conditionsIn}
+use Rattle.checker.specs.Numbers.{shapeNo, conditionsOn}
 use Rattle.checker.specs.Bindings.{upTo, bindingsSize}
 use Rattle.checker.specs.Nodes.{answerOf}
 use Rattle.checker.specs.Post.{ChecksCmd, Answers}
@@ -33,20 +31,20 @@ among false flow = inr (inl refl)
 
 -- the number that the table gives
 number : (s : Sheet) → formed s ≡ true → repeats s ≡ false → {c : Cmd} → Source c
-    → answerOf (shapeNo (tableOf s) [] c) (flow (conditionsIn (tableOf s)) (bottomOf (everyoneIn (tableOf s))) [] c)
+    → answerOf (shapeNo (tableOf s) [] c) (flow (conditionsOn (tableOf s)) 0 [] c)
     ≡ refusal (labelsOver (s .principals)) (declarationsOf s) c
 unfolding answerOf refusal
 number s fm once {c} src = rw (shape-agree s fm once src (no-bound), ← flow-table s fm c)
 
-pub check-answers : (ws t : List ℕ) {bound bound′ : List ℕ} {pc : Label} {x : Passed} {r : ℕ} → ChecksCmd ws 0 t bound 0 pc x bound′
-    → pc ≡ bottomOf (everyoneIn t) → r ≡ answerOf (x .typed) (x .flow) → bindingsSize ≤ length bound → Answers ws t r
+pub check-answers : (ws t : List ℕ) {bound bound′ : List ℕ} {x : Passed} {r : ℕ} → ChecksCmd ws 0 t bound 0 0 x bound′
+    → r ≡ answerOf (x .typed) (x .flow) → bindingsSize ≤ length bound → Answers ws t r
 unfolding upTo
-check-answers ws t {x = x} cx bottom e room =
+check-answers ws t {x = x} cx e room =
     record {
       among = rw e (among (x .typed) (x .flow));
       exact = λ s fm once table k c src names w.
           let p = cx .means k c [] src w names (omega arith, room) .0 in
-          e ∙ ap₂ answerOf (p .typed-is) (p .flow-is) ∙ rw (bottom, table) (number s fm once src);
+          e ∙ ap₂ answerOf (p .typed-is) (p .flow-is) ∙ rw table (number s fm once src);
     }
 
 pub checker-exact : CheckerExact

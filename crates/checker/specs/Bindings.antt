@@ -1,24 +1,22 @@
--- What enclosing cases bind, as words: for each case the number of the type that it binds and its label, outermost first.
+-- What enclosing cases bind, as words: for each case the number of the type that it binds and the members of its label, outermost first.
 use mathlib.Core.List.{List, [], _∷_}
-use Prim.Native.Nat.{ℕ, zero, suc, _+_, _*_}
+use Prim.Native.Nat.{ℕ, zero, suc, _+_, _*_, _%_}
 use lib.ListN.{getD, set}
-use Rattle.labels.specs.declared.Label.{Label}
-use Rattle.labels.specs.Tables.{labelSize, labelAt, labelPut}
 use Rattle.lines.specs.Names.{maxDepth}
 
 -- the words for one case, and for all
 abbrev pub bindingSize : ℕ
-bindingSize = 1 + labelSize
+bindingSize = 2
 
 abbrev pub bindingsSize : ℕ
 bindingsSize = maxDepth * bindingSize
 
--- the type's number and the label at place i
+-- the type's number, of 32 bits, and the label's members at place i
 abbrev pub boundType : List ℕ → ℕ → ℕ
-boundType s i = getD s (i * bindingSize) 0
+boundType s i = getD s (i * bindingSize) 0 % 4294967296
 
-abbrev pub boundLabel : List ℕ → ℕ → Label
-boundLabel s i = labelAt s (i * bindingSize + 1)
+abbrev pub boundLabel : List ℕ → ℕ → ℕ
+boundLabel s i = getD s (i * bindingSize + 1) 0
 
 -- the places below d, the last of them first
 unfoldable pub upTo : {A : Type 0} → (ℕ → A) → ℕ → List A
@@ -29,9 +27,9 @@ upTo f (suc d) = f d ∷ upTo f d
 abbrev pub boundTypes : List ℕ → ℕ → List ℕ
 boundTypes s d = upTo (boundType s) d
 
-abbrev pub boundLabels : List ℕ → ℕ → List Label
+abbrev pub boundLabels : List ℕ → ℕ → List ℕ
 boundLabels s d = upTo (boundLabel s) d
 
 -- the words with a type and a label stored at place d
-unfoldable pub bindOf : List ℕ → ℕ → ℕ → Label → List ℕ
-bindOf s d n a = labelPut (set s (d * bindingSize) n) (d * bindingSize + 1) a
+unfoldable pub bindOf : List ℕ → ℕ → ℕ → ℕ → List ℕ
+bindOf s d n a = set (set s (d * bindingSize) n) (d * bindingSize + 1) a

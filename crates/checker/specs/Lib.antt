@@ -1,4 +1,5 @@
 pub mod Numbers
+pub mod Members
 pub mod Bindings
 pub mod Nodes
 pub mod Post

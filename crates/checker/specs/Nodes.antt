@@ -3,14 +3,15 @@ use mathlib.Core.Bool.{Bool, true, false, cond}
 use mathlib.Core.List.{List}
 use Prim.Native.Nat.{ℕ, suc, _-_}
 use lib.Dec.{eqb, leb, ltb}
-use Rattle.labels.specs.declared.Label.{Label}
-use Rattle.labels.specs.Labels.{belowOf, joinOf, confidentialityOf, integrityOf, bottomOf}
+use Rattle.sets.specs.Sets.{union}
+use Rattle.labels.specs.Labels.{belowOf, confidentialityOf}
 use Rattle.booleans.specs.Booleans.{both}
 use Rattle.lines.specs.Names.{maxDepth}
-use Rattle.tables.specs.Tables.{everyoneIn, rightIn, typeIn, homeIn, labelIn}
+use Rattle.tables.specs.Tables.{rightIn, typeIn, homeIn, labelIn}
 use Rattle.checker.specs.declared.Typed.{Typed}
 use Rattle.checker.specs.declared.Passed.{Passed}
 use Rattle.tables.specs.TypeTest.{isSum}
+use Rattle.checker.specs.Members.{labelMember, integrityMember, joinIn}
 use Rattle.checker.specs.Bindings.{boundType, boundLabel}
 
 -- the expression has the type number n
@@ -18,25 +19,25 @@ unfoldable pub isType : Typed → ℕ → Bool
 isType x n = both (x .typed) (eqb n (x .ty))
 
 -- an expression of type n and label a, in which nothing is to be tested
-abbrev pub plainTyped : ℕ → Label → ℕ → Typed
+abbrev pub plainTyped : ℕ → ℕ → ℕ → Typed
 plainTyped n a next = record { ty = n; typed = true; flow = true; label = a; next = next }
 
 -- no expression
-unfoldable pub nothing : List ℕ → ℕ → Typed
-nothing t next = record { ty = 0; typed = false; flow = true; label = bottomOf (everyoneIn t); next = next }
+unfoldable pub nothing : ℕ → Typed
+nothing next = record { ty = 0; typed = false; flow = true; label = 0; next = next }
 
-unfoldable pub intTyped : List ℕ → ℕ → Typed
-intTyped t next = plainTyped 0 (bottomOf (everyoneIn t)) next
+unfoldable pub intTyped : ℕ → Typed
+intTyped next = plainTyped 0 0 next
 
 unfoldable pub locTyped : List ℕ → ℕ → ℕ → Typed
-locTyped t x next = plainTyped (typeIn t x) (labelIn t (homeIn t x)) next
+locTyped t x next = plainTyped (typeIn t x) (labelMember (homeIn t x)) next
 
 -- variable i below d cases
-unfoldable pub varTyped : List ℕ → List ℕ → ℕ → ℕ → ℕ → Typed
-varTyped t s d i next =
+unfoldable pub varTyped : List ℕ → ℕ → ℕ → ℕ → Typed
+varTyped s d i next =
     cond (both (ltb i d) (leb d maxDepth))
     (plainTyped (boundType s (d - suc i)) (boundLabel s (d - suc i)) next)
-    (nothing t next)
+    (nothing next)
 
 unfoldable pub plusTyped : Typed → Typed → Typed
 plusTyped x y =
@@ -44,7 +45,7 @@ plusTyped x y =
       ty = 0;
       typed = both (isType x 0) (isType y 0);
       flow = both (x .flow) (y .flow);
-      label = joinOf (x .label) (y .label);
+      label = union (x .label) (y .label);
       next = y .next;
     }
 
@@ -58,8 +59,8 @@ packTyped t l x =
     record {
       ty = 4;
       typed = x .typed;
-      flow = both (x .flow) (belowOf (x .label) (labelIn t l));
-      label = integrityOf (everyoneIn t) (labelIn t l);
+      flow = both (x .flow) (belowOf (joinIn t (x .label)) (labelIn t l));
+      label = integrityMember l;
       next = x .next;
     }
 
@@ -68,8 +69,8 @@ unpackTyped t n l x =
     record {
       ty = n;
       typed = both (isType x 2) (both (isSum t n) (eqb (rightIn t n) 1));
-      flow = both (x .flow) (belowOf (confidentialityOf (x .label)) (confidentialityOf (labelIn t l)));
-      label = labelIn t l;
+      flow = both (x .flow) (belowOf (confidentialityOf (joinIn t (x .label))) (confidentialityOf (labelIn t l)));
+      label = labelMember l;
       next = x .next;
     }
 
@@ -83,13 +84,14 @@ skipPassed next = record { typed = true; flow = true; next = next }
 unfoldable pub seqPassed : Passed → Passed → Passed
 seqPassed x y = record { typed = both (x .typed) (y .typed); flow = both (x .flow) (y .flow); next = y .next }
 
--- the labels a and pc are both at or below that of location n
-unfoldable pub mayAssign : List ℕ → ℕ → Label → Label → Bool
-mayAssign t n pc a = both (belowOf a (labelIn t (homeIn t n))) (belowOf pc (labelIn t (homeIn t n)))
-
--- an assignment of x to location n, whose own label conditions are flow
-unfoldable pub assignPassed : List ℕ → ℕ → Typed → Bool → Passed
-assignPassed t n x flow = record { typed = isType x (typeIn t n); flow = both (x .flow) flow; next = x .next }
+-- an assignment of x to location n below the surrounding label pc: both labels are at or below the location's
+unfoldable pub assignPassed : List ℕ → ℕ → ℕ → Typed → Passed
+assignPassed t n pc x =
+    record {
+      typed = isType x (typeIn t n);
+      flow = both (x .flow) (belowOf (joinIn t (union (x .label) pc)) (labelIn t (homeIn t n)));
+      next = x .next;
+    }
 
 unfoldable pub whilePassed : Typed → Passed → Passed
 whilePassed x y = record { typed = both (isType x 3) (y .typed); flow = both (x .flow) (y .flow); next = y .next }

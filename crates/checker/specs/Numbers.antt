@@ -11,6 +11,8 @@ use Rattle.language.specs.Syntax.{Expr, val, loc, var, plus, left, right, pack,
 use Rattle.language.specs.Typing.{nth, Conditions}
 use Rattle.tables.specs.TypeTest.{isSum}
 use Rattle.tables.specs.Tables.{everyoneIn, leftIn, rightIn, typeIn, homeIn, labelIn}
+use Rattle.sets.specs.Sets.{union}
+use Rattle.checker.specs.Members.{labelMember, integrityMember, joinIn}
 
 -- o is the type number n
 unfoldable pub isNo : ℕ → Option ℕ → Bool
@@ -65,10 +67,23 @@ abbrev pub conditionsIn : List ℕ → Conditions Label
 conditionsIn t = record {
   home = λ x. labelIn t (homeIn t x);
   bot = bottomOf (everyoneIn t);
-  leq = belowOf;
   join = joinOf;
+  mayAssign = λ x a. belowOf a (labelIn t (homeIn t x));
   packed = λ A a. integrityOf (everyoneIn t) (labelIn t A);
   mayPack = λ A a. belowOf a (labelIn t A);
   opened = λ A a. labelIn t A;
   mayOpen = λ A a. belowOf (confidentialityOf a) (confidentialityOf (labelIn t A));
+}
+
+-- The same over sets of members: least labels are sets, and a test goes by the label that a set stands for.
+abbrev pub conditionsOn : List ℕ → Conditions ℕ
+conditionsOn t = record {
+  home = λ x. labelMember (homeIn t x);
+  bot = 0;
+  join = union;
+  mayAssign = λ x a. belowOf (joinIn t a) (labelIn t (homeIn t x));
+  packed = λ A a. integrityMember A;
+  mayPack = λ A a. belowOf (joinIn t a) (labelIn t A);
+  opened = λ A a. labelMember A;
+  mayOpen = λ A a. belowOf (confidentialityOf (joinIn t a)) (confidentialityOf (labelIn t A));
 }

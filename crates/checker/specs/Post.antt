@@ -5,7 +5,6 @@ use mathlib.Core.List.{List, []}
 use mathlib.Core.Logic.{_⊎_}
 use Prim.Native.Nat.{ℕ, _≤_}
 use lib.ListN.{length, drop}
-use Rattle.labels.specs.declared.Label.{Label}
 use Rattle.language.specs.Syntax.{Expr, Cmd}
 use Rattle.language.specs.Typing.{least, flowE, flow, refusal}
 use Rattle.lines.specs.Lines.{Line, SourceE, exprLines, Source, cmdLines}
@@ -16,14 +15,14 @@ use Rattle.tables.specs.Tables.{tableOf}
 use Rattle.tables.specs.Meaning.{labelsOver, declarationsOf}
 use Rattle.checker.specs.declared.Typed.{Typed}
 use Rattle.checker.specs.declared.Passed.{Passed}
-use Rattle.checker.specs.Numbers.{givenNo, typeNo, shapeNo, conditionsIn}
+use Rattle.checker.specs.Numbers.{givenNo, typeNo, shapeNo, conditionsOn}
 use Rattle.checker.specs.Bindings.{bindingsSize, boundTypes, boundLabels}
 
 -- x is what typing finds of e
-pub record Finds (t Γ : List ℕ) (Δ : List Label) (e : Expr) (x : Typed) : Type 0 where
+pub record Finds (t Γ Δ : List ℕ) (e : Expr) (x : Typed) : Type 0 where
   pub type-is : givenNo (x .typed) (x .ty) ≡ typeNo t Γ e
-  pub label-is : x .label ≡ least (conditionsIn t) Δ e
-  pub flow-is : x .flow ≡ flowE (conditionsIn t) Δ e
+  pub label-is : x .label ≡ least (conditionsOn t) Δ e
+  pub flow-is : x .flow ≡ flowE (conditionsOn t) Δ e
 
 -- there are words for d cases
 abbrev pub Room : List ℕ → ℕ → Type 0
@@ -41,11 +40,11 @@ pub record Kept (s s′ : List ℕ) (d : ℕ) : Type 0 where
   pub labels : boundLabels s′ d ≡ boundLabels s d
 
 -- x is what typing finds of c below the surrounding label pc
-pub record Passes (t Γ : List ℕ) (pc : Label) (Δ : List Label) (c : Cmd) (x : Passed) : Type 0 where
+pub record Passes (t Γ : List ℕ) (pc : ℕ) (Δ : List ℕ) (c : Cmd) (x : Passed) : Type 0 where
   pub typed-is : x .typed ≡ shapeNo t Γ c
-  pub flow-is : x .flow ≡ flow (conditionsIn t) pc Δ c
+  pub flow-is : x .flow ≡ flow (conditionsOn t) pc Δ c
 
-pub record ChecksCmd (ws : List ℕ) (at : ℕ) (t s : List ℕ) (d : ℕ) (pc : Label) (x : Passed) (s′ : List ℕ) : Type 0 where
+pub record ChecksCmd (ws : List ℕ) (at : ℕ) (t s : List ℕ) (d pc : ℕ) (x : Passed) (s′ : List ℕ) : Type 0 where
   pub onward : at ≤ x .next
   pub kept : Kept s s′ d
   pub means : (k : Counts) (c : Cmd) (rest : List Line) → Source c → drop at ws ≡ code (cmdLines c rest) → named k d c ≡ true → Room s d

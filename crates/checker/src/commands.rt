@@ -7,8 +7,8 @@ use crate::Typed;
 use crate::bindings;
 use crate::expressions::check_expr;
 use crate::expressions::is_type;
-use labels::Label;
-use sets::Set;
+use crate::members;
+use crate::members::Members;
 use tables::INT_OR_INT;
 use tables::is_sum;
 
@@ -42,10 +42,16 @@ fn of_seq(x: Passed, y: Passed) -> Passed
     }
 }
 
-// An assignment to location x, whose label conditions hold if `flow` is true.
-fn of_assign(table: &[u16], x: u32, e: Typed, flow: bool) -> Passed
-    ensures { λ r. ⌜ r ≡ assignPassed (now (table .entry)) x e flow ⌝ }
+// An assignment to location x below the surrounding label pc.
+fn of_assign(table: &[u16], x: u32, pc: Members, e: Typed) -> Passed
+    ensures { λ r. ⌜ r ≡ assignPassed (now (table .entry)) x pc e ⌝ }
 {
+    let flow = members::flows(
+        table,
+        members::join(e.label, pc),
+        tables::location_label(table, x),
+        true,
+    );
     Passed {
         typed: is_type(e, tables::location_type(table, x)),
         flow: e.flow & flow,
@@ -79,9 +85,9 @@ pub(crate) fn check_cmd(
     code: &[u32],
     at: usize,
     table: &[u16],
-    bound: &mut [Set; bindings::BINDINGS],
+    bound: &mut [u64; bindings::BINDINGS],
     depth: usize,
-    mut pc: Label,
+    pc: Members,
 ) -> Passed
     ensures { λ r. ⌜ ChecksCmd (now (code .entry)) at (now (table .entry)) (now (bound .entry)) depth pc r (now (bound .exit)) ⌝ }
 {
@@ -98,25 +104,21 @@ pub(crate) fn check_cmd(
         lines::ASSIGN | lines::WHILE | lines::CASE => {
             let x = check_expr(code, at + lines::ROW, table, bound, depth);
             match kind {
-                lines::ASSIGN => {
-                    let home = tables::label_of(table, tables::location_label(table, row.a));
-                    let flow = x.label.at_or_below(home) & pc.at_or_below(home);
-                    of_assign(table, row.a, x, flow)
-                }
+                lines::ASSIGN => of_assign(table, row.a, pc, x),
                 lines::WHILE => {
-                    pc = pc.join(x.label);
-                    let y = check_cmd(code, x.next, table, bound, depth, pc);
+                    let inside = members::join(pc, x.label);
+                    let y = check_cmd(code, x.next, table, bound, depth, inside);
                     of_while(x, y)
                 }
                 _ => {
                     if depth >= bindings::DEPTH {
                         return not_passed(at);
                     }
-                    pc = pc.join(x.label);
+                    let inside = members::join(pc, x.label);
                     bindings::bind(bound, depth, tables::left_part(table, x.ty), x.label);
-                    let y = check_cmd(code, x.next, table, bound, depth + 1, pc);
+                    let y = check_cmd(code, x.next, table, bound, depth + 1, inside);
                     bindings::bind(bound, depth, tables::right_part(table, x.ty), x.label);
-                    let z = check_cmd(code, y.next, table, bound, depth + 1, pc);
+                    let z = check_cmd(code, y.next, table, bound, depth + 1, inside);
                     of_case(table, x, y, z)
                 }
             }

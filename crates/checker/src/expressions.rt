@@ -1,13 +1,10 @@
 // Types and least labels of expressions over the lines (the scope, "Typing"; the paper, figure 4).
 ghost use mathlib.Core.Path.{_≡_};
-ghost use Rattle.labels.specs.Labels.{bottomOf};
-ghost use Rattle.tables.specs.Tables.{everyoneIn};
 ghost use Rattle.checker.specs.Nodes.{isType, nothing, intTyped, locTyped, varTyped, plusTyped, sumTyped, packTyped, unpackTyped};
 ghost use Rattle.checker.specs.Post.{ChecksExpr};
 use crate::Typed;
 use crate::bindings;
-use labels::Label;
-use sets::Set;
+use crate::members;
 use tables::ERROR;
 use tables::INT;
 use tables::PKG;
@@ -21,33 +18,26 @@ pub(crate) fn is_type(x: Typed, ty: u32) -> bool
     x.typed & (ty == x.ty)
 }
 
-// The least label on the sheet.
-pub(crate) fn lowest(table: &[u16]) -> Label
-    ensures { λ r. ⌜ r ≡ bottomOf (everyoneIn (now (table .entry))) ⌝ }
-{
-    Label::bottom(tables::everyone(table))
-}
-
-fn no_type(table: &[u16], next: usize) -> Typed
-    ensures { λ r. ⌜ r ≡ nothing (now (table .entry)) next ⌝ }
+fn no_type(next: usize) -> Typed
+    ensures { λ r. ⌜ r ≡ nothing next ⌝ }
 {
     Typed {
         ty: INT,
         typed: false,
         flow: true,
-        label: lowest(table),
+        label: members::BOTTOM,
         next,
     }
 }
 
-fn of_int(table: &[u16], next: usize) -> Typed
-    ensures { λ r. ⌜ r ≡ intTyped (now (table .entry)) next ⌝ }
+fn of_int(next: usize) -> Typed
+    ensures { λ r. ⌜ r ≡ intTyped next ⌝ }
 {
     Typed {
         ty: INT,
         typed: true,
         flow: true,
-        label: lowest(table),
+        label: members::BOTTOM,
         next,
     }
 }
@@ -59,34 +49,27 @@ fn of_location(table: &[u16], x: u32, next: usize) -> Typed
         ty: tables::location_type(table, x),
         typed: true,
         flow: true,
-        label: tables::label_of(table, tables::location_label(table, x)),
+        label: members::label(tables::location_label(table, x)),
         next,
     }
 }
 
-fn of_variable(
-    table: &[u16],
-    bound: &[Set; bindings::BINDINGS],
-    depth: usize,
-    d: u32,
-    next: usize,
-) -> Typed
-    ensures { λ r. ⌜ r ≡ varTyped (now (table .entry)) (now (bound .entry)) depth d next ⌝ }
+fn of_variable(bound: &[u64; bindings::BINDINGS], depth: usize, d: u32, next: usize) -> Typed
+    ensures { λ r. ⌜ r ≡ varTyped (now (bound .entry)) depth d next ⌝ }
 {
     let i = d as usize;
     if i >= depth {
-        return no_type(table, next);
+        return no_type(next);
     }
     if depth > bindings::DEPTH {
-        return no_type(table, next);
+        return no_type(next);
     }
     let at = (depth - 1 - i) * bindings::BINDING;
-    let words: &[Set] = bound; // that a word fits its type is known of a slice's words
     Typed {
-        ty: words[at] as u32,
+        ty: (bound[at] % 4294967296) as u32,
         typed: true,
         flow: true,
-        label: labels::label_at(words, at + 1),
+        label: bound[at + 1],
         next,
     }
 }
@@ -98,7 +81,7 @@ fn of_plus(x: Typed, y: Typed) -> Typed
         ty: INT,
         typed: is_type(x, INT) & is_type(y, INT),
         flow: x.flow & y.flow,
-        label: x.label.join(y.label),
+        label: members::join(x.label, y.label),
         next: y.next,
     }
 }
@@ -107,12 +90,11 @@ fn of_plus(x: Typed, y: Typed) -> Typed
 fn of_sum(table: &[u16], ty: u32, part: u32, x: Typed) -> Typed
     ensures { λ r. ⌜ r ≡ sumTyped (now (table .entry)) ty part x ⌝ }
 {
-    let label = x.label;
     Typed {
         ty,
         typed: is_sum(table, ty) & is_type(x, part),
         flow: x.flow,
-        label,
+        label: x.label,
         next: x.next,
     }
 }
@@ -120,15 +102,11 @@ fn of_sum(table: &[u16], ty: u32, part: u32, x: Typed) -> Typed
 fn of_pack(table: &[u16], l: u32, x: Typed) -> Typed
     ensures { λ r. ⌜ r ≡ packTyped (now (table .entry)) l x ⌝ }
 {
-    let a = tables::label_of(table, l);
-    let operand = x.label;
-    let flow = x.flow & operand.at_or_below(a);
-    let integrity = a.integrity(tables::everyone(table));
     Typed {
         ty: PKG_OR_ERROR,
         typed: x.typed,
-        flow,
-        label: integrity,
+        flow: x.flow & members::flows(table, x.label, l, true),
+        label: members::integrity(l),
         next: x.next,
     }
 }
@@ -136,14 +114,12 @@ fn of_pack(table: &[u16], l: u32, x: Typed) -> Typed
 fn of_unpack(table: &[u16], ty: u32, l: u32, x: Typed) -> Typed
     ensures { λ r. ⌜ r ≡ unpackTyped (now (table .entry)) ty l x ⌝ }
 {
-    let label = tables::label_of(table, l);
-    let operand = x.label;
     let or_error = is_sum(table, ty) & (tables::right_part(table, ty) == ERROR);
     Typed {
         ty,
         typed: is_type(x, PKG) & or_error,
-        flow: x.flow & operand.confidentiality_at_or_below(label),
-        label,
+        flow: x.flow & members::flows(table, x.label, l, false),
+        label: members::label(l),
         next: x.next,
     }
 }
@@ -153,7 +129,7 @@ pub(crate) fn check_expr(
     code: &[u32],
     at: usize,
     table: &[u16],
-    bound: &[Set; bindings::BINDINGS],
+    bound: &[u64; bindings::BINDINGS],
     depth: usize,
 ) -> Typed
     ensures { λ r. ⌜ ChecksExpr (now (code .entry)) at (now (table .entry)) (now (bound .entry)) depth r ⌝ }
@@ -162,9 +138,9 @@ pub(crate) fn check_expr(
     let kind = row.kind;
     let a = row.a;
     match kind {
-        lines::INT => of_int(table, at + lines::ROW),
+        lines::INT => of_int(at + lines::ROW),
         lines::LOC => of_location(table, a, at + lines::ROW),
-        lines::VAR => of_variable(table, bound, depth, a, at + lines::ROW),
+        lines::VAR => of_variable(bound, depth, a, at + lines::ROW),
         // One call for the operand that each of these starts with, since each local takes its own place in every frame.
         lines::PLUS | lines::LEFT | lines::RIGHT | lines::PACK | lines::UNPACK => {
             let x = check_expr(code, at + lines::ROW, table, bound, depth);
@@ -179,6 +155,6 @@ pub(crate) fn check_expr(
                 _ => of_unpack(table, a, row.b, x),
             }
         }
-        _ => no_type(table, at),
+        _ => no_type(at),
     }
 }

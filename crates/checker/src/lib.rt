@@ -1,4 +1,5 @@
 // The checker over the lines of a script: types by their numbers, labels by value, with the sheet's table.
+mod members; // members.rt: least labels as sets of the labels that they are the join of
 mod bindings; // bindings.rt: what enclosing cases bind
 mod expressions; // expressions.rt: types and least labels of expressions
 mod commands; // commands.rt: commands
@@ -6,7 +7,7 @@ mod commands; // commands.rt: commands
 ghost use mathlib.Core.Path.{_≡_};
 ghost use Rattle.checker.specs.Nodes.{answerOf};
 ghost use Rattle.checker.specs.Post.{Answers};
-use sets::Set;
+use members::Members;
 
 // What is found of an expression: its type, if it has one; whether its label conditions hold; its least label; and the word after
 // its lines.
@@ -14,7 +15,7 @@ pub(crate) struct Typed {
     pub(crate) ty: u32,
     pub(crate) typed: bool,
     pub(crate) flow: bool,
-    pub(crate) label: labels::Label,
+    pub(crate) label: Members,
     pub(crate) next: usize,
 }
 
@@ -29,9 +30,8 @@ pub(crate) struct Passed {
 pub fn check(code: &[u32], table: &[u16]) -> u8
     ensures { λ r. ⌜ Answers (now (code .entry)) (now (table .entry)) r ⌝ }
 {
-    let mut bound: [Set; bindings::BINDINGS] = [0; bindings::BINDINGS];
-    let pc = expressions::lowest(table);
-    let x = commands::check_cmd(code, 0, table, &mut bound, 0, pc);
+    let mut bound: [u64; bindings::BINDINGS] = [0; bindings::BINDINGS];
+    let x = commands::check_cmd(code, 0, table, &mut bound, 0, members::BOTTOM);
     answer(x.typed, x.flow)
 }
 

@@ -75,7 +75,7 @@ module _ {L : Type 0} (S : Conditions L) (W : World) (vis : L → Bool) (shows :
   unfolding flow
   unseen-quiet skip pc Γ f h = q-skip
   unseen-quiet (seq a b) pc Γ f h = q-seq (unseen-quiet a pc Γ (both-left _ _ f) h) (unseen-quiet b pc Γ (both-right _ _ f) h)
-  unseen-quiet (assign x e) pc Γ f h = q-assign λ s. h (O .down _ _ (both-right _ _ (both-right _ _ f)) s)
+  unseen-quiet (assign x e) pc Γ f h = q-assign λ s. h (O .at-assign _ _ (both-right _ _ (both-right _ _ f)) s)
   unseen-quiet (while e c) pc Γ f h = q-while (unseen-quiet c _ _ (both-right _ _ f) (λ j. h (O .join-left _ _ j)))
   unseen-quiet (case e a b) pc Γ f h =
       q-case (unseen-quiet a _ _ (both-left _ _ (both-right _ _ f)) (λ j. h (O .join-left _ _ j)))

@@ -13,7 +13,7 @@ pub record Image {A B : Type 0} (S : Conditions A) (R : Conditions B) (f : A →
   pub join-is : (a b : A) → f (S .join a b) ≡ R .join (f a) (f b)
   pub packed-is : (l : ℕ) (a : A) → f (S .packed l a) ≡ R .packed l (f a)
   pub opened-is : (l : ℕ) (a : A) → f (S .opened l a) ≡ R .opened l (f a)
-  pub leq-is : (a b : A) → S .leq a b ≡ R .leq (f a) (f b)
+  pub assign-is : (x : ℕ) (a : A) → S .mayAssign x a ≡ R .mayAssign x (f a)
   pub pack-is : (l : ℕ) (a : A) → S .mayPack l a ≡ R .mayPack l (f a)
   pub open-is : (l : ℕ) (a : A) → S .mayOpen l a ≡ R .mayOpen l (f a)
 
@@ -51,7 +51,7 @@ module _ {A B : Type 0} (S : Conditions A) (R : Conditions B) (f : A → B) (ima
   flow-image pc Γ skip = refl
   flow-image pc Γ (seq a b) = rw (flow-image pc Γ a, flow-image pc Γ b)
   flow-image pc Γ (assign x e) =
-      rw (flowE-image Γ e, image .leq-is (least S Γ e) (S .home x), image .leq-is pc (S .home x), least-image Γ e, image .home-is x)
+      rw (flowE-image Γ e, image .assign-is x (least S Γ e), image .assign-is x pc, least-image Γ e)
   flow-image pc Γ (while e c) =
       rw (flowE-image Γ e, flow-image (S .join pc (least S Γ e)) Γ c, image .join-is pc (least S Γ e), least-image Γ e)
   flow-image pc Γ (case e a b) =

@@ -197,7 +197,7 @@ module _ {L : Type 0} (S : Conditions L) (W : World) (vis : L → Bool) (shows :
   ni-run Γ pc es ms f (r-assign {x = y} {e} p) (r-assign p′) = λ x s.
       put-alike _ (eqb y x) (λ b.
       let t : vis (S .home y) ≡ true = rw (eqb→eq y x (T-of b)) s in
-      same-value es ms e (both-left _ _ f) (O .down _ _ (both-left _ _ (both-right _ _ f)) t) p p′)
+      same-value es ms e (both-left _ _ f) (O .at-assign _ _ (both-left _ _ (both-right _ _ f)) t) p p′)
       (ms x s)
   ni-run Γ pc es ms f (r-go {e = e} {c} p r q) (r-go p′ r′ q′) =
       by-test (vis (least S Γ e))

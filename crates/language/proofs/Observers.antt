@@ -51,7 +51,7 @@ module _ {L : Type 0} (𝓛 : Labels L) (D : Declarations L) (W : World) (vis : 
   pub reader : ((a b : L) → 𝓛 .leq (𝓛 .conf a) (𝓛 .conf b) ≡ true → vis b ≡ true → vis a ≡ true)
       → Observer (conditions 𝓛 D) W vis (λ l. vis (D .label l))
   reader conf-down = record {
-    down = down;
+    at-assign = λ x a h. down _ _ h;
     join-left = λ a b. down _ _ (joins .left a b);
     join-right = λ a b. down _ _ (joins .right a b);
     at-pack = λ l a h _. down _ _ h;
@@ -66,18 +66,18 @@ module _ {L : Type 0} (𝓛 : Labels L) (D : Declarations L) (W : World) (vis : 
       record {
         home = S .home;
         bot = S .bot;
-        leq = S .leq;
         join = S .join;
+        mayAssign = S .mayAssign;
         packed = S .packed;
         mayPack = S .mayPack;
         opened = S .opened;
-        mayOpen = λ A a. both (S .mayOpen A a) (S .leq a (D .label A));
+        mayOpen = λ A a. both (S .mayOpen A a) (𝓛 .leq a (D .label A));
       }
 
   -- Under them any set that is closed downward will do, such as the labels that distrusted parties do not write.
   pub truster : Observer trusting W vis (λ l. vis (D .label l))
   truster = record {
-    down = down;
+    at-assign = λ x a h. down _ _ h;
     join-left = λ a b. down _ _ (joins .left a b);
     join-right = λ a b. down _ _ (joins .right a b);
     at-pack = λ l a h _. down _ _ h;
@@ -92,8 +92,8 @@ module _ {L : Type 0} (home : ℕ → L) (bot : L) (leq : L → L → Bool) (joi
   dependencies = record {
     home = home;
     bot = bot;
-    leq = leq;
     join = join;
+    mayAssign = λ x a. leq a (home x);
     packed = λ A a. a;
     mayPack = λ A a. true;
     opened = λ A a. a;
@@ -102,7 +102,7 @@ module _ {L : Type 0} (home : ℕ → L) (bot : L) (leq : L → L → Bool) (joi
 
   pub depender : Observer dependencies W vis (λ l. true)
   depender = record {
-    down = down;
+    at-assign = λ x a h. down _ _ h;
     join-left = λ a b. down _ _ (joins .left a b);
     join-right = λ a b. down _ _ (joins .right a b);
     at-pack = λ l a h v _. v;

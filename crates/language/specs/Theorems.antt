@@ -75,7 +75,7 @@ Masking = (vis : ℕ → Bool) (v w : Value) → (mask vis v ≡ mask vis w) ↔
 -- What noninterference asks of an observer that sees the labels vis, and the content of packages at the label numbers shows.
 -- Nothing is asked of the join of two labels that are seen.
 pub record Observer {L : Type 0} (S : Conditions L) (W : World) (vis : L → Bool) (shows : ℕ → Bool) : Type 0 where
-  pub down : (a b : L) → S .leq a b ≡ true → vis b ≡ true → vis a ≡ true
+  pub at-assign : (x : ℕ) (a : L) → S .mayAssign x a ≡ true → vis (S .home x) ≡ true → vis a ≡ true
   pub join-left : (a b : L) → vis (S .join a b) ≡ true → vis a ≡ true
   pub join-right : (a b : L) → vis (S .join a b) ≡ true → vis b ≡ true
   pub at-pack : (l : ℕ) (a : L) → S .mayPack l a ≡ true → vis (S .packed l a) ≡ true → shows l ≡ true → vis a ≡ true

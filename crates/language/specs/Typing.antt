@@ -108,13 +108,13 @@ shape S Γ (case e a b) = onSum (typeOf S Γ e) (λ s t. both (shape S (s ∷ Γ
 
 -- Labels
 
--- What the label conditions rest on: a location's label; bottom, the order and the join; for a pack and an unpack at a label
--- number, the label that it has from its operand's, and whether the operand's allows it.
+-- What the label conditions rest on: a location's label; bottom and the join; whether a label allows an assignment to a location; for a
+-- pack and an unpack at a label number, the label that it has from its operand's, and whether the operand's allows it.
 pub record Conditions (L : Type 0) : Type 0 where
   pub home : ℕ → L
   pub bot : L
-  pub leq : L → L → Bool
   pub join : L → L → L
+  pub mayAssign : ℕ → L → Bool
   pub packed : ℕ → L → L
   pub mayPack : ℕ → L → Bool
   pub opened : ℕ → L → L
@@ -147,7 +147,7 @@ flowE S Γ (unpack t l a) = both (flowE S Γ a) (S .mayOpen l (least S Γ a))
 unfoldable pub flow : {L : Type 0} → Conditions L → L → List L → Cmd → Bool
 flow S pc Γ skip = true
 flow S pc Γ (seq a b) = both (flow S pc Γ a) (flow S pc Γ b)
-flow S pc Γ (assign x e) = both (flowE S Γ e) (both (S .leq (least S Γ e) (S .home x)) (S .leq pc (S .home x)))
+flow S pc Γ (assign x e) = both (flowE S Γ e) (both (S .mayAssign x (least S Γ e)) (S .mayAssign x pc))
 flow S pc Γ (while e c) = both (flowE S Γ e) (flow S (S .join pc (least S Γ e)) Γ c)
 flow S pc Γ (case e a b) =
     let l = least S Γ e in
@@ -159,8 +159,8 @@ abbrev pub conditions : {L : Type 0} → Labels L → Declarations L → Conditi
 conditions 𝓛 D = record {
   home = D .home;
   bot = 𝓛 .bot;
-  leq = 𝓛 .leq;
   join = 𝓛 .join;
+  mayAssign = λ x a. 𝓛 .leq a (D .home x);
   packed = λ A a. 𝓛 .integ (D .label A);
   mayPack = λ A a. 𝓛 .leq a (D .label A);
   opened = λ A a. D .label A;

@@ -6,9 +6,8 @@ use Rattle.checker.proofs.check.Tie as tie
 
 pub check-spec : {M : Type 1} → statement M
 check-spec = tie.close (tie.spec
-    (λ c κs. search needs)  -- lowest-requires
     (λ c κs. search needs)  -- check-cmd-requires
     (λ c κs. search needs)  -- answer-requires
     (λ c.
-    let a = c .before .before .before .before .before .before .args in
-    check-answers (a .code .now) (a .table .now) (c .before .check-cmd .ensures) (c .before .before .before .lowest .ensures) (c .answer .ensures) (omega arith)))  -- returns
+    let a = c .before .before .before .before .before .args in
+    check-answers (a .code .now) (a .table .now) (c .before .check-cmd .ensures) (c .answer .ensures) (omega arith)))  -- returns

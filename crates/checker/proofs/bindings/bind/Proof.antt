@@ -1,3 +1,4 @@
+use mathlib.Core.Path.{refl}
 use Rattle.checker.specs.Bindings.{bindOf}
 use borrow.Author.Needs.{needs}
 use Rattle.checker.proofs.bindings.bind.Statement.{statement}
@@ -5,14 +6,14 @@ use Rattle.checker.proofs.bindings.bind.Tie as tie
 
 returns : tie.Need-returns
 unfolding bindOf
-returns c = c .put-label .ensures
+returns c = refl
 
 pub bind-spec : {M : Type 1} → statement M
 bind-spec = tie.close (tie.spec
     (λ c. search needs)  -- mul-at
-    (λ c. search needs)  -- cast-bound
     (λ c. search needs)  -- mul-bound
     (λ c. search needs)  -- element-write-bound
-    (λ c. search needs)  -- add-put-label
-    (λ c κs. search needs)  -- put-label-requires
+    (λ c. search needs)  -- add-bound
+    (λ c. search needs)  -- mul-bound-2
+    (λ c. search needs)  -- element-write-bound-2
     returns)

@@ -4,10 +4,8 @@ use Prim.Native.Nat.{ℕ, _<_, _-_}
 use native.Mathlib.Omega.{arith}
 use lib.ListN.{length}
 use mathlib.Core.Logic.{⊎-elim}
-use Rattle.labels.proofs.OrderLaws.{whole-intro}
 use Rattle.checker.proofs.ExprLaws.{within}
-use Rattle.checker.proofs.BindingLaws.{left-small, right-small}
-use Rattle.checker.proofs.CmdLaws.{may-assign, arm-skip, arm-seq, arm-assign, arm-while, arm-case, arm-deep, arm-other}
+use Rattle.checker.proofs.CmdLaws.{arm-skip, arm-seq, arm-assign, arm-while, arm-case, arm-deep, arm-other}
 use borrow.Fn.Kinds.{In}
 use borrow.Fn.PlainCycle.{Measures, is, falls, and}
 use Rattle.checker.proofs.commands.check_cmd.Reads as check-cmd
@@ -21,12 +19,9 @@ use Rattle.checker.proofs.commands.of_seq.Reads as of-seq-reads
 use Rattle.checker.proofs.commands.of_skip.Reads as of-skip-reads
 use Rattle.checker.proofs.commands.of_while.Reads as of-while-reads
 use Rattle.checker.proofs.expressions.check_expr.Reads as check-expr-reads
-use Rattle.labels.proofs.Label.at_or_below.Reads as at-or-below-reads
-use Rattle.labels.proofs.Label.join.Reads as join-reads
+use Rattle.checker.proofs.members.join.Reads as join-reads
 use Rattle.lines.proofs.row_at.Reads as row-at-reads
-use Rattle.tables.proofs.label_of.Reads as label-of-reads
 use Rattle.tables.proofs.left_part.Reads as left-part-reads
-use Rattle.tables.proofs.location_label.Reads as location-label-reads
 use Rattle.tables.proofs.right_part.Reads as right-part-reads
 use Rattle.checker.proofs.commands.+check_cmd.{statement}
 use Rattle.checker.proofs.commands.+check_cmd.Tie.{close}
@@ -53,12 +48,6 @@ pub +check-cmd-spec : {M : Type 1} → statement M
   of-seq-reads.Learnt,
   check-expr-reads.Asked,
   check-expr-reads.Learnt,
-  location-label-reads.Asked,
-  location-label-reads.Learnt,
-  label-of-reads.Asked,
-  label-of-reads.Learnt,
-  at-or-below-reads.Asked,
-  at-or-below-reads.Learnt,
   of-assign-reads.Asked,
   of-assign-reads.Learnt,
   join-reads.Asked,
@@ -98,10 +87,6 @@ pub +check-cmd-spec : {M : Type 1} → statement M
     (λ c. let r = c .before .before .before in let a = r .before .before .before .args
     in omega (arith, within (a .code .now) (a .at) (r .row-at .ensures) (omega (arith, c .before .if1 .left))))  -- add-check-expr
     (λ c κs. search needs)  -- check-expr-requires
-    (λ c κs. search needs)  -- location-label-requires
-    (λ c κs. search needs)  -- label-of-requires
-    (λ c κs. search needs)  -- at-or-below-requires
-    (λ c κs. search needs)  -- at-or-below-requires-2
     (λ c κs. search needs)  -- of-assign-requires
     (λ c κs. search needs)  -- join-requires
     (λ c κs. let r = c .before .before .before .before .before .before .before .before in let a = r .before .before .before .args
@@ -130,8 +115,7 @@ pub +check-cmd-spec : {M : Type 1} → statement M
     )) (c .before .if3 .taken) (c .not-passed .ensures))  -- returns
     (λ c κs. search needs)  -- join-requires-2
     (λ c κs. search needs)  -- left-part-requires
-    (λ c κs. let r = c .before .before .before .before .before .before .before .before .before .before in let a = r .before .before .before .args
-    in (c .before .before .before .if3 .left, rw (c .left-part .ensures) (left-small (a .table .now) (λ i. r .before .shared-slice-known2 .given i .fits) _)))  -- bind-requires
+    (λ c κs. c .before .before .before .if3 .left)  -- bind-requires
     (λ c. omega (arith, c .before .before .before .before .before .if3 .left))  -- add-check-cmd-2
     (λ c κs. let r = c .before .before .before .before .before .before .before .before .before .before .before .before in let a = r .before .before .before .args
     in (
@@ -145,12 +129,7 @@ pub +check-cmd-spec : {M : Type 1} → statement M
       tt,
     ))  -- check-cmd-requires-4
     (λ c κs. search needs)  -- right-part-requires
-    (λ c κs. let r = c .before .before .before .before .before .before .before .before .before .before .before .before .before .before .before in
-    let a = r .before .before .before .args in (
-      c .before .before .before .before .before .before .before .before .if3 .left,
-      rw (c .right-part .ensures)
-          (right-small (a .table .now) (λ i. r .before .shared-slice-known2 .given i .fits) _),
-    ))  -- bind-requires-2
+    (λ c κs. c .before .before .before .before .before .before .before .before .if3 .left)  -- bind-requires-2
     (λ c. omega (arith, c .before .before .before .before .before .before .before .before .before .before .if3 .left))  -- add-check-cmd-3
     (λ c κs. let r = c .before .before .before .before .before .before .before .before .before .before .before .before .before .before .before .before .before in
     let a = r .before .before .before .args in (
@@ -171,18 +150,13 @@ pub +check-cmd-spec : {M : Type 1} → statement M
     (λ c. let r = c .before .before .before .before .before .before in let a = r .before .before .before .args
     in arm-seq (a .code .now) (a .at) (a .table .now) (a .bound .now) (a .depth) (a .pc) (r .row-at .ensures) (c .before .before .before .before .before .match .keys2)
     (c .before .before .before .check-cmd .ensures) (c .before .check-cmd2 .ensures) (c .of-seq .ensures))  -- returns-3
-    (λ c. let r = c .before .before .before .before .before .before .before .before .before .before .before in let a = r .before .before .before .args in
-    let x = c .before .before .before .before .before .before .check-expr
-    in arm-assign (a .code .now) (a .at) (a .table .now) (a .bound .now) (a .depth) (a .pc) (r .row-at .ensures) (x .ensures)
-    (c .before .before .before .before .before .match2 .keys1)
-    (may-assign (a .table .now) _ (a .pc) (x .result .label) (c .before .before .before .before .location-label .ensures) (c .before .before .before .label-of .ensures)
-    (c .before .before .at-or-below .ensures) (c .before .at-or-below2 .ensures)) (c .of-assign .ensures))  -- returns-4
+    (λ c. let r = c .before .before .before .before .before .before .before in let a = r .before .before .before .args
+    in arm-assign (a .code .now) (a .at) (a .table .now) (a .bound .now) (a .depth) (a .pc) (r .row-at .ensures) (c .before .before .check-expr .ensures)
+    (c .before .match2 .keys1) (c .of-assign .ensures))  -- returns-4
     (λ c. let r = c .before .before .before .before .before .before .before .before .before .before in let a = r .before .before .before .args
     in arm-while (a .code .now) (a .at) (a .table .now) (a .bound .now) (a .depth) (a .pc) (r .row-at .ensures) (c .before .before .before .before .before .check-expr .ensures)
     (c .before .before .before .before .match2 .keys2) (c .before .before .before .join .ensures) (c .before .check-cmd3 .ensures) (c .of-while .ensures))  -- returns-5
-    (λ c. let whole = let k = c .before .before .before .before .before .before .before .before .before .before .before .before .before .before .check-expr .ok .1 .1 .1 .1 .1 .0
-    in whole-intro (c .before .before .before .before .before .before .before .before .before .before .before .before .before .before .check-expr .result .label)
-    (search (needs, k)) (search (needs, k)) in let r = c .before .before .before .before .before .before .before .before .before .before .before .before .before .before .before
+    (λ c. let r = c .before .before .before .before .before .before .before .before .before .before .before .before .before .before .before
     .before .before .before .before in let a = r .before .before .before .args
     in arm-case (a .code .now) (a .at) (a .table .now) (a .bound .now) (a .depth) (a .pc) (r .row-at .ensures)
     (c .before .before .before .before .before .before .before .before .before .before .before .before .before .before .check-expr .ensures)
@@ -195,11 +169,11 @@ pub +check-cmd-spec : {M : Type 1} → statement M
       c .before .before .before .before .before .before .before .before .before .before .before .before .before .match2 .rest .0 .1,
       c .before .before .before .before .before .before .before .before .before .before .before .before .before .match2 .rest .1,
     ))
-    (c .before .before .before .before .before .before .before .before .before .before .before .before .if3 .left) whole
+    (c .before .before .before .before .before .before .before .before .before .before .before .before .if3 .left)
     (c .before .before .before .before .before .before .before .before .before .before .before .join2 .ensures)
-    (c .before .before .before .before .before .before .before .before .before .left-part .ensures)
+    (search (needs, c .before .before .before .before .before .before .before .before .before .left-part .ok)) (c .before .before .before .before .before .before .before .before .before .left-part .ensures)
     (c .before .before .before .before .before .before .before .before .bind .ensures) (c .before .before .before .before .before .before .check-cmd4 .ensures)
-    (c .before .before .before .before .right-part .ensures) (c .before .before .before .bind2 .ensures) (c .before .check-cmd5 .ensures) (c .of-case .ensures))  -- returns-6
+    (search (needs, c .before .before .before .before .right-part .ok)) (c .before .before .before .before .right-part .ensures) (c .before .before .before .bind2 .ensures) (c .before .check-cmd5 .ensures) (c .of-case .ensures))  -- returns-6
     (λ c. let r = c .before .before .before in let a = r .before .before .before .args
     in arm-other (a .code .now) (a .at) (a .table .now) (a .bound .now) (a .depth) (a .pc) (r .row-at .ensures)
     (λ l u. ⊎-elim (λ w. omega (arith, w .taken)) (λ w. omega (arith, w .1 .left)) (c .before .if1 .came)) (c .not-passed2 .ensures))  -- returns-7

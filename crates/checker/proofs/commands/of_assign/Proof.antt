@@ -1,3 +1,4 @@
+use Rattle.checker.specs.Members.{flowsIn}
 use Rattle.booleans.specs.Booleans.{both}
 use Rattle.checker.specs.Nodes.{assignPassed}
 use borrow.Author.Needs.{needs}
@@ -5,11 +6,14 @@ use Rattle.checker.proofs.commands.of_assign.Statement.{statement}
 use Rattle.checker.proofs.commands.of_assign.Tie as tie
 
 returns : tie.Need-returns
-unfolding assignPassed both
+unfolding assignPassed both flowsIn
 returns c = cc
 
 pub of-assign-spec : {M : Type 1} → statement M
 of-assign-spec = tie.close (tie.spec
+    (λ c κs. search needs)  -- join-requires
+    (λ c κs. search needs)  -- location-label-requires
+    (λ c κs. search needs)  -- flows-requires
     (λ c κs. search needs)  -- location-type-requires
     (λ c κs. search needs)  -- is-type-requires
     returns)

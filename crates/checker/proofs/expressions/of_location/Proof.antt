@@ -1,5 +1,5 @@
-use borrow.Author.Needs.{needs}
 use Rattle.checker.specs.Nodes.{locTyped}
+use borrow.Author.Needs.{needs}
 use Rattle.checker.proofs.expressions.of_location.Statement.{statement}
 use Rattle.checker.proofs.expressions.of_location.Tie as tie
 
@@ -11,5 +11,5 @@ pub of-location-spec : {M : Type 1} → statement M
 of-location-spec = tie.close (tie.spec
     (λ c κs. search needs)  -- location-type-requires
     (λ c κs. search needs)  -- location-label-requires
-    (λ c κs. search needs)  -- label-of-requires
+    (λ c κs. search needs)  -- label-requires
     returns)

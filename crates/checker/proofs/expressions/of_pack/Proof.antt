@@ -1,17 +1,16 @@
-use borrow.Author.Needs.{needs}
+use Rattle.checker.specs.Members.{flowsIn}
 use Rattle.booleans.specs.Booleans.{both}
 use Rattle.checker.specs.Nodes.{packTyped}
+use borrow.Author.Needs.{needs}
 use Rattle.checker.proofs.expressions.of_pack.Statement.{statement}
 use Rattle.checker.proofs.expressions.of_pack.Tie as tie
 
 returns : tie.Need-returns
-unfolding packTyped both
+unfolding packTyped both flowsIn
 returns c = cc
 
 pub of-pack-spec : {M : Type 1} → statement M
 of-pack-spec = tie.close (tie.spec
-    (λ c κs. search needs)  -- label-of-requires
-    (λ c κs. search needs)  -- at-or-below-requires
-    (λ c κs. search needs)  -- everyone-requires
+    (λ c κs. search needs)  -- flows-requires
     (λ c κs. search needs)  -- integrity-requires
     returns)

@@ -1,6 +1,6 @@
-use borrow.Author.Needs.{needs}
 use Rattle.booleans.specs.Booleans.{both}
 use Rattle.checker.specs.Nodes.{plusTyped}
+use borrow.Author.Needs.{needs}
 use Rattle.checker.proofs.expressions.of_plus.Statement.{statement}
 use Rattle.checker.proofs.expressions.of_plus.Tie as tie
 
@@ -10,7 +10,7 @@ returns c = cc
 
 pub of-plus-spec : {M : Type 1} → statement M
 of-plus-spec = tie.close (tie.spec
-    (λ c κs. search needs)  -- join-requires
     (λ c κs. search needs)  -- is-type-requires
     (λ c κs. search needs)  -- is-type-requires-2
+    (λ c κs. search needs)  -- join-requires
     returns)

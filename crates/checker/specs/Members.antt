@@ -1,0 +1,39 @@
+-- A least label as the set of the labels that it is the join of: member l is label l of the table, member 32 + l is I of label l. The
+-- empty set is bottom. Every least label is such a join, so that one number holds it.
+use mathlib.Core.Bool.{Bool, cond}
+use mathlib.Core.List.{List}
+use Prim.Native.Nat.{ℕ, zero, suc, _+_, _-_}
+use lib.Dec.{ltb}
+use Rattle.sets.specs.Sets.{member, single}
+use Rattle.labels.specs.declared.Label.{Label}
+use Rattle.labels.specs.Labels.{joinOf, integrityOf, bottomOf, confidentialityOf, belowOf}
+use Rattle.tables.specs.Sheet.{maxLabels}
+use Rattle.tables.specs.Tables.{everyoneIn, labelIn}
+
+-- {label l} and {I of label l}; no member for a number that names no label
+unfoldable pub labelMember : ℕ → ℕ
+labelMember l = cond (ltb l maxLabels) (single l) 0
+
+unfoldable pub integrityMember : ℕ → ℕ
+integrityMember l = cond (ltb l maxLabels) (single (maxLabels + l)) 0
+
+-- the label that member p stands for
+unfoldable pub memberIn : List ℕ → ℕ → Label
+memberIn t p = cond (ltb p maxLabels) (labelIn t p) (integrityOf (everyoneIn t) (labelIn t (p - maxLabels)))
+
+-- the join of bottom and the members of m that are below n
+unfoldable pub joinUpTo : List ℕ → ℕ → ℕ → Label
+joinUpTo t m zero = bottomOf (everyoneIn t)
+joinUpTo t m (suc p) = cond (member p m) (joinOf (joinUpTo t m p) (memberIn t p)) (joinUpTo t m p)
+
+-- the number of members that a set has room for
+abbrev pub maxMembers : ℕ
+maxMembers = maxLabels + maxLabels
+
+-- the label that a set of members stands for
+unfoldable pub joinIn : List ℕ → ℕ → Label
+joinIn t m = joinUpTo t m maxMembers
+
+-- that label is at or below label l; or otherwise its C is at or below that of label l
+unfoldable pub flowsIn : List ℕ → ℕ → ℕ → Bool → Bool
+flowsIn t m l whole = cond whole (belowOf (joinIn t m) (labelIn t l)) (belowOf (confidentialityOf (joinIn t m)) (confidentialityOf (labelIn t l)))

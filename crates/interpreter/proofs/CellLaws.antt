@@ -1,16 +1,17 @@
 -- Cells of words: what is loaded and stored, and what stays.
 -- Assumes nothing.
 use mathlib.Core.Path.{_≡_, refl, sym, ap, _∙_}
+use mathlib.Core.Logic.{_⊎_, inl, inr, ⊎-elim}
 use mathlib.Core.Bool.{Bool, true, false}
 use mathlib.Core.List.{List, [], _∷_, _++_, append-assoc, append-nil}
 use Prim.Native.Nat.{ℕ, zero, suc, _+_, _*_, _-_, _/_, _≤_, _<_}
 use native.Mathlib.Omega.{arith}
-use native.Mathlib.Nat.{le-div-iff-mul-le}
+use native.Mathlib.Nat.{le-div-iff-mul-le, zero-add}
 use native.Mathlib.Numerals.{add-one}
 use borrow.Author.Tests.{lt-ltb, le-ltb, ltb-true, ltb-false}
 use lib.Dec.{ltb}
-use lib.ListN.{length, take, drop, getD, set, replicate, length-append, length-take, length-drop, take-append-drop}
-use lib.Seq.{length-take-le, take-at, drop-at, drop-append-le, drop-append-add, take-append-le, drop-drop, take-all, paste, paste-suc, getD-drop}
+use lib.ListN.{length, take, drop, getD, set, length-append, length-take, length-drop, length-replicate, take-append-drop, getD-replicate, List·getD-append}
+use lib.Seq.{length-take-le, take-at, drop-at, drop-append-le, drop-append-add, take-append-le, drop-drop, take-take, take-all, paste, paste-suc, length-paste-head, getD-take, getD-drop, getD-at, getD-append-add}
 use Rattle.language.specs.Evaluation.{cell-words}
 use Rattle.memory.specs.Words.{zeros}
 use Rattle.memory.specs.Memory.{cellOf}
@@ -26,11 +27,6 @@ there ws k h = le-div-iff-mul-le {k = 16} {x = suc k} {y = length ws} (omega ari
 pub room : (ws : List ℕ) (k : ℕ) → k < cellCount ws → cell-words * k + cell-words ≤ length ws
 unfolding cellCount
 room ws k h = omega (arith, le-div-iff-mul-le {k = 16} {x = suc k} {y = length ws} (omega arith) .0 h)
-
--- the same, of the test that a loop is behind
-pub room-left : (ws : List ℕ) (k : ℕ) → k < length ws / cell-words → cell-words * k + cell-words ≤ length ws
-unfolding cellCount
-room-left ws k h = room ws k h
 
 -- ---- a cell by itself
 
@@ -178,11 +174,47 @@ copy-turn d₀ s to from i d e h l =
 pub copy-done : (d₀ : List ℕ) (to : ℕ) (s : List ℕ) (i n : ℕ) (d : List ℕ) → d ≡ paste d₀ to s i → i ≡ n → d ≡ paste d₀ to s n
 copy-done d₀ to s i n d e h = e ∙ ap (λ (j : ℕ). paste d₀ to s j) h
 
--- what the functions over a cell copy
+-- a word that a copy does not reach
+paste-outside : (d : List ℕ) (to : ℕ) (s : List ℕ) (i j : ℕ) → to + i ≤ length d → i ≤ length s → (j < to) ⊎ (to + i ≤ j) → getD (paste d to s i) j 0 ≡ getD d j 0
+paste-outside d to s i j h l side =
+    let p : List ℕ = take to d ++ take i s in
+    let n : length p ≡ to + i = length-paste-head d to s i (omega arith) l in
+    ⊎-elim
+    (λ b. List·getD-append p (drop (to + i) d) 0 j (omega arith)
+    ∙ List·getD-append (take to d) (take i s) 0 j (omega (arith, length-take-le to d (omega arith))) ∙ getD-take to d j 0 b)
+    (λ a. let e : j ≡ length p + (j - (to + i)) = omega arith in
+    ap (λ (m : ℕ). getD (p ++ drop (to + i) d) m 0) e ∙ getD-append-add p (drop (to + i) d) (j - (to + i)) 0
+    ∙ getD-drop (to + i) d (j - (to + i)) 0 ∙ ap (λ (m : ℕ). getD d m 0) (omega arith))
+    side
 
-pub load-done : (ws : List ℕ) (k : ℕ) (out : List ℕ) → out ≡ paste (zeros cell-words) 0 (drop (cell-words * k) ws) cell-words → k < cellCount ws → out ≡ loadOf ws k
-unfolding cellOf
-load-done ws k out e h = e ∙ append-nil (take 16 (drop (16 * k) ws)) ∙ sym (load-there ws k h)
+pub slide-turn : (d₀ : List ℕ) (to from n i : ℕ) (d : List ℕ) → d ≡ paste d₀ to (drop from d₀) i → i < n → to + n ≤ length d₀ → from + n ≤ length d₀
+    → (to ≤ from) ⊎ (from + n ≤ to) → set d (to + i) (getD d (from + i) 0) ≡ paste d₀ to (drop from d₀) (i + 1)
+slide-turn d₀ to from n i d e h l m side =
+    let apart : (from + i < to) ⊎ (to + i ≤ from + i) = ⊎-elim (λ a. inr (omega arith)) (λ b. inl (omega arith)) side in
+    ap (set d (to + i)) (ap (λ (u : List ℕ). getD u (from + i) 0) e
+    ∙ paste-outside d₀ to (drop from d₀) i (from + i) (omega arith) (omega (arith, length-drop from d₀)) apart)
+    ∙ copy-turn d₀ d₀ to from i d e (omega arith) (omega arith)
+
+-- the words are pushed along, one held
+module _ (d₀ : List ℕ) (w i : ℕ) (d : List ℕ) (e : d ≡ paste d₀ 0 (w ∷ d₀) i) (h : i < length d₀) where
+  pub push-turn : (held : ℕ) → held ≡ getD (w ∷ d₀) i 0 → set d i held ≡ paste d₀ 0 (w ∷ d₀) (i + 1)
+  push-turn held g =
+      ap (set d i) g ∙ ap (λ (u : List ℕ). set u i (getD (w ∷ d₀) i 0)) e
+      ∙ ap (λ (j : ℕ). set (paste d₀ 0 (w ∷ d₀) i) j (getD (w ∷ d₀) i 0)) (sym (zero-add i))
+      ∙ paste-suc d₀ 0 (w ∷ d₀) i 0 (omega arith) (omega arith) ∙ ap (λ (j : ℕ). paste d₀ 0 (w ∷ d₀) j) (sym (add-one i))
+
+  pub push-held : getD d i 0 ≡ getD (w ∷ d₀) (i + 1) 0
+  push-held =
+      ap (λ (u : List ℕ). getD u i 0) e ∙ paste-outside d₀ 0 (w ∷ d₀) i i (omega arith) (omega arith) (inr (omega arith))
+      ∙ ap (λ (j : ℕ). getD (w ∷ d₀) j 0) (sym (add-one i))
+
+pub clear-turn : (d₀ : List ℕ) (to i : ℕ) (d : List ℕ) → d ≡ paste d₀ to (zeros cell-words) i → i < cell-words → to + cell-words ≤ length d₀
+    → set d (to + i) 0 ≡ paste d₀ to (zeros cell-words) (i + 1)
+clear-turn d₀ to i d e h l =
+    ap (λ (u : List ℕ). set u (to + i) 0) e ∙ ap (set (paste d₀ to (zeros 16) i) (to + i)) (sym (getD-replicate 16 i 0 0 h))
+    ∙ paste-suc d₀ to (zeros 16) i 0 (omega arith) (omega (arith, length-replicate {A = ℕ} 16 0)) ∙ ap (λ (j : ℕ). paste d₀ to (zeros 16) j) (sym (add-one i))
+
+-- what the functions over a cell leave
 
 pub store-done : (ws : List ℕ) (k : ℕ) (words out : List ℕ) → out ≡ paste ws (cell-words * k) words cell-words → length words ≡ cell-words → k < cellCount ws
     → out ≡ storeOf ws k words
@@ -191,10 +223,81 @@ store-done ws k words out e long h =
     ∙ ap (λ (u : List ℕ). take (16 * k) ws ++ (u ++ drop (16 * k + 16) ws)) (take-all 16 words (omega arith))
     ∙ sym (store-there ws k words h)
 
-pub push-done : (w : ℕ) (words out : List ℕ) → out ≡ paste (replicate cell-words w) 1 words 15 → out ≡ pushOf w words
-unfolding pushOf
-push-done w words out e = e ∙ append-nil (w ∷ take 15 words)
+-- the same, of the test that a loop is behind
+pub room-left : (ws : List ℕ) (k : ℕ) → k < length ws / cell-words → cell-words * k + cell-words ≤ length ws
+unfolding cellCount
+room-left ws k h = room ws k h
 
-pub pop-done : (words out : List ℕ) → out ≡ paste (zeros cell-words) 0 (drop 1 words) 15 → length words ≡ cell-words → out ≡ popOf words
-unfolding popOf
-pop-done words out e long = e ∙ ap (λ (u : List ℕ). u ++ (0 ∷ [])) (take-all 15 (drop 1 words) (omega (arith, length-drop 1 words)))
+module _ (ws : List ℕ) where
+  -- the first cell
+  load-first : 0 < cellCount ws → loadOf ws 0 ≡ take cell-words ws
+  load-first h = load-there ws 0 h ∙ cell-first ws
+
+  pub copy-cell-done : (from to : ℕ) (out : List ℕ) → out ≡ paste ws (cell-words * to) (drop (cell-words * from) ws) cell-words → from < cellCount ws → to < cellCount ws
+      → out ≡ storeOf ws to (loadOf ws from)
+  unfolding cellOf
+  copy-cell-done from to out e h l =
+      let c = load-there ws from h in
+      store-done ws to (loadOf ws from) out
+      (e ∙ ap (λ (u : List ℕ). take (16 * to) ws ++ u ++ drop (16 * to + 16) ws)
+      (sym (take-take 16 16 (drop (16 * from) ws) (omega arith)) ∙ ap (take 16) (sym c)))
+      (length-load ws from) l
+
+  pub copy-cell-past : (from to : ℕ) (out : List ℕ) → out ≡ storeOf ws to (zeros cell-words) → cellCount ws ≤ from → out ≡ storeOf ws to (loadOf ws from)
+  copy-cell-past from to out e h = e ∙ ap (storeOf ws to) (sym (load-past ws from h))
+
+  pub push-done : (w : ℕ) (out : List ℕ) → out ≡ paste ws 0 (w ∷ ws) cell-words → 0 < cellCount ws → out ≡ storeOf ws 0 (pushOf w (loadOf ws 0))
+  unfolding pushOf
+  push-done w out e h =
+      store-done ws 0 (w ∷ take 15 (loadOf ws 0)) out
+      (e ∙ ap (λ (u : List ℕ). [] ++ (w ∷ u) ++ drop 16 ws) (sym (take-take 15 16 ws (omega arith)) ∙ ap (take 15) (sym (load-first h))
+      ∙ sym (take-take 15 15 (loadOf ws 0) (omega arith))))
+      (ap suc (length-take-le 15 (loadOf ws 0) (omega (arith, length-load ws 0)))) h
+
+  pub pop-done : (k : ℕ) (moved out : List ℕ) → moved ≡ paste ws (cell-words * k) (drop 1 ws) 15 → out ≡ set moved (cell-words * k + 15) 0 → k < cellCount ws
+      → out ≡ storeOf ws k (popOf (loadOf ws 0))
+  unfolding popOf
+  pop-done k moved out e f h =
+      let p : List ℕ = drop 1 (loadOf ws 0) in
+      let s : List ℕ = p ++ (0 ∷ []) in
+      let m : length p ≡ 15 = length-drop 1 (loadOf ws 0) ∙ omega (arith, length-load ws 0) in
+      let l : length s ≡ 16 = length-append p (0 ∷ []) ∙ omega arith in
+      let first : take 15 (drop 1 ws) ≡ take 15 s =
+      shifted ws ∙ ap (drop 1) (sym (load-first (omega arith))) ∙ sym (take-at p (0 ∷ []) 15 m) in
+      let last : 0 ≡ getD s 15 0 = sym (getD-at p 0 [] 0 15 m) in
+      store-done ws k s out
+      (f ∙ ap (λ (u : List ℕ). set u (16 * k + 15) 0) (e ∙ ap (λ (u : List ℕ). take (16 * k) ws ++ u ++ drop (16 * k + 15) ws) first)
+      ∙ ap (set (paste ws (16 * k) s 15) (16 * k + 15)) last ∙ paste-suc ws (16 * k) s 15 0 (omega (arith, room ws k h)) (omega arith))
+      l h
+    where
+      shifted : (l : List ℕ) → take 15 (drop 1 l) ≡ drop 1 (take 16 l)
+      shifted [] = refl
+      shifted (x ∷ xs) = refl
+
+-- one change of the accumulator after another
+pub after : (ws ws′ : List ℕ) {ws″ : List ℕ} (a : List ℕ) (f : List ℕ → List ℕ) → length a ≡ cell-words → ws′ ≡ storeOf ws 0 a → ws″ ≡ storeOf ws′ 0 (f (loadOf ws′ 0))
+    → ws″ ≡ storeOf ws 0 (f a)
+after ws ws′ a f n e g = g ∙ rw e (on (ltb 0 (cellCount ws)) refl)
+  where
+    on : (b : Bool) → ltb 0 (cellCount ws) ≡ b → storeOf (storeOf ws 0 a) 0 (f (loadOf (storeOf ws 0 a) 0)) ≡ storeOf ws 0 (f a)
+    on true t =
+        let h = ltb-true _ _ t in
+        let h′ : 0 < cellCount (storeOf ws 0 a) = there (storeOf ws 0 a) 0 (omega (arith, length-store ws 0 a n, room ws 0 h)) in
+        ap (λ (u : List ℕ). storeOf (storeOf ws 0 a) 0 (f u)) (load-there (storeOf ws 0 a) 0 h′ ∙ cell-stored ws 0 a n h)
+        ∙ store-there (storeOf ws 0 a) 0 (f a) h′ ∙ ap (λ (u : List ℕ). [] ++ (f a ++ u)) (rest-kept ws a n) ∙ sym (store-there ws 0 (f a) h)
+    on false t =
+        let u = store-past ws 0 a (ltb-false _ _ t) in
+        rw u (store-past ws 0 (f (loadOf ws 0)) (ltb-false _ _ t) ∙ sym (store-past ws 0 (f a) (ltb-false _ _ t)))
+
+-- two cells are one or do not meet
+pub cells-apart : (from to : ℕ) → (cell-words * to ≤ cell-words * from) ⊎ (cell-words * from + cell-words ≤ cell-words * to)
+cells-apart from to = on (ltb from to) refl
+  where
+    on : (b : Bool) → ltb from to ≡ b → (16 * to ≤ 16 * from) ⊎ (16 * from + 16 ≤ 16 * to)
+    on true e = inr (omega (arith, ltb-true from to e))
+    on false e = inl (omega (arith, ltb-false from to e))
+
+-- the words after the first and a cell
+pub inside-apart : (k : ℕ) → (cell-words * k ≤ 1) ⊎ (1 + 15 ≤ cell-words * k)
+inside-apart zero = inl (omega arith)
+inside-apart (suc k) = inr (omega arith)

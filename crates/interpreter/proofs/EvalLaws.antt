@@ -1,11 +1,13 @@
 -- `Evals`: a law for each kind of line.
 -- Assumes nothing.
 use mathlib.Core.Path.{_≡_, refl, sym, ap, subst, _∙_}
-use mathlib.Core.Bool.{true}
+use mathlib.Core.Logic.{_⊎_, ⊎-elim}
+use mathlib.Core.Bool.{Bool, true, false}
 use mathlib.Core.List.{List}
 use Prim.Native.Nat.{ℕ, suc, _+_, _-_, _≤_, _<_}
 use native.Mathlib.Omega.{arith}
-use borrow.Author.Tests.{ltb-true}
+use borrow.Author.Tests.{ltb-true, eqb-true, eqb-false}
+use lib.Dec.{eqb}
 use lib.ListN.{length, drop, getD}
 use Rattle.language.specs.Syntax.{Value, int, Expr, inl, inr}
 use Rattle.language.specs.Evaluation.{World, Mem, Env, Res, ok, long, stuck, bind, fit, add, packed, unpacked, eval, cell-words}
@@ -18,7 +20,7 @@ use Rattle.lines.proofs.Rows.{ExprRow, at-int, at-loc, at-var, at-plus, at-left
 use Rattle.memory.specs.Words.{cell}
 use Rattle.memory.specs.Memory.{cellOf}
 use Rattle.interpreter.specs.Cells.{accumulator, firstLocation, loadOf, storeOf, Holds}
-use Rattle.interpreter.specs.Nodes.{Answers, Turns, Applies, Tags, Tells}
+use Rattle.interpreter.specs.Nodes.{Answers, Turns, Applies, Applied, Tags, Tells}
 use Rattle.interpreter.specs.Post.{ExprAt, Evals}
 use Rattle.interpreter.proofs.CellLaws.{there, load-there, length-load, cell-stored, rest-kept}
 use Rattle.interpreter.proofs.ValueLaws.{tags-left, tags-right}
@@ -35,6 +37,10 @@ row-of {ws} {at} {row} {rest} {k} {depth} {e} kind r q p =
 -- the row lies within the code
 pub row-inside : (ws : List ℕ) (at : ℕ) {row : Row} (j : ℕ) → row ≡ rowAt ws at → row .kind ≡ suc j → at + 3 ≤ length ws
 row-inside ws at j r q = row-in ws at j (ap (λ (u : Row). u .kind) (sym r) ∙ q)
+
+-- the same of a row of any kind
+pub row-within : (ws : List ℕ) (at : ℕ) {row : Row} → row ≡ rowAt ws at → 0 < row .kind → at + 3 ≤ length ws
+row-within ws at {row} r h = row-inside ws at (row .kind - 1) r (omega arith)
 
 -- what an evaluation promises of one expression
 abbrev Means : World → Mem → Env → Expr → List ℕ → List Line → ℕ → List ℕ → ℕ → Type 0
@@ -141,6 +147,21 @@ copied work j e = ap (drop 16) e ∙ rest-kept work (loadOf work j) (length-load
 copy-here : (work : List ℕ) {work′ : List ℕ} (j : ℕ) → cell-words ≤ length work → work′ ≡ storeOf work accumulator (loadOf work j) → cellOf work′ accumulator ≡ loadOf work j
 copy-here work j h e = ap (λ (u : List ℕ). cellOf u 0) e ∙ cell-stored work 0 (loadOf work j) (length-load work j) (there work 0 (omega arith))
 
+one-of : (k : ℕ) → 8 < k → k ≤ 13 → (k ≡ 9 → ⊥) → (k ≡ 10) ⊎ ((k ≡ 11) ⊎ ((k ≡ 12) ⊎ (k ≡ 13)))
+one-of k h l n = on (eqb k 10) refl
+  where
+    last : (b : Bool) → eqb k 12 ≡ b → (k ≡ 10 → ⊥) → (k ≡ 11 → ⊥) → (k ≡ 12) ⊎ (k ≡ 13)
+    last true e n10 n11 = _⊎_.inl (eqb-true k 12 e)
+    last false e n10 n11 = _⊎_.inr (let n12 = eqb-false k 12 e in omega arith)
+
+    next : (b : Bool) → eqb k 11 ≡ b → (k ≡ 10 → ⊥) → (k ≡ 11) ⊎ ((k ≡ 12) ⊎ (k ≡ 13))
+    next true e n10 = _⊎_.inl (eqb-true k 11 e)
+    next false e n10 = _⊎_.inr (last (eqb k 12) refl n10 (eqb-false k 11 e))
+
+    on : (b : Bool) → eqb k 10 ≡ b → (k ≡ 10) ⊎ ((k ≡ 11) ⊎ ((k ≡ 12) ⊎ (k ≡ 13)))
+    on true e = _⊎_.inl (eqb-true k 10 e)
+    on false e = _⊎_.inr (next (eqb k 11) refl (eqb-false k 10 e))
+
 -- ---- a law for each arm of the code
 
 module _ {ws : List ℕ} {at : ℕ} {table : List ℕ} {authority depth : ℕ} {work : List ℕ} {row : Row} (r : row ≡ rowAt ws at) where
@@ -230,6 +251,13 @@ module _ {ws : List ℕ} {at : ℕ} {table : List ℕ} {authority depth : ℕ} {
           kept = y .kept ∙ x .kept;
           means = λ W k e rest M ρ t p held. unpack-case at x W k M ρ t held y (row-of 13 r q p) (p .names) (y .means W t);
         }
+
+    -- the kinds with one operand
+    pub eval-one : 9 ≤ row .kind → row .kind ≤ 13 → (row .kind ≡ 9 → ⊥) → Applied table authority (row .kind) (row .a) (row .b) work′ vs vn work″ state next
+        → Evals ws at table authority depth work state next work″
+    eval-one h l n y =
+        ⊎-elim (λ q. eval-left q (y .left q)) (⊎-elim (λ q. eval-right q (y .right q)) (⊎-elim (λ q. eval-pack q (y .pack q)) (λ q. eval-unpack q (y .unpack q))))
+        (one-of (row .kind) (omega arith) l n)
 
   pub eval-none : (row .kind ≡ 6 → ⊥) → (row .kind ≡ 7 → ⊥) → (row .kind ≡ 8 → ⊥) → (row .kind ≡ 9 → ⊥)
       → (row .kind ≡ 10 → ⊥) → (row .kind ≡ 11 → ⊥) → (row .kind ≡ 12 → ⊥) → (row .kind ≡ 13 → ⊥)

@@ -16,7 +16,7 @@ use Rattle.memory.specs.Words.{enc, zeros, cell, valueOf, endOf}
 use Rattle.memory.specs.Memory.{cellOf}
 use Rattle.memory.proofs.WordLaws.{length-cell, value-enc, end-enc}
 use Rattle.interpreter.specs.Cells.{accumulator, loadOf, storeOf, pushOf, popOf}
-use Rattle.interpreter.specs.Nodes.{Answers, Turns, Applies, Tags, errorOf, errorIn, Tells}
+use Rattle.interpreter.specs.Nodes.{Answers, Turns, Applies, Applied, Tags, errorOf, errorIn, Tells}
 use Rattle.interpreter.proofs.CellLaws.{there, load-there, length-load, length-push, length-pop, cell-stored, rest-kept}
 use Rattle.interpreter.proofs.ValueLaws.{enc-append, cell-size, tags-left, push-tag, push-package, pop-package}
 
@@ -316,3 +316,40 @@ module _ (table : List ℕ) (authority l m : ℕ) (fits : Bool) {may : Bool} (r 
     pub error-none : flows ≡ true → fits ≡ true → 0 ≡ errorIn table authority l m fits
     unfolding errorIn errorOf
     error-none f g = rw (sym r ∙ y, sym flow-is ∙ f, g) refl
+
+-- ---- what a line makes, by its kind
+
+module _ {table : List ℕ} {authority kind a b : ℕ} {work : List ℕ} {state next : ℕ} {work′ : List ℕ} {state′ next′ : ℕ} where
+  pub applied-plus : kind ≡ 9 → Applies work state next work′ state′ next′ ((u : Value) → a ≡ getD (cell u) 1 0 → Turns (add u) work state work′ state′)
+      → Applied table authority kind a b work state next work′ state′ next′
+  applied-plus k y =
+      record { plus = λ q. y; left = λ q. absurd (omega arith); right = λ q. absurd (omega arith); pack = λ q. absurd (omega arith); unpack = λ q. absurd (omega arith) }
+
+  pub applied-left : kind ≡ 10
+      → Applies work state next work′ state′ next′ ((f : Value → Value) → Tags 3 f → Turns (λ u. fit (f u)) work state work′ state′)
+      → Applied table authority kind a b work state next work′ state′ next′
+  applied-left k y =
+      record { plus = λ q. absurd (omega arith); left = λ q. y; right = λ q. absurd (omega arith); pack = λ q. absurd (omega arith); unpack = λ q. absurd (omega arith) }
+
+  pub applied-right : kind ≡ 11
+      → Applies work state next work′ state′ next′ ((f : Value → Value) → Tags 4 f → Turns (λ u. fit (f u)) work state work′ state′)
+      → Applied table authority kind a b work state next work′ state′ next′
+  applied-right k y =
+      record { plus = λ q. absurd (omega arith); left = λ q. absurd (omega arith); right = λ q. y; pack = λ q. absurd (omega arith); unpack = λ q. absurd (omega arith) }
+
+  pub applied-pack : kind ≡ 12
+      → Applies work state next work′ state′ next′ ((W : World) → Tells table authority W → Turns (packed (W .writes a) a) work state work′ state′)
+      → Applied table authority kind a b work state next work′ state′ next′
+  applied-pack k y =
+      record { plus = λ q. absurd (omega arith); left = λ q. absurd (omega arith); right = λ q. absurd (omega arith); pack = λ q. y; unpack = λ q. absurd (omega arith) }
+
+  pub applied-unpack : kind ≡ 13
+      → Applies work state next work′ state′ next′ ((W : World) → Tells table authority W → Turns (unpacked W a b) work state work′ state′)
+      → Applied table authority kind a b work state next work′ state′ next′
+  applied-unpack k y =
+      record { plus = λ q. absurd (omega arith); left = λ q. absurd (omega arith); right = λ q. absurd (omega arith); pack = λ q. absurd (omega arith); unpack = λ q. y }
+
+  pub applied-none : (kind ≡ 9 → ⊥) → (kind ≡ 10 → ⊥) → (kind ≡ 11 → ⊥) → (kind ≡ 12 → ⊥) → (kind ≡ 13 → ⊥)
+      → Applied table authority kind a b work state next work′ state′ next′
+  applied-none n9 n10 n11 n12 n13 =
+      record { plus = λ q. absurd (n9 q); left = λ q. absurd (n10 q); right = λ q. absurd (n11 q); pack = λ q. absurd (n12 q); unpack = λ q. absurd (n13 q) }

@@ -3,9 +3,9 @@ use mathlib.Core.Path.{_≡_}
 use mathlib.Core.Bool.{Bool, true, false}
 use mathlib.Core.List.{List, _∷_}
 use Prim.Native.Nat.{ℕ, suc, _≤_}
-use lib.ListN.{length, drop}
+use lib.ListN.{length, drop, getD}
 use Rattle.language.specs.Syntax.{Value, size, has}
-use Rattle.language.specs.Evaluation.{World, Res, ok, long, stuck, bind, wanted, cell-words}
+use Rattle.language.specs.Evaluation.{World, Res, ok, long, stuck, bind, wanted, fit, add, packed, unpacked, cell-words}
 use Rattle.tables.specs.Tables.{leftIn, belowIn, readsIn, writesIn}
 use Rattle.tables.specs.TypeTest.{hasNo}
 use Rattle.memory.specs.Words.{enc, cell}
@@ -55,3 +55,15 @@ pub record Tells (table : List ℕ) (authority : ℕ) (W : World) : Type 0 where
   pub writes-is : (l : ℕ) → writesIn table authority l ≡ W .writes l
   pub below-is : (l m : ℕ) → belowIn table l m ≡ W .below l m
   pub type-is : (v : Value) (t : ℕ) → hasNo table v (leftIn table t) ≡ has v (wanted (W .ty t))
+
+-- What a line of a kind makes of the value in the accumulator; of plus, a is the integer on the left.
+pub record Applied (table : List ℕ) (authority kind a b : ℕ) (before : List ℕ) (state next : ℕ) (after : List ℕ) (state′ next′ : ℕ) : Type 0 where
+  pub plus : kind ≡ 9 → Applies before state next after state′ next′ ((u : Value) → a ≡ getD (cell u) 1 0 → Turns (add u) before state after state′)
+  pub left : kind ≡ 10
+      → Applies before state next after state′ next′ ((f : Value → Value) → Tags 3 f → Turns (λ u. fit (f u)) before state after state′)
+  pub right : kind ≡ 11
+      → Applies before state next after state′ next′ ((f : Value → Value) → Tags 4 f → Turns (λ u. fit (f u)) before state after state′)
+  pub pack : kind ≡ 12
+      → Applies before state next after state′ next′ ((W : World) → Tells table authority W → Turns (packed (W .writes a) a) before state after state′)
+  pub unpack : kind ≡ 13
+      → Applies before state next after state′ next′ ((W : World) → Tells table authority W → Turns (unpacked W a b) before state after state′)

@@ -1,9 +1,11 @@
 // The cells that a run works in: the accumulator, what enclosing cases bind, and the locations.
 ghost use mathlib.Core.Path.{_≡_};
+ghost use mathlib.Core.Logic.{_⊎_};
 ghost use Prim.Native.Nat.{_+_, _≤_};
+ghost use Rattle.memory.specs.Words.{zeros};
 ghost use lib.ListN.{length, drop, getD};
 ghost use lib.Seq.{paste};
-ghost use Rattle.interpreter.specs.Cells.{loadOf, storeOf, pushOf, popOf};
+ghost use Rattle.interpreter.specs.Cells.{accumulator, loadOf, storeOf, pushOf, popOf};
 
 // The words of a cell.
 pub(crate) const CELL: usize = memory::CELL;
@@ -18,52 +20,58 @@ pub(crate) const MEMORY: usize = CELL * LOCATIONS;
 
 pub(crate) const WORK: usize = MEMORY + CELL * 64;
 
-// The words of cell k; zeros where there is no such cell.
-pub(crate) fn load(work: &[u32], k: usize) -> [u32; CELL]
-    ensures { λ r. ⌜ r ≡ loadOf (now (work .entry)) k ⌝ }
-{
-    let mut out = [0u32; CELL];
-    if work.len() / CELL <= k {
-        return out;
-    }
-    copy(&mut out, 0, work, CELL * k, CELL);
-    out
-}
-
-// Replaces cell k, where there is such a cell.
-pub(crate) fn store(work: &mut [u32], k: usize, words: [u32; CELL])
-    ensures { λ _. ⌜ now (work .exit) ≡ storeOf (now (work .entry)) k words ⌝ }
+// Makes the words of cell k zeros, where there is such a cell.
+pub(crate) fn clear(work: &mut [u32], k: usize)
+    ensures { λ _. ⌜ now (work .exit) ≡ storeOf (now (work .entry)) k (zeros 16) ⌝ }
 {
     if work.len() / CELL <= k {
         return;
     }
-    copy(work, CELL * k, &words, 0, CELL);
+    let start = CELL * k;
+    for i in 0..CELL {
+        work[start + i] = 0;
+    }
 }
 
-// Copies one cell to another.
+// Copies one cell to another, zeros where there is no such cell.
 pub(crate) fn copy_cell(work: &mut [u32], from: usize, to: usize)
     ensures { λ _. ⌜ now (work .exit) ≡ storeOf (now (work .entry)) to (loadOf (now (work .entry)) from) ⌝ }
 {
-    let words = load(work, from);
-    store(work, to, words);
+    if work.len() / CELL <= to {
+        return;
+    }
+    if work.len() / CELL <= from {
+        clear(work, to);
+        return;
+    }
+    slide(work, CELL * to, CELL * from, CELL);
 }
 
-// The word w in front of the words of a cell; the last of these goes.
-pub(crate) fn push(w: u32, words: [u32; CELL]) -> [u32; CELL]
-    ensures { λ r. ⌜ r ≡ pushOf w words ⌝ }
+// The word w in front of the words in the accumulator; the last of these goes.
+pub(crate) fn push(work: &mut [u32], w: u32)
+    ensures { λ _. ⌜ now (work .exit) ≡ storeOf (now (work .entry)) accumulator (pushOf w (loadOf (now (work .entry)) accumulator)) ⌝ }
 {
-    let mut out = [w; CELL];
-    copy(&mut out, 1, &words, 0, CELL - 1);
-    out
+    if work.len() / CELL == 0 {
+        return;
+    }
+    let mut held = w;
+    for i in 0..CELL {
+        let old = work[i];
+        work[i] = held;
+        held = old;
+    }
 }
 
-// The words of a cell without the first; a 0 comes at the end.
-pub(crate) fn pop(words: [u32; CELL]) -> [u32; CELL]
-    ensures { λ r. ⌜ r ≡ popOf words ⌝ }
+// Stores the words of the accumulator without the first in cell k; a 0 comes at the end.
+pub(crate) fn pop_to(work: &mut [u32], k: usize)
+    ensures { λ _. ⌜ now (work .exit) ≡ storeOf (now (work .entry)) k (popOf (loadOf (now (work .entry)) accumulator)) ⌝ }
 {
-    let mut out = [0u32; CELL];
-    copy(&mut out, 0, &words, 1, CELL - 1);
-    out
+    if work.len() / CELL <= k {
+        return;
+    }
+    let start = CELL * k;
+    slide(work, start, 1, CELL - 1);
+    work[start + (CELL - 1)] = 0;
 }
 
 // The word at `at`; 0 past the end.
@@ -81,5 +89,15 @@ pub(crate) fn copy(dst: &mut [u32], to: usize, src: &[u32], from: usize, n: usiz
 {
     for i in 0..n {
         dst[to + i] = src[from + i];
+    }
+}
+
+// Copies n words, from `from` on, to `to` on; not onto words that are still to be copied.
+fn slide(work: &mut [u32], to: usize, from: usize, n: usize)
+    requires { ⌜ (to + n ≤ length (now work)) × (from + n ≤ length (now work)) × ((to ≤ from) ⊎ (from + n ≤ to)) ⌝ }
+    ensures { λ _. ⌜ now (work .exit) ≡ paste (now (work .entry)) to (drop from (now (work .entry))) n ⌝ }
+{
+    for i in 0..n {
+        work[to + i] = work[from + i];
     }
 }

@@ -108,7 +108,7 @@ fn assign(
     table: &[u16],
     authority: u16,
     depth: u32,
-    work: &mut [u32],
+    work: &mut [u32; cells::WORK],
     fuel: u32,
     x: u32,
 ) -> Done
@@ -144,7 +144,7 @@ fn decide(
     table: &[u16],
     authority: u16,
     depth: u32,
-    work: &mut [u32],
+    work: &mut [u32; cells::WORK],
     fuel: u32,
 ) -> Decided
     ensures { λ r. ⌜ Decides (now (code .entry)) at (now (table .entry)) authority depth (now (work .entry)) fuel (r .state) (r .left) (r .next) (r .on) (now (work .exit)) ⌝ }
@@ -195,7 +195,7 @@ fn branch(
     table: &[u16],
     authority: u16,
     depth: u32,
-    work: &mut [u32],
+    work: &mut [u32; cells::WORK],
     fuel: u32,
 ) -> Taken
     ensures { λ r. ⌜ Branches (now (code .entry)) at (now (table .entry)) authority depth (now (work .entry)) fuel (r .state) (r .left) (r .start) (r .end) (now (work .exit)) ⌝ }
@@ -217,7 +217,7 @@ fn branch(
             end: at,
         };
     }
-    nodes::bind_inside(work, depth as usize + 1);
+    cells::pop_to(work, depth as usize + 1);
     let first = g.next;
     let second = skip(code, first);
     let end = skip(code, second);
@@ -237,7 +237,7 @@ pub(crate) fn exec(
     table: &[u16],
     authority: u16,
     depth: u32,
-    work: &mut [u32],
+    work: &mut [u32; cells::WORK],
     fuel: u32,
 ) -> Done
     ensures { λ r. ⌜ Execs (now (code .entry)) at (now (table .entry)) authority depth (now (work .entry)) fuel (r .state) (r .left) (r .next) (now (work .exit)) ⌝ }

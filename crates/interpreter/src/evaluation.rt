@@ -12,7 +12,7 @@ pub(crate) fn eval(
     table: &[u16],
     authority: u16,
     depth: u32,
-    work: &mut [u32],
+    work: &mut [u32; cells::WORK],
 ) -> Evaluated
     ensures { λ r. ⌜ Evals (now (code .entry)) at (now (table .entry)) authority depth (now (work .entry)) (r .state) (r .next) (now (work .exit)) ⌝ }
 {
@@ -42,31 +42,19 @@ pub(crate) fn eval(
                 next: at + ROW,
             }
         }
-        lines::PLUS => {
+        // One call for the operand that each of these starts with, since each call takes its own place in every frame.
+        lines::PLUS | lines::LEFT | lines::RIGHT | lines::PACK | lines::UNPACK => {
             let v = eval(code, at + ROW, table, authority, depth, work);
+            if kind != lines::PLUS {
+                return nodes::applied(work, table, authority, kind, a, b, v);
+            }
             if v.state != nodes::VALUE {
                 return v;
             }
             let n = cells::word(work, 1);
             let next = v.next;
             let w = eval(code, next, table, authority, depth, work);
-            nodes::sum(work, n, w)
-        }
-        lines::LEFT => {
-            let v = eval(code, at + ROW, table, authority, depth, work);
-            nodes::tagged(work, memory::LEFT, v)
-        }
-        lines::RIGHT => {
-            let v = eval(code, at + ROW, table, authority, depth, work);
-            nodes::tagged(work, memory::RIGHT, v)
-        }
-        lines::PACK => {
-            let v = eval(code, at + ROW, table, authority, depth, work);
-            nodes::pack(work, table, authority, a, v)
-        }
-        lines::UNPACK => {
-            let v = eval(code, at + ROW, table, authority, depth, work);
-            nodes::unpack(work, table, authority, a, b, v)
+            nodes::applied(work, table, authority, kind, n, b, w)
         }
         _ => Evaluated {
             state: nodes::NO_RULE,

@@ -31,7 +31,7 @@ fn run_in(
     memory: &mut [u32],
     authority: u16,
     budget: u32,
-    work: &mut [u32],
+    work: &mut [u32; cells::WORK],
 ) -> Ran
     requires { ⌜ length (now work) ≡ workWords ⌝ }
     ensures { λ r. ⌜ Runs (now (code .entry)) (now (table .entry)) (now (memory .entry)) authority budget (r .state) (r .steps) (now (memory .exit)) ⌝ }

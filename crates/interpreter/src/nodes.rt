@@ -7,8 +7,8 @@ ghost use Rattle.language.specs.Evaluation.{World, fit, add, packed, unpacked};
 ghost use Rattle.tables.specs.Tables.{leftIn};
 ghost use Rattle.tables.specs.TypeTest.{hasNo};
 ghost use Rattle.memory.specs.Words.{cell, valueOf};
-ghost use Rattle.interpreter.specs.Cells.{loadOf, storeOf, popOf, accumulator, firstLocation};
-ghost use Rattle.interpreter.specs.Nodes.{Turns, Applies, Tags, errorIn, Tells};
+ghost use Rattle.interpreter.specs.Cells.{loadOf, storeOf, accumulator, firstLocation};
+ghost use Rattle.interpreter.specs.Nodes.{Turns, Applies, Applied, Tags, errorIn, Tells};
 use crate::cells;
 use crate::cells::ACCUMULATOR;
 use crate::cells::CELL;
@@ -37,33 +37,33 @@ pub(crate) struct Evaluated {
 }
 
 // An integer.
-pub(crate) fn literal(work: &mut [u32], n: u32)
+pub(crate) fn literal(work: &mut [u32; cells::WORK], n: u32)
     ensures { λ _. ⌜ now (work .exit) ≡ storeOf (now (work .entry)) accumulator (cell (int n)) ⌝ }
 {
-    let number = cells::push(n, [0u32; CELL]);
-    let value = cells::push(memory::INT, number);
-    cells::store(work, ACCUMULATOR, value);
+    cells::clear(work, ACCUMULATOR);
+    cells::push(work, n);
+    cells::push(work, memory::INT);
 }
 
 // The right of an error.
-fn fail(work: &mut [u32], e: u32)
+fn fail(work: &mut [u32; cells::WORK], e: u32)
     ensures { λ _. ⌜ now (work .exit) ≡ storeOf (now (work .entry)) accumulator (cell (inr (err e))) ⌝ }
 {
-    let number = cells::push(e, [0u32; CELL]);
-    let error = cells::push(memory::ERROR, number);
-    let right = cells::push(memory::RIGHT, error);
-    cells::store(work, ACCUMULATOR, right);
+    cells::clear(work, ACCUMULATOR);
+    cells::push(work, e);
+    cells::push(work, memory::ERROR);
+    cells::push(work, memory::RIGHT);
 }
 
 // The value of location x.
-pub(crate) fn location(work: &mut [u32], x: u32)
+pub(crate) fn location(work: &mut [u32; cells::WORK], x: u32)
     ensures { λ _. ⌜ now (work .exit) ≡ storeOf (now (work .entry)) accumulator (loadOf (now (work .entry)) (firstLocation + x)) ⌝ }
 {
     cells::copy_cell(work, LOCATIONS + x as usize, ACCUMULATOR);
 }
 
 // The value that the d-th enclosing case binds, innermost 0, at a depth.
-pub(crate) fn variable(work: &mut [u32], depth: u32, d: u32)
+pub(crate) fn variable(work: &mut [u32; cells::WORK], depth: u32, d: u32)
     ensures { λ _. ⌜ now (work .exit) ≡ storeOf (now (work .entry)) accumulator (loadOf (now (work .entry)) (depth - d)) ⌝ }
 {
     let k = if d < depth { depth - d } else { 0 };
@@ -71,7 +71,7 @@ pub(crate) fn variable(work: &mut [u32], depth: u32, d: u32)
 }
 
 // The sum of n and the integer in the accumulator.
-pub(crate) fn sum(work: &mut [u32], n: u32, v: Evaluated) -> Evaluated
+pub(crate) fn sum(work: &mut [u32; cells::WORK], n: u32, v: Evaluated) -> Evaluated
     ensures { λ r. ⌜ Applies (now (work .entry)) (v .state) (v .next) (now (work .exit)) (r .state) (r .next)
         ((u : Value) → n ≡ getD (cell u) 1 0 → Turns (add u) (now (work .entry)) (v .state) (now (work .exit)) (r .state)) ⌝ }
 {
@@ -84,7 +84,7 @@ pub(crate) fn sum(work: &mut [u32], n: u32, v: Evaluated) -> Evaluated
 }
 
 // Left or right, as the word says, of the value in the accumulator.
-pub(crate) fn tagged(work: &mut [u32], w: u32, v: Evaluated) -> Evaluated
+fn tagged(work: &mut [u32; cells::WORK], w: u32, v: Evaluated) -> Evaluated
     ensures { λ r. ⌜ Applies (now (work .entry)) (v .state) (v .next) (now (work .exit)) (r .state) (r .next)
         ((f : Value → Value) → Tags w f → Turns (λ u. fit (f u)) (now (work .entry)) (v .state) (now (work .exit)) (r .state)) ⌝ }
 {
@@ -97,15 +97,13 @@ pub(crate) fn tagged(work: &mut [u32], w: u32, v: Evaluated) -> Evaluated
             next: v.next,
         };
     }
-    let words = cells::load(work, ACCUMULATOR);
-    let longer = cells::push(w, words);
-    cells::store(work, ACCUMULATOR, longer);
+    cells::push(work, w);
     v
 }
 
 // A package of label l of the value in the accumulator, or an error.
-pub(crate) fn pack(
-    work: &mut [u32],
+fn pack(
+    work: &mut [u32; cells::WORK],
     table: &[u16],
     authority: u16,
     l: u32,
@@ -127,10 +125,9 @@ pub(crate) fn pack(
             next: v.next,
         };
     }
-    let content = cells::load(work, ACCUMULATOR);
-    let package = cells::push(memory::PACKAGE, cells::push(l, content));
-    let left = cells::push(memory::LEFT, package);
-    cells::store(work, ACCUMULATOR, left);
+    cells::push(work, l);
+    cells::push(work, memory::PACKAGE);
+    cells::push(work, memory::LEFT);
     v
 }
 
@@ -152,8 +149,8 @@ fn refusal(work: &[u32], table: &[u16], authority: u16, t: u32, l: u32) -> u32
 }
 
 // The content of the package in the accumulator, or an error.
-pub(crate) fn unpack(
-    work: &mut [u32],
+fn unpack(
+    work: &mut [u32; cells::WORK],
     table: &[u16],
     authority: u16,
     t: u32,
@@ -177,18 +174,30 @@ pub(crate) fn unpack(
         fail(work, e);
         return v;
     }
-    let package = cells::load(work, ACCUMULATOR);
-    let content = cells::pop(cells::pop(package));
-    let left = cells::push(memory::LEFT, content);
-    cells::store(work, ACCUMULATOR, left);
+    cells::pop_to(work, ACCUMULATOR);
+    cells::pop_to(work, ACCUMULATOR);
+    cells::push(work, memory::LEFT);
     v
 }
 
-// Binds what is inside of the left or right in the accumulator, in cell k.
-pub(crate) fn bind_inside(work: &mut [u32], k: usize)
-    ensures { λ _. ⌜ now (work .exit) ≡ storeOf (now (work .entry)) k (popOf (loadOf (now (work .entry)) accumulator)) ⌝ }
+// What a line of a kind with one operand, and with the numbers a and b, makes of the value in the accumulator.
+pub(crate) fn applied(
+    work: &mut [u32; cells::WORK],
+    table: &[u16],
+    authority: u16,
+    kind: u32,
+    a: u32,
+    b: u32,
+    v: Evaluated,
+) -> Evaluated
+    ensures { λ r. ⌜ Applied (now (table .entry)) authority kind a b (now (work .entry)) (v .state) (v .next) (now (work .exit)) (r .state) (r .next) ⌝ }
 {
-    let words = cells::load(work, ACCUMULATOR);
-    let inside = cells::pop(words);
-    cells::store(work, k, inside);
+    match kind {
+        lines::PLUS => sum(work, a, v),
+        lines::LEFT => tagged(work, memory::LEFT, v),
+        lines::RIGHT => tagged(work, memory::RIGHT, v),
+        lines::PACK => pack(work, table, authority, a, v),
+        lines::UNPACK => unpack(work, table, authority, a, b, v),
+        _ => v,
+    }
 }

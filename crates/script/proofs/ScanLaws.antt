@@ -2,7 +2,7 @@
 use mathlib.Core.Path.{_≡_, refl, sym, ap, _∙_}
 use mathlib.Core.Bool.{Bool, true, false}
 use mathlib.Core.List.{List, [], _∷_}
-use Prim.Native.Nat.{ℕ, suc, _+_, _^_, _≤_, _<_}
+use Prim.Native.Nat.{ℕ, suc, _+_, _-_, _^_, _≤_, _<_}
 use native.Mathlib.Numerals.{add-one}
 use native.Mathlib.Omega.{arith}
 use lib.Dec.{ltb}
@@ -423,3 +423,14 @@ module _ (k : Counts) (d : ℕ) (ws : List ℕ) (at : ℕ) (row : Row) (q : row 
 -- a row of one of the kinds lies within the code
 pub row-room : (ws : List ℕ) (at : ℕ) (row : Row) (j : ℕ) → row ≡ rowAt ws at → row .kind ≡ suc j → at + 3 ≤ length ws
 row-room ws at row j q e = row-in ws at j (sym (ap (λ (r : Row). r .kind) q) ∙ e)
+
+-- the same of a row of any kind
+pub row-some : (ws : List ℕ) (at : ℕ) (row : Row) → row ≡ rowAt ws at → 0 < row .kind → at + 3 ≤ length ws
+row-some ws at row r h = row-room ws at row (row .kind - 1) r (omega arith)
+
+-- the last of the kinds with an operand, by what it is not
+pub from-plus : (k : ℕ) → 6 ≤ k → (k ≡ 6 → ⊥) → (k ≡ 7 → ⊥) → (k ≡ 8 → ⊥) → 9 ≤ k
+from-plus k h n6 n7 n8 = omega arith
+
+pub is-unpack : (k : ℕ) → 9 ≤ k → k < 14 → (k ≡ 9 → ⊥) → (k ≡ 10 → ⊥) → (k ≡ 11 → ⊥) → (k ≡ 12 → ⊥) → k ≡ 13
+is-unpack k h l n9 n10 n11 n12 = omega arith

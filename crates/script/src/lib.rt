@@ -242,17 +242,19 @@ fn scan_expr(code: &[u32], at: usize, table: &[u16], depth: u32) -> Scanned
             ok: a < depth,
             next: at + ROW,
         },
-        PLUS => {
+        // One call for the operand that each of these starts with, since each call takes its own place in every frame.
+        PLUS | LEFT | RIGHT | PACK | UNPACK => {
             let e = scan_expr(code, at + ROW, table, depth);
-            let mid = e.next;
-            also(e.ok, scan_expr(code, mid, table, depth))
-        }
-        LEFT => also(is_type(table, a), scan_expr(code, at + ROW, table, depth)),
-        RIGHT => also(is_type(table, a), scan_expr(code, at + ROW, table, depth)),
-        PACK => also(is_label(table, a), scan_expr(code, at + ROW, table, depth)),
-        UNPACK => {
-            let e = scan_expr(code, at + ROW, table, depth);
-            also(is_type(table, a), also(is_label(table, row.b), e))
+            match kind {
+                PLUS => {
+                    let mid = e.next;
+                    also(e.ok, scan_expr(code, mid, table, depth))
+                }
+                LEFT => also(is_type(table, a), e),
+                RIGHT => also(is_type(table, a), e),
+                PACK => also(is_label(table, a), e),
+                _ => also(is_type(table, a), also(is_label(table, row.b), e)),
+            }
         }
         _ => Scanned {
             ok: false,
@@ -277,27 +279,27 @@ fn scan_cmd(code: &[u32], at: usize, table: &[u16], depth: u32) -> Scanned
             let mid = c.next;
             also(c.ok, scan_cmd(code, mid, table, depth))
         }
-        ASSIGN => also(
-            is_location(table, row.a),
-            scan_expr(code, at + ROW, table, depth),
-        ),
-        WHILE => {
+        ASSIGN | WHILE | CASE => {
             let e = scan_expr(code, at + ROW, table, depth);
-            let mid = e.next;
-            also(e.ok, scan_cmd(code, mid, table, depth))
-        }
-        CASE => {
-            if DEPTH <= depth {
-                return Scanned {
-                    ok: false,
-                    next: at,
-                };
+            match kind {
+                ASSIGN => also(is_location(table, row.a), e),
+                WHILE => {
+                    let mid = e.next;
+                    also(e.ok, scan_cmd(code, mid, table, depth))
+                }
+                _ => {
+                    if DEPTH <= depth {
+                        return Scanned {
+                            ok: false,
+                            next: at,
+                        };
+                    }
+                    let first = e.next;
+                    let c = scan_cmd(code, first, table, depth + 1);
+                    let second = c.next;
+                    also(e.ok, also(c.ok, scan_cmd(code, second, table, depth + 1)))
+                }
             }
-            let e = scan_expr(code, at + ROW, table, depth);
-            let first = e.next;
-            let c = scan_cmd(code, first, table, depth + 1);
-            let second = c.next;
-            also(e.ok, also(c.ok, scan_cmd(code, second, table, depth + 1)))
         }
         _ => Scanned {
             ok: false,

@@ -11,22 +11,10 @@ run-in-spec = tie.close (tie.spec
     (λ c. laws.run-large (omega arith))  -- returns
     (λ c κs. search needs)  -- copy-requires
     (λ c κs. search needs)  -- exec-requires
-    (λ c. c .before .before .before .before .before .exec .ensures .spends)  -- sub-t18
+    (λ c. c .before .before .before .exec .ensures .spends)  -- sub-t17
     (λ c. search needs)  -- same-length
-    (λ c. search needs)  -- same-length-2
-    (λ c. laws.run-kept (c .before .before .before .before .before .before .before .before .before .before .before .before .before .before .before .before .before .args .work .now)
-    (c .before .before .before .before .before .before .before .before .before .before .before .before .before .before .before .before .before .args .memory .now)
-    (c .before .before .before .before .before .before .before .before .before .before .before .before .before .before .before .before .before .pre)
-    (c .before .before .before .before .before .before .before .before .before .copy .ensures) (c .before .before .before .before .before .exec .ensures)
-    (c .before .if2 .taken))  -- returns-2
+    (λ c. laws.run-kept (c .before .before .before .before .before .before .before .before .before .before .before .before .args .work .now) (c .before .before .before .before .before .before .before .before .before .before .before .before .args .memory .now) (c .before .before .before .before .before .before .before .before .before .before .before .before .pre) (c .before .before .before .before .before .copy .ensures) (c .before .before .before .exec .ensures) (c .before .if2 .taken))  -- returns-2
     (λ c κs. search needs)  -- copy-requires-2
-    (λ c. c .before .before .before .before .before .before .before .before .before .before .exec .ensures .spends)  -- sub-t23
-    (λ c. search needs)  -- same-length-3
-    (λ c. search needs)  -- same-length-4
-    (λ c. laws.run-done (c .before .before .before .before .before .before .before .before .before .before .before .before .before .before .before .before .before .before .before
-    .before .before .before .args .work .now) (c .before .before .before .before .before .before .before .before .before .before .before .before .before .before .before .before
-    .before .before .before .before .before .before .args .memory .now)
-    (c .before .before .before .before .before .before .before .before .before .before .before .before .before .before .before .before .before .before .before .before .before
-    .before .pre) (c .before .before .before .before .before .before .before .before .before .before .before .before .before .before .copy .ensures)
-    (c .before .before .before .before .before .before .before .before .before .before .exec .ensures) (c .before .before .before .before .before .before .if2 .left)
-    (c .before .before .before .copy2 .kept .0) (c .before .before .before .copy2 .ensures)))  -- returns-3
+    (λ c. c .before .before .before .before .before .before .before .before .before .exec .ensures .spends)  -- sub-t22
+    (λ c. search needs)  -- same-length-2
+    (λ c. laws.run-done (c .before .before .before .before .before .before .before .before .before .before .before .before .before .before .before .before .before .before .args .work .now) (c .before .before .before .before .before .before .before .before .before .before .before .before .before .before .before .before .before .before .args .memory .now) (c .before .before .before .before .before .before .before .before .before .before .before .before .before .before .before .before .before .before .pre) (c .before .before .before .before .before .before .before .before .before .before .before .copy .ensures) (c .before .before .before .before .before .before .before .before .before .exec .ensures) (c .before .before .before .before .before .before .before .if2 .left) (c .before .before .before .copy2 .kept .0) (c .before .before .before .copy2 .ensures)))  -- returns-3

@@ -7,7 +7,7 @@ use borrow.Author.Needs.{needs}
 use borrow.Fn.Kinds.{In}
 use borrow.Fn.PlainCycle.{Measures, is, falls, and}
 use Rattle.lines.proofs.row_at.Reads as row-at-reads
-use Rattle.script.proofs.ScanLaws.{row-room}
+use Rattle.script.proofs.ScanLaws.{row-room, row-some}
 use Rattle.script.proofs.ScanLaws as laws
 use Rattle.script.proofs.scan_expr.Reads as scan-expr
 use Rattle.script.proofs.scan_expr.Kinds as scan-expr-kinds
@@ -45,50 +45,41 @@ readings t = (
   is-label-reads.Learnt,
 )
 
--- the calls of the eight kinds, in order: room for the next row, and fewer words left; then a return for each kind and the others
+-- room for the next row, and fewer words left; then a return for each kind and the others
 pub +scan-expr-spec : {M : Type 1} → statement M
 +scan-expr-spec =
     close μ-scan-expr λ t. scan-expr-lts.spec (readings t) (scan-expr-at t) scan-expr.Post
-    (λ c κs. search needs)
-    (λ c. omega (arith, row-room _ _ _ 5 (c .before .row-at .ensures) (c .match .keys1)))
-    (λ c κs. search needs)
-    (λ c. omega (arith, row-room _ _ _ 6 (c .before .before .row-at .ensures) (c .before .match .keys2)))
-    (λ c. omega (arith, row-room _ _ _ 7 (c .before .row-at .ensures) (c .match .keys3)))
-    (λ c. omega (arith, row-room _ _ _ 8 (c .before .row-at .ensures) (c .match .keys4)))
-    (λ c κs. (omega (arith, row-room _ _ _ 8 (c .before .row-at .ensures) (c .match .keys4)), tt))
-    (λ c κs. (omega (arith, row-room _ _ _ 8 (c .before .before .row-at .ensures) (c .before .match .keys4), c .scan-expr .ensures .forward), tt))
-    (λ c κs. search needs)
-    (λ c κs. search needs)
-    (λ c. omega (arith, row-room _ _ _ 9 (c .before .before .row-at .ensures) (c .before .match .keys5)))
-    (λ c κs. (omega (arith, row-room _ _ _ 9 (c .before .before .row-at .ensures) (c .before .match .keys5)), tt))
-    (λ c κs. search needs)
-    (λ c κs. search needs)
-    (λ c. omega (arith, row-room _ _ _ 10 (c .before .before .row-at .ensures) (c .before .match .keys6)))
-    (λ c κs. (omega (arith, row-room _ _ _ 10 (c .before .before .row-at .ensures) (c .before .match .keys6)), tt))
-    (λ c κs. search needs)
-    (λ c κs. search needs)
-    (λ c. omega (arith, row-room _ _ _ 11 (c .before .before .row-at .ensures) (c .before .match .keys7)))
-    (λ c κs. (omega (arith, row-room _ _ _ 11 (c .before .before .row-at .ensures) (c .before .match .keys7)), tt))
-    (λ c κs. search needs)
-    (λ c. omega (arith, row-room _ _ _ 12 (c .before .row-at .ensures) (c .match .keys8)))
-    (λ c κs. (omega (arith, row-room _ _ _ 12 (c .before .row-at .ensures) (c .match .keys8)), tt))
-    (λ c κs. search needs)
-    (λ c κs. search needs)
-    (λ c κs. search needs)
-    (λ c κs. search needs)
-    (λ c. laws.scan-int _ _ _ _ _ (c .before .row-at .ensures) (c .match .keys1) (omega (arith, c .before .row-at .ok)))
-    (λ c. laws.scan-loc _ _ _ _ _ (c .before .before .row-at .ensures) _ (c .before .match .keys2) (c .is-location .ensures))
-    (λ c. laws.scan-var _ _ _ _ _ (c .before .row-at .ensures) _ (c .match .keys3) refl)
-    (λ c. laws.scan-plus _ _ _ _ _ (c .before .before .before .before .row-at .ensures) _ _ _ (c .before .before .before .match .keys4) (c .before .before .scan-expr .ensures)
-    (c .before .scan-expr2 .ensures) (c .also .ensures))
-    (λ c. laws.scan-left _ _ _ _ _ (c .before .before .before .before .row-at .ensures) _ _ _ (c .before .before .before .match .keys5) (c .before .before .is-type .ensures)
-    (c .before .scan-expr3 .ensures) (c .also2 .ensures))
-    (λ c. laws.scan-right _ _ _ _ _ (c .before .before .before .before .row-at .ensures) _ _ _ (c .before .before .before .match .keys6) (c .before .before .is-type2 .ensures)
-    (c .before .scan-expr4 .ensures) (c .also3 .ensures))
-    (λ c. laws.scan-pack _ _ _ _ _ (c .before .before .before .before .row-at .ensures) _ _ _ (c .before .before .before .match .keys7) (c .before .before .is-label .ensures)
-    (c .before .scan-expr5 .ensures) (c .also4 .ensures))
-    (λ c. laws.scan-unpack _ _ _ _ _ (c .before .before .before .before .before .before .row-at .ensures) _ _ _ _ _ (c .before .before .before .before .before .match .keys8)
-    (c .before .before .before .is-type3 .ensures) (c .before .before .is-label2 .ensures) (c .before .before .before .before .scan-expr6 .ensures) (c .before .also5 .ensures)
-    (c .also6 .ensures))
-    (λ c. laws.scan-no-expr _ _ _ _ _ (c .before .row-at .ensures) (c .match .rest .0 .0 .0 .0 .0 .0 .0 .1) (c .match .rest .0 .0 .0 .0 .0 .0 .1) (c .match .rest .0 .0 .0 .0 .0 .1)
-    (c .match .rest .0 .0 .0 .0 .1) (c .match .rest .0 .0 .0 .1) (c .match .rest .0 .0 .1) (c .match .rest .0 .1) (c .match .rest .1))
+    (λ c κs. search needs)  -- row-at-requires
+    (λ c. omega (arith, row-room _ _ _ 5 (c .before .row-at .ensures) (c .match .keys1)))  -- add-t11
+    (λ c κs. search needs)  -- is-location-requires
+    (λ c. omega (arith, row-room _ _ _ 6 (c .before .before .row-at .ensures) (c .before .match .keys2)))  -- add-t13
+    (λ c. omega (arith, row-room _ _ _ 7 (c .before .row-at .ensures) (c .match .keys3)))  -- add-t15
+    (λ c. omega (arith, row-some _ _ _ (c .before .before .before .row-at .ensures) (omega (arith, c .before .if1 .left))))  -- add-scan-expr
+    (λ c κs. (omega (arith, row-some _ _ _ (c .before .before .before .row-at .ensures) (omega (arith, c .before .if1 .left))), tt))  -- scan-expr-requires
+    (λ c κs. (omega (arith, row-some _ _ _ (c .before .before .before .before .before .row-at .ensures) (omega (arith, c .before .before .before .if1 .left)), c .before .scan-expr .ensures .forward), tt))  -- scan-expr-requires-2
+    (λ c κs. search needs)  -- also-requires
+    (λ c κs. search needs)  -- is-type-requires
+    (λ c κs. search needs)  -- also-requires-2
+    (λ c κs. search needs)  -- is-type-requires-2
+    (λ c κs. search needs)  -- also-requires-3
+    (λ c κs. search needs)  -- is-label-requires
+    (λ c κs. search needs)  -- also-requires-4
+    (λ c κs. search needs)  -- is-type-requires-3
+    (λ c κs. search needs)  -- is-label-requires-2
+    (λ c κs. search needs)  -- also-requires-5
+    (λ c κs. search needs)  -- also-requires-6
+    (λ c. laws.scan-int _ _ _ _ _ (c .before .row-at .ensures) (c .match .keys1) (omega (arith, c .before .row-at .ok)))  -- returns
+    (λ c. laws.scan-loc _ _ _ _ _ (c .before .before .row-at .ensures) _ (c .before .match .keys2) (c .is-location .ensures))  -- returns-2
+    (λ c. laws.scan-var _ _ _ _ _ (c .before .row-at .ensures) _ (c .match .keys3) refl)  -- returns-3
+    (λ c. laws.scan-plus _ _ _ _ _ (c .before .before .before .before .before .before .before .row-at .ensures) _ _ _ (c .before .before .match2 .keys1) (c .before .before .before .scan-expr .ensures) (c .before .scan-expr2 .ensures) (c .also .ensures))  -- returns-4
+    (λ c. laws.scan-left _ _ _ _ _ (c .before .before .before .before .before .before .before .row-at .ensures) _ _ _ (c .before .before .match2 .keys2) (c .before .is-type .ensures) (c .before .before .before .scan-expr .ensures) (c .also2 .ensures))  -- returns-5
+    (λ c. laws.scan-right _ _ _ _ _ (c .before .before .before .before .before .before .before .row-at .ensures) _ _ _ (c .before .before .match2 .keys3) (c .before .is-type2 .ensures) (c .before .before .before .scan-expr .ensures) (c .also3 .ensures))  -- returns-6
+    (λ c. laws.scan-pack _ _ _ _ _ (c .before .before .before .before .before .before .before .row-at .ensures) _ _ _ (c .before .before .match2 .keys4) (c .before .is-label .ensures) (c .before .before .before .scan-expr .ensures) (c .also4 .ensures))  -- returns-7
+    (λ c. laws.scan-unpack _ _ _ _ _ (c .before .before .before .before .before .before .before .before .before .row-at .ensures) _ _ _ _ _
+    (laws.is-unpack _ (laws.from-plus _ (c .before .before .before .before .before .before .before .if1 .left) (c .before .before .before .before .before .before .before .before .match .rest .0 .0 .1) (c .before .before .before .before .before .before .before .before .match .rest .0 .1) (c .before .before .before .before .before .before .before .before .match .rest .1)) (c .before .before .before .before .before .before .if2 .taken) (c .before .before .before .before .match2 .rest .0 .0 .0 .1) (c .before .before .before .before .match2 .rest .0 .0 .1)
+    (c .before .before .before .before .match2 .rest .0 .1) (c .before .before .before .before .match2 .rest .1))
+    (c .before .before .before .is-type3 .ensures) (c .before .before .is-label2 .ensures) (c .before .before .before .before .before .scan-expr .ensures) (c .before .also5 .ensures) (c .also6 .ensures))  -- returns-8
+    (λ c. laws.scan-no-expr _ _ _ _ _ (c .before .before .row-at .ensures) (c .before .match .rest .0 .0 .1) (c .before .match .rest .0 .1) (c .before .match .rest .1) (λ q. omega (arith, c .if1 .taken)) (λ q. omega (arith, c .if1 .taken))
+    (λ q. omega (arith, c .if1 .taken)) (λ q. omega (arith, c .if1 .taken)) (λ q. omega (arith, c .if1 .taken)))  -- returns-9
+    (λ c. laws.scan-no-expr _ _ _ _ _ (c .before .before .before .row-at .ensures) (c .before .before .match .rest .0 .0 .1) (c .before .before .match .rest .0 .1) (c .before .before .match .rest .1) (λ q. omega (arith, c .if2 .left)) (λ q. omega (arith, c .if2 .left))
+    (λ q. omega (arith, c .if2 .left)) (λ q. omega (arith, c .if2 .left)) (λ q. omega (arith, c .if2 .left)))  -- returns-10

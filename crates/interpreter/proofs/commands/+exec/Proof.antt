@@ -2,7 +2,6 @@
 -- The loop's invariant: what the loop ends with from here, it ends with from the start. Assumes nothing.
 use borrow.Author.Needs.{needs}
 use borrow.Author.Tests.{not-true, not-false}
-use mathlib.Core.Path.{_≡_, refl, _∙_}
 use mathlib.Core.List.{List}
 use Prim.Native.Nat.{ℕ, _<_, _-_}
 use native.Mathlib.Omega.{arith}
@@ -35,8 +34,7 @@ exec-below t = and 3 exec-kinds.ps (falls 3 exec-kinds.ps _<_ μ-exec t) exec.Pr
 
 abbrev exec-Inv-loop : exec-lts.InvT-loop
 exec-Inv-loop code at table authority depth work₀ fuel kind body end left₀ work left =
-    (length work ≡ length work₀)
-    × ((s f n : ℕ) (w : List ℕ) → Execs code at table authority depth work left s f n w → Execs code at table authority depth work₀ fuel s f n w)
+    (s f n : ℕ) (w : List ℕ) → Execs code at table authority depth work left s f n w → Execs code at table authority depth work₀ fuel s f n w
 
 abbrev exec-μ-loop : exec-lts.MeasureT-loop
 exec-μ-loop code at table authority depth work₀ fuel kind body end left₀ work left = left
@@ -65,106 +63,36 @@ pub +exec-spec : {M : Type 1} → statement M
     (λ c κs. search needs)  -- row-at-requires
     (λ c. omega (arith, row-inside _ _ 0 (c .before .row-at .ensures) (c .match .keys1)))  -- add-t23
     (λ c. omega (arith, row-inside _ _ 1 (c .before .row-at .ensures) (c .match .keys2)))  -- add-exec
-    (λ c κs. (omega (arith, row-inside _ _ 1 (c .before .before .row-at .ensures) (c .before .match .keys2), c .before .before .before .before .before .before .pre .0), tt))  -- exec-requires
+    (λ c κs. (omega (arith, row-inside _ _ 1 (c .before .before .row-at .ensures) (c .before .match .keys2), c .before .before .before .before .before .pre .0), tt))  -- exec-requires
     (λ c κs. search needs)  -- tick-requires
-    (λ c. c .before .before .before .before .before .exec .kept .1 .1 .1 .1 .1 .0)  -- same-length
-    (λ c. laws.exec-seq-end (c .before .before .before .before .before .before .before .before .row-at .ensures)
-    (c .before .before .before .before .before .before .before .match .keys2) (c .before .before .before .before .before .exec .ensures) (c .before .before .tick .ensures)
-    (c .if1 .taken))  -- returns
-    (λ c κs. (
-      omega (
-        arith,
-        row-inside _ _ 1 (c .before .before .before .before .before .before .before .before .before .row-at .ensures)
-            (c .before .before .before .before .before .before .before .before .match .keys2),
-        c .before .before .before .before .before .before .exec .ensures .forward,
-        c .before .before .before .tick .ensures .same-place,
-        c .before .before .before .before .before .before .before .before .before .before .before .before .before .pre .0,
-      ),
-      tt,
-    ))  -- exec-requires-2
+    (λ c. laws.exec-seq-end (c .before .before .before .before .before .before .row-at .ensures) (c .before .before .before .before .before .match .keys2) (c .before .before .before .exec .ensures) (c .before .before .tick .ensures) (c .if1 .taken))  -- returns
+    (λ c κs. (omega (arith, row-inside _ _ 1 (c .before .before .before .before .before .before .before .row-at .ensures) (c .before .before .before .before .before .before .match .keys2), c .before .before .before .before .exec .ensures .forward, c .before .before .before .tick .ensures .same-place, c .before .before .before .before .before .before .before .before .before .before .pre .0), tt))  -- exec-requires-2
     (λ c. omega (arith, row-inside _ _ 2 (c .before .row-at .ensures) (c .match .keys3)))  -- add-assign
     (λ c κs. search needs)  -- assign-requires
     (λ c. omega (arith, row-inside _ _ 3 (c .before .row-at .ensures) (c .match .keys4)))  -- add-skip
     (λ c κs. search needs)  -- skip-requires
     (λ c κs. search needs)  -- skip-requires-2
-    (λ c. (refl, λ s f n m x. x))  -- loop-holds
+    (λ c. λ s f n m x. x)  -- loop-holds
     (λ c. omega (arith, row-inside _ _ 3 (c .before .before .before .before .row-at .ensures) (c .before .before .before .match .keys4)))  -- add-decide
     (λ c κs. search needs)  -- decide-requires
-    (λ c. c .before .before .before .before .decide .kept .1 .1 .1 .1 .1 .0 ∙ c .before .before .before .before .before .before .loop .inv .0)  -- same-length-2
-    (λ c. c .before .before .before .before .before .before .loop .inv .1 _ _ _ _
-    (laws.while-stop (c .before .before .before .before .before .before .before .before .before .before .row-at .ensures)
-    (c .before .before .before .before .before .before .before .before .before .match .keys4) (c .before .before .before .before .before .before .before .before .skip .ensures)
-    (c .before .before .before .before .before .before .before .skip2 .ensures) (c .before .before .before .before .decide .ensures) (not-true _ (c .if2 .taken))))  -- returns-2
-    (λ c κs. (
-      omega (
-        arith,
-        row-inside _ _ 3 (c .before .before .before .before .before .before .before .before .before .before .before .row-at .ensures)
-            (c .before .before .before .before .before .before .before .before .before .before .match .keys4),
-        c .before .before .before .before .before .before .before .before .before .skip .ensures .forward,
-        c .before .before .before .before .before .before .before .before .before .before .before .before .before .before .before .pre .0,
-      ),
-      tt,
-    ))  -- exec-requires-3
+    (λ c. c .before .before .before .before .loop .inv _ _ _ _
+    (laws.while-stop (c .before .before .before .before .before .before .before .before .row-at .ensures) (c .before .before .before .before .before .before .before .match .keys4) (c .before .before .before .before .before .before .skip .ensures) (c .before .before .before .before .before .skip2 .ensures) (c .before .before .decide .ensures) (not-true _ (c .if2 .taken))))  -- returns-2
+    (λ c κs. (omega (arith, row-inside _ _ 3 (c .before .before .before .before .before .before .before .before .before .row-at .ensures) (c .before .before .before .before .before .before .before .before .match .keys4), c .before .before .before .before .before .before .before .skip .ensures .forward, c .before .before .before .before .before .before .before .before .before .before .before .before .pre .0), tt))  -- exec-requires-3
     (λ c κs. search needs)  -- tick-requires-2
-    (λ c. c .before .before .before .before .before .exec3 .kept .1 .1 .1 .1 .1 .0 ∙
-    c .before .before .before .before .before .before .before .before .before .before .before .decide .kept .1 .1 .1 .1 .1 .0 ∙
-    c .before .before .before .before .before .before .before .before .before .before .before .before .before .loop .inv .0)  -- same-length-3
-    (λ c. c .before .before .before .before .before .before .before .before .before .before .before .before .before .loop .inv .1 _ _ _ _
-    (laws.while-end (c .before .before .before .before .before .before .before .before .before .before .before .before .before .before .before .before .before .row-at .ensures)
-    (c .before .before .before .before .before .before .before .before .before .before .before .before .before .before .before .before .match .keys4)
-    (c .before .before .before .before .before .before .before .before .before .before .before .before .before .before .before .skip .ensures)
-    (c .before .before .before .before .before .before .before .before .before .before .before .before .before .before .skip2 .ensures)
-    (c .before .before .before .before .before .before .before .before .before .before .before .decide .ensures)
-    (not-false _ (c .before .before .before .before .before .before .before .if2 .left)) (c .before .before .before .before .before .exec3 .ensures)
+    (λ c. c .before .before .before .before .before .before .before .before .before .loop .inv _ _ _ _
+    (laws.while-end (c .before .before .before .before .before .before .before .before .before .before .before .before .before .row-at .ensures) (c .before .before .before .before .before .before .before .before .before .before .before .before .match .keys4) (c .before .before .before .before .before .before .before .before .before .before .before .skip .ensures) (c .before .before .before .before .before .before .before .before .before .before .skip2 .ensures) (c .before .before .before .before .before .before .before .decide .ensures) (not-false _ (c .before .before .before .before .before .if2 .left)) (c .before .before .before .exec3 .ensures)
     (c .before .before .tick2 .ensures) (c .if3 .taken)))  -- returns-3
-    (λ c. omega (
-      arith,
-      c .before .before .before .before .before .before .before .before .before .before .before .decide .ensures .falls
-          (not-false _ (c .before .before .before .before .before .before .before .if2 .left)),
-      c .before .before .before .before .before .exec3 .ensures .spends,
-      c .before .before .tick2 .ensures .spends,
-    ))  -- loop-less
-    (λ c. (
-      c .before .before .before .before .before .exec3 .kept .1 .1 .1 .1 .1 .0 ∙
-          c .before .before .before .before .before .before .before .before .before .before .before .decide .kept .1 .1 .1 .1 .1 .0 ∙
-          c .before .before .before .before .before .before .before .before .before .before .before .before .before .loop .inv .0,
-      λ s f n m y.
-          c .before .before .before .before .before .before .before .before .before .before .before .before .before .loop .inv .1 s f n m
-          (laws.while-again (c .before .before .before .before .before .before .before .before .before .before .before .before .before .before .before .before .before .row-at
-          .ensures) (c .before .before .before .before .before .before .before .before .before .before .before .before .before .before .before .before .match .keys4)
-          (c .before .before .before .before .before .before .before .before .before .before .before .before .before .before .before .skip .ensures)
-          (c .before .before .before .before .before .before .before .before .before .before .before .before .before .before .skip2 .ensures)
-          (c .before .before .before .before .before .before .before .before .before .before .before .decide .ensures)
-          (not-false _ (c .before .before .before .before .before .before .before .if2 .left)) (c .before .before .before .before .before .exec3 .ensures)
-          (c .before .before .tick2 .ensures) (c .if3 .left) y),
-    ))  -- loop-again
+    (λ c. omega (arith, c .before .before .before .before .before .before .before .decide .ensures .falls (not-false _ (c .before .before .before .before .before .if2 .left)), c .before .before .before .exec3 .ensures .spends, c .before .before .tick2 .ensures .spends))  -- loop-less
+    (λ c. λ s f n m y. c .before .before .before .before .before .before .before .before .before .loop .inv s f n m
+    (laws.while-again (c .before .before .before .before .before .before .before .before .before .before .before .before .before .row-at .ensures) (c .before .before .before .before .before .before .before .before .before .before .before .before .match .keys4) (c .before .before .before .before .before .before .before .before .before .before .before .skip .ensures) (c .before .before .before .before .before .before .before .before .before .before .skip2 .ensures) (c .before .before .before .before .before .before .before .decide .ensures) (not-false _ (c .before .before .before .before .before .if2 .left)) (c .before .before .before .exec3 .ensures)
+    (c .before .before .tick2 .ensures) (c .if3 .left) y))  -- loop-again
     (λ c. omega (arith, row-inside _ _ 4 (c .before .row-at .ensures) (c .match .keys5)))  -- add-branch
     (λ c κs. search needs)  -- branch-requires
-    (λ c. c .before .before .before .before .branch .kept .1 .1 .1 .1 .1 .0)  -- same-length-4
-    (λ c. laws.exec-case-end (c .before .before .before .before .before .before .before .row-at .ensures) (c .before .before .before .before .before .before .match .keys5)
-    (c .before .before .before .before .branch .ensures) (c .if4 .taken))  -- returns-4
-    (λ c. omega (arith, c .before .before .before .before .branch .ensures .shallow (c .if4 .left)))  -- add-exec-2
-    (λ c κs. (
-      omega (
-        arith,
-        row-inside _ _ 4 (c .before .before .before .before .before .before .before .before .row-at .ensures)
-            (c .before .before .before .before .before .before .before .match .keys5),
-        c .before .before .before .before .before .branch .ensures .forward,
-        c .before .before .before .before .before .before .before .before .before .before .before .before .pre .0,
-      ),
-      tt,
-    ))  -- exec-requires-4
+    (λ c. laws.exec-case-end (c .before .before .before .before .before .row-at .ensures) (c .before .before .before .before .match .keys5) (c .before .before .branch .ensures) (c .if4 .taken))  -- returns-4
+    (λ c. omega (arith, c .before .before .branch .ensures .shallow (c .if4 .left)))  -- add-exec-2
+    (λ c κs. (omega (arith, row-inside _ _ 4 (c .before .before .before .before .before .before .row-at .ensures) (c .before .before .before .before .before .match .keys5), c .before .before .before .branch .ensures .forward, c .before .before .before .before .before .before .before .before .before .pre .0), tt))  -- exec-requires-4
     (λ c. laws.exec-skip (c .before .row-at .ensures) (c .match .keys1))  -- returns-5
-    (λ c. c .before .before .exec2 .kept .1 .1 .1 .1 .1 .0 ∙ c .before .before .before .before .before .before .before .before .before .exec .kept .1 .1 .1 .1 .1 .0)  -- same-length-5
-    (λ c. laws.exec-seq (c .before .before .before .before .before .before .before .before .before .before .before .before .row-at .ensures)
-    (c .before .before .before .before .before .before .before .before .before .before .before .match .keys2)
-    (c .before .before .before .before .before .before .before .before .before .exec .ensures) (c .before .before .before .before .before .before .tick .ensures)
-    (c .before .before .before .before .if1 .left) (c .before .before .exec2 .ensures))  -- returns-6
-    (λ c. c .before .before .assign .kept .1 .1 .1 .1 .1 .0)  -- same-length-6
-    (λ c. laws.exec-assign (c .before .before .before .before .before .row-at .ensures) (c .before .before .before .before .match .keys3) (c .before .before .assign .ensures))  -- returns-7
-    (λ c. c .before .before .exec4 .kept .1 .1 .1 .1 .1 .0 ∙ c .before .before .before .before .before .before .before .before .branch .kept .1 .1 .1 .1 .1 .0)  -- same-length-7
-    (λ c. laws.exec-case (c .before .before .before .before .before .before .before .before .before .before .before .row-at .ensures)
-    (c .before .before .before .before .before .before .before .before .before .before .match .keys5)
-    (c .before .before .before .before .before .before .before .before .branch .ensures) (c .before .before .before .before .if4 .left) (c .before .before .exec4 .ensures))  -- returns-8
-    (λ c. laws.exec-none (c .before .row-at .ensures) (c .match .rest .0 .0 .0 .0 .1) (c .match .rest .0 .0 .0 .1) (c .match .rest .0 .0 .1) (c .match .rest .0 .1)
-    (c .match .rest .1))  -- returns-9
+    (λ c. laws.exec-seq (c .before .before .before .before .before .before .before .before .row-at .ensures) (c .before .before .before .before .before .before .before .match .keys2) (c .before .before .before .before .before .exec .ensures) (c .before .before .before .before .tick .ensures) (c .before .before .if1 .left) (c .exec2 .ensures))  -- returns-6
+    (λ c. laws.exec-assign (c .before .before .before .row-at .ensures) (c .before .before .match .keys3) (c .assign .ensures))  -- returns-7
+    (λ c. laws.exec-case (c .before .before .before .before .before .before .before .row-at .ensures) (c .before .before .before .before .before .before .match .keys5) (c .before .before .before .before .branch .ensures) (c .before .before .if4 .left) (c .exec4 .ensures))  -- returns-8
+    (λ c. laws.exec-none (c .before .row-at .ensures) (c .match .rest .0 .0 .0 .0 .1) (c .match .rest .0 .0 .0 .1) (c .match .rest .0 .0 .1) (c .match .rest .0 .1) (c .match .rest .1))  -- returns-9

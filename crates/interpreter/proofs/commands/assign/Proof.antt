@@ -8,11 +8,8 @@ pub assign-spec : {M : Type 1} → statement M
 assign-spec = tie.close (tie.spec
     (λ c. laws.assign-spent (c .if1 .taken))  -- returns
     (λ c κs. search needs)  -- eval-requires
-    (λ c. search needs)  -- same-length
-    (λ c. laws.assign-fail (c .before .before .before .before .before .before .if1 .left) (c .before .before .before .before .eval .ensures) (c .if2 .taken))  -- returns-2
+    (λ c. laws.assign-fail (c .before .before .before .before .if1 .left) (c .before .before .eval .ensures) (c .if2 .taken))  -- returns-2
     (λ c. search needs)  -- add-copy-cell
     (λ c κs. search needs)  -- copy-cell-requires
-    (λ c. search needs)  -- sub-t18
-    (λ c. search needs)  -- same-length-2
-    (λ c. laws.assign-done (c .before .before .before .before .before .before .before .before .before .before .if1 .left)
-    (c .before .before .before .before .before .before .before .before .eval .ensures) (c .before .before .before .before .if2 .left) (c .before .before .copy-cell .ensures)))  -- returns-3
+    (λ c. search needs)  -- sub-t17
+    (λ c. laws.assign-done (c .before .before .before .before .before .before .if1 .left) (c .before .before .before .before .eval .ensures) (c .before .before .if2 .left) (c .copy-cell .ensures)))  -- returns-3

@@ -9,19 +9,10 @@ pub branch-spec : {M : Type 1} → statement M
 branch-spec = tie.close (tie.spec
     (λ c. laws.branch-deep (c .if1 .taken))  -- returns
     (λ c κs. search needs)  -- decide-requires
-    (λ c. search needs)  -- same-length
-    (λ c. laws.branch-past (c .before .before .before .before .decide .ensures) (c .if2 .taken))  -- returns-2
-    (λ c. search needs)  -- add-bind-inside
-    (λ c κs. search needs)  -- bind-inside-requires
+    (λ c. laws.branch-past (c .before .before .decide .ensures) (c .if2 .taken))  -- returns-2
+    (λ c. search needs)  -- add-pop-to
+    (λ c κs. search needs)  -- pop-to-requires
     (λ c κs. search needs)  -- skip-requires
     (λ c κs. search needs)  -- skip-requires-2
-    (λ c. search needs)  -- same-length-2
-    (λ c. laws.branch-left (c .before .before .before .before .before .before .before .before .before .before .before .decide .ensures)
-    (c .before .before .before .before .before .before .before .before .before .before .before .before .before .if1 .left)
-    (rw add-one at (c .before .before .before .before .before .bind-inside .ensures)) (c .before .before .skip .ensures) (c .before .skip2 .ensures)
-    (c .before .before .before .before .before .before .before .if2 .left) (c .if3 .taken))  -- returns-3
-    (λ c. search needs)  -- same-length-3
-    (λ c. laws.branch-right (c .before .before .before .before .before .before .before .before .before .before .before .decide .ensures)
-    (c .before .before .before .before .before .before .before .before .before .before .before .before .before .if1 .left)
-    (rw add-one at (c .before .before .before .before .before .bind-inside .ensures)) (c .before .before .skip .ensures) (c .before .skip2 .ensures)
-    (c .before .before .before .before .before .before .before .if2 .left) (c .if3 .left)))  -- returns-4
+    (λ c. laws.branch-left (c .before .before .before .before .before .before .before .decide .ensures) (c .before .before .before .before .before .before .before .before .before .if1 .left) (rw add-one at (c .before .before .before .pop-to .ensures)) (c .before .before .skip .ensures) (c .before .skip2 .ensures) (c .before .before .before .before .before .if2 .left) (c .if3 .taken))  -- returns-3
+    (λ c. laws.branch-right (c .before .before .before .before .before .before .before .decide .ensures) (c .before .before .before .before .before .before .before .before .before .if1 .left) (rw add-one at (c .before .before .before .pop-to .ensures)) (c .before .before .skip .ensures) (c .before .skip2 .ensures) (c .before .before .before .before .before .if2 .left) (c .if3 .left)))  -- returns-4

@@ -1,5 +1,8 @@
 -- `interpreter::nodes::unpack` meets its contract. Assumes nothing.
 use borrow.Author.Needs.{needs}
+use mathlib.Core.Path.{refl}
+use Rattle.interpreter.specs.Cells.{pushOf, popOf}
+use Rattle.interpreter.proofs.CellLaws.{after, length-pop, length-load}
 use Rattle.interpreter.proofs.NodeLaws as laws
 use Rattle.interpreter.proofs.nodes.unpack.Statement.{statement}
 use Rattle.interpreter.proofs.nodes.unpack.Tie as tie
@@ -8,20 +11,13 @@ pub unpack-spec : {M : Type 1} → statement M
 unpack-spec = tie.close (tie.spec
     (λ c. laws.unpack-past _ _ (c .if1 .taken))  -- returns
     (λ c κs. search needs)  -- word-requires
-    (λ c. search needs)  -- same-length
-    (λ c. laws.unpack-none _ _ (c .before .before .before .if1 .left) (c .before .word .ensures) (c .if2 .taken))  -- returns-2
+    (λ c. laws.unpack-none _ _ (c .before .before .before .before .if1 .left) (c .before .word .ensures) (c .if2 .taken))  -- returns-2
     (λ c κs. search needs)  -- refusal-requires
     (λ c κs. search needs)  -- fail-requires
-    (λ c. search needs)  -- same-length-2
-    (λ c. laws.unpack-error _ _ _ _ _ _ (c .before .before .before .before .before .refusal .ensures)
-    (c .before .before .before .before .before .before .before .before .before .before .if1 .left) (c .before .before .before .before .if3 .taken)
-    (c .before .before .fail .ensures))  -- returns-3
-    (λ c κs. search needs)  -- load-requires
-    (λ c κs. search needs)  -- pop-requires
-    (λ c κs. search needs)  -- pop-requires-2
+    (λ c. laws.unpack-error _ _ _ _ _ _ (c .before .before .before .refusal .ensures) (c .before .before .before .before .before .before .before .before .before .before .if1 .left) (c .before .before .if3 .taken) (c .fail .ensures))  -- returns-3
+    (λ c κs. search needs)  -- pop-to-requires
+    (λ c κs. search needs)  -- pop-to-requires-2
     (λ c κs. search needs)  -- push-requires
-    (λ c κs. search needs)  -- store-requires
-    (λ c. search needs)  -- same-length-3
-    (λ c. laws.unpack-done _ _ _ _ _ _ (c .before .before .before .before .before .before .before .before .before .before .refusal .ensures)
-    (c .before .before .before .before .before .before .before .before .before .before .before .before .before .before .before .if1 .left)
-    (c .before .before .before .before .before .before .before .before .before .if3 .left) (c .before .before .before .before .before .before .before .load .ensures) cc))  -- returns-4
+    (λ c. laws.unpack-done _ _ _ _ _ _ (c .before .before .before .before .before .before .before .refusal .ensures) (c .before .before .before .before .before .before .before .before .before .before .before .before .before .before .if1 .left) (c .before .before .before .before .before .before .if3 .left) refl
+    (after _ _ _ (pushOf 3) (length-pop _ (length-pop _ (length-load _ _))) (after _ _ _ popOf (length-pop _ (length-load _ _)) (c .before .before .before .before .pop-to .ensures) (c .before .before .pop-to2 .ensures))
+    (c .push .ensures))))  -- returns-4

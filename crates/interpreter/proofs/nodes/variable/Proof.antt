@@ -12,7 +12,5 @@ pub variable-spec : {M : Type 1} → statement M
 variable-spec = tie.close (tie.spec
     (λ c. search needs)  -- sub-k
     (λ c κs. search needs)  -- copy-cell-requires
-    (λ c. search needs)  -- same-length
-    (λ c. c .before .before .copy-cell .ensures ∙ ap (λ (j : ℕ). storeOf (c .before .before .before .before .before .before .before .args .work .now) 0
-    (loadOf (c .before .before .before .before .before .before .before .args .work .now) j))
-    (⊎-elim (λ w. w .1) (λ w. w .1 ∙ omega (arith, w .0 .left)) (c .before .before .before .before .before .if1 .came))))  -- returns
+    (λ c. c .copy-cell .ensures ∙ ap (λ (j : ℕ). storeOf (c .before .before .before .before .args .work .now) 0 (loadOf (c .before .before .before .before .args .work .now) j))
+    (⊎-elim (λ w. w .1) (λ w. w .1 ∙ omega (arith, w .0 .left)) (c .before .before .before .if1 .came))))  -- returns

@@ -9,17 +9,17 @@ use lib.Dec.{ltb}
 use borrow.Author.Tests.{ltb-true}
 use lib.ListN.{length, drop}
 use Rattle.sets.specs.Sets.{union}
-use Rattle.booleans.specs.Booleans.{both}
-use Rattle.booleans.proofs.BooleanLaws.{both-left, both-right}
+use Rattle.logic.specs.Booleans.{both}
+use Rattle.logic.proofs.BooleanLaws.{both-left, both-right}
 use Rattle.language.specs.Syntax.{Expr, Cmd, skip, seq, assign, while, case}
 use Rattle.language.specs.Typing.{flow}
-use Rattle.lines.specs.declared.Row.{Row}
-use Rattle.lines.specs.Lines.{Line, cmdLines}
-use Rattle.lines.specs.Code.{code, rowAt}
-use Rattle.lines.specs.Names.{Counts, maxDepth, namedE, named}
-use Rattle.lines.proofs.Rows.{CmdRow, at-skip, at-seq, at-assign, at-while, at-case, cmd-row}
-use Rattle.tables.specs.TypeTest.{isSum}
-use Rattle.tables.specs.Tables.{leftIn, rightIn, homeIn, labelIn}
+use Rattle.script.specs.declared.Row.{Row}
+use Rattle.script.specs.Lines.{Line, cmdLines}
+use Rattle.script.specs.Code.{code, rowAt}
+use Rattle.script.specs.Names.{Counts, maxDepth, namedE, named}
+use Rattle.script.proofs.Rows.{CmdRow, at-skip, at-seq, at-assign, at-while, at-case, cmd-row}
+use Rattle.sheet.specs.TypeTest.{isSum}
+use Rattle.sheet.specs.Tables.{leftIn, rightIn, homeIn, labelIn}
 use Rattle.checker.specs.declared.Typed.{Typed}
 use Rattle.checker.specs.declared.Passed.{Passed}
 use Rattle.checker.specs.Numbers.{onSumNo, givenNo, shapeNo}

@@ -7,14 +7,14 @@ use native.Mathlib.Omega.{arith}
 use native.Mathlib.Decide.{decLt}
 use lib.Dec.{eqb}
 use lib.ListN.{length, drop}
-use Rattle.booleans.specs.Booleans.{both}
+use Rattle.logic.specs.Booleans.{both}
 use Rattle.language.specs.Syntax.{int, Expr, val, loc, var, plus, left, right, pack, unpack}
 use Rattle.language.specs.Typing.{orElse, least, flowE}
-use Rattle.lines.specs.declared.Row.{Row}
-use Rattle.lines.specs.Lines.{Line, exprLines}
-use Rattle.lines.specs.Code.{code, rowAt}
-use Rattle.lines.proofs.Rows.{row-in, ExprRow, at-int, at-loc, at-var, at-plus, at-left, at-right, at-pack, at-unpack, expr-row}
-use Rattle.tables.specs.Tables.{leftIn, rightIn}
+use Rattle.script.specs.declared.Row.{Row}
+use Rattle.script.specs.Lines.{Line, exprLines}
+use Rattle.script.specs.Code.{code, rowAt}
+use Rattle.script.proofs.Rows.{row-in, ExprRow, at-int, at-loc, at-var, at-plus, at-left, at-right, at-pack, at-unpack, expr-row}
+use Rattle.sheet.specs.Tables.{leftIn, rightIn}
 use Rattle.checker.specs.declared.Typed.{Typed}
 use Rattle.checker.specs.Numbers.{isNo, someNo, leftIsNo, rightIsNo, givenNo, typeNo}
 use Rattle.checker.specs.Bindings.{boundType, boundLabel, boundTypes, boundLabels}

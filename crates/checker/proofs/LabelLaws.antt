@@ -12,14 +12,14 @@ use Rattle.labels.proofs.PartLaws.{I-bottom}
 use Rattle.language.specs.Syntax.{Cmd}
 use Rattle.language.specs.Typing.{conditions, flow}
 use Rattle.language.proofs.Images.{Image, flow-image}
-use Rattle.tables.specs.Sheet.{Sheet, formed, labelCount, maxLabels}
-use Rattle.tables.specs.Tables.{tableOf, everyoneIn, homeIn, labelIn}
-use Rattle.tables.specs.Meaning.{labelsOver, declarationsOf}
-use Rattle.tables.proofs.FormLaws.{formed-facts}
-use Rattle.tables.proofs.Entries.{label-past}
-use Rattle.tables.proofs.TableLaws.{everyone-in, home-in, labels-in}
-use Rattle.tables.proofs.LabelLaws.{label-in, label-no-effective}
-use Rattle.tables.proofs.MeaningLaws.{declared-label, declared-home}
+use Rattle.sheet.specs.Sheet.{Sheet, formed, labelCount, maxLabels}
+use Rattle.sheet.specs.Tables.{tableOf, everyoneIn, homeIn, labelIn}
+use Rattle.sheet.specs.Meaning.{labelsOver, declarationsOf}
+use Rattle.sheet.proofs.FormLaws.{formed-facts}
+use Rattle.sheet.proofs.Entries.{label-past}
+use Rattle.sheet.proofs.TableLaws.{everyone-in, home-in, labels-in}
+use Rattle.sheet.proofs.LabelLaws.{label-in, label-no-effective}
+use Rattle.sheet.proofs.MeaningLaws.{declared-label, declared-home}
 use Rattle.checker.specs.Members.{labelMember, integrityMember, joinIn}
 use Rattle.checker.specs.Numbers.{conditionsIn, conditionsOn}
 use Rattle.checker.proofs.MemberLaws.{join-none, join-union, join-label, join-integrity}

@@ -8,16 +8,16 @@ use native.Mathlib.Omega.{arith}
 use native.Mathlib.Decide.{decLt}
 use lib.Dec.{ltb}
 use borrow.Author.Tests.{lt-ltb, le-ltb}
-use Rattle.booleans.specs.Booleans.{both, either}
-use Rattle.booleans.proofs.BooleanLaws.{absurd-false, either-left, either-right, either-case}
+use Rattle.logic.specs.Booleans.{both, either}
+use Rattle.logic.proofs.BooleanLaws.{absurd-false, either-left, either-right, either-case}
 use Rattle.sets.specs.Sets.{member, union, single}
 use Rattle.sets.proofs.SetLaws.{member-union, member-single, member-single-self, member-empty}
 use Rattle.labels.specs.declared.Label.{Label}
 use Rattle.labels.specs.Labels.{belowOf, joinOf, bottomOf, wholeOf, integrityOf}
 use Rattle.labels.proofs.OrderLaws.{below-refl, below-trans, below-antisym, join-left, join-right, join-least, join-whole, join-below}
 use Rattle.labels.proofs.PartLaws.{bottom-whole}
-use Rattle.tables.specs.Sheet.{maxLabels}
-use Rattle.tables.specs.Tables.{everyoneIn, labelIn}
+use Rattle.sheet.specs.Sheet.{maxLabels}
+use Rattle.sheet.specs.Tables.{everyoneIn, labelIn}
 use Rattle.checker.specs.Members.{labelMember, integrityMember, memberIn, joinUpTo, maxMembers, joinIn}
 
 module _ (t : List ℕ) where

@@ -7,18 +7,18 @@ use Prim.Native.Nat.{ℕ, zero, suc, _<_, _≤_}
 use native.Mathlib.Decide.{decLt, decLe}
 use native.Mathlib.Omega.{arith}
 use borrow.Author.Tests.{le-leb, lt-leb, lt-ltb, le-ltb}
-use Rattle.booleans.specs.Booleans.{both}
-use Rattle.booleans.proofs.BooleanLaws.{both-left, both-right}
+use Rattle.logic.specs.Booleans.{both}
+use Rattle.logic.proofs.BooleanLaws.{both-left, both-right}
 use Rattle.language.specs.Syntax.{Ty, t-int, t-err, t-pkg, t-sum, Expr, Cmd}
 use Rattle.language.specs.Typing.{nth, isTy, hasTy, leftIs, rightIs, onSum, given, typeOfValue, typeOf, shape}
-use Rattle.lines.specs.Lines.{SourceE, s-int, s-loc, s-var, s-plus, s-left, s-right, s-pack, s-unpack, Source, s-skip, s-seq, s-assign, s-while, s-case}
-use Rattle.tables.specs.Sheet.{Sheet, tyOf, formed, repeats}
-use Rattle.tables.specs.Tables.{tableOf, typesIn, leftIn, rightIn, typeIn}
-use Rattle.tables.specs.TypeTest.{isSum}
-use Rattle.tables.specs.Meaning.{shapesOf}
-use Rattle.tables.proofs.TypeLaws.{ty-0, ty-1, ty-2, ty-3, ty-4, ty-past}
-use Rattle.tables.proofs.TableLaws.{types-in, type-in}
-use Rattle.tables.proofs.NumberLaws.{sum-in, left-in-there, right-in-there, same-number-type, type-in-there, sum-in-there}
+use Rattle.script.specs.Lines.{SourceE, s-int, s-loc, s-var, s-plus, s-left, s-right, s-pack, s-unpack, Source, s-skip, s-seq, s-assign, s-while, s-case}
+use Rattle.sheet.specs.Sheet.{Sheet, tyOf, formed, repeats}
+use Rattle.sheet.specs.Tables.{tableOf, typesIn, leftIn, rightIn, typeIn}
+use Rattle.sheet.specs.TypeTest.{isSum}
+use Rattle.sheet.specs.Meaning.{shapesOf}
+use Rattle.sheet.proofs.TypeLaws.{ty-0, ty-1, ty-2, ty-3, ty-4, ty-past}
+use Rattle.sheet.proofs.TableLaws.{types-in, type-in}
+use Rattle.sheet.proofs.NumberLaws.{sum-in, left-in-there, right-in-there, same-number-type, type-in-there, sum-in-there}
 use Rattle.checker.specs.Numbers.{isNo, someNo, leftIsNo, rightIsNo, onSumNo, givenNo, typeNo, shapeNo}
 
 sum-yes : (t : List ℕ) (n : ℕ) → 3 ≤ n → n < typesIn t → isSum t n ≡ true

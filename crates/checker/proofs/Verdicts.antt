@@ -9,11 +9,11 @@ use lib.ListN.{length}
 use Rattle.language.specs.Syntax.{Cmd}
 use Rattle.language.specs.Typing.{flow, refusal}
 use Rattle.language.proofs.Exactness.{exactness}
-use Rattle.lines.specs.Lines.{Source}
-use Rattle.tables.specs.Sheet.{Sheet, formed, repeats}
-use Rattle.tables.specs.Tables.{tableOf}
-use Rattle.tables.specs.Meaning.{labelsOver, declarationsOf}
-use Rattle.tables.proofs.MeaningLaws.{labels-lattice}
+use Rattle.script.specs.Lines.{Source}
+use Rattle.sheet.specs.Sheet.{Sheet, formed, repeats}
+use Rattle.sheet.specs.Tables.{tableOf}
+use Rattle.sheet.specs.Meaning.{labelsOver, declarationsOf}
+use Rattle.sheet.proofs.MeaningLaws.{labels-lattice}
 use Rattle.checker.specs.declared.Passed.{Passed}
 use Rattle.checker.specs.Numbers.{shapeNo, conditionsOn}
 use Rattle.checker.specs.Bindings.{upTo, bindingsSize}

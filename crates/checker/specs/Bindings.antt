@@ -2,7 +2,7 @@
 use mathlib.Core.List.{List, [], _∷_}
 use Prim.Native.Nat.{ℕ, zero, suc, _+_, _*_, _%_}
 use lib.ListN.{getD, set}
-use Rattle.lines.specs.Names.{maxDepth}
+use Rattle.script.specs.Names.{maxDepth}
 
 -- the words for one case, and for all
 abbrev pub bindingSize : ℕ

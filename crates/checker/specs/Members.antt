@@ -7,8 +7,8 @@ use lib.Dec.{ltb}
 use Rattle.sets.specs.Sets.{member, single}
 use Rattle.labels.specs.declared.Label.{Label}
 use Rattle.labels.specs.Labels.{joinOf, integrityOf, bottomOf, confidentialityOf, belowOf}
-use Rattle.tables.specs.Sheet.{maxLabels}
-use Rattle.tables.specs.Tables.{everyoneIn, labelIn}
+use Rattle.sheet.specs.Sheet.{maxLabels}
+use Rattle.sheet.specs.Tables.{everyoneIn, labelIn}
 
 -- {label l} and {I of label l}; no member for a number that names no label
 unfoldable pub labelMember : ℕ → ℕ

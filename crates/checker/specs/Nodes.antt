@@ -5,12 +5,12 @@ use Prim.Native.Nat.{ℕ, suc, _-_}
 use lib.Dec.{eqb, leb, ltb}
 use Rattle.sets.specs.Sets.{union}
 use Rattle.labels.specs.Labels.{belowOf, confidentialityOf}
-use Rattle.booleans.specs.Booleans.{both}
-use Rattle.lines.specs.Names.{maxDepth}
-use Rattle.tables.specs.Tables.{rightIn, typeIn, homeIn, labelIn}
+use Rattle.logic.specs.Booleans.{both}
+use Rattle.script.specs.Names.{maxDepth}
+use Rattle.sheet.specs.Tables.{rightIn, typeIn, homeIn, labelIn}
 use Rattle.checker.specs.declared.Typed.{Typed}
 use Rattle.checker.specs.declared.Passed.{Passed}
-use Rattle.tables.specs.TypeTest.{isSum}
+use Rattle.sheet.specs.TypeTest.{isSum}
 use Rattle.checker.specs.Members.{labelMember, integrityMember, joinIn}
 use Rattle.checker.specs.Bindings.{boundType, boundLabel}
 

@@ -6,11 +6,11 @@ use Prim.Native.Nat.{ℕ}
 use lib.Dec.{eqb}
 use Rattle.labels.specs.declared.Label.{Label}
 use Rattle.labels.specs.Labels.{belowOf, joinOf, confidentialityOf, integrityOf, bottomOf}
-use Rattle.booleans.specs.Booleans.{both}
+use Rattle.logic.specs.Booleans.{both}
 use Rattle.language.specs.Syntax.{Expr, val, loc, var, plus, left, right, pack, unpack, Cmd, skip, seq, assign, while, case}
 use Rattle.language.specs.Typing.{nth, Conditions}
-use Rattle.tables.specs.TypeTest.{isSum}
-use Rattle.tables.specs.Tables.{everyoneIn, leftIn, rightIn, typeIn, homeIn, labelIn}
+use Rattle.sheet.specs.TypeTest.{isSum}
+use Rattle.sheet.specs.Tables.{everyoneIn, leftIn, rightIn, typeIn, homeIn, labelIn}
 use Rattle.sets.specs.Sets.{union}
 use Rattle.checker.specs.Members.{labelMember, integrityMember, joinIn}
 

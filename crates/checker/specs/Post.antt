@@ -7,12 +7,12 @@ use Prim.Native.Nat.{ℕ, _≤_}
 use lib.ListN.{length, drop}
 use Rattle.language.specs.Syntax.{Expr, Cmd}
 use Rattle.language.specs.Typing.{least, flowE, flow, refusal}
-use Rattle.lines.specs.Lines.{Line, SourceE, exprLines, Source, cmdLines}
-use Rattle.lines.specs.Code.{code}
-use Rattle.lines.specs.Names.{Counts, maxDepth, named}
-use Rattle.tables.specs.Sheet.{Sheet, formed, repeats}
-use Rattle.tables.specs.Tables.{tableOf}
-use Rattle.tables.specs.Meaning.{labelsOver, declarationsOf}
+use Rattle.script.specs.Lines.{Line, SourceE, exprLines, Source, cmdLines}
+use Rattle.script.specs.Code.{code}
+use Rattle.script.specs.Names.{Counts, maxDepth, named}
+use Rattle.sheet.specs.Sheet.{Sheet, formed, repeats}
+use Rattle.sheet.specs.Tables.{tableOf}
+use Rattle.sheet.specs.Meaning.{labelsOver, declarationsOf}
 use Rattle.checker.specs.declared.Typed.{Typed}
 use Rattle.checker.specs.declared.Passed.{Passed}
 use Rattle.checker.specs.Numbers.{givenNo, typeNo, shapeNo, conditionsOn}

@@ -8,12 +8,12 @@ use Rattle.language.specs.Syntax.{Cmd}
 use Rattle.language.specs.Labels.{struck}
 use Rattle.language.specs.Typing.{unlabelled}
 use Rattle.language.specs.Rules.{Derivable}
-use Rattle.lines.specs.Lines.{Source, cmdLines}
-use Rattle.lines.specs.Code.{code}
-use Rattle.lines.specs.Names.{Counts, named}
-use Rattle.tables.specs.Sheet.{Sheet, formed, repeats}
-use Rattle.tables.specs.Tables.{tableOf}
-use Rattle.tables.specs.Meaning.{labelsOver, declarationsOf}
+use Rattle.script.specs.Lines.{Source, cmdLines}
+use Rattle.script.specs.Code.{code}
+use Rattle.script.specs.Names.{Counts, named}
+use Rattle.sheet.specs.Sheet.{Sheet, formed, repeats}
+use Rattle.sheet.specs.Tables.{tableOf}
+use Rattle.sheet.specs.Meaning.{labelsOver, declarationsOf}
 use Rattle.checker.specs.Post.{Answers}
 
 -- The number says which derivations a script has: 0 if it has one over the sheet's labels; 5 if it has none even with every label

@@ -1,7 +1,7 @@
 // The type and the least label that each enclosing case binds, in one lent array of words, outermost first.
 ghost use mathlib.Core.Path.{_≡_};
 ghost use Prim.Native.Nat.{_<_};
-ghost use Rattle.lines.specs.Names.{maxDepth};
+ghost use Rattle.script.specs.Names.{maxDepth};
 ghost use Rattle.checker.specs.Bindings.{bindOf};
 use crate::members::Members;
 

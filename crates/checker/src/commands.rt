@@ -9,8 +9,8 @@ use crate::expressions::check_expr;
 use crate::expressions::is_type;
 use crate::members;
 use crate::members::Members;
-use tables::INT_OR_INT;
-use tables::is_sum;
+use sheet::INT_OR_INT;
+use sheet::is_sum;
 
 fn not_passed(next: usize) -> Passed
     ensures { λ r. ⌜ r ≡ refused next ⌝ }
@@ -49,11 +49,11 @@ fn of_assign(table: &[u16], x: u32, pc: Members, e: Typed) -> Passed
     let flow = members::flows(
         table,
         members::join(e.label, pc),
-        tables::location_label(table, x),
+        sheet::location_label(table, x),
         true,
     );
     Passed {
-        typed: is_type(e, tables::location_type(table, x)),
+        typed: is_type(e, sheet::location_type(table, x)),
         flow: e.flow & flow,
         next: e.next,
     }
@@ -91,21 +91,21 @@ pub(crate) fn check_cmd(
 ) -> Passed
     ensures { λ r. ⌜ ChecksCmd (now (code .entry)) at (now (table .entry)) (now (bound .entry)) depth pc r (now (bound .exit)) ⌝ }
 {
-    let row = lines::row_at(code, at);
+    let row = script::row_at(code, at);
     let kind = row.kind;
     match kind {
-        lines::SKIP => of_skip(at + lines::ROW),
-        lines::SEQ => {
-            let first = check_cmd(code, at + lines::ROW, table, bound, depth, pc);
+        script::SKIP => of_skip(at + script::ROW),
+        script::SEQ => {
+            let first = check_cmd(code, at + script::ROW, table, bound, depth, pc);
             let second = check_cmd(code, first.next, table, bound, depth, pc);
             of_seq(first, second)
         }
         // One call for the expression that each of these starts with, since each local takes its own place in every frame.
-        lines::ASSIGN | lines::WHILE | lines::CASE => {
-            let x = check_expr(code, at + lines::ROW, table, bound, depth);
+        script::ASSIGN | script::WHILE | script::CASE => {
+            let x = check_expr(code, at + script::ROW, table, bound, depth);
             match kind {
-                lines::ASSIGN => of_assign(table, row.a, pc, x),
-                lines::WHILE => {
+                script::ASSIGN => of_assign(table, row.a, pc, x),
+                script::WHILE => {
                     let inside = members::join(pc, x.label);
                     let y = check_cmd(code, x.next, table, bound, depth, inside);
                     of_while(x, y)
@@ -115,9 +115,9 @@ pub(crate) fn check_cmd(
                         return not_passed(at);
                     }
                     let inside = members::join(pc, x.label);
-                    bindings::bind(bound, depth, tables::left_part(table, x.ty), x.label);
+                    bindings::bind(bound, depth, sheet::left_part(table, x.ty), x.label);
                     let y = check_cmd(code, x.next, table, bound, depth + 1, inside);
-                    bindings::bind(bound, depth, tables::right_part(table, x.ty), x.label);
+                    bindings::bind(bound, depth, sheet::right_part(table, x.ty), x.label);
                     let z = check_cmd(code, y.next, table, bound, depth + 1, inside);
                     of_case(table, x, y, z)
                 }

@@ -5,11 +5,11 @@ ghost use Rattle.checker.specs.Post.{ChecksExpr};
 use crate::Typed;
 use crate::bindings;
 use crate::members;
-use tables::ERROR;
-use tables::INT;
-use tables::PKG;
-use tables::PKG_OR_ERROR;
-use tables::is_sum;
+use sheet::ERROR;
+use sheet::INT;
+use sheet::PKG;
+use sheet::PKG_OR_ERROR;
+use sheet::is_sum;
 
 // Whether an expression has a type.
 pub(crate) fn is_type(x: Typed, ty: u32) -> bool
@@ -46,10 +46,10 @@ fn of_location(table: &[u16], x: u32, next: usize) -> Typed
     ensures { λ r. ⌜ r ≡ locTyped (now (table .entry)) x next ⌝ }
 {
     Typed {
-        ty: tables::location_type(table, x),
+        ty: sheet::location_type(table, x),
         typed: true,
         flow: true,
-        label: members::label(tables::location_label(table, x)),
+        label: members::label(sheet::location_label(table, x)),
         next,
     }
 }
@@ -114,7 +114,7 @@ fn of_pack(table: &[u16], l: u32, x: Typed) -> Typed
 fn of_unpack(table: &[u16], ty: u32, l: u32, x: Typed) -> Typed
     ensures { λ r. ⌜ r ≡ unpackTyped (now (table .entry)) ty l x ⌝ }
 {
-    let or_error = is_sum(table, ty) & (tables::right_part(table, ty) == ERROR);
+    let or_error = is_sum(table, ty) & (sheet::right_part(table, ty) == ERROR);
     Typed {
         ty,
         typed: is_type(x, PKG) & or_error,
@@ -134,24 +134,24 @@ pub(crate) fn check_expr(
 ) -> Typed
     ensures { λ r. ⌜ ChecksExpr (now (code .entry)) at (now (table .entry)) (now (bound .entry)) depth r ⌝ }
 {
-    let row = lines::row_at(code, at);
+    let row = script::row_at(code, at);
     let kind = row.kind;
     let a = row.a;
     match kind {
-        lines::INT => of_int(at + lines::ROW),
-        lines::LOC => of_location(table, a, at + lines::ROW),
-        lines::VAR => of_variable(bound, depth, a, at + lines::ROW),
+        script::INT => of_int(at + script::ROW),
+        script::LOC => of_location(table, a, at + script::ROW),
+        script::VAR => of_variable(bound, depth, a, at + script::ROW),
         // One call for the operand that each of these starts with, since each local takes its own place in every frame.
-        lines::PLUS | lines::LEFT | lines::RIGHT | lines::PACK | lines::UNPACK => {
-            let x = check_expr(code, at + lines::ROW, table, bound, depth);
+        script::PLUS | script::LEFT | script::RIGHT | script::PACK | script::UNPACK => {
+            let x = check_expr(code, at + script::ROW, table, bound, depth);
             match kind {
-                lines::PLUS => {
+                script::PLUS => {
                     let y = check_expr(code, x.next, table, bound, depth);
                     of_plus(x, y)
                 }
-                lines::LEFT => of_sum(table, a, tables::left_part(table, a), x),
-                lines::RIGHT => of_sum(table, a, tables::right_part(table, a), x),
-                lines::PACK => of_pack(table, a, x),
+                script::LEFT => of_sum(table, a, sheet::left_part(table, a), x),
+                script::RIGHT => of_sum(table, a, sheet::right_part(table, a), x),
+                script::PACK => of_pack(table, a, x),
                 _ => of_unpack(table, a, row.b, x),
             }
         }

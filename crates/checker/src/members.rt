@@ -46,17 +46,17 @@ fn member(table: &[u16], p: u32) -> Label
     ensures { λ r. ⌜ r ≡ memberIn (now (table .entry)) p ⌝ }
 {
     if p < LABELS {
-        return tables::label_of(table, p);
+        return sheet::label_of(table, p);
     }
-    let label = tables::label_of(table, p - LABELS);
-    label.integrity(tables::everyone(table))
+    let label = sheet::label_of(table, p - LABELS);
+    label.integrity(sheet::everyone(table))
 }
 
 // The join of the members' labels.
 fn joined(table: &[u16], members: Members) -> Label
     ensures { λ r. ⌜ r ≡ joinIn (now (table .entry)) members ⌝ }
 {
-    let mut out = Label::bottom(tables::everyone(table));
+    let mut out = Label::bottom(sheet::everyone(table));
     for p in 0..MOST {
         if (members >> p) % 2 == 1 {
             out = out.join(member(table, p));
@@ -70,7 +70,7 @@ pub(crate) fn flows(table: &[u16], members: Members, l: u32, whole: bool) -> boo
     ensures { λ r. ⌜ r ≡ flowsIn (now (table .entry)) members l whole ⌝ }
 {
     let lower = joined(table, members);
-    let upper = tables::label_of(table, l);
+    let upper = sheet::label_of(table, l);
     if whole {
         lower.at_or_below(upper)
     } else {

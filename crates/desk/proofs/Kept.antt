@@ -14,9 +14,9 @@ use Rattle.text.proofs.Cases.{cases}
 use Rattle.parts.specs.Parts.{keep, textOf, keptOf}
 use Rattle.parts.specs.Feeding.{beginning, held, fed, textIn}
 use Rattle.parts.proofs.Keeping.{holds-parts}
-use Rattle.sheet.specs.Sheets.{sheetIn, sheetOf}
-use Rattle.script.specs.Reading.{linesOf}
-use Rattle.script.specs.Script.{scriptOf}
+use Rattle.sheet_text.specs.Sheets.{sheetIn, sheetOf}
+use Rattle.script_text.specs.Reading.{linesOf}
+use Rattle.script_text.specs.Script.{scriptOf}
 use Rattle.memory_text.specs.Reading.{memory}
 use Rattle.simp.specs.Calls.{runOf}
 use Rattle.desk.specs.Fields.{groupOf, budgetOf, budgetIn}

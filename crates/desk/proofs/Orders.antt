@@ -11,8 +11,8 @@ use Rattle.text.specs.Reading.{Read}
 use Rattle.text.specs.Reading.Read.{got, bad}
 use Rattle.text.proofs.Cases.{cases}
 use Rattle.sets.specs.Sets.{within, everyone}
-use Rattle.tables.specs.Sheet.{Sheet, locationCount}
-use Rattle.sheet.specs.Sheets.{Answer, malformed, repeating, accepted, sheetOf}
+use Rattle.sheet.specs.Sheet.{Sheet, locationCount}
+use Rattle.sheet_text.specs.Sheets.{Answer, malformed, repeating, accepted, sheetOf}
 use Rattle.memory.specs.Memory.{wellFormed, sliceRefusal, refusalBy, memoryRefusal}
 use Rattle.memory.specs.View.{viewWords, viewRefusal}
 use Rattle.memory_text.specs.Printing.{memoryText}

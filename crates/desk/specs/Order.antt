@@ -7,8 +7,8 @@ use lib.Dec.{eqb}
 use lib.ListN.{length}
 use Rattle.text.specs.Reading.{Read}
 use Rattle.text.specs.Reading.Read.{got, bad}
-use Rattle.tables.specs.Sheet.{locationCount}
-use Rattle.sheet.specs.Sheets.{sheetOf}
+use Rattle.sheet.specs.Sheet.{locationCount}
+use Rattle.sheet_text.specs.Sheets.{sheetOf}
 use Rattle.memory.specs.Memory.{wellFormed}
 use Rattle.memory.specs.View.{viewWords}
 use Rattle.memory_text.specs.Printing.{memoryText}

@@ -11,13 +11,13 @@ use lib.ListN.{drop}
 use Rattle.language.specs.Syntax.{Value, int, err, inl, inr, pkg, blank, Expr, Cmd, seq, while, case}
 use Rattle.language.specs.Evaluation.{World, Mem, Env, Res, ok, long, stuck, eval}
 use Rattle.language.specs.Transition.{branch, branchV, Out, done, spent, over, wrong}
-use Rattle.booleans.proofs.BooleanLaws.{both-left, both-right}
+use Rattle.logic.proofs.BooleanLaws.{both-left, both-right}
 use Rattle.language.proofs.Interpreter.{go, andThen, spend, go-skip, go-seq, go-case, go-while}
-use Rattle.lines.specs.Lines.{Line, SourceE, Source, exprLines, cmdLines}
-use Rattle.lines.specs.Code.{code, rowAt}
-use Rattle.lines.specs.Names.{Counts, named}
-use Rattle.lines.specs.declared.Row.{Row}
-use Rattle.lines.proofs.Rows.{CmdRow, at-skip, at-seq, at-assign, at-while, at-case, cmd-row}
+use Rattle.script.specs.Lines.{Line, SourceE, Source, exprLines, cmdLines}
+use Rattle.script.specs.Code.{code, rowAt}
+use Rattle.script.specs.Names.{Counts, named}
+use Rattle.script.specs.declared.Row.{Row}
+use Rattle.script.proofs.Rows.{CmdRow, at-skip, at-seq, at-assign, at-while, at-case, cmd-row}
 use Rattle.memory.specs.Memory.{cellOf}
 use Rattle.interpreter.specs.Cells.{Holds}
 use Rattle.interpreter.specs.Nodes.{Tells}

@@ -11,12 +11,12 @@ use lib.Dec.{eqb}
 use lib.ListN.{length, drop, getD}
 use Rattle.language.specs.Syntax.{Value, int, Expr, inl, inr}
 use Rattle.language.specs.Evaluation.{World, Mem, Env, Res, ok, long, stuck, bind, fit, add, packed, unpacked, eval, cell-words}
-use Rattle.booleans.proofs.BooleanLaws.{both-left, both-right}
-use Rattle.lines.specs.Lines.{Line, exprLines}
-use Rattle.lines.specs.Code.{code, rowAt}
-use Rattle.lines.specs.Names.{Counts, namedE}
-use Rattle.lines.specs.declared.Row.{Row}
-use Rattle.lines.proofs.Rows.{ExprRow, at-int, at-loc, at-var, at-plus, at-left, at-right, at-pack, at-unpack, expr-row, row-in}
+use Rattle.logic.proofs.BooleanLaws.{both-left, both-right}
+use Rattle.script.specs.Lines.{Line, exprLines}
+use Rattle.script.specs.Code.{code, rowAt}
+use Rattle.script.specs.Names.{Counts, namedE}
+use Rattle.script.specs.declared.Row.{Row}
+use Rattle.script.proofs.Rows.{ExprRow, at-int, at-loc, at-var, at-plus, at-left, at-right, at-pack, at-unpack, expr-row, row-in}
 use Rattle.memory.specs.Words.{cell}
 use Rattle.memory.specs.Memory.{cellOf}
 use Rattle.interpreter.specs.Cells.{accumulator, firstLocation, loadOf, storeOf, Holds}

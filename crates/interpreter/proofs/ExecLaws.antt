@@ -10,9 +10,9 @@ use Rattle.language.specs.Syntax.{Value, Expr, Cmd}
 use Rattle.language.specs.Evaluation.{World, Mem, Env, Res, ok, long, stuck, eval}
 use Rattle.language.specs.Transition.{put, Out, done, spent, over, wrong}
 use Rattle.language.proofs.Interpreter.{go, andThen, spend, assigned, go-assign}
-use Rattle.lines.specs.Lines.{Line, Source, cmdLines}
-use Rattle.lines.specs.Code.{code}
-use Rattle.lines.specs.Names.{Counts, maxDepth}
+use Rattle.script.specs.Lines.{Line, Source, cmdLines}
+use Rattle.script.specs.Code.{code}
+use Rattle.script.specs.Names.{Counts, maxDepth}
 use Rattle.memory.specs.Words.{enc, cell}
 use Rattle.memory.specs.Memory.{cellOf}
 use Rattle.interpreter.specs.Cells.{accumulator, firstLocation, loadOf, storeOf, popOf, Holds}

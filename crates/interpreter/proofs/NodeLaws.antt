@@ -10,8 +10,8 @@ use lib.ListN.{length, drop, getD, take-append-drop}
 use lib.Seq.{getD-take}
 use Rattle.language.specs.Syntax.{Value, int, err, inl, inr, pkg, blank, size, has}
 use Rattle.language.specs.Evaluation.{World, Res, ok, long, stuck, bind, fitting, fit, addTo, add, packed, opened, wanted, unpacked, cell-words}
-use Rattle.tables.specs.Tables.{leftIn, belowIn, readsIn, writesIn}
-use Rattle.tables.specs.TypeTest.{hasNo}
+use Rattle.sheet.specs.Tables.{leftIn, belowIn, readsIn, writesIn}
+use Rattle.sheet.specs.TypeTest.{hasNo}
 use Rattle.memory.specs.Words.{enc, zeros, cell, valueOf, endOf}
 use Rattle.memory.specs.Memory.{cellOf}
 use Rattle.memory.proofs.WordLaws.{length-cell, value-enc, end-enc}

@@ -11,15 +11,15 @@ use Rattle.language.specs.Syntax.{Cmd}
 use Rattle.language.specs.Evaluation.{Mem, cell-words}
 use Rattle.language.specs.Transition.{Out, done, spent, over, wrong, iterate}
 use Rattle.language.proofs.Substitution.{close-none}
-use Rattle.lines.specs.Lines.{Source, cmdLines}
-use Rattle.lines.specs.Code.{code}
-use Rattle.lines.specs.Names.{Counts, named}
-use Rattle.tables.specs.Sheet.{Sheet, labelCount, locationCount, formed}
-use Rattle.tables.specs.Tables.{tableOf}
-use Rattle.tables.specs.Meaning.{worldOf}
-use Rattle.tables.proofs.MeaningLaws.{below-in, reads-in, writes-in}
-use Rattle.tables.proofs.NumberLaws.{has-wanted}
-use Rattle.tables.proofs.FormLaws.{locations-few}
+use Rattle.script.specs.Lines.{Source, cmdLines}
+use Rattle.script.specs.Code.{code}
+use Rattle.script.specs.Names.{Counts, named}
+use Rattle.sheet.specs.Sheet.{Sheet, labelCount, locationCount, formed}
+use Rattle.sheet.specs.Tables.{tableOf}
+use Rattle.sheet.specs.Meaning.{worldOf}
+use Rattle.sheet.proofs.MeaningLaws.{below-in, reads-in, writes-in}
+use Rattle.sheet.proofs.NumberLaws.{has-wanted}
+use Rattle.sheet.proofs.FormLaws.{locations-few}
 use Rattle.memory.specs.Words.{cell}
 use Rattle.memory.specs.Memory.{cellOf, memoryOf, wordsOf, fits, wellFormed}
 use Rattle.memory.proofs.CellsLaws.{cells-ext, cells-all}

@@ -6,10 +6,10 @@ use Prim.Native.Nat.{ℕ, zero, suc, _+_, _≤_, _<_}
 use native.Mathlib.Omega.{arith}
 use lib.ListN.{length, drop}
 use Rattle.language.specs.Syntax.{Expr, Cmd}
-use Rattle.lines.specs.Lines.{Line}
-use Rattle.lines.specs.Code.{code, rowAt}
-use Rattle.lines.specs.declared.Row.{Row}
-use Rattle.lines.proofs.Rows.{ExprRow, at-int, at-loc, at-var, at-plus, at-left, at-right, at-pack, at-unpack, CmdRow, at-skip, at-seq, at-assign, at-while, at-case, expr-row, cmd-row, row-in}
+use Rattle.script.specs.Lines.{Line}
+use Rattle.script.specs.Code.{code, rowAt}
+use Rattle.script.specs.declared.Row.{Row}
+use Rattle.script.proofs.Rows.{ExprRow, at-int, at-loc, at-var, at-plus, at-left, at-right, at-pack, at-unpack, CmdRow, at-skip, at-seq, at-assign, at-while, at-case, expr-row, cmd-row, row-in}
 use Rattle.interpreter.specs.Post.{operandsOf, Piece, an-expression, a-command, Skips}
 
 -- a number that is no kind has no operands

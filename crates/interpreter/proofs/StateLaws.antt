@@ -11,7 +11,7 @@ use lib.ListN.{length, drop, length-drop}
 use Rattle.language.specs.Syntax.{Value}
 use Rattle.language.specs.Evaluation.{Mem, Env, lookup, cell-words}
 use Rattle.language.specs.Transition.{put}
-use Rattle.lines.specs.Names.{maxDepth}
+use Rattle.script.specs.Names.{maxDepth}
 use Rattle.memory.specs.Words.{cell}
 use Rattle.memory.specs.Memory.{cellOf}
 use Rattle.interpreter.specs.Cells.{firstLocation, workWords, cellCount, loadOf, storeOf, Binds, bound-none, bound-more, Holds}

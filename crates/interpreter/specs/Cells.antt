@@ -9,8 +9,8 @@ use lib.Dec.{ltb}
 use lib.ListN.{length, take, drop}
 use Rattle.language.specs.Syntax.{Value}
 use Rattle.language.specs.Evaluation.{Mem, Env, cell-words}
-use Rattle.lines.specs.Names.{maxDepth}
-use Rattle.tables.specs.Sheet.{maxLocations}
+use Rattle.script.specs.Names.{maxDepth}
+use Rattle.sheet.specs.Sheet.{maxLocations}
 use Rattle.memory.specs.Words.{zeros, cell}
 use Rattle.memory.specs.Memory.{cellOf}
 

@@ -6,8 +6,8 @@ use Prim.Native.Nat.{ℕ, suc, _≤_}
 use lib.ListN.{length, drop, getD}
 use Rattle.language.specs.Syntax.{Value, size, has}
 use Rattle.language.specs.Evaluation.{World, Res, ok, long, stuck, bind, wanted, fit, add, packed, unpacked, cell-words}
-use Rattle.tables.specs.Tables.{leftIn, belowIn, readsIn, writesIn}
-use Rattle.tables.specs.TypeTest.{hasNo}
+use Rattle.sheet.specs.Tables.{leftIn, belowIn, readsIn, writesIn}
+use Rattle.sheet.specs.TypeTest.{hasNo}
 use Rattle.memory.specs.Words.{enc, cell}
 use Rattle.memory.specs.Memory.{cellOf}
 use Rattle.interpreter.specs.Cells.{accumulator}

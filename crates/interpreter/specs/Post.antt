@@ -7,9 +7,9 @@ use lib.ListN.{drop, getD}
 use Rattle.language.specs.Syntax.{Value, int, err, inl, inr, pkg, blank, Expr, Cmd, assign}
 use Rattle.language.specs.Evaluation.{World, Mem, Env, Res, ok, long, stuck, eval, cell-words}
 use Rattle.language.specs.Transition.{close, Out, done, spent, over, wrong, iterate}
-use Rattle.lines.specs.Lines.{Line, SourceE, Source, exprLines, cmdLines}
-use Rattle.lines.specs.Code.{code}
-use Rattle.lines.specs.Names.{Counts, namedE, named, maxDepth}
+use Rattle.script.specs.Lines.{Line, SourceE, Source, exprLines, cmdLines}
+use Rattle.script.specs.Code.{code}
+use Rattle.script.specs.Names.{Counts, namedE, named, maxDepth}
 use Rattle.memory.specs.Words.{cell}
 use Rattle.memory.specs.Memory.{cellOf}
 use Rattle.interpreter.specs.Cells.{accumulator, Holds}

@@ -7,12 +7,12 @@ use lib.ListN.{length}
 use Rattle.language.specs.Syntax.{Cmd}
 use Rattle.language.specs.Evaluation.{cell-words}
 use Rattle.language.specs.Transition.{Out, done, spent, over, wrong, iterate}
-use Rattle.lines.specs.Lines.{Source, cmdLines}
-use Rattle.lines.specs.Code.{code}
-use Rattle.lines.specs.Names.{Counts, named}
-use Rattle.tables.specs.Sheet.{Sheet, locationCount, formed}
-use Rattle.tables.specs.Tables.{tableOf}
-use Rattle.tables.specs.Meaning.{worldOf}
+use Rattle.script.specs.Lines.{Source, cmdLines}
+use Rattle.script.specs.Code.{code}
+use Rattle.script.specs.Names.{Counts, named}
+use Rattle.sheet.specs.Sheet.{Sheet, locationCount, formed}
+use Rattle.sheet.specs.Tables.{tableOf}
+use Rattle.sheet.specs.Meaning.{worldOf}
 use Rattle.memory.specs.Memory.{memoryOf, wordsOf, wellFormed}
 
 -- The answer to a run that ends in an outcome: state, steps, and what the memory of n locations then holds. Where no rule applies

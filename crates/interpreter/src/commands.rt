@@ -4,7 +4,7 @@ ghost use Rattle.interpreter.specs.Post.{operandsOf, Skips, Execs, Ticks
 use crate::cells;
 use crate::evaluation;
 use crate::nodes;
-use lines::ROW;
+use script::ROW;
 
 // State 0: skip is reached. 9: the budget is used up. 10 and 11 are passed on from an evaluation.
 const DONE: u8 = 0;
@@ -41,19 +41,19 @@ fn operands(kind: u32) -> u32
     ensures { λ r. ⌜ r ≡ operandsOf kind ⌝ }
 {
     match kind {
-        lines::SKIP => 0,
-        lines::SEQ => 2,
-        lines::ASSIGN => 1,
-        lines::WHILE => 2,
-        lines::CASE => 3,
-        lines::INT => 0,
-        lines::LOC => 0,
-        lines::VAR => 0,
-        lines::PLUS => 2,
-        lines::LEFT => 1,
-        lines::RIGHT => 1,
-        lines::PACK => 1,
-        lines::UNPACK => 1,
+        script::SKIP => 0,
+        script::SEQ => 2,
+        script::ASSIGN => 1,
+        script::WHILE => 2,
+        script::CASE => 3,
+        script::INT => 0,
+        script::LOC => 0,
+        script::VAR => 0,
+        script::PLUS => 2,
+        script::LEFT => 1,
+        script::RIGHT => 1,
+        script::PACK => 1,
+        script::UNPACK => 1,
         _ => 4,
     }
 }
@@ -62,7 +62,7 @@ fn operands(kind: u32) -> u32
 fn skip(code: &[u32], at: usize) -> usize
     ensures { λ r. ⌜ Skips (now (code .entry)) at r ⌝ }
 {
-    let row = lines::row_at(code, at);
+    let row = script::row_at(code, at);
     let n = operands(row.kind);
     match n {
         0 => at + ROW,
@@ -242,15 +242,15 @@ pub(crate) fn exec(
 ) -> Done
     ensures { λ r. ⌜ Execs (now (code .entry)) at (now (table .entry)) authority depth (now (work .entry)) fuel (r .state) (r .left) (r .next) (now (work .exit)) ⌝ }
 {
-    let row = lines::row_at(code, at);
+    let row = script::row_at(code, at);
     let kind = row.kind;
     match kind {
-        lines::SKIP => Done {
+        script::SKIP => Done {
             state: DONE,
             left: fuel,
             next: at + ROW,
         },
-        lines::SEQ => {
+        script::SEQ => {
             let d = exec(code, at + ROW, table, authority, depth, work, fuel);
             let t = tick(d);
             if t.state != DONE {
@@ -259,8 +259,8 @@ pub(crate) fn exec(
             let next = t.next;
             exec(code, next, table, authority, depth, work, t.left)
         }
-        lines::ASSIGN => assign(code, at + ROW, table, authority, depth, work, fuel, row.a),
-        lines::WHILE => {
+        script::ASSIGN => assign(code, at + ROW, table, authority, depth, work, fuel, row.a),
+        script::WHILE => {
             let body = skip(code, at + ROW);
             let end = skip(code, body);
             let mut left = fuel;
@@ -285,7 +285,7 @@ pub(crate) fn exec(
                 left = t.left;
             }
         }
-        lines::CASE => {
+        script::CASE => {
             let b = branch(code, at + ROW, table, authority, depth, work, fuel);
             if b.state != DONE {
                 return Done {

@@ -3,7 +3,7 @@ ghost use Rattle.interpreter.specs.Post.{Evals};
 use crate::cells;
 use crate::nodes;
 use crate::nodes::Evaluated;
-use lines::ROW;
+use script::ROW;
 
 // Evaluates the expression at `at`, below so many cases, into the accumulator.
 pub(crate) fn eval(
@@ -16,26 +16,26 @@ pub(crate) fn eval(
 ) -> Evaluated
     ensures { λ r. ⌜ Evals (now (code .entry)) at (now (table .entry)) authority depth (now (work .entry)) (r .state) (r .next) (now (work .exit)) ⌝ }
 {
-    let row = lines::row_at(code, at);
+    let row = script::row_at(code, at);
     let kind = row.kind;
     let a = row.a;
     let b = row.b;
     match kind {
-        lines::INT => {
+        script::INT => {
             nodes::literal(work, a);
             Evaluated {
                 state: nodes::VALUE,
                 next: at + ROW,
             }
         }
-        lines::LOC => {
+        script::LOC => {
             nodes::location(work, a);
             Evaluated {
                 state: nodes::VALUE,
                 next: at + ROW,
             }
         }
-        lines::VAR => {
+        script::VAR => {
             nodes::variable(work, depth, a);
             Evaluated {
                 state: nodes::VALUE,
@@ -43,9 +43,9 @@ pub(crate) fn eval(
             }
         }
         // One call for the operand that each of these starts with, since each call takes its own place in every frame.
-        lines::PLUS | lines::LEFT | lines::RIGHT | lines::PACK | lines::UNPACK => {
+        script::PLUS | script::LEFT | script::RIGHT | script::PACK | script::UNPACK => {
             let v = eval(code, at + ROW, table, authority, depth, work);
-            if kind != lines::PLUS {
+            if kind != script::PLUS {
                 return nodes::applied(work, table, authority, kind, a, b, v);
             }
             if v.state != nodes::VALUE {

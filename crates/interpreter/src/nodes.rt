@@ -4,8 +4,8 @@ ghost use Prim.Native.Nat.{_+_, _-_};
 ghost use lib.ListN.{drop, getD};
 ghost use Rattle.language.specs.Syntax.{Value, int, err, inr};
 ghost use Rattle.language.specs.Evaluation.{World, fit, add, packed, unpacked};
-ghost use Rattle.tables.specs.Tables.{leftIn};
-ghost use Rattle.tables.specs.TypeTest.{hasNo};
+ghost use Rattle.sheet.specs.Tables.{leftIn};
+ghost use Rattle.sheet.specs.TypeTest.{hasNo};
 ghost use Rattle.memory.specs.Words.{cell, valueOf};
 ghost use Rattle.interpreter.specs.Cells.{loadOf, storeOf, accumulator, firstLocation};
 ghost use Rattle.interpreter.specs.Nodes.{Turns, Applies, Applied, Tags, errorIn, Tells};
@@ -115,7 +115,7 @@ fn pack(
     if v.state != VALUE {
         return v;
     }
-    if !tables::writes(table, authority, l) {
+    if !sheet::writes(table, authority, l) {
         fail(work, INSUFFICIENT_AUTH);
         return v;
     }
@@ -136,13 +136,13 @@ fn refusal(work: &[u32], table: &[u16], authority: u16, t: u32, l: u32) -> u32
     ensures { λ r. ⌜ r ≡ errorIn (now (table .entry)) authority l (getD (now (work .entry)) 1 0)
         (hasNo (now (table .entry)) (valueOf (drop 2 (now (work .entry)))) (leftIn (now (table .entry)) t)) ⌝ }
 {
-    if !tables::reads(table, authority, l) {
+    if !sheet::reads(table, authority, l) {
         return INSUFFICIENT_AUTH;
     }
-    if !tables::below(table, cells::word(work, memory::LABEL), l) {
+    if !sheet::below(table, cells::word(work, memory::LABEL), l) {
         return ILLEGAL_FLOW;
     }
-    if !memory::has_type(table, work, memory::CONTENT, tables::left_part(table, t)) {
+    if !memory::has_type(table, work, memory::CONTENT, sheet::left_part(table, t)) {
         return TYPE_MISMATCH;
     }
     0
@@ -193,11 +193,11 @@ pub(crate) fn applied(
     ensures { λ r. ⌜ Applied (now (table .entry)) authority kind a b (now (work .entry)) (v .state) (v .next) (now (work .exit)) (r .state) (r .next) ⌝ }
 {
     match kind {
-        lines::PLUS => sum(work, a, v),
-        lines::LEFT => tagged(work, memory::LEFT, v),
-        lines::RIGHT => tagged(work, memory::RIGHT, v),
-        lines::PACK => pack(work, table, authority, a, v),
-        lines::UNPACK => unpack(work, table, authority, a, b, v),
+        script::PLUS => sum(work, a, v),
+        script::LEFT => tagged(work, memory::LEFT, v),
+        script::RIGHT => tagged(work, memory::RIGHT, v),
+        script::PACK => pack(work, table, authority, a, v),
+        script::UNPACK => unpack(work, table, authority, a, b, v),
         _ => v,
     }
 }

@@ -6,8 +6,8 @@ use Prim.Native.Nat.{ℕ, _<_, _≤_}
 use native.Mathlib.Omega.{arith}
 use native.Mathlib.Decide.{decLt}
 use borrow.Author.Tests.{lt-ltb, le-ltb}
-use Rattle.booleans.specs.Booleans.{both}
-use Rattle.booleans.proofs.BooleanLaws.{both-left, both-right, both-true}
+use Rattle.logic.specs.Booleans.{both}
+use Rattle.logic.proofs.BooleanLaws.{both-left, both-right, both-true}
 use Rattle.sets.specs.Sets.{member, within, single, everyone}
 use Rattle.sets.proofs.Walks.{getD-tab, length-tab}
 use Rattle.sets.proofs.SetLaws.{within-refl, within-antisym, single-within, single-within-everyone}

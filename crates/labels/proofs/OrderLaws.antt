@@ -8,8 +8,8 @@ use lib.Dec.{eqb}
 use lib.ListN.{length, getD}
 use lib.Seq.{ext-getD}
 use borrow.Author.Tests.{eq-eqb, eqb-true}
-use Rattle.booleans.specs.Booleans.{both}
-use Rattle.booleans.proofs.BooleanLaws.{bool-ext, both-left, both-right, both-true}
+use Rattle.logic.specs.Booleans.{both}
+use Rattle.logic.proofs.BooleanLaws.{bool-ext, both-left, both-right, both-true}
 use Rattle.sets.specs.Sets.{member, union, intersection, within, every}
 use Rattle.sets.proofs.Walks.{every-true, every-at, every-both, getD-tab, length-tab}
 use Rattle.sets.proofs.SetLaws.{within-intro, within-elim, within-refl, within-trans, within-antisym, intersection-within-left, intersection-within-right, within-intersection, within-union-left, within-union-right, union-within}

@@ -4,8 +4,8 @@ use mathlib.Core.Path.{_≡_, refl, sym, _∙_}
 use mathlib.Core.Bool.{true}
 use Prim.Native.Nat.{ℕ, _<_}
 use lib.ListN.{length, getD, replicate, getD-replicate, length-replicate}
-use Rattle.booleans.specs.Booleans.{both}
-use Rattle.booleans.proofs.BooleanLaws.{bool-ext, both-left, both-right, both-true}
+use Rattle.logic.specs.Booleans.{both}
+use Rattle.logic.proofs.BooleanLaws.{bool-ext, both-left, both-right, both-true}
 use Rattle.sets.specs.Sets.{union, intersection, single, tab}
 use Rattle.sets.proofs.Walks.{getD-tab, length-tab, tab-ext, tab-replicate}
 use Rattle.sets.proofs.SetLaws.{within-refl, intersection-of-within, union-of-within}

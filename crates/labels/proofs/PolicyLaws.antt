@@ -10,8 +10,8 @@ use lib.Dec.{ltb}
 use lib.ListN.{length, length-set, length-replicate}
 use lib.Seq.{getD-set-same, getD-set-other}
 use borrow.Author.Tests.{ltb-true}
-use Rattle.booleans.specs.Booleans.{both}
-use Rattle.booleans.proofs.BooleanLaws.{both-left, both-right}
+use Rattle.logic.specs.Booleans.{both}
+use Rattle.logic.proofs.BooleanLaws.{both-left, both-right}
 use Rattle.sets.specs.Sets.{union, within, single, everyone}
 use Rattle.sets.proofs.Walks.{getD-tab, length-tab}
 use Rattle.sets.proofs.SetLaws.{within-refl, within-union-right, union-within, single-within-everyone}

@@ -4,7 +4,7 @@ use mathlib.Core.Path.{_≡_, refl, sym, _∙_}
 use mathlib.Core.Bool.{true}
 use Prim.Native.Nat.{ℕ, suc, _<_, _≤_}
 use native.Mathlib.Nat.{lt-of-lt-of-le}
-use Rattle.booleans.specs.Booleans.{both}
+use Rattle.logic.specs.Booleans.{both}
 use Rattle.sets.specs.Sets.{member, within, meets, everyone, every}
 use Rattle.sets.proofs.Walks.{every-true, every-at}
 use Rattle.sets.proofs.SetLaws.{within-elim, meets-elim, meets-intro, meets-mono, meets-within}

@@ -7,7 +7,7 @@ use mathlib.Core.List.{List, [], _∷_}
 use Prim.Native.Nat.{ℕ}
 use lib.Dec.{eqb, ltb}
 use lib.ListN.{length, getD, replicate, set}
-use Rattle.booleans.specs.Booleans.{both}
+use Rattle.logic.specs.Booleans.{both}
 use Rattle.sets.specs.Sets.{width, union, intersection, within, meets, single, everyone, every, tab}
 use Rattle.labels.specs.declared.Label.{Label}
 

@@ -8,7 +8,7 @@ use mathlib.Core.Path.{_≡_}
 use mathlib.Core.Bool.{Bool, true, false}
 use mathlib.Core.List.{List}
 use Prim.Native.Nat.{ℕ}
-use Rattle.booleans.specs.Booleans.{both}
+use Rattle.logic.specs.Booleans.{both}
 use Rattle.sets.specs.Sets.{everyone}
 use Rattle.labels.specs.declared.Label.{Label}
 use Rattle.labels.specs.Labels.{Policy, labelOf, policiesOn, belowOf, joinOf, confidentialityOf, integrityOf, bottomOf, topOf, readsOf, writesOf, effective}

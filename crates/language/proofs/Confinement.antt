@@ -10,7 +10,7 @@ use Rattle.language.specs.Transition.{close, inst, put, done, iterate}
 use Rattle.language.specs.Figures.{Step, ec-assign, ec-seq-skip, ec-seq-struct, ec-while-false, ec-while-true, ec-casel, ec-caser, Steps, s-none, s-more}
 use Rattle.language.specs.Typing.{Conditions, least, flow}
 use Rattle.language.specs.Theorems.{Observer, Confinement}
-use Rattle.booleans.proofs.BooleanLaws.{T-of, both-left, both-right}
+use Rattle.logic.proofs.BooleanLaws.{T-of, both-left, both-right}
 use Rattle.language.proofs.Traces.{Stops, stops-done, iterate-stops, trace-steps}
 
 -- c assigns to no location that is seen

@@ -6,8 +6,8 @@ use mathlib.Core.Option.{some}
 use mathlib.Core.List.{List, [], _∷_}
 use Prim.Native.Nat.{ℕ, zero, suc}
 use native.Mathlib.Omega.{arith}
-use Rattle.booleans.specs.Booleans.{both}
-use Rattle.booleans.proofs.BooleanLaws.{both-left, both-right, both-true, not-so}
+use Rattle.logic.specs.Booleans.{both}
+use Rattle.logic.proofs.BooleanLaws.{both-left, both-right, both-true, not-so}
 use Rattle.language.specs.Syntax.{Ty, t-int, t-err, t-pkg, t-sum, int, err, inl, inr, pkg, blank, Expr, val, loc, var, plus, left, right, pack, unpack, Cmd, skip, seq, assign, while, case}
 use Rattle.language.specs.Labels.{Labels, Lattice, struck}
 use Rattle.language.specs.Typing.{Declarations, unlabelled, nth, orElse, typeOfValue, typeOf, shape, least, flowE, flow, conditions, accepts, refusal}

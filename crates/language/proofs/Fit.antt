@@ -5,7 +5,7 @@ use Prim.Native.Nat.{_≤_, _<_}
 use lib.Dec.{leb, leb→le, nleb→lt, T}
 use Rattle.language.specs.Syntax.{Value, size}
 use Rattle.language.specs.Evaluation.{Res, ok, long, fitting, fit, cell-words}
-use Rattle.booleans.proofs.BooleanLaws.{T-of}
+use Rattle.logic.proofs.BooleanLaws.{T-of}
 
 T-not : {b : Bool} → b ≡ false → T (not b)
 T-not e = rw e tt

@@ -10,7 +10,7 @@ use Rattle.language.specs.Transition.{put}
 use Rattle.language.specs.Typing.{Conditions, nth, orElse, least, flowE, flow}
 use Rattle.language.specs.View.{Equiv, ve-int, ve-err, ve-inl, ve-inr, ve-pack-in, ve-pack-lab, ve-blank, EquivMem}
 use Rattle.language.specs.Theorems.{Observer, Noninterference}
-use Rattle.booleans.proofs.BooleanLaws.{T-of, both-left, both-right, by-test, not-so}
+use Rattle.logic.proofs.BooleanLaws.{T-of, both-left, both-right, by-test, not-so}
 use Rattle.language.proofs.Fit.{by-fit}
 use Rattle.language.proofs.Masking.{equiv-refl, has-equiv, equiv-of-view, view-of-equiv}
 use Rattle.language.proofs.Confinement.{Quiet, q-seq, q-assign, q-while, q-case, put-unseen, while-quiet, case-quiet}

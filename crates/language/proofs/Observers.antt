@@ -4,8 +4,8 @@ use mathlib.Core.Path.{_≡_, refl, ap, sym, _∙_}
 use mathlib.Core.Bool.{Bool, true, true≢false}
 use mathlib.Core.List.{[]}
 use Prim.Native.Nat.{ℕ}
-use Rattle.booleans.specs.Booleans.{both}
-use Rattle.booleans.proofs.BooleanLaws.{both-right}
+use Rattle.logic.specs.Booleans.{both}
+use Rattle.logic.proofs.BooleanLaws.{both-right}
 use Rattle.language.specs.Syntax.{Value, inl, inr, pkg, Cmd}
 use Rattle.language.specs.Evaluation.{World, Mem}
 use Rattle.language.specs.Transition.{done, iterate}

@@ -11,7 +11,7 @@ use Rattle.language.specs.Transition.{Next, final, to, too-long, no-rule
 use Rattle.language.specs.Figures.{Step, Steps, s-none, s-more, LongExpr, long-value, in-plus1, in-plus2, in-left, in-right, in-pack, in-unpack, LongStep, in-assign, in-seq, in-while, in-case}
 use Rattle.language.specs.Typing.{Shapes, typeOfValue, typeOf, shape}
 use Rattle.language.specs.Theorems.{SameTypes, Fitting, NoneLong, Ends, ends-done, ends-spent, ends-over, Outcome}
-use Rattle.booleans.proofs.BooleanLaws.{both-left, both-right}
+use Rattle.logic.proofs.BooleanLaws.{both-left, both-right}
 use Rattle.language.proofs.Types.{none-some, isTy-path, hasTy-path, given-path, leftIs-path, rightIs-path, onSum-path}
 use Rattle.language.proofs.Agreement.{agreement, Refines, same, was-long, star-eval}
 use Rattle.language.proofs.Determinacy.{once}

@@ -10,7 +10,7 @@ use Rattle.language.specs.Evaluation.{World, Res, ok, long, stuck, Mem, 
 use Rattle.language.specs.Transition.{close, put, Next, final, to, too-long, no-rule, at-seq, at-assign, branch, branchV, step, done, wrong}
 use Rattle.language.specs.Typing.{Shapes, nth, typeOfValue, typeOf, shape}
 use Rattle.language.specs.Theorems.{SameTypes, WellTyped, TypeSoundness}
-use Rattle.booleans.proofs.BooleanLaws.{T-of, both-left, both-right}
+use Rattle.logic.proofs.BooleanLaws.{T-of, both-left, both-right}
 use Rattle.language.proofs.Fit.{by-fit}
 use Rattle.language.proofs.Types.{some-path, none-some, isTy-path, hasTy-path, given-path, leftIs-path, rightIs-path, onSum-path}
 use Rattle.language.proofs.Substitution.{inst-close, close-none, eval-close}

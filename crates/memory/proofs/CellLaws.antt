@@ -8,7 +8,7 @@ use native.Mathlib.Omega.{arith}
 use borrow.Author.Tests.{eq-eqb, eqb-true, ne-eqb}
 use lib.Dec.{eqb}
 use lib.ListN.{length, getD, drop, length-drop}
-use Rattle.booleans.proofs.BooleanLaws.{absurd-false, both-left, both-off, both-on, both-right, both-true}
+use Rattle.logic.proofs.BooleanLaws.{absurd-false, both-left, both-off, both-on, both-right, both-true}
 use Rattle.language.specs.Syntax.{Value, int, err, inl, inr, pkg, blank, size}
 use Rattle.language.specs.Evaluation.{cell-words}
 use Rattle.memory.specs.Words.{enc, zeros, cell, readOf, valueOf}

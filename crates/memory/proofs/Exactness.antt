@@ -12,13 +12,13 @@ use Rattle.language.specs.Syntax.{Value, t-int, size, has}
 use Rattle.language.specs.Evaluation.{Mem, cell-words}
 use Rattle.language.specs.View.{seen, mask, maskMem}
 use Rattle.language.specs.Theorems.{WellTyped, Fitting}
-use Rattle.tables.specs.Sheet.{Sheet, Location, tyOf, labelCount, locationNo, locationCount, formed}
-use Rattle.tables.specs.Tables.{tableOf, typeIn, homeIn, readsIn}
-use Rattle.tables.specs.Meaning.{shapesOf, readsNo}
-use Rattle.tables.proofs.TypeLaws.{ty-0}
-use Rattle.tables.proofs.TableLaws.{types-in, labels-in, locations-in, type-in, home-in}
-use Rattle.tables.proofs.MeaningLaws.{reads-in}
-use Rattle.tables.proofs.NumberLaws.{type-in-there, has-no}
+use Rattle.sheet.specs.Sheet.{Sheet, Location, tyOf, labelCount, locationNo, locationCount, formed}
+use Rattle.sheet.specs.Tables.{tableOf, typeIn, homeIn, readsIn}
+use Rattle.sheet.specs.Meaning.{shapesOf, readsNo}
+use Rattle.sheet.proofs.TypeLaws.{ty-0}
+use Rattle.sheet.proofs.TableLaws.{types-in, labels-in, locations-in, type-in, home-in}
+use Rattle.sheet.proofs.MeaningLaws.{reads-in}
+use Rattle.sheet.proofs.NumberLaws.{type-in-there, has-no}
 use Rattle.memory.specs.Words.{enc, cell, valueOf}
 use Rattle.memory.specs.Memory.{memoryOf, wordsOf, formedBy, sliceRefusal, refusalBy, fits, wellFormed, memoryRefusal}
 use Rattle.memory.specs.View.{viewCell, viewBy, seesNo, viewWords, viewRefusal, viewLeaves}

@@ -9,7 +9,7 @@ use native.Mathlib.Omega.{arith}
 use borrow.Author.Tests.{lt-ltb, le-ltb, ltb-true, ltb-false, eqb-true}
 use lib.Dec.{eqb, ltb}
 use lib.ListN.{length}
-use Rattle.booleans.proofs.BooleanLaws.{both-left, both-right, both-true}
+use Rattle.logic.proofs.BooleanLaws.{both-left, both-right, both-true}
 use Rattle.sets.proofs.Walks.{every-true, every-at}
 use Rattle.language.specs.Syntax.{Value, int, size}
 use Rattle.language.specs.Evaluation.{Mem, cell-words}

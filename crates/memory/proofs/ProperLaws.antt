@@ -4,7 +4,7 @@ use mathlib.Core.Path.{_≡_, refl}
 use mathlib.Core.Bool.{true}
 use Prim.Native.Nat.{ℕ, _<_}
 use borrow.Author.Tests.{le-leb, lt-ltb}
-use Rattle.booleans.proofs.BooleanLaws.{both-right, both-true}
+use Rattle.logic.proofs.BooleanLaws.{both-right, both-true}
 use Rattle.language.proofs.Invariants.{Kept}
 use Rattle.memory.specs.Memory.{proper}
 

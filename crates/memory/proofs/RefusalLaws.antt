@@ -9,8 +9,8 @@ use borrow.Author.Tests.{eq-eqb, ne-eqb}
 use lib.ListN.{length, take, drop}
 use Rattle.sets.proofs.Walks.{every-true, every-false}
 use Rattle.language.specs.Evaluation.{cell-words}
-use Rattle.tables.specs.Tables.{labelsIn, locationsIn, typeIn}
-use Rattle.tables.specs.TypeTest.{hasNo}
+use Rattle.sheet.specs.Tables.{labelsIn, locationsIn, typeIn}
+use Rattle.sheet.specs.TypeTest.{hasNo}
 use Rattle.memory.specs.Memory.{cellOf, holdsBy, formedBy, sliceRefusal, refusalBy}
 use Rattle.memory.specs.InTable.{fitsIn, wellFormedIn, refusalIn}
 

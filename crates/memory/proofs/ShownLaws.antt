@@ -11,7 +11,7 @@ use lib.Seq.{paste}
 use Rattle.language.specs.Syntax.{Value, size}
 use Rattle.language.specs.Evaluation.{cell-words}
 use Rattle.language.specs.View.{mask}
-use Rattle.tables.specs.Tables.{labelsIn, locationsIn, readsIn}
+use Rattle.sheet.specs.Tables.{labelsIn, locationsIn, readsIn}
 use Rattle.memory.specs.Words.{valueOf}
 use Rattle.memory.specs.Memory.{cellOf, memoryOf, cells, sliceRefusal}
 use Rattle.memory.specs.View.{viewCell, viewBy, leaves}

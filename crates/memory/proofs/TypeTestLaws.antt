@@ -7,11 +7,11 @@ use Prim.Native.Nat.{ℕ, _+_, _≤_, _<_}
 use borrow.Author.Tests.{ltb-true, ltb-false}
 use lib.Dec.{eqb, ltb}
 use lib.ListN.{length, getD, drop}
-use Rattle.booleans.specs.Booleans.{both}
-use Rattle.booleans.proofs.BooleanLaws.{both-no-left, both-off, both-on}
+use Rattle.logic.specs.Booleans.{both}
+use Rattle.logic.proofs.BooleanLaws.{both-no-left, both-off, both-on}
 use Rattle.language.specs.Syntax.{Value, int, err, blank}
-use Rattle.tables.specs.Tables.{leftIn, rightIn}
-use Rattle.tables.specs.TypeTest.{isSum, hasNo}
+use Rattle.sheet.specs.Tables.{leftIn, rightIn}
+use Rattle.sheet.specs.TypeTest.{isSum, hasNo}
 use Rattle.memory.specs.Words.{Got, wrap, numbered, packaged, readOf, valueOf}
 use Rattle.memory.proofs.PlaceLaws.{here, past, at-past, at-int, at-err, at-inl, at-inr, at-package, at-none}
 

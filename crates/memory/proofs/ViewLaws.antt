@@ -11,7 +11,7 @@ use lib.Seq.{sets, sets-eq}
 use Rattle.language.specs.Syntax.{Value, int, err, inl, inr, pkg, blank, size}
 use Rattle.language.specs.Evaluation.{cell-words}
 use Rattle.language.specs.View.{seen, mask}
-use Rattle.tables.specs.Tables.{homeIn, readsIn}
+use Rattle.sheet.specs.Tables.{homeIn, readsIn}
 use Rattle.memory.specs.Words.{enc, zeros, cell, readOf, valueOf}
 use Rattle.memory.specs.Memory.{cellOf}
 use Rattle.memory.specs.View.{viewCell}

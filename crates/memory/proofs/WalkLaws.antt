@@ -7,7 +7,7 @@ use Prim.Native.Nat.{ℕ, _+_, _≤_, _<_}
 use native.Mathlib.Omega.{arith}
 use lib.Dec.{ltb}
 use lib.ListN.{length, getD, drop, length-drop}
-use Rattle.booleans.specs.Booleans.{both}
+use Rattle.logic.specs.Booleans.{both}
 use Rattle.language.specs.Syntax.{Value, int, err, blank}
 use Rattle.memory.specs.Words.{Got, wrap, numbered, packaged, readOf, endOf}
 use Rattle.memory.specs.Memory.{proper}

@@ -9,7 +9,7 @@ use native.Mathlib.Nat.{le-refl}
 use borrow.Author.Tests.{ne-eqb, eqb-true}
 use lib.Dec.{eqb}
 use lib.ListN.{length, drop, length-replicate}
-use Rattle.booleans.proofs.BooleanLaws.{absurd-false, both-right}
+use Rattle.logic.proofs.BooleanLaws.{absurd-false, both-right}
 use Rattle.language.specs.Syntax.{Value, int, err, inl, inr, pkg, blank, size}
 use Rattle.language.specs.Evaluation.{cell-words}
 use Rattle.memory.specs.Words.{enc, zeros, cell, Got, wrap, numbered, packaged, tagged, read, readOf, valueOf, endOf}

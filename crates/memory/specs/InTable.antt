@@ -4,8 +4,8 @@ use mathlib.Core.List.{List}
 use Prim.Native.Nat.{ℕ}
 use lib.ListN.{length}
 use Rattle.language.specs.Syntax.{Value}
-use Rattle.tables.specs.Tables.{labelsIn, locationsIn, typeIn, homeIn, readsIn}
-use Rattle.tables.specs.TypeTest.{hasNo}
+use Rattle.sheet.specs.Tables.{labelsIn, locationsIn, typeIn, homeIn, readsIn}
+use Rattle.sheet.specs.TypeTest.{hasNo}
 use Rattle.memory.specs.Memory.{memoryOf, formedBy, sliceRefusal, refusalBy}
 use Rattle.memory.specs.View.{viewBy, leaves}
 

@@ -4,11 +4,11 @@ use mathlib.Core.List.{List, [], _∷_, _++_}
 use Prim.Native.Nat.{ℕ, zero, suc, _*_}
 use lib.Dec.{eqb, leb, ltb}
 use lib.ListN.{length, take, drop}
-use Rattle.booleans.specs.Booleans.{both}
+use Rattle.logic.specs.Booleans.{both}
 use Rattle.sets.specs.Sets.{every}
 use Rattle.language.specs.Syntax.{Value, int, err, inl, inr, pkg, blank, has}
 use Rattle.language.specs.Evaluation.{Mem, cell-words}
-use Rattle.tables.specs.Sheet.{Sheet, tyOf, labelCount, locationNo, locationCount}
+use Rattle.sheet.specs.Sheet.{Sheet, tyOf, labelCount, locationNo, locationCount}
 use Rattle.memory.specs.Words.{cell, valueOf}
 
 -- the words of location x

@@ -8,9 +8,9 @@ use Rattle.language.specs.Syntax.{Value, size}
 use Rattle.language.specs.Evaluation.{Mem}
 use Rattle.language.specs.View.{mask, maskMem}
 use Rattle.language.specs.Theorems.{WellTyped, Fitting}
-use Rattle.tables.specs.Sheet.{Sheet, labelCount, locationCount}
-use Rattle.tables.specs.Tables.{tableOf, readsIn}
-use Rattle.tables.specs.Meaning.{shapesOf, readsNo}
+use Rattle.sheet.specs.Sheet.{Sheet, labelCount, locationCount}
+use Rattle.sheet.specs.Tables.{tableOf, readsIn}
+use Rattle.sheet.specs.Meaning.{shapesOf, readsNo}
 use Rattle.memory.specs.Words.{enc, cell, readOf, valueOf}
 use Rattle.memory.specs.Memory.{memoryOf, wordsOf, proper, holdsBy, memoryRefusal}
 use Rattle.memory.specs.View.{seesNo, viewWords, viewRefusal, viewLeaves}

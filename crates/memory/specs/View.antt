@@ -7,8 +7,8 @@ use lib.ListN.{length}
 use Rattle.language.specs.Syntax.{Value}
 use Rattle.language.specs.Evaluation.{Mem, cell-words}
 use Rattle.language.specs.View.{mask}
-use Rattle.tables.specs.Sheet.{Sheet, locationNo, locationCount}
-use Rattle.tables.specs.Meaning.{readsNo}
+use Rattle.sheet.specs.Sheet.{Sheet, locationNo, locationCount}
+use Rattle.sheet.specs.Meaning.{readsNo}
 use Rattle.memory.specs.Words.{zeros, cell}
 use Rattle.memory.specs.Memory.{memoryOf, cells, sliceRefusal, memoryRefusal}
 

@@ -7,11 +7,11 @@ ghost use Prim.Native.Nat.{_+_, _*_, _≤_};
 ghost use lib.Dec.{eqb, ltb};
 ghost use lib.ListN.{length, drop};
 ghost use lib.Seq.{paste};
-ghost use Rattle.booleans.specs.Booleans.{both};
+ghost use Rattle.logic.specs.Booleans.{both};
 ghost use Rattle.language.specs.Syntax.{size};
 ghost use Rattle.language.specs.View.{mask};
-ghost use Rattle.tables.specs.Tables.{labelsIn, locationsIn, readsIn};
-ghost use Rattle.tables.specs.TypeTest.{hasNo};
+ghost use Rattle.sheet.specs.Tables.{labelsIn, locationsIn, readsIn};
+ghost use Rattle.sheet.specs.TypeTest.{hasNo};
 ghost use Rattle.memory.specs.Words.{valueOf, endOf};
 ghost use Rattle.memory.specs.Memory.{holdsBy, cellOf};
 ghost use Rattle.memory.specs.View.{viewCell};
@@ -53,21 +53,21 @@ pub fn has_type(table: &[u16], words: &[u32], at: usize, ty: u32) -> bool
         return false;
     }
     match words[at] {
-        INT => one_more(words, at, ty, tables::INT),
-        ERROR => one_more(words, at, ty, tables::ERROR),
+        INT => one_more(words, at, ty, sheet::INT),
+        ERROR => one_more(words, at, ty, sheet::ERROR),
         LEFT => {
-            if !tables::is_sum(table, ty) {
+            if !sheet::is_sum(table, ty) {
                 return false;
             }
-            has_type(table, words, at + 1, tables::left_part(table, ty))
+            has_type(table, words, at + 1, sheet::left_part(table, ty))
         }
         RIGHT => {
-            if !tables::is_sum(table, ty) {
+            if !sheet::is_sum(table, ty) {
                 return false;
             }
-            has_type(table, words, at + 1, tables::right_part(table, ty))
+            has_type(table, words, at + 1, sheet::right_part(table, ty))
         }
-        PACKAGE => one_more(words, at, ty, tables::PKG),
+        PACKAGE => one_more(words, at, ty, sheet::PKG),
         _ => false,
     }
 }
@@ -91,7 +91,7 @@ fn holds(table: &[u16], words: &[u32], ty: u32) -> bool
     requires { ⌜ length (now words) ≡ 16 ⌝ }
     ensures { λ r. ⌜ r ≡ holdsBy (labelsIn (now (table .entry))) (λ v. hasNo (now (table .entry)) v ty) (now (words .entry)) ⌝ }
 {
-    let walked = values::value_at(tables::labels(table), words, 0);
+    let walked = values::value_at(sheet::labels(table), words, 0);
     if !walked.ok {
         return false;
     }
@@ -109,14 +109,14 @@ fn location_holds(table: &[u16], memory: &[u32], x: u32) -> bool
 {
     let start = CELL * (x as usize);
     let end = start + CELL;
-    holds(table, &memory[start..end], tables::location_type(table, x))
+    holds(table, &memory[start..end], sheet::location_type(table, x))
 }
 
 // 7 where a memory isn't 16 words for each location, 8 where it isn't well-formed, else 0.
 pub fn refusal(table: &[u16], memory: &[u32]) -> u8
     ensures { λ r. ⌜ r ≡ refusalIn (now (table .entry)) (now (memory .entry)) ⌝ }
 {
-    let n = tables::locations(table);
+    let n = sheet::locations(table);
     if memory.len() != CELL * (n as usize) {
         return 7;
     }
@@ -137,7 +137,7 @@ fn location_view(table: &[u16], memory: &[u32], group: Set, x: u32) -> [u32; CEL
         → r ≡ viewCell (seesIn (now (table .entry)) group x) (mask (readsIn (now (table .entry)) group) (valueOf (cellOf (now (memory .entry)) x)))) ⌝ }
 {
     let mut out = [0u32; CELL];
-    if tables::reads(table, group, tables::location_label(table, x)) {
+    if sheet::reads(table, group, sheet::location_label(table, x)) {
         let start = CELL * (x as usize);
         let end = start + CELL;
         masks::mask_at(table, group, &memory[start..end], 0, &mut out, 0);
@@ -161,7 +161,7 @@ fn view_each(table: &[u16], memory: &[u32], group: Set, shown: &mut [u32])
     requires { ⌜ (refusalIn (now table) (now memory) ≡ 0) × (length (now shown) ≡ 16 * locationsIn (now table)) ⌝ }
     ensures { λ _. ⌜ now (shown .exit) ≡ viewIn (now (table .entry)) group (now (memory .entry)) ⌝ }
 {
-    let n = tables::locations(table);
+    let n = sheet::locations(table);
     let mut x = 0;
     while x < n {
         let cell = location_view(table, memory, group, x);
@@ -176,7 +176,7 @@ pub fn view(table: &[u16], memory: &[u32], group: Set, shown: &mut [u32]) -> u8
     ensures { λ r. ⌜ r ≡ viewRefusalIn (now (table .entry)) (now (memory .entry)) (length (now (shown .entry))) ⌝ }
     ensures { λ r. ⌜ now (shown .exit) ≡ viewLeavesIn (now (table .entry)) group (now (memory .entry)) (now (shown .entry)) ⌝ }
 {
-    if shown.len() != CELL * (tables::locations(table) as usize) {
+    if shown.len() != CELL * (sheet::locations(table) as usize) {
         return 7;
     }
     let answer = refusal(table, memory);

@@ -4,7 +4,7 @@ ghost use mathlib.Core.Bool.{Bool};
 ghost use Prim.Native.Nat.{ℕ, _+_, _^_, _≤_, _<_};
 ghost use lib.ListN.{length, getD, drop, set};
 ghost use Rattle.language.specs.Syntax.{Value};
-ghost use Rattle.tables.specs.Tables.{readsIn};
+ghost use Rattle.sheet.specs.Tables.{readsIn};
 ghost use Rattle.memory.specs.Words.{numbered, readOf};
 ghost use Rattle.memory.specs.Post.{Masks, Numeral, Opens};
 use crate::values;
@@ -119,14 +119,14 @@ fn mask_label(
     store(out, to, crate::PACKAGE);
     let second = to + 1;
     store(out, second, words[at]);
-    if tables::reads(table, group, words[at]) {
+    if sheet::reads(table, group, words[at]) {
         return Head {
             shown: true,
             next: at,
             end: to,
         };
     }
-    let content = values::value_at(tables::labels(table), words, at + 1);
+    let content = values::value_at(sheet::labels(table), words, at + 1);
     let next = content.next;
     let third = second + 1;
     store(out, third, 0);

@@ -3,7 +3,7 @@ ghost use mathlib.Core.Path.{_≡_};
 ghost use Prim.Native.Nat.{ℕ, _+_, _-_, _<_};
 ghost use lib.Dec.{leb};
 ghost use lib.ListN.{length, drop};
-ghost use Rattle.booleans.specs.Booleans.{both};
+ghost use Rattle.logic.specs.Booleans.{both};
 ghost use Rattle.language.specs.Syntax.{int, err};
 ghost use Rattle.memory.specs.Words.{zeros, numbered, packaged, readOf};
 ghost use Rattle.memory.specs.Memory.{same};

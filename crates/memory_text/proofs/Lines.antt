@@ -20,8 +20,8 @@ use Rattle.text.proofs.Writings.{length-decimal}
 use Rattle.language.specs.Evaluation.{cell-words}
 use Rattle.memory_text.specs.Sizes.{lineRoom}
 use Rattle.memory_text.specs.Printing.{keep, trim, fields, line, rowLine}
-use Rattle.tables.specs.Tables.{padded}
-use Rattle.tables.proofs.Words.{length-padded}
+use Rattle.sheet.specs.Tables.{padded}
+use Rattle.sheet.proofs.Words.{length-padded}
 use Rattle.memory_text.specs.Reading.{following, words, blankOr, lineWords, location}
 use Rattle.memory_text.specs.Theorems.{Words}
 use Rattle.memory_text.proofs.Trimming as trimming

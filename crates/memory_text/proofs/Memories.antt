@@ -14,7 +14,7 @@ use Rattle.text.proofs.Cases.{cond-split}
 use Rattle.text.proofs.Readings.{not-bad, got-same}
 use Rattle.text.proofs.Lines.{lines-exact}
 use Rattle.language.specs.Evaluation.{cell-words}
-use Rattle.tables.specs.Sheet.{maxLocations}
+use Rattle.sheet.specs.Sheet.{maxLocations}
 use Rattle.memory_text.specs.Sizes.{lineRoom}
 use Rattle.memory_text.specs.Printing.{trim, rows, lines, memoryText}
 use Rattle.memory_text.specs.Reading.{location, joined, wordsOf, locations, memory}

@@ -14,11 +14,11 @@ use Rattle.text.proofs.Places.{placed-split}
 use Rattle.text.proofs.Writings.{sets-append, sets-zeros}
 use Rattle.text.proofs.Lines.{lines-at-end, lines-at-full, lines-at-bad, lines-at-more, line-sound, line-within}
 use Rattle.language.specs.Evaluation.{cell-words}
-use Rattle.tables.specs.Sheet.{maxLocations}
+use Rattle.sheet.specs.Sheet.{maxLocations}
 use Rattle.memory_text.specs.Sizes.{memoryWords}
 use Rattle.memory_text.specs.declared.Memory.{Memory}
 use Rattle.memory_text.specs.declared.Row.{Row}
-use Rattle.tables.specs.Tables.{padded}
+use Rattle.sheet.specs.Tables.{padded}
 use Rattle.memory_text.specs.Reading.{location, joined, wordsOf, locations, memory}
 use Rattle.memory_text.specs.Answers.{rowIn, table, memoryOf}
 use Rattle.memory_text.proofs.Lines.{memory-lines}

@@ -13,7 +13,7 @@ use Rattle.memory_text.specs.Sizes.{memoryWords, lineRoom}
 use Rattle.memory_text.specs.declared.Memory.{Memory}
 use Rattle.memory_text.specs.declared.Row.{Row}
 use Rattle.memory_text.specs.Printing.{memoryText}
-use Rattle.tables.specs.Tables.{padded}
+use Rattle.sheet.specs.Tables.{padded}
 use Rattle.memory_text.specs.Reading.{memory}
 
 -- a location that is read in s, or the refusal

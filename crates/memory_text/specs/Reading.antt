@@ -11,8 +11,8 @@ use Rattle.text.specs.Number.{number, most}
 use Rattle.text.specs.Field.{lineEnd}
 use Rattle.text.specs.Lines.{linesUpTo}
 use Rattle.language.specs.Evaluation.{cell-words}
-use Rattle.tables.specs.Sheet.{maxLocations}
-use Rattle.tables.specs.Tables.{padded}
+use Rattle.sheet.specs.Sheet.{maxLocations}
+use Rattle.sheet.specs.Tables.{padded}
 
 -- the word v with what its line goes on with: the end, unless v is zero, or a tab and more words
 unfoldable pub following : ℕ → List ℕ → (List ℕ → Read (List ℕ)) → Read (List ℕ)

@@ -1,7 +1,7 @@
 -- The sizes of a memory and of its text.
 use Prim.Native.Nat.{ℕ, _*_}
 use Rattle.language.specs.Evaluation.{cell-words}
-use Rattle.tables.specs.Sheet.{maxLocations}
+use Rattle.sheet.specs.Sheet.{maxLocations}
 
 -- the words of the most locations
 abbrev pub memoryWords : ℕ

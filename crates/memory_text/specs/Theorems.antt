@@ -10,7 +10,7 @@ use Rattle.text.specs.Number.{most}
 use Rattle.language.specs.Evaluation.{cell-words}
 use Rattle.memory_text.specs.Sizes.{memoryWords}
 use Rattle.memory_text.specs.Printing.{memoryText}
-use Rattle.tables.specs.Tables.{padded}
+use Rattle.sheet.specs.Tables.{padded}
 use Rattle.memory_text.specs.Reading.{memory}
 use Rattle.memory_text.specs.Answers.{memoryOf}
 

@@ -13,8 +13,8 @@ use lib.Bits.{bitAnd, bitOr, and-step, or-step, and-shr, or-shr, and-mask, block
 use lib.Pow.{shr-shr, shl-exact, high, split, ones-split, ones-lt, pow-lt, pow-mono, pow-pos}
 use lib.Dec.{T, eqb, ltb, lit<}
 use borrow.Author.Tests.{eqb-true, eqb-false, eq-eqb, ne-eqb, not-true, lt-ltb, le-ltb, ltb-true}
-use Rattle.booleans.specs.Booleans.{both, either}
-use Rattle.booleans.proofs.BooleanLaws.{absurd-false, bool-ext, both-implied, both-left, both-right, both-true, either-case, either-left, either-right, not-so}
+use Rattle.logic.specs.Booleans.{both, either}
+use Rattle.logic.proofs.BooleanLaws.{absurd-false, bool-ext, both-implied, both-left, both-right, both-true, either-case, either-left, either-right, not-so}
 use Rattle.sets.specs.Sets.{member, union, intersection, within, meets, single, everyone, restrict}
 
 -- ---- digits

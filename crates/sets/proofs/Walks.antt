@@ -8,8 +8,8 @@ use native.Mathlib.Nat.{not-suc-le-zero, le-of-suc-le-suc, zero-lt-suc}
 use native.Mathlib.Numerals.{add-one}
 use lib.ListN.{length, getD, set, drop, replicate}
 use lib.Seq.{set-getD}
-use Rattle.booleans.specs.Booleans.{both}
-use Rattle.booleans.proofs.BooleanLaws.{bool-ext, both-left, both-no-left, both-no-right, both-right, both-true}
+use Rattle.logic.specs.Booleans.{both}
+use Rattle.logic.proofs.BooleanLaws.{bool-ext, both-left, both-no-left, both-no-right, both-right, both-true}
 use Rattle.sets.specs.Sets.{every, tab}
 
 -- ---- every

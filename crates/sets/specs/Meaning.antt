@@ -5,7 +5,7 @@ use mathlib.Core.Bool.{true}
 use mathlib.Core.Logic.{_↔_}
 use Prim.Native.Nat.{ℕ}
 use lib.Dec.{ltb}
-use Rattle.booleans.specs.Booleans.{both, either}
+use Rattle.logic.specs.Booleans.{both, either}
 use Rattle.sets.specs.Sets.{member, union, intersection, within, meets, single, everyone, restrict}
 
 pub record MasksAreSets : Type 0 where

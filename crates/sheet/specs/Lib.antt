@@ -1,8 +1,5 @@
--- From a sheet's bytes to its table (the scope, "The three texts").
-pub mod Lines
-pub mod Reading
-pub mod Building
-pub mod Sheets
-pub mod Drafts
-pub mod Repeats
+pub mod Sheet
+pub mod Tables
+pub mod Meaning
+pub mod TypeTest
 pub mod Theorems

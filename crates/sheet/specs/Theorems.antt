@@ -1,30 +1,14 @@
--- What is shown of sheets: each answer is given exactly to the texts that it is for.
+-- What is claimed of a sheet's labels. The proof stands in proofs/MeaningLaws.antt.
 use mathlib.Core.Path.{_≡_}
-use mathlib.Core.Bool.{true, false}
-use mathlib.Core.Logic.{_↔_}
-use mathlib.Core.List.{List}
-use Prim.Native.Nat.{ℕ, _≤_}
-use lib.ListN.{length}
-use Rattle.text.specs.Reading.{limit}
-use Rattle.tables.specs.Sheet.{Sheet, formed, repeats}
-use Rattle.sheet.specs.Lines.{sheetBytes}
-use Rattle.sheet.specs.Sheets.{malformed, repeating, accepted, sheetOf}
+use mathlib.Core.Bool.{true}
+use Prim.Native.Nat.{ℕ}
+use Rattle.labels.specs.Labels.{effective}
+use Rattle.sheet.specs.Sheet.{Sheet, labelNo, locationNo}
+use Rattle.sheet.specs.Meaning.{declarationsOf}
 
--- the text is the printed form of a sheet that is of the right form, and not too long
-pub record IsSheet (t : List ℕ) (s : Sheet) : Type 0 where
-  pub printed : t ≡ sheetBytes s
-  pub short : length t ≤ limit
-  pub right : formed s ≡ true
-
-abbrev pub AcceptedExact : Type 0
-AcceptedExact = (t : List ℕ) (s : Sheet) → (sheetOf t ≡ accepted s) ↔ (IsSheet t s × (repeats s ≡ false))
-
-abbrev pub RepeatingExact : Type 0
-RepeatingExact = (t : List ℕ) → (sheetOf t ≡ repeating) ↔ ((s : Sheet) × IsSheet t s × (repeats s ≡ true))
-
-abbrev pub MalformedExact : Type 0
-MalformedExact = (t : List ℕ) → (sheetOf t ≡ malformed) ↔ ((s : Sheet) → IsSheet t s → ⊥)
-
--- a text is that of one sheet at most
-abbrev pub OneSheet : Type 0
-OneSheet = (t : List ℕ) (s s′ : Sheet) → IsSheet t s → IsSheet t s′ → s ≡ s′
+-- Typing and running go by the same labels: every label of a sheet of the right form is one of its principals, so that what typing
+-- takes it for is the label itself.
+pub record SameLabels (s : Sheet) : Type 0 where
+  pub are-effective : (l : ℕ) → effective (s .principals) (labelNo s l) ≡ true
+  pub of-numbers : (l : ℕ) → (declarationsOf s .label l) .raw ≡ labelNo s l
+  pub of-locations : (x : ℕ) → (declarationsOf s .home x) .raw ≡ labelNo s (locationNo s x .label)

@@ -1,71 +1,164 @@
-// From a sheet's bytes to its table; a text that is no sheet of the right form, or one that repeats, is refused.
-mod line; // line.rt: from bytes to lines
-mod draft; // draft.rt: from lines to the table
-mod repeat; // repeat.rt: whether a table repeats a type or a label
-
+// The decoded sheet: a table of words, and what it says of types, locations and labels.
 ghost use mathlib.Core.Path.{_≡_};
-ghost use lib.ListN.{drop, replicate};
-ghost use Rattle.tables.specs.Tables.{tableWords};
-ghost use Rattle.sheet.specs.Sheets.{sheetOf, decoded};
-use draft::draft_of;
-use reader::Reader;
-use reader::reader_of;
-use reader::rest;
-use repeat::repeats;
-use tables::WORDS;
+ghost use lib.ListN.{getD};
+ghost use Rattle.sheet.specs.Tables.{entryIn, principalsIn, everyoneIn, typesIn, labelsIn, locationsIn, leftIn, rightIn, typeIn, homeIn, labelIn, belowIn, readsIn, writesIn};
+ghost use Rattle.sheet.specs.TypeTest.{isSum};
+use labels::LABEL_SIZE;
+use labels::Label;
+use sets::Set;
 
-// The answer to a text: 0 and the sheet's table, or the number of a refusal and zeros.
-pub struct Decoded {
-    pub answer: u8,
-    pub table: [u16; WORDS],
+// The words of a table, and where its parts start.
+pub const WORDS: usize = 1224;
+
+pub const PARTS: u32 = 8;
+
+pub const LOCATIONS: u32 = 72;
+
+pub const LABELS: usize = 200;
+
+// The word at `at`, or 0 past the end.
+fn word(table: &[u16], at: usize) -> u16
+    ensures { λ r. ⌜ r ≡ getD (now (table .entry)) at 0 ⌝ }
+{
+    if at < table.len() { table[at] } else { 0 }
 }
 
-// Fills a table of zeros with the sheet of a text, and answers 0, or leaves zeros and answers the number of the refusal.
-fn fill(text: &[u8], table: &mut [u16; WORDS]) -> u8
-    requires { ⌜ now table ≡ replicate tableWords 0 ⌝ }
-    ensures { λ r. ⌜ record { answer = r; table = now (table .exit) } ≡ decoded (sheetOf (now (text .entry))) ⌝ }
+// The same word as a wider number.
+fn number(table: &[u16], at: usize) -> u32
+    ensures { λ r. ⌜ r ≡ getD (now (table .entry)) at 0 ⌝ }
 {
-    let d = draft_of(text, table);
-    if !d.ok {
-        *table = [0u16; WORDS];
-        return 1;
+    word(table, at) as u32
+}
+
+// The word of entry i in a list of `count` pairs that starts at `base`, or 0 past the last entry.
+fn entry(table: &[u16], count: u32, base: u32, i: u32) -> u32
+    ensures { λ r. ⌜ r ≡ entryIn (now (table .entry)) count base i ⌝ }
+{
+    if i < count {
+        number(table, base as usize + 2 * (i as usize))
+    } else {
+        0
     }
-    if repeats(table) {
-        *table = [0u16; WORDS];
-        return 2;
+}
+
+// The numbers of the types that are given; the sums start with int+int.
+pub const INT: u32 = 0;
+
+pub const ERROR: u32 = 1;
+
+pub const PKG: u32 = 2;
+
+pub const INT_OR_INT: u32 = 3;
+
+pub const PKG_OR_ERROR: u32 = 4;
+
+pub const SUMS: u32 = INT_OR_INT;
+
+// The number of principals.
+pub fn principals(table: &[u16]) -> u32
+    ensures { λ r. ⌜ r ≡ principalsIn (now (table .entry)) ⌝ }
+{
+    number(table, 0)
+}
+
+// The set of all principals.
+pub fn everyone(table: &[u16]) -> Set
+    ensures { λ r. ⌜ r ≡ everyoneIn (now (table .entry)) ⌝ }
+{
+    word(table, 1)
+}
+
+// The number of types.
+pub fn types(table: &[u16]) -> u32
+    ensures { λ r. ⌜ r ≡ typesIn (now (table .entry)) ⌝ }
+{
+    number(table, 2)
+}
+
+// The number of labels.
+pub fn labels(table: &[u16]) -> u32
+    ensures { λ r. ⌜ r ≡ labelsIn (now (table .entry)) ⌝ }
+{
+    number(table, 3)
+}
+
+// The number of locations.
+pub fn locations(table: &[u16]) -> u32
+    ensures { λ r. ⌜ r ≡ locationsIn (now (table .entry)) ⌝ }
+{
+    number(table, 4)
+}
+
+// Whether a number names a sum type.
+pub fn is_sum(table: &[u16], ty: u32) -> bool
+    ensures { λ r. ⌜ r ≡ isSum (now (table .entry)) ty ⌝ }
+{
+    if ty < SUMS {
+        return false;
     }
-    0
+    ty < types(table)
 }
 
-// The table of a sheet's text, or the number of its refusal.
-fn read_text(text: &[u8]) -> Decoded
-    ensures { λ r. ⌜ r ≡ decoded (sheetOf (now (text .entry))) ⌝ }
+// The left part of a type; 0 for a number that names no type.
+pub fn left_part(table: &[u16], ty: u32) -> u32
+    ensures { λ r. ⌜ r ≡ leftIn (now (table .entry)) ty ⌝ }
 {
-    let mut d = Decoded {
-        answer: 0,
-        table: [0u16; WORDS],
-    };
-    d.answer = fill(text, &mut d.table);
-    d
+    entry(table, types(table), PARTS, ty)
 }
 
-// The same of the text from `at` on.
-fn read_from(text: &[u8], at: usize) -> Decoded
-    ensures { λ r. ⌜ r ≡ decoded (sheetOf (drop at (now (text .entry)))) ⌝ }
+// The right part, likewise.
+pub fn right_part(table: &[u16], ty: u32) -> u32
+    ensures { λ r. ⌜ r ≡ rightIn (now (table .entry)) ty ⌝ }
 {
-    read_text(rest(text, at))
+    entry(table, types(table), PARTS + 1, ty)
 }
 
-// The same of the text that a reader has before it.
-pub fn read_here<'a>(r: Reader<'a>) -> Decoded
-    ensures { λ d. ⌜ d ≡ decoded (sheetOf (drop (r .entry .at) (now (r .entry .text)))) ⌝ }
+// The type of a location; 0 for a number that names no location.
+pub fn location_type(table: &[u16], x: u32) -> u32
+    ensures { λ r. ⌜ r ≡ typeIn (now (table .entry)) x ⌝ }
 {
-    read_from(r.text, r.at)
+    entry(table, locations(table), LOCATIONS, x)
 }
 
-// The table of a sheet's text, or the number of its refusal; a plain slice, so that its callers hold no reader.
-pub fn read(text: &[u8]) -> Decoded
-    ensures { λ r. ⌜ r ≡ decoded (sheetOf (now (text .entry))) ⌝ }
+// The number of a location's label, likewise.
+pub fn location_label(table: &[u16], x: u32) -> u32
+    ensures { λ r. ⌜ r ≡ homeIn (now (table .entry)) x ⌝ }
 {
-    read_here(reader_of(text))
+    entry(table, locations(table), LOCATIONS + 1, x)
+}
+
+// A label; bottom for a number that names none.
+pub fn label_of(table: &[u16], l: u32) -> Label
+    ensures { λ r. ⌜ r ≡ labelIn (now (table .entry)) l ⌝ }
+{
+    if l < labels(table) {
+        labels::label_at(table, LABELS + LABEL_SIZE * (l as usize))
+    } else {
+        Label::bottom(everyone(table))
+    }
+}
+
+// Whether label l is at or below label m.
+pub fn below(table: &[u16], l: u32, m: u32) -> bool
+    ensures { λ r. ⌜ r ≡ belowIn (now (table .entry)) l m ⌝ }
+{
+    let lower = label_of(table, l);
+    let upper = label_of(table, m);
+    lower.at_or_below(upper)
+}
+
+// Whether a group reads label l.
+pub fn reads(table: &[u16], group: Set, l: u32) -> bool
+    ensures { λ r. ⌜ r ≡ readsIn (now (table .entry)) group l ⌝ }
+{
+    let label = label_of(table, l);
+    label.reads(principals(table) as usize, group)
+}
+
+// Whether a group writes label l.
+pub fn writes(table: &[u16], group: Set, l: u32) -> bool
+    ensures { λ r. ⌜ r ≡ writesIn (now (table .entry)) group l ⌝ }
+{
+    let label = label_of(table, l);
+    label.writes(principals(table) as usize, group)
 }

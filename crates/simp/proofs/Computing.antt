@@ -4,25 +4,25 @@ use Rattle.text.specs.Lines as text-lines
 use Rattle.text.specs.Number as number
 use Rattle.text.specs.Reading as reading
 use Rattle.text.specs.Set as hex
-use Rattle.booleans.specs.Booleans as booleans
+use Rattle.logic.specs.Booleans as logic
 use Rattle.sets.specs.Sets as sets
 use Rattle.labels.specs.Labels as labels
 use Rattle.language.specs.Evaluation as evaluation
 use Rattle.language.specs.Syntax as syntax
 use Rattle.language.specs.Transition as transition
 use Rattle.language.specs.Typing as typing
-use Rattle.lines.specs.Lines as lines
-use Rattle.lines.specs.Names as names
-use Rattle.tables.specs.Meaning as meaning
-use Rattle.tables.specs.Sheet as sheet
-use Rattle.tables.specs.Tables as tables
-use Rattle.sheet.specs.Building as building
-use Rattle.sheet.specs.Reading as sheet-lines
-use Rattle.sheet.specs.Repeats as repeats
-use Rattle.sheet.specs.Sheets as sheets
-use Rattle.script.specs.Parse as parse
-use Rattle.script.specs.Reading as script-lines
-use Rattle.script.specs.Script as script
+use Rattle.script.specs.Lines as lines
+use Rattle.script.specs.Names as names
+use Rattle.sheet.specs.Meaning as meaning
+use Rattle.sheet.specs.Sheet as sheet
+use Rattle.sheet.specs.Tables as tables
+use Rattle.sheet_text.specs.Building as building
+use Rattle.sheet_text.specs.Reading as sheet-lines
+use Rattle.sheet_text.specs.Repeats as repeats
+use Rattle.sheet_text.specs.Sheets as sheets
+use Rattle.script_text.specs.Parse as parse
+use Rattle.script_text.specs.Reading as script-lines
+use Rattle.script_text.specs.Script as script
 use Rattle.memory.specs.Memory as memory
 use Rattle.memory.specs.Words as words
 use Rattle.simp.specs.Calls as calls
@@ -36,9 +36,9 @@ unfolding field.numberField field.setField field.lastNumber
     hex.hexDigit hex.hexDigits hex.hexByte
 text-used = tt
 
-unfoldable pub booleans-used : Unit {0}
-unfolding booleans.both booleans.either
-booleans-used = tt
+unfoldable pub logic-used : Unit {0}
+unfolding logic.both logic.either
+logic-used = tt
 
 unfoldable pub sets-used : Unit {0}
 unfolding sets.member sets.union sets.intersection sets.within sets.meets sets.single sets.everyone sets.restrict sets.every
@@ -61,33 +61,33 @@ unfolding evaluation.bind evaluation.fitting evaluation.fit evaluation.addTo eva
     typing.typeOfValue typing.typeOf typing.shape typing.least typing.flowE typing.flow typing.accepts typing.refusal
 language-used = tt
 
-unfoldable pub lines-used : Unit {0}
+unfoldable pub script-used : Unit {0}
 unfolding lines.numberOf lines.exprLines lines.cmdLines
     names.namedE names.named
-lines-used = tt
+script-used = tt
 
-unfoldable pub tables-used : Unit {0}
+unfoldable pub sheet-used : Unit {0}
 unfolding meaning.effectiveIf meaning.effectively
     sheet.givenTypes sheet.typesFrom sheet.tyOf sheet.givenParts sheet.partsOf sheet.typeCount sheet.labelsOf sheet.labelNo sheet.labelCount
     sheet.locationNo sheet.locationCount sheet.earlier sheet.rising sheet.eachRising sheet.eachNamed sheet.formed sheet.among sheet.repeated
     sheet.sameParts sheet.givenSums sheet.repeats
     tables.padded
-tables-used = tt
+sheet-used = tt
 
-unfoldable pub sheet-used : Unit {0}
+unfoldable pub sheet-text-used : Unit {0}
 unfolding building.blank building.addSum building.addLabel building.toLast building.addPolicy building.addLocation building.lastOf building.leastAfter
     building.leastOwner building.sumFits building.labelFits building.policyFits building.locationFits building.begin building.step
     building.stepOn building.steps building.build
     sheet-lines.principalsRest sheet-lines.pairLine sheet-lines.pairRest sheet-lines.labelRest sheet-lines.policyRest sheet-lines.lineOf
     repeats.anyFrom
     sheets.buildIn sheets.sheetIn sheets.judged sheets.sheetOf
-sheet-used = tt
+sheet-text-used = tt
 
-unfoldable pub script-used : Unit {0}
+unfoldable pub script-text-used : Unit {0}
 unfolding parse.popE parse.popC parse.onStack parse.pushOn parse.stackOf parse.single parse.parse
     script-lines.formOf script-lines.operandsOf script-lines.lineOf script-lines.linesOf
     script.namedOnly script.commandOf script.commandIn script.scriptOf
-script-used = tt
+script-text-used = tt
 
 unfoldable pub memory-used : Unit {0}
 unfolding memory.cellOf memory.memoryOf memory.cells memory.wordsOf memory.proper memory.same memory.exactly memory.formedBy memory.sliceRefusal
@@ -101,5 +101,5 @@ unfolding calls.onSheet calls.unless calls.strangers calls.onScript calls.untype
 simp-used = tt
 
 unfoldable pub all-used : Unit {0}
-unfolding booleans-used text-used sets-used labels-used language-used lines-used tables-used sheet-used script-used memory-used simp-used
+unfolding logic-used text-used sets-used labels-used language-used script-used sheet-used sheet-text-used script-text-used memory-used simp-used
 all-used = tt

@@ -3,7 +3,7 @@ use mathlib.Core.Path.{_≡_, refl, ap}
 use mathlib.Core.List.{List, [], _∷_}
 use Prim.Native.Nat.{ℕ}
 use native.Mathlib.Omega.{arith}
-use Rattle.tables.specs.Sheet.{Sheet}
+use Rattle.sheet.specs.Sheet.{Sheet}
 use Rattle.language.specs.Syntax.{Cmd}
 use Rattle.simp.specs.Calls.{checkOf, Ran, refusedRun, runOf, Viewed, refusedView, viewOf}
 use Rattle.simp.specs.Rows.{numbers, Among, here, later}

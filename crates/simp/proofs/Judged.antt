@@ -12,15 +12,15 @@ use borrow.Author.Tests.{eqb-true, eqb-false}
 use Rattle.language.specs.Syntax.{Cmd}
 use Rattle.language.specs.Typing.{refusal}
 use Rattle.language.proofs.Exactness.{shape-iff, flow-iff}
-use Rattle.tables.specs.Sheet.{Sheet, repeats}
-use Rattle.tables.specs.Meaning.{labelsOver, declarationsOf}
-use Rattle.tables.proofs.MeaningLaws.{labels-lattice}
-use Rattle.sheet.specs.Sheets.{Answer, malformed, repeating, accepted, sheetOf}
-use Rattle.sheet.specs.Theorems.{IsSheet}
-use Rattle.sheet.proofs.Theorems.{accepted-exact, repeating-exact, malformed-exact, one-sheet}
-use Rattle.script.specs.Script.{countsOf, scriptOf}
-use Rattle.script.specs.Theorems.{IsScript}
-use Rattle.script.proofs.ScriptLaws.{script-exact}
+use Rattle.sheet.specs.Sheet.{Sheet, repeats}
+use Rattle.sheet.specs.Meaning.{labelsOver, declarationsOf}
+use Rattle.sheet.proofs.MeaningLaws.{labels-lattice}
+use Rattle.sheet_text.specs.Sheets.{Answer, malformed, repeating, accepted, sheetOf}
+use Rattle.sheet_text.specs.Theorems.{IsSheet}
+use Rattle.sheet_text.proofs.Theorems.{accepted-exact, repeating-exact, malformed-exact, one-sheet}
+use Rattle.script_text.specs.Script.{countsOf, scriptOf}
+use Rattle.script_text.specs.Theorems.{IsScript}
+use Rattle.script_text.proofs.ScriptLaws.{script-exact}
 use Rattle.memory.specs.Memory.{wellFormed, sliceRefusal, refusalBy, memoryRefusal}
 use Rattle.memory.specs.View.{viewRefusal}
 use Rattle.simp.specs.Calls.{onSheet, unless, strangers, onScript, untyped}

@@ -8,9 +8,9 @@ use lib.ListN.{length}
 use Rattle.language.specs.Syntax.{Cmd}
 use Rattle.language.specs.Typing.{shape}
 use Rattle.language.proofs.Exactness.{flow-iff, exactness}
-use Rattle.tables.specs.Sheet.{Sheet}
-use Rattle.tables.specs.Meaning.{labelsOver, declarationsOf, shapesOf}
-use Rattle.tables.proofs.MeaningLaws.{labels-lattice}
+use Rattle.sheet.specs.Sheet.{Sheet}
+use Rattle.sheet.specs.Meaning.{labelsOver, declarationsOf, shapesOf}
+use Rattle.sheet.proofs.MeaningLaws.{labels-lattice}
 use Rattle.memory.specs.Memory.{wellFormed, sliceRefusal, refusalBy, memoryRefusal}
 use Rattle.memory.specs.View.{viewRefusal}
 use Rattle.simp.specs.Calls.{strangers, untyped}

@@ -13,10 +13,10 @@ use Rattle.language.specs.Theorems.{Observer}
 use Rattle.language.proofs.Exactness.{flow-iff}
 use Rattle.language.proofs.Noninterference.{noninterference}
 use Rattle.language.proofs.Observers.{lattice-joins, reader}
-use Rattle.tables.specs.Sheet.{Sheet, formed}
-use Rattle.tables.specs.Meaning.{labelsOver, declarationsOf, worldOf, readsNo}
-use Rattle.tables.proofs.FormLaws.{formed-facts}
-use Rattle.tables.proofs.MeaningLaws.{labels-lattice, declared-label, declared-home}
+use Rattle.sheet.specs.Sheet.{Sheet, formed}
+use Rattle.sheet.specs.Meaning.{labelsOver, declarationsOf, worldOf, readsNo}
+use Rattle.sheet.proofs.FormLaws.{formed-facts}
+use Rattle.sheet.proofs.MeaningLaws.{labels-lattice, declared-label, declared-home}
 use Rattle.memory.specs.View.{seesNo}
 use Rattle.simp.specs.Judgements.{Typable}
 

@@ -5,18 +5,18 @@ use mathlib.Core.List.{List}
 use Prim.Native.Nat.{ℕ, suc, _<_}
 use native.Mathlib.Omega.{arith}
 use borrow.Author.Tests.{ltb-true}
-use Rattle.booleans.proofs.BooleanLaws.{both-left, both-right}
+use Rattle.logic.proofs.BooleanLaws.{both-left, both-right}
 use Rattle.language.specs.Syntax.{Value, int, Expr, Cmd, size}
 use Rattle.language.specs.Evaluation.{Mem}
 use Rattle.language.specs.Transition.{done, iterate}
 use Rattle.language.proofs.Invariants.{UsesE, u-val, u-loc, u-var, u-plus, u-left, u-right, u-pack, u-unpack, Uses, u-skip, u-seq, u-assign, u-while, u-case, keeps, Fits, fits-kept}
 use Rattle.language.proofs.TypeSoundness.{type-soundness}
-use Rattle.lines.specs.Lines.{SourceE, s-int, s-loc, s-var, s-plus, s-left, s-right, s-pack, s-unpack, Source, s-skip, s-seq, s-assign, s-while, s-case}
-use Rattle.lines.specs.Names.{Counts, namedE, named}
-use Rattle.tables.specs.Sheet.{Sheet, labelCount}
-use Rattle.tables.specs.Meaning.{shapesOf, worldOf}
-use Rattle.script.specs.Script.{countsOf}
-use Rattle.script.specs.Theorems.{IsScript}
+use Rattle.script.specs.Lines.{SourceE, s-int, s-loc, s-var, s-plus, s-left, s-right, s-pack, s-unpack, Source, s-skip, s-seq, s-assign, s-while, s-case}
+use Rattle.script.specs.Names.{Counts, namedE, named}
+use Rattle.sheet.specs.Sheet.{Sheet, labelCount}
+use Rattle.sheet.specs.Meaning.{shapesOf, worldOf}
+use Rattle.script_text.specs.Script.{countsOf}
+use Rattle.script_text.specs.Theorems.{IsScript}
 use Rattle.memory.specs.Memory.{proper}
 use Rattle.memory.specs.Theorems.{Declared}
 use Rattle.memory.proofs.ProperLaws.{proper-kept}

@@ -10,8 +10,8 @@ use Rattle.language.specs.Transition.{Out, done, spent, over, iterate}
 use Rattle.language.specs.Theorems.{ends-done, ends-spent, ends-over}
 use Rattle.language.specs.Theorems as theorems
 use Rattle.language.proofs.Outcome.{outcome}
-use Rattle.tables.specs.Sheet.{Sheet, locationCount}
-use Rattle.tables.specs.Meaning.{shapesOf, worldOf}
+use Rattle.sheet.specs.Sheet.{Sheet, locationCount}
+use Rattle.sheet.specs.Meaning.{shapesOf, worldOf}
 use Rattle.memory.specs.Memory.{memoryOf, wordsOf, wellFormed}
 use Rattle.memory.specs.View.{viewWords}
 use Rattle.memory.specs.Theorems.{Declared}

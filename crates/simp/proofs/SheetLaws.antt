@@ -3,10 +3,10 @@ use mathlib.Core.Path.{_≡_, refl, sym, ap, _∙_}
 use mathlib.Core.List.{List}
 use Prim.Native.Nat.{ℕ}
 use native.Mathlib.Omega.{arith}
-use Rattle.tables.specs.Sheet.{Sheet}
-use Rattle.sheet.specs.declared.Decoded.{Decoded}
-use Rattle.sheet.specs.Sheets.{Answer, malformed, repeating, accepted, sheetOf, refusedBy, decoded}
-use Rattle.sheet.proofs.Theorems.{accepted-exact}
+use Rattle.sheet.specs.Sheet.{Sheet}
+use Rattle.sheet_text.specs.declared.Decoded.{Decoded}
+use Rattle.sheet_text.specs.Sheets.{Answer, malformed, repeating, accepted, sheetOf, refusedBy, decoded}
+use Rattle.sheet_text.proofs.Theorems.{accepted-exact}
 use Rattle.simp.specs.Calls.{onSheet}
 use Rattle.simp.specs.Stages.{TableOf}
 

@@ -10,18 +10,18 @@ use lib.ListN.{length, take}
 use Rattle.language.specs.Syntax.{Cmd, skip, seq, assign, while, case}
 use Rattle.language.specs.Transition.{Out, done, spent, over, wrong, iterate}
 use Rattle.language.proofs.TypeSoundness.{type-soundness}
-use Rattle.lines.specs.Lines.{Source, cmdLines}
-use Rattle.lines.specs.Code.{lineWords, code}
-use Rattle.lines.specs.Names.{named}
-use Rattle.tables.specs.Sheet.{Sheet, locationCount}
+use Rattle.script.specs.Lines.{Source, cmdLines}
+use Rattle.script.specs.Code.{lineWords, code}
+use Rattle.script.specs.Names.{named}
+use Rattle.sheet.specs.Sheet.{Sheet, locationCount}
 use Rattle.sets.specs.Sets.{within, everyone}
-use Rattle.tables.specs.Tables.{everyoneIn}
-use Rattle.tables.proofs.TableLaws.{everyone-in}
-use Rattle.tables.specs.Meaning.{shapesOf, worldOf}
-use Rattle.script.specs.declared.Script.{Script}
-use Rattle.script.specs.Script.{countsOf, countsIn, scriptOf, decoded}
-use Rattle.script.proofs.ScriptLaws.{counts-table}
-use Rattle.script.proofs.ReadLaws.{read-split}
+use Rattle.sheet.specs.Tables.{everyoneIn}
+use Rattle.sheet.proofs.TableLaws.{everyone-in}
+use Rattle.sheet.specs.Meaning.{shapesOf, worldOf}
+use Rattle.script_text.specs.declared.Script.{Script}
+use Rattle.script_text.specs.Script.{countsOf, countsIn, scriptOf, decoded}
+use Rattle.script_text.proofs.ScriptLaws.{counts-table}
+use Rattle.script_text.proofs.ReadLaws.{read-split}
 use Rattle.memory.specs.Memory.{memoryOf, wellFormed, memoryRefusal}
 use Rattle.memory.specs.View.{viewWords, viewRefusal, leaves, viewLeaves}
 use Rattle.memory.specs.InTable.{refusalIn, viewRefusalIn, viewLeavesIn}

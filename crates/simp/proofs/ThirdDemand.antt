@@ -6,9 +6,9 @@ use native.Mathlib.Omega.{arith}
 use Rattle.language.specs.Syntax.{Cmd}
 use Rattle.language.specs.Evaluation.{Mem}
 use Rattle.language.specs.Transition.{Out, done, spent, over, wrong, iterate}
-use Rattle.tables.specs.Sheet.{Sheet, locationCount}
-use Rattle.tables.specs.Meaning.{worldOf}
-use Rattle.sheet.proofs.Theorems.{one-sheet}
+use Rattle.sheet.specs.Sheet.{Sheet, locationCount}
+use Rattle.sheet.specs.Meaning.{worldOf}
+use Rattle.sheet_text.proofs.Theorems.{one-sheet}
 use Rattle.memory.specs.Memory.{memoryOf, wordsOf, wellFormed, memoryRefusal}
 use Rattle.memory.specs.View.{viewWords}
 use Rattle.memory.specs.Theorems.{Declared}

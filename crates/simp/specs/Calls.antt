@@ -9,10 +9,10 @@ use Rattle.sets.specs.Sets.{within, everyone}
 use Rattle.language.specs.Syntax.{Cmd}
 use Rattle.language.specs.Transition.{Out, done, spent, over, wrong, iterate}
 use Rattle.language.specs.Typing.{refusal}
-use Rattle.tables.specs.Sheet.{Sheet, locationCount}
-use Rattle.tables.specs.Meaning.{labelsOver, declarationsOf, worldOf}
-use Rattle.sheet.specs.Sheets.{Answer, malformed, repeating, accepted, sheetOf}
-use Rattle.script.specs.Script.{countsOf, scriptOf}
+use Rattle.sheet.specs.Sheet.{Sheet, locationCount}
+use Rattle.sheet.specs.Meaning.{labelsOver, declarationsOf, worldOf}
+use Rattle.sheet_text.specs.Sheets.{Answer, malformed, repeating, accepted, sheetOf}
+use Rattle.script_text.specs.Script.{countsOf, scriptOf}
 use Rattle.memory.specs.Memory.{memoryOf, wordsOf, memoryRefusal}
 use Rattle.memory.specs.View.{viewWords, viewRefusal}
 

@@ -6,8 +6,8 @@ use Prim.Native.Nat.{ℕ, _≤_, _<_}
 use Rattle.language.specs.Syntax.{Cmd, skip}
 use Rattle.language.specs.Evaluation.{Mem}
 use Rattle.language.specs.Figures.{Steps}
-use Rattle.tables.specs.Sheet.{Sheet, locationCount}
-use Rattle.tables.specs.Meaning.{worldOf}
+use Rattle.sheet.specs.Sheet.{Sheet, locationCount}
+use Rattle.sheet.specs.Meaning.{worldOf}
 use Rattle.memory.specs.Memory.{memoryOf, wordsOf}
 use Rattle.simp.specs.Calls.{checkOf, Ran, runOf, Viewed, viewOf}
 use Rattle.simp.specs.Rows.{Among, GivenInOrder}

@@ -16,11 +16,11 @@ use Rattle.language.specs.Labels.{struck}
 use Rattle.language.specs.Typing.{unlabelled}
 use Rattle.language.specs.Rules.{Derivable}
 use Rattle.language.specs.Theorems.{NoneLong}
-use Rattle.tables.specs.Sheet.{Sheet, repeats, locationCount}
-use Rattle.tables.specs.Meaning.{labelsOver, declarationsOf, worldOf}
-use Rattle.sheet.specs.Theorems.{IsSheet}
-use Rattle.script.specs.Script.{countsOf}
-use Rattle.script.specs.Theorems.{IsScript}
+use Rattle.sheet.specs.Sheet.{Sheet, repeats, locationCount}
+use Rattle.sheet.specs.Meaning.{labelsOver, declarationsOf, worldOf}
+use Rattle.sheet_text.specs.Theorems.{IsSheet}
+use Rattle.script_text.specs.Script.{countsOf}
+use Rattle.script_text.specs.Theorems.{IsScript}
 use Rattle.memory.specs.Memory.{memoryOf, wordsOf, wellFormed}
 use Rattle.memory.specs.View.{viewWords}
 use Rattle.simp.specs.Calls.{Ran, refusedRun, Viewed, refusedView}
@@ -43,7 +43,7 @@ Principals s group = within group (everyone (s .principals)) ≡ true
 abbrev pub Sized : Sheet → List ℕ → Type 0
 Sized s words = length words ≡ cell-words * locationCount s
 
--- ---- of the texts: a text is that of one sheet at most (crate sheet's OneSheet), and a script of one command at most
+-- ---- of the texts: a text is that of one sheet at most (crate sheet_text's OneSheet), and a script of one command at most
 
 -- The text is that of a sheet, and P holds of that sheet.
 abbrev pub OfSheet : List ℕ → (Sheet → Type 0) → Type 0

@@ -7,13 +7,13 @@ use Prim.Native.Nat.{ℕ}
 use lib.ListN.{length}
 use Rattle.language.specs.Syntax.{Cmd}
 use Rattle.language.specs.Transition.{iterate}
-use Rattle.lines.specs.Lines.{Source, cmdLines}
-use Rattle.lines.specs.Code.{code}
-use Rattle.lines.specs.Names.{named}
-use Rattle.tables.specs.Sheet.{Sheet, formed, repeats, locationCount}
-use Rattle.tables.specs.Tables.{tableOf}
-use Rattle.tables.specs.Meaning.{worldOf}
-use Rattle.script.specs.Script.{countsOf, scriptOf}
+use Rattle.script.specs.Lines.{Source, cmdLines}
+use Rattle.script.specs.Code.{code}
+use Rattle.script.specs.Names.{named}
+use Rattle.sheet.specs.Sheet.{Sheet, formed, repeats, locationCount}
+use Rattle.sheet.specs.Tables.{tableOf}
+use Rattle.sheet.specs.Meaning.{worldOf}
+use Rattle.script_text.specs.Script.{countsOf, scriptOf}
 use Rattle.memory.specs.Memory.{memoryOf, memoryRefusal}
 use Rattle.memory.specs.View.{viewWords, viewRefusal}
 use Rattle.simp.specs.Calls.{unless, strangers, onScript, untyped, Ran, refusedRun, ended, refusedView}

@@ -40,7 +40,7 @@ pub struct Outcome {
 pub extern "C" fn simp_check(sheet: &[u8], script: &[u8]) -> u8
     ensures { λ r. ⌜ r ≡ checkOf (now (sheet .entry)) (now (script .entry)) ⌝ }
 {
-    let read = sheet::read(sheet);
+    let read = sheet_text::read(sheet);
     let answer = read.answer;
     if answer != DONE {
         return answer;
@@ -59,7 +59,7 @@ pub extern "C" fn simp_run(
 ) -> Outcome
     ensures { λ r. ⌜ record { answer = r .answer; steps = r .steps; memory = now (memory .exit) } ≡ runOf (now (sheet .entry)) (now (script .entry)) (now (memory .entry)) authority budget ⌝ }
 {
-    let read = sheet::read(sheet);
+    let read = sheet_text::read(sheet);
     let answer = read.answer;
     if answer != DONE {
         return stages::refused(answer);
@@ -72,7 +72,7 @@ pub extern "C" fn simp_run(
 pub extern "C" fn simp_view(sheet: &[u8], memory: &[u32], group: u16, view: &mut [u32]) -> u8
     ensures { λ r. ⌜ record { answer = r; view = now (view .exit) } ≡ viewOf (now (sheet .entry)) (now (memory .entry)) group (now (view .entry)) ⌝ }
 {
-    let read = sheet::read(sheet);
+    let read = sheet_text::read(sheet);
     let answer = read.answer;
     if answer != DONE {
         return answer;

@@ -24,9 +24,9 @@ fn judge(code: &[u32], table: &[u16]) -> u8
 pub fn check_on(script: &[u8], table: &[u16]) -> u8
     ensures { λ r. ⌜ ChecksOn (now (script .entry)) (now (table .entry)) r ⌝ }
 {
-    let read = script::read(script, table);
+    let read = script_text::read(script, table);
     let count = read.count;
-    judge(script::rows(&read.code, count), table)
+    judge(script_text::rows(&read.code, count), table)
 }
 
 // Checks and runs the code of a script.
@@ -58,13 +58,13 @@ pub fn run_on(
 ) -> Outcome
     ensures { λ r. ⌜ RunsOn (now (script .entry)) (now (table .entry)) (now (memory .entry)) authority budget (r .answer) (r .steps) (now (memory .exit)) ⌝ }
 {
-    if !sets::contained(authority, tables::everyone(table)) {
+    if !sets::contained(authority, sheet::everyone(table)) {
         return refused(super::PRINCIPAL_UNKNOWN);
     }
-    let read = script::read(script, table);
+    let read = script_text::read(script, table);
     let count = read.count;
     run_code(
-        script::rows(&read.code, count),
+        script_text::rows(&read.code, count),
         table,
         memory,
         authority,
@@ -76,7 +76,7 @@ pub fn run_on(
 pub fn view_on(table: &[u16], memory: &[u32], group: u16, view: &mut [u32]) -> u8
     ensures { λ r. ⌜ ViewsOn (now (table .entry)) (now (memory .entry)) group (now (view .entry)) r (now (view .exit)) ⌝ }
 {
-    if !sets::contained(group, tables::everyone(table)) {
+    if !sets::contained(group, sheet::everyone(table)) {
         return super::PRINCIPAL_UNKNOWN;
     }
     memory::view(table, memory, group, view)

@@ -11,10 +11,10 @@ use Rattle.memory.proofs.TypeTestLaws as laws
 use Rattle.memory.proofs.has_type.Reads as has-type
 use Rattle.memory.proofs.has_type.Kinds as has-type-kinds
 use Rattle.memory.proofs.+has_type.Lts-has_type as has-type-lts
-use Rattle.tables.proofs.is_sum.Reads as is-sum-reads
+use Rattle.sheet.proofs.is_sum.Reads as is-sum-reads
 use Rattle.memory.proofs.one_more.Reads as one-more-reads
-use Rattle.tables.proofs.left_part.Reads as left-part-reads
-use Rattle.tables.proofs.right_part.Reads as right-part-reads
+use Rattle.sheet.proofs.left_part.Reads as left-part-reads
+use Rattle.sheet.proofs.right_part.Reads as right-part-reads
 use Rattle.memory.proofs.+has_type.{statement}
 use Rattle.memory.proofs.+has_type.Tie.{close}
 

@@ -3,7 +3,7 @@ use borrow.Author.Needs.{needs}
 use Prim.Native.Nat.{_+_}
 use native.Mathlib.Omega.{arith}
 use borrow.Author.Tests.{lt-ltb, le-ltb}
-use Rattle.booleans.proofs.BooleanLaws.{both-off, both-on}
+use Rattle.logic.proofs.BooleanLaws.{both-off, both-on}
 use Rattle.memory.proofs.one_more.Statement.{statement}
 use Rattle.memory.proofs.one_more.Tie as tie
 

@@ -1,4 +1,4 @@
-use Rattle.booleans.specs.Booleans.{both}
+use Rattle.logic.specs.Booleans.{both}
 use Rattle.checker.specs.Nodes.{seqPassed}
 use Rattle.checker.proofs.commands.of_seq.Statement.{statement}
 use Rattle.checker.proofs.commands.of_seq.Tie as tie

@@ -18,9 +18,9 @@ use Rattle.checker.proofs.expressions.of_plus.Reads as of-plus-reads
 use Rattle.checker.proofs.expressions.of_sum.Reads as of-sum-reads
 use Rattle.checker.proofs.expressions.of_unpack.Reads as of-unpack-reads
 use Rattle.checker.proofs.expressions.of_variable.Reads as of-variable-reads
-use Rattle.lines.proofs.row_at.Reads as row-at-reads
-use Rattle.tables.proofs.left_part.Reads as left-part-reads
-use Rattle.tables.proofs.right_part.Reads as right-part-reads
+use Rattle.script.proofs.row_at.Reads as row-at-reads
+use Rattle.sheet.proofs.left_part.Reads as left-part-reads
+use Rattle.sheet.proofs.right_part.Reads as right-part-reads
 use Rattle.checker.proofs.expressions.+check_expr.{statement}
 use Rattle.checker.proofs.expressions.+check_expr.Tie.{close}
 

@@ -1,4 +1,4 @@
-use Rattle.booleans.specs.Booleans.{both}
+use Rattle.logic.specs.Booleans.{both}
 use Rattle.checker.specs.Nodes.{isType}
 use Rattle.checker.proofs.expressions.is_type.Statement.{statement}
 use Rattle.checker.proofs.expressions.is_type.Tie as tie

@@ -1,4 +1,4 @@
-use Rattle.booleans.specs.Booleans.{both}
+use Rattle.logic.specs.Booleans.{both}
 use Rattle.checker.specs.Nodes.{plusTyped}
 use borrow.Author.Needs.{needs}
 use Rattle.checker.proofs.expressions.of_plus.Statement.{statement}

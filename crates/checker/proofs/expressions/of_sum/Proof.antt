@@ -1,5 +1,5 @@
 use borrow.Author.Needs.{needs}
-use Rattle.booleans.specs.Booleans.{both}
+use Rattle.logic.specs.Booleans.{both}
 use Rattle.checker.specs.Nodes.{sumTyped}
 use Rattle.checker.proofs.expressions.of_sum.Statement.{statement}
 use Rattle.checker.proofs.expressions.of_sum.Tie as tie

@@ -4,7 +4,7 @@ use Prim.Native.Nat.{ℕ}
 use mathlib.Core.List.{List}
 use Rattle.labels.specs.declared.Label.{Label}
 use Rattle.labels.specs.Labels.{belowOf, confidentialityOf}
-use Rattle.tables.specs.Tables.{labelIn}
+use Rattle.sheet.specs.Tables.{labelIn}
 use Rattle.checker.specs.Members.{joinIn, flowsIn}
 use borrow.Author.Needs.{needs}
 use Rattle.checker.proofs.members.flows.Statement.{statement}

@@ -2,7 +2,7 @@ use mathlib.Core.Path.{sym, _∙_}
 use Prim.Native.Nat.{_+_}
 use native.Mathlib.Omega.{arith}
 use Rattle.sets.proofs.SetLaws.{shl-one}
-use Rattle.tables.specs.Sheet.{maxLabels}
+use Rattle.sheet.specs.Sheet.{maxLabels}
 use Rattle.checker.proofs.MemberLaws.{integrity-there, integrity-past}
 use borrow.Author.Needs.{needs}
 use Rattle.checker.proofs.members.integrity.Statement.{statement}

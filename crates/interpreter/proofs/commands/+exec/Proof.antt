@@ -14,7 +14,7 @@ use borrow.Fn.PlainCycle.{Measures, is, falls, and}
 use Rattle.interpreter.proofs.commands.exec.Reads as exec
 use Rattle.interpreter.proofs.commands.exec.Kinds as exec-kinds
 use Rattle.interpreter.proofs.commands.+exec.Lts-exec as exec-lts
-use Rattle.lines.proofs.row_at.Reads as row-at-reads
+use Rattle.script.proofs.row_at.Reads as row-at-reads
 use Rattle.interpreter.proofs.commands.tick.Reads as tick-reads
 use Rattle.interpreter.proofs.commands.assign.Reads as assign-reads
 use Rattle.interpreter.proofs.commands.skip.Reads as skip-reads

@@ -10,7 +10,7 @@ use borrow.Fn.PlainCycle.{Measures, is, falls, and}
 use Rattle.interpreter.proofs.commands.skip.Reads as skip
 use Rattle.interpreter.proofs.commands.skip.Kinds as skip-kinds
 use Rattle.interpreter.proofs.commands.+skip.Lts-skip as skip-lts
-use Rattle.lines.proofs.row_at.Reads as row-at-reads
+use Rattle.script.proofs.row_at.Reads as row-at-reads
 use Rattle.interpreter.proofs.commands.operands.Reads as operands-reads
 use Rattle.interpreter.proofs.commands.+skip.{statement}
 use Rattle.interpreter.proofs.commands.+skip.Tie.{close}

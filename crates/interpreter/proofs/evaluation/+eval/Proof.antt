@@ -10,7 +10,7 @@ use borrow.Fn.PlainCycle.{Measures, is, falls, and}
 use Rattle.interpreter.proofs.evaluation.eval.Reads as eval
 use Rattle.interpreter.proofs.evaluation.eval.Kinds as eval-kinds
 use Rattle.interpreter.proofs.evaluation.+eval.Lts-eval as eval-lts
-use Rattle.lines.proofs.row_at.Reads as row-at-reads
+use Rattle.script.proofs.row_at.Reads as row-at-reads
 use Rattle.interpreter.proofs.nodes.literal.Reads as literal-reads
 use Rattle.interpreter.proofs.nodes.location.Reads as location-reads
 use Rattle.interpreter.proofs.nodes.variable.Reads as variable-reads

@@ -1,4 +1,4 @@
-use Rattle.booleans.proofs.BooleanLaws.{both-no-left, both-yes-left}
+use Rattle.logic.proofs.BooleanLaws.{both-no-left, both-yes-left}
 use mathlib.Core.Path.{sym, _∙_}
 use borrow.Author.Tests.{not-true, not-false}
 use Rattle.labels.proofs.OrderLaws.{below-split}

@@ -1,6 +1,6 @@
 -- `memory::is_error` meets its contract. Assumes nothing.
 use borrow.Author.Tests.{lt-leb, le-leb}
-use Rattle.booleans.proofs.BooleanLaws.{both-off, both-on}
+use Rattle.logic.proofs.BooleanLaws.{both-off, both-on}
 use Rattle.memory.proofs.values.is_error.Statement.{statement}
 use Rattle.memory.proofs.values.is_error.Tie as tie
 

@@ -2,7 +2,7 @@
 use borrow.Author.Needs.{needs}
 use native.Mathlib.Omega.{arith}
 use borrow.Author.Tests.{lt-ltb, le-ltb}
-use Rattle.booleans.proofs.BooleanLaws.{both-off, both-on}
+use Rattle.logic.proofs.BooleanLaws.{both-off, both-on}
 use Rattle.memory.proofs.WalkLaws.{package-past, package-there}
 use Rattle.memory.proofs.values.package_at.Statement.{statement}
 use Rattle.memory.proofs.values.package_at.Tie as tie

@@ -1,0 +1,92 @@
+-- Laws of the truth values: `both`, `either`, and when two are equal.
+-- Assumes nothing.
+use mathlib.Core.Path.{_≡_, refl, sym, subst}
+use mathlib.Core.Bool.{Bool, true, false, false≢true}
+use lib.Dec.{T}
+use Rattle.logic.specs.Booleans.{both, either}
+
+pub absurd-false : false ≡ true → ⊥
+absurd-false p = subst T (sym p) tt
+
+pub T-of : {b : Bool} → b ≡ true → T b
+T-of e = rw e tt
+
+-- two truth values that imply each other are equal
+pub bool-ext : (x y : Bool) → (x ≡ true → y ≡ true) → (y ≡ true → x ≡ true) → x ≡ y
+bool-ext true y f g = sym (f refl)
+bool-ext false true f g = g refl
+bool-ext false false f g = refl
+
+-- what is not true is false
+pub not-so : (x : Bool) → (x ≡ true → ⊥) → x ≡ false
+not-so true h = absurd (h refl)
+not-so false h = refl
+
+-- a test passes or not
+pub by-test {ℓ} : {A : Type ℓ} (b : Bool) → (b ≡ true → A) → (¬ (b ≡ true) → A) → A
+by-test true f g = f refl
+by-test false f g = g false≢true
+
+-- ---- both
+pub both-true : {a b : Bool} → a ≡ true → b ≡ true → both a b ≡ true
+unfolding both
+both-true {a} {b} p q = rw (p, q) refl
+
+pub both-left : (a b : Bool) → both a b ≡ true → a ≡ true
+unfolding both
+both-left true b p = refl
+both-left false b p = p
+
+pub both-right : (a b : Bool) → both a b ≡ true → b ≡ true
+unfolding both
+both-right true b p = p
+both-right false b p = absurd (absurd-false p)
+
+pub both-no-left : (a b : Bool) → a ≡ false → both a b ≡ false
+unfolding both
+both-no-left a b p = rw p
+
+pub both-yes-left : (a b : Bool) → a ≡ true → both a b ≡ b
+unfolding both
+both-yes-left a b p = rw p
+
+-- a first test that passes leaves the second; one that fails settles both
+pub both-on : (a b : Bool) → a ≡ true → b ≡ both a b
+both-on a b e = sym (both-yes-left a b e)
+
+pub both-off : (a b : Bool) → a ≡ false → false ≡ both a b
+both-off a b e = sym (both-no-left a b e)
+
+both-false-right : (a : Bool) → both a false ≡ false
+unfolding both
+both-false-right true = refl
+both-false-right false = refl
+
+pub both-no-right : (a b : Bool) → b ≡ false → both a b ≡ false
+both-no-right a b p = rw p (both-false-right a)
+
+-- a test that the first implies adds nothing
+pub both-implied : (a b : Bool) → (a ≡ true → b ≡ true) → both a b ≡ a
+unfolding both
+both-implied true b h = h refl
+both-implied false b h = refl
+
+pub both-assoc : (a b c : Bool) → both a (both b c) ≡ both (both a b) c
+unfolding both
+both-assoc true b c = refl
+both-assoc false b c = refl
+
+-- ---- either
+pub either-left : (a b : Bool) → a ≡ true → either a b ≡ true
+unfolding either
+either-left a b e = rw e
+
+pub either-right : (a b : Bool) → b ≡ true → either a b ≡ true
+unfolding either
+either-right true b e = refl
+either-right false b e = e
+
+pub either-case : (a b c : Bool) → (a ≡ true → c ≡ true) → (b ≡ true → c ≡ true) → either a b ≡ true → c ≡ true
+unfolding either
+either-case true b c f g e = f refl
+either-case false b c f g e = g e

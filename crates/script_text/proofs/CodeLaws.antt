@@ -1,0 +1,106 @@
+-- The code of lines, filled in line by line. Assumes nothing.
+use mathlib.Core.Path.{_≡_, refl}
+use mathlib.Core.Bool.{true, false}
+use mathlib.Core.List.{List, [], _∷_}
+use mathlib.Core.Option.{Option, none, some}
+use Prim.Native.Nat.{ℕ, suc, _+_, _*_, _-_, _≤_, _<_}
+use native.Mathlib.Omega.{arith}
+use lib.ListN.{length, drop, set, replicate}
+use lib.Seq.{sets}
+use Rattle.text.specs.Reading.{fits}
+use Rattle.text.specs.Lines.{front, linesUpTo}
+use Rattle.text.proofs.Writings.{sets-zeros}
+use Rattle.text.proofs.Lines.{lines-at-end, lines-at-full, lines-at-bad, lines-at-more, lines-exact}
+use Rattle.script.specs.Lines.{Line, l-skip, l-seq, l-assign, l-while, l-case, l-int, l-loc, l-var, l-plus, l-left, l-right, l-pack, l-unpack}
+use Rattle.script.specs.Code.{lineWords, code}
+use Rattle.sheet.specs.Tables.{padded}
+use Rattle.script_text.specs.declared.Found.{Found}
+use Rattle.script_text.specs.declared.Found.the-variants as found
+use Rattle.script_text.specs.declared.Script.{Script}
+use Rattle.script_text.specs.Reading.{lineOf, linesOf, maxLines}
+use Rattle.script_text.specs.Script.{codeWords, noCode, coded, codedLines}
+use Rattle.script_text.specs.Scan.{rowOf, foundIn}
+use Rattle.script_text.proofs.LineLaws.{script-lines}
+use Rattle.script_text.proofs.FoundLaws.{found-at, found-none}
+
+-- ---- three words a line
+
+pub words-of : (l : Line) (rest : List ℕ) → lineWords l rest ≡ rowOf l .kind ∷ rowOf l .a ∷ rowOf l .b ∷ rest
+unfolding lineWords rowOf
+words-of l-skip rest = refl
+words-of l-seq rest = refl
+words-of (l-assign x) rest = refl
+words-of l-while rest = refl
+words-of l-case rest = refl
+words-of (l-int n) rest = refl
+words-of (l-loc x) rest = refl
+words-of (l-var d) rest = refl
+words-of l-plus rest = refl
+words-of (l-left t) rest = refl
+words-of (l-right t) rest = refl
+words-of (l-pack l) rest = refl
+words-of (l-unpack t l) rest = refl
+
+pub code-length : (ls : List Line) → length (code ls) ≡ length ls * 3
+unfolding code
+code-length [] = refl
+code-length (l ∷ ls) = rw (words-of l (code ls)) (omega (arith, code-length ls))
+
+-- ---- a table that is filled line by line
+
+-- the three words of line n
+abbrev pub put : List ℕ → ℕ → ℕ → ℕ → ℕ → List ℕ
+put w n k a b = set (set (set w (n * 3) k) (n * 3 + 1) a) (n * 3 + 2) b
+
+-- n lines, and further ones
+unfoldable pub tabled : ℕ → List ℕ → Option (List Line) → Script
+tabled n w none = noCode
+tabled n w (some ls) = record { count = n + length ls; code = sets w (n * 3) (code ls) }
+
+-- ---- the table of a text's lines, from line n and byte `at` on
+
+tabled-front : (n : ℕ) (w : List ℕ) (l : Line) (o : Option (List Line))
+    → tabled n w (front l o) ≡ tabled (n + 1) (put w n (rowOf l .kind) (rowOf l .a) (rowOf l .b)) o
+unfolding tabled front code
+tabled-front n w l none = refl
+tabled-front n w l (some ls) =
+    let c : n + suc (length ls) ≡ n + 1 + length ls = omega arith in
+    let one : n * 3 + 1 ≡ suc (n * 3) = omega arith in
+    let two : n * 3 + 2 ≡ suc (suc (n * 3)) = omega arith in
+    let three : (n + 1) * 3 ≡ suc (suc (suc (n * 3))) = omega arith in
+    rw (c, words-of l (code ls), one, two, three)
+
+module _ (n : ℕ) (w : List ℕ) (s : List ℕ) (at : ℕ) where
+  pub table-done : length s ≤ at → tabled n w (linesUpTo lineOf (maxLines - n) (drop at s)) ≡ record { count = n; code = w }
+  unfolding tabled code
+  table-done h = let z : n + 0 ≡ n = omega arith in rw (lines-at-end lineOf maxLines n s at h, z)
+
+  pub table-full : at < length s → maxLines ≤ n → tabled n w (linesUpTo lineOf (maxLines - n) (drop at s)) ≡ noCode
+  unfolding tabled
+  table-full h l = rw (lines-at-full lineOf maxLines n s at h l)
+
+  module _ (h : at < length s) (l : n < maxLines) (r : Found) (e : r ≡ foundIn s (lineOf (drop at s))) where
+    pub table-bad : r ≡ found.Bad → tabled n w (linesUpTo lineOf (maxLines - n) (drop at s)) ≡ noCode
+    unfolding tabled
+    table-bad g = rw (lines-at-bad lineOf maxLines n s at l h (found-none s at r e g))
+
+    pub table-more : (k a b p : ℕ) → r ≡ found.At k a b p
+        → (p ≤ length s) × (tabled n w (linesUpTo lineOf (maxLines - n) (drop at s)) ≡ tabled (n + 1) (put w n k a b) (linesUpTo lineOf (maxLines - (n + 1)) (drop p s)))
+    table-more k a b p g =
+        found-at s at r e k a b p g (λ x y i f1 f2 f3.
+        (i, rw (lines-at-more lineOf maxLines n s at l (script-lines .no-end) x p y, tabled-front, f1, f2, f3)))
+
+pub decode-start : (s : List ℕ) → fits s ≡ true → tabled 0 (replicate codeWords 0) (linesUpTo lineOf maxLines s) ≡ codedLines (linesOf s)
+unfolding linesOf tabled codedLines coded padded
+decode-start s h = rw h (go (linesUpTo lineOf maxLines s) refl)
+  where
+    go : (o : Option (List Line)) → linesUpTo lineOf maxLines s ≡ o → tabled 0 (replicate codeWords 0) o ≡ codedLines o
+    go none e = refl
+    go (some ls) e =
+        let few = lines-exact script-lines maxLines s ls .0 e .2 in
+        let c : 0 + length ls ≡ length ls = omega arith in
+        rw (c, sets-zeros codeWords (code ls) (omega (arith, code-length ls)))
+
+pub decode-long : (s : List ℕ) → fits s ≡ false → codedLines (linesOf s) ≡ noCode
+unfolding linesOf codedLines
+decode-long s h = rw h

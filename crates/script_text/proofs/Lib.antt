@@ -1,0 +1,8 @@
+pub mod LineLaws
+pub mod ParseLaws
+pub mod ScriptLaws
+pub mod FoundLaws
+pub mod CodeLaws
+pub mod ScanLaws
+pub mod ReadLaws
+pub mod Examples

@@ -1,0 +1,196 @@
+-- Parsing and printing in prefix order are inverse. Assumes nothing.
+use mathlib.Core.Path.{_≡_, refl, ap, _∙_}
+use mathlib.Core.List.{List, [], _∷_}
+use mathlib.Core.Option.{Option, none, some}
+use Prim.Native.Nat.{ℕ}
+use Rattle.text.proofs.Cases.{not-none, some-same}
+use Rattle.language.specs.Syntax.{Expr, plus, left, right, pack, unpack, Cmd, seq, assign, while, case}
+use Rattle.script.specs.Lines.{Line, l-skip, l-seq, l-assign, l-while, l-case, l-int, l-loc, l-var, l-plus, l-left, l-right, l-pack, l-unpack, SourceE, s-int, s-loc, s-var, s-plus, s-left, s-right, s-pack, s-unpack, Source, s-skip, s-seq, s-assign, s-while, s-case, numberOf, exprLines, cmdLines}
+use Rattle.script_text.specs.Parse.{Tree, ex, cm, Stack, popE, popC, onStack, pushOn, stackOf, single, parse}
+use Rattle.script_text.specs.Theorems.{ParseExact}
+
+-- ---- the lines of a tree leave the tree on the stack
+
+-- a tree on top, if there is a stack
+topped : Tree → Option Stack → Option Stack
+topped x none = none
+topped x (some st) = some (x ∷ st)
+
+module _ (l : Line) (t : Tree) where
+  push-0 : (o : Option Stack) → ((st : Stack) → onStack l st ≡ some (t ∷ st)) → pushOn l o ≡ topped t o
+  unfolding pushOn topped
+  push-0 none h = refl
+  push-0 (some st) h = h st
+
+  push-1 : (x : Tree) (o : Option Stack) → ((st : Stack) → onStack l (x ∷ st) ≡ some (t ∷ st)) → pushOn l (topped x o) ≡ topped t o
+  unfolding pushOn topped
+  push-1 x none h = refl
+  push-1 x (some st) h = h st
+
+  push-2 : (x y : Tree) (o : Option Stack) → ((st : Stack) → onStack l (x ∷ y ∷ st) ≡ some (t ∷ st)) → pushOn l (topped x (topped y o)) ≡ topped t o
+  unfolding pushOn topped
+  push-2 x y none h = refl
+  push-2 x y (some st) h = h st
+
+  push-3 : (x y z : Tree) (o : Option Stack) → ((st : Stack) → onStack l (x ∷ y ∷ z ∷ st) ≡ some (t ∷ st))
+      → pushOn l (topped x (topped y (topped z o))) ≡ topped t o
+  unfolding pushOn topped
+  push-3 x y z none h = refl
+  push-3 x y z (some st) h = h st
+
+stack-expr : {e : Expr} (rest : List Line) → SourceE e → stackOf (exprLines e rest) ≡ topped (ex e) (stackOf rest)
+unfolding stackOf exprLines onStack popE numberOf
+stack-expr rest s-int = push-0 _ _ _ (λ st. refl)
+stack-expr rest s-loc = push-0 _ _ _ (λ st. refl)
+stack-expr rest s-var = push-0 _ _ _ (λ st. refl)
+stack-expr rest (s-plus {b = b} s r) = rw (stack-expr (exprLines b rest) s, stack-expr rest r) (push-2 _ _ _ _ _ (λ st. refl))
+stack-expr rest (s-left s) = rw (stack-expr rest s) (push-1 _ _ _ _ (λ st. refl))
+stack-expr rest (s-right s) = rw (stack-expr rest s) (push-1 _ _ _ _ (λ st. refl))
+stack-expr rest (s-pack s) = rw (stack-expr rest s) (push-1 _ _ _ _ (λ st. refl))
+stack-expr rest (s-unpack s) = rw (stack-expr rest s) (push-1 _ _ _ _ (λ st. refl))
+
+stack-cmd : {c : Cmd} (rest : List Line) → Source c → stackOf (cmdLines c rest) ≡ topped (cm c) (stackOf rest)
+unfolding stackOf cmdLines onStack popE popC
+stack-cmd rest s-skip = push-0 _ _ _ (λ st. refl)
+stack-cmd rest (s-seq {b = b} s r) = rw (stack-cmd (cmdLines b rest) s, stack-cmd rest r) (push-2 _ _ _ _ _ (λ st. refl))
+stack-cmd rest (s-assign s) = rw (stack-expr rest s) (push-1 _ _ _ _ (λ st. refl))
+stack-cmd rest (s-while {c = c} s r) = rw (stack-expr (cmdLines c rest) s, stack-cmd rest r) (push-2 _ _ _ _ _ (λ st. refl))
+stack-cmd rest (s-case {a = a} {b = b} s r q) =
+    rw (stack-expr (cmdLines a (cmdLines b rest)) s, stack-cmd (cmdLines b rest) r, stack-cmd rest q) (push-3 _ _ _ _ _ _ (λ st. refl))
+
+pub parse-lines : {c : Cmd} → Source c → parse (cmdLines c []) ≡ some c
+unfolding parse single stackOf topped
+parse-lines s = rw (stack-cmd [] s)
+
+-- ---- what is on the stack is what its lines say
+
+stackLines : Stack → List Line
+stackLines [] = []
+stackLines (ex e ∷ st) = exprLines e (stackLines st)
+stackLines (cm c ∷ st) = cmdLines c (stackLines st)
+
+data Sources : Stack → Type 0 where
+  no-more : Sources []
+  on-expr : {e : Expr} {st : Stack} → SourceE e → Sources st → Sources (ex e ∷ st)
+  on-cmd : {c : Cmd} {st : Stack} → Source c → Sources st → Sources (cm c ∷ st)
+
+-- the stack st has the lines ls
+record Holds (ls : List Line) (st : Stack) : Type 0 where
+  pub lines : ls ≡ stackLines st
+  pub sources : Sources st
+
+-- an operand that was taken was there
+data HasE : Stack → Expr → Stack → Type 0 where
+  has-e : {e : Expr} {st : Stack} → SourceE e → Sources st → HasE (ex e ∷ st) e st
+
+data HasC : Stack → Cmd → Stack → Type 0 where
+  has-c : {c : Cmd} {st : Stack} → Source c → Sources st → HasC (cm c ∷ st) c st
+
+module _ {P : Type 0} (r : Stack) where
+  popE-split : {st : Stack} → Sources st → (k : Expr → Stack → Option Stack) → popE st k ≡ some r
+      → ((e : Expr) (u : Stack) → HasE st e u → k e u ≡ some r → P) → P
+  unfolding popE
+  popE-split no-more k h g = not-none r h
+  popE-split (on-expr s q) k h g = g _ _ (has-e s q) h
+  popE-split (on-cmd s q) k h g = not-none r h
+
+  popC-split : {st : Stack} → Sources st → (k : Cmd → Stack → Option Stack) → popC st k ≡ some r
+      → ((c : Cmd) (u : Stack) → HasC st c u → k c u ≡ some r → P) → P
+  unfolding popC
+  popC-split no-more k h g = not-none r h
+  popC-split (on-expr s q) k h g = not-none r h
+  popC-split (on-cmd s q) k h g = g _ _ (has-c s q) h
+
+under-e : {st : Stack} {e : Expr} {u : Stack} → HasE st e u → Sources u
+under-e (has-e s q) = q
+
+under-c : {st : Stack} {c : Cmd} {u : Stack} → HasC st c u → Sources u
+under-c (has-c s q) = q
+
+-- ---- a line keeps that the stack has the lines so far
+
+onto : {ls : List Line} {x r : Stack} → some x ≡ some r → Holds ls x → Holds ls r
+onto e h = rw (← some-same _ _ e) h
+
+leaf-e : {ls : List Line} {st : Stack} {l : Line} {e : Expr} → ls ≡ stackLines st → SourceE e → Sources st
+    → ((rest : List Line) → l ∷ rest ≡ exprLines e rest) → Holds (l ∷ ls) (ex e ∷ st)
+unfolding stackLines
+leaf-e {l = l} h s q g = record { lines = ap (λ (r : List Line). l ∷ r) h ∙ g _; sources = on-expr s q }
+
+-- one operand, an expression, makes an expression
+one-e : {ls : List Line} {st : Stack} {l : Line} {e : Expr} {u : Stack} (f : Expr → Expr) → ls ≡ stackLines st → HasE st e u
+    → ((a : Expr) → SourceE a → SourceE (f a)) → ((a : Expr) (rest : List Line) → l ∷ exprLines a rest ≡ exprLines (f a) rest)
+    → Holds (l ∷ ls) (ex (f e) ∷ u)
+unfolding stackLines
+one-e {l = l} f h (has-e s q) g k = record { lines = ap (λ (r : List Line). l ∷ r) h ∙ k _ _; sources = on-expr (g _ s) q }
+
+assign-c : {ls : List Line} {st : Stack} {e : Expr} {u : Stack} (x : ℕ) → ls ≡ stackLines st → HasE st e u
+    → Holds (l-assign x ∷ ls) (cm (assign x e) ∷ u)
+unfolding stackLines cmdLines
+assign-c x h (has-e s q) = record { lines = ap (λ (r : List Line). l-assign x ∷ r) h; sources = on-cmd (s-assign s) q }
+
+plus-e : {ls : List Line} {st : Stack} {a b : Expr} {u w : Stack} → ls ≡ stackLines st → HasE st a u → HasE u b w
+    → Holds (l-plus ∷ ls) (ex (plus a b) ∷ w)
+unfolding stackLines exprLines
+plus-e h (has-e s p) (has-e r q) = record { lines = ap (λ (r : List Line). l-plus ∷ r) h; sources = on-expr (s-plus s r) q }
+
+seq-c : {ls : List Line} {st : Stack} {a b : Cmd} {u w : Stack} → ls ≡ stackLines st → HasC st a u → HasC u b w
+    → Holds (l-seq ∷ ls) (cm (seq a b) ∷ w)
+unfolding stackLines cmdLines
+seq-c h (has-c s p) (has-c r q) = record { lines = ap (λ (r : List Line). l-seq ∷ r) h; sources = on-cmd (s-seq s r) q }
+
+while-c : {ls : List Line} {st : Stack} {e : Expr} {c : Cmd} {u w : Stack} → ls ≡ stackLines st → HasE st e u → HasC u c w
+    → Holds (l-while ∷ ls) (cm (while e c) ∷ w)
+unfolding stackLines cmdLines
+while-c h (has-e s p) (has-c r q) = record { lines = ap (λ (r : List Line). l-while ∷ r) h; sources = on-cmd (s-while s r) q }
+
+case-c : {ls : List Line} {st : Stack} {e : Expr} {a b : Cmd} {u v w : Stack} → ls ≡ stackLines st → HasE st e u → HasC u a v → HasC v b w
+    → Holds (l-case ∷ ls) (cm (case e a b) ∷ w)
+unfolding stackLines cmdLines
+case-c h (has-e s p) (has-c r o) (has-c t q) = record { lines = ap (λ (r : List Line). l-case ∷ r) h; sources = on-cmd (s-case s r t) q }
+
+push-sound : (l : Line) {st r : Stack} {ls : List Line} → ls ≡ stackLines st → Sources st → onStack l st ≡ some r → Holds (l ∷ ls) r
+unfolding onStack exprLines cmdLines numberOf
+push-sound l-skip h q e = unfold stackLines in onto e (record { lines = ap (λ (r : List Line). l-skip ∷ r) h; sources = on-cmd s-skip q })
+push-sound l-seq {r = r} h q e = popC-split r q _ e (λ a u x f. popC-split r (under-c x) _ f (λ b w y g. onto g (seq-c h x y)))
+push-sound (l-assign x) {r = r} h q e = popE-split r q _ e (λ a u y f. onto f (assign-c x h y))
+push-sound l-while {r = r} h q e = popE-split r q _ e (λ a u x f. popC-split r (under-e x) _ f (λ b w y g. onto g (while-c h x y)))
+push-sound l-case {r = r} h q e =
+    popE-split r q _ e (λ a u x f. popC-split r (under-e x) _ f (λ b v y g. popC-split r (under-c y) _ g (λ d w z i. onto i (case-c h x y z))))
+push-sound (l-int n) h q e = onto e (leaf-e h s-int q (λ rest. refl))
+push-sound (l-loc x) h q e = onto e (leaf-e h s-loc q (λ rest. refl))
+push-sound (l-var d) h q e = onto e (leaf-e h s-var q (λ rest. refl))
+push-sound l-plus {r = r} h q e = popE-split r q _ e (λ a u x f. popE-split r (under-e x) _ f (λ b w y g. onto g (plus-e h x y)))
+push-sound (l-left t) {r = r} h q e = popE-split r q _ e (λ a u x f. onto f (one-e (left t) h x (λ b. s-left) (λ b rest. refl)))
+push-sound (l-right t) {r = r} h q e = popE-split r q _ e (λ a u x f. onto f (one-e (right t) h x (λ b. s-right) (λ b rest. refl)))
+push-sound (l-pack l) {r = r} h q e = popE-split r q _ e (λ a u x f. onto f (one-e (pack l) h x (λ b. s-pack) (λ b rest. refl)))
+push-sound (l-unpack t l) {r = r} h q e = popE-split r q _ e (λ a u x f. onto f (one-e (unpack t l) h x (λ b. s-unpack) (λ b rest. refl)))
+
+pushOn-sound : (l : Line) (o : Option Stack) (ls : List Line) (r : Stack) → ((st : Stack) → o ≡ some st → Holds ls st)
+    → pushOn l o ≡ some r → Holds (l ∷ ls) r
+unfolding pushOn
+pushOn-sound l none ls r k h = not-none r h
+pushOn-sound l (some st) ls r k h = let x = k st refl in push-sound l (x .lines) (x .sources) h
+
+stack-sound : (ls : List Line) (st : Stack) → stackOf ls ≡ some st → Holds ls st
+unfolding stackOf
+stack-sound [] st h = unfold stackLines in onto h (record { lines = refl; sources = no-more })
+stack-sound (l ∷ ls) st h = pushOn-sound l (stackOf ls) ls st (λ u e. stack-sound ls u e) h
+
+single-sound : (o : Option Stack) (c : Cmd) → single o ≡ some c → o ≡ some (cm c ∷ [])
+unfolding single
+single-sound none c h = not-none c h
+single-sound (some []) c h = not-none c h
+single-sound (some (ex e ∷ st)) c h = not-none c h
+single-sound (some (cm d ∷ [])) c h = ap (λ (x : Cmd). some (cm x ∷ [])) (some-same d c h)
+single-sound (some (cm d ∷ x ∷ st)) c h = not-none c h
+
+on-top : {c : Cmd} {st : Stack} → Sources (cm c ∷ st) → Source c
+on-top (on-cmd s q) = s
+
+pub parse-sound : (ls : List Line) (c : Cmd) → parse ls ≡ some c → (ls ≡ cmdLines c []) × Source c
+unfolding parse stackLines
+parse-sound ls c h = let x = stack-sound ls (cm c ∷ []) (single-sound (stackOf ls) c h) in (x .lines, on-top (x .sources))
+
+pub parse-exact : ParseExact
+parse-exact ls c = (λ h. parse-sound ls c h, λ r. ap parse (r .0) ∙ parse-lines (r .1))

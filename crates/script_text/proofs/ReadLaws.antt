@@ -1,0 +1,134 @@
+-- The answer of the reader is that of the command of the text, and what its code then holds. Assumes nothing.
+use mathlib.Core.Path.{_≡_, refl, sym, ap, _∙_}
+use mathlib.Core.Bool.{Bool, true, false}
+use mathlib.Core.List.{List, [], _∷_}
+use mathlib.Core.Option.{Option, none, some}
+use Prim.Native.Nat.{ℕ, _*_, _≤_}
+use native.Mathlib.Omega.{arith}
+use lib.Dec.{leb}
+use lib.ListN.{length, take, length-drop, drop-of-length-le}
+use lib.Seq.{take-at}
+use borrow.Author.Tests.{leb-true, le-leb}
+use Rattle.language.specs.Syntax.{Cmd}
+use Rattle.script.specs.Lines.{Line, Source, cmdLines}
+use Rattle.script.specs.Code.{code}
+use Rattle.script.specs.Names.{Counts, named}
+use Rattle.sheet.specs.Tables.{padded}
+use Rattle.sheet.proofs.Words.{length-padded}
+use Rattle.script_text.specs.declared.Script.{Script}
+use Rattle.script_text.specs.declared.Scanned.{Scanned}
+use Rattle.script_text.specs.Reading.{maxLines, linesOf}
+use Rattle.script_text.specs.Parse.{stackOf, single, parse}
+use Rattle.script_text.specs.Script.{namedOnly, commandOf, commandIn, scriptOf, codeWords, noCode, coded, codedLines, decoded}
+use Rattle.script_text.specs.Scan.{ScansCmd, isSome, Whole}
+use Rattle.script_text.proofs.CodeLaws.{words-of, code-length}
+use Rattle.script_text.proofs.ScanLaws.{false-true}
+use Rattle.script_text.proofs.ScriptLaws.{command-sound, command-lines, script-sound}
+
+-- ---- whether there is a command
+
+some-of : (o : Option Cmd) → isSome o ≡ true → (c : Cmd) × (o ≡ some c)
+unfolding isSome
+some-of none h = false-true false refl h
+some-of (some c) h = (c, refl)
+
+none-of : (o : Option Cmd) → isSome o ≡ false → o ≡ none
+unfolding isSome
+none-of none h = refl
+none-of (some c) h = false-true true h refl
+
+is-some : (o : Option Cmd) (c : Cmd) → o ≡ some c → isSome o ≡ true
+unfolding isSome
+is-some o c e = rw e
+
+-- two tests that imply each other are equal
+same-test : (a b : Bool) → (a ≡ true → b ≡ true) → (b ≡ true → a ≡ true) → a ≡ b
+same-test true b f g = sym (f refl)
+same-test false true f g = g refl
+same-test false false f g = refl
+
+-- only no lines have no code
+code-empty : (ls : List Line) → code ls ≡ [] → ls ≡ []
+unfolding code
+code-empty [] h = refl
+code-empty (l ∷ ls) h = absurd (omega (arith, ap length (sym (words-of l (code ls)) ∙ h)))
+
+module _ (k : Counts) (ws : List ℕ) (r : Scanned) (s : ScansCmd k 0 ws 0 r) where
+  -- the lines are those of a command exactly if one was found and it ends where the code does
+  whole-complete : (ls : List Line) → ws ≡ code ls → isSome (commandOf k ls) ≡ true → (r .ok ≡ true) × (length ws ≤ r .next)
+  unfolding code
+  whole-complete ls h t =
+      let o = some-of (commandOf k ls) t in
+      let c = command-sound k ls (o .0) (o .1) in
+      let e = s .complete (o .0) [] (c .1) (c .2) (h ∙ ap code (c .0)) in
+      (e .0, omega (arith, length-drop (r .next) ws, ap length (e .1)))
+
+  whole-sound : (ls : List Line) → ws ≡ code ls → r .ok ≡ true → length ws ≤ r .next → isSome (commandOf k ls) ≡ true
+  whole-sound ls h t l =
+      let f = s .sound ls h t in
+      let e : f .1 ≡ [] = code-empty (f .1) (sym (f .5) ∙ drop-of-length-le ws l) in
+      let g : ls ≡ cmdLines (f .0) [] = f .4 ∙ ap (cmdLines (f .0)) e in
+      is-some _ (f .0) (ap (commandOf k) g ∙ command-lines k (f .0) (f .2) (f .3))
+
+  pub whole-found : r .ok ≡ true → Whole k ws (leb (length ws) (r .next))
+  whole-found t ls h =
+      same-test _ _ (λ e. whole-sound ls h t (leb-true _ _ e)) (λ e. le-leb _ _ (whole-complete ls h e .1))
+
+  pub whole-none : r .ok ≡ false → Whole k ws (r .ok)
+  whole-none f ls h = same-test _ _ (λ e. false-true (r .ok) f e) (λ e. false-true (r .ok) f (whole-complete ls h e .0))
+
+-- ---- the code of lines, filled up with zeros
+
+coded-code : (ls : List Line) → take (length ls * 3) (padded codeWords (code ls)) ≡ code ls
+unfolding padded
+coded-code ls = take-at (code ls) _ (length ls * 3) (code-length ls)
+
+coded-length : (ls : List Line) → length ls ≤ maxLines → length (padded codeWords (code ls)) ≡ codeWords
+coded-length ls h = length-padded codeWords (code ls) (omega (arith, code-length ls))
+
+-- ---- the answer
+
+module _ (k : Counts) (t : List ℕ) (s : Script) (e : s ≡ codedLines (linesOf t))
+    (ws : List ℕ) (q : ws ≡ take (s .count * 3) (s .code)) (b : Bool) (w : Whole k ws b) where
+  -- what was tested is whether the text has a command
+  tested : b ≡ isSome (scriptOf k t)
+  unfolding scriptOf commandIn codedLines coded noCode
+  tested = go (linesOf t) e
+    where
+      go : (o : Option (List Line)) → s ≡ codedLines o → b ≡ isSome (commandIn k o)
+      go none x = unfold code commandOf namedOnly parse single stackOf in w [] (q ∙ rw x)
+      go (some ls) x = w ls (q ∙ rw x (coded-code ls))
+
+  pub read-yes : b ≡ true → s ≡ decoded (scriptOf k t)
+  unfolding scriptOf
+  read-yes h = e ∙ go (linesOf t) (sym tested ∙ h)
+    where
+      go : (o : Option (List Line)) → isSome (commandIn k o) ≡ true → codedLines o ≡ decoded (commandIn k o)
+      go none x = unfold commandIn isSome in false-true false refl x
+      go (some ls) x =
+          unfold commandIn codedLines decoded in
+          (let y = some-of (commandOf k ls) x in
+          let z = command-sound k ls (y .0) (y .1) .0 in
+          ap coded z ∙ ap decoded (sym (y .1)))
+
+  pub read-no : b ≡ false → noCode ≡ decoded (scriptOf k t)
+  unfolding decoded
+  read-no h = rw (none-of (scriptOf k t) (sym tested ∙ h))
+
+-- ---- what callers rest on
+
+-- the answer r is a refusal, or the code of the text's command
+pub read-split : {P : Type 0} (k : Counts) (t : List ℕ) (r : Script) → r ≡ decoded (scriptOf k t)
+    → (scriptOf k t ≡ none → r .count ≡ 0 → P)
+    → ((c : Cmd) → scriptOf k t ≡ some c → Source c → named k 0 c ≡ true → 1 ≤ r .count → r .count ≤ maxLines → length (r .code) ≡ codeWords
+    → take (r .count * 3) (r .code) ≡ code (cmdLines c []) → P)
+    → P
+unfolding decoded coded noCode
+read-split {P} k t r e f g = go (scriptOf k t) refl
+  where
+    go : (o : Option Cmd) → scriptOf k t ≡ o → P
+    go none x = f x (rw (e, x))
+    go (some c) x =
+        let s = script-sound k t c x in
+        let y : r ≡ coded (cmdLines c []) = e ∙ ap decoded x in
+        g c x (s .source) (s .named-there) (rw y (s .not-empty)) (rw y (s .few)) (rw y (coded-length (cmdLines c []) (s .few))) (rw y (coded-code (cmdLines c [])))

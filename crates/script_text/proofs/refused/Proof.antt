@@ -1,0 +1,12 @@
+-- `script_text::refused` meets its contract. Assumes nothing.
+use mathlib.Core.Path.{refl}
+use Rattle.script_text.specs.Script.{noCode}
+use Rattle.script_text.proofs.refused.Statement.{statement}
+use Rattle.script_text.proofs.refused.Tie as tie
+
+returns : tie.Need-returns
+unfolding noCode
+returns c = refl
+
+pub refused-spec : {M : Type 1} → statement M
+refused-spec = tie.close (tie.spec returns)

@@ -1,0 +1,26 @@
+-- The printed form of a script: on each line the byte of its kind, then its operands, each after a tab, then byte 10.
+use mathlib.Core.List.{List, _∷_}
+use Prim.Native.Nat.{ℕ}
+use Rattle.text.specs.Field.{printNumberField, printLineEnd}
+use Rattle.text.specs.Lines.{printLines}
+use Rattle.script.specs.Lines.{Line, l-skip, l-seq, l-assign, l-while, l-case, l-int, l-loc, l-var, l-plus, l-left, l-right, l-pack, l-unpack}
+
+-- The bytes of a line, then rest. The kinds are s ; = w c i x v + l r k u.
+unfoldable pub lineBytes : Line → List ℕ → List ℕ
+lineBytes l-skip rest = 115 ∷ printLineEnd rest
+lineBytes l-seq rest = 59 ∷ printLineEnd rest
+lineBytes (l-assign x) rest = 61 ∷ printNumberField x (printLineEnd rest)
+lineBytes l-while rest = 119 ∷ printLineEnd rest
+lineBytes l-case rest = 99 ∷ printLineEnd rest
+lineBytes (l-int n) rest = 105 ∷ printNumberField n (printLineEnd rest)
+lineBytes (l-loc x) rest = 120 ∷ printNumberField x (printLineEnd rest)
+lineBytes (l-var d) rest = 118 ∷ printNumberField d (printLineEnd rest)
+lineBytes l-plus rest = 43 ∷ printLineEnd rest
+lineBytes (l-left t) rest = 108 ∷ printNumberField t (printLineEnd rest)
+lineBytes (l-right t) rest = 114 ∷ printNumberField t (printLineEnd rest)
+lineBytes (l-pack l) rest = 107 ∷ printNumberField l (printLineEnd rest)
+lineBytes (l-unpack t l) rest = 117 ∷ printNumberField t (printNumberField l (printLineEnd rest))
+
+-- the bytes of a script's lines
+abbrev pub scriptBytes : List Line → List ℕ
+scriptBytes ls = printLines lineBytes ls

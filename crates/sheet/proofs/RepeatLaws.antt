@@ -1,0 +1,80 @@
+-- What no repeat means: entries that are the same stand at the same place.
+-- Assumes nothing.
+use mathlib.Core.Path.{_≡_, refl, sym, _∙_}
+use mathlib.Core.Bool.{Bool, true, false}
+use mathlib.Core.List.{List, [], _∷_, _++_}
+use Prim.Native.Nat.{ℕ, zero, suc, _<_, _≤_}
+use native.Mathlib.Omega.{arith}
+use lib.Dec.{ltb}
+use lib.ListN.{length, getD, length-map}
+use borrow.Author.Tests.{ltb-true, ltb-false, eq-eqb}
+use Rattle.logic.specs.Booleans.{either}
+use Rattle.logic.proofs.BooleanLaws.{absurd-false, both-true, either-left, either-right}
+use Rattle.sets.specs.Sets.{everyone}
+use Rattle.labels.specs.Labels.{labelOf, bottomOf, sameOf}
+use Rattle.labels.proofs.OrderLaws.{same-refl}
+use Rattle.sheet.specs.Sheet.{Sum, Sheet, givenParts, partsOf, partsNo, typeCount, labelsOf, labelNo, labelCount, among, repeated, sameParts, givenSums, repeats}
+
+module _ {A : Type 0} (same : A → A → Bool) (d : A) where
+  among-at : (x : A) (xs : List A) (j : ℕ) → j < length xs → same x (getD xs j d) ≡ true → among same x xs ≡ true
+  unfolding among
+  among-at x [] j h q = absurd (omega arith)
+  among-at x (y ∷ ys) zero h q = either-left _ _ q
+  among-at x (y ∷ ys) (suc j) h q = either-right _ _ (among-at x ys j (omega arith) q)
+
+  repeated-at : (xs : List A) (i j : ℕ) → i < j → j < length xs → same (getD xs i d) (getD xs j d) ≡ true → repeated same xs ≡ true
+  unfolding repeated
+  repeated-at [] i j l h q = absurd (omega arith)
+  repeated-at (x ∷ xs) zero zero l h q = absurd (omega arith)
+  repeated-at (x ∷ xs) zero (suc j) l h q = either-left _ _ (among-at x xs j (omega arith) q)
+  repeated-at (x ∷ xs) (suc i) zero l h q = absurd (omega arith)
+  repeated-at (x ∷ xs) (suc i) (suc j) l h q = either-right _ _ (repeated-at xs i j (omega arith) (omega arith) q)
+
+  -- the same entries, both ways round, stand at the same place
+  same-place : (xs : List A) → repeated same xs ≡ false → (i j : ℕ) → i < length xs → j < length xs
+      → same (getD xs i d) (getD xs j d) ≡ true → same (getD xs j d) (getD xs i d) ≡ true → i ≡ j
+  same-place xs once i j h k p q = at (ltb i j) (ltb j i) refl refl
+    where
+      at : (a b : Bool) → ltb i j ≡ a → ltb j i ≡ b → i ≡ j
+      at true b e f = absurd (absurd-false (sym once ∙ repeated-at xs i j (ltb-true _ _ e) k p))
+      at false true e f = absurd (absurd-false (sym once ∙ repeated-at xs j i (ltb-true _ _ f) h q))
+      at false false e f = omega (arith, ltb-false i j e, ltb-false j i f)
+
+neither-left : (a b : Bool) → either a b ≡ false → a ≡ false
+unfolding either
+neither-left true b e = e
+neither-left false b e = refl
+
+neither-right : (a b : Bool) → either a b ≡ false → b ≡ false
+unfolding either
+neither-right true b e = absurd (absurd-false (sym e))
+neither-right false b e = e
+
+parts-same : (a b : Sum) → a .left ≡ b .left → a .right ≡ b .right → sameParts a b ≡ true
+unfolding sameParts
+parts-same a b p q = both-true (eq-eqb _ _ p) (eq-eqb _ _ q)
+
+-- two sums with the same parts have the same number
+pub parts-once : (s : Sheet) → repeats s ≡ false → (m n : ℕ) → 3 ≤ m → m < typeCount s → 3 ≤ n → n < typeCount s
+    → partsNo s m .left ≡ partsNo s n .left → partsNo s m .right ≡ partsNo s n .right → m ≡ n
+unfolding repeats partsNo partsOf typeCount givenParts givenSums
+parts-once s once zero n h k h′ k′ p q = absurd (omega arith)
+parts-once s once (suc zero) n h k h′ k′ p q = absurd (omega arith)
+parts-once s once (suc (suc zero)) n h k h′ k′ p q = absurd (omega arith)
+parts-once s once (suc (suc (suc i))) zero h k h′ k′ p q = absurd (omega arith)
+parts-once s once (suc (suc (suc i))) (suc zero) h k h′ k′ p q = absurd (omega arith)
+parts-once s once (suc (suc (suc i))) (suc (suc zero)) h k h′ k′ p q = absurd (omega arith)
+parts-once s once (suc (suc (suc i))) (suc (suc (suc j))) h k h′ k′ p q =
+    let no-parts : Sum = record { left = 0; right = 0 } in
+    let e =
+    same-place sameParts no-parts (givenSums ++ s .sums) (neither-left _ _ once) i j (omega arith) (omega arith)
+    (parts-same _ _ p q) (parts-same _ _ (sym p) (sym q)) in
+    omega (arith, e)
+
+-- two labels with the same sets have the same number
+pub label-once : (s : Sheet) → repeats s ≡ false → (l m : ℕ) → l < labelCount s → m < labelCount s → labelNo s l ≡ labelNo s m → l ≡ m
+unfolding repeats labelNo labelsOf labelCount
+label-once s once l m h k p =
+    let long = length-map (s .labels) (labelOf (s .principals)) in
+    same-place sameOf (bottomOf (everyone (s .principals))) (labelsOf s) (neither-right _ _ once) l m (omega arith) (omega arith)
+    (rw p (same-refl _)) (rw p (same-refl _))

@@ -1,0 +1,22 @@
+use mathlib.Core.Path.{sym, _∙_}
+use Rattle.sheet.proofs.Entries.{label-there, label-past}
+use borrow.Author.Needs.{needs}
+use Rattle.sheet.proofs.label_of.Statement.{statement}
+use Rattle.sheet.proofs.label_of.Tie as tie
+
+returns : tie.Need-returns
+returns c = c .label-at .ensures ∙ sym (label-there _ _ (c .before .before .labels .ensures) (c .before .if1 .taken))
+
+returns-2 : tie.Need-returns-2
+returns-2 c = c .bottom .ensures ∙ sym (label-past _ _ (c .before .before .before .labels .ensures) (c .before .everyone .ensures) (c .before .before .if1 .left))
+
+pub label-of-spec : {M : Type 1} → statement M
+label-of-spec = tie.close (tie.spec
+    (λ c κs. search needs)  -- labels-requires
+    (λ c. search needs)  -- mul-label-at
+    (λ c. search needs)  -- add-label-at
+    (λ c κs. search needs)  -- label-at-requires
+    (λ c κs. search needs)  -- everyone-requires
+    (λ c κs. search needs)  -- bottom-requires
+    returns
+    returns-2)

@@ -1,0 +1,99 @@
+-- The decoded sheet: one table of words, from which the checker, the interpreter and the view read.
+use mathlib.Core.Bool.{Bool, cond}
+use mathlib.Core.List.{List, [], _∷_, _++_}
+use Prim.Native.Nat.{ℕ, _+_, _*_, _-_}
+use lib.Dec.{ltb}
+use lib.ListN.{length, getD, replicate}
+use Rattle.sets.specs.Sets.{everyone}
+use Rattle.labels.specs.Labels.{bottomOf, belowOf, readsOf, writesOf}
+use Rattle.labels.specs.Tables.{labelSize, labelWords, labelAt}
+use Rattle.labels.specs.declared.Label.{Label}
+use Rattle.sheet.specs.Sheet.{Sum, Location, Sheet, partsOf, typeCount, labelsOf, labelCount, locationCount}
+
+-- where the parts of types, the locations and the labels start, and the number of words in all
+abbrev pub partsBase : ℕ
+partsBase = 8
+
+abbrev pub locationsBase : ℕ
+locationsBase = 72
+
+abbrev pub labelsBase : ℕ
+labelsBase = 200
+
+abbrev pub tableWords : ℕ
+tableWords = 1224
+
+-- xs, filled up with zeros to n words
+unfoldable pub padded : ℕ → List ℕ → List ℕ
+padded n xs = xs ++ replicate (n - length xs) 0
+
+-- two words for each element
+unfoldable pub pairWords : {A : Type 0} → (A → ℕ) → (A → ℕ) → List A → List ℕ
+pairWords first second [] = []
+pairWords first second (x ∷ xs) = first x ∷ second x ∷ pairWords first second xs
+
+abbrev pub partWords : List Sum → List ℕ
+partWords ss = pairWords (λ (s : Sum). s .left) (λ (s : Sum). s .right) ss
+
+abbrev pub locationWords : List Location → List ℕ
+locationWords xs = pairWords (λ (x : Location). x .type) (λ (x : Location). x .label) xs
+
+unfoldable pub labelsWords : List Label → List ℕ
+labelsWords [] = []
+labelsWords (a ∷ rest) = labelWords a ++ labelsWords rest
+
+-- The table of a sheet: eight words of counts, then the parts of 32 types, 64 locations and 32 labels.
+unfoldable pub tableOf : Sheet → List ℕ
+tableOf s =
+    (s .principals ∷ everyone (s .principals) ∷ typeCount s ∷ labelCount s ∷ locationCount s ∷ 0 ∷ 0 ∷ 0 ∷ [])
+    ++ (padded 64 (partWords (partsOf s)) ++ (padded 128 (locationWords (s .locations)) ++ padded 1024 (labelsWords (labelsOf s))))
+
+-- ---- what a table says. A number that names nothing has the parts, type and label 0, and the label bottom.
+
+abbrev pub principalsIn : List ℕ → ℕ
+principalsIn t = getD t 0 0
+
+abbrev pub everyoneIn : List ℕ → ℕ
+everyoneIn t = getD t 1 0
+
+abbrev pub typesIn : List ℕ → ℕ
+typesIn t = getD t 2 0
+
+abbrev pub labelsIn : List ℕ → ℕ
+labelsIn t = getD t 3 0
+
+abbrev pub locationsIn : List ℕ → ℕ
+locationsIn t = getD t 4 0
+
+-- the word of entry i in a list of count pairs of words that starts at base; 0 past its last entry
+unfoldable pub entryIn : List ℕ → ℕ → ℕ → ℕ → ℕ
+entryIn t count base i = cond (ltb i count) (getD t (base + 2 * i) 0) 0
+
+-- the left and the right part of type i
+unfoldable pub leftIn : List ℕ → ℕ → ℕ
+leftIn t i = entryIn t (typesIn t) partsBase i
+
+unfoldable pub rightIn : List ℕ → ℕ → ℕ
+rightIn t i = entryIn t (typesIn t) (partsBase + 1) i
+
+-- the type and the label of location x
+unfoldable pub typeIn : List ℕ → ℕ → ℕ
+typeIn t x = entryIn t (locationsIn t) locationsBase x
+
+unfoldable pub homeIn : List ℕ → ℕ → ℕ
+homeIn t x = entryIn t (locationsIn t) (locationsBase + 1) x
+
+-- label l
+unfoldable pub labelIn : List ℕ → ℕ → Label
+labelIn t l = cond (ltb l (labelsIn t)) (labelAt t (labelsBase + labelSize * l)) (bottomOf (everyoneIn t))
+
+-- label l is at or below label m
+unfoldable pub belowIn : List ℕ → ℕ → ℕ → Bool
+belowIn t l m = belowOf (labelIn t l) (labelIn t m)
+
+-- the group g reads label l, and writes it
+unfoldable pub readsIn : List ℕ → ℕ → ℕ → Bool
+readsIn t g l = readsOf (principalsIn t) g (labelIn t l)
+
+unfoldable pub writesIn : List ℕ → ℕ → ℕ → Bool
+writesIn t g l = writesOf (principalsIn t) g (labelIn t l)

@@ -1,0 +1,248 @@
+-- Lines are those of a sheet of the right form exactly if a sheet can be built from them. Assumes nothing.
+use mathlib.Core.Path.{_≡_, refl, sym, ap, _∙_}
+use mathlib.Core.Bool.{Bool, true, cond}
+use mathlib.Core.List.{List, [], _∷_}
+use mathlib.Core.Option.{Option, none, some}
+use Prim.Native.Nat.{ℕ, _^_, _<_, _≤_}
+use native.Mathlib.Omega.{arith}
+use native.Mathlib.Nat.{lt-of-lt-of-le}
+use lib.Dec.{leb, eqb}
+use lib.ListN.{length}
+use lib.Pow.{pow-mono}
+use borrow.Author.Tests.{le-leb, ltb-true, leb-true, eqb-true}
+use Rattle.logic.specs.Booleans.{both}
+use Rattle.logic.proofs.BooleanLaws.{both-left, both-right, both-true}
+use Rattle.text.specs.Lines.{none-left, and-then}
+use Rattle.text.proofs.Cases.{cond-split, not-none, some-same}
+use Rattle.labels.specs.Labels.{policy}
+use Rattle.sheet.specs.Sheet.{Sum, Location, Sheet, partsOf, typeCount, labelCount, locationCount, earlier, rising, eachRising, eachNamed, formed}
+use Rattle.sheet.proofs.FormLaws.{Formed, formed-facts, type-count}
+use Rattle.sheet_text.specs.declared.line.Line.{Line}
+use Rattle.sheet_text.specs.declared.line.Line.the-variants.{P, T, L, O, X}
+use Rattle.sheet_text.specs.Lines.{sumLine, policyLine, locationLine, each, labelLines, linesThen, sheetLines}
+use Rattle.sheet_text.specs.Building.{blank, addSum, addLabel, addPolicy, addLocation, leastOwner, sumFits, labelFits, policyFits, locationFits, begin, step, stepOn, steps, build}
+use Rattle.sheet_text.proofs.LineLaws.{Fits, AllFit}
+use Rattle.sheet_text.proofs.GrowthLaws.{length-more, no-entries, each-more, labels-more, policies-more, length-toLast, earlier-more, each-rising-more, each-rising-last, each-named-more}
+
+pub formed-made : (s : Sheet) → Formed s → formed s ≡ true
+unfolding formed
+formed-made s f =
+    both-true (both-true (le-leb _ _ (f .some-principal)) (le-leb _ _ (f .few-principals)))
+    (both-true (both-true (le-leb _ _ (f .few-sums)) (f .sums-earlier))
+    (both-true (both-true (le-leb _ _ (f .few-labels)) (f .labels-rising)) (both-true (le-leb _ _ (f .few-locations)) (f .locations-named))))
+
+-- ---- a line that is taken is the next one of the new sheet, which is of the right form
+
+pub record Taken (s : Sheet) (l : Line) (s′ : Sheet) : Type 0 where
+  pub next : (rest : List Line) → linesThen s′ rest ≡ linesThen s (l ∷ rest)
+  pub right : formed s′ ≡ true
+  pub fits : Fits l
+
+pub no-locations : (s : Sheet) → eqb (locationCount s) 0 ≡ true → s .locations ≡ []
+unfolding locationCount
+no-locations s e = no-entries (s .locations) (eqb-true _ _ e)
+
+pub no-labels : (s : Sheet) → eqb (labelCount s) 0 ≡ true → s .labels ≡ []
+unfolding labelCount
+no-labels s e = no-entries (s .labels) (eqb-true _ _ e)
+
+module _ (s : Sheet) (fm : formed s ≡ true) where
+  facts : Formed s
+  facts = formed-facts s fm
+
+  take-sum : (a b : ℕ) → sumFits s a b ≡ true → Taken s (T a b) (addSum s (record { left = a; right = b }))
+  unfolding sumFits addSum linesThen Fits
+  take-sum a b e =
+      let x : Sum = record { left = a; right = b } in
+      let order = both-left _ _ e in
+      let rest = both-right _ _ e in
+      let few : length (s .sums) < 27 = ltb-true _ _ (both-left _ _ rest) in
+      let parts = both-right _ _ rest in
+      let left : a < typeCount s = ltb-true _ _ (both-left _ _ parts) in
+      let right : b < typeCount s = ltb-true _ _ (both-right _ _ parts) in
+      let l = no-labels s (both-left _ _ order) in
+      let x0 = no-locations s (both-right _ _ order) in
+      let count = type-count s in
+      record {
+        next = λ rest. unfold labelLines each sumLine in (rw (l, x0) (ap (_∷_ (P (s .principals))) (each-more sumLine (s .sums) x rest)));
+        right =
+            formed-made (addSum s x)
+            (record {
+              some-principal = facts .some-principal;
+              few-principals = facts .few-principals;
+              few-sums = omega (arith, length-more (s .sums) x);
+              sums-earlier = earlier-more 5 (s .sums) x (facts .sums-earlier) (omega arith) (omega arith);
+              few-labels = facts .few-labels;
+              labels-rising = facts .labels-rising;
+              few-locations = facts .few-locations;
+              locations-named = unfold eachNamed in (rw x0);
+            });
+        fits = (omega arith, omega arith);
+      }
+
+  take-label : labelFits s ≡ true → Taken s L (addLabel s)
+  unfolding labelFits addLabel linesThen labelCount Fits
+  take-label e =
+      let few : length (s .labels) < 32 = ltb-true _ _ (both-right _ _ e) in
+      let x0 = no-locations s (both-left _ _ e) in
+      record {
+        next = λ rest. unfold each in (rw x0 (ap (λ ls. P (s .principals) ∷ each sumLine (s .sums) ls) (labels-more (s .labels) rest)));
+        right =
+            formed-made (addLabel s)
+            (record {
+              some-principal = facts .some-principal;
+              few-principals = facts .few-principals;
+              few-sums = facts .few-sums;
+              sums-earlier = facts .sums-earlier;
+              few-labels = omega (arith, length-more (s .labels) []);
+              labels-rising = each-rising-more (s .principals) (s .labels) (facts .labels-rising);
+              few-locations = facts .few-locations;
+              locations-named = unfold eachNamed in (rw x0);
+            });
+        fits = tt;
+      }
+
+  -- a set of the principals is one of 16 bits
+  narrow : (r : ℕ) → r < 2 ^ s .principals → r < 65536
+  narrow r h = let m : 2 ^ s .principals ≤ 2 ^ 16 = pow-mono (facts .few-principals) in lt-of-lt-of-le h m
+
+  take-policy : (o r w : ℕ) → policyFits s o r w ≡ true → Taken s (O o r w) (addPolicy s (policy o r w))
+  unfolding policyFits addPolicy linesThen labelCount Fits each policyLine rising leastOwner eachNamed
+  take-policy o r w e =
+      let p = policy o r w in
+      let order = both-left _ _ e in
+      let rest = both-right _ _ e in
+      let rises = both-left _ _ rest in
+      let sets = both-right _ _ rest in
+      let x0 = no-locations s (both-left _ _ order) in
+      let some-label : 0 < length (s .labels) = ltb-true _ _ (both-right _ _ order) in
+      let low : o < s .principals = ltb-true _ _ (both-right _ _ rises) in
+      record {
+        next =
+            λ rest. rw x0 (ap (λ ls. P (s .principals) ∷ each sumLine (s .sums) ls) (policies-more p (s .labels) rest some-label));
+        right =
+            formed-made (addPolicy s p)
+            (record {
+              some-principal = facts .some-principal;
+              few-principals = facts .few-principals;
+              few-sums = facts .few-sums;
+              sums-earlier = facts .sums-earlier;
+              few-labels = omega (arith, length-toLast p (s .labels), facts .few-labels);
+              labels-rising =
+                  each-rising-last (s .principals) p (s .labels) (facts .labels-rising)
+                  (both-true rises (both-true sets refl));
+              few-locations = facts .few-locations;
+              locations-named = rw x0;
+            });
+        fits =
+            (omega (arith, facts .few-principals), narrow r (ltb-true _ _ (both-left _ _ sets)), narrow w (ltb-true _ _ (both-right _ _ sets)));
+      }
+
+  take-location : (t l : ℕ) → locationFits s t l ≡ true → Taken s (X t l) (addLocation s (record { type = t; label = l }))
+  unfolding locationFits addLocation linesThen locationCount labelCount Fits typeCount partsOf
+  take-location t l e =
+      let x : Location = record { type = t; label = l } in
+      let names = both-right _ _ e in
+      let few : length (s .locations) < 64 = ltb-true _ _ (both-left _ _ e) in
+      let type : t < typeCount s = ltb-true _ _ (both-left _ _ names) in
+      let label : l < labelCount s = ltb-true _ _ (both-right _ _ names) in
+      let count = type-count s in
+      record {
+        next =
+            λ rest. unfold locationLine in
+            (ap (λ ls. P (s .principals) ∷ each sumLine (s .sums) (labelLines (s .labels) ls)) (each-more locationLine (s .locations) x rest));
+        right =
+            formed-made (addLocation s x)
+            (record {
+              some-principal = facts .some-principal;
+              few-principals = facts .few-principals;
+              few-sums = facts .few-sums;
+              sums-earlier = facts .sums-earlier;
+              few-labels = facts .few-labels;
+              labels-rising = facts .labels-rising;
+              few-locations = omega (arith, length-more (s .locations) x);
+              locations-named = each-named-more (typeCount s) (labelCount s) (s .locations) x (facts .locations-named) type label;
+            });
+        fits = (omega (arith, facts .few-sums), omega (arith, facts .few-labels));
+      }
+
+-- what a test lets through
+taken-if : {P : Type 0} (c : Bool) (x y : Sheet) → (c ≡ true → x ≡ y → P) → cond c (some x) none ≡ some y → P
+taken-if c x y f e = cond-split c _ _ _ (λ h k. f h (some-same x y k)) (λ h k. not-none y k) e
+
+pub step-sound : (s : Sheet) (l : Line) (s′ : Sheet) → formed s ≡ true → step s l ≡ some s′ → Taken s l s′
+unfolding step
+step-sound s (P n) s′ fm e = not-none s′ e
+step-sound s (T a b) s′ fm e = taken-if (sumFits s a b) _ s′ (λ h k. rw (← k) (take-sum s fm a b h)) e
+step-sound s L s′ fm e = taken-if (labelFits s) _ s′ (λ h k. rw (← k) (take-label s fm h)) e
+step-sound s (O o r w) s′ fm e = taken-if (policyFits s o r w) (addPolicy s (policy o r w)) s′ (λ h k. rw (← k) (take-policy s fm o r w h)) e
+step-sound s (X t l) s′ fm e = taken-if (locationFits s t l) _ s′ (λ h k. rw (← k) (take-location s fm t l h)) e
+
+-- the first line
+blank-formed : (n : ℕ) → 1 ≤ n → n ≤ 16 → formed (blank n) ≡ true
+unfolding blank earlier eachRising eachNamed
+blank-formed n h k =
+    formed-made (blank n)
+    (record {
+      some-principal = h;
+      few-principals = k;
+      few-sums = omega arith;
+      sums-earlier = refl;
+      few-labels = omega arith;
+      labels-rising = refl;
+      few-locations = omega arith;
+      locations-named = refl;
+    })
+
+pub record Begun (l : Line) (s : Sheet) : Type 0 where
+  pub next : (rest : List Line) → linesThen s rest ≡ l ∷ rest
+  pub right : formed s ≡ true
+  pub fits : Fits l
+
+blank-begun : (n : ℕ) → 1 ≤ n → n ≤ 16 → Begun (P n) (blank n)
+unfolding linesThen blank each labelLines Fits
+blank-begun n h k = record { next = λ rest. refl; right = blank-formed n h k; fits = omega arith }
+
+pub begin-sound : (l : Line) (s : Sheet) → begin l ≡ some s → Begun l s
+unfolding begin
+begin-sound (P n) s e =
+    taken-if (both (leb 1 n) (leb n 16)) (blank n) s
+    (λ h k. rw (← k) (blank-begun n (leb-true _ _ (both-left _ _ h)) (leb-true _ _ (both-right _ _ h)))) e
+begin-sound (T a b) s e = not-none s e
+begin-sound L s e = not-none s e
+begin-sound (O o r w) s e = not-none s e
+begin-sound (X t l) s e = not-none s e
+
+-- ---- lines that a sheet can be built from are those of a sheet of the right form
+
+pub steps-none : (ls : List Line) → steps none ls ≡ none
+unfolding steps stepOn
+steps-none [] = refl
+steps-none (l ∷ ls) = steps-none ls
+
+pub steps-sound : (ls : List Line) (s s′ : Sheet) → formed s ≡ true → steps (some s) ls ≡ some s′
+    → (linesThen s′ [] ≡ linesThen s ls) × (formed s′ ≡ true) × AllFit ls
+unfolding steps stepOn
+steps-sound [] s s′ fm e = let k : s′ ≡ s = sym (some-same s s′ e) in rw k (refl, fm, none-left)
+steps-sound (l ∷ ls) s s′ fm e = at (λ s₁ h. steps-sound ls s₁ s′ h) (step s l) refl e
+  where
+    at : ((s₁ : Sheet) → formed s₁ ≡ true → steps (some s₁) ls ≡ some s′ → (linesThen s′ [] ≡ linesThen s₁ ls) × (formed s′ ≡ true) × AllFit ls)
+        → (o : Option Sheet) → step s l ≡ o → steps o ls ≡ some s′
+        → (linesThen s′ [] ≡ linesThen s (l ∷ ls)) × (formed s′ ≡ true) × AllFit (l ∷ ls)
+    at rest none h k = not-none s′ (sym (steps-none ls) ∙ k)
+    at rest (some s₁) h k =
+        let t = step-sound s l s₁ fm h in
+        let r = rest s₁ (t .right) k in
+        (r .0 ∙ t .next ls, r .1, and-then (t .fits) (r .2))
+
+pub build-sound : (ls : List Line) (s : Sheet) → build ls ≡ some s → (ls ≡ sheetLines s) × (formed s ≡ true) × AllFit ls
+unfolding build sheetLines
+build-sound [] s e = not-none s e
+build-sound (l ∷ ls) s e = at (begin l) refl e
+  where
+    at : (o : Option Sheet) → begin l ≡ o → steps o ls ≡ some s → (l ∷ ls ≡ linesThen s []) × (formed s ≡ true) × AllFit (l ∷ ls)
+    at none h k = not-none s (sym (steps-none ls) ∙ k)
+    at (some s₁) h k =
+        let b = begin-sound l s₁ h in
+        let r = steps-sound ls s₁ s (b .right) k in
+        (sym (r .0 ∙ b .next ls), r .1, and-then (b .fits) (r .2))

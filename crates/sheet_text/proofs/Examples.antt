@@ -1,0 +1,80 @@
+-- The sheet of the scope's cases, as its text is read; and texts that are refused. Assumes nothing.
+use mathlib.Core.Path.{_≡_, refl}
+use mathlib.Core.Bool.{true}
+use mathlib.Core.List.{List, [], _∷_, map}
+use Prim.Native.Nat.{ℕ}
+use lib.ListN.{replicate}
+use Rattle.logic.specs.Booleans.{both, either}
+use Rattle.sets.specs.Sets.{union, every, tab, single, everyone}
+use Rattle.text.specs.Reading.{andThen, byte, fits}
+use Rattle.text.specs.Number.{digit, opensDigit, digits, number, decimalOn, decimal}
+use Rattle.text.specs.Set.{hexDigit, hexDigits, hexByte, hex4}
+use Rattle.text.specs.Field.{numberField, setField, lastNumber}
+use Rattle.text.specs.Lines.{front, onward, linesUpTo, allLines, printLines}
+use Rattle.labels.specs.Labels.{policy, openAt, openOf, policyOf, withPolicies, labelOf, sameAt, sameOf}
+use Rattle.sheet.specs.Sheet.{Sheet, givenParts, partsOf, typeCount, labelsOf, labelCount, locationCount, earlier, rising, eachRising, eachNamed, formed, among, repeated, sameParts, givenSums, repeats}
+use Rattle.sheet_text.specs.Lines.{sumLine, policyLine, locationLine, each, labelLines, linesThen, sheetLines, lineBytes, sheetBytes}
+use Rattle.sheet_text.specs.Reading.{principalsRest, pairLine, pairRest, labelRest, policyRest, lineOf}
+use Rattle.sheet_text.specs.Building.{blank, addSum, addLabel, toLast, addPolicy, addLocation, lastOf, leastAfter, leastOwner, sumFits, labelFits, policyFits, locationFits, begin, step, stepOn, steps, build}
+use Rattle.sheet_text.specs.Sheets.{buildIn, sheetIn, Answer, malformed, repeating, accepted, judged, sheetOf}
+
+caseSheet : Sheet
+caseSheet =
+    record {
+      principals = 3;
+      sums = record { left = 0; right = 1 } ∷ [];
+      labels = [] ∷ (policy 0 0 0 ∷ []) ∷ (policy 0 0 7 ∷ []) ∷ [];
+      locations =
+          record { type = 0; label = 0 } ∷ record { type = 0; label = 2 } ∷ record { type = 4; label = 0 } ∷ record { type = 5; label = 2 } ∷ [];
+    }
+
+caseText : List ℕ
+caseText =
+    80 ∷ 9 ∷ 51 ∷ 10 ∷ 84 ∷ 9 ∷ 48 ∷ 9 ∷ 49 ∷ 10 ∷ 76 ∷ 10 ∷ 76 ∷ 10
+    ∷ 79 ∷ 9 ∷ 48 ∷ 9 ∷ 48 ∷ 48 ∷ 48 ∷ 48 ∷ 9 ∷ 48 ∷ 48 ∷ 48 ∷ 48 ∷ 10 ∷ 76 ∷ 10
+    ∷ 79 ∷ 9 ∷ 48 ∷ 9 ∷ 48 ∷ 48 ∷ 48 ∷ 48 ∷ 9 ∷ 48 ∷ 48 ∷ 48 ∷ 55 ∷ 10
+    ∷ 88 ∷ 9 ∷ 48 ∷ 9 ∷ 48 ∷ 10 ∷ 88 ∷ 9 ∷ 48 ∷ 9 ∷ 50 ∷ 10 ∷ 88 ∷ 9 ∷ 52 ∷ 9 ∷ 48 ∷ 10 ∷ 88 ∷ 9 ∷ 53 ∷ 9 ∷ 50 ∷ 10 ∷ []
+
+-- texts and their answers: the sheet; no text; a last line without its end; a type again; a label again, once as everybody listed;
+-- an owner again; a label that isn't there; `T` after `L`; 0 principals; 17; a needless zero; a tab more; byte 13 before byte 10;
+-- a byte above 127; a type that comes later; a set with a principal that isn't there; a set in capitals; 4294967296 for a type
+texts : List (List ℕ)
+texts =
+    caseText
+    ∷ []
+    ∷ (80 ∷ 9 ∷ 51 ∷ [])
+    ∷ (80 ∷ 9 ∷ 51 ∷ 10 ∷ 84 ∷ 9 ∷ 48 ∷ 9 ∷ 48 ∷ 10 ∷ [])
+    ∷ (80 ∷ 9 ∷ 49 ∷ 10 ∷ 76 ∷ 10 ∷ 76 ∷ 10 ∷ 79 ∷ 9 ∷ 48 ∷ 9 ∷ 48 ∷ 48 ∷ 48 ∷ 49 ∷ 9 ∷ 48 ∷ 48 ∷ 48 ∷ 49 ∷ 10 ∷ [])
+    ∷ (80 ∷ 9 ∷ 50 ∷ 10 ∷ 76 ∷ 10 ∷ 79 ∷ 9 ∷ 48 ∷ 9 ∷ 48 ∷ 48 ∷ 48 ∷ 49 ∷ 9 ∷ 48 ∷ 48 ∷ 48 ∷ 49 ∷ 10
+    ∷ 79 ∷ 9 ∷ 48 ∷ 9 ∷ 48 ∷ 48 ∷ 48 ∷ 49 ∷ 9 ∷ 48 ∷ 48 ∷ 48 ∷ 49 ∷ 10 ∷ [])
+    ∷ (80 ∷ 9 ∷ 50 ∷ 10 ∷ 88 ∷ 9 ∷ 48 ∷ 9 ∷ 48 ∷ 10 ∷ [])
+    ∷ (80 ∷ 9 ∷ 50 ∷ 10 ∷ 76 ∷ 10 ∷ 84 ∷ 9 ∷ 48 ∷ 9 ∷ 49 ∷ 10 ∷ [])
+    ∷ (80 ∷ 9 ∷ 48 ∷ 10 ∷ [])
+    ∷ (80 ∷ 9 ∷ 49 ∷ 55 ∷ 10 ∷ [])
+    ∷ (80 ∷ 9 ∷ 48 ∷ 50 ∷ 10 ∷ [])
+    ∷ (80 ∷ 9 ∷ 9 ∷ 50 ∷ 10 ∷ [])
+    ∷ (80 ∷ 9 ∷ 50 ∷ 13 ∷ 10 ∷ [])
+    ∷ (80 ∷ 9 ∷ 50 ∷ 10 ∷ 204 ∷ 10 ∷ [])
+    ∷ (80 ∷ 9 ∷ 50 ∷ 10 ∷ 84 ∷ 9 ∷ 48 ∷ 9 ∷ 53 ∷ 10 ∷ [])
+    ∷ (80 ∷ 9 ∷ 50 ∷ 10 ∷ 76 ∷ 10 ∷ 79 ∷ 9 ∷ 48 ∷ 9 ∷ 48 ∷ 48 ∷ 48 ∷ 52 ∷ 9 ∷ 48 ∷ 48 ∷ 48 ∷ 49 ∷ 10 ∷ [])
+    ∷ (80 ∷ 9 ∷ 49 ∷ 54 ∷ 10 ∷ 76 ∷ 10 ∷ 79 ∷ 9 ∷ 48 ∷ 9 ∷ 48 ∷ 48 ∷ 48 ∷ 65 ∷ 9 ∷ 48 ∷ 48 ∷ 48 ∷ 49 ∷ 10 ∷ [])
+    ∷ (80 ∷ 9 ∷ 50 ∷ 10 ∷ 84 ∷ 9 ∷ 48 ∷ 9 ∷ 52 ∷ 50 ∷ 57 ∷ 52 ∷ 57 ∷ 54 ∷ 55 ∷ 50 ∷ 57 ∷ 54 ∷ 10 ∷ [])
+    ∷ []
+
+answers : List Answer
+answers = accepted caseSheet ∷ malformed ∷ malformed ∷ repeating ∷ repeating ∷ replicate 13 malformed
+
+case-printed : sheetBytes caseSheet ≡ caseText
+unfolding caseSheet caseText sheetBytes printLines lineBytes sheetLines linesThen each labelLines sumLine policyLine locationLine decimal decimalOn hex4 hexByte
+case-printed = refl
+
+texts-read : map sheetOf texts ≡ answers
+unfolding caseSheet caseText texts answers sheetOf judged sheetIn buildIn build steps stepOn step begin sumFits labelFits policyFits locationFits leastOwner leastAfter lastOf blank
+    addSum addLabel addPolicy toLast addLocation allLines linesUpTo onward front lineOf principalsRest pairRest pairLine labelRest policyRest andThen byte fits digit opensDigit
+    digits number hexDigit hexDigits numberField setField lastNumber both either union every tab single everyone openAt openOf policyOf withPolicies labelOf sameAt sameOf
+    givenParts partsOf typeCount labelsOf labelCount locationCount among repeated sameParts givenSums repeats
+texts-read = refl
+
+case-formed : formed caseSheet ≡ true
+unfolding caseSheet formed both earlier rising eachRising eachNamed typeCount partsOf givenParts labelCount
+case-formed = refl

@@ -1,0 +1,13 @@
+-- The laws of sheets, for the proofs of this crate and of those that read sheets with it.
+pub mod Examples
+pub mod LineLaws
+pub mod GrowthLaws
+pub mod BuildLaws
+pub mod CompleteLaws
+pub mod Theorems
+pub mod TableGrowth
+pub mod DraftLaws
+pub mod RepeatFinds
+pub mod FoundLaws
+pub mod ReadLaws
+pub mod AnswerLaws

@@ -1,0 +1,142 @@
+-- A line is read exactly where its printed form stands. Assumes nothing.
+use mathlib.Core.Path.{_≡_, refl, sym, ap, _∙_}
+use mathlib.Core.Bool.{Bool, true, false}
+use mathlib.Core.List.{List, [], _∷_, _++_, append-assoc}
+use Prim.Native.Nat.{ℕ, _≤_, _<_}
+use lib.Dec.{eqb}
+use borrow.Author.Tests.{eqb-true}
+use Rattle.text.specs.Reading.Read.{got}
+use Rattle.text.specs.Number.{most, opensDigit, digit}
+use Rattle.text.specs.Field.{numberField, setField, lineEnd, lastNumber, printNumberField, printSetField, printLineEnd}
+use Rattle.text.specs.Lines.{Each, LineForm}
+use Rattle.text.proofs.Cases.{cond-split}
+use Rattle.text.proofs.Readings.{not-bad, got-same, andThen-got, andThen-split, byte-here, byte-sound}
+use Rattle.text.proofs.Fields.{number-field-sound, number-field-print, last-number-sound, last-number-print, set-field-sound, set-field-print}
+use Rattle.sheet_text.specs.declared.line.Line.{Line}
+use Rattle.sheet_text.specs.declared.line.Line.the-variants.{P, T, L, O, X}
+use Rattle.sheet_text.specs.Lines.{lineBytes}
+use Rattle.sheet_text.specs.Reading.{principalsRest, pairLine, pairRest, labelRest, policyRest, lineOf}
+
+-- the numbers of a line are of 32 bits, and its sets of 16
+unfoldable pub Fits : Line → Type 0
+Fits (P n) = n ≤ most
+Fits (T a b) = (a ≤ most) × (b ≤ most)
+Fits L = Unit
+Fits (O o r w) = (o ≤ most) × (r < 65536) × (w < 65536)
+Fits (X t l) = (t ≤ most) × (l ≤ most)
+
+-- ---- what is read stands there, printed
+
+principals-sound : (t : List ℕ) (l : Line) (u : List ℕ) → principalsRest t ≡ got l u → (80 ∷ t ≡ lineBytes l u) × Fits l
+unfolding principalsRest lineBytes Fits
+principals-sound t l u e =
+    andThen-split (lastNumber most t) _ l u
+    (λ n v f g.
+    let s = got-same (P n) l v u g in
+    let x = last-number-sound most t n v f in
+    rw (← s .0, ← s .1) (ap (_∷_ 80) (x .0), x .1)) e
+
+-- the letter of a line of two numbers
+letter : Bool → ℕ
+letter true = 84
+letter false = 88
+
+pair-bytes : (sum : Bool) (a b : ℕ) (u : List ℕ) → lineBytes (pairLine sum a b) u ≡ letter sum ∷ printNumberField a (printNumberField b (printLineEnd u))
+unfolding lineBytes pairLine letter
+pair-bytes true a b u = refl
+pair-bytes false a b u = refl
+
+pair-fits : (sum : Bool) (a b : ℕ) → a ≤ most → b ≤ most → Fits (pairLine sum a b)
+unfolding Fits pairLine
+pair-fits true a b h k = (h, k)
+pair-fits false a b h k = (h, k)
+
+pair-sound : (sum : Bool) (t : List ℕ) (l : Line) (u : List ℕ) → pairRest sum t ≡ got l u → (letter sum ∷ t ≡ lineBytes l u) × Fits l
+unfolding pairRest
+pair-sound sum t l u e =
+    andThen-split (numberField most t) _ l u
+    (λ a v f. andThen-split (lastNumber most v) _ l u
+    (λ b w g h.
+    let s = got-same (pairLine sum a b) l w u h in
+    let x = number-field-sound most t a v f in
+    let y = last-number-sound most v b w g in
+    rw (← s .0, ← s .1) (ap (_∷_ (letter sum)) (x .0 ∙ ap (printNumberField a) (y .0)) ∙ sym (pair-bytes sum a b w), pair-fits sum a b (x .1) (y .1)))) e
+
+label-sound : (t : List ℕ) (l : Line) (u : List ℕ) → labelRest t ≡ got l u → (76 ∷ t ≡ lineBytes l u) × Fits l
+unfolding labelRest lineBytes Fits
+label-sound t l u e =
+    andThen-split (lineEnd t) _ l u
+    (λ x v f g. let s = got-same L l v u g in rw (← s .0, ← s .1) (ap (_∷_ 76) (byte-sound 10 t v x f), tt)) e
+
+policy-sound : (t : List ℕ) (l : Line) (u : List ℕ) → policyRest t ≡ got l u → (79 ∷ t ≡ lineBytes l u) × Fits l
+unfolding policyRest lineBytes Fits
+policy-sound t l u e =
+    andThen-split (numberField most t) _ l u
+    (λ o v f. andThen-split (setField v) _ l u
+    (λ r w g. andThen-split (setField w) _ l u
+    (λ q x h. andThen-split (lineEnd x) _ l u
+    (λ z y k m.
+    let s = got-same (O o r q) l y u m in
+    let a = number-field-sound most t o v f in
+    let b = set-field-sound v r w g in
+    let c = set-field-sound w q x h in
+    let d = byte-sound 10 x y z k in
+    rw (← s .0, ← s .1)
+    (ap (_∷_ 79) (a .0 ∙ ap (printNumberField o) (b .0 ∙ ap (printSetField r) (c .0 ∙ ap (printSetField q) d))), (a .1, b .1, c .1)))))) e
+
+line-sound : (t : List ℕ) (l : Line) (u : List ℕ) → lineOf t ≡ got l u → (t ≡ lineBytes l u) × Fits l
+unfolding lineOf letter
+line-sound [] l u e = not-bad l u e
+line-sound (b ∷ t) l u e =
+    cond-split (eqb b 80) _ _ _ (λ h x. first 80 h (principals-sound t l u x))
+    (λ _. cond-split (eqb b 84) _ _ _ (λ h x. first 84 h (pair-sound true t l u x))
+    (λ _. cond-split (eqb b 76) _ _ _ (λ h x. first 76 h (label-sound t l u x))
+    (λ _. cond-split (eqb b 79) _ _ _ (λ h x. first 79 h (policy-sound t l u x))
+    (λ _. cond-split (eqb b 88) _ _ _ (λ h x. first 88 h (pair-sound false t l u x)) (λ _ x. not-bad l u x))))) e
+  where
+    first : (k : ℕ) → eqb b k ≡ true → (k ∷ t ≡ lineBytes l u) × Fits l → (b ∷ t ≡ lineBytes l u) × Fits l
+    first k h r = (ap (λ (x : ℕ). x ∷ t) (eqb-true b k h) ∙ r .0, r .1)
+
+-- ---- what is printed is read
+
+pair-print : (sum : Bool) (a b : ℕ) (u : List ℕ) → a ≤ most → b ≤ most
+    → pairRest sum (printNumberField a (printNumberField b (printLineEnd u))) ≡ got (pairLine sum a b) u
+unfolding pairRest opensDigit digit
+pair-print sum a b u h k =
+    andThen-got _ _ a _ (number-field-print most a (printNumberField b (printLineEnd u)) h refl)
+    ∙ andThen-got _ _ b u (last-number-print most b u k)
+
+line-print : (l : Line) (u : List ℕ) → Fits l → lineOf (lineBytes l u) ≡ got l u
+unfolding lineBytes lineOf Fits pairLine principalsRest labelRest policyRest opensDigit digit
+line-print (P n) u h = andThen-got _ _ n u (last-number-print most n u h)
+line-print (T a b) u h = pair-print true a b u (h .0) (h .1)
+line-print L u h = andThen-got _ _ tt u (byte-here 10 10 u refl)
+line-print (O o r w) u h =
+    andThen-got _ _ o _ (number-field-print most o (printSetField r (printSetField w (printLineEnd u))) (h .0) refl)
+    ∙ andThen-got _ _ r _ (set-field-print r (printSetField w (printLineEnd u)) (h .1))
+    ∙ andThen-got _ _ w _ (set-field-print w (printLineEnd u) (h .2))
+    ∙ andThen-got _ _ tt u (byte-here 10 10 u refl)
+line-print (X t l) u h = pair-print false t l u (h .0) (h .1)
+
+-- ---- the form of lines
+
+abbrev pub AllFit : List Line → Type 0
+AllFit ls = Each Fits ls
+
+-- a line's bytes come before what follows it
+bytes-front : (l : Line) (u : List ℕ) → lineBytes l u ≡ lineBytes l [] ++ u
+unfolding lineBytes
+bytes-front (P n) u = simp append-assoc
+bytes-front (T a b) u = simp append-assoc
+bytes-front L u = refl
+bytes-front (O o r w) u = simp append-assoc
+bytes-front (X t l) u = simp append-assoc
+
+-- each line is read exactly where it stands printed
+pub sheet-lines : LineForm lineOf lineBytes Fits
+unfolding lineOf
+sheet-lines = record {
+  exact = λ t l u. (λ e. line-sound t l u e, λ r. ap lineOf (r .0) ∙ line-print l u (r .1));
+  no-end = refl;
+  ahead = bytes-front;
+}

@@ -1,0 +1,107 @@
+-- From the lines of a text to its answer, a line at a time. Assumes nothing.
+use mathlib.Core.Path.{_≡_, refl, sym, ap, _∙_}
+use mathlib.Core.Bool.{true, false}
+use mathlib.Core.List.{List, [], _∷_}
+use mathlib.Core.Option.{Option, none, some}
+use Prim.Native.Nat.{ℕ, _≤_, _<_}
+use native.Mathlib.Omega.{arith}
+use lib.ListN.{length, drop, length-drop, drop-of-length-le}
+use Rattle.logic.proofs.BooleanLaws.{absurd-false}
+use Rattle.text.specs.Reading.{fits}
+use Rattle.text.specs.Reading.Read.{got, bad}
+use Rattle.text.specs.Lines.{front}
+use Rattle.text.proofs.Lines.{all-none, all-more, all-bad}
+use Rattle.sheet.specs.Sheet.{Sheet, typeCount, labelCount}
+use Rattle.sheet.specs.Tables.{typesIn, labelsIn}
+use Rattle.sheet.proofs.FormLaws.{formed-facts, type-count}
+use Rattle.sheet.proofs.TableLaws.{types-in, labels-in}
+use Rattle.sheet_text.specs.declared.line.Line.{Line}
+use Rattle.sheet_text.specs.declared.draft.Draft.{Draft}
+use Rattle.sheet_text.specs.Reading.{lineOf, linesOf}
+use Rattle.sheet_text.specs.Building.{begin, stepOn, steps, build}
+use Rattle.sheet_text.specs.Sheets.{buildIn, sheetIn, judged, refusedBy, decoded}
+use Rattle.sheet_text.specs.Drafts.{Holds, FormedIf, stepsIn}
+use Rattle.sheet_text.specs.Repeats.{repeatsIn}
+use Rattle.sheet_text.proofs.LineLaws.{sheet-lines}
+use Rattle.sheet_text.proofs.RepeatFinds.{repeats-in}
+use Rattle.sheet_text.proofs.Theorems.{sheet-in-sound}
+
+-- ---- the lines that are left, at a place of a text
+
+steps-front : (o : Option Sheet) (l : Line) (ls : Option (List Line)) → stepsIn o (front l ls) ≡ stepsIn (stepOn o l) ls
+unfolding stepsIn front steps
+steps-front o l none = refl
+steps-front o l (some ls) = refl
+
+module _ (o : Option Sheet) (s : List ℕ) (i : ℕ) where
+  pub steps-on : (l : Line) (p : ℕ) → lineOf (drop i s) ≡ got l (drop p s)
+      → stepsIn (stepOn o l) (linesOf (drop p s)) ≡ stepsIn o (linesOf (drop i s))
+  steps-on l p e = sym (ap (stepsIn o) (all-more sheet-lines (drop i s) l (drop p s) e) ∙ steps-front o l (linesOf (drop p s)))
+
+  pub steps-bad : i < length s → lineOf (drop i s) ≡ bad → none ≡ stepsIn o (linesOf (drop i s))
+  unfolding stepsIn
+  steps-bad h e = sym (ap (stepsIn o) (all-bad sheet-lines (drop i s) (omega (arith, length-drop i s)) e))
+
+  pub steps-end : length s ≤ i → o ≡ stepsIn o (linesOf (drop i s))
+  unfolding stepsIn steps
+  steps-end h = sym (ap (λ (t : List ℕ). stepsIn o (linesOf t)) (drop-of-length-le s {i = i} h) ∙ ap (stepsIn o) (all-none sheet-lines))
+
+-- ---- the sheet of a text
+
+build-front : (l : Line) (ls : Option (List Line)) → stepsIn (begin l) ls ≡ buildIn (front l ls)
+unfolding stepsIn buildIn front build
+build-front l none = refl
+build-front l (some ls) = refl
+
+module _ (t : List ℕ) where
+  pub sheet-long : fits t ≡ false → none ≡ sheetIn t
+  unfolding sheetIn
+  sheet-long f = rw f
+
+  pub sheet-first : (l : Line) (u : List ℕ) → fits t ≡ true → lineOf t ≡ got l u → stepsIn (begin l) (linesOf u) ≡ sheetIn t
+  unfolding sheetIn
+  sheet-first l u f e = rw (f, all-more sheet-lines t l u e) (build-front l (linesOf u))
+
+  pub sheet-none : fits t ≡ true → lineOf t ≡ bad → none ≡ sheetIn t
+  sheet-none f e = at t f e
+    where
+      at : (t : List ℕ) → fits t ≡ true → lineOf t ≡ bad → none ≡ sheetIn t
+      at [] f e = unfold sheetIn buildIn build in (rw (f, all-none sheet-lines))
+      at (b ∷ u) f e = unfold sheetIn buildIn in (rw (f, all-bad sheet-lines (b ∷ u) (omega arith) e))
+
+  pub formed-read : FormedIf (sheetIn t)
+  formed-read = at (sheetIn t) refl
+    where
+      at : (o : Option Sheet) → sheetIn t ≡ o → FormedIf o
+      at none e = unfold FormedIf in tt
+      at (some s) e = unfold FormedIf in (sheet-in-sound t s e .right)
+
+-- ---- the answer
+
+module _ (d : Draft) (t : List ℕ) where
+  pub answer-malformed : (o : Option Sheet) → Holds o d t → d .ok ≡ false → refusedBy 1 ≡ decoded (judged o)
+  unfolding Holds decoded judged
+  answer-malformed none e h = refl
+  answer-malformed (some s) e h = absurd (absurd-false (sym h ∙ e .0))
+
+  module _ (h : d .ok ≡ true) where
+    -- a table of a sheet of the right form has at most 32 types and 32 labels
+    pub counts-few : (o : Option Sheet) → FormedIf o → Holds o d t → (typesIn t ≤ 32) × (labelsIn t ≤ 32)
+    unfolding Holds FormedIf
+    counts-few none f e = absurd (absurd-false (sym e ∙ h))
+    counts-few (some s) f e =
+        let facts = formed-facts s f in
+        let types : typeCount s ≤ 32 = omega (arith, type-count s, facts .few-sums) in
+        let labels : labelCount s ≤ 32 = unfold labelCount in (facts .few-labels) in
+        rw (e .2, types-in s, labels-in s) (types, labels)
+
+    pub answer-repeating : (o : Option Sheet) → FormedIf o → Holds o d t → repeatsIn t ≡ true → refusedBy 2 ≡ decoded (judged o)
+    unfolding Holds decoded judged FormedIf
+    answer-repeating none f e r = absurd (absurd-false (sym e ∙ h))
+    answer-repeating (some s) f e r = rw (sym (repeats-in s f) ∙ ap repeatsIn (sym (e .2)) ∙ r)
+
+    pub answer-accepted : (o : Option Sheet) → FormedIf o → Holds o d t → repeatsIn t ≡ false → record { answer = 0; table = t } ≡ decoded (judged o)
+    unfolding Holds decoded judged FormedIf
+    answer-accepted none f e r = absurd (absurd-false (sym e ∙ h))
+    answer-accepted (some s) f e r =
+        rw (sym (repeats-in s f) ∙ ap repeatsIn (sym (e .2)) ∙ r) (ap (λ (t : List ℕ). record { answer = 0; table = t }) (e .2))

@@ -1,0 +1,204 @@
+-- A table repeats a type or a label exactly if its sheet does. Assumes nothing.
+use mathlib.Core.Path.{_≡_, refl, sym, ap, ap₂, _∙_}
+use mathlib.Core.Bool.{Bool, true, false}
+use mathlib.Core.List.{List, [], _∷_, _++_}
+use Prim.Native.Nat.{ℕ, suc, _+_, _*_, _-_, _<_, _≤_}
+use native.Mathlib.Omega.{arith}
+use native.Mathlib.Decide.{decLe}
+use lib.Dec.{eqb}
+use lib.ListN.{length, getD, length-map}
+use borrow.Author.Tests.{lt-ltb}
+use Rattle.logic.specs.Booleans.{both, either}
+use Rattle.logic.proofs.BooleanLaws.{bool-ext, both-left, both-right, both-true}
+use Rattle.sets.specs.Sets.{every, everyone}
+use Rattle.sets.proofs.Walks.{every-true, every-at, getD-tab}
+use Rattle.labels.specs.Labels.{owners, labelOf, bottomOf, readersOf, writersOf, sameAt, sameOf}
+use Rattle.labels.specs.Tables.{labelSize, setsAt, labelAt}
+use Rattle.labels.specs.declared.Label.{Label}
+use Rattle.sheet.specs.Sheet.{Sum, Sheet, givenParts, partsOf, partsNo, labelsOf, labelNo, labelCount, formed, among, repeated, sameParts, givenSums, repeats}
+use Rattle.sheet.specs.Tables.{tableOf, typesIn, labelsIn, entryIn, leftIn, rightIn, labelIn}
+use Rattle.sheet.proofs.FormLaws.{type-count}
+use Rattle.sheet.proofs.TableLaws.{types-in, labels-in, left-in, right-in}
+use Rattle.sheet.proofs.LabelLaws.{label-in}
+use Rattle.sheet_text.specs.Repeats.{sameWords, sameIn, anyFrom, againIn, repeatsIn}
+
+-- ---- the cases of a search from i to before n
+
+module _ (test : ℕ → Bool) (i n : ℕ) where
+  pub any-end : n ≤ i → anyFrom test i (n - i) ≡ false
+  unfolding anyFrom
+  any-end h = let z : n - i ≡ 0 = omega arith in rw z
+
+  pub any-here : i < n → test i ≡ true → anyFrom test i (n - i) ≡ true
+  unfolding anyFrom either
+  any-here h e = let z : n - i ≡ suc (n - (i + 1)) = omega arith in rw (z, anyFrom, e)
+
+  pub any-on : i < n → test i ≡ false → anyFrom test i (n - i) ≡ anyFrom test (i + 1) (n - (i + 1))
+  unfolding anyFrom either
+  any-on h e = let z : n - i ≡ suc (n - (i + 1)) = omega arith in rw (z, anyFrom, e)
+
+-- ---- the cases of the test and of the two searches
+
+module _ (t : List ℕ) (labels : Bool) (i j : ℕ) where
+  pub same-labels-at : labels ≡ true → sameWords t (200 + labelSize * i) (200 + labelSize * j) labelSize ≡ sameIn t labels i j
+  unfolding sameIn
+  same-labels-at e = rw e
+
+  pub same-types-at : labels ≡ false → sameWords t (8 + 2 * i) (8 + 2 * j) 2 ≡ sameIn t labels i j
+  unfolding sameIn
+  same-types-at e = rw e
+
+module _ (t : List ℕ) where
+  pub repeats-type : (n : ℕ) → n ≡ typesIn t → anyFrom (againIn t false n) 3 (n - 3) ≡ true → true ≡ repeatsIn t
+  unfolding repeatsIn either
+  repeats-type n e h = rw (← e, h)
+
+  pub repeats-label : (n m : ℕ) → n ≡ typesIn t → m ≡ labelsIn t → anyFrom (againIn t false n) 3 (n - 3) ≡ false
+      → anyFrom (againIn t true m) 0 (m - 0) ≡ repeatsIn t
+  unfolding repeatsIn either
+  repeats-label n m e f h = rw (← e, ← f, h)
+
+-- ---- a search among the entries of a list, which stand at the numbers from i on
+
+module _ {A : Type 0} (same : A → A → Bool) (d : A) where
+  any-among : (x : A) (test : ℕ → Bool) (xs : List A) (i : ℕ) → ((k : ℕ) → k < length xs → test (i + k) ≡ same x (getD xs k d))
+      → anyFrom test i (length xs) ≡ among same x xs
+  unfolding anyFrom among
+  any-among x test [] i h = refl
+  any-among x test (y ∷ ys) i h =
+      let here : i + 0 ≡ i = omega arith in
+      ap₂ either (ap test (sym here) ∙ h 0 (omega arith))
+      (any-among x test ys (i + 1) (λ k l. let next : i + 1 + k ≡ i + suc k = omega arith in ap test next ∙ h (suc k) (omega arith)))
+
+  module _ (t : List ℕ) (labels : Bool) (n : ℕ) where
+    any-repeated : (xs : List A) (i : ℕ) → i + length xs ≡ n
+        → ((j k : ℕ) → j < length xs → k < length xs → sameIn t labels (i + j) (i + k) ≡ same (getD xs j d) (getD xs k d))
+        → anyFrom (againIn t labels n) i (length xs) ≡ repeated same xs
+    unfolding anyFrom againIn repeated
+    any-repeated [] i e h = refl
+    any-repeated (x ∷ xs) i e h =
+        let here : i + 0 ≡ i = omega arith in
+        let left : n - (i + 1) ≡ length xs = omega arith in
+        ap₂ either
+        (ap (λ (k : ℕ). anyFrom (sameIn t labels i) (i + 1) k) left
+        ∙ any-among x (sameIn t labels i) xs (i + 1)
+        (λ k l.
+        let next : i + 1 + k ≡ i + suc k = omega arith in
+        ap₂ (sameIn t labels) (sym here) next ∙ h 0 (suc k) (omega arith) (omega arith)))
+        (any-repeated xs (i + 1) (omega arith)
+        (λ j k l m.
+        let first : i + 1 + j ≡ i + suc j = omega arith in
+        let second : i + 1 + k ≡ i + suc k = omega arith in
+        ap₂ (sameIn t labels) first second ∙ h (suc j) (suc k) (omega arith) (omega arith)))
+
+-- ---- what stands in the table of an entry that is there
+
+entry-there : (t : List ℕ) (count base i : ℕ) → i < count → entryIn t count base i ≡ getD t (base + 2 * i) 0
+unfolding entryIn
+entry-there t count base i h = rw (lt-ltb _ _ h)
+
+label-there : (t : List ℕ) (l : ℕ) → l < labelsIn t → labelIn t l ≡ labelAt t (200 + labelSize * l)
+unfolding labelIn
+label-there t l h = rw (lt-ltb _ _ h)
+
+both-yes-right : (a : Bool) → both a true ≡ a
+unfolding both
+both-yes-right true = refl
+both-yes-right false = refl
+
+-- the words of a label are its sets of readers and its sets of writers
+module _ (t : List ℕ) (a b : ℕ) where
+  readers-at : (i o : ℕ) → o < owners → readersOf (labelAt t i) o ≡ getD t (i + o) 0
+  unfolding labelAt setsAt
+  readers-at i o h = getD-tab owners _ o 0 h
+
+  writers-at : (i o : ℕ) → o < owners → writersOf (labelAt t i) o ≡ getD t (i + (owners + o)) 0
+  unfolding labelAt setsAt
+  writers-at i o h = getD-tab owners _ o 0 h ∙ ap (λ (k : ℕ). getD t k 0) (omega arith)
+
+  same-word : ℕ → Bool
+  same-word k = eqb (getD t (a + k) 0) (getD t (b + k) 0)
+
+  same-owner : (o : ℕ) → o < owners → sameAt (labelAt t a) (labelAt t b) o ≡ both (same-word o) (same-word (owners + o))
+  unfolding sameAt same-word
+  same-owner o h = rw (readers-at a o h, readers-at b o h, writers-at a o h, writers-at b o h)
+
+  label-words-same : sameWords t a b labelSize ≡ sameOf (labelAt t a) (labelAt t b)
+  unfolding sameWords sameOf same-word
+  label-words-same =
+      bool-ext (every labelSize same-word) (every owners (sameAt (labelAt t a) (labelAt t b)))
+      (λ e.
+      every-true owners _
+      (λ o l. same-owner o l ∙ both-true (every-at labelSize same-word e o (omega arith)) (every-at labelSize same-word e (owners + o) (omega arith))))
+      (λ e. every-true labelSize same-word (λ k l. word-same e k l (decLe owners k)))
+    where
+      word-same : every owners (sameAt (labelAt t a) (labelAt t b)) ≡ true → (k : ℕ) → k < labelSize → Dec (owners ≤ k) → same-word k ≡ true
+      word-same e k l (yes h) =
+          let o : ℕ = k - owners in
+          let z : owners + o ≡ k = omega arith in
+          let i : o < owners = omega arith in
+          ap same-word (sym z) ∙ both-right (same-word o) (same-word (owners + o)) (sym (same-owner o i) ∙ every-at owners _ e o i)
+      word-same e k l (no h) =
+          let i : k < owners = omega arith in
+          both-left (same-word k) (same-word (owners + k)) (sym (same-owner k i) ∙ every-at owners _ e k i)
+
+-- ---- types and labels
+
+module _ (s : Sheet) (fm : formed s ≡ true) where
+  noParts : Sum
+  noParts = record { left = 0; right = 0 }
+
+  -- the sums are the types from 3 on
+  sum-at : (j : ℕ) → partsNo s (3 + j) ≡ getD (givenSums ++ s .sums) j noParts
+  unfolding partsNo partsOf givenParts givenSums noParts
+  sum-at j = let z : 3 + j ≡ suc (suc (suc j)) = omega arith in rw z
+
+  -- a part of a type that is there
+  left-at : (i : ℕ) → i < typesIn (tableOf s) → getD (tableOf s) (8 + 2 * i + 0) 0 ≡ partsNo s i .left
+  left-at i h =
+      let z : 8 + 2 * i + 0 ≡ 8 + 2 * i = omega arith in
+      rw z (sym (entry-there (tableOf s) (typesIn (tableOf s)) 8 i h) ∙ unfold leftIn in (left-in s fm i))
+
+  right-at : (i : ℕ) → i < typesIn (tableOf s) → getD (tableOf s) (8 + 2 * i + 1) 0 ≡ partsNo s i .right
+  right-at i h =
+      let z : 8 + 2 * i + 1 ≡ 9 + 2 * i = omega arith in
+      rw z (sym (entry-there (tableOf s) (typesIn (tableOf s)) 9 i h) ∙ unfold rightIn in (right-in s fm i))
+
+  same-sums : (j k : ℕ) → 3 + j < typesIn (tableOf s) → 3 + k < typesIn (tableOf s)
+      → sameIn (tableOf s) false (3 + j) (3 + k) ≡ sameParts (getD (givenSums ++ s .sums) j noParts) (getD (givenSums ++ s .sums) k noParts)
+  unfolding sameIn sameWords sameParts every
+  same-sums j k h i =
+      rw (left-at (3 + j) h, left-at (3 + k) i, right-at (3 + j) h, right-at (3 + k) i, sum-at j, sum-at k) (ap (both _) (both-yes-right _))
+
+  types-repeated : anyFrom (againIn (tableOf s) false (typesIn (tableOf s))) 3 (typesIn (tableOf s) - 3) ≡ repeated sameParts (givenSums ++ s .sums)
+  types-repeated =
+      let xs = givenSums ++ s .sums in
+      let long : 3 + length xs ≡ typesIn (tableOf s) = unfold givenSums in (omega (arith, type-count s, types-in s)) in
+      let left : typesIn (tableOf s) - 3 ≡ length xs = omega arith in
+      ap (λ (k : ℕ). anyFrom (againIn (tableOf s) false (typesIn (tableOf s))) 3 k) left
+      ∙ any-repeated sameParts noParts (tableOf s) false (typesIn (tableOf s)) xs 3 long (λ j k l m. same-sums j k (omega arith) (omega arith))
+
+  noLabel : Label
+  noLabel = bottomOf (everyone (s .principals))
+
+  same-labels : (j k : ℕ) → j < labelsIn (tableOf s) → k < labelsIn (tableOf s)
+      → sameIn (tableOf s) true (0 + j) (0 + k) ≡ sameOf (getD (labelsOf s) j noLabel) (getD (labelsOf s) k noLabel)
+  unfolding sameIn labelNo noLabel
+  same-labels j k h i =
+      let first : 0 + j ≡ j = omega arith in
+      let second : 0 + k ≡ k = omega arith in
+      ap₂ (λ (a b : ℕ). sameWords (tableOf s) (200 + labelSize * a) (200 + labelSize * b) labelSize) first second
+      ∙ label-words-same (tableOf s) (200 + labelSize * j) (200 + labelSize * k)
+      ∙ ap₂ sameOf (sym (label-there (tableOf s) j h) ∙ label-in s fm j) (sym (label-there (tableOf s) k i) ∙ label-in s fm k)
+
+  labels-repeated : anyFrom (againIn (tableOf s) true (labelsIn (tableOf s))) 0 (labelsIn (tableOf s) - 0) ≡ repeated sameOf (labelsOf s)
+  labels-repeated =
+      let long : 0 + length (labelsOf s) ≡ labelsIn (tableOf s) =
+      unfold labelsOf labelCount in (omega (arith, length-map (s .labels) (labelOf (s .principals)), labels-in s)) in
+      let left : labelsIn (tableOf s) - 0 ≡ length (labelsOf s) = omega arith in
+      ap (λ (k : ℕ). anyFrom (againIn (tableOf s) true (labelsIn (tableOf s))) 0 k) left
+      ∙ any-repeated sameOf noLabel (tableOf s) true (labelsIn (tableOf s)) (labelsOf s) 0 long (λ j k l m. same-labels j k (omega arith) (omega arith))
+
+  pub repeats-in : repeatsIn (tableOf s) ≡ repeats s
+  unfolding repeatsIn repeats
+  repeats-in = ap₂ either types-repeated labels-repeated

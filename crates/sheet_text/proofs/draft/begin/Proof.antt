@@ -1,0 +1,39 @@
+-- `sheet_text::draft::begin` meets its contract. Assumes nothing.
+use mathlib.Core.Path.{_≡_, refl, sym}
+use mathlib.Core.Logic.{⊎-elim}
+use mathlib.Core.List.{[], _∷_}
+use mathlib.Core.Option.{none}
+use native.Mathlib.Omega.{arith}
+use denote.Enum.Declared.{tagOf}
+use types.Run.{OneOf}
+use Rattle.sheet_text.specs.declared.line.Line.{Line}
+use Rattle.sheet_text.specs.declared.line.Line.the-variants.{P, T, L, O, X}
+use Rattle.sheet_text.proofs.line.Line.{the-type}
+use Rattle.sheet_text.specs.Building.{begin}
+use Rattle.sheet_text.proofs.DraftLaws.{begin-holds, holds-none}
+use borrow.Author.Needs.{needs}
+use Rattle.sheet_text.proofs.draft.begin.Statement.{statement}
+use Rattle.sheet_text.proofs.draft.begin.Tie as tie
+
+-- another line than `P`, by the number of its variant
+begin-other : (l : Line) → OneOf (1 ∷ 2 ∷ 3 ∷ 4 ∷ []) (tagOf the-type l) → begin l ≡ none
+unfolding begin
+begin-other (P n) h = absurd (⊎-elim (λ e. omega arith) (⊎-elim (λ e. omega arith) (⊎-elim (λ e. omega arith) (λ e. omega arith))) h)
+begin-other (T a b) h = refl
+begin-other L h = refl
+begin-other (O o r w) h = refl
+begin-other (X t l) h = refl
+
+returns : tie.Need-returns
+returns c = holds-none _ _ _ (sym (begin-other _ (c .before .match .keys2))) (c .refused .ensures)
+
+returns-2 : tie.Need-returns-2
+returns-2 c = rw (c .before .before .before .line .given .1) (begin-holds _ _ (c .before .before .before .before .before .pre) _ _ (c .set-principals .ensures))
+
+pub begin-spec : {M : Type 1} → statement M
+begin-spec = tie.close (tie.spec
+    (λ c. search needs)  -- enum-known-line
+    (λ c κs. search needs)  -- refused-requires
+    returns
+    (λ c κs. search needs)  -- set-principals-requires
+    returns-2)

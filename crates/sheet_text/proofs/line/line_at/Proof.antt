@@ -1,0 +1,65 @@
+-- `sheet_text::line::line_at` meets its contract. Assumes nothing.
+use mathlib.Core.Path.{sym, ap, _∙_}
+use Rattle.sheet_text.specs.Reading.{foundIn}
+use Rattle.sheet_text.proofs.FoundLaws.{found-none, line-past, line-principals, line-sum, line-label, line-policy, line-location, line-other}
+use borrow.Author.Needs.{needs}
+use Rattle.sheet_text.proofs.line.line_at.Statement.{statement}
+use Rattle.sheet_text.proofs.line.line_at.Tie as tie
+
+returns : tie.Need-returns
+returns c =
+    let a = c .before .before .args in
+    found-none _ _ (line-past (a .s .now) (a .at) (c .if1 .taken))
+
+returns-2 : tie.Need-returns-2
+returns-2 c =
+    let a = c .before .before .before .before .before .args in
+    c .principals-rest .ensures ∙ ap (foundIn (a .s .now)) (sym (line-principals (a .s .now) (a .at) (c .before .before .before .if1 .left) (c .before .match .keys1)))
+
+returns-3 : tie.Need-returns-3
+returns-3 c =
+    let a = c .before .before .before .before .before .args in
+    c .pair-rest .ensures ∙ ap (foundIn (a .s .now)) (sym (line-sum (a .s .now) (a .at) (c .before .before .before .if1 .left) (c .before .match .keys2)))
+
+returns-4 : tie.Need-returns-4
+returns-4 c =
+    let a = c .before .before .before .before .before .args in
+    c .label-rest .ensures ∙ ap (foundIn (a .s .now)) (sym (line-label (a .s .now) (a .at) (c .before .before .before .if1 .left) (c .before .match .keys3)))
+
+returns-5 : tie.Need-returns-5
+returns-5 c =
+    let a = c .before .before .before .before .before .args in
+    c .policy-rest .ensures ∙ ap (foundIn (a .s .now)) (sym (line-policy (a .s .now) (a .at) (c .before .before .before .if1 .left) (c .before .match .keys4)))
+
+returns-6 : tie.Need-returns-6
+returns-6 c =
+    let a = c .before .before .before .before .before .args in
+    c .pair-rest2 .ensures ∙ ap (foundIn (a .s .now)) (sym (line-location (a .s .now) (a .at) (c .before .before .before .if1 .left) (c .before .match .keys5)))
+
+returns-7 : tie.Need-returns-7
+returns-7 c =
+    let a = c .before .before .before .before .args in
+    let r = c .match .rest in
+    found-none _ _
+    (line-other (a .s .now) (a .at) (c .before .before .if1 .left) (r .0 .0 .0 .0 .1) (r .0 .0 .0 .1) (r .0 .0 .1) (r .0 .1) (r .1))
+
+pub line-at-spec : {M : Type 1} → statement M
+line-at-spec = tie.close (tie.spec
+    returns
+    (λ c. search needs)  -- shared-slice-read-first
+    (λ c. search needs)  -- add-principals-rest
+    (λ c κs. search needs)  -- principals-rest-requires
+    (λ c. search needs)  -- add-pair-rest
+    (λ c κs. search needs)  -- pair-rest-requires
+    (λ c. search needs)  -- add-label-rest
+    (λ c κs. search needs)  -- label-rest-requires
+    (λ c. search needs)  -- add-policy-rest
+    (λ c κs. search needs)  -- policy-rest-requires
+    (λ c. search needs)  -- add-pair-rest-2
+    (λ c κs. search needs)  -- pair-rest-requires-2
+    returns-2
+    returns-3
+    returns-4
+    returns-5
+    returns-6
+    returns-7)

@@ -1,0 +1,102 @@
+-- From lines to the sheet, a line at a time: each is tested against the sheet so far, which refuses those that break the form.
+use mathlib.Core.Bool.{Bool, cond}
+use mathlib.Core.List.{List, [], _∷_, _++_}
+use mathlib.Core.Option.{Option, none, some}
+use Prim.Native.Nat.{ℕ, suc, _^_}
+use lib.Dec.{eqb, leb, ltb}
+use lib.ListN.{length}
+use Rattle.logic.specs.Booleans.{both}
+use Rattle.labels.specs.Labels.{Policy, policy}
+use Rattle.sheet.specs.Sheet.{Sum, Location, Sheet, typeCount, labelCount, locationCount, maxPrincipals, maxSums, maxLabels, maxLocations}
+use Rattle.sheet_text.specs.declared.line.Line.{Line}
+use Rattle.sheet_text.specs.declared.line.Line.the-variants.{P, T, L, O, X}
+
+-- ---- a line more
+
+-- a sheet of n principals with nothing else
+unfoldable pub blank : ℕ → Sheet
+blank n = record { principals = n; sums = []; labels = []; locations = [] }
+
+unfoldable pub addSum : Sheet → Sum → Sheet
+addSum s x = record { principals = s .principals; sums = s .sums ++ (x ∷ []); labels = s .labels; locations = s .locations }
+
+unfoldable pub addLabel : Sheet → Sheet
+addLabel s = record { principals = s .principals; sums = s .sums; labels = s .labels ++ ([] ∷ []); locations = s .locations }
+
+-- a policy more at the last label
+unfoldable pub toLast : Policy → List (List Policy) → List (List Policy)
+toLast p [] = []
+toLast p (ps ∷ []) = (ps ++ (p ∷ [])) ∷ []
+toLast p (ps ∷ qs ∷ pss) = ps ∷ toLast p (qs ∷ pss)
+
+unfoldable pub addPolicy : Sheet → Policy → Sheet
+addPolicy s p = record { principals = s .principals; sums = s .sums; labels = toLast p (s .labels); locations = s .locations }
+
+unfoldable pub addLocation : Sheet → Location → Sheet
+addLocation s x = record { principals = s .principals; sums = s .sums; labels = s .labels; locations = s .locations ++ (x ∷ []) }
+
+-- ---- which line may come next
+
+-- the last label's policies; none where there is no label
+unfoldable pub lastOf : List (List Policy) → List Policy
+lastOf [] = []
+lastOf (ps ∷ []) = ps
+lastOf (ps ∷ qs ∷ pss) = lastOf (qs ∷ pss)
+
+-- the least owner that may follow policies, from being the least at their start
+unfoldable pub leastAfter : ℕ → List Policy → ℕ
+leastAfter from [] = from
+leastAfter from (policy o r w ∷ ps) = leastAfter (suc o) ps
+
+unfoldable pub leastOwner : Sheet → ℕ
+leastOwner s = leastAfter 0 (lastOf (s .labels))
+
+-- `T` before any `L` or `X`, of earlier types
+unfoldable pub sumFits : Sheet → ℕ → ℕ → Bool
+sumFits s a b =
+    both (both (eqb (labelCount s) 0) (eqb (locationCount s) 0))
+    (both (ltb (length (s .sums)) maxSums) (both (ltb a (typeCount s)) (ltb b (typeCount s))))
+
+-- `L` before any `X`
+unfoldable pub labelFits : Sheet → Bool
+labelFits s = both (eqb (locationCount s) 0) (ltb (labelCount s) maxLabels)
+
+-- `O` after an `L` and before any `X`, owners rising
+unfoldable pub policyFits : Sheet → ℕ → ℕ → ℕ → Bool
+policyFits s o r w =
+    both (both (eqb (locationCount s) 0) (ltb 0 (labelCount s)))
+    (both (both (leb (leastOwner s) o) (ltb o (s .principals))) (both (ltb r (2 ^ s .principals)) (ltb w (2 ^ s .principals))))
+
+-- `X` with a type and a label that are there
+unfoldable pub locationFits : Sheet → ℕ → ℕ → Bool
+locationFits s t l = both (ltb (locationCount s) maxLocations) (both (ltb t (typeCount s)) (ltb l (labelCount s)))
+
+-- ---- the sheet of lines
+
+-- the sheet after a first line, which is `P`
+unfoldable pub begin : Line → Option Sheet
+begin (P n) = cond (both (leb 1 n) (leb n maxPrincipals)) (some (blank n)) none
+begin (T a b) = none
+begin L = none
+begin (O o r w) = none
+begin (X t l) = none
+
+-- the sheet after a further line
+unfoldable pub step : Sheet → Line → Option Sheet
+step s (P n) = none
+step s (T a b) = cond (sumFits s a b) (some (addSum s (record { left = a; right = b }))) none
+step s L = cond (labelFits s) (some (addLabel s)) none
+step s (O o r w) = cond (policyFits s o r w) (some (addPolicy s (policy o r w))) none
+step s (X t l) = cond (locationFits s t l) (some (addLocation s (record { type = t; label = l }))) none
+
+unfoldable pub stepOn : Option Sheet → Line → Option Sheet
+stepOn none l = none
+stepOn (some s) l = step s l
+
+unfoldable pub steps : Option Sheet → List Line → Option Sheet
+steps o [] = o
+steps o (l ∷ ls) = steps (stepOn o l) ls
+
+unfoldable pub build : List Line → Option Sheet
+build [] = none
+build (l ∷ ls) = steps (begin l) ls

@@ -1,0 +1,47 @@
+-- The lines of a sheet, in their order, and their printed form.
+use mathlib.Core.List.{List, [], _∷_}
+use Prim.Native.Nat.{ℕ}
+use Rattle.text.specs.Field.{printNumberField, printSetField, printLineEnd}
+use Rattle.text.specs.Lines.{printLines}
+use Rattle.labels.specs.Labels.{Policy, policy}
+use Rattle.sheet.specs.Sheet.{Sum, Location, Sheet}
+use Rattle.sheet_text.specs.declared.line.Line.{Line}
+use Rattle.sheet_text.specs.declared.line.Line.the-variants.{P, T, L, O, X}
+
+unfoldable pub sumLine : Sum → Line
+sumLine x = T (x .left) (x .right)
+
+unfoldable pub policyLine : Policy → Line
+policyLine (policy o r w) = O o r w
+
+unfoldable pub locationLine : Location → Line
+locationLine x = X (x .type) (x .label)
+
+-- a line for each element, then rest
+unfoldable pub each : {A : Type 0} → (A → Line) → List A → List Line → List Line
+each line [] rest = rest
+each line (x ∷ xs) rest = line x ∷ each line xs rest
+
+-- each label is `L` followed by its policies
+unfoldable pub labelLines : List (List Policy) → List Line → List Line
+labelLines [] rest = rest
+labelLines (ps ∷ pss) rest = L ∷ each policyLine ps (labelLines pss rest)
+
+-- the lines of a sheet, then rest
+unfoldable pub linesThen : Sheet → List Line → List Line
+linesThen s rest = P (s .principals) ∷ each sumLine (s .sums) (labelLines (s .labels) (each locationLine (s .locations) rest))
+
+unfoldable pub sheetLines : Sheet → List Line
+sheetLines s = linesThen s []
+
+-- the bytes of a line, then rest: the letter, the fields, each after a tab, and byte 10
+unfoldable pub lineBytes : Line → List ℕ → List ℕ
+lineBytes (P n) rest = 80 ∷ printNumberField n (printLineEnd rest)
+lineBytes (T a b) rest = 84 ∷ printNumberField a (printNumberField b (printLineEnd rest))
+lineBytes L rest = 76 ∷ printLineEnd rest
+lineBytes (O o r w) rest = 79 ∷ printNumberField o (printSetField r (printSetField w (printLineEnd rest)))
+lineBytes (X t l) rest = 88 ∷ printNumberField t (printNumberField l (printLineEnd rest))
+
+-- the printed form of a sheet
+unfoldable pub sheetBytes : Sheet → List ℕ
+sheetBytes s = printLines lineBytes (sheetLines s)

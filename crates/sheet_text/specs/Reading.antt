@@ -1,0 +1,54 @@
+-- How a sheet's text is read into lines: the first byte of a line says what it is.
+use mathlib.Core.Bool.{Bool, true, false, cond}
+use mathlib.Core.List.{List, [], _∷_}
+use mathlib.Core.Option.{Option}
+use Prim.Native.Nat.{ℕ}
+use lib.Dec.{eqb}
+use Rattle.text.specs.Reading.{Read, andThen}
+use Rattle.text.specs.Reading.Read.{got, bad}
+use Rattle.text.specs.Number.{most}
+use Rattle.text.specs.Field.{numberField, setField, lineEnd, lastNumber}
+use Rattle.text.specs.Lines.{allLines}
+use Rattle.text.specs.Place.{placed}
+use Rattle.sheet_text.specs.declared.line.Line.{Line}
+use Rattle.sheet_text.specs.declared.line.Line.the-variants.{P, T, L, O, X}
+use Rattle.sheet_text.specs.declared.line.Found.{Found}
+use Rattle.sheet_text.specs.declared.line.Found.the-variants as found
+
+-- what follows the letter of each line
+
+unfoldable pub principalsRest : List ℕ → Read Line
+principalsRest t = andThen (lastNumber most t) (λ n u. got (P n) u)
+
+unfoldable pub pairLine : Bool → ℕ → ℕ → Line
+pairLine true a b = T a b
+pairLine false a b = X a b
+
+-- two numbers: a sum, or otherwise a location
+unfoldable pub pairRest : Bool → List ℕ → Read Line
+pairRest sum t = andThen (numberField most t) (λ a u. andThen (lastNumber most u) (λ b v. got (pairLine sum a b) v))
+
+unfoldable pub labelRest : List ℕ → Read Line
+labelRest t = andThen (lineEnd t) (λ _ u. got L u)
+
+unfoldable pub policyRest : List ℕ → Read Line
+policyRest t =
+    andThen (numberField most t) (λ o u. andThen (setField u) (λ r v. andThen (setField v) (λ w x. andThen (lineEnd x) (λ _ y. got (O o r w) y))))
+
+-- the line at the front of a text
+unfoldable pub lineOf : List ℕ → Read Line
+lineOf [] = bad
+lineOf (b ∷ t) =
+    cond (eqb b 80) (principalsRest t)
+    (cond (eqb b 84) (pairRest true t)
+    (cond (eqb b 76) (labelRest t)
+    (cond (eqb b 79) (policyRest t)
+    (cond (eqb b 88) (pairRest false t) bad))))
+
+-- a line that is read in s as an answer
+abbrev pub foundIn : List ℕ → Read Line → Found
+foundIn s want = placed (λ l p. found.At l p) found.Bad s want
+
+-- the lines of a text
+abbrev pub linesOf : List ℕ → Option (List Line)
+linesOf t = allLines lineOf t

@@ -1,0 +1,44 @@
+-- The sheet of a text, or the number of its refusal: 1 where the text isn't of the form or names what isn't there, over the whole
+-- sheet, and otherwise 2 where it repeats a type or a label.
+use mathlib.Core.Bool.{cond}
+use mathlib.Core.List.{List}
+use mathlib.Core.Option.{Option, none, some}
+use Prim.Native.Nat.{ℕ}
+use lib.ListN.{replicate}
+use Rattle.text.specs.Reading.{fits}
+use Rattle.sheet.specs.Sheet.{Sheet, repeats}
+use Rattle.sheet.specs.Tables.{tableWords, tableOf}
+use Rattle.sheet_text.specs.declared.line.Line.{Line}
+use Rattle.sheet_text.specs.declared.Decoded.{Decoded}
+use Rattle.sheet_text.specs.Reading.{linesOf}
+use Rattle.sheet_text.specs.Building.{build}
+
+unfoldable pub buildIn : Option (List Line) → Option Sheet
+buildIn none = none
+buildIn (some ls) = build ls
+
+-- the sheet of a text that is of the form
+unfoldable pub sheetIn : List ℕ → Option Sheet
+sheetIn t = cond (fits t) (buildIn (linesOf t)) none
+
+-- what a text is: refusal 1, refusal 2, or a sheet
+pub data Answer : Type 0 where
+  malformed : Answer
+  repeating : Answer
+  accepted : Sheet → Answer
+
+unfoldable pub judged : Option Sheet → Answer
+judged none = malformed
+judged (some s) = cond (repeats s) repeating (accepted s)
+
+unfoldable pub sheetOf : List ℕ → Answer
+sheetOf t = judged (sheetIn t)
+
+-- the answer to a text: its number, and the table, which is all zeros for a refused text
+unfoldable pub refusedBy : ℕ → Decoded
+refusedBy number = record { answer = number; table = replicate tableWords 0 }
+
+unfoldable pub decoded : Answer → Decoded
+decoded malformed = refusedBy 1
+decoded repeating = refusedBy 2
+decoded (accepted s) = record { answer = 0; table = tableOf s }

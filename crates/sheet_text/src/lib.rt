@@ -1,0 +1,71 @@
+// From a sheet's bytes to its table; a text that is no sheet of the right form, or one that repeats, is refused.
+mod line; // line.rt: from bytes to lines
+mod draft; // draft.rt: from lines to the table
+mod repeat; // repeat.rt: whether a table repeats a type or a label
+
+ghost use mathlib.Core.Path.{_≡_};
+ghost use lib.ListN.{drop, replicate};
+ghost use Rattle.sheet.specs.Tables.{tableWords};
+ghost use Rattle.sheet_text.specs.Sheets.{sheetOf, decoded};
+use draft::draft_of;
+use reader::Reader;
+use reader::reader_of;
+use reader::rest;
+use repeat::repeats;
+use sheet::WORDS;
+
+// The answer to a text: 0 and the sheet's table, or the number of a refusal and zeros.
+pub struct Decoded {
+    pub answer: u8,
+    pub table: [u16; WORDS],
+}
+
+// Fills a table of zeros with the sheet of a text, and answers 0, or leaves zeros and answers the number of the refusal.
+fn fill(text: &[u8], table: &mut [u16; WORDS]) -> u8
+    requires { ⌜ now table ≡ replicate tableWords 0 ⌝ }
+    ensures { λ r. ⌜ record { answer = r; table = now (table .exit) } ≡ decoded (sheetOf (now (text .entry))) ⌝ }
+{
+    let d = draft_of(text, table);
+    if !d.ok {
+        *table = [0u16; WORDS];
+        return 1;
+    }
+    if repeats(table) {
+        *table = [0u16; WORDS];
+        return 2;
+    }
+    0
+}
+
+// The table of a sheet's text, or the number of its refusal.
+fn read_text(text: &[u8]) -> Decoded
+    ensures { λ r. ⌜ r ≡ decoded (sheetOf (now (text .entry))) ⌝ }
+{
+    let mut d = Decoded {
+        answer: 0,
+        table: [0u16; WORDS],
+    };
+    d.answer = fill(text, &mut d.table);
+    d
+}
+
+// The same of the text from `at` on.
+fn read_from(text: &[u8], at: usize) -> Decoded
+    ensures { λ r. ⌜ r ≡ decoded (sheetOf (drop at (now (text .entry)))) ⌝ }
+{
+    read_text(rest(text, at))
+}
+
+// The same of the text that a reader has before it.
+pub fn read_here<'a>(r: Reader<'a>) -> Decoded
+    ensures { λ d. ⌜ d ≡ decoded (sheetOf (drop (r .entry .at) (now (r .entry .text)))) ⌝ }
+{
+    read_from(r.text, r.at)
+}
+
+// The table of a sheet's text, or the number of its refusal; a plain slice, so that its callers hold no reader.
+pub fn read(text: &[u8]) -> Decoded
+    ensures { λ r. ⌜ r ≡ decoded (sheetOf (now (text .entry))) ⌝ }
+{
+    read_here(reader_of(text))
+}

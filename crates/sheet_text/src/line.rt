@@ -1,0 +1,104 @@
+// From a sheet's bytes to its lines.
+ghost use mathlib.Core.Path.{_≡_};
+ghost use lib.ListN.{drop};
+ghost use Rattle.sheet_text.specs.Reading.{principalsRest, pairLine, pairRest, labelRest, policyRest, lineOf, foundIn};
+use text::MOST;
+use text::Mask;
+use text::Place;
+use text::Value;
+use text::last_number;
+use text::line_end;
+use text::number_field;
+use text::set_field;
+
+// A line of a sheet, by its first byte: `P n`, `T a b`, `L`, `O owner readers writers`, `X type label`.
+pub enum Line {
+    P(u32),
+    T(u32, u32),
+    L,
+    O(u32, u16, u16),
+    X(u32, u32),
+}
+
+// A line and the place after it, or a refusal.
+pub enum Found {
+    At(Line, usize),
+    Bad,
+}
+
+// What follows the letter of a line `P`.
+fn principals_rest(s: &[u8], at: usize) -> Found
+    ensures { λ r. ⌜ r ≡ foundIn (now (s .entry)) (principalsRest (drop at (now (s .entry)))) ⌝ }
+{
+    match last_number(s, at, MOST) {
+        Value::At(n, p) => Found::At(Line::P(n), p),
+        Value::Bad => Found::Bad,
+    }
+}
+
+// The line of two numbers: a sum, or otherwise a location.
+fn pair_line(sum: bool, a: u32, b: u32) -> Line
+    ensures { λ r. ⌜ r ≡ pairLine sum a b ⌝ }
+{
+    if sum { Line::T(a, b) } else { Line::X(a, b) }
+}
+
+// What follows the letter of a line `T` or `X`.
+fn pair_rest(s: &[u8], at: usize, sum: bool) -> Found
+    ensures { λ r. ⌜ r ≡ foundIn (now (s .entry)) (pairRest sum (drop at (now (s .entry)))) ⌝ }
+{
+    let Value::At(a, p) = number_field(s, at, MOST) else {
+        return Found::Bad;
+    };
+    match last_number(s, p, MOST) {
+        Value::At(b, q) => Found::At(pair_line(sum, a, b), q),
+        Value::Bad => Found::Bad,
+    }
+}
+
+// What follows the letter of a line `L`.
+fn label_rest(s: &[u8], at: usize) -> Found
+    ensures { λ r. ⌜ r ≡ foundIn (now (s .entry)) (labelRest (drop at (now (s .entry)))) ⌝ }
+{
+    match line_end(s, at) {
+        Place::At(p) => Found::At(Line::L, p),
+        Place::Bad => Found::Bad,
+    }
+}
+
+// What follows the letter of a line `O`.
+fn policy_rest(s: &[u8], at: usize) -> Found
+    ensures { λ r. ⌜ r ≡ foundIn (now (s .entry)) (policyRest (drop at (now (s .entry)))) ⌝ }
+{
+    let Value::At(owner, p) = number_field(s, at, MOST) else {
+        return Found::Bad;
+    };
+    let Mask::At(readers, q) = set_field(s, p) else {
+        return Found::Bad;
+    };
+    let Mask::At(writers, r) = set_field(s, q) else {
+        return Found::Bad;
+    };
+    match line_end(s, r) {
+        Place::At(e) => Found::At(Line::O(owner, readers, writers), e),
+        Place::Bad => Found::Bad,
+    }
+}
+
+// The line that stands at `at`.
+pub fn line_at(s: &[u8], at: usize) -> Found
+    ensures { λ r. ⌜ r ≡ foundIn (now (s .entry)) (lineOf (drop at (now (s .entry)))) ⌝ }
+{
+    if s.len() <= at {
+        return Found::Bad;
+    }
+    let first = s[at];
+    match first {
+        b'P' => principals_rest(s, at + 1),
+        b'T' => pair_rest(s, at + 1, true),
+        b'L' => label_rest(s, at + 1),
+        b'O' => policy_rest(s, at + 1),
+        b'X' => pair_rest(s, at + 1, false),
+        _ => Found::Bad,
+    }
+}

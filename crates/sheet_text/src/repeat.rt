@@ -1,0 +1,73 @@
+// Whether a table repeats a type or a label. Those that are the same have the same words.
+ghost use mathlib.Core.Path.{_≡_};
+ghost use Prim.Native.Nat.{_+_, _-_, _<_, _≤_};
+ghost use Rattle.sheet.specs.Tables.{tableWords, typesIn, labelsIn};
+ghost use Rattle.sheet_text.specs.Repeats.{mostIn, sameWords, sameIn, anyFrom, againIn, repeatsIn};
+use labels::LABEL_SIZE;
+use sheet::LABELS;
+use sheet::PARTS;
+use sheet::SUMS;
+use sheet::WORDS;
+
+// Whether the n words from a on are those from b on.
+fn same_words(table: &[u16; WORDS], a: usize, b: usize, n: usize) -> bool
+    requires { ⌜ (a + n ≤ tableWords) × (b + n ≤ tableWords) ⌝ }
+    ensures { λ r. ⌜ r ≡ sameWords (now (table .entry)) a b n ⌝ }
+{
+    for k in 0..n {
+        if table[a + k] != table[b + k] {
+            return false;
+        }
+    }
+    true
+}
+
+// Whether two types have the same parts, or two labels the same sets.
+fn same(table: &[u16; WORDS], labels: bool, i: u32, j: u32) -> bool
+    requires { ⌜ (i < mostIn) × (j < mostIn) ⌝ }
+    ensures { λ r. ⌜ r ≡ sameIn (now (table .entry)) labels i j ⌝ }
+{
+    if labels {
+        let a = LABELS + LABEL_SIZE * (i as usize);
+        let b = LABELS + LABEL_SIZE * (j as usize);
+        return same_words(table, a, b, LABEL_SIZE);
+    }
+    same_words(table, (PARTS + 2 * i) as usize, (PARTS + 2 * j) as usize, 2)
+}
+
+// Whether one of those from `from` to before n is the same as the one at i.
+fn again(table: &[u16; WORDS], labels: bool, i: u32, from: u32, n: u32) -> bool
+    requires { ⌜ (i < mostIn) × (n ≤ mostIn) ⌝ }
+    ensures { λ r. ⌜ r ≡ anyFrom (sameIn (now (table .entry)) labels i) from (n - from) ⌝ }
+{
+    for j in from..n {
+        if same(table, labels, i, j) {
+            return true;
+        }
+    }
+    false
+}
+
+// Whether one of those from `from` to before n comes again before n.
+fn repeated(table: &[u16; WORDS], labels: bool, from: u32, n: u32) -> bool
+    requires { ⌜ n ≤ mostIn ⌝ }
+    ensures { λ r. ⌜ r ≡ anyFrom (againIn (now (table .entry)) labels n) from (n - from) ⌝ }
+{
+    for i in from..n {
+        if again(table, labels, i, i + 1, n) {
+            return true;
+        }
+    }
+    false
+}
+
+// Whether the table repeats a type or a label.
+pub(crate) fn repeats(table: &[u16; WORDS]) -> bool
+    requires { ⌜ (typesIn (now table) ≤ mostIn) × (labelsIn (now table) ≤ mostIn) ⌝ }
+    ensures { λ r. ⌜ r ≡ repeatsIn (now (table .entry)) ⌝ }
+{
+    if repeated(table, false, SUMS, sheet::types(table)) {
+        return true;
+    }
+    repeated(table, true, 0, sheet::labels(table))
+}

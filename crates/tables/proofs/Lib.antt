@@ -1,9 +1,0 @@
-pub mod Entries
-pub mod FormLaws
-pub mod RepeatLaws
-pub mod TypeLaws
-pub mod Words
-pub mod TableLaws
-pub mod LabelLaws
-pub mod MeaningLaws
-pub mod NumberLaws

@@ -1,5 +1,0 @@
-pub mod Sheet
-pub mod Tables
-pub mod Meaning
-pub mod TypeTest
-pub mod Theorems

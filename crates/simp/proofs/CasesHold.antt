@@ -5,7 +5,7 @@ use Rattle.language.specs.Syntax.{int, val, left, Cmd, skip, seq, while, size}
 use Rattle.language.specs.Evaluation.{World, Mem, bind, fit, fitting, eval}
 use Rattle.language.specs.Transition.{spent, done, run, iterate, step, after, branch, branchV, at-seq}
 use Rattle.simp.specs.Calls.{ended}
-use Rattle.simp.specs.Cases.{Holds, spends, Each, cases, CasesHold, sheet, memory, before, packed, unpacked, twoPolicies, readersOnly}
+use Rattle.simp.specs.Cases.{Holds, spends, Each, cases, CasesHold, sheet, nested, memory, before, packed, unpacked, twoPolicies, readersOnly}
 use Rattle.simp.proofs.Computing.{all-used}
 
 -- `w`, `l 3`, `i 1`, `s`
@@ -33,6 +33,6 @@ abbrev _&_ : {A B : Type 0} → A → B → A × B
 a & b = (a, b)
 
 pub cases-hold : CasesHold
-unfolding Each cases Holds sheet memory before packed unpacked twoPolicies readersOnly all-used
+unfolding Each cases Holds sheet nested memory before packed unpacked twoPolicies readersOnly all-used
 cases-hold =
-    refl & refl & refl & refl & refl & refl & refl & refl & refl & refl & refl & refl & refl & refl & refl & spent-always & tt
+    refl & refl & refl & refl & refl & refl & refl & refl & refl & refl & refl & refl & refl & refl & refl & spent-always & refl & refl & tt

@@ -1,4 +1,4 @@
--- The scope's starred cases ("Cases"), as one table. `cases-hold` in proofs/CasesHold.antt shows all of them.
+-- The scope's starred cases ("Cases"), and its two of long values, as one table. `cases-hold` in proofs/CasesHold.antt shows all of them.
 use mathlib.Core.Path.{_≡_}
 use mathlib.Core.Bool.{Bool, true, false}
 use mathlib.Core.List.{List, [], _∷_, _++_}
@@ -19,6 +19,10 @@ readersOnly = policy 0 0b0100 0 ∷ policy 1 0b1000 0 ∷ []
 
 unfoldable pub sheet : String
 sheet = "P 3\nT 0 1\nL\nL\nO 0 0000 0000\nL\nO 0 0000 0007\nX 0 0\nX 0 2\nX 4 0\nX 5 2\n"
+
+-- no location, and fourteen sums from type 5 on, each with the one before it on its left, the first with int+int
+unfoldable pub nested : String
+nested = "P 1\nT 3 0\nT 5 0\nT 6 0\nT 7 0\nT 8 0\nT 9 0\nT 10 0\nT 11 0\nT 12 0\nT 13 0\nT 14 0\nT 15 0\nT 16 0\nT 17 0\n"
 
 -- four locations; each row is filled up with zeros
 unfoldable pub memory : List ℕ → List ℕ → List ℕ → List ℕ → List ℕ
@@ -44,6 +48,8 @@ pub data Case : Type 0 where
   runs : String → List ℕ → ℕ → ℕ → List ℕ → Case
   -- a script, a memory and an authority: a run that is spent, whatever the budget
   spends : String → List ℕ → ℕ → Case
+  -- on the sheet `nested`, a script, what its run answers, and the steps
+  answers : String → ℕ → ℕ → Case
 
 -- the largest budget
 abbrev pub largest : ℕ
@@ -57,6 +63,7 @@ Holds (runs script m authority steps left) =
     runOf (bytes sheet) (bytes script) m authority largest ≡ record { answer = 0; steps = steps; memory = left }
 Holds (spends script m authority) =
     (budget : ℕ) → runOf (bytes sheet) (bytes script) m authority budget ≡ record { answer = 9; steps = budget; memory = m }
+Holds (answers script answer steps) = runOf (bytes nested) (bytes script) [] 0 largest ≡ record { answer = answer; steps = steps; memory = [] }
 
 unfoldable pub cases : List Case
 cases =
@@ -76,6 +83,9 @@ cases =
     ∷ runs "c\nx 2\n= 3\nu 5 2\nv 0\ns\n" packed 0b001 2 (unpacked (3 ∷ 1 ∷ 62 ∷ []))
     ∷ runs "c\nx 2\n= 3\nu 5 1\nv 0\ns\n" packed 0b001 2 (unpacked (4 ∷ 2 ∷ 2 ∷ []))
     ∷ spends "w\nl 3\ni 1\ns\n" before 0b000
+    -- not starred: fourteen lefts over an integer fit, fifteen give 10
+    ∷ answers "c\nl 17\nl 16\nl 15\nl 14\nl 13\nl 12\nl 11\nl 10\nl 9\nl 8\nl 7\nl 6\nl 5\nl 3\ni 1\ns\ns\n" 0 1
+    ∷ answers "c\nl 18\nl 17\nl 16\nl 15\nl 14\nl 13\nl 12\nl 11\nl 10\nl 9\nl 8\nl 7\nl 6\nl 5\nl 3\ni 1\ns\ns\n" 10 0
     ∷ []
 
 -- every case of a table holds

@@ -2,7 +2,7 @@
 use Prim.Native.Nat.{ℕ, suc, _≤_}
 use native.Mathlib.Omega.{arith}
 use mathlib.Core.Path.{_≡_, refl, ap}
-use mathlib.Core.Bool.{Bool, true, false, _&&_, false≢true}
+use mathlib.Core.Bool.{Bool, true, false, false≢true}
 use mathlib.Core.List.{List, [], _∷_}
 use mathlib.Core.Option.{none, some}
 use lib.Dec.{eqb}
@@ -12,16 +12,17 @@ use Rattle.text.specs.Reading.{Read}
 use Rattle.text.specs.Reading.Read.{got, bad}
 use Rattle.text.specs.Number.{number, decimal, most, opensDigit, digit}
 use Rattle.text.specs.Set.{hexSet, hex4}
-use Rattle.text.proofs.Cases.{cond-split}
+use Rattle.logic.proofs.BooleanLaws.{cond-split}
 use Rattle.text.proofs.Decimals.{number-sound, number-exact}
 use Rattle.text.proofs.Sets.{set-sound, set-exact}
 use Rattle.text.proofs.Writings.{length-decimal}
 use Rattle.desk.specs.Fields.{closed, onlyField, groupOf, budgetOf}
 use Rattle.desk.specs.Theorems.{GroupExact, BudgetExact}
+use Rattle.logic.specs.Booleans.{both}
 
 -- the end of a line and nothing more is one byte
 closed-sound : (t : List ℕ) → closed t ≡ true → t ≡ 10 ∷ []
-unfolding closed
+unfolding closed both
 closed-sound [] e = absurd (false≢true e)
 closed-sound (c ∷ t) e = go (eqb c 10) refl e
   where
@@ -29,7 +30,7 @@ closed-sound (c ∷ t) e = go (eqb c 10) refl e
     nothing [] q = refl
     nothing (d ∷ u) q = let z : suc (length u) ≡ 0 = eqb-true _ _ q in absurd (omega arith)
 
-    go : (x : Bool) → eqb c 10 ≡ x → x && eqb (length t) 0 ≡ true → c ∷ t ≡ 10 ∷ []
+    go : (x : Bool) → eqb c 10 ≡ x → both x (eqb (length t) 0) ≡ true → c ∷ t ≡ 10 ∷ []
     go true p q = let y : c ≡ 10 = eqb-true _ _ p in rw (y, nothing t q)
     go false p q = absurd (false≢true q)
 
@@ -43,7 +44,7 @@ only-sound (got w t) v e =
 only-sound bad v e = let z : _≡_ {A = ℕ} 0 1 = cc in absurd (omega arith)
 
 only-print : (field : Read ℕ) (v : ℕ) → field ≡ got v (10 ∷ []) → onlyField field ≡ some v
-unfolding onlyField closed
+unfolding onlyField closed both
 only-print field v e = rw e
 
 pub group-exact : GroupExact
@@ -53,7 +54,7 @@ group-exact t g =
 
 -- the end of a line is no digit
 end-plain : opensDigit (10 ∷ []) ≡ false
-unfolding opensDigit digit
+unfolding opensDigit digit both
 end-plain = refl
 
 pub budget-exact : BudgetExact

@@ -11,22 +11,23 @@ use borrow.Author.Tests.{eq-eqb, ne-eqb, eqb-true, eqb-false}
 use Rattle.text.specs.Reading.{Read}
 use Rattle.text.specs.Reading.Read.{got, bad}
 use Rattle.text.proofs.Readings.{drop-step}
-use Rattle.text.proofs.Cases.{cases}
+use Rattle.logic.proofs.BooleanLaws.{cases}
 use Rattle.desk.specs.Fields.{closed, onlyField}
+use Rattle.logic.specs.Booleans.{both}
 
 -- the end of the line at a place of s
 module _ (s : List ℕ) (p : ℕ) where
   pub closed-past : length s ≤ p → false ≡ closed (drop p s)
-  unfolding closed
+  unfolding closed both
   closed-past h = rw (drop-of-length-le s h)
 
   module _ (h : p < length s) where
     pub closed-other : (getD s p 0 ≡ 10 → ⊥) → false ≡ closed (drop p s)
-    unfolding closed
+    unfolding closed both
     closed-other n = rw (drop-step s p h, ne-eqb (getD s p 0) 10 n)
 
     pub closed-here : getD s p 0 ≡ 10 → eqb (length s - p) 1 ≡ closed (drop p s)
-    unfolding closed
+    unfolding closed both
     closed-here e =
         rw (drop-step s p h, eq-eqb (getD s p 0) 10 e)
         (cases (eqb (length s - p) 1)

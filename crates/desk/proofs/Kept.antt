@@ -10,7 +10,7 @@ use lib.ListN.{length, take}
 use lib.Seq.{take-all, length-take-le}
 use borrow.Author.Tests.{lt-leb, leb-true, leb-false}
 use Rattle.text.specs.Reading.{fits, limit}
-use Rattle.text.proofs.Cases.{cases}
+use Rattle.logic.proofs.BooleanLaws.{cases}
 use Rattle.parts.specs.Parts.{keep, textOf, keptOf}
 use Rattle.parts.specs.Feeding.{beginning, held, fed, textIn}
 use Rattle.parts.proofs.Keeping.{holds-parts}

@@ -2,14 +2,14 @@
 use Prim.Native.Nat.{ℕ, _*_}
 use mathlib.Core.Path.{_≡_, refl, ap, _∙_}
 use mathlib.Core.Logic.{_⊎_, inl, inr}
-use mathlib.Core.Bool.{Bool, true, false, cond, _&&_}
+use mathlib.Core.Bool.{Bool, true, false, cond}
 use mathlib.Core.List.{List, []}
 use mathlib.Core.Option.{Option, none, some}
 use lib.Dec.{eqb}
 use lib.ListN.{length, replicate, length-replicate}
 use Rattle.text.specs.Reading.{Read}
 use Rattle.text.specs.Reading.Read.{got, bad}
-use Rattle.text.proofs.Cases.{cases}
+use Rattle.logic.proofs.BooleanLaws.{cases}
 use Rattle.sets.specs.Sets.{within, everyone}
 use Rattle.sheet.specs.Sheet.{Sheet, locationCount}
 use Rattle.sheet_text.specs.Sheets.{Answer, malformed, repeating, accepted, sheetOf}
@@ -26,6 +26,7 @@ use Rattle.desk.specs.Show.{viewText, viewed, showOf}
 use Rattle.desk.specs.Order.{onGroup, onMemory, showInOrder}
 use Rattle.desk.specs.Theorems.{ShowOrder}
 use Rattle.desk.proofs.Givens.{given-words}
+use Rattle.logic.specs.Booleans.{both}
 
 -- the view on a sheet that isn't refused
 abbrev seen : Sheet → List ℕ → ℕ → Viewed
@@ -60,7 +61,7 @@ said other v = viewText (lower (asText (v .answer)) other) (v .view)
 
 -- the memory has the locations of the sheet, and is well-formed
 abbrev proper : Sheet → List ℕ → Bool
-proper s ws = eqb (length ws) (16 * locationCount s) && wellFormed s ws
+proper s ws = both (eqb (length ws) (16 * locationCount s)) (wellFormed s ws)
 
 -- the slice that the view goes into
 abbrev zerosFor : List ℕ → List ℕ
@@ -70,7 +71,7 @@ zerosFor ws = replicate (length ws) 0
 module _ (s : Sheet) (ws : List ℕ) (g : ℕ) {P : Type 0} where
   on-sheet : strangers s g ≡ 0 → ((k : ℕ) → (k ≡ 7) ⊎ (k ≡ 8) → proper s ws ≡ false → seen s ws g ≡ refusedView (zerosFor ws) k → P)
       → (proper s ws ≡ true → seen s ws g ≡ record { answer = 0; view = viewWords s g ws } → P) → P
-  unfolding unless
+  unfolding unless both
   on-sheet e f h =
       cases (eqb (length ws) (16 * locationCount s))
       (λ p.
@@ -130,7 +131,7 @@ in-order : (a : Answer) (o : Option ℕ) (m : Read (List ℕ))
     ≡ onSheet numberLine a (λ s.
     onGroup o (λ g.
     unless numberLine (strangers s g) (
-    onMemory m (λ ws. cond (eqb (length ws) (16 * locationCount s) && wellFormed s ws) (memoryText (viewWords s g ws)) (numberLine 8)))))
+    onMemory m (λ ws. cond (both (eqb (length ws) (16 * locationCount s)) (wellFormed s ws)) (memoryText (viewWords s g ws)) (numberLine 8)))))
 unfolding onSheet onGroup onMemory unless groupIn wordsRead formed viewText lower unread asText
 in-order malformed none (got ws _) = refl
 in-order malformed none bad = refl

@@ -1,6 +1,6 @@
 -- Texts of one line and one field: a group, an authority, a budget (the scope, the program show).
 use Prim.Native.Nat.{ℕ}
-use mathlib.Core.Bool.{Bool, true, false, cond, _&&_}
+use mathlib.Core.Bool.{Bool, true, false, cond}
 use mathlib.Core.List.{List, [], _∷_}
 use mathlib.Core.Option.{Option, none, some}
 use lib.Dec.{eqb}
@@ -11,11 +11,12 @@ use Rattle.text.specs.Number.{number, most}
 use Rattle.text.specs.Set.{hexSet}
 use Rattle.desk.specs.declared.Group.{Group}
 use Rattle.desk.specs.declared.Budget.{Budget}
+use Rattle.logic.specs.Booleans.{both}
 
 -- the end of the line, and nothing more
 unfoldable pub closed : List ℕ → Bool
 closed [] = false
-closed (c ∷ t) = eqb c 10 && eqb (length t) 0
+closed (c ∷ t) = both (eqb c 10) (eqb (length t) 0)
 
 -- a field that is the whole of its line, and of the text
 unfoldable pub onlyField : Read ℕ → Option ℕ

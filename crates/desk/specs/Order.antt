@@ -1,6 +1,6 @@
 -- Show by the order of the scope's numbers: 1, 2, 3, 8.
 use Prim.Native.Nat.{ℕ, _*_}
-use mathlib.Core.Bool.{cond, _&&_}
+use mathlib.Core.Bool.{cond}
 use mathlib.Core.List.{List}
 use mathlib.Core.Option.{Option, none, some}
 use lib.Dec.{eqb}
@@ -16,6 +16,7 @@ use Rattle.memory_text.specs.Reading.{memory}
 use Rattle.simp.specs.Calls.{onSheet, unless, strangers}
 use Rattle.desk.specs.Fields.{groupOf}
 use Rattle.desk.specs.Output.{numberLine}
+use Rattle.logic.specs.Booleans.{both}
 
 -- 3: the text of the group isn't of its form
 unfoldable pub onGroup : Option ℕ → (ℕ → List ℕ) → List ℕ
@@ -34,4 +35,4 @@ showInOrder sheet text group =
     onGroup (groupOf group) (λ g.
     unless numberLine (strangers s g) (
     onMemory (memory text) (λ ws.
-    cond (eqb (length ws) (16 * locationCount s) && wellFormed s ws) (memoryText (viewWords s g ws)) (numberLine 8)))))
+    cond (both (eqb (length ws) (16 * locationCount s)) (wellFormed s ws)) (memoryText (viewWords s g ws)) (numberLine 8)))))

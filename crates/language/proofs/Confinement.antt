@@ -10,7 +10,7 @@ use Rattle.language.specs.Transition.{close, inst, put, done, iterate}
 use Rattle.language.specs.Figures.{Step, ec-assign, ec-seq-skip, ec-seq-struct, ec-while-false, ec-while-true, ec-casel, ec-caser, Steps, s-none, s-more}
 use Rattle.language.specs.Typing.{Conditions, least, flow}
 use Rattle.language.specs.Theorems.{Observer, Confinement}
-use Rattle.logic.proofs.BooleanLaws.{T-of, both-left, both-right}
+use Rattle.logic.proofs.BooleanLaws.{T-of, both-left, both-right, fails}
 use Rattle.language.proofs.Traces.{Stops, stops-done, iterate-stops, trace-steps}
 
 -- c assigns to no location that is seen
@@ -82,16 +82,16 @@ module _ {L : Type 0} (S : Conditions L) (W : World) (vis : L → Bool) (shows :
       (unseen-quiet b _ _ (both-right _ _ (both-right _ _ f)) (λ j. h (O .join-left _ _ j)))
 
   -- a loop whose guard is not seen
-  pub while-quiet : (e : Expr) (c : Cmd) (pc : L) (Γ : List L) → flow S pc Γ (while e c) ≡ true → ¬ (vis (least S Γ e) ≡ true) → Quiet Sees (while e c)
+  pub while-quiet : (e : Expr) (c : Cmd) (pc : L) (Γ : List L) → flow S pc Γ (while e c) ≡ true → vis (least S Γ e) ≡ false → Quiet Sees (while e c)
   unfolding flow
-  while-quiet e c pc Γ f h = q-while (unseen-quiet c _ _ (both-right _ _ f) (λ j. h (O .join-right _ _ j)))
+  while-quiet e c pc Γ f h = q-while (unseen-quiet c _ _ (both-right _ _ f) (λ j. fails h (O .join-right _ _ j)))
 
   -- a case whose expression is not seen
-  pub case-quiet : (e : Expr) (a b : Cmd) (pc : L) (Γ : List L) → flow S pc Γ (case e a b) ≡ true → ¬ (vis (least S Γ e) ≡ true) → Quiet Sees (case e a b)
+  pub case-quiet : (e : Expr) (a b : Cmd) (pc : L) (Γ : List L) → flow S pc Γ (case e a b) ≡ true → vis (least S Γ e) ≡ false → Quiet Sees (case e a b)
   unfolding flow
   case-quiet e a b pc Γ f h =
-      q-case (unseen-quiet a _ _ (both-left _ _ (both-right _ _ f)) (λ j. h (O .join-right _ _ j)))
-      (unseen-quiet b _ _ (both-right _ _ (both-right _ _ f)) (λ j. h (O .join-right _ _ j)))
+      q-case (unseen-quiet a _ _ (both-left _ _ (both-right _ _ f)) (λ j. fails h (O .join-right _ _ j)))
+      (unseen-quiet b _ _ (both-right _ _ (both-right _ _ f)) (λ j. fails h (O .join-right _ _ j)))
 
   pub confinement : Confinement S W vis
   confinement pc c f h k M M′ c′ s x v = quiet-steps Sees W (unseen-quiet c pc [] f h) s x v

@@ -10,7 +10,7 @@ use Rattle.language.specs.Transition.{put}
 use Rattle.language.specs.Typing.{Conditions, nth, orElse, least, flowE, flow}
 use Rattle.language.specs.View.{Equiv, ve-int, ve-err, ve-inl, ve-inr, ve-pack-in, ve-pack-lab, ve-blank, EquivMem}
 use Rattle.language.specs.Theorems.{Observer, Noninterference}
-use Rattle.logic.proofs.BooleanLaws.{T-of, both-left, both-right, by-test, not-so}
+use Rattle.logic.proofs.BooleanLaws.{T-of, both-left, both-right, cases, not-so}
 use Rattle.language.proofs.Fit.{by-fit}
 use Rattle.language.proofs.Masking.{equiv-refl, has-equiv, equiv-of-view, view-of-equiv}
 use Rattle.language.proofs.Confinement.{Quiet, q-seq, q-assign, q-while, q-case, put-unseen, while-quiet, case-quiet}
@@ -200,32 +200,32 @@ module _ {L : Type 0} (S : Conditions L) (W : World) (vis : L → Bool) (shows :
       same-value es ms e (both-left _ _ f) (O .at-assign _ _ (both-left _ _ (both-right _ _ f)) t) p p′)
       (ms x s)
   ni-run Γ pc es ms f (r-go {e = e} {c} p r q) (r-go p′ r′ q′) =
-      by-test (vis (least S Γ e))
+      cases (vis (least S Γ e))
       (λ t. ni-run Γ pc es (ni-run Γ _ es ms (both-right _ _ f) r r′) f q q′)
       (λ h. apart ms (while-quiet S W vis shows O e c pc Γ f h) (r-go p r q) (while-quiet S W vis shows O e c pc Γ f h) (r-go p′ r′ q′))
   ni-run Γ pc es ms f (r-go {e = e} {c} p r q) (r-end p′) =
-      by-test (vis (least S Γ e))
+      cases (vis (least S Γ e))
       (λ t. absurd (no-lr _ (same-value es ms e (both-left _ _ f) t p p′)))
       (λ h. apart ms (while-quiet S W vis shows O e c pc Γ f h) (r-go p r q) (while-quiet S W vis shows O e c pc Γ f h) (r-end p′))
   ni-run Γ pc es ms f (r-end {e = e} {c} p) (r-go p′ r′ q′) =
-      by-test (vis (least S Γ e))
+      cases (vis (least S Γ e))
       (λ t. absurd (no-rl _ (same-value es ms e (both-left _ _ f) t p p′)))
       (λ h. apart ms (while-quiet S W vis shows O e c pc Γ f h) (r-end p) (while-quiet S W vis shows O e c pc Γ f h) (r-go p′ r′ q′))
   ni-run Γ pc es ms f (r-end p) (r-end p′) = ms
   ni-run Γ pc es ms f (r-left {e = e} {a} {b} p r) (r-left p′ r′) =
-      by-test (vis (least S Γ e))
+      cases (vis (least S Γ e))
       (λ t. ni-run _ _ (env-more (λ _. un-inl _ (same-value es ms e (both-left _ _ f) t p p′)) es) ms (both-left _ _ (both-right _ _ f)) r r′)
       (λ h. apart ms (case-quiet S W vis shows O e a b pc Γ f h) (r-left p r) (case-quiet S W vis shows O e a b pc Γ f h) (r-left p′ r′))
   ni-run Γ pc es ms f (r-left {e = e} {a} {b} p r) (r-right p′ r′) =
-      by-test (vis (least S Γ e))
+      cases (vis (least S Γ e))
       (λ t. absurd (no-lr _ (same-value es ms e (both-left _ _ f) t p p′)))
       (λ h. apart ms (case-quiet S W vis shows O e a b pc Γ f h) (r-left p r) (case-quiet S W vis shows O e a b pc Γ f h) (r-right p′ r′))
   ni-run Γ pc es ms f (r-right {e = e} {a} {b} p r) (r-left p′ r′) =
-      by-test (vis (least S Γ e))
+      cases (vis (least S Γ e))
       (λ t. absurd (no-rl _ (same-value es ms e (both-left _ _ f) t p p′)))
       (λ h. apart ms (case-quiet S W vis shows O e a b pc Γ f h) (r-right p r) (case-quiet S W vis shows O e a b pc Γ f h) (r-left p′ r′))
   ni-run Γ pc es ms f (r-right {e = e} {a} {b} p r) (r-right p′ r′) =
-      by-test (vis (least S Γ e))
+      cases (vis (least S Γ e))
       (λ t. ni-run _ _ (env-more (λ _. un-inr _ (same-value es ms e (both-left _ _ f) t p p′)) es) ms (both-right _ _ (both-right _ _ f)) r r′)
       (λ h. apart ms (case-quiet S W vis shows O e a b pc Γ f h) (r-right p r) (case-quiet S W vis shows O e a b pc Γ f h) (r-right p′ r′))
 

@@ -12,7 +12,8 @@ use Rattle.language.specs.Figures.{Step, Steps, s-none, s-more, LongExpr
 use Rattle.language.specs.Typing.{Shapes, typeOfValue, typeOf, shape}
 use Rattle.language.specs.Theorems.{SameTypes, Fitting, NoneLong, Ends, ends-done, ends-spent, ends-over, Outcome}
 use Rattle.logic.proofs.BooleanLaws.{both-left, both-right}
-use Rattle.language.proofs.Types.{none-some, isTy-path, hasTy-path, given-path, leftIs-path, rightIs-path, onSum-path}
+use Rattle.language.proofs.Types.{isTy-path, hasTy-path, given-path, leftIs-path, rightIs-path, onSum-path}
+use Rattle.logic.proofs.OptionLaws.{none-some}
 use Rattle.language.proofs.Agreement.{agreement, Refines, same, was-long, star-eval}
 use Rattle.language.proofs.Determinacy.{once}
 use Rattle.language.proofs.Interpreter.{run-skip}

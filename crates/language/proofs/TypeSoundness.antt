@@ -12,7 +12,8 @@ use Rattle.language.specs.Typing.{Shapes, nth, typeOfValue, typeOf, shap
 use Rattle.language.specs.Theorems.{SameTypes, WellTyped, TypeSoundness}
 use Rattle.logic.proofs.BooleanLaws.{T-of, both-left, both-right}
 use Rattle.language.proofs.Fit.{by-fit}
-use Rattle.language.proofs.Types.{some-path, none-some, isTy-path, hasTy-path, given-path, leftIs-path, rightIs-path, onSum-path}
+use Rattle.language.proofs.Types.{isTy-path, hasTy-path, given-path, leftIs-path, rightIs-path, onSum-path}
+use Rattle.logic.proofs.OptionLaws.{none-some, some-path}
 use Rattle.language.proofs.Substitution.{inst-close, close-none, eval-close}
 use Rattle.language.proofs.Traces.{Trace, Stops, stops-done, stops-wrong, iterate-stops, trace-keeps, steps-trace}
 

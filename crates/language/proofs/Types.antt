@@ -2,16 +2,9 @@
 use mathlib.Core.Path.{_≡_, refl, ap, sym}
 use mathlib.Core.Bool.{Bool, true, false, false≢true}
 use mathlib.Core.Option.{Option, none, some}
-use Prim.Native.Nat.{ℕ}
-use native.Mathlib.Omega.{arith}
+use Rattle.logic.proofs.OptionLaws.{none-some, some-path}
 use Rattle.language.specs.Syntax.{Ty, t-int, t-err, t-pkg, t-sum, Ty-discrete}
 use Rattle.language.specs.Typing.{isYes, sameTy, isTy, hasTy, leftIs, rightIs, onSum, given}
-
-pub some-path : {A : Type 0} {a b : A} → some a ≡ some b → a ≡ b
-some-path h = cc
-
-pub none-some : {A B : Type 0} {a : A} → none ≡ some a → B
-none-some h = absurd (let z : _≡_ {A = ℕ} 0 1 = cc in omega arith)
 
 sameTy-refl : (a : Ty) → sameTy a a ≡ true
 unfolding sameTy isYes

@@ -1,7 +1,7 @@
--- Laws of the truth values: `both`, `either`, and when two are equal.
+-- Laws of the truth values: their cases, when two are equal, `both` and `either`.
 -- Assumes nothing.
-use mathlib.Core.Path.{_≡_, refl, sym, subst}
-use mathlib.Core.Bool.{Bool, true, false, false≢true}
+use mathlib.Core.Path.{_≡_, refl, sym, _∙_, subst}
+use mathlib.Core.Bool.{Bool, true, false, cond}
 use lib.Dec.{T}
 use Rattle.logic.specs.Booleans.{both, either}
 
@@ -22,10 +22,19 @@ pub not-so : (x : Bool) → (x ≡ true → ⊥) → x ≡ false
 not-so true h = absurd (h refl)
 not-so false h = refl
 
--- a test passes or not
-pub by-test {ℓ} : {A : Type ℓ} (b : Bool) → (b ≡ true → A) → (¬ (b ≡ true) → A) → A
-by-test true f g = f refl
-by-test false f g = g false≢true
+-- what is false is not true
+pub fails : {x : Bool} → x ≡ false → ¬ (x ≡ true)
+fails f t = absurd-false (sym f ∙ t)
+
+-- the two cases of a test
+pub cases : {P : Type 0} (c : Bool) → (c ≡ true → P) → (c ≡ false → P) → P
+cases true f g = f refl
+cases false f g = g refl
+
+-- the two cases of a choice that is x
+pub cond-split : {A P : Type 0} (c : Bool) (a b x : A) → (c ≡ true → a ≡ x → P) → (c ≡ false → b ≡ x → P) → cond c a b ≡ x → P
+cond-split true a b x f g e = f refl e
+cond-split false a b x f g e = g refl e
 
 -- ---- both
 pub both-true : {a b : Bool} → a ≡ true → b ≡ true → both a b ≡ true

@@ -1,1 +1,2 @@
 pub mod BooleanLaws
+pub mod OptionLaws

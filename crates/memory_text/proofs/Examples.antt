@@ -10,6 +10,7 @@ use Rattle.text.specs.Lines.{front, onward, linesUpTo, printLines}
 use Rattle.memory_text.specs.Printing.{keep, trim, fields, line, rows, memoryText}
 use Rattle.sheet.specs.Tables.{padded}
 use Rattle.memory_text.specs.Reading.{following, words, blankOr, lineWords, location, joined, wordsOf, locations, memory}
+use Rattle.logic.specs.Booleans.{both}
 
 -- the view that the scope shows: `1 5`, an empty line, `3 5 2`, an empty line
 view : List ℕ
@@ -36,5 +37,5 @@ read-examples :
     × (memory (replicate 64 10) ≡ got (replicate 1024 0) [])
     × (memory (replicate 65 10) ≡ bad)
     × (memory (49 ∷ 9 ∷ 49 ∷ 9 ∷ 49 ∷ 9 ∷ 49 ∷ 9 ∷ 49 ∷ 9 ∷ 49 ∷ 9 ∷ 49 ∷ 9 ∷ 49 ∷ 9 ∷ 49 ∷ 9 ∷ 49 ∷ 9 ∷ 49 ∷ 9 ∷ 49 ∷ 9 ∷ 49 ∷ 9 ∷ 49 ∷ 9 ∷ 49 ∷ 9 ∷ 49 ∷ 9 ∷ 49 ∷ 10 ∷ []) ≡ bad)
-unfolding view viewText memory locations wordsOf joined front onward linesUpTo location blankOr lineWords words following padded andThen byte fits number digits digit opensDigit
+unfolding view viewText memory locations wordsOf joined front onward linesUpTo location blankOr lineWords words following padded andThen byte fits number digits digit opensDigit both
 read-examples = (refl, refl, refl, refl, refl, refl, refl, refl, refl, refl, refl)

@@ -12,7 +12,7 @@ use Rattle.text.specs.Reading.Read.{got, bad}
 use Rattle.text.specs.Number.{opensDigit, number, decimal, most}
 use Rattle.text.specs.Field.{lineEnd}
 use Rattle.text.specs.Lines.{LineForm}
-use Rattle.text.proofs.Cases.{cond-split}
+use Rattle.logic.proofs.BooleanLaws.{cond-split}
 use Rattle.text.proofs.Readings.{not-bad, got-same, andThen-got, andThen-bad, andThen-split, byte-here, byte-none, byte-sound}
 use Rattle.text.proofs.Numbers.{digit-low, opens-none, opens-byte, number-none, byte-digit}
 use Rattle.text.proofs.Decimals.{number-sound, number-print, opens-decimal}

@@ -10,7 +10,7 @@ use borrow.Author.Tests.{le-leb}
 use Rattle.text.specs.Reading.{limit, fits}
 use Rattle.text.specs.Reading.Read.{got}
 use Rattle.text.specs.Lines.{linesUpTo, printLines, Each, none-left, and-then}
-use Rattle.text.proofs.Cases.{cond-split}
+use Rattle.logic.proofs.BooleanLaws.{cond-split}
 use Rattle.text.proofs.Readings.{not-bad, got-same}
 use Rattle.text.proofs.Lines.{lines-exact}
 use Rattle.language.specs.Evaluation.{cell-words}

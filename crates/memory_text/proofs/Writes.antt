@@ -18,6 +18,7 @@ use Rattle.memory_text.specs.Printing.{trim, fields, line, rows, lines, 
 use Rattle.memory_text.specs.Answers.{printedLength, printed}
 use Rattle.memory_text.specs.Writing.{Used, Puts}
 use Rattle.memory_text.proofs.Trimming.{trim-zeros, trim-last}
+use Rattle.logic.specs.Booleans.{both}
 
 -- the last of n words from `from` on is kept where it is not zero, and dropped where it is
 module _ (ws : List ℕ) (from n : ℕ) (h : from + n < length ws) where
@@ -209,13 +210,13 @@ lines-done ws k n out now p g h =
 module _ (ws out : List ℕ) where
   pub printed-all : length ws % cell-words ≡ 0 → length ws / cell-words ≤ length out / lineRoom
       → (printedLength ws out ≡ length (memoryText ws)) × (printed ws out ≡ sets out 0 (memoryText ws))
-  unfolding printedLength printed
+  unfolding printedLength printed both
   printed-all h l = rw (eq-eqb _ _ h, le-leb _ _ l) (refl, refl)
 
   pub printed-part : (length ws % cell-words ≡ 0 → ⊥) → (printedLength ws out ≡ 0) × (printed ws out ≡ out)
-  unfolding printedLength printed
+  unfolding printedLength printed both
   printed-part h = rw (ne-eqb _ _ h) (refl, refl)
 
   pub printed-small : length ws % cell-words ≡ 0 → length out / lineRoom < length ws / cell-words → (printedLength ws out ≡ 0) × (printed ws out ≡ out)
-  unfolding printedLength printed
+  unfolding printedLength printed both
   printed-small h l = rw (eq-eqb _ _ h, lt-leb _ _ l) (refl, refl)

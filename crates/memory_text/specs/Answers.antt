@@ -1,6 +1,6 @@
 -- What the code answers and what it leaves in a lent buffer.
 use Prim.Native.Nat.{ℕ, _/_, _%_}
-use mathlib.Core.Bool.{Bool, true, false, cond, _&&_}
+use mathlib.Core.Bool.{Bool, true, false, cond}
 use mathlib.Core.List.{List}
 use lib.ListN.{length, replicate}
 use lib.Seq.{sets}
@@ -15,6 +15,7 @@ use Rattle.memory_text.specs.declared.Row.{Row}
 use Rattle.memory_text.specs.Printing.{memoryText}
 use Rattle.sheet.specs.Tables.{padded}
 use Rattle.memory_text.specs.Reading.{memory}
+use Rattle.logic.specs.Booleans.{both}
 
 -- a location that is read in s, or the refusal
 abbrev pub rowIn : List ℕ → Read (List ℕ) → Row
@@ -31,7 +32,7 @@ memoryOf t = table (memory t)
 
 -- 16 words for each location, and 176 bytes of buffer for its line
 abbrev pub printable : List ℕ → List ℕ → Bool
-printable ws out = eqb (length ws % cell-words) 0 && leb (length ws / cell-words) (length out / lineRoom)
+printable ws out = both (eqb (length ws % cell-words) 0) (leb (length ws / cell-words) (length out / lineRoom))
 
 -- the length of the text and the buffer that holds it, or 0 and the buffer as it was
 unfoldable pub printedLength : List ℕ → List ℕ → ℕ

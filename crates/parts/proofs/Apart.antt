@@ -2,15 +2,16 @@
 use Prim.Native.Nat.{ℕ, zero, suc, _+_, _≤_, _<_}
 use native.Mathlib.Omega.{arith}
 use mathlib.Core.Path.{_≡_, refl, sym, ap, _∙_}
-use mathlib.Core.Bool.{Bool, true, false, cond, not, _&&_, false≢true}
+use mathlib.Core.Bool.{Bool, true, false, cond, not, false≢true}
 use mathlib.Core.List.{List, [], _∷_, _++_, append-nil}
 use lib.ListN.{length, getD}
 use lib.Dec.{eqb, ltb}
 use borrow.Author.Tests.{eq-eqb, ne-eqb, lt-ltb}
-use Rattle.text.proofs.Cases.{cases}
+use Rattle.logic.proofs.BooleanLaws.{cases}
 use Rattle.parts.specs.Parts.{parting, given, textFrom, textOf, noEmptyLine, ended, joined}
 use Rattle.parts.specs.Theorems.{Each, JoinedApart, MissingEmpty}
 use Rattle.parts.proofs.Steps.{parting-below, parting-empty, from-next, from-same}
+use Rattle.logic.specs.Booleans.{both}
 
 -- a text, where it is the one asked for
 piece : Bool → List ℕ → List ℕ
@@ -34,10 +35,10 @@ module _ (last i : ℕ) where
   -- a byte in a text without empty lines parts nothing
   inside : (j : ℕ) (start : Bool) (b : ℕ) (t : List ℕ) → noEmptyLine start (b ∷ t) ≡ true
       → (parting last j start b ≡ false) × (noEmptyLine (eqb b 10) t ≡ true)
-  unfolding parting noEmptyLine
+  unfolding parting noEmptyLine both
   inside j true b t e = go (eqb b 10) e
     where
-      go : (x : Bool) → not x && noEmptyLine (eqb b 10) t ≡ true → (x && ltb j last ≡ false) × (noEmptyLine (eqb b 10) t ≡ true)
+      go : (x : Bool) → both (not x) (noEmptyLine (eqb b 10) t) ≡ true → (both x (ltb j last) ≡ false) × (noEmptyLine (eqb b 10) t ≡ true)
       go true h = absurd (false≢true h)
       go false h = (refl, h)
   inside j false b t e = (refl, e)

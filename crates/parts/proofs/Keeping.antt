@@ -8,7 +8,7 @@ use lib.ListN.{length, take, drop, getD, set, length-set, length-take, length-dr
 use lib.Seq.{take-all, take-append-le, getD-set-same, getD-set-other}
 use lib.Dec.{eqb, ltb}
 use borrow.Author.Tests.{ltb-true, ltb-false, eqb-true, eqb-false}
-use Rattle.text.proofs.Cases.{cases}
+use Rattle.logic.proofs.BooleanLaws.{cases}
 use Rattle.parts.specs.Parts.{parting, given, textFrom, textOf, keep, keptOf}
 use Rattle.parts.specs.Feeding.{texts, beginning, Held, held, count, turned, stored, fed, textIn}
 use Rattle.parts.specs.Theorems.{HoldsParts}

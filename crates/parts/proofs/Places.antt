@@ -8,7 +8,7 @@ use lib.ListN.{length, take, drop, set, length-drop, drop-of-length-le, List·ge
 use lib.Seq.{drop-set-add, drop-set-lt, take-set-le, take-suc-set, take-all, take-nil}
 use lib.Dec.{ltb}
 use borrow.Author.Tests.{ltb-true, ltb-false}
-use Rattle.text.proofs.Cases.{cases}
+use Rattle.logic.proofs.BooleanLaws.{cases}
 use Rattle.parts.specs.declared.State.{State}
 use Rattle.parts.specs.Parts.{keep}
 use Rattle.parts.specs.Feeding.{count, textIn}

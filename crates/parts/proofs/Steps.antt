@@ -11,27 +11,28 @@ use Rattle.parts.specs.declared.State.{State}
 use Rattle.parts.specs.Parts.{parting, given, textFrom, keep}
 use Rattle.parts.specs.Feeding.{texts, Held, held, count, room, turned, stored, stepped, fed}
 use Rattle.parts.specs.Theorems.{Chunks}
+use Rattle.logic.specs.Booleans.{both}
 
 -- where a byte parts two texts
 module _ (last j : ℕ) (start : Bool) (b : ℕ) where
   pub parting-inside : start ≡ false → parting last j start b ≡ false
-  unfolding parting
+  unfolding parting both
   parting-inside h = rw h
 
   pub parting-other : start ≡ true → (b ≡ 10 → ⊥) → parting last j start b ≡ false
-  unfolding parting
+  unfolding parting both
   parting-other h n = rw (h, ne-eqb b 10 n)
 
   pub parting-empty : start ≡ true → b ≡ 10 → parting last j start b ≡ ltb j last
-  unfolding parting
+  unfolding parting both
   parting-empty h e = rw (h, eq-eqb b 10 e)
 
 -- only a text before the last is parted from the next
 pub parting-below : (last j : ℕ) (start : Bool) (b : ℕ) → parting last j start b ≡ true → j < last
-unfolding parting
+unfolding parting both
 parting-below last j true b e = go (eqb b 10) e
   where
-    go : (t : Bool) → mathlib.Core.Bool._&&_ t (ltb j last) ≡ true → j < last
+    go : (t : Bool) → both t (ltb j last) ≡ true → j < last
     go true h = ltb-true j last h
     go false h = absurd (mathlib.Core.Bool.false≢true h)
 parting-below last j false b e = absurd (mathlib.Core.Bool.false≢true e)
@@ -39,18 +40,18 @@ parting-below last j false b e = absurd (mathlib.Core.Bool.false≢true e)
 -- a byte of the text that goes on
 module _ (s : State) (buffer : List ℕ) (b : ℕ) where
   pub stored-past : texts ≤ s .text → stored (held s buffer) b ≡ held (record { text = s .text; start = eqb b 10; kept = s .kept }) buffer
-  unfolding stored room
+  unfolding stored room both
   stored-past h = rw (le-ltb _ _ h)
 
   module _ (l : s .text < texts) where
     pub stored-full : keep ≤ count s (s .text) → stored (held s buffer) b ≡ held (record { text = s .text; start = eqb b 10; kept = s .kept }) buffer
-    unfolding stored room
+    unfolding stored room both
     stored-full h = rw (lt-ltb _ _ l, le-ltb _ _ h)
 
     pub stored-room : count s (s .text) < keep
         → stored (held s buffer) b
         ≡ held (record { text = s .text; start = eqb b 10; kept = set (s .kept) (s .text) (count s (s .text) + 1) }) (set buffer (s .text * keep + count s (s .text)) b)
-    unfolding stored room
+    unfolding stored room both
     stored-room h = rw (lt-ltb _ _ l, lt-ltb _ _ h)
 
 -- a byte of the input

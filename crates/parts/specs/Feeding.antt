@@ -1,11 +1,12 @@
 -- Input of any length, taken byte by byte: a state, and a buffer with 16,385 places for each text.
 use Prim.Native.Nat.{ℕ, _+_, _*_}
-use mathlib.Core.Bool.{Bool, true, cond, _&&_}
+use mathlib.Core.Bool.{Bool, true, cond}
 use mathlib.Core.List.{List, [], _∷_}
 use lib.ListN.{take, drop, getD, set, replicate}
 use lib.Dec.{eqb, ltb}
 use Rattle.parts.specs.declared.State.{State}
 use Rattle.parts.specs.Parts.{parting, keep}
+use Rattle.logic.specs.Booleans.{both}
 
 -- the most texts that a state holds
 abbrev pub texts : ℕ
@@ -33,7 +34,7 @@ count s i = getD (s .kept) i 0
 
 -- there is a place for one more byte of the text that goes on
 unfoldable pub room : State → Bool
-room s = ltb (s .text) texts && ltb (count s (s .text)) keep
+room s = both (ltb (s .text) texts) (ltb (count s (s .text)) keep)
 
 -- the byte b after what is kept of its text
 unfoldable pub stored : Held → ℕ → Held

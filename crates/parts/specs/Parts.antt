@@ -1,14 +1,15 @@
 -- Several texts in one input, parted by its first empty lines; a missing text is empty (the scope, the program show).
 use Prim.Native.Nat.{ℕ, suc, _+_}
-use mathlib.Core.Bool.{Bool, true, cond, not, _&&_}
+use mathlib.Core.Bool.{Bool, true, cond, not}
 use mathlib.Core.List.{List, [], _∷_, _++_}
 use lib.ListN.{take}
 use lib.Dec.{eqb, ltb}
 use Rattle.text.specs.Reading.{limit}
+use Rattle.logic.specs.Booleans.{both}
 
 -- The byte b parts text j from the next: a line starts with it and ends, and text j is not the last.
 unfoldable pub parting : ℕ → ℕ → Bool → ℕ → Bool
-parting last j start b = start && (eqb b 10 && ltb j last)
+parting last j start b = both start (both (eqb b 10) (ltb j last))
 
 -- the byte in front, where it belongs to the text
 unfoldable pub given : Bool → ℕ → List ℕ → List ℕ
@@ -38,7 +39,7 @@ keptOf last i input = take keep (textOf last i input)
 -- no line of t is empty; `start`: a line starts with t
 unfoldable pub noEmptyLine : Bool → List ℕ → Bool
 noEmptyLine start [] = true
-noEmptyLine start (b ∷ t) = not (start && eqb b 10) && noEmptyLine (eqb b 10) t
+noEmptyLine start (b ∷ t) = both (not (both start (eqb b 10))) (noEmptyLine (eqb b 10) t)
 
 -- the last line of t has its end
 unfoldable pub ended : Bool → List ℕ → Bool

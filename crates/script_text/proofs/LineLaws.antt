@@ -17,6 +17,7 @@ use Rattle.script.specs.Code.{lineWords}
 use Rattle.script_text.specs.Bytes.{lineBytes}
 use Rattle.script_text.specs.Reading.{Form, bare, one, two, other, formOf, operandsOf, lineOf}
 use Rattle.script_text.specs.Scan.{rowOf}
+use Rattle.logic.specs.Booleans.{both}
 
 -- The form of each kind, by its byte.
 data Formed : ℕ → Form → Type 0 where
@@ -126,7 +127,7 @@ module _ (u : List ℕ) where
 
   two-print : (f : ℕ → ℕ → Line) (a b : ℕ) → a ≤ most → b ≤ most
       → operandsOf (two f) (printNumberField a (printNumberField b (printLineEnd u))) ≡ got (f a b) u
-  unfolding operandsOf opensDigit digit
+  unfolding operandsOf opensDigit digit both
   two-print f a b h k =
       andThen-got _ _ a _ (number-field-print most a (printNumberField b (printLineEnd u)) h refl)
       ∙ andThen-got _ _ b u (last-number-print most b u k)

@@ -3,7 +3,7 @@ use mathlib.Core.Path.{_≡_, refl, ap, _∙_}
 use mathlib.Core.List.{List, [], _∷_}
 use mathlib.Core.Option.{Option, none, some}
 use Prim.Native.Nat.{ℕ}
-use Rattle.text.proofs.Cases.{not-none, some-same}
+use Rattle.logic.proofs.OptionLaws.{none-some, some-path}
 use Rattle.language.specs.Syntax.{Expr, plus, left, right, pack, unpack, Cmd, seq, assign, while, case}
 use Rattle.script.specs.Lines.{Line, l-skip, l-seq, l-assign, l-while, l-case, l-int, l-loc, l-var, l-plus, l-left, l-right, l-pack, l-unpack, SourceE, s-int, s-loc, s-var, s-plus, s-left, s-right, s-pack, s-unpack, Source, s-skip, s-seq, s-assign, s-while, s-case, numberOf, exprLines, cmdLines}
 use Rattle.script_text.specs.Parse.{Tree, ex, cm, Stack, popE, popC, onStack, pushOn, stackOf, single, parse}
@@ -90,15 +90,15 @@ module _ {P : Type 0} (r : Stack) where
   popE-split : {st : Stack} → Sources st → (k : Expr → Stack → Option Stack) → popE st k ≡ some r
       → ((e : Expr) (u : Stack) → HasE st e u → k e u ≡ some r → P) → P
   unfolding popE
-  popE-split no-more k h g = not-none r h
+  popE-split no-more k h g = none-some h
   popE-split (on-expr s q) k h g = g _ _ (has-e s q) h
-  popE-split (on-cmd s q) k h g = not-none r h
+  popE-split (on-cmd s q) k h g = none-some h
 
   popC-split : {st : Stack} → Sources st → (k : Cmd → Stack → Option Stack) → popC st k ≡ some r
       → ((c : Cmd) (u : Stack) → HasC st c u → k c u ≡ some r → P) → P
   unfolding popC
-  popC-split no-more k h g = not-none r h
-  popC-split (on-expr s q) k h g = not-none r h
+  popC-split no-more k h g = none-some h
+  popC-split (on-expr s q) k h g = none-some h
   popC-split (on-cmd s q) k h g = g _ _ (has-c s q) h
 
 under-e : {st : Stack} {e : Expr} {u : Stack} → HasE st e u → Sources u
@@ -110,7 +110,7 @@ under-c (has-c s q) = q
 -- ---- a line keeps that the stack has the lines so far
 
 onto : {ls : List Line} {x r : Stack} → some x ≡ some r → Holds ls x → Holds ls r
-onto e h = rw (← some-same _ _ e) h
+onto e h = rw (← some-path e) h
 
 leaf-e : {ls : List Line} {st : Stack} {l : Line} {e : Expr} → ls ≡ stackLines st → SourceE e → Sources st
     → ((rest : List Line) → l ∷ rest ≡ exprLines e rest) → Holds (l ∷ ls) (ex e ∷ st)
@@ -169,7 +169,7 @@ push-sound (l-unpack t l) {r = r} h q e = popE-split r q _ e (λ a u x f. onto f
 pushOn-sound : (l : Line) (o : Option Stack) (ls : List Line) (r : Stack) → ((st : Stack) → o ≡ some st → Holds ls st)
     → pushOn l o ≡ some r → Holds (l ∷ ls) r
 unfolding pushOn
-pushOn-sound l none ls r k h = not-none r h
+pushOn-sound l none ls r k h = none-some h
 pushOn-sound l (some st) ls r k h = let x = k st refl in push-sound l (x .lines) (x .sources) h
 
 stack-sound : (ls : List Line) (st : Stack) → stackOf ls ≡ some st → Holds ls st
@@ -179,11 +179,11 @@ stack-sound (l ∷ ls) st h = pushOn-sound l (stackOf ls) ls st (λ u e. stack-s
 
 single-sound : (o : Option Stack) (c : Cmd) → single o ≡ some c → o ≡ some (cm c ∷ [])
 unfolding single
-single-sound none c h = not-none c h
-single-sound (some []) c h = not-none c h
-single-sound (some (ex e ∷ st)) c h = not-none c h
-single-sound (some (cm d ∷ [])) c h = ap (λ (x : Cmd). some (cm x ∷ [])) (some-same d c h)
-single-sound (some (cm d ∷ x ∷ st)) c h = not-none c h
+single-sound none c h = none-some h
+single-sound (some []) c h = none-some h
+single-sound (some (ex e ∷ st)) c h = none-some h
+single-sound (some (cm d ∷ [])) c h = ap (λ (x : Cmd). some (cm x ∷ [])) (some-path h)
+single-sound (some (cm d ∷ x ∷ st)) c h = none-some h
 
 on-top : {c : Cmd} {st : Stack} → Sources (cm c ∷ st) → Source c
 on-top (on-cmd s q) = s

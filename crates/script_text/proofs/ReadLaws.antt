@@ -24,6 +24,7 @@ use Rattle.script_text.specs.Scan.{ScansCmd, isSome, Whole}
 use Rattle.script_text.proofs.CodeLaws.{words-of, code-length}
 use Rattle.script_text.proofs.ScanLaws.{false-true}
 use Rattle.script_text.proofs.ScriptLaws.{command-sound, command-lines, script-sound}
+use Rattle.logic.proofs.BooleanLaws.{bool-ext}
 
 -- ---- whether there is a command
 
@@ -40,12 +41,6 @@ none-of (some c) h = false-true true h refl
 is-some : (o : Option Cmd) (c : Cmd) → o ≡ some c → isSome o ≡ true
 unfolding isSome
 is-some o c e = rw e
-
--- two tests that imply each other are equal
-same-test : (a b : Bool) → (a ≡ true → b ≡ true) → (b ≡ true → a ≡ true) → a ≡ b
-same-test true b f g = sym (f refl)
-same-test false true f g = g refl
-same-test false false f g = refl
 
 -- only no lines have no code
 code-empty : (ls : List Line) → code ls ≡ [] → ls ≡ []
@@ -72,10 +67,10 @@ module _ (k : Counts) (ws : List ℕ) (r : Scanned) (s : ScansCmd k 0 ws 0 r) wh
 
   pub whole-found : r .ok ≡ true → Whole k ws (leb (length ws) (r .next))
   whole-found t ls h =
-      same-test _ _ (λ e. whole-sound ls h t (leb-true _ _ e)) (λ e. le-leb _ _ (whole-complete ls h e .1))
+      bool-ext _ _ (λ e. whole-sound ls h t (leb-true _ _ e)) (λ e. le-leb _ _ (whole-complete ls h e .1))
 
   pub whole-none : r .ok ≡ false → Whole k ws (r .ok)
-  whole-none f ls h = same-test _ _ (λ e. false-true (r .ok) f e) (λ e. false-true (r .ok) f (whole-complete ls h e .0))
+  whole-none f ls h = bool-ext _ _ (λ e. false-true (r .ok) f e) (λ e. false-true (r .ok) f (whole-complete ls h e .0))
 
 -- ---- the code of lines, filled up with zeros
 

@@ -9,7 +9,7 @@ use lib.Dec.{ltb}
 use lib.ListN.{length, drop, length-drop}
 use borrow.Author.Tests.{lt-ltb, le-ltb}
 use Rattle.logic.specs.Booleans.{both}
-use Rattle.logic.proofs.BooleanLaws.{both-left, both-right, both-true}
+use Rattle.logic.proofs.BooleanLaws.{both-assoc, both-left, both-right, both-true}
 use Rattle.language.specs.Syntax.{int, Expr, val, loc, var, plus, left, right, pack, unpack, Cmd, skip, seq, assign, while, case}
 use Rattle.script.specs.declared.Row.{Row}
 use Rattle.script.specs.Lines.{Line, l-skip, l-seq, l-assign, l-while, l-case, l-int, l-loc, l-var, l-plus, l-left, l-right, l-pack, l-unpack, SourceE, s-int, s-loc, s-var, s-plus, s-left, s-right, s-pack, s-unpack, Source, s-skip, s-seq, s-assign, s-while, s-case, numberOf, exprLines, cmdLines}
@@ -22,11 +22,6 @@ use Rattle.script_text.proofs.CodeLaws.{words-of}
 
 pub false-true : {A : Type 0} (b : Bool) → b ≡ false → b ≡ true → A
 false-true b f t = absurd (let z : _≡_ {A = ℕ} 0 1 = cc in omega arith)
-
-both-assoc : (a b c : Bool) → both a (both b c) ≡ both (both a b) c
-unfolding both
-both-assoc true b c = refl
-both-assoc false b c = refl
 
 -- ---- the line at a row
 

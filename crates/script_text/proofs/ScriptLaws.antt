@@ -11,10 +11,10 @@ use borrow.Author.Tests.{ltb-true, leb-true, le-leb}
 use Rattle.text.specs.Reading.{fits, limit}
 use Rattle.text.specs.Number.{most}
 use Rattle.text.specs.Lines.{none-left, and-then}
-use Rattle.text.proofs.Cases.{cond-split, not-none, some-same}
+use Rattle.logic.proofs.OptionLaws.{none-some, some-path}
 use Rattle.text.proofs.Lines.{lines-exact}
 use Rattle.language.specs.Syntax.{Expr, Cmd}
-use Rattle.logic.proofs.BooleanLaws.{both-left, both-right}
+use Rattle.logic.proofs.BooleanLaws.{both-left, both-right, cond-split}
 use Rattle.script.specs.Lines.{Line, l-skip, l-seq, l-assign, l-while, l-case, l-int, l-loc, l-var, l-plus, l-left, l-right, l-pack, l-unpack, SourceE, s-int, s-loc, s-var, s-plus, s-left, s-right, s-pack, s-unpack, Source, s-skip, s-seq, s-assign, s-while, s-case, numberOf, exprLines, cmdLines}
 use Rattle.script.specs.Code.{lineWords}
 use Rattle.script.specs.Names.{Counts, maxDepth, namedE, named}
@@ -81,12 +81,12 @@ unfolding commandOf
 command-sound k ls c e = go (parse ls) refl e
   where
     go : (o : Option Cmd) → parse ls ≡ o → namedOnly k o ≡ some c → (ls ≡ cmdLines c []) × Source c × (named k 0 c ≡ true)
-    go none p h = unfold namedOnly in not-none c h
+    go none p h = unfold namedOnly in none-some h
     go (some d) p h =
         unfold namedOnly in
         (cond-split (named k 0 d) _ _ _
-        (λ n x. let y : d ≡ c = some-same d c x in let r = parse-sound ls d p in rw (← y) (r .0, r .1, n))
-        (λ n x. not-none c x) h)
+        (λ n x. let y : d ≡ c = some-path x in let r = parse-sound ls d p in rw (← y) (r .0, r .1, n))
+        (λ n x. none-some x) h)
 
 pub command-lines : (k : Counts) (c : Cmd) → Source c → named k 0 c ≡ true → commandOf k (cmdLines c []) ≡ some c
 unfolding commandOf namedOnly
@@ -95,7 +95,7 @@ command-lines k c s n = rw (parse-lines s, n)
 -- no lines are no command
 pub command-some : (k : Counts) (ls : List Line) (c : Cmd) → commandOf k ls ≡ some c → 1 ≤ length ls
 unfolding commandOf parse single stackOf
-command-some k [] c e = unfold namedOnly in not-none c e
+command-some k [] c e = unfold namedOnly in none-some e
 command-some k (l ∷ ls) c e = omega arith
 
 -- ---- the command of a text
@@ -103,7 +103,7 @@ command-some k (l ∷ ls) c e = omega arith
 commandIn-split : {P : Type 0} (k : Counts) (o : Option (List Line)) (c : Cmd)
     → ((ls : List Line) → o ≡ some ls → commandOf k ls ≡ some c → P) → commandIn k o ≡ some c → P
 unfolding commandIn
-commandIn-split k none c g e = not-none c e
+commandIn-split k none c g e = none-some e
 commandIn-split k (some ls) c g e = g ls refl e
 
 pub linesOf-sound : (t : List ℕ) (ls : List Line) → linesOf t ≡ some ls → (t ≡ scriptBytes ls) × (length ls ≤ maxLines) × (length t ≤ limit)
@@ -111,7 +111,7 @@ unfolding linesOf fits
 linesOf-sound t ls e =
     cond-split (leb (length t) limit) _ _ _
     (λ f x. let r = lines-exact script-lines maxLines t ls .0 x in (r .0, r .2, leb-true _ _ f))
-    (λ f x. not-none ls x) e
+    (λ f x. none-some x) e
 
 pub linesOf-print : (ls : List Line) → AllFit ls → length ls ≤ maxLines → length (scriptBytes ls) ≤ limit → linesOf (scriptBytes ls) ≡ some ls
 unfolding linesOf fits

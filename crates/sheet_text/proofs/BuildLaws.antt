@@ -11,9 +11,9 @@ use lib.ListN.{length}
 use lib.Pow.{pow-mono}
 use borrow.Author.Tests.{le-leb, ltb-true, leb-true, eqb-true}
 use Rattle.logic.specs.Booleans.{both}
-use Rattle.logic.proofs.BooleanLaws.{both-left, both-right, both-true}
+use Rattle.logic.proofs.BooleanLaws.{both-left, both-right, both-true, cond-split}
 use Rattle.text.specs.Lines.{none-left, and-then}
-use Rattle.text.proofs.Cases.{cond-split, not-none, some-same}
+use Rattle.logic.proofs.OptionLaws.{none-some, some-path}
 use Rattle.labels.specs.Labels.{policy}
 use Rattle.sheet.specs.Sheet.{Sum, Location, Sheet, partsOf, typeCount, labelCount, locationCount, earlier, rising, eachRising, eachNamed, formed}
 use Rattle.sheet.proofs.FormLaws.{Formed, formed-facts, type-count}
@@ -168,11 +168,11 @@ module _ (s : Sheet) (fm : formed s ≡ true) where
 
 -- what a test lets through
 taken-if : {P : Type 0} (c : Bool) (x y : Sheet) → (c ≡ true → x ≡ y → P) → cond c (some x) none ≡ some y → P
-taken-if c x y f e = cond-split c _ _ _ (λ h k. f h (some-same x y k)) (λ h k. not-none y k) e
+taken-if c x y f e = cond-split c _ _ _ (λ h k. f h (some-path k)) (λ h k. none-some k) e
 
 pub step-sound : (s : Sheet) (l : Line) (s′ : Sheet) → formed s ≡ true → step s l ≡ some s′ → Taken s l s′
 unfolding step
-step-sound s (P n) s′ fm e = not-none s′ e
+step-sound s (P n) s′ fm e = none-some e
 step-sound s (T a b) s′ fm e = taken-if (sumFits s a b) _ s′ (λ h k. rw (← k) (take-sum s fm a b h)) e
 step-sound s L s′ fm e = taken-if (labelFits s) _ s′ (λ h k. rw (← k) (take-label s fm h)) e
 step-sound s (O o r w) s′ fm e = taken-if (policyFits s o r w) (addPolicy s (policy o r w)) s′ (λ h k. rw (← k) (take-policy s fm o r w h)) e
@@ -208,10 +208,10 @@ unfolding begin
 begin-sound (P n) s e =
     taken-if (both (leb 1 n) (leb n 16)) (blank n) s
     (λ h k. rw (← k) (blank-begun n (leb-true _ _ (both-left _ _ h)) (leb-true _ _ (both-right _ _ h)))) e
-begin-sound (T a b) s e = not-none s e
-begin-sound L s e = not-none s e
-begin-sound (O o r w) s e = not-none s e
-begin-sound (X t l) s e = not-none s e
+begin-sound (T a b) s e = none-some e
+begin-sound L s e = none-some e
+begin-sound (O o r w) s e = none-some e
+begin-sound (X t l) s e = none-some e
 
 -- ---- lines that a sheet can be built from are those of a sheet of the right form
 
@@ -223,13 +223,13 @@ steps-none (l ∷ ls) = steps-none ls
 pub steps-sound : (ls : List Line) (s s′ : Sheet) → formed s ≡ true → steps (some s) ls ≡ some s′
     → (linesThen s′ [] ≡ linesThen s ls) × (formed s′ ≡ true) × AllFit ls
 unfolding steps stepOn
-steps-sound [] s s′ fm e = let k : s′ ≡ s = sym (some-same s s′ e) in rw k (refl, fm, none-left)
+steps-sound [] s s′ fm e = let k : s′ ≡ s = sym (some-path e) in rw k (refl, fm, none-left)
 steps-sound (l ∷ ls) s s′ fm e = at (λ s₁ h. steps-sound ls s₁ s′ h) (step s l) refl e
   where
     at : ((s₁ : Sheet) → formed s₁ ≡ true → steps (some s₁) ls ≡ some s′ → (linesThen s′ [] ≡ linesThen s₁ ls) × (formed s′ ≡ true) × AllFit ls)
         → (o : Option Sheet) → step s l ≡ o → steps o ls ≡ some s′
         → (linesThen s′ [] ≡ linesThen s (l ∷ ls)) × (formed s′ ≡ true) × AllFit (l ∷ ls)
-    at rest none h k = not-none s′ (sym (steps-none ls) ∙ k)
+    at rest none h k = none-some (sym (steps-none ls) ∙ k)
     at rest (some s₁) h k =
         let t = step-sound s l s₁ fm h in
         let r = rest s₁ (t .right) k in
@@ -237,11 +237,11 @@ steps-sound (l ∷ ls) s s′ fm e = at (λ s₁ h. steps-sound ls s₁ s′ h) 
 
 pub build-sound : (ls : List Line) (s : Sheet) → build ls ≡ some s → (ls ≡ sheetLines s) × (formed s ≡ true) × AllFit ls
 unfolding build sheetLines
-build-sound [] s e = not-none s e
+build-sound [] s e = none-some e
 build-sound (l ∷ ls) s e = at (begin l) refl e
   where
     at : (o : Option Sheet) → begin l ≡ o → steps o ls ≡ some s → (l ∷ ls ≡ linesThen s []) × (formed s ≡ true) × AllFit (l ∷ ls)
-    at none h k = not-none s (sym (steps-none ls) ∙ k)
+    at none h k = none-some (sym (steps-none ls) ∙ k)
     at (some s₁) h k =
         let b = begin-sound l s₁ h in
         let r = steps-sound ls s₁ s (b .right) k in

@@ -25,7 +25,7 @@ use Rattle.sheet_text.specs.declared.line.Line.the-variants.{P, T, L, O,
 use Rattle.sheet_text.specs.declared.draft.Draft.{Draft}
 use Rattle.sheet_text.specs.Building.{blank, addSum, addLabel, toLast, addPolicy, addLocation, lastOf, leastAfter, leastOwner, sumFits, labelFits, policyFits, locationFits, begin, step, stepOn}
 use Rattle.sheet_text.specs.Drafts.{Holds, FormedIf, Stores, principalsFit, sumFitsIn, labelFitsIn, policyFitsIn, locationFitsIn, principalsStored, pairStored, labelStored, policyStored}
-use Rattle.text.proofs.Cases.{not-none}
+use Rattle.logic.proofs.OptionLaws.{none-some}
 use Rattle.sheet_text.proofs.GrowthLaws.{last-more, toLast-more, least-more, labels-split}
 use Rattle.sheet_text.proofs.BuildLaws.{no-labels, begin-sound, step-sound}
 use Rattle.sheet_text.proofs.TableGrowth.{sum-table, label-table, policy-table, location-table}
@@ -245,7 +245,7 @@ formed-stepped (some s) l f = at (step s l) refl
 pub holds-none : (o : Option Sheet) (d : Draft) (t : List ℕ) → none ≡ o → d .ok ≡ false → Holds o d t
 unfolding Holds
 holds-none none d t e h = h
-holds-none (some s) d t e h = not-none s e
+holds-none (some s) d t e h = none-some e
 
 module _ (d : Draft) (t : List ℕ) where
   -- a refusal stays one

@@ -9,13 +9,14 @@ use Rattle.text.specs.Reading.Read.{got}
 use Rattle.text.specs.Number.{most, opensDigit, digit}
 use Rattle.text.specs.Field.{numberField, setField, lineEnd, lastNumber, printNumberField, printSetField, printLineEnd}
 use Rattle.text.specs.Lines.{Each, LineForm}
-use Rattle.text.proofs.Cases.{cond-split}
+use Rattle.logic.proofs.BooleanLaws.{cond-split}
 use Rattle.text.proofs.Readings.{not-bad, got-same, andThen-got, andThen-split, byte-here, byte-sound}
 use Rattle.text.proofs.Fields.{number-field-sound, number-field-print, last-number-sound, last-number-print, set-field-sound, set-field-print}
 use Rattle.sheet_text.specs.declared.line.Line.{Line}
 use Rattle.sheet_text.specs.declared.line.Line.the-variants.{P, T, L, O, X}
 use Rattle.sheet_text.specs.Lines.{lineBytes}
 use Rattle.sheet_text.specs.Reading.{principalsRest, pairLine, pairRest, labelRest, policyRest, lineOf}
+use Rattle.logic.specs.Booleans.{both}
 
 -- the numbers of a line are of 32 bits, and its sets of 16
 unfoldable pub Fits : Line → Type 0
@@ -101,13 +102,13 @@ line-sound (b ∷ t) l u e =
 
 pair-print : (sum : Bool) (a b : ℕ) (u : List ℕ) → a ≤ most → b ≤ most
     → pairRest sum (printNumberField a (printNumberField b (printLineEnd u))) ≡ got (pairLine sum a b) u
-unfolding pairRest opensDigit digit
+unfolding pairRest opensDigit digit both
 pair-print sum a b u h k =
     andThen-got _ _ a _ (number-field-print most a (printNumberField b (printLineEnd u)) h refl)
     ∙ andThen-got _ _ b u (last-number-print most b u k)
 
 line-print : (l : Line) (u : List ℕ) → Fits l → lineOf (lineBytes l u) ≡ got l u
-unfolding lineBytes lineOf Fits pairLine principalsRest labelRest policyRest opensDigit digit
+unfolding lineBytes lineOf Fits pairLine principalsRest labelRest policyRest opensDigit digit both
 line-print (P n) u h = andThen-got _ _ n u (last-number-print most n u h)
 line-print (T a b) u h = pair-print true a b u (h .0) (h .1)
 line-print L u h = andThen-got _ _ tt u (byte-here 10 10 u refl)

@@ -10,7 +10,8 @@ use lib.ListN.{length}
 use borrow.Author.Tests.{le-leb, leb-true}
 use Rattle.text.specs.Reading.{fits, limit}
 use Rattle.text.specs.Lines.{printLines}
-use Rattle.text.proofs.Cases.{cond-split, not-none, some-same}
+use Rattle.logic.proofs.OptionLaws.{none-some, some-path}
+use Rattle.logic.proofs.BooleanLaws.{cond-split}
 use Rattle.text.proofs.Lines.{all-lines-exact}
 use Rattle.sheet.specs.Sheet.{Sheet, repeats}
 use Rattle.sheet_text.specs.declared.line.Line.{Line}
@@ -26,7 +27,7 @@ use Rattle.sheet_text.proofs.CompleteLaws.{build-complete}
 
 build-in-sound : (t : List ℕ) (s : Sheet) (o : Option (List Line)) → linesOf t ≡ o → length t ≤ limit → buildIn o ≡ some s → IsSheet t s
 unfolding buildIn sheetBytes
-build-in-sound t s none e h k = not-none s k
+build-in-sound t s none e h k = none-some k
 build-in-sound t s (some ls) e h k =
     let b = build-sound ls s k in
     record { printed = all-lines-exact sheet-lines t ls .0 e .0 ∙ ap (printLines lineBytes) (b .0); short = h; right = b .1 }
@@ -34,7 +35,7 @@ build-in-sound t s (some ls) e h k =
 pub sheet-in-sound : (t : List ℕ) (s : Sheet) → sheetIn t ≡ some s → IsSheet t s
 unfolding sheetIn fits
 sheet-in-sound t s e =
-    cond-split (leb (length t) limit) _ _ _ (λ h k. build-in-sound t s (linesOf t) refl (leb-true _ _ h) k) (λ h k. not-none s k) e
+    cond-split (leb (length t) limit) _ _ _ (λ h k. build-in-sound t s (linesOf t) refl (leb-true _ _ h) k) (λ h k. none-some k) e
 
 pub sheet-in-print : (t : List ℕ) (s : Sheet) → IsSheet t s → sheetIn t ≡ some s
 unfolding sheetIn fits buildIn sheetBytes
@@ -96,9 +97,9 @@ malformed-exact t = (
     not-malformed : (s : Sheet) → judged (some s) ≡ malformed → ⊥
     not-malformed s e =
         judged-split (some s) malformed e
-        (λ o x. not-none s (sym o))
+        (λ o x. none-some (sym o))
         (λ s′ o r x. let z : _≡_ {A = ℕ} 0 1 = cc in omega arith)
         (λ s′ o r x. let z : _≡_ {A = ℕ} 0 1 = cc in omega arith)
 
 pub one-sheet : OneSheet
-one-sheet t s s′ i j = some-same s s′ (sym (sheet-in-print t s i) ∙ sheet-in-print t s′ j)
+one-sheet t s s′ i j = some-path (sym (sheet-in-print t s i) ∙ sheet-in-print t s′ j)

@@ -2,12 +2,11 @@
 -- Assumes nothing.
 use mathlib.Core.Logic.{_⊎_, inl, inr, ⊎-elim}
 use mathlib.Core.Path.{_≡_, refl, sym, _∙_, subst}
-use mathlib.Core.Bool.{Bool, true, false, cond, true≢false}
+use mathlib.Core.Bool.{Bool, true, false, cond}
 use mathlib.Core.List.{List, [], _∷_}
 use mathlib.Core.Option.{Option, none, some}
 use Prim.Native.Nat.{ℕ}
 use lib.ListN.{length}
-use native.Mathlib.Omega.{arith}
 use borrow.Author.Tests.{eqb-true, eqb-false}
 use Rattle.language.specs.Syntax.{Cmd}
 use Rattle.language.specs.Typing.{refusal}
@@ -26,6 +25,8 @@ use Rattle.memory.specs.View.{viewRefusal}
 use Rattle.simp.specs.Calls.{onSheet, unless, strangers, onScript, untyped}
 use Rattle.simp.specs.Rows.{Row, _when_, First}
 use Rattle.simp.specs.Judgements.{OnSheet, OfSheet, OfScript, NoSheet, Repeats, Strangers, NoScript, IllTyped, IllLabelled, OtherSize, IllFormed, Principals, Typable, TypableUnlabelled, Sized}
+use Rattle.logic.proofs.OptionLaws.{none-some}
+use Rattle.logic.proofs.BooleanLaws.{fails}
 
 -- ---- a text is that of one sheet, and a script of one command
 
@@ -38,12 +39,6 @@ parsed {s = s} script {c} h i = script-exact s (h .form .right) script c .1 i
 -- what holds of the text's sheet holds of this one
 pub its : {sheet : List ℕ} {s : Sheet} (P : Sheet → Type 0) → IsSheet sheet s → OfSheet sheet P → P s
 its {sheet} {s} P i h = subst P (one-sheet sheet (h .0) s (h .1) i) (h .2)
-
-fails : {b : Bool} → b ≡ false → ¬ (b ≡ true)
-fails f t = true≢false (sym t ∙ f)
-
-none-some : {c : Cmd} → none ≡ some c → ⊥
-none-some h = let z : _≡_ {A = ℕ} 0 1 = cc in omega arith
 
 pub one-command : {sheet : List ℕ} {s : Sheet} (script : List ℕ) {c c′ : Cmd} → OnSheet sheet s → IsScript (countsOf s) script c → IsScript (countsOf s) script c′
     → c′ ≡ c

@@ -9,7 +9,7 @@ use borrow.Author.Tests.{lt-ltb, le-ltb, ltb-true, ltb-false, eqb-true, eqb-fals
 use Rattle.text.specs.Reading.Read.{got}
 use Rattle.text.specs.Number.{digit, opensDigit, digits, number, decimalOn, decimal}
 use Rattle.text.specs.Theorems.{NumberExact}
-use Rattle.text.proofs.Cases.{cases, cond-split}
+use Rattle.logic.proofs.BooleanLaws.{cases, cond-split}
 use Rattle.text.proofs.Readings.{ends-print, not-bad, got-same}
 use Rattle.text.proofs.Places.{Within}
 use Rattle.text.proofs.Numbers.{digit-in, digit-range, opens-none, opens-byte, digits-end, digits-over, digits-on, number-none, number-zero, number-on}

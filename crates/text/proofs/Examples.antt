@@ -8,6 +8,7 @@ use Rattle.text.specs.Reading.Read.{got, bad}
 use Rattle.text.specs.Number.{digit, opensDigit, digits, number, decimalOn, decimal, most}
 use Rattle.text.specs.Set.{hexDigit, hexDigits, hexSet, hexByte, hex4}
 use Rattle.text.specs.Field.{numberField, setField, lineEnd, lastNumber}
+use Rattle.logic.specs.Booleans.{both}
 
 number-examples :
     -- 63 and 64 of at most 63, 0 and 00, 05, 4294967295 and 4294967296, twenty digits
@@ -23,7 +24,7 @@ number-examples :
     × (number most [] ≡ bad)
     × (number most (13 ∷ 10 ∷ []) ≡ bad)
     × (number most (200 ∷ []) ≡ bad)
-unfolding number digits digit opensDigit
+unfolding number digits digit opensDigit both
 number-examples = (refl, refl, refl, refl, refl, refl, refl, refl, refl, refl, refl)
 
 decimal-examples :
@@ -52,7 +53,7 @@ field-examples :
     × (lastNumber 9 (9 ∷ 55 ∷ []) ≡ bad)
     × (setField (9 ∷ 48 ∷ 48 ∷ 48 ∷ 55 ∷ []) ≡ got 7 [])
     × (lineEnd [] ≡ bad)
-unfolding numberField setField lastNumber andThen byte number digits digit opensDigit hexDigits hexDigit
+unfolding numberField setField lastNumber andThen byte number digits digit opensDigit hexDigits hexDigit both
 field-examples = (refl, refl, refl, refl, refl, refl, refl, refl)
 
 fits-examples : (fits (replicate 16384 65) ≡ true) × (fits (replicate 16385 65) ≡ false)

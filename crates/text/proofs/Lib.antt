@@ -1,5 +1,4 @@
 -- The laws of the forms, for the proofs of this crate and of those that read or print with it.
-pub mod Cases
 pub mod Readings
 pub mod Places
 pub mod Numbers

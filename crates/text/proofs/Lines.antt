@@ -9,7 +9,7 @@ use Rattle.text.specs.Reading.{Read}
 use Rattle.text.specs.Reading.Read.{got, bad}
 use Rattle.text.specs.Lines.{front, onward, linesUpTo, allLines, printLines, Each, none-left, and-then, LineForm}
 use Rattle.text.specs.Theorems.{LinesExact, AllLinesExact}
-use Rattle.text.proofs.Cases.{not-none, some-same}
+use Rattle.logic.proofs.OptionLaws.{none-some, some-path}
 use Rattle.text.proofs.Readings.{drop-step, not-bad, ends-print}
 use Rattle.text.proofs.Places.{Within}
 
@@ -63,9 +63,9 @@ module _ {A : Type 0} where
   onward-split {P} (got l u) f ls g e = at (f u) refl e
     where
       at : (o : Option (List A)) → f u ≡ o → front l o ≡ some ls → P
-      at none h k = unfold front in not-none ls k
-      at (some ms) h k = unfold front in g l u ms refl h (sym (some-same _ _ k))
-  onward-split bad f ls g e = not-none ls e
+      at none h k = unfold front in none-some k
+      at (some ms) h k = unfold front in g l u ms refl h (sym (some-path k))
+  onward-split bad f ls g e = none-some e
 
   onward-same : (x : Read A) (f g : List ℕ → Option (List A)) → ((l : A) (u : List ℕ) → x ≡ got l u → f u ≡ g u) → onward x f ≡ onward x g
   unfolding onward
@@ -99,9 +99,9 @@ module _ {A : Type 0} {line : List ℕ → Read A} {print : A → List ℕ → L
 
   lines-sound : (k : ℕ) (t : List ℕ) (ls : List A) → linesUpTo line k t ≡ some ls → (t ≡ printLines print ls) × Each Good ls × (length ls ≤ k)
   unfolding linesUpTo printLines
-  lines-sound zero [] ls e = let y : ls ≡ [] = sym (some-same _ _ e) in rw y (refl, none-left, omega arith)
-  lines-sound zero (b ∷ t) ls e = not-none ls e
-  lines-sound (suc k) [] ls e = let y : ls ≡ [] = sym (some-same _ _ e) in rw y (refl, none-left, omega arith)
+  lines-sound zero [] ls e = let y : ls ≡ [] = sym (some-path e) in rw y (refl, none-left, omega arith)
+  lines-sound zero (b ∷ t) ls e = none-some e
+  lines-sound (suc k) [] ls e = let y : ls ≡ [] = sym (some-path e) in rw y (refl, none-left, omega arith)
   lines-sound (suc k) (b ∷ t) ls e =
       onward-split (line (b ∷ t)) _ ls (λ l u ms x y z.
       let r = line-sound (b ∷ t) l u x in

@@ -10,25 +10,26 @@ use borrow.Author.Tests.{lt-ltb, le-ltb, ltb-true, ltb-false, le-leb, lt-leb, le
 use Rattle.text.specs.Reading.{byte}
 use Rattle.text.specs.Reading.Read.{got, bad}
 use Rattle.text.specs.Number.{digit, opensDigit, digits, number}
-use Rattle.text.proofs.Cases.{cases}
+use Rattle.logic.proofs.BooleanLaws.{cases}
 use Rattle.text.proofs.Readings.{drop-step, byte-other}
+use Rattle.logic.specs.Booleans.{both}
 
 -- which bytes are digits
 module _ (c : ℕ) where
   pub digit-low : c < 48 → digit c ≡ false
-  unfolding digit
+  unfolding digit both
   digit-low h = rw (lt-leb 48 c h)
 
   pub digit-high : 57 < c → digit c ≡ false
-  unfolding digit
+  unfolding digit both
   digit-high h = cases (leb 48 c) (λ e. rw (e, lt-leb c 57 h)) (λ e. rw e)
 
   pub digit-in : 48 ≤ c → c ≤ 57 → digit c ≡ true
-  unfolding digit
+  unfolding digit both
   digit-in h k = rw (le-leb 48 c h, le-leb c 57 k)
 
   pub digit-range : digit c ≡ true → (48 ≤ c) × (c ≤ 57)
-  unfolding digit
+  unfolding digit both
   digit-range e =
       cases (leb 48 c)
       (λ h. (leb-true _ _ h, leb-true _ _ (rw h at e)))

@@ -10,7 +10,7 @@ use lib.Dec.{eqb, leb}
 use borrow.Author.Tests.{eq-eqb, ne-eqb, eqb-true, leb-true, leb-false}
 use Rattle.text.specs.Reading.{Read, andThen, byte}
 use Rattle.text.specs.Reading.Read.{got, bad}
-use Rattle.text.proofs.Cases.{cases, cond-split}
+use Rattle.logic.proofs.BooleanLaws.{cases, cond-split}
 
 -- what stands from i on
 pub drop-step : (s : List ℕ) (i : ℕ) → i < length s → drop i s ≡ getD s i 0 ∷ drop (i + 1) s

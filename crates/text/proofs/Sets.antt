@@ -10,7 +10,7 @@ use borrow.Author.Tests.{lt-ltb, le-ltb, ltb-true, ltb-false}
 use Rattle.text.specs.Reading.Read.{got, bad}
 use Rattle.text.specs.Set.{hexDigit, hexDigits, hexSet, hexByte, hex4}
 use Rattle.text.specs.Theorems.{SetExact}
-use Rattle.text.proofs.Cases.{cases, cond-split}
+use Rattle.logic.proofs.BooleanLaws.{cases, cond-split}
 use Rattle.text.proofs.Readings.{drop-step, ends-print, not-bad, got-same}
 use Rattle.text.proofs.Places.{Within}
 

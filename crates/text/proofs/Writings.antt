@@ -10,7 +10,7 @@ use lib.Dec.{ltb}
 use borrow.Author.Tests.{le-leb, lt-leb, ltb-true, ltb-false}
 use Rattle.text.specs.Number.{decimal, most}
 use Rattle.text.specs.Writing.{written, reached}
-use Rattle.text.proofs.Cases.{cases}
+use Rattle.logic.proofs.BooleanLaws.{cases}
 use Rattle.text.proofs.Decimals.{decimal-low, decimal-more}
 
 -- one run of stores after another

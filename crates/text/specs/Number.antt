@@ -1,10 +1,11 @@
 -- Numbers are decimal without needless zeros ("The three texts").
 use Prim.Native.Nat.{ℕ, zero, suc, _+_, _*_, _-_, _/_, _%_}
-use mathlib.Core.Bool.{Bool, false, cond, _&&_}
+use mathlib.Core.Bool.{Bool, false, cond}
 use mathlib.Core.List.{List, [], _∷_, _++_}
 use lib.Dec.{leb, ltb, eqb}
 use Rattle.text.specs.Reading.{Read}
 use Rattle.text.specs.Reading.Read.{got, bad}
+use Rattle.logic.specs.Booleans.{both}
 
 -- the largest number of 32 bits
 abbrev pub most : ℕ
@@ -12,7 +13,7 @@ most = 4294967295
 
 -- bytes 48 to 57
 unfoldable pub digit : ℕ → Bool
-digit c = leb 48 c && leb c 57
+digit c = both (leb 48 c) (leb c 57)
 
 -- a digit stands at the front
 unfoldable pub opensDigit : List ℕ → Bool

@@ -7,6 +7,7 @@ use Rattle.text.specs.Number.{digit}
 use Rattle.text.proofs.Numbers.{opens-at, opens-at-end, digit-low}
 use Rattle.text.proofs.digit_at.Statement.{statement}
 use Rattle.text.proofs.digit_at.Tie as tie
+use Rattle.logic.specs.Booleans.{both}
 
 returns : tie.Need-returns
 returns c = let a = c .before .args in sym (opens-at-end (a .s .now) (a .at) (c .if1 .taken))
@@ -17,7 +18,7 @@ returns-2 c =
     sym (opens-at (a .s .now) (a .at) (omega arith) ∙ digit-low _ (c .if2 .taken))
 
 returns-3 : tie.Need-returns-3
-unfolding digit
+unfolding digit both
 returns-3 c =
     let a = c .before .before .before .before .args in
     sym (opens-at (a .s .now) (a .at) (omega arith) ∙ rw (le-leb _ _ (c .before .if2 .left)))

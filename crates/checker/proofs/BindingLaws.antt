@@ -12,7 +12,7 @@ use lib.ListN.{length, getD, set, length-set}
 use lib.Seq.{getD-set-same, getD-set-other}
 use borrow.Author.Tests.{lt-ltb, le-ltb, le-leb, lt-leb}
 use Rattle.logic.specs.Booleans.{both}
-use Rattle.language.specs.Typing.{nth}
+use Rattle.language.specs.Declarations.{nth}
 use Rattle.script.specs.Names.{maxDepth}
 use Rattle.checker.specs.Bindings.{bindingSize, bindingsSize, boundType, boundLabel, upTo, boundTypes, boundLabels, bindOf}
 use Rattle.checker.specs.Nodes.{plainTyped, nothing, varTyped}

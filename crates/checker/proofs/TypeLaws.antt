@@ -10,7 +10,8 @@ use borrow.Author.Tests.{le-leb, lt-leb, lt-ltb, le-ltb}
 use Rattle.logic.specs.Booleans.{both}
 use Rattle.logic.proofs.BooleanLaws.{both-left, both-right}
 use Rattle.language.specs.Syntax.{Ty, t-int, t-err, t-pkg, t-sum, Expr, Cmd}
-use Rattle.language.specs.Typing.{nth, isTy, hasTy, leftIs, rightIs, onSum, given, typeOfValue, typeOf, shape}
+use Rattle.language.specs.Declarations.{nth}
+use Rattle.language.specs.Typing.{isTy, hasTy, leftIs, rightIs, onSum, given, typeOfValue, typeOf, shape}
 use Rattle.script.specs.Lines.{SourceE, s-int, s-loc, s-var, s-plus, s-left, s-right, s-pack, s-unpack, Source, s-skip, s-seq, s-assign, s-while, s-case}
 use Rattle.sheet.specs.Sheet.{Sheet, tyOf, formed, repeats}
 use Rattle.sheet.specs.Tables.{tableOf, typesIn, leftIn, rightIn, typeIn}

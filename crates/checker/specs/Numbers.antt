@@ -8,7 +8,8 @@ use Rattle.labels.specs.declared.Label.{Label}
 use Rattle.labels.specs.Labels.{belowOf, joinOf, confidentialityOf, integrityOf, bottomOf}
 use Rattle.logic.specs.Booleans.{both}
 use Rattle.language.specs.Syntax.{Expr, val, loc, var, plus, left, right, pack, unpack, Cmd, skip, seq, assign, while, case}
-use Rattle.language.specs.Typing.{nth, Conditions}
+use Rattle.language.specs.Declarations.{nth}
+use Rattle.language.specs.Typing.{Conditions}
 use Rattle.sheet.specs.TypeTest.{isSum}
 use Rattle.sheet.specs.Tables.{everyoneIn, leftIn, rightIn, typeIn, homeIn, labelIn}
 use Rattle.sets.specs.Sets.{union}

@@ -6,7 +6,7 @@ use mathlib.Core.List.{List, []}
 use Prim.Native.Nat.{ℕ}
 use Rattle.language.specs.Syntax.{Cmd}
 use Rattle.language.specs.Labels.{struck}
-use Rattle.language.specs.Typing.{unlabelled}
+use Rattle.language.specs.Declarations.{unlabelled}
 use Rattle.language.specs.Rules.{Derivable}
 use Rattle.script.specs.Lines.{Source, cmdLines}
 use Rattle.script.specs.Code.{code}

@@ -3,7 +3,7 @@ ghost use mathlib.Core.Path.{_≡_};
 ghost use Prim.Native.Nat.{_≤_, _%_};
 ghost use lib.ListN.{length};
 ghost use Rattle.memory_text.specs.Printing.{memoryText};
-ghost use Rattle.language.specs.Evaluation.{cell-words};
+ghost use Rattle.language.specs.World.{cell-words};
 ghost use Rattle.memory_text.specs.Sizes.{memoryWords};
 ghost use Rattle.memory_text.specs.Writing.{Puts};
 ghost use Rattle.desk.specs.Given.{Whole};

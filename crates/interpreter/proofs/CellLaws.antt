@@ -3,7 +3,7 @@
 use mathlib.Core.Path.{_≡_, refl, sym, ap, _∙_}
 use mathlib.Core.Logic.{_⊎_, inl, inr, ⊎-elim}
 use mathlib.Core.Bool.{Bool, true, false}
-use mathlib.Core.List.{List, [], _∷_, _++_, append-assoc, append-nil}
+use mathlib.Core.List.{List, [], _∷_, _++_, append-assoc}
 use Prim.Native.Nat.{ℕ, zero, suc, _+_, _*_, _-_, _/_, _≤_, _<_}
 use native.Mathlib.Omega.{arith}
 use native.Mathlib.Nat.{le-div-iff-mul-le, zero-add}
@@ -12,7 +12,7 @@ use borrow.Author.Tests.{lt-ltb, le-ltb, ltb-true, ltb-false}
 use lib.Dec.{ltb}
 use lib.ListN.{length, take, drop, getD, set, length-append, length-take, length-drop, length-replicate, take-append-drop, getD-replicate, List·getD-append}
 use lib.Seq.{length-take-le, take-at, drop-at, drop-append-le, drop-append-add, take-append-le, drop-drop, take-take, take-all, paste, paste-suc, length-paste-head, getD-take, getD-drop, getD-at, getD-append-add}
-use Rattle.language.specs.Evaluation.{cell-words}
+use Rattle.language.specs.World.{cell-words}
 use Rattle.memory.specs.Words.{zeros}
 use Rattle.memory.specs.Memory.{cellOf}
 use Rattle.memory.proofs.CellsLaws.{length-cell-of}

@@ -9,7 +9,9 @@ use native.Mathlib.Numerals.{add-one}
 use borrow.Author.Tests.{ltb-true}
 use lib.ListN.{drop}
 use Rattle.language.specs.Syntax.{Value, int, err, inl, inr, pkg, blank, Expr, Cmd, seq, while, case}
-use Rattle.language.specs.Evaluation.{World, Mem, Env, Res, ok, long, stuck, eval}
+use Rattle.language.specs.World.{World, Mem}
+use Rattle.language.specs.Substitution.{Env}
+use Rattle.language.specs.Evaluation.{Res, ok, long, stuck, eval}
 use Rattle.language.specs.Transition.{branch, branchV, Out, done, spent, over, wrong}
 use Rattle.logic.proofs.BooleanLaws.{both-left, both-right}
 use Rattle.language.proofs.Interpreter.{go, andThen, spend, go-skip, go-seq, go-case, go-while}

@@ -10,7 +10,9 @@ use borrow.Author.Tests.{ltb-true, eqb-true, eqb-false}
 use lib.Dec.{eqb}
 use lib.ListN.{length, drop, getD}
 use Rattle.language.specs.Syntax.{Value, int, Expr, inl, inr}
-use Rattle.language.specs.Evaluation.{World, Mem, Env, Res, ok, long, stuck, bind, fit, add, packed, unpacked, eval, cell-words}
+use Rattle.language.specs.World.{World, Mem, cell-words}
+use Rattle.language.specs.Substitution.{Env}
+use Rattle.language.specs.Evaluation.{Res, ok, long, stuck, bind, fit, add, packed, unpacked, eval}
 use Rattle.logic.proofs.BooleanLaws.{both-left, both-right}
 use Rattle.script.specs.Lines.{Line, exprLines}
 use Rattle.script.specs.Code.{code, rowAt}

@@ -7,8 +7,10 @@ use Prim.Native.Nat.{ℕ, zero, suc, _+_, _-_, _≤_, _<_}
 use native.Mathlib.Omega.{arith}
 use lib.ListN.{drop, getD}
 use Rattle.language.specs.Syntax.{Value, Expr, Cmd}
-use Rattle.language.specs.Evaluation.{World, Mem, Env, Res, ok, long, stuck, eval}
-use Rattle.language.specs.Transition.{put, Out, done, spent, over, wrong}
+use Rattle.language.specs.World.{World, Mem}
+use Rattle.language.specs.Substitution.{Env, put}
+use Rattle.language.specs.Evaluation.{Res, ok, long, stuck, eval}
+use Rattle.language.specs.Transition.{Out, done, spent, over, wrong}
 use Rattle.language.proofs.Interpreter.{go, andThen, spend, assigned, go-assign}
 use Rattle.script.specs.Lines.{Line, Source, cmdLines}
 use Rattle.script.specs.Code.{code}

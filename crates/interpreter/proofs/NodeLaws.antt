@@ -9,7 +9,8 @@ use borrow.Author.Tests.{le-leb, lt-leb}
 use lib.ListN.{length, drop, getD, take-append-drop}
 use lib.Seq.{getD-take}
 use Rattle.language.specs.Syntax.{Value, int, err, inl, inr, pkg, blank, size, has}
-use Rattle.language.specs.Evaluation.{World, Res, ok, long, stuck, bind, fitting, fit, addTo, add, packed, opened, wanted, unpacked, cell-words}
+use Rattle.language.specs.World.{World, cell-words, wanted}
+use Rattle.language.specs.Evaluation.{Res, ok, long, stuck, bind, fitting, fit, addTo, add, packed, opened, unpacked}
 use Rattle.sheet.specs.Tables.{leftIn, belowIn, readsIn, writesIn}
 use Rattle.sheet.specs.TypeTest.{hasNo}
 use Rattle.memory.specs.Words.{enc, zeros, cell, valueOf, endOf}

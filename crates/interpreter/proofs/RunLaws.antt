@@ -8,7 +8,7 @@ use native.Mathlib.Omega.{arith}
 use lib.ListN.{length, take, drop, take-append-drop, length-drop, drop-of-length-le}
 use lib.Seq.{take-all, drop-drop, drop-append-add, length-take-le, paste, length-paste}
 use Rattle.language.specs.Syntax.{Cmd}
-use Rattle.language.specs.Evaluation.{Mem, cell-words}
+use Rattle.language.specs.World.{Mem, cell-words}
 use Rattle.language.specs.Transition.{Out, done, spent, over, wrong, iterate}
 use Rattle.language.proofs.Substitution.{close-none}
 use Rattle.script.specs.Lines.{Source, cmdLines}

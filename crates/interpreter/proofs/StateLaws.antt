@@ -9,8 +9,9 @@ use borrow.Author.Tests.{eqb-true, eqb-false}
 use lib.Dec.{eqb}
 use lib.ListN.{length, drop, length-drop}
 use Rattle.language.specs.Syntax.{Value}
-use Rattle.language.specs.Evaluation.{Mem, Env, lookup, cell-words}
-use Rattle.language.specs.Transition.{put}
+use Rattle.language.specs.World.{Mem, cell-words}
+use Rattle.language.specs.Substitution.{Env, put}
+use Rattle.language.specs.Evaluation.{lookup}
 use Rattle.script.specs.Names.{maxDepth}
 use Rattle.memory.specs.Words.{cell}
 use Rattle.memory.specs.Memory.{cellOf}

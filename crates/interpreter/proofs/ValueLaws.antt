@@ -8,7 +8,7 @@ use native.Mathlib.Nat.{suc-add}
 use lib.ListN.{length, take, getD, length-replicate, replicate-append-replicate}
 use lib.Seq.{take-take}
 use Rattle.language.specs.Syntax.{Value, int, err, inl, inr, pkg, blank, size}
-use Rattle.language.specs.Evaluation.{cell-words}
+use Rattle.language.specs.World.{cell-words}
 use Rattle.memory.specs.Words.{enc, zeros, cell}
 use Rattle.memory.specs.Memory.{cellOf}
 use Rattle.memory.proofs.WordLaws.{length-enc}

@@ -8,7 +8,8 @@ use Prim.Native.Nat.{ℕ, suc, _+_, _*_, _/_, _≤_, _<_}
 use lib.Dec.{ltb}
 use lib.ListN.{length, take, drop}
 use Rattle.language.specs.Syntax.{Value}
-use Rattle.language.specs.Evaluation.{Mem, Env, cell-words}
+use Rattle.language.specs.World.{Mem, cell-words}
+use Rattle.language.specs.Substitution.{Env}
 use Rattle.script.specs.Names.{maxDepth}
 use Rattle.sheet.specs.Sheet.{maxLocations}
 use Rattle.memory.specs.Words.{zeros, cell}

@@ -5,7 +5,8 @@ use mathlib.Core.List.{List, _∷_}
 use Prim.Native.Nat.{ℕ, suc, _≤_}
 use lib.ListN.{length, drop, getD}
 use Rattle.language.specs.Syntax.{Value, size, has}
-use Rattle.language.specs.Evaluation.{World, Res, ok, long, stuck, bind, wanted, fit, add, packed, unpacked, cell-words}
+use Rattle.language.specs.World.{World, cell-words, wanted}
+use Rattle.language.specs.Evaluation.{Res, ok, long, stuck, bind, fit, add, packed, unpacked}
 use Rattle.sheet.specs.Tables.{leftIn, belowIn, readsIn, writesIn}
 use Rattle.sheet.specs.TypeTest.{hasNo}
 use Rattle.memory.specs.Words.{enc, cell}

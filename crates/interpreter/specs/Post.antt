@@ -5,8 +5,10 @@ use mathlib.Core.List.{List, [], _∷_}
 use Prim.Native.Nat.{ℕ, zero, suc, _≤_, _<_}
 use lib.ListN.{drop, getD}
 use Rattle.language.specs.Syntax.{Value, int, err, inl, inr, pkg, blank, Expr, Cmd, assign}
-use Rattle.language.specs.Evaluation.{World, Mem, Env, Res, ok, long, stuck, eval, cell-words}
-use Rattle.language.specs.Transition.{close, Out, done, spent, over, wrong, iterate}
+use Rattle.language.specs.World.{World, Mem, cell-words}
+use Rattle.language.specs.Substitution.{Env, close}
+use Rattle.language.specs.Evaluation.{Res, ok, long, stuck, eval}
+use Rattle.language.specs.Transition.{Out, done, spent, over, wrong, iterate}
 use Rattle.script.specs.Lines.{Line, SourceE, Source, exprLines, cmdLines}
 use Rattle.script.specs.Code.{code}
 use Rattle.script.specs.Names.{Counts, namedE, named, maxDepth}

@@ -5,9 +5,11 @@ use mathlib.Core.List.{[]}
 use Prim.Native.Nat.{ℕ, _+_, _%_, _^_}
 use native.Mathlib.Omega.{arith}
 use Rattle.language.specs.Syntax.{Value, int, err, inl, inr, pkg, blank, has, Expr, val, loc, var, plus, left, right, pack, unpack, Cmd, skip, seq, assign, while, case}
-use Rattle.language.specs.Evaluation.{World, Res, ok, long, stuck, Mem, bind, fit, add, addTo, packed, opened, wanted, unpacked, lookup, eval}
-use Rattle.language.specs.Transition.{inst, Next, final, to, too-long, no-rule, at-seq, at-assign, branch, branchV, step}
+use Rattle.language.specs.World.{World, Mem, wanted}
+use Rattle.language.specs.Substitution.{inst}
 use Rattle.language.specs.Figures.{EStep, ee-loc, ee-inl, ee-inr, ee-plus-struct1, ee-plus-struct2, ee-plus, ee-pack-struct, ee-pack-ok, ee-pack-fail, ee-unpack-struct, ee-unpack-fail1, ee-unpack-fail2, ee-unpack-fail3, ee-unpack-ok, inl-value, inr-value, EStar, e-none, e-more, Step, ec-assign, ec-seq-skip, ec-seq-struct, ec-while-false, ec-while-true, ec-casel, ec-caser, LongExpr, long-value, in-plus1, in-plus2, in-left, in-right, in-pack, in-unpack, LongStep, in-assign, in-seq, in-while, in-case}
+use Rattle.language.specs.Evaluation.{Res, ok, long, stuck, bind, fit, add, addTo, packed, opened, unpacked, lookup, eval}
+use Rattle.language.specs.Transition.{Next, final, to, too-long, no-rule, at-seq, at-assign, branch, branchV, step}
 use Rattle.language.specs.Theorems.{Agreement}
 use Rattle.language.proofs.Fit.{by-fit}
 

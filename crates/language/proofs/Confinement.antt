@@ -5,9 +5,10 @@ use mathlib.Core.List.{List, [], _∷_}
 use Prim.Native.Nat.{ℕ, zero, suc}
 use lib.Dec.{eqb, eqb→eq}
 use Rattle.language.specs.Syntax.{Value, Expr, Cmd, skip, seq, assign, while, case}
-use Rattle.language.specs.Evaluation.{World, Mem, Env}
-use Rattle.language.specs.Transition.{close, inst, put, done, iterate}
+use Rattle.language.specs.World.{World, Mem}
+use Rattle.language.specs.Substitution.{Env, close, inst, put}
 use Rattle.language.specs.Figures.{Step, ec-assign, ec-seq-skip, ec-seq-struct, ec-while-false, ec-while-true, ec-casel, ec-caser, Steps, s-none, s-more}
+use Rattle.language.specs.Transition.{done, iterate}
 use Rattle.language.specs.Typing.{Conditions, least, flow}
 use Rattle.language.specs.Theorems.{Observer, Confinement}
 use Rattle.logic.proofs.BooleanLaws.{T-of, both-left, both-right, fails}

@@ -4,8 +4,10 @@ use mathlib.Core.List.{[], _∷_}
 use Prim.Native.Nat.{ℕ, zero, suc, _≤_}
 use native.Mathlib.Omega.{arith}
 use Rattle.language.specs.Syntax.{Value, int, err, inl, inr, pkg, blank, Expr, Cmd, skip, seq, assign, while, case}
-use Rattle.language.specs.Evaluation.{World, Res, ok, long, stuck, Mem, Env, eval}
-use Rattle.language.specs.Transition.{closeE, close, put, branch, branchV, Out, done, spent, over, wrong, run, iterate}
+use Rattle.language.specs.World.{World, Mem}
+use Rattle.language.specs.Substitution.{Env, closeE, close, put}
+use Rattle.language.specs.Evaluation.{Res, ok, long, stuck, eval}
+use Rattle.language.specs.Transition.{branch, branchV, Out, done, spent, over, wrong, run, iterate}
 use Rattle.language.proofs.Substitution.{close-none}
 use Rattle.language.proofs.Interpreter.{next, run-skip, run-seq, run-while, run-case, run-assign, while-zero, case-zero, assign-zero, assigned}
 

@@ -4,8 +4,8 @@ use mathlib.Core.Bool.{Bool, true, false, true≢false}
 use Prim.Native.Nat.{ℕ, suc}
 use native.Mathlib.Omega.{arith}
 use Rattle.language.specs.Syntax.{Value, inl, inr, Expr, val, plus, left, right, pack, unpack, Cmd, skip, seq}
-use Rattle.language.specs.Evaluation.{World, Mem}
-use Rattle.language.specs.Transition.{inst, put}
+use Rattle.language.specs.World.{World, Mem}
+use Rattle.language.specs.Substitution.{inst, put}
 use Rattle.language.specs.Figures.{EStep, ee-loc, ee-inl, ee-inr, ee-plus-struct1, ee-plus-struct2, ee-plus, ee-pack-struct, ee-pack-ok, ee-pack-fail, ee-unpack-struct, ee-unpack-fail1, ee-unpack-fail2, ee-unpack-fail3, ee-unpack-ok, inl-value, inr-value, EStar, e-none, e-more, Step, ec-assign, ec-seq-skip, ec-seq-struct, ec-while-false, ec-while-true, ec-casel, ec-caser, Steps, s-none, s-more}
 use Rattle.language.specs.Theorems.{Determinacy}
 

@@ -10,8 +10,9 @@ use Rattle.logic.specs.Booleans.{both}
 use Rattle.logic.proofs.BooleanLaws.{both-left, both-right, both-true, not-so}
 use Rattle.language.specs.Syntax.{Ty, t-int, t-err, t-pkg, t-sum, int, err, inl, inr, pkg, blank, Expr, val, loc, var, plus, left, right, pack, unpack, Cmd, skip, seq, assign, while, case}
 use Rattle.language.specs.Labels.{Labels, Lattice, struck}
-use Rattle.language.specs.Typing.{Declarations, unlabelled, nth, orElse, typeOfValue, typeOf, shape, least, flowE, flow, conditions, accepts, refusal}
+use Rattle.language.specs.Declarations.{Declarations, unlabelled, nth}
 use Rattle.language.specs.Rules.{LabelledType, Typed, te-int, te-loc, te-var, te-plus, te-suml, te-sumr, te-pack, te-unpack, te-sub, Safe, tc-skip, tc-assign, tc-seq, tc-while, tc-case, tc-subs, Derivable}
+use Rattle.language.specs.Typing.{orElse, typeOfValue, typeOf, shape, least, flowE, flow, conditions, accepts, refusal}
 use Rattle.language.specs.Theorems.{Exactness}
 use Rattle.language.proofs.Types.{isTy-true, isTy-path, hasTy-true, hasTy-path, given-true, given-path, leftIs-true, leftIs-path, rightIs-true, rightIs-path, onSum-true, onSum-path}
 use Rattle.logic.proofs.OptionLaws.{none-some, some-path}

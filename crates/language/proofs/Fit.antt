@@ -4,7 +4,8 @@ use mathlib.Core.Bool.{Bool, true, false, not}
 use Prim.Native.Nat.{_≤_, _<_}
 use lib.Dec.{leb, leb→le, nleb→lt, T}
 use Rattle.language.specs.Syntax.{Value, size}
-use Rattle.language.specs.Evaluation.{Res, ok, long, fitting, fit, cell-words}
+use Rattle.language.specs.World.{cell-words}
+use Rattle.language.specs.Evaluation.{Res, ok, long, fitting, fit}
 use Rattle.logic.proofs.BooleanLaws.{T-of}
 
 T-not : {b : Bool} → b ≡ false → T (not b)

@@ -4,7 +4,8 @@ use mathlib.Core.Path.{_≡_, refl, ap, ap₂, _∙_}
 use mathlib.Core.List.{List, [], _∷_, map}
 use Prim.Native.Nat.{ℕ, zero, suc}
 use Rattle.language.specs.Syntax.{Expr, val, loc, var, plus, left, right, pack, unpack, Cmd, skip, seq, assign, while, case}
-use Rattle.language.specs.Typing.{nth, orElse, Conditions, least, flowE, flow}
+use Rattle.language.specs.Declarations.{nth}
+use Rattle.language.specs.Typing.{orElse, Conditions, least, flowE, flow}
 
 -- f carries the conditions S to the conditions R.
 pub record Image {A B : Type 0} (S : Conditions A) (R : Conditions B) (f : A → B) : Type 0 where

@@ -4,8 +4,10 @@ use mathlib.Core.Path.{_≡_, refl, ap, sym, _∙_, fun-ext}
 use mathlib.Core.List.{[], _∷_}
 use Prim.Native.Nat.{ℕ, zero, suc}
 use Rattle.language.specs.Syntax.{Value, int, err, inl, inr, pkg, blank, Expr, val, loc, var, plus, left, right, pack, unpack, Cmd, skip, seq, assign, while, case}
-use Rattle.language.specs.Evaluation.{World, Res, ok, long, stuck, Mem, Env, bind, fit, add, packed, unpacked, lookup, eval}
-use Rattle.language.specs.Transition.{closeE, close, put, Next, final, to, too-long, no-rule, at-seq, at-assign, branch, branchV, step, Out, done, spent, over, wrong, after, run, iterate}
+use Rattle.language.specs.World.{World, Mem}
+use Rattle.language.specs.Substitution.{Env, closeE, close, put}
+use Rattle.language.specs.Evaluation.{Res, ok, long, stuck, bind, fit, add, packed, unpacked, lookup, eval}
+use Rattle.language.specs.Transition.{Next, final, to, too-long, no-rule, at-seq, at-assign, branch, branchV, step, Out, done, spent, over, wrong, after, run, iterate}
 use Rattle.language.proofs.Substitution.{inst-close, close-none, eval-close}
 
 -- The run of c, its variables bound by ρ, from M within the budget b.

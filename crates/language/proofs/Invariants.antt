@@ -7,10 +7,11 @@ use native.Mathlib.Nat.{mod-lt}
 use native.Mathlib.Omega.{arith}
 use lib.Dec.{eqb}
 use Rattle.language.specs.Syntax.{Value, int, err, inl, inr, pkg, blank, size, has, Expr, val, loc, var, plus, left, right, pack, unpack, Cmd, skip, seq, assign, while, case}
-use Rattle.language.specs.Evaluation.{World, Res, ok, long, stuck, Mem, Env, cell-words, bind, fit, add, addTo, packed, opened, wanted, unpacked, lookup, eval}
-use Rattle.language.specs.Transition.{lift, close-var, closeE, close, inst, put, Next, final, to, too-long, no-rule, at-seq, at-assign, branch, branchV, step, done, iterate}
-use Rattle.language.specs.Figures.{Steps}
-use Rattle.language.specs.Theorems.{NoneLong}
+use Rattle.language.specs.World.{World, Mem, cell-words, wanted}
+use Rattle.language.specs.Substitution.{Env, lift, close-var, closeE, close, inst, put}
+use Rattle.language.specs.Figures.{Steps, NoneLong}
+use Rattle.language.specs.Evaluation.{Res, ok, long, stuck, bind, fit, add, addTo, packed, opened, unpacked, lookup, eval}
+use Rattle.language.specs.Transition.{Next, final, to, too-long, no-rule, at-seq, at-assign, branch, branchV, step, done, iterate}
 use Rattle.language.proofs.Fit.{by-fit}
 use Rattle.language.proofs.Traces.{Trace, Stops, stops-done, iterate-stops, trace-keeps, steps-trace}
 

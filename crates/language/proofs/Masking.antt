@@ -4,7 +4,7 @@ use mathlib.Core.Path.{_≡_, refl, ap}
 use mathlib.Core.Bool.{Bool, true, false}
 use Prim.Native.Nat.{ℕ}
 use Rattle.language.specs.Syntax.{Ty, t-int, t-err, t-pkg, t-sum, Value, int, err, inl, inr, pkg, blank, has}
-use Rattle.language.specs.Evaluation.{Mem}
+use Rattle.language.specs.World.{Mem}
 use Rattle.language.specs.View.{seen, mask, maskMem, Equiv, ve-int, ve-err, ve-inl, ve-inr, ve-pack-in, ve-pack-lab, ve-blank, EquivMem}
 
 -- the graph of mask, to match two values by what they show

@@ -5,10 +5,12 @@ use mathlib.Core.List.{List, [], _∷_}
 use Prim.Native.Nat.{ℕ, zero, suc}
 use lib.Dec.{eqb, eqb→eq}
 use Rattle.language.specs.Syntax.{Value, inl, inr, pkg, has, Expr, val, loc, var, plus, left, right, pack, unpack, Cmd}
-use Rattle.language.specs.Evaluation.{World, Res, ok, long, stuck, Mem, Env, bind, fit, add, addTo, packed, opened, wanted, unpacked, lookup, eval}
-use Rattle.language.specs.Transition.{put}
-use Rattle.language.specs.Typing.{Conditions, nth, orElse, least, flowE, flow}
+use Rattle.language.specs.World.{World, Mem, wanted}
+use Rattle.language.specs.Substitution.{Env, put}
+use Rattle.language.specs.Declarations.{nth}
 use Rattle.language.specs.View.{Equiv, ve-int, ve-err, ve-inl, ve-inr, ve-pack-in, ve-pack-lab, ve-blank, EquivMem}
+use Rattle.language.specs.Evaluation.{Res, ok, long, stuck, bind, fit, add, addTo, packed, opened, unpacked, lookup, eval}
+use Rattle.language.specs.Typing.{Conditions, orElse, least, flowE, flow}
 use Rattle.language.specs.Theorems.{Observer, Noninterference}
 use Rattle.logic.proofs.BooleanLaws.{T-of, both-left, both-right, cases, not-so}
 use Rattle.language.proofs.Fit.{by-fit}

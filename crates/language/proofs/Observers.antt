@@ -7,11 +7,12 @@ use Prim.Native.Nat.{ℕ}
 use Rattle.logic.specs.Booleans.{both}
 use Rattle.logic.proofs.BooleanLaws.{both-right}
 use Rattle.language.specs.Syntax.{Value, inl, inr, pkg, Cmd}
-use Rattle.language.specs.Evaluation.{World, Mem}
-use Rattle.language.specs.Transition.{done, iterate}
+use Rattle.language.specs.World.{World, Mem}
 use Rattle.language.specs.Labels.{Labels, Lattice}
-use Rattle.language.specs.Typing.{Declarations, Conditions, conditions, flow}
+use Rattle.language.specs.Declarations.{Declarations}
 use Rattle.language.specs.View.{Equiv, ve-int, ve-err, ve-inl, ve-inr, ve-pack-in, ve-pack-lab, ve-blank}
+use Rattle.language.specs.Transition.{done, iterate}
+use Rattle.language.specs.Typing.{Conditions, conditions, flow}
 use Rattle.language.specs.Theorems.{Observer}
 use Rattle.language.proofs.Masking.{equiv-refl, equiv-of-view, view-of-equiv}
 use Rattle.language.proofs.Noninterference.{noninterference}

@@ -6,11 +6,13 @@ use mathlib.Core.List.{List, []}
 use Prim.Native.Nat.{ℕ, zero, suc, _≤_, _<_}
 use native.Mathlib.Omega.{arith}
 use Rattle.language.specs.Syntax.{Ty, t-int, t-pkg, Value, int, err, inl, inr, pkg, blank, size, Expr, val, loc, var, plus, left, right, pack, unpack, Cmd, skip, seq, assign, while, case}
-use Rattle.language.specs.Evaluation.{World, Res, ok, long, stuck, Mem, bind, eval}
+use Rattle.language.specs.World.{World, Mem}
+use Rattle.language.specs.Figures.{Step, Steps, s-none, s-more, LongExpr, long-value, in-plus1, in-plus2, in-left, in-right, in-pack, in-unpack, LongStep, in-assign, in-seq, in-while, in-case, NoneLong}
+use Rattle.language.specs.Declarations.{Shapes}
+use Rattle.language.specs.Evaluation.{Res, ok, long, stuck, bind, eval}
 use Rattle.language.specs.Transition.{Next, final, to, too-long, no-rule, at-seq, at-assign, branch, step, Out, done, spent, over, after, run, iterate}
-use Rattle.language.specs.Figures.{Step, Steps, s-none, s-more, LongExpr, long-value, in-plus1, in-plus2, in-left, in-right, in-pack, in-unpack, LongStep, in-assign, in-seq, in-while, in-case}
-use Rattle.language.specs.Typing.{Shapes, typeOfValue, typeOf, shape}
-use Rattle.language.specs.Theorems.{SameTypes, Fitting, NoneLong, Ends, ends-done, ends-spent, ends-over, Outcome}
+use Rattle.language.specs.Typing.{typeOfValue, typeOf, shape}
+use Rattle.language.specs.Theorems.{SameTypes, Fitting, Ends, ends-done, ends-spent, ends-over, Outcome}
 use Rattle.logic.proofs.BooleanLaws.{both-left, both-right}
 use Rattle.language.proofs.Types.{isTy-path, hasTy-path, given-path, leftIs-path, rightIs-path, onSum-path}
 use Rattle.logic.proofs.OptionLaws.{none-some}

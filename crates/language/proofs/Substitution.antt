@@ -3,8 +3,9 @@ use mathlib.Core.Path.{_≡_, refl, ap, ap₂, _∙_}
 use mathlib.Core.List.{[], _∷_}
 use Prim.Native.Nat.{ℕ, zero, suc}
 use Rattle.language.specs.Syntax.{Value, Expr, val, loc, var, plus, left, right, pack, unpack, Cmd, skip, seq, assign, while, case}
-use Rattle.language.specs.Evaluation.{World, Mem, Env, lookup, eval}
-use Rattle.language.specs.Transition.{lift, close-var, closeE, close, inst}
+use Rattle.language.specs.World.{World, Mem}
+use Rattle.language.specs.Substitution.{Env, lift, close-var, closeE, close, inst}
+use Rattle.language.specs.Evaluation.{lookup, eval}
 
 lift-close : (d : ℕ) (v : Value) (x : Expr) → closeE (suc d) (v ∷ []) (lift x) ≡ lift (closeE d (v ∷ []) x)
 unfolding closeE lift close-var

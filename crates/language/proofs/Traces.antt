@@ -3,10 +3,9 @@ use mathlib.Core.Path.{_≡_, refl, ap, sym, _∙_, subst}
 use Prim.Native.Nat.{ℕ, zero, suc, _+_}
 use native.Mathlib.Omega.{arith}
 use Rattle.language.specs.Syntax.{Cmd, skip}
-use Rattle.language.specs.Evaluation.{World, Mem}
+use Rattle.language.specs.World.{World, Mem}
+use Rattle.language.specs.Figures.{Steps, s-none, s-more, NoneLong}
 use Rattle.language.specs.Transition.{Next, final, to, too-long, no-rule, step, Out, done, spent, over, wrong, after, run, iterate}
-use Rattle.language.specs.Figures.{Steps, s-none, s-more}
-use Rattle.language.specs.Theorems.{NoneLong}
 use Rattle.language.proofs.Agreement.{agreement}
 
 -- k transitions that `step` gives

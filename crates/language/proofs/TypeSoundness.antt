@@ -6,9 +6,12 @@ use mathlib.Core.List.{List, [], _∷_}
 use Prim.Native.Nat.{ℕ, zero, suc, _+_, _%_, _^_}
 use lib.Dec.{eqb, eqb→eq}
 use Rattle.language.specs.Syntax.{Ty, t-int, t-err, t-pkg, t-sum, Value, int, err, inl, inr, pkg, blank, has, Expr, val, loc, var, plus, left, right, pack, unpack, Cmd, skip, seq, assign, while, case}
-use Rattle.language.specs.Evaluation.{World, Res, ok, long, stuck, Mem, Env, bind, fit, add, addTo, packed, opened, wanted, unpacked, lookup, eval}
-use Rattle.language.specs.Transition.{close, put, Next, final, to, too-long, no-rule, at-seq, at-assign, branch, branchV, step, done, wrong}
-use Rattle.language.specs.Typing.{Shapes, nth, typeOfValue, typeOf, shape}
+use Rattle.language.specs.World.{World, Mem, wanted}
+use Rattle.language.specs.Substitution.{Env, close, put}
+use Rattle.language.specs.Declarations.{Shapes, nth}
+use Rattle.language.specs.Evaluation.{Res, ok, long, stuck, bind, fit, add, addTo, packed, opened, unpacked, lookup, eval}
+use Rattle.language.specs.Transition.{Next, final, to, too-long, no-rule, at-seq, at-assign, branch, branchV, step, done, wrong}
+use Rattle.language.specs.Typing.{typeOfValue, typeOf, shape}
 use Rattle.language.specs.Theorems.{SameTypes, WellTyped, TypeSoundness}
 use Rattle.logic.proofs.BooleanLaws.{T-of, both-left, both-right}
 use Rattle.language.proofs.Fit.{by-fit}

@@ -1,28 +1,11 @@
 -- Figure 2 as a function, over an environment of the values that enclosing cases bind.
 use mathlib.Core.Bool.{Bool, true, false}
-use mathlib.Core.List.{List, [], _∷_}
+use mathlib.Core.List.{[], _∷_}
 use Prim.Native.Nat.{ℕ, zero, suc, _+_, _%_, _^_}
 use lib.Dec.{leb}
-use Rattle.language.specs.Syntax.{Ty, t-int, t-err, t-pkg, t-sum, Value, int, err, inl, inr, pkg, blank, Expr, val, loc, var, plus, left, right, pack, unpack, size, has}
-
--- What a run rests on: the types and the order of labels that the sheet gives, and which labels the authority reads and writes.
-pub record World : Type 0 where
-  pub ty : ℕ → Ty
-  pub below : ℕ → ℕ → Bool
-  pub reads : ℕ → Bool
-  pub writes : ℕ → Bool
-
--- The value at each location.
-abbrev pub Mem : Type 0
-Mem = ℕ → Value
-
--- The values that enclosing cases bind, innermost first.
-abbrev pub Env : Type 0
-Env = List Value
-
--- A location takes this many words; a value of more is too long.
-abbrev pub cell-words : ℕ
-cell-words = 16
+use Rattle.language.specs.Syntax.{Value, int, err, inl, inr, pkg, blank, Expr, val, loc, var, plus, left, right, pack, unpack, size, has}
+use Rattle.language.specs.World.{World, Mem, cell-words, wanted}
+use Rattle.language.specs.Substitution.{Env}
 
 -- A value; or a part of the expression has a value that is too long; or no rule of figure 2 applies.
 pub data Res : Type 0 where
@@ -71,13 +54,6 @@ opened false b c v = ok (inr (err 1))
 opened true false c v = ok (inr (err 2))
 opened true true false v = ok (inr (err 3))
 opened true true true v = fit (inl v)
-
--- the wanted type of an unpack that names the sum type t: the left part of t. (No accepted script names another type; int then.)
-unfoldable pub wanted : Ty → Ty
-wanted t-int = t-int
-wanted t-err = t-int
-wanted t-pkg = t-int
-wanted (t-sum a b) = a
 
 -- an unpack of a value: the sum type t and the wanted label l are the script's
 unfoldable pub unpacked : World → ℕ → ℕ → Value → Res

@@ -3,8 +3,8 @@ use mathlib.Core.Path.{_≡_}
 use mathlib.Core.Bool.{true, false}
 use Prim.Native.Nat.{ℕ, zero, suc, _+_, _%_, _^_, _<_}
 use Rattle.language.specs.Syntax.{Value, int, err, inl, inr, pkg, size, has, Expr, val, loc, plus, left, right, pack, unpack, Cmd, skip, seq, assign, while, case}
-use Rattle.language.specs.Evaluation.{World, Mem, wanted, cell-words}
-use Rattle.language.specs.Transition.{inst, put}
+use Rattle.language.specs.World.{World, Mem, cell-words, wanted}
+use Rattle.language.specs.Substitution.{inst, put}
 
 -- Figure 2, p̄; M ⊢ e → e′. The world holds the authority p̄ with the sheet's types and order of labels.
 -- Sums are taken modulo 2^32. An unpack names the sum type t; the wanted type is its left part. The errors have the scope's numbers.
@@ -68,3 +68,7 @@ pub data LongStep (W : World) (M : Mem) : Cmd → Type 0 where
   in-seq : {c₁ c₂ : Cmd} → LongStep W M c₁ → LongStep W M (seq c₁ c₂)
   in-while : {e : Expr} {c : Cmd} → LongExpr W M e → LongStep W M (while e c)
   in-case : {e : Expr} {c₁ c₂ : Cmd} → LongExpr W M e → LongStep W M (case e c₁ c₂)
+
+-- None of the first k steps from M, c meets a value that is too long.
+abbrev pub NoneLong : World → ℕ → Mem → Cmd → Type 0
+NoneLong W k M c = (j : ℕ) (M′ : Mem) (c′ : Cmd) → j < k → Steps W j M c M′ c′ → ¬ LongStep W M′ c′

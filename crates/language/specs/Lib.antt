@@ -1,9 +1,12 @@
 pub mod Syntax
-pub mod Evaluation
-pub mod Transition
+pub mod World
+pub mod Substitution
 pub mod Figures
 pub mod Labels
-pub mod Typing
+pub mod Declarations
 pub mod Rules
 pub mod View
+pub mod Evaluation
+pub mod Transition
+pub mod Typing
 pub mod Theorems

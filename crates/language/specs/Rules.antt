@@ -12,7 +12,7 @@ use mathlib.Core.List.{List, [], _∷_}
 use Prim.Native.Nat.{ℕ}
 use Rattle.language.specs.Syntax.{Ty, t-int, t-err, t-pkg, t-sum, int, Expr, val, loc, var, plus, left, right, pack, unpack, Cmd, skip, seq, assign, while, case}
 use Rattle.language.specs.Labels.{Labels}
-use Rattle.language.specs.Typing.{Declarations, nth}
+use Rattle.language.specs.Declarations.{Declarations, nth}
 
 -- A labelled type τ{ℓ}.
 pub record LabelledType (L : Type 0) : Type 0 where

@@ -3,13 +3,14 @@ use mathlib.Core.Logic.{_↔_}
 use mathlib.Core.Path.{_≡_}
 use mathlib.Core.Bool.{Bool, true}
 use mathlib.Core.List.{[]}
-use Prim.Native.Nat.{ℕ, suc, _+_, _≤_, _<_}
+use Prim.Native.Nat.{ℕ, suc, _+_, _≤_}
 use Rattle.language.specs.Syntax.{Value, size, has, Cmd, skip}
-use Rattle.language.specs.Evaluation.{World, Mem, cell-words}
+use Rattle.language.specs.World.{World, Mem, cell-words}
 use Rattle.language.specs.Transition.{final, to, too-long, no-rule, step, Out, done, spent, over, wrong, iterate}
-use Rattle.language.specs.Figures.{Step, Steps, LongStep}
+use Rattle.language.specs.Figures.{Step, Steps, LongStep, NoneLong}
 use Rattle.language.specs.Labels.{Labels, Lattice, struck}
-use Rattle.language.specs.Typing.{Shapes, Declarations, unlabelled, shape, Conditions, flow, refusal}
+use Rattle.language.specs.Declarations.{Shapes, Declarations, unlabelled}
+use Rattle.language.specs.Typing.{shape, Conditions, flow, refusal}
 use Rattle.language.specs.Rules.{Derivable}
 use Rattle.language.specs.View.{mask, maskMem, Equiv}
 
@@ -26,10 +27,6 @@ pub record Determinacy (W : World) : Type 0 where
   pub one-step : (M M₁ M₂ : Mem) (c c₁ c₂ : Cmd) → Step W M c M₁ c₁ → Step W M c M₂ c₂ → (M₁ ≡ M₂) × (c₁ ≡ c₂)
   pub one-trace : (k : ℕ) (M M₁ M₂ : Mem) (c c₁ c₂ : Cmd) → Steps W k M c M₁ c₁ → Steps W k M c M₂ c₂ → (M₁ ≡ M₂) × (c₁ ≡ c₂)
   pub one-end : (j k : ℕ) (M M₁ M₂ : Mem) (c : Cmd) → Steps W j M c M₁ skip → Steps W k M c M₂ skip → (j ≡ k) × (M₁ ≡ M₂)
-
--- None of the first k steps from M, c meets a value that is too long.
-abbrev pub NoneLong : World → ℕ → Mem → Cmd → Type 0
-NoneLong W k M c = (j : ℕ) (M′ : Mem) (c′ : Cmd) → j < k → Steps W j M c M′ c′ → ¬ LongStep W M′ c′
 
 -- How a run within the budget b ends, by the figures: skip is reached after k transitions, and l is left; it is not reached
 -- after b; a step within the budget, after k transitions, meets a value that is too long. The scope's numbers 0, 9 and 10.

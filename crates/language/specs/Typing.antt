@@ -2,31 +2,11 @@
 use mathlib.Core.Bool.{Bool, true, false, cond}
 use mathlib.Core.Option.{Option, none, some}
 use mathlib.Core.List.{List, [], _∷_}
-use Prim.Native.Nat.{ℕ, zero, suc}
+use Prim.Native.Nat.{ℕ}
 use Rattle.logic.specs.Booleans.{both}
 use Rattle.language.specs.Syntax.{Ty, t-int, t-err, t-pkg, t-sum, Ty-discrete, Value, int, err, inl, inr, pkg, blank, Expr, val, loc, var, plus, left, right, pack, unpack, Cmd, skip, seq, assign, while, case}
 use Rattle.language.specs.Labels.{Labels}
-
--- What a sheet says of types: the type that a type number names, and a location's type.
-pub record Shapes : Type 0 where
-  pub ty : ℕ → Ty
-  pub locTy : ℕ → Ty
-
--- What a sheet declares: the types, the label that a label number names, and a location's label.
-pub record Declarations (L : Type 0) : Type 0 where
-  pub shapes : Shapes
-  pub label : ℕ → L
-  pub home : ℕ → L
-
--- the same types, every label struck out
-abbrev pub unlabelled : {L : Type 0} → Declarations L → Declarations Unit
-unlabelled D = record { shapes = D .shapes; label = λ l. tt; home = λ x. tt }
-
--- the d-th element, if there is one
-unfoldable pub nth {ℓ} : {A : Type ℓ} → List A → ℕ → Option A
-nth [] d = none
-nth (x ∷ xs) zero = some x
-nth (x ∷ xs) (suc d) = nth xs d
+use Rattle.language.specs.Declarations.{Shapes, Declarations, nth}
 
 unfoldable pub orElse : {L : Type 0} → L → Option L → L
 orElse b none = b

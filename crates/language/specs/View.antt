@@ -3,7 +3,7 @@ use mathlib.Core.Path.{_≡_}
 use mathlib.Core.Bool.{Bool, true, false}
 use Prim.Native.Nat.{ℕ}
 use Rattle.language.specs.Syntax.{Value, int, err, inl, inr, pkg, blank}
-use Rattle.language.specs.Evaluation.{Mem}
+use Rattle.language.specs.World.{Mem}
 
 -- v where it is seen
 unfoldable pub seen : Bool → Value → Value

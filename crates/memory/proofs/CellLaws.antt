@@ -10,7 +10,7 @@ use lib.Dec.{eqb}
 use lib.ListN.{length, getD, drop, length-drop}
 use Rattle.logic.proofs.BooleanLaws.{absurd-false, both-left, both-off, both-on, both-right, both-true}
 use Rattle.language.specs.Syntax.{Value, int, err, inl, inr, pkg, blank, size}
-use Rattle.language.specs.Evaluation.{cell-words}
+use Rattle.language.specs.World.{cell-words}
 use Rattle.memory.specs.Words.{enc, zeros, cell, readOf, valueOf}
 use Rattle.memory.specs.Memory.{proper, same, exactly, holdsBy}
 use Rattle.memory.specs.Post.{Walks}

@@ -9,7 +9,7 @@ use borrow.Author.Tests.{ltb-true, ltb-false, eq-eqb}
 use lib.Dec.{ltb}
 use lib.ListN.{length, List·getD-eq-default}
 use Rattle.language.specs.Syntax.{Value, t-int, size, has}
-use Rattle.language.specs.Evaluation.{Mem, cell-words}
+use Rattle.language.specs.World.{Mem, cell-words}
 use Rattle.language.specs.View.{seen, mask, maskMem}
 use Rattle.language.specs.Theorems.{WellTyped, Fitting}
 use Rattle.sheet.specs.Sheet.{Sheet, Location, tyOf, labelCount, locationNo, locationCount, formed}

@@ -12,7 +12,7 @@ use lib.ListN.{length}
 use Rattle.logic.proofs.BooleanLaws.{both-left, both-right, both-true}
 use Rattle.sets.proofs.Walks.{every-true, every-at}
 use Rattle.language.specs.Syntax.{Value, int, size}
-use Rattle.language.specs.Evaluation.{Mem, cell-words}
+use Rattle.language.specs.World.{Mem, cell-words}
 use Rattle.memory.specs.Words.{zeros, cell, valueOf}
 use Rattle.memory.specs.Memory.{cellOf, memoryOf, wordsOf, proper, exactly, holdsBy, formedBy, sliceRefusal, refusalBy}
 use Rattle.memory.proofs.WordLaws.{size-int, length-enc, length-cell, value-cell, proper-int}

@@ -8,7 +8,7 @@ use native.Mathlib.Omega.{arith}
 use borrow.Author.Tests.{eq-eqb, ne-eqb}
 use lib.ListN.{length, take, drop}
 use Rattle.sets.proofs.Walks.{every-true, every-false}
-use Rattle.language.specs.Evaluation.{cell-words}
+use Rattle.language.specs.World.{cell-words}
 use Rattle.sheet.specs.Tables.{labelsIn, locationsIn, typeIn}
 use Rattle.sheet.specs.TypeTest.{hasNo}
 use Rattle.memory.specs.Memory.{cellOf, holdsBy, formedBy, sliceRefusal, refusalBy}

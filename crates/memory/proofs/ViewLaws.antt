@@ -9,7 +9,7 @@ use native.Mathlib.Nat.{zero-add, add-zero}
 use lib.ListN.{length, take, drop}
 use lib.Seq.{sets, sets-eq}
 use Rattle.language.specs.Syntax.{Value, int, err, inl, inr, pkg, blank, size}
-use Rattle.language.specs.Evaluation.{cell-words}
+use Rattle.language.specs.World.{cell-words}
 use Rattle.language.specs.View.{seen, mask}
 use Rattle.sheet.specs.Tables.{homeIn, readsIn}
 use Rattle.memory.specs.Words.{enc, zeros, cell, readOf, valueOf}

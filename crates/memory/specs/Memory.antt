@@ -7,7 +7,7 @@ use lib.ListN.{length, take, drop}
 use Rattle.logic.specs.Booleans.{both}
 use Rattle.sets.specs.Sets.{every}
 use Rattle.language.specs.Syntax.{Value, int, err, inl, inr, pkg, blank, has}
-use Rattle.language.specs.Evaluation.{Mem, cell-words}
+use Rattle.language.specs.World.{Mem, cell-words}
 use Rattle.sheet.specs.Sheet.{Sheet, tyOf, labelCount, locationNo, locationCount}
 use Rattle.memory.specs.Words.{cell, valueOf}
 

@@ -5,7 +5,7 @@ use Prim.Native.Nat.{ℕ}
 use lib.Dec.{eqb}
 use lib.ListN.{length}
 use Rattle.language.specs.Syntax.{Value}
-use Rattle.language.specs.Evaluation.{Mem, cell-words}
+use Rattle.language.specs.World.{Mem, cell-words}
 use Rattle.language.specs.View.{mask}
 use Rattle.sheet.specs.Sheet.{Sheet, locationNo, locationCount}
 use Rattle.sheet.specs.Meaning.{readsNo}

@@ -5,7 +5,7 @@ use Prim.Native.Nat.{ℕ, zero, suc, _+_, _-_}
 use lib.Dec.{eqb}
 use lib.ListN.{length, drop, replicate}
 use Rattle.language.specs.Syntax.{Value, int, err, inl, inr, pkg, blank, size}
-use Rattle.language.specs.Evaluation.{cell-words}
+use Rattle.language.specs.World.{cell-words}
 
 -- The words of a value, then the rest: `1 n` integer, `2 e` error, `3` left or `4` right and a value, `5 label` package and a value.
 -- Content that a view hides is one zero word.

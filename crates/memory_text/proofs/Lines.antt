@@ -17,7 +17,7 @@ use Rattle.text.proofs.Readings.{not-bad, got-same, andThen-got, andThen-bad, a
 use Rattle.text.proofs.Numbers.{digit-low, opens-none, opens-byte, number-none, byte-digit}
 use Rattle.text.proofs.Decimals.{number-sound, number-print, opens-decimal}
 use Rattle.text.proofs.Writings.{length-decimal}
-use Rattle.language.specs.Evaluation.{cell-words}
+use Rattle.language.specs.World.{cell-words}
 use Rattle.memory_text.specs.Sizes.{lineRoom}
 use Rattle.memory_text.specs.Printing.{keep, trim, fields, line, rowLine}
 use Rattle.sheet.specs.Tables.{padded}

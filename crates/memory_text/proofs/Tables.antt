@@ -13,7 +13,7 @@ use Rattle.text.specs.Lines.{front, linesUpTo}
 use Rattle.text.proofs.Places.{placed-split}
 use Rattle.text.proofs.Writings.{sets-append, sets-zeros}
 use Rattle.text.proofs.Lines.{lines-at-end, lines-at-full, lines-at-bad, lines-at-more, line-sound, line-within}
-use Rattle.language.specs.Evaluation.{cell-words}
+use Rattle.language.specs.World.{cell-words}
 use Rattle.sheet.specs.Sheet.{maxLocations}
 use Rattle.memory_text.specs.Sizes.{memoryWords}
 use Rattle.memory_text.specs.declared.Memory.{Memory}

@@ -12,7 +12,7 @@ use Rattle.text.specs.Lines.{printLines}
 use Rattle.text.specs.Writing.{written, reached}
 use Rattle.text.proofs.Readings.{drop-step}
 use Rattle.text.proofs.Writings.{sets-append, written-fits, reached-fits, length-decimal}
-use Rattle.language.specs.Evaluation.{cell-words}
+use Rattle.language.specs.World.{cell-words}
 use Rattle.memory_text.specs.Sizes.{lineRoom}
 use Rattle.memory_text.specs.Printing.{trim, fields, line, rows, lines, memoryText}
 use Rattle.memory_text.specs.Answers.{printedLength, printed}

@@ -7,7 +7,7 @@ use lib.Dec.{eqb}
 use Rattle.text.specs.Number.{decimal}
 use Rattle.text.specs.Field.{printNumberField, printLineEnd}
 use Rattle.text.specs.Lines.{printLines}
-use Rattle.language.specs.Evaluation.{cell-words}
+use Rattle.language.specs.World.{cell-words}
 
 -- w before words without zeros at their end
 unfoldable pub keep : ℕ → List ℕ → List ℕ

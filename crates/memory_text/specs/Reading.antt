@@ -10,7 +10,7 @@ use Rattle.text.specs.Reading.Read.{got, bad}
 use Rattle.text.specs.Number.{number, most}
 use Rattle.text.specs.Field.{lineEnd}
 use Rattle.text.specs.Lines.{linesUpTo}
-use Rattle.language.specs.Evaluation.{cell-words}
+use Rattle.language.specs.World.{cell-words}
 use Rattle.sheet.specs.Sheet.{maxLocations}
 use Rattle.sheet.specs.Tables.{padded}
 

@@ -1,6 +1,6 @@
 -- The sizes of a memory and of its text.
 use Prim.Native.Nat.{ℕ, _*_}
-use Rattle.language.specs.Evaluation.{cell-words}
+use Rattle.language.specs.World.{cell-words}
 use Rattle.sheet.specs.Sheet.{maxLocations}
 
 -- the words of the most locations

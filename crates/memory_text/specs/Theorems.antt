@@ -7,7 +7,7 @@ use mathlib.Core.List.{List, [], _∷_}
 use lib.ListN.{length}
 use Rattle.text.specs.Reading.Read.{got}
 use Rattle.text.specs.Number.{most}
-use Rattle.language.specs.Evaluation.{cell-words}
+use Rattle.language.specs.World.{cell-words}
 use Rattle.memory_text.specs.Sizes.{memoryWords}
 use Rattle.memory_text.specs.Printing.{memoryText}
 use Rattle.sheet.specs.Tables.{padded}

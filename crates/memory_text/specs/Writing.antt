@@ -4,7 +4,7 @@ use mathlib.Core.Path.{_≡_}
 use mathlib.Core.List.{List}
 use lib.ListN.{length, take, drop}
 use lib.Seq.{sets}
-use Rattle.language.specs.Evaluation.{cell-words}
+use Rattle.language.specs.World.{cell-words}
 use Rattle.memory_text.specs.Printing.{trim}
 
 -- the first n words from `from` on are those that the line of that location keeps

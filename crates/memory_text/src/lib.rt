@@ -13,7 +13,7 @@ ghost use Prim.Native.Nat.{ℕ, _+_, _≤_};
 ghost use lib.ListN.{length, drop};
 ghost use lib.Seq.{sets};
 ghost use Rattle.text.specs.Reading.Read.{bad};
-ghost use Rattle.language.specs.Evaluation.{cell-words};
+ghost use Rattle.language.specs.World.{cell-words};
 ghost use Rattle.sheet.specs.Sheet.{maxLocations};
 ghost use Rattle.memory_text.specs.Reading.{lineWords, location as locationOf, locations as locationsOf};
 ghost use Rattle.memory_text.specs.Answers.{rowIn, table, memoryOf};

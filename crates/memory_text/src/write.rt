@@ -5,7 +5,7 @@ use text::write::put_number;
 ghost use mathlib.Core.Path.{_≡_};
 ghost use Prim.Native.Nat.{_+_, _*_, _-_, _≤_};
 ghost use lib.ListN.{length, take, drop};
-ghost use Rattle.language.specs.Evaluation.{cell-words};
+ghost use Rattle.language.specs.World.{cell-words};
 ghost use Rattle.memory_text.specs.Sizes.{lineRoom};
 ghost use Rattle.memory_text.specs.Printing.{trim, fields, line};
 ghost use Rattle.memory_text.specs.Answers.{printedLength, printed};

@@ -9,7 +9,7 @@ use borrow.Author.Tests.{ltb-true, ltb-false, lt-ltb, le-leb, eqb-true, eq-eqb, 
 use Rattle.logic.specs.Booleans.{both}
 use Rattle.logic.proofs.BooleanLaws.{absurd-false, bool-ext, both-true}
 use Rattle.language.specs.Syntax.{Ty, t-int, t-err, t-pkg, t-sum, Ty-discrete, Value, int, err, inl, inr, pkg, blank, has}
-use Rattle.language.specs.Evaluation.{wanted}
+use Rattle.language.specs.World.{wanted}
 use Rattle.language.specs.Typing.{isYes, sameTy}
 use Rattle.sheet.specs.Sheet.{Sheet, tyOf, givenParts, partsOf, partsNo, typeCount, formed, repeats}
 use Rattle.sheet.specs.Tables.{tableOf, typesIn, leftIn, rightIn, typeIn}

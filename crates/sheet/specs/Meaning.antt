@@ -7,9 +7,9 @@ use Rattle.sets.specs.Sets.{everyone}
 use Rattle.labels.specs.Labels.{belowOf, joinOf, confidentialityOf, integrityOf, bottomOf, readsOf, writesOf, effective, EffectiveLabel}
 use Rattle.labels.specs.declared.Label.{Label}
 use Rattle.labels.proofs.EffectiveLaws.{bottom-effective, join-effective, C-effective, I-effective}
+use Rattle.language.specs.World.{World}
 use Rattle.language.specs.Labels.{Labels}
-use Rattle.language.specs.Evaluation.{World}
-use Rattle.language.specs.Typing.{Shapes, Declarations}
+use Rattle.language.specs.Declarations.{Shapes, Declarations}
 use Rattle.sheet.specs.Sheet.{Sheet, tyOf, labelNo, locationNo}
 
 -- the types that type numbers name, and the locations' types

@@ -2,7 +2,8 @@
 use mathlib.Core.Path.{_≡_, refl, ap}
 use Prim.Native.Nat.{ℕ, zero, suc}
 use Rattle.language.specs.Syntax.{int, val, left, Cmd, skip, seq, while, size}
-use Rattle.language.specs.Evaluation.{World, Mem, bind, fit, fitting, eval}
+use Rattle.language.specs.World.{World, Mem}
+use Rattle.language.specs.Evaluation.{bind, fit, fitting, eval}
 use Rattle.language.specs.Transition.{spent, done, run, iterate, step, after, branch, branchV, at-seq}
 use Rattle.simp.specs.Calls.{ended}
 use Rattle.simp.specs.Cases.{Holds, spends, Each, cases, CasesHold, sheet, nested, memory, before, packed, unpacked, twoPolicies, readersOnly}

@@ -8,9 +8,12 @@ use Rattle.logic.specs.Booleans as logic
 use Rattle.sets.specs.Sets as sets
 use Rattle.labels.specs.Labels as labels
 use Rattle.language.specs.Evaluation as evaluation
+use Rattle.language.specs.World as world
 use Rattle.language.specs.Syntax as syntax
 use Rattle.language.specs.Transition as transition
+use Rattle.language.specs.Substitution as substitution
 use Rattle.language.specs.Typing as typing
+use Rattle.language.specs.Declarations as declarations
 use Rattle.script.specs.Lines as lines
 use Rattle.script.specs.Names as names
 use Rattle.sheet.specs.Meaning as meaning
@@ -52,12 +55,12 @@ unfolding labels.own labels.openAt labels.openOf labels.policyOf labels.withPoli
 labels-used = tt
 
 unfoldable pub language-used : Unit {0}
-unfolding evaluation.bind evaluation.fitting evaluation.fit evaluation.addTo evaluation.add evaluation.packed evaluation.opened evaluation.wanted
+unfolding evaluation.bind evaluation.fitting evaluation.fit evaluation.addTo evaluation.add evaluation.packed evaluation.opened world.wanted
     evaluation.unpacked evaluation.lookup evaluation.eval
     syntax.size syntax.has
-    transition.lift transition.close-var transition.closeE transition.close transition.inst transition.put transition.at-seq
+    substitution.lift substitution.close-var substitution.closeE substitution.close substitution.inst substitution.put transition.at-seq
     transition.at-assign transition.branchV transition.branch transition.step transition.after transition.run transition.iterate
-    typing.nth typing.orElse typing.isYes typing.sameTy typing.isTy typing.hasTy typing.leftIs typing.rightIs typing.onSum typing.given
+    declarations.nth typing.orElse typing.isYes typing.sameTy typing.isTy typing.hasTy typing.leftIs typing.rightIs typing.onSum typing.given
     typing.typeOfValue typing.typeOf typing.shape typing.least typing.flowE typing.flow typing.accepts typing.refusal
 language-used = tt
 

@@ -5,10 +5,10 @@ use Prim.Native.Nat.{ℕ, _≤_}
 use Rattle.labels.specs.Labels.{owners, readsOf, EffectiveLabel}
 use Rattle.labels.proofs.ReadingLaws.{reads-down, reads-down-C}
 use Rattle.language.specs.Syntax.{Cmd}
-use Rattle.language.specs.Evaluation.{Mem}
+use Rattle.language.specs.World.{Mem}
+use Rattle.language.specs.View.{maskMem}
 use Rattle.language.specs.Transition.{done, iterate}
 use Rattle.language.specs.Typing.{conditions}
-use Rattle.language.specs.View.{maskMem}
 use Rattle.language.specs.Theorems.{Observer}
 use Rattle.language.proofs.Exactness.{flow-iff}
 use Rattle.language.proofs.Noninterference.{noninterference}

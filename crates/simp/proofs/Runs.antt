@@ -7,7 +7,7 @@ use native.Mathlib.Omega.{arith}
 use borrow.Author.Tests.{ltb-true}
 use Rattle.logic.proofs.BooleanLaws.{both-left, both-right}
 use Rattle.language.specs.Syntax.{Value, int, Expr, Cmd, size}
-use Rattle.language.specs.Evaluation.{Mem}
+use Rattle.language.specs.World.{Mem}
 use Rattle.language.specs.Transition.{done, iterate}
 use Rattle.language.proofs.Invariants.{UsesE, u-val, u-loc, u-var, u-plus, u-left, u-right, u-pack, u-unpack, Uses, u-skip, u-seq, u-assign, u-while, u-case, keeps, Fits, fits-kept}
 use Rattle.language.proofs.TypeSoundness.{type-soundness}

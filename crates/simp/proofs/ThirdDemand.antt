@@ -4,7 +4,7 @@ use mathlib.Core.List.{List}
 use Prim.Native.Nat.{ℕ, suc}
 use native.Mathlib.Omega.{arith}
 use Rattle.language.specs.Syntax.{Cmd}
-use Rattle.language.specs.Evaluation.{Mem}
+use Rattle.language.specs.World.{Mem}
 use Rattle.language.specs.Transition.{Out, done, spent, over, wrong, iterate}
 use Rattle.sheet.specs.Sheet.{Sheet, locationCount}
 use Rattle.sheet.specs.Meaning.{worldOf}

@@ -10,12 +10,11 @@ use Prim.Native.Nat.{ℕ, _*_, _<_, _≤_}
 use lib.ListN.{length}
 use Rattle.sets.specs.Sets.{within, everyone}
 use Rattle.language.specs.Syntax.{Cmd, skip}
-use Rattle.language.specs.Evaluation.{Mem, cell-words}
-use Rattle.language.specs.Figures.{Steps, LongStep}
+use Rattle.language.specs.World.{Mem, cell-words}
+use Rattle.language.specs.Figures.{Steps, LongStep, NoneLong}
 use Rattle.language.specs.Labels.{struck}
-use Rattle.language.specs.Typing.{unlabelled}
+use Rattle.language.specs.Declarations.{unlabelled}
 use Rattle.language.specs.Rules.{Derivable}
-use Rattle.language.specs.Theorems.{NoneLong}
 use Rattle.sheet.specs.Sheet.{Sheet, repeats, locationCount}
 use Rattle.sheet.specs.Meaning.{labelsOver, declarationsOf, worldOf}
 use Rattle.sheet_text.specs.Theorems.{IsSheet}

@@ -8,7 +8,7 @@ use Rattle.text.specs.Reading.Read.{got}
 use Rattle.text.specs.Number.{number, most}
 use Rattle.text.proofs.Places.{placed-got}
 use Rattle.text.proofs.Fields.{number-at, number-bad}
-use Rattle.language.specs.Evaluation.{cell-words}
+use Rattle.language.specs.World.{cell-words}
 use Rattle.memory_text.specs.Reading.{lineWords}
 use Rattle.memory_text.specs.Answers.{rowIn}
 use Rattle.memory_text.proofs.Rows as rows

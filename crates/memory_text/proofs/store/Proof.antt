@@ -5,7 +5,7 @@ use mathlib.Core.List.{[]}
 use native.Mathlib.Omega.{arith}
 use lib.ListN.{length, drop, length-set, drop-of-length-le}
 use lib.Seq.{sets}
-use Rattle.language.specs.Evaluation.{cell-words}
+use Rattle.language.specs.World.{cell-words}
 use Rattle.memory_text.proofs.Rows.{store-more}
 use Rattle.memory_text.proofs.store.Statement.{statement}
 use Rattle.memory_text.proofs.store.Tie as tie

@@ -5,7 +5,7 @@ use Prim.Native.Nat.{_*_, _-_, _≤_}
 use native.Mathlib.Omega.{arith}
 use lib.ListN.{length, length-set}
 use lib.Seq.{paste, paste-zero}
-use Rattle.language.specs.Evaluation.{cell-words}
+use Rattle.language.specs.World.{cell-words}
 use Rattle.memory.specs.Words.{zeros}
 use Rattle.interpreter.specs.Cells.{cellCount}
 use Rattle.interpreter.proofs.CellLaws.{room-left, clear-turn, store-past, store-done, copy-done}

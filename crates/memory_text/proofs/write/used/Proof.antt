@@ -3,7 +3,7 @@ use Prim.Native.Nat.{_≤_, _+_, _-_}
 use mathlib.Core.Path.{_≡_, refl, _∙_}
 use native.Mathlib.Omega.{arith}
 use lib.ListN.{take, drop}
-use Rattle.language.specs.Evaluation.{cell-words}
+use Rattle.language.specs.World.{cell-words}
 use Rattle.memory_text.specs.Printing.{trim}
 use Rattle.memory_text.proofs.Writes.{trim-kept, trim-dropped}
 use Rattle.memory_text.proofs.write.used.Statement.{statement}

@@ -48,11 +48,11 @@ module _ (s : Sheet) (fm : formed s ≡ true) where
         home-is = home-is;
         bot-is = ap bottomOf all-is;
         join-is = λ a b. refl;
-        packed-is = λ l a. ap₂ integrityOf all-is (label-is l);
-        opened-is = λ l a. label-is l;
-        assign-is = λ x a. ap (belowOf (a .raw)) (home-is x);
-        pack-is = λ l a. ap (belowOf (a .raw)) (label-is l);
-        open-is = λ l a. ap (λ (b : Label). belowOf (confidentialityOf (a .raw)) (confidentialityOf b)) (label-is l);
+        packLabel-is = λ l a. ap₂ integrityOf all-is (label-is l);
+        unpackLabel-is = λ l a. label-is l;
+        mayAssign-is = λ x a. ap (belowOf (a .raw)) (home-is x);
+        mayPack-is = λ l a. ap (belowOf (a .raw)) (label-is l);
+        mayUnpack-is = λ l a. ap (λ (b : Label). belowOf (confidentialityOf (a .raw)) (confidentialityOf b)) (label-is l);
       }
 
   -- the labels of the table lie above bottom, and so do their integrity parts
@@ -72,11 +72,11 @@ module _ (s : Sheet) (fm : formed s ≡ true) where
         home-is = λ x. label-joined (homeIn T x);
         bot-is = join-none T;
         join-is = join-union T;
-        packed-is = λ l a. integrity-joined l;
-        opened-is = λ l a. label-joined l;
-        assign-is = λ x a. refl;
-        pack-is = λ l a. refl;
-        open-is = λ l a. refl;
+        packLabel-is = λ l a. integrity-joined l;
+        unpackLabel-is = λ l a. label-joined l;
+        mayAssign-is = λ x a. refl;
+        mayPack-is = λ l a. refl;
+        mayUnpack-is = λ l a. refl;
       }
     where
       label-joined : (l : ℕ) → joinIn T (labelMember l) ≡ labelIn T l

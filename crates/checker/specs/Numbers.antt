@@ -70,10 +70,10 @@ conditionsIn t = record {
   bot = bottomOf (everyoneIn t);
   join = joinOf;
   mayAssign = λ x a. belowOf a (labelIn t (homeIn t x));
-  packed = λ A a. integrityOf (everyoneIn t) (labelIn t A);
+  packLabel = λ A a. integrityOf (everyoneIn t) (labelIn t A);
   mayPack = λ A a. belowOf a (labelIn t A);
-  opened = λ A a. labelIn t A;
-  mayOpen = λ A a. belowOf (confidentialityOf a) (confidentialityOf (labelIn t A));
+  unpackLabel = λ A a. labelIn t A;
+  mayUnpack = λ A a. belowOf (confidentialityOf a) (confidentialityOf (labelIn t A));
 }
 
 -- The same over sets of members: least labels are sets, and a test goes by the label that a set stands for.
@@ -83,8 +83,8 @@ conditionsOn t = record {
   bot = 0;
   join = union;
   mayAssign = λ x a. belowOf (joinIn t a) (labelIn t (homeIn t x));
-  packed = λ A a. integrityMember A;
+  packLabel = λ A a. integrityMember A;
   mayPack = λ A a. belowOf (joinIn t a) (labelIn t A);
-  opened = λ A a. labelMember A;
-  mayOpen = λ A a. belowOf (confidentialityOf (joinIn t a)) (confidentialityOf (labelIn t A));
+  unpackLabel = λ A a. labelMember A;
+  mayUnpack = λ A a. belowOf (confidentialityOf (joinIn t a)) (confidentialityOf (labelIn t A));
 }

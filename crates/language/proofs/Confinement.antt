@@ -68,11 +68,11 @@ module _ (sees : ℕ → Bool) where
   quiet-steps W q s-none x s = refl
   quiet-steps W q (s-more p r) x s = quiet-steps W (quiet-on W q p) r x s ∙ quiet-step W q p x s
 
-module _ {L : Type 0} (S : Conditions L) (W : World) (vis : L → Bool) (shows : ℕ → Bool) (O : Observer S W vis shows) where
+module _ {L : Type 0} (K : Conditions L) (W : World) (vis : L → Bool) (shows : ℕ → Bool) (O : Observer K W vis shows) where
   abbrev Sees : ℕ → Bool
-  Sees x = vis (S .home x)
+  Sees x = vis (K .home x)
 
-  pub unseen-quiet : (c : Cmd) (pc : L) (Γ : List L) → flow S pc Γ c ≡ true → ¬ (vis pc ≡ true) → Quiet Sees c
+  pub unseen-quiet : (c : Cmd) (pc : L) (Γ : List L) → flow K pc Γ c ≡ true → ¬ (vis pc ≡ true) → Quiet Sees c
   unfolding flow
   unseen-quiet skip pc Γ f h = q-skip
   unseen-quiet (seq a b) pc Γ f h = q-seq (unseen-quiet a pc Γ (both-left _ _ f) h) (unseen-quiet b pc Γ (both-right _ _ f) h)
@@ -83,24 +83,24 @@ module _ {L : Type 0} (S : Conditions L) (W : World) (vis : L → Bool) (shows :
       (unseen-quiet b _ _ (both-right _ _ (both-right _ _ f)) (λ j. h (O .join-left _ _ j)))
 
   -- a loop whose guard is not seen
-  pub while-quiet : (e : Expr) (c : Cmd) (pc : L) (Γ : List L) → flow S pc Γ (while e c) ≡ true → vis (least S Γ e) ≡ false → Quiet Sees (while e c)
+  pub while-quiet : (e : Expr) (c : Cmd) (pc : L) (Γ : List L) → flow K pc Γ (while e c) ≡ true → vis (least K Γ e) ≡ false → Quiet Sees (while e c)
   unfolding flow
   while-quiet e c pc Γ f h = q-while (unseen-quiet c _ _ (both-right _ _ f) (λ j. fails h (O .join-right _ _ j)))
 
   -- a case whose expression is not seen
-  pub case-quiet : (e : Expr) (a b : Cmd) (pc : L) (Γ : List L) → flow S pc Γ (case e a b) ≡ true → vis (least S Γ e) ≡ false → Quiet Sees (case e a b)
+  pub case-quiet : (e : Expr) (a b : Cmd) (pc : L) (Γ : List L) → flow K pc Γ (case e a b) ≡ true → vis (least K Γ e) ≡ false → Quiet Sees (case e a b)
   unfolding flow
   case-quiet e a b pc Γ f h =
       q-case (unseen-quiet a _ _ (both-left _ _ (both-right _ _ f)) (λ j. fails h (O .join-right _ _ j)))
       (unseen-quiet b _ _ (both-right _ _ (both-right _ _ f)) (λ j. fails h (O .join-right _ _ j)))
 
-  pub confinement : Confinement S W vis
+  pub confinement : Confinement K W vis
   confinement pc c f h k M M′ c′ s x v = quiet-steps Sees W (unseen-quiet c pc [] f h) s x v
 
-  stops-confined : {b l : ℕ} {M M′ : Mem} {c : Cmd} → Quiet Sees c → Stops W b M c (done M′ l) → (x : ℕ) → vis (S .home x) ≡ true → M′ x ≡ M x
+  stops-confined : {b l : ℕ} {M M′ : Mem} {c : Cmd} → Quiet Sees c → Stops W b M c (done M′ l) → (x : ℕ) → vis (K .home x) ≡ true → M′ x ≡ M x
   stops-confined q (stops-done e t) x v = quiet-steps Sees W q (trace-steps W t) x v
 
   -- A done run under a surrounding label that is not seen leaves what is seen.
-  pub done-confined : (pc : L) (c : Cmd) → flow S pc [] c ≡ true → ¬ (vis pc ≡ true) → (b l : ℕ) (M M′ : Mem) → iterate W b M c ≡ done M′ l
-      → (x : ℕ) → vis (S .home x) ≡ true → M′ x ≡ M x
+  pub done-confined : (pc : L) (c : Cmd) → flow K pc [] c ≡ true → ¬ (vis pc ≡ true) → (b l : ℕ) (M M′ : Mem) → iterate W b M c ≡ done M′ l
+      → (x : ℕ) → vis (K .home x) ≡ true → M′ x ≡ M x
   done-confined pc c f h b l M M′ e x v = stops-confined (unseen-quiet c pc [] f h) (subst (Stops W b M c) e (iterate-stops W b M c)) x v

@@ -1,4 +1,4 @@
--- The checker accepts exactly what figures 4 and 5 derive. Nothing but the lattice's laws is assumed.
+-- The checker accepts exactly what figures 4 and 5 derive. Nothing but `LeastLabelLaws` is assumed.
 use mathlib.Core.Logic.{_↔_}
 use mathlib.Core.Path.{_≡_, refl, ap, sym, _∙_, subst}
 use mathlib.Core.Bool.{Bool, true, false, cond, true≢false, false≢true}
@@ -9,7 +9,7 @@ use native.Mathlib.Omega.{arith}
 use Rattle.logic.specs.Booleans.{both}
 use Rattle.logic.proofs.BooleanLaws.{both-left, both-right, both-true, not-so}
 use Rattle.language.specs.Syntax.{Ty, t-int, t-err, t-pkg, t-sum, int, err, inl, inr, pkg, blank, Expr, val, loc, var, plus, left, right, pack, unpack, Cmd, skip, seq, assign, while, case}
-use Rattle.language.specs.Labels.{Labels, Lattice, struck}
+use Rattle.language.specs.Labels.{Labels, LeastLabelLaws, struck}
 use Rattle.language.specs.Declarations.{Declarations, unlabelled, nth}
 use Rattle.language.specs.Rules.{LabelledType, Typed, te-int, te-loc, te-var, te-plus, te-suml, te-sumr, te-pack, te-unpack, te-sub, Safe, tc-skip, tc-assign, tc-seq, tc-while, tc-case, tc-subs, Derivable}
 use Rattle.language.specs.Typing.{orElse, typeOfValue, typeOf, shape, least, flowE, flow, conditions, accepts, refusal}
@@ -17,8 +17,8 @@ use Rattle.language.specs.Theorems.{Exactness}
 use Rattle.language.proofs.Types.{isTy-true, isTy-path, hasTy-true, hasTy-path, given-true, given-path, leftIs-true, leftIs-path, rightIs-true, rightIs-path, onSum-true, onSum-path}
 use Rattle.logic.proofs.OptionLaws.{none-some, some-path}
 
-pub struck-lattice : Lattice struck
-struck-lattice = record {
+pub struck-laws : LeastLabelLaws struck
+struck-laws = record {
   leq-refl = λ a. refl;
   leq-trans = λ a b c p q. refl;
   leq-antisym = λ a b p q. refl;
@@ -33,7 +33,7 @@ struck-lattice = record {
   integ-idem = λ a. refl;
 }
 
-module _ {L : Type 0} (𝓛 : Labels L) (law : Lattice 𝓛) (D : Declarations L) where
+module _ {L : Type 0} (𝓛 : Labels L) (law : LeastLabelLaws 𝓛) (D : Declarations L) where
   unfoldable pub types : List (LabelledType L) → List Ty
   types [] = []
   types (g ∷ Γ) = g .type ∷ types Γ
@@ -247,8 +247,8 @@ struck-flow D (case e c₁ c₂) pc ls = both-true (struck-flowE D e ls) (both-t
 pub shape-iff : {L : Type 0} (D : Declarations L) (c : Cmd) → (shape (D .shapes) [] c ≡ true) ↔ Derivable struck (unlabelled D) c
 unfolding types labels
 shape-iff D c = (
-  (λ h. safe-iff struck struck-lattice (unlabelled D) tt [] c .1 (record { shaped = h; flows = struck-flow (unlabelled D) c tt [] })),
-  (λ d. (safe-iff struck struck-lattice (unlabelled D) tt [] c .0 d) .shaped),
+  (λ h. safe-iff struck struck-laws (unlabelled D) tt [] c .1 (record { shaped = h; flows = struck-flow (unlabelled D) c tt [] })),
+  (λ d. (safe-iff struck struck-laws (unlabelled D) tt [] c .0 d) .shaped),
 )
 
 -- The number that the two tests give.
@@ -289,7 +289,7 @@ module _ {L : Type 0} (𝓛 : Labels L) (D : Declarations L) where
     (λ h. let n = number-0 (shape (D .shapes) [] c) _ h in both-true (n .0) (n .1)),
   )
 
-module _ {L : Type 0} (𝓛 : Labels L) (law : Lattice 𝓛) (D : Declarations L) where
+module _ {L : Type 0} (𝓛 : Labels L) (law : LeastLabelLaws 𝓛) (D : Declarations L) where
   -- A command has a derivation under the surrounding label pc exactly if it passes `shape` and `flow` there.
   pub flow-iff : (pc : L) (c : Cmd) → ((shape (D .shapes) [] c ≡ true) × (flow (conditions 𝓛 D) pc [] c ≡ true)) ↔ Safe 𝓛 D pc [] c
   unfolding types labels

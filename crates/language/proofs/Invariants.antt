@@ -110,10 +110,10 @@ module _ (P : Value → Type 0) (named : ℕ → Type 0) where
   has-fit : (v : Value) → (size v ≤ cell-words → P v) → Has (fit v)
   has-fit v h = by-fit Has v h (λ s. tt)
 
-  module _ (K : Kept P named) (W : World) where
+  module _ (kept : Kept P named) (W : World) where
     has-add : (v w : Value) → Has (add v w)
     unfolding add addTo
-    has-add (int m) (int n) = has-fit (int ((m + n) % 2 ^ 32)) λ s. K .sum _ (mod-lt (m + n) (omega arith))
+    has-add (int m) (int n) = has-fit (int ((m + n) % 2 ^ 32)) λ s. kept .sum _ (mod-lt (m + n) (omega arith))
     has-add (int m) (err n) = tt
     has-add (int m) (inl v) = tt
     has-add (int m) (inr v) = tt
@@ -127,15 +127,15 @@ module _ (P : Value → Type 0) (named : ℕ → Type 0) where
 
     has-pack : (b : Bool) (l : ℕ) (v : Value) → named l → P v → Has (packed b l v)
     unfolding packed
-    has-pack true l v n h = has-fit (inl (pkg l v)) (K .to-package l v n h)
-    has-pack false l v n h = K .error 1 (omega arith) (omega arith)
+    has-pack true l v n h = has-fit (inl (pkg l v)) (kept .to-package l v n h)
+    has-pack false l v n h = kept .error 1 (omega arith) (omega arith)
 
     has-open : (a b c : Bool) (v : Value) → P v → Has (opened a b c v)
     unfolding opened
-    has-open false b c v h = K .error 1 (omega arith) (omega arith)
-    has-open true false c v h = K .error 2 (omega arith) (omega arith)
-    has-open true true false v h = K .error 3 (omega arith) (omega arith)
-    has-open true true true v h = has-fit (inl v) (K .to-left v h)
+    has-open false b c v h = kept .error 1 (omega arith) (omega arith)
+    has-open true false c v h = kept .error 2 (omega arith) (omega arith)
+    has-open true true false v h = kept .error 3 (omega arith) (omega arith)
+    has-open true true true v h = has-fit (inl v) (kept .to-left v h)
 
     has-unpack : (t l : ℕ) (v : Value) → P v → Has (unpacked W t l v)
     unfolding unpacked
@@ -143,7 +143,7 @@ module _ (P : Value → Type 0) (named : ℕ → Type 0) where
     has-unpack t l (err n) h = tt
     has-unpack t l (inl v) h = tt
     has-unpack t l (inr v) h = tt
-    has-unpack t l (pkg m v) h = has-open (W .reads l) (W .below m l) (has v (wanted (W .ty t))) v (K .from-package m v h)
+    has-unpack t l (pkg m v) h = has-open (W .reads l) (W .below m l) (has v (wanted (W .ty t))) v (kept .from-package m v h)
     has-unpack t l blank h = tt
 
     has-lookup : {ρ : Env} → AllOf P ρ → (i : ℕ) → Has (lookup ρ i)
@@ -159,8 +159,8 @@ module _ (P : Value → Type 0) (named : ℕ → Type 0) where
     keeps-eval r m (u-loc {x}) = m x
     keeps-eval r m (u-var {i}) = has-lookup r i
     keeps-eval r m (u-plus a b) = has-bind _ _ (keeps-eval r m a) λ v h. has-bind _ _ (keeps-eval r m b) λ w k. has-add v w
-    keeps-eval r m (u-left a) = has-bind _ _ (keeps-eval r m a) λ v h. has-fit (inl v) (K .to-left v h)
-    keeps-eval r m (u-right a) = has-bind _ _ (keeps-eval r m a) λ v h. has-fit (inr v) (K .to-right v h)
+    keeps-eval r m (u-left a) = has-bind _ _ (keeps-eval r m a) λ v h. has-fit (inl v) (kept .to-left v h)
+    keeps-eval r m (u-right a) = has-bind _ _ (keeps-eval r m a) λ v h. has-fit (inr v) (kept .to-right v h)
     keeps-eval r m (u-pack {l} n a) = has-bind _ _ (keeps-eval r m a) λ v h. has-pack (W .writes l) l v n h
     keeps-eval r m (u-unpack {t} {l} a) = has-bind _ _ (keeps-eval r m a) λ v h. has-unpack t l v h
 
@@ -203,8 +203,8 @@ module _ (P : Value → Type 0) (named : ℕ → Type 0) where
     unfolding branch branchV
     through-branch l r (ok (int n)) h p q = tt
     through-branch l r (ok (err n)) h p q = tt
-    through-branch l r (ok (inl v)) h p q = p v (K .from-left v h)
-    through-branch l r (ok (inr v)) h p q = q v (K .from-right v h)
+    through-branch l r (ok (inl v)) h p q = p v (kept .from-left v h)
+    through-branch l r (ok (inr v)) h p q = q v (kept .from-right v h)
     through-branch l r (ok (pkg k v)) h p q = tt
     through-branch l r (ok blank) h p q = tt
     through-branch l r long h p q = tt

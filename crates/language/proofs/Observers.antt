@@ -8,7 +8,7 @@ use Rattle.logic.specs.Booleans.{both}
 use Rattle.logic.proofs.BooleanLaws.{both-right}
 use Rattle.language.specs.Syntax.{Value, inl, inr, pkg, Cmd}
 use Rattle.language.specs.World.{World, Mem}
-use Rattle.language.specs.Labels.{Labels, Lattice}
+use Rattle.language.specs.Labels.{Labels, LeastLabelLaws}
 use Rattle.language.specs.Declarations.{Declarations}
 use Rattle.language.specs.View.{Equiv, ve-int, ve-err, ve-inl, ve-inr, ve-pack-in, ve-pack-lab, ve-blank}
 use Rattle.language.specs.Transition.{done, iterate}
@@ -32,8 +32,8 @@ pub record Joins {L : Type 0} (leq : L → L → Bool) (join : L → L → L) : 
   pub left : (a b : L) → leq a (join a b) ≡ true
   pub right : (a b : L) → leq b (join a b) ≡ true
 
-pub lattice-joins : {L : Type 0} (𝓛 : Labels L) → Lattice 𝓛 → Joins (𝓛 .leq) (𝓛 .join)
-lattice-joins 𝓛 law = record { left = law .leq-join-left; right = law .leq-join-right }
+pub law-joins : {L : Type 0} (𝓛 : Labels L) → LeastLabelLaws 𝓛 → Joins (𝓛 .leq) (𝓛 .join)
+law-joins 𝓛 law = record { left = law .leq-join-left; right = law .leq-join-right }
 
 -- The world's order of label numbers is that of the labels.
 abbrev pub Ordered : {L : Type 0} → Labels L → Declarations L → World → Type 0
@@ -56,23 +56,23 @@ module _ {L : Type 0} (𝓛 : Labels L) (D : Declarations L) (W : World) (vis : 
     join-left = λ a b. down _ _ (joins .left a b);
     join-right = λ a b. down _ _ (joins .right a b);
     at-pack = λ l a h _. down _ _ h;
-    at-open = λ l a h. conf-down _ _ h;
+    at-unpack = λ l a h. conf-down _ _ h;
     content = λ l m a. below-shown l m;
   }
 
   -- Conditions that also want an unpack's operand at or below the wanted label, writers included.
   abbrev pub trusting : Conditions L
   trusting =
-      let S = conditions 𝓛 D in
+      let K = conditions 𝓛 D in
       record {
-        home = S .home;
-        bot = S .bot;
-        join = S .join;
-        mayAssign = S .mayAssign;
-        packed = S .packed;
-        mayPack = S .mayPack;
-        opened = S .opened;
-        mayOpen = λ A a. both (S .mayOpen A a) (𝓛 .leq a (D .label A));
+        home = K .home;
+        bot = K .bot;
+        join = K .join;
+        mayAssign = K .mayAssign;
+        packLabel = K .packLabel;
+        mayPack = K .mayPack;
+        unpackLabel = K .unpackLabel;
+        mayUnpack = λ A a. both (K .mayUnpack A a) (𝓛 .leq a (D .label A));
       }
 
   -- Under them any set that is closed downward will do, such as the labels that distrusted parties do not write.
@@ -82,7 +82,7 @@ module _ {L : Type 0} (𝓛 : Labels L) (D : Declarations L) (W : World) (vis : 
     join-left = λ a b. down _ _ (joins .left a b);
     join-right = λ a b. down _ _ (joins .right a b);
     at-pack = λ l a h _. down _ _ h;
-    at-open = λ l a h. down _ _ (both-right _ _ h);
+    at-unpack = λ l a h. down _ _ (both-right _ _ h);
     content = λ l m a. below-shown l m;
   }
 
@@ -95,10 +95,10 @@ module _ {L : Type 0} (home : ℕ → L) (bot : L) (leq : L → L → Bool) (joi
     bot = bot;
     join = join;
     mayAssign = λ x a. leq a (home x);
-    packed = λ A a. a;
+    packLabel = λ A a. a;
     mayPack = λ A a. true;
-    opened = λ A a. a;
-    mayOpen = λ A a. true;
+    unpackLabel = λ A a. a;
+    mayUnpack = λ A a. true;
   }
 
   pub depender : Observer dependencies W vis (λ l. true)
@@ -107,7 +107,7 @@ module _ {L : Type 0} (home : ℕ → L) (bot : L) (leq : L → L → Bool) (joi
     join-left = λ a b. down _ _ (joins .left a b);
     join-right = λ a b. down _ _ (joins .right a b);
     at-pack = λ l a h v _. v;
-    at-open = λ l a h v. v;
+    at-unpack = λ l a h v. v;
     content = λ l m a v h. refl;
   }
 

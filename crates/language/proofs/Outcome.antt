@@ -12,7 +12,7 @@ use Rattle.language.specs.Declarations.{Shapes}
 use Rattle.language.specs.Evaluation.{Res, ok, long, stuck, bind, eval}
 use Rattle.language.specs.Transition.{Next, final, to, too-long, no-rule, at-seq, at-assign, branch, step, Out, done, spent, over, after, run, iterate}
 use Rattle.language.specs.Typing.{typeOfValue, typeOf, shape}
-use Rattle.language.specs.Theorems.{SameTypes, Fitting, Ends, ends-done, ends-spent, ends-over, Outcome}
+use Rattle.language.specs.Theorems.{SameTypes, Fitting, RunEnds, ends-done, ends-spent, ends-over, Outcome}
 use Rattle.logic.proofs.BooleanLaws.{both-left, both-right}
 use Rattle.language.proofs.Types.{isTy-path, hasTy-path, given-path, leftIs-path, rightIs-path, onSum-path}
 use Rattle.logic.proofs.OptionLaws.{none-some}
@@ -160,7 +160,7 @@ module _ (S : Shapes) (W : World) (agree : SameTypes S W) where
       trace-none-long t (keeps-step Fits Anywhere fits-kept W _ _ _ _ f h) j M₁ c₁ (omega arith) (after-first (agreement W .has-rule _ _ _ _ h) s) l
 
   -- From `iterate` to the figures.
-  stops-ends : {b : ℕ} {M : Mem} {c : Cmd} {o : Out} → Fine S W agree M c → Fit M c → Stops W b M c o → Ends W b M c o
+  stops-ends : {b : ℕ} {M : Mem} {c : Cmd} {o : Out} → Fine S W agree M c → Fit M c → Stops W b M c o → RunEnds W b M c o
   stops-ends i f (stops-done e t) = ends-done e (trace-steps W t) (trace-none-long t f)
   stops-ends i f (stops-spent t n) = ends-spent (trace-steps W t) n (trace-none-long t f)
   stops-ends i f (stops-over e t h) = ends-over e (trace-steps W t) (agreement W .is-long _ _ h) (trace-none-long t f)
@@ -188,7 +188,7 @@ module _ (S : Shapes) (W : World) (agree : SameTypes S W) where
   long-now : (M : Mem) (c : Cmd) → Fine S W agree M c → Fit M c → LongStep W M c → step W M c ≡ too-long
   long-now M c i f l = long-is W M (f .memory) (step W M c) (not-long-step W M (f .memory) l (f .command)) (has-rule S W agree M c i)
 
-  ends-iterate : {b : ℕ} {M : Mem} {c : Cmd} {o : Out} → Fine S W agree M c → Fit M c → Ends W b M c o → iterate W b M c ≡ o
+  ends-iterate : {b : ℕ} {M : Mem} {c : Cmd} {o : Out} → Fine S W agree M c → Fit M c → RunEnds W b M c o → iterate W b M c ≡ o
   ends-iterate {b} i f (ends-done {k} {l} {M′} e s n) = trace-run W l b (steps-trace W s n) e ∙ skip-done l M′
   ends-iterate {b} i f (ends-spent {M′} {c′} s h n) = trace-run W zero b (steps-trace W s n) (omega arith) ∙ spent-now M′ c′ h
   ends-iterate {b} i f (ends-over {k} {l} {M′} {c′} e s h n) =
@@ -199,4 +199,4 @@ module _ (S : Shapes) (W : World) (agree : SameTypes S W) where
   outcome c s M m g b o =
       let i = start-fine S W agree M c m s in
       let f : Fit M c = record { memory = g; command = fits-cmd S [] c s } in
-      ((λ h. subst (Ends W b M c) h (stops-ends i f (iterate-stops W b M c))), (λ e. ends-iterate i f e))
+      ((λ h. subst (RunEnds W b M c) h (stops-ends i f (iterate-stops W b M c))), (λ e. ends-iterate i f e))

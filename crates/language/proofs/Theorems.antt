@@ -17,6 +17,6 @@ theorems = record {
   type-soundness = type-soundness;
   exactness = λ L 𝓛 law D. exactness 𝓛 law D;
   masking = mask-iff;
-  noninterference = λ L S W vis shows O. noninterference S W vis shows O;
-  confinement = λ L S W vis shows O. confinement S W vis shows O;
+  noninterference = λ L K W vis shows O. noninterference K W vis shows O;
+  confinement = λ L K W vis shows O. confinement K W vis shows O;
 }

@@ -1,4 +1,4 @@
--- Labels as typing uses them: the operations, and the laws of a security lattice (the paper, section 2.2).
+-- Labels as typing uses them (the paper, section 2.2): the operations, and the laws that make least labels exact.
 use mathlib.Core.Path.{_≡_}
 use mathlib.Core.Bool.{Bool, true}
 
@@ -10,8 +10,8 @@ pub record Labels (L : Type 0) : Type 0 where
   pub integ : L → L
   pub bot : L
 
--- The laws that make the checker's least labels exact.
-pub record Lattice {L : Type 0} (𝓛 : Labels L) : Type 0 where
+-- With these laws least labels are exact: they pass exactly where figures 4 and 5 have a derivation.
+pub record LeastLabelLaws {L : Type 0} (𝓛 : Labels L) : Type 0 where
   pub leq-refl : (a : L) → 𝓛 .leq a a ≡ true
   pub leq-trans : (a b c : L) → 𝓛 .leq a b ≡ true → 𝓛 .leq b c ≡ true → 𝓛 .leq a c ≡ true
   pub leq-antisym : (a b : L) → 𝓛 .leq a b ≡ true → 𝓛 .leq b a ≡ true → a ≡ b

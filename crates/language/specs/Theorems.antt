@@ -8,7 +8,7 @@ use Rattle.language.specs.Syntax.{Value, size, has, Cmd, skip}
 use Rattle.language.specs.World.{World, Mem, cell-words}
 use Rattle.language.specs.Transition.{final, to, too-long, no-rule, step, Out, done, spent, over, wrong, iterate}
 use Rattle.language.specs.Figures.{Step, Steps, LongStep, NoneLong}
-use Rattle.language.specs.Labels.{Labels, Lattice, struck}
+use Rattle.language.specs.Labels.{Labels, LeastLabelLaws, struck}
 use Rattle.language.specs.Declarations.{Shapes, Declarations, unlabelled}
 use Rattle.language.specs.Typing.{shape, Conditions, flow, refusal}
 use Rattle.language.specs.Rules.{Derivable}
@@ -30,11 +30,11 @@ pub record Determinacy (W : World) : Type 0 where
 
 -- How a run within the budget b ends, by the figures: skip is reached after k transitions, and l is left; it is not reached
 -- after b; a step within the budget, after k transitions, meets a value that is too long. The scope's numbers 0, 9 and 10.
-pub data Ends (W : World) (b : ℕ) (M : Mem) (c : Cmd) : Out → Type 0 where
-  ends-done : {k l : ℕ} {M′ : Mem} → k + l ≡ b → Steps W k M c M′ skip → NoneLong W k M c → Ends W b M c (done M′ l)
-  ends-spent : {M′ : Mem} {c′ : Cmd} → Steps W b M c M′ c′ → ¬ (c′ ≡ skip) → NoneLong W b M c → Ends W b M c spent
+pub data RunEnds (W : World) (b : ℕ) (M : Mem) (c : Cmd) : Out → Type 0 where
+  ends-done : {k l : ℕ} {M′ : Mem} → k + l ≡ b → Steps W k M c M′ skip → NoneLong W k M c → RunEnds W b M c (done M′ l)
+  ends-spent : {M′ : Mem} {c′ : Cmd} → Steps W b M c M′ c′ → ¬ (c′ ≡ skip) → NoneLong W b M c → RunEnds W b M c spent
   ends-over : {k l : ℕ} {M′ : Mem} {c′ : Cmd} → k + suc l ≡ b → Steps W k M c M′ c′ → LongStep W M′ c′ → NoneLong W k M c
-      → Ends W b M c (over (suc l))
+      → RunEnds W b M c (over (suc l))
 
 -- Definition 2: the memory's values have their declared types.
 abbrev pub WellTyped : Shapes → Mem → Type 0
@@ -50,7 +50,7 @@ SameTypes S W = (t : ℕ) → W .ty t ≡ S .ty t
 
 -- `iterate` is the run of the figures: its outcome is the one by which the run ends.
 abbrev pub Outcome : Shapes → World → Type 0
-Outcome S W = (c : Cmd) → shape S [] c ≡ true → (M : Mem) → WellTyped S M → Fitting M → (b : ℕ) (o : Out) → (iterate W b M c ≡ o) ↔ Ends W b M c o
+Outcome S W = (c : Cmd) → shape S [] c ≡ true → (M : Mem) → WellTyped S M → Fitting M → (b : ℕ) (o : Out) → (iterate W b M c ≡ o) ↔ RunEnds W b M c o
 
 -- A command that passes `shape`, in a well-typed memory, is never stuck, and every memory that it reaches is well-typed.
 pub record TypeSoundness (S : Shapes) (W : World) : Type 0 where
@@ -67,32 +67,32 @@ pub record Exactness {L : Type 0} (𝓛 : Labels L) (D : Declarations L) : Type 
 
 -- Figure 6 against `mask`: two values have the same mask exactly if they are equivalent.
 abbrev pub Masking : Type 0
-Masking = (vis : ℕ → Bool) (v w : Value) → (mask vis v ≡ mask vis w) ↔ Equiv vis v w
+Masking = (shows : ℕ → Bool) (v w : Value) → (mask shows v ≡ mask shows w) ↔ Equiv shows v w
 
 -- What noninterference asks of an observer that sees the labels vis, and the content of packages at the label numbers shows.
 -- Nothing is asked of the join of two labels that are seen.
-pub record Observer {L : Type 0} (S : Conditions L) (W : World) (vis : L → Bool) (shows : ℕ → Bool) : Type 0 where
-  pub at-assign : (x : ℕ) (a : L) → S .mayAssign x a ≡ true → vis (S .home x) ≡ true → vis a ≡ true
-  pub join-left : (a b : L) → vis (S .join a b) ≡ true → vis a ≡ true
-  pub join-right : (a b : L) → vis (S .join a b) ≡ true → vis b ≡ true
-  pub at-pack : (l : ℕ) (a : L) → S .mayPack l a ≡ true → vis (S .packed l a) ≡ true → shows l ≡ true → vis a ≡ true
-  pub at-open : (l : ℕ) (a : L) → S .mayOpen l a ≡ true → vis (S .opened l a) ≡ true → vis a ≡ true
-  pub content : (l m : ℕ) (a : L) → vis (S .opened l a) ≡ true → W .below m l ≡ true → shows m ≡ true
+pub record Observer {L : Type 0} (K : Conditions L) (W : World) (vis : L → Bool) (shows : ℕ → Bool) : Type 0 where
+  pub at-assign : (x : ℕ) (a : L) → K .mayAssign x a ≡ true → vis (K .home x) ≡ true → vis a ≡ true
+  pub join-left : (a b : L) → vis (K .join a b) ≡ true → vis a ≡ true
+  pub join-right : (a b : L) → vis (K .join a b) ≡ true → vis b ≡ true
+  pub at-pack : (l : ℕ) (a : L) → K .mayPack l a ≡ true → vis (K .packLabel l a) ≡ true → shows l ≡ true → vis a ≡ true
+  pub at-unpack : (l : ℕ) (a : L) → K .mayUnpack l a ≡ true → vis (K .unpackLabel l a) ≡ true → vis a ≡ true
+  pub content : (l m : ℕ) (a : L) → vis (K .unpackLabel l a) ≡ true → W .below m l ≡ true → shows m ≡ true
 
 -- Two memories give the observer the same view.
-abbrev pub SameView : {L : Type 0} → Conditions L → (L → Bool) → (ℕ → Bool) → Mem → Mem → Type 0
-SameView S vis shows M N = (x : ℕ) → maskMem (λ y. vis (S .home y)) shows M x ≡ maskMem (λ y. vis (S .home y)) shows N x
+abbrev pub SameMask : {L : Type 0} → Conditions L → (L → Bool) → (ℕ → Bool) → Mem → Mem → Type 0
+SameMask K vis shows M N = (x : ℕ) → maskMem (λ y. vis (K .home y)) shows M x ≡ maskMem (λ y. vis (K .home y)) shows N x
 
 -- Theorem 2: two done runs of a command that passes `flow`, in one world, from memories that look the same, leave memories
 -- that look the same, whatever the budgets and the steps.
 abbrev pub Noninterference : {L : Type 0} → Conditions L → World → (L → Bool) → (ℕ → Bool) → Type 0
-Noninterference {L} S W vis shows = (pc : L) (c : Cmd) → flow S pc [] c ≡ true → (b b′ l l′ : ℕ) (M N M′ N′ : Mem)
-    → SameView S vis shows M N → iterate W b M c ≡ done M′ l → iterate W b′ N c ≡ done N′ l′ → SameView S vis shows M′ N′
+Noninterference {L} K W vis shows = (pc : L) (c : Cmd) → flow K pc [] c ≡ true → (b b′ l l′ : ℕ) (M N M′ N′ : Mem)
+    → SameMask K vis shows M N → iterate W b M c ≡ done M′ l → iterate W b′ N c ≡ done N′ l′ → SameMask K vis shows M′ N′
 
 -- Under a surrounding label that the observer does not see, what it sees stays, however far a run goes.
 abbrev pub Confinement : {L : Type 0} → Conditions L → World → (L → Bool) → Type 0
-Confinement {L} S W vis = (pc : L) (c : Cmd) → flow S pc [] c ≡ true → ¬ (vis pc ≡ true) → (k : ℕ) (M M′ : Mem) (c′ : Cmd)
-    → Steps W k M c M′ c′ → (x : ℕ) → vis (S .home x) ≡ true → M′ x ≡ M x
+Confinement {L} K W vis = (pc : L) (c : Cmd) → flow K pc [] c ≡ true → ¬ (vis pc ≡ true) → (k : ℕ) (M M′ : Mem) (c′ : Cmd)
+    → Steps W k M c M′ c′ → (x : ℕ) → vis (K .home x) ≡ true → M′ x ≡ M x
 
 -- All of it, with what each claim assumes.
 pub record Theorems : Type 1 where
@@ -100,8 +100,8 @@ pub record Theorems : Type 1 where
   pub determinacy : (W : World) → Determinacy W
   pub outcome : (S : Shapes) (W : World) → SameTypes S W → Outcome S W
   pub type-soundness : (S : Shapes) (W : World) → SameTypes S W → TypeSoundness S W
-  pub exactness : (L : Type 0) (𝓛 : Labels L) → Lattice 𝓛 → (D : Declarations L) → Exactness 𝓛 D
+  pub exactness : (L : Type 0) (𝓛 : Labels L) → LeastLabelLaws 𝓛 → (D : Declarations L) → Exactness 𝓛 D
   pub masking : Masking
-  pub noninterference : (L : Type 0) (S : Conditions L) (W : World) (vis : L → Bool) (shows : ℕ → Bool) → Observer S W vis shows
-      → Noninterference S W vis shows
-  pub confinement : (L : Type 0) (S : Conditions L) (W : World) (vis : L → Bool) (shows : ℕ → Bool) → Observer S W vis shows → Confinement S W vis
+  pub noninterference : (L : Type 0) (K : Conditions L) (W : World) (vis : L → Bool) (shows : ℕ → Bool) → Observer K W vis shows
+      → Noninterference K W vis shows
+  pub confinement : (L : Type 0) (K : Conditions L) (W : World) (vis : L → Bool) (shows : ℕ → Bool) → Observer K W vis shows → Confinement K W vis

@@ -95,43 +95,43 @@ pub record Conditions (L : Type 0) : Type 0 where
   pub bot : L
   pub join : L → L → L
   pub mayAssign : ℕ → L → Bool
-  pub packed : ℕ → L → L
+  pub packLabel : ℕ → L → L
   pub mayPack : ℕ → L → Bool
-  pub opened : ℕ → L → L
-  pub mayOpen : ℕ → L → Bool
+  pub unpackLabel : ℕ → L → L
+  pub mayUnpack : ℕ → L → Bool
 
 -- The least label of an expression; Γ holds the labels of the enclosing cases' expressions, innermost first.
 unfoldable pub least : {L : Type 0} → Conditions L → List L → Expr → L
-least S Γ (val v) = S .bot
-least S Γ (loc x) = S .home x
-least S Γ (var d) = orElse (S .bot) (nth Γ d)
-least S Γ (plus a b) = S .join (least S Γ a) (least S Γ b)
-least S Γ (left t a) = least S Γ a
-least S Γ (right t a) = least S Γ a
-least S Γ (pack l a) = S .packed l (least S Γ a)
-least S Γ (unpack t l a) = S .opened l (least S Γ a)
+least K Γ (val v) = K .bot
+least K Γ (loc x) = K .home x
+least K Γ (var d) = orElse (K .bot) (nth Γ d)
+least K Γ (plus a b) = K .join (least K Γ a) (least K Γ b)
+least K Γ (left t a) = least K Γ a
+least K Γ (right t a) = least K Γ a
+least K Γ (pack l a) = K .packLabel l (least K Γ a)
+least K Γ (unpack t l a) = K .unpackLabel l (least K Γ a)
 
 -- Whether the label conditions in an expression hold.
 unfoldable pub flowE : {L : Type 0} → Conditions L → List L → Expr → Bool
-flowE S Γ (val v) = true
-flowE S Γ (loc x) = true
-flowE S Γ (var d) = true
-flowE S Γ (plus a b) = both (flowE S Γ a) (flowE S Γ b)
-flowE S Γ (left t a) = flowE S Γ a
-flowE S Γ (right t a) = flowE S Γ a
-flowE S Γ (pack l a) = both (flowE S Γ a) (S .mayPack l (least S Γ a))
-flowE S Γ (unpack t l a) = both (flowE S Γ a) (S .mayOpen l (least S Γ a))
+flowE K Γ (val v) = true
+flowE K Γ (loc x) = true
+flowE K Γ (var d) = true
+flowE K Γ (plus a b) = both (flowE K Γ a) (flowE K Γ b)
+flowE K Γ (left t a) = flowE K Γ a
+flowE K Γ (right t a) = flowE K Γ a
+flowE K Γ (pack l a) = both (flowE K Γ a) (K .mayPack l (least K Γ a))
+flowE K Γ (unpack t l a) = both (flowE K Γ a) (K .mayUnpack l (least K Γ a))
 
 -- Whether the label conditions in a command hold below the surrounding label pc, which is joined with the guard's label in
 -- the body of a loop and in the branches of a case.
 unfoldable pub flow : {L : Type 0} → Conditions L → L → List L → Cmd → Bool
-flow S pc Γ skip = true
-flow S pc Γ (seq a b) = both (flow S pc Γ a) (flow S pc Γ b)
-flow S pc Γ (assign x e) = both (flowE S Γ e) (both (S .mayAssign x (least S Γ e)) (S .mayAssign x pc))
-flow S pc Γ (while e c) = both (flowE S Γ e) (flow S (S .join pc (least S Γ e)) Γ c)
-flow S pc Γ (case e a b) =
-    let l = least S Γ e in
-    both (flowE S Γ e) (both (flow S (S .join pc l) (l ∷ Γ) a) (flow S (S .join pc l) (l ∷ Γ) b))
+flow K pc Γ skip = true
+flow K pc Γ (seq a b) = both (flow K pc Γ a) (flow K pc Γ b)
+flow K pc Γ (assign x e) = both (flowE K Γ e) (both (K .mayAssign x (least K Γ e)) (K .mayAssign x pc))
+flow K pc Γ (while e c) = both (flowE K Γ e) (flow K (K .join pc (least K Γ e)) Γ c)
+flow K pc Γ (case e a b) =
+    let l = least K Γ e in
+    both (flowE K Γ e) (both (flow K (K .join pc l) (l ∷ Γ) a) (flow K (K .join pc l) (l ∷ Γ) b))
 
 -- The scope's label conditions: `k A` needs its operand at or below A and has I(A); `u t A` needs C(operand) at or below
 -- C(A) and has A.
@@ -141,10 +141,10 @@ conditions 𝓛 D = record {
   bot = 𝓛 .bot;
   join = 𝓛 .join;
   mayAssign = λ x a. 𝓛 .leq a (D .home x);
-  packed = λ A a. 𝓛 .integ (D .label A);
+  packLabel = λ A a. 𝓛 .integ (D .label A);
   mayPack = λ A a. 𝓛 .leq a (D .label A);
-  opened = λ A a. D .label A;
-  mayOpen = λ A a. 𝓛 .leq (𝓛 .conf a) (𝓛 .conf (D .label A));
+  unpackLabel = λ A a. D .label A;
+  mayUnpack = λ A a. 𝓛 .leq (𝓛 .conf a) (𝓛 .conf (D .label A));
 }
 
 -- A script is accepted when both tests pass, with bottom for the surrounding label.

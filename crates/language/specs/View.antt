@@ -11,29 +11,30 @@ seen true v = v
 seen false v = blank
 
 -- What stands in a view for a value: the content of a package whose label is not seen is blank, also inside a content that is.
+-- `shows l` tells whether the label that the number l names is seen.
 unfoldable pub mask : (ℕ → Bool) → Value → Value
-mask vis (int n) = int n
-mask vis (err e) = err e
-mask vis (inl v) = inl (mask vis v)
-mask vis (inr v) = inr (mask vis v)
-mask vis (pkg l v) = pkg l (seen (vis l) (mask vis v))
-mask vis blank = blank
+mask shows (int n) = int n
+mask shows (err e) = err e
+mask shows (inl v) = inl (mask shows v)
+mask shows (inr v) = inr (mask shows v)
+mask shows (pkg l v) = pkg l (seen (shows l) (mask shows v))
+mask shows blank = blank
 
 -- What stands in a view for a memory; `sees x` tells whether the location's label is seen.
 unfoldable pub maskMem : (ℕ → Bool) → (ℕ → Bool) → Mem → Mem
-maskMem sees vis M = λ x. seen (sees x) (mask vis (M x))
+maskMem sees shows M = λ x. seen (sees x) (mask shows (M x))
 
 -- Figure 6. An observer is given by the labels that it sees, instead of by a label ℓ whose C the label of a package is or is
 -- not below. Errors and blank are values here.
-pub data Equiv (vis : ℕ → Bool) : Value → Value → Type 0 where
-  ve-int : {i : ℕ} → Equiv vis (int i) (int i)
-  ve-err : {e : ℕ} → Equiv vis (err e) (err e)
-  ve-inl : {v₁ v₂ : Value} → Equiv vis v₁ v₂ → Equiv vis (inl v₁) (inl v₂)
-  ve-inr : {v₁ v₂ : Value} → Equiv vis v₁ v₂ → Equiv vis (inr v₁) (inr v₂)
-  ve-pack-in : {l : ℕ} {v₁ v₂ : Value} → Equiv vis v₁ v₂ → Equiv vis (pkg l v₁) (pkg l v₂)
-  ve-pack-lab : {l : ℕ} {v₁ v₂ : Value} → vis l ≡ false → Equiv vis (pkg l v₁) (pkg l v₂)
-  ve-blank : Equiv vis blank blank
+pub data Equiv (shows : ℕ → Bool) : Value → Value → Type 0 where
+  ve-int : {i : ℕ} → Equiv shows (int i) (int i)
+  ve-err : {e : ℕ} → Equiv shows (err e) (err e)
+  ve-inl : {v₁ v₂ : Value} → Equiv shows v₁ v₂ → Equiv shows (inl v₁) (inl v₂)
+  ve-inr : {v₁ v₂ : Value} → Equiv shows v₁ v₂ → Equiv shows (inr v₁) (inr v₂)
+  ve-pack-in : {l : ℕ} {v₁ v₂ : Value} → Equiv shows v₁ v₂ → Equiv shows (pkg l v₁) (pkg l v₂)
+  ve-pack-lab : {l : ℕ} {v₁ v₂ : Value} → shows l ≡ false → Equiv shows (pkg l v₁) (pkg l v₂)
+  ve-blank : Equiv shows blank blank
 
 -- Definition 1: memories are equivalent when the values at each location that is seen are.
 abbrev pub EquivMem : (ℕ → Bool) → (ℕ → Bool) → Mem → Mem → Type 0
-EquivMem sees vis M N = (x : ℕ) → sees x ≡ true → Equiv vis (M x) (N x)
+EquivMem sees shows M N = (x : ℕ) → sees x ≡ true → Equiv shows (M x) (N x)

@@ -7,7 +7,7 @@ use Rattle.logic.proofs.BooleanLaws.{absurd-false}
 use Rattle.labels.specs.Labels.{belowOf, readsOf, writesOf, effective}
 use Rattle.labels.specs.declared.Label.{Label}
 use Rattle.labels.proofs.LatticeLaws as lattice
-use Rattle.language.specs.Labels.{Lattice}
+use Rattle.language.specs.Labels.{LeastLabelLaws}
 use Rattle.sheet.specs.Sheet.{Sheet, labelNo, locationNo, formed}
 use Rattle.sheet.specs.Tables.{tableOf, belowIn, readsIn, writesIn}
 use Rattle.sheet.specs.Meaning.{labelsOver, effectiveIf, effectively, declarationsOf, belowNo, readsNo, writesNo}
@@ -15,7 +15,7 @@ use Rattle.sheet.specs.Theorems.{SameLabels}
 use Rattle.sheet.proofs.TableLaws.{principals-in}
 use Rattle.sheet.proofs.LabelLaws.{label-no-effective, label-in}
 
-pub labels-lattice : (n : ℕ) → Lattice (labelsOver n)
+pub labels-lattice : (n : ℕ) → LeastLabelLaws (labelsOver n)
 labels-lattice n =
     record {
       leq-refl = lattice.leq-refl n;

@@ -12,7 +12,7 @@ use Rattle.language.specs.Typing.{conditions}
 use Rattle.language.specs.Theorems.{Observer}
 use Rattle.language.proofs.Exactness.{flow-iff}
 use Rattle.language.proofs.Noninterference.{noninterference}
-use Rattle.language.proofs.Observers.{lattice-joins, reader}
+use Rattle.language.proofs.Observers.{law-joins, reader}
 use Rattle.sheet.specs.Sheet.{Sheet, formed}
 use Rattle.sheet.specs.Meaning.{labelsOver, declarationsOf, worldOf, readsNo}
 use Rattle.sheet.proofs.FormLaws.{formed-facts}
@@ -39,7 +39,7 @@ module _ (s : Sheet) (fm : formed s ≡ true) (group : ℕ) where
   observer : (authority : ℕ) → Observer (conditions (labelsOver (s .principals)) (declarationsOf s)) (worldOf s authority) vis (λ l. vis (declarationsOf s .label l))
   observer authority =
       let 𝓛 = labelsOver (s .principals) in
-      reader 𝓛 (declarationsOf s) (worldOf s authority) vis (lattice-joins 𝓛 (labels-lattice (s .principals)))
+      reader 𝓛 (declarationsOf s) (worldOf s authority) vis (law-joins 𝓛 (labels-lattice (s .principals)))
       (λ a b h. reads-down (s .principals) few group (a .raw) (b .raw) h)
       (λ m l. rw (declared-label s fm m, declared-label s fm l) refl)
       (λ a b h. reads-down-C (s .principals) few group (a .raw) (b .raw) h)

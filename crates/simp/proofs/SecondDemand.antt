@@ -7,8 +7,7 @@ use Prim.Native.Nat.{ℕ, zero, suc, _+_, _-_}
 use native.Mathlib.Omega.{arith}
 use Rattle.language.specs.Syntax.{Cmd}
 use Rattle.language.specs.Transition.{Out, done, spent, over, iterate}
-use Rattle.language.specs.Theorems.{ends-done, ends-spent, ends-over}
-use Rattle.language.specs.Theorems as theorems
+use Rattle.language.specs.Theorems.{ends-done, ends-spent, ends-over, RunEnds}
 use Rattle.language.proofs.Outcome.{outcome}
 use Rattle.sheet.specs.Sheet.{Sheet, locationCount}
 use Rattle.sheet.specs.Meaning.{shapesOf, worldOf}
@@ -63,7 +62,7 @@ module _ {sheet script memory : List ℕ} {authority : ℕ} {s : Sheet} {c : Cmd
   declared = memory-exactly s .values memory (sized-0 s memory (st .sized) (st .well-formed))
 
 module _ {sheet script memory : List ℕ} {authority : ℕ} {s : Sheet} {c : Cmd} (st : Started sheet script memory authority s c) (budget : ℕ) where
-  by-figures : (o : Out) → (iterate (worldOf s authority) budget (memoryOf memory) c ≡ o) ↔ theorems.Ends (worldOf s authority) budget (memoryOf memory) c o
+  by-figures : (o : Out) → (iterate (worldOf s authority) budget (memoryOf memory) c ≡ o) ↔ RunEnds (worldOf s authority) budget (memoryOf memory) c o
   by-figures o = outcome (shapesOf s) (worldOf s authority) (λ t. refl) c (typable-shape s c (st .typable)) (memoryOf memory)
       (declared st .typed) (declared st .fitting) budget o
 
@@ -80,7 +79,7 @@ module _ {sheet script memory : List ℕ} {authority : ℕ} {s : Sheet} {c : Cmd
       ) refl
 
   -- it ends as the figures have it
-  so-ends : (o : Out) → theorems.Ends (worldOf s authority) budget (memoryOf memory) c o → Ends s c memory authority budget (ended (locationCount s) budget memory o)
+  so-ends : (o : Out) → RunEnds (worldOf s authority) budget (memoryOf memory) c o → Ends s c memory authority budget (ended (locationCount s) budget memory o)
   unfolding ended
   so-ends o (ends-done {k} {l} {M′} e t n) =
       let z : k ≡ budget - l = omega arith in
@@ -93,7 +92,7 @@ module _ {sheet script memory : List ℕ} {authority : ℕ} {s : Sheet} {c : Cmd
   pub run-ends : Ends s c memory authority budget (runOf sheet script memory authority budget)
   run-ends = subst (Ends s c memory authority budget) (sym started-run) (so-ends _ (by-figures _ .0 refl))
 
-  ran : (o : Out) → theorems.Ends (worldOf s authority) budget (memoryOf memory) c o → runOf sheet script memory authority budget ≡ ended (locationCount s) budget memory o
+  ran : (o : Out) → RunEnds (worldOf s authority) budget (memoryOf memory) c o → runOf sheet script memory authority budget ≡ ended (locationCount s) budget memory o
   ran o e = started-run ∙ ap (ended (locationCount s) budget memory) (by-figures o .1 e)
 
   -- and in one way

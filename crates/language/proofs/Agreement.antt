@@ -146,6 +146,14 @@ module _ (W : World) (M : Mem) where
   unfolding eval
   star-eval p = star-refines p
 
+  -- where no part of e is too long, `eval` has the value of figure 2
+  pub star-ok : {e : Expr} {v : Value} → EStar W M e (val v) → ¬ LongExpr W M e → eval W [] M e ≡ ok v
+  star-ok {e} {v} p n = on (eval W [] M e) (star-eval p) (eval-gives W M e)
+    where
+      on : (r : Res) → Refines r (ok v) → Gives W M e r → r ≡ ok v
+      on r same g = refl
+      on long was-long g = absurd (n g)
+
 -- Figure 3 and `step`.
 
 data RefinesN : Next → Next → Type 0 where

@@ -11,9 +11,10 @@ use Rattle.language.specs.Declarations.{nth}
 use Rattle.language.specs.View.{Equiv, ve-int, ve-err, ve-inl, ve-inr, ve-pack-in, ve-pack-lab, ve-blank, EquivMem}
 use Rattle.language.specs.Evaluation.{Res, ok, long, stuck, bind, fit, add, addTo, packed, opened, unpacked, lookup, eval}
 use Rattle.language.specs.Typing.{Conditions, orElse, least, flowE, flow}
-use Rattle.language.specs.Theorems.{Observer, Noninterference}
+use Rattle.language.specs.Theorems.{Observer, ExpressionNoninterference, Noninterference}
 use Rattle.logic.proofs.BooleanLaws.{T-of, both-left, both-right, cases, not-so}
 use Rattle.language.proofs.Fit.{by-fit}
+use Rattle.language.proofs.Agreement.{star-ok}
 use Rattle.language.proofs.Masking.{equiv-refl, has-equiv, equiv-of-view, view-of-equiv}
 use Rattle.language.proofs.Confinement.{Quiet, q-seq, q-assign, q-while, q-case, put-unseen, while-quiet, case-quiet}
 use Rattle.language.proofs.Derivations.{Run, r-skip, r-seq, r-assign, r-go, r-end, r-left, r-right, derivation}
@@ -166,7 +167,7 @@ module _ {L : Type 0} (K : Conditions L) (W : World) (vis : L → Bool) (shows :
   ni-pack l c false r s e h = agree-bind-any shows r s _ _ λ v w. agree-pack shows c l (ve-pack-lab e)
 
   module _ {Γ : List L} {ρ σ : Env} {M N : Mem} (es : EquivEnv Γ ρ σ) (ms : EquivMem Sees shows M N) where
-    -- Theorem 1: an expression whose least label is seen has equivalent values.
+    -- an expression whose least label is seen has equivalent values
     pub ni-expr : (e : Expr) → flowE K Γ e ≡ true → vis (least K Γ e) ≡ true → Agree shows (eval W ρ M e) (eval W σ N e)
     unfolding flowE least eval
     ni-expr (val v) f h = equiv-refl shows v
@@ -184,6 +185,10 @@ module _ {L : Type 0} (K : Conditions L) (W : World) (vis : L → Bool) (shows :
 
     same-value : (e : Expr) {v w : Value} → flowE K Γ e ≡ true → vis (least K Γ e) ≡ true → eval W ρ M e ≡ ok v → eval W σ N e ≡ ok w → Equiv shows v w
     same-value e f t p q = agreed _ (ni-expr e f t) p q
+
+  pub expression-noninterference : ExpressionNoninterference K W vis shows
+  expression-noninterference e f t M N s v w p n q o =
+      same-value env-none (equiv-of-view Sees shows M N s) e f t (star-ok W M p n) (star-ok W N q o)
 
   -- two runs that change nothing that is seen
   apart : {M N M′ N′ : Mem} {ρ σ : Env} {c d : Cmd} → EquivMem Sees shows M N → Quiet Sees c → Run W ρ M c M′ → Quiet Sees d → Run W σ N d N′

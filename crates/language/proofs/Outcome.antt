@@ -1,4 +1,5 @@
--- The outcome of `iterate` is the one by which the run of the figures ends.
+-- The outcome of `iterate` is the one by which the run of the figures ends, and `step` is too long exactly where the figures meet a value
+-- that is too long.
 use mathlib.Core.Path.{_≡_, refl, sym, _∙_, subst}
 use mathlib.Core.Bool.{true}
 use mathlib.Core.Option.{some}
@@ -12,7 +13,7 @@ use Rattle.language.specs.Declarations.{Shapes}
 use Rattle.language.specs.Evaluation.{Res, ok, long, stuck, bind, eval}
 use Rattle.language.specs.Transition.{Next, final, to, too-long, no-rule, at-seq, at-assign, branch, step, Out, done, spent, over, after, run, iterate}
 use Rattle.language.specs.Typing.{typeOfValue, typeOf, shape}
-use Rattle.language.specs.Theorems.{SameTypes, Fitting, RunEnds, ends-done, ends-spent, ends-over, Outcome}
+use Rattle.language.specs.Theorems.{SameTypes, Fitting, RunEnds, ends-done, ends-spent, ends-over, LongExact, Outcome}
 use Rattle.logic.proofs.BooleanLaws.{both-left, both-right}
 use Rattle.language.proofs.Types.{isTy-path, hasTy-path, given-path, leftIs-path, rightIs-path, onSum-path}
 use Rattle.logic.proofs.OptionLaws.{none-some}
@@ -195,8 +196,16 @@ module _ (S : Shapes) (W : World) (agree : SameTypes S W) where
       let t = steps-trace W s n in
       trace-run W (suc l) b t e ∙ over-now l M′ c′ (long-now M′ c′ (trace-fine S W agree t i) (keeps-trace Fits Anywhere fits-kept W t f) h)
 
+  start-fit : (M : Mem) (c : Cmd) → Fitting M → shape S [] c ≡ true → Fit M c
+  start-fit M c g s = record { memory = g; command = fits-cmd S [] c s }
+
+  pub long-exact : LongExact S W
+  long-exact c s M m g k M′ c′ p n =
+      let t = steps-trace W p n in
+      (agreement W .is-long M′ c′, long-now M′ c′ (trace-fine S W agree t (start-fine S W agree M c m s)) (keeps-trace Fits Anywhere fits-kept W t (start-fit M c g s)))
+
   pub outcome : Outcome S W
   outcome c s M m g b o =
       let i = start-fine S W agree M c m s in
-      let f : Fit M c = record { memory = g; command = fits-cmd S [] c s } in
+      let f = start-fit M c g s in
       ((λ h. subst (RunEnds W b M c) h (stops-ends i f (iterate-stops W b M c))), (λ e. ends-iterate i f e))

@@ -4,17 +4,18 @@ use mathlib.Core.Path.{_≡_}
 use mathlib.Core.Bool.{Bool, true}
 use mathlib.Core.List.{[]}
 use Prim.Native.Nat.{ℕ, suc, _+_, _≤_}
-use Rattle.language.specs.Syntax.{Value, size, has, Cmd, skip}
+use Rattle.language.specs.Syntax.{Value, size, has, Expr, val, Cmd, skip}
 use Rattle.language.specs.World.{World, Mem, cell-words}
 use Rattle.language.specs.Transition.{final, to, too-long, no-rule, step, Out, done, spent, over, wrong, iterate}
-use Rattle.language.specs.Figures.{Step, Steps, LongStep, NoneLong}
+use Rattle.language.specs.Figures.{EStar, Step, Steps, LongExpr, LongStep, NoneLong}
 use Rattle.language.specs.Labels.{Labels, LeastLabelLaws, struck}
 use Rattle.language.specs.Declarations.{Shapes, Declarations, unlabelled}
-use Rattle.language.specs.Typing.{shape, Conditions, flow, refusal}
+use Rattle.language.specs.Typing.{shape, Conditions, least, flowE, flow, refusal}
 use Rattle.language.specs.Rules.{Derivable}
-use Rattle.language.specs.View.{mask, maskMem, Equiv}
+use Rattle.language.specs.View.{mask, maskMem, Equiv, EquivMem}
 
--- Figures 2 and 3 against `step`: they agree up to values that are too long, which the figures do not have.
+-- Figures 2 and 3 against `step`: they agree up to values that are too long, which the figures do not have. `LongExact` says when
+-- the converse of `is-long` holds.
 pub record Agreement (W : World) : Type 0 where
   pub skip-alone : (M : Mem) (c : Cmd) → step W M c ≡ final → c ≡ skip
   pub has-rule : (M M′ : Mem) (c c′ : Cmd) → step W M c ≡ to M′ c′ → Step W M c M′ c′
@@ -48,6 +49,13 @@ Fitting M = (x : ℕ) → size (M x) ≤ cell-words
 abbrev pub SameTypes : Shapes → World → Type 0
 SameTypes S W = (t : ℕ) → W .ty t ≡ S .ty t
 
+-- In every configuration that a command which passes `shape` reaches from a well-typed memory whose values fit, `step` is too long
+-- exactly if the next step meets a value that is too long. In others it need not be: a sum of an unbound variable and of a part that is
+-- too long has no rule, and a value that is too long already, in the memory or in the command, is copied.
+abbrev pub LongExact : Shapes → World → Type 0
+LongExact S W = (c : Cmd) → shape S [] c ≡ true → (M : Mem) → WellTyped S M → Fitting M → (k : ℕ) (M′ : Mem) (c′ : Cmd)
+    → Steps W k M c M′ c′ → NoneLong W k M c → (step W M′ c′ ≡ too-long) ↔ LongStep W M′ c′
+
 -- `iterate` is the run of the figures: its outcome is the one by which the run ends.
 abbrev pub Outcome : Shapes → World → Type 0
 Outcome S W = (c : Cmd) → shape S [] c ≡ true → (M : Mem) → WellTyped S M → Fitting M → (b : ℕ) (o : Out) → (iterate W b M c ≡ o) ↔ RunEnds W b M c o
@@ -65,9 +73,10 @@ pub record Exactness {L : Type 0} (𝓛 : Labels L) (D : Declarations L) : Type 
   pub refused-5 : (c : Cmd) → (refusal 𝓛 D c ≡ 5) ↔ (¬ Derivable struck (unlabelled D) c)
   pub refused-6 : (c : Cmd) → (refusal 𝓛 D c ≡ 6) ↔ (Derivable struck (unlabelled D) c × ¬ Derivable 𝓛 D c)
 
--- Figure 6 against `mask`: two values have the same mask exactly if they are equivalent.
-abbrev pub Masking : Type 0
-Masking = (shows : ℕ → Bool) (v w : Value) → (mask shows v ≡ mask shows w) ↔ Equiv shows v w
+-- Figure 6 and definition 1 against masks: two values have the same mask exactly if they are equivalent, and so have two memories.
+pub record Masking : Type 0 where
+  pub values : (shows : ℕ → Bool) (v w : Value) → (mask shows v ≡ mask shows w) ↔ Equiv shows v w
+  pub memories : (sees shows : ℕ → Bool) (M N : Mem) → ((x : ℕ) → maskMem sees shows M x ≡ maskMem sees shows N x) ↔ EquivMem sees shows M N
 
 -- What noninterference asks of an observer that sees the labels vis, and the content of packages at the label numbers shows.
 -- Nothing is asked of the join of two labels that are seen.
@@ -83,8 +92,21 @@ pub record Observer {L : Type 0} (K : Conditions L) (W : World) (vis : L → Boo
 abbrev pub SameMask : {L : Type 0} → Conditions L → (L → Bool) → (ℕ → Bool) → Mem → Mem → Type 0
 SameMask K vis shows M N = (x : ℕ) → maskMem (λ y. vis (K .home y)) shows M x ≡ maskMem (λ y. vis (K .home y)) shows N x
 
--- Theorem 2: two done runs of a command that passes `flow`, in one world, from memories that look the same, leave memories
--- that look the same, whatever the budgets and the steps.
+-- Theorem 1 (expression noninterference): the values that an expression has in two memories that look the same are equivalent, if its
+-- label conditions hold and the observer sees its least label. It differs from the paper's as theorem 2 does: it is about one expression
+-- instead of two that are equivalent, and no part of it may be too long.
+abbrev pub ExpressionNoninterference : {L : Type 0} → Conditions L → World → (L → Bool) → (ℕ → Bool) → Type 0
+ExpressionNoninterference K W vis shows = (e : Expr) → flowE K [] e ≡ true → vis (least K [] e) ≡ true → (M N : Mem) → SameMask K vis shows M N
+    → (v w : Value) → EStar W M e (val v) → ¬ LongExpr W M e → EStar W N e (val w) → ¬ LongExpr W N e → Equiv shows v w
+
+-- Theorem 2 (command noninterference): two done runs of a command that passes `flow`, in one world, from memories that look the
+-- same, leave memories that look the same, whatever the budgets and the steps. It differs from the paper's in this:
+-- * both runs are of one command, the paper's of two that are equivalent, that is alike but for equivalent values in them. A script is
+--   one command whose values are integers, so equivalent scripts are the same;
+-- * a run is done by `iterate`, so no step of it meets a value that is too long; the paper has no such limit;
+-- * the observer is any that meets `Observer`, instead of a label ℓ. Who sees a label by its C alone meets it, as a group of readers
+--   does; who goes by its writers too need not, since an unpack compares C alone;
+-- * neither a well-typed memory nor types are asked for: a run that is stuck is not done.
 abbrev pub Noninterference : {L : Type 0} → Conditions L → World → (L → Bool) → (ℕ → Bool) → Type 0
 Noninterference {L} K W vis shows = (pc : L) (c : Cmd) → flow K pc [] c ≡ true → (b b′ l l′ : ℕ) (M N M′ N′ : Mem)
     → SameMask K vis shows M N → iterate W b M c ≡ done M′ l → iterate W b′ N c ≡ done N′ l′ → SameMask K vis shows M′ N′
@@ -98,10 +120,13 @@ Confinement {L} K W vis = (pc : L) (c : Cmd) → flow K pc [] c ≡ true → ¬ 
 pub record Theorems : Type 1 where
   pub agreement : (W : World) → Agreement W
   pub determinacy : (W : World) → Determinacy W
+  pub long-exact : (S : Shapes) (W : World) → SameTypes S W → LongExact S W
   pub outcome : (S : Shapes) (W : World) → SameTypes S W → Outcome S W
   pub type-soundness : (S : Shapes) (W : World) → SameTypes S W → TypeSoundness S W
   pub exactness : (L : Type 0) (𝓛 : Labels L) → LeastLabelLaws 𝓛 → (D : Declarations L) → Exactness 𝓛 D
   pub masking : Masking
+  pub expression-noninterference : (L : Type 0) (K : Conditions L) (W : World) (vis : L → Bool) (shows : ℕ → Bool) → Observer K W vis shows
+      → ExpressionNoninterference K W vis shows
   pub noninterference : (L : Type 0) (K : Conditions L) (W : World) (vis : L → Bool) (shows : ℕ → Bool) → Observer K W vis shows
       → Noninterference K W vis shows
   pub confinement : (L : Type 0) (K : Conditions L) (W : World) (vis : L → Bool) (shows : ℕ → Bool) → Observer K W vis shows → Confinement K W vis

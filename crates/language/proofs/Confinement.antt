@@ -1,5 +1,5 @@
 -- Under a surrounding label that an observer does not see, a command assigns to no location that it sees.
-use mathlib.Core.Path.{_≡_, refl, _∙_, subst}
+use mathlib.Core.Path.{_≡_, refl, _∙_}
 use mathlib.Core.Bool.{Bool, true, false, cond}
 use mathlib.Core.List.{List, [], _∷_}
 use Prim.Native.Nat.{ℕ, zero, suc}
@@ -8,11 +8,9 @@ use Rattle.language.specs.Syntax.{Value, Expr, Cmd, skip, seq, assign, w
 use Rattle.language.specs.World.{World, Mem}
 use Rattle.language.specs.Substitution.{Env, close, inst, put}
 use Rattle.language.specs.Figures.{Step, ec-assign, ec-seq-skip, ec-seq-struct, ec-while-false, ec-while-true, ec-casel, ec-caser, Steps, s-none, s-more}
-use Rattle.language.specs.Transition.{done, iterate}
 use Rattle.language.specs.Typing.{Conditions, least, flow}
 use Rattle.language.specs.Theorems.{Observer, Confinement}
 use Rattle.logic.proofs.BooleanLaws.{T-of, both-left, both-right, fails}
-use Rattle.language.proofs.Traces.{Stops, stops-done, iterate-stops, trace-steps}
 
 -- c assigns to no location that is seen
 pub data Quiet (sees : ℕ → Bool) : Cmd → Type 0 where
@@ -96,11 +94,3 @@ module _ {L : Type 0} (K : Conditions L) (W : World) (vis : L → Bool) (shows :
 
   pub confinement : Confinement K W vis
   confinement pc c f h k M M′ c′ s x v = quiet-steps Sees W (unseen-quiet c pc [] f h) s x v
-
-  stops-confined : {b l : ℕ} {M M′ : Mem} {c : Cmd} → Quiet Sees c → Stops W b M c (done M′ l) → (x : ℕ) → vis (K .home x) ≡ true → M′ x ≡ M x
-  stops-confined q (stops-done e t) x v = quiet-steps Sees W q (trace-steps W t) x v
-
-  -- A done run under a surrounding label that is not seen leaves what is seen.
-  pub done-confined : (pc : L) (c : Cmd) → flow K pc [] c ≡ true → ¬ (vis pc ≡ true) → (b l : ℕ) (M M′ : Mem) → iterate W b M c ≡ done M′ l
-      → (x : ℕ) → vis (K .home x) ≡ true → M′ x ≡ M x
-  done-confined pc c f h b l M M′ e x v = stops-confined (unseen-quiet c pc [] f h) (subst (Stops W b M c) e (iterate-stops W b M c)) x v

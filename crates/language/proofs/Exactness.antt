@@ -1,18 +1,17 @@
 -- The checker accepts exactly what figures 4 and 5 derive. Nothing but `LeastLabelLaws` is assumed.
 use mathlib.Core.Logic.{_↔_}
 use mathlib.Core.Path.{_≡_, refl, ap, sym, _∙_, subst}
-use mathlib.Core.Bool.{Bool, true, false, cond, true≢false, false≢true}
+use mathlib.Core.Bool.{Bool, true, false, cond, true≢false}
 use mathlib.Core.Option.{some}
 use mathlib.Core.List.{List, [], _∷_}
 use Prim.Native.Nat.{ℕ, zero, suc}
 use native.Mathlib.Omega.{arith}
-use Rattle.logic.specs.Booleans.{both}
 use Rattle.logic.proofs.BooleanLaws.{both-left, both-right, both-true, not-so}
 use Rattle.language.specs.Syntax.{Ty, t-int, t-err, t-pkg, t-sum, int, err, inl, inr, pkg, blank, Expr, val, loc, var, plus, left, right, pack, unpack, Cmd, skip, seq, assign, while, case}
 use Rattle.language.specs.Labels.{Labels, LeastLabelLaws, struck}
 use Rattle.language.specs.Declarations.{Declarations, unlabelled, nth}
 use Rattle.language.specs.Rules.{LabelledType, Typed, te-int, te-loc, te-var, te-plus, te-suml, te-sumr, te-pack, te-unpack, te-sub, Safe, tc-skip, tc-assign, tc-seq, tc-while, tc-case, tc-subs, Derivable}
-use Rattle.language.specs.Typing.{orElse, typeOfValue, typeOf, shape, least, flowE, flow, conditions, accepts, refusal}
+use Rattle.language.specs.Typing.{orElse, typeOfValue, typeOf, shape, least, flowE, flow, conditions, refusal}
 use Rattle.language.specs.Theorems.{Exactness}
 use Rattle.language.proofs.Types.{isTy-true, isTy-path, hasTy-true, hasTy-path, given-true, given-path, leftIs-true, leftIs-path, rightIs-true, rightIs-path, onSum-true, onSum-path}
 use Rattle.logic.proofs.OptionLaws.{none-some, some-path}
@@ -157,10 +156,6 @@ module _ {L : Type 0} (𝓛 : Labels L) (law : LeastLabelLaws 𝓛) (D : Declara
   below-same [] = none-below
   below-same (g ∷ Γ) = more-below (law .leq-refl (g .label)) (below-same Γ)
 
-  -- Figure 4 gives e the type τ and the label ℓ exactly if e has the type τ, its label conditions hold, and its least label is at or below ℓ.
-  pub typed-iff : (Γ : List (LabelledType L)) (e : Expr) (τ : Ty) (ℓ : L) → Typed 𝓛 D Γ e τ ℓ ↔ Passes Γ (labels Γ) e τ ℓ
-  typed-iff Γ e τ ℓ = ((λ t. complete t (below-same Γ)), (λ p. te-sub (sound e Γ τ (p .type-is) (p .flows)) (p .label-is)))
-
   -- Commands
 
   leq-as : {a b c : L} → c ≡ b → 𝓛 .leq a b ≡ true → 𝓛 .leq a c ≡ true
@@ -273,21 +268,6 @@ number-6 false f h = absurd (omega arith)
 
 number : {s f s′ f′ : Bool} → s ≡ s′ → f ≡ f′ → answer s f ≡ answer s′ f′
 number p q = rw (p, q)
-
-accepts-number : (s f : Bool) → both s f ≡ true → answer s f ≡ 0
-unfolding both
-accepts-number true true h = refl
-accepts-number true false h = absurd (false≢true h)
-accepts-number false f h = absurd (false≢true h)
-
-module _ {L : Type 0} (𝓛 : Labels L) (D : Declarations L) where
-  -- `accepts` is the number 0.
-  pub accepts-iff : (c : Cmd) → (accepts 𝓛 D c ≡ true) ↔ (refusal 𝓛 D c ≡ 0)
-  unfolding accepts refusal
-  accepts-iff c = (
-    accepts-number (shape (D .shapes) [] c) (flow (conditions 𝓛 D) (𝓛 .bot) [] c),
-    (λ h. let n = number-0 (shape (D .shapes) [] c) _ h in both-true (n .0) (n .1)),
-  )
 
 module _ {L : Type 0} (𝓛 : Labels L) (law : LeastLabelLaws 𝓛) (D : Declarations L) where
   -- A command has a derivation under the surrounding label pc exactly if it passes `shape` and `flow` there.

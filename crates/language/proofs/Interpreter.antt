@@ -1,14 +1,14 @@
 -- The equations of an interpreter with an environment. `go` is the run of a command whose variables ρ binds; each equation
--- gives it for one command by the runs of its parts, and `go-start` gives the whole run of a script.
-use mathlib.Core.Path.{_≡_, refl, ap, sym, _∙_, fun-ext}
+-- gives it for one command by the runs of its parts.
+use mathlib.Core.Path.{_≡_, refl, ap, _∙_, fun-ext}
 use mathlib.Core.List.{[], _∷_}
 use Prim.Native.Nat.{ℕ, zero, suc}
-use Rattle.language.specs.Syntax.{Value, int, err, inl, inr, pkg, blank, Expr, val, loc, var, plus, left, right, pack, unpack, Cmd, skip, seq, assign, while, case}
+use Rattle.language.specs.Syntax.{Value, int, err, inl, inr, pkg, blank, Expr, loc, var, plus, left, right, pack, unpack, Cmd, skip, seq, assign, while, case}
 use Rattle.language.specs.World.{World, Mem}
 use Rattle.language.specs.Substitution.{Env, closeE, close, put}
 use Rattle.language.specs.Evaluation.{Res, ok, long, stuck, bind, fit, add, packed, unpacked, lookup, eval}
 use Rattle.language.specs.Transition.{Next, final, to, too-long, no-rule, at-seq, at-assign, branch, branchV, step, Out, done, spent, over, wrong, after, run, iterate}
-use Rattle.language.proofs.Substitution.{inst-close, close-none, eval-close}
+use Rattle.language.proofs.Substitution.{inst-close, eval-close}
 
 -- The run of c, its variables bound by ρ, from M within the budget b.
 unfoldable pub go : World → Env → Cmd → Mem → ℕ → Out
@@ -165,10 +165,6 @@ module _ (W : World) (k : Mem → ℕ → Out) where
 -- The equations: expressions, for which an environment stands already in `eval`.
 
 module _ (W : World) (ρ : Env) (M : Mem) where
-  pub eval-val : (v : Value) → eval W ρ M (val v) ≡ ok v
-  unfolding eval
-  eval-val v = refl
-
   pub eval-loc : (x : ℕ) → eval W ρ M (loc x) ≡ ok (M x)
   unfolding eval
   eval-loc x = refl
@@ -198,10 +194,6 @@ module _ (W : World) (ρ : Env) (M : Mem) where
   eval-unpack t l a = refl
 
 -- Commands.
-
-pub go-start : (W : World) (c : Cmd) (M : Mem) (b : ℕ) → iterate W b M c ≡ go W [] c M b
-unfolding go
-go-start W c M b = ap (iterate W b M) (sym (close-none zero c))
 
 module _ (W : World) (ρ : Env) (M : Mem) where
   next-spend : (c : Cmd) (M′ : Mem) (b : ℕ) → next W done (close zero ρ c) M′ b ≡ spend b (λ b′. go W ρ c M′ b′)

@@ -9,11 +9,10 @@ use lib.Dec.{eqb}
 use Rattle.language.specs.Syntax.{Value, int, err, inl, inr, pkg, blank, size, has, Expr, val, loc, var, plus, left, right, pack, unpack, Cmd, skip, seq, assign, while, case}
 use Rattle.language.specs.World.{World, Mem, cell-words, wanted}
 use Rattle.language.specs.Substitution.{Env, lift, close-var, closeE, close, inst, put}
-use Rattle.language.specs.Figures.{Steps, NoneLong}
 use Rattle.language.specs.Evaluation.{Res, ok, long, stuck, bind, fit, add, addTo, packed, opened, unpacked, lookup, eval}
 use Rattle.language.specs.Transition.{Next, final, to, too-long, no-rule, at-seq, at-assign, branch, branchV, step, done, iterate}
 use Rattle.language.proofs.Fit.{by-fit}
-use Rattle.language.proofs.Traces.{Trace, Stops, stops-done, iterate-stops, trace-keeps, steps-trace}
+use Rattle.language.proofs.Traces.{Trace, Stops, stops-done, iterate-stops, trace-keeps}
 
 -- P holds of what evaluation makes of values that have it. A pack may name the labels `named`.
 pub record Kept (P : Value → Type 0) (named : ℕ → Type 0) : Type 0 where
@@ -233,10 +232,6 @@ module _ (P : Value → Type 0) (named : ℕ → Type 0) where
     pub keeps : (b l : ℕ) (M M′ : Mem) (c : Cmd) → Uses P named c → ((x : ℕ) → P (M x)) → iterate W b M c ≡ done M′ l → (x : ℕ) → P (M′ x)
     keeps b l M M′ c u m h = (keeps-stop (subst (Stops W b M c) h (iterate-stops W b M c)) (record { memory = m; command = u })) .memory
 
-    -- So does every memory on the way of a run.
-    pub keeps-steps : (k : ℕ) (M M′ : Mem) (c c′ : Cmd) → Uses P named c → ((x : ℕ) → P (M x)) → Steps W k M c M′ c′ → NoneLong W k M c → (x : ℕ) → P (M′ x)
-    keeps-steps k M M′ c c′ u m s n = (keeps-trace (steps-trace W s n) (record { memory = m; command = u })) .memory
-
 -- Properties that are kept.
 
 -- no value is too long
@@ -257,46 +252,4 @@ fits-kept = record {
   from-left = λ v h. omega arith;
   from-right = λ v h. omega arith;
   from-package = λ l v h. omega arith;
-}
-
--- integers below 2^32, errors 1 to 3, packages with a label of `named`, and nothing blank, at any depth
-pub data Legal (named : ℕ → Type 0) : Value → Type 0 where
-  legal-int : {n : ℕ} → n < 2 ^ 32 → Legal named (int n)
-  legal-err : {e : ℕ} → 1 ≤ e → e ≤ 3 → Legal named (err e)
-  legal-inl : {v : Value} → Legal named v → Legal named (inl v)
-  legal-inr : {v : Value} → Legal named v → Legal named (inr v)
-  legal-pkg : {l : ℕ} {v : Value} → named l → Legal named v → Legal named (pkg l v)
-
-in-left : {named : ℕ → Type 0} {v : Value} → Legal named (inl v) → Legal named v
-in-left (legal-inl h) = h
-
-in-right : {named : ℕ → Type 0} {v : Value} → Legal named (inr v) → Legal named v
-in-right (legal-inr h) = h
-
-in-package : {named : ℕ → Type 0} {l : ℕ} {v : Value} → Legal named (pkg l v) → Legal named v
-in-package (legal-pkg n h) = h
-
-pub legal-kept : {named : ℕ → Type 0} → Kept (Legal named) named
-legal-kept = record {
-  sum = λ n h. legal-int h;
-  error = λ e h k. legal-inr (legal-err h k);
-  to-left = λ v h s. legal-inl h;
-  to-right = λ v h s. legal-inr h;
-  to-package = λ l v n h s. legal-inl (legal-pkg n h);
-  from-left = λ v h. in-left h;
-  from-right = λ v h. in-right h;
-  from-package = λ l v h. in-package h;
-}
-
--- two properties at once
-pub both-kept : {P Q : Value → Type 0} {named : ℕ → Type 0} → Kept P named → Kept Q named → Kept (λ v. P v × Q v) named
-both-kept p q = record {
-  sum = λ n h. (p .sum n h, q .sum n h);
-  error = λ e h k. (p .error e h k, q .error e h k);
-  to-left = λ v h s. (p .to-left v (h .0) s, q .to-left v (h .1) s);
-  to-right = λ v h s. (p .to-right v (h .0) s, q .to-right v (h .1) s);
-  to-package = λ l v n h s. (p .to-package l v n (h .0) s, q .to-package l v n (h .1) s);
-  from-left = λ v h. (p .from-left v (h .0), q .from-left v (h .1));
-  from-right = λ v h. (p .from-right v (h .0), q .from-right v (h .1));
-  from-package = λ l v h. (p .from-package l v (h .0), q .from-package l v (h .1));
 }

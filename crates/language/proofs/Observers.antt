@@ -60,7 +60,8 @@ module _ {L : Type 0} (𝓛 : Labels L) (D : Declarations L) (W : World) (vis : 
     content = λ l m a. below-shown l m;
   }
 
-  -- Conditions that also want an unpack's operand at or below the wanted label, writers included.
+  -- For a rule that a script is trust-keeping: conditions that also want an unpack's operand at or below the wanted label, writers
+  -- included. No call tests it; it is kept with `truster` for a test of trust-keeping scripts.
   abbrev pub trusting : Conditions L
   trusting =
       let K = conditions 𝓛 D in
@@ -86,7 +87,8 @@ module _ {L : Type 0} (𝓛 : Labels L) (D : Declarations L) (W : World) (vis : 
     content = λ l m a. below-shown l m;
   }
 
--- Dependencies: a label is a set of locations, a pack and an unpack keep their operand's, and every content is shown.
+-- For a rule that says on which locations a location may depend: a label is a set of locations, a pack and an unpack keep their
+-- operand's, and every content is shown. No call tells dependencies; this is kept for one that does.
 module _ {L : Type 0} (home : ℕ → L) (bot : L) (leq : L → L → Bool) (join : L → L → L) (W : World) (vis : L → Bool) (joins : Joins leq join)
     (down : (a b : L) → leq a b ≡ true → vis b ≡ true → vis a ≡ true) where
   abbrev pub dependencies : Conditions L

@@ -99,10 +99,3 @@ module _ (W : World) where
   steps-trace (s-more {k} {M} {c = c} s p) n =
       t-more (agreement W .is-step _ _ _ _ s (λ h. n zero M c (omega arith) s-none (agreement W .is-long M c h)))
       (steps-trace p (λ j M′ c′ lt q. n (suc j) M′ c′ (omega arith) (s-more s q)))
-
-  -- A done run has as many transitions of figure 3 as it has taken from the budget.
-  pub done-steps : (b l : ℕ) (M M′ : Mem) (c : Cmd) → iterate W b M c ≡ done M′ l → (k : ℕ) × (k + l ≡ b) × Steps W k M c M′ skip
-  done-steps b l M M′ c h = on (subst (Stops W b M c) h (iterate-stops b M c))
-    where
-      on : Stops W b M c (done M′ l) → (k : ℕ) × (k + l ≡ b) × Steps W k M c M′ skip
-      on (stops-done {k} e t) = (k, e, trace-steps t)

@@ -147,10 +147,6 @@ conditions 𝓛 D = record {
   mayUnpack = λ A a. 𝓛 .leq (𝓛 .conf a) (𝓛 .conf (D .label A));
 }
 
--- A script is accepted when both tests pass, with bottom for the surrounding label.
-unfoldable pub accepts : {L : Type 0} → Labels L → Declarations L → Cmd → Bool
-accepts 𝓛 D c = both (shape (D .shapes) [] c) (flow (conditions 𝓛 D) (𝓛 .bot) [] c)
-
--- The scope's number for a script whose form is right: 0, 5 or 6.
+-- The scope's number for a script whose form is right, with bottom for the surrounding label: 0, 5 or 6.
 unfoldable pub refusal : {L : Type 0} → Labels L → Declarations L → Cmd → ℕ
 refusal 𝓛 D c = cond (shape (D .shapes) [] c) (cond (flow (conditions 𝓛 D) (𝓛 .bot) [] c) 0 6) 5

@@ -10,4 +10,3 @@ pub mod DraftLaws
 pub mod RepeatFinds
 pub mod FoundLaws
 pub mod ReadLaws
-pub mod AnswerLaws

@@ -61,7 +61,7 @@ unfolding evaluation.bind evaluation.fitting evaluation.fit evaluation.addTo eva
     substitution.lift substitution.close-var substitution.closeE substitution.close substitution.inst substitution.put transition.at-seq
     transition.at-assign transition.branchV transition.branch transition.step transition.after transition.run transition.iterate
     declarations.nth typing.orElse typing.isYes typing.sameTy typing.isTy typing.hasTy typing.leftIs typing.rightIs typing.onSum typing.given
-    typing.typeOfValue typing.typeOf typing.shape typing.least typing.flowE typing.flow typing.accepts typing.refusal
+    typing.typeOfValue typing.typeOf typing.shape typing.least typing.flowE typing.flow typing.refusal
 language-used = tt
 
 unfoldable pub script-used : Unit {0}

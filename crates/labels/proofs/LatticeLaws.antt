@@ -1,13 +1,16 @@
 -- The labels of n principals are a security lattice, and with the fact that they are effective they are a lattice by themselves.
 -- Assumes nothing.
-use mathlib.Core.Path.{_≡_}
+use mathlib.Core.Path.{_≡_, refl, sym, ap, _∙_}
 use mathlib.Core.Bool.{Bool, true, Bool-set}
 use mathlib.Core.HLevel.{isProp→PathP}
-use Prim.Native.Nat.{ℕ, _≤_}
-use Rattle.sets.specs.Sets.{everyone}
+use Prim.Native.Nat.{ℕ, _<_}
+use native.Mathlib.Omega.{arith}
+use borrow.Author.Tests.{lt-ltb}
+use Rattle.sets.specs.Sets.{member, single, everyone, tab}
+use Rattle.sets.proofs.SetLaws.{member-single, member-everyone}
 use Rattle.labels.specs.declared.Label.{Label}
-use Rattle.labels.specs.Labels.{owners, belowOf, joinOf, confidentialityOf, integrityOf, bottomOf, effective, EffectiveLabel}
-use Rattle.labels.specs.Lattice.{SecurityLattice}
+use Rattle.labels.specs.Labels.{owners, own, readersOf, openAt, belowOf, joinOf, confidentialityOf, integrityOf, bottomOf, closedAt, topOf, effective, EffectiveLabel}
+use Rattle.labels.specs.Lattice.{SecurityLattices, NonTrivial, OneLabel}
 use Rattle.labels.proofs.OrderLaws as order
 use Rattle.labels.proofs.PartLaws as part
 use Rattle.labels.proofs.ReadingLaws as reading
@@ -25,8 +28,8 @@ parts n a h =
     (order.join-least (confidentialityOf a) (integrityOf all a) a (effect.C-below n a h) (effect.I-below n a h))
 
 -- ---- the paper's lemma 1
-pub security-lattice : (n : ℕ) → n ≤ owners → SecurityLattice n
-security-lattice n l =
+pub security-lattices : SecurityLattices
+security-lattices n l =
     record {
       bottom-kept = effect.bottom-effective n;
       top-kept = effect.top-effective n;
@@ -50,6 +53,28 @@ security-lattice n l =
       reads-down = reading.reads-down-C n l;
       writes-up = λ g. reading.writes-up-I n l g (everyone n);
     }
+
+-- ---- top and bottom: of two principals or more the second reads for the first owner in bottom, and not in top
+pub non-trivial : NonTrivial
+non-trivial n h e =
+    let l : 0 < owners = omega arith in
+    let alone : everyone n ≡ single 0 =
+    sym (effect.bottom-readers (everyone n) 0 l) ∙ ap (λ (a : Label). readersOf a 0) (sym e) ∙ effect.top-readers n 0 l
+    ∙ effect.closed-principal n 0 (omega arith) in
+    let q : _≡_ {A = ℕ} 1 0 = member-single 1 0 (ap (member 1) (sym alone) ∙ member-everyone 1 n ∙ lt-ltb 1 n (omega arith)) in
+    omega arith
+
+-- of one principal they are equal, and so is every label between them
+top-bottom : topOf 1 ≡ bottomOf (everyone 1)
+unfolding topOf bottomOf own closedAt openAt tab single everyone
+top-bottom = refl
+
+pub one-label : OneLabel
+one-label a b h k =
+    order.below-antisym a b (effect.effective-whole 1 a h) (effect.effective-whole 1 b k) (through a b h k) (through b a k h)
+  where
+    through : (a b : Label) → effective 1 a ≡ true → effective 1 b ≡ true → belowOf a b ≡ true
+    through a b h k = order.below-trans a (topOf 1) b (effect.top-greatest 1 a h) (rw top-bottom (effect.bottom-least 1 b k))
 
 -- ---- labels with the fact that they are effective: equal if their labels are
 pub lab-path : (n : ℕ) (a b : EffectiveLabel n) → a .raw ≡ b .raw → a ≡ b

@@ -1,8 +1,8 @@
 -- Labels made from policies: the sets of each owner, and that the labels are effective.
 -- Assumes nothing.
-use mathlib.Core.Path.{_≡_, refl, _∙_}
+use mathlib.Core.Path.{_≡_, _∙_}
 use mathlib.Core.Bool.{true}
-use mathlib.Core.List.{List, [], _∷_, _++_}
+use mathlib.Core.List.{List, [], _∷_}
 use Prim.Native.Nat.{ℕ, _<_}
 use native.Mathlib.Decide.{ℕ-discrete}
 use native.Mathlib.Omega.{arith}
@@ -92,33 +92,18 @@ policy-effective n a o r w k hr hw h =
         (policy-fits n o r w k hr hw)
     go i l (no d) = rw (policy-other-readers a o r w i d, policy-other-writers a o r w i d) (effective-fits n a h i l)
 
-policies-effective : (n : ℕ) (a : Label) (ps : List Policy) → policiesOn n ps ≡ true → effective n a ≡ true → effective n (withPolicies a ps) ≡ true
+policies-keep : (n : ℕ) (a : Label) (ps : List Policy) → policiesOn n ps ≡ true → effective n a ≡ true → effective n (withPolicies a ps) ≡ true
 unfolding policiesOn policyOn withPolicies
-policies-effective n a [] on h = h
-policies-effective n a (policy o r w ∷ ps) on h =
+policies-keep n a [] on h = h
+policies-keep n a (policy o r w ∷ ps) on h =
     let sets = both (within r (everyone n)) (within w (everyone n)) in
     let p : both (ltb o n) sets ≡ true = both-left (both (ltb o n) sets) (policiesOn n ps) on in
     let q : sets ≡ true = both-right (ltb o n) sets p in
-    policies-effective n (policyOf a o r w) ps (both-right (both (ltb o n) sets) (policiesOn n ps) on)
+    policies-keep n (policyOf a o r w) ps (both-right (both (ltb o n) sets) (policiesOn n ps) on)
     (policy-effective n a o r w (ltb-true o n (both-left (ltb o n) sets p)) (both-left _ (within w (everyone n)) q)
     (both-right (within r (everyone n)) _ q) h)
 
 -- the label of policies that name only the n principals is effective
-pub label-effective : (n : ℕ) → PoliciesEffective n
+pub policies-effective : PoliciesEffective
 unfolding labelOf
-label-effective n ps on = policies-effective n (openOf n (everyone n)) ps on (open-effective n)
-
--- the label with one policy more
-pub policies-snoc : (a : Label) (ps : List Policy) (o r w : ℕ)
-    → withPolicies a (ps ++ (policy o r w ∷ [])) ≡ policyOf (withPolicies a ps) o r w
-unfolding withPolicies
-policies-snoc a [] o r w = refl
-policies-snoc a (policy p s t ∷ ps) o r w = policies-snoc (policyOf a p s t) ps o r w
-
-pub label-snoc : (n : ℕ) (ps : List Policy) (o r w : ℕ) → labelOf n (ps ++ (policy o r w ∷ [])) ≡ policyOf (labelOf n ps) o r w
-unfolding labelOf
-label-snoc n ps o r w = policies-snoc (openOf n (everyone n)) ps o r w
-
-pub label-none : (n : ℕ) → labelOf n [] ≡ openOf n (everyone n)
-unfolding labelOf withPolicies
-label-none n = refl
+policies-effective n ps on = policies-keep n (openOf n (everyone n)) ps on (open-effective n)

@@ -2,15 +2,15 @@
 -- Assumes nothing.
 use mathlib.Core.Path.{_≡_, refl, sym, _∙_}
 use mathlib.Core.Bool.{true}
-use Prim.Native.Nat.{ℕ, suc, _<_, _≤_}
-use native.Mathlib.Nat.{lt-of-lt-of-le}
+use Prim.Native.Nat.{ℕ, zero, suc, _<_, _≤_}
+use native.Mathlib.Nat.{lt-of-lt-of-le, not-suc-le-zero}
 use Rattle.logic.specs.Booleans.{both}
 use Rattle.sets.specs.Sets.{member, within, meets, everyone, every}
 use Rattle.sets.proofs.Walks.{every-true, every-at}
 use Rattle.sets.proofs.SetLaws.{within-elim, meets-elim, meets-intro, meets-mono, meets-within}
 use Rattle.labels.specs.declared.Label.{Label}
 use Rattle.labels.specs.Labels.{owners, readersOf, writersOf, belowOf, confidentialityOf, integrityOf, readsOf, writesOf}
-use Rattle.labels.specs.Lattice.{DownwardClosed, UpwardClosed, EmptyGroup}
+use Rattle.labels.specs.Lattice.{EmptyGroups}
 use Rattle.labels.proofs.OrderLaws.{below-readers, below-writers}
 use Rattle.labels.proofs.PartLaws.{all-at}
 
@@ -34,12 +34,12 @@ unfolding writesOf
 means-writes n g a h = every-true n _ (λ o l. let r = h o l in meets-intro g (writersOf a o) (r .0) (r .1) (r .2))
 
 -- ---- who reads a label reads every label below it; who writes one writes every label above it
-pub reads-down : (n : ℕ) → n ≤ owners → DownwardClosed (readsOf n)
+pub reads-down : (n : ℕ) → n ≤ owners → (g : ℕ) (a b : Label) → belowOf a b ≡ true → readsOf n g b ≡ true → readsOf n g a ≡ true
 unfolding readsOf
 reads-down n e g a b h r =
     every-true n _ (λ o l. meets-mono g (readersOf b o) (readersOf a o) (below-readers a b h o (lt-of-lt-of-le l e)) (every-at n _ r o l))
 
-pub writes-up : (n : ℕ) → n ≤ owners → UpwardClosed (writesOf n)
+pub writes-up : (n : ℕ) → n ≤ owners → (g : ℕ) (a b : Label) → belowOf a b ≡ true → writesOf n g a ≡ true → writesOf n g b ≡ true
 unfolding writesOf
 writes-up n e g a b h w =
     every-true n _ (λ o l. meets-mono g (writersOf a o) (writersOf b o) (below-writers a b h o (lt-of-lt-of-le l e)) (every-at n _ w o l))
@@ -84,6 +84,7 @@ pub reads-I-some : (n : ℕ) → n ≤ owners → (g : ℕ) (a : Label)
 reads-I-some n e g a h k = reads-I n e g (everyone n) a (meets-within g (everyone n) h k)
 
 -- the empty group reads nothing and writes nothing
-pub empty-group : (n : ℕ) → EmptyGroup (suc n)
+pub empty-groups : EmptyGroups
 unfolding readsOf writesOf every meets both
-empty-group n a = (refl, refl)
+empty-groups zero h a = absurd (not-suc-le-zero h)
+empty-groups (suc n) h a = (refl, refl)

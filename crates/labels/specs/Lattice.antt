@@ -1,33 +1,18 @@
--- What the labels of n principals satisfy: the paper's security lattice (section 2.2, lemma 1) with the scope's labels.
--- proofs/LatticeLaws.antt shows it as `security-lattice`, for every n up to `owners`.
+-- What the labels of n principals satisfy: the paper's security lattice (section 2.2, lemma 1) with the scope's labels, and what the
+-- scope says of policies and of the empty group. The proofs are `security-lattices`, `non-trivial` and `one-label`
+-- (proofs/LatticeLaws.antt), `empty-groups` (proofs/ReadingLaws.antt) and `policies-effective` (proofs/PolicyLaws.antt).
 -- The scope differs from the paper in this: an owner's writers in bottom and in C(A) are {o}, since an owner is always in its own
 -- effective sets; an owner without a policy lets everyone write, where the paper has no writers; reading goes by readers and
 -- writing by writers, where the paper's text of the two names the other part; and with one principal there is one label only.
 -- Assumes nothing.
 use mathlib.Core.Path.{_≡_}
-use mathlib.Core.Bool.{Bool, true, false}
+use mathlib.Core.Bool.{true, false}
 use mathlib.Core.List.{List}
-use Prim.Native.Nat.{ℕ}
+use Prim.Native.Nat.{ℕ, _≤_}
 use Rattle.logic.specs.Booleans.{both}
 use Rattle.sets.specs.Sets.{everyone}
 use Rattle.labels.specs.declared.Label.{Label}
-use Rattle.labels.specs.Labels.{Policy, labelOf, policiesOn, belowOf, joinOf, confidentialityOf, integrityOf, bottomOf, topOf, readsOf, writesOf, effective}
-
--- who reads a label reads every label below it
-abbrev pub DownwardClosed : (ℕ → Label → Bool) → Type 0
-DownwardClosed reads = (g : ℕ) (a b : Label) → belowOf a b ≡ true → reads g b ≡ true → reads g a ≡ true
-
--- who writes a label writes every label above it
-abbrev pub UpwardClosed : (ℕ → Label → Bool) → Type 0
-UpwardClosed writes = (g : ℕ) (a b : Label) → belowOf a b ≡ true → writes g a ≡ true → writes g b ≡ true
-
--- the empty group reads nothing and writes nothing
-abbrev pub EmptyGroup : ℕ → Type 0
-EmptyGroup n = (a : Label) → (readsOf n 0 a ≡ false) × (writesOf n 0 a ≡ false)
-
--- the label of policies that name only the n principals is effective
-abbrev pub PoliciesEffective : ℕ → Type 0
-PoliciesEffective n = (ps : List Policy) → policiesOn n ps ≡ true → effective n (labelOf n ps) ≡ true
+use Rattle.labels.specs.Labels.{owners, Policy, labelOf, policiesOn, belowOf, joinOf, confidentialityOf, integrityOf, bottomOf, topOf, readsOf, writesOf, effective}
 
 pub record SecurityLattice (n : ℕ) : Type 0 where
   -- the operations keep labels effective
@@ -58,3 +43,23 @@ pub record SecurityLattice (n : ℕ) : Type 0 where
   pub reads-down : (g : ℕ) (a b : Label) → belowOf (confidentialityOf a) (confidentialityOf b) ≡ true → readsOf n g b ≡ true → readsOf n g a ≡ true
   pub writes-up : (g : ℕ) (a b : Label)
       → belowOf (integrityOf (everyone n) a) (integrityOf (everyone n) b) ≡ true → writesOf n g a ≡ true → writesOf n g b ≡ true
+
+-- the labels of up to 16 principals are a security lattice
+abbrev pub SecurityLattices : Type 0
+SecurityLattices = (n : ℕ) → n ≤ owners → SecurityLattice n
+
+-- the lattice of two principals or more is not trivial: top is another label than bottom
+abbrev pub NonTrivial : Type 0
+NonTrivial = (n : ℕ) → 2 ≤ n → ¬ (topOf n ≡ bottomOf (everyone n))
+
+-- one principal has one label
+abbrev pub OneLabel : Type 0
+OneLabel = (a b : Label) → effective 1 a ≡ true → effective 1 b ≡ true → a ≡ b
+
+-- where there is a principal, the empty group reads nothing and writes nothing
+abbrev pub EmptyGroups : Type 0
+EmptyGroups = (n : ℕ) → 1 ≤ n → (a : Label) → (readsOf n 0 a ≡ false) × (writesOf n 0 a ≡ false)
+
+-- the label of policies that name only the n principals is effective
+abbrev pub PoliciesEffective : Type 0
+PoliciesEffective = (n : ℕ) (ps : List Policy) → policiesOn n ps ≡ true → effective n (labelOf n ps) ≡ true

@@ -22,8 +22,8 @@ use Rattle.sheet.proofs.NumberLaws.{type-in-there, has-no}
 use Rattle.memory.specs.Words.{enc, cell, valueOf}
 use Rattle.memory.specs.Memory.{memoryOf, wordsOf, formedBy, sliceRefusal, refusalBy, fits, wellFormed, memoryRefusal}
 use Rattle.memory.specs.View.{viewCell, viewBy, seesNo, viewWords, viewRefusal, viewLeaves}
-use Rattle.memory.specs.InTable.{fitsIn, wellFormedIn, refusalIn, seesIn, viewIn, viewRefusalIn, viewLeavesIn}
-use Rattle.memory.specs.Theorems.{WordsExactly, CellExactly, Declared, MemoryExactly, ViewExactly, TableAgrees}
+use Rattle.memory.specs.InTable.{fitsIn, wellFormedIn, refusalIn, seesIn, viewIn, viewRefusalIn, viewLeavesIn, TableAgrees}
+use Rattle.memory.specs.Theorems.{WordsExactly, CellExactly, Declared, MemoriesExactly, ViewsExactly}
 use Rattle.memory.proofs.WordLaws.{read-enc, read-exact, cell-inj, length-cell}
 use Rattle.memory.proofs.CellsLaws.{cells-ext, cells-inj}
 use Rattle.memory.proofs.MemoryLaws.{exact-proper, exact-test, exact-words, cell-holds, value-past, value-passes, value-proper, value-fits, words-back, length-words, values-back, words-formed, unrefused-length, unrefused-formed}
@@ -92,8 +92,8 @@ module _ (s : Sheet) where
     pub declared-back : (x : ℕ) → x < locationCount s → memoryOf (wordsOf (locationCount s) M) x ≡ M x
     declared-back = values-back (locationCount s) M (λ x l. d .fitting x)
 
-  pub memory-exactly : MemoryExactly s
-  memory-exactly = record { values = declared-values; words = words-of-values; accepted = words-accepted; values-back = declared-back }
+pub memories-exactly : MemoriesExactly
+memories-exactly s = record { values = declared-values s; words = words-of-values s; accepted = words-accepted s; values-back = declared-back s }
 
 -- ---- views
 
@@ -162,8 +162,8 @@ module _ (s : Sheet) (g : ℕ) where
       (λ x l. ap (λ v. seen (seesNo s g x) (mask (readsNo s g) v)) (declared-back s M d x l) ∙ h x ∙ ap (λ v. seen (seesNo s g x) (mask (readsNo s g) v))
       (sym (declared-back s N e x l)))
 
-  pub view-exactly : ViewExactly s g
-  view-exactly = record { same-view = same-view; same-left = same-left; no-longer = mask-size (readsNo s g) }
+pub views-exactly : ViewsExactly
+views-exactly s g = record { same-view = same-view s g; same-left = same-left s g; no-longer = mask-size (readsNo s g) }
 
 -- ---- the table
 

@@ -1,13 +1,16 @@
 -- The same by a sheet's table, for the code.
+use mathlib.Core.Path.{_≡_}
 use mathlib.Core.Bool.{Bool}
 use mathlib.Core.List.{List}
 use Prim.Native.Nat.{ℕ}
 use lib.ListN.{length}
 use Rattle.language.specs.Syntax.{Value}
-use Rattle.sheet.specs.Tables.{labelsIn, locationsIn, typeIn, homeIn, readsIn}
+use Rattle.sheet.specs.Sheet.{Sheet}
+use Rattle.sheet.specs.Meaning.{readsNo}
+use Rattle.sheet.specs.Tables.{tableOf, labelsIn, locationsIn, typeIn, homeIn, readsIn}
 use Rattle.sheet.specs.TypeTest.{hasNo}
-use Rattle.memory.specs.Memory.{memoryOf, formedBy, sliceRefusal, refusalBy}
-use Rattle.memory.specs.View.{viewBy, leaves}
+use Rattle.memory.specs.Memory.{memoryOf, formedBy, sliceRefusal, refusalBy, memoryRefusal}
+use Rattle.memory.specs.View.{viewBy, viewWords, viewRefusal, leaves, viewLeaves}
 
 unfoldable pub fitsIn : List ℕ → ℕ → Value → Bool
 fitsIn t x v = hasNo t v (typeIn t x)
@@ -31,3 +34,12 @@ viewRefusalIn t ws len = sliceRefusal (locationsIn t) (refusalIn t ws) len
 
 unfoldable pub viewLeavesIn : List ℕ → ℕ → List ℕ → List ℕ → List ℕ
 viewLeavesIn t g ws before = leaves (viewRefusalIn t ws (length before)) (viewIn t g ws) before
+
+-- What the code reads from the table of a sheet is what the sheet says. `table-agrees` (proofs/Exactness.antt) shows it for every sheet
+-- of the right form.
+pub record TableAgrees (s : Sheet) : Type 0 where
+  pub refusal : (ws : List ℕ) → refusalIn (tableOf s) ws ≡ memoryRefusal s ws
+  pub reads : (g l : ℕ) → readsIn (tableOf s) g l ≡ readsNo s g l
+  pub view : (g : ℕ) (ws : List ℕ) → viewIn (tableOf s) g ws ≡ viewWords s g ws
+  pub view-refusal : (ws : List ℕ) (len : ℕ) → viewRefusalIn (tableOf s) ws len ≡ viewRefusal s ws len
+  pub view-leaves : (g : ℕ) (ws before : List ℕ) → viewLeavesIn (tableOf s) g ws before ≡ viewLeaves s g ws before

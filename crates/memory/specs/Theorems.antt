@@ -1,4 +1,5 @@
--- What is claimed of words, memories and views, as types. The proofs stand in proofs/.
+-- What is claimed of words, memories and views, as types. The proofs are `words-exactly`, `cell-exactly`, `memories-exactly` and
+-- `views-exactly` (proofs/Exactness.antt).
 use mathlib.Core.Logic.{_↔_}
 use mathlib.Core.Path.{_≡_}
 use mathlib.Core.Bool.{Bool, true}
@@ -9,12 +10,10 @@ use Rattle.language.specs.World.{Mem}
 use Rattle.language.specs.View.{mask, maskMem}
 use Rattle.language.specs.Theorems.{WellTyped, Fitting}
 use Rattle.sheet.specs.Sheet.{Sheet, labelCount, locationCount}
-use Rattle.sheet.specs.Tables.{tableOf, readsIn}
 use Rattle.sheet.specs.Meaning.{shapesOf, readsNo}
 use Rattle.memory.specs.Words.{enc, cell, readOf, valueOf}
 use Rattle.memory.specs.Memory.{memoryOf, wordsOf, proper, holdsBy, memoryRefusal}
-use Rattle.memory.specs.View.{seesNo, viewWords, viewRefusal, viewLeaves}
-use Rattle.memory.specs.InTable.{refusalIn, viewIn, viewRefusalIn, viewLeavesIn}
+use Rattle.memory.specs.View.{seesNo, viewWords}
 
 -- Words are read exactly if they are the words of a value.
 pub record WordsExactly : Type 0 where
@@ -40,6 +39,9 @@ pub record MemoryExactly (s : Sheet) : Type 0 where
   pub accepted : (M : Mem) → Declared s M → memoryRefusal s (wordsOf (locationCount s) M) ≡ 0
   pub values-back : (M : Mem) → Declared s M → (x : ℕ) → x < locationCount s → memoryOf (wordsOf (locationCount s) M) x ≡ M x
 
+abbrev pub MemoriesExactly : Type 0
+MemoriesExactly = (s : Sheet) → MemoryExactly s
+
 -- Two memories give a group the same view exactly if their masked values are equal. A mask is no longer than the value.
 pub record ViewExactly (s : Sheet) (g : ℕ) : Type 0 where
   pub same-view : (ws us : List ℕ) → memoryRefusal s ws ≡ 0 → memoryRefusal s us ≡ 0
@@ -49,10 +51,5 @@ pub record ViewExactly (s : Sheet) (g : ℕ) : Type 0 where
       → viewWords s g (wordsOf (locationCount s) M) ≡ viewWords s g (wordsOf (locationCount s) N)
   pub no-longer : (v : Value) → size (mask (readsNo s g) v) ≤ size v
 
--- What the code reads from the table of a sheet is what the sheet says.
-pub record TableAgrees (s : Sheet) : Type 0 where
-  pub refusal : (ws : List ℕ) → refusalIn (tableOf s) ws ≡ memoryRefusal s ws
-  pub reads : (g l : ℕ) → readsIn (tableOf s) g l ≡ readsNo s g l
-  pub view : (g : ℕ) (ws : List ℕ) → viewIn (tableOf s) g ws ≡ viewWords s g ws
-  pub view-refusal : (ws : List ℕ) (len : ℕ) → viewRefusalIn (tableOf s) ws len ≡ viewRefusal s ws len
-  pub view-leaves : (g : ℕ) (ws before : List ℕ) → viewLeavesIn (tableOf s) g ws before ≡ viewLeaves s g ws before
+abbrev pub ViewsExactly : Type 0
+ViewsExactly = (s : Sheet) (g : ℕ) → ViewExactly s g

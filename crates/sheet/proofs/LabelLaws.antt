@@ -15,7 +15,7 @@ use Rattle.labels.specs.Labels.{Policy, policy, policyOn, policiesOn, labelOf, 
 use Rattle.labels.specs.Tables.{labelSize, labelWords, labelAt}
 use Rattle.labels.specs.declared.Label.{Label}
 use Rattle.labels.proofs.EffectiveLaws.{effective-whole, bottom-effective}
-use Rattle.labels.proofs.PolicyLaws.{label-effective}
+use Rattle.labels.proofs.PolicyLaws.{policies-effective}
 use Rattle.labels.proofs.TableLaws.{length-words, label-read}
 use Rattle.sheet.specs.Sheet.{Sheet, labelsOf, labelNo, labelCount, rising, formed}
 use Rattle.sheet.specs.Tables.{padded, labelsWords, tableOf, labelIn}
@@ -42,7 +42,7 @@ policies-on s fm l = rising-on (s .principals) 0 (getD (s .labels) l []) (label-
 each-effective : (n : ℕ) (pss : List (List Policy)) → ((l : ℕ) → policiesOn n (getD pss l []) ≡ true) → (l : ℕ)
     → effective n (getD (map (labelOf n) pss) l (bottomOf (everyone n))) ≡ true
 each-effective n [] on l = bottom-effective n
-each-effective n (ps ∷ pss) on zero = label-effective n ps (on 0)
+each-effective n (ps ∷ pss) on zero = policies-effective n ps (on 0)
 each-effective n (ps ∷ pss) on (suc l) = each-effective n pss (λ k. on (suc k)) l
 
 -- every number names a label of the sheet's principals

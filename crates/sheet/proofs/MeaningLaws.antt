@@ -7,15 +7,14 @@ use Rattle.logic.proofs.BooleanLaws.{absurd-false}
 use Rattle.labels.specs.Labels.{belowOf, readsOf, writesOf, effective}
 use Rattle.labels.specs.declared.Label.{Label}
 use Rattle.labels.proofs.LatticeLaws as lattice
-use Rattle.language.specs.Labels.{LeastLabelLaws}
 use Rattle.sheet.specs.Sheet.{Sheet, labelNo, locationNo, formed}
 use Rattle.sheet.specs.Tables.{tableOf, belowIn, readsIn, writesIn}
-use Rattle.sheet.specs.Meaning.{labelsOver, effectiveIf, effectively, declarationsOf, belowNo, readsNo, writesNo}
-use Rattle.sheet.specs.Theorems.{SameLabels}
+use Rattle.sheet.specs.Meaning.{effectiveIf, effectively, declarationsOf, belowNo, readsNo, writesNo}
+use Rattle.sheet.specs.Theorems.{LabelsLattice, SameLabelsOnSheets}
 use Rattle.sheet.proofs.TableLaws.{principals-in}
 use Rattle.sheet.proofs.LabelLaws.{label-no-effective, label-in}
 
-pub labels-lattice : (n : ℕ) → LeastLabelLaws (labelsOver n)
+pub labels-lattice : LabelsLattice
 labels-lattice n =
     record {
       leq-refl = lattice.leq-refl n;
@@ -49,9 +48,6 @@ module _ (s : Sheet) (fm : formed s ≡ true) where
   pub declared-home : (x : ℕ) → (declarationsOf s .home x) .raw ≡ labelNo s (locationNo s x .label)
   declared-home x = effectively-raw (s .principals) (labelNo s (locationNo s x .label)) (label-no-effective s fm (locationNo s x .label))
 
-  pub same-labels : SameLabels s
-  same-labels = record { are-effective = label-no-effective s fm; of-numbers = declared-label; of-locations = declared-home }
-
   pub below-in : (l m : ℕ) → belowIn (tableOf s) l m ≡ belowNo s l m
   unfolding belowIn
   below-in l m = ap₂ belowOf (label-in s fm l) (label-in s fm m)
@@ -63,3 +59,7 @@ module _ (s : Sheet) (fm : formed s ≡ true) where
   pub writes-in : (g l : ℕ) → writesIn (tableOf s) g l ≡ writesNo s g l
   unfolding writesIn
   writes-in g l = ap₂ (λ (n : ℕ) (a : Label). writesOf n g a) (principals-in s) (label-in s fm l)
+
+pub same-labels-on-sheets : SameLabelsOnSheets
+same-labels-on-sheets s fm =
+    record { are-effective = label-no-effective s fm; of-numbers = declared-label s fm; of-locations = declared-home s fm }

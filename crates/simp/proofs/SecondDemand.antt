@@ -14,7 +14,7 @@ use Rattle.sheet.specs.Meaning.{shapesOf, worldOf}
 use Rattle.memory.specs.Memory.{memoryOf, wordsOf, wellFormed}
 use Rattle.memory.specs.View.{viewWords}
 use Rattle.memory.specs.Theorems.{Declared}
-use Rattle.memory.proofs.Exactness.{memory-exactly}
+use Rattle.memory.proofs.Exactness.{memories-exactly}
 use Rattle.simp.specs.Calls.{onSheet, unless, onScript, untyped, checkOf, Ran, refusedRun, ended, runOf, Viewed, refusedView, viewOf}
 use Rattle.simp.specs.Rows.{First}
 use Rattle.simp.specs.Judgements.{OnSheet, Principals, Sized, checkRows, Checked, Started, Ends, ends-0, ends-9, ends-10, runRows, Run, viewRows, View}
@@ -59,7 +59,7 @@ run-starts sheet script memory authority budget =
 
 module _ {sheet script memory : List ℕ} {authority : ℕ} {s : Sheet} {c : Cmd} (st : Started sheet script memory authority s c) where
   pub declared : Declared s (memoryOf memory)
-  declared = memory-exactly s .values memory (sized-0 s memory (st .sized) (st .well-formed))
+  declared = memories-exactly s .values memory (sized-0 s memory (st .sized) (st .well-formed))
 
 module _ {sheet script memory : List ℕ} {authority : ℕ} {s : Sheet} {c : Cmd} (st : Started sheet script memory authority s c) (budget : ℕ) where
   by-figures : (o : Out) → (iterate (worldOf s authority) budget (memoryOf memory) c ≡ o) ↔ RunEnds (worldOf s authority) budget (memoryOf memory) c o

@@ -25,7 +25,7 @@ use Rattle.script_text.proofs.ReadLaws.{read-split}
 use Rattle.memory.specs.Memory.{memoryOf, wellFormed, memoryRefusal}
 use Rattle.memory.specs.View.{viewWords, viewRefusal, leaves, viewLeaves}
 use Rattle.memory.specs.InTable.{refusalIn, viewRefusalIn, viewLeavesIn}
-use Rattle.memory.proofs.Exactness.{memory-exactly, table-agrees}
+use Rattle.memory.proofs.Exactness.{memories-exactly, table-agrees}
 use Rattle.memory.proofs.MemoryLaws.{unrefused-length, unrefused-formed}
 use Rattle.checker.specs.Post.{Answers}
 use Rattle.interpreter.specs.Run.{RunEnds, Runs}
@@ -135,7 +135,7 @@ module _ (ws t memory : List ℕ) (authority budget : ℕ) where
   ends s c u m state steps left (over l) e (p, q, r) = rw (p, q, r) refl
   ends s c u m state steps left wrong e h =
       absurd (type-soundness (shapesOf s) (worldOf s authority) (λ _. refl) .never-wrong c (typable-shape s c (0-typable s c u)) (memoryOf memory)
-      (memory-exactly s .values memory m .typed) budget e)
+      (memories-exactly s .values memory m .typed) budget e)
 
   pub run-done : (state steps : ℕ) (left : List ℕ) → Judges ws t 0 → ((s : Sheet) → TableOf t s → 0 ≡ memoryRefusal s memory)
       → Runs ws t memory authority budget state steps left → RunsCode ws t memory authority budget state steps left

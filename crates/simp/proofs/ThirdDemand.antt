@@ -12,7 +12,7 @@ use Rattle.sheet_text.proofs.Theorems.{one-sheet}
 use Rattle.memory.specs.Memory.{memoryOf, wordsOf, wellFormed, memoryRefusal}
 use Rattle.memory.specs.View.{viewWords}
 use Rattle.memory.specs.Theorems.{Declared}
-use Rattle.memory.proofs.Exactness.{memory-exactly, view-exactly}
+use Rattle.memory.proofs.Exactness.{memories-exactly, views-exactly}
 use Rattle.memory.proofs.MemoryLaws.{unrefused-length, unrefused-formed}
 use Rattle.simp.specs.Calls.{Ran, ended, runOf, Viewed, viewOf}
 use Rattle.simp.specs.Judgements.{OnSheet, Principals, Sized, Started}
@@ -79,7 +79,7 @@ left-view : {sheet : List ℕ} {s : Sheet} (group : ℕ) (left view : List ℕ) 
     → left ≡ wordsOf (locationCount s) M → viewOf sheet left group view ≡ record { answer = 0; view = viewWords s group (wordsOf (locationCount s) M) }
 unfolding memoryRefusal
 left-view {sheet} {s} group left view M i p y d e =
-    let z = memory-exactly s .accepted M d in
+    let z = memories-exactly s .accepted M d in
     let ws = wordsOf (locationCount s) M in
     let h : Shows sheet ws group view = record {
       its-sheet = s;
@@ -105,7 +105,7 @@ demand-3 sheet script k authority b b′ group m m′ v v′ same r r′ =
     let d′ = left-declared s c script (two .of-script) (two .typable) authority b′ (ran′ .rest) (memoryOf m′) (ran′ .reached) (declared two) (ran′ .run) in
     let shown = shown-on group m v on (same .shown) in
     let shown′ = shown-on group m′ v′ on (same .shown′) in
-    let before = view-exactly s group .same-view m m′ (started one) (started two) .0 (sym (shown .words) ∙ same .same ∙ shown′ .words) in
+    let before = views-exactly s group .same-view m m′ (started one) (started two) .0 (sym (shown .words) ∙ same .same ∙ shown′ .words) in
     let after = shown-kept s (on .form .right) group c (one .typable) authority b b′ (ran .rest) (ran′ .rest) (memoryOf m) (memoryOf m′) (ran .reached) (ran′ .reached)
     before (ran .run) (ran′ .run) in
     let e = left-view group (runOf sheet script m authority b .memory) v (ran .reached) on (shown .known) (shown .room) d (ran .words) in
@@ -113,5 +113,5 @@ demand-3 sheet script k authority b b′ group m m′ v v′ same r r′ =
     record {
       shown = ap (λ (z : Viewed). z .answer) e;
       shown′ = ap (λ (z : Viewed). z .answer) e′;
-      same = ap (λ (z : Viewed). z .view) e ∙ view-exactly s group .same-left (ran .reached) (ran′ .reached) d d′ after ∙ sym (ap (λ (z : Viewed). z .view) e′);
+      same = ap (λ (z : Viewed). z .view) e ∙ views-exactly s group .same-left (ran .reached) (ran′ .reached) d d′ after ∙ sym (ap (λ (z : Viewed). z .view) e′);
     }

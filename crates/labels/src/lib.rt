@@ -64,8 +64,8 @@ impl Label {
             return self;
         }
         let own = sets::single(owner);
-        self.readers[owner] = readers | own;
-        self.writers[owner] = writers | own;
+        self.readers[owner] = sets::union(readers, own);
+        self.writers[owner] = sets::union(writers, own);
         self
     }
 
@@ -89,8 +89,8 @@ impl Label {
     {
         let mut out = self;
         for o in 0..OWNERS {
-            out.readers[o] = out.readers[o] & other.readers[o];
-            out.writers[o] = out.writers[o] | other.writers[o];
+            out.readers[o] = sets::intersection(out.readers[o], other.readers[o]);
+            out.writers[o] = sets::union(out.writers[o], other.writers[o]);
         }
         out
     }

@@ -1,9 +1,8 @@
 -- The loop: the places below o hold the join of the two labels, and the others are as they were.
 -- Assumes nothing.
-use mathlib.Core.Path.{_≡_, ap}
+use mathlib.Core.Path.{_≡_, ap, _∙_}
 use Prim.Native.Nat.{ℕ, _≤_, _-_}
 use native.Mathlib.Omega.{arith}
-use lib.Bits.{bitAnd, bitOr}
 use Rattle.sets.specs.Sets.{union, intersection}
 use Rattle.sets.proofs.Walks.{filled, filled-none, fill-read, fill-store, fill-end}
 use Rattle.labels.specs.Labels.{owners, readersOf, writersOf, joinOf}
@@ -21,15 +20,15 @@ abbrev μ-loop : tie.MeasureT-loop
 μ-loop other out₀ o₀ out o = owners - o
 
 loop-again : tie.Need-loop-again Inv-loop μ-loop
-unfolding union intersection
 loop-again c =
-    let l = c .before .before .before .before .before .loop in
-    let b = c .before .before .before .before .before .before .args .t2 in (
+    let i = c .before .before .before in
+    let l = i .before .before .before .before .loop in
+    let b = i .before .before .before .before .before .args .t2 in (
       search needs,
       fill-store _ _ _ _ (l .inv .1) (search needs)
-          (ap (λ (x : ℕ). bitAnd x (readersOf b (l .o))) (fill-read _ _ _ _ (l .inv .1) (search needs))),
+          (i .intersection .ensures ∙ ap (λ (x : ℕ). intersection x (readersOf b (l .o))) (fill-read _ _ _ _ (l .inv .1) (search needs))),
       fill-store _ _ _ _ (l .inv .2) (search needs)
-          (ap (λ (x : ℕ). bitOr x (writersOf b (l .o))) (fill-read _ _ _ _ (l .inv .2) (search needs))),
+          (c .union .ensures ∙ ap (λ (x : ℕ). union x (writersOf b (l .o))) (fill-read _ _ _ _ (l .inv .2) (search needs))),
     )
 
 returns : tie.Need-returns Inv-loop μ-loop
@@ -44,17 +43,19 @@ join-spec = tie.close (tie.spec
     Inv-loop
     μ-loop
     (λ c. (search needs, filled-none _ _, filled-none _ _))  -- loop-holds
+    (λ c. search needs)  -- mul-intersection
+    (λ c. search needs)  -- element-copy-out-intersection
+    (λ c. search needs)  -- mul-intersection-2
+    (λ c. search needs)  -- element-copy-out-intersection-2
+    (λ c κs. search needs)  -- intersection-requires
     (λ c. search needs)  -- mul-out
-    (λ c. search needs)  -- element-copy-out-out
-    (λ c. search needs)  -- mul-out-2
-    (λ c. search needs)  -- element-copy-out-out-2
-    (λ c. search needs)  -- mul-out-3
     (λ c. search needs)  -- element-write-out
-    (λ c. search needs)  -- mul-out-4
-    (λ c. search needs)  -- element-copy-out-out-3
-    (λ c. search needs)  -- mul-out-5
-    (λ c. search needs)  -- element-copy-out-out-4
-    (λ c. search needs)  -- mul-out-6
+    (λ c. search needs)  -- mul-union
+    (λ c. search needs)  -- element-copy-out-union
+    (λ c. search needs)  -- mul-union-2
+    (λ c. search needs)  -- element-copy-out-union-2
+    (λ c κs. search needs)  -- union-requires
+    (λ c. search needs)  -- mul-out-2
     (λ c. search needs)  -- element-write-out-2
     (λ c. search needs)  -- add-o
     (λ c. search needs)  -- loop-less

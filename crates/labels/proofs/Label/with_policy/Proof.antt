@@ -4,7 +4,7 @@ use Rattle.labels.proofs.OrderLaws.{label-path}
 use mathlib.Core.Path.{_≡_, sym, _∙_}
 use native.Mathlib.Omega.{arith}
 use lib.Seq.{set-out}
-use Rattle.sets.specs.Sets.{width, union, single}
+use Rattle.sets.specs.Sets.{width}
 use Rattle.sets.proofs.SetLaws.{restrict-single}
 use borrow.Author.Needs.{needs}
 use Rattle.labels.proofs.Label.with_policy.Statement.{statement}
@@ -21,15 +21,20 @@ returns c =
     (sym (set-out (a .t1 .writers) (a .owner) _ (omega arith)))
 
 returns-2 : tie.Need-returns-2
-unfolding policyOf union
-returns-2 c = rw (c .single .ensures ∙ restrict-single width (c .before .before .args .owner) (omega arith))
+unfolding policyOf
+returns-2 c =
+    let s = c .before .before in
+    let own = s .single .ensures ∙ restrict-single width (s .before .before .args .owner) (omega arith) in
+    rw (c .before .union .ensures, c .union2 .ensures, own)
 
 pub with-policy-spec : {M : Type 1} → statement M
 with-policy-spec = tie.close (tie.spec
     returns
     (λ c κs. search needs)  -- single-requires
+    (λ c κs. search needs)  -- union-requires
     (λ c. search needs)  -- mul-self
     (λ c. search needs)  -- element-write-self
+    (λ c κs. search needs)  -- union-requires-2
     (λ c. search needs)  -- mul-self-2
     (λ c. search needs)  -- element-write-self-2
     returns-2)

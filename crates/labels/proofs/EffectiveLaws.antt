@@ -1,6 +1,6 @@
 -- Effective labels: what each place of one holds, and which operations keep a label effective.
 -- Assumes nothing.
-use mathlib.Core.Path.{_≡_, sym, _∙_}
+use mathlib.Core.Path.{_≡_}
 use mathlib.Core.Bool.{true}
 use Prim.Native.Nat.{ℕ, _<_, _≤_}
 use native.Mathlib.Omega.{arith}
@@ -8,9 +8,9 @@ use native.Mathlib.Decide.{decLt}
 use borrow.Author.Tests.{lt-ltb, le-ltb}
 use Rattle.logic.specs.Booleans.{both}
 use Rattle.logic.proofs.BooleanLaws.{both-left, both-right, both-true}
-use Rattle.sets.specs.Sets.{member, within, single, everyone}
+use Rattle.sets.specs.Sets.{within, single, everyone}
 use Rattle.sets.proofs.Walks.{getD-tab, length-tab}
-use Rattle.sets.proofs.SetLaws.{within-refl, within-antisym, single-within, single-within-everyone}
+use Rattle.sets.proofs.SetLaws.{within-refl, single-within-everyone}
 use Rattle.labels.specs.declared.Label.{Label}
 use Rattle.labels.specs.Labels.{owners, readersOf, writersOf, openAt, belowOf, joinOf, confidentialityOf, integrityOf, bottomOf, closedAt, topOf, wholeOf, effective}
 use Rattle.labels.proofs.OrderLaws.{whole-intro, below-intro, below-readers, below-writers, below-refl, below-trans, join-left, join-least, join-whole}
@@ -116,24 +116,6 @@ fits-effective n a w f =
     (below-intro (bottomOf (everyone n)) a
     (λ o l. rw (bottom-readers (everyone n) o l) (f o l .readers-in)) (λ o l. rw (bottom-writers (everyone n) o l) (f o l .owner-in)))
     (below-intro a (topOf n) (λ o l. rw (top-readers n o l) (f o l .closed-in)) (λ o l. rw (top-writers n o l) (f o l .open-over)))
-
-module _ (n o r w : ℕ) (f : Fits n o r w) where
-  -- an owner is one of its own readers and writers, and they are all on the sheet
-  pub owner-reads : o < n → member o r ≡ true
-  owner-reads k = sym (single-within o r) ∙ (rw (closed-principal n o k) at (f .closed-in))
-
-  pub owner-writes : member o w ≡ true
-  owner-writes = sym (single-within o w) ∙ f .owner-in
-
-  pub writers-in : o < n → within w (everyone n) ≡ true
-  writers-in k = rw (open-principal n (everyone n) o k) at (f .open-over)
-
-  -- a place that has no principal holds what bottom has there
-  pub other-readers : n ≤ o → r ≡ everyone n
-  other-readers k = within-antisym r (everyone n) (f .readers-in) (rw (closed-other n o k) at (f .closed-in))
-
-  pub other-writers : n ≤ o → w ≡ single o
-  other-writers k = within-antisym w (single o) (rw (open-other n (everyone n) o k) at (f .open-over)) (f .owner-in)
 
 -- ---- the operations keep labels effective
 pub bottom-effective : (n : ℕ) → effective n (bottomOf (everyone n)) ≡ true

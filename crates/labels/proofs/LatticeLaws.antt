@@ -1,7 +1,7 @@
--- The labels of n principals are a security lattice, and with the fact that they are effective they are a lattice by themselves.
+-- The labels of n principals are a security lattice, which is trivial for one principal only.
 -- Assumes nothing.
 use mathlib.Core.Path.{_≡_, refl, sym, ap, _∙_}
-use mathlib.Core.Bool.{Bool, true, Bool-set}
+use mathlib.Core.Bool.{true, Bool-set}
 use mathlib.Core.HLevel.{isProp→PathP}
 use Prim.Native.Nat.{ℕ, _<_}
 use native.Mathlib.Omega.{arith}
@@ -77,63 +77,9 @@ one-label a b h k =
     through a b h k = order.below-trans a (topOf 1) b (effect.top-greatest 1 a h) (rw top-bottom (effect.bottom-least 1 b k))
 
 -- ---- labels with the fact that they are effective: equal if their labels are
-pub lab-path : (n : ℕ) (a b : EffectiveLabel n) → a .raw ≡ b .raw → a ≡ b
-lab-path n a b p =
+pub effective-path : (n : ℕ) (a b : EffectiveLabel n) → a .raw ≡ b .raw → a ≡ b
+effective-path n a b p =
     λ i. record {
       raw = p i;
       ok = isProp→PathP (λ j. effective n (p j) ≡ true) (λ j. Bool-set (effective n (p j)) true) (a .ok) (b .ok) i;
     }
-
-module _ (n : ℕ) where
-  abbrev pub leq : EffectiveLabel n → EffectiveLabel n → Bool
-  leq a b = belowOf (a .raw) (b .raw)
-
-  abbrev pub join : EffectiveLabel n → EffectiveLabel n → EffectiveLabel n
-  join a b = record { raw = joinOf (a .raw) (b .raw); ok = effect.join-effective n (a .raw) (b .raw) (a .ok) (b .ok) }
-
-  abbrev pub conf : EffectiveLabel n → EffectiveLabel n
-  conf a = record { raw = confidentialityOf (a .raw); ok = effect.C-effective n (a .raw) (a .ok) }
-
-  abbrev pub integ : EffectiveLabel n → EffectiveLabel n
-  integ a = record { raw = integrityOf (everyone n) (a .raw); ok = effect.I-effective n (a .raw) (a .ok) }
-
-  abbrev pub bot : EffectiveLabel n
-  bot = record { raw = bottomOf (everyone n); ok = effect.bottom-effective n }
-
-  pub leq-refl : (a : EffectiveLabel n) → leq a a ≡ true
-  leq-refl a = order.below-refl (a .raw)
-
-  pub leq-trans : (a b c : EffectiveLabel n) → leq a b ≡ true → leq b c ≡ true → leq a c ≡ true
-  leq-trans a b c = order.below-trans (a .raw) (b .raw) (c .raw)
-
-  pub leq-antisym : (a b : EffectiveLabel n) → leq a b ≡ true → leq b a ≡ true → a ≡ b
-  leq-antisym a b h k =
-      lab-path n a b
-      (order.below-antisym (a .raw) (b .raw) (effect.effective-whole n (a .raw) (a .ok)) (effect.effective-whole n (b .raw) (b .ok)) h k)
-
-  pub bot-leq : (a : EffectiveLabel n) → leq bot a ≡ true
-  bot-leq a = effect.bottom-least n (a .raw) (a .ok)
-
-  pub leq-join-left : (a b : EffectiveLabel n) → leq a (join a b) ≡ true
-  leq-join-left a b = order.join-left (a .raw) (b .raw)
-
-  pub leq-join-right : (a b : EffectiveLabel n) → leq b (join a b) ≡ true
-  leq-join-right a b = order.join-right (a .raw) (b .raw)
-
-  pub join-leq : (a b c : EffectiveLabel n) → leq a c ≡ true → leq b c ≡ true → leq (join a b) c ≡ true
-  join-leq a b c = order.join-least (a .raw) (b .raw) (c .raw)
-
-  pub conf-mono : (a b : EffectiveLabel n) → leq a b ≡ true → leq (conf a) (conf b) ≡ true
-  conf-mono a b = part.C-mono (a .raw) (b .raw)
-
-  pub conf-idem : (a : EffectiveLabel n) → conf (conf a) ≡ conf a
-  conf-idem a = lab-path n (conf (conf a)) (conf a) (part.C-idem (a .raw))
-
-  pub conf-join : (a b : EffectiveLabel n) → conf (join a b) ≡ join (conf a) (conf b)
-  conf-join a b = lab-path n (conf (join a b)) (join (conf a) (conf b)) (part.C-join (a .raw) (b .raw))
-
-  pub integ-leq : (a : EffectiveLabel n) → leq (integ a) a ≡ true
-  integ-leq a = effect.I-below n (a .raw) (a .ok)
-
-  pub integ-idem : (a : EffectiveLabel n) → integ (integ a) ≡ integ a
-  integ-idem a = lab-path n (integ (integ a)) (integ a) (part.I-idem (everyone n) (a .raw))

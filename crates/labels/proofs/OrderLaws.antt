@@ -10,9 +10,9 @@ use lib.Seq.{ext-getD}
 use borrow.Author.Tests.{eq-eqb, eqb-true}
 use Rattle.logic.specs.Booleans.{both}
 use Rattle.logic.proofs.BooleanLaws.{bool-ext, both-left, both-right, both-true}
-use Rattle.sets.specs.Sets.{member, union, intersection, within, every}
+use Rattle.sets.specs.Sets.{union, intersection, within, every}
 use Rattle.sets.proofs.Walks.{every-true, every-at, every-both, getD-tab, length-tab}
-use Rattle.sets.proofs.SetLaws.{within-intro, within-elim, within-refl, within-trans, within-antisym, intersection-within-left, intersection-within-right, within-intersection, within-union-left, within-union-right, union-within}
+use Rattle.sets.proofs.SetLaws.{within-refl, within-trans, within-antisym, intersection-within-left, intersection-within-right, within-intersection, within-union-left, within-union-right, union-within}
 use Rattle.labels.specs.declared.Label.{Label}
 use Rattle.labels.specs.Labels.{owners, readersOf, writersOf, belowAt, belowOf, sameAt, sameOf, joinOf, wholeOf}
 
@@ -67,21 +67,6 @@ pub below-split : (a b : Label)
 unfolding belowOf belowAt
 below-split a b = every-both owners (λ (o : ℕ). within (readersOf b o) (readersOf a o)) (λ (o : ℕ). within (writersOf a o) (writersOf b o))
 
--- the order in members: each owner's readers of B are readers of A, and its writers of A are writers of B
-pub below-means : (a b : Label) → belowOf a b ≡ true
-    → (o p : ℕ) → o < owners
-    → (member p (readersOf b o) ≡ true → member p (readersOf a o) ≡ true)
-    × (member p (writersOf a o) ≡ true → member p (writersOf b o) ≡ true)
-below-means a b h o p l = (within-elim _ _ (below-readers a b h o l) p, within-elim _ _ (below-writers a b h o l) p)
-
-pub means-below : (a b : Label)
-    → ((o p : ℕ) → o < owners
-    → (member p (readersOf b o) ≡ true → member p (readersOf a o) ≡ true)
-    × (member p (writersOf a o) ≡ true → member p (writersOf b o) ≡ true))
-    → belowOf a b ≡ true
-means-below a b h =
-    below-intro a b (λ o l. within-intro _ _ (λ p m. h o p l .0 m)) (λ o l. within-intro _ _ (λ p m. h o p l .1 m))
-
 pub below-refl : (a : Label) → belowOf a a ≡ true
 below-refl a = below-intro a a (λ o l. within-refl _) (λ o l. within-refl _)
 
@@ -134,12 +119,6 @@ same-both-ways a b =
 pub same-refl : (a : Label) → sameOf a a ≡ true
 same-refl a = same-both-ways a a ∙ both-true (below-refl a) (below-refl a)
 
--- whole labels with the same effective sets are equal
-pub same-means : (a b : Label) → wholeOf a ≡ true → wholeOf b ≡ true → sameOf a b ≡ true → a ≡ b
-same-means a b ha hb h =
-    let k = sym (same-both-ways a b) ∙ h in
-    below-antisym a b ha hb (both-left (belowOf a b) (belowOf b a) k) (both-right (belowOf a b) (belowOf b a) k)
-
 -- ---- the join is the least upper bound
 pub join-readers : (a b : Label) (o : ℕ) → o < owners → readersOf (joinOf a b) o ≡ intersection (readersOf a o) (readersOf b o)
 unfolding joinOf
@@ -175,25 +154,3 @@ join-below a b c =
     bool-ext (belowOf (joinOf a b) c) (both (belowOf a c) (belowOf b c))
     (λ h. both-true (below-trans a (joinOf a b) c (join-left a b) h) (below-trans b (joinOf a b) c (join-right a b) h))
     (λ h. join-least a b c (both-left _ (belowOf b c) h) (both-right (belowOf a c) _ h))
-
-pub join-mono : (a b c d : Label) → belowOf a c ≡ true → belowOf b d ≡ true → belowOf (joinOf a b) (joinOf c d) ≡ true
-join-mono a b c d h k =
-    join-least a b (joinOf c d) (below-trans a c (joinOf c d) h (join-left c d)) (below-trans b d (joinOf c d) k (join-right c d))
-
--- ---- the join is commutative, associative and idempotent
-pub join-comm : (a b : Label) → joinOf a b ≡ joinOf b a
-join-comm a b =
-    below-antisym (joinOf a b) (joinOf b a) (join-whole a b) (join-whole b a)
-    (join-least a b (joinOf b a) (join-right b a) (join-left b a)) (join-least b a (joinOf a b) (join-right a b) (join-left a b))
-
-pub join-assoc : (a b c : Label) → joinOf (joinOf a b) c ≡ joinOf a (joinOf b c)
-join-assoc a b c =
-    below-antisym (joinOf (joinOf a b) c) (joinOf a (joinOf b c)) (join-whole (joinOf a b) c) (join-whole a (joinOf b c))
-    (join-least (joinOf a b) c (joinOf a (joinOf b c)) (join-mono a b a (joinOf b c) (below-refl a) (join-left b c))
-    (below-trans c (joinOf b c) (joinOf a (joinOf b c)) (join-right b c) (join-right a (joinOf b c))))
-    (join-least a (joinOf b c) (joinOf (joinOf a b) c)
-    (below-trans a (joinOf a b) (joinOf (joinOf a b) c) (join-left a b) (join-left (joinOf a b) c))
-    (join-mono b c (joinOf a b) c (join-right a b) (below-refl c)))
-
-pub join-idem : (a : Label) → wholeOf a ≡ true → joinOf a a ≡ a
-join-idem a h = below-antisym (joinOf a a) a (join-whole a a) h (join-least a a a (below-refl a) (below-refl a)) (join-left a a)

@@ -6,9 +6,9 @@ use Prim.Native.Nat.{ℕ, _<_}
 use lib.ListN.{length, getD, replicate, getD-replicate, length-replicate}
 use Rattle.logic.specs.Booleans.{both}
 use Rattle.logic.proofs.BooleanLaws.{bool-ext, both-left, both-right, both-true}
-use Rattle.sets.specs.Sets.{union, intersection, single, tab}
-use Rattle.sets.proofs.Walks.{getD-tab, length-tab, tab-ext, tab-replicate}
-use Rattle.sets.proofs.SetLaws.{within-refl, intersection-of-within, union-of-within}
+use Rattle.sets.specs.Sets.{union, single}
+use Rattle.sets.proofs.Walks.{getD-tab, length-tab, tab-ext}
+use Rattle.sets.proofs.SetLaws.{within-refl, union-of-within}
 use Rattle.labels.specs.declared.Label.{Label}
 use Rattle.labels.specs.Labels.{owners, own, belowOf, joinOf, confidentialityOf, integrityOf, bottomOf, wholeOf}
 use Rattle.labels.proofs.OrderLaws.{label-path, whole-intro, whole-readers, whole-writers, below-intro, below-readers, below-writers}
@@ -87,22 +87,10 @@ below-parts all a b =
     (both-left _ (belowOf (integrityOf all a) (integrityOf all b)) h)
     (both-right (belowOf (confidentialityOf a) (confidentialityOf b)) _ h))
 
--- ---- C and I of a join
+-- ---- C of a join
 pub C-join : (a b : Label) → confidentialityOf (joinOf a b) ≡ joinOf (confidentialityOf a) (confidentialityOf b)
 unfolding confidentialityOf joinOf own
 C-join a b =
     label-path (confidentialityOf (joinOf a b)) (joinOf (confidentialityOf a) (confidentialityOf b)) refl
     (tab-ext owners single (λ (o : ℕ). union (getD own o 0) (getD own o 0))
     (λ o l. sym (union-of-within _ _ (within-refl _) ∙ own-at o l)))
-
-pub I-join : (all : ℕ) (a b : Label) → integrityOf all (joinOf a b) ≡ joinOf (integrityOf all a) (integrityOf all b)
-unfolding integrityOf joinOf
-I-join all a b =
-    label-path (integrityOf all (joinOf a b)) (joinOf (integrityOf all a) (integrityOf all b)) (all-twice all) refl
-  where
-    all-twice : (all : ℕ)
-        → replicate owners all ≡ tab owners (λ (o : ℕ). intersection (getD (replicate owners all) o 0) (getD (replicate owners all) o 0))
-    all-twice all =
-        sym (tab-replicate owners all)
-        ∙ tab-ext owners (λ (o : ℕ). all) (λ (o : ℕ). intersection (getD (replicate owners all) o 0) (getD (replicate owners all) o 0))
-        (λ o l. sym (intersection-of-within _ _ (within-refl _) ∙ all-at all o l))

@@ -1,27 +1,20 @@
--- Labels in a table of words: what is stored is read back, and nothing else moves.
+-- Labels in a table of words: one that stands there is read back, and one is stored where it fits.
 -- Assumes nothing.
 use mathlib.Core.Path.{_≡_, refl, sym, ap, ap₂, _∙_, subst}
 use mathlib.Core.Bool.{true}
-use mathlib.Core.Logic.{_⊎_, inl, inr}
 use mathlib.Core.List.{List, _++_, append-assoc}
-use Prim.Native.Nat.{ℕ, _+_, _-_, _<_, _≤_}
+use Prim.Native.Nat.{ℕ, _+_, _<_, _≤_}
 use native.Mathlib.Nat.{add-assoc}
-use native.Mathlib.Decide.{decLe}
 use native.Mathlib.Omega.{arith}
-use lib.ListN.{length, getD, take, drop, length-append, length-drop, List·getD-append}
-use lib.Seq.{paste, take-paste, drop-paste, take-all, drop-drop, getD-append-add, take-at, drop-at, length-take-le, getD-take, getD-drop}
+use lib.ListN.{length, getD, take, drop, length-append, List·getD-append}
+use lib.Seq.{paste, take-paste, drop-paste, take-all, drop-drop, getD-append-add, take-at, drop-at}
 use borrow.Author.Tests.{le-leb, lt-leb}
 use Rattle.sets.specs.Sets.{tab}
-use Rattle.sets.proofs.Walks.{tab-ext, tab-getD, length-tab}
+use Rattle.sets.proofs.Walks.{tab-ext, tab-getD}
 use Rattle.labels.specs.declared.Label.{Label}
 use Rattle.labels.specs.Labels.{owners, wholeOf}
 use Rattle.labels.specs.Tables.{labelSize, labelWords, setsAt, labelAt, labelPut}
-use Rattle.labels.proofs.OrderLaws.{label-path, whole-intro, whole-readers, whole-writers}
-
--- every label of a table is whole
-pub label-whole : (t : List ℕ) (at : ℕ) → wholeOf (labelAt t at) ≡ true
-unfolding labelAt setsAt
-label-whole t at = whole-intro (labelAt t at) (length-tab _ _) (length-tab _ _)
+use Rattle.labels.proofs.OrderLaws.{label-path, whole-readers, whole-writers}
 
 pub length-words : (a : Label) → wholeOf a ≡ true → length (labelWords a) ≡ labelSize
 unfolding labelWords
@@ -66,67 +59,6 @@ put-middle xs old ys a h =
     ∙ ap₂ (λ (x y : List ℕ). x ++ labelWords a ++ y)
     (ap (take (length xs)) (append-assoc xs old ys) ∙ take-at xs (old ++ ys) (length xs) refl)
     (drop-at (xs ++ old) ys (length xs + labelSize) far)
-
--- what a store leaves: the length, the label that was stored, and every word outside it
-module _ (t : List ℕ) (at : ℕ) (a : Label) (whole : wholeOf a ≡ true) where
-  abbrev head : List ℕ
-  head = take at t ++ labelWords a
-
-  head-long : at + labelSize ≤ length t → length head ≡ at + labelSize
-  head-long l =
-      length-append (take at t) (labelWords a) ∙ ap₂ (λ (x y : ℕ). x + y) (length-take-le at t (omega arith)) (length-words a whole)
-
-  pub length-put : length (labelPut t at a) ≡ length t
-  length-put = go (decLe (at + labelSize) (length t))
-    where
-      go : Dec (at + labelSize ≤ length t) → length (labelPut t at a) ≡ length t
-      go (yes l) =
-          ap length (put-fits t at a l)
-          ∙ omega (arith, length-append head (drop (at + labelSize) t), head-long l, length-drop (at + labelSize) t)
-      go (no h) = ap length (put-short t at a (omega arith))
-
-  pub put-read : at + labelSize ≤ length t → labelAt (labelPut t at a) at ≡ a
-  put-read l =
-      ap₂ labelAt (put-fits t at a l) (sym (length-take-le at t (omega arith)))
-      ∙ label-read (take at t) (drop (at + labelSize) t) a whole
-
-  word-before : (i : ℕ) → i < at → getD (labelPut t at a) i 0 ≡ getD t i 0
-  word-before i k = go (decLe (at + labelSize) (length t))
-    where
-      go : Dec (at + labelSize ≤ length t) → getD (labelPut t at a) i 0 ≡ getD t i 0
-      go (yes l) =
-          ap (λ (x : List ℕ). getD x i 0) (put-fits t at a l)
-          ∙ List·getD-append head (drop (at + labelSize) t) 0 i (omega (arith, head-long l))
-          ∙ List·getD-append (take at t) (labelWords a) 0 i (omega (arith, length-take-le at t (omega arith)))
-          ∙ getD-take at t i 0 k
-      go (no h) = ap (λ (x : List ℕ). getD x i 0) (put-short t at a (omega arith))
-
-  word-after : (i : ℕ) → getD (labelPut t at a) (at + labelSize + i) 0 ≡ getD t (at + labelSize + i) 0
-  word-after i = go (decLe (at + labelSize) (length t))
-    where
-      go : Dec (at + labelSize ≤ length t) → getD (labelPut t at a) (at + labelSize + i) 0 ≡ getD t (at + labelSize + i) 0
-      go (yes l) =
-          ap₂ (λ (x : List ℕ) (k : ℕ). getD x (k + i) 0) (put-fits t at a l) (sym (head-long l))
-          ∙ getD-append-add head (drop (at + labelSize) t) i 0 ∙ getD-drop (at + labelSize) t i 0
-      go (no h) = ap (λ (x : List ℕ). getD x (at + labelSize + i) 0) (put-short t at a (omega arith))
-
-  pub put-word : (i : ℕ) → (i < at) ⊎ (at + labelSize ≤ i) → getD (labelPut t at a) i 0 ≡ getD t i 0
-  put-word i (inl k) = word-before i k
-  put-word i (inr k) =
-      let e : at + labelSize + (i - (at + labelSize)) ≡ i = omega arith in
-      subst (λ (j : ℕ). getD (labelPut t at a) j 0 ≡ getD t j 0) e (word-after (i - (at + labelSize)))
-
-  -- a label elsewhere in the table is as it was
-  pub put-other : (k : ℕ) → (k + labelSize ≤ at) ⊎ (at + labelSize ≤ k) → labelAt (labelPut t at a) k ≡ labelAt t k
-  unfolding labelAt setsAt
-  put-other k out =
-      label-path (labelAt (labelPut t at a) k) (labelAt t k)
-      (tab-ext owners _ _ (λ o l. put-word (k + o) (apart o out (omega arith))))
-      (tab-ext owners _ _ (λ o l. put-word (k + owners + o) (rw add-assoc (apart (owners + o) out (omega arith)))))
-    where
-      apart : (o : ℕ) → (k + labelSize ≤ at) ⊎ (at + labelSize ≤ k) → o < labelSize → (k + o < at) ⊎ (at + labelSize ≤ k + o)
-      apart o (inl h) l = inl (omega arith)
-      apart o (inr h) l = inr (omega arith)
 
 -- a store of the readers and then of the writers stores the label
 pub put-rows : (t : List ℕ) (at : ℕ) (a : Label) → wholeOf a ≡ true → at + labelSize ≤ length t

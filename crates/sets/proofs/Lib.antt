@@ -1,4 +1,3 @@
 pub mod Walks
 pub mod SetLaws
-pub mod GatherLaws
 pub mod MeaningLaws

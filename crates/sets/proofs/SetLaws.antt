@@ -141,9 +141,6 @@ within-trans x y z h k = within-intro x z (λ p m. within-elim y z k p (within-e
 pub within-antisym : (x y : ℕ) → within x y ≡ true → within y x ≡ true → x ≡ y
 within-antisym x y h k = member-ext x y (λ p. bool-ext (member p x) (member p y) (within-elim x y h p) (within-elim y x k p))
 
-pub empty-within : (x : ℕ) → within 0 x ≡ true
-empty-within x = within-intro 0 x (λ p m. absurd (absurd-false (sym (member-empty p) ∙ m)))
-
 -- ---- the intersection is the largest set within both
 pub intersection-within-left : (x y : ℕ) → within (intersection x y) x ≡ true
 intersection-within-left x y =
@@ -187,10 +184,6 @@ meets-elim x y e =
 pub meets-mono : (g x y : ℕ) → within x y ≡ true → meets g x ≡ true → meets g y ≡ true
 meets-mono g x y h e = let r = meets-elim g x e in meets-intro g y (r .0) (r .1) (within-elim x y h (r .0) (r .2))
 
--- a set that is not empty meets every set that it lies within
-pub meets-within : (g x : ℕ) → (g ≡ 0 → ⊥) → within g x ≡ true → meets g x ≡ true
-meets-within g x h k = let r = some-member g h in meets-intro g x (r .0) (r .1) (within-elim g x k (r .0) (r .1))
-
 pub meets-empty : (g : ℕ) → meets g 0 ≡ false
 meets-empty g = not-so (meets g 0) (λ e. let r = meets-elim g 0 e in absurd-false (sym (member-empty (r .0)) ∙ r .2))
 
@@ -225,13 +218,6 @@ single-within p m =
     (λ e. within-elim (single p) m e p (member-single-self p))
     (λ e. within-intro (single p) m (λ q h. rw (member-single q p h) e))
 
--- a set meets {p} where p is its member
-pub meets-single : (m p : ℕ) → meets m (single p) ≡ member p m
-meets-single m p =
-    bool-ext (meets m (single p)) (member p m)
-    (λ e. let r = meets-elim m (single p) e in rw (member-single (r .0) p (r .2)) at (r .1))
-    (λ e. meets-intro m (single p) p e (member-single-self p))
-
 -- ---- the first n principals: those below n
 ones-odd : (k : ℕ) → (2 ^ suc k - 1) % 2 ≡ 1
 ones-odd k =
@@ -256,11 +242,6 @@ member-everyone p n = go (decLt p n)
 pub within-everyone : (n g : ℕ) → g < 2 ^ n → within g (everyone n) ≡ true
 unfolding within everyone
 within-everyone n g l = eq-eqb (bitAnd g (2 ^ n - 1)) g (and-mask g n ∙ mod-eq-of-lt l)
-
-pub everyone-bounds : (n g : ℕ) → within g (everyone n) ≡ true → g < 2 ^ n
-unfolding within everyone
-everyone-bounds n g e =
-    subst (λ (x : ℕ). x < 2 ^ n) (sym (and-mask g n) ∙ eqb-true (bitAnd g (2 ^ n - 1)) g e) (mod-lt g (pow-pos n))
 
 pub single-within-everyone : (p n : ℕ) → p < n → within (single p) (everyone n) ≡ true
 single-within-everyone p n l = single-within p (everyone n) ∙ member-everyone p n ∙ lt-ltb p n l
@@ -315,7 +296,3 @@ shl-one k p l = shl-exact 1 p k (lit< tt) (subst (λ (m : ℕ). m ≤ k) (sym (o
 pub union-of-within : (x y : ℕ) → within x y ≡ true → union x y ≡ y
 union-of-within x y h =
     within-antisym (union x y) y (union-within x y y h (within-refl y)) (within-union-right x y)
-
-pub intersection-of-within : (x y : ℕ) → within x y ≡ true → intersection x y ≡ x
-intersection-of-within x y h =
-    within-antisym (intersection x y) x (intersection-within-left x y) (within-intersection x x y (within-refl x) h)

@@ -6,7 +6,7 @@ use mathlib.Core.List.{List, [], _∷_, _++_}
 use Prim.Native.Nat.{ℕ, zero, suc, _+_, _<_, suc-le-suc}
 use native.Mathlib.Nat.{not-suc-le-zero, le-of-suc-le-suc, zero-lt-suc}
 use native.Mathlib.Numerals.{add-one}
-use lib.ListN.{length, getD, set, drop, replicate}
+use lib.ListN.{length, getD, set, drop}
 use lib.Seq.{set-getD}
 use Rattle.logic.specs.Booleans.{both}
 use Rattle.logic.proofs.BooleanLaws.{bool-ext, both-left, both-no-left, both-no-right, both-right, both-true}
@@ -62,11 +62,6 @@ pub tab-getD : (xs : List ℕ) (d : ℕ) → tab (length xs) (λ (i : ℕ). getD
 unfolding tab
 tab-getD [] d = refl
 tab-getD (x ∷ xs) d = ap (λ (t : List ℕ). x ∷ t) (tab-getD xs d)
-
-pub tab-replicate : (n v : ℕ) → tab n (λ (i : ℕ). v) ≡ replicate n v
-unfolding tab
-tab-replicate zero v = refl
-tab-replicate (suc n) v = ap (λ (t : List ℕ). v ∷ t) (tab-replicate n v)
 
 -- ---- a list whose places below n hold f's values, and whose others are as in d
 unfoldable pub filled : (ℕ → ℕ) → ℕ → List ℕ → List ℕ

@@ -1,9 +1,9 @@
 -- Sets of principals as masks: bit p of a set is principal p, the lowest bit being p = 0 (the scope, "Principals and labels").
 -- Only `width` names a width.
 -- Assumes nothing.
-use mathlib.Core.Bool.{Bool, true, false, not}
+use mathlib.Core.Bool.{Bool, true, not}
 use mathlib.Core.List.{List, [], _∷_}
-use Prim.Native.Nat.{ℕ, zero, suc, _/_, _%_, _^_, _+_, _*_, _-_}
+use Prim.Native.Nat.{ℕ, zero, suc, _/_, _%_, _^_, _-_}
 use lib.Bits.{bitAnd, bitOr}
 use lib.Dec.{eqb}
 use Rattle.logic.specs.Booleans.{both}
@@ -57,12 +57,3 @@ every (suc n) f = both (f 0) (every n (λ (i : ℕ). f (suc i)))
 unfoldable pub tab : ℕ → (ℕ → ℕ) → List ℕ
 tab zero f = []
 tab (suc n) f = f 0 ∷ tab n (λ (i : ℕ). f (suc i))
-
-unfoldable pub digit : Bool → ℕ
-digit true = 1
-digit false = 0
-
--- the set of the numbers below n at which the test f passes
-unfoldable pub gather : ℕ → (ℕ → Bool) → ℕ
-gather zero f = 0
-gather (suc n) f = digit (f n) * 2 ^ n + gather n f

@@ -1,6 +1,6 @@
 // Sets of principals as masks: bit p of a set is principal p.
 ghost use mathlib.Core.Path.{_≡_};
-ghost use Rattle.sets.specs.Sets.{width, member, union, intersection, within, meets, single, everyone, restrict};
+ghost use Rattle.sets.specs.Sets.{width, union, intersection, within, meets, single, everyone, restrict};
 
 pub type Set = u16;
 
@@ -9,22 +9,14 @@ pub const WIDTH: usize = 16;
 
 const FULL: Set = !0;
 
-// Whether principal p is in the set.
-pub fn has(set: Set, p: usize) -> bool
-    ensures { λ r. ⌜ r ≡ member p set ⌝ }
-{
-    if p >= WIDTH {
-        return false;
-    }
-    (set >> p) % 2 == 1
-}
-
+// The members of x and those of y.
 pub fn union(x: Set, y: Set) -> Set
     ensures { λ r. ⌜ r ≡ union x y ⌝ }
 {
     x | y
 }
 
+// The members that x and y have in common.
 pub fn intersection(x: Set, y: Set) -> Set
     ensures { λ r. ⌜ r ≡ intersection x y ⌝ }
 {

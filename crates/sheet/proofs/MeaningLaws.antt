@@ -1,34 +1,42 @@
--- The labels of n principals are a lattice as typing needs it, what a sheet declares are its labels, and its table says the same of them.
+-- The labels of n principals are a lattice as typing needs it, what a sheet declares are its labels, and its table says the same of them;
+-- equal numbers and equal meaning agree.
 -- Assumes nothing.
 use mathlib.Core.Path.{_≡_, refl, ap₂}
 use mathlib.Core.Bool.{Bool, true, false}
 use Prim.Native.Nat.{ℕ}
 use Rattle.logic.proofs.BooleanLaws.{absurd-false}
-use Rattle.labels.specs.Labels.{belowOf, readsOf, writesOf, effective}
+use Rattle.sets.specs.Sets.{everyone}
+use Rattle.labels.specs.Labels.{belowOf, readsOf, writesOf, wholeOf, effective, EffectiveLabel}
 use Rattle.labels.specs.declared.Label.{Label}
-use Rattle.labels.proofs.LatticeLaws as lattice
+use Rattle.labels.proofs.OrderLaws as order
+use Rattle.labels.proofs.PartLaws as part
+use Rattle.labels.proofs.EffectiveLaws as effect
+use Rattle.labels.proofs.LatticeLaws.{effective-path}
 use Rattle.sheet.specs.Sheet.{Sheet, labelNo, locationNo, formed}
 use Rattle.sheet.specs.Tables.{tableOf, belowIn, readsIn, writesIn}
 use Rattle.sheet.specs.Meaning.{effectiveIf, effectively, declarationsOf, belowNo, readsNo, writesNo}
-use Rattle.sheet.specs.Theorems.{LabelsLattice, SameLabelsOnSheets}
+use Rattle.sheet.specs.Theorems.{LabelsLattice, SameLabelsOnSheets, NumbersAgreeOnSheets}
+use Rattle.sheet.proofs.RepeatLaws.{label-once}
+use Rattle.sheet.proofs.TypeLaws.{ty-once}
 use Rattle.sheet.proofs.TableLaws.{principals-in}
 use Rattle.sheet.proofs.LabelLaws.{label-no-effective, label-in}
 
 pub labels-lattice : LabelsLattice
 labels-lattice n =
+    let whole : (a : EffectiveLabel n) → wholeOf (a .raw) ≡ true = λ a. effect.effective-whole n (a .raw) (a .ok) in
     record {
-      leq-refl = lattice.leq-refl n;
-      leq-trans = lattice.leq-trans n;
-      leq-antisym = lattice.leq-antisym n;
-      bot-leq = lattice.bot-leq n;
-      leq-join-left = lattice.leq-join-left n;
-      leq-join-right = lattice.leq-join-right n;
-      join-leq = lattice.join-leq n;
-      conf-mono = lattice.conf-mono n;
-      conf-idem = lattice.conf-idem n;
-      conf-join = lattice.conf-join n;
-      integ-leq = lattice.integ-leq n;
-      integ-idem = lattice.integ-idem n;
+      leq-refl = λ a. order.below-refl (a .raw);
+      leq-trans = λ a b c. order.below-trans (a .raw) (b .raw) (c .raw);
+      leq-antisym = λ a b h k. effective-path n a b (order.below-antisym (a .raw) (b .raw) (whole a) (whole b) h k);
+      bot-leq = λ a. effect.bottom-least n (a .raw) (a .ok);
+      leq-join-left = λ a b. order.join-left (a .raw) (b .raw);
+      leq-join-right = λ a b. order.join-right (a .raw) (b .raw);
+      join-leq = λ a b c. order.join-least (a .raw) (b .raw) (c .raw);
+      conf-mono = λ a b. part.C-mono (a .raw) (b .raw);
+      conf-idem = λ a. effective-path n _ _ (part.C-idem (a .raw));
+      conf-join = λ a b. effective-path n _ _ (part.C-join (a .raw) (b .raw));
+      integ-leq = λ a. effect.I-below n (a .raw) (a .ok);
+      integ-idem = λ a. effective-path n _ _ (part.I-idem (everyone n) (a .raw));
     }
 
 -- a label of n principals is taken as it is
@@ -63,3 +71,6 @@ module _ (s : Sheet) (fm : formed s ≡ true) where
 pub same-labels-on-sheets : SameLabelsOnSheets
 same-labels-on-sheets s fm =
     record { are-effective = label-no-effective s fm; of-numbers = declared-label s fm; of-locations = declared-home s fm }
+
+pub numbers-agree-on-sheets : NumbersAgreeOnSheets
+numbers-agree-on-sheets s fm once = record { of-types = ty-once s fm once; of-labels = label-once s once }

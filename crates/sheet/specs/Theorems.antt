@@ -1,15 +1,16 @@
--- What is claimed of a sheet's labels. The proofs are `labels-lattice` and `same-labels-on-sheets` (proofs/MeaningLaws.antt).
+-- What is claimed of a sheet's labels and numbers. The proofs are `labels-lattice`, `same-labels-on-sheets` and
+-- `numbers-agree-on-sheets` (proofs/MeaningLaws.antt).
 use mathlib.Core.Path.{_≡_}
-use mathlib.Core.Bool.{true}
-use Prim.Native.Nat.{ℕ}
+use mathlib.Core.Bool.{true, false}
+use Prim.Native.Nat.{ℕ, _<_}
 use Rattle.labels.specs.Labels.{effective}
-use Rattle.language.specs.Labels.{Lattice}
-use Rattle.sheet.specs.Sheet.{Sheet, labelNo, locationNo, formed}
+use Rattle.language.specs.Labels.{LeastLabelLaws}
+use Rattle.sheet.specs.Sheet.{Sheet, tyOf, typeCount, labelNo, labelCount, locationNo, formed, repeats}
 use Rattle.sheet.specs.Meaning.{labelsOver, declarationsOf}
 
 -- The labels of n principals satisfy the laws that make least labels exact.
 abbrev pub LabelsLattice : Type 0
-LabelsLattice = (n : ℕ) → Lattice (labelsOver n)
+LabelsLattice = (n : ℕ) → LeastLabelLaws (labelsOver n)
 
 -- Typing and running go by the same labels: every label of the sheet is one of its principals, so that what typing takes it for is
 -- the label itself.
@@ -21,3 +22,11 @@ pub record SameLabels (s : Sheet) : Type 0 where
 -- They do so on every sheet of the right form.
 abbrev pub SameLabelsOnSheets : Type 0
 SameLabelsOnSheets = (s : Sheet) → formed s ≡ true → SameLabels s
+
+-- On a sheet that repeats nothing, equal numbers and equal meaning agree.
+pub record NumbersAgree (s : Sheet) : Type 0 where
+  pub of-types : (m n : ℕ) → m < typeCount s → n < typeCount s → tyOf s m ≡ tyOf s n → m ≡ n
+  pub of-labels : (l m : ℕ) → l < labelCount s → m < labelCount s → labelNo s l ≡ labelNo s m → l ≡ m
+
+abbrev pub NumbersAgreeOnSheets : Type 0
+NumbersAgreeOnSheets = (s : Sheet) → formed s ≡ true → repeats s ≡ false → NumbersAgree s

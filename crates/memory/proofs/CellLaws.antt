@@ -12,58 +12,58 @@ use Rattle.logic.proofs.BooleanLaws.{absurd-false, both-left, both-off, both-on
 use Rattle.language.specs.Syntax.{Value, int, err, inl, inr, pkg, blank, size}
 use Rattle.language.specs.World.{cell-words}
 use Rattle.memory.specs.Words.{enc, zeros, cell, readOf, valueOf}
-use Rattle.memory.specs.Memory.{proper, same, exactly, holdsBy}
+use Rattle.memory.specs.Memory.{proper, equalWords, exactly, holdsBy}
 use Rattle.memory.specs.Post.{Walks}
 use Rattle.memory.proofs.WordLaws.{length-enc, read-exact}
 use Rattle.memory.proofs.PlaceLaws.{here, past}
 
 -- ---- equal words
 
-pub same-refl : (xs : List ℕ) → same xs xs ≡ true
-unfolding same
-same-refl [] = refl
-same-refl (x ∷ xs) = both-true (eq-eqb x x refl) (same-refl xs)
+pub equal-refl : (xs : List ℕ) → equalWords xs xs ≡ true
+unfolding equalWords
+equal-refl [] = refl
+equal-refl (x ∷ xs) = both-true (eq-eqb x x refl) (equal-refl xs)
 
-pub same-eq : (xs ys : List ℕ) → same xs ys ≡ true → xs ≡ ys
-unfolding same
-same-eq [] [] h = refl
-same-eq [] (y ∷ ys) h = absurd (absurd-false h)
-same-eq (x ∷ xs) [] h = absurd (absurd-false h)
-same-eq (x ∷ xs) (y ∷ ys) h = ap₂ (λ (z : ℕ) (zs : List ℕ). z ∷ zs) (eqb-true x y (both-left _ _ h)) (same-eq xs ys (both-right (eqb x y) _ h))
+pub equal-means : (xs ys : List ℕ) → equalWords xs ys ≡ true → xs ≡ ys
+unfolding equalWords
+equal-means [] [] h = refl
+equal-means [] (y ∷ ys) h = absurd (absurd-false h)
+equal-means (x ∷ xs) [] h = absurd (absurd-false h)
+equal-means (x ∷ xs) (y ∷ ys) h = ap₂ (λ (z : ℕ) (zs : List ℕ). z ∷ zs) (eqb-true x y (both-left _ _ h)) (equal-means xs ys (both-right (eqb x y) _ h))
 
-same-cons : (x : ℕ) (xs ys : List ℕ) → same (x ∷ xs) (x ∷ ys) ≡ same xs ys
-unfolding same
-same-cons x xs ys = sym (both-on _ _ (eq-eqb x x refl))
+equal-cons : (x : ℕ) (xs ys : List ℕ) → equalWords (x ∷ xs) (x ∷ ys) ≡ equalWords xs ys
+unfolding equalWords
+equal-cons x xs ys = sym (both-on _ _ (eq-eqb x x refl))
 
-same-enc : (v : Value) (xs ys : List ℕ) → same (enc v xs) (enc v ys) ≡ same xs ys
+equal-enc : (v : Value) (xs ys : List ℕ) → equalWords (enc v xs) (enc v ys) ≡ equalWords xs ys
 unfolding enc
-same-enc (int n) xs ys = same-cons 1 _ _ ∙ same-cons n xs ys
-same-enc (err e) xs ys = same-cons 2 _ _ ∙ same-cons e xs ys
-same-enc (inl v) xs ys = same-cons 3 _ _ ∙ same-enc v xs ys
-same-enc (inr v) xs ys = same-cons 4 _ _ ∙ same-enc v xs ys
-same-enc (pkg l v) xs ys = same-cons 5 _ _ ∙ same-cons l _ _ ∙ same-enc v xs ys
-same-enc blank xs ys = same-cons 0 xs ys
+equal-enc (int n) xs ys = equal-cons 1 _ _ ∙ equal-cons n xs ys
+equal-enc (err e) xs ys = equal-cons 2 _ _ ∙ equal-cons e xs ys
+equal-enc (inl v) xs ys = equal-cons 3 _ _ ∙ equal-enc v xs ys
+equal-enc (inr v) xs ys = equal-cons 4 _ _ ∙ equal-enc v xs ys
+equal-enc (pkg l v) xs ys = equal-cons 5 _ _ ∙ equal-cons l _ _ ∙ equal-enc v xs ys
+equal-enc blank xs ys = equal-cons 0 xs ys
 
 -- ---- zeros from a place on
 
 module _ (ws : List ℕ) (i : ℕ) where
   abbrev Cleared : ℕ → Bool
-  Cleared j = same (zeros (length ws - j)) (drop j ws)
+  Cleared j = equalWords (zeros (length ws - j)) (drop j ws)
 
   pub zero-turn : i < length ws → getD ws i 0 ≡ 0 → Cleared i ≡ Cleared (i + 1)
-  unfolding same
+  unfolding equalWords
   zero-turn h e =
       let n : length ws - i ≡ suc (length ws - (i + 1)) = omega arith in
-      rw (n, here ws i 0 h e) (same-cons 0 (zeros (length ws - (i + 1))) (drop (i + 1) ws))
+      rw (n, here ws i 0 h e) (equal-cons 0 (zeros (length ws - (i + 1))) (drop (i + 1) ws))
 
   pub zero-fail : i < length ws → (getD ws i 0 ≡ 0 → ⊥) → Cleared i ≡ false
-  unfolding same
+  unfolding equalWords
   zero-fail h k =
       let n : length ws - i ≡ suc (length ws - (i + 1)) = omega arith in
       rw (n, here ws i _ h refl) (sym (both-off _ _ (ne-eqb 0 (getD ws i 0) (λ e. k (sym e)))))
 
   pub zero-end : length ws ≤ i → Cleared i ≡ true
-  unfolding same
+  unfolding equalWords
   zero-end h =
       let n : length ws - i ≡ 0 = omega arith in
       rw (n, past ws i h) refl
@@ -82,14 +82,14 @@ module _ (labels : ℕ) (test : Value → Bool) (ws : List ℕ) {lab : ℕ} {ok 
   unfolding exactly
   not-typed h k = both-off _ _ k ∙ both-on _ _ (sym proper-is ∙ h)
 
-  rest-zero : length ws ≡ cell-words → ok ≡ true → Cleared ws 0 next ≡ same (cell (valueOf ws)) ws
+  rest-zero : length ws ≡ cell-words → ok ≡ true → Cleared ws 0 next ≡ equalWords (cell (valueOf ws)) ws
   unfolding cell
   rest-zero n h =
       let v = valueOf ws in
       let x = read-exact labels ws (sym proper-is ∙ h) in
       let k : length ws - next ≡ cell-words - size v =
       omega (arith, length-drop next ws, ap length (w .after), ap length x, length-enc v (readOf ws .1)) in
-      rw (k, w .after) (sym (same-enc v _ _)) ∙ ap (same (enc v (zeros (cell-words - size v)))) x
+      rw (k, w .after) (sym (equal-enc v _ _)) ∙ ap (equalWords (enc v (zeros (cell-words - size v)))) x
 
   pub is-cell : {r : Bool} → length ws ≡ cell-words → ok ≡ true → test (valueOf ws) ≡ true → r ≡ Cleared ws 0 next → r ≡ holdsBy labels test ws
   unfolding exactly

@@ -16,7 +16,7 @@ use Rattle.language.specs.World.{Mem, cell-words}
 use Rattle.memory.specs.Words.{zeros, cell, valueOf}
 use Rattle.memory.specs.Memory.{cellOf, memoryOf, wordsOf, proper, exactly, holdsBy, formedBy, sliceRefusal, refusalBy}
 use Rattle.memory.proofs.WordLaws.{size-int, length-enc, length-cell, value-cell, proper-int}
-use Rattle.memory.proofs.CellLaws.{same-refl, same-eq}
+use Rattle.memory.proofs.CellLaws.{equal-refl, equal-means}
 use Rattle.memory.proofs.CellsLaws.{Cellwise, length-cells, cells-at, cells-ext, cells-all, length-cell-of}
 
 -- ---- one location
@@ -32,11 +32,11 @@ module _ (labels : ℕ) (test : Value → Bool) (ws : List ℕ) (v : Value) wher
 
   pub exact-words : exactly labels test ws v ≡ true → cell v ≡ ws
   unfolding exactly
-  exact-words h = same-eq _ _ (both-right _ _ (both-right _ _ h))
+  exact-words h = equal-means _ _ (both-right _ _ (both-right _ _ h))
 
   pub is-exact : proper labels v ≡ true → test v ≡ true → cell v ≡ ws → exactly labels test ws v ≡ true
   unfolding exactly
-  is-exact p q e = both-true p (both-true q (rw e (same-refl ws)))
+  is-exact p q e = both-true p (both-true q (rw e (equal-refl ws)))
 
 -- words that are a cell hold its value
 pub cell-holds : (labels : ℕ) (test : Value → Bool) (ws : List ℕ) (v : Value) → proper labels v ≡ true → test v ≡ true → cell v ≡ ws → holdsBy labels test ws ≡ true

@@ -18,7 +18,7 @@ module _ (labels : ℕ) (ws : List ℕ) (at : ℕ) where
   -- nothing is left
   stopped : (got : Got) → got ≡ (blank, []) → length ws ≤ at → Walks labels ws at got false at
   unfolding proper
-  stopped got e h = record { forward = omega arith; within = omega arith; told = rw e refl; after = past ws at h ∙ ap (λ (g : Got). g .1) (sym e) }
+  stopped got e h = record { forward = omega arith; bounded = omega arith; told = rw e refl; after = past ws at h ∙ ap (λ (g : Got). g .1) (sym e) }
 
   pub walk-past : length ws ≤ at → Walks labels ws at (readOf (drop at ws)) false at
   walk-past h = stopped _ (at-past ws at h) h
@@ -30,7 +30,7 @@ module _ (labels : ℕ) (ws : List ℕ) (at : ℕ) where
 
   pub number-there : (f : ℕ → Value) (ok : Bool) → at < length ws → ok ≡ proper labels (f (getD ws at 0)) → Walks labels ws at (numbered f (drop at ws)) ok (at + 1)
   unfolding numbered
-  number-there f ok h e = rw (here ws at _ h refl) (record { forward = omega arith; within = omega arith; told = e; after = refl })
+  number-there f ok h e = rw (here ws at _ h refl) (record { forward = omega arith; bounded = omega arith; told = e; after = refl })
 
   -- a label with its content
   pub package-past : length ws ≤ at → Walks labels ws at (packaged readOf (drop at ws)) false at
@@ -44,7 +44,7 @@ module _ (labels : ℕ) (ws : List ℕ) (at : ℕ) where
       rw (here ws at _ h refl)
       (record {
         forward = omega (arith, w .forward);
-        within = omega (arith, w .within);
+        bounded = omega (arith, w .bounded);
         told = e ∙ ap (both (ltb (getD ws at 0) labels)) (w .told);
         after = w .after;
       })
@@ -54,7 +54,7 @@ module _ (labels : ℕ) (ws : List ℕ) (at : ℕ) where
   onward g h e w =
       record {
         forward = omega (arith, w .forward);
-        within = omega (arith, w .within);
+        bounded = omega (arith, w .bounded);
         told = w .told ∙ ap (λ (x : Got). proper labels (x .0)) (sym e);
         after = w .after ∙ ap (λ (x : Got). x .1) (sym e);
       }
@@ -71,18 +71,18 @@ module _ (labels : ℕ) (ws : List ℕ) (at : ℕ) where
 
     pub walk-inl : getD ws at 0 ≡ 3 → Walks labels ws (at + 1) (readOf (drop (at + 1) ws)) ok next → Walks labels ws at (readOf (drop at ws)) ok next
     unfolding wrap proper
-    walk-inl e w = onward _ h (at-inl ws at h e) (record { forward = w .forward; within = w .within; told = w .told; after = w .after })
+    walk-inl e w = onward _ h (at-inl ws at h e) (record { forward = w .forward; bounded = w .bounded; told = w .told; after = w .after })
 
     pub walk-inr : getD ws at 0 ≡ 4 → Walks labels ws (at + 1) (readOf (drop (at + 1) ws)) ok next → Walks labels ws at (readOf (drop at ws)) ok next
     unfolding wrap proper
-    walk-inr e w = onward _ h (at-inr ws at h e) (record { forward = w .forward; within = w .within; told = w .told; after = w .after })
+    walk-inr e w = onward _ h (at-inr ws at h e) (record { forward = w .forward; bounded = w .bounded; told = w .told; after = w .after })
 
   pub walk-none : at < length ws → (getD ws at 0 ≡ 1 → ⊥) → (getD ws at 0 ≡ 2 → ⊥) → (getD ws at 0 ≡ 3 → ⊥) → (getD ws at 0 ≡ 4 → ⊥) → (getD ws at 0 ≡ 5 → ⊥)
       → Walks labels ws at (readOf (drop at ws)) false (at + 1)
   unfolding proper
-  walk-none h n1 n2 n3 n4 n5 = onward _ h (at-none ws at h n1 n2 n3 n4 n5) (record { forward = omega arith; within = omega arith; told = refl; after = refl })
+  walk-none h n1 n2 n3 n4 n5 = onward _ h (at-none ws at h n1 n2 n3 n4 n5) (record { forward = omega arith; bounded = omega arith; told = refl; after = refl })
 
   -- where the value ends
   pub walk-end : {ok : Bool} {next : ℕ} → Walks labels ws at (readOf (drop at ws)) ok next → next ≡ endOf ws at
   unfolding endOf
-  walk-end {next = next} w = omega (arith, w .forward, w .within, length-drop at ws, length-drop next ws, ap (λ (l : List ℕ). length l) (w .after))
+  walk-end {next = next} w = omega (arith, w .forward, w .bounded, length-drop at ws, length-drop next ws, ap (λ (l : List ℕ). length l) (w .after))

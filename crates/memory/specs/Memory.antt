@@ -39,15 +39,16 @@ proper labels (inr v) = proper labels v
 proper labels (pkg l v) = both (ltb l labels) (proper labels v)
 proper labels blank = false
 
-unfoldable pub same : List ℕ → List ℕ → Bool
-same [] [] = true
-same [] (y ∷ ys) = false
-same (x ∷ xs) [] = false
-same (x ∷ xs) (y ∷ ys) = both (eqb x y) (same xs ys)
+-- the lists are equal, word by word
+unfoldable pub equalWords : List ℕ → List ℕ → Bool
+equalWords [] [] = true
+equalWords [] (y ∷ ys) = false
+equalWords (x ∷ xs) [] = false
+equalWords (x ∷ xs) (y ∷ ys) = both (eqb x y) (equalWords xs ys)
 
 -- The words are exactly the cell of v, which is proper and passes the test.
 unfoldable pub exactly : ℕ → (Value → Bool) → List ℕ → Value → Bool
-exactly labels test ws v = both (proper labels v) (both (test v) (same (cell v) ws))
+exactly labels test ws v = both (proper labels v) (both (test v) (equalWords (cell v) ws))
 
 -- the words of a location are those of a value that passes the test
 abbrev pub holdsBy : ℕ → (Value → Bool) → List ℕ → Bool

@@ -14,7 +14,7 @@ use Rattle.memory.specs.Memory.{proper}
 -- nothing is left.
 pub record Walks (labels : ℕ) (ws : List ℕ) (at : ℕ) (got : Got) (ok : Bool) (next : ℕ) : Type 0 where
   pub forward : at ≤ next
-  pub within : next ≤ at + (length ws - at)
+  pub bounded : next ≤ at + (length ws - at)
   pub told : ok ≡ proper labels (got .0)
   pub after : drop next ws ≡ got .1
 

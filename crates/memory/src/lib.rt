@@ -9,6 +9,7 @@ ghost use lib.ListN.{length, drop};
 ghost use lib.Seq.{paste};
 ghost use Rattle.logic.specs.Booleans.{both};
 ghost use Rattle.language.specs.Syntax.{size};
+ghost use Rattle.language.specs.World.{cell-words};
 ghost use Rattle.language.specs.View.{mask};
 ghost use Rattle.sheet.specs.Tables.{labelsIn, locationsIn, readsIn};
 ghost use Rattle.sheet.specs.TypeTest.{hasNo};
@@ -88,7 +89,7 @@ fn one_more(words: &[u32], at: usize, ty: u32, wanted: u32) -> bool
 
 // Whether the words of a location are exactly those of a proper value of a type.
 fn holds(table: &[u16], words: &[u32], ty: u32) -> bool
-    requires { ⌜ length (now words) ≡ 16 ⌝ }
+    requires { ⌜ length (now words) ≡ cell-words ⌝ }
     ensures { λ r. ⌜ r ≡ holdsBy (labelsIn (now (table .entry))) (λ v. hasNo (now (table .entry)) v ty) (now (words .entry)) ⌝ }
 {
     let walked = values::value_at(sheet::labels(table), words, 0);
@@ -104,7 +105,7 @@ fn holds(table: &[u16], words: &[u32], ty: u32) -> bool
 
 // Whether location x of a memory holds a value as declared.
 fn location_holds(table: &[u16], memory: &[u32], x: u32) -> bool
-    requires { ⌜ 16 * x + 16 ≤ length (now memory) ⌝ }
+    requires { ⌜ cell-words * x + cell-words ≤ length (now memory) ⌝ }
     ensures { λ r. ⌜ r ≡ holdsBy (labelsIn (now (table .entry))) (fitsIn (now (table .entry)) x) (cellOf (now (memory .entry)) x) ⌝ }
 {
     let start = CELL * (x as usize);
@@ -132,8 +133,8 @@ pub fn refusal(table: &[u16], memory: &[u32]) -> u8
 
 // What a group is shown of location x.
 fn location_view(table: &[u16], memory: &[u32], group: Set, x: u32) -> [u32; CELL]
-    requires { ⌜ 16 * x + 16 ≤ length (now memory) ⌝ }
-    ensures { λ r. ⌜ (size (valueOf (cellOf (now (memory .entry)) x)) ≤ 16
+    requires { ⌜ cell-words * x + cell-words ≤ length (now memory) ⌝ }
+    ensures { λ r. ⌜ (size (valueOf (cellOf (now (memory .entry)) x)) ≤ cell-words
         → r ≡ viewCell (seesIn (now (table .entry)) group x) (mask (readsIn (now (table .entry)) group) (valueOf (cellOf (now (memory .entry)) x)))) ⌝ }
 {
     let mut out = [0u32; CELL];
@@ -147,8 +148,8 @@ fn location_view(table: &[u16], memory: &[u32], group: Set, x: u32) -> [u32; CEL
 
 // Stores the words of location x.
 fn put_cell(shown: &mut [u32], x: u32, cell: [u32; CELL])
-    requires { ⌜ 16 * x + 16 ≤ length (now shown) ⌝ }
-    ensures { λ _. ⌜ now (shown .exit) ≡ paste (now (shown .entry)) (16 * x) cell 16 ⌝ }
+    requires { ⌜ cell-words * x + cell-words ≤ length (now shown) ⌝ }
+    ensures { λ _. ⌜ now (shown .exit) ≡ paste (now (shown .entry)) (cell-words * x) cell cell-words ⌝ }
 {
     let start = CELL * (x as usize);
     for i in 0..CELL {
@@ -158,7 +159,7 @@ fn put_cell(shown: &mut [u32], x: u32, cell: [u32; CELL])
 
 // Stores what a group is shown of a well-formed memory.
 fn view_each(table: &[u16], memory: &[u32], group: Set, shown: &mut [u32])
-    requires { ⌜ (refusalIn (now table) (now memory) ≡ 0) × (length (now shown) ≡ 16 * locationsIn (now table)) ⌝ }
+    requires { ⌜ (refusalIn (now table) (now memory) ≡ 0) × (length (now shown) ≡ cell-words * locationsIn (now table)) ⌝ }
     ensures { λ _. ⌜ now (shown .exit) ≡ viewIn (now (table .entry)) group (now (memory .entry)) ⌝ }
 {
     let n = sheet::locations(table);

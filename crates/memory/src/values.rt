@@ -6,7 +6,7 @@ ghost use lib.ListN.{length, drop};
 ghost use Rattle.logic.specs.Booleans.{both};
 ghost use Rattle.language.specs.Syntax.{int, err};
 ghost use Rattle.memory.specs.Words.{zeros, numbered, packaged, readOf};
-ghost use Rattle.memory.specs.Memory.{same};
+ghost use Rattle.memory.specs.Memory.{equalWords};
 ghost use Rattle.memory.specs.Post.{Walks};
 
 // Whether a value is proper, and the place after its words.
@@ -106,7 +106,7 @@ fn package_at(labels: u32, words: &[u32], at: usize, content: Walked) -> Walked
 
 // Whether the words from `at` on are 0.
 pub(crate) fn zero_from(words: &[u32], at: usize) -> bool
-    ensures { λ r. ⌜ r ≡ same (zeros (length (now (words .entry)) - at)) (drop at (now (words .entry))) ⌝ }
+    ensures { λ r. ⌜ r ≡ equalWords (zeros (length (now (words .entry)) - at)) (drop at (now (words .entry))) ⌝ }
 {
     let mut i = at;
     while i < words.len() {

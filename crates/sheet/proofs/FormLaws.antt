@@ -133,14 +133,10 @@ module _ (s : Sheet) (fm : formed s ≡ true) where
   pub label-rising : (l : ℕ) → rising (s .principals) 0 (getD (s .labels) l []) ≡ true
   label-rising l = rising-at (s .principals) (s .labels) (facts .labels-rising) l
 
-  -- a location's type and label are there
+  -- a location's type is there
   pub location-type : (x : ℕ) → x < locationCount s → locationNo s x .type < typeCount s
   unfolding locationNo locationCount
   location-type x h = named-at _ _ (s .locations) (facts .locations-named) x _ h .0
-
-  pub location-label : (x : ℕ) → x < locationCount s → locationNo s x .label < labelCount s
-  unfolding locationNo locationCount
-  location-label x h = named-at _ _ (s .locations) (facts .locations-named) x _ h .1
 
   -- and every number of a location has a type that is there
   pub location-type-there : (x : ℕ) → locationNo s x .type < typeCount s

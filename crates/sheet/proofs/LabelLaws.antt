@@ -18,7 +18,7 @@ use Rattle.labels.proofs.EffectiveLaws.{effective-whole, bottom-effective}
 use Rattle.labels.proofs.PolicyLaws.{policies-effective}
 use Rattle.labels.proofs.TableLaws.{length-words, label-read}
 use Rattle.sheet.specs.Sheet.{Sheet, labelsOf, labelNo, labelCount, rising, formed}
-use Rattle.sheet.specs.Tables.{padded, labelsWords, tableOf, labelIn}
+use Rattle.sheet.specs.Tables.{labelsRoom, padded, labelsWords, tableOf, labelIn}
 use Rattle.sheet.proofs.Entries.{label-there, label-past}
 use Rattle.sheet.proofs.FormLaws.{label-rising}
 use Rattle.sheet.proofs.TableLaws.{labels-in, everyone-in, toLabels, from-labels, labels-start}
@@ -52,14 +52,6 @@ label-no-effective s fm l = each-effective (s .principals) (s .labels) (policies
 
 -- ---- the words of labels
 
-length-labels : (ls : List Label) (d : Label) → ((l : ℕ) → l < length ls → wholeOf (getD ls l d) ≡ true)
-    → length (labelsWords ls) ≡ labelSize * length ls
-unfolding labelsWords
-length-labels [] d w = refl
-length-labels (a ∷ ls) d w =
-    length-append (labelWords a) (labelsWords ls)
-    ∙ omega (arith, length-words a (w 0 (omega arith)), length-labels ls d (λ l h. w (suc l) (omega arith)))
-
 label-among : (before : List ℕ) (ls : List Label) (after : List ℕ) (d : Label) → ((l : ℕ) → l < length ls → wholeOf (getD ls l d) ≡ true)
     → (l : ℕ) → l < length ls → labelAt (before ++ (labelsWords ls ++ after)) (length before + labelSize * l) ≡ getD ls l d
 unfolding labelsWords
@@ -92,7 +84,7 @@ module _ (s : Sheet) (fm : formed s ≡ true) where
       at : (b : Bool) → ltb l (labelCount s) ≡ b → labelIn (tableOf s) l ≡ labelNo s l
       at true e =
           let h = ltb-true l (labelCount s) e in
-          let zeros : List ℕ = replicate (1024 - length (labelsWords (labelsOf s))) 0 in
+          let zeros : List ℕ = replicate (labelsRoom - length (labelsWords (labelsOf s))) 0 in
           label-there (tableOf s) l (sym (labels-in s)) h
           ∙ ap₂ labelAt (from-labels s) (ap (λ (n : ℕ). n + labelSize * l) (sym (labels-start s fm)))
           ∙ label-among (toLabels s) (labelsOf s) zeros _ (λ l h. whole l) l (omega (arith, labels-long))

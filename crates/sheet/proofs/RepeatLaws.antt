@@ -57,7 +57,7 @@ parts-same a b p q = both-true (eq-eqb _ _ p) (eq-eqb _ _ q)
 -- two sums with the same parts have the same number
 pub parts-once : (s : Sheet) → repeats s ≡ false → (m n : ℕ) → 3 ≤ m → m < typeCount s → 3 ≤ n → n < typeCount s
     → partsNo s m .left ≡ partsNo s n .left → partsNo s m .right ≡ partsNo s n .right → m ≡ n
-unfolding repeats partsNo partsOf typeCount givenParts givenSums
+unfolding repeats partsNo partsOf typeCount givenParts
 parts-once s once zero n h k h′ k′ p q = absurd (omega arith)
 parts-once s once (suc zero) n h k h′ k′ p q = absurd (omega arith)
 parts-once s once (suc (suc zero)) n h k h′ k′ p q = absurd (omega arith)

@@ -8,7 +8,7 @@ use native.Mathlib.Omega.{arith}
 use lib.ListN.{length, getD, length-append}
 use Rattle.sets.specs.Sets.{everyone}
 use Rattle.sheet.specs.Sheet.{Sum, Location, Sheet, partsOf, partsNo, typeCount, labelsOf, labelCount, locationNo, locationCount, formed}
-use Rattle.sheet.specs.Tables.{partsBase, locationsBase, labelsBase, padded, partWords, locationWords, labelsWords, tableOf, principalsIn, everyoneIn, typesIn, labelsIn, locationsIn, entryIn, leftIn, rightIn, typeIn, homeIn}
+use Rattle.sheet.specs.Tables.{partsRoom, locationsRoom, labelsRoom, partsBase, locationsBase, labelsBase, padded, partWords, locationWords, labelsWords, tableOf, principalsIn, everyoneIn, typesIn, labelsIn, locationsIn, entryIn, leftIn, rightIn, typeIn, homeIn}
 use Rattle.sheet.proofs.FormLaws.{Formed, formed-facts, type-count}
 use Rattle.sheet.proofs.Words.{length-padded, length-pairs, first-at, second-at, entry-of}
 
@@ -41,13 +41,13 @@ heading : Sheet → List ℕ
 heading s = s .principals ∷ everyone (s .principals) ∷ typeCount s ∷ labelCount s ∷ locationCount s ∷ 0 ∷ 0 ∷ 0 ∷ []
 
 partBlock : Sheet → List ℕ
-partBlock s = padded 64 (partWords (partsOf s))
+partBlock s = padded partsRoom (partWords (partsOf s))
 
 locationBlock : Sheet → List ℕ
-locationBlock s = padded 128 (locationWords (s .locations))
+locationBlock s = padded locationsRoom (locationWords (s .locations))
 
 labelBlock : Sheet → List ℕ
-labelBlock s = padded 1024 (labelsWords (labelsOf s))
+labelBlock s = padded labelsRoom (labelsWords (labelsOf s))
 
 -- what stands before the locations
 toLocations : Sheet → List ℕ
@@ -61,7 +61,7 @@ from-locations : (s : Sheet) → tableOf s ≡ toLocations s ++ (locationBlock s
 unfolding tableOf toLocations heading partBlock locationBlock labelBlock
 from-locations s = sym (append-assoc (heading s) (partBlock s) (locationBlock s ++ labelBlock s))
 
-pub from-labels : (s : Sheet) → tableOf s ≡ toLabels s ++ padded 1024 (labelsWords (labelsOf s))
+pub from-labels : (s : Sheet) → tableOf s ≡ toLabels s ++ padded labelsRoom (labelsWords (labelsOf s))
 unfolding toLabels labelBlock
 from-labels s = from-locations s ∙ sym (append-assoc (toLocations s) (locationBlock s) (labelBlock s))
 
@@ -69,22 +69,22 @@ module _ (s : Sheet) (fm : formed s ≡ true) where
   facts : Formed s
   facts = formed-facts s fm
 
-  types-fit : length (partWords (partsOf s)) ≤ 64
+  types-fit : length (partWords (partsOf s)) ≤ partsRoom
   unfolding typeCount
   types-fit = omega (arith, length-pairs (λ (p : Sum). p .left) (λ (p : Sum). p .right) (partsOf s), type-count s, facts .few-sums)
 
-  locations-fit : length (locationWords (s .locations)) ≤ 128
+  locations-fit : length (locationWords (s .locations)) ≤ locationsRoom
   locations-fit = omega (arith, length-pairs (λ (x : Location). x .type) (λ (x : Location). x .label) (s .locations), facts .few-locations)
 
   locations-start : length (toLocations s) ≡ locationsBase
   unfolding toLocations heading partBlock
-  locations-start = length-append (heading s) (partBlock s) ∙ omega (arith, length-padded 64 (partWords (partsOf s)) types-fit)
+  locations-start = length-append (heading s) (partBlock s) ∙ omega (arith, length-padded partsRoom (partWords (partsOf s)) types-fit)
 
   pub labels-start : length (toLabels s) ≡ labelsBase
   unfolding toLabels locationBlock
   labels-start =
       length-append (toLocations s) (locationBlock s)
-      ∙ omega (arith, locations-start, length-padded 128 (locationWords (s .locations)) locations-fit)
+      ∙ omega (arith, locations-start, length-padded locationsRoom (locationWords (s .locations)) locations-fit)
 
   -- ---- parts of types
 
@@ -94,7 +94,7 @@ module _ (s : Sheet) (fm : formed s ≡ true) where
   unfolding tableOf partsNo typeCount heading
   part-in f j none two word i =
       entry-of (partsOf s) (record { left = 0; right = 0 }) f j (heading s) (partWords (partsOf s))
-      (padded 128 (locationWords (s .locations)) ++ padded 1024 (labelsWords (labelsOf s))) 64 (partsBase + j)
+      (padded locationsRoom (locationWords (s .locations)) ++ padded labelsRoom (labelsWords (labelsOf s))) partsRoom (partsBase + j)
       none refl two (length-pairs _ _ (partsOf s)) types-fit word i
 
   pub left-in : (n : ℕ) → leftIn (tableOf s) n ≡ partsNo s n .left
@@ -114,7 +114,7 @@ module _ (s : Sheet) (fm : formed s ≡ true) where
   location-in f j none two word x =
       ap (λ (t : List ℕ). entryIn t (locationsIn (tableOf s)) (locationsBase + j) x) (from-locations s)
       ∙ ap (λ (c : ℕ). entryIn (toLocations s ++ (locationBlock s ++ labelBlock s)) c (locationsBase + j) x) (locations-in s)
-      ∙ entry-of (s .locations) (record { type = 0; label = 0 }) f j (toLocations s) (locationWords (s .locations)) (labelBlock s) 128
+      ∙ entry-of (s .locations) (record { type = 0; label = 0 }) f j (toLocations s) (locationWords (s .locations)) (labelBlock s) locationsRoom
       (locationsBase + j) none (ap (λ (n : ℕ). n + j) (sym locations-start)) two (length-pairs _ _ (s .locations)) locations-fit word x
 
   pub type-in : (x : ℕ) → typeIn (tableOf s) x ≡ locationNo s x .type

@@ -1,7 +1,7 @@
 -- A sheet (the scope, "The three texts"): its lines, what the numbers on it name, and what it must satisfy.
 use mathlib.Core.Bool.{Bool, true, false}
 use mathlib.Core.List.{List, [], _∷_, _++_, map}
-use Prim.Native.Nat.{ℕ, suc, _^_}
+use Prim.Native.Nat.{ℕ, suc, _+_, _^_}
 use lib.Dec.{eqb, leb, ltb}
 use lib.ListN.{length, getD}
 use Rattle.logic.specs.Booleans.{both, either}
@@ -41,15 +41,13 @@ typesFrom ts (s ∷ ss) = typesFrom (ts ++ (t-sum (getD ts (s .left) t-int) (get
 unfoldable pub tyOf : Sheet → ℕ → Ty
 tyOf s t = getD (typesFrom givenTypes (s .sums)) t t-int
 
+-- the given sums, types 3 and 4
+abbrev pub givenSums : List Sum
+givenSums = record { left = 0; right = 0 } ∷ record { left = 2; right = 1 } ∷ []
+
 -- the parts of the types by number; a type without parts has the parts 0 0 here
 unfoldable pub givenParts : List Sum
-givenParts =
-    record { left = 0; right = 0 }
-    ∷ record { left = 0; right = 0 }
-    ∷ record { left = 0; right = 0 }
-    ∷ record { left = 0; right = 0 }
-    ∷ record { left = 2; right = 1 }
-    ∷ []
+givenParts = record { left = 0; right = 0 } ∷ record { left = 0; right = 0 } ∷ record { left = 0; right = 0 } ∷ givenSums
 
 unfoldable pub partsOf : Sheet → List Sum
 partsOf s = givenParts ++ s .sums
@@ -108,6 +106,10 @@ maxPrincipals = 16
 abbrev pub maxSums : ℕ
 maxSums = 27
 
+-- the given types and the sums
+abbrev pub maxTypes : ℕ
+maxTypes = 5 + maxSums
+
 abbrev pub maxLabels : ℕ
 maxLabels = 32
 
@@ -135,10 +137,6 @@ repeated same (x ∷ xs) = either (among same x xs) (repeated same xs)
 
 unfoldable pub sameParts : Sum → Sum → Bool
 sameParts a b = both (eqb (a .left) (b .left)) (eqb (a .right) (b .right))
-
--- the given sums, types 3 and 4
-unfoldable pub givenSums : List Sum
-givenSums = record { left = 0; right = 0 } ∷ record { left = 2; right = 1 } ∷ []
 
 -- two types with the same parts, or two labels with the same effective sets
 unfoldable pub repeats : Sheet → Bool

@@ -8,20 +8,30 @@ use Rattle.sets.specs.Sets.{everyone}
 use Rattle.labels.specs.Labels.{bottomOf, belowOf, readsOf, writesOf}
 use Rattle.labels.specs.Tables.{labelSize, labelWords, labelAt}
 use Rattle.labels.specs.declared.Label.{Label}
-use Rattle.sheet.specs.Sheet.{Sum, Location, Sheet, partsOf, typeCount, labelsOf, labelCount, locationCount}
+use Rattle.sheet.specs.Sheet.{Sum, Location, Sheet, partsOf, typeCount, labelsOf, labelCount, locationCount, maxTypes, maxLabels, maxLocations}
 
--- where the parts of types, the locations and the labels start, and the number of words in all
+-- The table has words of counts, two words for each type and for each location, and the words of each label. These are the words
+-- that the types, the locations and the labels have room in, where they start, and the number of words in all.
+abbrev pub partsRoom : ℕ
+partsRoom = 2 * maxTypes
+
+abbrev pub locationsRoom : ℕ
+locationsRoom = 2 * maxLocations
+
+abbrev pub labelsRoom : ℕ
+labelsRoom = labelSize * maxLabels
+
 abbrev pub partsBase : ℕ
 partsBase = 8
 
 abbrev pub locationsBase : ℕ
-locationsBase = 72
+locationsBase = partsBase + partsRoom
 
 abbrev pub labelsBase : ℕ
-labelsBase = 200
+labelsBase = locationsBase + locationsRoom
 
 abbrev pub tableWords : ℕ
-tableWords = 1224
+tableWords = labelsBase + labelsRoom
 
 -- xs, filled up with zeros to n words
 unfoldable pub padded : ℕ → List ℕ → List ℕ
@@ -42,11 +52,11 @@ unfoldable pub labelsWords : List Label → List ℕ
 labelsWords [] = []
 labelsWords (a ∷ rest) = labelWords a ++ labelsWords rest
 
--- The table of a sheet: eight words of counts, then the parts of 32 types, 64 locations and 32 labels.
+-- The table of a sheet: eight words of counts, then the parts of its types, its locations and its labels.
 unfoldable pub tableOf : Sheet → List ℕ
 tableOf s =
     (s .principals ∷ everyone (s .principals) ∷ typeCount s ∷ labelCount s ∷ locationCount s ∷ 0 ∷ 0 ∷ 0 ∷ [])
-    ++ (padded 64 (partWords (partsOf s)) ++ (padded 128 (locationWords (s .locations)) ++ padded 1024 (labelsWords (labelsOf s))))
+    ++ (padded partsRoom (partWords (partsOf s)) ++ (padded locationsRoom (locationWords (s .locations)) ++ padded labelsRoom (labelsWords (labelsOf s))))
 
 -- ---- what a table says. A number that names nothing has the parts, type and label 0, and the label bottom.
 

@@ -7,14 +7,21 @@ use labels::LABEL_SIZE;
 use labels::Label;
 use sets::Set;
 
-// The words of a table, and where its parts start.
-pub const WORDS: usize = 1224;
+// How many types, locations and labels a sheet has at most.
+pub const MOST_TYPES: u32 = 32;
 
+pub const MOST_LOCATIONS: u32 = 64;
+
+pub const MOST_LABELS: u32 = 32;
+
+// Where the parts of types, the locations and the labels start in a table, and its words in all.
 pub const PARTS: u32 = 8;
 
-pub const LOCATIONS: u32 = 72;
+pub const LOCATIONS: u32 = PARTS + 2 * MOST_TYPES;
 
-pub const LABELS: usize = 200;
+pub const LABELS: usize = (LOCATIONS + 2 * MOST_LOCATIONS) as usize;
+
+pub const WORDS: usize = LABELS + LABEL_SIZE * (MOST_LABELS as usize);
 
 // The word at `at`, or 0 past the end.
 fn word(table: &[u16], at: usize) -> u16

@@ -12,7 +12,7 @@ use Rattle.text.specs.Set.{hexDigit, hexDigits, hexByte, hex4}
 use Rattle.text.specs.Field.{numberField, setField, lastNumber}
 use Rattle.text.specs.Lines.{front, onward, linesUpTo, allLines, printLines}
 use Rattle.labels.specs.Labels.{policy, openAt, openOf, policyOf, withPolicies, labelOf, sameAt, sameOf}
-use Rattle.sheet.specs.Sheet.{Sheet, givenParts, partsOf, typeCount, labelsOf, labelCount, locationCount, earlier, rising, eachRising, eachNamed, formed, among, repeated, sameParts, givenSums, repeats}
+use Rattle.sheet.specs.Sheet.{Sheet, givenParts, partsOf, typeCount, labelsOf, labelCount, locationCount, earlier, rising, eachRising, eachNamed, formed, among, repeated, sameParts, repeats}
 use Rattle.sheet_text.specs.Lines.{sumLine, policyLine, locationLine, each, labelLines, linesThen, sheetLines, lineBytes, sheetBytes}
 use Rattle.sheet_text.specs.Reading.{principalsRest, pairLine, pairRest, labelRest, policyRest, lineOf}
 use Rattle.sheet_text.specs.Building.{blank, addSum, addLabel, toLast, addPolicy, addLocation, lastOf, leastAfter, leastOwner, sumFits, labelFits, policyFits, locationFits, begin, step, stepOn, steps, build}
@@ -72,7 +72,7 @@ texts-read : map sheetOf texts ≡ answers
 unfolding caseSheet caseText texts answers sheetOf judged sheetIn buildIn build steps stepOn step begin sumFits labelFits policyFits locationFits leastOwner leastAfter lastOf blank
     addSum addLabel addPolicy toLast addLocation allLines linesUpTo onward front lineOf principalsRest pairRest pairLine labelRest policyRest andThen byte fits digit opensDigit
     digits number hexDigit hexDigits numberField setField lastNumber both either union every tab single everyone openAt openOf policyOf withPolicies labelOf sameAt sameOf
-    givenParts partsOf typeCount labelsOf labelCount locationCount among repeated sameParts givenSums repeats
+    givenParts partsOf typeCount labelsOf labelCount locationCount among repeated sameParts repeats
 texts-read = refl
 
 case-formed : formed caseSheet ≡ true

@@ -150,7 +150,7 @@ module _ (s : Sheet) (fm : formed s ≡ true) where
 
   -- the sums are the types from 3 on
   sum-at : (j : ℕ) → partsNo s (3 + j) ≡ getD (givenSums ++ s .sums) j noParts
-  unfolding partsNo partsOf givenParts givenSums noParts
+  unfolding partsNo partsOf givenParts noParts
   sum-at j = let z : 3 + j ≡ suc (suc (suc j)) = omega arith in rw z
 
   -- a part of a type that is there
@@ -173,7 +173,7 @@ module _ (s : Sheet) (fm : formed s ≡ true) where
   types-repeated : anyFrom (againIn (tableOf s) false (typesIn (tableOf s))) 3 (typesIn (tableOf s) - 3) ≡ repeated sameParts (givenSums ++ s .sums)
   types-repeated =
       let xs = givenSums ++ s .sums in
-      let long : 3 + length xs ≡ typesIn (tableOf s) = unfold givenSums in (omega (arith, type-count s, types-in s)) in
+      let long : 3 + length xs ≡ typesIn (tableOf s) = omega (arith, type-count s, types-in s) in
       let left : typesIn (tableOf s) - 3 ≡ length xs = omega arith in
       ap (λ (k : ℕ). anyFrom (againIn (tableOf s) false (typesIn (tableOf s))) 3 k) left
       ∙ any-repeated sameParts noParts (tableOf s) false (typesIn (tableOf s)) xs 3 long (λ j k l m. same-sums j k (omega arith) (omega arith))

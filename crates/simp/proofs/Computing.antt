@@ -73,7 +73,7 @@ unfoldable pub sheet-used : Unit {0}
 unfolding meaning.effectiveIf meaning.effectively
     sheet.givenTypes sheet.typesFrom sheet.tyOf sheet.givenParts sheet.partsOf sheet.typeCount sheet.labelsOf sheet.labelNo sheet.labelCount
     sheet.locationNo sheet.locationCount sheet.earlier sheet.rising sheet.eachRising sheet.eachNamed sheet.formed sheet.among sheet.repeated
-    sheet.sameParts sheet.givenSums sheet.repeats
+    sheet.sameParts sheet.repeats
     tables.padded
 sheet-used = tt
 
@@ -93,7 +93,7 @@ unfolding parse.popE parse.popC parse.onStack parse.pushOn parse.stackOf parse.s
 script-text-used = tt
 
 unfoldable pub memory-used : Unit {0}
-unfolding memory.cellOf memory.memoryOf memory.cells memory.wordsOf memory.proper memory.same memory.exactly memory.formedBy memory.sliceRefusal
+unfolding memory.cellOf memory.memoryOf memory.cells memory.wordsOf memory.proper memory.equalWords memory.exactly memory.formedBy memory.sliceRefusal
     memory.refusalBy memory.fits memory.wellFormed memory.memoryRefusal
     words.enc words.cell words.wrap words.numbered words.packaged words.tagged words.read words.readOf
 memory-used = tt

@@ -5,13 +5,14 @@ use mathlib.Core.List.{_++_}
 use Prim.Native.Nat.{_≤_, _*_, _-_}
 use native.Mathlib.Omega.{arith}
 use lib.ListN.{length, drop}
+use Rattle.language.specs.World.{cell-words}
 use Rattle.memory.specs.Memory.{cells}
 use Rattle.memory.proofs.ShownLaws as laws
 use Rattle.memory.proofs.view_each.Statement.{statement}
 use Rattle.memory.proofs.view_each.Tie as tie
 
 abbrev Inv-loop : tie.InvT-loop
-Inv-loop table memory group shown₀ n x₀ shown x = (x ≤ n) × (length shown ≡ length shown₀) × (shown ≡ cells x (laws.Shown table memory group) ++ drop (16 * x) shown₀)
+Inv-loop table memory group shown₀ n x₀ shown x = (x ≤ n) × (length shown ≡ length shown₀) × (shown ≡ cells x (laws.Shown table memory group) ++ drop (cell-words * x) shown₀)
 
 abbrev μ-loop : tie.MeasureT-loop
 μ-loop table memory group shown₀ n x₀ shown x = n - x

@@ -5,13 +5,13 @@ use Prim.Native.Nat.{_-_}
 use native.Mathlib.Omega.{arith}
 use lib.ListN.{length, drop}
 use Rattle.memory.specs.Words.{zeros}
-use Rattle.memory.specs.Memory.{same}
+use Rattle.memory.specs.Memory.{equalWords}
 use Rattle.memory.proofs.CellLaws.{zero-turn, zero-fail, zero-end}
 use Rattle.memory.proofs.values.zero_from.Statement.{statement}
 use Rattle.memory.proofs.values.zero_from.Tie as tie
 
 abbrev Inv-loop : tie.InvT-loop
-Inv-loop words at i₀ i = same (zeros (length words - i)) (drop i words) ≡ same (zeros (length words - at)) (drop at words)
+Inv-loop words at i₀ i = equalWords (zeros (length words - i)) (drop i words) ≡ equalWords (zeros (length words - at)) (drop at words)
 
 abbrev μ-loop : tie.MeasureT-loop
 μ-loop words at i₀ i = length words - i

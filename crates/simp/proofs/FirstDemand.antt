@@ -6,10 +6,10 @@ use native.Mathlib.Omega.{arith}
 use Rattle.sheet.specs.Sheet.{Sheet}
 use Rattle.language.specs.Syntax.{Cmd}
 use Rattle.simp.specs.Calls.{checkOf, Ran, refusedRun, runOf, Viewed, refusedView, viewOf}
-use Rattle.simp.specs.Rows.{numbers, Among, here, later}
+use Rattle.numbers.specs.Rows.{numbers, Among, here, later}
 use Rattle.simp.specs.Judgements.{checkRows, Started, Ends, ends-0, ends-9, ends-10, runRows, viewRows}
 use Rattle.simp.specs.Demands.{Finished, RunAnswers, ViewAnswers, Demand1}
-use Rattle.simp.proofs.RowLaws.{by-rows, not-one, among-more, every-table}
+use Rattle.numbers.proofs.RowLaws.{by-rows, not-one, among-more, every-table}
 use Rattle.simp.proofs.SecondDemand.{checked, Starts, run-starts, run-ends, run-exactly, Shows, view-shows, view-exactly}
 
 module _ {memory : List ℕ} {budget : ℕ} where
@@ -92,13 +92,16 @@ past-8 (ends-10 k t n l) i = not-one 10 i refl refl
 pub demand-1 : Demand1
 unfolding numbers
 demand-1 = record {
-  check-order = λ sheet script. every-table (λ k. k) _ (checkRows sheet script) .number-in-order (λ k. k) (λ k. refl) (λ r e i. not-one 0 i refl e) _ (checked sheet script);
+  check-order = λ sheet script.
+      every-table .first-that-applies ℕ (λ k. k) (λ k. k) _ (checkRows sheet script)
+      (record { of-refusal = λ k. refl; of-others = λ r e i. not-one 0 i refl e }) _ (checked sheet script);
   run-order = λ sheet script memory authority budget.
-      every-table (refusedRun memory) _ (runRows sheet script memory authority) .number-in-order (λ r. r .answer) (λ k. refl) (λ r e. past-8 (e .2 .2)) _
-      (run-exactly sheet script memory authority budget _ .0 refl);
+      every-table .first-that-applies Ran (refusedRun memory) (λ r. r .answer) _ (runRows sheet script memory authority)
+      (record { of-refusal = λ k. refl; of-others = λ r e. past-8 (e .2 .2) }) _ (run-exactly sheet script memory authority budget _ .0 refl);
   view-order = λ sheet memory group view.
-      every-table (refusedView view) _ (viewRows sheet memory group view) .number-in-order (λ v. v .answer) (λ k. refl)
-      (λ v e i. not-one 0 i refl (ap (λ (x : Viewed). x .answer) (e .2))) _ (view-exactly sheet memory group view _ .0 refl);
+      every-table .first-that-applies Viewed (refusedView view) (λ v. v .answer) _ (viewRows sheet memory group view)
+      (record { of-refusal = λ k. refl; of-others = λ v e i. not-one 0 i refl (ap (λ (x : Viewed). x .answer) (e .2)) }) _
+      (view-exactly sheet memory group view _ .0 refl);
   check-number = checked;
   run-number = λ sheet script memory authority budget. run-exactly sheet script memory authority budget _ .0 refl;
   view-number = λ sheet memory group view. view-exactly sheet memory group view _ .0 refl;

@@ -1,4 +1,3 @@
-pub mod RowLaws
 pub mod FirstDemand
 pub mod Numbers
 pub mod Judged

@@ -16,11 +16,11 @@ use Rattle.memory.specs.View.{viewWords}
 use Rattle.memory.specs.Theorems.{Declared}
 use Rattle.memory.proofs.Exactness.{memories-exactly}
 use Rattle.simp.specs.Calls.{onSheet, unless, onScript, untyped, checkOf, Ran, refusedRun, ended, runOf, Viewed, refusedView, viewOf}
-use Rattle.simp.specs.Rows.{First}
+use Rattle.numbers.specs.Rows.{First}
 use Rattle.simp.specs.Judgements.{OnSheet, Principals, Sized, checkRows, Checked, Started, Ends, ends-0, ends-9, ends-10, runRows, Run, viewRows, View}
 use Rattle.simp.specs.Demands.{Demand2}
 use Rattle.simp.proofs.Numbers.{no-strangers, typable-0, typable-shape, sized-0, view-sized}
-use Rattle.simp.proofs.RowLaws.{exactly}
+use Rattle.numbers.proofs.RowLaws.{exactly}
 use Rattle.simp.proofs.Judged.{read, parsed, its, their, past-all, past-2, past-3, past-4, past-6, past-8, past-view-8}
 
 -- ---- check

@@ -1,5 +1,5 @@
 -- The three calls, as functions of what they are given: the answer, the steps, and what every lent slice then holds.
--- The numbers are the scope's ("From the input", "From the state"); the lowest that applies is given.
+-- The numbers are the scope's ("From the input", "From the state"); the first that applies, in the order judged, is given (Judgements.antt).
 use mathlib.Core.Bool.{cond}
 use mathlib.Core.List.{List}
 use mathlib.Core.Option.{Option, none, some}

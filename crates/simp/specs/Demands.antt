@@ -10,7 +10,7 @@ use Rattle.sheet.specs.Sheet.{Sheet, locationCount}
 use Rattle.sheet.specs.Meaning.{worldOf}
 use Rattle.memory.specs.Memory.{memoryOf, wordsOf}
 use Rattle.simp.specs.Calls.{checkOf, Ran, runOf, Viewed, viewOf}
-use Rattle.simp.specs.Rows.{Among, GivenInOrder}
+use Rattle.numbers.specs.Rows.{Among, GivenInOrder}
 use Rattle.simp.specs.Judgements.{checkRows, Checked, runRows, Started, Run, viewRows, View}
 
 -- The run was started and reached skip within the budget, and these are the words of the memory that it reached, after so many steps.
@@ -36,11 +36,11 @@ pub record ViewAnswers (view : List ℕ) (v : Viewed) : Type 0 where
   pub number : Among (0 ∷ 1 ∷ 2 ∷ 3 ∷ 7 ∷ 8 ∷ []) (v .answer)
   pub kept : ¬ (v .answer ≡ 0) → v .view ≡ view
 
--- Demand 1. Each call gives the number that applies, in their fixed order; each answer is 0 or one of the call's numbers. After any call
+-- Demand 1. Each call gives the first number that applies, in their fixed order; each answer is 0 or one of the call's numbers. After any call
 -- the lent memory holds the finished run's values or exactly what it held before; a refused call writes to no lent slice.
 -- That a call ends is proved with each function; simp_check is lent nothing to write, and simp_view is lent its memory for reading.
 pub record Demand1 : Type 1 where
-  -- the number given applies, and none that comes before it in the order does
+  -- the number given applies, and none that comes before it in the order does (crate numbers' FirstThatAppliesIsGiven, of each table)
   pub check-order : (sheet script : List ℕ) → GivenInOrder (checkRows sheet script) (checkOf sheet script)
   pub run-order : (sheet script memory : List ℕ) (authority budget : ℕ)
       → GivenInOrder (runRows sheet script memory authority) (runOf sheet script memory authority budget .answer)
@@ -56,7 +56,7 @@ pub record Demand1 : Type 1 where
   pub view-answers : (sheet memory : List ℕ) (group : ℕ) (view : List ℕ) → ViewAnswers view (viewOf sheet memory group view)
 
 -- Demand 2. Each call answers exactly what the papers say: the numbers in their order, acceptance by the typing rules, and the
--- memory and the step count of the evaluation rules.
+-- memory and the step count of the evaluation rules. So there is exactly one answer by each table: the call's.
 pub record Demand2 : Type 0 where
   pub check : (sheet script : List ℕ) (k : ℕ) → (checkOf sheet script ≡ k) ↔ Checked sheet script k
   pub run : (sheet script memory : List ℕ) (authority budget : ℕ) (r : Ran)

@@ -23,7 +23,7 @@ use Rattle.script_text.specs.Theorems.{IsScript}
 use Rattle.memory.specs.Memory.{memoryOf, wordsOf, wellFormed}
 use Rattle.memory.specs.View.{viewWords}
 use Rattle.simp.specs.Calls.{Ran, refusedRun, Viewed, refusedView}
-use Rattle.simp.specs.Rows.{Row, _when_, First}
+use Rattle.numbers.specs.Rows.{Row, _when_, First}
 
 -- ---- of a sheet s and a command c
 

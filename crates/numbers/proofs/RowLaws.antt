@@ -6,7 +6,8 @@ use mathlib.Core.List.{List, [], _∷_, _++_}
 use Prim.Native.Nat.{ℕ}
 use borrow.Author.Tests.{eq-eqb}
 use lib.Dec.{eqb}
-use Rattle.simp.specs.Rows.{Row, _when_, numbers, None, First, Among, here, later, FirstToApply, GivenInOrder, InOrder, given, none-applies, EveryTable}
+use Rattle.numbers.specs.Rows.{Row, _when_, numbers, None, First, Among, here, later, FirstToApply, GivenInOrder}
+use Rattle.numbers.specs.Theorems.{InOrder, given, none-applies, Settled, ExactlyOneAnswer, EveryTable}
 
 -- a row that does not apply, before one that does
 below : {P : Type 0} {rows : List Row} {j : ℕ} (k : ℕ) → ¬ P → FirstToApply rows j → FirstToApply ((k when P) ∷ rows) j
@@ -57,14 +58,28 @@ module _ {A : Type 0} (refuse : ℕ → A) (Else : A → Type 0) where
   judged (given {k} g) = subst (λ (rs : List Row). First refuse Else rs (refuse k)) (sym (g .order)) (at-row k (g .after) (g .applies) (g .before) (g .none-before))
   judged {rows} (none-applies {r} n e) = past-all r rows n e
 
-pub every-table : {A : Type 0} (refuse : ℕ → A) (Else : A → Type 0) (rows : List Row) → EveryTable refuse Else rows
-every-table refuse Else rows = record {
-  in-order = λ r. (by-rows refuse Else (InOrder refuse Else rows) rows (λ k i g. given g) (λ x n e. none-applies n e) r, judged refuse Else);
-  one-answer = λ u r r′ h. exactly refuse Else Else r rows (λ n e x. (λ z. subst Else z e, λ d. u n r x e d)) h r′ .1;
-  refused-by = by-rows refuse Else _ rows (λ k i g. inl (k, i, refl)) (λ r n e. inr (n, e));
-  number-in-order = λ number same past. by-rows refuse Else (λ r. GivenInOrder rows (number r)) rows
-      (λ k i g. subst (GivenInOrder rows) (sym (same k)) (record { refused = λ _. g; not-refused = λ n. absurd (n i) }))
-      (λ r n e. record { refused = λ i. absurd (past r e i); not-refused = λ _. n });
+-- ---- one answer
+
+-- the rows of a table that is settled are judged to the end
+some-answer : {A : Type 0} (refuse : ℕ → A) (Else : A → Type 0) (rows : List Row) → Settled rows → (None rows → (r : A) × Else r) → (r : A) × First refuse Else rows r
+unfolding First None Settled
+some-answer refuse Else [] s e = e tt
+some-answer refuse Else ((k when P) ∷ rows) (inl a, s) e = (refuse k, inl (a, refl))
+some-answer refuse Else ((k when P) ∷ rows) (inr n, s) e = let f = some-answer refuse Else rows s (λ m. e (n, m)) in (f .0, inr (n, f .1))
+
+one-answer : ExactlyOneAnswer
+one-answer A refuse Else rows s e =
+    let f = some-answer refuse Else rows s (λ n. (e n .0, e n .1)) in
+    (f .0, f .1, λ r. exactly refuse Else Else (f .0) rows (λ n d x. (λ z. subst Else z d, λ d′. sym (e n .2 (f .0) d) ∙ e n .2 x d′)) (f .1) r .1)
+
+pub every-table : EveryTable
+every-table = record {
+  first-that-applies = λ A refuse number Else rows h. by-rows refuse Else (λ r. GivenInOrder rows (number r)) rows
+      (λ k i g. subst (GivenInOrder rows) (sym (h .of-refusal k)) (record { refused = λ _. g; not-refused = λ n. absurd (n i) }))
+      (λ r n e. record { refused = λ i. absurd (h .of-others r e i); not-refused = λ _. n });
+  answers-in-order = λ A refuse Else rows r. (by-rows refuse Else (InOrder refuse Else rows) rows (λ k i g. given g) (λ x n e. none-applies n e) r, judged refuse Else);
+  refused-by-a-number = λ A refuse Else rows. by-rows refuse Else _ rows (λ k i g. inl (k, i, refl)) (λ r n e. inr (n, e));
+  exactly-one-answer = one-answer;
 }
 
 -- ---- the numbers of a table

@@ -18,14 +18,14 @@ use Rattle.sheet_text.specs.Sheets.{sheetIn, sheetOf}
 use Rattle.script_text.specs.Reading.{linesOf}
 use Rattle.script_text.specs.Script.{scriptOf}
 use Rattle.memory_text.specs.Reading.{memory}
-use Rattle.simp.specs.Calls.{runOf}
+use Rattle.simp.specs.Calls.{runOf, viewOf}
 use Rattle.desk.specs.Fields.{groupOf, budgetOf, budgetIn}
 use Rattle.desk.specs.Given.{givenOf, givenWords}
+use Rattle.desk.specs.Show.{viewed, showOf}
 use Rattle.desk.specs.Run.{ranOn, runTextOf}
 use Rattle.desk.specs.Inputs.{showParts, runParts, shownFor, ranFor, showIn, runIn}
 use Rattle.desk.specs.Theorems.{KeptEnough, ShowsInput, RunsInput}
 use Rattle.desk.proofs.Exact.{group-length, budget-length}
-use Rattle.desk.proofs.Orders.{show-by}
 
 -- a text that is not too long is kept whole, and one that is too long stays so
 kept-cases : {P : Type 0} (t : List ℕ) → (take keep t ≡ t → P) → (fits t ≡ false → fits (take keep t) ≡ false → P) → P
@@ -85,13 +85,12 @@ run-text-kept sheet script text authority budget =
     let g = givenOf text authority in
     rw (budget-kept budget, given-kept text authority, run-kept sheet script (givenWords g) (g .group) (budgetIn (budgetOf budget) .number))
 
+show-kept : (sheet text group : List ℕ) → showOf (take keep sheet) (take keep text) (take keep group) ≡ showOf sheet text group
+unfolding showOf viewed viewOf
+show-kept sheet text group = rw (given-kept text group, sheet-kept sheet)
+
 pub kept-enough : KeptEnough
-kept-enough = record {
-  show = λ sheet text group.
-      show-by (take keep sheet) (take keep text) (take keep group)
-      ∙ rw (sheet-kept sheet, memory-kept text, group-kept group) (sym (show-by sheet text group));
-  run = run-text-kept;
-}
+kept-enough = record { show = show-kept; run = run-text-kept }
 
 -- the texts of an input, as the buffer holds them
 module _ (last : ℕ) (small : last < 8) (buffer : List ℕ) (long : suc last * keep ≤ length buffer) (input : List ℕ) where

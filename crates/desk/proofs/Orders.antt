@@ -1,151 +1,182 @@
--- Show gives the numbers in their order. Assumes nothing.
-use Prim.Native.Nat.{ℕ, _*_}
-use mathlib.Core.Path.{_≡_, refl, ap, _∙_}
-use mathlib.Core.Logic.{_⊎_, inl, inr}
-use mathlib.Core.Bool.{Bool, true, false, cond}
-use mathlib.Core.List.{List, []}
+-- Show gives its numbers in their order: its table against that of the view which it prints (demand 2). Assumes nothing.
+use Prim.Native.Nat.{ℕ}
+use mathlib.Core.Path.{_≡_, refl, sym, ap, _∙_, subst}
+use mathlib.Core.Logic.{_⊎_, inl, inr, ⊎-elim}
+use mathlib.Core.Bool.{Bool, true, false}
+use mathlib.Core.List.{List, [], _∷_}
 use mathlib.Core.Option.{Option, none, some}
-use lib.Dec.{eqb}
 use lib.ListN.{length, replicate, length-replicate}
 use Rattle.text.specs.Reading.{Read}
 use Rattle.text.specs.Reading.Read.{got, bad}
-use Rattle.logic.proofs.BooleanLaws.{cases}
-use Rattle.sets.specs.Sets.{within, everyone}
-use Rattle.sheet.specs.Sheet.{Sheet, locationCount}
-use Rattle.sheet_text.specs.Sheets.{Answer, malformed, repeating, accepted, sheetOf}
-use Rattle.memory.specs.Memory.{wellFormed, sliceRefusal, refusalBy, memoryRefusal}
-use Rattle.memory.specs.View.{viewWords, viewRefusal}
+use Rattle.text.proofs.Readings.{not-bad}
+use Rattle.logic.proofs.OptionLaws.{none-some}
+use Rattle.numbers.specs.Rows.{Row, _when_, numbers, First, Among, here, later}
+use Rattle.numbers.proofs.RowLaws.{by-rows, exactly}
+use Rattle.memory.specs.View.{viewWords}
 use Rattle.memory_text.specs.Printing.{memoryText}
 use Rattle.memory_text.specs.Reading.{memory}
-use Rattle.simp.specs.Calls.{onSheet, unless, strangers, Viewed, refusedView, viewOf}
+use Rattle.memory_text.proofs.Memories.{memory-exact, memory-sound}
+use Rattle.simp.specs.Calls.{Viewed, refusedView, viewOf}
+use Rattle.simp.specs.Judgements.{OfSheet, NoSheet, Repeats, Strangers, OtherSize, IllFormed, Sized, viewRows, View}
+use Rattle.simp.proofs.Judged.{its}
+use Rattle.simp.proofs.SecondDemand.{demand-2}
 use Rattle.desk.specs.Fields.{groupOf, groupIn}
-use Rattle.desk.specs.Numbers.{lower, unread, asText}
+use Rattle.desk.specs.Numbers.{placeIn, earlier, unread, asText}
 use Rattle.desk.specs.Given.{wordsRead, formed, givenIn, givenOf}
 use Rattle.desk.specs.Output.{numberLine}
 use Rattle.desk.specs.Show.{viewText, viewed, showOf}
-use Rattle.desk.specs.Order.{onGroup, onMemory, showInOrder}
-use Rattle.desk.specs.Theorems.{ShowOrder}
+use Rattle.desk.specs.Order.{IsGroup, IsMemoryText, OfGroup, OfMemory, NoGroup, NoMemory, showRows, Shown}
+use Rattle.desk.specs.Theorems.{ShowInOrder}
+use Rattle.desk.proofs.Exact.{group-exact}
 use Rattle.desk.proofs.Givens.{given-words}
-use Rattle.logic.specs.Booleans.{both}
 
--- the view on a sheet that isn't refused
-abbrev seen : Sheet → List ℕ → ℕ → Viewed
-seen s ws g =
-    let zeros : List ℕ = replicate (length ws) 0 in
-    unless (refusedView zeros) (strangers s g)
-    (unless (refusedView zeros) (viewRefusal s ws (length zeros)) (record { answer = 0; view = viewWords s g ws }))
+-- what is printed of a view, beside the number of a text that isn't of its form
+abbrev said : ℕ → Viewed → List ℕ
+said other v = viewText (earlier (asText (v .answer)) other) (v .view)
 
--- show by what its texts hold
-abbrev pub shownBy : Answer → Option ℕ → Read (List ℕ) → List ℕ
-shownBy a o m =
-    let g = groupIn o in
-    let ws = wordsRead m in
-    let v = onSheet (refusedView (replicate (length ws) 0)) a (λ s. seen s ws (g .set)) in
-    viewText (lower (asText (v .answer)) (unread (g .ok) (formed m))) (v .view)
+-- a text is that of one group, and of one memory
+one-group : {t : List ℕ} {g g′ : ℕ} → IsGroup t g → IsGroup t g′ → g′ ≡ g
+one-group {t} {g} {g′} i i′ = let p = group-exact t g .1 i in let q = group-exact t g′ .1 i′ in cc
 
-pub show-by : (sheet text group : List ℕ) → showOf sheet text group ≡ shownBy (sheetOf sheet) (groupOf group) (memory text)
-unfolding showOf viewed viewOf givenOf givenIn
+one-memory : {t ws us : List ℕ} → IsMemoryText t ws → IsMemoryText t us → us ≡ ws
+one-memory {t} {ws} {us} i i′ = let p = memory-exact ws t .1 i in let q = memory-exact us t .1 i′ in cc
+
+-- where none of show's numbers applies, and the rows past those of the sheet, and of the group
+module _ (sheet text group : List ℕ) where
+  abbrev Prints : List ℕ → Type 0
+  Prints out = OfSheet sheet (λ s. OfGroup group (λ g. OfMemory text (λ ws. out ≡ memoryText (viewWords s g ws))))
+
+  abbrev memory-rows : List Row
+  memory-rows = 8 when (NoMemory text ⊎ OfMemory text (λ ws. OtherSize sheet ws ⊎ IllFormed sheet ws)) ∷ []
+
+  abbrev group-rows : List Row
+  group-rows = 3 when (NoGroup group ⊎ OfGroup group (Strangers sheet)) ∷ memory-rows
+
+module _ (sheet text group ws : List ℕ) (g : ℕ) where
+  abbrev zeros : List ℕ
+  zeros = replicate (length ws) 0
+
+  abbrev view : Viewed
+  view = viewOf sheet ws g zeros
+
+  -- where none of the view's numbers applies
+  abbrev Views : Viewed → Type 0
+  Views v = OfSheet sheet (λ s. v ≡ record { answer = 0; view = viewWords s g ws })
+
+  abbrev past-3 : List Row
+  past-3 = 7 when (OtherSize sheet ws ⊎ OtherSize sheet zeros) ∷ 8 when IllFormed sheet ws ∷ []
+
+  abbrev past-2 : List Row
+  past-2 = 3 when Strangers sheet g ∷ past-3
+
+  abbrev Seen : List Row → Type 0
+  Seen rows = First (refusedView zeros) Views rows view
+
+  abbrev Said : List Row → ℕ → Type 0
+  Said rows other = First numberLine (Prints sheet text group) rows (said other view)
+
+  -- 1 and 2 come before the number of a text
+  sheet-first : (b c : Bool) → (said (unread b c) (refusedView zeros 1) ≡ numberLine 1) × (said (unread b c) (refusedView zeros 2) ≡ numberLine 2)
+  unfolding viewText earlier placeIn asText unread
+  sheet-first true true = (refl, refl)
+  sheet-first true false = (refl, refl)
+  sheet-first false true = (refl, refl)
+  sheet-first false false = (refl, refl)
+
+  on-sheet : (b c : Bool) → (Seen past-2 → Said (group-rows sheet text group) (unread b c)) → Said (showRows sheet text group) (unread b c)
+  unfolding First
+  on-sheet b c k = go (demand-2 .view sheet ws g zeros view .0 refl)
+    where
+      go : View sheet ws g zeros view → Said (showRows sheet text group) (unread b c)
+      go (inl (a, e)) = inl (a, ap (said (unread b c)) e ∙ sheet-first b c .0)
+      go (inr (n, inl (a, e))) = inr (n, inl (a, ap (said (unread b c)) e ∙ sheet-first b c .1))
+      go (inr (n, inr (m, h))) = inr (n, inr (m, k h))
+
+  -- a group that isn't of its form
+  three : {k : ℕ} → Among (3 ∷ 7 ∷ 8 ∷ []) k → said 3 (refusedView zeros k) ≡ numberLine 3
+  unfolding viewText earlier placeIn asText
+  three here = refl
+  three (later here) = refl
+  three (later (later here)) = refl
+
+  said-3 : Seen past-2 → said 3 view ≡ numberLine 3
+  unfolding numbers viewText earlier placeIn asText
+  said-3 = by-rows (refusedView zeros) Views (λ v. said 3 v ≡ numberLine 3) past-2 (λ k i p. three i) (λ v n e. ap (said 3) (e .2)) view
+
+  no-group : (c : Bool) → NoGroup group → Seen past-2 → Said (group-rows sheet text group) (unread false c)
+  unfolding First unread
+  no-group c n h = inl (inl n, said-3 h)
+
+  -- a group that is
+  module _ (i : IsGroup group g) where
+    three-first : (c : Bool) → said (unread true c) (refusedView zeros 3) ≡ numberLine 3
+    unfolding viewText earlier placeIn asText unread
+    three-first true = refl
+    three-first false = refl
+
+    on-group : (c : Bool) → (Seen past-3 → Said (memory-rows sheet text group) (unread true c)) → Seen past-2 → Said (group-rows sheet text group) (unread true c)
+    unfolding First
+    on-group c k (inl (a, e)) = inl (inr (g, i, a), ap (said (unread true c)) e ∙ three-first c)
+    on-group c k (inr (n, h)) =
+        inr (⊎-elim (λ m. m g i) (λ o. n (subst (Strangers sheet) (one-group i (o .1)) (o .2))), k h)
+
+    -- a memory that isn't of its form
+    no-memory : NoMemory text → Seen past-3 → Said (memory-rows sheet text group) 8
+    unfolding First viewText earlier placeIn asText
+    no-memory n (inl (a, e)) = inl (inl n, ap (said 8) e)
+    no-memory n (inr (m, inl (a, e))) = inl (inl n, ap (said 8) e)
+    no-memory n (inr (m, inr (l, h))) = inl (inl n, ap (said 8) (h .2))
+
+    -- and one that is
+    on-memory : IsMemoryText text ws → Seen past-3 → Said (memory-rows sheet text group) 0
+    unfolding First viewText earlier placeIn asText
+    on-memory j (inl (inl a, e)) = inl (inr (ws, j, inl a), ap (said 0) e)
+    on-memory j (inl (inr (s, f, a), e)) = inl (inr (ws, j, inl (s, f, λ z. a (length-replicate {A = ℕ} (length ws) 0 ∙ z))), ap (said 0) e)
+    on-memory j (inr (m, inl (a, e))) = inl (inr (ws, j, inr a), ap (said 0) e)
+    on-memory j (inr (m, inr (l, (s, f, e)))) =
+        inr (
+          ⊎-elim (λ n. n ws j) (λ o.
+              ⊎-elim (λ a. m (inl (subst (OtherSize sheet) (one-memory j (o .1)) a))) (λ a. l (subst (IllFormed sheet) (one-memory j (o .1)) a)) (o .2)),
+          (s, f, (g, i, (ws, j, ap (said 0) e))),
+        )
+
+-- what show prints, by what its texts are read as
+show-by : (sheet text group : List ℕ)
+    → showOf sheet text group
+    ≡ (let o = groupIn (groupOf group) in
+    let ws = wordsRead (memory text) in
+    said (unread (o .ok) (formed (memory text))) (viewOf sheet ws (o .set) (replicate (length ws) 0)))
+unfolding showOf viewed givenOf givenIn
 show-by sheet text group = rw (given-words (memory text) (groupIn (groupOf group)))
 
--- 7, 8 or none
-refusal-is : (s : Sheet) (ws : List ℕ)
-    → viewRefusal s ws (length (replicate {A = ℕ} (length ws) 0)) ≡ cond (eqb (length ws) (16 * locationCount s)) (cond (wellFormed s ws) 0 8) 7
-unfolding viewRefusal sliceRefusal memoryRefusal refusalBy
-refusal-is s ws =
-    rw (length-replicate {A = ℕ} (length ws) 0)
-    (cases (eqb (length ws) (16 * locationCount s)) (λ e. rw e) (λ e. rw e))
+module _ (sheet text group : List ℕ) where
+  abbrev printed : Option ℕ → Read (List ℕ) → List ℕ
+  printed o m = said (unread (groupIn o .ok) (formed m)) (viewOf sheet (wordsRead m) (groupIn o .set) (replicate (length (wordsRead m)) 0))
 
--- what a view says, beside the number of a text that isn't of its form
-abbrev said : ℕ → Viewed → List ℕ
-said other v = viewText (lower (asText (v .answer)) other) (v .view)
+  by-texts : (o : Option ℕ) → groupOf group ≡ o → (m : Read (List ℕ)) → memory text ≡ m → Shown sheet text group (printed o m)
+  unfolding groupIn wordsRead formed unread
+  by-texts none e m q =
+      on-sheet sheet text group (wordsRead m) 0 false (formed m)
+      (no-group sheet text group (wordsRead m) 0 (formed m) (λ g i. none-some (sym e ∙ group-exact group g .1 i)))
+  by-texts (some g) e bad q =
+      on-sheet sheet text group [] g true false
+      (on-group sheet text group [] g (group-exact group g .0 e) false
+      (no-memory sheet text group [] g (group-exact group g .0 e) (λ us i. not-bad us [] (sym q ∙ memory-exact us text .1 i))))
+  by-texts (some g) e (got ws r) q =
+      let s = memory-sound ws text r q in
+      on-sheet sheet text group ws g true true
+      (on-group sheet text group ws g (group-exact group g .0 e) true
+      (on-memory sheet text group ws g (group-exact group g .0 e) (s .0, s .1)))
 
--- the memory has the locations of the sheet, and is well-formed
-abbrev proper : Sheet → List ℕ → Bool
-proper s ws = both (eqb (length ws) (16 * locationCount s)) (wellFormed s ws)
-
--- the slice that the view goes into
-abbrev zerosFor : List ℕ → List ℕ
-zerosFor ws = replicate (length ws) 0
-
--- the ways that a view goes
-module _ (s : Sheet) (ws : List ℕ) (g : ℕ) {P : Type 0} where
-  on-sheet : strangers s g ≡ 0 → ((k : ℕ) → (k ≡ 7) ⊎ (k ≡ 8) → proper s ws ≡ false → seen s ws g ≡ refusedView (zerosFor ws) k → P)
-      → (proper s ws ≡ true → seen s ws g ≡ record { answer = 0; view = viewWords s g ws } → P) → P
-  unfolding unless both
-  on-sheet e f h =
-      cases (eqb (length ws) (16 * locationCount s))
-      (λ p.
-      cases (wellFormed s ws)
-      (λ q. h (rw (p, q)) (rw (e, refusal-is s ws, p, q)))
-      (λ q. f 8 (inr refl) (rw (p, q)) (rw (e, refusal-is s ws, p, q))))
-      (λ p. f 7 (inl refl) (rw p) (rw (e, refusal-is s ws, p)))
-
-  seen-cases : (strangers s g ≡ 3 → seen s ws g ≡ refusedView (zerosFor ws) 3 → P)
-      → (strangers s g ≡ 0 → (k : ℕ) → (k ≡ 7) ⊎ (k ≡ 8) → proper s ws ≡ false → seen s ws g ≡ refusedView (zerosFor ws) k → P)
-      → (strangers s g ≡ 0 → proper s ws ≡ true → seen s ws g ≡ record { answer = 0; view = viewWords s g ws } → P) → P
-  unfolding strangers unless
-  seen-cases d f h =
-      cases (within g (everyone (s .principals)))
-      (λ e. let z : strangers s g ≡ 0 = rw e in on-sheet z (f z) (h z))
-      (λ e. let z : strangers s g ≡ 3 = rw e in d z (rw z))
-
--- 7 and 8 are both said as 8, below 3
-said-8 : (k : ℕ) (zeros : List ℕ) → (k ≡ 7) ⊎ (k ≡ 8) → (said 0 (refusedView zeros k) ≡ numberLine 8) × (said 3 (refusedView zeros k) ≡ numberLine 3) ×
-    (said 8 (refusedView zeros k) ≡ numberLine 8)
-unfolding viewText lower asText
-said-8 k zeros (inl e) = rw e (refl, refl, refl)
-said-8 k zeros (inr e) = rw e (refl, refl, refl)
-
--- the empty group is on every sheet
-no-strangers : (s : Sheet) → strangers s 0 ≡ 0
-unfolding strangers within
-no-strangers s = refl
-
-no-group : (s : Sheet) (ws : List ℕ) → said 3 (seen s ws 0) ≡ numberLine 3
-unfolding viewText lower asText
-no-group s ws =
-    seen-cases s ws 0
-    (λ z e. ap (said 3) e)
-    (λ z k w p e. ap (said 3) e ∙ said-8 k _ w .1)
-    (λ z p e. ap (said 3) e)
-
-no-memory : (s : Sheet) (g : ℕ) → said 8 (seen s [] g) ≡ unless numberLine (strangers s g) (numberLine 8)
-unfolding viewText lower asText unless
-no-memory s g =
-    seen-cases s [] g
-    (λ z e. ap (said 8) e ∙ rw z)
-    (λ z k w p e. ap (said 8) e ∙ said-8 k _ w .2 ∙ rw z)
-    (λ z p e. ap (said 8) e ∙ rw z)
-
-both-read : (s : Sheet) (ws : List ℕ) (g : ℕ)
-    → said 0 (seen s ws g) ≡ unless numberLine (strangers s g) (cond (proper s ws) (memoryText (viewWords s g ws)) (numberLine 8))
-unfolding viewText lower asText unless
-both-read s ws g =
-    seen-cases s ws g
-    (λ z e. ap (said 0) e ∙ rw z)
-    (λ z k w p e. ap (said 0) e ∙ said-8 k _ w .0 ∙ rw (z, p))
-    (λ z p e. ap (said 0) e ∙ rw (z, p))
-
-in-order : (a : Answer) (o : Option ℕ) (m : Read (List ℕ))
-    → shownBy a o m
-    ≡ onSheet numberLine a (λ s.
-    onGroup o (λ g.
-    unless numberLine (strangers s g) (
-    onMemory m (λ ws. cond (both (eqb (length ws) (16 * locationCount s)) (wellFormed s ws)) (memoryText (viewWords s g ws)) (numberLine 8)))))
-unfolding onSheet onGroup onMemory unless groupIn wordsRead formed viewText lower unread asText
-in-order malformed none (got ws _) = refl
-in-order malformed none bad = refl
-in-order malformed (some g) (got ws _) = refl
-in-order malformed (some g) bad = refl
-in-order repeating none (got ws _) = refl
-in-order repeating none bad = refl
-in-order repeating (some g) (got ws _) = refl
-in-order repeating (some g) bad = refl
-in-order (accepted s) none (got ws _) = no-group s ws
-in-order (accepted s) none bad = no-group s []
-in-order (accepted s) (some g) (got ws _) = both-read s ws g
-in-order (accepted s) (some g) bad = no-memory s g
-
-pub show-order : ShowOrder
-unfolding showInOrder
-show-order sheet text group = show-by sheet text group ∙ in-order (sheetOf sheet) (groupOf group) (memory text)
+pub show-in-order : ShowInOrder
+show-in-order sheet text group =
+    exactly numberLine (Prints sheet text group) (Prints sheet text group) (showOf sheet text group) (showRows sheet text group)
+    (λ n (s, f, (g, i, (ws, j, e))) out. (
+      λ z. (s, f, (g, i, (ws, j, sym z ∙ e))),
+      λ o.
+          let o′ = its (λ s. OfGroup group (λ g. OfMemory text (λ ws. out ≡ memoryText (viewWords s g ws)))) f o in
+          let p = one-group i (o′ .1) in
+          let q = one-memory j (o′ .2 .1) in
+          e ∙ sym (o′ .2 .2 ∙ rw (p, q)),
+    ))
+    (rw (show-by sheet text group) (by-texts sheet text group (groupOf group) refl (memory text) refl))

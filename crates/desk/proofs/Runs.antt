@@ -1,13 +1,15 @@
 -- A run on the words of a memory text, as the code makes it. Assumes nothing.
-use Prim.Native.Nat.{ℕ, zero, suc}
+use Prim.Native.Nat.{ℕ, _≤_}
 use mathlib.Core.Path.{_≡_, refl, sym, ap, _∙_}
 use native.Mathlib.Omega.{arith}
-use mathlib.Core.Bool.{true, false, cond}
+use mathlib.Core.Bool.{true, false}
 use mathlib.Core.Option.{some}
-use mathlib.Core.List.{List}
+use mathlib.Core.List.{List, [], _∷_}
 use lib.Dec.{eqb}
-use borrow.Author.Tests.{eq-eqb, ne-eqb}
+use lib.ListN.{length}
+use borrow.Author.Tests.{eq-eqb, ne-eqb, le-ltb}
 use Rattle.text.specs.Reading.Read.{got}
+use Rattle.logic.proofs.BooleanLaws.{cases}
 use Rattle.memory_text.specs.Printing.{memoryText}
 use Rattle.memory_text.specs.Reading.{memory}
 use Rattle.memory_text.proofs.Memories.{memory-sound}
@@ -15,7 +17,7 @@ use Rattle.simp.specs.Calls.{Ran, runOf}
 use Rattle.desk.specs.declared.Given.{Given}
 use Rattle.desk.specs.declared.Budget.{Budget}
 use Rattle.desk.specs.Fields.{groupOf, groupIn, budgetOf, budgetIn}
-use Rattle.desk.specs.Numbers.{lower, unread, asText}
+use Rattle.desk.specs.Numbers.{order, placeIn, earlier, unread, asText}
 use Rattle.desk.specs.Given.{wordsRead, formed, givenIn, givenOf, givenWords}
 use Rattle.desk.specs.Run.{outcomeLine, ranText, adjusted, ranOn, noBudget, runTextOf}
 use Rattle.desk.specs.Theorems.{RunsPlain}
@@ -24,7 +26,7 @@ use Rattle.desk.proofs.Givens.{given-words}
 -- a run, and the number that is given
 module _ (sheet script : List ℕ) (g : Given) (budget answer steps : ℕ) (memory : List ℕ)
     (e : _≡_ {A = Ran} (record { answer = answer; steps = steps; memory = memory }) (runOf sheet script (givenWords g) (g .group) budget))
-    (k : ℕ) (ek : k ≡ lower (asText answer) (g .other)) where
+    (k : ℕ) (ek : k ≡ earlier (asText answer) (g .other)) where
   pub run-same : k ≡ answer → outcomeLine k steps (memoryText memory) ≡ ranOn sheet script g budget
   unfolding ranOn adjusted ranText
   run-same q = rw (← e, ← ek, eq-eqb k answer q) (ap (λ (n : ℕ). outcomeLine n steps (memoryText memory)) q)
@@ -45,16 +47,22 @@ module _ (sheet script text authority budget : List ℕ) (b : Budget) (eb : b �
 
 -- a run whose texts are all of their form
 plain-seven : (r : Ran) (ws : List ℕ) → r .answer ≡ 7 → ranText (adjusted r ws 0) ≡ outcomeLine 8 0 (memoryText ws)
-unfolding adjusted ranText lower asText
+unfolding adjusted ranText earlier placeIn asText
 plain-seven r ws e = rw e
 
-same-number : (k : ℕ) → cond (eqb k 0) 0 k ≡ k
-same-number zero = refl
-same-number (suc k) = rw (ne-eqb (suc k) 0 (λ z. absurd (omega arith)))
+-- no number comes before 0
+place-within : (ns : List ℕ) (k : ℕ) → placeIn ns k ≤ length ns
+unfolding placeIn
+place-within [] k = omega arith
+place-within (n ∷ ns) k = cases (eqb k n) (λ e. rw e (omega arith)) (λ e. rw e (omega (arith, place-within ns k)))
+
+none-earlier : (k : ℕ) → earlier k 0 ≡ k
+unfolding earlier placeIn
+none-earlier k = rw (le-ltb 8 (placeIn order k) (place-within order k))
 
 plain-other : (r : Ran) (ws : List ℕ) → (r .answer ≡ 7 → ⊥) → ranText (adjusted r ws 0) ≡ ranText r
-unfolding adjusted lower asText
-plain-other r ws e = rw (ne-eqb (r .answer) 7 e, same-number (r .answer), eq-eqb (r .answer) (r .answer) refl)
+unfolding adjusted asText
+plain-other r ws e = rw (ne-eqb (r .answer) 7 e, none-earlier (r .answer), eq-eqb (r .answer) (r .answer) refl)
 
 module _ (sheet script text authority budget ws rest : List ℕ) (a n : ℕ) (ea : groupOf authority ≡ some a) (en : budgetOf budget ≡ some n)
     (em : memory text ≡ got ws rest) where

@@ -8,7 +8,7 @@ use borrow.Author.Tests.{ne-eqb}
 use Rattle.memory_text.specs.Printing.{memoryText}
 use Rattle.simp.specs.Calls.{Viewed, viewOf}
 use Rattle.desk.specs.declared.Given.{Given}
-use Rattle.desk.specs.Numbers.{lower, asText}
+use Rattle.desk.specs.Numbers.{earlier, asText}
 use Rattle.desk.specs.Given.{givenWords, Whole}
 use Rattle.desk.specs.Output.{numberLine}
 use Rattle.desk.specs.Show.{viewText, viewed}
@@ -23,7 +23,7 @@ take-zeros (suc n) (suc m) h = ap {B = List ℕ} (λ (l : List ℕ). 0 ∷ l) (t
 -- a view that was made in an array of zeros
 module _ (sheet : List ℕ) (g : Given) (answer : ℕ) (view : List ℕ) (w : Whole g)
     (e : _≡_ {A = Viewed} (record { answer = answer; view = view }) (viewOf sheet (givenWords g) (g .group) (take (g .count) (replicate 1024 0))))
-    (k : ℕ) (ek : k ≡ lower (asText answer) (g .other)) where
+    (k : ℕ) (ek : k ≡ earlier (asText answer) (g .other)) where
   view-is : viewed sheet g ≡ viewText k view
   unfolding viewed
   view-is =

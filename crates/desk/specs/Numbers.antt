@@ -1,11 +1,22 @@
--- The lowest number that applies is given (the scope, "From the state"), where a text that isn't of its form has a number too.
-use Prim.Native.Nat.{ℕ}
+-- The first number that applies is given, in the order judged (the scope, "From the input" and "From the state"), where a text that isn't of its
+-- form has a number too.
+use Prim.Native.Nat.{ℕ, suc}
 use mathlib.Core.Bool.{Bool, cond}
+use mathlib.Core.List.{List, [], _∷_}
 use lib.Dec.{eqb, ltb}
 
--- the lower of two numbers, where 0 is none
-unfoldable pub lower : ℕ → ℕ → ℕ
-lower a b = cond (eqb a 0) b (cond (eqb b 0) a (cond (ltb b a) b a))
+-- the order in which runs and views judge
+abbrev pub order : List ℕ
+order = 1 ∷ 2 ∷ 3 ∷ 4 ∷ 5 ∷ 6 ∷ 7 ∷ 8 ∷ []
+
+-- the place of a number in an order; what isn't in it comes after all of it: 0, which is no number, and 9 and 10, which follow the run
+unfoldable pub placeIn : List ℕ → ℕ → ℕ
+placeIn [] k = 0
+placeIn (n ∷ ns) k = cond (eqb k n) 0 (suc (placeIn ns k))
+
+-- b where it comes before a in the order, else a
+unfoldable pub earlier : ℕ → ℕ → ℕ
+earlier a b = cond (ltb (placeIn order b) (placeIn order a)) b a
 
 -- 3 where the text of the group isn't of its form, else 8 where that of the memory isn't, else 0
 unfoldable pub unread : Bool → Bool → ℕ

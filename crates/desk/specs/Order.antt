@@ -1,38 +1,55 @@
--- Show by the order of the scope's numbers: 1, 2, 3, 8.
-use Prim.Native.Nat.{ℕ, _*_}
-use mathlib.Core.Bool.{cond}
-use mathlib.Core.List.{List}
-use mathlib.Core.Option.{Option, none, some}
-use lib.Dec.{eqb}
-use lib.ListN.{length}
-use Rattle.text.specs.Reading.{Read}
-use Rattle.text.specs.Reading.Read.{got, bad}
-use Rattle.sheet.specs.Sheet.{locationCount}
-use Rattle.sheet_text.specs.Sheets.{sheetOf}
-use Rattle.memory.specs.Memory.{wellFormed}
+-- What show must print, by the scope: its numbers in the order judged, each with when it applies, and the view where none does.
+use Prim.Native.Nat.{ℕ, _<_}
+use mathlib.Core.Logic.{_⊎_}
+use mathlib.Core.Path.{_≡_}
+use mathlib.Core.List.{List, [], _∷_, _++_}
+use Rattle.text.specs.Set.{hex4}
+use Rattle.numbers.specs.Rows.{Row, _when_, First}
 use Rattle.memory.specs.View.{viewWords}
 use Rattle.memory_text.specs.Printing.{memoryText}
-use Rattle.memory_text.specs.Reading.{memory}
-use Rattle.simp.specs.Calls.{onSheet, unless, strangers}
-use Rattle.desk.specs.Fields.{groupOf}
+use Rattle.memory_text.specs.Theorems.{IsMemory}
+use Rattle.simp.specs.Judgements.{OfSheet, NoSheet, Repeats, Strangers, OtherSize, IllFormed}
 use Rattle.desk.specs.Output.{numberLine}
-use Rattle.logic.specs.Booleans.{both}
 
--- 3: the text of the group isn't of its form
-unfoldable pub onGroup : Option ℕ → (ℕ → List ℕ) → List ℕ
-onGroup none go = numberLine 3
-onGroup (some g) go = go g
+-- ---- of the texts: a text is that of one group at most, and of one memory at most
 
--- 8: the text of the memory isn't of its form
-unfoldable pub onMemory : Read (List ℕ) → (List ℕ → List ℕ) → List ℕ
-onMemory (got ws _) go = go ws
-onMemory bad go = numberLine 8
+-- The text is that of a group: four digits and byte 10.
+abbrev pub IsGroup : List ℕ → ℕ → Type 0
+IsGroup text g = (text ≡ hex4 g ++ (10 ∷ [])) × (g < 65536)
 
--- what show prints
-unfoldable pub showInOrder : List ℕ → List ℕ → List ℕ → List ℕ
-showInOrder sheet text group =
-    onSheet numberLine (sheetOf sheet) (λ s.
-    onGroup (groupOf group) (λ g.
-    unless numberLine (strangers s g) (
-    onMemory (memory text) (λ ws.
-    cond (both (eqb (length ws) (16 * locationCount s)) (wellFormed s ws)) (memoryText (viewWords s g ws)) (numberLine 8)))))
+-- The text is that of a memory: the printed form of 16 words for each of at most 64 locations.
+abbrev pub IsMemoryText : List ℕ → List ℕ → Type 0
+IsMemoryText text ws = (text ≡ memoryText ws) × IsMemory ws
+
+-- The text is that of a group, or of a memory, and P holds of it.
+abbrev pub OfGroup : List ℕ → (ℕ → Type 0) → Type 0
+OfGroup text P = (g : ℕ) × IsGroup text g × P g
+
+abbrev pub OfMemory : List ℕ → (List ℕ → Type 0) → Type 0
+OfMemory text P = (ws : List ℕ) × IsMemoryText text ws × P ws
+
+-- ---- when a number applies that a call does not give, or gives for less
+
+-- 3
+abbrev pub NoGroup : List ℕ → Type 0
+NoGroup group = (g : ℕ) → ¬ IsGroup group g
+
+-- 8
+abbrev pub NoMemory : List ℕ → Type 0
+NoMemory text = (ws : List ℕ) → ¬ IsMemoryText text ws
+
+-- ---- show
+
+-- A memory text with another number of lines than the sheet has locations isn't of its form: 8, and 7 is never printed.
+abbrev pub showRows : List ℕ → List ℕ → List ℕ → List Row
+showRows sheet text group =
+    1 when NoSheet sheet
+    ∷ 2 when Repeats sheet
+    ∷ 3 when (NoGroup group ⊎ OfGroup group (Strangers sheet))
+    ∷ 8 when (NoMemory text ⊎ OfMemory text (λ ws. OtherSize sheet ws ⊎ IllFormed sheet ws))
+    ∷ []
+
+-- the number alone, or the view, written as a memory text is
+abbrev pub Shown : List ℕ → List ℕ → List ℕ → List ℕ → Type 0
+Shown sheet text group =
+    First numberLine (λ out. OfSheet sheet (λ s. OfGroup group (λ g. OfMemory text (λ ws. out ≡ memoryText (viewWords s g ws))))) (showRows sheet text group)

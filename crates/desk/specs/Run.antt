@@ -10,7 +10,7 @@ use Rattle.memory_text.specs.Printing.{memoryText}
 use Rattle.simp.specs.Calls.{Ran, runOf}
 use Rattle.desk.specs.declared.Given.{Given}
 use Rattle.desk.specs.Fields.{budgetOf, budgetIn}
-use Rattle.desk.specs.Numbers.{lower, asText}
+use Rattle.desk.specs.Numbers.{earlier, asText}
 use Rattle.desk.specs.Given.{givenOf, givenWords}
 use Rattle.desk.specs.Output.{numberEnd}
 
@@ -21,10 +21,10 @@ outcomeLine answer steps t = decimal answer ++ (9 ∷ numberEnd steps t)
 unfoldable pub ranText : Ran → List ℕ
 ranText r = outcomeLine (r .answer) (r .steps) (memoryText (r .memory))
 
--- The run, unless a text that isn't of its form has a lower number: then no steps, and the memory as it was.
+-- The run, unless a text that isn't of its form has a number that comes before its answer: then no steps, and the memory as it was.
 unfoldable pub adjusted : Ran → List ℕ → ℕ → Ran
 adjusted r words other =
-    let k = lower (asText (r .answer)) other in
+    let k = earlier (asText (r .answer)) other in
     cond (eqb k (r .answer)) r (record { answer = k; steps = 0; memory = words })
 
 -- the run on the words that are given

@@ -7,7 +7,7 @@ use lib.ListN.{length, replicate}
 use Rattle.memory_text.specs.Printing.{memoryText}
 use Rattle.simp.specs.Calls.{viewOf}
 use Rattle.desk.specs.declared.Given.{Given}
-use Rattle.desk.specs.Numbers.{lower, asText}
+use Rattle.desk.specs.Numbers.{earlier, asText}
 use Rattle.desk.specs.Given.{givenOf, givenWords}
 use Rattle.desk.specs.Output.{numberLine}
 
@@ -20,7 +20,7 @@ unfoldable pub viewed : List ℕ → Given → List ℕ
 viewed sheet g =
     let words = givenWords g in
     let v = viewOf sheet words (g .group) (replicate (length words) 0) in
-    viewText (lower (asText (v .answer)) (g .other)) (v .view)
+    viewText (earlier (asText (v .answer)) (g .other)) (v .view)
 
 -- show's output
 unfoldable pub showOf : List ℕ → List ℕ → List ℕ → List ℕ

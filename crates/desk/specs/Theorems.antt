@@ -1,12 +1,11 @@
 -- What is shown of the programs' outputs.
-use Prim.Native.Nat.{ℕ, _*_, _≤_, _<_}
+use Prim.Native.Nat.{ℕ, _*_, _≤_}
 use mathlib.Core.Path.{_≡_}
 use mathlib.Core.Logic.{_↔_}
 use mathlib.Core.List.{List, [], _∷_, _++_}
 use mathlib.Core.Option.{some}
 use lib.ListN.{length, take}
 use Rattle.text.specs.Number.{decimal, most}
-use Rattle.text.specs.Set.{hex4}
 use Rattle.text.specs.Reading.Read.{got}
 use Rattle.memory_text.specs.Reading.{memory}
 use Rattle.simp.specs.Calls.{runOf}
@@ -15,20 +14,20 @@ use Rattle.parts.specs.Feeding.{beginning, held, fed}
 use Rattle.desk.specs.Fields.{groupOf, budgetOf}
 use Rattle.desk.specs.Show.{showOf}
 use Rattle.desk.specs.Run.{outcomeLine, ranText, runTextOf}
-use Rattle.desk.specs.Order.{showInOrder}
+use Rattle.desk.specs.Order.{IsGroup, Shown}
 use Rattle.desk.specs.Inputs.{shownFor, ranFor, showIn, runIn}
 
 -- a group is four digits and byte 10
 abbrev pub GroupExact : Type 0
-GroupExact = (t : List ℕ) (g : ℕ) → (groupOf t ≡ some g) ↔ ((t ≡ hex4 g ++ (10 ∷ [])) × (g < 65536))
+GroupExact = (t : List ℕ) (g : ℕ) → (groupOf t ≡ some g) ↔ IsGroup t g
 
 -- a budget is a number of 32 bits and byte 10
 abbrev pub BudgetExact : Type 0
 BudgetExact = (t : List ℕ) (n : ℕ) → (budgetOf t ≡ some n) ↔ ((t ≡ decimal n ++ (10 ∷ [])) × (n ≤ most))
 
--- Show gives the numbers in their order.
-abbrev pub ShowOrder : Type 0
-ShowOrder = (sheet text group : List ℕ) → showOf sheet text group ≡ showInOrder sheet text group
+-- Show prints exactly what its table has: the first number that applies, or the view.
+abbrev pub ShowInOrder : Type 0
+ShowInOrder = (sheet text group out : List ℕ) → (showOf sheet text group ≡ out) ↔ Shown sheet text group out
 
 -- Where every text is of its form, run prints the run; 7 can only come from another number of lines than the sheet has locations, and is 8.
 pub record RunPlain (sheet script text authority budget ws : List ℕ) (a n : ℕ) : Type 0 where

@@ -9,7 +9,7 @@ ghost use Prim.Native.Nat.{_+_, _≤_};
 ghost use lib.ListN.{length, take, drop};
 ghost use Rattle.memory_text.specs.Writing.{Puts};
 ghost use Rattle.desk.specs.Fields.{closed, groupOf, groupIn, budgetOf, budgetIn};
-ghost use Rattle.desk.specs.Numbers.{lower as lowerOf, unread as unreadOf, asText};
+ghost use Rattle.desk.specs.Numbers.{order, placeIn, earlier as earlierOf, unread as unreadOf, asText};
 ghost use Rattle.desk.specs.Given.{givenOf, Whole};
 ghost use Rattle.desk.specs.Show.{viewed, showOf};
 ghost use Rattle.desk.specs.Inputs.{showIn};
@@ -82,17 +82,28 @@ fn budget_line(s: &[u8]) -> Budget
     }
 }
 
-// The lower of two numbers, where 0 is none.
-fn lower(a: u8, b: u8) -> u8
-    ensures { λ r. ⌜ r ≡ lowerOf a b ⌝ }
+// The place of a number in the order 1 2 3 4 5 6 7 8; what isn't in it comes after all of it.
+fn place(k: u8) -> u8
+    ensures { λ r. ⌜ r ≡ placeIn order k ⌝ }
 {
-    if a == 0 {
-        return b;
+    match k {
+        1 => 0,
+        2 => 1,
+        3 => 2,
+        4 => 3,
+        5 => 4,
+        6 => 5,
+        7 => 6,
+        8 => 7,
+        _ => 8,
     }
-    if b == 0 {
-        return a;
-    }
-    if b < a { b } else { a }
+}
+
+// b where it comes before a in the order, else a.
+fn earlier(a: u8, b: u8) -> u8
+    ensures { λ r. ⌜ r ≡ earlierOf a b ⌝ }
+{
+    if place(b) < place(a) { b } else { a }
 }
 
 // 3 where the group isn't of its form, else 8 where the memory isn't, else 0.
@@ -105,15 +116,15 @@ fn unread(group: bool, memory: bool) -> u8
     if memory { 0 } else { 8 }
 }
 
-// The number to print: that of a call's answer or `other`, whichever is lower. A memory text with another number of lines than
-// the sheet has locations isn't of its form, so that 8 stands for 7.
+// The number to print: that of a call's answer or `other`, whichever comes first in the order. A memory text with another number
+// of lines than the sheet has locations isn't of its form, so that 8 stands for 7.
 fn number(answer: u8, other: u8) -> u8
-    ensures { λ r. ⌜ r ≡ lowerOf (asText answer) other ⌝ }
+    ensures { λ r. ⌜ r ≡ earlierOf (asText answer) other ⌝ }
 {
     if answer == 7 {
-        return lower(8, other);
+        return earlier(8, other);
     }
-    lower(answer, other)
+    earlier(answer, other)
 }
 
 // What a memory and a group give; a text that isn't of its form stands for no location, or for the empty group.

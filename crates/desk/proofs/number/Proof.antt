@@ -7,15 +7,15 @@ use Rattle.desk.proofs.number.Tie as tie
 
 returns : tie.Need-returns
 unfolding asText
-returns c = rw (eq-eqb _ _ (c .before .if1 .taken)) (c .lower .ensures)
+returns c = rw (eq-eqb _ _ (c .before .if1 .taken)) (c .earlier .ensures)
 
 returns-2 : tie.Need-returns-2
 unfolding asText
-returns-2 c = rw (ne-eqb _ _ (c .before .if1 .left)) (c .lower2 .ensures)
+returns-2 c = rw (ne-eqb _ _ (c .before .if1 .left)) (c .earlier2 .ensures)
 
 pub number-spec : {M : Type 1} → statement M
 number-spec = tie.close (tie.spec
-    (λ c κs. search needs)  -- lower-requires
+    (λ c κs. search needs)  -- earlier-requires
     returns
-    (λ c κs. search needs)  -- lower-requires-2
+    (λ c κs. search needs)  -- earlier-requires-2
     returns-2)

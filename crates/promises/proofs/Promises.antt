@@ -1,0 +1,81 @@
+-- Every promise, filled by its proof.
+use Rattle.promises.specs.Promises.{Promises}
+use Rattle.sets.proofs.MeaningLaws.{masks-are-sets}
+use Rattle.labels.proofs.LatticeLaws.{security-lattices, non-trivial, one-label}
+use Rattle.labels.proofs.ReadingLaws.{empty-groups}
+use Rattle.labels.proofs.PolicyLaws.{policies-effective}
+use Rattle.language.proofs.Theorems.{theorems}
+use Rattle.sheet.proofs.MeaningLaws.{labels-lattice, same-labels-on-sheets, numbers-agree-on-sheets}
+use Rattle.text.proofs.Decimals.{number-exact}
+use Rattle.text.proofs.Sets.{set-exact}
+use Rattle.text.proofs.Fields.{number-field-exact, set-field-exact, line-end-exact, last-number-exact}
+use Rattle.text.proofs.Lines.{lines-exact, all-lines-exact}
+use Rattle.sheet_text.proofs.Theorems.{accepted-exact, repeating-exact, malformed-exact, one-sheet}
+use Rattle.script_text.proofs.ParseLaws.{parse-exact}
+use Rattle.script_text.proofs.ScriptLaws.{script-exact}
+use Rattle.memory.proofs.Exactness.{words-exactly, cell-exactly, memories-exactly, views-exactly}
+use Rattle.memory_text.proofs.Memories.{memory-exact, reads-back}
+use Rattle.checker.proofs.Verdicts.{checker-exact}
+use Rattle.numbers.proofs.RowLaws.{every-table}
+use Rattle.simp.proofs.FirstDemand.{demand-1}
+use Rattle.simp.proofs.SecondDemand.{demand-2}
+use Rattle.simp.proofs.ThirdDemand.{demand-3}
+use Rattle.simp.proofs.CasesHold.{cases-hold}
+use Rattle.parts.proofs.Apart.{joined-apart, missing-empty}
+use Rattle.parts.proofs.Steps.{chunks}
+use Rattle.parts.proofs.Keeping.{holds-parts}
+use Rattle.desk.proofs.Exact.{group-exact, budget-exact}
+use Rattle.desk.proofs.Orders.{show-in-order}
+use Rattle.desk.proofs.Runs.{runs-plain}
+use Rattle.desk.proofs.Kept.{kept-enough, shows-input, runs-input}
+
+pub promises : Promises
+promises = record {
+  demand-1 = demand-1;
+  demand-2 = demand-2;
+  demand-3 = demand-3;
+  cases-hold = cases-hold;
+  every-table = every-table;
+  theorems = theorems;
+  checker-exact = checker-exact;
+  masks-are-sets = masks-are-sets;
+  security-lattices = security-lattices;
+  non-trivial = non-trivial;
+  one-label = one-label;
+  empty-groups = empty-groups;
+  policies-effective = policies-effective;
+  labels-lattice = labels-lattice;
+  same-labels-on-sheets = same-labels-on-sheets;
+  numbers-agree-on-sheets = numbers-agree-on-sheets;
+  number-exact = number-exact;
+  set-exact = set-exact;
+  number-field-exact = number-field-exact;
+  set-field-exact = set-field-exact;
+  line-end-exact = line-end-exact;
+  last-number-exact = last-number-exact;
+  lines-exact = lines-exact;
+  all-lines-exact = all-lines-exact;
+  accepted-exact = accepted-exact;
+  repeating-exact = repeating-exact;
+  malformed-exact = malformed-exact;
+  one-sheet = one-sheet;
+  parse-exact = parse-exact;
+  script-exact = script-exact;
+  memory-exact = memory-exact;
+  reads-back = reads-back;
+  words-exactly = words-exactly;
+  cell-exactly = cell-exactly;
+  memories-exactly = memories-exactly;
+  views-exactly = views-exactly;
+  joined-apart = joined-apart;
+  missing-empty = missing-empty;
+  chunks = chunks;
+  holds-parts = holds-parts;
+  group-exact = group-exact;
+  budget-exact = budget-exact;
+  show-in-order = show-in-order;
+  runs-plain = runs-plain;
+  kept-enough = kept-enough;
+  shows-input = shows-input;
+  runs-input = runs-input;
+}

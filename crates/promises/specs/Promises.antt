@@ -1,0 +1,129 @@
+-- Every promise, by the name of its proof, at its type: the table of contents of what is proved. docs/PROMISES.md is this list for a reader, and
+-- tests/promises holds the two together, with the statements and the proofs.
+use mathlib.Core.List.{List}
+use Prim.Native.Nat.{ℕ}
+use Rattle.sets.specs.Meaning.{MasksAreSets}
+use Rattle.labels.specs.Lattice.{SecurityLattices, NonTrivial, OneLabel, EmptyGroups, PoliciesEffective}
+use Rattle.language.specs.Theorems.{Theorems}
+use Rattle.sheet.specs.Theorems.{LabelsLattice, SameLabelsOnSheets, NumbersAgreeOnSheets}
+use Rattle.text.specs.Reading.{Read}
+use Rattle.text.specs.Lines.{LineForm}
+use Rattle.text.specs.Theorems.{NumberExact, SetExact, NumberFieldExact, SetFieldExact, LineEndExact, LastNumberExact, LinesExact, AllLinesExact}
+use Rattle.sheet_text.specs.Theorems.{AcceptedExact, RepeatingExact, MalformedExact, OneSheet}
+use Rattle.script_text.specs.Theorems.{ParseExact, ScriptExact}
+use Rattle.memory.specs.Theorems.{WordsExactly, CellExactly, MemoriesExactly, ViewsExactly}
+use Rattle.memory_text.specs.Theorems.{MemoryExact, ReadsBack}
+use Rattle.checker.specs.Theorems.{CheckerExact}
+use Rattle.numbers.specs.Theorems.{EveryTable}
+use Rattle.simp.specs.Demands.{Demand1, Demand2, Demand3}
+use Rattle.simp.specs.Cases.{CasesHold}
+use Rattle.parts.specs.Theorems.{JoinedApart, MissingEmpty, Chunks, HoldsParts}
+use Rattle.desk.specs.Theorems.{GroupExact, BudgetExact, ShowInOrder, RunsPlain, KeptEnough, ShowsInput, RunsInput}
+
+pub record Promises : Type 1 where
+  -- ---- The three calls
+
+  -- Each call gives the first number that applies, in their order; after any call the lent memory holds a finished run's values or what it held before.
+  pub demand-1 : Demand1
+  -- Each call answers exactly what the papers say: the numbers, the typing rules, the memory and the step count of the evaluation rules.
+  pub demand-2 : Demand2
+  -- Noninterference: two done runs of an accepted script, from memories that give a group the same view, leave memories that do.
+  pub demand-3 : Demand3
+  -- The scope's starred cases, all in one table.
+  pub cases-hold : CasesHold
+  -- Of any table of refusal numbers: the first that applies is given, it settles the whole answer, and there is exactly one answer.
+  pub every-table : EveryTable
+  -- ---- The language
+
+  -- The functions agree with the figures; runs are determinate, sound and end as the figures have it; typing is exact; theorems 1 and 2 of the paper, noninterference, and confinement.
+  pub theorems : Theorems
+  -- The answer of the checker's code is 0, 5 or 6 exactly as the script has a derivation, or one with the labels struck out.
+  pub checker-exact : CheckerExact
+  -- ---- Principals and labels
+
+  -- A set of principals is a number whose bit p is principal p; the operations on numbers are those on sets.
+  pub masks-are-sets : MasksAreSets
+  -- The labels of n principals are a bounded order with joins, and C and I are as the paper's section 2.2 has them.
+  pub security-lattices : SecurityLattices
+  -- The lattice of two principals or more is not trivial.
+  pub non-trivial : NonTrivial
+  -- One principal has one label.
+  pub one-label : OneLabel
+  -- Where there is a principal, the empty group reads nothing and writes nothing.
+  pub empty-groups : EmptyGroups
+  -- The label of policies that name only the n principals is effective.
+  pub policies-effective : PoliciesEffective
+  -- The labels that a sheet's scripts are typed over obey the laws that exact typing asks for.
+  pub labels-lattice : LabelsLattice
+  -- Typing and running go by the same labels of a sheet.
+  pub same-labels-on-sheets : SameLabelsOnSheets
+  -- On a sheet that repeats nothing, equal numbers and equal meaning agree.
+  pub numbers-agree-on-sheets : NumbersAgreeOnSheets
+  -- ---- The texts
+
+  -- A number is read exactly where its decimal form stands.
+  pub number-exact : NumberExact
+  -- A set is read exactly where its four digits stand.
+  pub set-exact : SetExact
+  -- A field that is a number is read exactly where its printed form stands.
+  pub number-field-exact : NumberFieldExact
+  -- A field that is a set is read exactly where its printed form stands.
+  pub set-field-exact : SetFieldExact
+  -- The end of a line is read exactly where byte 10 stands.
+  pub line-end-exact : LineEndExact
+  -- The last field of a line, a number, is read exactly where it and the end of the line stand.
+  pub last-number-exact : LastNumberExact
+  -- Lines of a form are read as at most k of them exactly where these stand printed one after another.
+  pub lines-exact : {A : Type 0} {line : List ℕ → Read A} {print : A → List ℕ → List ℕ} {Good : A → Type 0} → LineForm line print Good → LinesExact line print Good
+  -- And as any number of them.
+  pub all-lines-exact : {A : Type 0} {line : List ℕ → Read A} {print : A → List ℕ → List ℕ} {Good : A → Type 0} → LineForm line print Good → AllLinesExact line print Good
+  -- A sheet is accepted exactly where its printed form stands and it repeats nothing.
+  pub accepted-exact : AcceptedExact
+  -- A sheet is refused by 2 exactly where it is of its form and repeats a type or a label.
+  pub repeating-exact : RepeatingExact
+  -- A sheet is refused by 1 exactly where it is the printed form of none.
+  pub malformed-exact : MalformedExact
+  -- A text is that of one sheet at most.
+  pub one-sheet : OneSheet
+  -- Parsing and printing in prefix order are inverse.
+  pub parse-exact : ParseExact
+  -- A script is read exactly where the text is the printed form of a command that names only what is on the sheet.
+  pub script-exact : ScriptExact
+  -- A memory text is read exactly where it is the printed form of a memory.
+  pub memory-exact : MemoryExact
+  -- Reading a memory text that was written gives the memory back.
+  pub reads-back : ReadsBack
+  -- ---- Memories and views
+
+  -- Words are read exactly where they are the words of a value.
+  pub words-exactly : WordsExactly
+  -- A location's words pass exactly if they are the cell of a proper value that passes the test.
+  pub cell-exactly : CellExactly
+  -- A memory is well-formed exactly if it is the words of values as the sheet declares them.
+  pub memories-exactly : MemoriesExactly
+  -- Two memories give a group the same view exactly if their masked values are equal.
+  pub views-exactly : ViewsExactly
+  -- ---- The programs
+
+  -- Texts joined by empty lines are the parts of the whole.
+  pub joined-apart : JoinedApart
+  -- Missing texts are empty.
+  pub missing-empty : MissingEmpty
+  -- Chunks fed one after another are their concatenation.
+  pub chunks : Chunks
+  -- A buffer that is long enough holds what is kept of each text.
+  pub holds-parts : HoldsParts
+  -- A group is four digits and byte 10.
+  pub group-exact : GroupExact
+  -- A budget is a number of 32 bits and byte 10.
+  pub budget-exact : BudgetExact
+  -- Show prints the first number that applies, in the order 1 2 3 8, or the view.
+  pub show-in-order : ShowInOrder
+  -- Where every text is of its form, run prints the run.
+  pub runs-plain : RunsPlain
+  -- What is kept of the texts is enough.
+  pub kept-enough : KeptEnough
+  -- What show's buffer holds of an input gives what the input gives.
+  pub shows-input : ShowsInput
+  -- What run's buffer holds of an input gives what the input gives.
+  pub runs-input : RunsInput

@@ -2,9 +2,10 @@
  * SImp scripts on a sheet: checking, running, viewing.
  *
  * Link with libsimp.a. The calls keep no state, allocate nothing and read and write only what they are lent.
- * They settle every input: bad input gets one of the numbers below, the lowest that applies, and a refused call
- * writes to no lent slice. Each call ends, given stack (docs/PERFORMANCE.md has what was measured); a large budget
- * can take hours, so choose it for the time that you have.
+ * They settle every input: bad input gets one of the numbers below, the first that applies in the order 1 2 3 4 5 6
+ * 7 8, then 9 or 10 by the run, and a refused call writes to no lent slice. Each call ends, given stack
+ * (docs/PERFORMANCE.md has what was measured); a large budget can take hours, so choose it for the time that you
+ * have.
  *
  * A slice is a pointer and the number of its elements. A pointer is not null and suitably aligned, also where the
  * number is 0, and no other slice of the call overlaps one that the call may write (a memory of simp_run, a view of

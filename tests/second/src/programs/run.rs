@@ -31,7 +31,7 @@ pub fn answer(input: &[u8]) -> Option<(Outcome, Vec<u32>)> {
     })
 }
 
-/// The authority and the memory's words where both are of their form, or else the lowest number
+/// The authority and the memory's words where both are of their form, or else the first number
 /// that applies. A text with more or fewer lines than locations isn't of its form, so 7 never comes.
 fn formed(
     sheet: &[u8],

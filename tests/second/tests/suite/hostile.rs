@@ -175,7 +175,7 @@ fn the_deepest_scripts() {
 type Row<'a> = (&'a [u8], u16, &'a [u8], usize, u32, u8);
 
 #[test]
-fn the_lowest_number_is_given() {
+fn the_first_number_is_given() {
     let (good, script) = (sheet(), text(&["= 0", "i 1"]));
     let form = text(&["P 3", "T 0 9"]);
     let repeats = text(&["P 3", "L", "L", "X 0 0"]);
@@ -209,7 +209,7 @@ fn the_lowest_number_is_given() {
 }
 
 #[test]
-fn the_lowest_number_is_given_by_a_view() {
+fn the_first_number_is_given_by_a_view() {
     let (good, form, repeats) = (sheet(), text(&["P 3", "T 0 9"]), text(&["P 3", "L", "L"]));
     let table: &[(&[u8], u16, usize, usize, u8)] = &[
         (&form, 8, 1, 1, 1),

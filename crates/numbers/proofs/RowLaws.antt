@@ -64,8 +64,8 @@ module _ {A : Type 0} (refuse : ℕ → A) (Else : A → Type 0) where
 some-answer : {A : Type 0} (refuse : ℕ → A) (Else : A → Type 0) (rows : List Row) → Settled rows → (None rows → (r : A) × Else r) → (r : A) × First refuse Else rows r
 unfolding First None Settled
 some-answer refuse Else [] s e = e tt
-some-answer refuse Else ((k when P) ∷ rows) (inl a, s) e = (refuse k, inl (a, refl))
-some-answer refuse Else ((k when P) ∷ rows) (inr n, s) e = let f = some-answer refuse Else rows s (λ m. e (n, m)) in (f .0, inr (n, f .1))
+some-answer refuse Else ((k when P) ∷ rows) (inl a) e = (refuse k, inl (a, refl))
+some-answer refuse Else ((k when P) ∷ rows) (inr (n, s)) e = let f = some-answer refuse Else rows s (λ m. e (n, m)) in (f .0, inr (n, f .1))
 
 one-answer : ExactlyOneAnswer
 one-answer A refuse Else rows s e =

@@ -31,10 +31,10 @@ abbrev pub RefusedByANumber : Type 1
 RefusedByANumber = (A : Type 0) (refuse : ℕ → A) (Else : A → Type 0) (rows : List Row) (r : A) → First refuse Else rows r
     → ((k : ℕ) × Among (numbers rows) k × (r ≡ refuse k)) ⊎ (None rows × Else r)
 
--- Of each row it is settled whether it applies.
+-- It is settled which row is the first to apply, or that none does.
 unfoldable pub Settled : List Row → Type 0
 Settled [] = Unit {0}
-Settled ((k when P) ∷ rows) = (P ⊎ (¬ P)) × Settled rows
+Settled ((k when P) ∷ rows) = P ⊎ ((¬ P) × Settled rows)
 
 -- P holds of one, and of no other.
 abbrev pub ExactlyOne : {A : Type 0} → (A → Type 0) → Type 0

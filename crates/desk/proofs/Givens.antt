@@ -14,15 +14,15 @@ use Rattle.memory_text.specs.Answers.{table, memoryOf}
 use Rattle.memory_text.proofs.Memories.{memory-sound}
 use Rattle.desk.specs.declared.Group.{Group}
 use Rattle.desk.specs.declared.Given.{Given}
-use Rattle.desk.specs.Fields.{groupOf, groupIn}
+use Rattle.desk.specs.Fields.{groupOf, groupAnswer}
 use Rattle.desk.specs.Numbers.{unread}
-use Rattle.desk.specs.Given.{wordsRead, formed, givenIn, givenOf, givenWords, Whole}
+use Rattle.desk.specs.Given.{wordsRead, isRead, givenFrom, givenOf, givenWords, Whole}
 
 pub given-whole : (text group : List ℕ) (g : Given) → g ≡ givenOf text group → Whole g
-unfolding givenOf givenIn wordsRead padded
+unfolding givenOf givenFrom wordsRead padded
 given-whole text group g e = rw e (go (memory text) refl)
   where
-    go : (want : Read (List ℕ)) → memory text ≡ want → Whole (givenIn want (groupIn (groupOf group)))
+    go : (want : Read (List ℕ)) → memory text ≡ want → Whole (givenFrom want (groupAnswer (groupOf group)))
     go (got ws r) q =
         let s = memory-sound ws text r q .1 in
         record {
@@ -39,8 +39,8 @@ words-fit g w = omega arith
 pub words-length : (g : Given) → Whole g → length (givenWords g) ≡ g .count
 words-length g w = length-take-le (g .count) (g .words) (words-fit g w)
 
-pub given-words : (m : Read (List ℕ)) (g : Group) → givenWords (givenIn m g) ≡ wordsRead m
-unfolding givenIn padded
+pub given-words : (m : Read (List ℕ)) (g : Group) → givenWords (givenFrom m g) ≡ wordsRead m
+unfolding givenFrom padded
 given-words m g = take-at (wordsRead m) (replicate (1024 - length (wordsRead m)) 0) (length (wordsRead m)) refl
 
 -- a memory that is read, and what is made of it
@@ -52,13 +52,13 @@ memory-few text m e = rw e (go (memory text) refl)
     go (got ws r) q = omega (arith, memory-sound ws text r q .1 .most-locations)
     go bad q = omega arith
 
-pub given-is : (text group : List ℕ) (m : Memory) (g : Group) (k : ℕ) → m ≡ memoryOf text → g ≡ groupIn (groupOf group) → k ≡ unread (g .ok) (m .ok)
+pub given-is : (text group : List ℕ) (m : Memory) (g : Group) (k : ℕ) → m ≡ memoryOf text → g ≡ groupAnswer (groupOf group) → k ≡ unread (g .ok) (m .ok)
     → _≡_ {A = Given} (record { words = m .words; count = m .count * 16; group = g .set; other = k }) (givenOf text group)
-unfolding givenOf givenIn memoryOf table formed wordsRead padded
+unfolding givenOf givenFrom memoryOf table isRead wordsRead padded
 given-is text group m g k em eg ek = rw (ek, em, eg) (go (memory text) refl)
   where
     go : (want : Read (List ℕ)) → memory text ≡ want
-        → record { words = table want .words; count = table want .count * 16; group = groupIn (groupOf group) .set; other = unread (groupIn (groupOf group) .ok) (table want .ok) }
-        ≡ givenIn want (groupIn (groupOf group))
+        → record { words = table want .words; count = table want .count * 16; group = groupAnswer (groupOf group) .set; other = unread (groupAnswer (groupOf group) .ok) (table want .ok) }
+        ≡ givenFrom want (groupAnswer (groupOf group))
     go (got ws r) q = let n : length ws / 16 * 16 ≡ length ws = omega (arith, memory-sound ws text r q .1 .whole) in rw n
     go bad q = refl

@@ -12,18 +12,18 @@ use borrow.Author.Tests.{lt-leb, leb-true, leb-false}
 use Rattle.text.specs.Reading.{fits, limit}
 use Rattle.logic.proofs.BooleanLaws.{cases}
 use Rattle.parts.specs.Parts.{keep, textOf, keptOf}
-use Rattle.parts.specs.Feeding.{beginning, held, fed, textIn}
+use Rattle.parts.specs.Feeding.{beginning, held, fed, textHeld}
 use Rattle.parts.proofs.Keeping.{holds-parts}
 use Rattle.sheet_text.specs.Sheets.{sheetIn, sheetOf}
 use Rattle.script_text.specs.Reading.{linesOf}
 use Rattle.script_text.specs.Script.{scriptOf}
 use Rattle.memory_text.specs.Reading.{memory}
 use Rattle.simp.specs.Calls.{runOf, viewOf}
-use Rattle.desk.specs.Fields.{groupOf, budgetOf, budgetIn}
+use Rattle.desk.specs.Fields.{groupOf, budgetOf, budgetAnswer}
 use Rattle.desk.specs.Given.{givenOf, givenWords}
 use Rattle.desk.specs.Show.{viewed, showOf}
 use Rattle.desk.specs.Run.{ranOn, runTextOf}
-use Rattle.desk.specs.Inputs.{showParts, runParts, shownFor, ranFor, showIn, runIn}
+use Rattle.desk.specs.Inputs.{showParts, runParts, shownFor, ranFor, showHeld, runHeld}
 use Rattle.desk.specs.Theorems.{KeptEnough, ShowsInput, RunsInput}
 use Rattle.desk.proofs.Exact.{group-length, budget-length}
 
@@ -83,7 +83,7 @@ run-text-kept : (sheet script text authority budget : List ℕ)
 unfolding runTextOf ranOn
 run-text-kept sheet script text authority budget =
     let g = givenOf text authority in
-    rw (budget-kept budget, given-kept text authority, run-kept sheet script (givenWords g) (g .group) (budgetIn (budgetOf budget) .number))
+    rw (budget-kept budget, given-kept text authority, run-kept sheet script (givenWords g) (g .group) (budgetAnswer (budgetOf budget) .number))
 
 show-kept : (sheet text group : List ℕ) → showOf (take keep sheet) (take keep text) (take keep group) ≡ showOf sheet text group
 unfolding showOf viewed viewOf
@@ -94,19 +94,19 @@ kept-enough = record { show = show-kept; run = run-text-kept }
 
 -- the texts of an input, as the buffer holds them
 module _ (last : ℕ) (small : last < 8) (buffer : List ℕ) (long : suc last * keep ≤ length buffer) (input : List ℕ) where
-  part-kept : (i : ℕ) → i ≤ last → textIn (fed last (held beginning buffer) input .state) (fed last (held beginning buffer) input .buffer) i ≡ take keep (textOf last i input)
+  part-kept : (i : ℕ) → i ≤ last → textHeld (fed last (held beginning buffer) input .state) (fed last (held beginning buffer) input .buffer) i ≡ take keep (textOf last i input)
   unfolding keptOf
   part-kept i h = holds-parts last buffer input small long i h
 
 pub shows-input : ShowsInput
-unfolding showIn shownFor showParts
+unfolding showHeld shownFor showParts
 shows-input buffer input l =
     let part = part-kept 2 (omega arith) buffer l input in
     rw (part 0 (omega arith), part 1 (omega arith), part 2 (omega arith))
     (kept-enough .show (textOf 2 0 input) (textOf 2 1 input) (textOf 2 2 input))
 
 pub runs-input : RunsInput
-unfolding runIn ranFor runParts
+unfolding runHeld ranFor runParts
 runs-input buffer input l =
     let part = part-kept 4 (omega arith) buffer l input in
     rw (part 0 (omega arith), part 1 (omega arith), part 2 (omega arith), part 3 (omega arith), part 4 (omega arith))

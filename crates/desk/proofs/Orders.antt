@@ -20,9 +20,9 @@ use Rattle.simp.specs.Calls.{Viewed, refusedView, viewOf}
 use Rattle.simp.specs.Judgements.{OfSheet, NoSheet, Repeats, Strangers, OtherSize, IllFormed, Sized, viewRows, View}
 use Rattle.simp.proofs.Judged.{its}
 use Rattle.simp.proofs.SecondDemand.{demand-2}
-use Rattle.desk.specs.Fields.{groupOf, groupIn}
+use Rattle.desk.specs.Fields.{groupOf, groupAnswer}
 use Rattle.desk.specs.Numbers.{placeIn, earlier, unread, asText}
-use Rattle.desk.specs.Given.{wordsRead, formed, givenIn, givenOf}
+use Rattle.desk.specs.Given.{wordsRead, isRead, givenFrom, givenOf}
 use Rattle.desk.specs.Output.{numberLine}
 use Rattle.desk.specs.Show.{viewText, viewed, showOf}
 use Rattle.desk.specs.Order.{IsGroup, IsMemoryText, OfGroup, OfMemory, NoGroup, NoMemory, showRows, Shown}
@@ -143,21 +143,21 @@ module _ (sheet text group ws : List ℕ) (g : ℕ) where
 -- what show prints, by what its texts are read as
 show-by : (sheet text group : List ℕ)
     → showOf sheet text group
-    ≡ (let o = groupIn (groupOf group) in
+    ≡ (let o = groupAnswer (groupOf group) in
     let ws = wordsRead (memory text) in
-    said (unread (o .ok) (formed (memory text))) (viewOf sheet ws (o .set) (replicate (length ws) 0)))
-unfolding showOf viewed givenOf givenIn
-show-by sheet text group = rw (given-words (memory text) (groupIn (groupOf group)))
+    said (unread (o .ok) (isRead (memory text))) (viewOf sheet ws (o .set) (replicate (length ws) 0)))
+unfolding showOf viewed givenOf givenFrom
+show-by sheet text group = rw (given-words (memory text) (groupAnswer (groupOf group)))
 
 module _ (sheet text group : List ℕ) where
   abbrev printed : Option ℕ → Read (List ℕ) → List ℕ
-  printed o m = said (unread (groupIn o .ok) (formed m)) (viewOf sheet (wordsRead m) (groupIn o .set) (replicate (length (wordsRead m)) 0))
+  printed o m = said (unread (groupAnswer o .ok) (isRead m)) (viewOf sheet (wordsRead m) (groupAnswer o .set) (replicate (length (wordsRead m)) 0))
 
   by-texts : (o : Option ℕ) → groupOf group ≡ o → (m : Read (List ℕ)) → memory text ≡ m → Shown sheet text group (printed o m)
-  unfolding groupIn wordsRead formed unread
+  unfolding groupAnswer wordsRead isRead unread
   by-texts none e m q =
-      on-sheet sheet text group (wordsRead m) 0 false (formed m)
-      (no-group sheet text group (wordsRead m) 0 (formed m) (λ g i. none-some (sym e ∙ group-exact group g .1 i)))
+      on-sheet sheet text group (wordsRead m) 0 false (isRead m)
+      (no-group sheet text group (wordsRead m) 0 (isRead m) (λ g i. none-some (sym e ∙ group-exact group g .1 i)))
   by-texts (some g) e bad q =
       on-sheet sheet text group [] g true false
       (on-group sheet text group [] g (group-exact group g .0 e) false

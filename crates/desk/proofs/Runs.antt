@@ -16,9 +16,9 @@ use Rattle.memory_text.proofs.Memories.{memory-sound}
 use Rattle.simp.specs.Calls.{Ran, runOf}
 use Rattle.desk.specs.declared.Given.{Given}
 use Rattle.desk.specs.declared.Budget.{Budget}
-use Rattle.desk.specs.Fields.{groupOf, groupIn, budgetOf, budgetIn}
+use Rattle.desk.specs.Fields.{groupOf, groupAnswer, budgetOf, budgetAnswer}
 use Rattle.desk.specs.Numbers.{order, placeIn, earlier, unread, asText}
-use Rattle.desk.specs.Given.{wordsRead, formed, givenIn, givenOf, givenWords}
+use Rattle.desk.specs.Given.{wordsRead, isRead, givenFrom, givenOf, givenWords}
 use Rattle.desk.specs.Run.{outcomeLine, ranText, adjusted, ranOn, noBudget, runTextOf}
 use Rattle.desk.specs.Theorems.{RunsPlain}
 use Rattle.desk.proofs.Givens.{given-words}
@@ -36,7 +36,7 @@ module _ (sheet script : List ℕ) (g : Given) (budget answer steps : ℕ) (memo
   run-other q = rw (← e, ← ek, ne-eqb k answer q)
 
 -- the output of run
-module _ (sheet script text authority budget : List ℕ) (b : Budget) (eb : b ≡ budgetIn (budgetOf budget)) where
+module _ (sheet script text authority budget : List ℕ) (b : Budget) (eb : b ≡ budgetAnswer (budgetOf budget)) where
   pub run-none : b .ok ≡ false → noBudget ≡ runTextOf sheet script text authority budget
   unfolding runTextOf
   run-none z = rw (← eb, z)
@@ -67,8 +67,8 @@ plain-other r ws e = rw (ne-eqb (r .answer) 7 e, none-earlier (r .answer), eq-eq
 module _ (sheet script text authority budget ws rest : List ℕ) (a n : ℕ) (ea : groupOf authority ≡ some a) (en : budgetOf budget ≡ some n)
     (em : memory text ≡ got ws rest) where
   plain : runTextOf sheet script text authority budget ≡ ranText (adjusted (runOf sheet script ws a n) ws 0)
-  unfolding runTextOf ranOn givenOf givenIn groupIn budgetIn wordsRead formed unread
-  plain = rw (en, ea, em, given-words (got ws rest) (groupIn (some a)))
+  unfolding runTextOf ranOn givenOf givenFrom groupAnswer budgetAnswer wordsRead isRead unread
+  plain = rw (en, ea, em, given-words (got ws rest) (groupAnswer (some a)))
 
 pub runs-plain : RunsPlain
 runs-plain sheet script text authority budget ws rest a n ea en em =

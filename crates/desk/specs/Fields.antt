@@ -32,10 +32,10 @@ unfoldable pub budgetOf : List ℕ → Option ℕ
 budgetOf t = onlyField (number most t)
 
 -- the code's answers
-unfoldable pub groupIn : Option ℕ → Group
-groupIn none = record { ok = false; set = 0 }
-groupIn (some m) = record { ok = true; set = m }
+unfoldable pub groupAnswer : Option ℕ → Group
+groupAnswer none = record { ok = false; set = 0 }
+groupAnswer (some m) = record { ok = true; set = m }
 
-unfoldable pub budgetIn : Option ℕ → Budget
-budgetIn none = record { ok = false; number = 0 }
-budgetIn (some n) = record { ok = true; number = n }
+unfoldable pub budgetAnswer : Option ℕ → Budget
+budgetAnswer none = record { ok = false; number = 0 }
+budgetAnswer (some n) = record { ok = true; number = n }

@@ -12,7 +12,7 @@ use Rattle.memory_text.specs.Sizes.{memoryWords}
 use Rattle.memory_text.specs.Reading.{memory}
 use Rattle.desk.specs.declared.Group.{Group}
 use Rattle.desk.specs.declared.Given.{Given}
-use Rattle.desk.specs.Fields.{groupOf, groupIn}
+use Rattle.desk.specs.Fields.{groupOf, groupAnswer}
 use Rattle.desk.specs.Numbers.{unread}
 
 -- the words of a memory text; none where it isn't of its form
@@ -20,21 +20,21 @@ unfoldable pub wordsRead : Read (List ℕ) → List ℕ
 wordsRead (got ws _) = ws
 wordsRead bad = []
 
-unfoldable pub formed : {A : Type 0} → Read A → Bool
-formed (got _ _) = true
-formed bad = false
+unfoldable pub isRead : {A : Type 0} → Read A → Bool
+isRead (got _ _) = true
+isRead bad = false
 
 -- A text that isn't of its form stands for no location, or for the empty group, and has the number 8 or 3.
-unfoldable pub givenIn : Read (List ℕ) → Group → Given
-givenIn m g = record {
+unfoldable pub givenFrom : Read (List ℕ) → Group → Given
+givenFrom m g = record {
   words = padded memoryWords (wordsRead m);
   count = length (wordsRead m);
   group = g .set;
-  other = unread (g .ok) (formed m);
+  other = unread (g .ok) (isRead m);
 }
 
 unfoldable pub givenOf : List ℕ → List ℕ → Given
-givenOf memoryText group = givenIn (memory memoryText) (groupIn (groupOf group))
+givenOf memoryText group = givenFrom (memory memoryText) (groupAnswer (groupOf group))
 
 -- the words of the memory, without the zeros after them
 abbrev pub givenWords : Given → List ℕ

@@ -4,7 +4,7 @@ use mathlib.Core.Path.{_≡_}
 use mathlib.Core.List.{List}
 use Rattle.parts.specs.declared.State.{State}
 use Rattle.parts.specs.Parts.{textOf}
-use Rattle.parts.specs.Feeding.{textIn}
+use Rattle.parts.specs.Feeding.{textHeld}
 use Rattle.desk.specs.Show.{showOf}
 use Rattle.desk.specs.Run.{runTextOf}
 use Rattle.desk.specs.Output.{put, putLength}
@@ -25,11 +25,11 @@ unfoldable pub ranFor : List ℕ → List ℕ
 ranFor input = runParts (λ i. textOf 4 i input)
 
 -- the outputs for what a buffer holds of an input
-unfoldable pub showIn : State → List ℕ → List ℕ
-showIn s buffer = showParts (textIn s buffer)
+unfoldable pub showHeld : State → List ℕ → List ℕ
+showHeld s buffer = showParts (textHeld s buffer)
 
-unfoldable pub runIn : State → List ℕ → List ℕ
-runIn s buffer = runParts (textIn s buffer)
+unfoldable pub runHeld : State → List ℕ → List ℕ
+runHeld s buffer = runParts (textHeld s buffer)
 
 -- The output for some input was put; which input that is, no contract can say (crate input).
 abbrev pub PutFor : (List ℕ → List ℕ) → List ℕ → List ℕ → ℕ → Type 0

@@ -9,7 +9,7 @@ use Rattle.text.specs.Number.{decimal}
 use Rattle.memory_text.specs.Printing.{memoryText}
 use Rattle.simp.specs.Calls.{Ran, runOf}
 use Rattle.desk.specs.declared.Given.{Given}
-use Rattle.desk.specs.Fields.{budgetOf, budgetIn}
+use Rattle.desk.specs.Fields.{budgetOf, budgetAnswer}
 use Rattle.desk.specs.Numbers.{earlier, asText}
 use Rattle.desk.specs.Given.{givenOf, givenWords}
 use Rattle.desk.specs.Output.{numberEnd}
@@ -44,5 +44,5 @@ noBudget = quoted "the budget isn't a number from 0 to 4294967295\n"
 -- Run's output. The scope has no number for a budget that isn't of its form, so words stand for it.
 unfoldable pub runTextOf : List ℕ → List ℕ → List ℕ → List ℕ → List ℕ → List ℕ
 runTextOf sheet script memoryText authority budget =
-    let b = budgetIn (budgetOf budget) in
+    let b = budgetAnswer (budgetOf budget) in
     cond (b .ok) (ranOn sheet script (givenOf memoryText authority) (b .number)) noBudget

@@ -15,7 +15,7 @@ use Rattle.desk.specs.Fields.{groupOf, budgetOf}
 use Rattle.desk.specs.Show.{showOf}
 use Rattle.desk.specs.Run.{outcomeLine, ranText, runTextOf}
 use Rattle.desk.specs.Order.{IsGroup, Shown}
-use Rattle.desk.specs.Inputs.{shownFor, ranFor, showIn, runIn}
+use Rattle.desk.specs.Inputs.{shownFor, ranFor, showHeld, runHeld}
 
 -- a group is four digits and byte 10
 abbrev pub GroupExact : Type 0
@@ -51,10 +51,10 @@ abbrev pub ShowsInput : Type 0
 ShowsInput =
     (buffer input : List ℕ) → 3 * keep ≤ length buffer
     → let h = fed 2 (held beginning buffer) input in
-    showIn (h .state) (h .buffer) ≡ shownFor input
+    showHeld (h .state) (h .buffer) ≡ shownFor input
 
 abbrev pub RunsInput : Type 0
 RunsInput =
     (buffer input : List ℕ) → 5 * keep ≤ length buffer
     → let h = fed 4 (held beginning buffer) input in
-    runIn (h .state) (h .buffer) ≡ ranFor input
+    runHeld (h .state) (h .buffer) ≡ ranFor input

@@ -8,11 +8,11 @@ ghost use mathlib.Core.Path.{_≡_};
 ghost use Prim.Native.Nat.{_+_, _≤_};
 ghost use lib.ListN.{length, take, drop};
 ghost use Rattle.memory_text.specs.Writing.{Puts};
-ghost use Rattle.desk.specs.Fields.{closed, groupOf, groupIn, budgetOf, budgetIn};
+ghost use Rattle.desk.specs.Fields.{closed, groupOf, groupAnswer, budgetOf, budgetAnswer};
 ghost use Rattle.desk.specs.Numbers.{order, placeIn, earlier as earlierOf, unread as unreadOf, asText};
 ghost use Rattle.desk.specs.Given.{givenOf, Whole};
 ghost use Rattle.desk.specs.Show.{viewed, showOf};
-ghost use Rattle.desk.specs.Inputs.{showIn};
+ghost use Rattle.desk.specs.Inputs.{showHeld};
 ghost use Rattle.desk.specs.Output.{places, numberEnd, put, putLength, PutAll};
 
 // The places that a buffer must have for what is printed: 64 lines of at most 176 bytes, and before them a line of at most 22.
@@ -54,7 +54,7 @@ fn closes(s: &[u8], p: usize) -> bool
 
 // The group of a text: four digits and byte 10.
 fn group_line(s: &[u8]) -> Group
-    ensures { λ r. ⌜ r ≡ groupIn (groupOf (now (s .entry))) ⌝ }
+    ensures { λ r. ⌜ r ≡ groupAnswer (groupOf (now (s .entry))) ⌝ }
 {
     if let Mask::At(m, p) = text::set(s, 0) {
         if closes(s, p) {
@@ -66,7 +66,7 @@ fn group_line(s: &[u8]) -> Group
 
 // The budget of a text: a number of 32 bits and byte 10.
 fn budget_line(s: &[u8]) -> Budget
-    ensures { λ r. ⌜ r ≡ budgetIn (budgetOf (now (s .entry))) ⌝ }
+    ensures { λ r. ⌜ r ≡ budgetAnswer (budgetOf (now (s .entry))) ⌝ }
 {
     if let Value::At(n, p) = text::number(s, 0, text::MOST) {
         if closes(s, p) {
@@ -181,8 +181,8 @@ pub fn show(sheet: &[u8], memory: &[u8], group: &[u8], out: &mut [u8]) -> usize
 
 // What show prints of an input whose texts 0 to 2 are kept in a buffer: sheet, memory and group.
 pub fn show_input(state: State, buffer: &[u8], out: &mut [u8]) -> usize
-    ensures { λ r. ⌜ r ≡ putLength (now (out .entry)) (showIn state (now (buffer .entry))) ⌝ }
-    ensures { λ _. ⌜ now (out .exit) ≡ put (now (out .entry)) (showIn state (now (buffer .entry))) ⌝ }
+    ensures { λ r. ⌜ r ≡ putLength (now (out .entry)) (showHeld state (now (buffer .entry))) ⌝ }
+    ensures { λ _. ⌜ now (out .exit) ≡ put (now (out .entry)) (showHeld state (now (buffer .entry))) ⌝ }
 {
     let sheet = parts::text_in(state, buffer, 0);
     let memory = parts::text_in(state, buffer, 1);

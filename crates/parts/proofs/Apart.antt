@@ -9,7 +9,7 @@ use lib.Dec.{eqb, ltb}
 use borrow.Author.Tests.{eq-eqb, ne-eqb, lt-ltb}
 use Rattle.logic.proofs.BooleanLaws.{cases}
 use Rattle.parts.specs.Parts.{parting, given, textFrom, textOf, noEmptyLine, ended, joined}
-use Rattle.parts.specs.Theorems.{Each, JoinedApart, MissingEmpty}
+use Rattle.parts.specs.Theorems.{AllWhole, JoinedApart, MissingEmpty}
 use Rattle.parts.proofs.Steps.{parting-below, parting-empty, from-next, from-same}
 use Rattle.logic.specs.Booleans.{both}
 
@@ -93,9 +93,9 @@ from-last last i (b ∷ t) start =
 
 -- texts from text j on, where the last of them, text k, goes on to the end
 module _ (last k : ℕ) (end : List ℕ) (few : k ≤ last) (rest : (i : ℕ) → textFrom last i k true end ≡ piece (eqb k i) end) where
-  apart : (ts : List (List ℕ)) (j : ℕ) → Each ts → k ≡ j + length ts → (d i : ℕ) → i ≡ j + d
+  apart : (ts : List (List ℕ)) (j : ℕ) → AllWhole ts → k ≡ j + length ts → (d i : ℕ) → i ≡ j + d
       → textFrom last i j true (joined ts end) ≡ getD (ts ++ (end ∷ [])) d []
-  unfolding joined Each piece
+  unfolding joined AllWhole piece
   apart [] j _ e zero i q = let p : k ≡ j = omega arith in rw (← p) (rest i ∙ rw (eq-eqb k i (omega arith)))
   apart [] j _ e (suc d) i q = let p : k ≡ j = omega arith in rw (← p) (rest i ∙ rw (ne-eqb k i (λ z. omega arith)))
   apart (t ∷ ts) j l e zero i q =

@@ -10,7 +10,7 @@ use lib.Dec.{eqb, ltb}
 use borrow.Author.Tests.{ltb-true, ltb-false, eqb-true, eqb-false}
 use Rattle.logic.proofs.BooleanLaws.{cases}
 use Rattle.parts.specs.Parts.{parting, given, textFrom, textOf, keep, keptOf}
-use Rattle.parts.specs.Feeding.{texts, beginning, Held, held, count, turned, stored, fed, textIn}
+use Rattle.parts.specs.Feeding.{texts, beginning, Held, held, count, turned, stored, fed, textHeld}
 use Rattle.parts.specs.Theorems.{HoldsParts}
 use Rattle.parts.proofs.Steps.{parting-below, stored-full, stored-room, stepped-on, stepped-in, from-next, from-same}
 use Rattle.parts.proofs.Places.{place-same, place-other}
@@ -24,10 +24,10 @@ record Sound (last : ℕ) (h : Held) : Type 0 where
 
 -- what is held of text i
 abbrev part : Held → ℕ → List ℕ
-part h i = textIn (h .state) (h .buffer) i
+part h i = textHeld (h .state) (h .buffer) i
 
 part-few : (last : ℕ) (h : Held) → Sound last h → (i : ℕ) → length (part h i) ≤ keep
-unfolding textIn
+unfolding textHeld
 part-few last h s i = omega (arith, length-take (count (h .state) i) (drop (i * keep) (h .buffer)), s .few i)
 
 sound-turned : (last : ℕ) (h : Held) → Sound last h → h .state .text < last → Sound last (turned h)
@@ -35,7 +35,7 @@ unfolding turned
 sound-turned last h s l = record { inside = omega arith; places = s .places; few = s .few; long = s .long }
 
 part-turned : (h : Held) (i : ℕ) → part (turned h) i ≡ part h i
-unfolding turned textIn
+unfolding turned textHeld
 part-turned h i = refl
 
 -- one number of a list, raised by one
@@ -78,7 +78,7 @@ module _ (last : ℕ) (h : Held) (s : Sound last h) (b : ℕ) (below : last < te
 
   -- of the text itself, with whatever follows
   part-mine : (t : List ℕ) → take keep (part (stored h b) j ++ t) ≡ take keep (part h j ++ (b ∷ t))
-  unfolding textIn
+  unfolding textHeld
   part-mine t =
       let p : j < length (h .state .kept) = omega (arith, s .inside, s .places) in
       cases (ltb n keep)
@@ -98,7 +98,7 @@ module _ (last : ℕ) (h : Held) (s : Sound last h) (b : ℕ) (below : last < te
 
   -- of another text
   part-other : (i : ℕ) → (j ≡ i → ⊥) → part (stored h b) i ≡ part h i
-  unfolding textIn
+  unfolding textHeld
   part-other i d =
       cases (ltb n keep)
       (λ e.
@@ -121,7 +121,7 @@ upto last i h t = take keep (part h i ++ textFrom last i (h .state .text) (h .st
 
 upto-turned : (last i : ℕ) (h : Held) (b : ℕ) (t : List ℕ) → parting last (h .state .text) (h .state .start) b ≡ true
     → upto last i (turned h) t ≡ upto last i h (b ∷ t)
-unfolding turned textIn
+unfolding turned textHeld
 upto-turned last i h b t e = ap (λ (u : List ℕ). take keep (part h i ++ u)) (sym (from-next last i (h .state .text) (h .state .start) b t e))
 
 upto-stored : (last i : ℕ) (h : Held) (b : ℕ) (t : List ℕ) → Sound last h → last < texts → parting last (h .state .text) (h .state .start) b ≡ false
@@ -159,7 +159,7 @@ unfolding beginning
 sound-beginning last buffer l = record { inside = omega arith; places = refl; few = λ i. omega (arith, none-kept i); long = l }
 
 part-beginning : (buffer : List ℕ) (i : ℕ) → part (held beginning buffer) i ≡ []
-unfolding textIn
+unfolding textHeld
 part-beginning buffer i = rw (none-kept i)
 
 pub holds-parts : HoldsParts

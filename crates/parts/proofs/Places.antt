@@ -11,7 +11,7 @@ use borrow.Author.Tests.{ltb-true, ltb-false}
 use Rattle.logic.proofs.BooleanLaws.{cases}
 use Rattle.parts.specs.declared.State.{State}
 use Rattle.parts.specs.Parts.{keep}
-use Rattle.parts.specs.Feeding.{count, textIn}
+use Rattle.parts.specs.Feeding.{count, textHeld}
 
 -- a byte stored after the n bytes from p on
 pub place-same : (l : List ℕ) (p n b : ℕ) → p + n < length l → take (n + 1) (drop p (set l (p + n) b)) ≡ take n (drop p l) ++ (b ∷ [])
@@ -31,21 +31,21 @@ place-other l i j m n b d hm hn =
 
 -- what is held of a text, as the code takes it
 module _ (s : State) (buffer : List ℕ) (i : ℕ) where
-  pub text-past : length (s .kept) ≤ i → [] ≡ textIn s buffer i
-  unfolding textIn
+  pub text-past : length (s .kept) ≤ i → [] ≡ textHeld s buffer i
+  unfolding textHeld
   text-past h = rw (List·getD-eq-default (s .kept) 0 h)
 
-  pub text-beyond : length buffer ≤ i * keep → [] ≡ textIn s buffer i
-  unfolding textIn
+  pub text-beyond : length buffer ≤ i * keep → [] ≡ textHeld s buffer i
+  unfolding textHeld
   text-beyond h = rw (drop-of-length-le buffer h) (sym (take-nil (count s i)))
 
   pub text-rest : i * keep ≤ length buffer → length buffer - i * keep ≤ count s i
-      → take (length buffer - i * keep) (drop (i * keep) buffer) ≡ textIn s buffer i
-  unfolding textIn
+      → take (length buffer - i * keep) (drop (i * keep) buffer) ≡ textHeld s buffer i
+  unfolding textHeld
   text-rest h k =
       take-all (length buffer - i * keep) (drop (i * keep) buffer) (omega (arith, length-drop (i * keep) buffer))
       ∙ sym (take-all (count s i) (drop (i * keep) buffer) (omega (arith, length-drop (i * keep) buffer)))
 
-  pub text-part : take (i * keep + count s i - i * keep) (drop (i * keep) buffer) ≡ textIn s buffer i
-  unfolding textIn
+  pub text-part : take (i * keep + count s i - i * keep) (drop (i * keep) buffer) ≡ textHeld s buffer i
+  unfolding textHeld
   text-part = let z : i * keep + count s i - i * keep ≡ count s i = omega arith in rw z

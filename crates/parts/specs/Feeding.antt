@@ -55,5 +55,5 @@ fed last h [] = h
 fed last h (b ∷ t) = fed last (stepped last h b) t
 
 -- what a buffer holds of text i
-unfoldable pub textIn : State → List ℕ → ℕ → List ℕ
-textIn s buffer i = take (count s i) (drop (i * keep) buffer)
+unfoldable pub textHeld : State → List ℕ → ℕ → List ℕ
+textHeld s buffer i = take (count s i) (drop (i * keep) buffer)

@@ -5,25 +5,25 @@ use mathlib.Core.Bool.{true}
 use mathlib.Core.List.{List, [], _∷_, _++_}
 use lib.ListN.{length, getD}
 use Rattle.parts.specs.Parts.{textOf, keep, keptOf, noEmptyLine, ended, joined}
-use Rattle.parts.specs.Feeding.{texts, beginning, Held, held, fed, textIn}
+use Rattle.parts.specs.Feeding.{texts, beginning, Held, held, fed, textHeld}
 
 -- lines that are not empty, each with its end
 pub record Lines (t : List ℕ) : Type 0 where
   pub no-empty : noEmptyLine true t ≡ true
   pub whole : ended true t ≡ true
 
-unfoldable pub Each : List (List ℕ) → Type 0
-Each [] = Unit {0}
-Each (t ∷ ts) = Lines t × Each ts
+unfoldable pub AllWhole : List (List ℕ) → Type 0
+AllWhole [] = Unit {0}
+AllWhole (t ∷ ts) = Lines t × AllWhole ts
 
 -- Texts without empty lines, joined by empty lines, are the parts of the whole; empty lines in the last text belong to it.
 abbrev pub JoinedApart : Type 0
-JoinedApart = (ts : List (List ℕ)) (end : List ℕ) → Each ts → (i : ℕ) → textOf (length ts) i (joined ts end) ≡ getD (ts ++ (end ∷ [])) i []
+JoinedApart = (ts : List (List ℕ)) (end : List ℕ) → AllWhole ts → (i : ℕ) → textOf (length ts) i (joined ts end) ≡ getD (ts ++ (end ∷ [])) i []
 
 -- Where there are fewer empty lines than the texts need, the missing texts are empty.
 abbrev pub MissingEmpty : Type 0
 MissingEmpty =
-    (ts : List (List ℕ)) (end : List ℕ) → Each ts → noEmptyLine true end ≡ true → (last : ℕ) → length ts ≤ last
+    (ts : List (List ℕ)) (end : List ℕ) → AllWhole ts → noEmptyLine true end ≡ true → (last : ℕ) → length ts ≤ last
     → (i : ℕ) → textOf last i (joined ts end) ≡ getD (ts ++ (end ∷ [])) i []
 
 -- Chunks fed one after another are their concatenation.
@@ -35,4 +35,4 @@ abbrev pub HoldsParts : Type 0
 HoldsParts =
     (last : ℕ) (buffer input : List ℕ) → last < texts → suc last * keep ≤ length buffer → (i : ℕ) → i ≤ last
     → let h = fed last (held beginning buffer) input in
-    textIn (h .state) (h .buffer) i ≡ keptOf last i input
+    textHeld (h .state) (h .buffer) i ≡ keptOf last i input

@@ -1,7 +1,7 @@
 // Standard input as several texts parted by empty lines, taken chunk by chunk into one lent buffer.
 ghost use mathlib.Core.Path.{_≡_};
 ghost use Rattle.parts.specs.Parts.{parting};
-ghost use Rattle.parts.specs.Feeding.{held, beginning, stored, stepped, fed, textIn};
+ghost use Rattle.parts.specs.Feeding.{held, beginning, stored, stepped, fed, textHeld};
 
 // One byte more than a text may have.
 pub const KEEP: usize = 16385;
@@ -94,7 +94,7 @@ pub fn feed(state: State, chunk: &[u8], buffer: &mut [u8], last: usize) -> State
 
 // What a buffer holds of text i.
 pub fn text_in(state: State, buffer: &[u8], i: usize) -> &[u8]
-    ensures { λ r. ⌜ now r ≡ textIn state (now (buffer .entry)) i ⌝ }
+    ensures { λ r. ⌜ now r ≡ textHeld state (now (buffer .entry)) i ⌝ }
 {
     if TEXTS <= i {
         return &buffer[..0];

@@ -21,6 +21,8 @@ use Rattle.script.specs.Names.{Counts, named}
 use Rattle.script.specs.declared.Row.{Row}
 use Rattle.script.proofs.Rows.{CmdRow, at-skip, at-seq, at-assign, at-while, at-case, cmd-row}
 use Rattle.memory.specs.Memory.{cellOf}
+use Rattle.interpreter.specs.State.{numberOf}
+use Rattle.interpreter.specs.declared.State.the-variants.{Done, NoRule}
 use Rattle.interpreter.specs.Cells.{Holds}
 use Rattle.interpreter.specs.Nodes.{Tells}
 use Rattle.interpreter.specs.Post.{CmdAt, an-expression, a-command, Skips, Ends, Execs, ticked, Ticks, Assigns, Choice, to-left, to-right, no-budget, too-long, no-rule, choiceV, choice, Chooses, Decides, Enters, Branches}
@@ -274,7 +276,8 @@ none-case Q (at-case s p q h) n1 n2 n3 n4 n5 = absurd (n5 refl)
 -- ---- a law for each arm of the code
 
 module _ {ws : List ℕ} {at : ℕ} {table : List ℕ} {authority depth : ℕ} {work : List ℕ} {fuel : ℕ} {row : Row} (r : row ≡ rowAt ws at) where
-  pub exec-skip : row .kind ≡ 1 → Execs ws at table authority depth work fuel 0 fuel (at + 3) work
+  pub exec-skip : row .kind ≡ 1 → Execs ws at table authority depth work fuel (numberOf Done) fuel (at + 3) work
+  unfolding numberOf
   exec-skip q = by-runs (omega arith) (omega arith) (λ W k c rest M ρ t p held. skip-case W k M ρ fuel (cmd-row-of 1 r q p) held)
 
   module _ {ds dl dn ts tl tn : ℕ} {work′ : List ℕ} (q : row .kind ≡ 2) (x : Execs ws (at + 3) table authority depth work fuel ds dl dn work′)
@@ -327,8 +330,9 @@ module _ {ws : List ℕ} {at : ℕ} {table : List ℕ} {authority depth : ℕ} {
         (λ W k c rest M ρ t p held. case-case at W k M ρ t held y x′ (cmd-row-of 5 r q p) (p .names) z)
 
   pub exec-none : (row .kind ≡ 1 → ⊥) → (row .kind ≡ 2 → ⊥) → (row .kind ≡ 3 → ⊥) → (row .kind ≡ 4 → ⊥) → (row .kind ≡ 5 → ⊥)
-      → Execs ws at table authority depth work fuel 11 fuel at work
+      → Execs ws at table authority depth work fuel (numberOf NoRule) fuel at work
+  unfolding numberOf
   exec-none n1 n2 n3 n4 n5 =
       by-runs (omega arith) (omega arith)
       (λ W k c rest M ρ t p held.
-      none-case (Ends ws rest (k .locations) depth ρ (go W ρ c M fuel) 11 fuel work at) (cmd-row-of (row .kind) r refl p) n1 n2 n3 n4 n5)
+      none-case (Ends ws rest (k .locations) depth ρ (go W ρ c M fuel) 4 fuel work at) (cmd-row-of (row .kind) r refl p) n1 n2 n3 n4 n5)

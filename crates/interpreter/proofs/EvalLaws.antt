@@ -21,6 +21,8 @@ use Rattle.script.specs.declared.Row.{Row}
 use Rattle.script.proofs.Rows.{ExprRow, at-int, at-loc, at-var, at-plus, at-left, at-right, at-pack, at-unpack, expr-row, row-in}
 use Rattle.memory.specs.Words.{cell}
 use Rattle.memory.specs.Memory.{cellOf}
+use Rattle.interpreter.specs.State.{numberOf}
+use Rattle.interpreter.specs.declared.State.the-variants.{Done, NoRule}
 use Rattle.interpreter.specs.Cells.{accumulator, firstLocation, loadOf, storeOf, Holds}
 use Rattle.interpreter.specs.Nodes.{Answers, Turns, Applies, Applied, Tags, Tells}
 use Rattle.interpreter.specs.Post.{ExprAt, Evals}
@@ -167,7 +169,8 @@ one-of k h l n = on (eqb k 10) refl
 -- ---- a law for each arm of the code
 
 module _ {ws : List ℕ} {at : ℕ} {table : List ℕ} {authority depth : ℕ} {work : List ℕ} {row : Row} (r : row ≡ rowAt ws at) where
-  pub eval-int : {work′ : List ℕ} → row .kind ≡ 6 → work′ ≡ storeOf work accumulator (cell (int (row .a))) → Evals ws at table authority depth work 0 (at + 3) work′
+  pub eval-int : {work′ : List ℕ} → row .kind ≡ 6 → work′ ≡ storeOf work accumulator (cell (int (row .a))) → Evals ws at table authority depth work (numberOf Done) (at + 3) work′
+  unfolding numberOf
   eval-int q e =
       record {
         forward = omega arith;
@@ -177,7 +180,8 @@ module _ {ws : List ℕ} {at : ℕ} {table : List ℕ} {authority depth : ℕ} {
       }
 
   pub eval-loc : {work′ : List ℕ} → row .kind ≡ 7 → work′ ≡ storeOf work accumulator (loadOf work (firstLocation + row .a))
-      → Evals ws at table authority depth work 0 (at + 3) work′
+      → Evals ws at table authority depth work (numberOf Done) (at + 3) work′
+  unfolding numberOf
   eval-loc q e =
       record {
         forward = omega arith;
@@ -187,7 +191,8 @@ module _ {ws : List ℕ} {at : ℕ} {table : List ℕ} {authority depth : ℕ} {
       }
 
   pub eval-var : {work′ : List ℕ} → row .kind ≡ 8 → work′ ≡ storeOf work accumulator (loadOf work (depth - row .a))
-      → Evals ws at table authority depth work 0 (at + 3) work′
+      → Evals ws at table authority depth work (numberOf Done) (at + 3) work′
+  unfolding numberOf
   eval-var q e =
       record {
         forward = omega arith;
@@ -263,10 +268,11 @@ module _ {ws : List ℕ} {at : ℕ} {table : List ℕ} {authority depth : ℕ} {
 
   pub eval-none : (row .kind ≡ 6 → ⊥) → (row .kind ≡ 7 → ⊥) → (row .kind ≡ 8 → ⊥) → (row .kind ≡ 9 → ⊥)
       → (row .kind ≡ 10 → ⊥) → (row .kind ≡ 11 → ⊥) → (row .kind ≡ 12 → ⊥) → (row .kind ≡ 13 → ⊥)
-      → Evals ws at table authority depth work 11 at work
+      → Evals ws at table authority depth work (numberOf NoRule) at work
+  unfolding numberOf
   eval-none n6 n7 n8 n9 n10 n11 n12 n13 =
       record {
         forward = omega arith;
         kept = refl;
-        means = λ W k e rest M ρ t p held. none-case W M ρ 11 at (cellOf work 0) (row-of (row .kind) r refl p) n6 n7 n8 n9 n10 n11 n12 n13;
+        means = λ W k e rest M ρ t p held. none-case W M ρ 4 at (cellOf work 0) (row-of (row .kind) r refl p) n6 n7 n8 n9 n10 n11 n12 n13;
       }

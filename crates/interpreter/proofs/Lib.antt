@@ -7,3 +7,4 @@ pub mod EvalLaws
 pub mod ExecLaws
 pub mod CommandLaws
 pub mod RunLaws
+pub mod NumberLaws

@@ -2,3 +2,4 @@ pub mod Cells
 pub mod Nodes
 pub mod Post
 pub mod Run
+pub mod State

@@ -15,8 +15,8 @@ use Rattle.interpreter.specs.Cells.{accumulator}
 
 -- ---- answers
 
--- The answer to an evaluation: state 0 and the value's cell; state 10 where a value is too long. Where no rule applies nothing is
--- promised: no accepted script comes there.
+-- The answer to an evaluation, by its state's number (`numberOf`): 0 and the value's cell; 10 where a value is too long. Where no rule
+-- applies nothing is promised: no accepted script comes there.
 unfoldable pub Answers : Res → ℕ → List ℕ → Type 0
 Answers (ok v) state words = (state ≡ 0) × (words ≡ cell v)
 Answers long state words = state ≡ 10

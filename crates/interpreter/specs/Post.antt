@@ -57,7 +57,7 @@ operandsOf kind = getD (4 ∷ 0 ∷ 2 ∷ 1 ∷ 2 ∷ 3 ∷ 0 ∷ 0 ∷ 0 ∷ 2 
 
 -- ---- exec
 
--- How the run of a command ends: done, with the memory in the cells and the place after the command; the budget used up; a value too
+-- How the run of a command ends, by its state's number: done, with the memory in the cells and the place after the command; the budget used up; a value too
 -- long. Where no rule applies nothing is promised: no accepted script comes there.
 unfoldable pub Ends : List ℕ → List Line → ℕ → ℕ → Env → Out → ℕ → ℕ → List ℕ → ℕ → Type 0
 Ends ws rest locations depth ρ (done M b) state left work next = (state ≡ 0) × (left ≡ b) × Holds work locations depth M ρ × (drop next ws ≡ code rest)

@@ -1,36 +1,33 @@
 // Runs of commands over the lines (the paper, figure 3).
 ghost use mathlib.Core.Path.{_≡_};
+ghost use Rattle.interpreter.specs.State.{numberOf};
 ghost use Rattle.interpreter.specs.Post.{operandsOf, Skips, Execs, Ticks, Assigns, Decides, Branches};
+use crate::State;
 use crate::cells;
 use crate::evaluation;
-use crate::nodes;
 use script::ROW;
-
-// State 0: skip is reached. 9: the budget is used up. 10 and 11 are passed on from an evaluation.
-const DONE: u8 = 0;
-
-const SPENT: u8 = 9;
 
 // Cases nest at most this deep.
 const MAX_DEPTH: u32 = 8;
 
-pub(crate) struct Done {
-    pub(crate) state: u8,
+// Done: skip is reached, with so much of the budget left, and the command's lines end at `next`.
+pub(crate) struct Stepped {
+    pub(crate) state: State,
     pub(crate) left: u32,
     pub(crate) next: usize,
 }
 
-// State DONE: decided, `on` for a left. Any other: no decision.
+// Done: decided, `on` for a left. Any other: no decision.
 struct Decided {
-    state: u8,
+    state: State,
     left: u32,
     next: usize,
     on: bool,
 }
 
-// State 0: the branch that starts at `start` is taken; the case ends at `end`.
+// Done: the branch that starts at `start` is taken; the case ends at `end`.
 struct Taken {
-    state: u8,
+    state: State,
     left: u32,
     start: usize,
     end: usize,
@@ -81,21 +78,22 @@ fn skip(code: &[u32], at: usize) -> usize
 }
 
 // One transition after d, where d is done.
-fn tick(d: Done) -> Done
-    ensures { λ r. ⌜ Ticks (d .state) (d .left) (d .next) (r .state) (r .left) (r .next) ⌝ }
+fn tick(d: Stepped) -> Stepped
+    ensures { λ r. ⌜ Ticks (numberOf (d .state)) (d .left) (d .next) (numberOf (r .state)) (r .left) (r .next) ⌝ }
 {
-    if d.state != DONE {
+    let state = d.state;
+    let State::Done = state else {
         return d;
-    }
+    };
     if d.left == 0 {
-        return Done {
-            state: SPENT,
+        return Stepped {
+            state: State::Spent,
             left: 0,
             next: d.next,
         };
     }
-    Done {
-        state: DONE,
+    Stepped {
+        state: State::Done,
         left: d.left - 1,
         next: d.next,
     }
@@ -111,27 +109,28 @@ fn assign(
     work: &mut [u32; cells::WORK],
     fuel: u32,
     x: u32,
-) -> Done
-    ensures { λ r. ⌜ Assigns (now (code .entry)) at (now (table .entry)) authority depth (now (work .entry)) fuel x (r .state) (r .left) (r .next) (now (work .exit)) ⌝ }
+) -> Stepped
+    ensures { λ r. ⌜ Assigns (now (code .entry)) at (now (table .entry)) authority depth (now (work .entry)) fuel x (numberOf (r .state)) (r .left) (r .next) (now (work .exit)) ⌝ }
 {
     if fuel == 0 {
-        return Done {
-            state: SPENT,
+        return Stepped {
+            state: State::Spent,
             left: 0,
             next: at,
         };
     }
     let v = evaluation::eval(code, at, table, authority, depth, work);
-    if v.state != nodes::VALUE {
-        return Done {
-            state: v.state,
+    let state = v.state;
+    let State::Done = state else {
+        return Stepped {
+            state,
             left: fuel,
             next: at,
         };
-    }
+    };
     cells::copy_cell(work, cells::ACCUMULATOR, cells::LOCATIONS + x as usize);
-    Done {
-        state: DONE,
+    Stepped {
+        state: State::Done,
         left: fuel - 1,
         next: v.next,
     }
@@ -147,40 +146,41 @@ fn decide(
     work: &mut [u32; cells::WORK],
     fuel: u32,
 ) -> Decided
-    ensures { λ r. ⌜ Decides (now (code .entry)) at (now (table .entry)) authority depth (now (work .entry)) fuel (r .state) (r .left) (r .next) (r .on) (now (work .exit)) ⌝ }
+    ensures { λ r. ⌜ Decides (now (code .entry)) at (now (table .entry)) authority depth (now (work .entry)) fuel (numberOf (r .state)) (r .left) (r .next) (r .on) (now (work .exit)) ⌝ }
 {
     if fuel == 0 {
         return Decided {
-            state: SPENT,
+            state: State::Spent,
             left: 0,
             next: at,
             on: false,
         };
     }
     let v = evaluation::eval(code, at, table, authority, depth, work);
-    if v.state != nodes::VALUE {
+    let state = v.state;
+    let State::Done = state else {
         return Decided {
-            state: v.state,
+            state,
             left: fuel,
             next: at,
             on: false,
         };
-    }
+    };
     match cells::word(work, 0) {
         memory::LEFT => Decided {
-            state: DONE,
+            state: State::Done,
             left: fuel - 1,
             next: v.next,
             on: true,
         },
         memory::RIGHT => Decided {
-            state: DONE,
+            state: State::Done,
             left: fuel - 1,
             next: v.next,
             on: false,
         },
         _ => Decided {
-            state: nodes::NO_RULE,
+            state: State::NoRule,
             left: fuel,
             next: at,
             on: false,
@@ -198,32 +198,33 @@ fn branch(
     work: &mut [u32; cells::WORK],
     fuel: u32,
 ) -> Taken
-    ensures { λ r. ⌜ Branches (now (code .entry)) at (now (table .entry)) authority depth (now (work .entry)) fuel (r .state) (r .left) (r .start) (r .end) (now (work .exit)) ⌝ }
+    ensures { λ r. ⌜ Branches (now (code .entry)) at (now (table .entry)) authority depth (now (work .entry)) fuel (numberOf (r .state)) (r .left) (r .start) (r .end) (now (work .exit)) ⌝ }
 {
     if depth >= MAX_DEPTH {
         return Taken {
-            state: nodes::NO_RULE,
+            state: State::NoRule,
             left: fuel,
             start: at,
             end: at,
         };
     }
     let g = decide(code, at, table, authority, depth, work, fuel);
-    if g.state != DONE {
+    let state = g.state;
+    let State::Done = state else {
         return Taken {
-            state: g.state,
+            state,
             left: g.left,
             start: at,
             end: at,
         };
-    }
+    };
     cells::pop_to(work, depth as usize + 1);
     let first = g.next;
     let second = skip(code, first);
     let end = skip(code, second);
     let start = if g.on { first } else { second };
     Taken {
-        state: DONE,
+        state: State::Done,
         left: g.left,
         start,
         end,
@@ -239,23 +240,24 @@ pub(crate) fn exec(
     depth: u32,
     work: &mut [u32; cells::WORK],
     fuel: u32,
-) -> Done
-    ensures { λ r. ⌜ Execs (now (code .entry)) at (now (table .entry)) authority depth (now (work .entry)) fuel (r .state) (r .left) (r .next) (now (work .exit)) ⌝ }
+) -> Stepped
+    ensures { λ r. ⌜ Execs (now (code .entry)) at (now (table .entry)) authority depth (now (work .entry)) fuel (numberOf (r .state)) (r .left) (r .next) (now (work .exit)) ⌝ }
 {
     let row = script::row_at(code, at);
     let kind = row.kind;
     match kind {
-        script::SKIP => Done {
-            state: DONE,
+        script::SKIP => Stepped {
+            state: State::Done,
             left: fuel,
             next: at + ROW,
         },
         script::SEQ => {
             let d = exec(code, at + ROW, table, authority, depth, work, fuel);
             let t = tick(d);
-            if t.state != DONE {
+            let state = t.state;
+            let State::Done = state else {
                 return t;
-            }
+            };
             let next = t.next;
             exec(code, next, table, authority, depth, work, t.left)
         }
@@ -267,43 +269,47 @@ pub(crate) fn exec(
             loop {
                 let g = decide(code, at + ROW, table, authority, depth, work, left);
                 if !g.on {
-                    return Done {
-                        state: g.state,
+                    let state = g.state;
+                    return Stepped {
+                        state,
                         left: g.left,
                         next: end,
                     };
                 }
                 let d = exec(code, body, table, authority, depth, work, g.left);
                 let t = tick(d);
-                if t.state != DONE {
-                    return Done {
-                        state: t.state,
+                let state = t.state;
+                let State::Done = state else {
+                    return Stepped {
+                        state,
                         left: t.left,
                         next: end,
                     };
-                }
+                };
                 left = t.left;
             }
         }
         script::CASE => {
             let b = branch(code, at + ROW, table, authority, depth, work, fuel);
-            if b.state != DONE {
-                return Done {
-                    state: b.state,
+            let state = b.state;
+            let State::Done = state else {
+                return Stepped {
+                    state,
                     left: b.left,
                     next: at,
                 };
-            }
+            };
             let start = b.start;
             let d = exec(code, start, table, authority, depth + 1, work, b.left);
-            Done {
-                state: d.state,
+            let state = d.state;
+            Stepped {
+                state,
                 left: d.left,
                 next: b.end,
             }
         }
-        _ => Done {
-            state: nodes::NO_RULE,
+        _ => Stepped {
+            state: State::NoRule,
             left: fuel,
             next: at,
         },

@@ -1,5 +1,7 @@
 // Evaluation of expressions over the lines (the paper, figure 2).
+ghost use Rattle.interpreter.specs.State.{numberOf};
 ghost use Rattle.interpreter.specs.Post.{Evals};
+use crate::State;
 use crate::cells;
 use crate::nodes;
 use crate::nodes::Evaluated;
@@ -14,7 +16,7 @@ pub(crate) fn eval(
     depth: u32,
     work: &mut [u32; cells::WORK],
 ) -> Evaluated
-    ensures { λ r. ⌜ Evals (now (code .entry)) at (now (table .entry)) authority depth (now (work .entry)) (r .state) (r .next) (now (work .exit)) ⌝ }
+    ensures { λ r. ⌜ Evals (now (code .entry)) at (now (table .entry)) authority depth (now (work .entry)) (numberOf (r .state)) (r .next) (now (work .exit)) ⌝ }
 {
     let row = script::row_at(code, at);
     let kind = row.kind;
@@ -24,21 +26,21 @@ pub(crate) fn eval(
         script::INT => {
             nodes::literal(work, a);
             Evaluated {
-                state: nodes::VALUE,
+                state: State::Done,
                 next: at + ROW,
             }
         }
         script::LOC => {
             nodes::location(work, a);
             Evaluated {
-                state: nodes::VALUE,
+                state: State::Done,
                 next: at + ROW,
             }
         }
         script::VAR => {
             nodes::variable(work, depth, a);
             Evaluated {
-                state: nodes::VALUE,
+                state: State::Done,
                 next: at + ROW,
             }
         }
@@ -48,16 +50,17 @@ pub(crate) fn eval(
             if kind != script::PLUS {
                 return nodes::applied(work, table, authority, kind, a, b, v);
             }
-            if v.state != nodes::VALUE {
+            let state = v.state;
+            let State::Done = state else {
                 return v;
-            }
+            };
             let n = cells::word(work, 1);
             let next = v.next;
             let w = eval(code, next, table, authority, depth, work);
             nodes::applied(work, table, authority, kind, n, b, w)
         }
         _ => Evaluated {
-            state: nodes::NO_RULE,
+            state: State::NoRule,
             next: at,
         },
     }

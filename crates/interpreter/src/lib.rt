@@ -8,17 +8,26 @@ ghost use mathlib.Core.Path.{_≡_};
 ghost use lib.ListN.{length};
 ghost use Rattle.interpreter.specs.Cells.{workWords};
 ghost use Rattle.interpreter.specs.Run.{Runs};
+ghost use Rattle.interpreter.specs.State.{numberOf};
 
-// How a run ended: 0 done, 9 the budget used up, 10 a value too long; and the steps taken. On words that are no script's code or no sheet's
-// memory it may be 7, the memory has too many words, or 11, no rule applies.
+// How an evaluation or a run ends: done, the budget used up, a value too long; or, on words that are no script's code or no sheet's
+// memory, that no rule applies.
+pub enum State {
+    Done,
+    Spent,
+    TooLong,
+    NoRule,
+}
+
+// How a run ended, and the steps taken.
 pub struct Ran {
-    pub state: u8,
+    pub state: State,
     pub steps: u32,
 }
 
 // Runs a script's code on a memory, under an authority, within a budget. The memory changes only where the run is done.
 pub fn run(code: &[u32], table: &[u16], memory: &mut [u32], authority: u16, budget: u32) -> Ran
-    ensures { λ r. ⌜ Runs (now (code .entry)) (now (table .entry)) (now (memory .entry)) authority budget (r .state) (r .steps) (now (memory .exit)) ⌝ }
+    ensures { λ r. ⌜ Runs (now (code .entry)) (now (table .entry)) (now (memory .entry)) authority budget (numberOf (r .state)) (r .steps) (now (memory .exit)) ⌝ }
 {
     let mut work = [0u32; cells::WORK];
     run_in(code, table, memory, authority, budget, &mut work)
@@ -34,23 +43,27 @@ fn run_in(
     work: &mut [u32; cells::WORK],
 ) -> Ran
     requires { ⌜ length (now work) ≡ workWords ⌝ }
-    ensures { λ r. ⌜ Runs (now (code .entry)) (now (table .entry)) (now (memory .entry)) authority budget (r .state) (r .steps) (now (memory .exit)) ⌝ }
+    ensures { λ r. ⌜ Runs (now (code .entry)) (now (table .entry)) (now (memory .entry)) authority budget (numberOf (r .state)) (r .steps) (now (memory .exit)) ⌝ }
 {
     let n = memory.len();
     if n > cells::WORK - cells::MEMORY {
-        return Ran { state: 7, steps: 0 };
+        return Ran {
+            state: State::NoRule,
+            steps: 0,
+        };
     }
     cells::copy(work, cells::MEMORY, memory, 0, n);
     let d = commands::exec(code, 0, table, authority, 0, work, budget);
-    if d.state != 0 {
+    let state = d.state;
+    let State::Done = state else {
         return Ran {
-            state: d.state,
+            state,
             steps: budget - d.left,
         };
-    }
+    };
     cells::copy(memory, 0, work, cells::MEMORY, n);
     Ran {
-        state: 0,
+        state: State::Done,
         steps: budget - d.left,
     }
 }

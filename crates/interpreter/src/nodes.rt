@@ -9,18 +9,13 @@ ghost use Rattle.sheet.specs.Tables.{leftIn};
 ghost use Rattle.sheet.specs.TypeTest.{hasNo};
 ghost use Rattle.memory.specs.Words.{cell, valueOf};
 ghost use Rattle.interpreter.specs.Cells.{loadOf, storeOf, accumulator, firstLocation};
+ghost use Rattle.interpreter.specs.State.{numberOf};
 ghost use Rattle.interpreter.specs.Nodes.{Turns, Applies, Applied, Tags, errorIn, Tells};
+use crate::State;
 use crate::cells;
 use crate::cells::ACCUMULATOR;
 use crate::cells::CELL;
 use crate::cells::LOCATIONS;
-
-// State 0: the value is in the accumulator. 10: a value is too long. 11: no rule applies.
-pub(crate) const VALUE: u8 = 0;
-
-pub(crate) const TOO_LONG: u8 = 10;
-
-pub(crate) const NO_RULE: u8 = 11;
 
 // The most words of a value that fits into the left of a package.
 const ROOM: usize = CELL - memory::CONTENT - 1;
@@ -32,8 +27,9 @@ const ILLEGAL_FLOW: u32 = 2;
 
 const TYPE_MISMATCH: u32 = 3;
 
+// Done: the value is in the accumulator, and the expression's lines end at `next`.
 pub(crate) struct Evaluated {
-    pub(crate) state: u8,
+    pub(crate) state: State,
     pub(crate) next: usize,
 }
 
@@ -73,12 +69,13 @@ pub(crate) fn variable(work: &mut [u32; cells::WORK], depth: u32, d: u32)
 
 // The sum of n and the integer in the accumulator.
 pub(crate) fn sum(work: &mut [u32; cells::WORK], n: u32, v: Evaluated) -> Evaluated
-    ensures { λ r. ⌜ Applies (now (work .entry)) (v .state) (v .next) (now (work .exit)) (r .state) (r .next)
-        ((u : Value) → n ≡ getD (cell u) 1 0 → Turns (add u) (now (work .entry)) (v .state) (now (work .exit)) (r .state)) ⌝ }
+    ensures { λ r. ⌜ Applies (now (work .entry)) (numberOf (v .state)) (v .next) (now (work .exit)) (numberOf (r .state)) (r .next)
+        ((u : Value) → n ≡ getD (cell u) 1 0 → Turns (add u) (now (work .entry)) (numberOf (v .state)) (now (work .exit)) (numberOf (r .state))) ⌝ }
 {
-    if v.state != VALUE {
+    let state = v.state;
+    let State::Done = state else {
         return v;
-    }
+    };
     let m = cells::word(work, 1);
     literal(work, std::num::wrapping_add_u32(n, m));
     v
@@ -86,15 +83,16 @@ pub(crate) fn sum(work: &mut [u32; cells::WORK], n: u32, v: Evaluated) -> Evalua
 
 // Left or right, as the word says, of the value in the accumulator.
 fn tagged(work: &mut [u32; cells::WORK], w: u32, v: Evaluated) -> Evaluated
-    ensures { λ r. ⌜ Applies (now (work .entry)) (v .state) (v .next) (now (work .exit)) (r .state) (r .next)
-        ((f : Value → Value) → Tags w f → Turns (λ u. fit (f u)) (now (work .entry)) (v .state) (now (work .exit)) (r .state)) ⌝ }
+    ensures { λ r. ⌜ Applies (now (work .entry)) (numberOf (v .state)) (v .next) (now (work .exit)) (numberOf (r .state)) (r .next)
+        ((f : Value → Value) → Tags w f → Turns (λ u. fit (f u)) (now (work .entry)) (numberOf (v .state)) (now (work .exit)) (numberOf (r .state))) ⌝ }
 {
-    if v.state != VALUE {
+    let state = v.state;
+    let State::Done = state else {
         return v;
-    }
+    };
     if memory::value_end(work, 0) >= CELL {
         return Evaluated {
-            state: TOO_LONG,
+            state: State::TooLong,
             next: v.next,
         };
     }
@@ -110,19 +108,20 @@ fn pack(
     l: u32,
     v: Evaluated,
 ) -> Evaluated
-    ensures { λ r. ⌜ Applies (now (work .entry)) (v .state) (v .next) (now (work .exit)) (r .state) (r .next)
-        ((W : World) → Tells (now (table .entry)) authority W → Turns (packed (W .writes l) l) (now (work .entry)) (v .state) (now (work .exit)) (r .state)) ⌝ }
+    ensures { λ r. ⌜ Applies (now (work .entry)) (numberOf (v .state)) (v .next) (now (work .exit)) (numberOf (r .state)) (r .next)
+        ((W : World) → Tells (now (table .entry)) authority W → Turns (packed (W .writes l) l) (now (work .entry)) (numberOf (v .state)) (now (work .exit)) (numberOf (r .state))) ⌝ }
 {
-    if v.state != VALUE {
+    let state = v.state;
+    let State::Done = state else {
         return v;
-    }
+    };
     if !sheet::writes(table, authority, l) {
         fail(work, INSUFFICIENT_AUTH);
         return v;
     }
     if memory::value_end(work, 0) > ROOM {
         return Evaluated {
-            state: TOO_LONG,
+            state: State::TooLong,
             next: v.next,
         };
     }
@@ -158,15 +157,16 @@ fn unpack(
     l: u32,
     v: Evaluated,
 ) -> Evaluated
-    ensures { λ r. ⌜ Applies (now (work .entry)) (v .state) (v .next) (now (work .exit)) (r .state) (r .next)
-        ((W : World) → Tells (now (table .entry)) authority W → Turns (unpacked W t l) (now (work .entry)) (v .state) (now (work .exit)) (r .state)) ⌝ }
+    ensures { λ r. ⌜ Applies (now (work .entry)) (numberOf (v .state)) (v .next) (now (work .exit)) (numberOf (r .state)) (r .next)
+        ((W : World) → Tells (now (table .entry)) authority W → Turns (unpacked W t l) (now (work .entry)) (numberOf (v .state)) (now (work .exit)) (numberOf (r .state))) ⌝ }
 {
-    if v.state != VALUE {
+    let state = v.state;
+    let State::Done = state else {
         return v;
-    }
+    };
     if cells::word(work, 0) != memory::PACKAGE {
         return Evaluated {
-            state: NO_RULE,
+            state: State::NoRule,
             next: v.next,
         };
     }
@@ -191,7 +191,7 @@ pub(crate) fn applied(
     b: u32,
     v: Evaluated,
 ) -> Evaluated
-    ensures { λ r. ⌜ Applied (now (table .entry)) authority kind a b (now (work .entry)) (v .state) (v .next) (now (work .exit)) (r .state) (r .next) ⌝ }
+    ensures { λ r. ⌜ Applied (now (table .entry)) authority kind a b (now (work .entry)) (numberOf (v .state)) (v .next) (now (work .exit)) (numberOf (r .state)) (r .next) ⌝ }
 {
     match kind {
         script::PLUS => sum(work, a, v),

@@ -1,7 +1,9 @@
 // What a call does once the sheet is read: the script, the checks in the order of their numbers, the run or the view.
 ghost use mathlib.Core.Path.{_≡_};
+ghost use Rattle.interpreter.specs.State.{numberOf};
 ghost use Rattle.simp.specs.Stages.{Judges, ChecksOn, RunsCode, RunsOn, ViewsOn};
 use super::Outcome;
+use interpreter::State;
 
 // A run that is refused takes no step.
 pub fn refused(answer: u8) -> Outcome
@@ -29,6 +31,18 @@ pub fn check_on(script: &[u8], table: &[u16]) -> u8
     judge(script_text::rows(&read.code, count), table)
 }
 
+// The answer to a run that ended so.
+fn number(state: State) -> u8
+    ensures { λ r. ⌜ r ≡ numberOf state ⌝ }
+{
+    match state {
+        State::Done => super::DONE,
+        State::NoRule => super::SCRIPT_MALFORMED,
+        State::Spent => super::SPENT,
+        State::TooLong => super::TOO_LONG,
+    }
+}
+
 // Checks and runs the code of a script.
 fn run_code(code: &[u32], table: &[u16], memory: &mut [u32], authority: u16, budget: u32) -> Outcome
     ensures { λ r. ⌜ RunsCode (now (code .entry)) (now (table .entry)) (now (memory .entry)) authority budget (r .answer) (r .steps) (now (memory .exit)) ⌝ }
@@ -42,8 +56,9 @@ fn run_code(code: &[u32], table: &[u16], memory: &mut [u32], authority: u16, bud
         return refused(answer);
     }
     let ran = interpreter::run(code, table, memory, authority, budget);
+    let state = ran.state;
     Outcome {
-        answer: ran.state,
+        answer: number(state),
         steps: ran.steps,
     }
 }

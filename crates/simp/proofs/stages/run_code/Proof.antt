@@ -16,9 +16,10 @@ returns-2 c =
 
 returns-3 : tie.Need-returns-3
 returns-3 c =
-    let k = c .before .before .before .before in
-    run-done _ _ _ _ _ _ _ _ (judged-0 _ _ _ (k .before .before .before .before .judge .ensures) (k .before .before .before .if1 .left))
-    (refusal-in _ _ _ (sym (k .if2 .left) ∙ k .before .refusal .ensures)) (c .before .before .run .ensures)
+    let r = c .before .before .before in
+    let k = r .before .before in
+    rw (c .number .ensures) (run-done _ _ _ _ _ _ _ _ (judged-0 _ _ _ (k .before .before .before .before .judge .ensures) (k .before .before .before .if1 .left))
+    (refusal-in _ _ _ (sym (k .if2 .left) ∙ k .before .refusal .ensures)) (r .run .ensures))
 
 pub run-code-spec : {M : Type 1} → statement M
 run-code-spec = tie.close (tie.spec
@@ -30,5 +31,6 @@ run-code-spec = tie.close (tie.spec
     (λ c. search needs)  -- same-length
     returns-2
     (λ c κs. search needs)  -- run-requires
+    (λ c κs. search needs)  -- number-requires
     (λ c. search needs)  -- same-length-2
     returns-3)

@@ -1,0 +1,11 @@
+-- How an evaluation or a run ends, in the scope's numbers. The contracts of this crate speak of a state by its number.
+use Prim.Native.Nat.{ℕ}
+use Rattle.interpreter.specs.declared.State.{State}
+use Rattle.interpreter.specs.declared.State.the-variants.{Done, Spent, TooLong, NoRule}
+
+-- No rule applies only to words that are no accepted script's code, or to a memory that isn't its sheet's: 4, as for no script.
+unfoldable pub numberOf : State → ℕ
+numberOf Done = 0
+numberOf NoRule = 4
+numberOf Spent = 9
+numberOf TooLong = 10

@@ -6,7 +6,7 @@ use super::Outcome;
 use interpreter::State;
 
 // A run that is refused takes no step.
-pub fn refused(answer: u8) -> Outcome
+pub(crate) fn refused(answer: u8) -> Outcome
     ensures { λ r. ⌜ r ≡ record { answer = answer; steps = 0 } ⌝ }
 {
     Outcome { answer, steps: 0 }
@@ -23,7 +23,7 @@ fn judge(code: &[u32], table: &[u16]) -> u8
 }
 
 // Checks a script on the sheet of a table.
-pub fn check_on(script: &[u8], table: &[u16]) -> u8
+pub(crate) fn check_on(script: &[u8], table: &[u16]) -> u8
     ensures { λ r. ⌜ ChecksOn (now (script .entry)) (now (table .entry)) r ⌝ }
 {
     let read = script_text::read(script, table);
@@ -64,7 +64,7 @@ fn run_code(code: &[u32], table: &[u16], memory: &mut [u32], authority: u16, bud
 }
 
 // Runs a script on the sheet of a table.
-pub fn run_on(
+pub(crate) fn run_on(
     script: &[u8],
     table: &[u16],
     memory: &mut [u32],
@@ -88,7 +88,7 @@ pub fn run_on(
 }
 
 // Shows a group a memory on the sheet of a table.
-pub fn view_on(table: &[u16], memory: &[u32], group: u16, view: &mut [u32]) -> u8
+pub(crate) fn view_on(table: &[u16], memory: &[u32], group: u16, view: &mut [u32]) -> u8
     ensures { λ r. ⌜ ViewsOn (now (table .entry)) (now (memory .entry)) group (now (view .entry)) r (now (view .exit)) ⌝ }
 {
     if !sets::contained(group, sheet::everyone(table)) {

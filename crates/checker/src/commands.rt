@@ -110,7 +110,7 @@ pub(crate) fn check_cmd(
                     let y = check_cmd(code, x.next, table, bound, depth, inside);
                     of_while(x, y)
                 }
-                _ => {
+                script::CASE => {
                     if depth >= bindings::DEPTH {
                         return not_passed(at);
                     }
@@ -121,6 +121,7 @@ pub(crate) fn check_cmd(
                     let z = check_cmd(code, y.next, table, bound, depth + 1, inside);
                     of_case(table, x, y, z)
                 }
+                _ => not_passed(at),
             }
         }
         _ => not_passed(at),

@@ -152,7 +152,8 @@ pub(crate) fn check_expr(
                 script::LEFT => of_sum(table, a, sheet::left_part(table, a), x),
                 script::RIGHT => of_sum(table, a, sheet::right_part(table, a), x),
                 script::PACK => of_pack(table, a, x),
-                _ => of_unpack(table, a, row.b, x),
+                script::UNPACK => of_unpack(table, a, row.b, x),
+                _ => no_type(at),
             }
         }
         _ => no_type(at),

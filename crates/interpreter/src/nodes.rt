@@ -199,6 +199,9 @@ pub(crate) fn applied(
         script::RIGHT => tagged(work, memory::RIGHT, v),
         script::PACK => pack(work, table, authority, a, v),
         script::UNPACK => unpack(work, table, authority, a, b, v),
-        _ => v,
+        _ => Evaluated {
+            state: State::NoRule,
+            next: v.next,
+        },
     }
 }

@@ -71,12 +71,9 @@ pub +check-expr-spec : {M : Type 1} → statement M
     (λ c κs. search needs)  -- of-location-requires
     (λ c. let r = c .before in let a = r .before .before .before .args in omega (arith, within (a .code .now) (a .at) (r .row-at .ensures) (omega (arith, c .match .keys3))))  -- add-of-variable
     (λ c κs. search needs)  -- of-variable-requires
-    (λ c. let r = c .before .before .before in let a = r .before .before .before .args
-    in omega (arith, within (a .code .now) (a .at) (r .row-at .ensures) (omega (arith, c .before .if1 .left))))  -- add-check-expr
-    (λ c κs. let r = c .before .before .before in let a = r .before .before .before .args
-    in (omega (arith, within (a .code .now) (a .at) (r .row-at .ensures) (omega (arith, c .before .if1 .left))), tt))  -- check-expr-requires
-    (λ c κs. let r = c .before .before .before .before .before in let a = r .before .before .before .args
-    in (omega (arith, within (a .code .now) (a .at) (r .row-at .ensures) (omega (arith, c .before .before .before .if1 .left)), c .before .check-expr .ensures .onward), tt))  -- check-expr-requires-2
+    (λ c. let r = c .before .before .before in let a = r .before .before .before .args in omega (arith, within (a .code .now) (a .at) (r .row-at .ensures) (omega (arith, c .before .if1 .left))))  -- add-check-expr
+    (λ c κs. let r = c .before .before .before in let a = r .before .before .before .args in (omega (arith, within (a .code .now) (a .at) (r .row-at .ensures) (omega (arith, c .before .if1 .left))), tt))  -- check-expr-requires
+    (λ c κs. let r = c .before .before .before .before .before in let a = r .before .before .before .args in (omega (arith, within (a .code .now) (a .at) (r .row-at .ensures) (omega (arith, c .before .before .before .if1 .left)), c .before .check-expr .ensures .onward), tt))  -- check-expr-requires-2
     (λ c κs. search needs)  -- of-plus-requires
     (λ c κs. search needs)  -- left-part-requires
     (λ c κs. search needs)  -- of-sum-requires
@@ -85,29 +82,21 @@ pub +check-expr-spec : {M : Type 1} → statement M
     (λ c κs. search needs)  -- of-pack-requires
     (λ c κs. search needs)  -- of-unpack-requires
     (λ c κs. search needs)  -- no-type-requires
-    (λ c. let r = c .before .before in let a = r .before .before .before .args
-    in arm-int (a .code .now) (a .at) (a .table .now) (a .bound .now) (a .depth) (r .row-at .ensures) (c .before .match .keys1) (c .of-int .ensures))  -- returns
-    (λ c. let r = c .before .before in let a = r .before .before .before .args
-    in arm-loc (a .code .now) (a .at) (a .table .now) (a .bound .now) (a .depth) (r .row-at .ensures) (c .before .match .keys2) (c .of-location .ensures))  -- returns-2
-    (λ c. let r = c .before .before in let a = r .before .before .before .args
-    in arm-var (a .code .now) (a .at) (a .table .now) (a .bound .now) (a .depth) (r .row-at .ensures) (c .before .match .keys3) (c .of-variable .ensures))  -- returns-3
-    (λ c. let r = c .before .before .before .before .before .before .before in let a = r .before .before .before .args
-    in arm-plus (a .code .now) (a .at) (a .table .now) (a .bound .now) (a .depth) (r .row-at .ensures) (c .before .before .before .check-expr .ensures)
+    (λ c κs. search needs)  -- no-type-requires-2
+    (λ c. let r = c .before .before in let a = r .before .before .before .args in arm-int (a .code .now) (a .at) (a .table .now) (a .bound .now) (a .depth) (r .row-at .ensures) (c .before .match .keys1) (c .of-int .ensures))  -- returns
+    (λ c. let r = c .before .before in let a = r .before .before .before .args in arm-loc (a .code .now) (a .at) (a .table .now) (a .bound .now) (a .depth) (r .row-at .ensures) (c .before .match .keys2) (c .of-location .ensures))  -- returns-2
+    (λ c. let r = c .before .before in let a = r .before .before .before .args in arm-var (a .code .now) (a .at) (a .table .now) (a .bound .now) (a .depth) (r .row-at .ensures) (c .before .match .keys3) (c .of-variable .ensures))  -- returns-3
+    (λ c. let r = c .before .before .before .before .before .before .before in let a = r .before .before .before .args in arm-plus (a .code .now) (a .at) (a .table .now) (a .bound .now) (a .depth) (r .row-at .ensures) (c .before .before .before .check-expr .ensures)
     (c .before .before .match2 .keys1) (c .before .check-expr2 .ensures) (c .of-plus .ensures))  -- returns-4
-    (λ c. let r = c .before .before .before .before .before .before .before in let a = r .before .before .before .args
-    in arm-left (a .code .now) (a .at) (a .table .now) (a .bound .now) (a .depth) (r .row-at .ensures) (c .before .before .before .check-expr .ensures)
+    (λ c. let r = c .before .before .before .before .before .before .before in let a = r .before .before .before .args in arm-left (a .code .now) (a .at) (a .table .now) (a .bound .now) (a .depth) (r .row-at .ensures) (c .before .before .before .check-expr .ensures)
     (c .before .before .match2 .keys2) (c .before .left-part .ensures) (c .of-sum .ensures))  -- returns-5
-    (λ c. let r = c .before .before .before .before .before .before .before in let a = r .before .before .before .args
-    in arm-right (a .code .now) (a .at) (a .table .now) (a .bound .now) (a .depth) (r .row-at .ensures) (c .before .before .before .check-expr .ensures)
+    (λ c. let r = c .before .before .before .before .before .before .before in let a = r .before .before .before .args in arm-right (a .code .now) (a .at) (a .table .now) (a .bound .now) (a .depth) (r .row-at .ensures) (c .before .before .before .check-expr .ensures)
     (c .before .before .match2 .keys3) (c .before .right-part .ensures) (c .of-sum2 .ensures))  -- returns-6
-    (λ c. let r = c .before .before .before .before .before .before in let a = r .before .before .before .args
-    in arm-pack (a .code .now) (a .at) (a .table .now) (a .bound .now) (a .depth) (r .row-at .ensures) (c .before .before .check-expr .ensures) (c .before .match2 .keys4)
+    (λ c. let r = c .before .before .before .before .before .before in let a = r .before .before .before .args in arm-pack (a .code .now) (a .at) (a .table .now) (a .bound .now) (a .depth) (r .row-at .ensures) (c .before .before .check-expr .ensures) (c .before .match2 .keys4)
     (c .of-pack .ensures))  -- returns-7
-    (λ c. let r = c .before .before .before .before .before .before in let a = r .before .before .before .args in let k = c .before .match2 .rest in
-    let m = c .before .before .before .before .before .match .rest
-    in arm-unpack (a .code .now) (a .at) (a .table .now) (a .bound .now) (a .depth) (r .row-at .ensures) (c .before .before .check-expr .ensures)
-    (last-kind (c .before .before .before .before .if1 .left) (c .before .before .before .if2 .taken) (m .0 .0 .1) (m .0 .1) (m .1) (k .0 .0 .0 .1) (k .0 .0 .1) (k .0 .1)
-    (k .1)) (c .of-unpack .ensures))  -- returns-8
-    (λ c. let r = c .before .before .before in let a = r .before .before .before .args
-    in arm-other (a .code .now) (a .at) (a .table .now) (a .bound .now) (a .depth) (r .row-at .ensures)
-    (λ l u. ⊎-elim (λ w. omega (arith, w .taken)) (λ w. omega (arith, w .1 .left)) (c .before .if1 .came)) (c .no-type .ensures))  -- returns-9
+    (λ c. let r = c .before .before .before .before .before .before in let a = r .before .before .before .args in arm-unpack (a .code .now) (a .at) (a .table .now) (a .bound .now) (a .depth) (r .row-at .ensures) (c .before .before .check-expr .ensures) (c .before .match2 .keys5)
+    (c .of-unpack .ensures))  -- returns-8
+    (λ c. let r = c .before .before .before .before .before .before in let a = r .before .before .before .args in let k = c .before .match2 .rest in let m = c .before .before .before .before .before .match .rest in arm-other (a .code .now) (a .at) (a .table .now) (a .bound .now) (a .depth) (r .row-at .ensures)
+    (λ l u. k .1 (last-kind l u (m .0 .0 .1) (m .0 .1) (m .1) (k .0 .0 .0 .0 .1) (k .0 .0 .0 .1) (k .0 .0 .1) (k .0 .1))) (c .no-type .ensures))  -- returns-9
+    (λ c. let r = c .before .before .before in let a = r .before .before .before .args in arm-other (a .code .now) (a .at) (a .table .now) (a .bound .now) (a .depth) (r .row-at .ensures)
+    (λ l u. ⊎-elim (λ w. omega (arith, w .taken)) (λ w. omega (arith, w .1 .left)) (c .before .if1 .came)) (c .no-type2 .ensures))  -- returns-10

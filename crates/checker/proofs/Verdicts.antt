@@ -1,7 +1,6 @@
 -- The answer of the code is the scope's number, and says which derivations there are. Assumes nothing.
-use mathlib.Core.Logic.{_⊎_, inl, inr}
-use mathlib.Core.Path.{_≡_, refl, ap₂, _∙_}
-use mathlib.Core.Bool.{Bool, true, false}
+use mathlib.Core.Path.{_≡_, refl, ap, ap₂, _∙_}
+use mathlib.Core.Bool.{Bool, true, false, cond}
 use mathlib.Core.List.{List, []}
 use Prim.Native.Nat.{ℕ, _≤_}
 use native.Mathlib.Omega.{arith}
@@ -17,34 +16,34 @@ use Rattle.sheet.proofs.MeaningLaws.{labels-lattice}
 use Rattle.checker.specs.declared.Passed.{Passed}
 use Rattle.checker.specs.Numbers.{shapeNo, conditionsOn}
 use Rattle.checker.specs.Bindings.{upTo, bindingsSize}
-use Rattle.checker.specs.Nodes.{answerOf}
-use Rattle.checker.specs.Post.{ChecksCmd, Answers}
+use Rattle.checker.specs.Verdict.{verdictNumber, verdictOf}
+use Rattle.checker.specs.declared.Verdict.{Verdict}
+use Rattle.checker.specs.Post.{ChecksCmd, ChecksCode}
 use Rattle.checker.specs.Theorems.{CheckerExact}
 use Rattle.checker.proofs.TypeLaws.{no-bound, shape-agree}
 use Rattle.checker.proofs.LabelLaws.{flow-table}
 
-among : (typed flow : Bool) → (answerOf typed flow ≡ 0) ⊎ ((answerOf typed flow ≡ 5) ⊎ (answerOf typed flow ≡ 6))
-unfolding answerOf
-among true true = inl refl
-among true false = inr (inr refl)
-among false flow = inr (inl refl)
+verdict-number : (typed flow : Bool) → verdictNumber (verdictOf typed flow) ≡ cond typed (cond flow 0 6) 5
+unfolding verdictNumber verdictOf
+verdict-number true true = refl
+verdict-number true false = refl
+verdict-number false flow = refl
 
 -- the number that the table gives
 number : (s : Sheet) → formed s ≡ true → repeats s ≡ false → {c : Cmd} → Source c
-    → answerOf (shapeNo (tableOf s) [] c) (flow (conditionsOn (tableOf s)) 0 [] c)
+    → cond (shapeNo (tableOf s) [] c) (cond (flow (conditionsOn (tableOf s)) 0 [] c) 0 6) 5
     ≡ refusal (labelsOver (s .principals)) (declarationsOf s) c
-unfolding answerOf refusal
+unfolding refusal
 number s fm once {c} src = rw (shape-agree s fm once src (no-bound), ← flow-table s fm c)
 
-pub check-answers : (ws t : List ℕ) {bound bound′ : List ℕ} {x : Passed} {r : ℕ} → ChecksCmd ws 0 t bound 0 0 x bound′
-    → r ≡ answerOf (x .typed) (x .flow) → bindingsSize ≤ length bound → Answers ws t r
+pub check-answers : (ws t : List ℕ) {bound bound′ : List ℕ} {x : Passed} {r : Verdict} → ChecksCmd ws 0 t bound 0 0 x bound′
+    → r ≡ verdictOf (x .typed) (x .flow) → bindingsSize ≤ length bound → ChecksCode ws t (verdictNumber r)
 unfolding upTo
 check-answers ws t {x = x} cx e room =
     record {
-      among = rw e (among (x .typed) (x .flow));
       exact = λ s fm once table k c src names w.
           let p = cx .means k c [] src w names (omega arith, room) .0 in
-          e ∙ ap₂ answerOf (p .typed-is) (p .flow-is) ∙ rw table (number s fm once src);
+          ap verdictNumber (e ∙ ap₂ verdictOf (p .typed-is) (p .flow-is)) ∙ verdict-number _ _ ∙ rw table (number s fm once src);
     }
 
 pub checker-exact : CheckerExact

@@ -4,3 +4,4 @@ pub mod Bindings
 pub mod Nodes
 pub mod Post
 pub mod Theorems
+pub mod Verdict

@@ -103,7 +103,3 @@ casePassed t x y z =
       flow = both (x .flow) (both (y .flow) (z .flow));
       next = z .next;
     }
-
--- the lowest number that applies
-unfoldable pub answerOf : Bool → Bool → ℕ
-answerOf typed flow = cond typed (cond flow 0 6) 5

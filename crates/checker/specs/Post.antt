@@ -2,7 +2,6 @@
 use mathlib.Core.Path.{_≡_}
 use mathlib.Core.Bool.{true, false}
 use mathlib.Core.List.{List, []}
-use mathlib.Core.Logic.{_⊎_}
 use Prim.Native.Nat.{ℕ, _≤_}
 use lib.ListN.{length, drop}
 use Rattle.language.specs.Syntax.{Expr, Cmd}
@@ -50,9 +49,8 @@ pub record ChecksCmd (ws : List ℕ) (at : ℕ) (t s : List ℕ) (d pc : ℕ) (x
   pub means : (k : Counts) (c : Cmd) (rest : List Line) → Source c → drop at ws ≡ code (cmdLines c rest) → named k d c ≡ true → Room s d
       → Passes t (boundTypes s d) pc (boundLabels s d) c x × (drop (x .next) ws ≡ code rest)
 
--- The answer is 0, 5 or 6. For the code of a script that names what is there, with the table of a sheet of the right form that
--- repeats nothing, it is the scope's number.
-pub record Answers (ws t : List ℕ) (r : ℕ) : Type 0 where
-  pub among : (r ≡ 0) ⊎ ((r ≡ 5) ⊎ (r ≡ 6))
+-- r is the number of the verdict (`verdictNumber`: 0, 5 or 6). For the code of a script that names what is there, with the table of a
+-- sheet of the right form that repeats nothing, it is the scope's number.
+pub record ChecksCode (ws t : List ℕ) (r : ℕ) : Type 0 where
   pub exact : (s : Sheet) → formed s ≡ true → repeats s ≡ false → t ≡ tableOf s → (k : Counts) (c : Cmd) → Source c → named k 0 c ≡ true
       → ws ≡ code (cmdLines c []) → r ≡ refusal (labelsOver (s .principals)) (declarationsOf s) c

@@ -5,8 +5,8 @@ mod expressions; // expressions.rt: types and least labels of expressions
 mod commands; // commands.rt: commands
 
 ghost use mathlib.Core.Path.{_≡_};
-ghost use Rattle.checker.specs.Nodes.{answerOf};
-ghost use Rattle.checker.specs.Post.{Answers};
+ghost use Rattle.checker.specs.Verdict.{verdictNumber, verdictOf};
+ghost use Rattle.checker.specs.Post.{ChecksCode};
 use members::Members;
 
 // What is found of an expression: its type, if it has one; whether its label conditions hold; its least label; and the word after
@@ -26,18 +26,33 @@ pub(crate) struct Passed {
     pub(crate) next: usize,
 }
 
-// Checks a script's code against a sheet's table: 0, 5 or 6.
-pub fn check(code: &[u32], table: &[u16]) -> u8
-    ensures { λ r. ⌜ Answers (now (code .entry)) (now (table .entry)) r ⌝ }
+// What is found of a script: it has a derivation, or its types or else its labels leave it none.
+pub enum Verdict {
+    Accepted,
+    IllTyped,
+    IllLabelled,
+}
+
+// Checks a script's code against a sheet's table.
+pub fn check(code: &[u32], table: &[u16]) -> Verdict
+    ensures { λ r. ⌜ ChecksCode (now (code .entry)) (now (table .entry)) (verdictNumber r) ⌝ }
 {
     let mut bound: [u64; bindings::BINDINGS] = [0; bindings::BINDINGS];
     let x = commands::check_cmd(code, 0, table, &mut bound, 0, members::BOTTOM);
     answer(x.typed, x.flow)
 }
 
-// The lowest number that applies: 5 if the types do not fit, 6 if the labels do not, else 0.
-fn answer(typed: bool, flow: bool) -> u8
-    ensures { λ r. ⌜ r ≡ answerOf typed flow ⌝ }
+// By whether the types fit, and whether the label conditions hold.
+fn answer(typed: bool, flow: bool) -> Verdict
+    ensures { λ r. ⌜ r ≡ verdictOf typed flow ⌝ }
 {
-    if typed { if flow { 0 } else { 6 } } else { 5 }
+    if typed {
+        if flow {
+            Verdict::Accepted
+        } else {
+            Verdict::IllLabelled
+        }
+    } else {
+        Verdict::IllTyped
+    }
 }

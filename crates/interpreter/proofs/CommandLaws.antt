@@ -21,7 +21,7 @@ use Rattle.script.specs.Names.{Counts, named}
 use Rattle.script.specs.declared.Row.{Row}
 use Rattle.script.proofs.Rows.{CmdRow, at-skip, at-seq, at-assign, at-while, at-case, cmd-row}
 use Rattle.memory.specs.Memory.{cellOf}
-use Rattle.interpreter.specs.State.{numberOf}
+use Rattle.interpreter.specs.State.{stateNumber}
 use Rattle.interpreter.specs.declared.State.the-variants.{Done, NoRule}
 use Rattle.interpreter.specs.Cells.{Holds}
 use Rattle.interpreter.specs.Nodes.{Tells}
@@ -276,8 +276,8 @@ none-case Q (at-case s p q h) n1 n2 n3 n4 n5 = absurd (n5 refl)
 -- ---- a law for each arm of the code
 
 module _ {ws : List ℕ} {at : ℕ} {table : List ℕ} {authority depth : ℕ} {work : List ℕ} {fuel : ℕ} {row : Row} (r : row ≡ rowAt ws at) where
-  pub exec-skip : row .kind ≡ 1 → Execs ws at table authority depth work fuel (numberOf Done) fuel (at + 3) work
-  unfolding numberOf
+  pub exec-skip : row .kind ≡ 1 → Execs ws at table authority depth work fuel (stateNumber Done) fuel (at + 3) work
+  unfolding stateNumber
   exec-skip q = by-runs (omega arith) (omega arith) (λ W k c rest M ρ t p held. skip-case W k M ρ fuel (cmd-row-of 1 r q p) held)
 
   module _ {ds dl dn ts tl tn : ℕ} {work′ : List ℕ} (q : row .kind ≡ 2) (x : Execs ws (at + 3) table authority depth work fuel ds dl dn work′)
@@ -330,8 +330,8 @@ module _ {ws : List ℕ} {at : ℕ} {table : List ℕ} {authority depth : ℕ} {
         (λ W k c rest M ρ t p held. case-case at W k M ρ t held y x′ (cmd-row-of 5 r q p) (p .names) z)
 
   pub exec-none : (row .kind ≡ 1 → ⊥) → (row .kind ≡ 2 → ⊥) → (row .kind ≡ 3 → ⊥) → (row .kind ≡ 4 → ⊥) → (row .kind ≡ 5 → ⊥)
-      → Execs ws at table authority depth work fuel (numberOf NoRule) fuel at work
-  unfolding numberOf
+      → Execs ws at table authority depth work fuel (stateNumber NoRule) fuel at work
+  unfolding stateNumber
   exec-none n1 n2 n3 n4 n5 =
       by-runs (omega arith) (omega arith)
       (λ W k c rest M ρ t p held.

@@ -21,7 +21,7 @@ use Rattle.script.specs.declared.Row.{Row}
 use Rattle.script.proofs.Rows.{ExprRow, at-int, at-loc, at-var, at-plus, at-left, at-right, at-pack, at-unpack, expr-row, row-in}
 use Rattle.memory.specs.Words.{cell}
 use Rattle.memory.specs.Memory.{cellOf}
-use Rattle.interpreter.specs.State.{numberOf}
+use Rattle.interpreter.specs.State.{stateNumber}
 use Rattle.interpreter.specs.declared.State.the-variants.{Done, NoRule}
 use Rattle.interpreter.specs.Cells.{accumulator, firstLocation, loadOf, storeOf, Holds}
 use Rattle.interpreter.specs.Nodes.{Answers, Turns, Applies, Applied, Tags, Tells}
@@ -169,8 +169,8 @@ one-of k h l n = on (eqb k 10) refl
 -- ---- a law for each arm of the code
 
 module _ {ws : List ℕ} {at : ℕ} {table : List ℕ} {authority depth : ℕ} {work : List ℕ} {row : Row} (r : row ≡ rowAt ws at) where
-  pub eval-int : {work′ : List ℕ} → row .kind ≡ 6 → work′ ≡ storeOf work accumulator (cell (int (row .a))) → Evals ws at table authority depth work (numberOf Done) (at + 3) work′
-  unfolding numberOf
+  pub eval-int : {work′ : List ℕ} → row .kind ≡ 6 → work′ ≡ storeOf work accumulator (cell (int (row .a))) → Evals ws at table authority depth work (stateNumber Done) (at + 3) work′
+  unfolding stateNumber
   eval-int q e =
       record {
         forward = omega arith;
@@ -180,8 +180,8 @@ module _ {ws : List ℕ} {at : ℕ} {table : List ℕ} {authority depth : ℕ} {
       }
 
   pub eval-loc : {work′ : List ℕ} → row .kind ≡ 7 → work′ ≡ storeOf work accumulator (loadOf work (firstLocation + row .a))
-      → Evals ws at table authority depth work (numberOf Done) (at + 3) work′
-  unfolding numberOf
+      → Evals ws at table authority depth work (stateNumber Done) (at + 3) work′
+  unfolding stateNumber
   eval-loc q e =
       record {
         forward = omega arith;
@@ -191,8 +191,8 @@ module _ {ws : List ℕ} {at : ℕ} {table : List ℕ} {authority depth : ℕ} {
       }
 
   pub eval-var : {work′ : List ℕ} → row .kind ≡ 8 → work′ ≡ storeOf work accumulator (loadOf work (depth - row .a))
-      → Evals ws at table authority depth work (numberOf Done) (at + 3) work′
-  unfolding numberOf
+      → Evals ws at table authority depth work (stateNumber Done) (at + 3) work′
+  unfolding stateNumber
   eval-var q e =
       record {
         forward = omega arith;
@@ -268,8 +268,8 @@ module _ {ws : List ℕ} {at : ℕ} {table : List ℕ} {authority depth : ℕ} {
 
   pub eval-none : (row .kind ≡ 6 → ⊥) → (row .kind ≡ 7 → ⊥) → (row .kind ≡ 8 → ⊥) → (row .kind ≡ 9 → ⊥)
       → (row .kind ≡ 10 → ⊥) → (row .kind ≡ 11 → ⊥) → (row .kind ≡ 12 → ⊥) → (row .kind ≡ 13 → ⊥)
-      → Evals ws at table authority depth work (numberOf NoRule) at work
-  unfolding numberOf
+      → Evals ws at table authority depth work (stateNumber NoRule) at work
+  unfolding stateNumber
   eval-none n6 n7 n8 n9 n10 n11 n12 n13 =
       record {
         forward = omega arith;

@@ -17,7 +17,7 @@ use Rattle.script.specs.Code.{code}
 use Rattle.script.specs.Names.{Counts, maxDepth}
 use Rattle.memory.specs.Words.{enc, cell}
 use Rattle.memory.specs.Memory.{cellOf}
-use Rattle.interpreter.specs.State.{numberOf}
+use Rattle.interpreter.specs.State.{stateNumber}
 use Rattle.interpreter.specs.declared.State.the-variants.{Done, Spent, NoRule}
 use Rattle.interpreter.specs.Cells.{accumulator, firstLocation, loadOf, storeOf, popOf, Holds}
 use Rattle.interpreter.specs.Nodes.{Answers, Tags, Tells}
@@ -88,8 +88,8 @@ module _ (state left next : ℕ) where
   tick-spent-at ws rest locations depth ρ (over b) work z f h = absurd (omega arith)
   tick-spent-at ws rest locations depth ρ wrong work z f h = tt
 
-  pub tick-spent : state ≡ 0 → left ≡ 0 → Ticks state left next (numberOf Spent) 0 next
-  unfolding numberOf
+  pub tick-spent : state ≡ 0 → left ≡ 0 → Ticks state left next (stateNumber Spent) 0 next
+  unfolding stateNumber
   tick-spent z f =
       record {
         spends = omega arith;
@@ -106,8 +106,8 @@ module _ (state left next : ℕ) where
   tick-step-at ws rest locations depth ρ (over b) work z f h = absurd (omega arith)
   tick-step-at ws rest locations depth ρ wrong work z f h = tt
 
-  pub tick-step : state ≡ 0 → (left ≡ 0 → ⊥) → Ticks state left next (numberOf Done) (left - 1) next
-  unfolding numberOf
+  pub tick-step : state ≡ 0 → (left ≡ 0 → ⊥) → Ticks state left next (stateNumber Done) (left - 1) next
+  unfolding stateNumber
   tick-step z f =
       record {
         spends = omega arith;
@@ -154,8 +154,8 @@ module _ {ws : List ℕ} {at : ℕ} {table : List ℕ} {authority depth : ℕ} {
             subst (λ (o : Out). Ends ws rest (k .locations) depth ρ o state left work′ next) (sym (go-assign W ρ M x e fuel)) (m W k e rest M ρ t p l held);
       }
 
-  pub assign-spent : fuel ≡ 0 → Assigns ws at table authority depth work fuel x (numberOf Spent) 0 at work
-  unfolding numberOf Ends spend
+  pub assign-spent : fuel ≡ 0 → Assigns ws at table authority depth work fuel x (stateNumber Spent) 0 at work
+  unfolding stateNumber Ends spend
   assign-spent z = assign-by (omega arith) (omega arith) (λ W k e rest M ρ t p l held. rw z (refl, refl))
 
   pub assign-fail : {vs vn : ℕ} {work′ : List ℕ} → (fuel ≡ 0 → ⊥) → Evals ws at table authority depth work vs vn work′ → (vs ≡ 0 → ⊥)
@@ -165,8 +165,8 @@ module _ {ws : List ℕ} {at : ℕ} {table : List ℕ} {authority depth : ℕ} {
       (λ W k e rest M ρ t p l held. assign-fail-at ws at depth x rest (k .locations) ρ M (eval W ρ M e) vs fuel (cellOf work′ 0) work′ f z (y .means W k e rest M ρ t p held .0))
 
   pub assign-done : {vs vn : ℕ} {work′ work″ : List ℕ} → (fuel ≡ 0 → ⊥) → Evals ws at table authority depth work vs vn work′ → vs ≡ 0
-      → work″ ≡ storeOf work′ (firstLocation + x) (loadOf work′ accumulator) → Assigns ws at table authority depth work fuel x (numberOf Done) (fuel - 1) vn work″
-  unfolding numberOf
+      → work″ ≡ storeOf work′ (firstLocation + x) (loadOf work′ accumulator) → Assigns ws at table authority depth work fuel x (stateNumber Done) (fuel - 1) vn work″
+  unfolding stateNumber
   assign-done {vs} {vn} {work′} {work″} f y z e =
       assign-by (y .forward) (omega arith)
       (λ W k u rest M ρ t p l held. let m = y .means W k u rest M ρ t p held in
@@ -183,8 +183,8 @@ decide-fail-at ws at rest long vs (suc b) words f z a = (a, refl)
 decide-fail-at ws at rest stuck vs (suc b) words f z a = tt
 
 module _ {ws : List ℕ} {at : ℕ} {table : List ℕ} {authority depth : ℕ} {work : List ℕ} {fuel : ℕ} where
-  pub decide-spent : fuel ≡ 0 → Decides ws at table authority depth work fuel (numberOf Spent) 0 at false work
-  unfolding numberOf Chooses choice
+  pub decide-spent : fuel ≡ 0 → Decides ws at table authority depth work fuel (stateNumber Spent) 0 at false work
+  unfolding stateNumber Chooses choice
   decide-spent z =
       record {
         forward = omega arith;
@@ -247,8 +247,8 @@ module _ (ws : List ℕ) (rest : List Line) (next : ℕ) where
 
 module _ {ws : List ℕ} {at : ℕ} {table : List ℕ} {authority depth : ℕ} {work : List ℕ} {fuel vs vn w : ℕ} {work′ : List ℕ}
     (f : fuel ≡ 0 → ⊥) (y : Evals ws at table authority depth work vs vn work′) (z : vs ≡ 0) (p : w ≡ getD work′ 0 0) where
-  pub decide-side : {n : ℕ} {on : Bool} → Side n on → w ≡ n → Decides ws at table authority depth work fuel (numberOf Done) (fuel - 1) vn on work′
-  unfolding numberOf
+  pub decide-side : {n : ℕ} {on : Bool} → Side n on → w ≡ n → Decides ws at table authority depth work fuel (stateNumber Done) (fuel - 1) vn on work′
+  unfolding stateNumber
   decide-side {n} {on} side q =
       record {
         forward = y .forward;
@@ -267,8 +267,8 @@ module _ {ws : List ℕ} {at : ℕ} {table : List ℕ} {authority depth : ℕ} {
       less zero f = absurd (f refl)
       less (suc n) f = omega arith
 
-  pub decide-none : (w ≡ 3 → ⊥) → (w ≡ 4 → ⊥) → Decides ws at table authority depth work fuel (numberOf NoRule) fuel at false work′
-  unfolding numberOf
+  pub decide-none : (w ≡ 3 → ⊥) → (w ≡ 4 → ⊥) → Decides ws at table authority depth work fuel (stateNumber NoRule) fuel at false work′
+  unfolding stateNumber
   decide-none n3 n4 =
       record {
         forward = omega arith;
@@ -328,8 +328,8 @@ module _ (ws : List ℕ) (rest : List Line) (locations depth : ℕ) (M : Mem) (�
       enters-right no-rule state left on z o h = tt
 
 module _ {ws : List ℕ} {at : ℕ} {table : List ℕ} {authority depth : ℕ} {work : List ℕ} {fuel : ℕ} where
-  pub branch-deep : maxDepth ≤ depth → Branches ws at table authority depth work fuel (numberOf NoRule) fuel at at work
-  unfolding numberOf
+  pub branch-deep : maxDepth ≤ depth → Branches ws at table authority depth work fuel (stateNumber NoRule) fuel at at work
+  unfolding stateNumber
   branch-deep h =
       record {
         forward = omega arith;
@@ -354,8 +354,8 @@ module _ {ws : List ℕ} {at : ℕ} {table : List ℕ} {authority depth : ℕ} {
 
     module _ {work″ : List ℕ} {second end : ℕ} (l : depth < maxDepth) (b : work″ ≡ storeOf work′ (suc depth) (popOf (loadOf work′ accumulator)))
         (k : Skips ws gn second) (k′ : Skips ws second end) where
-      pub branch-left : gs ≡ 0 → on ≡ true → Branches ws at table authority depth work fuel (numberOf Done) gl gn end work″
-      unfolding numberOf
+      pub branch-left : gs ≡ 0 → on ≡ true → Branches ws at table authority depth work fuel (stateNumber Done) gl gn end work″
+      unfolding stateNumber
       branch-left z o =
           record {
             forward = g .forward;
@@ -367,8 +367,8 @@ module _ {ws : List ℕ} {at : ℕ} {table : List ℕ} {authority depth : ℕ} {
                 (choice fuel (eval W ρ M e)) gs gl on z o (g .means W n e (cmdLines c (cmdLines d rest)) M ρ t p held);
           }
 
-      pub branch-right : gs ≡ 0 → on ≡ false → Branches ws at table authority depth work fuel (numberOf Done) gl second end work″
-      unfolding numberOf
+      pub branch-right : gs ≡ 0 → on ≡ false → Branches ws at table authority depth work fuel (stateNumber Done) gl second end work″
+      unfolding stateNumber
       branch-right z o =
           record {
             forward = omega (arith, g .forward, k .forward);

@@ -16,7 +16,7 @@ use Rattle.sheet.specs.TypeTest.{hasNo}
 use Rattle.memory.specs.Words.{enc, zeros, cell, valueOf, endOf}
 use Rattle.memory.specs.Memory.{cellOf}
 use Rattle.memory.proofs.WordLaws.{length-cell, value-enc, end-enc}
-use Rattle.interpreter.specs.State.{numberOf}
+use Rattle.interpreter.specs.State.{stateNumber}
 use Rattle.interpreter.specs.declared.State.the-variants.{TooLong, NoRule}
 use Rattle.interpreter.specs.Cells.{accumulator, loadOf, storeOf, pushOf, popOf}
 use Rattle.interpreter.specs.Nodes.{Answers, Turns, Applies, Applied, Tags, errorOf, errorIn, Tells}
@@ -148,8 +148,8 @@ module _ {work : List ℕ} {state next : ℕ} where
   tagged-past z = applies-past (λ f t. turns-past (λ u. fit (f u)) work state z)
 
   pub tagged-long : {w end : ℕ} → state ≡ 0 → end ≡ endOf work 0 → cell-words ≤ end
-      → Applies work state next work (numberOf TooLong) next ((f : Value → Value) → Tags w f → Turns (λ u. fit (f u)) work state work (numberOf TooLong))
-  unfolding numberOf
+      → Applies work state next work (stateNumber TooLong) next ((f : Value → Value) → Tags w f → Turns (λ u. fit (f u)) work state work (stateNumber TooLong))
+  unfolding stateNumber
   tagged-long {end = end} z s h =
       applies-keep 10 (λ x. omega arith)
       (λ f t. turns-keep (λ u. fit (f u)) work state 10 z
@@ -183,8 +183,8 @@ module _ {work : List ℕ} {state next : ℕ} where
           (λ v h a. answers-ok (packed false l v) (inr (err 1)) state (cell (inr (err 1))) refl z refl)))
 
       pub pack-long : {end : ℕ} → state ≡ 0 → may ≡ true → end ≡ endOf work 0 → 13 < end
-          → Applies work state next work (numberOf TooLong) next ((W : World) → Tells table authority W → Turns (packed (W .writes l) l) work state work (numberOf TooLong))
-      unfolding numberOf packed size
+          → Applies work state next work (stateNumber TooLong) next ((W : World) → Tells table authority W → Turns (packed (W .writes l) l) work state work (stateNumber TooLong))
+      unfolding stateNumber packed size
       pack-long {end} z y s h =
           applies-keep 10 (λ x. omega arith)
           (λ W t. rw (written l may w W t, y) (turns-keep (packed true l) work state 10 z
@@ -294,8 +294,8 @@ module _ {work table : List ℕ} {authority state next : ℕ} (t l : ℕ) where
   unpack-past z = applies-past (λ W tells. turns-past (unpacked W t l) work state z)
 
   pub unpack-none : {w : ℕ} → state ≡ 0 → w ≡ getD work 0 0 → (w ≡ 5 → ⊥)
-      → Applies work state next work (numberOf NoRule) next ((W : World) → Tells table authority W → Turns (unpacked W t l) work state work (numberOf NoRule))
-  unfolding numberOf
+      → Applies work state next work (stateNumber NoRule) next ((W : World) → Tells table authority W → Turns (unpacked W t l) work state work (stateNumber NoRule))
+  unfolding stateNumber
   unpack-none z p ne =
       applies-keep 4 (λ x. omega arith)
       (λ W tells. turns-keep (unpacked W t l) work state 4 z (λ v a. no-package W t l work v 4 (λ q. ne (p ∙ q)) a))

@@ -6,18 +6,18 @@ use Prim.Native.Nat.{ℕ}
 use native.Mathlib.Omega.{arith}
 use types.Run.{OneOf}
 use denote.Enum.Declared.{tagOf}
-use Rattle.interpreter.specs.State.{numberOf}
+use Rattle.interpreter.specs.State.{stateNumber}
 use Rattle.interpreter.specs.declared.State.{State}
 use Rattle.interpreter.specs.declared.State.the-variants.{Done, Spent, TooLong, NoRule}
 use Rattle.interpreter.proofs.State.{the-type}
 
-pub not-done : (s : State) → OneOf (1 ∷ 2 ∷ 3 ∷ []) (tagOf the-type s) → numberOf s ≡ 0 → ⊥
-unfolding numberOf
+pub not-done : (s : State) → OneOf (1 ∷ 2 ∷ 3 ∷ []) (tagOf the-type s) → stateNumber s ≡ 0 → ⊥
+unfolding stateNumber
 not-done Done k z = elim k [ inl a ↦ omega arith | inr b ↦ elim b [ inl a ↦ omega arith | inr a ↦ omega arith ] ]
 not-done Spent k z = omega arith
 not-done TooLong k z = omega arith
 not-done NoRule k z = omega arith
 
-pub is-done : (s : State) → s ≡ Done → numberOf s ≡ 0
-unfolding numberOf
-is-done s e = ap numberOf e
+pub is-done : (s : State) → s ≡ Done → stateNumber s ≡ 0
+unfolding stateNumber
+is-done s e = ap stateNumber e

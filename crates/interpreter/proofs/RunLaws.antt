@@ -24,7 +24,7 @@ use Rattle.memory.specs.Words.{cell}
 use Rattle.memory.specs.Memory.{cellOf, memoryOf, wordsOf, fits, wellFormed}
 use Rattle.memory.proofs.CellsLaws.{cells-ext, cells-all}
 use Rattle.memory.proofs.MemoryLaws.{value-words}
-use Rattle.interpreter.specs.State.{numberOf}
+use Rattle.interpreter.specs.State.{stateNumber}
 use Rattle.interpreter.specs.declared.State.the-variants.{Done, NoRule}
 use Rattle.interpreter.specs.Cells.{firstLocation, workWords, Holds, bound-none}
 use Rattle.interpreter.specs.Nodes.{Tells}
@@ -120,8 +120,8 @@ kept-at ws work memory locations budget left next (over b) state z h = (h .0, ap
 kept-at ws work memory locations budget left next wrong state z h = tt
 
 -- a memory of more locations than a sheet has
-pub run-large : {ws table memory : List ℕ} {authority budget : ℕ} → 1024 < length memory → Runs ws table memory authority budget (numberOf NoRule) 0 memory
-unfolding numberOf
+pub run-large : {ws table memory : List ℕ} {authority budget : ℕ} → 1024 < length memory → Runs ws table memory authority budget (stateNumber NoRule) 0 memory
+unfolding stateNumber
 run-large h =
     record {
       long = refl;
@@ -144,8 +144,8 @@ module _ {ws table : List ℕ} {authority budget : ℕ} (work memory : List ℕ)
       subst (λ (u : Cmd). Ends ws [] (locationCount s) 0 [] (iterate (worldOf s authority) budget (memoryOf memory) u) state left work″ next) (close-none zero c) (rw ke at m)
 
   pub run-done : {memory′ : List ℕ} → state ≡ 0 → length memory′ ≡ length memory
-      → memory′ ≡ paste memory 0 (drop (cell-words * firstLocation) work″) (length memory) → Runs ws table memory authority budget (numberOf Done) (budget - left) memory′
-  unfolding numberOf
+      → memory′ ≡ paste memory 0 (drop (cell-words * firstLocation) work″) (length memory) → Runs ws table memory authority budget (stateNumber Done) (budget - left) memory′
+  unfolding stateNumber
   run-done {memory′} z l d =
       record {
         long = l;

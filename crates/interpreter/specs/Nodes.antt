@@ -15,7 +15,7 @@ use Rattle.interpreter.specs.Cells.{accumulator}
 
 -- ---- answers
 
--- The answer to an evaluation, by its state's number (`numberOf`): 0 and the value's cell; 10 where a value is too long. Where no rule
+-- The answer to an evaluation, by its state's number (`stateNumber`): 0 and the value's cell; 10 where a value is too long. Where no rule
 -- applies nothing is promised: no accepted script comes there.
 unfoldable pub Answers : Res → ℕ → List ℕ → Type 0
 Answers (ok v) state words = (state ≡ 0) × (words ≡ cell v)

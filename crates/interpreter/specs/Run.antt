@@ -15,7 +15,7 @@ use Rattle.sheet.specs.Tables.{tableOf}
 use Rattle.sheet.specs.Meaning.{worldOf}
 use Rattle.memory.specs.Memory.{memoryOf, wordsOf, wellFormed}
 
--- The answer to a run that ends in an outcome: its state's number (`numberOf`), its steps, and what the memory of n locations then
+-- The answer to a run that ends in an outcome: its state's number (`stateNumber`), its steps, and what the memory of n locations then
 -- holds. Where no rule applies nothing is promised: no accepted script comes there.
 unfoldable pub RunEnds : ℕ → ℕ → List ℕ → Out → ℕ → ℕ → List ℕ → Type 0
 RunEnds n budget memory (done M b) state steps memory′ = (state ≡ 0) × (steps ≡ budget - b) × (memory′ ≡ wordsOf n M)

@@ -4,8 +4,8 @@ use Rattle.interpreter.specs.declared.State.{State}
 use Rattle.interpreter.specs.declared.State.the-variants.{Done, Spent, TooLong, NoRule}
 
 -- No rule applies only to words that are no accepted script's code, or to a memory that isn't its sheet's: 4, as for no script.
-unfoldable pub numberOf : State → ℕ
-numberOf Done = 0
-numberOf NoRule = 4
-numberOf Spent = 9
-numberOf TooLong = 10
+unfoldable pub stateNumber : State → ℕ
+stateNumber Done = 0
+stateNumber NoRule = 4
+stateNumber Spent = 9
+stateNumber TooLong = 10

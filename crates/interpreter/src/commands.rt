@@ -1,6 +1,6 @@
 // Runs of commands over the lines (the paper, figure 3).
 ghost use mathlib.Core.Path.{_≡_};
-ghost use Rattle.interpreter.specs.State.{numberOf};
+ghost use Rattle.interpreter.specs.State.{stateNumber};
 ghost use Rattle.interpreter.specs.Post.{operandsOf, Skips, Execs, Ticks, Assigns, Decides, Branches};
 use crate::State;
 use crate::cells;
@@ -79,7 +79,7 @@ fn skip(code: &[u32], at: usize) -> usize
 
 // One transition after d, where d is done.
 fn tick(d: Stepped) -> Stepped
-    ensures { λ r. ⌜ Ticks (numberOf (d .state)) (d .left) (d .next) (numberOf (r .state)) (r .left) (r .next) ⌝ }
+    ensures { λ r. ⌜ Ticks (stateNumber (d .state)) (d .left) (d .next) (stateNumber (r .state)) (r .left) (r .next) ⌝ }
 {
     let state = d.state;
     let State::Done = state else {
@@ -110,7 +110,7 @@ fn assign(
     fuel: u32,
     x: u32,
 ) -> Stepped
-    ensures { λ r. ⌜ Assigns (now (code .entry)) at (now (table .entry)) authority depth (now (work .entry)) fuel x (numberOf (r .state)) (r .left) (r .next) (now (work .exit)) ⌝ }
+    ensures { λ r. ⌜ Assigns (now (code .entry)) at (now (table .entry)) authority depth (now (work .entry)) fuel x (stateNumber (r .state)) (r .left) (r .next) (now (work .exit)) ⌝ }
 {
     if fuel == 0 {
         return Stepped {
@@ -146,7 +146,7 @@ fn decide(
     work: &mut [u32; cells::WORK],
     fuel: u32,
 ) -> Decided
-    ensures { λ r. ⌜ Decides (now (code .entry)) at (now (table .entry)) authority depth (now (work .entry)) fuel (numberOf (r .state)) (r .left) (r .next) (r .on) (now (work .exit)) ⌝ }
+    ensures { λ r. ⌜ Decides (now (code .entry)) at (now (table .entry)) authority depth (now (work .entry)) fuel (stateNumber (r .state)) (r .left) (r .next) (r .on) (now (work .exit)) ⌝ }
 {
     if fuel == 0 {
         return Decided {
@@ -198,7 +198,7 @@ fn branch(
     work: &mut [u32; cells::WORK],
     fuel: u32,
 ) -> Taken
-    ensures { λ r. ⌜ Branches (now (code .entry)) at (now (table .entry)) authority depth (now (work .entry)) fuel (numberOf (r .state)) (r .left) (r .start) (r .end) (now (work .exit)) ⌝ }
+    ensures { λ r. ⌜ Branches (now (code .entry)) at (now (table .entry)) authority depth (now (work .entry)) fuel (stateNumber (r .state)) (r .left) (r .start) (r .end) (now (work .exit)) ⌝ }
 {
     if depth >= MAX_DEPTH {
         return Taken {
@@ -241,7 +241,7 @@ pub(crate) fn exec(
     work: &mut [u32; cells::WORK],
     fuel: u32,
 ) -> Stepped
-    ensures { λ r. ⌜ Execs (now (code .entry)) at (now (table .entry)) authority depth (now (work .entry)) fuel (numberOf (r .state)) (r .left) (r .next) (now (work .exit)) ⌝ }
+    ensures { λ r. ⌜ Execs (now (code .entry)) at (now (table .entry)) authority depth (now (work .entry)) fuel (stateNumber (r .state)) (r .left) (r .next) (now (work .exit)) ⌝ }
 {
     let row = script::row_at(code, at);
     let kind = row.kind;

@@ -1,5 +1,5 @@
 // Evaluation of expressions over the lines (the paper, figure 2).
-ghost use Rattle.interpreter.specs.State.{numberOf};
+ghost use Rattle.interpreter.specs.State.{stateNumber};
 ghost use Rattle.interpreter.specs.Post.{Evals};
 use crate::State;
 use crate::cells;
@@ -16,7 +16,7 @@ pub(crate) fn eval(
     depth: u32,
     work: &mut [u32; cells::WORK],
 ) -> Evaluated
-    ensures { λ r. ⌜ Evals (now (code .entry)) at (now (table .entry)) authority depth (now (work .entry)) (numberOf (r .state)) (r .next) (now (work .exit)) ⌝ }
+    ensures { λ r. ⌜ Evals (now (code .entry)) at (now (table .entry)) authority depth (now (work .entry)) (stateNumber (r .state)) (r .next) (now (work .exit)) ⌝ }
 {
     let row = script::row_at(code, at);
     let kind = row.kind;

@@ -8,7 +8,7 @@ ghost use mathlib.Core.Path.{_≡_};
 ghost use lib.ListN.{length};
 ghost use Rattle.interpreter.specs.Cells.{workWords};
 ghost use Rattle.interpreter.specs.Run.{Runs};
-ghost use Rattle.interpreter.specs.State.{numberOf};
+ghost use Rattle.interpreter.specs.State.{stateNumber};
 
 // How an evaluation or a run ends: done, the budget used up, a value too long; or, on words that are no script's code or no sheet's
 // memory, that no rule applies.
@@ -27,7 +27,7 @@ pub struct Ran {
 
 // Runs a script's code on a memory, under an authority, within a budget. The memory changes only where the run is done.
 pub fn run(code: &[u32], table: &[u16], memory: &mut [u32], authority: u16, budget: u32) -> Ran
-    ensures { λ r. ⌜ Runs (now (code .entry)) (now (table .entry)) (now (memory .entry)) authority budget (numberOf (r .state)) (r .steps) (now (memory .exit)) ⌝ }
+    ensures { λ r. ⌜ Runs (now (code .entry)) (now (table .entry)) (now (memory .entry)) authority budget (stateNumber (r .state)) (r .steps) (now (memory .exit)) ⌝ }
 {
     let mut work = [0u32; cells::WORK];
     run_in(code, table, memory, authority, budget, &mut work)
@@ -43,7 +43,7 @@ fn run_in(
     work: &mut [u32; cells::WORK],
 ) -> Ran
     requires { ⌜ length (now work) ≡ workWords ⌝ }
-    ensures { λ r. ⌜ Runs (now (code .entry)) (now (table .entry)) (now (memory .entry)) authority budget (numberOf (r .state)) (r .steps) (now (memory .exit)) ⌝ }
+    ensures { λ r. ⌜ Runs (now (code .entry)) (now (table .entry)) (now (memory .entry)) authority budget (stateNumber (r .state)) (r .steps) (now (memory .exit)) ⌝ }
 {
     let n = memory.len();
     if n > cells::WORK - cells::MEMORY {

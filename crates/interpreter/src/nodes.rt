@@ -9,7 +9,7 @@ ghost use Rattle.sheet.specs.Tables.{leftIn};
 ghost use Rattle.sheet.specs.TypeTest.{hasNo};
 ghost use Rattle.memory.specs.Words.{cell, valueOf};
 ghost use Rattle.interpreter.specs.Cells.{loadOf, storeOf, accumulator, firstLocation};
-ghost use Rattle.interpreter.specs.State.{numberOf};
+ghost use Rattle.interpreter.specs.State.{stateNumber};
 ghost use Rattle.interpreter.specs.Nodes.{Turns, Applies, Applied, Tags, errorIn, Tells};
 use crate::State;
 use crate::cells;
@@ -69,8 +69,8 @@ pub(crate) fn variable(work: &mut [u32; cells::WORK], depth: u32, d: u32)
 
 // The sum of n and the integer in the accumulator.
 pub(crate) fn sum(work: &mut [u32; cells::WORK], n: u32, v: Evaluated) -> Evaluated
-    ensures { λ r. ⌜ Applies (now (work .entry)) (numberOf (v .state)) (v .next) (now (work .exit)) (numberOf (r .state)) (r .next)
-        ((u : Value) → n ≡ getD (cell u) 1 0 → Turns (add u) (now (work .entry)) (numberOf (v .state)) (now (work .exit)) (numberOf (r .state))) ⌝ }
+    ensures { λ r. ⌜ Applies (now (work .entry)) (stateNumber (v .state)) (v .next) (now (work .exit)) (stateNumber (r .state)) (r .next)
+        ((u : Value) → n ≡ getD (cell u) 1 0 → Turns (add u) (now (work .entry)) (stateNumber (v .state)) (now (work .exit)) (stateNumber (r .state))) ⌝ }
 {
     let state = v.state;
     let State::Done = state else {
@@ -83,8 +83,8 @@ pub(crate) fn sum(work: &mut [u32; cells::WORK], n: u32, v: Evaluated) -> Evalua
 
 // Left or right, as the word says, of the value in the accumulator.
 fn tagged(work: &mut [u32; cells::WORK], w: u32, v: Evaluated) -> Evaluated
-    ensures { λ r. ⌜ Applies (now (work .entry)) (numberOf (v .state)) (v .next) (now (work .exit)) (numberOf (r .state)) (r .next)
-        ((f : Value → Value) → Tags w f → Turns (λ u. fit (f u)) (now (work .entry)) (numberOf (v .state)) (now (work .exit)) (numberOf (r .state))) ⌝ }
+    ensures { λ r. ⌜ Applies (now (work .entry)) (stateNumber (v .state)) (v .next) (now (work .exit)) (stateNumber (r .state)) (r .next)
+        ((f : Value → Value) → Tags w f → Turns (λ u. fit (f u)) (now (work .entry)) (stateNumber (v .state)) (now (work .exit)) (stateNumber (r .state))) ⌝ }
 {
     let state = v.state;
     let State::Done = state else {
@@ -108,8 +108,8 @@ fn pack(
     l: u32,
     v: Evaluated,
 ) -> Evaluated
-    ensures { λ r. ⌜ Applies (now (work .entry)) (numberOf (v .state)) (v .next) (now (work .exit)) (numberOf (r .state)) (r .next)
-        ((W : World) → Tells (now (table .entry)) authority W → Turns (packed (W .writes l) l) (now (work .entry)) (numberOf (v .state)) (now (work .exit)) (numberOf (r .state))) ⌝ }
+    ensures { λ r. ⌜ Applies (now (work .entry)) (stateNumber (v .state)) (v .next) (now (work .exit)) (stateNumber (r .state)) (r .next)
+        ((W : World) → Tells (now (table .entry)) authority W → Turns (packed (W .writes l) l) (now (work .entry)) (stateNumber (v .state)) (now (work .exit)) (stateNumber (r .state))) ⌝ }
 {
     let state = v.state;
     let State::Done = state else {
@@ -157,8 +157,8 @@ fn unpack(
     l: u32,
     v: Evaluated,
 ) -> Evaluated
-    ensures { λ r. ⌜ Applies (now (work .entry)) (numberOf (v .state)) (v .next) (now (work .exit)) (numberOf (r .state)) (r .next)
-        ((W : World) → Tells (now (table .entry)) authority W → Turns (unpacked W t l) (now (work .entry)) (numberOf (v .state)) (now (work .exit)) (numberOf (r .state))) ⌝ }
+    ensures { λ r. ⌜ Applies (now (work .entry)) (stateNumber (v .state)) (v .next) (now (work .exit)) (stateNumber (r .state)) (r .next)
+        ((W : World) → Tells (now (table .entry)) authority W → Turns (unpacked W t l) (now (work .entry)) (stateNumber (v .state)) (now (work .exit)) (stateNumber (r .state))) ⌝ }
 {
     let state = v.state;
     let State::Done = state else {
@@ -191,7 +191,7 @@ pub(crate) fn applied(
     b: u32,
     v: Evaluated,
 ) -> Evaluated
-    ensures { λ r. ⌜ Applied (now (table .entry)) authority kind a b (now (work .entry)) (numberOf (v .state)) (v .next) (now (work .exit)) (numberOf (r .state)) (r .next) ⌝ }
+    ensures { λ r. ⌜ Applied (now (table .entry)) authority kind a b (now (work .entry)) (stateNumber (v .state)) (v .next) (now (work .exit)) (stateNumber (r .state)) (r .next) ⌝ }
 {
     match kind {
         script::PLUS => sum(work, a, v),

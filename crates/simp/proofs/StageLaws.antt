@@ -27,7 +27,9 @@ use Rattle.memory.specs.View.{viewWords, viewRefusal, leaves, viewLeaves}
 use Rattle.memory.specs.InTable.{refusalIn, viewRefusalIn, viewLeavesIn}
 use Rattle.memory.proofs.Exactness.{memories-exactly, table-agrees}
 use Rattle.memory.proofs.MemoryLaws.{unrefused-length, unrefused-formed}
-use Rattle.checker.specs.Post.{Answers}
+use Rattle.checker.specs.Post.{ChecksCode}
+use Rattle.checker.specs.Verdict.{verdictNumber}
+use Rattle.checker.specs.declared.Verdict.{Verdict}
 use Rattle.interpreter.specs.Run.{RunEnds, Runs}
 use Rattle.simp.specs.Calls.{unless, strangers, onScript, untyped, refusedRun, ended, refusedView}
 use Rattle.simp.specs.Stages.{TableOf, CodeOf, no-code, its-code, Judges, ChecksOn, RunsCode, runFrom, RunsOn, ViewsOn}
@@ -63,11 +65,11 @@ judge-empty ws t h = record { judged = λ s T o C. go s C h }
     go s no-code z = refl
     go s (its-code {c = c} src nm e) z = absurd (some-words c (ap length (sym e) ∙ z))
 
-pub judge-some : (ws t : List ℕ) (r : ℕ) → (length ws ≡ 0 → ⊥) → Answers ws t r → Judges ws t r
+pub judge-some : (ws t : List ℕ) (v u : Verdict) → (length ws ≡ 0 → ⊥) → ChecksCode ws t (verdictNumber v) → v ≡ u → Judges ws t (verdictNumber u)
 unfolding onScript untyped
-judge-some ws t r n a = record { judged = λ s T o C. go s T refl C }
+judge-some ws t v u n a e = record { judged = λ s T o C. ap verdictNumber (sym e) ∙ go s T refl C }
   where
-    go : (s : Sheet) → TableOf t s → {us : List ℕ} → us ≡ ws → {o : Option Cmd} → CodeOf s us o → r ≡ onScript (λ k. k) o (untyped s)
+    go : (s : Sheet) → TableOf t s → {us : List ℕ} → us ≡ ws → {o : Option Cmd} → CodeOf s us o → verdictNumber v ≡ onScript (λ k. k) o (untyped s)
     go s T e no-code = absurd (n (ap length (sym e)))
     go s T e (its-code {c = c} src nm w) = a .exact s (T .form) (T .once) (T .words) (countsOf s) c src nm (sym e ∙ w)
 

@@ -1,8 +1,9 @@
 // What a call does once the sheet is read: the script, the checks in the order of their numbers, the run or the view.
 ghost use mathlib.Core.Path.{_≡_};
-ghost use Rattle.interpreter.specs.State.{numberOf};
+ghost use Rattle.interpreter.specs.State.{stateNumber};
 ghost use Rattle.simp.specs.Stages.{Judges, ChecksOn, RunsCode, RunsOn, ViewsOn};
 use super::Outcome;
+use checker::Verdict;
 use interpreter::State;
 
 // A run that is refused takes no step.
@@ -19,7 +20,11 @@ fn judge(code: &[u32], table: &[u16]) -> u8
     if code.len() == 0 {
         return super::SCRIPT_MALFORMED;
     }
-    checker::check(code, table)
+    match checker::check(code, table) {
+        Verdict::Accepted => super::DONE,
+        Verdict::IllTyped => super::ILL_TYPED,
+        Verdict::IllLabelled => super::ILL_LABELLED,
+    }
 }
 
 // Checks a script on the sheet of a table.
@@ -33,7 +38,7 @@ pub(crate) fn check_on(script: &[u8], table: &[u16]) -> u8
 
 // The answer to a run that ended so.
 fn number(state: State) -> u8
-    ensures { λ r. ⌜ r ≡ numberOf state ⌝ }
+    ensures { λ r. ⌜ r ≡ stateNumber state ⌝ }
 {
     match state {
         State::Done => super::DONE,

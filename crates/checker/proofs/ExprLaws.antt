@@ -13,7 +13,7 @@ use Rattle.language.specs.Typing.{orElse, least, flowE}
 use Rattle.script.specs.declared.Row.{Row}
 use Rattle.script.specs.Lines.{Line, exprLines}
 use Rattle.script.specs.Code.{code, rowAt}
-use Rattle.script.proofs.Rows.{row-in, ExprRow, at-int, at-loc, at-var, at-plus, at-left, at-right, at-pack, at-unpack, expr-row}
+use Rattle.script.proofs.Rows.{ExprRow, at-int, at-loc, at-var, at-plus, at-left, at-right, at-pack, at-unpack, expr-row}
 use Rattle.sheet.specs.Tables.{leftIn, rightIn}
 use Rattle.checker.specs.declared.Typed.{Typed}
 use Rattle.checker.specs.Numbers.{isNo, someNo, leftIsNo, rightIsNo, givenNo, typeNo}
@@ -87,14 +87,6 @@ find-var t s d i next room = on (decLt i d)
         (record { type-is = sym (nth-past (boundType s) d i (omega arith)); label-is = rw (nth-past (boundLabel s) d i (omega arith)); flow-is = refl })
 
 -- ---- the arms: the row at `at`, what the operands' checks ensure, and what the node gives
-
--- the lines after a row lie within the code
-pub within : (ws : List ℕ) (at : ℕ) {row : Row} → row ≡ rowAt ws at → 0 < row .kind → at + 3 ≤ length ws
-within ws at {row} q h = on (row .kind) refl
-  where
-    on : (k : ℕ) → row .kind ≡ k → at + 3 ≤ length ws
-    on zero e = absurd (omega arith)
-    on (suc j) e = row-in ws at j (ap (λ (r : Row). r .kind) (sym q) ∙ e)
 
 past : {k n : ℕ} → n ≤ k → (k ≡ n → ⊥) → suc n ≤ k
 past h f = omega arith

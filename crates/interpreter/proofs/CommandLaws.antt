@@ -23,9 +23,9 @@ use Rattle.script.proofs.Rows.{CmdRow, at-skip, at-seq, at-assign, at-while, at
 use Rattle.memory.specs.Memory.{cellOf}
 use Rattle.interpreter.specs.State.{stateNumber}
 use Rattle.interpreter.specs.declared.State.the-variants.{Done, NoRule}
-use Rattle.interpreter.specs.Cells.{Holds}
+use Rattle.interpreter.specs.Cells.{CellsHold}
 use Rattle.interpreter.specs.Nodes.{Tells}
-use Rattle.interpreter.specs.Post.{CmdAt, an-expression, a-command, Skips, Ends, Execs, ticked, Ticks, Assigns, Choice, to-left, to-right, no-budget, too-long, no-rule, choiceV, choice, Chooses, Decides, Enters, Branches}
+use Rattle.interpreter.specs.Post.{CmdAt, an-expression, a-command, Skips, Finishes, Execs, ticked, Ticks, Assigns, Choice, to-left, to-right, no-budget, too-long, no-rule, choiceV, choice, Chooses, Decides, Enters, Branches}
 use Rattle.interpreter.proofs.StateLaws.{holds-kept, holds-leave}
 use Rattle.interpreter.proofs.ExecLaws.{ticked-then, ends-there, goes-on}
 
@@ -39,14 +39,14 @@ cmd-row-of {ws} {at} {row} {rest} {k} {depth} {c} kind r q p =
 -- what `Execs` says, by the run with an environment
 runs : {ws : List ℕ} {at : ℕ} {table : List ℕ} {authority depth : ℕ} {work : List ℕ} {fuel state left next : ℕ} {work′ : List ℕ}
     → Execs ws at table authority depth work fuel state left next work′ → (W : World) (k : Counts) (c : Cmd) (rest : List Line) (M : Mem) (ρ : Env)
-    → Tells table authority W → CmdAt ws at rest k depth c → Holds work (k .locations) depth M ρ
-    → Ends ws rest (k .locations) depth ρ (go W ρ c M fuel) state left work′ next
+    → Tells table authority W → CmdAt ws at rest k depth c → CellsHold work (k .locations) depth M ρ
+    → Finishes ws rest (k .locations) depth ρ (go W ρ c M fuel) state left work′ next
 unfolding go
 runs x W k c rest M ρ t p held = x .means W k c rest M ρ t p held
 
 by-runs : {ws : List ℕ} {at : ℕ} {table : List ℕ} {authority depth : ℕ} {work : List ℕ} {fuel state left next : ℕ} {work′ : List ℕ} → at ≤ next → left ≤ fuel
     → ((W : World) (k : Counts) (c : Cmd) (rest : List Line) (M : Mem) (ρ : Env) → Tells table authority W → CmdAt ws at rest k depth c
-    → Holds work (k .locations) depth M ρ → Ends ws rest (k .locations) depth ρ (go W ρ c M fuel) state left work′ next)
+    → CellsHold work (k .locations) depth M ρ → Finishes ws rest (k .locations) depth ρ (go W ρ c M fuel) state left work′ next)
     → Execs ws at table authority depth work fuel state left next work′
 unfolding go
 by-runs f s m = record { forward = f; spends = s; means = m }
@@ -76,8 +76,8 @@ chosen-is l r (suc b) stuck = refl
 module _ (ws : List ℕ) (rest mid : List Line) (locations depth : ℕ) (M : Mem) (ρ : Env) (l : Value → ℕ → Out) where
   -- a guard that doesn't go on
   stops : (ch : Choice) (state left n next : ℕ) (on : Bool) (words work : List ℕ) → on ≡ false → Chooses ws mid ch state left on words n
-      → Holds work locations depth M ρ → drop next ws ≡ code rest → Ends ws rest locations depth ρ (chosen l (λ v b. done M b) ch) state left work next
-  unfolding Chooses Ends chosen
+      → CellsHold work locations depth M ρ → drop next ws ≡ code rest → Finishes ws rest locations depth ρ (chosen l (λ v b. done M b) ch) state left work next
+  unfolding Chooses Finishes chosen
   stops (to-left v b) state left n next on words work o h held e = absurd (false≢true (sym o ∙ h .2))
   stops (to-right v b) state left n next on words work o h held e = (h .0, h .1, held, e)
   stops no-budget state left n next on words work o h held e = h
@@ -87,10 +87,10 @@ module _ (ws : List ℕ) (rest mid : List Line) (locations depth : ℕ) (M : Mem
   -- a guard that goes on
   turns-on : (r : Value → ℕ → Out) (ch : Choice) (gs gl n : ℕ) (on : Bool) (words : List ℕ) (state left next : ℕ) (work : List ℕ) → gs ≡ 0 → on ≡ true
       → Chooses ws mid ch gs gl on words n
-      → ((v : Value) → Ends ws rest locations depth ρ (l v gl) state left work next) → Ends ws rest locations depth ρ (chosen l r ch) state left work next
-  unfolding Chooses Ends chosen
+      → ((v : Value) → Finishes ws rest locations depth ρ (l v gl) state left work next) → Finishes ws rest locations depth ρ (chosen l r ch) state left work next
+  unfolding Chooses Finishes chosen
   turns-on r (to-left v b) gs gl n on words state left next work z o h k =
-      subst (λ (i : ℕ). Ends ws rest locations depth ρ (l v i) state left work next) (h .1) (k v)
+      subst (λ (i : ℕ). Finishes ws rest locations depth ρ (l v i) state left work next) (h .1) (k v)
   turns-on r (to-right v b) gs gl n on words state left next work z o h k = absurd (false≢true (sym (h .2) ∙ o))
   turns-on r no-budget gs gl n on words state left next work z o h k = absurd (omega (arith, h .0))
   turns-on r (too-long b) gs gl n on words state left next work z o h k = absurd (omega (arith, h .0))
@@ -99,16 +99,16 @@ module _ (ws : List ℕ) (rest mid : List Line) (locations depth : ℕ) (M : Mem
 -- ---- the kinds, each matched at its number
 
 skip-case : (W : World) (k : Counts) (M : Mem) (ρ : Env) (fuel : ℕ) {ws : List ℕ} {at : ℕ} {rest : List Line} {a b depth : ℕ} {work : List ℕ} {c : Cmd} → CmdRow ws at rest 1 a b c
-    → Holds work (k .locations) depth M ρ → Ends ws rest (k .locations) depth ρ (go W ρ c M fuel) 0 fuel work (at + 3)
-unfolding Ends
+    → CellsHold work (k .locations) depth M ρ → Finishes ws rest (k .locations) depth ρ (go W ρ c M fuel) 0 fuel work (at + 3)
+unfolding Finishes
 skip-case W k M ρ fuel (at-skip h) held = rw (go-skip W ρ M fuel) (refl, refl, held, h)
 
 module _ {ws : List ℕ} (at : ℕ) {table : List ℕ} {authority depth : ℕ} {work : List ℕ} {fuel : ℕ} (W : World) (k : Counts) (M : Mem) (ρ : Env)
-    (t : Tells table authority W) (held : Holds work (k .locations) depth M ρ) where
+    (t : Tells table authority W) (held : CellsHold work (k .locations) depth M ρ) where
   -- a command that stands after the line of `;`
   module _ {ds dl dn ts tl tn : ℕ} {work′ : List ℕ} (x : Execs ws (at + 3) table authority depth work fuel ds dl dn work′) (y : Ticks ds dl dn ts tl tn) where
     first-ends : (c d : Cmd) (rest : List Line) → Source c → named k depth c ≡ true → drop (at + 3) ws ≡ code (cmdLines c (cmdLines d rest))
-        → Ends ws (cmdLines d rest) (k .locations) depth ρ (ticked (go W ρ c M fuel)) ts tl work′ tn
+        → Finishes ws (cmdLines d rest) (k .locations) depth ρ (ticked (go W ρ c M fuel)) ts tl work′ tn
     first-ends c d rest s n h =
         y .means ws (cmdLines d rest) (k .locations) depth ρ (go W ρ c M fuel) work′
         (runs x W k c (cmdLines d rest) M ρ t (record { source = s; names = n; lines = h }) held)
@@ -117,14 +117,14 @@ module _ {ws : List ℕ} (at : ℕ) {table : List ℕ} {authority depth : ℕ} {
     seq-is c d = go-seq W ρ M c d fuel ∙ ticked-then (go W ρ c M fuel) (λ M′ b. go W ρ d M′ b)
 
     seq-end-case : {rest : List Line} {a b : ℕ} {c : Cmd} → CmdRow ws at rest 2 a b c → named k depth c ≡ true → (ts ≡ 0 → ⊥)
-        → Ends ws rest (k .locations) depth ρ (go W ρ c M fuel) ts tl work′ tn
+        → Finishes ws rest (k .locations) depth ρ (go W ρ c M fuel) ts tl work′ tn
     unfolding named
     seq-end-case {rest} (at-seq {c = c} {d = d} s r h) n z =
         rw (seq-is c d)
         (ends-there ws rest (k .locations) depth ρ _ (ticked (go W ρ c M fuel)) (λ M′ b. go W ρ d M′ b) ts tl work′ tn tn z (first-ends c d rest s (both-left _ _ n) h))
 
     seq-case : {rest : List Line} {a b : ℕ} {c : Cmd} {rs rl rn : ℕ} {work″ : List ℕ} → CmdRow ws at rest 2 a b c → named k depth c ≡ true → ts ≡ 0
-        → Execs ws tn table authority depth work′ tl rs rl rn work″ → Ends ws rest (k .locations) depth ρ (go W ρ c M fuel) rs rl work″ rn
+        → Execs ws tn table authority depth work′ tl rs rl rn work″ → Finishes ws rest (k .locations) depth ρ (go W ρ c M fuel) rs rl work″ rn
     unfolding named
     seq-case {rest} {rs = rs} {rl = rl} {rn = rn} {work″ = work″} (at-seq {c = c} {d = d} s r h) n z u =
         rw (seq-is c d)
@@ -133,7 +133,7 @@ module _ {ws : List ℕ} (at : ℕ) {table : List ℕ} {authority depth : ℕ} {
         (λ M′ held′ p. runs u W k d rest M′ ρ t (record { source = r; names = both-right _ _ n; lines = p }) held′))
 
   assign-case : {rest : List Line} {a b : ℕ} {c : Cmd} {state left next : ℕ} {work′ : List ℕ} → CmdRow ws at rest 3 a b c → named k depth c ≡ true
-      → Assigns ws (at + 3) table authority depth work fuel a state left next work′ → Ends ws rest (k .locations) depth ρ (go W ρ c M fuel) state left work′ next
+      → Assigns ws (at + 3) table authority depth work fuel a state left next work′ → Finishes ws rest (k .locations) depth ρ (go W ρ c M fuel) state left work′ next
   unfolding named go
   assign-case {rest} (at-assign {x = x} {e = e} s h) n y =
       y .means W k e rest M ρ t (record { source = s; names = both-right _ _ n; lines = h }) (ltb-true _ _ (both-left _ _ n)) held
@@ -163,20 +163,20 @@ module _ {ws : List ℕ} (at : ℕ) {table : List ℕ} {authority depth : ℕ} {
 
       -- the end of a round, after its transition
       module _ {ds dl dn ts tl tn : ℕ} {work″ : List ℕ} (x : Execs ws body table authority depth work′ gl ds dl dn work″) (y : Ticks ds dl dn ts tl tn) where
-        round-ends : Ends ws rest (k .locations) depth ρ (ticked (go W ρ c M gl)) ts tl work″ tn
+        round-ends : Finishes ws rest (k .locations) depth ρ (ticked (go W ρ c M gl)) ts tl work″ tn
         unfolding named
         round-ends =
             y .means ws rest (k .locations) depth ρ (go W ρ c M gl) work″
             (runs x W k c rest M ρ t (record { source = r; names = both-right _ _ n; lines = body-at }) (holds-kept held work′ (g .kept)))
 
-        round-stops : (v : Value) → (ts ≡ 0 → ⊥) → Ends ws rest (k .locations) depth ρ (round e c v gl) ts tl work″ end
+        round-stops : (v : Value) → (ts ≡ 0 → ⊥) → Finishes ws rest (k .locations) depth ρ (round e c v gl) ts tl work″ end
         unfolding round
         round-stops v z =
             rw (ticked-then (go W ρ c M gl) (λ M′ b. go W ρ (while e c) M′ b))
             (ends-there ws rest (k .locations) depth ρ _ (ticked (go W ρ c M gl)) (λ M′ b. go W ρ (while e c) M′ b) ts tl work″ tn end z round-ends)
 
         round-goes : {state left next : ℕ} {work‴ : List ℕ} (v : Value) → ts ≡ 0 → drop at ws ≡ code (cmdLines (while e c) rest) → Source (while e c)
-            → Execs ws at table authority depth work″ tl state left next work‴ → Ends ws rest (k .locations) depth ρ (round e c v gl) state left work‴ next
+            → Execs ws at table authority depth work″ tl state left next work‴ → Finishes ws rest (k .locations) depth ρ (round e c v gl) state left work‴ next
         unfolding round
         round-goes {state} {left} {next} {work‴} v z p w u =
             rw (ticked-then (go W ρ c M gl) (λ M′ b. go W ρ (while e c) M′ b))
@@ -184,7 +184,7 @@ module _ {ws : List ℕ} (at : ℕ) {table : List ℕ} {authority depth : ℕ} {
             (λ M′ held′ q. runs u W k (while e c) rest M′ ρ t (record { source = w; names = n; lines = p }) held′))
 
     while-stop-case : {rest : List Line} {a b : ℕ} {c : Cmd} → CmdRow ws at rest 4 a b c → named k depth c ≡ true → on ≡ false
-        → Ends ws rest (k .locations) depth ρ (go W ρ c M fuel) gs gl work′ end
+        → Finishes ws rest (k .locations) depth ρ (go W ρ c M fuel) gs gl work′ end
     while-stop-case {rest} (at-while {e = e} {c = c} s r h) n z =
         rw (while-is e c)
         (stops ws rest (cmdLines c rest) (k .locations) depth M ρ (round e c) (choice fuel (eval W ρ M e)) gs gl gn end on (cellOf work′ 0) work′ z
@@ -192,7 +192,7 @@ module _ {ws : List ℕ} (at : ℕ) {table : List ℕ} {authority depth : ℕ} {
 
     module _ {ds dl dn ts tl tn : ℕ} {work″ : List ℕ} (o : on ≡ true) (x : Execs ws body table authority depth work′ gl ds dl dn work″) (y : Ticks ds dl dn ts tl tn) where
       while-end-case : {rest : List Line} {a b : ℕ} {c : Cmd} → CmdRow ws at rest 4 a b c → named k depth c ≡ true → (ts ≡ 0 → ⊥)
-          → Ends ws rest (k .locations) depth ρ (go W ρ c M fuel) ts tl work″ end
+          → Finishes ws rest (k .locations) depth ρ (go W ρ c M fuel) ts tl work″ end
       while-end-case {rest} (at-while {e = e} {c = c} s r h) n z =
           rw (while-is e c)
           (turns-on ws rest (cmdLines c rest) (k .locations) depth M ρ (round e c) (λ v b. done M b) (choice fuel (eval W ρ M e)) gs gl gn on (cellOf work′ 0) ts tl end work″
@@ -200,7 +200,7 @@ module _ {ws : List ℕ} (at : ℕ) {table : List ℕ} {authority depth : ℕ} {
           (guard-chooses e c rest s r n h) (λ v. round-stops e c rest s r n h x y v z))
 
       while-again-case : {rest : List Line} {a b : ℕ} {c : Cmd} {state left next : ℕ} {work‴ : List ℕ} → CmdRow ws at rest 4 a b c → CmdAt ws at rest k depth c → ts ≡ 0
-          → Execs ws at table authority depth work″ tl state left next work‴ → Ends ws rest (k .locations) depth ρ (go W ρ c M fuel) state left work‴ next
+          → Execs ws at table authority depth work″ tl state left next work‴ → Finishes ws rest (k .locations) depth ρ (go W ρ c M fuel) state left work‴ next
       while-again-case {rest} {state = state} {left = left} {next = next} {work‴ = work‴} (at-while {e = e} {c = c} s r h) p z u =
           rw (while-is e c)
           (turns-on ws rest (cmdLines c rest) (k .locations) depth M ρ (round e c) (λ v b. done M b) (choice fuel (eval W ρ M e)) gs gl gn on (cellOf work′ 0) state left next work‴
@@ -220,8 +220,8 @@ module _ {ws : List ℕ} (at : ℕ) {table : List ℕ} {authority depth : ℕ} {
         y .means W k e c d rest M ρ t (record { source = s; names = both-left _ _ n; lines = h }) p q (ltb-true _ _ (both-left _ _ (both-right _ _ n))) held
 
     case-end-at : (rest : List Line) (l r : Value → ℕ → Out) (c d : Cmd) (ch : Choice) → (bs ≡ 0 → ⊥) → Enters ws rest (k .locations) depth M ρ c d ch bs bl work′ start end
-        → Ends ws rest (k .locations) depth ρ (chosen l r ch) bs bl work′ at
-    unfolding Enters Ends chosen
+        → Finishes ws rest (k .locations) depth ρ (chosen l r ch) bs bl work′ at
+    unfolding Enters Finishes chosen
     case-end-at rest l r c d (to-left v b) z h = absurd (z (h .0))
     case-end-at rest l r c d (to-right v b) z h = absurd (z (h .0))
     case-end-at rest l r c d no-budget z h = h
@@ -229,15 +229,15 @@ module _ {ws : List ℕ} (at : ℕ) {table : List ℕ} {authority depth : ℕ} {
     case-end-at rest l r c d no-rule z h = tt
 
     case-end-case : {rest : List Line} {a b : ℕ} {c : Cmd} → CmdRow ws at rest 5 a b c → named k depth c ≡ true → (bs ≡ 0 → ⊥)
-        → Ends ws rest (k .locations) depth ρ (go W ρ c M fuel) bs bl work′ at
+        → Finishes ws rest (k .locations) depth ρ (go W ρ c M fuel) bs bl work′ at
     case-end-case {rest} (at-case {e = e} {c = c} {d = d} s p q h) n z =
         rw (case-is e c d) (case-end-at rest _ _ c d (choice fuel (eval W ρ M e)) z (enters rest s p q n h))
 
     module _ {ds dl dn : ℕ} {work″ : List ℕ} (x : Execs ws start table authority (suc depth) work′ bl ds dl dn work″) where
       -- the branch's run, seen from outside of the case
-      leaves : (mid rest : List Line) (v : Value) (o : Out) → drop end ws ≡ code rest → Ends ws mid (k .locations) (suc depth) (v ∷ ρ) o ds dl work″ dn
-          → Ends ws rest (k .locations) depth ρ o ds dl work″ end
-      unfolding Ends
+      leaves : (mid rest : List Line) (v : Value) (o : Out) → drop end ws ≡ code rest → Finishes ws mid (k .locations) (suc depth) (v ∷ ρ) o ds dl work″ dn
+          → Finishes ws rest (k .locations) depth ρ o ds dl work″ end
+      unfolding Finishes
       leaves mid rest v (done M′ b) e h = (h .0, h .1, holds-leave (h .2), e)
       leaves mid rest v spent e h = h
       leaves mid rest v (over b) e h = h
@@ -245,20 +245,20 @@ module _ {ws : List ℕ} (at : ℕ) {table : List ℕ} {authority depth : ℕ} {
 
       case-at : (rest : List Line) (c d : Cmd) (ch : Choice) → Source c → Source d → named k (suc depth) c ≡ true → named k (suc depth) d ≡ true → bs ≡ 0
           → Enters ws rest (k .locations) depth M ρ c d ch bs bl work′ start end
-          → Ends ws rest (k .locations) depth ρ (chosen (λ v b. go W (v ∷ ρ) c M b) (λ v b. go W (v ∷ ρ) d M b) ch) ds dl work″ end
-      unfolding Enters Ends chosen
+          → Finishes ws rest (k .locations) depth ρ (chosen (λ v b. go W (v ∷ ρ) c M b) (λ v b. go W (v ∷ ρ) d M b) ch) ds dl work″ end
+      unfolding Enters Finishes chosen
       case-at rest c d (to-left v b) p q n n′ z h =
-          subst (λ (i : ℕ). Ends ws rest (k .locations) depth ρ (go W (v ∷ ρ) c M i) ds dl work″ end) (h .1)
+          subst (λ (i : ℕ). Finishes ws rest (k .locations) depth ρ (go W (v ∷ ρ) c M i) ds dl work″ end) (h .1)
           (leaves _ rest v (go W (v ∷ ρ) c M bl) (h .4) (runs x W k c (cmdLines d rest) M (v ∷ ρ) t (record { source = p; names = n; lines = h .3 }) (h .2)))
       case-at rest c d (to-right v b) p q n n′ z h =
-          subst (λ (i : ℕ). Ends ws rest (k .locations) depth ρ (go W (v ∷ ρ) d M i) ds dl work″ end) (h .1)
+          subst (λ (i : ℕ). Finishes ws rest (k .locations) depth ρ (go W (v ∷ ρ) d M i) ds dl work″ end) (h .1)
           (leaves _ rest v (go W (v ∷ ρ) d M bl) (h .4) (runs x W k d rest M (v ∷ ρ) t (record { source = q; names = n′; lines = h .3 }) (h .2)))
       case-at rest c d no-budget p q n n′ z h = absurd (omega (arith, h .0))
       case-at rest c d (too-long b) p q n n′ z h = absurd (omega (arith, h .0))
       case-at rest c d no-rule p q n n′ z h = tt
 
       case-case : {rest : List Line} {a b : ℕ} {c : Cmd} → CmdRow ws at rest 5 a b c → named k depth c ≡ true → bs ≡ 0
-          → Ends ws rest (k .locations) depth ρ (go W ρ c M fuel) ds dl work″ end
+          → Finishes ws rest (k .locations) depth ρ (go W ρ c M fuel) ds dl work″ end
       unfolding named
       case-case {rest} (at-case {e = e} {c = c} {d = d} s p q h) n z =
           let m = both-right _ _ (both-right _ _ n) in
@@ -335,4 +335,4 @@ module _ {ws : List ℕ} {at : ℕ} {table : List ℕ} {authority depth : ℕ} {
   exec-none n1 n2 n3 n4 n5 =
       by-runs (omega arith) (omega arith)
       (λ W k c rest M ρ t p held.
-      none-case (Ends ws rest (k .locations) depth ρ (go W ρ c M fuel) 4 fuel work at) (cmd-row-of (row .kind) r refl p) n1 n2 n3 n4 n5)
+      none-case (Finishes ws rest (k .locations) depth ρ (go W ρ c M fuel) 4 fuel work at) (cmd-row-of (row .kind) r refl p) n1 n2 n3 n4 n5)

@@ -18,13 +18,13 @@ use Rattle.script.specs.Lines.{Line, exprLines}
 use Rattle.script.specs.Code.{code, rowAt}
 use Rattle.script.specs.Names.{Counts, namedE}
 use Rattle.script.specs.declared.Row.{Row}
-use Rattle.script.proofs.Rows.{ExprRow, at-int, at-loc, at-var, at-plus, at-left, at-right, at-pack, at-unpack, expr-row, row-in}
+use Rattle.script.proofs.Rows.{ExprRow, at-int, at-loc, at-var, at-plus, at-left, at-right, at-pack, at-unpack, expr-row}
 use Rattle.memory.specs.Words.{cell}
 use Rattle.memory.specs.Memory.{cellOf}
 use Rattle.interpreter.specs.State.{stateNumber}
 use Rattle.interpreter.specs.declared.State.the-variants.{Done, NoRule}
-use Rattle.interpreter.specs.Cells.{accumulator, firstLocation, loadOf, storeOf, Holds}
-use Rattle.interpreter.specs.Nodes.{Answers, Turns, Applies, Applied, Tags, Tells}
+use Rattle.interpreter.specs.Cells.{accumulator, firstLocation, loadOf, storeOf, CellsHold}
+use Rattle.interpreter.specs.Nodes.{Yields, Turns, Applies, Applied, Tags, Tells}
 use Rattle.interpreter.specs.Post.{ExprAt, Evals}
 use Rattle.interpreter.proofs.CellLaws.{there, load-there, length-load, cell-stored, rest-kept}
 use Rattle.interpreter.proofs.ValueLaws.{tags-left, tags-right}
@@ -38,40 +38,32 @@ row-of {ws} {at} {row} {rest} {k} {depth} {e} kind r q p =
     subst (λ (i : ℕ). ExprRow ws at rest i (row .a) (row .b) e) q
     (subst (λ (u : Row). ExprRow ws at rest (u .kind) (u .a) (u .b) e) (sym r) (expr-row ws at (p .source) (p .lines)))
 
--- the row lies within the code
-pub row-inside : (ws : List ℕ) (at : ℕ) {row : Row} (j : ℕ) → row ≡ rowAt ws at → row .kind ≡ suc j → at + 3 ≤ length ws
-row-inside ws at j r q = row-in ws at j (ap (λ (u : Row). u .kind) (sym r) ∙ q)
-
--- the same of a row of any kind
-pub row-within : (ws : List ℕ) (at : ℕ) {row : Row} → row ≡ rowAt ws at → 0 < row .kind → at + 3 ≤ length ws
-row-within ws at {row} r h = row-inside ws at (row .kind - 1) r (omega arith)
-
 -- what an evaluation promises of one expression
 abbrev Means : World → Mem → Env → Expr → List ℕ → List Line → ℕ → List ℕ → ℕ → Type 0
-Means W M ρ e ws rest state words next = Answers (eval W ρ M e) state words × (state ≡ 0 → drop next ws ≡ code rest)
+Means W M ρ e ws rest state words next = Yields (eval W ρ M e) state words × (state ≡ 0 → drop next ws ≡ code rest)
 
 -- ---- the kinds, each matched at its number
 
 module _ (W : World) (k : Counts) (M : Mem) (ρ : Env) {ws : List ℕ} {at : ℕ} {rest : List Line} where
   int-case : {a b : ℕ} {e : Expr} {words : List ℕ} → ExprRow ws at rest 6 a b e → words ≡ cell (int a) → Means W M ρ e ws rest 0 words (at + 3)
-  unfolding eval Answers
+  unfolding eval Yields
   int-case (at-int h) w = ((refl, w), λ z. h)
 
-  loc-case : {a b depth : ℕ} {e : Expr} {work words : List ℕ} → ExprRow ws at rest 7 a b e → namedE k depth e ≡ true → Holds work (k .locations) depth M ρ
+  loc-case : {a b depth : ℕ} {e : Expr} {work words : List ℕ} → ExprRow ws at rest 7 a b e → namedE k depth e ≡ true → CellsHold work (k .locations) depth M ρ
       → words ≡ loadOf work (firstLocation + a) → Means W M ρ e ws rest 0 words (at + 3)
-  unfolding eval Answers namedE
+  unfolding eval Yields namedE
   loc-case {work = work} (at-loc {x = x} h) n held w =
       let l : x < k .locations = ltb-true _ _ n in
       ((refl, w ∙ load-there work (9 + x) (cell-in held (9 + x) (omega (arith, held .few))) ∙ held .memory x l), λ z. h)
 
-  var-case : {a b depth : ℕ} {e : Expr} {work words : List ℕ} → ExprRow ws at rest 8 a b e → Holds work (k .locations) depth M ρ → words ≡ loadOf work (depth - a)
+  var-case : {a b depth : ℕ} {e : Expr} {work words : List ℕ} → ExprRow ws at rest 8 a b e → CellsHold work (k .locations) depth M ρ → words ≡ loadOf work (depth - a)
       → Means W M ρ e ws rest 0 words (at + 3)
   unfolding eval
   var-case {work = work} (at-var {d = d} h) held w = (rw w (bound-answers (held .bindings) (held .whole) (held .shallow) d), λ z. h)
 
-sum-answers : (work′ : List ℕ) {n vs : ℕ} (state : ℕ) (words : List ℕ) (r q : Res) → vs ≡ 0 → Answers r vs (cellOf work′ accumulator) → n ≡ getD work′ 1 0
-    → ((u : Value) → n ≡ getD (cell u) 1 0 → Answers (bind q (add u)) state words) → Answers (bind r (λ v. bind q (λ w. add v w))) state words
-unfolding Answers bind
+sum-answers : (work′ : List ℕ) {n vs : ℕ} (state : ℕ) (words : List ℕ) (r q : Res) → vs ≡ 0 → Yields r vs (cellOf work′ accumulator) → n ≡ getD work′ 1 0
+    → ((u : Value) → n ≡ getD (cell u) 1 0 → Yields (bind q (add u)) state words) → Yields (bind r (λ v. bind q (λ w. add v w))) state words
+unfolding Yields bind
 sum-answers work′ state words (ok v) q z a n u = u v (n ∙ second-here work′ v (a .1))
 sum-answers work′ state words long q z a n u = absurd (omega arith)
 sum-answers work′ state words stuck q z a n u = tt
@@ -80,15 +72,15 @@ sum-answers work′ state words stuck q z a n u = tt
 module _ {ws : List ℕ} (at : ℕ) {table : List ℕ} {authority depth : ℕ} {work : List ℕ} {vs vn : ℕ} {work′ : List ℕ}
     (x : Evals ws (at + 3) table authority depth work vs vn work′) (W : World) (k : Counts) (M : Mem) (ρ : Env) (t : Tells table authority W) where
   one-operand : {e : Expr} {rest : List Line} {Q : Type 0} {work″ : List ℕ} {state next : ℕ} (f : Value → Res) → ExprAt ws (at + 3) rest k depth e
-      → Holds work (k .locations) depth M ρ → Applies work′ vs vn work″ state next Q → Turns f work′ vs work″ state
-      → Answers (bind (eval W ρ M e) f) state (cellOf work″ accumulator) × (state ≡ 0 → drop next ws ≡ code rest)
+      → CellsHold work (k .locations) depth M ρ → Applies work′ vs vn work″ state next Q → Turns f work′ vs work″ state
+      → Yields (bind (eval W ρ M e) f) state (cellOf work″ accumulator) × (state ≡ 0 → drop next ws ≡ code rest)
   one-operand {e} {rest} f p held y u =
       let m = x .means W k e rest M ρ t p held in (
         u (eval W ρ M e) (room-here (holds-kept held work′ (x .kept))) (m .0),
         λ z. ap (λ (n : ℕ). drop n ws) (y .same-place) ∙ m .1 (y .through z),
       )
 
-  module _ {rest : List Line} {Q : Type 0} {work″ : List ℕ} {state next : ℕ} (held : Holds work (k .locations) depth M ρ)
+  module _ {rest : List Line} {Q : Type 0} {work″ : List ℕ} {state next : ℕ} (held : CellsHold work (k .locations) depth M ρ)
       (y : Applies work′ vs vn work″ state next Q) where
     left-case : {a b : ℕ} {e : Expr} → ExprRow ws at rest 10 a b e → namedE k depth e ≡ true → Turns (λ v. fit (inl v)) work′ vs work″ state
         → Means W M ρ e ws rest state (cellOf work″ accumulator) next
@@ -111,7 +103,7 @@ module _ {ws : List ℕ} (at : ℕ) {table : List ℕ} {authority depth : ℕ} {
     unpack-case (at-unpack {t = ty} {l = l} s h) n u = one-operand (unpacked W ty l) (record { source = s; names = both-right _ _ n; lines = h }) held y u
 
   -- plus, whose left operand has no value
-  plus-end-case : {e : Expr} {rest : List Line} {a b : ℕ} → ExprRow ws at rest 9 a b e → namedE k depth e ≡ true → Holds work (k .locations) depth M ρ
+  plus-end-case : {e : Expr} {rest : List Line} {a b : ℕ} → ExprRow ws at rest 9 a b e → namedE k depth e ≡ true → CellsHold work (k .locations) depth M ρ
       → (vs ≡ 0 → ⊥) → Means W M ρ e ws rest vs (cellOf work′ accumulator) vn
   unfolding eval namedE
   plus-end-case {rest = rest} (at-plus {e = e} {f = f} s r h) n held z =
@@ -120,7 +112,7 @@ module _ {ws : List ℕ} (at : ℕ) {table : List ℕ} {authority depth : ℕ} {
 
   -- plus, whose left operand has a value
   plus-case : {e : Expr} {rest : List Line} {a b : ℕ} {n ws′ wn : ℕ} {work″ work‴ : List ℕ} {state next : ℕ} → ExprRow ws at rest 9 a b e → namedE k depth e ≡ true
-      → Holds work (k .locations) depth M ρ → vs ≡ 0 → n ≡ getD work′ 1 0 → Evals ws vn table authority depth work′ ws′ wn work″
+      → CellsHold work (k .locations) depth M ρ → vs ≡ 0 → n ≡ getD work′ 1 0 → Evals ws vn table authority depth work′ ws′ wn work″
       → Applies work″ ws′ wn work‴ state next ((u : Value) → n ≡ getD (cell u) 1 0 → Turns (add u) work″ ws′ work‴ state)
       → Means W M ρ e ws rest state (cellOf work‴ accumulator) next
   unfolding eval namedE

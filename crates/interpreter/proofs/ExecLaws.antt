@@ -19,9 +19,9 @@ use Rattle.memory.specs.Words.{enc, cell}
 use Rattle.memory.specs.Memory.{cellOf}
 use Rattle.interpreter.specs.State.{stateNumber}
 use Rattle.interpreter.specs.declared.State.the-variants.{Done, Spent, NoRule}
-use Rattle.interpreter.specs.Cells.{accumulator, firstLocation, loadOf, storeOf, popOf, Holds}
-use Rattle.interpreter.specs.Nodes.{Answers, Tags, Tells}
-use Rattle.interpreter.specs.Post.{ExprAt, Evals, a-command, Skips, Ends, ticked, Ticks, Assigns, Choice, to-left, to-right, no-budget, too-long, no-rule, choiceV, choice, Chooses, Decides, Enters, Branches}
+use Rattle.interpreter.specs.Cells.{accumulator, firstLocation, loadOf, storeOf, popOf, CellsHold}
+use Rattle.interpreter.specs.Nodes.{Yields, Tags, Tells}
+use Rattle.interpreter.specs.Post.{ExprAt, Evals, a-command, Skips, Finishes, ticked, Ticks, Assigns, Choice, to-left, to-right, no-budget, too-long, no-rule, choiceV, choice, Chooses, Decides, Enters, Branches}
 use Rattle.interpreter.proofs.CellLaws.{length-load, length-pop}
 use Rattle.interpreter.proofs.ValueLaws.{cell-size, tags-left, tags-right, pop-tag, Kind, is-int, is-err, is-inl, is-inr, is-pkg, is-blank, kind-enc}
 use Rattle.interpreter.proofs.NodeLaws.{words-here, load-here}
@@ -41,8 +41,8 @@ ticked-then wrong F = refl
 module _ (ws : List ℕ) (rest : List Line) (locations depth : ℕ) (ρ : Env) where
   -- a run that isn't done is the end, at whatever place
   pub ends-there : (mid : List Line) (o : Out) (F : Mem → ℕ → Out) (state left : ℕ) (work : List ℕ) (n next : ℕ) → (state ≡ 0 → ⊥)
-      → Ends ws mid locations depth ρ o state left work n → Ends ws rest locations depth ρ (andThen o F) state left work next
-  unfolding Ends andThen
+      → Finishes ws mid locations depth ρ o state left work n → Finishes ws rest locations depth ρ (andThen o F) state left work next
+  unfolding Finishes andThen
   ends-there mid (done M b) F state left work n next z h = absurd (z (h .0))
   ends-there mid spent F state left work n next z h = h
   ends-there mid (over b) F state left work n next z h = h
@@ -50,12 +50,12 @@ module _ (ws : List ℕ) (rest : List Line) (locations depth : ℕ) (ρ : Env) w
 
   -- a run that is done goes on
   pub goes-on : (mid : List Line) (o : Out) (F : Mem → ℕ → Out) (state left : ℕ) (work : List ℕ) (n state′ left′ : ℕ) (work′ : List ℕ) (next : ℕ) → state ≡ 0
-      → Ends ws mid locations depth ρ o state left work n
-      → ((M : Mem) → Holds work locations depth M ρ → drop n ws ≡ code mid → Ends ws rest locations depth ρ (F M left) state′ left′ work′ next)
-      → Ends ws rest locations depth ρ (andThen o F) state′ left′ work′ next
-  unfolding Ends andThen
+      → Finishes ws mid locations depth ρ o state left work n
+      → ((M : Mem) → CellsHold work locations depth M ρ → drop n ws ≡ code mid → Finishes ws rest locations depth ρ (F M left) state′ left′ work′ next)
+      → Finishes ws rest locations depth ρ (andThen o F) state′ left′ work′ next
+  unfolding Finishes andThen
   goes-on mid (done M b) F state left work n state′ left′ work′ next z h k =
-      subst (λ (i : ℕ). Ends ws rest locations depth ρ (F M i) state′ left′ work′ next) (h .1) (k M (h .2) (h .3))
+      subst (λ (i : ℕ). Finishes ws rest locations depth ρ (F M i) state′ left′ work′ next) (h .1) (k M (h .2) (h .3))
   goes-on mid spent F state left work n state′ left′ work′ next z h k = absurd (omega arith)
   goes-on mid (over b) F state left work n state′ left′ work′ next z h k = absurd (omega arith)
   goes-on mid wrong F state left work n state′ left′ work′ next z h k = tt
@@ -64,8 +64,8 @@ module _ (ws : List ℕ) (rest : List Line) (locations depth : ℕ) (ρ : Env) w
 
 module _ (state left next : ℕ) where
   tick-same-at : (ws : List ℕ) (rest : List Line) (locations depth : ℕ) (ρ : Env) (o : Out) (work : List ℕ) → (state ≡ 0 → ⊥)
-      → Ends ws rest locations depth ρ o state left work next → Ends ws rest locations depth ρ (ticked o) state left work next
-  unfolding Ends ticked
+      → Finishes ws rest locations depth ρ o state left work next → Finishes ws rest locations depth ρ (ticked o) state left work next
+  unfolding Finishes ticked
   tick-same-at ws rest locations depth ρ (done M b) work z h = absurd (z (h .0))
   tick-same-at ws rest locations depth ρ spent work z h = h
   tick-same-at ws rest locations depth ρ (over b) work z h = h
@@ -80,8 +80,8 @@ module _ (state left next : ℕ) where
       }
 
   tick-spent-at : (ws : List ℕ) (rest : List Line) (locations depth : ℕ) (ρ : Env) (o : Out) (work : List ℕ) → state ≡ 0 → left ≡ 0
-      → Ends ws rest locations depth ρ o state left work next → Ends ws rest locations depth ρ (ticked o) 9 0 work next
-  unfolding Ends ticked
+      → Finishes ws rest locations depth ρ o state left work next → Finishes ws rest locations depth ρ (ticked o) 9 0 work next
+  unfolding Finishes ticked
   tick-spent-at ws rest locations depth ρ (done M zero) work z f h = (refl, refl)
   tick-spent-at ws rest locations depth ρ (done M (suc b)) work z f h = absurd (omega (arith, h .1))
   tick-spent-at ws rest locations depth ρ spent work z f h = absurd (omega arith)
@@ -98,8 +98,8 @@ module _ (state left next : ℕ) where
       }
 
   tick-step-at : (ws : List ℕ) (rest : List Line) (locations depth : ℕ) (ρ : Env) (o : Out) (work : List ℕ) → state ≡ 0 → (left ≡ 0 → ⊥)
-      → Ends ws rest locations depth ρ o state left work next → Ends ws rest locations depth ρ (ticked o) 0 (left - 1) work next
-  unfolding Ends ticked
+      → Finishes ws rest locations depth ρ o state left work next → Finishes ws rest locations depth ρ (ticked o) 0 (left - 1) work next
+  unfolding Finishes ticked
   tick-step-at ws rest locations depth ρ (done M zero) work z f h = absurd (f (h .1))
   tick-step-at ws rest locations depth ρ (done M (suc b)) work z f h = (refl, omega (arith, h .1), h .2, h .3)
   tick-step-at ws rest locations depth ρ spent work z f h = absurd (omega arith)
@@ -122,18 +122,18 @@ abbrev assignedTo : Mem → ℕ → ℕ → Res → Out
 assignedTo M x fuel r = spend fuel (λ b. assigned (λ v. done (put M x v) b) b r)
 
 module _ (ws : List ℕ) (at depth x : ℕ) where
-  assign-fail-at : (rest : List Line) (locations : ℕ) (ρ : Env) (M : Mem) (r : Res) (vs fuel : ℕ) (words work′ : List ℕ) → (fuel ≡ 0 → ⊥) → (vs ≡ 0 → ⊥) → Answers r vs words
-      → Ends ws rest locations depth ρ (assignedTo M x fuel r) vs fuel work′ at
-  unfolding Ends spend assigned Answers
+  assign-fail-at : (rest : List Line) (locations : ℕ) (ρ : Env) (M : Mem) (r : Res) (vs fuel : ℕ) (words work′ : List ℕ) → (fuel ≡ 0 → ⊥) → (vs ≡ 0 → ⊥) → Yields r vs words
+      → Finishes ws rest locations depth ρ (assignedTo M x fuel r) vs fuel work′ at
+  unfolding Finishes spend assigned Yields
   assign-fail-at rest locations ρ M r vs zero words work′ f z a = absurd (f refl)
   assign-fail-at rest locations ρ M (ok v) vs (suc b) words work′ f z a = absurd (z (a .0))
   assign-fail-at rest locations ρ M long vs (suc b) words work′ f z a = (a, refl)
   assign-fail-at rest locations ρ M stuck vs (suc b) words work′ f z a = tt
 
   assign-done-at : (rest : List Line) (locations : ℕ) (ρ : Env) (M : Mem) (r : Res) (vs vn fuel : ℕ) (work′ work″ : List ℕ) → (fuel ≡ 0 → ⊥) → vs ≡ 0
-      → Answers r vs (cellOf work′ accumulator) → x < locations → Holds work′ locations depth M ρ → drop vn ws ≡ code rest
-      → work″ ≡ storeOf work′ (firstLocation + x) (loadOf work′ accumulator) → Ends ws rest locations depth ρ (assignedTo M x fuel r) 0 (fuel - 1) work″ vn
-  unfolding Ends spend assigned Answers
+      → Yields r vs (cellOf work′ accumulator) → x < locations → CellsHold work′ locations depth M ρ → drop vn ws ≡ code rest
+      → work″ ≡ storeOf work′ (firstLocation + x) (loadOf work′ accumulator) → Finishes ws rest locations depth ρ (assignedTo M x fuel r) 0 (fuel - 1) work″ vn
+  unfolding Finishes spend assigned Yields
   assign-done-at rest locations ρ M r vs vn zero work′ work″ f z a l held d e = absurd (f refl)
   assign-done-at rest locations ρ M (ok v) vs vn (suc b) work′ work″ f z a l held d e =
       (refl, omega arith, holds-put held x v l (load-here work′ v (room-here held) (a .1)) (length-load work′ 0) e, d)
@@ -143,7 +143,7 @@ module _ (ws : List ℕ) (at depth x : ℕ) where
 module _ {ws : List ℕ} {at : ℕ} {table : List ℕ} {authority depth : ℕ} {work : List ℕ} {fuel x : ℕ} where
   assign-by : {state left next : ℕ} {work′ : List ℕ} → at ≤ next → left ≤ fuel
       → ((W : World) (k : Counts) (e : Expr) (rest : List Line) (M : Mem) (ρ : Env) → Tells table authority W → ExprAt ws at rest k depth e → x < k .locations
-      → Holds work (k .locations) depth M ρ → Ends ws rest (k .locations) depth ρ (assignedTo M x fuel (eval W ρ M e)) state left work′ next)
+      → CellsHold work (k .locations) depth M ρ → Finishes ws rest (k .locations) depth ρ (assignedTo M x fuel (eval W ρ M e)) state left work′ next)
       → Assigns ws at table authority depth work fuel x state left next work′
   unfolding go
   assign-by {state} {left} {next} {work′} f s m =
@@ -151,11 +151,11 @@ module _ {ws : List ℕ} {at : ℕ} {table : List ℕ} {authority depth : ℕ} {
         forward = f;
         spends = s;
         means = λ W k e rest M ρ t p l held.
-            subst (λ (o : Out). Ends ws rest (k .locations) depth ρ o state left work′ next) (sym (go-assign W ρ M x e fuel)) (m W k e rest M ρ t p l held);
+            subst (λ (o : Out). Finishes ws rest (k .locations) depth ρ o state left work′ next) (sym (go-assign W ρ M x e fuel)) (m W k e rest M ρ t p l held);
       }
 
   pub assign-spent : fuel ≡ 0 → Assigns ws at table authority depth work fuel x (stateNumber Spent) 0 at work
-  unfolding stateNumber Ends spend
+  unfolding stateNumber Finishes spend
   assign-spent z = assign-by (omega arith) (omega arith) (λ W k e rest M ρ t p l held. rw z (refl, refl))
 
   pub assign-fail : {vs vn : ℕ} {work′ : List ℕ} → (fuel ≡ 0 → ⊥) → Evals ws at table authority depth work vs vn work′ → (vs ≡ 0 → ⊥)
@@ -174,9 +174,9 @@ module _ {ws : List ℕ} {at : ℕ} {table : List ℕ} {authority depth : ℕ} {
 
 -- ---- decide
 
-decide-fail-at : (ws : List ℕ) (at : ℕ) (rest : List Line) (r : Res) (vs fuel : ℕ) (words : List ℕ) → (fuel ≡ 0 → ⊥) → (vs ≡ 0 → ⊥) → Answers r vs words
+decide-fail-at : (ws : List ℕ) (at : ℕ) (rest : List Line) (r : Res) (vs fuel : ℕ) (words : List ℕ) → (fuel ≡ 0 → ⊥) → (vs ≡ 0 → ⊥) → Yields r vs words
     → Chooses ws rest (choice fuel r) vs fuel false words at
-unfolding Chooses choice Answers
+unfolding Chooses choice Yields
 decide-fail-at ws at rest r vs zero words f z a = absurd (f refl)
 decide-fail-at ws at rest (ok v) vs (suc b) words f z a = absurd (z (a .0))
 decide-fail-at ws at rest long vs (suc b) words f z a = (a, refl)
@@ -236,10 +236,10 @@ module _ (ws : List ℕ) (rest : List Line) (next : ℕ) where
   chooses-none b state left on words v is-blank n3 n4 = tt
 
   -- a decision, by the value that was found
-  decided : (r : Res) (vs fuel state left : ℕ) (on : Bool) (work : List ℕ) → (fuel ≡ 0 → ⊥) → vs ≡ 0 → Answers r vs (cellOf work accumulator)
+  decided : (r : Res) (vs fuel state left : ℕ) (on : Bool) (work : List ℕ) → (fuel ≡ 0 → ⊥) → vs ≡ 0 → Yields r vs (cellOf work accumulator)
       → ((b : ℕ) (v : Value) → fuel ≡ suc b → cellOf work accumulator ≡ cell v → Chooses ws rest (choiceV b v) state left on (cellOf work accumulator) next)
       → Chooses ws rest (choice fuel r) state left on (cellOf work accumulator) next
-  unfolding choice Answers Chooses
+  unfolding choice Yields Chooses
   decided r vs zero state left on work f z a k = absurd (f refl)
   decided (ok v) vs (suc b) state left on work f z a k = k b v refl (a .1)
   decided long vs (suc b) state left on work f z a k = absurd (omega arith)
@@ -294,9 +294,9 @@ module _ (ws : List ℕ) (rest : List Line) (locations depth : ℕ) (M : Mem) (�
   enters-past (too-long b) state left n start end on words work z h = h
   enters-past no-rule state left n start end on words work z h = tt
 
-  module _ (work work′ : List ℕ) (held : Holds work locations depth M ρ) (shallow : depth < maxDepth)
+  module _ (work work′ : List ℕ) (held : CellsHold work locations depth M ρ) (shallow : depth < maxDepth)
       (e : work′ ≡ storeOf work (suc depth) (popOf (loadOf work accumulator))) where
-    binds-inside : {w : ℕ} {f : Value → Value} → Tags w f → (v : Value) → cellOf work accumulator ≡ cell (f v) → Holds work′ locations (suc depth) M (v ∷ ρ)
+    binds-inside : {w : ℕ} {f : Value → Value} → Tags w f → (v : Value) → cellOf work accumulator ≡ cell (f v) → CellsHold work′ locations (suc depth) M (v ∷ ρ)
     binds-inside {f = f} t v a =
         holds-bind held v shallow
         (ap popOf (load-here work (f v) (room-here held) a) ∙ pop-tag t v (omega (arith, t .longer v, cell-size work 0 (f v) a)))

@@ -19,7 +19,7 @@ use Rattle.memory.proofs.WordLaws.{length-cell, value-enc, end-enc}
 use Rattle.interpreter.specs.State.{stateNumber}
 use Rattle.interpreter.specs.declared.State.the-variants.{TooLong, NoRule}
 use Rattle.interpreter.specs.Cells.{accumulator, loadOf, storeOf, pushOf, popOf}
-use Rattle.interpreter.specs.Nodes.{Answers, Turns, Applies, Applied, Tags, errorOf, errorIn, Tells}
+use Rattle.interpreter.specs.Nodes.{Yields, Turns, Applies, Applied, Tags, errorOf, errorIn, Tells}
 use Rattle.interpreter.proofs.CellLaws.{there, load-there, length-load, length-push, length-pop, cell-stored, rest-kept}
 use Rattle.interpreter.proofs.ValueLaws.{enc-append, cell-size, tags-left, push-tag, push-package, pop-package}
 
@@ -45,16 +45,16 @@ second-here work v e = sym (getD-take 16 work 1 0 (omega arith)) ∙ ap (λ (l :
 -- ---- answers
 
 pub turns-past : (f : Value → Res) (work : List ℕ) (state : ℕ) → (state ≡ 0 → ⊥) → Turns f work state work state
-unfolding Answers bind
+unfolding Yields bind
 turns-past f work state n (ok v) h a = absurd (n (a .0))
 turns-past f work state n long h a = a
 turns-past f work state n stuck h a = tt
 
 -- a new value is stored
 turns-put : (f : Value → Res) (work : List ℕ) (state : ℕ) (words : List ℕ) → state ≡ 0 → length words ≡ cell-words
-    → ((v : Value) → cell-words ≤ length work → cellOf work accumulator ≡ cell v → Answers (f v) state words)
+    → ((v : Value) → cell-words ≤ length work → cellOf work accumulator ≡ cell v → Yields (f v) state words)
     → Turns f work state (storeOf work accumulator words) state
-unfolding Answers bind
+unfolding Yields bind
 turns-put f work state words z n k (ok v) h a =
     rw (cell-stored work 0 words n (there work 0 (omega arith))) (k v h (a .1))
 turns-put f work state words z n k long h a = absurd (omega arith)
@@ -62,8 +62,8 @@ turns-put f work state words z n k stuck h a = tt
 
 -- nothing is stored
 turns-keep : (f : Value → Res) (work : List ℕ) (state state′ : ℕ) → state ≡ 0
-    → ((v : Value) → cellOf work accumulator ≡ cell v → Answers (f v) state′ (cellOf work accumulator)) → Turns f work state work state′
-unfolding Answers bind
+    → ((v : Value) → cellOf work accumulator ≡ cell v → Yields (f v) state′ (cellOf work accumulator)) → Turns f work state work state′
+unfolding Yields bind
 turns-keep f work state state′ z k (ok v) h a = k v (a .1)
 turns-keep f work state state′ z k long h a = absurd (omega arith)
 turns-keep f work state state′ z k stuck h a = tt
@@ -89,12 +89,12 @@ too-long : (v : Value) → cell-words < size v → fit v ≡ long
 unfolding fit fitting
 too-long v h = simp (lt-leb (size v) 16 h)
 
-answers-ok : (r : Res) (v : Value) (state : ℕ) (words : List ℕ) → r ≡ ok v → state ≡ 0 → words ≡ cell v → Answers r state words
-unfolding Answers
+answers-ok : (r : Res) (v : Value) (state : ℕ) (words : List ℕ) → r ≡ ok v → state ≡ 0 → words ≡ cell v → Yields r state words
+unfolding Yields
 answers-ok r v state words e z w = rw e (z, w)
 
-answers-long : (r : Res) (words : List ℕ) → r ≡ long → Answers r 10 words
-unfolding Answers
+answers-long : (r : Res) (words : List ℕ) → r ≡ long → Yields r 10 words
+unfolding Yields
 answers-long r words e = rw e refl
 
 pub length-int : (n : ℕ) → length (cell (int n)) ≡ cell-words
@@ -111,8 +111,8 @@ loaded work words l = ap (λ (u : List ℕ). length u) l ∙ length-load work 0
 -- ---- plus
 
 add-answer : (u w : Value) (n m s state : ℕ) (words : List ℕ) → state ≡ 0 → words ≡ cell (int s) → n ≡ getD (cell u) 1 0 → m ≡ getD (cell w) 1 0
-    → s ≡ (n + m) % 2 ^ 32 → Answers (add u w) state words
-unfolding Answers add addTo fit fitting size cell enc
+    → s ≡ (n + m) % 2 ^ 32 → Yields (add u w) state words
+unfolding Yields add addTo fit fitting size cell enc
 add-answer (int a) (int b) n m s state words z e p q r = (z, e ∙ ap (λ (i : ℕ). cell (int i)) (r ∙ ap (λ (i : ℕ). (i + m) % 2 ^ 32) p ∙ ap (λ (i : ℕ). (a + i) % 2 ^ 32) q))
 add-answer (int a) (err b) n m s state words z e p q r = tt
 add-answer (int a) (inl w) n m s state words z e p q r = tt
@@ -222,8 +222,8 @@ opened-fine true true true v e p n = refl
 
 -- the first word tells a package
 no-package : (W : World) (t l : ℕ) (work : List ℕ) (v : Value) (state : ℕ) → (getD work 0 0 ≡ 5 → ⊥) → cellOf work accumulator ≡ cell v
-    → Answers (unpacked W t l v) state (cellOf work accumulator)
-unfolding Answers unpacked enc
+    → Yields (unpacked W t l v) state (cellOf work accumulator)
+unfolding Yields unpacked enc
 no-package W t l work (int n) state ne e = tt
 no-package W t l work (err n) state ne e = tt
 no-package W t l work (inl v) state ne e = tt
@@ -247,8 +247,8 @@ module _ (work table : List ℕ) (authority t l e : ℕ) (p : e ≡ errorIn tabl
       p ∙ rw (m′, v′, tells .reads-is l, tells .below-is m l, tells .type-is v t) refl
 
   unpack-error-at : (W : World) → Tells table authority W → (v : Value) (state : ℕ) → state ≡ 0 → (e ≡ 0 → ⊥) → cellOf work accumulator ≡ cell v
-      → Answers (unpacked W t l v) state (cell (inr (err e)))
-  unfolding Answers unpacked
+      → Yields (unpacked W t l v) state (cell (inr (err e)))
+  unfolding Yields unpacked
   unpack-error-at W tells (int n) state z ne a = tt
   unpack-error-at W tells (err n) state z ne a = tt
   unpack-error-at W tells (inl v) state z ne a = tt
@@ -258,8 +258,8 @@ module _ (work table : List ℕ) (authority t l e : ℕ) (p : e ≡ errorIn tabl
   unpack-error-at W tells blank state z ne a = tt
 
   unpack-done-at : (W : World) → Tells table authority W → (v : Value) (state : ℕ) (content : List ℕ) → state ≡ 0 → e ≡ 0 → cellOf work accumulator ≡ cell v
-      → content ≡ pushOf 3 (popOf (popOf (cell v))) → Answers (unpacked W t l v) state content
-  unfolding Answers unpacked size
+      → content ≡ pushOf 3 (popOf (popOf (cell v))) → Yields (unpacked W t l v) state content
+  unfolding Yields unpacked size
   unpack-done-at W tells (int n) state content z ne a c = tt
   unpack-done-at W tells (err n) state content z ne a c = tt
   unpack-done-at W tells (inl v) state content z ne a c = tt

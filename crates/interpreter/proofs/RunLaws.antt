@@ -26,9 +26,9 @@ use Rattle.memory.proofs.CellsLaws.{cells-ext, cells-all}
 use Rattle.memory.proofs.MemoryLaws.{value-words}
 use Rattle.interpreter.specs.State.{stateNumber}
 use Rattle.interpreter.specs.declared.State.the-variants.{Done, NoRule}
-use Rattle.interpreter.specs.Cells.{firstLocation, workWords, Holds, bound-none}
+use Rattle.interpreter.specs.Cells.{firstLocation, workWords, CellsHold, bound-none}
 use Rattle.interpreter.specs.Nodes.{Tells}
-use Rattle.interpreter.specs.Post.{Ends, Execs}
+use Rattle.interpreter.specs.Post.{Finishes, Execs}
 use Rattle.interpreter.specs.Run.{RunEnds, Runs}
 use Rattle.interpreter.proofs.CellLaws.{cell-front}
 
@@ -71,7 +71,7 @@ memory-cell s memory n wf x h = sym (value-words (locationCount s) (labelCount s
 
 module _ (work memory : List ℕ) (whole : length work ≡ workWords) (locations : ℕ) (n : length memory ≡ cell-words * locations) (few : locations ≤ 64) where
   pub copied-in : (work′ : List ℕ) → work′ ≡ paste work (cell-words * firstLocation) memory (length memory) → (M : Mem)
-      → ((x : ℕ) → x < locations → cellOf memory x ≡ cell (M x)) → Holds work′ locations 0 M []
+      → ((x : ℕ) → x < locations → cellOf memory x ≡ cell (M x)) → CellsHold work′ locations 0 M []
   copied-in work′ e M h =
       record {
         whole = ap (λ (l : List ℕ). length l) e ∙ length-paste work 144 memory (length memory) (omega arith) (omega arith) ∙ whole;
@@ -89,7 +89,7 @@ module _ (work memory : List ℕ) (whole : length work ≡ workWords) (locations
           ∙ ap (λ (u : List ℕ). cellOf (u ++ q) x) (take-all (length memory) memory (omega arith))
           ∙ cell-front memory q x (omega arith)
 
-  pub copied-out : (work′ memory′ : List ℕ) (M : Mem) → Holds work′ locations 0 M [] → memory′ ≡ paste memory 0 (drop (cell-words * firstLocation) work′) (length memory)
+  pub copied-out : (work′ memory′ : List ℕ) (M : Mem) → CellsHold work′ locations 0 M [] → memory′ ≡ paste memory 0 (drop (cell-words * firstLocation) work′) (length memory)
       → memory′ ≡ wordsOf locations M
   unfolding wordsOf
   copied-out work′ memory′ M held e =
@@ -103,17 +103,17 @@ module _ (work memory : List ℕ) (whole : length work ≡ workWords) (locations
 
 -- ---- the run
 
-done-at : (ws work memory memory′ : List ℕ) (locations budget left next : ℕ) (o : Out) (state : ℕ) → state ≡ 0 → Ends ws [] locations 0 [] o state left work next
-    → ((M : Mem) → Holds work locations 0 M [] → memory′ ≡ wordsOf locations M) → RunEnds locations budget memory o 0 (budget - left) memory′
-unfolding Ends RunEnds
+done-at : (ws work memory memory′ : List ℕ) (locations budget left next : ℕ) (o : Out) (state : ℕ) → state ≡ 0 → Finishes ws [] locations 0 [] o state left work next
+    → ((M : Mem) → CellsHold work locations 0 M [] → memory′ ≡ wordsOf locations M) → RunEnds locations budget memory o 0 (budget - left) memory′
+unfolding Finishes RunEnds
 done-at ws work memory memory′ locations budget left next (done M b) state z h k = (refl, ap (λ (i : ℕ). budget - i) (h .1), k M (h .2))
 done-at ws work memory memory′ locations budget left next spent state z h k = absurd (omega (arith, h .0))
 done-at ws work memory memory′ locations budget left next (over b) state z h k = absurd (omega (arith, h .0))
 done-at ws work memory memory′ locations budget left next wrong state z h k = tt
 
-kept-at : (ws work memory : List ℕ) (locations budget left next : ℕ) (o : Out) (state : ℕ) → (state ≡ 0 → ⊥) → Ends ws [] locations 0 [] o state left work next
+kept-at : (ws work memory : List ℕ) (locations budget left next : ℕ) (o : Out) (state : ℕ) → (state ≡ 0 → ⊥) → Finishes ws [] locations 0 [] o state left work next
     → RunEnds locations budget memory o state (budget - left) memory
-unfolding Ends RunEnds
+unfolding Finishes RunEnds
 kept-at ws work memory locations budget left next (done M b) state z h = absurd (z (h .0))
 kept-at ws work memory locations budget left next spent state z h = (h .0, omega (arith, h .1), refl)
 kept-at ws work memory locations budget left next (over b) state z h = (h .0, ap (λ (i : ℕ). budget - i) (h .1), refl)
@@ -136,12 +136,12 @@ module _ {ws table : List ℕ} {authority budget : ℕ} (work memory : List ℕ)
   -- how the command's run ends
   run-ends : (s : Sheet) (k : Counts) (c : Cmd) → formed s ≡ true → table ≡ tableOf s → k .locations ≡ locationCount s → Source c → named k 0 c ≡ true
       → ws ≡ code (cmdLines c []) → length memory ≡ cell-words * locationCount s → wellFormed s memory ≡ true
-      → Ends ws [] (locationCount s) 0 [] (iterate (worldOf s authority) budget (memoryOf memory) c) state left work″ next
+      → Finishes ws [] (locationCount s) 0 [] (iterate (worldOf s authority) budget (memoryOf memory) c) state left work″ next
   run-ends s k c fm te ke src nm w n wf =
       let held = copied-in work memory whole (locationCount s) n (locations-few s fm) work′ e (memoryOf memory) (memory-cell s memory n wf) in
       let t : Tells table authority (worldOf s authority) = rw te (tells-sheet s fm authority) in
       let m = x .means (worldOf s authority) k c [] (memoryOf memory) [] t (record { source = src; names = nm; lines = w }) (rw ke held) in
-      subst (λ (u : Cmd). Ends ws [] (locationCount s) 0 [] (iterate (worldOf s authority) budget (memoryOf memory) u) state left work″ next) (close-none zero c) (rw ke at m)
+      subst (λ (u : Cmd). Finishes ws [] (locationCount s) 0 [] (iterate (worldOf s authority) budget (memoryOf memory) u) state left work″ next) (close-none zero c) (rw ke at m)
 
   pub run-done : {memory′ : List ℕ} → state ≡ 0 → length memory′ ≡ length memory
       → memory′ ≡ paste memory 0 (drop (cell-words * firstLocation) work″) (length memory) → Runs ws table memory authority budget (stateNumber Done) (budget - left) memory′

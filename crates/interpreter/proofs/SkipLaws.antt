@@ -9,7 +9,7 @@ use Rattle.language.specs.Syntax.{Expr, Cmd}
 use Rattle.script.specs.Lines.{Line}
 use Rattle.script.specs.Code.{code, rowAt}
 use Rattle.script.specs.declared.Row.{Row}
-use Rattle.script.proofs.Rows.{ExprRow, at-int, at-loc, at-var, at-plus, at-left, at-right, at-pack, at-unpack, CmdRow, at-skip, at-seq, at-assign, at-while, at-case, expr-row, cmd-row, row-in}
+use Rattle.script.proofs.Rows.{ExprRow, at-int, at-loc, at-var, at-plus, at-left, at-right, at-pack, at-unpack, CmdRow, at-skip, at-seq, at-assign, at-while, at-case, expr-row, cmd-row, row-within}
 use Rattle.interpreter.specs.Post.{operandsOf, Piece, an-expression, a-command, Skips}
 
 -- a number that is no kind has no operands
@@ -74,7 +74,7 @@ module _ (ws : List ℕ) (at : ℕ) where
       where
         on : (k : ℕ) → rowAt ws at .kind ≡ k → at + 3 ≤ length ws
         on zero e = absurd (omega (arith, count ∙ ap operandsOf e))
-        on (suc j) e = row-in ws at j e
+        on (suc j) e = row-within ws at refl (omega arith)
 
     by-parts : {m next : ℕ} → n ≡ m → at ≤ next → ((rest : List Line) → Parts rest m → drop next ws ≡ code rest) → Skips ws at next
     by-parts e f p =

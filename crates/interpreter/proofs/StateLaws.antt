@@ -15,15 +15,15 @@ use Rattle.language.specs.Evaluation.{lookup}
 use Rattle.script.specs.Names.{maxDepth}
 use Rattle.memory.specs.Words.{cell}
 use Rattle.memory.specs.Memory.{cellOf}
-use Rattle.interpreter.specs.Cells.{firstLocation, workWords, cellCount, loadOf, storeOf, Binds, bound-none, bound-more, Holds}
-use Rattle.interpreter.specs.Nodes.{Answers}
+use Rattle.interpreter.specs.Cells.{firstLocation, workWords, cellCount, loadOf, storeOf, Binds, bound-none, bound-more, CellsHold}
+use Rattle.interpreter.specs.Nodes.{Yields}
 use Rattle.interpreter.proofs.CellLaws.{there, cell-agree, load-there, length-store, cell-stored, cell-other}
 
 pub binds-kept : {a b : List ℕ} {depth : ℕ} {ρ : Env} → ((k : ℕ) → k < depth → cellOf b (suc k) ≡ cellOf a (suc k)) → Binds a depth ρ → Binds b depth ρ
 binds-kept h bound-none = bound-none
 binds-kept h (bound-more {depth = d} e bs) = bound-more (h d (omega arith) ∙ e) (binds-kept (λ k l. h k (omega arith)) bs)
 
-module _ {work : List ℕ} {locations depth : ℕ} {M : Mem} {ρ : Env} (held : Holds work locations depth M ρ) where
+module _ {work : List ℕ} {locations depth : ℕ} {M : Mem} {ρ : Env} (held : CellsHold work locations depth M ρ) where
   -- there is a cell for each of the locations, and for each depth
   pub cell-in : (k : ℕ) → k < 73 → k < cellCount work
   cell-in k h = there work k (omega (arith, held .whole))
@@ -32,7 +32,7 @@ module _ {work : List ℕ} {locations depth : ℕ} {M : Mem} {ρ : Env} (held : 
   room-here = omega (arith, held .whole)
 
   -- the accumulator may change
-  pub holds-kept : (work′ : List ℕ) → drop cell-words work′ ≡ drop cell-words work → Holds work′ locations depth M ρ
+  pub holds-kept : (work′ : List ℕ) → drop cell-words work′ ≡ drop cell-words work → CellsHold work′ locations depth M ρ
   holds-kept work′ e =
       record {
         whole = omega (arith, held .whole, length-drop 16 work, length-drop 16 work′, ap (λ (l : List ℕ). length l) e);
@@ -44,7 +44,7 @@ module _ {work : List ℕ} {locations depth : ℕ} {M : Mem} {ρ : Env} (held : 
 
   -- a location is given a value
   pub holds-put : {words work′ : List ℕ} (x : ℕ) (v : Value) → x < locations → words ≡ cell v → length words ≡ cell-words
-      → work′ ≡ storeOf work (firstLocation + x) words → Holds work′ locations depth (put M x v) ρ
+      → work′ ≡ storeOf work (firstLocation + x) words → CellsHold work′ locations depth (put M x v) ρ
   unfolding put
   holds-put {words} {work′} x v h w n e =
       record {
@@ -63,7 +63,7 @@ module _ {work : List ℕ} {locations depth : ℕ} {M : Mem} {ρ : Env} (held : 
 
   -- a case binds a value
   pub holds-bind : {words work′ : List ℕ} (v : Value) → depth < maxDepth → words ≡ cell v → length words ≡ cell-words
-      → work′ ≡ storeOf work (suc depth) words → Holds work′ locations (suc depth) M (v ∷ ρ)
+      → work′ ≡ storeOf work (suc depth) words → CellsHold work′ locations (suc depth) M (v ∷ ρ)
   holds-bind {words} {work′} v h w n e =
       record {
         whole = ap (λ (l : List ℕ). length l) e ∙ length-store work (suc depth) words n ∙ held .whole;
@@ -80,18 +80,18 @@ unbind : {work : List ℕ} {depth : ℕ} {v : Value} {ρ : Env} → Binds work (
 unbind (bound-more e bs) = bs
 
 -- a case is left
-pub holds-leave : {work : List ℕ} {locations depth : ℕ} {M : Mem} {v : Value} {ρ : Env} → Holds work locations (suc depth) M (v ∷ ρ) → Holds work locations depth M ρ
+pub holds-leave : {work : List ℕ} {locations depth : ℕ} {M : Mem} {v : Value} {ρ : Env} → CellsHold work locations (suc depth) M (v ∷ ρ) → CellsHold work locations depth M ρ
 holds-leave held =
     record { whole = held .whole; few = held .few; memory = held .memory; shallow = omega (arith, held .shallow); bindings = unbind (held .bindings) }
 
 -- the value that a variable names
 pub bound-answers : {work : List ℕ} {depth : ℕ} {ρ : Env} → Binds work depth ρ → length work ≡ workWords → depth ≤ maxDepth → (i : ℕ)
-    → Answers (lookup ρ i) 0 (loadOf work (depth - i))
-unfolding Answers lookup
+    → Yields (lookup ρ i) 0 (loadOf work (depth - i))
+unfolding Yields lookup
 bound-answers bound-none n h i = tt
 bound-answers {work} (bound-more {depth = d} e bs) n h zero =
     let z : suc d - 0 ≡ suc d = omega arith in
     (refl, ap (loadOf work) z ∙ load-there work (suc d) (there work (suc d) (omega arith)) ∙ e)
 bound-answers {work} (bound-more {depth = d} {ρ = ρ} e bs) n h (suc i) =
     let z : d - i ≡ suc d - suc i = omega arith in
-    subst (λ (k : ℕ). Answers (lookup ρ i) 0 (loadOf work k)) z (bound-answers bs n (omega arith) i)
+    subst (λ (k : ℕ). Yields (lookup ρ i) 0 (loadOf work k)) z (bound-answers bs n (omega arith) i)

@@ -52,7 +52,7 @@ pub data Binds (work : List ℕ) : ℕ → Env → Type 0 where
   bound-more : {depth : ℕ} {v : Value} {ρ : Env} → cellOf work (suc depth) ≡ cell v → Binds work depth ρ → Binds work (suc depth) (v ∷ ρ)
 
 -- The cells hold the memory M of so many locations, and the environment ρ.
-pub record Holds (work : List ℕ) (locations depth : ℕ) (M : Mem) (ρ : Env) : Type 0 where
+pub record CellsHold (work : List ℕ) (locations depth : ℕ) (M : Mem) (ρ : Env) : Type 0 where
   pub whole : length work ≡ workWords
   pub few : locations ≤ maxLocations
   pub memory : (x : ℕ) → x < locations → cellOf work (firstLocation + x) ≡ cell (M x)

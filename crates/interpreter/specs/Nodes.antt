@@ -17,15 +17,15 @@ use Rattle.interpreter.specs.Cells.{accumulator}
 
 -- The answer to an evaluation, by its state's number (`stateNumber`): 0 and the value's cell; 10 where a value is too long. Where no rule
 -- applies nothing is promised: no accepted script comes there.
-unfoldable pub Answers : Res → ℕ → List ℕ → Type 0
-Answers (ok v) state words = (state ≡ 0) × (words ≡ cell v)
-Answers long state words = state ≡ 10
-Answers stuck state words = Unit {0}
+unfoldable pub Yields : Res → ℕ → List ℕ → Type 0
+Yields (ok v) state words = (state ≡ 0) × (words ≡ cell v)
+Yields long state words = state ≡ 10
+Yields stuck state words = Unit {0}
 
 -- f is applied to the value of the accumulator.
 abbrev pub Turns : (Value → Res) → List ℕ → ℕ → List ℕ → ℕ → Type 0
 Turns f before state after state′ =
-    (r : Res) → cell-words ≤ length before → Answers r state (cellOf before accumulator) → Answers (bind r f) state′ (cellOf after accumulator)
+    (r : Res) → cell-words ≤ length before → Yields r state (cellOf before accumulator) → Yields (bind r f) state′ (cellOf after accumulator)
 
 -- What follows the evaluation of an operand: only the accumulator changes, as Means says.
 pub record Applies (before : List ℕ) (state next : ℕ) (after : List ℕ) (state′ next′ : ℕ) (Means : Type 0) : Type 0 where

@@ -14,8 +14,8 @@ use Rattle.script.specs.Code.{code}
 use Rattle.script.specs.Names.{Counts, namedE, named, maxDepth}
 use Rattle.memory.specs.Words.{cell}
 use Rattle.memory.specs.Memory.{cellOf}
-use Rattle.interpreter.specs.Cells.{accumulator, Holds}
-use Rattle.interpreter.specs.Nodes.{Answers, Tells}
+use Rattle.interpreter.specs.Cells.{accumulator, CellsHold}
+use Rattle.interpreter.specs.Nodes.{Yields, Tells}
 
 -- ---- places in the code
 
@@ -37,8 +37,8 @@ pub record Evals (ws : List ℕ) (at : ℕ) (table : List ℕ) (authority depth 
   pub forward : at ≤ next
   pub kept : drop cell-words work′ ≡ drop cell-words work
   pub means : (W : World) (k : Counts) (e : Expr) (rest : List Line) (M : Mem) (ρ : Env)
-      → Tells table authority W → ExprAt ws at rest k depth e → Holds work (k .locations) depth M ρ
-      → Answers (eval W ρ M e) state (cellOf work′ accumulator) × (state ≡ 0 → drop next ws ≡ code rest)
+      → Tells table authority W → ExprAt ws at rest k depth e → CellsHold work (k .locations) depth M ρ
+      → Yields (eval W ρ M e) state (cellOf work′ accumulator) × (state ≡ 0 → drop next ws ≡ code rest)
 
 -- ---- skip
 
@@ -59,18 +59,18 @@ operandsOf kind = getD (4 ∷ 0 ∷ 2 ∷ 1 ∷ 2 ∷ 3 ∷ 0 ∷ 0 ∷ 0 ∷ 2 
 
 -- How the run of a command ends, by its state's number: done, with the memory in the cells and the place after the command; the budget used up; a value too
 -- long. Where no rule applies nothing is promised: no accepted script comes there.
-unfoldable pub Ends : List ℕ → List Line → ℕ → ℕ → Env → Out → ℕ → ℕ → List ℕ → ℕ → Type 0
-Ends ws rest locations depth ρ (done M b) state left work next = (state ≡ 0) × (left ≡ b) × Holds work locations depth M ρ × (drop next ws ≡ code rest)
-Ends ws rest locations depth ρ spent state left work next = (state ≡ 9) × (left ≡ 0)
-Ends ws rest locations depth ρ (over b) state left work next = (state ≡ 10) × (left ≡ b)
-Ends ws rest locations depth ρ wrong state left work next = Unit {0}
+unfoldable pub Finishes : List ℕ → List Line → ℕ → ℕ → Env → Out → ℕ → ℕ → List ℕ → ℕ → Type 0
+Finishes ws rest locations depth ρ (done M b) state left work next = (state ≡ 0) × (left ≡ b) × CellsHold work locations depth M ρ × (drop next ws ≡ code rest)
+Finishes ws rest locations depth ρ spent state left work next = (state ≡ 9) × (left ≡ 0)
+Finishes ws rest locations depth ρ (over b) state left work next = (state ≡ 10) × (left ≡ b)
+Finishes ws rest locations depth ρ wrong state left work next = Unit {0}
 
 pub record Execs (ws : List ℕ) (at : ℕ) (table : List ℕ) (authority depth : ℕ) (work : List ℕ) (fuel state left next : ℕ) (work′ : List ℕ) : Type 0 where
   pub forward : at ≤ next
   pub spends : left ≤ fuel
   pub means : (W : World) (k : Counts) (c : Cmd) (rest : List Line) (M : Mem) (ρ : Env)
-      → Tells table authority W → CmdAt ws at rest k depth c → Holds work (k .locations) depth M ρ
-      → Ends ws rest (k .locations) depth ρ (iterate W fuel M (close zero ρ c)) state left work′ next
+      → Tells table authority W → CmdAt ws at rest k depth c → CellsHold work (k .locations) depth M ρ
+      → Finishes ws rest (k .locations) depth ρ (iterate W fuel M (close zero ρ c)) state left work′ next
 
 -- the transition after a run that is done
 unfoldable pub ticked : Out → Out
@@ -84,15 +84,15 @@ pub record Ticks (state left next state′ left′ next′ : ℕ) : Type 0 where
   pub spends : left′ ≤ left
   pub same-place : next′ ≡ next
   pub means : (ws : List ℕ) (rest : List Line) (locations depth : ℕ) (ρ : Env) (o : Out) (work : List ℕ)
-      → Ends ws rest locations depth ρ o state left work next → Ends ws rest locations depth ρ (ticked o) state′ left′ work next′
+      → Finishes ws rest locations depth ρ o state left work next → Finishes ws rest locations depth ρ (ticked o) state′ left′ work next′
 
 -- An assignment to location x, the expression standing at `at`.
 pub record Assigns (ws : List ℕ) (at : ℕ) (table : List ℕ) (authority depth : ℕ) (work : List ℕ) (fuel x state left next : ℕ) (work′ : List ℕ) : Type 0 where
   pub forward : at ≤ next
   pub spends : left ≤ fuel
   pub means : (W : World) (k : Counts) (e : Expr) (rest : List Line) (M : Mem) (ρ : Env)
-      → Tells table authority W → ExprAt ws at rest k depth e → x < k .locations → Holds work (k .locations) depth M ρ
-      → Ends ws rest (k .locations) depth ρ (iterate W fuel M (close zero ρ (assign x e))) state left work′ next
+      → Tells table authority W → ExprAt ws at rest k depth e → x < k .locations → CellsHold work (k .locations) depth M ρ
+      → Finishes ws rest (k .locations) depth ρ (iterate W fuel M (close zero ρ (assign x e))) state left work′ next
 
 -- What a guard or the expression of a case decides, as a transition: left or right, with the value inside and what is left of the
 -- budget; no budget; a value too long, with what would have been left; no rule.
@@ -133,15 +133,15 @@ pub record Decides (ws : List ℕ) (at : ℕ) (table : List ℕ) (authority dept
   pub falls : on ≡ true → left < fuel
   pub kept : drop cell-words work′ ≡ drop cell-words work
   pub means : (W : World) (k : Counts) (e : Expr) (rest : List Line) (M : Mem) (ρ : Env)
-      → Tells table authority W → ExprAt ws at rest k depth e → Holds work (k .locations) depth M ρ
+      → Tells table authority W → ExprAt ws at rest k depth e → CellsHold work (k .locations) depth M ρ
       → Chooses ws rest (choice fuel (eval W ρ M e)) state left on (cellOf work′ accumulator) next
 
 -- The branch taken: its value is bound, it starts at `start`, and the case ends at `end`.
 unfoldable pub Enters : List ℕ → List Line → ℕ → ℕ → Mem → Env → Cmd → Cmd → Choice → ℕ → ℕ → List ℕ → ℕ → ℕ → Type 0
 Enters ws rest locations depth M ρ c d (to-left v b) state left work start end =
-    (state ≡ 0) × (left ≡ b) × Holds work locations (suc depth) M (v ∷ ρ) × (drop start ws ≡ code (cmdLines c (cmdLines d rest))) × (drop end ws ≡ code rest)
+    (state ≡ 0) × (left ≡ b) × CellsHold work locations (suc depth) M (v ∷ ρ) × (drop start ws ≡ code (cmdLines c (cmdLines d rest))) × (drop end ws ≡ code rest)
 Enters ws rest locations depth M ρ c d (to-right v b) state left work start end =
-    (state ≡ 0) × (left ≡ b) × Holds work locations (suc depth) M (v ∷ ρ) × (drop start ws ≡ code (cmdLines d rest)) × (drop end ws ≡ code rest)
+    (state ≡ 0) × (left ≡ b) × CellsHold work locations (suc depth) M (v ∷ ρ) × (drop start ws ≡ code (cmdLines d rest)) × (drop end ws ≡ code rest)
 Enters ws rest locations depth M ρ c d no-budget state left work start end = (state ≡ 9) × (left ≡ 0)
 Enters ws rest locations depth M ρ c d (too-long b) state left work start end = (state ≡ 10) × (left ≡ suc b)
 Enters ws rest locations depth M ρ c d no-rule state left work start end = Unit {0}
@@ -153,5 +153,5 @@ pub record Branches (ws : List ℕ) (at : ℕ) (table : List ℕ) (authority dep
   pub shallow : state ≡ 0 → depth < maxDepth
   pub means : (W : World) (k : Counts) (e : Expr) (c d : Cmd) (rest : List Line) (M : Mem) (ρ : Env)
       → Tells table authority W → ExprAt ws at (cmdLines c (cmdLines d rest)) k depth e → Source c → Source d → depth < maxDepth
-      → Holds work (k .locations) depth M ρ
+      → CellsHold work (k .locations) depth M ρ
       → Enters ws rest (k .locations) depth M ρ c d (choice fuel (eval W ρ M e)) state left work′ start end

@@ -23,12 +23,16 @@ unfolding rowAt
 row-none ws at h = simp (lt-leb _ _ h)
 
 -- a row whose kind is not 0 lies within the code
-pub row-in : (ws : List ℕ) (at j : ℕ) → rowAt ws at .kind ≡ suc j → at + 3 ≤ length ws
-row-in ws at j h = on (leb (at + 3) (length ws)) refl
+pub row-within : (ws : List ℕ) (at : ℕ) {row : Row} → row ≡ rowAt ws at → 0 < row .kind → at + 3 ≤ length ws
+row-within ws at q h = on (leb (at + 3) (length ws)) refl
   where
     on : (b : Bool) → leb (at + 3) (length ws) ≡ b → at + 3 ≤ length ws
     on true e = leb-true _ _ e
-    on false e = absurd (omega (arith, h, ap (λ (r : Row). r .kind) (row-none ws at (leb-false _ _ e))))
+    on false e = absurd (omega (arith, h, ap (λ (r : Row). r .kind) (q ∙ row-none ws at (leb-false _ _ e))))
+
+-- the same of the row itself
+pub row-in : (ws : List ℕ) (at j : ℕ) → rowAt ws at .kind ≡ suc j → at + 3 ≤ length ws
+row-in ws at j h = row-within ws at refl (omega arith)
 
 module _ (ws : List ℕ) (at : ℕ) where
   -- The row of an expression, by its kind: its words, its parts, and what stands after it.

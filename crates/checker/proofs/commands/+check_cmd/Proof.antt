@@ -4,7 +4,7 @@ use Prim.Native.Nat.{ℕ, _<_, _-_}
 use native.Mathlib.Omega.{arith}
 use lib.ListN.{length}
 use mathlib.Core.Logic.{⊎-elim}
-use Rattle.checker.proofs.ExprLaws.{within}
+use Rattle.script.proofs.Rows.{row-within}
 use Rattle.checker.proofs.CmdLaws.{arm-skip, arm-seq, arm-assign, arm-while, arm-case, arm-deep, arm-other}
 use borrow.Fn.Kinds.{In}
 use borrow.Fn.PlainCycle.{Measures, is, falls, and}
@@ -68,21 +68,21 @@ pub +check-cmd-spec : {M : Type 1} → statement M
     (check-cmd-at t)
     check-cmd.Post
     (λ c κs. search needs)  -- row-at-requires
-    (λ c. let r = c .before in let a = r .before .before .before .args in omega (arith, within (a .code .now) (a .at) (r .row-at .ensures) (omega (arith, c .match .keys1))))  -- add-of-skip
+    (λ c. let r = c .before in let a = r .before .before .before .args in omega (arith, row-within (a .code .now) (a .at) (r .row-at .ensures) (omega (arith, c .match .keys1))))  -- add-of-skip
     (λ c κs. search needs)  -- of-skip-requires
-    (λ c. let r = c .before in let a = r .before .before .before .args in omega (arith, within (a .code .now) (a .at) (r .row-at .ensures) (omega (arith, c .match .keys2))))  -- add-check-cmd
-    (λ c κs. let r = c .before .before in let a = r .before .before .before .args in (omega (arith, r .before .before .before .pre .0, within (a .code .now) (a .at) (r .row-at .ensures) (omega (arith, c .before .match .keys2))), tt))  -- check-cmd-requires
+    (λ c. let r = c .before in let a = r .before .before .before .args in omega (arith, row-within (a .code .now) (a .at) (r .row-at .ensures) (omega (arith, c .match .keys2))))  -- add-check-cmd
+    (λ c κs. let r = c .before .before in let a = r .before .before .before .args in (omega (arith, r .before .before .before .pre .0, row-within (a .code .now) (a .at) (r .row-at .ensures) (omega (arith, c .before .match .keys2))), tt))  -- check-cmd-requires
     (λ c κs. let r = c .before .before .before .before in let a = r .before .before .before .args in (
       omega (
         arith,
         r .before .before .before .pre .0,
-        within (a .code .now) (a .at) (r .row-at .ensures) (omega (arith, c .before .before .before .match .keys2)),
+        row-within (a .code .now) (a .at) (r .row-at .ensures) (omega (arith, c .before .before .before .match .keys2)),
         c .before .check-cmd .ensures .onward,
       ),
       tt,
     ))  -- check-cmd-requires-2
     (λ c κs. search needs)  -- of-seq-requires
-    (λ c. let r = c .before .before .before in let a = r .before .before .before .args in omega (arith, within (a .code .now) (a .at) (r .row-at .ensures) (omega (arith, c .before .if1 .left))))  -- add-check-expr
+    (λ c. let r = c .before .before .before in let a = r .before .before .before .args in omega (arith, row-within (a .code .now) (a .at) (r .row-at .ensures) (omega (arith, c .before .if1 .left))))  -- add-check-expr
     (λ c κs. search needs)  -- check-expr-requires
     (λ c κs. search needs)  -- of-assign-requires
     (λ c κs. search needs)  -- join-requires
@@ -90,7 +90,7 @@ pub +check-cmd-spec : {M : Type 1} → statement M
       omega (
         arith,
         r .before .before .before .pre .0,
-        within (a .code .now) (a .at) (r .row-at .ensures)
+        row-within (a .code .now) (a .at) (r .row-at .ensures)
             (omega (arith, c .before .before .before .before .before .before .if1 .left)),
         c .before .before .before .check-expr .ensures .onward,
       ),
@@ -108,7 +108,7 @@ pub +check-cmd-spec : {M : Type 1} → statement M
       omega (
         arith,
         r .before .before .before .pre .0,
-        within (a .code .now) (a .at) (r .row-at .ensures)
+        row-within (a .code .now) (a .at) (r .row-at .ensures)
             (omega (arith, c .before .before .before .before .before .before .before .before .before .before .if1 .left)),
         c .before .before .before .before .before .before .before .check-expr .ensures .onward,
       ),
@@ -121,7 +121,7 @@ pub +check-cmd-spec : {M : Type 1} → statement M
       omega (
         arith,
         r .before .before .before .pre .0,
-        within (a .code .now) (a .at) (r .row-at .ensures)
+        row-within (a .code .now) (a .at) (r .row-at .ensures)
             (omega (arith, c .before .before .before .before .before .before .before .before .before .before .before .before .before .before .before .if1 .left)),
         c .before .before .before .before .before .before .before .before .before .before .before .before .check-expr .ensures .onward,
         c .before .before .before .before .check-cmd4 .ensures .onward,

@@ -4,7 +4,8 @@ use Prim.Native.Nat.{ℕ, _<_, _-_}
 use native.Mathlib.Omega.{arith}
 use lib.ListN.{length}
 use mathlib.Core.Logic.{⊎-elim}
-use Rattle.checker.proofs.ExprLaws.{within, last-kind, arm-int, arm-loc, arm-var, arm-plus, arm-left, arm-right, arm-pack, arm-unpack, arm-other}
+use Rattle.script.proofs.Rows.{row-within}
+use Rattle.checker.proofs.ExprLaws.{last-kind, arm-int, arm-loc, arm-var, arm-plus, arm-left, arm-right, arm-pack, arm-unpack, arm-other}
 use borrow.Fn.Kinds.{In}
 use borrow.Fn.PlainCycle.{Measures, is, falls, and}
 use Rattle.checker.proofs.expressions.check_expr.Reads as check-expr
@@ -65,15 +66,15 @@ pub +check-expr-spec : {M : Type 1} → statement M
     (check-expr-at t)
     check-expr.Post
     (λ c κs. search needs)  -- row-at-requires
-    (λ c. let r = c .before in let a = r .before .before .before .args in omega (arith, within (a .code .now) (a .at) (r .row-at .ensures) (omega (arith, c .match .keys1))))  -- add-of-int
+    (λ c. let r = c .before in let a = r .before .before .before .args in omega (arith, row-within (a .code .now) (a .at) (r .row-at .ensures) (omega (arith, c .match .keys1))))  -- add-of-int
     (λ c κs. search needs)  -- of-int-requires
-    (λ c. let r = c .before in let a = r .before .before .before .args in omega (arith, within (a .code .now) (a .at) (r .row-at .ensures) (omega (arith, c .match .keys2))))  -- add-of-location
+    (λ c. let r = c .before in let a = r .before .before .before .args in omega (arith, row-within (a .code .now) (a .at) (r .row-at .ensures) (omega (arith, c .match .keys2))))  -- add-of-location
     (λ c κs. search needs)  -- of-location-requires
-    (λ c. let r = c .before in let a = r .before .before .before .args in omega (arith, within (a .code .now) (a .at) (r .row-at .ensures) (omega (arith, c .match .keys3))))  -- add-of-variable
+    (λ c. let r = c .before in let a = r .before .before .before .args in omega (arith, row-within (a .code .now) (a .at) (r .row-at .ensures) (omega (arith, c .match .keys3))))  -- add-of-variable
     (λ c κs. search needs)  -- of-variable-requires
-    (λ c. let r = c .before .before .before in let a = r .before .before .before .args in omega (arith, within (a .code .now) (a .at) (r .row-at .ensures) (omega (arith, c .before .if1 .left))))  -- add-check-expr
-    (λ c κs. let r = c .before .before .before in let a = r .before .before .before .args in (omega (arith, within (a .code .now) (a .at) (r .row-at .ensures) (omega (arith, c .before .if1 .left))), tt))  -- check-expr-requires
-    (λ c κs. let r = c .before .before .before .before .before in let a = r .before .before .before .args in (omega (arith, within (a .code .now) (a .at) (r .row-at .ensures) (omega (arith, c .before .before .before .if1 .left)), c .before .check-expr .ensures .onward), tt))  -- check-expr-requires-2
+    (λ c. let r = c .before .before .before in let a = r .before .before .before .args in omega (arith, row-within (a .code .now) (a .at) (r .row-at .ensures) (omega (arith, c .before .if1 .left))))  -- add-check-expr
+    (λ c κs. let r = c .before .before .before in let a = r .before .before .before .args in (omega (arith, row-within (a .code .now) (a .at) (r .row-at .ensures) (omega (arith, c .before .if1 .left))), tt))  -- check-expr-requires
+    (λ c κs. let r = c .before .before .before .before .before in let a = r .before .before .before .args in (omega (arith, row-within (a .code .now) (a .at) (r .row-at .ensures) (omega (arith, c .before .before .before .if1 .left)), c .before .check-expr .ensures .onward), tt))  -- check-expr-requires-2
     (λ c κs. search needs)  -- of-plus-requires
     (λ c κs. search needs)  -- left-part-requires
     (λ c κs. search needs)  -- of-sum-requires

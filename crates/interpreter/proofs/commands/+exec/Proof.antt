@@ -7,7 +7,7 @@ use Prim.Native.Nat.{ℕ, _<_, _-_}
 use native.Mathlib.Omega.{arith}
 use lib.ListN.{length}
 use Rattle.interpreter.specs.Post.{Execs}
-use Rattle.interpreter.proofs.EvalLaws.{row-inside}
+use Rattle.script.proofs.Rows.{row-within}
 use Rattle.interpreter.proofs.NumberLaws.{not-done, is-done}
 use Rattle.interpreter.proofs.CommandLaws as laws
 use borrow.Fn.Kinds.{In}
@@ -62,24 +62,24 @@ pub +exec-spec : {M : Type 1} → statement M
     exec-Inv-loop
     exec-μ-loop
     (λ c κs. search needs)  -- row-at-requires
-    (λ c. omega (arith, row-inside _ _ 0 (c .before .row-at .ensures) (c .match .keys1)))  -- add-t29
-    (λ c. omega (arith, row-inside _ _ 1 (c .before .row-at .ensures) (c .match .keys2)))  -- add-exec
-    (λ c κs. (omega (arith, row-inside _ _ 1 (c .before .before .row-at .ensures) (c .before .match .keys2), c .before .before .before .before .before .pre .0), tt))  -- exec-requires
+    (λ c. omega (arith, row-within _ _ (c .before .row-at .ensures) (omega (arith, c .match .keys1))))  -- add-t29
+    (λ c. omega (arith, row-within _ _ (c .before .row-at .ensures) (omega (arith, c .match .keys2))))  -- add-exec
+    (λ c κs. (omega (arith, row-within _ _ (c .before .before .row-at .ensures) (omega (arith, c .before .match .keys2)), c .before .before .before .before .before .pre .0), tt))  -- exec-requires
     (λ c κs. search needs)  -- tick-requires
     (λ c. search needs)  -- enum-told
     (λ c. laws.exec-seq-end (c .before .before .before .before .before .row-at .ensures) (c .before .before .before .before .match .keys2) (c .before .before .exec .ensures) (c .before .tick .ensures) (not-done _ (c .match2 .keys2)))  -- returns
-    (λ c κs. (omega (arith, row-inside _ _ 1 (c .before .before .before .before .before .before .before .row-at .ensures) (c .before .before .before .before .before .before .match .keys2), c .before .before .before .before .exec .ensures .forward, c .before .before .before .tick .ensures .same-place, c .before .before .before .before .before .before .before .before .before .before .pre .0), tt))  -- exec-requires-2
-    (λ c. omega (arith, row-inside _ _ 2 (c .before .row-at .ensures) (c .match .keys3)))  -- add-assign
+    (λ c κs. (omega (arith, row-within _ _ (c .before .before .before .before .before .before .before .row-at .ensures) (omega (arith, c .before .before .before .before .before .before .match .keys2)), c .before .before .before .before .exec .ensures .forward, c .before .before .before .tick .ensures .same-place, c .before .before .before .before .before .before .before .before .before .before .pre .0), tt))  -- exec-requires-2
+    (λ c. omega (arith, row-within _ _ (c .before .row-at .ensures) (omega (arith, c .match .keys3))))  -- add-assign
     (λ c κs. search needs)  -- assign-requires
-    (λ c. omega (arith, row-inside _ _ 3 (c .before .row-at .ensures) (c .match .keys4)))  -- add-skip
+    (λ c. omega (arith, row-within _ _ (c .before .row-at .ensures) (omega (arith, c .match .keys4))))  -- add-skip
     (λ c κs. search needs)  -- skip-requires
     (λ c κs. search needs)  -- skip-requires-2
     (λ c. λ s f n m x. x)  -- loop-holds
-    (λ c. omega (arith, row-inside _ _ 3 (c .before .before .before .before .row-at .ensures) (c .before .before .before .match .keys4)))  -- add-decide
+    (λ c. omega (arith, row-within _ _ (c .before .before .before .before .row-at .ensures) (omega (arith, c .before .before .before .match .keys4))))  -- add-decide
     (λ c κs. search needs)  -- decide-requires
     (λ c. c .before .before .before .before .loop .inv _ _ _ _
     (laws.while-stop (c .before .before .before .before .before .before .before .before .row-at .ensures) (c .before .before .before .before .before .before .before .match .keys4) (c .before .before .before .before .before .before .skip .ensures) (c .before .before .before .before .before .skip2 .ensures) (c .before .before .decide .ensures) (not-true _ (c .if1 .taken))))  -- returns-2
-    (λ c κs. (omega (arith, row-inside _ _ 3 (c .before .before .before .before .before .before .before .before .before .row-at .ensures) (c .before .before .before .before .before .before .before .before .match .keys4), c .before .before .before .before .before .before .before .skip .ensures .forward, c .before .before .before .before .before .before .before .before .before .before .before .before .pre .0), tt))  -- exec-requires-3
+    (λ c κs. (omega (arith, row-within _ _ (c .before .before .before .before .before .before .before .before .before .row-at .ensures) (omega (arith, c .before .before .before .before .before .before .before .before .match .keys4)), c .before .before .before .before .before .before .before .skip .ensures .forward, c .before .before .before .before .before .before .before .before .before .before .before .before .pre .0), tt))  -- exec-requires-3
     (λ c κs. search needs)  -- tick-requires-2
     (λ c. search needs)  -- enum-told-2
     (λ c. c .before .before .before .before .before .before .before .before .loop .inv _ _ _ _
@@ -89,12 +89,12 @@ pub +exec-spec : {M : Type 1} → statement M
     (λ c. λ s f n m y. c .before .before .before .before .before .before .before .before .before .loop .inv s f n m
     (laws.while-again (c .before .before .before .before .before .before .before .before .before .before .before .before .before .row-at .ensures) (c .before .before .before .before .before .before .before .before .before .before .before .before .match .keys4) (c .before .before .before .before .before .before .before .before .before .before .before .skip .ensures) (c .before .before .before .before .before .before .before .before .before .before .skip2 .ensures) (c .before .before .before .before .before .before .before .decide .ensures) (not-false _ (c .before .before .before .before .before .if1 .left)) (c .before .before .before .exec3 .ensures)
     (c .before .before .tick2 .ensures) (is-done _ (c .enum-told2 .given .1)) y))  -- loop-again
-    (λ c. omega (arith, row-inside _ _ 4 (c .before .row-at .ensures) (c .match .keys5)))  -- add-branch
+    (λ c. omega (arith, row-within _ _ (c .before .row-at .ensures) (omega (arith, c .match .keys5))))  -- add-branch
     (λ c κs. search needs)  -- branch-requires
     (λ c. search needs)  -- enum-told-3
     (λ c. laws.exec-case-end (c .before .before .before .before .row-at .ensures) (c .before .before .before .match .keys5) (c .before .branch .ensures) (not-done _ (c .match4 .keys2)))  -- returns-4
     (λ c. omega (arith, c .before .before .branch .ensures .shallow (is-done _ (c .enum-told3 .given .1))))  -- add-exec-2
-    (λ c κs. (omega (arith, row-inside _ _ 4 (c .before .before .before .before .before .before .row-at .ensures) (c .before .before .before .before .before .match .keys5), c .before .before .before .branch .ensures .forward, c .before .before .before .before .before .before .before .before .before .pre .0), tt))  -- exec-requires-4
+    (λ c κs. (omega (arith, row-within _ _ (c .before .before .before .before .before .before .row-at .ensures) (omega (arith, c .before .before .before .before .before .match .keys5)), c .before .before .before .branch .ensures .forward, c .before .before .before .before .before .before .before .before .before .pre .0), tt))  -- exec-requires-4
     (λ c. laws.exec-skip (c .before .row-at .ensures) (c .match .keys1))  -- returns-5
     (λ c. laws.exec-seq (c .before .before .before .before .before .before .before .before .row-at .ensures) (c .before .before .before .before .before .before .before .match .keys2) (c .before .before .before .before .before .exec .ensures) (c .before .before .before .before .tick .ensures) (is-done _ (c .before .before .enum-told .given .1)) (c .exec2 .ensures))  -- returns-6
     (λ c. laws.exec-assign (c .before .before .before .row-at .ensures) (c .before .before .match .keys3) (c .assign .ensures))  -- returns-7

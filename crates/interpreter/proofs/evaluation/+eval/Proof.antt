@@ -3,7 +3,7 @@ use borrow.Author.Needs.{needs}
 use Prim.Native.Nat.{ℕ, _<_, _-_}
 use native.Mathlib.Omega.{arith}
 use lib.ListN.{length}
-use Rattle.interpreter.proofs.EvalLaws.{row-inside, row-within}
+use Rattle.script.proofs.Rows.{row-within}
 use Rattle.interpreter.proofs.NumberLaws.{not-done, is-done}
 use Rattle.interpreter.proofs.EvalLaws as laws
 use borrow.Fn.Kinds.{In}
@@ -50,11 +50,11 @@ pub +eval-spec : {M : Type 1} → statement M
     eval.Post
     (λ c κs. search needs)  -- row-at-requires
     (λ c κs. search needs)  -- literal-requires
-    (λ c. omega (arith, row-inside _ _ 5 (c .before .before .before .row-at .ensures) (c .before .before .match .keys1)))  -- add-t20
+    (λ c. omega (arith, row-within _ _ (c .before .before .before .row-at .ensures) (omega (arith, c .before .before .match .keys1))))  -- add-t20
     (λ c κs. search needs)  -- location-requires
-    (λ c. omega (arith, row-inside _ _ 6 (c .before .before .before .row-at .ensures) (c .before .before .match .keys2)))  -- add-t24
+    (λ c. omega (arith, row-within _ _ (c .before .before .before .row-at .ensures) (omega (arith, c .before .before .match .keys2))))  -- add-t24
     (λ c κs. search needs)  -- variable-requires
-    (λ c. omega (arith, row-inside _ _ 7 (c .before .before .before .row-at .ensures) (c .before .before .match .keys3)))  -- add-t28
+    (λ c. omega (arith, row-within _ _ (c .before .before .before .row-at .ensures) (omega (arith, c .before .before .match .keys3))))  -- add-t28
     (λ c. omega (arith, row-within _ _ (c .before .before .before .row-at .ensures) (omega arith)))  -- add-eval
     (λ c κs. (omega (arith, row-within _ _ (c .before .before .before .before .row-at .ensures) (omega arith)), tt))  -- eval-requires
     (λ c κs. search needs)  -- applied-requires

@@ -47,7 +47,6 @@ check-answers ws t {x = x} cx e room =
     }
 
 pub checker-exact : CheckerExact
-checker-exact ws t r a s fm once table k c src names w =
-    let e = a .exact s fm once table k c src names w in
+checker-exact s c =
     let x = exactness (labelsOver (s .principals)) (labels-lattice (s .principals)) (declarationsOf s) in
-    rw e (record { accepted = x .accepted c; refused-5 = x .refused-5 c; refused-6 = x .refused-6 c })
+    record { accepted = x .accepted c; refused-5 = x .refused-5 c; refused-6 = x .refused-6 c }

@@ -29,7 +29,7 @@ use Rattle.interpreter.specs.declared.State.the-variants.{Done, NoRule}
 use Rattle.interpreter.specs.Cells.{firstLocation, workWords, CellsHold, bound-none}
 use Rattle.interpreter.specs.Nodes.{Tells}
 use Rattle.interpreter.specs.Post.{Finishes, Execs}
-use Rattle.interpreter.specs.Run.{RunEnds, Runs}
+use Rattle.interpreter.specs.Run.{RunLeaves, Runs}
 use Rattle.interpreter.proofs.CellLaws.{cell-front}
 
 -- ---- a sheet's table says what the sheet means
@@ -104,16 +104,16 @@ module _ (work memory : List ℕ) (whole : length work ≡ workWords) (locations
 -- ---- the run
 
 done-at : (ws work memory memory′ : List ℕ) (locations budget left next : ℕ) (o : Out) (state : ℕ) → state ≡ 0 → Finishes ws [] locations 0 [] o state left work next
-    → ((M : Mem) → CellsHold work locations 0 M [] → memory′ ≡ wordsOf locations M) → RunEnds locations budget memory o 0 (budget - left) memory′
-unfolding Finishes RunEnds
+    → ((M : Mem) → CellsHold work locations 0 M [] → memory′ ≡ wordsOf locations M) → RunLeaves locations budget memory o 0 (budget - left) memory′
+unfolding Finishes RunLeaves
 done-at ws work memory memory′ locations budget left next (done M b) state z h k = (refl, ap (λ (i : ℕ). budget - i) (h .1), k M (h .2))
 done-at ws work memory memory′ locations budget left next spent state z h k = absurd (omega (arith, h .0))
 done-at ws work memory memory′ locations budget left next (over b) state z h k = absurd (omega (arith, h .0))
 done-at ws work memory memory′ locations budget left next wrong state z h k = tt
 
 kept-at : (ws work memory : List ℕ) (locations budget left next : ℕ) (o : Out) (state : ℕ) → (state ≡ 0 → ⊥) → Finishes ws [] locations 0 [] o state left work next
-    → RunEnds locations budget memory o state (budget - left) memory
-unfolding Finishes RunEnds
+    → RunLeaves locations budget memory o state (budget - left) memory
+unfolding Finishes RunLeaves
 kept-at ws work memory locations budget left next (done M b) state z h = absurd (z (h .0))
 kept-at ws work memory locations budget left next spent state z h = (h .0, omega (arith, h .1), refl)
 kept-at ws work memory locations budget left next (over b) state z h = (h .0, ap (λ (i : ℕ). budget - i) (h .1), refl)

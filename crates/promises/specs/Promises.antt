@@ -37,7 +37,7 @@ pub record Promises : Type 1 where
 
   -- The functions agree with the figures; runs are determinate, sound and end as the figures have it; typing is exact; theorems 1 and 2 of the paper, noninterference, and confinement.
   pub theorems : Theorems
-  -- The answer of the checker's code is 0, 5 or 6 exactly as the script has a derivation, or one with the labels struck out.
+  -- On every sheet the number that the checker's contract gives says which derivations a script has: 0, 5 or 6.
   pub checker-exact : CheckerExact
   -- ---- Principals and labels
 

@@ -30,7 +30,7 @@ use Rattle.memory.proofs.MemoryLaws.{unrefused-length, unrefused-formed}
 use Rattle.checker.specs.Post.{ChecksCode}
 use Rattle.checker.specs.Verdict.{verdictNumber}
 use Rattle.checker.specs.declared.Verdict.{Verdict}
-use Rattle.interpreter.specs.Run.{RunEnds, Runs}
+use Rattle.interpreter.specs.Run.{RunLeaves, Runs}
 use Rattle.simp.specs.Calls.{unless, strangers, onScript, untyped, refusedRun, ended, refusedView}
 use Rattle.simp.specs.Stages.{TableOf, CodeOf, no-code, its-code, Judges, ChecksOn, RunsCode, runFrom, RunsOn, ViewsOn}
 use Rattle.simp.proofs.Numbers.{0-typable, typable-shape}
@@ -129,9 +129,9 @@ module _ (ws t memory : List ℕ) (authority budget : ℕ) where
 
   -- an accepted script from a well-formed memory is never stuck, so that its outcome is the answer
   ends : (s : Sheet) (c : Cmd) → untyped s c ≡ 0 → memoryRefusal s memory ≡ 0 → (state steps : ℕ) (left : List ℕ) (o : Out)
-      → iterate (worldOf s authority) budget (memoryOf memory) c ≡ o → RunEnds (locationCount s) budget memory o state steps left
+      → iterate (worldOf s authority) budget (memoryOf memory) c ≡ o → RunLeaves (locationCount s) budget memory o state steps left
       → record { answer = state; steps = steps; memory = left } ≡ ended (locationCount s) budget memory o
-  unfolding RunEnds ended
+  unfolding RunLeaves ended
   ends s c u m state steps left (done M l) e (p, q, r) = rw (p, q, r) refl
   ends s c u m state steps left spent e (p, q, r) = rw (p, q, r) refl
   ends s c u m state steps left (over l) e (p, q, r) = rw (p, q, r) refl

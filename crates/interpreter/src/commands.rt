@@ -254,8 +254,8 @@ pub(crate) fn exec(
         script::SEQ => {
             let d = exec(code, at + ROW, table, authority, depth, work, fuel);
             let t = tick(d);
-            let state = t.state;
-            let State::Done = state else {
+            let first = t.state;
+            let State::Done = first else {
                 return t;
             };
             let next = t.next;

@@ -17,7 +17,8 @@ use Rattle.desk.specs.Output.{numberLine}
 abbrev pub IsGroup : List ℕ → ℕ → Type 0
 IsGroup text g = (text ≡ hex4 g ++ (10 ∷ [])) × (g < 65536)
 
--- The text is that of a memory: the printed form of 16 words for each of at most 64 locations.
+-- The text is that of a memory: the printed form of 16 words of 32 bits for each of at most 64 locations. Such a text has at most
+-- 11,264 bytes, so that the limit on texts needs no mention.
 abbrev pub IsMemoryText : List ℕ → List ℕ → Type 0
 IsMemoryText text ws = (text ≡ memoryText ws) × IsMemory ws
 
@@ -28,7 +29,7 @@ OfGroup text P = (g : ℕ) × IsGroup text g × P g
 abbrev pub OfMemory : List ℕ → (List ℕ → Type 0) → Type 0
 OfMemory text P = (ws : List ℕ) × IsMemoryText text ws × P ws
 
--- ---- when a number applies that a call does not give, or gives for less
+-- ---- what else 3 and 8 are for: a text that isn't of its form
 
 -- 3
 abbrev pub NoGroup : List ℕ → Type 0

@@ -1,6 +1,5 @@
 -- Labels in effective form (the scope, "Principals and labels"; the paper, section 2.2): for each owner a set of readers and a
 -- set of writers.
--- Assumes nothing.
 use mathlib.Core.Path.{_≡_}
 use mathlib.Core.Bool.{Bool, true, cond}
 use mathlib.Core.List.{List, [], _∷_}

@@ -4,7 +4,6 @@
 -- The scope differs from the paper in this: an owner's writers in bottom and in C(A) are {o}, since an owner is always in its own
 -- effective sets; an owner without a policy lets everyone write, where the paper has no writers; reading goes by readers and
 -- writing by writers, where the paper's text of the two names the other part; and with one principal there is one label only.
--- Assumes nothing.
 use mathlib.Core.Path.{_≡_}
 use mathlib.Core.Bool.{true, false}
 use mathlib.Core.List.{List}
@@ -44,7 +43,7 @@ pub record SecurityLattice (n : ℕ) : Type 0 where
   pub writes-up : (g : ℕ) (a b : Label)
       → belowOf (integrityOf (everyone n) a) (integrityOf (everyone n) b) ≡ true → writesOf n g a ≡ true → writesOf n g b ≡ true
 
--- the labels of up to 16 principals are a security lattice
+-- the labels of up to 16 principals are a security lattice (meets, which a finite order with bottom and joins has, are not stated)
 abbrev pub SecurityLattices : Type 0
 SecurityLattices = (n : ℕ) → n ≤ owners → SecurityLattice n
 

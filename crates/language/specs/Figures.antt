@@ -52,8 +52,8 @@ pub data Steps (W : World) : ℕ → Mem → Cmd → Mem → Cmd → Type 0 wher
   s-more : {k : ℕ} {M M₁ M′ : Mem} {c c₁ c′ : Cmd} → Step W M c M₁ c₁ → Steps W k M₁ c₁ M′ c′ → Steps W (suc k) M c M′ c′
 
 -- The scope's number 10, which the figures do not have: an expression, or a part of one, has a value of more words than a
--- location takes. Every part of an expression that the step evaluates counts, also where the expression's own value is short again:
--- what an unpack opens, and the operand of a pack that fails. Fourteen lefts over an integer are 16 words and fit; fifteen are 17.
+-- location takes. Every part of an expression that the step evaluates counts, also where the expression's own value is short again,
+-- as that of a pack that fails is. Fourteen lefts over an integer are 16 words and fit; fifteen are 17.
 -- A value that is held in memory has at most 16 words, so in a run a left, a right or a pack makes the first that is too long.
 pub data LongExpr (W : World) (M : Mem) : Expr → Type 0 where
   long-value : {e : Expr} {v : Value} → EStar W M e (val v) → cell-words < size v → LongExpr W M e

@@ -60,7 +60,8 @@ LongExact S W = (c : Cmd) → shape S [] c ≡ true → (M : Mem) → WellTyped 
 abbrev pub Outcome : Shapes → World → Type 0
 Outcome S W = (c : Cmd) → shape S [] c ≡ true → (M : Mem) → WellTyped S M → Fitting M → (b : ℕ) (o : Out) → (iterate W b M c ≡ o) ↔ RunEnds W b M c o
 
--- A command that passes `shape`, in a well-typed memory, is never stuck, and every memory that it reaches is well-typed.
+-- A command that passes `shape`, in a well-typed memory, is never stuck, and every memory that it reaches is well-typed, as long as no
+-- step meets a value that is too long.
 pub record TypeSoundness (S : Shapes) (W : World) : Type 0 where
   pub never-wrong : (c : Cmd) → shape S [] c ≡ true → (M : Mem) → WellTyped S M → (b : ℕ) → ¬ (iterate W b M c ≡ wrong)
   pub done-typed : (c : Cmd) → shape S [] c ≡ true → (M : Mem) → WellTyped S M → (b l : ℕ) (M′ : Mem) → iterate W b M c ≡ done M′ l → WellTyped S M′
@@ -103,9 +104,9 @@ ExpressionNoninterference K W vis shows = (e : Expr) → flowE K [] e ≡ true �
 -- same, leave memories that look the same, whatever the budgets and the steps. It differs from the paper's in this:
 -- * both runs are of one command, the paper's of two that are equivalent, that is alike but for equivalent values in them. A script is
 --   one command whose values are integers, so equivalent scripts are the same;
--- * a run is done by `iterate`, so no step of it meets a value that is too long; the paper has no such limit;
--- * the observer is any that meets `Observer`, instead of a label ℓ. Who sees a label by its C alone meets it, as a group of readers
---   does; who goes by its writers too need not, since an unpack compares C alone;
+-- * a run is done by `iterate`, so no step of it makes a value that is too long; the paper has no such limit;
+-- * the observer is any that meets `Observer`, instead of a label ℓ. Who goes by C alone, and sees with a label all that have a C at or
+--   below its own, meets it, as a group of readers does; who goes by writers too need not, since an unpack compares C alone;
 -- * neither a well-typed memory nor types are asked for: a run that is stuck is not done.
 abbrev pub Noninterference : {L : Type 0} → Conditions L → World → (L → Bool) → (ℕ → Bool) → Type 0
 Noninterference {L} K W vis shows = (pc : L) (c : Cmd) → flow K pc [] c ≡ true → (b b′ l l′ : ℕ) (M N M′ N′ : Mem)

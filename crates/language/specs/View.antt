@@ -24,8 +24,8 @@ mask shows blank = blank
 unfoldable pub maskMem : (ℕ → Bool) → (ℕ → Bool) → Mem → Mem
 maskMem sees shows M = λ x. seen (sees x) (mask shows (M x))
 
--- Figure 6. An observer is given by the labels that it sees, instead of by a label ℓ whose C the label of a package is or is
--- not below. Errors and blank are values here.
+-- Figure 6. An observer is given by the labels that it sees, instead of by a label ℓ (the figure asks ℓ₁ ≰ ℓ, its text C(ℓ₁) ≰ C(ℓ));
+-- here it is asked that ℓ₁ is not seen. Errors and blank are values here.
 pub data Equiv (shows : ℕ → Bool) : Value → Value → Type 0 where
   ve-int : {i : ℕ} → Equiv shows (int i) (int i)
   ve-err : {e : ℕ} → Equiv shows (err e) (err e)

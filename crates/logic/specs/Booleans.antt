@@ -1,5 +1,4 @@
 -- Truth values.
--- Assumes nothing.
 use mathlib.Core.Bool.{Bool, true, false}
 
 -- conjunction

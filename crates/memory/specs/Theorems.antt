@@ -15,7 +15,7 @@ use Rattle.memory.specs.Words.{enc, cell, readOf, valueOf}
 use Rattle.memory.specs.Memory.{memoryOf, wordsOf, proper, holdsBy, memoryRefusal}
 use Rattle.memory.specs.View.{seesNo, viewWords}
 
--- Words are read exactly if they are the words of a value.
+-- Reading gives back the value whose words stand there, and what it gives without a blank stands there; a cell is that of one value.
 pub record WordsExactly : Type 0 where
   pub read-back : (v : Value) (rest : List ℕ) → readOf (enc v rest) ≡ (v, rest)
   pub no-other : (labels : ℕ) (ws : List ℕ) → proper labels (valueOf ws) ≡ true → enc (valueOf ws) (readOf ws .1) ≡ ws

@@ -40,7 +40,7 @@ Settled ((k when P) ∷ rows) = P ⊎ ((¬ P) × Settled rows)
 abbrev pub ExactlyOne : {A : Type 0} → (A → Type 0) → Type 0
 ExactlyOne {A} P = (r : A) × P r × ((r′ : A) → P r′ → r ≡ r′)
 
--- There is exactly one answer by a table, if there is where no row applies.
+-- Where it is settled which row is the first to apply, there is exactly one answer by a table, if there is exactly one where none applies.
 abbrev pub ExactlyOneAnswer : Type 1
 ExactlyOneAnswer = (A : Type 0) (refuse : ℕ → A) (Else : A → Type 0) (rows : List Row) → Settled rows → (None rows → ExactlyOne Else)
     → ExactlyOne (First refuse Else rows)

@@ -23,27 +23,31 @@ use Rattle.desk.specs.Theorems.{GroupExact, BudgetExact, ShowInOrder, RunsPlain
 pub record Promises : Type 1 where
   -- ---- The three calls
 
-  -- Each call gives the first number that applies, in their order; after any call the lent memory holds a finished run's values or what it held before.
+  -- Each call gives the first number that applies, in their order; after any call the lent memory holds a finished run's
+  -- values or what it held before, and a refused call writes to no lent slice.
   pub demand-1 : Demand1
   -- Each call answers exactly what the papers say: the numbers, the typing rules, the memory and the step count of the evaluation rules.
   pub demand-2 : Demand2
   -- Noninterference: two done runs of an accepted script, from memories that give a group the same view, leave memories that do.
   pub demand-3 : Demand3
-  -- The scope's starred cases, all in one table.
+  -- The scope's starred cases, and its two of long values, in one table.
   pub cases-hold : CasesHold
-  -- Of any table of refusal numbers: the first that applies is given, it settles the whole answer, and there is exactly one answer.
+  -- Of any table of refusal numbers: the first that applies is given, and it settles the whole answer; there is exactly one answer where it is
+  -- settled which row applies first, and there is one where none does.
   pub every-table : EveryTable
   -- ---- The language
 
-  -- The functions agree with the figures; runs are determinate, sound and end as the figures have it; typing is exact; theorems 1 and 2 of the paper, noninterference, and confinement.
+  -- The functions agree with the figures; runs are determinate, sound and end as the figures have it; typing is exact; the paper's
+  -- theorems 1 and 2, noninterference, of one expression and of one command; confinement.
   pub theorems : Theorems
-  -- On every sheet the number that the checker's contract gives says which derivations a script has: 0, 5 or 6.
+  -- On every sheet the number that the checker's contract gives says which derivations a script has: 0 if there is one, 5 if there is
+  -- none even with the labels struck out, 6 otherwise.
   pub checker-exact : CheckerExact
   -- ---- Principals and labels
 
   -- A set of principals is a number whose bit p is principal p; the operations on numbers are those on sets.
   pub masks-are-sets : MasksAreSets
-  -- The labels of n principals are a bounded order with joins, and C and I are as the paper's section 2.2 has them.
+  -- The labels of up to 16 principals are a bounded order with joins; C, I, reading and writing obey the laws of the paper's section 2.2.
   pub security-lattices : SecurityLattices
   -- The lattice of two principals or more is not trivial.
   pub non-trivial : NonTrivial
@@ -81,7 +85,7 @@ pub record Promises : Type 1 where
   pub accepted-exact : AcceptedExact
   -- A sheet is refused by 2 exactly where it is of its form and repeats a type or a label.
   pub repeating-exact : RepeatingExact
-  -- A sheet is refused by 1 exactly where it is the printed form of none.
+  -- A text is refused by 1 exactly where it is the printed form of no sheet of the right form, or too long.
   pub malformed-exact : MalformedExact
   -- A text is that of one sheet at most.
   pub one-sheet : OneSheet
@@ -95,17 +99,17 @@ pub record Promises : Type 1 where
   pub reads-back : ReadsBack
   -- ---- Memories and views
 
-  -- Words are read exactly where they are the words of a value.
+  -- Words are read back as the value that they are the words of, and as no other.
   pub words-exactly : WordsExactly
   -- A location's words pass exactly if they are the cell of a proper value that passes the test.
   pub cell-exactly : CellExactly
   -- A memory is well-formed exactly if it is the words of values as the sheet declares them.
   pub memories-exactly : MemoriesExactly
-  -- Two memories give a group the same view exactly if their masked values are equal.
+  -- Two well-formed memories give a group the same view exactly if their masked values are equal.
   pub views-exactly : ViewsExactly
   -- ---- The programs
 
-  -- Texts joined by empty lines are the parts of the whole.
+  -- Texts of whole lines, none empty, and a last text, joined by empty lines, are the parts of the whole.
   pub joined-apart : JoinedApart
   -- Missing texts are empty.
   pub missing-empty : MissingEmpty
@@ -119,9 +123,9 @@ pub record Promises : Type 1 where
   pub budget-exact : BudgetExact
   -- Show prints the first number that applies, in the order 1 2 3 8, or the view.
   pub show-in-order : ShowInOrder
-  -- Where every text is of its form, run prints the run.
+  -- Where memory, authority and budget are of their forms, run prints the run, 8 standing for 7.
   pub runs-plain : RunsPlain
-  -- What is kept of the texts is enough.
+  -- The first 16,385 bytes of each text settle the output.
   pub kept-enough : KeptEnough
   -- What show's buffer holds of an input gives what the input gives.
   pub shows-input : ShowsInput

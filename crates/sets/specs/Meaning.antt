@@ -1,5 +1,4 @@
 -- What the masks mean as sets of principals. `masks-are-sets` in proofs/MeaningLaws.antt shows it.
--- Assumes nothing.
 use mathlib.Core.Path.{_≡_}
 use mathlib.Core.Bool.{true}
 use mathlib.Core.Logic.{_↔_}

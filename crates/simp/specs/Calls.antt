@@ -16,7 +16,7 @@ use Rattle.script_text.specs.Script.{countsOf, scriptOf}
 use Rattle.memory.specs.Memory.{memoryOf, wordsOf, memoryRefusal}
 use Rattle.memory.specs.View.{viewWords, viewRefusal}
 
--- ---- in the order of the numbers; `refuse` says what a number leads to. (7 and 8 are crate memory's: memoryRefusal, viewRefusal.)
+-- ---- in the order judged; `refuse` says what a number leads to. (7 and 8 are crate memory's: memoryRefusal, viewRefusal.)
 
 -- 1, 2
 unfoldable pub onSheet : {A : Type 0} → (ℕ → A) → Answer → (Sheet → A) → A

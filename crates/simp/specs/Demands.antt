@@ -24,7 +24,7 @@ pub record Finished (sheet script memory : List ℕ) (authority budget steps : �
   pub within : steps ≤ budget
 
 -- What a run answers and leaves, whatever it is given: one of its numbers; the memory as it was, unless it is done; and beside 1 to 8
--- no steps, beside 9 as many as the budget, beside 10 fewer.
+-- no steps, beside 9 as many as the budget, beside 10 fewer (how many, `Ends` says).
 pub record RunAnswers (memory : List ℕ) (budget : ℕ) (r : Ran) : Type 0 where
   pub number : Among (0 ∷ 1 ∷ 2 ∷ 3 ∷ 4 ∷ 5 ∷ 6 ∷ 7 ∷ 8 ∷ 9 ∷ 10 ∷ []) (r .answer)
   pub kept : ¬ (r .answer ≡ 0) → r .memory ≡ memory
@@ -40,7 +40,8 @@ pub record ViewAnswers (view : List ℕ) (v : Viewed) : Type 0 where
 -- the lent memory holds the finished run's values or exactly what it held before; a refused call writes to no lent slice.
 -- That a call ends is proved with each function; simp_check is lent nothing to write, and simp_view is lent its memory for reading.
 pub record Demand1 : Type 1 where
-  -- the number given applies, and none that comes before it in the order does (crate numbers' FirstThatAppliesIsGiven, of each table)
+  -- the number given applies, and none that comes before it in the order does (crate numbers' FirstThatAppliesIsGiven, of each table);
+  -- when a run's 9 and 10 apply, and its steps beside 10, is in run-number
   pub check-order : (sheet script : List ℕ) → GivenInOrder (checkRows sheet script) (checkOf sheet script)
   pub run-order : (sheet script memory : List ℕ) (authority budget : ℕ)
       → GivenInOrder (runRows sheet script memory authority) (runOf sheet script memory authority budget .answer)

@@ -42,7 +42,8 @@ Principals s group = within group (everyone (s .principals)) ≡ true
 abbrev pub Sized : Sheet → List ℕ → Type 0
 Sized s words = length words ≡ cell-words * locationCount s
 
--- ---- of the texts: a text is that of one sheet at most (crate sheet_text's OneSheet), and a script of one command at most
+-- ---- of the texts: a text is that of one sheet at most (crate sheet_text's OneSheet), and of one command at most
+-- (its ScriptExact)
 
 -- The text is that of a sheet, and P holds of that sheet.
 abbrev pub OfSheet : List ℕ → (Sheet → Type 0) → Type 0
@@ -114,7 +115,8 @@ runRows sheet script memory authority =
     ∷ 8 when IllFormed sheet memory
     ∷ []
 
--- How a run of c on s goes, by figure 3 under the authority: what is answered, and what the lent memory then holds.
+-- How a run of c on s goes, by figure 3 under the authority: what is answered, and what the lent memory then holds. It is the language's
+-- RunEnds, in numbers and words.
 pub data Ends (s : Sheet) (c : Cmd) (memory : List ℕ) (authority budget : ℕ) : Ran → Type 0 where
   -- done: skip after k transitions
   ends-0 : {M′ : Mem} {k : ℕ} → k ≤ budget → Steps (worldOf s authority) k (memoryOf memory) c M′ skip → NoneLong (worldOf s authority) k (memoryOf memory) c

@@ -10,14 +10,14 @@ use Rattle.text.specs.Reading.{Read}
 use Rattle.text.specs.Reading.Read.{got, bad}
 use Rattle.text.proofs.Readings.{not-bad}
 use Rattle.logic.proofs.OptionLaws.{none-some}
-use Rattle.numbers.specs.Rows.{Row, _when_, numbers, First, Among, here, later}
-use Rattle.numbers.proofs.RowLaws.{by-rows, exactly}
+use Rattle.numbers.specs.Rows.{Row, _when_, First}
+use Rattle.numbers.proofs.RowLaws.{exactly}
 use Rattle.memory.specs.View.{viewWords}
 use Rattle.memory_text.specs.Printing.{memoryText}
 use Rattle.memory_text.specs.Reading.{memory}
 use Rattle.memory_text.proofs.Memories.{memory-exact, memory-sound}
 use Rattle.simp.specs.Calls.{Viewed, refusedView, viewOf}
-use Rattle.simp.specs.Judgements.{OfSheet, NoSheet, Repeats, Strangers, OtherSize, IllFormed, Sized, viewRows, View}
+use Rattle.simp.specs.Judgements.{OfSheet, Strangers, OtherSize, IllFormed, View}
 use Rattle.simp.proofs.Judged.{its}
 use Rattle.simp.proofs.SecondDemand.{demand-2}
 use Rattle.desk.specs.Fields.{groupOf, groupAnswer}
@@ -93,19 +93,12 @@ module _ (sheet text group ws : List ℕ) (g : ℕ) where
       go (inr (n, inr (m, h))) = inr (n, inr (m, k h))
 
   -- a group that isn't of its form
-  three : {k : ℕ} → Among (3 ∷ 7 ∷ 8 ∷ []) k → said 3 (refusedView zeros k) ≡ numberLine 3
-  unfolding viewText earlier placeIn asText
-  three here = refl
-  three (later here) = refl
-  three (later (later here)) = refl
-
-  said-3 : Seen past-2 → said 3 view ≡ numberLine 3
-  unfolding numbers viewText earlier placeIn asText
-  said-3 = by-rows (refusedView zeros) Views (λ v. said 3 v ≡ numberLine 3) past-2 (λ k i p. three i) (λ v n e. ap (said 3) (e .2)) view
-
   no-group : (c : Bool) → NoGroup group → Seen past-2 → Said (group-rows sheet text group) (unread false c)
-  unfolding First unread
-  no-group c n h = inl (inl n, said-3 h)
+  unfolding First viewText earlier placeIn asText unread
+  no-group c n (inl (a, e)) = inl (inl n, ap (said 3) e)
+  no-group c n (inr (m, inl (a, e))) = inl (inl n, ap (said 3) e)
+  no-group c n (inr (m, inr (l, inl (a, e)))) = inl (inl n, ap (said 3) e)
+  no-group c n (inr (m, inr (l, inr (k, h)))) = inl (inl n, ap (said 3) (h .2))
 
   -- a group that is
   module _ (i : IsGroup group g) where

@@ -12,7 +12,7 @@ use Rattle.script.specs.Lines.{Source}
 use Rattle.sheet.specs.Sheet.{Sheet, formed, repeats}
 use Rattle.sheet.specs.Tables.{tableOf}
 use Rattle.sheet.specs.Meaning.{labelsOver, declarationsOf}
-use Rattle.sheet.proofs.MeaningLaws.{labels-lattice}
+use Rattle.sheet.proofs.MeaningLaws.{least-label-laws}
 use Rattle.checker.specs.declared.Passed.{Passed}
 use Rattle.checker.specs.Numbers.{shapeNo, conditionsOn}
 use Rattle.checker.specs.Bindings.{upTo, bindingsSize}
@@ -48,5 +48,5 @@ check-answers ws t {x = x} cx e room =
 
 pub checker-exact : CheckerExact
 checker-exact s c =
-    let x = exactness (labelsOver (s .principals)) (labels-lattice (s .principals)) (declarationsOf s) in
+    let x = exactness (labelsOver (s .principals)) (least-label-laws (s .principals)) (declarationsOf s) in
     record { accepted = x .accepted c; refused-5 = x .refused-5 c; refused-6 = x .refused-6 c }

@@ -5,7 +5,7 @@ use Rattle.labels.proofs.LatticeLaws.{security-lattices, non-trivial, one-label
 use Rattle.labels.proofs.ReadingLaws.{empty-groups}
 use Rattle.labels.proofs.PolicyLaws.{policies-effective}
 use Rattle.language.proofs.Theorems.{theorems}
-use Rattle.sheet.proofs.MeaningLaws.{labels-lattice, same-labels-on-sheets, numbers-agree-on-sheets}
+use Rattle.sheet.proofs.MeaningLaws.{least-label-laws, same-labels-on-sheets, numbers-agree-on-sheets}
 use Rattle.text.proofs.Decimals.{number-exact}
 use Rattle.text.proofs.Sets.{set-exact}
 use Rattle.text.proofs.Fields.{number-field-exact, set-field-exact, line-end-exact, last-number-exact}
@@ -44,7 +44,7 @@ promises = record {
   one-label = one-label;
   empty-groups = empty-groups;
   policies-effective = policies-effective;
-  labels-lattice = labels-lattice;
+  least-label-laws = least-label-laws;
   same-labels-on-sheets = same-labels-on-sheets;
   numbers-agree-on-sheets = numbers-agree-on-sheets;
   number-exact = number-exact;

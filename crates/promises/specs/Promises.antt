@@ -5,7 +5,7 @@ use Prim.Native.Nat.{ℕ}
 use Rattle.sets.specs.Meaning.{MasksAreSets}
 use Rattle.labels.specs.Lattice.{SecurityLattices, NonTrivial, OneLabel, EmptyGroups, PoliciesEffective}
 use Rattle.language.specs.Theorems.{Theorems}
-use Rattle.sheet.specs.Theorems.{LabelsLattice, SameLabelsOnSheets, NumbersAgreeOnSheets}
+use Rattle.sheet.specs.Theorems.{LeastLabelLawsHold, SameLabelsOnSheets, NumbersAgreeOnSheets}
 use Rattle.text.specs.Reading.{Read}
 use Rattle.text.specs.Lines.{LineForm}
 use Rattle.text.specs.Theorems.{NumberExact, SetExact, NumberFieldExact, SetFieldExact, LineEndExact, LastNumberExact, LinesExact, AllLinesExact}
@@ -58,7 +58,7 @@ pub record Promises : Type 1 where
   -- The label of policies that name only the n principals is effective.
   pub policies-effective : PoliciesEffective
   -- The labels that a sheet's scripts are typed over obey the laws that exact typing asks for.
-  pub labels-lattice : LabelsLattice
+  pub least-label-laws : LeastLabelLawsHold
   -- Typing and running go by the same labels of a sheet.
   pub same-labels-on-sheets : SameLabelsOnSheets
   -- On a sheet that repeats nothing, equal numbers and equal meaning agree.

@@ -15,14 +15,14 @@ use Rattle.labels.proofs.LatticeLaws.{effective-path}
 use Rattle.sheet.specs.Sheet.{Sheet, labelNo, locationNo, formed}
 use Rattle.sheet.specs.Tables.{tableOf, belowIn, readsIn, writesIn}
 use Rattle.sheet.specs.Meaning.{effectiveIf, effectively, declarationsOf, belowNo, readsNo, writesNo}
-use Rattle.sheet.specs.Theorems.{LabelsLattice, SameLabelsOnSheets, NumbersAgreeOnSheets}
+use Rattle.sheet.specs.Theorems.{LeastLabelLawsHold, SameLabelsOnSheets, NumbersAgreeOnSheets}
 use Rattle.sheet.proofs.RepeatLaws.{label-once}
 use Rattle.sheet.proofs.TypeLaws.{ty-once}
 use Rattle.sheet.proofs.TableLaws.{principals-in}
 use Rattle.sheet.proofs.LabelLaws.{label-no-effective, label-in}
 
-pub labels-lattice : LabelsLattice
-labels-lattice n =
+pub least-label-laws : LeastLabelLawsHold
+least-label-laws n =
     let whole : (a : EffectiveLabel n) → wholeOf (a .raw) ≡ true = λ a. effect.effective-whole n (a .raw) (a .ok) in
     record {
       leq-refl = λ a. order.below-refl (a .raw);

@@ -1,4 +1,4 @@
--- What is claimed of a sheet's labels and numbers. The proofs are `labels-lattice`, `same-labels-on-sheets` and
+-- What is claimed of a sheet's labels and numbers. The proofs are `least-label-laws`, `same-labels-on-sheets` and
 -- `numbers-agree-on-sheets` (proofs/MeaningLaws.antt).
 use mathlib.Core.Path.{_≡_}
 use mathlib.Core.Bool.{true, false}
@@ -9,8 +9,8 @@ use Rattle.sheet.specs.Sheet.{Sheet, tyOf, typeCount, labelNo, labelCoun
 use Rattle.sheet.specs.Meaning.{labelsOver, declarationsOf}
 
 -- The labels of n principals satisfy the laws that make least labels exact.
-abbrev pub LabelsLattice : Type 0
-LabelsLattice = (n : ℕ) → LeastLabelLaws (labelsOver n)
+abbrev pub LeastLabelLawsHold : Type 0
+LeastLabelLawsHold = (n : ℕ) → LeastLabelLaws (labelsOver n)
 
 -- Typing and running go by the same labels: every label of the sheet is one of its principals, so that what typing takes it for is
 -- the label itself.

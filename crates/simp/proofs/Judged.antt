@@ -13,7 +13,7 @@ use Rattle.language.specs.Typing.{refusal}
 use Rattle.language.proofs.Exactness.{shape-iff, flow-iff}
 use Rattle.sheet.specs.Sheet.{Sheet, repeats}
 use Rattle.sheet.specs.Meaning.{labelsOver, declarationsOf}
-use Rattle.sheet.proofs.MeaningLaws.{labels-lattice}
+use Rattle.sheet.proofs.MeaningLaws.{least-label-laws}
 use Rattle.sheet_text.specs.Sheets.{Answer, malformed, repeating, accepted, sheetOf}
 use Rattle.sheet_text.specs.Theorems.{IsSheet}
 use Rattle.sheet_text.proofs.Theorems.{accepted-exact, repeating-exact, malformed-exact, one-sheet}
@@ -104,7 +104,7 @@ module _ {A : Type 0} (refuse : ℕ → A) (Else : A → Type 0) where
     unfolding unless untyped refusal
     past-6 script c go i k =
         let D = declarationsOf s in
-        let typed = flow-iff (labelsOver (s .principals)) (labels-lattice (s .principals)) D (labelsOver (s .principals) .bot) c in
+        let typed = flow-iff (labelsOver (s .principals)) (least-label-laws (s .principals)) D (labelsOver (s .principals) .bot) c in
         tests _ 5 _ go _ refl (λ f. (s, h .form, (c, i, λ d. fails f (shape-iff D c .1 d)))) λ t.
         row 5 _ _ (λ o. their (λ z d. ¬ TypableUnlabelled z d) h i o (shape-iff D c .0 t))
         (tests _ 6 0 go rows refl (λ f. (s, h .form, (c, i, λ d. fails f (typed .1 d .1)))) λ u.

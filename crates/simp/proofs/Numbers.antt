@@ -10,7 +10,7 @@ use Rattle.language.specs.Typing.{shape}
 use Rattle.language.proofs.Exactness.{flow-iff, exactness}
 use Rattle.sheet.specs.Sheet.{Sheet}
 use Rattle.sheet.specs.Meaning.{labelsOver, declarationsOf, shapesOf}
-use Rattle.sheet.proofs.MeaningLaws.{labels-lattice}
+use Rattle.sheet.proofs.MeaningLaws.{least-label-laws}
 use Rattle.memory.specs.Memory.{wellFormed, sliceRefusal, refusalBy, memoryRefusal}
 use Rattle.memory.specs.View.{viewRefusal}
 use Rattle.simp.specs.Calls.{strangers, untyped}
@@ -25,15 +25,15 @@ module _ (s : Sheet) where
   -- 5 and 6
   pub typable-0 : (c : Cmd) → Typable s c → untyped s c ≡ 0
   unfolding untyped
-  typable-0 c = exactness (labelsOver (s .principals)) (labels-lattice (s .principals)) (declarationsOf s) .accepted c .1
+  typable-0 c = exactness (labelsOver (s .principals)) (least-label-laws (s .principals)) (declarationsOf s) .accepted c .1
 
   pub 0-typable : (c : Cmd) → untyped s c ≡ 0 → Typable s c
   unfolding untyped
-  0-typable c = exactness (labelsOver (s .principals)) (labels-lattice (s .principals)) (declarationsOf s) .accepted c .0
+  0-typable c = exactness (labelsOver (s .principals)) (least-label-laws (s .principals)) (declarationsOf s) .accepted c .0
 
   -- an accepted script passes the test on types
   pub typable-shape : (c : Cmd) → Typable s c → shape (shapesOf s) [] c ≡ true
-  typable-shape c h = flow-iff (labelsOver (s .principals)) (labels-lattice (s .principals)) (declarationsOf s) (labelsOver (s .principals) .bot) c .1 h .0
+  typable-shape c h = flow-iff (labelsOver (s .principals)) (least-label-laws (s .principals)) (declarationsOf s) (labelsOver (s .principals) .bot) c .1 h .0
 
   -- 7 and 8
   pub sized-0 : (ws : List ℕ) → Sized s ws → wellFormed s ws ≡ true → memoryRefusal s ws ≡ 0

@@ -16,7 +16,7 @@ use Rattle.language.proofs.Observers.{law-joins, reader}
 use Rattle.sheet.specs.Sheet.{Sheet, formed}
 use Rattle.sheet.specs.Meaning.{labelsOver, declarationsOf, worldOf, readsNo}
 use Rattle.sheet.proofs.FormLaws.{formed-facts}
-use Rattle.sheet.proofs.MeaningLaws.{labels-lattice, declared-label, declared-home}
+use Rattle.sheet.proofs.MeaningLaws.{least-label-laws, declared-label, declared-home}
 use Rattle.memory.specs.View.{seesNo}
 use Rattle.simp.specs.Judgements.{Typable}
 
@@ -39,7 +39,7 @@ module _ (s : Sheet) (fm : formed s ≡ true) (group : ℕ) where
   observer : (authority : ℕ) → Observer (conditions (labelsOver (s .principals)) (declarationsOf s)) (worldOf s authority) vis (λ l. vis (declarationsOf s .label l))
   observer authority =
       let 𝓛 = labelsOver (s .principals) in
-      reader 𝓛 (declarationsOf s) (worldOf s authority) vis (law-joins 𝓛 (labels-lattice (s .principals)))
+      reader 𝓛 (declarationsOf s) (worldOf s authority) vis (law-joins 𝓛 (least-label-laws (s .principals)))
       (λ a b h. reads-down (s .principals) few group (a .raw) (b .raw) h)
       (λ m l. rw (declared-label s fm m, declared-label s fm l) refl)
       (λ a b h. reads-down-C (s .principals) few group (a .raw) (b .raw) h)
@@ -59,4 +59,4 @@ module _ (s : Sheet) (fm : formed s ≡ true) (group : ℕ) where
       let D = declarationsOf s in
       subst₂ (Alike M′ N′) sees-is shows-is
       (noninterference (conditions 𝓛 D) (worldOf s authority) vis (λ k. vis (D .label k)) (observer authority) (𝓛 .bot) c
-      (flow-iff 𝓛 (labels-lattice (s .principals)) D (𝓛 .bot) c .1 t .1) b b′ l l′ M N M′ N′ (subst₂ (Alike M N) (sym sees-is) (sym shows-is) h) p q)
+      (flow-iff 𝓛 (least-label-laws (s .principals)) D (𝓛 .bot) c .1 t .1) b b′ l l′ M N M′ N′ (subst₂ (Alike M N) (sym sees-is) (sym shows-is) h) p q)

@@ -21,7 +21,7 @@ use Rattle.simp.specs.Judgements.{OfSheet, Strangers, OtherSize, IllFormed, Vie
 use Rattle.simp.proofs.Judged.{its}
 use Rattle.simp.proofs.SecondDemand.{demand-2}
 use Rattle.desk.specs.Fields.{groupOf, groupAnswer}
-use Rattle.desk.specs.Numbers.{placeIn, earlier, unread, asText}
+use Rattle.desk.specs.Numbers.{placeOf, earlier, unread, asText}
 use Rattle.desk.specs.Given.{wordsRead, isRead, givenFrom, givenOf}
 use Rattle.desk.specs.Output.{numberLine}
 use Rattle.desk.specs.Show.{viewText, viewed, showOf}
@@ -77,7 +77,7 @@ module _ (sheet text group ws : List ℕ) (g : ℕ) where
 
   -- 1 and 2 come before the number of a text
   sheet-first : (b c : Bool) → (said (unread b c) (refusedView zeros 1) ≡ numberLine 1) × (said (unread b c) (refusedView zeros 2) ≡ numberLine 2)
-  unfolding viewText earlier placeIn asText unread
+  unfolding viewText earlier placeOf asText unread
   sheet-first true true = (refl, refl)
   sheet-first true false = (refl, refl)
   sheet-first false true = (refl, refl)
@@ -94,7 +94,7 @@ module _ (sheet text group ws : List ℕ) (g : ℕ) where
 
   -- a group that isn't of its form
   no-group : (c : Bool) → NoGroup group → Seen past-2 → Said (group-rows sheet text group) (unread false c)
-  unfolding First viewText earlier placeIn asText unread
+  unfolding First viewText earlier placeOf asText unread
   no-group c n (inl (a, e)) = inl (inl n, ap (said 3) e)
   no-group c n (inr (m, inl (a, e))) = inl (inl n, ap (said 3) e)
   no-group c n (inr (m, inr (l, inl (a, e)))) = inl (inl n, ap (said 3) e)
@@ -103,7 +103,7 @@ module _ (sheet text group ws : List ℕ) (g : ℕ) where
   -- a group that is
   module _ (i : IsGroup group g) where
     three-first : (c : Bool) → said (unread true c) (refusedView zeros 3) ≡ numberLine 3
-    unfolding viewText earlier placeIn asText unread
+    unfolding viewText earlier placeOf asText unread
     three-first true = refl
     three-first false = refl
 
@@ -115,14 +115,14 @@ module _ (sheet text group ws : List ℕ) (g : ℕ) where
 
     -- a memory that isn't of its form
     no-memory : NoMemory text → Seen past-3 → Said (memory-rows sheet text group) 8
-    unfolding First viewText earlier placeIn asText
+    unfolding First viewText earlier placeOf asText
     no-memory n (inl (a, e)) = inl (inl n, ap (said 8) e)
     no-memory n (inr (m, inl (a, e))) = inl (inl n, ap (said 8) e)
     no-memory n (inr (m, inr (l, h))) = inl (inl n, ap (said 8) (h .2))
 
     -- and one that is
     on-memory : IsMemoryText text ws → Seen past-3 → Said (memory-rows sheet text group) 0
-    unfolding First viewText earlier placeIn asText
+    unfolding First viewText earlier placeOf asText
     on-memory j (inl (inl a, e)) = inl (inr (ws, j, inl a), ap (said 0) e)
     on-memory j (inl (inr (s, f, a), e)) = inl (inr (ws, j, inl (s, f, λ z. a (length-replicate {A = ℕ} (length ws) 0 ∙ z))), ap (said 0) e)
     on-memory j (inr (m, inl (a, e))) = inl (inr (ws, j, inr a), ap (said 0) e)

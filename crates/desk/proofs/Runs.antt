@@ -17,7 +17,7 @@ use Rattle.simp.specs.Calls.{Ran, runOf}
 use Rattle.desk.specs.declared.Given.{Given}
 use Rattle.desk.specs.declared.Budget.{Budget}
 use Rattle.desk.specs.Fields.{groupOf, groupAnswer, budgetOf, budgetAnswer}
-use Rattle.desk.specs.Numbers.{order, placeIn, earlier, unread, asText}
+use Rattle.desk.specs.Numbers.{order, placeOf, earlier, unread, asText}
 use Rattle.desk.specs.Given.{wordsRead, isRead, givenFrom, givenOf, givenWords}
 use Rattle.desk.specs.Run.{outcomeLine, ranText, adjusted, ranOn, noBudget, runTextOf}
 use Rattle.desk.specs.Theorems.{RunsPlain}
@@ -47,18 +47,18 @@ module _ (sheet script text authority budget : List ℕ) (b : Budget) (eb : b �
 
 -- a run whose texts are all of their form
 plain-seven : (r : Ran) (ws : List ℕ) → r .answer ≡ 7 → ranText (adjusted r ws 0) ≡ outcomeLine 8 0 (memoryText ws)
-unfolding adjusted ranText earlier placeIn asText
+unfolding adjusted ranText earlier placeOf asText
 plain-seven r ws e = rw e
 
 -- no number comes before 0
-place-within : (ns : List ℕ) (k : ℕ) → placeIn ns k ≤ length ns
-unfolding placeIn
+place-within : (ns : List ℕ) (k : ℕ) → placeOf ns k ≤ length ns
+unfolding placeOf
 place-within [] k = omega arith
 place-within (n ∷ ns) k = cases (eqb k n) (λ e. rw e (omega arith)) (λ e. rw e (omega (arith, place-within ns k)))
 
 none-earlier : (k : ℕ) → earlier k 0 ≡ k
-unfolding earlier placeIn
-none-earlier k = rw (le-ltb 8 (placeIn order k) (place-within order k))
+unfolding earlier placeOf
+none-earlier k = rw (le-ltb 8 (placeOf order k) (place-within order k))
 
 plain-other : (r : Ran) (ws : List ℕ) → (r .answer ≡ 7 → ⊥) → ranText (adjusted r ws 0) ≡ ranText r
 unfolding adjusted asText

@@ -10,13 +10,13 @@ abbrev pub order : List ℕ
 order = 1 ∷ 2 ∷ 3 ∷ 4 ∷ 5 ∷ 6 ∷ 7 ∷ 8 ∷ []
 
 -- the place of a number in an order; what isn't in it comes after all of it: 0, which is no number, and 9 and 10, which follow the run
-unfoldable pub placeIn : List ℕ → ℕ → ℕ
-placeIn [] k = 0
-placeIn (n ∷ ns) k = cond (eqb k n) 0 (suc (placeIn ns k))
+unfoldable pub placeOf : List ℕ → ℕ → ℕ
+placeOf [] k = 0
+placeOf (n ∷ ns) k = cond (eqb k n) 0 (suc (placeOf ns k))
 
 -- b where it comes before a in the order, else a
 unfoldable pub earlier : ℕ → ℕ → ℕ
-earlier a b = cond (ltb (placeIn order b) (placeIn order a)) b a
+earlier a b = cond (ltb (placeOf order b) (placeOf order a)) b a
 
 -- 3 where the text of the group isn't of its form, else 8 where that of the memory isn't, else 0
 unfoldable pub unread : Bool → Bool → ℕ

@@ -1,8 +1,8 @@
 -- The table of a memory as the code fills it, location by location. Assumes nothing.
 use Prim.Native.Nat.{ℕ, suc, _+_, _*_, _-_, _/_, _≤_, _<_}
 use native.Mathlib.Omega.{arith}
-use mathlib.Core.Path.{_≡_, refl, sym, ap, _∙_}
-use mathlib.Core.Bool.{true, false, true≢false, false≢true}
+use mathlib.Core.Path.{_≡_, refl, ap}
+use mathlib.Core.Bool.{true, false}
 use mathlib.Core.List.{List}
 use mathlib.Core.Option.{Option, none, some}
 use lib.ListN.{length, drop, replicate}
@@ -17,10 +17,11 @@ use Rattle.language.specs.World.{cell-words}
 use Rattle.sheet.specs.Sheet.{maxLocations}
 use Rattle.memory_text.specs.Sizes.{memoryWords}
 use Rattle.memory_text.specs.declared.Memory.{Memory}
-use Rattle.memory_text.specs.declared.Row.{Row}
+use Rattle.memory_text.specs.declared.Answer.the-variants as answer
+use Rattle.memory_text.specs.declared.Reached.{Reached}
 use Rattle.sheet.specs.Tables.{padded}
 use Rattle.memory_text.specs.Reading.{location, joined, wordsOf, locations, memory}
-use Rattle.memory_text.specs.Answers.{rowIn, table, memoryOf}
+use Rattle.memory_text.specs.Answers.{locationAt, table, memoryOf}
 use Rattle.memory_text.proofs.Lines.{memory-lines}
 use Rattle.memory_text.proofs.Memories.{rows-sound}
 
@@ -76,17 +77,17 @@ module _ (n : ℕ) (words s : List ℕ) (i : ℕ) where
           (tabled-front n words row _ (line-sound memory-lines (drop i s) row (drop p s) e .1 .0))
 
 -- what the answer for a line says of the line
-module _ (s : List ℕ) (i : ℕ) (r : Row) (e : r ≡ rowIn s (location (drop i s))) where
-  pub row-on : r .ok ≡ true → location (drop i s) ≡ got (r .words) (drop (r .next) s)
+module _ (s : List ℕ) (i : ℕ) (r : Reached) (e : r ≡ locationAt s i) where
+  pub row-on : r .row .answer ≡ answer.Read → location (drop i s) ≡ got (r .row .words) (drop (r .at) s)
   row-on o =
       placed-split _ _ s i _ r (line-within memory-lines (drop i s)) e
-      (λ row p x l y. let a : r .words ≡ row = ap (λ (q : Row). q .words) y in let b : r .next ≡ p = ap (λ (q : Row). q .next) y in rw (a, b) x)
-      (λ x y. absurd (false≢true (sym (ap (λ (q : Row). q .ok) y) ∙ o)))
+      (λ row p x l y. rw y x)
+      (λ x y. let f : r .row .answer ≡ answer.Refused = ap (λ (q : Reached). q .row .answer) y in let z : _≡_ {A = ℕ} 0 1 = cc in absurd (omega arith))
 
-  pub row-off : r .ok ≡ false → location (drop i s) ≡ bad
+  pub row-off : r .row .answer ≡ answer.Refused → location (drop i s) ≡ bad
   row-off o =
       placed-split _ _ s i _ r (line-within memory-lines (drop i s)) e
-      (λ row p x l y. absurd (true≢false (sym (ap (λ (q : Row). q .ok) y) ∙ o)))
+      (λ row p x l y. let f : r .row .answer ≡ answer.Read = ap (λ (q : Reached). q .row .answer) y in let z : _≡_ {A = ℕ} 0 1 = cc in absurd (omega arith))
       (λ x y. x)
 
 -- a text that fits, and one that is too long

@@ -2,7 +2,7 @@
 use Prim.Native.Nat.{ℕ, _/_, _%_}
 use mathlib.Core.Bool.{Bool, true, false, cond}
 use mathlib.Core.List.{List}
-use lib.ListN.{length, replicate}
+use lib.ListN.{length, drop, replicate}
 use lib.Seq.{sets}
 use lib.Dec.{eqb, leb}
 use Rattle.text.specs.Reading.{Read}
@@ -11,16 +11,22 @@ use Rattle.text.specs.Place.{placed}
 use Rattle.language.specs.World.{cell-words}
 use Rattle.memory_text.specs.Sizes.{memoryWords, lineRoom}
 use Rattle.memory_text.specs.declared.Memory.{Memory}
-use Rattle.memory_text.specs.declared.Row.{Row}
+use Rattle.memory_text.specs.declared.Answer.the-variants as answer
+use Rattle.memory_text.specs.declared.Reached.{Reached}
 use Rattle.memory_text.specs.Printing.{memoryText}
 use Rattle.sheet.specs.Tables.{padded}
-use Rattle.memory_text.specs.Reading.{memory}
+use Rattle.memory_text.specs.Reading.{location, memory}
 use Rattle.logic.specs.Booleans.{both}
 
--- a location that is read in s, or the refusal
-abbrev pub rowIn : List ℕ → Read (List ℕ) → Row
-rowIn s want =
-    placed (λ ws p. record { ok = true; next = p; words = ws }) (record { ok = false; next = 0; words = replicate cell-words 0 }) s want
+-- a location that is read in s at byte i, with the place after it; after a refusal, i itself
+abbrev pub placedRow : ℕ → List ℕ → Read (List ℕ) → Reached
+placedRow i s want =
+    placed (λ ws p. record { row = record { answer = answer.Read; words = ws }; at = p })
+    (record { row = record { answer = answer.Refused; words = replicate cell-words 0 }; at = i }) s want
+
+-- the location whose line stands at byte i of s
+abbrev pub locationAt : List ℕ → ℕ → Reached
+locationAt s i = placedRow i s (location (drop i s))
 
 -- the number of locations and their words, with zeros up to 64 locations, or the refusal
 unfoldable pub table : Read (List ℕ) → Memory

@@ -3,8 +3,6 @@ pub mod write; // write.rt: a memory into a buffer
 
 use memory::CELL;
 use reader::Reader;
-use reader::reader_of;
-use reader::rest;
 use text::Place;
 use text::Value;
 ghost use mathlib.Core.Path.{_≡_};
@@ -15,8 +13,8 @@ ghost use lib.Seq.{sets};
 ghost use Rattle.text.specs.Reading.Read.{bad};
 ghost use Rattle.language.specs.World.{cell-words};
 ghost use Rattle.sheet.specs.Sheet.{maxLocations};
-ghost use Rattle.memory_text.specs.Reading.{lineWords, location as locationOf, locations as locationsOf};
-ghost use Rattle.memory_text.specs.Answers.{rowIn, table, memoryOf};
+ghost use Rattle.memory_text.specs.Reading.{lineWords, locations as locationsOf};
+ghost use Rattle.memory_text.specs.Answers.{placedRow, locationAt, table, memoryOf};
 
 // The most locations of a sheet.
 pub const LOCATIONS: usize = 64;
@@ -31,71 +29,116 @@ pub struct Memory {
     pub words: [u32; WORDS],
 }
 
-// The words of a location and the place after its line; or a refusal.
-struct Row {
-    ok: bool,
-    next: usize,
-    words: [u32; CELL],
+// Whether a line is read, or refused.
+pub enum Answer {
+    Read,
+    Refused,
 }
 
-// The refusal of a line.
-fn no_row() -> Row
-    ensures { λ r. ⌜ ((s : List ℕ) → r ≡ rowIn s bad) ⌝ }
+// The words of a location; or a refusal, with zeros.
+pub struct Row {
+    pub answer: Answer,
+    pub words: [u32; CELL],
+}
+
+// What was read, and the byte after it; after a refusal, the byte itself.
+struct Reached {
+    row: Row,
+    at: usize,
+}
+
+// What was read, and the reader after it.
+pub struct Next<'a> {
+    pub row: Row,
+    pub rest: Reader<'a>,
+}
+
+// The refusal of a line at `at`.
+fn no_row(at: usize) -> Reached
+    ensures { λ r. ⌜ ((s : List ℕ) → r ≡ placedRow at s bad) ⌝ }
 {
-    Row {
-        ok: false,
-        next: 0,
+    let row = Row {
+        answer: Answer::Refused,
         words: [0u32; CELL],
-    }
+    };
+    Reached { row, at }
 }
 
 // The words of a line that is not empty: at most 16, the last not zero.
-fn line_words(s: &[u8], at: usize) -> Row
-    ensures { λ r. ⌜ r ≡ rowIn (now (s .entry)) (lineWords (drop at (now (s .entry)))) ⌝ }
+fn line_words(s: &[u8], at: usize) -> Reached
+    ensures { λ r. ⌜ r ≡ placedRow at (now (s .entry)) (lineWords (drop at (now (s .entry)))) ⌝ }
 {
     let mut words = [0u32; CELL];
     let mut p = at;
     let mut i: usize = 0;
     while i < CELL {
         let Value::At(v, q) = text::number(s, p, text::MOST) else {
-            return no_row();
+            return no_row(at);
         };
         if s.len() <= q {
-            return no_row();
+            return no_row(at);
         }
         let e = s[q];
         words[i] = v;
         if e == b'\n' {
             if v == 0 {
-                return no_row();
+                return no_row(at);
             }
-            return Row {
-                ok: true,
-                next: q + 1,
+            let row = Row {
+                answer: Answer::Read,
                 words,
             };
+            return Reached { row, at: q + 1 };
         }
         if e == b'\t' {
             i += 1;
             p = q + 1;
         } else {
-            return no_row();
+            return no_row(at);
         }
     }
-    no_row()
+    no_row(at)
 }
 
 // The words of the location whose line stands at `at`; an empty line is 16 zeros.
-fn location(s: &[u8], at: usize) -> Row
-    ensures { λ r. ⌜ r ≡ rowIn (now (s .entry)) (locationOf (drop at (now (s .entry)))) ⌝ }
+fn location(s: &[u8], at: usize) -> Reached
+    ensures { λ r. ⌜ r ≡ locationAt (now (s .entry)) at ⌝ }
 {
     match text::line_end(s, at) {
-        Place::At(p) => Row {
-            ok: true,
-            next: p,
-            words: [0u32; CELL],
-        },
+        Place::At(p) => {
+            let row = Row {
+                answer: Answer::Read,
+                words: [0u32; CELL],
+            };
+            Reached { row, at: p }
+        }
         Place::Bad => line_words(s, at),
+    }
+}
+
+// The location whose line a reader has before it, and the reader after it.
+pub fn next_location<'a>(r: Reader<'a>) -> Next<'a>
+    ensures { λ n. ⌜ (record { row = n .row; at = n .rest .at } ≡ locationAt (now (r .entry .text)) (r .entry .at)) × (n .rest .text ≡ r .entry .text) ⌝ }
+{
+    let line = location(r.text, r.at);
+    Next {
+        row: line.row,
+        rest: Reader {
+            text: r.text,
+            at: line.at,
+        },
+    }
+}
+
+// The location that a reader at a byte of a text reads, and the byte that it then has reached; a plain slice, so that its callers
+// hold no reader.
+fn location_from(text: &[u8], at: usize) -> Reached
+    ensures { λ r. ⌜ r ≡ locationAt (now (text .entry)) at ⌝ }
+{
+    let next = next_location(Reader { text, at });
+    Reached {
+        row: next.row,
+        at: next.rest.at,
     }
 }
 
@@ -133,14 +176,19 @@ fn locations(s: &[u8]) -> Memory
         if LOCATIONS <= n {
             return no_memory();
         }
-        let row = location(s, at);
-        if row.ok {
-            let line = row.words;
-            store(&mut words, n * CELL, line);
-            n += 1;
-            at = row.next;
-        } else {
-            return no_memory();
+        let next = location_from(s, at);
+        let row = next.row;
+        let answer = row.answer;
+        match answer {
+            Answer::Read => {
+                let line = row.words;
+                store(&mut words, n * CELL, line);
+                n += 1;
+                at = next.at;
+            }
+            Answer::Refused => {
+                return no_memory();
+            }
         }
     }
     Memory {
@@ -151,7 +199,7 @@ fn locations(s: &[u8]) -> Memory
 }
 
 // The memory that a text holds.
-fn read_text(s: &[u8]) -> Memory
+pub fn read_memory(s: &[u8]) -> Memory
     ensures { λ r. ⌜ r ≡ memoryOf (now (s .entry)) ⌝ }
 {
     if text::fits(s) {
@@ -159,25 +207,4 @@ fn read_text(s: &[u8]) -> Memory
     } else {
         no_memory()
     }
-}
-
-// The same of the text from `at` on.
-fn read_from(text: &[u8], at: usize) -> Memory
-    ensures { λ r. ⌜ r ≡ memoryOf (drop at (now (text .entry))) ⌝ }
-{
-    read_text(rest(text, at))
-}
-
-// The same of the text that a reader has before it.
-pub fn read_here<'a>(r: Reader<'a>) -> Memory
-    ensures { λ m. ⌜ m ≡ memoryOf (drop (r .entry .at) (now (r .entry .text))) ⌝ }
-{
-    read_from(r.text, r.at)
-}
-
-// The memory that a text holds; a plain slice, so that its callers hold no reader.
-pub fn read_memory(s: &[u8]) -> Memory
-    ensures { λ r. ⌜ r ≡ memoryOf (now (s .entry)) ⌝ }
-{
-    read_here(reader_of(s))
 }

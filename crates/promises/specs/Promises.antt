@@ -12,7 +12,8 @@ use Rattle.text.specs.Theorems.{NumberExact, SetExact, NumberFieldExact, SetFie
 use Rattle.sheet_text.specs.Theorems.{AcceptedExact, RepeatingExact, MalformedExact, OneSheet}
 use Rattle.script_text.specs.Theorems.{ParseExact, ScriptExact}
 use Rattle.memory.specs.Theorems.{WordsExactly, CellExactly, MemoriesExactly, ViewsExactly}
-use Rattle.memory_text.specs.Theorems.{MemoryExact, ReadsBack}
+use Rattle.memory_text.specs.Theorems.{MemoryExact}
+use Rattle.memory_text.specs.Answers.{ReadsBack}
 use Rattle.checker.specs.Theorems.{CheckerExact}
 use Rattle.numbers.specs.Theorems.{EveryTable}
 use Rattle.simp.specs.Demands.{Demand1, Demand2, Demand3}

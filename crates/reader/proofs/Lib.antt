@@ -1,3 +1,4 @@
--- The walks of the functions that take a reader apart and of those that start one at a text, for the proofs of the crates that read.
-pub mod Apart
-pub mod Started
+-- The walks of the functions over a reader, for the proofs of the crates that read.
+pub mod Lines
+pub mod Advanced
+pub mod Resumed

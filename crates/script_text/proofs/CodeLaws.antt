@@ -14,12 +14,12 @@ use Rattle.text.proofs.Lines.{lines-at-end, lines-at-full, lines-at-bad, lines-
 use Rattle.script.specs.Lines.{Line, l-skip, l-seq, l-assign, l-while, l-case, l-int, l-loc, l-var, l-plus, l-left, l-right, l-pack, l-unpack}
 use Rattle.script.specs.Code.{lineWords, code}
 use Rattle.sheet.specs.Tables.{padded}
-use Rattle.script_text.specs.declared.Found.{Found}
-use Rattle.script_text.specs.declared.Found.the-variants as found
+use Rattle.script_text.specs.declared.LineRead.the-variants as read
+use Rattle.script_text.specs.declared.Reached.{Reached}
 use Rattle.script_text.specs.declared.Script.{Script}
 use Rattle.script_text.specs.Reading.{lineOf, linesOf, maxLines}
 use Rattle.script_text.specs.Script.{codeWords, noCode, coded, codedLines}
-use Rattle.script_text.specs.Scan.{rowOf, foundIn}
+use Rattle.script_text.specs.Placed.{rowOf, lineAt}
 use Rattle.script_text.proofs.LineLaws.{script-lines}
 use Rattle.script_text.proofs.FoundLaws.{found-at, found-none}
 
@@ -79,16 +79,16 @@ module _ (n : ℕ) (w : List ℕ) (s : List ℕ) (at : ℕ) where
   unfolding tabled
   table-full h l = rw (lines-at-full lineOf maxLines n s at h l)
 
-  module _ (h : at < length s) (l : n < maxLines) (r : Found) (e : r ≡ foundIn s (lineOf (drop at s))) where
-    pub table-bad : r ≡ found.Bad → tabled n w (linesUpTo lineOf (maxLines - n) (drop at s)) ≡ noCode
+  module _ (h : at < length s) (l : n < maxLines) (r : Reached) (e : r ≡ lineAt s at) where
+    pub table-bad : r .read ≡ read.Refused → tabled n w (linesUpTo lineOf (maxLines - n) (drop at s)) ≡ noCode
     unfolding tabled
     table-bad g = rw (lines-at-bad lineOf maxLines n s at l h (found-none s at r e g))
 
-    pub table-more : (k a b p : ℕ) → r ≡ found.At k a b p
-        → (p ≤ length s) × (tabled n w (linesUpTo lineOf (maxLines - n) (drop at s)) ≡ tabled (n + 1) (put w n k a b) (linesUpTo lineOf (maxLines - (n + 1)) (drop p s)))
-    table-more k a b p g =
-        found-at s at r e k a b p g (λ x y i f1 f2 f3.
-        (i, rw (lines-at-more lineOf maxLines n s at l (script-lines .no-end) x p y, tabled-front, f1, f2, f3)))
+    pub table-more : (k a b : ℕ) → r .read ≡ read.Line k a b
+        → (r .at ≤ length s) × (tabled n w (linesUpTo lineOf (maxLines - n) (drop at s)) ≡ tabled (n + 1) (put w n k a b) (linesUpTo lineOf (maxLines - (n + 1)) (drop (r .at) s)))
+    table-more k a b g =
+        found-at s at r e k a b g (λ x y i f1 f2 f3.
+        (i, rw (lines-at-more lineOf maxLines n s at l (script-lines .no-end) x (r .at) y, tabled-front, f1, f2, f3)))
 
 pub decode-start : (s : List ℕ) → fits s ≡ true → tabled 0 (replicate codeWords 0) (linesUpTo lineOf maxLines s) ≡ codedLines (linesOf s)
 unfolding linesOf tabled codedLines coded padded

@@ -1,5 +1,5 @@
 -- From the answers of the line reader back to what was read, and from a reading to its answer. Assumes nothing.
-use mathlib.Core.Path.{_≡_, sym, ap, _∙_}
+use mathlib.Core.Path.{_≡_, refl, sym, ap, _∙_}
 use mathlib.Core.List.{List}
 use Prim.Native.Nat.{ℕ, _+_, _≤_, _<_}
 use native.Mathlib.Omega.{arith}
@@ -22,49 +22,51 @@ use Rattle.script.specs.declared.Row.{Row}
 use Rattle.script.specs.Lines.{Line}
 use Rattle.script_text.specs.declared.Found.{Found}
 use Rattle.script_text.specs.declared.Found.the-variants as found
+use Rattle.script_text.specs.declared.LineRead.the-variants as read
+use Rattle.script_text.specs.declared.Reached.{Reached}
 use Rattle.script_text.specs.Reading.{Form, bare, one, two, other, formOf, operandsOf, lineOf}
-use Rattle.script_text.specs.Scan.{rowOf, foundIn}
+use Rattle.script_text.specs.Placed.{rowOf, placedLine, reached, lineAt}
 use Rattle.script_text.proofs.LineLaws.{script-lines}
 
 -- the answer to a line that was read
 found-got : (s : List ℕ) (want : Read Line) (l : Line) (k a b p : ℕ) → rowOf l ≡ record { kind = k; a = a; b = b }
-    → want ≡ got l (drop p s) → p ≤ length s → found.At k a b p ≡ foundIn s want
+    → want ≡ got l (drop p s) → p ≤ length s → found.At k a b p ≡ placedLine s want
 found-got s want l k a b p q e h =
     sym (ap (λ (r : Row). found.At (r .kind) (r .a) (r .b) p) q)
-    ∙ placed-got (λ l p. found.At (rowOf l .kind) (rowOf l .a) (rowOf l .b) p) found.Bad s want l p e h
+    ∙ placed-got (λ l p. found.At (rowOf l .kind) (rowOf l .a) (rowOf l .b) p) found.Refused s want l p e h
 
-found-bad : (s : List ℕ) (want : Read Line) → want ≡ bad → found.Bad ≡ foundIn s want
-found-bad s want e = placed-bad (λ l p. found.At (rowOf l .kind) (rowOf l .a) (rowOf l .b) p) found.Bad s want e
+found-bad : (s : List ℕ) (want : Read Line) → want ≡ bad → found.Refused ≡ placedLine s want
+found-bad s want e = placed-bad (λ l p. found.At (rowOf l .kind) (rowOf l .a) (rowOf l .b) p) found.Refused s want e
 
 -- ---- a line of each form
 
 module _ (s : List ℕ) (i k : ℕ) where
   pub bare-got : (l : Line) (r : Place) (p : ℕ) → r ≡ placeIn s (lineEnd (drop i s)) → r ≡ place.At p
-      → rowOf l ≡ record { kind = k; a = 0; b = 0 } → found.At k 0 0 p ≡ foundIn s (operandsOf (bare l) (drop i s))
+      → rowOf l ≡ record { kind = k; a = 0; b = 0 } → found.At k 0 0 p ≡ placedLine s (operandsOf (bare l) (drop i s))
   unfolding operandsOf
   bare-got l r p e g q =
       let x = byte-at s i 10 r e p g in
       found-got s _ l k 0 0 p q (andThen-got _ _ tt _ (x .0)) (x .1)
 
-  pub bare-none : (l : Line) (r : Place) → r ≡ placeIn s (lineEnd (drop i s)) → r ≡ place.Bad → found.Bad ≡ foundIn s (operandsOf (bare l) (drop i s))
+  pub bare-none : (l : Line) (r : Place) → r ≡ placeIn s (lineEnd (drop i s)) → r ≡ place.Bad → found.Refused ≡ placedLine s (operandsOf (bare l) (drop i s))
   unfolding operandsOf
   bare-none l r e g = found-bad s _ (andThen-bad _ _ (byte-bad s i 10 r e g))
 
   pub one-got : (f : ℕ → Line) (r : Value) (a p : ℕ) → r ≡ valueIn s (lastNumber most (drop i s)) → r ≡ value.At a p
-      → rowOf (f a) ≡ record { kind = k; a = a; b = 0 } → found.At k a 0 p ≡ foundIn s (operandsOf (one f) (drop i s))
+      → rowOf (f a) ≡ record { kind = k; a = a; b = 0 } → found.At k a 0 p ≡ placedLine s (operandsOf (one f) (drop i s))
   unfolding operandsOf
   one-got f r a p e g q =
       let x = last-number-at s i most r e a p g in
       found-got s _ (f a) k a 0 p q (andThen-got _ _ a _ (x .0)) (x .1)
 
   pub one-none : (f : ℕ → Line) (r : Value) → r ≡ valueIn s (lastNumber most (drop i s)) → r ≡ value.Bad
-      → found.Bad ≡ foundIn s (operandsOf (one f) (drop i s))
+      → found.Refused ≡ placedLine s (operandsOf (one f) (drop i s))
   unfolding operandsOf
   one-none f r e g = found-bad s _ (andThen-bad _ _ (last-number-bad s i most r e g))
 
   module _ (f : ℕ → ℕ → Line) (r : Value) (e : r ≡ valueIn s (numberField most (drop i s))) where
     pub two-got : (a b p q : ℕ) (t : Value) → r ≡ value.At a p → t ≡ valueIn s (lastNumber most (drop p s)) → t ≡ value.At b q
-        → rowOf (f a b) ≡ record { kind = k; a = a; b = b } → found.At k a b q ≡ foundIn s (operandsOf (two f) (drop i s))
+        → rowOf (f a b) ≡ record { kind = k; a = a; b = b } → found.At k a b q ≡ placedLine s (operandsOf (two f) (drop i s))
     unfolding operandsOf
     two-got a b p q t g d h w =
         let x = number-field-at s i most r e a p g in
@@ -72,13 +74,13 @@ module _ (s : List ℕ) (i k : ℕ) where
         found-got s _ (f a b) k a b q w (andThen-got _ _ a _ (x .0) ∙ andThen-got _ _ b _ (y .0)) (y .1)
 
     pub two-open : (a p : ℕ) (t : Value) → r ≡ value.At a p → t ≡ valueIn s (lastNumber most (drop p s)) → t ≡ value.Bad
-        → found.Bad ≡ foundIn s (operandsOf (two f) (drop i s))
+        → found.Refused ≡ placedLine s (operandsOf (two f) (drop i s))
     unfolding operandsOf
     two-open a p t g d h =
         let x = number-field-at s i most r e a p g in
         found-bad s _ (andThen-got _ _ a _ (x .0) ∙ andThen-bad _ _ (last-number-bad s p most t d h))
 
-    pub two-none : r ≡ value.Bad → found.Bad ≡ foundIn s (operandsOf (two f) (drop i s))
+    pub two-none : r ≡ value.Bad → found.Refused ≡ placedLine s (operandsOf (two f) (drop i s))
     unfolding operandsOf
     two-none g = found-bad s _ (andThen-bad _ _ (number-field-bad s i most r e g))
 
@@ -105,7 +107,7 @@ other-form b n1 n2 n3 n4 n5 n6 n7 n8 n9 n10 n11 n12 n13 =
     )
 
 module _ (s : List ℕ) (i : ℕ) where
-  pub line-none : length s ≤ i → found.Bad ≡ foundIn s (lineOf (drop i s))
+  pub line-none : length s ≤ i → found.Refused ≡ placedLine s (lineOf (drop i s))
   unfolding lineOf
   line-none h = found-bad s _ (rw (drop-of-length-le s h))
 
@@ -113,25 +115,30 @@ module _ (s : List ℕ) (i : ℕ) where
   unfolding lineOf
   line-form f h e = rw (drop-step s i h, e)
 
-  pub line-kind : (f : Form) (r : Found) → i < length s → formOf (getD s i 0) ≡ f → r ≡ foundIn s (operandsOf f (drop (i + 1) s))
-      → r ≡ foundIn s (lineOf (drop i s))
-  line-kind f r h e q = q ∙ ap (foundIn s) (sym (line-form f h e))
+  pub line-kind : (f : Form) (r : Found) → i < length s → formOf (getD s i 0) ≡ f → r ≡ placedLine s (operandsOf f (drop (i + 1) s))
+      → r ≡ placedLine s (lineOf (drop i s))
+  line-kind f r h e q = q ∙ ap (placedLine s) (sym (line-form f h e))
 
-  pub line-other : i < length s → formOf (getD s i 0) ≡ other → found.Bad ≡ foundIn s (lineOf (drop i s))
+  pub line-other : i < length s → formOf (getD s i 0) ≡ other → found.Refused ≡ placedLine s (lineOf (drop i s))
   unfolding operandsOf
   line-other h e = found-bad s _ (line-form other h e)
 
 -- ---- what an answer says
 
-module _ (s : List ℕ) (i : ℕ) (r : Found) (e : r ≡ foundIn s (lineOf (drop i s))) where
-  pub found-at : {P : Type 0} (k a b p : ℕ) → r ≡ found.At k a b p
-      → ((l : Line) → lineOf (drop i s) ≡ got l (drop p s) → p ≤ length s → rowOf l .kind ≡ k → rowOf l .a ≡ a → rowOf l .b ≡ b → P) → P
-  found-at k a b p g f =
-      placed-split (λ l p. found.At (rowOf l .kind) (rowOf l .a) (rowOf l .b) p) found.Bad s i _ r (line-within script-lines (drop i s)) e
-      (λ l q x h y. let z : q ≡ p = cc in f l (rw z at x) (rw z at h) (cc) (cc) (cc))
+module _ (s : List ℕ) (i : ℕ) (r : Reached) (e : r ≡ lineAt s i) where
+  line-split : {P : Type 0}
+      → ((l : Line) (p : ℕ) → lineOf (drop i s) ≡ got l (drop p s) → p ≤ length s → r ≡ record { read = read.Line (rowOf l .kind) (rowOf l .a) (rowOf l .b); at = p } → P)
+      → (lineOf (drop i s) ≡ bad → r ≡ record { read = read.Refused; at = i } → P) → P
+  unfolding reached
+  line-split f g =
+      placed-split (λ l p. found.At (rowOf l .kind) (rowOf l .a) (rowOf l .b) p) found.Refused s i _ _ (line-within script-lines (drop i s)) refl
+      (λ l p x h y. f l p x h (e ∙ ap (reached i) y)) (λ x y. g x (e ∙ ap (reached i) y))
+
+  pub found-at : {P : Type 0} (k a b : ℕ) → r .read ≡ read.Line k a b
+      → ((l : Line) → lineOf (drop i s) ≡ got l (drop (r .at) s) → r .at ≤ length s → rowOf l .kind ≡ k → rowOf l .a ≡ a → rowOf l .b ≡ b → P) → P
+  found-at k a b g f = line-split
+      (λ l p x h y. let z : p ≡ r .at = cc in f l (rw z at x) (rw z at h) (cc) (cc) (cc))
       (λ x y. let z : _≡_ {A = ℕ} 0 1 = cc in absurd (omega arith))
 
-  pub found-none : r ≡ found.Bad → lineOf (drop i s) ≡ bad
-  found-none g =
-      placed-split (λ l p. found.At (rowOf l .kind) (rowOf l .a) (rowOf l .b) p) found.Bad s i _ r (line-within script-lines (drop i s)) e
-      (λ l q x h y. let z : _≡_ {A = ℕ} 0 1 = cc in absurd (omega arith)) (λ x y. x)
+  pub found-none : r .read ≡ read.Refused → lineOf (drop i s) ≡ bad
+  found-none g = line-split (λ l p x h y. let z : _≡_ {A = ℕ} 0 1 = cc in absurd (omega arith)) (λ x y. x)

@@ -2,6 +2,7 @@ pub mod LineLaws
 pub mod ParseLaws
 pub mod ScriptLaws
 pub mod FoundLaws
+mod Readers
 pub mod CodeLaws
 pub mod ScanLaws
 pub mod ReadLaws

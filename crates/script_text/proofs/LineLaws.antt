@@ -16,7 +16,7 @@ use Rattle.script.specs.Lines.{Line, l-skip, l-seq, l-assign, l-while, l-case, 
 use Rattle.script.specs.Code.{lineWords}
 use Rattle.script_text.specs.Bytes.{lineBytes}
 use Rattle.script_text.specs.Reading.{Form, bare, one, two, other, formOf, operandsOf, lineOf}
-use Rattle.script_text.specs.Scan.{rowOf}
+use Rattle.script_text.specs.Placed.{rowOf}
 use Rattle.logic.specs.Booleans.{both}
 
 -- The form of each kind, by its byte.

@@ -17,7 +17,8 @@ use Rattle.script.specs.Code.{lineWords, code, rowAt}
 use Rattle.script.specs.Names.{Counts, maxDepth, namedE, named}
 use Rattle.script.proofs.Rows.{row-read, row-none, row-in, ExprRow, at-int, at-loc, at-var, at-plus, at-left, at-right, at-pack, at-unpack, expr-row, CmdRow, at-skip, at-seq, at-assign, at-while, at-case, cmd-row}
 use Rattle.script_text.specs.declared.Scanned.{Scanned}
-use Rattle.script_text.specs.Scan.{rowOf, Scans, ScansExpr, ScansCmd}
+use Rattle.script_text.specs.Placed.{rowOf}
+use Rattle.script_text.specs.Scan.{Scans, ScansExpr, ScansCmd}
 use Rattle.script_text.proofs.CodeLaws.{words-of}
 
 pub false-true : {A : Type 0} (b : Bool) → b ≡ false → b ≡ true → A

@@ -25,7 +25,7 @@ use Rattle.script_text.specs.Bytes.{scriptBytes}
 use Rattle.script_text.specs.Reading.{maxLines, linesOf}
 use Rattle.script_text.specs.Parse.{stackOf, single, parse}
 use Rattle.script_text.specs.Script.{countsOf, countsIn, namedOnly, commandOf, commandIn, scriptOf}
-use Rattle.script_text.specs.Scan.{rowOf}
+use Rattle.script_text.specs.Placed.{rowOf}
 use Rattle.script_text.specs.Theorems.{IsScript, ScriptExact}
 use Rattle.script_text.proofs.LineLaws.{AllFit, script-lines}
 use Rattle.script_text.proofs.ParseLaws.{parse-sound, parse-lines}

@@ -1,29 +1,16 @@
--- What the reader's own functions answer: the row of a line, and whether an expression or a command starts at a row.
+-- What the code answers where it looks for an expression or a command at a row.
 use mathlib.Core.Path.{_≡_}
 use mathlib.Core.Bool.{Bool, true, false}
-use mathlib.Core.List.{List, []}
+use mathlib.Core.List.{List}
 use mathlib.Core.Option.{Option, none, some}
 use Prim.Native.Nat.{ℕ, _≤_}
-use lib.ListN.{getD, drop}
-use Rattle.text.specs.Reading.{Read}
-use Rattle.text.specs.Place.{placed}
+use lib.ListN.{drop}
 use Rattle.language.specs.Syntax.{Cmd}
-use Rattle.script.specs.declared.Row.{Row}
 use Rattle.script.specs.Lines.{Line, SourceE, Source, exprLines, cmdLines}
-use Rattle.script.specs.Code.{lineWords, code}
+use Rattle.script.specs.Code.{code}
 use Rattle.script.specs.Names.{Counts, namedE, named}
-use Rattle.script_text.specs.declared.Found.{Found}
-use Rattle.script_text.specs.declared.Found.the-variants as found
 use Rattle.script_text.specs.declared.Scanned.{Scanned}
 use Rattle.script_text.specs.Script.{commandOf}
-
--- the three words of a line
-unfoldable pub rowOf : Line → Row
-rowOf l = record { kind = getD (lineWords l []) 0 0; a = getD (lineWords l []) 1 0; b = getD (lineWords l []) 2 0 }
-
--- a line that is read in s as an answer: its words and the place after it
-abbrev pub foundIn : List ℕ → Read Line → Found
-foundIn s want = placed (λ l p. found.At (rowOf l .kind) (rowOf l .a) (rowOf l .b) p) found.Bad s want
 
 -- Whether something of X starts at a word, of which Src and names hold, and where the next lines stand: it is found exactly if it is there.
 pub record Scans {X : Type 0} (lines : X → List Line → List Line) (Src : X → Type 0) (names : X → Bool) (ws : List ℕ) (at : ℕ) (r : Scanned) : Type 0 where

@@ -8,10 +8,9 @@ ghost use Rattle.script.specs.Lines.{Line};
 ghost use Rattle.sheet.specs.Tables.{typesIn, labelsIn, locationsIn};
 ghost use Rattle.script_text.specs.Reading.{Form, bare, one, two, operandsOf, lineOf, linesOf};
 ghost use Rattle.script_text.specs.Script.{countsIn, noCode, codedLines, scriptOf, decoded};
-ghost use Rattle.script_text.specs.Scan.{rowOf, foundIn, ScansExpr, ScansCmd, Whole};
+ghost use Rattle.script_text.specs.Placed.{rowOf, placedLine, lineAt};
+ghost use Rattle.script_text.specs.Scan.{ScansExpr, ScansCmd, Whole};
 use reader::Reader;
-use reader::reader_of;
-use reader::rest;
 use script::ASSIGN;
 use script::CASE;
 use script::INT;
@@ -54,7 +53,25 @@ pub struct Script {
 // The words of a line and the place after it, or a refusal.
 enum Found {
     At(u32, u32, u32, usize),
-    Bad,
+    Refused,
+}
+
+// What stands at a byte: the words of a line, or a refusal.
+pub enum LineRead {
+    Line(u32, u32, u32),
+    Refused,
+}
+
+// What was read, and the byte after it; after a refusal, the byte itself.
+struct Reached {
+    read: LineRead,
+    at: usize,
+}
+
+// What was read, and the reader after it.
+pub struct Next<'a> {
+    pub read: LineRead,
+    pub rest: Reader<'a>,
 }
 
 // Whether what was looked for was found, and the word at which the next row starts.
@@ -66,45 +83,45 @@ struct Scanned {
 // The end of a line of a kind without operands.
 fn bare_line(s: &[u8], at: usize, kind: u32) -> Found
     ensures { λ r. ⌜ ((l : Line) → rowOf l ≡ record { kind = kind; a = 0; b = 0 }
-        → r ≡ foundIn (now (s .entry)) (operandsOf (bare l) (drop at (now (s .entry))))) ⌝ }
+        → r ≡ placedLine (now (s .entry)) (operandsOf (bare l) (drop at (now (s .entry))))) ⌝ }
 {
     match line_end(s, at) {
         Place::At(p) => Found::At(kind, 0, 0, p),
-        Place::Bad => Found::Bad,
+        Place::Bad => Found::Refused,
     }
 }
 
 // One operand, and the end of the line.
 fn one_operand(s: &[u8], at: usize, kind: u32) -> Found
     ensures { λ r. ⌜ ((f : ℕ → Line) → ((a : ℕ) → rowOf (f a) ≡ record { kind = kind; a = a; b = 0 })
-        → r ≡ foundIn (now (s .entry)) (operandsOf (one f) (drop at (now (s .entry))))) ⌝ }
+        → r ≡ placedLine (now (s .entry)) (operandsOf (one f) (drop at (now (s .entry))))) ⌝ }
 {
     match last_number(s, at, MOST) {
         Value::At(a, p) => Found::At(kind, a, 0, p),
-        Value::Bad => Found::Bad,
+        Value::Bad => Found::Refused,
     }
 }
 
 // Two operands, and the end of the line.
 fn two_operands(s: &[u8], at: usize, kind: u32) -> Found
     ensures { λ r. ⌜ ((f : ℕ → ℕ → Line) → ((a b : ℕ) → rowOf (f a b) ≡ record { kind = kind; a = a; b = b })
-        → r ≡ foundIn (now (s .entry)) (operandsOf (two f) (drop at (now (s .entry))))) ⌝ }
+        → r ≡ placedLine (now (s .entry)) (operandsOf (two f) (drop at (now (s .entry))))) ⌝ }
 {
     match number_field(s, at, MOST) {
         Value::At(a, p) => match last_number(s, p, MOST) {
             Value::At(b, q) => Found::At(kind, a, b, q),
-            Value::Bad => Found::Bad,
+            Value::Bad => Found::Refused,
         },
-        Value::Bad => Found::Bad,
+        Value::Bad => Found::Refused,
     }
 }
 
 // The line that stands at `at`.
 fn line_at(s: &[u8], at: usize) -> Found
-    ensures { λ r. ⌜ r ≡ foundIn (now (s .entry)) (lineOf (drop at (now (s .entry)))) ⌝ }
+    ensures { λ r. ⌜ r ≡ placedLine (now (s .entry)) (lineOf (drop at (now (s .entry)))) ⌝ }
 {
     if s.len() <= at {
-        return Found::Bad;
+        return Found::Refused;
     }
     let first = s[at];
     match first {
@@ -121,7 +138,49 @@ fn line_at(s: &[u8], at: usize) -> Found
         b'r' => one_operand(s, at + 1, RIGHT),
         b'k' => one_operand(s, at + 1, PACK),
         b'u' => two_operands(s, at + 1, UNPACK),
-        _ => Found::Bad,
+        _ => Found::Refused,
+    }
+}
+
+// The line that stands at `at`, and the byte after it.
+fn read_line(s: &[u8], at: usize) -> Reached
+    ensures { λ r. ⌜ r ≡ lineAt (now (s .entry)) at ⌝ }
+{
+    match line_at(s, at) {
+        Found::At(kind, a, b, p) => Reached {
+            read: LineRead::Line(kind, a, b),
+            at: p,
+        },
+        Found::Refused => Reached {
+            read: LineRead::Refused,
+            at,
+        },
+    }
+}
+
+// The line that a reader has before it, and the reader after it.
+pub fn next_line<'a>(r: Reader<'a>) -> Next<'a>
+    ensures { λ n. ⌜ (record { read = n .read; at = n .rest .at } ≡ lineAt (now (r .entry .text)) (r .entry .at)) × (n .rest .text ≡ r .entry .text) ⌝ }
+{
+    let line = read_line(r.text, r.at);
+    Next {
+        read: line.read,
+        rest: Reader {
+            text: r.text,
+            at: line.at,
+        },
+    }
+}
+
+// The line that a reader at a byte of a text reads, and the byte that it then has reached; a plain slice, so that its callers hold
+// no reader.
+fn line_from(text: &[u8], at: usize) -> Reached
+    ensures { λ r. ⌜ r ≡ lineAt (now (text .entry)) at ⌝ }
+{
+    let next = next_line(Reader { text, at });
+    Reached {
+        read: next.read,
+        at: next.rest.at,
     }
 }
 
@@ -136,7 +195,7 @@ fn refused() -> Script
 }
 
 // The code of a text's lines, whatever they say.
-fn decode_text(s: &[u8]) -> Script
+fn decode(s: &[u8]) -> Script
     ensures { λ r. ⌜ r ≡ codedLines (linesOf (now (s .entry))) ⌝ }
 {
     if !fits(s) {
@@ -149,42 +208,23 @@ fn decode_text(s: &[u8]) -> Script
         if ROWS <= n {
             return refused();
         }
-        match line_at(s, at) {
-            Found::At(kind, a, b, p) => {
+        let next = line_from(s, at);
+        let read = next.read;
+        match read {
+            LineRead::Line(kind, a, b) => {
                 out.code[n * ROW] = kind;
                 out.code[n * ROW + 1] = a;
                 out.code[n * ROW + 2] = b;
                 n += 1;
-                at = p;
+                at = next.at;
             }
-            Found::Bad => {
+            LineRead::Refused => {
                 return refused();
             }
         }
     }
     out.count = n;
     out
-}
-
-// The same of the text from `at` on.
-fn decode_from(text: &[u8], at: usize) -> Script
-    ensures { λ r. ⌜ r ≡ codedLines (linesOf (drop at (now (text .entry)))) ⌝ }
-{
-    decode_text(rest(text, at))
-}
-
-// The same of the text that a reader has before it.
-pub fn decode_here<'a>(r: Reader<'a>) -> Script
-    ensures { λ s. ⌜ s ≡ codedLines (linesOf (drop (r .entry .at) (now (r .entry .text)))) ⌝ }
-{
-    decode_from(r.text, r.at)
-}
-
-// The code of a text's lines; a plain slice, so that its callers hold no reader.
-fn decode(text: &[u8]) -> Script
-    ensures { λ r. ⌜ r ≡ codedLines (linesOf (now (text .entry))) ⌝ }
-{
-    decode_here(reader_of(text))
 }
 
 // Whether a number names a type.

@@ -1,5 +1,5 @@
 -- From an answer in a text back to the line that was read, and from a line to its answer. Assumes nothing.
-use mathlib.Core.Path.{_≡_, ap, _∙_}
+use mathlib.Core.Path.{_≡_, refl, ap, _∙_}
 use mathlib.Core.Bool.{true, false}
 use mathlib.Core.List.{List, _∷_}
 use Prim.Native.Nat.{ℕ, _+_, _≤_, _<_}
@@ -12,32 +12,38 @@ use Rattle.text.proofs.Readings.{drop-step}
 use Rattle.text.proofs.Places.{placed-got, placed-bad, placed-split}
 use Rattle.text.proofs.Lines.{line-within, line-shorter}
 use Rattle.sheet_text.specs.declared.line.Line.{Line}
-use Rattle.sheet_text.specs.declared.line.Found.{Found}
+use Rattle.sheet_text.specs.declared.line.LineRead.the-variants as read
+use Rattle.sheet_text.specs.declared.line.Reached.{Reached}
 use Rattle.sheet_text.specs.declared.line.Found.the-variants as found
-use Rattle.sheet_text.specs.Reading.{principalsRest, pairRest, labelRest, policyRest, lineOf, foundIn}
+use Rattle.sheet_text.specs.Reading.{principalsRest, pairRest, labelRest, policyRest, lineOf}
+use Rattle.sheet_text.specs.Placed.{placedLine, reached, lineAt}
 use Rattle.sheet_text.proofs.LineLaws.{sheet-lines}
 
 -- ---- answers
 
 module _ (s : List ℕ) (want : Read Line) where
-  pub found-got : (l : Line) (p : ℕ) → want ≡ got l (drop p s) → p ≤ length s → found.At l p ≡ foundIn s want
-  found-got l p e h = placed-got (λ l p. found.At l p) found.Bad s want l p e h
+  pub found-got : (l : Line) (p : ℕ) → want ≡ got l (drop p s) → p ≤ length s → found.At l p ≡ placedLine s want
+  found-got l p e h = placed-got (λ l p. found.At l p) found.Refused s want l p e h
 
-  pub found-none : want ≡ bad → found.Bad ≡ foundIn s want
-  found-none e = placed-bad (λ l p. found.At l p) found.Bad s want e
+  pub found-none : want ≡ bad → found.Refused ≡ placedLine s want
+  found-none e = placed-bad (λ l p. found.At l p) found.Refused s want e
 
 -- what an answer at i in s says of the line there
-module _ (s : List ℕ) (i : ℕ) (r : Found) (e : r ≡ foundIn s (lineOf (drop i s))) where
-  pub line-found : (l : Line) (p : ℕ) → r ≡ found.At l p → (lineOf (drop i s) ≡ got l (drop p s)) × (p ≤ length s)
-  line-found l p g =
-      placed-split (λ l p. found.At l p) found.Bad s i (lineOf (drop i s)) r (line-within sheet-lines (drop i s)) e
-      (λ l′ p′ x h y. let a : l′ ≡ l = cc in let b : p′ ≡ p = cc in rw (← a, ← b) (x, h))
+module _ (s : List ℕ) (i : ℕ) (r : Reached) (e : r ≡ lineAt s i) where
+  line-split : {P : Type 0} → ((l : Line) (p : ℕ) → lineOf (drop i s) ≡ got l (drop p s) → p ≤ length s → r ≡ record { read = read.Line l; at = p } → P)
+      → (lineOf (drop i s) ≡ bad → r ≡ record { read = read.Refused; at = i } → P) → P
+  unfolding reached
+  line-split f g =
+      placed-split (λ l p. found.At l p) found.Refused s i (lineOf (drop i s)) _ (line-within sheet-lines (drop i s)) refl
+      (λ l p x h y. f l p x h (e ∙ ap (reached i) y)) (λ x y. g x (e ∙ ap (reached i) y))
+
+  pub line-found : (l : Line) → r .read ≡ read.Line l → (lineOf (drop i s) ≡ got l (drop (r .at) s)) × (r .at ≤ length s)
+  line-found l g = line-split
+      (λ l′ p x h y. let a : l′ ≡ l = cc in rw (y, ← a) (x, h))
       (λ x y. let z : _≡_ {A = ℕ} 0 1 = cc in absurd (omega arith))
 
-  pub line-missed : r ≡ found.Bad → lineOf (drop i s) ≡ bad
-  line-missed g =
-      placed-split (λ l p. found.At l p) found.Bad s i (lineOf (drop i s)) r (line-within sheet-lines (drop i s)) e
-      (λ l p x h y. let z : _≡_ {A = ℕ} 0 1 = cc in absurd (omega arith)) (λ x y. x)
+  pub line-missed : r .read ≡ read.Refused → lineOf (drop i s) ≡ bad
+  line-missed g = line-split (λ l p x h y. let z : _≡_ {A = ℕ} 0 1 = cc in absurd (omega arith)) (λ x y. x)
 
 -- the place after a line is past the line's own
 pub line-onward : (s : List ℕ) (i : ℕ) (l : Line) (p : ℕ) → lineOf (drop i s) ≡ got l (drop p s) → p ≤ length s → i < p

@@ -9,4 +9,5 @@ pub mod TableGrowth
 pub mod DraftLaws
 pub mod RepeatFinds
 pub mod FoundLaws
+mod Readers
 pub mod ReadLaws

@@ -1,6 +1,7 @@
 -- From a sheet's bytes to its table (the scope, "The three texts").
 pub mod Lines
 pub mod Reading
+pub mod Placed
 pub mod Building
 pub mod Sheets
 pub mod Drafts

@@ -9,11 +9,8 @@ use Rattle.text.specs.Reading.Read.{got, bad}
 use Rattle.text.specs.Number.{most}
 use Rattle.text.specs.Field.{numberField, setField, lineEnd, lastNumber}
 use Rattle.text.specs.Lines.{allLines}
-use Rattle.text.specs.Place.{placed}
 use Rattle.sheet_text.specs.declared.line.Line.{Line}
 use Rattle.sheet_text.specs.declared.line.Line.the-variants.{P, T, L, O, X}
-use Rattle.sheet_text.specs.declared.line.Found.{Found}
-use Rattle.sheet_text.specs.declared.line.Found.the-variants as found
 
 -- what follows the letter of each line
 
@@ -44,10 +41,6 @@ lineOf (b ∷ t) =
     (cond (eqb b 76) (labelRest t)
     (cond (eqb b 79) (policyRest t)
     (cond (eqb b 88) (pairRest false t) bad))))
-
--- a line that is read in s as an answer
-abbrev pub foundIn : List ℕ → Read Line → Found
-foundIn s want = placed (λ l p. found.At l p) found.Bad s want
 
 -- the lines of a text
 abbrev pub linesOf : List ℕ → Option (List Line)

@@ -11,9 +11,9 @@ ghost use Rattle.sheet_text.specs.Building.{begin, stepOn};
 ghost use Rattle.sheet_text.specs.Sheets.{sheetIn};
 ghost use Rattle.sheet_text.specs.Reading.{linesOf};
 ghost use Rattle.sheet_text.specs.Drafts.{Holds, FormedIf, stepsIn, Stores, principalsFit, pairFits, sumFitsIn, labelFitsIn, policyFitsIn, locationFitsIn, principalsStored, pairStored, labelStored, policyStored};
-use super::line::Found;
 use super::line::Line;
-use super::line::line_at;
+use super::line::LineRead;
+use super::line::line_from;
 use labels::LABEL_SIZE;
 use labels::Label;
 use labels::put_label;
@@ -254,12 +254,14 @@ fn follow(s: &[u8], from: usize, first: Draft, table: &mut [u16; WORDS]) -> Draf
     let mut d = first;
     let mut at = from;
     while at < s.len() {
-        match line_at(s, at) {
-            Found::At(line, p) => {
+        let next = line_from(s, at);
+        let read = next.read;
+        match read {
+            LineRead::Line(line) => {
                 d = step(d, table, line);
-                at = p;
+                at = next.at;
             }
-            Found::Bad => {
+            LineRead::Refused => {
                 return refused();
             }
         }
@@ -275,11 +277,13 @@ pub(crate) fn draft_of(s: &[u8], table: &mut [u16; WORDS]) -> Draft
     if !text::fits(s) {
         return refused();
     }
-    match line_at(s, 0) {
-        Found::At(line, p) => {
+    let next = line_from(s, 0);
+    let read = next.read;
+    match read {
+        LineRead::Line(line) => {
             let first = begin(table, line);
-            follow(s, p, first, table)
+            follow(s, next.at, first, table)
         }
-        Found::Bad => refused(),
+        LineRead::Refused => refused(),
     }
 }

@@ -4,13 +4,10 @@ mod draft; // draft.rt: from lines to the table
 mod repeat; // repeat.rt: whether a table repeats a type or a label
 
 ghost use mathlib.Core.Path.{_≡_};
-ghost use lib.ListN.{drop, replicate};
+ghost use lib.ListN.{replicate};
 ghost use Rattle.sheet.specs.Tables.{tableWords};
 ghost use Rattle.sheet_text.specs.Sheets.{sheetOf, decoded};
 use draft::draft_of;
-use reader::Reader;
-use reader::reader_of;
-use reader::rest;
 use repeat::repeats;
 use sheet::WORDS;
 
@@ -38,7 +35,7 @@ fn fill(text: &[u8], table: &mut [u16; WORDS]) -> u8
 }
 
 // The table of a sheet's text, or the number of its refusal.
-fn read_text(text: &[u8]) -> Decoded
+pub fn read(text: &[u8]) -> Decoded
     ensures { λ r. ⌜ r ≡ decoded (sheetOf (now (text .entry))) ⌝ }
 {
     let mut d = Decoded {
@@ -47,25 +44,4 @@ fn read_text(text: &[u8]) -> Decoded
     };
     d.answer = fill(text, &mut d.table);
     d
-}
-
-// The same of the text from `at` on.
-fn read_from(text: &[u8], at: usize) -> Decoded
-    ensures { λ r. ⌜ r ≡ decoded (sheetOf (drop at (now (text .entry)))) ⌝ }
-{
-    read_text(rest(text, at))
-}
-
-// The same of the text that a reader has before it.
-pub fn read_here<'a>(r: Reader<'a>) -> Decoded
-    ensures { λ d. ⌜ d ≡ decoded (sheetOf (drop (r .entry .at) (now (r .entry .text)))) ⌝ }
-{
-    read_from(r.text, r.at)
-}
-
-// The table of a sheet's text, or the number of its refusal; a plain slice, so that its callers hold no reader.
-pub fn read(text: &[u8]) -> Decoded
-    ensures { λ r. ⌜ r ≡ decoded (sheetOf (now (text .entry))) ⌝ }
-{
-    read_here(reader_of(text))
 }

@@ -1,7 +1,9 @@
 // From a sheet's bytes to its lines.
 ghost use mathlib.Core.Path.{_≡_};
 ghost use lib.ListN.{drop};
-ghost use Rattle.sheet_text.specs.Reading.{principalsRest, pairLine, pairRest, labelRest, policyRest, lineOf, foundIn};
+ghost use Rattle.sheet_text.specs.Reading.{principalsRest, pairLine, pairRest, labelRest, policyRest, lineOf};
+ghost use Rattle.sheet_text.specs.Placed.{placedLine, lineAt};
+use reader::Reader;
 use text::MOST;
 use text::Mask;
 use text::Place;
@@ -21,18 +23,36 @@ pub enum Line {
 }
 
 // A line and the place after it, or a refusal.
-pub enum Found {
+enum Found {
     At(Line, usize),
-    Bad,
+    Refused,
+}
+
+// What stands at a byte: a line, or a refusal.
+pub enum LineRead {
+    Line(Line),
+    Refused,
+}
+
+// What was read, and the byte after it; after a refusal, the byte itself.
+pub struct Reached {
+    pub read: LineRead,
+    pub at: usize,
+}
+
+// What was read, and the reader after it.
+pub struct Next<'a> {
+    pub read: LineRead,
+    pub rest: Reader<'a>,
 }
 
 // What follows the letter of a line `P`.
 fn principals_rest(s: &[u8], at: usize) -> Found
-    ensures { λ r. ⌜ r ≡ foundIn (now (s .entry)) (principalsRest (drop at (now (s .entry)))) ⌝ }
+    ensures { λ r. ⌜ r ≡ placedLine (now (s .entry)) (principalsRest (drop at (now (s .entry)))) ⌝ }
 {
     match last_number(s, at, MOST) {
         Value::At(n, p) => Found::At(Line::P(n), p),
-        Value::Bad => Found::Bad,
+        Value::Bad => Found::Refused,
     }
 }
 
@@ -45,52 +65,52 @@ fn pair_line(sum: bool, a: u32, b: u32) -> Line
 
 // What follows the letter of a line `T` or `X`.
 fn pair_rest(s: &[u8], at: usize, sum: bool) -> Found
-    ensures { λ r. ⌜ r ≡ foundIn (now (s .entry)) (pairRest sum (drop at (now (s .entry)))) ⌝ }
+    ensures { λ r. ⌜ r ≡ placedLine (now (s .entry)) (pairRest sum (drop at (now (s .entry)))) ⌝ }
 {
     let Value::At(a, p) = number_field(s, at, MOST) else {
-        return Found::Bad;
+        return Found::Refused;
     };
     match last_number(s, p, MOST) {
         Value::At(b, q) => Found::At(pair_line(sum, a, b), q),
-        Value::Bad => Found::Bad,
+        Value::Bad => Found::Refused,
     }
 }
 
 // What follows the letter of a line `L`.
 fn label_rest(s: &[u8], at: usize) -> Found
-    ensures { λ r. ⌜ r ≡ foundIn (now (s .entry)) (labelRest (drop at (now (s .entry)))) ⌝ }
+    ensures { λ r. ⌜ r ≡ placedLine (now (s .entry)) (labelRest (drop at (now (s .entry)))) ⌝ }
 {
     match line_end(s, at) {
         Place::At(p) => Found::At(Line::L, p),
-        Place::Bad => Found::Bad,
+        Place::Bad => Found::Refused,
     }
 }
 
 // What follows the letter of a line `O`.
 fn policy_rest(s: &[u8], at: usize) -> Found
-    ensures { λ r. ⌜ r ≡ foundIn (now (s .entry)) (policyRest (drop at (now (s .entry)))) ⌝ }
+    ensures { λ r. ⌜ r ≡ placedLine (now (s .entry)) (policyRest (drop at (now (s .entry)))) ⌝ }
 {
     let Value::At(owner, p) = number_field(s, at, MOST) else {
-        return Found::Bad;
+        return Found::Refused;
     };
     let Mask::At(readers, q) = set_field(s, p) else {
-        return Found::Bad;
+        return Found::Refused;
     };
     let Mask::At(writers, r) = set_field(s, q) else {
-        return Found::Bad;
+        return Found::Refused;
     };
     match line_end(s, r) {
         Place::At(e) => Found::At(Line::O(owner, readers, writers), e),
-        Place::Bad => Found::Bad,
+        Place::Bad => Found::Refused,
     }
 }
 
 // The line that stands at `at`.
-pub fn line_at(s: &[u8], at: usize) -> Found
-    ensures { λ r. ⌜ r ≡ foundIn (now (s .entry)) (lineOf (drop at (now (s .entry)))) ⌝ }
+fn line_at(s: &[u8], at: usize) -> Found
+    ensures { λ r. ⌜ r ≡ placedLine (now (s .entry)) (lineOf (drop at (now (s .entry)))) ⌝ }
 {
     if s.len() <= at {
-        return Found::Bad;
+        return Found::Refused;
     }
     let first = s[at];
     match first {
@@ -99,6 +119,48 @@ pub fn line_at(s: &[u8], at: usize) -> Found
         b'L' => label_rest(s, at + 1),
         b'O' => policy_rest(s, at + 1),
         b'X' => pair_rest(s, at + 1, false),
-        _ => Found::Bad,
+        _ => Found::Refused,
+    }
+}
+
+// The line that stands at `at`, and the byte after it.
+fn read_line(s: &[u8], at: usize) -> Reached
+    ensures { λ r. ⌜ r ≡ lineAt (now (s .entry)) at ⌝ }
+{
+    match line_at(s, at) {
+        Found::At(line, p) => Reached {
+            read: LineRead::Line(line),
+            at: p,
+        },
+        Found::Refused => Reached {
+            read: LineRead::Refused,
+            at,
+        },
+    }
+}
+
+// The line that a reader has before it, and the reader after it.
+pub fn next_line<'a>(r: Reader<'a>) -> Next<'a>
+    ensures { λ n. ⌜ (record { read = n .read; at = n .rest .at } ≡ lineAt (now (r .entry .text)) (r .entry .at)) × (n .rest .text ≡ r .entry .text) ⌝ }
+{
+    let line = read_line(r.text, r.at);
+    Next {
+        read: line.read,
+        rest: Reader {
+            text: r.text,
+            at: line.at,
+        },
+    }
+}
+
+// The line that a reader at a byte of a text reads, and the byte that it then has reached; a plain slice, so that its callers hold
+// no reader.
+pub(crate) fn line_from(text: &[u8], at: usize) -> Reached
+    ensures { λ r. ⌜ r ≡ lineAt (now (text .entry)) at ⌝ }
+{
+    let next = next_line(Reader { text, at });
+    Reached {
+        read: next.read,
+        at: next.rest.at,
     }
 }

@@ -1,21 +1,21 @@
 -- `desk::place` meets its contract. Assumes nothing.
 use mathlib.Core.Path.{sym, ap}
 use borrow.Author.Tests.{ne-eqb}
-use Rattle.desk.specs.Numbers.{order, placeIn}
+use Rattle.desk.specs.Numbers.{order, placeOf}
 use Rattle.desk.proofs.place.Statement.{statement}
 use Rattle.desk.proofs.place.Tie as tie
 
 pub place-spec : {M : Type 1} → statement M
-unfolding placeIn
+unfolding placeOf
 place-spec = tie.close (tie.spec
-    (λ c. ap (placeIn order) (sym (c .match .keys1)))  -- returns
-    (λ c. ap (placeIn order) (sym (c .match .keys2)))  -- returns-2
-    (λ c. ap (placeIn order) (sym (c .match .keys3)))  -- returns-3
-    (λ c. ap (placeIn order) (sym (c .match .keys4)))  -- returns-4
-    (λ c. ap (placeIn order) (sym (c .match .keys5)))  -- returns-5
-    (λ c. ap (placeIn order) (sym (c .match .keys6)))  -- returns-6
-    (λ c. ap (placeIn order) (sym (c .match .keys7)))  -- returns-7
-    (λ c. ap (placeIn order) (sym (c .match .keys8)))  -- returns-8
+    (λ c. ap (placeOf order) (sym (c .match .keys1)))  -- returns
+    (λ c. ap (placeOf order) (sym (c .match .keys2)))  -- returns-2
+    (λ c. ap (placeOf order) (sym (c .match .keys3)))  -- returns-3
+    (λ c. ap (placeOf order) (sym (c .match .keys4)))  -- returns-4
+    (λ c. ap (placeOf order) (sym (c .match .keys5)))  -- returns-5
+    (λ c. ap (placeOf order) (sym (c .match .keys6)))  -- returns-6
+    (λ c. ap (placeOf order) (sym (c .match .keys7)))  -- returns-7
+    (λ c. ap (placeOf order) (sym (c .match .keys8)))  -- returns-8
     (λ c. rw (
       ne-eqb _ 1 (c .match .rest .0 .0 .0 .0 .0 .0 .0 .1),
       ne-eqb _ 2 (c .match .rest .0 .0 .0 .0 .0 .0 .1),

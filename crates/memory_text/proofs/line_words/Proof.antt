@@ -10,7 +10,7 @@ use Rattle.text.proofs.Places.{placed-got}
 use Rattle.text.proofs.Fields.{number-at, number-bad}
 use Rattle.language.specs.World.{cell-words}
 use Rattle.memory_text.specs.Reading.{lineWords}
-use Rattle.memory_text.specs.Answers.{rowIn}
+use Rattle.memory_text.specs.Answers.{placedRow}
 use Rattle.memory_text.proofs.Rows as rows
 use Rattle.memory_text.proofs.line_words.Statement.{statement}
 use Rattle.memory_text.proofs.line_words.Tie as tie
@@ -35,7 +35,7 @@ returns c =
     let at = n .before .before in
     let s = at .before .before .args .s .now in
     c .no-row .ensures s
-    ∙ ap (rowIn s)
+    ∙ ap (placedRow (at .before .before .args .at) s)
     (sym (rows.left-bad (at .loop .i) (at .loop .words) _ (n .before .loop-test .taken) (number-bad s (at .loop .p) most _ (n .number .ensures) (c .before .enum-told .given .1)))
     ∙ at .loop .inv .1)
 
@@ -45,7 +45,7 @@ returns-2 c =
     let at = k .before .before .before .before in
     let s = at .before .before .args .s .now in
     c .no-row2 .ensures s
-    ∙ ap (rowIn s) (sym (rows.left-end (at .loop .i) (at .loop .words) _ (k .before .before .before .loop-test .taken) _ s _ (known k) (c .before .if1 .taken)) ∙ at .loop .inv .1)
+    ∙ ap (placedRow (at .before .before .args .at) s) (sym (rows.left-end (at .loop .i) (at .loop .words) _ (k .before .before .before .loop-test .taken) _ s _ (known k) (c .before .if1 .taken)) ∙ at .loop .inv .1)
 
 returns-3 : tie.Need-returns-3 Inv-loop μ-loop
 returns-3 c =
@@ -54,7 +54,7 @@ returns-3 c =
     let at = k .before .before .before .before in
     let s = at .before .before .args .s .now in
     c .no-row3 .ensures s
-    ∙ ap (rowIn s)
+    ∙ ap (placedRow (at .before .before .args .at) s)
     (sym (rows.left-zero (at .loop .i) (at .loop .words) _ (k .before .before .before .loop-test .taken) _ s _ (known k) (f .if1 .left) (c .before .before .if2 .taken)
     (c .before .if3 .taken))
     ∙ at .loop .inv .1)
@@ -88,7 +88,7 @@ returns-5 c =
     let at = k .before .before .before .before in
     let s = at .before .before .args .s .now in
     c .no-row4 .ensures s
-    ∙ ap (rowIn s)
+    ∙ ap (placedRow (at .before .before .args .at) s)
     (sym (rows.left-other (at .loop .i) (at .loop .words) _ (k .before .before .before .loop-test .taken) _ s _ (known k) (f .if1 .left) (c .before .before .if2 .left)
     (c .before .if4 .left))
     ∙ at .loop .inv .1)
@@ -97,7 +97,7 @@ returns-6 : tie.Need-returns-6 Inv-loop μ-loop
 returns-6 c =
     let at = c .before .before in
     let s = at .before .before .args .s .now in
-    c .no-row5 .ensures s ∙ ap (rowIn s) (sym (rows.left-full (at .loop .i) (at .loop .words) _ (c .before .loop-test .left)) ∙ at .loop .inv .1)
+    c .no-row5 .ensures s ∙ ap (placedRow (at .before .before .args .at) s) (sym (rows.left-full (at .loop .i) (at .loop .words) _ (c .before .loop-test .left)) ∙ at .loop .inv .1)
 
 pub line-words-spec : {M : Type 1} → statement M
 line-words-spec = tie.close (tie.spec

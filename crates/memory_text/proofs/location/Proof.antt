@@ -3,7 +3,7 @@ use mathlib.Core.Path.{sym, ap, _∙_}
 use borrow.Author.Needs.{needs}
 use Rattle.text.proofs.Places.{placed-got}
 use Rattle.text.proofs.Fields.{byte-at, byte-bad}
-use Rattle.memory_text.specs.Answers.{rowIn}
+use Rattle.memory_text.specs.Answers.{placedRow}
 use Rattle.memory_text.proofs.Lines.{location-blank, location-words}
 use Rattle.memory_text.proofs.location.Statement.{statement}
 use Rattle.memory_text.proofs.location.Tie as tie
@@ -20,7 +20,7 @@ returns-2 c =
     let k = c .before in
     let a = k .before .before .before .before .args in
     let end = byte-bad (a .s .now) (a .at) 10 _ (k .before .before .line-end .ensures) (k .enum-told .given .1) in
-    c .line-words .ensures ∙ ap (rowIn (a .s .now)) (sym (location-words _ end))
+    c .line-words .ensures ∙ ap (placedRow (a .at) (a .s .now)) (sym (location-words _ end))
 
 pub location-spec : {M : Type 1} → statement M
 location-spec = tie.close (tie.spec

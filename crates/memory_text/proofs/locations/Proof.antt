@@ -31,26 +31,28 @@ returns c =
 loop-again : tie.Need-loop-again Inv-loop μ-loop
 loop-again c =
     let st = c .before .store in
-    let r = c .before .before .before .before .before in
+    let told = c .before .before .before .before in
+    let r = told .before .before .before in
     let at = r .before .before .before in
     let s = at .before .before .args .s .now in
-    let read = row-on s (at .loop .at) (r .location .result) (r .location .ensures) (c .before .before .before .before .if2 .taken) in (
+    let next = r .location-from .result in
+    let read = row-on s (at .loop .at) next (r .location-from .ensures) (told .enum-told .given .1) in (
       omega arith,
       st .kept .0 ∙ at .loop .inv .1,
       rw (st .ensures)
-          (sym (rest-more (at .loop .n) (at .loop .words) s (at .loop .at) (r .before .before .loop-test .taken) (r .before .if1 .left) (r .location .result .words)
-          (r .location .result .next) read)
+          (sym (rest-more (at .loop .n) (at .loop .words) s (at .loop .at) (r .before .before .loop-test .taken) (r .before .if1 .left) (next .row .words) (next .at) read)
           ∙ at .loop .inv .2),
     )
 
 returns-2 : tie.Need-returns-2 Inv-loop μ-loop
 returns-2 c =
-    let r = c .before .before in
+    let told = c .before in
+    let r = told .before .before .before in
     let at = r .before .before .before in
     let s = at .before .before .args .s .now in
     c .no-memory2 .ensures
     ∙ sym (rest-bad (at .loop .n) (at .loop .words) s (at .loop .at) (r .before .before .loop-test .taken) (r .before .if1 .left)
-    (row-off s (at .loop .at) _ (r .location .ensures) (c .before .if2 .left)))
+    (row-off s (at .loop .at) _ (r .location-from .ensures) (told .enum-told2 .given .1)))
     ∙ at .loop .inv .2
 
 returns-3 : tie.Need-returns-3 Inv-loop μ-loop
@@ -65,13 +67,15 @@ locations-spec = tie.close (tie.spec
     (λ c. (omega arith, refl, tabled-start _))  -- loop-holds
     (λ c κs. search needs)  -- no-memory-requires
     returns
-    (λ c κs. search needs)  -- location-requires
+    (λ c κs. search needs)  -- location-from-requires
+    (λ c. search needs)  -- enum-told
     (λ c. search needs)  -- slice-aggregate-store
     (λ c. omega arith)  -- mul-store
     (λ c κs. omega arith)  -- store-requires
     (λ c. omega arith)  -- add-n
     (λ c. omega arith)  -- loop-less
     loop-again
+    (λ c. search needs)  -- enum-told-2
     (λ c κs. search needs)  -- no-memory-requires-2
     returns-2
     returns-3)

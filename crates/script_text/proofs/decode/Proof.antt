@@ -1,19 +1,88 @@
--- `script_text::decode` meets its contract: it starts a reader at the text and calls `decode_here`. Assumes nothing.
-use lib.ListN.{drop}
-use Rattle.script_text.specs.Reading.{linesOf}
-use Rattle.script_text.specs.Script.{codedLines}
-use Rattle.script_text.proofs.Script as S
-use Rattle.script_text.proofs.Script.Laws as S′
-use Rattle.script_text.proofs.decode_here.Symbol as callee
-use Rattle.script_text.proofs.decode_here.Met as callee-thm
-use Rattle.reader.proofs.Apart.{struct}
-use Rattle.reader.proofs.Started.{started}
-use Rattle.script_text.proofs.decode.Key.{name}
-use Rattle.script_text.proofs.decode.Statement as stated
-use Rattle.script_text.proofs.decode.Code as code
+-- `script_text::decode` meets its contract. Assumes nothing.
+use Prim.Native.Nat.{_-_, _≤_}
+use mathlib.Core.Path.{_≡_, refl, sym, _∙_}
+use native.Mathlib.Omega.{arith}
+use borrow.Author.Needs.{needs}
+use borrow.Author.Tests.{not-true, not-false}
+use lib.ListN.{length, drop, length-set}
+use Rattle.text.specs.Lines.{linesUpTo}
+use Rattle.script_text.specs.Reading.{maxLines, lineOf, linesOf}
+use Rattle.script_text.specs.Script.{codeWords, noCode, codedLines}
+use Rattle.script_text.proofs.CodeLaws.{tabled, table-done, table-full, table-bad, table-more, decode-start, decode-long}
+use Rattle.script_text.proofs.decode.Statement.{statement}
+use Rattle.script_text.proofs.decode.Tie as tie
 
-pub decode-spec : {M : Type 1} → stated.statement M
-unfolding code.routine
-decode-spec 𝓤 H 𝓜 𝓖 𝓡 =
-    started (struct S.the-type S′.the-laws S′.lowers) (λ s i. codedLines (linesOf (drop i s))) 𝓤 H 𝓜 𝓖 𝓡 code.env name callee.name callee.routine
-    (code.unfolded 𝓤 H 𝓜 𝓡) code.calls-reader·reader-of code.calls-script-text·decode-here (callee-thm.met 𝓤 H 𝓜 𝓖 𝓡)
+-- what is left to decode gives the code of the whole text
+abbrev Inv-loop : tie.InvT-loop
+Inv-loop s out₀ n₀ at₀ out n at =
+    (at ≤ length s) × (n ≤ maxLines) × (length (out .code) ≡ codeWords)
+    × (tabled n (out .code) (linesUpTo lineOf (maxLines - n) (drop at s)) ≡ codedLines (linesOf s))
+
+abbrev μ-loop : tie.MeasureT-loop
+μ-loop s out₀ n₀ at₀ out n at = maxLines - n
+
+returns : tie.Need-returns Inv-loop μ-loop
+returns c =
+    let test = c .before in
+    c .refused .ensures ∙ sym (decode-long _ (sym (test .before .fits2 .ensures) ∙ not-true _ (test .if1 .taken)))
+
+loop-holds : tie.Need-loop-holds Inv-loop μ-loop
+unfolding noCode
+loop-holds c =
+    rw (c .refused2 .ensures)
+    (omega arith, omega arith, refl, decode-start _ (sym (c .before .before .fits2 .ensures) ∙ not-false _ (c .before .if1 .left)))
+
+returns-2 : tie.Need-returns-2 Inv-loop μ-loop
+returns-2 c =
+    let full = c .before in
+    c .refused3 .ensures ∙ sym (table-full _ _ _ _ (full .before .loop-test .taken) (full .if2 .taken)) ∙ full .before .before .loop .inv .3
+
+loop-again : tie.Need-loop-again Inv-loop μ-loop
+loop-again c =
+    let row = c .before .before .before in
+    let in-loop = row .before .before in
+    let inv = in-loop .before .loop .inv in
+    let more = table-more _ _ _ _ (in-loop .loop-test .taken) (row .before .if2 .left) _ (row .line-from .ensures) _ _ _ (c .before .read .given .1) in
+    (more .0, omega arith, simp length-set (inv .2), sym (more .1) ∙ inv .3)
+
+returns-3 : tie.Need-returns-3 Inv-loop μ-loop
+returns-3 c =
+    let row = c .before .before .before in
+    let in-loop = row .before .before in
+    let no = table-bad _ _ _ _ (in-loop .loop-test .taken) (row .before .if2 .left) _ (row .line-from .ensures) (c .before .enum-told .given .1) in
+    c .refused4 .ensures ∙ sym no ∙ in-loop .before .loop .inv .3
+
+returns-4 : tie.Need-returns-4 Inv-loop μ-loop
+returns-4 c = sym (table-done _ _ _ _ (c .loop-test .left)) ∙ c .before .loop .inv .3
+
+pub decode-spec : {M : Type 1} → statement M
+decode-spec = tie.close (tie.spec
+    Inv-loop
+    μ-loop
+    (λ c κs. search needs)  -- fits-requires
+    (λ c κs. search needs)  -- refused-requires
+    returns
+    (λ c κs. search needs)  -- refused-requires-2
+    loop-holds
+    (λ c κs. search needs)  -- refused-requires-3
+    returns-2
+    (λ c κs. search needs)  -- line-from-requires
+    (λ c. search needs)  -- enum-known-read
+    (λ c. omega arith)  -- mul-out
+    (λ c. omega arith)  -- mul-out-2
+    (λ c. omega arith)  -- element-write-out
+    (λ c. omega arith)  -- mul-out-3
+    (λ c. omega arith)  -- add-out
+    (λ c. omega arith)  -- mul-out-4
+    (λ c. omega arith)  -- element-write-out-2
+    (λ c. omega arith)  -- mul-out-5
+    (λ c. omega arith)  -- add-out-2
+    (λ c. omega arith)  -- mul-out-6
+    (λ c. omega arith)  -- element-write-out-3
+    (λ c. omega arith)  -- add-n
+    (λ c. omega arith)  -- loop-less
+    loop-again
+    (λ c. search needs)  -- enum-told
+    (λ c κs. search needs)  -- refused-requires-4
+    returns-3
+    returns-4)

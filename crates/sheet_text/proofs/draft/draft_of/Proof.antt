@@ -17,14 +17,14 @@ returns-2 c =
     let s = c .before .before .before .before .before .before .before .before .before .before .before .args .s .now in
     let fits = sym (c .before .before .before .before .before .before .before .before .before .fits2 .ensures) ∙ not-false _
     (c .before .before .before .before .before .before .before .before .if1 .left) in
-    let l = line-found s 0 _ (c .before .before .before .before .before .before .before .line-at .ensures) _ _ (c .before .before .before .before .before .line .given .1) in
+    let l = line-found s 0 _ (c .before .before .before .before .before .before .before .line-from .ensures) _ (c .before .before .before .before .before .read .given .1) in
     rw (← sheet-first s _ _ fits (l .0)) (c .follow .ensures _ (formed-begun _) (c .before .before .begin .ensures))
 
 returns-3 : tie.Need-returns-3
 returns-3 c =
     let s = c .before .before .before .before .before .before .before .args .s .now in
     let fits = sym (c .before .before .before .before .before .fits2 .ensures) ∙ not-false _ (c .before .before .before .before .if1 .left) in
-    let missed = line-missed s 0 _ (c .before .before .before .line-at .ensures) (c .before .enum-told .given .1) in
+    let missed = line-missed s 0 _ (c .before .before .before .line-from .ensures) (c .before .enum-told .given .1) in
     holds-none _ _ _ (sheet-none s fits missed) (c .refused2 .ensures)
 
 pub draft-of-spec : {M : Type 1} → statement M
@@ -32,8 +32,8 @@ draft-of-spec = tie.close (tie.spec
     (λ c κs. search needs)  -- fits-requires
     (λ c κs. search needs)  -- refused-requires
     returns
-    (λ c κs. search needs)  -- line-at-requires
-    (λ c. search needs)  -- enum-known-line
+    (λ c κs. search needs)  -- line-from-requires
+    (λ c. search needs)  -- enum-known-read
     (λ c κs. c .before .before .before .before .before .before .before .before .pre)  -- begin-requires
     (λ c κs. search needs)  -- follow-requires
     (λ c. search needs)  -- enum-told

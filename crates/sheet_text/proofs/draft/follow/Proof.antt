@@ -25,22 +25,21 @@ abbrev μ-loop : tie.MeasureT-loop
 μ-loop s from table₀ d₀ at₀ table d at = length s - at
 
 -- what is known where a line has been read
-found : (k : tie.After-line Inv-loop μ-loop)
+found : (k : tie.After-read Inv-loop μ-loop)
     → let at = k .before .before .before .before in
     let s = at .before .before .args .s .now in
-    (lineOf (drop (at .loop .at) s) ≡ got (k .line .given .0 .0) (drop (k .line .given .0 .1 .0) s)) × (k .line .given .0 .1 .0 ≤ length s)
+    let next = k .before .before .line-from .result in
+    (lineOf (drop (at .loop .at) s) ≡ got (k .read .given .0 .0) (drop (next .at) s)) × (next .at ≤ length s)
 found k =
     let at = k .before .before .before .before in
-    let s = at .before .before .args .s .now in
-    line-found s (at .loop .at) _ (k .before .before .line-at .ensures) _ _ (k .line .given .1)
+    line-found (at .before .before .args .s .now) (at .loop .at) _ (k .before .before .line-from .ensures) _ (k .read .given .1)
 
 loop-less : tie.Need-loop-less Inv-loop μ-loop
 loop-less c =
     let k = c .before .before .before in
-    let a = k .before .before .before .before .before .before .args in
     let at = k .before .before .before .before in
     let l = found k in
-    omega (arith, l .1, line-onward (a .s .now) (at .loop .at) _ _ (l .0) (l .1), at .before)
+    omega (arith, l .1, line-onward (at .before .before .args .s .now) (at .loop .at) _ _ (l .0) (l .1), at .before)
 
 loop-again : tie.Need-loop-again Inv-loop μ-loop
 loop-again c =
@@ -49,10 +48,10 @@ loop-again c =
     let at = k .before .before .before .before in
     let s = at .before .before .args .s .now in
     let (o′, f′, e′, g) = at .loop .inv o f e in (
-      stepOn o′ (k .line .given .0 .0),
+      stepOn o′ (k .read .given .0 .0),
       formed-stepped o′ _ f′,
       c .step .ensures o′ f′ e′,
-      steps-on o′ s (at .loop .at) _ (k .line .given .0 .1 .0) (found k .0) ∙ g,
+      steps-on o′ s (at .loop .at) _ (k .before .before .line-from .result .at) (found k .0) ∙ g,
     )
 
 returns : tie.Need-returns Inv-loop μ-loop
@@ -62,7 +61,7 @@ returns c =
     let at = k .before .before in
     let s = at .before .before .args .s .now in
     let (o′, f′, e′, g) = at .loop .inv o f e in
-    let missed = line-missed s (at .loop .at) _ (k .line-at .ensures) (c .before .enum-told .given .1) in
+    let missed = line-missed s (at .loop .at) _ (k .line-from .ensures) (c .before .enum-told .given .1) in
     holds-none _ _ _ (steps-bad o′ s (at .loop .at) (k .before .loop-test .taken) missed ∙ g) (c .refused .ensures)
 
 returns-2 : tie.Need-returns-2 Inv-loop μ-loop
@@ -78,8 +77,8 @@ follow-spec = tie.close (tie.spec
     Inv-loop
     μ-loop
     (λ c. λ o f e. (o, f, e, refl))  -- loop-holds
-    (λ c κs. search needs)  -- line-at-requires
-    (λ c. search needs)  -- enum-known-line
+    (λ c κs. search needs)  -- line-from-requires
+    (λ c. search needs)  -- enum-known-read
     (λ c κs. search needs)  -- step-requires
     loop-less
     loop-again

@@ -1,6 +1,6 @@
 -- `sheet_text::line::line_at` meets its contract. Assumes nothing.
 use mathlib.Core.Path.{sym, ap, _∙_}
-use Rattle.sheet_text.specs.Reading.{foundIn}
+use Rattle.sheet_text.specs.Placed.{placedLine}
 use Rattle.sheet_text.proofs.FoundLaws.{found-none, line-past, line-principals, line-sum, line-label, line-policy, line-location, line-other}
 use borrow.Author.Needs.{needs}
 use Rattle.sheet_text.proofs.line.line_at.Statement.{statement}
@@ -14,27 +14,27 @@ returns c =
 returns-2 : tie.Need-returns-2
 returns-2 c =
     let a = c .before .before .before .before .before .args in
-    c .principals-rest .ensures ∙ ap (foundIn (a .s .now)) (sym (line-principals (a .s .now) (a .at) (c .before .before .before .if1 .left) (c .before .match .keys1)))
+    c .principals-rest .ensures ∙ ap (placedLine (a .s .now)) (sym (line-principals (a .s .now) (a .at) (c .before .before .before .if1 .left) (c .before .match .keys1)))
 
 returns-3 : tie.Need-returns-3
 returns-3 c =
     let a = c .before .before .before .before .before .args in
-    c .pair-rest .ensures ∙ ap (foundIn (a .s .now)) (sym (line-sum (a .s .now) (a .at) (c .before .before .before .if1 .left) (c .before .match .keys2)))
+    c .pair-rest .ensures ∙ ap (placedLine (a .s .now)) (sym (line-sum (a .s .now) (a .at) (c .before .before .before .if1 .left) (c .before .match .keys2)))
 
 returns-4 : tie.Need-returns-4
 returns-4 c =
     let a = c .before .before .before .before .before .args in
-    c .label-rest .ensures ∙ ap (foundIn (a .s .now)) (sym (line-label (a .s .now) (a .at) (c .before .before .before .if1 .left) (c .before .match .keys3)))
+    c .label-rest .ensures ∙ ap (placedLine (a .s .now)) (sym (line-label (a .s .now) (a .at) (c .before .before .before .if1 .left) (c .before .match .keys3)))
 
 returns-5 : tie.Need-returns-5
 returns-5 c =
     let a = c .before .before .before .before .before .args in
-    c .policy-rest .ensures ∙ ap (foundIn (a .s .now)) (sym (line-policy (a .s .now) (a .at) (c .before .before .before .if1 .left) (c .before .match .keys4)))
+    c .policy-rest .ensures ∙ ap (placedLine (a .s .now)) (sym (line-policy (a .s .now) (a .at) (c .before .before .before .if1 .left) (c .before .match .keys4)))
 
 returns-6 : tie.Need-returns-6
 returns-6 c =
     let a = c .before .before .before .before .before .args in
-    c .pair-rest2 .ensures ∙ ap (foundIn (a .s .now)) (sym (line-location (a .s .now) (a .at) (c .before .before .before .if1 .left) (c .before .match .keys5)))
+    c .pair-rest2 .ensures ∙ ap (placedLine (a .s .now)) (sym (line-location (a .s .now) (a .at) (c .before .before .before .if1 .left) (c .before .match .keys5)))
 
 returns-7 : tie.Need-returns-7
 returns-7 c =

@@ -1,0 +1,31 @@
+-- What the code answers to a line: its words and the place after it, or a refusal.
+use mathlib.Core.List.{List, []}
+use Prim.Native.Nat.{ℕ}
+use lib.ListN.{getD, drop}
+use Rattle.text.specs.Reading.{Read}
+use Rattle.text.specs.Place.{placed}
+use Rattle.script.specs.declared.Row.{Row}
+use Rattle.script.specs.Lines.{Line}
+use Rattle.script.specs.Code.{lineWords}
+use Rattle.script_text.specs.declared.Found.{Found}
+use Rattle.script_text.specs.declared.Found.the-variants as found
+use Rattle.script_text.specs.declared.LineRead.the-variants as read
+use Rattle.script_text.specs.declared.Reached.{Reached}
+use Rattle.script_text.specs.Reading.{lineOf}
+
+-- the three words of a line
+unfoldable pub rowOf : Line → Row
+rowOf l = record { kind = getD (lineWords l []) 0 0; a = getD (lineWords l []) 1 0; b = getD (lineWords l []) 2 0 }
+
+-- a line that is read in s, with its place
+abbrev pub placedLine : List ℕ → Read Line → Found
+placedLine s want = placed (λ l p. found.At (rowOf l .kind) (rowOf l .a) (rowOf l .b) p) found.Refused s want
+
+-- what is read at byte i, and the byte after it; after a refusal, i itself
+unfoldable pub reached : ℕ → Found → Reached
+reached i (found.At k a b p) = record { read = read.Line k a b; at = p }
+reached i found.Refused = record { read = read.Refused; at = i }
+
+-- the line at byte i of s
+abbrev pub lineAt : List ℕ → ℕ → Reached
+lineAt s i = reached i (placedLine s (lineOf (drop i s)))

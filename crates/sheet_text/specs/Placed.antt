@@ -1,0 +1,25 @@
+-- What the code answers to a line: the line and the place after it, or a refusal.
+use mathlib.Core.List.{List}
+use Prim.Native.Nat.{ℕ}
+use lib.ListN.{drop}
+use Rattle.text.specs.Reading.{Read}
+use Rattle.text.specs.Place.{placed}
+use Rattle.sheet_text.specs.declared.line.Line.{Line}
+use Rattle.sheet_text.specs.declared.line.Found.{Found}
+use Rattle.sheet_text.specs.declared.line.Found.the-variants as found
+use Rattle.sheet_text.specs.declared.line.LineRead.the-variants as read
+use Rattle.sheet_text.specs.declared.line.Reached.{Reached}
+use Rattle.sheet_text.specs.Reading.{lineOf}
+
+-- a line that is read in s, with its place
+abbrev pub placedLine : List ℕ → Read Line → Found
+placedLine s want = placed (λ l p. found.At l p) found.Refused s want
+
+-- what is read at byte i, and the byte after it; after a refusal, i itself
+unfoldable pub reached : ℕ → Found → Reached
+reached i (found.At l p) = record { read = read.Line l; at = p }
+reached i found.Refused = record { read = read.Refused; at = i }
+
+-- the line at byte i of s
+abbrev pub lineAt : List ℕ → ℕ → Reached
+lineAt s i = reached i (placedLine s (lineOf (drop i s)))

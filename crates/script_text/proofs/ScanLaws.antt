@@ -423,10 +423,3 @@ row-room ws at row j q e = row-in ws at j (sym (ap (λ (r : Row). r .kind) q) �
 -- the same of a row of any kind
 pub row-some : (ws : List ℕ) (at : ℕ) (row : Row) → row ≡ rowAt ws at → 0 < row .kind → at + 3 ≤ length ws
 row-some ws at row r h = row-room ws at row (row .kind - 1) r (omega arith)
-
--- the last of the kinds with an operand, by what it is not
-pub from-plus : (k : ℕ) → 6 ≤ k → (k ≡ 6 → ⊥) → (k ≡ 7 → ⊥) → (k ≡ 8 → ⊥) → 9 ≤ k
-from-plus k h n6 n7 n8 = omega arith
-
-pub is-unpack : (k : ℕ) → 9 ≤ k → k < 14 → (k ≡ 9 → ⊥) → (k ≡ 10 → ⊥) → (k ≡ 11 → ⊥) → (k ≡ 12 → ⊥) → k ≡ 13
-is-unpack k h l n9 n10 n11 n12 = omega arith

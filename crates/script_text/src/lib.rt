@@ -293,7 +293,11 @@ fn scan_expr(code: &[u32], at: usize, table: &[u16], depth: u32) -> Scanned
                 LEFT => also(is_type(table, a), e),
                 RIGHT => also(is_type(table, a), e),
                 PACK => also(is_label(table, a), e),
-                _ => also(is_type(table, a), also(is_label(table, row.b), e)),
+                UNPACK => also(is_type(table, a), also(is_label(table, row.b), e)),
+                _ => Scanned {
+                    ok: false,
+                    next: at,
+                },
             }
         }
         _ => Scanned {
@@ -327,7 +331,7 @@ fn scan_cmd(code: &[u32], at: usize, table: &[u16], depth: u32) -> Scanned
                     let mid = e.next;
                     also(e.ok, scan_cmd(code, mid, table, depth))
                 }
-                _ => {
+                CASE => {
                     if DEPTH <= depth {
                         return Scanned {
                             ok: false,
@@ -339,6 +343,10 @@ fn scan_cmd(code: &[u32], at: usize, table: &[u16], depth: u32) -> Scanned
                     let second = c.next;
                     also(e.ok, also(c.ok, scan_cmd(code, second, table, depth + 1)))
                 }
+                _ => Scanned {
+                    ok: false,
+                    next: at,
+                },
             }
         }
         _ => Scanned {

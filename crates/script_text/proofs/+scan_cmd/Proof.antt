@@ -58,8 +58,7 @@ pub +scan-cmd-spec : {M : Type 1} → statement M
     (λ c κs. search needs)  -- also-requires-2
     (λ c κs. (omega (arith, row-some _ _ _ (c .before .before .before .before .before .row-at .ensures) (omega (arith, c .before .before .before .if1 .left)), c .before .scan-expr .ensures .forward), tt))  -- scan-cmd-requires-3
     (λ c κs. search needs)  -- also-requires-3
-    (λ c. laws.scan-deep _ _ _ _ _ (c .before .before .before .before .before .before .row-at .ensures)
-    (omega (arith, c .before .before .before .before .if1 .left, c .before .before .before .if2 .taken, c .before .before .before .before .before .match .rest .0 .1, c .before .before .before .before .before .match .rest .1, c .before .match2 .rest .0 .1, c .before .match2 .rest .1)) (c .if3 .taken))  -- returns
+    (λ c. laws.scan-deep _ _ _ _ _ (c .before .before .before .before .before .before .row-at .ensures) (c .before .match2 .keys3) (c .if3 .taken))  -- returns
     (λ c. omega arith)  -- add-scan-cmd-2
     (λ c κs. (omega (arith, row-some _ _ _ (c .before .before .before .before .before .before .row-at .ensures) (omega (arith, c .before .before .before .before .if1 .left)), c .before .before .scan-expr .ensures .forward), tt))  -- scan-cmd-requires-4
     (λ c. omega arith)  -- add-scan-cmd-3
@@ -70,8 +69,11 @@ pub +scan-cmd-spec : {M : Type 1} → statement M
     (λ c. laws.scan-seq _ _ _ _ _ (c .before .before .before .before .row-at .ensures) _ _ _ (c .before .before .before .match .keys2) (c .before .before .scan-cmd .ensures) (c .before .scan-cmd2 .ensures) (c .also .ensures))  -- returns-3
     (λ c. laws.scan-assign _ _ _ _ _ (c .before .before .before .before .before .before .before .row-at .ensures) _ _ _ (c .before .before .match2 .keys1) (c .before .is-location .ensures) (c .before .before .before .scan-expr .ensures) (c .also2 .ensures))  -- returns-4
     (λ c. laws.scan-while _ _ _ _ _ (c .before .before .before .before .before .before .before .row-at .ensures) _ _ _ (c .before .before .match2 .keys2) (c .before .before .before .scan-expr .ensures) (c .before .scan-cmd3 .ensures) (c .also3 .ensures))  -- returns-5
-    (λ c. laws.scan-case _ _ _ _ _ (c .before .before .before .before .before .before .before .before .before .before .row-at .ensures) _ _ _ _ _
-    (omega (arith, c .before .before .before .before .before .before .before .before .if1 .left, c .before .before .before .before .before .before .before .if2 .taken, c .before .before .before .before .before .before .before .before .before .match .rest .0 .1, c .before .before .before .before .before .before .before .before .before .match .rest .1, c .before .before .before .before .before .match2 .rest .0 .1, c .before .before .before .before .before .match2 .rest .1)) (c .before .before .before .before .if3 .left)
+    (λ c. laws.scan-case _ _ _ _ _ (c .before .before .before .before .before .before .before .before .before .before .row-at .ensures) _ _ _ _ _ (c .before .before .before .before .before .match2 .keys3) (c .before .before .before .before .if3 .left)
     (c .before .before .before .before .before .before .scan-expr .ensures) (c .before .before .before .scan-cmd4 .ensures) (c .before .before .scan-cmd5 .ensures) (c .before .also4 .ensures) (c .also5 .ensures))  -- returns-6
-    (λ c. laws.scan-no-cmd _ _ _ _ _ (c .before .before .row-at .ensures) (c .before .match .rest .0 .1) (c .before .match .rest .1) (λ q. omega (arith, c .if1 .taken)) (λ q. omega (arith, c .if1 .taken)) (λ q. omega (arith, c .if1 .taken)))  -- returns-7
-    (λ c. laws.scan-no-cmd _ _ _ _ _ (c .before .before .before .row-at .ensures) (c .before .before .match .rest .0 .1) (c .before .before .match .rest .1) (λ q. omega (arith, c .if2 .left)) (λ q. omega (arith, c .if2 .left)) (λ q. omega (arith, c .if2 .left)))  -- returns-8
+    (λ c.
+    let from-match = c .before .before .before .before in
+    let inner = c .match2 .rest in
+    laws.scan-no-cmd _ _ _ _ _ (from-match .before .row-at .ensures) (from-match .match .rest .0 .1) (from-match .match .rest .1) (inner .0 .0 .1) (inner .0 .1) (inner .1))  -- returns-7
+    (λ c. laws.scan-no-cmd _ _ _ _ _ (c .before .before .row-at .ensures) (c .before .match .rest .0 .1) (c .before .match .rest .1) (λ q. omega (arith, c .if1 .taken)) (λ q. omega (arith, c .if1 .taken)) (λ q. omega (arith, c .if1 .taken)))  -- returns-8
+    (λ c. laws.scan-no-cmd _ _ _ _ _ (c .before .before .before .row-at .ensures) (c .before .before .match .rest .0 .1) (c .before .before .match .rest .1) (λ q. omega (arith, c .if2 .left)) (λ q. omega (arith, c .if2 .left)) (λ q. omega (arith, c .if2 .left)))  -- returns-9

@@ -76,10 +76,14 @@ pub +scan-expr-spec : {M : Type 1} → statement M
     (λ c. laws.scan-right _ _ _ _ _ (c .before .before .before .before .before .before .before .row-at .ensures) _ _ _ (c .before .before .match2 .keys3) (c .before .is-type2 .ensures) (c .before .before .before .scan-expr .ensures) (c .also3 .ensures))  -- returns-6
     (λ c. laws.scan-pack _ _ _ _ _ (c .before .before .before .before .before .before .before .row-at .ensures) _ _ _ (c .before .before .match2 .keys4) (c .before .is-label .ensures) (c .before .before .before .scan-expr .ensures) (c .also4 .ensures))  -- returns-7
     (λ c. laws.scan-unpack _ _ _ _ _ (c .before .before .before .before .before .before .before .before .before .row-at .ensures) _ _ _ _ _
-    (laws.is-unpack _ (laws.from-plus _ (c .before .before .before .before .before .before .before .if1 .left) (c .before .before .before .before .before .before .before .before .match .rest .0 .0 .1) (c .before .before .before .before .before .before .before .before .match .rest .0 .1) (c .before .before .before .before .before .before .before .before .match .rest .1)) (c .before .before .before .before .before .before .if2 .taken) (c .before .before .before .before .match2 .rest .0 .0 .0 .1) (c .before .before .before .before .match2 .rest .0 .0 .1)
-    (c .before .before .before .before .match2 .rest .0 .1) (c .before .before .before .before .match2 .rest .1))
+    (c .before .before .before .before .match2 .keys5)
     (c .before .before .before .is-type3 .ensures) (c .before .before .is-label2 .ensures) (c .before .before .before .before .before .scan-expr .ensures) (c .before .also5 .ensures) (c .also6 .ensures))  -- returns-8
+    (λ c.
+    let from-match = c .before .before .before .before in
+    let inner = c .match2 .rest in
+    laws.scan-no-expr _ _ _ _ _ (from-match .before .row-at .ensures) (from-match .match .rest .0 .0 .1) (from-match .match .rest .0 .1) (from-match .match .rest .1)
+    (inner .0 .0 .0 .0 .1) (inner .0 .0 .0 .1) (inner .0 .0 .1) (inner .0 .1) (inner .1))  -- returns-9
     (λ c. laws.scan-no-expr _ _ _ _ _ (c .before .before .row-at .ensures) (c .before .match .rest .0 .0 .1) (c .before .match .rest .0 .1) (c .before .match .rest .1) (λ q. omega (arith, c .if1 .taken)) (λ q. omega (arith, c .if1 .taken))
-    (λ q. omega (arith, c .if1 .taken)) (λ q. omega (arith, c .if1 .taken)) (λ q. omega (arith, c .if1 .taken)))  -- returns-9
+    (λ q. omega (arith, c .if1 .taken)) (λ q. omega (arith, c .if1 .taken)) (λ q. omega (arith, c .if1 .taken)))  -- returns-10
     (λ c. laws.scan-no-expr _ _ _ _ _ (c .before .before .before .row-at .ensures) (c .before .before .match .rest .0 .0 .1) (c .before .before .match .rest .0 .1) (c .before .before .match .rest .1) (λ q. omega (arith, c .if2 .left)) (λ q. omega (arith, c .if2 .left))
-    (λ q. omega (arith, c .if2 .left)) (λ q. omega (arith, c .if2 .left)) (λ q. omega (arith, c .if2 .left)))  -- returns-10
+    (λ q. omega (arith, c .if2 .left)) (λ q. omega (arith, c .if2 .left)) (λ q. omega (arith, c .if2 .left)))  -- returns-11

@@ -14,7 +14,7 @@ use Rattle.logic.proofs.BooleanLaws.{cases}
 use Rattle.parts.specs.Parts.{keep, textOf, keptOf}
 use Rattle.parts.specs.Feeding.{beginning, held, fed, textHeld}
 use Rattle.parts.proofs.Keeping.{holds-parts}
-use Rattle.sheet_text.specs.Sheets.{sheetIn, sheetOf}
+use Rattle.sheet_text.specs.Sheets.{sheetRead, sheetOf}
 use Rattle.script_text.specs.Reading.{linesOf}
 use Rattle.script_text.specs.Script.{scriptOf}
 use Rattle.memory_text.specs.Reading.{memory}
@@ -36,7 +36,7 @@ kept-cases t f g =
     (λ e. let l : limit < length t = leb-false _ _ e in g e (lt-leb (length (take keep t)) limit (omega (arith, length-take-le keep t (omega arith)))))
 
 sheet-kept : (t : List ℕ) → sheetOf (take keep t) ≡ sheetOf t
-unfolding sheetOf sheetIn
+unfolding sheetOf sheetRead
 sheet-kept t = kept-cases t (λ e. ap sheetOf e) (λ a b. rw (a, b))
 
 lines-kept : (t : List ℕ) → linesOf (take keep t) ≡ linesOf t

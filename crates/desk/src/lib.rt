@@ -2,14 +2,14 @@
 pub mod run; // run.rt: the program run
 
 use parts::State;
+use text::Decimal;
 use text::Mask;
-use text::Value;
 ghost use mathlib.Core.Path.{_≡_};
 ghost use Prim.Native.Nat.{_+_, _≤_};
 ghost use lib.ListN.{length, take, drop};
 ghost use Rattle.memory_text.specs.Writing.{Puts};
 ghost use Rattle.desk.specs.Fields.{closed, groupOf, groupAnswer, budgetOf, budgetAnswer};
-ghost use Rattle.desk.specs.Numbers.{order, placeIn, earlier as earlierOf, unread as unreadOf, asText};
+ghost use Rattle.desk.specs.Numbers.{order, placeOf, earlier as earlierOf, unread as unreadOf, asText};
 ghost use Rattle.desk.specs.Given.{givenOf, Whole};
 ghost use Rattle.desk.specs.Show.{viewed, showOf};
 ghost use Rattle.desk.specs.Inputs.{showHeld};
@@ -68,7 +68,7 @@ fn group_line(s: &[u8]) -> Group
 fn budget_line(s: &[u8]) -> Budget
     ensures { λ r. ⌜ r ≡ budgetAnswer (budgetOf (now (s .entry))) ⌝ }
 {
-    if let Value::At(n, p) = text::number(s, 0, text::MOST) {
+    if let Decimal::At(n, p) = text::number(s, 0, text::MOST) {
         if closes(s, p) {
             return Budget {
                 ok: true,
@@ -84,7 +84,7 @@ fn budget_line(s: &[u8]) -> Budget
 
 // The place of a number in the order 1 2 3 4 5 6 7 8; what isn't in it comes after all of it.
 fn place(k: u8) -> u8
-    ensures { λ r. ⌜ r ≡ placeIn order k ⌝ }
+    ensures { λ r. ⌜ r ≡ placeOf order k ⌝ }
 {
     match k {
         1 => 0,

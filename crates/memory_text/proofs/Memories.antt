@@ -9,8 +9,8 @@ use lib.Seq.{take-at, drop-at, length-take-le}
 use borrow.Author.Tests.{le-leb}
 use Rattle.text.specs.Reading.{limit, fits}
 use Rattle.text.specs.Reading.Read.{got}
-use Rattle.text.specs.Lines.{linesUpTo, printLines, Each, none-left, and-then}
-use Rattle.logic.proofs.BooleanLaws.{cond-split}
+use Rattle.text.specs.Lines.{linesUpTo, printLines, AllGood, none-left, and-then}
+use Rattle.text.proofs.Cases.{cond-split}
 use Rattle.text.proofs.Readings.{not-bad, got-same}
 use Rattle.text.proofs.Lines.{lines-exact}
 use Rattle.language.specs.World.{cell-words}
@@ -25,17 +25,17 @@ use Rattle.memory_text.proofs.Lines.{Row, memory-lines, length-line}
 
 -- ---- the words of locations, and the locations of words
 
-joined-length : (rs : List (List ℕ)) → Each Row rs → length (joined rs) ≡ cell-words * length rs
+joined-length : (rs : List (List ℕ)) → AllGood Row rs → length (joined rs) ≡ cell-words * length rs
 unfolding joined
 joined-length [] none-left = refl
 joined-length (row ∷ rs) (and-then g e) = length-append row (joined rs) ∙ omega (arith, g .0, joined-length rs e)
 
-joined-words : (rs : List (List ℕ)) → Each Row rs → Words (joined rs)
+joined-words : (rs : List (List ℕ)) → AllGood Row rs → Words (joined rs)
 unfolding joined Words
 joined-words [] none-left = tt
 joined-words (row ∷ rs) (and-then g e) = words-append row (joined rs) (g .1) (joined-words rs e)
 
-rows-joined : (rs : List (List ℕ)) → Each Row rs → rows (length rs) (joined rs) ≡ rs
+rows-joined : (rs : List (List ℕ)) → AllGood Row rs → rows (length rs) (joined rs) ≡ rs
 unfolding joined rows
 rows-joined [] none-left = refl
 rows-joined (row ∷ rs) (and-then g e) =
@@ -52,7 +52,7 @@ unfolding rows
 rows-length zero ws = refl
 rows-length (suc j) ws = ap suc (rows-length j (drop cell-words ws))
 
-rows-good : (j : ℕ) (ws : List ℕ) → length ws ≡ cell-words * j → Words ws → Each Row (rows j ws) × (joined (rows j ws) ≡ ws)
+rows-good : (j : ℕ) (ws : List ℕ) → length ws ≡ cell-words * j → Words ws → AllGood Row (rows j ws) × (joined (rows j ws) ≡ ws)
 unfolding rows joined
 rows-good zero [] n h = (none-left, refl)
 rows-good zero (w ∷ ws) n h = absurd (omega arith)

@@ -3,8 +3,8 @@ pub mod write; // write.rt: a memory into a buffer
 
 use memory::CELL;
 use reader::Reader;
+use text::Decimal;
 use text::Place;
-use text::Value;
 ghost use mathlib.Core.Path.{_≡_};
 ghost use mathlib.Core.List.{List};
 ghost use Prim.Native.Nat.{ℕ, _+_, _≤_};
@@ -72,7 +72,7 @@ fn line_words(s: &[u8], at: usize) -> Reached
     let mut p = at;
     let mut i: usize = 0;
     while i < CELL {
-        let Value::At(v, q) = text::number(s, p, text::MOST) else {
+        let Decimal::At(v, q) = text::number(s, p, text::MOST) else {
             return no_row(at);
         };
         if s.len() <= q {
@@ -112,7 +112,7 @@ fn location(s: &[u8], at: usize) -> Reached
             };
             Reached { row, at: p }
         }
-        Place::Bad => line_words(s, at),
+        Place::Refused => line_words(s, at),
     }
 }
 

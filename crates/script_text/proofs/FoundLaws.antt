@@ -9,9 +9,9 @@ use Rattle.text.specs.Reading.{Read}
 use Rattle.text.specs.Reading.Read.{got, bad}
 use Rattle.text.specs.Number.{most}
 use Rattle.text.specs.Field.{numberField, lineEnd, lastNumber}
-use Rattle.text.specs.Place.{valueIn, placeIn}
-use Rattle.text.specs.declared.Value.{Value}
-use Rattle.text.specs.declared.Value.the-variants as value
+use Rattle.text.specs.Place.{placedDecimal, placedEnd}
+use Rattle.text.specs.declared.Decimal.{Decimal}
+use Rattle.text.specs.declared.Decimal.the-variants as decimal
 use Rattle.text.specs.declared.Place.{Place}
 use Rattle.text.specs.declared.Place.the-variants as place
 use Rattle.text.proofs.Readings.{drop-step, andThen-got, andThen-bad}
@@ -41,31 +41,31 @@ found-bad s want e = placed-bad (λ l p. found.At (rowOf l .kind) (rowOf l .a) (
 -- ---- a line of each form
 
 module _ (s : List ℕ) (i k : ℕ) where
-  pub bare-got : (l : Line) (r : Place) (p : ℕ) → r ≡ placeIn s (lineEnd (drop i s)) → r ≡ place.At p
+  pub bare-got : (l : Line) (r : Place) (p : ℕ) → r ≡ placedEnd s (lineEnd (drop i s)) → r ≡ place.At p
       → rowOf l ≡ record { kind = k; a = 0; b = 0 } → found.At k 0 0 p ≡ placedLine s (operandsOf (bare l) (drop i s))
   unfolding operandsOf
   bare-got l r p e g q =
       let x = byte-at s i 10 r e p g in
       found-got s _ l k 0 0 p q (andThen-got _ _ tt _ (x .0)) (x .1)
 
-  pub bare-none : (l : Line) (r : Place) → r ≡ placeIn s (lineEnd (drop i s)) → r ≡ place.Bad → found.Refused ≡ placedLine s (operandsOf (bare l) (drop i s))
+  pub bare-none : (l : Line) (r : Place) → r ≡ placedEnd s (lineEnd (drop i s)) → r ≡ place.Refused → found.Refused ≡ placedLine s (operandsOf (bare l) (drop i s))
   unfolding operandsOf
   bare-none l r e g = found-bad s _ (andThen-bad _ _ (byte-bad s i 10 r e g))
 
-  pub one-got : (f : ℕ → Line) (r : Value) (a p : ℕ) → r ≡ valueIn s (lastNumber most (drop i s)) → r ≡ value.At a p
+  pub one-got : (f : ℕ → Line) (r : Decimal) (a p : ℕ) → r ≡ placedDecimal s (lastNumber most (drop i s)) → r ≡ decimal.At a p
       → rowOf (f a) ≡ record { kind = k; a = a; b = 0 } → found.At k a 0 p ≡ placedLine s (operandsOf (one f) (drop i s))
   unfolding operandsOf
   one-got f r a p e g q =
       let x = last-number-at s i most r e a p g in
       found-got s _ (f a) k a 0 p q (andThen-got _ _ a _ (x .0)) (x .1)
 
-  pub one-none : (f : ℕ → Line) (r : Value) → r ≡ valueIn s (lastNumber most (drop i s)) → r ≡ value.Bad
+  pub one-none : (f : ℕ → Line) (r : Decimal) → r ≡ placedDecimal s (lastNumber most (drop i s)) → r ≡ decimal.Refused
       → found.Refused ≡ placedLine s (operandsOf (one f) (drop i s))
   unfolding operandsOf
   one-none f r e g = found-bad s _ (andThen-bad _ _ (last-number-bad s i most r e g))
 
-  module _ (f : ℕ → ℕ → Line) (r : Value) (e : r ≡ valueIn s (numberField most (drop i s))) where
-    pub two-got : (a b p q : ℕ) (t : Value) → r ≡ value.At a p → t ≡ valueIn s (lastNumber most (drop p s)) → t ≡ value.At b q
+  module _ (f : ℕ → ℕ → Line) (r : Decimal) (e : r ≡ placedDecimal s (numberField most (drop i s))) where
+    pub two-got : (a b p q : ℕ) (t : Decimal) → r ≡ decimal.At a p → t ≡ placedDecimal s (lastNumber most (drop p s)) → t ≡ decimal.At b q
         → rowOf (f a b) ≡ record { kind = k; a = a; b = b } → found.At k a b q ≡ placedLine s (operandsOf (two f) (drop i s))
     unfolding operandsOf
     two-got a b p q t g d h w =
@@ -73,14 +73,14 @@ module _ (s : List ℕ) (i k : ℕ) where
         let y = last-number-at s p most t d b q h in
         found-got s _ (f a b) k a b q w (andThen-got _ _ a _ (x .0) ∙ andThen-got _ _ b _ (y .0)) (y .1)
 
-    pub two-open : (a p : ℕ) (t : Value) → r ≡ value.At a p → t ≡ valueIn s (lastNumber most (drop p s)) → t ≡ value.Bad
+    pub two-open : (a p : ℕ) (t : Decimal) → r ≡ decimal.At a p → t ≡ placedDecimal s (lastNumber most (drop p s)) → t ≡ decimal.Refused
         → found.Refused ≡ placedLine s (operandsOf (two f) (drop i s))
     unfolding operandsOf
     two-open a p t g d h =
         let x = number-field-at s i most r e a p g in
         found-bad s _ (andThen-got _ _ a _ (x .0) ∙ andThen-bad _ _ (last-number-bad s p most t d h))
 
-    pub two-none : r ≡ value.Bad → found.Refused ≡ placedLine s (operandsOf (two f) (drop i s))
+    pub two-none : r ≡ decimal.Refused → found.Refused ≡ placedLine s (operandsOf (two f) (drop i s))
     unfolding operandsOf
     two-none g = found-bad s _ (andThen-bad _ _ (number-field-bad s i most r e g))
 

@@ -9,7 +9,7 @@ use borrow.Author.Tests.{eqb-true}
 use Rattle.text.specs.Reading.Read.{got}
 use Rattle.text.specs.Number.{most, opensDigit, digit}
 use Rattle.text.specs.Field.{numberField, lineEnd, lastNumber, printNumberField, printLineEnd}
-use Rattle.text.specs.Lines.{Each, LineForm}
+use Rattle.text.specs.Lines.{AllGood, LineForm}
 use Rattle.text.proofs.Readings.{not-bad, got-same, andThen-got, andThen-split, byte-here, byte-sound}
 use Rattle.text.proofs.Fields.{number-field-sound, number-field-print, last-number-sound, last-number-print}
 use Rattle.script.specs.Lines.{Line, l-skip, l-seq, l-assign, l-while, l-case, l-int, l-loc, l-var, l-plus, l-left, l-right, l-pack, l-unpack}
@@ -57,7 +57,7 @@ abbrev pub Fits : Line → Type 0
 Fits l = (rowOf l .a ≤ most) × (rowOf l .b ≤ most)
 
 abbrev pub AllFit : List Line → Type 0
-AllFit ls = Each Fits ls
+AllFit ls = AllGood Fits ls
 
 -- what is not there is such a number
 no-operand : 0 ≤ most

@@ -19,7 +19,7 @@ use Rattle.script_text.specs.declared.Script.{Script}
 use Rattle.script_text.specs.declared.Scanned.{Scanned}
 use Rattle.script_text.specs.Reading.{maxLines, linesOf}
 use Rattle.script_text.specs.Parse.{stackOf, single, parse}
-use Rattle.script_text.specs.Script.{namedOnly, commandOf, commandIn, scriptOf, codeWords, noCode, coded, codedLines, decoded}
+use Rattle.script_text.specs.Script.{namedOnly, commandOf, commandRead, scriptOf, codeWords, noCode, coded, codedLines, decodedScript}
 use Rattle.script_text.specs.Scan.{ScansCmd, isSome, Whole}
 use Rattle.script_text.proofs.CodeLaws.{words-of, code-length}
 use Rattle.script_text.proofs.ScanLaws.{false-true}
@@ -87,43 +87,43 @@ module _ (k : Counts) (t : List ℕ) (s : Script) (e : s ≡ codedLines (linesOf
     (ws : List ℕ) (q : ws ≡ take (s .count * 3) (s .code)) (b : Bool) (w : Whole k ws b) where
   -- what was tested is whether the text has a command
   tested : b ≡ isSome (scriptOf k t)
-  unfolding scriptOf commandIn codedLines coded noCode
+  unfolding scriptOf commandRead codedLines coded noCode
   tested = go (linesOf t) e
     where
-      go : (o : Option (List Line)) → s ≡ codedLines o → b ≡ isSome (commandIn k o)
+      go : (o : Option (List Line)) → s ≡ codedLines o → b ≡ isSome (commandRead k o)
       go none x = unfold code commandOf namedOnly parse single stackOf in w [] (q ∙ rw x)
       go (some ls) x = w ls (q ∙ rw x (coded-code ls))
 
-  pub read-yes : b ≡ true → s ≡ decoded (scriptOf k t)
+  pub read-yes : b ≡ true → s ≡ decodedScript (scriptOf k t)
   unfolding scriptOf
   read-yes h = e ∙ go (linesOf t) (sym tested ∙ h)
     where
-      go : (o : Option (List Line)) → isSome (commandIn k o) ≡ true → codedLines o ≡ decoded (commandIn k o)
-      go none x = unfold commandIn isSome in false-true false refl x
+      go : (o : Option (List Line)) → isSome (commandRead k o) ≡ true → codedLines o ≡ decodedScript (commandRead k o)
+      go none x = unfold commandRead isSome in false-true false refl x
       go (some ls) x =
-          unfold commandIn codedLines decoded in
+          unfold commandRead codedLines decodedScript in
           (let y = some-of (commandOf k ls) x in
           let z = command-sound k ls (y .0) (y .1) .0 in
-          ap coded z ∙ ap decoded (sym (y .1)))
+          ap coded z ∙ ap decodedScript (sym (y .1)))
 
-  pub read-no : b ≡ false → noCode ≡ decoded (scriptOf k t)
-  unfolding decoded
+  pub read-no : b ≡ false → noCode ≡ decodedScript (scriptOf k t)
+  unfolding decodedScript
   read-no h = rw (none-of (scriptOf k t) (sym tested ∙ h))
 
 -- ---- what callers rest on
 
 -- the answer r is a refusal, or the code of the text's command
-pub read-split : {P : Type 0} (k : Counts) (t : List ℕ) (r : Script) → r ≡ decoded (scriptOf k t)
+pub read-split : {P : Type 0} (k : Counts) (t : List ℕ) (r : Script) → r ≡ decodedScript (scriptOf k t)
     → (scriptOf k t ≡ none → r .count ≡ 0 → P)
     → ((c : Cmd) → scriptOf k t ≡ some c → Source c → named k 0 c ≡ true → 1 ≤ r .count → r .count ≤ maxLines → length (r .code) ≡ codeWords
     → take (r .count * 3) (r .code) ≡ code (cmdLines c []) → P)
     → P
-unfolding decoded coded noCode
+unfolding decodedScript coded noCode
 read-split {P} k t r e f g = go (scriptOf k t) refl
   where
     go : (o : Option Cmd) → scriptOf k t ≡ o → P
     go none x = f x (rw (e, x))
     go (some c) x =
         let s = script-sound k t c x in
-        let y : r ≡ coded (cmdLines c []) = e ∙ ap decoded x in
+        let y : r ≡ coded (cmdLines c []) = e ∙ ap decodedScript x in
         g c x (s .source) (s .named-there) (rw y (s .not-empty)) (rw y (s .few)) (rw y (coded-length (cmdLines c []) (s .few))) (rw y (coded-code (cmdLines c [])))

@@ -24,7 +24,7 @@ use Rattle.sheet.proofs.FormLaws.{formed-facts, type-count}
 use Rattle.script_text.specs.Bytes.{scriptBytes}
 use Rattle.script_text.specs.Reading.{maxLines, linesOf}
 use Rattle.script_text.specs.Parse.{stackOf, single, parse}
-use Rattle.script_text.specs.Script.{countsOf, countsIn, namedOnly, commandOf, commandIn, scriptOf}
+use Rattle.script_text.specs.Script.{countsOf, countsIn, namedOnly, commandOf, commandRead, scriptOf}
 use Rattle.script_text.specs.Placed.{rowOf}
 use Rattle.script_text.specs.Theorems.{IsScript, ScriptExact}
 use Rattle.script_text.proofs.LineLaws.{AllFit, script-lines}
@@ -101,9 +101,9 @@ command-some k (l ∷ ls) c e = omega arith
 -- ---- the command of a text
 
 commandIn-split : {P : Type 0} (k : Counts) (o : Option (List Line)) (c : Cmd)
-    → ((ls : List Line) → o ≡ some ls → commandOf k ls ≡ some c → P) → commandIn k o ≡ some c → P
-unfolding commandIn
-commandIn-split k none c g e = none-some e
+    → ((ls : List Line) → o ≡ some ls → commandOf k ls ≡ some c → P) → commandRead k o ≡ some c → P
+unfolding commandRead
+commandIn-split k none c g e = not-none c e
 commandIn-split k (some ls) c g e = g ls refl e
 
 pub linesOf-sound : (t : List ℕ) (ls : List Line) → linesOf t ≡ some ls → (t ≡ scriptBytes ls) × (length ls ≤ maxLines) × (length t ≤ limit)
@@ -135,7 +135,7 @@ script-sound k t c e =
     }) e
 
 pub script-print : (k : Counts) → Narrow k → (t : List ℕ) (c : Cmd) → IsScript k t c → scriptOf k t ≡ some c
-unfolding scriptOf commandIn
+unfolding scriptOf commandRead
 script-print k w t c s =
     let f = fit-cmd k w 0 (s .source) (omega arith) (s .named-there) none-left in
     let l : length (scriptBytes (cmdLines c [])) ≤ limit = rw (s .printed) at (s .short) in

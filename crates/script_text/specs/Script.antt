@@ -30,13 +30,13 @@ namedOnly k (some c) = cond (named k 0 c) (some c) none
 unfoldable pub commandOf : Counts → List Line → Option Cmd
 commandOf k ls = namedOnly k (parse ls)
 
-unfoldable pub commandIn : Counts → Option (List Line) → Option Cmd
-commandIn k none = none
-commandIn k (some ls) = commandOf k ls
+unfoldable pub commandRead : Counts → Option (List Line) → Option Cmd
+commandRead k none = none
+commandRead k (some ls) = commandOf k ls
 
 -- The command of a text. None is refusal 4.
 unfoldable pub scriptOf : Counts → List ℕ → Option Cmd
-scriptOf k t = commandIn k (linesOf t)
+scriptOf k t = commandRead k (linesOf t)
 
 -- the words of a script's code in all
 abbrev pub codeWords : ℕ
@@ -55,6 +55,6 @@ codedLines none = noCode
 codedLines (some ls) = coded ls
 
 -- The answer to a script.
-unfoldable pub decoded : Option Cmd → Script
-decoded none = noCode
-decoded (some c) = coded (cmdLines c [])
+unfoldable pub decodedScript : Option Cmd → Script
+decodedScript none = noCode
+decodedScript (some c) = coded (cmdLines c [])

@@ -7,7 +7,7 @@ ghost use Rattle.logic.specs.Booleans.{both};
 ghost use Rattle.script.specs.Lines.{Line};
 ghost use Rattle.sheet.specs.Tables.{typesIn, labelsIn, locationsIn};
 ghost use Rattle.script_text.specs.Reading.{Form, bare, one, two, operandsOf, lineOf, linesOf};
-ghost use Rattle.script_text.specs.Script.{countsIn, noCode, codedLines, scriptOf, decoded};
+ghost use Rattle.script_text.specs.Script.{countsIn, noCode, codedLines, scriptOf, decodedScript};
 ghost use Rattle.script_text.specs.Placed.{rowOf, placedLine, lineAt};
 ghost use Rattle.script_text.specs.Scan.{ScansExpr, ScansCmd, Whole};
 use reader::Reader;
@@ -30,9 +30,9 @@ use script::row_at;
 use sheet::labels;
 use sheet::locations;
 use sheet::types;
+use text::Decimal;
 use text::MOST;
 use text::Place;
-use text::Value;
 use text::fits;
 use text::last_number;
 use text::line_end;
@@ -87,7 +87,7 @@ fn bare_line(s: &[u8], at: usize, kind: u32) -> Found
 {
     match line_end(s, at) {
         Place::At(p) => Found::At(kind, 0, 0, p),
-        Place::Bad => Found::Refused,
+        Place::Refused => Found::Refused,
     }
 }
 
@@ -97,8 +97,8 @@ fn one_operand(s: &[u8], at: usize, kind: u32) -> Found
         → r ≡ placedLine (now (s .entry)) (operandsOf (one f) (drop at (now (s .entry))))) ⌝ }
 {
     match last_number(s, at, MOST) {
-        Value::At(a, p) => Found::At(kind, a, 0, p),
-        Value::Bad => Found::Refused,
+        Decimal::At(a, p) => Found::At(kind, a, 0, p),
+        Decimal::Refused => Found::Refused,
     }
 }
 
@@ -108,11 +108,11 @@ fn two_operands(s: &[u8], at: usize, kind: u32) -> Found
         → r ≡ placedLine (now (s .entry)) (operandsOf (two f) (drop at (now (s .entry))))) ⌝ }
 {
     match number_field(s, at, MOST) {
-        Value::At(a, p) => match last_number(s, p, MOST) {
-            Value::At(b, q) => Found::At(kind, a, b, q),
-            Value::Bad => Found::Refused,
+        Decimal::At(a, p) => match last_number(s, p, MOST) {
+            Decimal::At(b, q) => Found::At(kind, a, b, q),
+            Decimal::Refused => Found::Refused,
         },
-        Value::Bad => Found::Refused,
+        Decimal::Refused => Found::Refused,
     }
 }
 
@@ -377,7 +377,7 @@ fn whole(code: &[u32], table: &[u16]) -> bool
 
 // The code of a script on a sheet's table; no lines where refusal 4 applies.
 pub fn read(text: &[u8], table: &[u16]) -> Script
-    ensures { λ r. ⌜ r ≡ decoded (scriptOf (countsIn (now (table .entry))) (now (text .entry))) ⌝ }
+    ensures { λ r. ⌜ r ≡ decodedScript (scriptOf (countsIn (now (table .entry))) (now (text .entry))) ⌝ }
 {
     let s = decode(text);
     let count = s.count;

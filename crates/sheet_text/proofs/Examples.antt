@@ -16,7 +16,7 @@ use Rattle.sheet.specs.Sheet.{Sheet, givenParts, partsOf, typeCount, labelsOf, 
 use Rattle.sheet_text.specs.Lines.{sumLine, policyLine, locationLine, each, labelLines, linesThen, sheetLines, lineBytes, sheetBytes}
 use Rattle.sheet_text.specs.Reading.{principalsRest, pairLine, pairRest, labelRest, policyRest, lineOf}
 use Rattle.sheet_text.specs.Building.{blank, addSum, addLabel, toLast, addPolicy, addLocation, lastOf, leastAfter, leastOwner, sumFits, labelFits, policyFits, locationFits, begin, step, stepOn, steps, build}
-use Rattle.sheet_text.specs.Sheets.{buildIn, sheetIn, Answer, malformed, repeating, accepted, judged, sheetOf}
+use Rattle.sheet_text.specs.Sheets.{buildRead, sheetRead, Answer, malformed, repeating, accepted, judged, sheetOf}
 
 caseSheet : Sheet
 caseSheet =
@@ -69,7 +69,7 @@ unfolding caseSheet caseText sheetBytes printLines lineBytes sheetLines linesThe
 case-printed = refl
 
 texts-read : map sheetOf texts ≡ answers
-unfolding caseSheet caseText texts answers sheetOf judged sheetIn buildIn build steps stepOn step begin sumFits labelFits policyFits locationFits leastOwner leastAfter lastOf blank
+unfolding caseSheet caseText texts answers sheetOf judged sheetRead buildRead build steps stepOn step begin sumFits labelFits policyFits locationFits leastOwner leastAfter lastOf blank
     addSum addLabel addPolicy toLast addLocation allLines linesUpTo onward front lineOf principalsRest pairRest pairLine labelRest policyRest andThen byte fits digit opensDigit
     digits number hexDigit hexDigits numberField setField lastNumber both either union every tab single everyone openAt openOf policyOf withPolicies labelOf sameAt sameOf
     givenParts partsOf typeCount labelsOf labelCount locationCount among repeated sameParts repeats

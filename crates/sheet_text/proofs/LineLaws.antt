@@ -8,7 +8,7 @@ use borrow.Author.Tests.{eqb-true}
 use Rattle.text.specs.Reading.Read.{got}
 use Rattle.text.specs.Number.{most, opensDigit, digit}
 use Rattle.text.specs.Field.{numberField, setField, lineEnd, lastNumber, printNumberField, printSetField, printLineEnd}
-use Rattle.text.specs.Lines.{Each, LineForm}
+use Rattle.text.specs.Lines.{AllGood, LineForm}
 use Rattle.logic.proofs.BooleanLaws.{cond-split}
 use Rattle.text.proofs.Readings.{not-bad, got-same, andThen-got, andThen-split, byte-here, byte-sound}
 use Rattle.text.proofs.Fields.{number-field-sound, number-field-print, last-number-sound, last-number-print, set-field-sound, set-field-print}
@@ -122,7 +122,7 @@ line-print (X t l) u h = pair-print false t l u (h .0) (h .1)
 -- ---- the form of lines
 
 abbrev pub AllFit : List Line → Type 0
-AllFit ls = Each Fits ls
+AllFit ls = AllGood Fits ls
 
 -- a line's bytes come before what follows it
 bytes-front : (l : Line) (u : List ℕ) → lineBytes l u ≡ lineBytes l [] ++ u

@@ -19,8 +19,8 @@ use Rattle.sheet_text.specs.declared.line.Line.{Line}
 use Rattle.sheet_text.specs.declared.draft.Draft.{Draft}
 use Rattle.sheet_text.specs.Reading.{lineOf, linesOf}
 use Rattle.sheet_text.specs.Building.{begin, stepOn, steps, build}
-use Rattle.sheet_text.specs.Sheets.{buildIn, sheetIn, judged, refusedBy, decoded}
-use Rattle.sheet_text.specs.Drafts.{Holds, FormedIf, stepsIn}
+use Rattle.sheet_text.specs.Sheets.{buildRead, sheetRead, judged, refusedBy, decodedSheet}
+use Rattle.sheet_text.specs.Drafts.{DraftHolds, FormedIf, stepsRead}
 use Rattle.sheet_text.specs.Repeats.{repeatsIn}
 use Rattle.sheet_text.proofs.LineLaws.{sheet-lines}
 use Rattle.sheet_text.proofs.RepeatFinds.{repeats-in}
@@ -28,66 +28,66 @@ use Rattle.sheet_text.proofs.Theorems.{sheet-in-sound}
 
 -- ---- the lines that are left, at a place of a text
 
-steps-front : (o : Option Sheet) (l : Line) (ls : Option (List Line)) → stepsIn o (front l ls) ≡ stepsIn (stepOn o l) ls
-unfolding stepsIn front steps
+steps-front : (o : Option Sheet) (l : Line) (ls : Option (List Line)) → stepsRead o (front l ls) ≡ stepsRead (stepOn o l) ls
+unfolding stepsRead front steps
 steps-front o l none = refl
 steps-front o l (some ls) = refl
 
 module _ (o : Option Sheet) (s : List ℕ) (i : ℕ) where
   pub steps-on : (l : Line) (p : ℕ) → lineOf (drop i s) ≡ got l (drop p s)
-      → stepsIn (stepOn o l) (linesOf (drop p s)) ≡ stepsIn o (linesOf (drop i s))
-  steps-on l p e = sym (ap (stepsIn o) (all-more sheet-lines (drop i s) l (drop p s) e) ∙ steps-front o l (linesOf (drop p s)))
+      → stepsRead (stepOn o l) (linesOf (drop p s)) ≡ stepsRead o (linesOf (drop i s))
+  steps-on l p e = sym (ap (stepsRead o) (all-more sheet-lines (drop i s) l (drop p s) e) ∙ steps-front o l (linesOf (drop p s)))
 
-  pub steps-bad : i < length s → lineOf (drop i s) ≡ bad → none ≡ stepsIn o (linesOf (drop i s))
-  unfolding stepsIn
-  steps-bad h e = sym (ap (stepsIn o) (all-bad sheet-lines (drop i s) (omega (arith, length-drop i s)) e))
+  pub steps-bad : i < length s → lineOf (drop i s) ≡ bad → none ≡ stepsRead o (linesOf (drop i s))
+  unfolding stepsRead
+  steps-bad h e = sym (ap (stepsRead o) (all-bad sheet-lines (drop i s) (omega (arith, length-drop i s)) e))
 
-  pub steps-end : length s ≤ i → o ≡ stepsIn o (linesOf (drop i s))
-  unfolding stepsIn steps
-  steps-end h = sym (ap (λ (t : List ℕ). stepsIn o (linesOf t)) (drop-of-length-le s {i = i} h) ∙ ap (stepsIn o) (all-none sheet-lines))
+  pub steps-end : length s ≤ i → o ≡ stepsRead o (linesOf (drop i s))
+  unfolding stepsRead steps
+  steps-end h = sym (ap (λ (t : List ℕ). stepsRead o (linesOf t)) (drop-of-length-le s {i = i} h) ∙ ap (stepsRead o) (all-none sheet-lines))
 
 -- ---- the sheet of a text
 
-build-front : (l : Line) (ls : Option (List Line)) → stepsIn (begin l) ls ≡ buildIn (front l ls)
-unfolding stepsIn buildIn front build
+build-front : (l : Line) (ls : Option (List Line)) → stepsRead (begin l) ls ≡ buildRead (front l ls)
+unfolding stepsRead buildRead front build
 build-front l none = refl
 build-front l (some ls) = refl
 
 module _ (t : List ℕ) where
-  pub sheet-long : fits t ≡ false → none ≡ sheetIn t
-  unfolding sheetIn
+  pub sheet-long : fits t ≡ false → none ≡ sheetRead t
+  unfolding sheetRead
   sheet-long f = rw f
 
-  pub sheet-first : (l : Line) (u : List ℕ) → fits t ≡ true → lineOf t ≡ got l u → stepsIn (begin l) (linesOf u) ≡ sheetIn t
-  unfolding sheetIn
+  pub sheet-first : (l : Line) (u : List ℕ) → fits t ≡ true → lineOf t ≡ got l u → stepsRead (begin l) (linesOf u) ≡ sheetRead t
+  unfolding sheetRead
   sheet-first l u f e = rw (f, all-more sheet-lines t l u e) (build-front l (linesOf u))
 
-  pub sheet-none : fits t ≡ true → lineOf t ≡ bad → none ≡ sheetIn t
+  pub sheet-none : fits t ≡ true → lineOf t ≡ bad → none ≡ sheetRead t
   sheet-none f e = at t f e
     where
-      at : (t : List ℕ) → fits t ≡ true → lineOf t ≡ bad → none ≡ sheetIn t
-      at [] f e = unfold sheetIn buildIn build in (rw (f, all-none sheet-lines))
-      at (b ∷ u) f e = unfold sheetIn buildIn in (rw (f, all-bad sheet-lines (b ∷ u) (omega arith) e))
+      at : (t : List ℕ) → fits t ≡ true → lineOf t ≡ bad → none ≡ sheetRead t
+      at [] f e = unfold sheetRead buildRead build in (rw (f, all-none sheet-lines))
+      at (b ∷ u) f e = unfold sheetRead buildRead in (rw (f, all-bad sheet-lines (b ∷ u) (omega arith) e))
 
-  pub formed-read : FormedIf (sheetIn t)
-  formed-read = at (sheetIn t) refl
+  pub formed-read : FormedIf (sheetRead t)
+  formed-read = at (sheetRead t) refl
     where
-      at : (o : Option Sheet) → sheetIn t ≡ o → FormedIf o
+      at : (o : Option Sheet) → sheetRead t ≡ o → FormedIf o
       at none e = unfold FormedIf in tt
       at (some s) e = unfold FormedIf in (sheet-in-sound t s e .right)
 
 -- ---- the answer
 
 module _ (d : Draft) (t : List ℕ) where
-  pub answer-malformed : (o : Option Sheet) → Holds o d t → d .ok ≡ false → refusedBy 1 ≡ decoded (judged o)
-  unfolding Holds decoded judged
+  pub answer-malformed : (o : Option Sheet) → DraftHolds o d t → d .ok ≡ false → refusedBy 1 ≡ decodedSheet (judged o)
+  unfolding DraftHolds decodedSheet judged
   answer-malformed none e h = refl
   answer-malformed (some s) e h = absurd (absurd-false (sym h ∙ e .0))
 
   module _ (h : d .ok ≡ true) where
     -- a table of a sheet of the right form has at most 32 types and 32 labels
-    pub counts-few : (o : Option Sheet) → FormedIf o → Holds o d t → (typesIn t ≤ 32) × (labelsIn t ≤ 32)
-    unfolding Holds FormedIf
+    pub counts-few : (o : Option Sheet) → FormedIf o → DraftHolds o d t → (typesIn t ≤ 32) × (labelsIn t ≤ 32)
+    unfolding DraftHolds FormedIf
     counts-few none f e = absurd (absurd-false (sym e ∙ h))
     counts-few (some s) f e =
         let facts = formed-facts s f in
@@ -95,13 +95,13 @@ module _ (d : Draft) (t : List ℕ) where
         let labels : labelCount s ≤ 32 = unfold labelCount in (facts .few-labels) in
         rw (e .2, types-in s, labels-in s) (types, labels)
 
-    pub answer-repeating : (o : Option Sheet) → FormedIf o → Holds o d t → repeatsIn t ≡ true → refusedBy 2 ≡ decoded (judged o)
-    unfolding Holds decoded judged FormedIf
+    pub answer-repeating : (o : Option Sheet) → FormedIf o → DraftHolds o d t → repeatsIn t ≡ true → refusedBy 2 ≡ decodedSheet (judged o)
+    unfolding DraftHolds decodedSheet judged FormedIf
     answer-repeating none f e r = absurd (absurd-false (sym e ∙ h))
     answer-repeating (some s) f e r = rw (sym (repeats-in s f) ∙ ap repeatsIn (sym (e .2)) ∙ r)
 
-    pub answer-accepted : (o : Option Sheet) → FormedIf o → Holds o d t → repeatsIn t ≡ false → record { answer = 0; table = t } ≡ decoded (judged o)
-    unfolding Holds decoded judged FormedIf
+    pub answer-accepted : (o : Option Sheet) → FormedIf o → DraftHolds o d t → repeatsIn t ≡ false → record { answer = 0; table = t } ≡ decodedSheet (judged o)
+    unfolding DraftHolds decodedSheet judged FormedIf
     answer-accepted none f e r = absurd (absurd-false (sym e ∙ h))
     answer-accepted (some s) f e r =
         rw (sym (repeats-in s f) ∙ ap repeatsIn (sym (e .2)) ∙ r) (ap (λ (t : List ℕ). record { answer = 0; table = t }) (e .2))

@@ -17,7 +17,7 @@ use Rattle.sheet.specs.Sheet.{Sheet, repeats}
 use Rattle.sheet_text.specs.declared.line.Line.{Line}
 use Rattle.sheet_text.specs.Lines.{sheetLines, lineBytes, sheetBytes}
 use Rattle.sheet_text.specs.Reading.{linesOf}
-use Rattle.sheet_text.specs.Sheets.{buildIn, sheetIn, Answer, malformed, repeating, accepted, judged, sheetOf}
+use Rattle.sheet_text.specs.Sheets.{buildRead, sheetRead, Answer, malformed, repeating, accepted, judged, sheetOf}
 use Rattle.sheet_text.specs.Theorems.{IsSheet, AcceptedExact, RepeatingExact, MalformedExact, OneSheet}
 use Rattle.sheet_text.proofs.LineLaws.{sheet-lines}
 use Rattle.sheet_text.proofs.BuildLaws.{build-sound}
@@ -25,20 +25,20 @@ use Rattle.sheet_text.proofs.CompleteLaws.{build-complete}
 
 -- ---- texts of the form
 
-build-in-sound : (t : List ℕ) (s : Sheet) (o : Option (List Line)) → linesOf t ≡ o → length t ≤ limit → buildIn o ≡ some s → IsSheet t s
-unfolding buildIn sheetBytes
+build-in-sound : (t : List ℕ) (s : Sheet) (o : Option (List Line)) → linesOf t ≡ o → length t ≤ limit → buildRead o ≡ some s → IsSheet t s
+unfolding buildRead sheetBytes
 build-in-sound t s none e h k = none-some k
 build-in-sound t s (some ls) e h k =
     let b = build-sound ls s k in
     record { printed = all-lines-exact sheet-lines t ls .0 e .0 ∙ ap (printLines lineBytes) (b .0); short = h; right = b .1 }
 
-pub sheet-in-sound : (t : List ℕ) (s : Sheet) → sheetIn t ≡ some s → IsSheet t s
-unfolding sheetIn fits
+pub sheet-in-sound : (t : List ℕ) (s : Sheet) → sheetRead t ≡ some s → IsSheet t s
+unfolding sheetRead fits
 sheet-in-sound t s e =
     cond-split (leb (length t) limit) _ _ _ (λ h k. build-in-sound t s (linesOf t) refl (leb-true _ _ h) k) (λ h k. none-some k) e
 
-pub sheet-in-print : (t : List ℕ) (s : Sheet) → IsSheet t s → sheetIn t ≡ some s
-unfolding sheetIn fits buildIn sheetBytes
+pub sheet-in-print : (t : List ℕ) (s : Sheet) → IsSheet t s → sheetRead t ≡ some s
+unfolding sheetRead fits buildRead sheetBytes
 sheet-in-print t s i =
     let b = build-complete s (i .right) in
     let fit = build-sound (sheetLines s) s b .2 in
@@ -69,7 +69,7 @@ judged-split (some s) x e f g h = cond-split (repeats s) _ _ _ (λ r k. g s refl
 pub accepted-exact : AcceptedExact
 unfolding sheetOf
 accepted-exact t s = (
-  λ e. judged-split (sheetIn t) (accepted s) e
+  λ e. judged-split (sheetRead t) (accepted s) e
       (λ o x. let z : _≡_ {A = ℕ} 0 1 = cc in absurd (omega arith))
       (λ s′ o r x. let z : _≡_ {A = ℕ} 0 1 = cc in absurd (omega arith))
       (λ s′ o r x. let k : s′ ≡ s = cc in rw (← k) (sheet-in-sound t s′ o, r)),
@@ -79,7 +79,7 @@ accepted-exact t s = (
 pub repeating-exact : RepeatingExact
 unfolding sheetOf
 repeating-exact t = (
-  λ e. judged-split (sheetIn t) repeating e
+  λ e. judged-split (sheetRead t) repeating e
       (λ o x. let z : _≡_ {A = ℕ} 0 1 = cc in absurd (omega arith))
       (λ s o r x. (s, sheet-in-sound t s o, r))
       (λ s o r x. let z : _≡_ {A = ℕ} 0 1 = cc in absurd (omega arith)),
@@ -90,7 +90,7 @@ pub malformed-exact : MalformedExact
 unfolding sheetOf
 malformed-exact t = (
   λ e s i. not-malformed s (sym (ap judged (sheet-in-print t s i)) ∙ e),
-  λ h. judged-split (sheetIn t) (judged (sheetIn t)) refl (λ o x. x)
+  λ h. judged-split (sheetRead t) (judged (sheetRead t)) refl (λ o x. x)
       (λ s o r x. absurd (h s (sheet-in-sound t s o))) (λ s o r x. absurd (h s (sheet-in-sound t s o))),
 )
   where

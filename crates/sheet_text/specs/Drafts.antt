@@ -17,9 +17,9 @@ use Rattle.sheet_text.specs.declared.draft.Draft.{Draft}
 use Rattle.sheet_text.specs.Building.{leastOwner, steps}
 
 -- a draft and a table are those of a sheet of the right form, or the draft is a refusal, whatever the table
-unfoldable pub Holds : Option Sheet → Draft → List ℕ → Type 0
-Holds none d t = d .ok ≡ false
-Holds (some s) d t = (d .ok ≡ true) × (d .least ≡ leastOwner s) × (t ≡ tableOf s)
+unfoldable pub DraftHolds : Option Sheet → Draft → List ℕ → Type 0
+DraftHolds none d t = d .ok ≡ false
+DraftHolds (some s) d t = (d .ok ≡ true) × (d .least ≡ leastOwner s) × (t ≡ tableOf s)
 
 -- a sheet, if there is one, is of the right form
 unfoldable pub FormedIf : Option Sheet → Type 0
@@ -27,9 +27,9 @@ FormedIf none = Unit
 FormedIf (some s) = formed s ≡ true
 
 -- the sheet after further lines, if they could be read
-unfoldable pub stepsIn : Option Sheet → Option (List Line) → Option Sheet
-stepsIn o none = none
-stepsIn o (some ls) = steps o ls
+unfoldable pub stepsRead : Option Sheet → Option (List Line) → Option Sheet
+stepsRead o none = none
+stepsRead o (some ls) = steps o ls
 
 -- the answer to a line is its test over the table, and what it adds is stored if the test passes
 pub record Stores (fits : List ℕ → Bool) (stored : List ℕ → List ℕ) (t : List ℕ) (ok : Bool) (u : List ℕ) : Type 0 where

@@ -10,8 +10,8 @@ use Rattle.labels.specs.Tables.{labelSize}
 use Rattle.sheet.specs.Tables.{partsBase, labelsBase, typesIn, labelsIn}
 
 -- the most types, and the most labels, that a table has room for
-abbrev pub mostIn : ℕ
-mostIn = 32
+abbrev pub mostEach : ℕ
+mostEach = 32
 
 -- the n words from a on are those from b on
 unfoldable pub sameWords : List ℕ → ℕ → ℕ → ℕ → Bool

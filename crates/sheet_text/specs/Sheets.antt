@@ -13,13 +13,13 @@ use Rattle.sheet_text.specs.declared.Decoded.{Decoded}
 use Rattle.sheet_text.specs.Reading.{linesOf}
 use Rattle.sheet_text.specs.Building.{build}
 
-unfoldable pub buildIn : Option (List Line) → Option Sheet
-buildIn none = none
-buildIn (some ls) = build ls
+unfoldable pub buildRead : Option (List Line) → Option Sheet
+buildRead none = none
+buildRead (some ls) = build ls
 
 -- the sheet of a text that is of the form
-unfoldable pub sheetIn : List ℕ → Option Sheet
-sheetIn t = cond (fits t) (buildIn (linesOf t)) none
+unfoldable pub sheetRead : List ℕ → Option Sheet
+sheetRead t = cond (fits t) (buildRead (linesOf t)) none
 
 -- what a text is: refusal 1, refusal 2, or a sheet
 pub data Answer : Type 0 where
@@ -32,13 +32,13 @@ judged none = malformed
 judged (some s) = cond (repeats s) repeating (accepted s)
 
 unfoldable pub sheetOf : List ℕ → Answer
-sheetOf t = judged (sheetIn t)
+sheetOf t = judged (sheetRead t)
 
 -- the answer to a text: its number, and the table, which is all zeros for a refused text
 unfoldable pub refusedBy : ℕ → Decoded
 refusedBy number = record { answer = number; table = replicate tableWords 0 }
 
-unfoldable pub decoded : Answer → Decoded
-decoded malformed = refusedBy 1
-decoded repeating = refusedBy 2
-decoded (accepted s) = record { answer = 0; table = tableOf s }
+unfoldable pub decodedSheet : Answer → Decoded
+decodedSheet malformed = refusedBy 1
+decodedSheet repeating = refusedBy 2
+decodedSheet (accepted s) = record { answer = 0; table = tableOf s }

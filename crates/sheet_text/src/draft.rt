@@ -8,9 +8,9 @@ ghost use Rattle.labels.specs.Tables.{labelSize, labelPut};
 ghost use Rattle.sheet.specs.Sheet.{Sheet};
 ghost use Rattle.sheet.specs.Tables.{partsBase, locationsBase, labelsBase, tableWords};
 ghost use Rattle.sheet_text.specs.Building.{begin, stepOn};
-ghost use Rattle.sheet_text.specs.Sheets.{sheetIn};
+ghost use Rattle.sheet_text.specs.Sheets.{sheetRead};
 ghost use Rattle.sheet_text.specs.Reading.{linesOf};
-ghost use Rattle.sheet_text.specs.Drafts.{Holds, FormedIf, stepsIn, Stores, principalsFit, pairFits, sumFitsIn, labelFitsIn, policyFitsIn, locationFitsIn, principalsStored, pairStored, labelStored, policyStored};
+ghost use Rattle.sheet_text.specs.Drafts.{DraftHolds, FormedIf, stepsRead, Stores, principalsFit, pairFits, sumFitsIn, labelFitsIn, policyFitsIn, locationFitsIn, principalsStored, pairStored, labelStored, policyStored};
 use super::line::Line;
 use super::line::LineRead;
 use super::line::line_from;
@@ -208,7 +208,7 @@ fn add_policy(table: &mut [u16; WORDS], least: u32, owner: u32, readers: u16, wr
 // The sheet after a first line, from a table of zeros.
 fn begin(table: &mut [u16; WORDS], line: Line) -> Draft
     requires { ⌜ now table ≡ replicate tableWords 0 ⌝ }
-    ensures { λ r. ⌜ Holds (begin line) r (now (table .exit)) ⌝ }
+    ensures { λ r. ⌜ DraftHolds (begin line) r (now (table .exit)) ⌝ }
 {
     let Line::P(n) = line else {
         return refused();
@@ -221,7 +221,7 @@ fn begin(table: &mut [u16; WORDS], line: Line) -> Draft
 
 // The sheet after a further line.
 fn step(d: Draft, table: &mut [u16; WORDS], line: Line) -> Draft
-    ensures { λ r. ⌜ ((o : Option Sheet) → FormedIf o → Holds o d (now (table .entry)) → Holds (stepOn o line) r (now (table .exit))) ⌝ }
+    ensures { λ r. ⌜ ((o : Option Sheet) → FormedIf o → DraftHolds o d (now (table .entry)) → DraftHolds (stepOn o line) r (now (table .exit))) ⌝ }
 {
     if !d.ok {
         return refused();
@@ -249,7 +249,7 @@ fn step(d: Draft, table: &mut [u16; WORDS], line: Line) -> Draft
 
 // The sheet after the lines from `from` on.
 fn follow(s: &[u8], from: usize, first: Draft, table: &mut [u16; WORDS]) -> Draft
-    ensures { λ r. ⌜ ((o : Option Sheet) → FormedIf o → Holds o first (now (table .entry)) → Holds (stepsIn o (linesOf (drop from (now (s .entry))))) r (now (table .exit))) ⌝ }
+    ensures { λ r. ⌜ ((o : Option Sheet) → FormedIf o → DraftHolds o first (now (table .entry)) → DraftHolds (stepsRead o (linesOf (drop from (now (s .entry))))) r (now (table .exit))) ⌝ }
 {
     let mut d = first;
     let mut at = from;
@@ -272,7 +272,7 @@ fn follow(s: &[u8], from: usize, first: Draft, table: &mut [u16; WORDS]) -> Draf
 // The sheet of a text, from a table of zeros.
 pub(crate) fn draft_of(s: &[u8], table: &mut [u16; WORDS]) -> Draft
     requires { ⌜ now table ≡ replicate tableWords 0 ⌝ }
-    ensures { λ r. ⌜ Holds (sheetIn (now (s .entry))) r (now (table .exit)) ⌝ }
+    ensures { λ r. ⌜ DraftHolds (sheetRead (now (s .entry))) r (now (table .exit)) ⌝ }
 {
     if !text::fits(s) {
         return refused();

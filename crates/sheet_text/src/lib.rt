@@ -6,7 +6,7 @@ mod repeat; // repeat.rt: whether a table repeats a type or a label
 ghost use mathlib.Core.Path.{_≡_};
 ghost use lib.ListN.{replicate};
 ghost use Rattle.sheet.specs.Tables.{tableWords};
-ghost use Rattle.sheet_text.specs.Sheets.{sheetOf, decoded};
+ghost use Rattle.sheet_text.specs.Sheets.{sheetOf, decodedSheet};
 use draft::draft_of;
 use repeat::repeats;
 use sheet::WORDS;
@@ -20,7 +20,7 @@ pub struct Decoded {
 // Fills a table of zeros with the sheet of a text, and answers 0, or leaves zeros and answers the number of the refusal.
 fn fill(text: &[u8], table: &mut [u16; WORDS]) -> u8
     requires { ⌜ now table ≡ replicate tableWords 0 ⌝ }
-    ensures { λ r. ⌜ record { answer = r; table = now (table .exit) } ≡ decoded (sheetOf (now (text .entry))) ⌝ }
+    ensures { λ r. ⌜ record { answer = r; table = now (table .exit) } ≡ decodedSheet (sheetOf (now (text .entry))) ⌝ }
 {
     let d = draft_of(text, table);
     if !d.ok {
@@ -36,7 +36,7 @@ fn fill(text: &[u8], table: &mut [u16; WORDS]) -> u8
 
 // The table of a sheet's text, or the number of its refusal.
 pub fn read(text: &[u8]) -> Decoded
-    ensures { λ r. ⌜ r ≡ decoded (sheetOf (now (text .entry))) ⌝ }
+    ensures { λ r. ⌜ r ≡ decodedSheet (sheetOf (now (text .entry))) ⌝ }
 {
     let mut d = Decoded {
         answer: 0,

@@ -4,10 +4,10 @@ ghost use lib.ListN.{drop};
 ghost use Rattle.sheet_text.specs.Reading.{principalsRest, pairLine, pairRest, labelRest, policyRest, lineOf};
 ghost use Rattle.sheet_text.specs.Placed.{placedLine, lineAt};
 use reader::Reader;
+use text::Decimal;
 use text::MOST;
 use text::Mask;
 use text::Place;
-use text::Value;
 use text::last_number;
 use text::line_end;
 use text::number_field;
@@ -51,8 +51,8 @@ fn principals_rest(s: &[u8], at: usize) -> Found
     ensures { λ r. ⌜ r ≡ placedLine (now (s .entry)) (principalsRest (drop at (now (s .entry)))) ⌝ }
 {
     match last_number(s, at, MOST) {
-        Value::At(n, p) => Found::At(Line::P(n), p),
-        Value::Bad => Found::Refused,
+        Decimal::At(n, p) => Found::At(Line::P(n), p),
+        Decimal::Refused => Found::Refused,
     }
 }
 
@@ -67,12 +67,12 @@ fn pair_line(sum: bool, a: u32, b: u32) -> Line
 fn pair_rest(s: &[u8], at: usize, sum: bool) -> Found
     ensures { λ r. ⌜ r ≡ placedLine (now (s .entry)) (pairRest sum (drop at (now (s .entry)))) ⌝ }
 {
-    let Value::At(a, p) = number_field(s, at, MOST) else {
+    let Decimal::At(a, p) = number_field(s, at, MOST) else {
         return Found::Refused;
     };
     match last_number(s, p, MOST) {
-        Value::At(b, q) => Found::At(pair_line(sum, a, b), q),
-        Value::Bad => Found::Refused,
+        Decimal::At(b, q) => Found::At(pair_line(sum, a, b), q),
+        Decimal::Refused => Found::Refused,
     }
 }
 
@@ -82,7 +82,7 @@ fn label_rest(s: &[u8], at: usize) -> Found
 {
     match line_end(s, at) {
         Place::At(p) => Found::At(Line::L, p),
-        Place::Bad => Found::Refused,
+        Place::Refused => Found::Refused,
     }
 }
 
@@ -90,7 +90,7 @@ fn label_rest(s: &[u8], at: usize) -> Found
 fn policy_rest(s: &[u8], at: usize) -> Found
     ensures { λ r. ⌜ r ≡ placedLine (now (s .entry)) (policyRest (drop at (now (s .entry)))) ⌝ }
 {
-    let Value::At(owner, p) = number_field(s, at, MOST) else {
+    let Decimal::At(owner, p) = number_field(s, at, MOST) else {
         return Found::Refused;
     };
     let Mask::At(readers, q) = set_field(s, p) else {
@@ -101,7 +101,7 @@ fn policy_rest(s: &[u8], at: usize) -> Found
     };
     match line_end(s, r) {
         Place::At(e) => Found::At(Line::O(owner, readers, writers), e),
-        Place::Bad => Found::Refused,
+        Place::Refused => Found::Refused,
     }
 }
 

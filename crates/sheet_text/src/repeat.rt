@@ -2,7 +2,7 @@
 ghost use mathlib.Core.Path.{_≡_};
 ghost use Prim.Native.Nat.{_+_, _-_, _<_, _≤_};
 ghost use Rattle.sheet.specs.Tables.{tableWords, typesIn, labelsIn};
-ghost use Rattle.sheet_text.specs.Repeats.{mostIn, sameWords, sameIn, anyFrom, againIn, repeatsIn};
+ghost use Rattle.sheet_text.specs.Repeats.{mostEach, sameWords, sameIn, anyFrom, againIn, repeatsIn};
 use labels::LABEL_SIZE;
 use sheet::LABELS;
 use sheet::PARTS;
@@ -24,7 +24,7 @@ fn same_words(table: &[u16; WORDS], a: usize, b: usize, n: usize) -> bool
 
 // Whether two types have the same parts, or two labels the same sets.
 fn same(table: &[u16; WORDS], labels: bool, i: u32, j: u32) -> bool
-    requires { ⌜ (i < mostIn) × (j < mostIn) ⌝ }
+    requires { ⌜ (i < mostEach) × (j < mostEach) ⌝ }
     ensures { λ r. ⌜ r ≡ sameIn (now (table .entry)) labels i j ⌝ }
 {
     if labels {
@@ -37,7 +37,7 @@ fn same(table: &[u16; WORDS], labels: bool, i: u32, j: u32) -> bool
 
 // Whether one of those from `from` to before n is the same as the one at i.
 fn again(table: &[u16; WORDS], labels: bool, i: u32, from: u32, n: u32) -> bool
-    requires { ⌜ (i < mostIn) × (n ≤ mostIn) ⌝ }
+    requires { ⌜ (i < mostEach) × (n ≤ mostEach) ⌝ }
     ensures { λ r. ⌜ r ≡ anyFrom (sameIn (now (table .entry)) labels i) from (n - from) ⌝ }
 {
     for j in from..n {
@@ -50,7 +50,7 @@ fn again(table: &[u16; WORDS], labels: bool, i: u32, from: u32, n: u32) -> bool
 
 // Whether one of those from `from` to before n comes again before n.
 fn repeated(table: &[u16; WORDS], labels: bool, from: u32, n: u32) -> bool
-    requires { ⌜ n ≤ mostIn ⌝ }
+    requires { ⌜ n ≤ mostEach ⌝ }
     ensures { λ r. ⌜ r ≡ anyFrom (againIn (now (table .entry)) labels n) from (n - from) ⌝ }
 {
     for i in from..n {
@@ -63,7 +63,7 @@ fn repeated(table: &[u16; WORDS], labels: bool, from: u32, n: u32) -> bool
 
 // Whether the table repeats a type or a label.
 pub(crate) fn repeats(table: &[u16; WORDS]) -> bool
-    requires { ⌜ (typesIn (now table) ≤ mostIn) × (labelsIn (now table) ≤ mostIn) ⌝ }
+    requires { ⌜ (typesIn (now table) ≤ mostEach) × (labelsIn (now table) ≤ mostEach) ⌝ }
     ensures { λ r. ⌜ r ≡ repeatsIn (now (table .entry)) ⌝ }
 {
     if repeated(table, false, SUMS, sheet::types(table)) {

@@ -83,13 +83,13 @@ unfolding building.blank building.addSum building.addLabel building.toLast build
     building.stepOn building.steps building.build
     sheet-lines.principalsRest sheet-lines.pairLine sheet-lines.pairRest sheet-lines.labelRest sheet-lines.policyRest sheet-lines.lineOf
     repeats.anyFrom
-    sheets.buildIn sheets.sheetIn sheets.judged sheets.sheetOf
+    sheets.buildRead sheets.sheetRead sheets.judged sheets.sheetOf
 sheet-text-used = tt
 
 unfoldable pub script-text-used : Unit {0}
 unfolding parse.popE parse.popC parse.onStack parse.pushOn parse.stackOf parse.single parse.parse
     script-lines.formOf script-lines.operandsOf script-lines.lineOf script-lines.linesOf
-    script.namedOnly script.commandOf script.commandIn script.scriptOf
+    script.namedOnly script.commandOf script.commandRead script.scriptOf
 script-text-used = tt
 
 unfoldable pub memory-used : Unit {0}

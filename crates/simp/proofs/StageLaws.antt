@@ -19,7 +19,7 @@ use Rattle.sheet.specs.Tables.{everyoneIn}
 use Rattle.sheet.proofs.TableLaws.{everyone-in}
 use Rattle.sheet.specs.Meaning.{shapesOf, worldOf}
 use Rattle.script_text.specs.declared.Script.{Script}
-use Rattle.script_text.specs.Script.{countsOf, countsIn, scriptOf, decoded}
+use Rattle.script_text.specs.Script.{countsOf, countsIn, scriptOf, decodedScript}
 use Rattle.script_text.proofs.ScriptLaws.{counts-table}
 use Rattle.script_text.proofs.ReadLaws.{read-split}
 use Rattle.memory.specs.Memory.{memoryOf, wellFormed, memoryRefusal}
@@ -46,11 +46,11 @@ some-words (assign x e) h = omega arith
 some-words (while e c) h = omega arith
 some-words (case e a b) h = omega arith
 
-pub code-of : (t script ws : List ℕ) (p : Script) → p ≡ decoded (scriptOf (countsIn t) script) → ws ≡ take (p .count * 3) (p .code)
+pub code-of : (t script ws : List ℕ) (p : Script) → p ≡ decodedScript (scriptOf (countsIn t) script) → ws ≡ take (p .count * 3) (p .code)
     → (s : Sheet) → TableOf t s → CodeOf s ws (scriptOf (countsOf s) script)
 code-of t script ws p e w s T =
     let k : countsIn t ≡ countsOf s = ap countsIn (T .words) ∙ counts-table s in
-    let e′ : p ≡ decoded (scriptOf (countsOf s) script) = e ∙ ap (λ (j : _). decoded (scriptOf j script)) k in
+    let e′ : p ≡ decodedScript (scriptOf (countsOf s) script) = e ∙ ap (λ (j : _). decodedScript (scriptOf j script)) k in
     read-split (countsOf s) script p e′
     (λ n z. let y : ws ≡ [] = w ∙ ap (λ (j : ℕ). take (j * 3) (p .code)) z in rw (n, y) no-code)
     (λ c i src nm _ _ _ tk. rw i (its-code src nm (w ∙ tk)))
@@ -73,7 +73,7 @@ judge-some ws t v u n a e = record { judged = λ s T o C. ap verdictNumber (sym 
     go s T e no-code = absurd (n (ap length (sym e)))
     go s T e (its-code {c = c} src nm w) = a .exact s (T .form) (T .once) (T .words) (countsOf s) c src nm (sym e ∙ w)
 
-pub check-on : (t script ws : List ℕ) (p : Script) (r : ℕ) → p ≡ decoded (scriptOf (countsIn t) script) → ws ≡ take (p .count * 3) (p .code) → Judges ws t r
+pub check-on : (t script ws : List ℕ) (p : Script) (r : ℕ) → p ≡ decodedScript (scriptOf (countsIn t) script) → ws ≡ take (p .count * 3) (p .code) → Judges ws t r
     → ChecksOn script t r
 check-on t script ws p r e w j = record { checked = λ s T. j .judged s T _ (code-of t script ws p e w s T) }
 
@@ -180,7 +180,7 @@ pub run-stranger : (script t memory : List ℕ) (authority budget : ℕ) → wit
 run-stranger script t memory authority budget h = record { ran = λ s T. sym (unless-3 (refusedRun memory) t s authority _ T h) }
 
 pub run-known : (script t memory ws : List ℕ) (authority budget : ℕ) (p : Script) (answer steps : ℕ) (left : List ℕ) → within authority (everyoneIn t) ≡ true
-    → p ≡ decoded (scriptOf (countsIn t) script) → ws ≡ take (p .count * 3) (p .code) → RunsCode ws t memory authority budget answer steps left
+    → p ≡ decodedScript (scriptOf (countsIn t) script) → ws ≡ take (p .count * 3) (p .code) → RunsCode ws t memory authority budget answer steps left
     → RunsOn script t memory authority budget answer steps left
 run-known script t memory ws authority budget p answer steps left h e w r = record {
   ran = λ s T. r .ran s T _ (code-of t script ws p e w s T) ∙ sym (not-3 (refusedRun memory) t s authority _ T h);

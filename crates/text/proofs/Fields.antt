@@ -10,16 +10,16 @@ use Rattle.text.specs.Reading.Read.{got, bad}
 use Rattle.text.specs.Number.{number, decimal, opensDigit}
 use Rattle.text.specs.Set.{hexSet, hex4}
 use Rattle.text.specs.Field.{numberField, setField, lineEnd, lastNumber, printNumberField, printSetField, printLineEnd}
-use Rattle.text.specs.Place.{valueIn, maskIn, placeIn}
+use Rattle.text.specs.Place.{placedDecimal, placedSet, placedEnd}
 use Rattle.text.specs.Theorems.{NumberFieldExact, SetFieldExact, LineEndExact, LastNumberExact}
-use Rattle.text.specs.declared.Value.{Value}
-use Rattle.text.specs.declared.Value.the-variants as value
+use Rattle.text.specs.declared.Decimal.{Decimal}
+use Rattle.text.specs.declared.Decimal.the-variants as decimal
 use Rattle.text.specs.declared.Mask.{Mask}
 use Rattle.text.specs.declared.Mask.the-variants as mask
 use Rattle.text.specs.declared.Place.{Place}
 use Rattle.text.specs.declared.Place.the-variants as place
 use Rattle.text.proofs.Readings.{andThen-got, andThen-bad, andThen-split, byte-here, byte-sound, ends-print, got-same}
-use Rattle.text.proofs.Places.{Within, value-at, value-bad, mask-at, mask-bad, place-at, place-bad}
+use Rattle.text.proofs.Places.{Within, decimal-at, decimal-bad, mask-at, mask-bad, place-at, place-bad}
 use Rattle.text.proofs.Numbers.{opens-byte, digit-low}
 use Rattle.text.proofs.Decimals.{number-sound, number-print, number-within}
 use Rattle.text.proofs.Sets.{set-sound, set-print, set-within}
@@ -123,47 +123,47 @@ last-number-within bound t v u e =
 
 -- what an answer at i in s says of the reading there
 module _ (s : List ℕ) (i : ℕ) where
-  pub byte-at : (b : ℕ) (r : Place) → r ≡ placeIn s (byte b (drop i s)) → (p : ℕ) → r ≡ place.At p → (byte b (drop i s) ≡ got tt (drop p s)) × (p ≤ length s)
+  pub byte-at : (b : ℕ) (r : Place) → r ≡ placedEnd s (byte b (drop i s)) → (p : ℕ) → r ≡ place.At p → (byte b (drop i s) ≡ got tt (drop p s)) × (p ≤ length s)
   byte-at b r e p g = place-at s i _ r (byte-within b (drop i s)) e p g
 
-  pub byte-bad : (b : ℕ) (r : Place) → r ≡ placeIn s (byte b (drop i s)) → r ≡ place.Bad → byte b (drop i s) ≡ bad
+  pub byte-bad : (b : ℕ) (r : Place) → r ≡ placedEnd s (byte b (drop i s)) → r ≡ place.Refused → byte b (drop i s) ≡ bad
   byte-bad b r e g = place-bad s i _ r (byte-within b (drop i s)) e g
 
-  pub number-at : (bound : ℕ) (r : Value) → r ≡ valueIn s (number bound (drop i s)) → (v p : ℕ) → r ≡ value.At v p
+  pub number-at : (bound : ℕ) (r : Decimal) → r ≡ placedDecimal s (number bound (drop i s)) → (v p : ℕ) → r ≡ decimal.At v p
       → (number bound (drop i s) ≡ got v (drop p s)) × (p ≤ length s) × (v ≤ bound)
   number-at bound r e v p g =
-      let x = value-at s i _ r (number-within bound (drop i s)) e v p g in
+      let x = decimal-at s i _ r (number-within bound (drop i s)) e v p g in
       (x .0, x .1, number-sound bound _ v _ (x .0) .1)
 
-  pub number-bad : (bound : ℕ) (r : Value) → r ≡ valueIn s (number bound (drop i s)) → r ≡ value.Bad → number bound (drop i s) ≡ bad
-  number-bad bound r e g = value-bad s i _ r (number-within bound (drop i s)) e g
+  pub number-bad : (bound : ℕ) (r : Decimal) → r ≡ placedDecimal s (number bound (drop i s)) → r ≡ decimal.Refused → number bound (drop i s) ≡ bad
+  number-bad bound r e g = decimal-bad s i _ r (number-within bound (drop i s)) e g
 
-  pub number-field-at : (bound : ℕ) (r : Value) → r ≡ valueIn s (numberField bound (drop i s)) → (v p : ℕ) → r ≡ value.At v p
+  pub number-field-at : (bound : ℕ) (r : Decimal) → r ≡ placedDecimal s (numberField bound (drop i s)) → (v p : ℕ) → r ≡ decimal.At v p
       → (numberField bound (drop i s) ≡ got v (drop p s)) × (p ≤ length s) × (v ≤ bound)
   number-field-at bound r e v p g =
-      let x = value-at s i _ r (number-field-within bound (drop i s)) e v p g in
+      let x = decimal-at s i _ r (number-field-within bound (drop i s)) e v p g in
       (x .0, x .1, number-field-sound bound _ v _ (x .0) .1)
 
-  pub number-field-bad : (bound : ℕ) (r : Value) → r ≡ valueIn s (numberField bound (drop i s)) → r ≡ value.Bad → numberField bound (drop i s) ≡ bad
-  number-field-bad bound r e g = value-bad s i _ r (number-field-within bound (drop i s)) e g
+  pub number-field-bad : (bound : ℕ) (r : Decimal) → r ≡ placedDecimal s (numberField bound (drop i s)) → r ≡ decimal.Refused → numberField bound (drop i s) ≡ bad
+  number-field-bad bound r e g = decimal-bad s i _ r (number-field-within bound (drop i s)) e g
 
-  pub last-number-at : (bound : ℕ) (r : Value) → r ≡ valueIn s (lastNumber bound (drop i s)) → (v p : ℕ) → r ≡ value.At v p
+  pub last-number-at : (bound : ℕ) (r : Decimal) → r ≡ placedDecimal s (lastNumber bound (drop i s)) → (v p : ℕ) → r ≡ decimal.At v p
       → (lastNumber bound (drop i s) ≡ got v (drop p s)) × (p ≤ length s) × (v ≤ bound)
   last-number-at bound r e v p g =
-      let x = value-at s i _ r (last-number-within bound (drop i s)) e v p g in
+      let x = decimal-at s i _ r (last-number-within bound (drop i s)) e v p g in
       (x .0, x .1, last-number-sound bound _ v _ (x .0) .1)
 
-  pub last-number-bad : (bound : ℕ) (r : Value) → r ≡ valueIn s (lastNumber bound (drop i s)) → r ≡ value.Bad → lastNumber bound (drop i s) ≡ bad
-  last-number-bad bound r e g = value-bad s i _ r (last-number-within bound (drop i s)) e g
+  pub last-number-bad : (bound : ℕ) (r : Decimal) → r ≡ placedDecimal s (lastNumber bound (drop i s)) → r ≡ decimal.Refused → lastNumber bound (drop i s) ≡ bad
+  last-number-bad bound r e g = decimal-bad s i _ r (last-number-within bound (drop i s)) e g
 
-  pub set-at : (r : Mask) → r ≡ maskIn s (hexSet (drop i s)) → (m p : ℕ) → r ≡ mask.At m p → (hexSet (drop i s) ≡ got m (drop p s)) × (p ≤ length s)
+  pub set-at : (r : Mask) → r ≡ placedSet s (hexSet (drop i s)) → (m p : ℕ) → r ≡ mask.At m p → (hexSet (drop i s) ≡ got m (drop p s)) × (p ≤ length s)
   set-at r e m p g = mask-at s i _ r (set-within (drop i s)) e m p g
 
-  pub set-bad : (r : Mask) → r ≡ maskIn s (hexSet (drop i s)) → r ≡ mask.Bad → hexSet (drop i s) ≡ bad
+  pub set-bad : (r : Mask) → r ≡ placedSet s (hexSet (drop i s)) → r ≡ mask.Refused → hexSet (drop i s) ≡ bad
   set-bad r e g = mask-bad s i _ r (set-within (drop i s)) e g
 
-  pub set-field-at : (r : Mask) → r ≡ maskIn s (setField (drop i s)) → (m p : ℕ) → r ≡ mask.At m p → (setField (drop i s) ≡ got m (drop p s)) × (p ≤ length s)
+  pub set-field-at : (r : Mask) → r ≡ placedSet s (setField (drop i s)) → (m p : ℕ) → r ≡ mask.At m p → (setField (drop i s) ≡ got m (drop p s)) × (p ≤ length s)
   set-field-at r e m p g = mask-at s i _ r (set-field-within (drop i s)) e m p g
 
-  pub set-field-bad : (r : Mask) → r ≡ maskIn s (setField (drop i s)) → r ≡ mask.Bad → setField (drop i s) ≡ bad
+  pub set-field-bad : (r : Mask) → r ≡ placedSet s (setField (drop i s)) → r ≡ mask.Refused → setField (drop i s) ≡ bad
   set-field-bad r e g = mask-bad s i _ r (set-field-within (drop i s)) e g

@@ -7,7 +7,7 @@ use mathlib.Core.Option.{Option, none, some}
 use lib.ListN.{length, drop, getD, length-append, drop-of-length-le}
 use Rattle.text.specs.Reading.{Read}
 use Rattle.text.specs.Reading.Read.{got, bad}
-use Rattle.text.specs.Lines.{front, onward, linesUpTo, allLines, printLines, Each, none-left, and-then, LineForm}
+use Rattle.text.specs.Lines.{front, onward, linesUpTo, allLines, printLines, AllGood, none-left, and-then, LineForm}
 use Rattle.text.specs.Theorems.{LinesExact, AllLinesExact}
 use Rattle.logic.proofs.OptionLaws.{none-some, some-path}
 use Rattle.text.proofs.Readings.{drop-step, not-bad, ends-print}
@@ -97,7 +97,7 @@ module _ {A : Type 0} {line : List ℕ → Read A} {print : A → List ℕ → L
       let r = line-sound t l u e in
       omega (arith, ap length (r .0 ∙ form .ahead l u), length-append (print l []) u, print-some l (r .1))
 
-  lines-sound : (k : ℕ) (t : List ℕ) (ls : List A) → linesUpTo line k t ≡ some ls → (t ≡ printLines print ls) × Each Good ls × (length ls ≤ k)
+  lines-sound : (k : ℕ) (t : List ℕ) (ls : List A) → linesUpTo line k t ≡ some ls → (t ≡ printLines print ls) × AllGood Good ls × (length ls ≤ k)
   unfolding linesUpTo printLines
   lines-sound zero [] ls e = let y : ls ≡ [] = sym (some-path e) in rw y (refl, none-left, omega arith)
   lines-sound zero (b ∷ t) ls e = none-some e
@@ -109,7 +109,7 @@ module _ {A : Type 0} {line : List ℕ → Read A} {print : A → List ℕ → L
       let n = q .2 in
       rw z (r .0 ∙ ap (print l) (q .0), and-then (r .1) (q .1), omega arith)) e
 
-  lines-print : (k : ℕ) (ls : List A) → Each Good ls → length ls ≤ k → linesUpTo line k (printLines print ls) ≡ some ls
+  lines-print : (k : ℕ) (ls : List A) → AllGood Good ls → length ls ≤ k → linesUpTo line k (printLines print ls) ≡ some ls
   unfolding printLines front
   lines-print k [] none-left h = lines-end line k
   lines-print zero (l ∷ ls) (and-then g r) h = absurd (omega arith)
@@ -145,7 +145,7 @@ module _ {A : Type 0} {line : List ℕ → Read A} {print : A → List ℕ → L
       ∙ lines-more line (form .no-end) (length t) t l u e
       ∙ ap (front l) (lines-enough (length t) (length u) u (omega arith) (omega arith))
 
-  all-print : (ls : List A) → Each Good ls → allLines line (printLines print ls) ≡ some ls
+  all-print : (ls : List A) → AllGood Good ls → allLines line (printLines print ls) ≡ some ls
   unfolding printLines front
   all-print [] none-left = all-none
   all-print (l ∷ ls) (and-then g r) =

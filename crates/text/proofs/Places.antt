@@ -6,9 +6,9 @@ use mathlib.Core.List.{List, []}
 use lib.ListN.{length, drop, length-drop}
 use Rattle.text.specs.Reading.{Read, andThen}
 use Rattle.text.specs.Reading.Read.{got, bad}
-use Rattle.text.specs.Place.{placed, valueIn, maskIn, placeIn}
-use Rattle.text.specs.declared.Value.{Value}
-use Rattle.text.specs.declared.Value.the-variants as value
+use Rattle.text.specs.Place.{placed, placedDecimal, placedSet, placedEnd}
+use Rattle.text.specs.declared.Decimal.{Decimal}
+use Rattle.text.specs.declared.Decimal.the-variants as decimal
 use Rattle.text.specs.declared.Mask.{Mask}
 use Rattle.text.specs.declared.Mask.the-variants as mask
 use Rattle.text.specs.declared.Place.{Place}
@@ -49,58 +49,58 @@ module _ {A R : Type 0} (at : A → ℕ → R) (none : R) (s : List ℕ) where
 
 -- the answers of this crate to a reading that is known
 module _ (s : List ℕ) (want : Read ℕ) where
-  pub value-got : (v p : ℕ) → want ≡ got v (drop p s) → p ≤ length s → value.At v p ≡ valueIn s want
-  value-got v p e h = placed-got (λ v p. value.At v p) value.Bad s want v p e h
+  pub decimal-got : (v p : ℕ) → want ≡ got v (drop p s) → p ≤ length s → decimal.At v p ≡ placedDecimal s want
+  decimal-got v p e h = placed-got (λ v p. decimal.At v p) decimal.Refused s want v p e h
 
-  pub value-none : want ≡ bad → value.Bad ≡ valueIn s want
-  value-none e = placed-bad (λ v p. value.At v p) value.Bad s want e
+  pub decimal-none : want ≡ bad → decimal.Refused ≡ placedDecimal s want
+  decimal-none e = placed-bad (λ v p. decimal.At v p) decimal.Refused s want e
 
-  pub mask-got : (m p : ℕ) → want ≡ got m (drop p s) → p ≤ length s → mask.At m p ≡ maskIn s want
-  mask-got m p e h = placed-got (λ m p. mask.At m p) mask.Bad s want m p e h
+  pub mask-got : (m p : ℕ) → want ≡ got m (drop p s) → p ≤ length s → mask.At m p ≡ placedSet s want
+  mask-got m p e h = placed-got (λ m p. mask.At m p) mask.Refused s want m p e h
 
-  pub mask-none : want ≡ bad → mask.Bad ≡ maskIn s want
-  mask-none e = placed-bad (λ m p. mask.At m p) mask.Bad s want e
+  pub mask-none : want ≡ bad → mask.Refused ≡ placedSet s want
+  mask-none e = placed-bad (λ m p. mask.At m p) mask.Refused s want e
 
 module _ (s : List ℕ) (want : Read Unit) where
-  pub place-got : (p : ℕ) → want ≡ got tt (drop p s) → p ≤ length s → place.At p ≡ placeIn s want
-  place-got p e h = placed-got (λ _ p. place.At p) place.Bad s want tt p e h
+  pub place-got : (p : ℕ) → want ≡ got tt (drop p s) → p ≤ length s → place.At p ≡ placedEnd s want
+  place-got p e h = placed-got (λ _ p. place.At p) place.Refused s want tt p e h
 
-  pub place-none : want ≡ bad → place.Bad ≡ placeIn s want
-  place-none e = placed-bad (λ _ p. place.At p) place.Bad s want e
+  pub place-none : want ≡ bad → place.Refused ≡ placedEnd s want
+  place-none e = placed-bad (λ _ p. place.At p) place.Refused s want e
 
 -- what the answers of this crate say of what was to be read
-module _ (s : List ℕ) (i : ℕ) (want : Read ℕ) (r : Value) (w : Within (drop i s) want) (e : r ≡ valueIn s want) where
-  pub value-at : (v p : ℕ) → r ≡ value.At v p → (want ≡ got v (drop p s)) × (p ≤ length s)
-  value-at v p g =
-      placed-split (λ v p. value.At v p) value.Bad s i want r w e
+module _ (s : List ℕ) (i : ℕ) (want : Read ℕ) (r : Decimal) (w : Within (drop i s) want) (e : r ≡ placedDecimal s want) where
+  pub decimal-at : (v p : ℕ) → r ≡ decimal.At v p → (want ≡ got v (drop p s)) × (p ≤ length s)
+  decimal-at v p g =
+      placed-split (λ v p. decimal.At v p) decimal.Refused s i want r w e
       (λ v′ p′ x l y. let a : v′ ≡ v = cc in let b : p′ ≡ p = cc in rw (← a, ← b) (x, l))
       (λ x y. let z : _≡_ {A = ℕ} 0 1 = cc in absurd (omega arith))
 
-  pub value-bad : r ≡ value.Bad → want ≡ bad
-  value-bad g =
-      placed-split (λ v p. value.At v p) value.Bad s i want r w e
+  pub decimal-bad : r ≡ decimal.Refused → want ≡ bad
+  decimal-bad g =
+      placed-split (λ v p. decimal.At v p) decimal.Refused s i want r w e
       (λ v p x l y. let z : _≡_ {A = ℕ} 0 1 = cc in absurd (omega arith)) (λ x y. x)
 
-module _ (s : List ℕ) (i : ℕ) (want : Read ℕ) (r : Mask) (w : Within (drop i s) want) (e : r ≡ maskIn s want) where
+module _ (s : List ℕ) (i : ℕ) (want : Read ℕ) (r : Mask) (w : Within (drop i s) want) (e : r ≡ placedSet s want) where
   pub mask-at : (m p : ℕ) → r ≡ mask.At m p → (want ≡ got m (drop p s)) × (p ≤ length s)
   mask-at m p g =
-      placed-split (λ m p. mask.At m p) mask.Bad s i want r w e
+      placed-split (λ m p. mask.At m p) mask.Refused s i want r w e
       (λ m′ p′ x l y. let a : m′ ≡ m = cc in let b : p′ ≡ p = cc in rw (← a, ← b) (x, l))
       (λ x y. let z : _≡_ {A = ℕ} 0 1 = cc in absurd (omega arith))
 
-  pub mask-bad : r ≡ mask.Bad → want ≡ bad
+  pub mask-bad : r ≡ mask.Refused → want ≡ bad
   mask-bad g =
-      placed-split (λ m p. mask.At m p) mask.Bad s i want r w e
+      placed-split (λ m p. mask.At m p) mask.Refused s i want r w e
       (λ m p x l y. let z : _≡_ {A = ℕ} 0 1 = cc in absurd (omega arith)) (λ x y. x)
 
-module _ (s : List ℕ) (i : ℕ) (want : Read Unit) (r : Place) (w : Within (drop i s) want) (e : r ≡ placeIn s want) where
+module _ (s : List ℕ) (i : ℕ) (want : Read Unit) (r : Place) (w : Within (drop i s) want) (e : r ≡ placedEnd s want) where
   pub place-at : (p : ℕ) → r ≡ place.At p → (want ≡ got tt (drop p s)) × (p ≤ length s)
   place-at p g =
-      placed-split (λ _ p. place.At p) place.Bad s i want r w e
+      placed-split (λ _ p. place.At p) place.Refused s i want r w e
       (λ v p′ x l y. let b : p′ ≡ p = cc in rw (← b) (x, l))
       (λ x y. let z : _≡_ {A = ℕ} 0 1 = cc in absurd (omega arith))
 
-  pub place-bad : r ≡ place.Bad → want ≡ bad
+  pub place-bad : r ≡ place.Refused → want ≡ bad
   place-bad g =
-      placed-split (λ _ p. place.At p) place.Bad s i want r w e
+      placed-split (λ _ p. place.At p) place.Refused s i want r w e
       (λ v p x l y. let z : _≡_ {A = ℕ} 0 1 = cc in absurd (omega arith)) (λ x y. x)

@@ -35,9 +35,9 @@ printLines print [] = []
 printLines print (l ∷ ls) = print l (printLines print ls)
 
 -- all lines are good
-pub data Each {A : Type 0} (Good : A → Type 0) : List A → Type 0 where
-  none-left : Each Good []
-  and-then : {l : A} {ls : List A} → Good l → Each Good ls → Each Good (l ∷ ls)
+pub data AllGood {A : Type 0} (Good : A → Type 0) : List A → Type 0 where
+  none-left : AllGood Good []
+  and-then : {l : A} {ls : List A} → Good l → AllGood Good ls → AllGood Good (l ∷ ls)
 
 -- A line is read exactly where a good one stands printed, the end of the text is no line, and what follows a line is printed after it.
 pub record LineForm {A : Type 0} (line : List ℕ → Read A) (print : A → List ℕ → List ℕ) (Good : A → Type 0) : Type 0 where

@@ -4,8 +4,8 @@ use mathlib.Core.List.{List}
 use lib.ListN.{length}
 use Rattle.text.specs.Reading.{Read}
 use Rattle.text.specs.Reading.Read.{got, bad}
-use Rattle.text.specs.declared.Value.{Value}
-use Rattle.text.specs.declared.Value.the-variants as value
+use Rattle.text.specs.declared.Decimal.{Decimal}
+use Rattle.text.specs.declared.Decimal.the-variants as decimal
 use Rattle.text.specs.declared.Mask.{Mask}
 use Rattle.text.specs.declared.Mask.the-variants as mask
 use Rattle.text.specs.declared.Place.{Place}
@@ -16,11 +16,11 @@ unfoldable pub placed : {A R : Type 0} → (A → ℕ → R) → R → List ℕ 
 placed at none s (got v t) = at v (length s - length t)
 placed at none s bad = none
 
-abbrev pub valueIn : List ℕ → Read ℕ → Value
-valueIn s want = placed (λ v p. value.At v p) value.Bad s want
+abbrev pub placedDecimal : List ℕ → Read ℕ → Decimal
+placedDecimal s want = placed (λ v p. decimal.At v p) decimal.Refused s want
 
-abbrev pub maskIn : List ℕ → Read ℕ → Mask
-maskIn s want = placed (λ m p. mask.At m p) mask.Bad s want
+abbrev pub placedSet : List ℕ → Read ℕ → Mask
+placedSet s want = placed (λ m p. mask.At m p) mask.Refused s want
 
-abbrev pub placeIn : List ℕ → Read Unit → Place
-placeIn s want = placed (λ _ p. place.At p) place.Bad s want
+abbrev pub placedEnd : List ℕ → Read Unit → Place
+placedEnd s want = placed (λ _ p. place.At p) place.Refused s want

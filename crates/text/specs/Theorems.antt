@@ -11,7 +11,7 @@ use Rattle.text.specs.Reading.Read.{got}
 use Rattle.text.specs.Number.{number, decimal, opensDigit}
 use Rattle.text.specs.Set.{hexSet, hex4}
 use Rattle.text.specs.Field.{numberField, setField, lineEnd, lastNumber, printNumberField, printSetField, printLineEnd}
-use Rattle.text.specs.Lines.{linesUpTo, allLines, printLines, Each}
+use Rattle.text.specs.Lines.{linesUpTo, allLines, printLines, AllGood}
 
 -- a number: its decimal form, not above the bound, with no digit after it
 abbrev pub NumberExact : Type 0
@@ -41,9 +41,9 @@ LastNumberExact =
 -- lines, of a form: a text is read as at most k of them exactly if it is these printed one after another
 abbrev pub LinesExact : {A : Type 0} → (List ℕ → Read A) → (A → List ℕ → List ℕ) → (A → Type 0) → Type 0
 LinesExact {A} line print Good =
-    (k : ℕ) (t : List ℕ) (ls : List A) → (linesUpTo line k t ≡ some ls) ↔ ((t ≡ printLines print ls) × Each Good ls × (length ls ≤ k))
+    (k : ℕ) (t : List ℕ) (ls : List A) → (linesUpTo line k t ≡ some ls) ↔ ((t ≡ printLines print ls) × AllGood Good ls × (length ls ≤ k))
 
 -- and as any number of them
 abbrev pub AllLinesExact : {A : Type 0} → (List ℕ → Read A) → (A → List ℕ → List ℕ) → (A → Type 0) → Type 0
 AllLinesExact {A} line print Good =
-    (t : List ℕ) (ls : List A) → (allLines line t ≡ some ls) ↔ ((t ≡ printLines print ls) × Each Good ls)
+    (t : List ℕ) (ls : List A) → (allLines line t ≡ some ls) ↔ ((t ≡ printLines print ls) × AllGood Good ls)

@@ -8,7 +8,7 @@ ghost use Rattle.text.specs.Reading.{byte as byteOf, fits as fitsOf};
 ghost use Rattle.text.specs.Number.{digits as digitsOf, number as numberOf, opensDigit};
 ghost use Rattle.text.specs.Set.{hexDigit, hexSet};
 ghost use Rattle.text.specs.Field.{numberField, setField, lineEnd, lastNumber};
-ghost use Rattle.text.specs.Place.{valueIn, maskIn, placeIn};
+ghost use Rattle.text.specs.Place.{placedDecimal, placedSet, placedEnd};
 
 // The largest number of 32 bits.
 pub const MOST: u32 = 4294967295;
@@ -17,21 +17,21 @@ pub const MOST: u32 = 4294967295;
 const LIMIT: usize = 16384;
 
 // A number and the place after it, or a refusal.
-pub enum Value {
+pub enum Decimal {
     At(u32, usize),
-    Bad,
+    Refused,
 }
 
 // A set and the place after it, or a refusal.
 pub enum Mask {
     At(u16, usize),
-    Bad,
+    Refused,
 }
 
 // The place after what was asked for, or a refusal.
 pub enum Place {
     At(usize),
-    Bad,
+    Refused,
 }
 
 // Whether a text is not longer than the limit.
@@ -43,21 +43,21 @@ pub fn fits(s: &[u8]) -> bool
 
 // The byte b at `at`.
 pub fn byte(s: &[u8], at: usize, b: u8) -> Place
-    ensures { λ r. ⌜ r ≡ placeIn (now (s .entry)) (byteOf b (drop at (now (s .entry)))) ⌝ }
+    ensures { λ r. ⌜ r ≡ placedEnd (now (s .entry)) (byteOf b (drop at (now (s .entry)))) ⌝ }
 {
     if s.len() <= at {
-        return Place::Bad;
+        return Place::Refused;
     }
     if s[at] == b {
         Place::At(at + 1)
     } else {
-        Place::Bad
+        Place::Refused
     }
 }
 
 // The end of a line.
 pub fn line_end(s: &[u8], at: usize) -> Place
-    ensures { λ r. ⌜ r ≡ placeIn (now (s .entry)) (lineEnd (drop at (now (s .entry)))) ⌝ }
+    ensures { λ r. ⌜ r ≡ placedEnd (now (s .entry)) (lineEnd (drop at (now (s .entry)))) ⌝ }
 {
     byte(s, at, b'\n')
 }
@@ -76,46 +76,46 @@ fn digit_at(s: &[u8], at: usize) -> bool
 }
 
 // The value of the digits from `from` on, up to the bound.
-fn digits(s: &[u8], from: usize, bound: u32) -> Value
+fn digits(s: &[u8], from: usize, bound: u32) -> Decimal
     requires { ⌜ from ≤ length (now s) ⌝ }
-    ensures { λ r. ⌜ r ≡ valueIn (now (s .entry)) (digitsOf bound 0 (drop from (now (s .entry)))) ⌝ }
+    ensures { λ r. ⌜ r ≡ placedDecimal (now (s .entry)) (digitsOf bound 0 (drop from (now (s .entry)))) ⌝ }
 {
     let mut i = from;
     let mut v: u64 = 0;
     while i < s.len() {
         let b = s[i];
         if b < b'0' {
-            return Value::At(v as u32, i);
+            return Decimal::At(v as u32, i);
         }
         if b'9' < b {
-            return Value::At(v as u32, i);
+            return Decimal::At(v as u32, i);
         }
         let w = v * 10 + (b - b'0') as u64;
         if (bound as u64) < w {
-            return Value::Bad;
+            return Decimal::Refused;
         }
         v = w;
         i += 1;
     }
-    Value::At(v as u32, i)
+    Decimal::At(v as u32, i)
 }
 
 // A number up to the bound, without needless zeros.
-pub fn number(s: &[u8], at: usize, bound: u32) -> Value
-    ensures { λ r. ⌜ r ≡ valueIn (now (s .entry)) (numberOf bound (drop at (now (s .entry)))) ⌝ }
+pub fn number(s: &[u8], at: usize, bound: u32) -> Decimal
+    ensures { λ r. ⌜ r ≡ placedDecimal (now (s .entry)) (numberOf bound (drop at (now (s .entry)))) ⌝ }
 {
     if digit_at(s, at) {
         if s[at] == b'0' {
             if digit_at(s, at + 1) {
-                Value::Bad
+                Decimal::Refused
             } else {
-                Value::At(0, at + 1)
+                Decimal::At(0, at + 1)
             }
         } else {
             digits(s, at, bound)
         }
     } else {
-        Value::Bad
+        Decimal::Refused
     }
 }
 
@@ -138,21 +138,21 @@ fn hex_digit(b: u8) -> u16
 
 // A set of four digits.
 pub fn set(s: &[u8], at: usize) -> Mask
-    ensures { λ r. ⌜ r ≡ maskIn (now (s .entry)) (hexSet (drop at (now (s .entry)))) ⌝ }
+    ensures { λ r. ⌜ r ≡ placedSet (now (s .entry)) (hexSet (drop at (now (s .entry)))) ⌝ }
 {
     if s.len() <= at {
-        return Mask::Bad;
+        return Mask::Refused;
     }
     let mut m: u16 = 0;
     let mut p = at;
     let mut i: usize = 0;
     while i < 4 {
         if s.len() <= p {
-            return Mask::Bad;
+            return Mask::Refused;
         }
         let d = hex_digit(s[p]);
         if 15 < d {
-            return Mask::Bad;
+            return Mask::Refused;
         }
         m = m * 16 + d;
         p += 1;
@@ -162,34 +162,34 @@ pub fn set(s: &[u8], at: usize) -> Mask
 }
 
 // A tab and a number up to the bound.
-pub fn number_field(s: &[u8], at: usize, bound: u32) -> Value
-    ensures { λ r. ⌜ r ≡ valueIn (now (s .entry)) (numberField bound (drop at (now (s .entry)))) ⌝ }
+pub fn number_field(s: &[u8], at: usize, bound: u32) -> Decimal
+    ensures { λ r. ⌜ r ≡ placedDecimal (now (s .entry)) (numberField bound (drop at (now (s .entry)))) ⌝ }
 {
     match byte(s, at, b'\t') {
         Place::At(p) => number(s, p, bound),
-        Place::Bad => Value::Bad,
+        Place::Refused => Decimal::Refused,
     }
 }
 
 // A tab and a set.
 pub fn set_field(s: &[u8], at: usize) -> Mask
-    ensures { λ r. ⌜ r ≡ maskIn (now (s .entry)) (setField (drop at (now (s .entry)))) ⌝ }
+    ensures { λ r. ⌜ r ≡ placedSet (now (s .entry)) (setField (drop at (now (s .entry)))) ⌝ }
 {
     match byte(s, at, b'\t') {
         Place::At(p) => set(s, p),
-        Place::Bad => Mask::Bad,
+        Place::Refused => Mask::Refused,
     }
 }
 
 // A tab, a number up to the bound and the end of the line.
-pub fn last_number(s: &[u8], at: usize, bound: u32) -> Value
-    ensures { λ r. ⌜ r ≡ valueIn (now (s .entry)) (lastNumber bound (drop at (now (s .entry)))) ⌝ }
+pub fn last_number(s: &[u8], at: usize, bound: u32) -> Decimal
+    ensures { λ r. ⌜ r ≡ placedDecimal (now (s .entry)) (lastNumber bound (drop at (now (s .entry)))) ⌝ }
 {
-    let Value::At(v, p) = number_field(s, at, bound) else {
-        return Value::Bad;
+    let Decimal::At(v, p) = number_field(s, at, bound) else {
+        return Decimal::Refused;
     };
     match line_end(s, p) {
-        Place::At(q) => Value::At(v, q),
-        Place::Bad => Value::Bad,
+        Place::At(q) => Decimal::At(v, q),
+        Place::Refused => Decimal::Refused,
     }
 }

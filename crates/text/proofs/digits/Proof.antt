@@ -4,7 +4,7 @@ use mathlib.Core.Path.{_≡_, refl, sym, _∙_}
 use native.Mathlib.Omega.{arith}
 use lib.ListN.{length, drop}
 use Rattle.text.specs.Number as spec
-use Rattle.text.proofs.Places.{value-got, value-none}
+use Rattle.text.proofs.Places.{decimal-got, decimal-none}
 use Rattle.text.proofs.Numbers.{digit-low, digit-high, digit-in, opens-at, opens-at-end, digits-end, digits-at-over, digits-at-on}
 use Rattle.text.proofs.digits.Statement.{statement}
 use Rattle.text.proofs.digits.Tie as tie
@@ -21,20 +21,20 @@ returns c =
     let at = c .before .before .before in
     let a = at .before .args in
     let here = opens-at (a .s .now) (at .loop .i) (omega arith) ∙ digit-low _ (c .if1 .taken) in
-    value-got _ _ _ _ (sym (at .loop .inv .2) ∙ digits-end (a .bound) (at .loop .v) _ here) (omega arith)
+    decimal-got _ _ _ _ (sym (at .loop .inv .2) ∙ digits-end (a .bound) (at .loop .v) _ here) (omega arith)
 
 returns-2 : tie.Need-returns-2 Inv-loop μ-loop
 returns-2 c =
     let at = c .before .before .before .before in
     let a = at .before .args in
     let here = opens-at (a .s .now) (at .loop .i) (omega arith) ∙ digit-high _ (c .if2 .taken) in
-    value-got _ _ _ _ (sym (at .loop .inv .2) ∙ digits-end (a .bound) (at .loop .v) _ here) (omega arith)
+    decimal-got _ _ _ _ (sym (at .loop .inv .2) ∙ digits-end (a .bound) (at .loop .v) _ here) (omega arith)
 
 returns-3 : tie.Need-returns-3 Inv-loop μ-loop
 returns-3 c =
     let at = c .before .before .before .before .before in
     let a = at .before .args in
-    value-none _ _
+    decimal-none _ _
     (sym (at .loop .inv .2)
     ∙ digits-at-over (a .s .now) (at .loop .i) (omega arith) (a .bound) (at .loop .v) (digit-in _ (c .before .before .if1 .left) (c .before .if2 .left)) (omega arith))
 
@@ -52,7 +52,7 @@ returns-4 : tie.Need-returns-4 Inv-loop μ-loop
 returns-4 c =
     let at = c .before in
     let a = at .before .args in
-    value-got _ _ _ _
+    decimal-got _ _ _ _
     (sym (at .loop .inv .2) ∙ digits-end (a .bound) (at .loop .v) _ (opens-at-end (a .s .now) (at .loop .i) (omega arith)))
     (omega arith)
 

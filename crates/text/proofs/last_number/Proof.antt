@@ -4,7 +4,7 @@ use lib.ListN.{drop}
 use borrow.Author.Needs.{needs}
 use Rattle.text.specs.Reading.Read.{got}
 use Rattle.text.specs.Field.{numberField}
-use Rattle.text.proofs.Places.{value-got, value-none}
+use Rattle.text.proofs.Places.{decimal-got, decimal-none}
 use Rattle.text.proofs.Fields.{byte-at, byte-bad, number-field-at, number-field-bad, last-number-on, last-number-open, last-number-none}
 use Rattle.text.proofs.last_number.Statement.{statement}
 use Rattle.text.proofs.last_number.Tie as tie
@@ -20,7 +20,7 @@ known k =
 returns : tie.Need-returns
 returns c =
     let a = c .before .before .before .before .args in
-    value-none _ _
+    decimal-none _ _
     (last-number-none _ (a .bound) (number-field-bad (a .s .now) (a .at) (a .bound) _ (c .before .before .number-field .ensures) (c .enum-told .given .1)))
 
 returns-2 : tie.Need-returns-2
@@ -28,13 +28,13 @@ returns-2 c =
     let k = c .before .before .before .before .before in
     let a = k .before .before .before .before .args in
     let end = byte-at (a .s .now) (k .v .given .0 .1 .0) 10 _ (c .before .before .before .line-end .ensures) _ (c .before .q .given .1) in
-    value-got _ _ _ _ (last-number-on _ (a .bound) _ _ (known k) _ (end .0)) (end .1)
+    decimal-got _ _ _ _ (last-number-on _ (a .bound) _ _ (known k) _ (end .0)) (end .1)
 
 returns-3 : tie.Need-returns-3
 returns-3 c =
     let k = c .before .before .before .before in
     let a = k .before .before .before .before .args in
-    value-none _ _
+    decimal-none _ _
     (last-number-open _ (a .bound) _ _ (known k)
     (byte-bad (a .s .now) (k .v .given .0 .1 .0) 10 _ (c .before .before .line-end .ensures) (c .enum-told2 .given .1)))
 

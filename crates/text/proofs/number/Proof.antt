@@ -4,8 +4,8 @@ use native.Mathlib.Omega.{arith}
 use mathlib.Core.Path.{sym, ap, _∙_}
 use lib.ListN.{length}
 use borrow.Author.Needs.{needs}
-use Rattle.text.specs.Place.{valueIn}
-use Rattle.text.proofs.Places.{value-got, value-none}
+use Rattle.text.specs.Place.{placedDecimal}
+use Rattle.text.proofs.Places.{decimal-got, decimal-none}
 use Rattle.text.proofs.Numbers.{opens-inside, number-none, number-at-long, number-at-zero, number-at-on}
 use Rattle.text.proofs.number.Statement.{statement}
 use Rattle.text.proofs.number.Tie as tie
@@ -20,13 +20,13 @@ returns : tie.Need-returns
 returns c =
     let k = c .before .before .before .before in
     let a = k .before .before .before .args in
-    value-none _ _ (number-at-long (a .bound) (a .s .now) (a .at) (inside k) (c .before .before .if2 .taken) (sym (c .before .digit-at2 .ensures) ∙ c .if3 .taken))
+    decimal-none _ _ (number-at-long (a .bound) (a .s .now) (a .at) (inside k) (c .before .before .if2 .taken) (sym (c .before .digit-at2 .ensures) ∙ c .if3 .taken))
 
 returns-2 : tie.Need-returns-2
 returns-2 c =
     let k = c .before .before .before .before in
     let a = k .before .before .before .args in
-    value-got _ _ _ _
+    decimal-got _ _ _ _
     (number-at-zero (a .bound) (a .s .now) (a .at) (inside k) (c .before .before .if2 .taken) (sym (c .before .digit-at2 .ensures) ∙ c .if3 .left))
     (omega (arith, inside k))
 
@@ -35,12 +35,12 @@ returns-3 c =
     let k = c .before .before .before in
     let a = k .before .before .before .args in
     c .digits .ensures
-    ∙ ap (valueIn (a .s .now)) (sym (number-at-on (a .bound) (a .s .now) (a .at) (inside k) (sym (k .before .digit-at .ensures) ∙ k .if1 .taken) (c .before .if2 .left)))
+    ∙ ap (placedDecimal (a .s .now)) (sym (number-at-on (a .bound) (a .s .now) (a .at) (inside k) (sym (k .before .digit-at .ensures) ∙ k .if1 .taken) (c .before .if2 .left)))
 
 returns-4 : tie.Need-returns-4
 returns-4 c =
     let a = c .before .before .before .args in
-    value-none _ _ (number-none (a .bound) _ (sym (c .before .digit-at .ensures) ∙ c .if1 .left))
+    decimal-none _ _ (number-none (a .bound) _ (sym (c .before .digit-at .ensures) ∙ c .if1 .left))
 
 pub number-spec : {M : Type 1} → statement M
 number-spec = tie.close (tie.spec

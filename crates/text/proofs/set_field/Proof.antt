@@ -1,7 +1,7 @@
 -- `text::set_field` meets its contract. Assumes nothing.
 use mathlib.Core.Path.{sym, ap, _∙_}
 use borrow.Author.Needs.{needs}
-use Rattle.text.specs.Place.{maskIn}
+use Rattle.text.specs.Place.{placedSet}
 use Rattle.text.proofs.Places.{mask-none}
 use Rattle.text.proofs.Fields.{byte-at, byte-bad, set-field-on, set-field-none}
 use Rattle.text.proofs.set_field.Statement.{statement}
@@ -12,7 +12,7 @@ returns c =
     let k = c .before .before in
     let a = k .before .before .before .before .args in
     let tab = byte-at (a .s .now) (a .at) 9 _ (k .before .before .byte .ensures) _ (k .p .given .1) in
-    c .set .ensures ∙ ap (maskIn (a .s .now)) (sym (set-field-on _ _ (tab .0)))
+    c .set .ensures ∙ ap (placedSet (a .s .now)) (sym (set-field-on _ _ (tab .0)))
 
 returns-2 : tie.Need-returns-2
 returns-2 c =

@@ -8,7 +8,7 @@ use Rattle.sheet.specs.Sheet.{Sheet}
 use Rattle.text.specs.Reading.Read.{got}
 use Rattle.sheet_text.specs.Reading.{lineOf, linesOf}
 use Rattle.sheet_text.specs.Building.{stepOn}
-use Rattle.sheet_text.specs.Drafts.{Holds, FormedIf, stepsIn}
+use Rattle.sheet_text.specs.Drafts.{DraftHolds, FormedIf, stepsRead}
 use Rattle.sheet_text.proofs.FoundLaws.{line-found, line-missed, line-onward}
 use Rattle.sheet_text.proofs.DraftLaws.{holds-none, formed-stepped}
 use Rattle.sheet_text.proofs.ReadLaws.{steps-on, steps-bad, steps-end}
@@ -18,8 +18,8 @@ use Rattle.sheet_text.proofs.draft.follow.Tie as tie
 
 abbrev Inv-loop : tie.InvT-loop
 Inv-loop s from table₀ d₀ at₀ table d at =
-    (o : Option Sheet) → FormedIf o → Holds o d₀ table₀
-    → (o′ : Option Sheet) × FormedIf o′ × Holds o′ d table × (stepsIn o′ (linesOf (drop at s)) ≡ stepsIn o (linesOf (drop from s)))
+    (o : Option Sheet) → FormedIf o → DraftHolds o d₀ table₀
+    → (o′ : Option Sheet) × FormedIf o′ × DraftHolds o′ d table × (stepsRead o′ (linesOf (drop at s)) ≡ stepsRead o (linesOf (drop from s)))
 
 abbrev μ-loop : tie.MeasureT-loop
 μ-loop s from table₀ d₀ at₀ table d at = length s - at

@@ -19,7 +19,9 @@ use Rattle.sheet_text.specs.declared.line.Line.{Line}
 use Rattle.sheet_text.specs.declared.draft.Draft.{Draft}
 use Rattle.sheet_text.specs.Reading.{lineOf, linesOf}
 use Rattle.sheet_text.specs.Building.{begin, stepOn, steps, build}
-use Rattle.sheet_text.specs.Sheets.{buildRead, sheetRead, judged, refusedBy, decodedSheet}
+use Rattle.sheet_text.specs.Sheets.{buildRead, sheetRead, judged}
+use Rattle.sheet_text.specs.declared.Verdict.the-variants.{Accepted, Malformed, Repeats}
+use Rattle.sheet_text.specs.Decoded.{refusedBy, decodedSheet}
 use Rattle.sheet_text.specs.Drafts.{DraftHolds, FormedIf, stepsRead}
 use Rattle.sheet_text.specs.Repeats.{repeatsIn}
 use Rattle.sheet_text.proofs.LineLaws.{sheet-lines}
@@ -79,7 +81,7 @@ module _ (t : List ℕ) where
 -- ---- the answer
 
 module _ (d : Draft) (t : List ℕ) where
-  pub answer-malformed : (o : Option Sheet) → DraftHolds o d t → d .ok ≡ false → refusedBy 1 ≡ decodedSheet (judged o)
+  pub answer-malformed : (o : Option Sheet) → DraftHolds o d t → d .ok ≡ false → refusedBy Malformed ≡ decodedSheet (judged o)
   unfolding DraftHolds decodedSheet judged
   answer-malformed none e h = refl
   answer-malformed (some s) e h = absurd (absurd-false (sym h ∙ e .0))
@@ -95,13 +97,13 @@ module _ (d : Draft) (t : List ℕ) where
         let labels : labelCount s ≤ 32 = unfold labelCount in (facts .few-labels) in
         rw (e .2, types-in s, labels-in s) (types, labels)
 
-    pub answer-repeating : (o : Option Sheet) → FormedIf o → DraftHolds o d t → repeatsIn t ≡ true → refusedBy 2 ≡ decodedSheet (judged o)
+    pub answer-repeating : (o : Option Sheet) → FormedIf o → DraftHolds o d t → repeatsIn t ≡ true → refusedBy Repeats ≡ decodedSheet (judged o)
     unfolding DraftHolds decodedSheet judged FormedIf
     answer-repeating none f e r = absurd (absurd-false (sym e ∙ h))
     answer-repeating (some s) f e r = rw (sym (repeats-in s f) ∙ ap repeatsIn (sym (e .2)) ∙ r)
 
-    pub answer-accepted : (o : Option Sheet) → FormedIf o → DraftHolds o d t → repeatsIn t ≡ false → record { answer = 0; table = t } ≡ decodedSheet (judged o)
+    pub answer-accepted : (o : Option Sheet) → FormedIf o → DraftHolds o d t → repeatsIn t ≡ false → record { verdict = Accepted; table = t } ≡ decodedSheet (judged o)
     unfolding DraftHolds decodedSheet judged FormedIf
     answer-accepted none f e r = absurd (absurd-false (sym e ∙ h))
     answer-accepted (some s) f e r =
-        rw (sym (repeats-in s f) ∙ ap repeatsIn (sym (e .2)) ∙ r) (ap (λ (t : List ℕ). record { answer = 0; table = t }) (e .2))
+        rw (sym (repeats-in s f) ∙ ap repeatsIn (sym (e .2)) ∙ r) (ap (λ (t : List ℕ). record { verdict = Accepted; table = t }) (e .2))

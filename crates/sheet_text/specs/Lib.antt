@@ -4,6 +4,7 @@ pub mod Reading
 pub mod Placed
 pub mod Building
 pub mod Sheets
+pub mod Decoded
 pub mod Drafts
 pub mod Repeats
 pub mod Theorems

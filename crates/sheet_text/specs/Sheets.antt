@@ -4,12 +4,9 @@ use mathlib.Core.Bool.{cond}
 use mathlib.Core.List.{List}
 use mathlib.Core.Option.{Option, none, some}
 use Prim.Native.Nat.{ℕ}
-use lib.ListN.{replicate}
 use Rattle.text.specs.Reading.{fits}
 use Rattle.sheet.specs.Sheet.{Sheet, repeats}
-use Rattle.sheet.specs.Tables.{tableWords, tableOf}
 use Rattle.sheet_text.specs.declared.line.Line.{Line}
-use Rattle.sheet_text.specs.declared.Decoded.{Decoded}
 use Rattle.sheet_text.specs.Reading.{linesOf}
 use Rattle.sheet_text.specs.Building.{build}
 
@@ -33,12 +30,3 @@ judged (some s) = cond (repeats s) repeating (accepted s)
 
 unfoldable pub sheetOf : List ℕ → Answer
 sheetOf t = judged (sheetRead t)
-
--- the answer to a text: its number, and the table, which is all zeros for a refused text
-unfoldable pub refusedBy : ℕ → Decoded
-refusedBy number = record { answer = number; table = replicate tableWords 0 }
-
-unfoldable pub decodedSheet : Answer → Decoded
-decodedSheet malformed = refusedBy 1
-decodedSheet repeating = refusedBy 2
-decodedSheet (accepted s) = record { answer = 0; table = tableOf s }

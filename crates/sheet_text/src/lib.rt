@@ -6,42 +6,58 @@ mod repeat; // repeat.rt: whether a table repeats a type or a label
 ghost use mathlib.Core.Path.{_≡_};
 ghost use lib.ListN.{replicate};
 ghost use Rattle.sheet.specs.Tables.{tableWords};
-ghost use Rattle.sheet_text.specs.Sheets.{sheetOf, decodedSheet};
+ghost use Rattle.sheet_text.specs.Sheets.{sheetOf};
+ghost use Rattle.sheet_text.specs.Decoded.{verdictNumber, decodedSheet};
 use draft::draft_of;
 use repeat::repeats;
 use sheet::WORDS;
 
-// The answer to a text: 0 and the sheet's table, or the number of a refusal and zeros.
+// What a text is: a sheet; not of the form, or naming what isn't there; or a sheet that repeats a type or a label.
+pub enum Verdict {
+    Accepted,
+    Malformed,
+    Repeats,
+}
+
+// The answer to a text: the sheet's table, or zeros for a refused text.
 pub struct Decoded {
-    pub answer: u8,
+    pub verdict: Verdict,
     pub table: [u16; WORDS],
 }
 
-// Fills a table of zeros with the sheet of a text, and answers 0, or leaves zeros and answers the number of the refusal.
-fn fill(text: &[u8], table: &mut [u16; WORDS]) -> u8
+// The number of a verdict: 0, or that of the refusal.
+pub fn number(verdict: Verdict) -> u8
+    ensures { λ r. ⌜ r ≡ verdictNumber verdict ⌝ }
+{
+    match verdict {
+        Verdict::Accepted => 0,
+        Verdict::Malformed => 1,
+        Verdict::Repeats => 2,
+    }
+}
+
+// Fills a table of zeros with the sheet of a text, or leaves zeros where the text is refused.
+fn fill(text: &[u8], table: &mut [u16; WORDS]) -> Verdict
     requires { ⌜ now table ≡ replicate tableWords 0 ⌝ }
-    ensures { λ r. ⌜ record { answer = r; table = now (table .exit) } ≡ decodedSheet (sheetOf (now (text .entry))) ⌝ }
+    ensures { λ r. ⌜ record { verdict = r; table = now (table .exit) } ≡ decodedSheet (sheetOf (now (text .entry))) ⌝ }
 {
     let d = draft_of(text, table);
     if !d.ok {
         *table = [0u16; WORDS];
-        return 1;
+        return Verdict::Malformed;
     }
     if repeats(table) {
         *table = [0u16; WORDS];
-        return 2;
+        return Verdict::Repeats;
     }
-    0
+    Verdict::Accepted
 }
 
-// The table of a sheet's text, or the number of its refusal.
+// The verdict on a sheet's text, and its table.
 pub fn read(text: &[u8]) -> Decoded
     ensures { λ r. ⌜ r ≡ decodedSheet (sheetOf (now (text .entry))) ⌝ }
 {
-    let mut d = Decoded {
-        answer: 0,
-        table: [0u16; WORDS],
-    };
-    d.answer = fill(text, &mut d.table);
-    d
+    let mut table = [0u16; WORDS];
+    let verdict = fill(text, &mut table);
+    Decoded { verdict, table }
 }

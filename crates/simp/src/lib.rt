@@ -41,7 +41,8 @@ pub extern "C" fn simp_check(sheet: &[u8], script: &[u8]) -> u8
     ensures { λ r. ⌜ r ≡ checkOf (now (sheet .entry)) (now (script .entry)) ⌝ }
 {
     let read = sheet_text::read(sheet);
-    let answer = read.answer;
+    let verdict = read.verdict;
+    let answer = sheet_text::number(verdict);
     if answer != DONE {
         return answer;
     }
@@ -60,7 +61,8 @@ pub extern "C" fn simp_run(
     ensures { λ r. ⌜ record { answer = r .answer; steps = r .steps; memory = now (memory .exit) } ≡ runOf (now (sheet .entry)) (now (script .entry)) (now (memory .entry)) authority budget ⌝ }
 {
     let read = sheet_text::read(sheet);
-    let answer = read.answer;
+    let verdict = read.verdict;
+    let answer = sheet_text::number(verdict);
     if answer != DONE {
         return stages::refused(answer);
     }
@@ -73,7 +75,8 @@ pub extern "C" fn simp_view(sheet: &[u8], memory: &[u32], group: u16, view: &mut
     ensures { λ r. ⌜ record { answer = r; view = now (view .exit) } ≡ viewOf (now (sheet .entry)) (now (memory .entry)) group (now (view .entry)) ⌝ }
 {
     let read = sheet_text::read(sheet);
-    let answer = read.answer;
+    let verdict = read.verdict;
+    let answer = sheet_text::number(verdict);
     if answer != DONE {
         return answer;
     }

@@ -1,0 +1,23 @@
+-- What the code answers to a text: a verdict, whose number is the scope's, and a table.
+use Prim.Native.Nat.{ℕ}
+use lib.ListN.{replicate}
+use Rattle.sheet.specs.Tables.{tableWords, tableOf}
+use Rattle.sheet_text.specs.declared.Verdict.{Verdict}
+use Rattle.sheet_text.specs.declared.Verdict.the-variants.{Accepted, Malformed, Repeats}
+use Rattle.sheet_text.specs.declared.Decoded.{Decoded}
+use Rattle.sheet_text.specs.Sheets.{Answer, malformed, repeating, accepted}
+
+-- the number of each verdict
+unfoldable pub verdictNumber : Verdict → ℕ
+verdictNumber Accepted = 0
+verdictNumber Malformed = 1
+verdictNumber Repeats = 2
+
+-- a refused text has a table of zeros
+unfoldable pub refusedBy : Verdict → Decoded
+refusedBy verdict = record { verdict = verdict; table = replicate tableWords 0 }
+
+unfoldable pub decodedSheet : Answer → Decoded
+decodedSheet malformed = refusedBy Malformed
+decodedSheet repeating = refusedBy Repeats
+decodedSheet (accepted s) = record { verdict = Accepted; table = tableOf s }

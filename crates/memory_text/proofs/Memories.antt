@@ -10,7 +10,7 @@ use borrow.Author.Tests.{le-leb}
 use Rattle.text.specs.Reading.{limit, fits}
 use Rattle.text.specs.Reading.Read.{got}
 use Rattle.text.specs.Lines.{linesUpTo, printLines, AllGood, none-left, and-then}
-use Rattle.text.proofs.Cases.{cond-split}
+use Rattle.logic.proofs.BooleanLaws.{cond-split}
 use Rattle.text.proofs.Readings.{not-bad, got-same}
 use Rattle.text.proofs.Lines.{lines-exact}
 use Rattle.language.specs.World.{cell-words}
@@ -19,7 +19,8 @@ use Rattle.memory_text.specs.Sizes.{lineRoom}
 use Rattle.memory_text.specs.Printing.{trim, rows, lines, memoryText}
 use Rattle.memory_text.specs.Reading.{location, joined, wordsOf, locations, memory}
 use Rattle.memory_text.specs.Answers.{table, memoryOf}
-use Rattle.memory_text.specs.Theorems.{Words, IsMemory, MemoryExact, ReadsBack}
+use Rattle.memory_text.specs.Theorems.{Words, IsMemory, MemoryExact}
+use Rattle.memory_text.specs.Answers.{ReadsBack}
 use Rattle.memory_text.proofs.Trimming.{words-append, words-left, words-right, words-trim, length-trim}
 use Rattle.memory_text.proofs.Lines.{Row, memory-lines, length-line}
 

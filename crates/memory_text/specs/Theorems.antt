@@ -1,8 +1,7 @@
 -- A text is read as a memory exactly where it is the printed form of one.
-use Prim.Native.Nat.{ℕ, _/_, _%_, _≤_}
+use Prim.Native.Nat.{ℕ, _%_, _≤_}
 use mathlib.Core.Path.{_≡_}
 use mathlib.Core.Logic.{_↔_}
-use mathlib.Core.Bool.{true}
 use mathlib.Core.List.{List, [], _∷_}
 use lib.ListN.{length}
 use Rattle.text.specs.Reading.Read.{got}
@@ -10,9 +9,7 @@ use Rattle.text.specs.Number.{most}
 use Rattle.language.specs.World.{cell-words}
 use Rattle.memory_text.specs.Sizes.{memoryWords}
 use Rattle.memory_text.specs.Printing.{memoryText}
-use Rattle.sheet.specs.Tables.{padded}
 use Rattle.memory_text.specs.Reading.{memory}
-use Rattle.memory_text.specs.Answers.{memoryOf}
 
 -- each is a word of 32 bits
 unfoldable pub Words : List ℕ → Type 0
@@ -28,7 +25,3 @@ pub record IsMemory (ws : List ℕ) : Type 0 where
 -- a text is read exactly if it is the printed form of a memory
 abbrev pub MemoryExact : Type 0
 MemoryExact = (ws t : List ℕ) → (memory t ≡ got ws []) ↔ ((t ≡ memoryText ws) × IsMemory ws)
-
--- reading what was written gives it back
-abbrev pub ReadsBack : Type 0
-ReadsBack = (ws : List ℕ) → IsMemory ws → memoryOf (memoryText ws) ≡ record { ok = true; count = length ws / cell-words; words = padded memoryWords ws }

@@ -18,7 +18,7 @@ use Rattle.script_text.specs.declared.LineRead.the-variants as read
 use Rattle.script_text.specs.declared.Reached.{Reached}
 use Rattle.script_text.specs.declared.Script.{Script}
 use Rattle.script_text.specs.Reading.{lineOf, linesOf, maxLines}
-use Rattle.script_text.specs.Script.{codeWords, noCode, coded, codedLines}
+use Rattle.script_text.specs.Decoded.{codeWords, noCode, coded, codedLines}
 use Rattle.script_text.specs.Placed.{rowOf, lineAt}
 use Rattle.script_text.proofs.LineLaws.{script-lines}
 use Rattle.script_text.proofs.FoundLaws.{found-at, found-none}

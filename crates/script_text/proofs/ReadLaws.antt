@@ -19,7 +19,8 @@ use Rattle.script_text.specs.declared.Script.{Script}
 use Rattle.script_text.specs.declared.Scanned.{Scanned}
 use Rattle.script_text.specs.Reading.{maxLines, linesOf}
 use Rattle.script_text.specs.Parse.{stackOf, single, parse}
-use Rattle.script_text.specs.Script.{namedOnly, commandOf, commandRead, scriptOf, codeWords, noCode, coded, codedLines, decodedScript}
+use Rattle.script_text.specs.Script.{namedOnly, commandOf, commandRead, scriptOf}
+use Rattle.script_text.specs.Decoded.{codeWords, noCode, coded, codedLines, decodedScript}
 use Rattle.script_text.specs.Scan.{ScansCmd, isSome, Whole}
 use Rattle.script_text.proofs.CodeLaws.{words-of, code-length}
 use Rattle.script_text.proofs.ScanLaws.{false-true}

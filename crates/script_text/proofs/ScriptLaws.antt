@@ -24,7 +24,8 @@ use Rattle.sheet.proofs.FormLaws.{formed-facts, type-count}
 use Rattle.script_text.specs.Bytes.{scriptBytes}
 use Rattle.script_text.specs.Reading.{maxLines, linesOf}
 use Rattle.script_text.specs.Parse.{stackOf, single, parse}
-use Rattle.script_text.specs.Script.{countsOf, countsIn, namedOnly, commandOf, commandRead, scriptOf}
+use Rattle.script_text.specs.Script.{countsOf, namedOnly, commandOf, commandRead, scriptOf}
+use Rattle.script_text.specs.Decoded.{countsIn}
 use Rattle.script_text.specs.Placed.{rowOf}
 use Rattle.script_text.specs.Theorems.{IsScript, ScriptExact}
 use Rattle.script_text.proofs.LineLaws.{AllFit, script-lines}
@@ -103,7 +104,7 @@ command-some k (l ∷ ls) c e = omega arith
 commandIn-split : {P : Type 0} (k : Counts) (o : Option (List Line)) (c : Cmd)
     → ((ls : List Line) → o ≡ some ls → commandOf k ls ≡ some c → P) → commandRead k o ≡ some c → P
 unfolding commandRead
-commandIn-split k none c g e = not-none c e
+commandIn-split k none c g e = none-some e
 commandIn-split k (some ls) c g e = g ls refl e
 
 pub linesOf-sound : (t : List ℕ) (ls : List Line) → linesOf t ≡ some ls → (t ≡ scriptBytes ls) × (length ls ≤ maxLines) × (length t ≤ limit)

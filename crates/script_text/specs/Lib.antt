@@ -4,5 +4,6 @@ pub mod Reading
 pub mod Placed
 pub mod Parse
 pub mod Script
+pub mod Decoded
 pub mod Scan
 pub mod Theorems

@@ -19,7 +19,8 @@ use Rattle.sheet.specs.Tables.{everyoneIn}
 use Rattle.sheet.proofs.TableLaws.{everyone-in}
 use Rattle.sheet.specs.Meaning.{shapesOf, worldOf}
 use Rattle.script_text.specs.declared.Script.{Script}
-use Rattle.script_text.specs.Script.{countsOf, countsIn, scriptOf, decodedScript}
+use Rattle.script_text.specs.Script.{countsOf, scriptOf}
+use Rattle.script_text.specs.Decoded.{countsIn, decodedScript}
 use Rattle.script_text.proofs.ScriptLaws.{counts-table}
 use Rattle.script_text.proofs.ReadLaws.{read-split}
 use Rattle.memory.specs.Memory.{memoryOf, wellFormed, memoryRefusal}

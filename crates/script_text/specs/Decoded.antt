@@ -1,0 +1,36 @@
+-- What the code answers to a script's text: how many lines there are, and the words of their code.
+use mathlib.Core.List.{List, []}
+use mathlib.Core.Option.{Option, none, some}
+use Prim.Native.Nat.{ℕ}
+use lib.ListN.{length, replicate}
+use Rattle.language.specs.Syntax.{Cmd}
+use Rattle.script.specs.Lines.{Line, cmdLines}
+use Rattle.script.specs.Code.{code}
+use Rattle.script.specs.Names.{Counts}
+use Rattle.sheet.specs.Tables.{padded, typesIn, labelsIn, locationsIn}
+use Rattle.script_text.specs.declared.Script.{Script}
+
+-- how many types, labels and locations there are by what a table says
+abbrev pub countsIn : List ℕ → Counts
+countsIn t = record { types = typesIn t; labels = labelsIn t; locations = locationsIn t }
+
+-- the words of a script's code in all
+abbrev pub codeWords : ℕ
+codeWords = 1536
+
+-- the answer to a refused text
+unfoldable pub noCode : Script
+noCode = record { count = 0; code = replicate codeWords 0 }
+
+-- the answer to a text of lines: how many they are, and their code
+unfoldable pub coded : List Line → Script
+coded ls = record { count = length ls; code = padded codeWords (code ls) }
+
+unfoldable pub codedLines : Option (List Line) → Script
+codedLines none = noCode
+codedLines (some ls) = coded ls
+
+-- The answer to a script.
+unfoldable pub decodedScript : Option Cmd → Script
+decodedScript none = noCode
+decodedScript (some c) = coded (cmdLines c [])

@@ -6,9 +6,8 @@ use Prim.Native.Nat.{ℕ, zero, suc, _+_, _-_, _<_, _≤_}
 use native.Mathlib.Numerals.{add-one}
 use native.Mathlib.Omega.{arith}
 use native.Mathlib.Decide.{decLt}
-use lib.Dec.{ltb}
 use borrow.Author.Tests.{lt-ltb, le-ltb}
-use Rattle.logic.specs.Booleans.{both, either}
+use Rattle.logic.specs.Booleans.{both}
 use Rattle.logic.proofs.BooleanLaws.{absurd-false, either-left, either-right, either-case}
 use Rattle.sets.specs.Sets.{member, union, single}
 use Rattle.sets.proofs.SetLaws.{member-union, member-single, member-single-self, member-empty}

@@ -18,9 +18,7 @@ use Rattle.sheet.specs.Sheet.{maxLocations}
 use Rattle.memory_text.specs.Sizes.{lineRoom}
 use Rattle.memory_text.specs.Printing.{trim, rows, lines, memoryText}
 use Rattle.memory_text.specs.Reading.{location, joined, wordsOf, locations, memory}
-use Rattle.memory_text.specs.Answers.{table, memoryOf}
 use Rattle.memory_text.specs.Theorems.{Words, IsMemory, MemoryExact}
-use Rattle.memory_text.specs.Answers.{ReadsBack}
 use Rattle.memory_text.proofs.Trimming.{words-append, words-left, words-right, words-trim, length-trim}
 use Rattle.memory_text.proofs.Lines.{Row, memory-lines, length-line}
 
@@ -118,7 +116,3 @@ memory-print ws m =
 pub memory-exact : MemoryExact
 memory-exact ws t =
     (λ e. let r = memory-sound ws t [] e in (r .0, r .1), λ r. ap memory (r .0) ∙ memory-print ws (r .1))
-
-pub reads-back : ReadsBack
-unfolding memoryOf table
-reads-back ws m = rw (memory-print ws m)

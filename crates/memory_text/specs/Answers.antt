@@ -2,7 +2,6 @@
 use Prim.Native.Nat.{ℕ, _/_, _%_}
 use mathlib.Core.Bool.{Bool, true, false, cond}
 use mathlib.Core.List.{List}
-use mathlib.Core.Path.{_≡_}
 use lib.ListN.{length, drop, replicate}
 use lib.Seq.{sets}
 use lib.Dec.{eqb, leb}
@@ -17,7 +16,6 @@ use Rattle.memory_text.specs.declared.Reached.{Reached}
 use Rattle.memory_text.specs.Printing.{memoryText}
 use Rattle.sheet.specs.Tables.{padded}
 use Rattle.memory_text.specs.Reading.{location, memory}
-use Rattle.memory_text.specs.Theorems.{IsMemory}
 use Rattle.logic.specs.Booleans.{both}
 
 -- a location that is read in s at byte i, with the place after it; after a refusal, i itself
@@ -48,7 +46,3 @@ printedLength ws out = cond (printable ws out) (length (memoryText ws)) 0
 
 unfoldable pub printed : List ℕ → List ℕ → List ℕ
 printed ws out = cond (printable ws out) (sets out 0 (memoryText ws)) out
-
--- reading what was written gives it back
-abbrev pub ReadsBack : Type 0
-ReadsBack = (ws : List ℕ) → IsMemory ws → memoryOf (memoryText ws) ≡ record { ok = true; count = length ws / cell-words; words = padded memoryWords ws }

@@ -11,10 +11,9 @@ use Rattle.text.proofs.Sets.{set-exact}
 use Rattle.text.proofs.Fields.{number-field-exact, set-field-exact, line-end-exact, last-number-exact}
 use Rattle.text.proofs.Lines.{lines-exact, all-lines-exact}
 use Rattle.sheet_text.proofs.Theorems.{accepted-exact, repeating-exact, malformed-exact, one-sheet}
-use Rattle.script_text.proofs.ParseLaws.{parse-exact}
 use Rattle.script_text.proofs.ScriptLaws.{script-exact}
 use Rattle.memory.proofs.Exactness.{words-exactly, cell-exactly, memories-exactly, views-exactly}
-use Rattle.memory_text.proofs.Memories.{memory-exact, reads-back}
+use Rattle.memory_text.proofs.Memories.{memory-exact}
 use Rattle.checker.proofs.Verdicts.{checker-exact}
 use Rattle.numbers.proofs.RowLaws.{every-table}
 use Rattle.simp.proofs.FirstDemand.{demand-1}
@@ -59,10 +58,8 @@ promises = record {
   repeating-exact = repeating-exact;
   malformed-exact = malformed-exact;
   one-sheet = one-sheet;
-  parse-exact = parse-exact;
   script-exact = script-exact;
   memory-exact = memory-exact;
-  reads-back = reads-back;
   words-exactly = words-exactly;
   cell-exactly = cell-exactly;
   memories-exactly = memories-exactly;

@@ -10,10 +10,9 @@ use Rattle.text.specs.Reading.{Read}
 use Rattle.text.specs.Lines.{LineForm}
 use Rattle.text.specs.Theorems.{NumberExact, SetExact, NumberFieldExact, SetFieldExact, LineEndExact, LastNumberExact, LinesExact, AllLinesExact}
 use Rattle.sheet_text.specs.Theorems.{AcceptedExact, RepeatingExact, MalformedExact, OneSheet}
-use Rattle.script_text.specs.Theorems.{ParseExact, ScriptExact}
+use Rattle.script_text.specs.Theorems.{ScriptExact}
 use Rattle.memory.specs.Theorems.{WordsExactly, CellExactly, MemoriesExactly, ViewsExactly}
 use Rattle.memory_text.specs.Theorems.{MemoryExact}
-use Rattle.memory_text.specs.Answers.{ReadsBack}
 use Rattle.checker.specs.Theorems.{CheckerExact}
 use Rattle.numbers.specs.Theorems.{EveryTable}
 use Rattle.simp.specs.Demands.{Demand1, Demand2, Demand3}
@@ -90,14 +89,10 @@ pub record Promises : Type 1 where
   pub malformed-exact : MalformedExact
   -- A text is that of one sheet at most.
   pub one-sheet : OneSheet
-  -- Parsing and printing in prefix order are inverse.
-  pub parse-exact : ParseExact
   -- A script is read exactly where the text is the printed form of a command that names only what is on the sheet.
   pub script-exact : ScriptExact
   -- A memory text is read exactly where it is the printed form of a memory.
   pub memory-exact : MemoryExact
-  -- Reading a memory text that was written gives the memory back.
-  pub reads-back : ReadsBack
   -- ---- Memories and views
 
   -- Words are read back as the value that they are the words of, and as no other.

@@ -49,7 +49,7 @@ use denote.Triple.Clauses.{closing, ensured, lasts}
 use Rattle.reader.specs.declared.Reader.{Reader}
 use Rattle.reader.proofs.Reader as T
 use Rattle.reader.proofs.Reader.Laws as T′
-use Rattle.reader.proofs.Lines.{Lines, found-parts, found-type, found-laws, found-mir, next-parts, next-type, next-laws, next-mir, what-typed, next-typed, found-shut}
+use Rattle.reader.proofs.Lines.{Lines, found-parts, found-laws, found-mir, next-parts, next-type, next-laws, next-mir, what-typed, next-typed, found-shut}
 use Rattle.reader.proofs.Advanced.{B, here, from-at, Reads, here-clauses, from-clauses, Here}
 
 module _ (R : Lines) where

@@ -7,7 +7,6 @@ use Rattle.logic.proofs.OptionLaws.{none-some, some-path}
 use Rattle.language.specs.Syntax.{Expr, plus, left, right, pack, unpack, Cmd, seq, assign, while, case}
 use Rattle.script.specs.Lines.{Line, l-skip, l-seq, l-assign, l-while, l-case, l-int, l-loc, l-var, l-plus, l-left, l-right, l-pack, l-unpack, SourceE, s-int, s-loc, s-var, s-plus, s-left, s-right, s-pack, s-unpack, Source, s-skip, s-seq, s-assign, s-while, s-case, numberOf, exprLines, cmdLines}
 use Rattle.script_text.specs.Parse.{Tree, ex, cm, Stack, popE, popC, onStack, pushOn, stackOf, single, parse}
-use Rattle.script_text.specs.Theorems.{ParseExact}
 
 -- ---- the lines of a tree leave the tree on the stack
 
@@ -191,6 +190,3 @@ on-top (on-cmd s q) = s
 pub parse-sound : (ls : List Line) (c : Cmd) → parse ls ≡ some c → (ls ≡ cmdLines c []) × Source c
 unfolding parse stackLines
 parse-sound ls c h = let x = stack-sound ls (cm c ∷ []) (single-sound (stackOf ls) c h) in (x .lines, on-top (x .sources))
-
-pub parse-exact : ParseExact
-parse-exact ls c = (λ h. parse-sound ls c h, λ r. ap parse (r .0) ∙ parse-lines (r .1))

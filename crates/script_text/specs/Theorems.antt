@@ -8,17 +8,12 @@ use Prim.Native.Nat.{ℕ, _≤_}
 use lib.ListN.{length}
 use Rattle.text.specs.Reading.{limit}
 use Rattle.language.specs.Syntax.{Cmd}
-use Rattle.script.specs.Lines.{Line, Source, cmdLines}
+use Rattle.script.specs.Lines.{Source, cmdLines}
 use Rattle.script.specs.Names.{Counts, named}
 use Rattle.sheet.specs.Sheet.{Sheet, formed}
 use Rattle.script_text.specs.Bytes.{scriptBytes}
 use Rattle.script_text.specs.Reading.{maxLines}
-use Rattle.script_text.specs.Parse.{parse}
 use Rattle.script_text.specs.Script.{countsOf, scriptOf}
-
--- Parsing and printing in prefix order are inverse.
-abbrev pub ParseExact : Type 0
-ParseExact = (ls : List Line) (c : Cmd) → (parse ls ≡ some c) ↔ ((ls ≡ cmdLines c []) × Source c)
 
 -- A text is a script of the command c: the printed form of c's lines, within the bounds, naming only what is there.
 pub record IsScript (k : Counts) (t : List ℕ) (c : Cmd) : Type 0 where

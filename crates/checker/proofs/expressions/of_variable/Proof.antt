@@ -1,7 +1,6 @@
 use mathlib.Core.Path.{_≡_, sym, _∙_}
-use Prim.Native.Nat.{suc, _*_, _-_}
+use Prim.Native.Nat.{suc, _-_}
 use native.Mathlib.Omega.{arith}
-use Rattle.checker.specs.Bindings.{bindingSize}
 use Rattle.checker.proofs.BindingLaws.{var-in, var-past, var-deep}
 use borrow.Author.Needs.{needs}
 use Rattle.checker.proofs.expressions.of_variable.Statement.{statement}

@@ -1,12 +1,12 @@
 -- The loop: `out` is the join of the members below p.
-use mathlib.Core.Path.{_≡_, ap, ap₂, sym, _∙_}
+use mathlib.Core.Path.{_≡_, ap, ap₂, _∙_}
 use mathlib.Core.Logic.{⊎-elim}
 use Prim.Native.Nat.{_≤_, _-_}
 use native.Mathlib.Omega.{arith}
 use borrow.Author.Tests.{eq-eqb, ne-eqb}
 use Rattle.sets.specs.Sets.{member}
 use Rattle.labels.specs.Labels.{joinOf}
-use Rattle.checker.specs.Members.{memberIn, joinUpTo, maxMembers, joinIn}
+use Rattle.checker.specs.Members.{joinUpTo, maxMembers, joinIn}
 use Rattle.checker.proofs.MemberLaws.{up-to-with, up-to-without}
 use borrow.Author.Needs.{needs}
 use Rattle.checker.proofs.members.joined.Statement.{statement}

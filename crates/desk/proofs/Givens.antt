@@ -8,7 +8,7 @@ use lib.Seq.{take-at, length-take-le}
 use Rattle.text.specs.Reading.{Read}
 use Rattle.text.specs.Reading.Read.{got, bad}
 use Rattle.memory_text.specs.declared.Memory.{Memory}
-use Rattle.sheet.specs.Tables.{padded}
+use Rattle.sheet.specs.Padding.{padded}
 use Rattle.memory_text.specs.Reading.{memory}
 use Rattle.memory_text.specs.Answers.{table, memoryOf}
 use Rattle.memory_text.proofs.Memories.{memory-sound}

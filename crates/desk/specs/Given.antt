@@ -7,7 +7,7 @@ use lib.ListN.{length, take}
 use Rattle.text.specs.Reading.{Read}
 use Rattle.text.specs.Reading.Read.{got, bad}
 use Rattle.language.specs.World.{cell-words}
-use Rattle.sheet.specs.Tables.{padded}
+use Rattle.sheet.specs.Padding.{padded}
 use Rattle.memory_text.specs.Sizes.{memoryWords}
 use Rattle.memory_text.specs.Reading.{memory}
 use Rattle.desk.specs.declared.Group.{Group}

@@ -8,7 +8,7 @@ use Rattle.text.specs.Reading.Read.{got, bad}
 use Rattle.text.specs.Number.{digit, opensDigit, digits, number, decimalOn, decimal}
 use Rattle.text.specs.Lines.{front, onward, linesUpTo, printLines}
 use Rattle.memory_text.specs.Printing.{keep, trim, fields, line, rows, memoryText}
-use Rattle.sheet.specs.Tables.{padded}
+use Rattle.sheet.specs.Padding.{padded}
 use Rattle.memory_text.specs.Reading.{following, words, blankOr, lineWords, location, joined, wordsOf, locations, memory}
 use Rattle.logic.specs.Booleans.{both}
 

@@ -20,7 +20,7 @@ use Rattle.text.proofs.Writings.{length-decimal}
 use Rattle.language.specs.World.{cell-words}
 use Rattle.memory_text.specs.Sizes.{lineRoom}
 use Rattle.memory_text.specs.Printing.{keep, trim, fields, line, rowLine}
-use Rattle.sheet.specs.Tables.{padded}
+use Rattle.sheet.specs.Padding.{padded}
 use Rattle.sheet.proofs.Words.{length-padded}
 use Rattle.memory_text.specs.Reading.{following, words, blankOr, lineWords, location}
 use Rattle.memory_text.specs.Theorems.{Words}

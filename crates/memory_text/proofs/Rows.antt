@@ -12,7 +12,7 @@ use Rattle.text.specs.Number.{number, most}
 use Rattle.text.proofs.Readings.{drop-step, andThen-got, andThen-bad}
 use Rattle.text.proofs.Writings.{sets-zeros}
 use Rattle.language.specs.World.{cell-words}
-use Rattle.sheet.specs.Tables.{padded}
+use Rattle.sheet.specs.Padding.{padded}
 use Rattle.memory_text.specs.Reading.{following, words, lineWords}
 use Rattle.memory_text.proofs.Lines as lines
 

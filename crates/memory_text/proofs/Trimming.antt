@@ -8,7 +8,7 @@ use lib.Dec.{eqb}
 use borrow.Author.Tests.{eq-eqb, ne-eqb, eqb-true, eqb-false}
 use Rattle.logic.proofs.BooleanLaws.{cases}
 use Rattle.memory_text.specs.Printing.{keep, trim}
-use Rattle.sheet.specs.Tables.{padded}
+use Rattle.sheet.specs.Padding.{padded}
 use Rattle.memory_text.specs.Theorems.{Words}
 
 -- the cases of `keep`

@@ -14,7 +14,7 @@ use Rattle.memory_text.specs.declared.Memory.{Memory}
 use Rattle.memory_text.specs.declared.Answer.the-variants as answer
 use Rattle.memory_text.specs.declared.Reached.{Reached}
 use Rattle.memory_text.specs.Printing.{memoryText}
-use Rattle.sheet.specs.Tables.{padded}
+use Rattle.sheet.specs.Padding.{padded}
 use Rattle.memory_text.specs.Reading.{location, memory}
 use Rattle.logic.specs.Booleans.{both}
 

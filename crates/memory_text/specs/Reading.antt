@@ -12,7 +12,7 @@ use Rattle.text.specs.Field.{lineEnd}
 use Rattle.text.specs.Lines.{linesUpTo}
 use Rattle.language.specs.World.{cell-words}
 use Rattle.sheet.specs.Sheet.{maxLocations}
-use Rattle.sheet.specs.Tables.{padded}
+use Rattle.sheet.specs.Padding.{padded}
 
 -- the word v with what its line goes on with: the end, unless v is zero, or a tab and more words
 unfoldable pub following : ℕ → List ℕ → (List ℕ → Read (List ℕ)) → Read (List ℕ)

@@ -13,7 +13,7 @@ use Rattle.text.proofs.Writings.{sets-zeros}
 use Rattle.text.proofs.Lines.{lines-at-end, lines-at-full, lines-at-bad, lines-at-more, lines-exact}
 use Rattle.script.specs.Lines.{Line, l-skip, l-seq, l-assign, l-while, l-case, l-int, l-loc, l-var, l-plus, l-left, l-right, l-pack, l-unpack}
 use Rattle.script.specs.Code.{lineWords, code}
-use Rattle.sheet.specs.Tables.{padded}
+use Rattle.sheet.specs.Padding.{padded}
 use Rattle.script_text.specs.declared.LineRead.the-variants as read
 use Rattle.script_text.specs.declared.Reached.{Reached}
 use Rattle.script_text.specs.declared.Script.{Script}

@@ -13,7 +13,7 @@ use Rattle.language.specs.Syntax.{Cmd}
 use Rattle.script.specs.Lines.{Line, Source, cmdLines}
 use Rattle.script.specs.Code.{code}
 use Rattle.script.specs.Names.{Counts, named}
-use Rattle.sheet.specs.Tables.{padded}
+use Rattle.sheet.specs.Padding.{padded}
 use Rattle.sheet.proofs.Words.{length-padded}
 use Rattle.script_text.specs.declared.Script.{Script}
 use Rattle.script_text.specs.declared.Scanned.{Scanned}

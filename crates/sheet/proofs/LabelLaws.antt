@@ -18,7 +18,8 @@ use Rattle.labels.proofs.EffectiveLaws.{effective-whole, bottom-effective}
 use Rattle.labels.proofs.PolicyLaws.{policies-effective}
 use Rattle.labels.proofs.TableLaws.{length-words, label-read}
 use Rattle.sheet.specs.Sheet.{Sheet, labelsOf, labelNo, labelCount, rising, formed}
-use Rattle.sheet.specs.Tables.{labelsRoom, padded, labelsWords, tableOf, labelIn}
+use Rattle.sheet.specs.Padding.{padded}
+use Rattle.sheet.specs.Tables.{labelsRoom, labelsWords, tableOf, labelIn}
 use Rattle.sheet.proofs.Entries.{label-there, label-past}
 use Rattle.sheet.proofs.FormLaws.{label-rising}
 use Rattle.sheet.proofs.TableLaws.{labels-in, everyone-in, toLabels, from-labels, labels-start}

@@ -9,7 +9,8 @@ use lib.Dec.{ltb}
 use lib.ListN.{length, getD, length-append, length-replicate, List·getD-append, List·getD-eq-default}
 use lib.Seq.{getD-append-add}
 use borrow.Author.Tests.{ltb-true, ltb-false}
-use Rattle.sheet.specs.Tables.{padded, pairWords, entryIn}
+use Rattle.sheet.specs.Padding.{padded}
+use Rattle.sheet.specs.Tables.{pairWords, entryIn}
 use Rattle.sheet.proofs.Entries.{entry-there, entry-past}
 
 -- ---- filled up with zeros

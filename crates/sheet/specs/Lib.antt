@@ -1,4 +1,5 @@
 pub mod Sheet
+pub mod Padding
 pub mod Tables
 pub mod Meaning
 pub mod TypeTest

@@ -8,6 +8,7 @@ use Rattle.sets.specs.Sets.{everyone}
 use Rattle.labels.specs.Labels.{bottomOf, belowOf, readsOf, writesOf}
 use Rattle.labels.specs.Tables.{labelSize, labelWords, labelAt}
 use Rattle.labels.specs.declared.Label.{Label}
+use Rattle.sheet.specs.Padding.{padded}
 use Rattle.sheet.specs.Sheet.{Sum, Location, Sheet, partsOf, typeCount, labelsOf, labelCount, locationCount, maxTypes, maxLabels, maxLocations}
 
 -- The table has words of counts, two words for each type and for each location, and the words of each label. These are the words
@@ -32,10 +33,6 @@ labelsBase = locationsBase + locationsRoom
 
 abbrev pub tableWords : ℕ
 tableWords = labelsBase + labelsRoom
-
--- xs, filled up with zeros to n words
-unfoldable pub padded : ℕ → List ℕ → List ℕ
-padded n xs = xs ++ replicate (n - length xs) 0
 
 -- two words for each element
 unfoldable pub pairWords : {A : Type 0} → (A → ℕ) → (A → ℕ) → List A → List ℕ

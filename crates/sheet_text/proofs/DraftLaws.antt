@@ -17,7 +17,8 @@ use Rattle.sets.specs.Sets.{width, everyone, restrict}
 use Rattle.sets.proofs.SetLaws.{restrict-id}
 use Rattle.labels.specs.Labels.{policy}
 use Rattle.sheet.specs.Sheet.{Sum, Sheet, givenParts, partsOf, typeCount, labelsOf, labelCount, locationCount, formed}
-use Rattle.sheet.specs.Tables.{padded, pairWords, labelsWords, tableOf, tableWords, labelsIn}
+use Rattle.sheet.specs.Padding.{padded}
+use Rattle.sheet.specs.Tables.{pairWords, labelsWords, tableOf, tableWords, labelsIn}
 use Rattle.sheet.proofs.FormLaws.{formed-facts, type-count}
 use Rattle.sheet.proofs.TableLaws.{types-in, labels-in, locations-in, principals-in, everyone-in}
 use Rattle.sheet_text.specs.declared.line.Line.{Line}

@@ -15,7 +15,8 @@ use Rattle.labels.proofs.OrderLaws.{whole-intro}
 use Rattle.labels.proofs.TableLaws.{length-words, put-middle}
 use Rattle.sets.proofs.Walks.{length-tab}
 use Rattle.sheet.specs.Sheet.{Sum, Location, Sheet, givenParts, partsOf, typeCount, labelsOf, labelNo, labelCount, locationCount, formed}
-use Rattle.sheet.specs.Tables.{padded, pairWords, partWords, locationWords, labelsWords, tableOf, labelIn}
+use Rattle.sheet.specs.Padding.{padded}
+use Rattle.sheet.specs.Tables.{pairWords, partWords, locationWords, labelsWords, tableOf, labelIn}
 use Rattle.sheet.proofs.FormLaws.{formed-facts, type-count}
 use Rattle.sheet.proofs.Words.{length-padded, length-pairs}
 use Rattle.sheet.proofs.LabelLaws.{label-in}

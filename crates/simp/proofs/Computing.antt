@@ -18,7 +18,7 @@ use Rattle.script.specs.Lines as lines
 use Rattle.script.specs.Names as names
 use Rattle.sheet.specs.Meaning as meaning
 use Rattle.sheet.specs.Sheet as sheet
-use Rattle.sheet.specs.Tables as tables
+use Rattle.sheet.specs.Padding as padding
 use Rattle.sheet_text.specs.Building as building
 use Rattle.sheet_text.specs.Reading as sheet-lines
 use Rattle.sheet_text.specs.Repeats as repeats
@@ -74,7 +74,7 @@ unfolding meaning.effectiveIf meaning.effectively
     sheet.givenTypes sheet.typesFrom sheet.tyOf sheet.givenParts sheet.partsOf sheet.typeCount sheet.labelsOf sheet.labelNo sheet.labelCount
     sheet.locationNo sheet.locationCount sheet.earlier sheet.rising sheet.eachRising sheet.eachNamed sheet.formed sheet.among sheet.repeated
     sheet.sameParts sheet.repeats
-    tables.padded
+    padding.padded
 sheet-used = tt
 
 unfoldable pub sheet-text-used : Unit {0}

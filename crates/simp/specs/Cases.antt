@@ -5,7 +5,7 @@ use mathlib.Core.List.{List, [], _∷_, _++_}
 use Prim.Native.Nat.{ℕ}
 use Prim.Native.String.{String}
 use Rattle.labels.specs.Labels.{Policy, policy, labelOf, readsOf, writesOf}
-use Rattle.sheet.specs.Tables.{padded}
+use Rattle.sheet.specs.Padding.{padded}
 use Rattle.simp.specs.Calls.{checkOf, runOf}
 use Rattle.simp.specs.Texts.{bytes}
 

@@ -14,9 +14,9 @@ use borrow.Author.Tests.{lt-ltb, le-ltb, le-leb, lt-leb}
 use Rattle.logic.specs.Booleans.{both}
 use Rattle.language.specs.Declarations.{nth}
 use Rattle.script.specs.Names.{maxDepth}
-use Rattle.checker.specs.Bindings.{bindingSize, bindingsSize, boundType, boundLabel, upTo, boundTypes, boundLabels, bindOf}
-use Rattle.checker.specs.Nodes.{plainTyped, nothing, varTyped}
-use Rattle.checker.specs.Post.{Kept}
+use Rattle.checker.specs.Internal.Bindings.{bindingSize, bindingsSize, boundType, boundLabel, upTo, boundTypes, boundLabels, bindOf}
+use Rattle.checker.specs.Internal.Nodes.{plainTyped, nothing, varTyped}
+use Rattle.checker.specs.Internal.Post.{Kept}
 
 module _ {A : Type 0} where
   pub nth-upTo : (f : ℕ → A) (d i : ℕ) → i < d → nth (upTo f d) i ≡ some (f (d - suc i))

@@ -15,17 +15,17 @@ use Rattle.language.specs.Syntax.{Expr, Cmd, skip, seq, assign, while, case}
 use Rattle.language.specs.Typing.{flow}
 use Rattle.script.specs.declared.Row.{Row}
 use Rattle.script.specs.Lines.{Line, cmdLines}
-use Rattle.script.specs.Code.{code, rowAt}
+use Rattle.script.specs.Internal.Code.{code, rowAt}
 use Rattle.script.specs.Names.{Counts, maxDepth, namedE, named}
 use Rattle.script.proofs.Rows.{CmdRow, at-skip, at-seq, at-assign, at-while, at-case, cmd-row}
-use Rattle.sheet.specs.TypeTest.{isSum}
-use Rattle.sheet.specs.Tables.{leftIn, rightIn, homeIn, labelIn}
+use Rattle.sheet.specs.Internal.TypeTest.{isSum}
+use Rattle.sheet.specs.Internal.Tables.{leftIn, rightIn, homeIn, labelIn}
 use Rattle.checker.specs.declared.Typed.{Typed}
 use Rattle.checker.specs.declared.Passed.{Passed}
-use Rattle.checker.specs.Numbers.{onSumNo, givenNo, shapeNo}
-use Rattle.checker.specs.Bindings.{bindingsSize, boundTypes, boundLabels, bindOf}
-use Rattle.checker.specs.Nodes.{refused, skipPassed, seqPassed, assignPassed, whilePassed, casePassed}
-use Rattle.checker.specs.Post.{Finds, Room, ChecksExpr, Kept, Passes, ChecksCmd}
+use Rattle.checker.specs.Internal.Numbers.{onSumNo, givenNo, shapeNo}
+use Rattle.checker.specs.Internal.Bindings.{bindingsSize, boundTypes, boundLabels, bindOf}
+use Rattle.checker.specs.Internal.Nodes.{refused, skipPassed, seqPassed, assignPassed, whilePassed, casePassed}
+use Rattle.checker.specs.Internal.Post.{Finds, Room, ChecksExpr, Kept, Passes, ChecksCmd}
 use Rattle.checker.proofs.BindingLaws.{kept-same, kept-twice, kept-fewer, bind-kept, bind-type, bind-label}
 use Rattle.checker.proofs.MemberLaws.{union-below}
 use Rattle.checker.proofs.ExprLaws.{is-type}

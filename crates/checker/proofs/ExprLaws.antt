@@ -12,14 +12,14 @@ use Rattle.language.specs.Syntax.{int, Expr, val, loc, var, plus, left, right, 
 use Rattle.language.specs.Typing.{orElse, least, flowE}
 use Rattle.script.specs.declared.Row.{Row}
 use Rattle.script.specs.Lines.{Line, exprLines}
-use Rattle.script.specs.Code.{code, rowAt}
+use Rattle.script.specs.Internal.Code.{code, rowAt}
 use Rattle.script.proofs.Rows.{ExprRow, at-int, at-loc, at-var, at-plus, at-left, at-right, at-pack, at-unpack, expr-row}
-use Rattle.sheet.specs.Tables.{leftIn, rightIn}
+use Rattle.sheet.specs.Internal.Tables.{leftIn, rightIn}
 use Rattle.checker.specs.declared.Typed.{Typed}
-use Rattle.checker.specs.Numbers.{isNo, someNo, leftIsNo, rightIsNo, givenNo, typeNo}
-use Rattle.checker.specs.Bindings.{boundType, boundLabel, boundTypes, boundLabels}
-use Rattle.checker.specs.Nodes.{isType, nothing, intTyped, locTyped, varTyped, plusTyped, sumTyped, packTyped, unpackTyped}
-use Rattle.checker.specs.Post.{Finds, Room, ChecksExpr}
+use Rattle.checker.specs.Internal.Numbers.{isNo, someNo, leftIsNo, rightIsNo, givenNo, typeNo}
+use Rattle.checker.specs.Internal.Bindings.{boundType, boundLabel, boundTypes, boundLabels}
+use Rattle.checker.specs.Internal.Nodes.{isType, nothing, intTyped, locTyped, varTyped, plusTyped, sumTyped, packTyped, unpackTyped}
+use Rattle.checker.specs.Internal.Post.{Finds, Room, ChecksExpr}
 use Rattle.checker.proofs.BindingLaws.{nth-upTo, nth-past, var-in, var-past, var-next}
 
 -- ---- what a node finds, from what its operands' nodes found

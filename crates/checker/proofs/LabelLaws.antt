@@ -13,15 +13,15 @@ use Rattle.language.specs.Syntax.{Cmd}
 use Rattle.language.specs.Typing.{conditions, flow}
 use Rattle.language.proofs.Images.{Image, flow-image}
 use Rattle.sheet.specs.Sheet.{Sheet, formed, labelCount, maxLabels}
-use Rattle.sheet.specs.Tables.{tableOf, everyoneIn, homeIn, labelIn}
+use Rattle.sheet.specs.Internal.Tables.{tableOf, everyoneIn, homeIn, labelIn}
 use Rattle.sheet.specs.Meaning.{labelsOver, declarationsOf}
 use Rattle.sheet.proofs.FormLaws.{formed-facts}
 use Rattle.sheet.proofs.Entries.{label-past}
 use Rattle.sheet.proofs.TableLaws.{everyone-in, home-in, labels-in}
 use Rattle.sheet.proofs.LabelLaws.{label-in, label-no-effective}
 use Rattle.sheet.proofs.MeaningLaws.{declared-label, declared-home}
-use Rattle.checker.specs.Members.{labelMember, integrityMember, joinIn}
-use Rattle.checker.specs.Numbers.{conditionsIn, conditionsOn}
+use Rattle.checker.specs.Internal.Members.{labelMember, integrityMember, joinIn}
+use Rattle.checker.specs.Internal.Numbers.{conditionsIn, conditionsOn}
 use Rattle.checker.proofs.MemberLaws.{join-none, join-union, join-label, join-integrity}
 
 few-of : (s : Sheet) → formed s ≡ true → labelCount s ≤ maxLabels

@@ -16,8 +16,8 @@ use Rattle.labels.specs.Labels.{belowOf, joinOf, bottomOf, wholeOf, integrityOf
 use Rattle.labels.proofs.OrderLaws.{below-refl, below-trans, below-antisym, join-left, join-right, join-least, join-whole, join-below}
 use Rattle.labels.proofs.PartLaws.{bottom-whole}
 use Rattle.sheet.specs.Sheet.{maxLabels}
-use Rattle.sheet.specs.Tables.{everyoneIn, labelIn}
-use Rattle.checker.specs.Members.{labelMember, integrityMember, memberIn, joinUpTo, maxMembers, joinIn}
+use Rattle.sheet.specs.Internal.Tables.{everyoneIn, labelIn}
+use Rattle.checker.specs.Internal.Members.{labelMember, integrityMember, memberIn, joinUpTo, maxMembers, joinIn}
 
 module _ (t : List ℕ) where
   abbrev Bottom : Label

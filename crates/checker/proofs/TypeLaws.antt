@@ -14,13 +14,13 @@ use Rattle.language.specs.Declarations.{nth}
 use Rattle.language.specs.Typing.{isTy, hasTy, leftIs, rightIs, onSum, given, typeOfValue, typeOf, shape}
 use Rattle.script.specs.Lines.{SourceE, s-int, s-loc, s-var, s-plus, s-left, s-right, s-pack, s-unpack, Source, s-skip, s-seq, s-assign, s-while, s-case}
 use Rattle.sheet.specs.Sheet.{Sheet, tyOf, formed, repeats}
-use Rattle.sheet.specs.Tables.{tableOf, typesIn, leftIn, rightIn, typeIn}
-use Rattle.sheet.specs.TypeTest.{isSum}
+use Rattle.sheet.specs.Internal.Tables.{tableOf, typesIn, leftIn, rightIn, typeIn}
+use Rattle.sheet.specs.Internal.TypeTest.{isSum}
 use Rattle.sheet.specs.Meaning.{shapesOf}
 use Rattle.sheet.proofs.TypeLaws.{ty-0, ty-1, ty-2, ty-3, ty-4, ty-past}
 use Rattle.sheet.proofs.TableLaws.{types-in, type-in}
 use Rattle.sheet.proofs.NumberLaws.{sum-in, left-in-there, right-in-there, same-number-type, type-in-there, sum-in-there}
-use Rattle.checker.specs.Numbers.{isNo, someNo, leftIsNo, rightIsNo, onSumNo, givenNo, typeNo, shapeNo}
+use Rattle.checker.specs.Internal.Numbers.{isNo, someNo, leftIsNo, rightIsNo, onSumNo, givenNo, typeNo, shapeNo}
 
 sum-yes : (t : List ℕ) (n : ℕ) → 3 ≤ n → n < typesIn t → isSum t n ≡ true
 unfolding isSum both

@@ -10,15 +10,15 @@ use Rattle.language.specs.Typing.{flow, refusal}
 use Rattle.language.proofs.Exactness.{exactness}
 use Rattle.script.specs.Lines.{Source}
 use Rattle.sheet.specs.Sheet.{Sheet, formed, repeats}
-use Rattle.sheet.specs.Tables.{tableOf}
+use Rattle.sheet.specs.Internal.Tables.{tableOf}
 use Rattle.sheet.specs.Meaning.{labelsOver, declarationsOf}
 use Rattle.sheet.proofs.MeaningLaws.{least-label-laws}
 use Rattle.checker.specs.declared.Passed.{Passed}
-use Rattle.checker.specs.Numbers.{shapeNo, conditionsOn}
-use Rattle.checker.specs.Bindings.{upTo, bindingsSize}
+use Rattle.checker.specs.Internal.Numbers.{shapeNo, conditionsOn}
+use Rattle.checker.specs.Internal.Bindings.{upTo, bindingsSize}
 use Rattle.checker.specs.Verdict.{verdictNumber, verdictOf}
 use Rattle.checker.specs.declared.Verdict.{Verdict}
-use Rattle.checker.specs.Post.{ChecksCmd, ChecksCode}
+use Rattle.checker.specs.Internal.Post.{ChecksCmd, ChecksCode}
 use Rattle.checker.specs.Theorems.{CheckerExact}
 use Rattle.checker.proofs.TypeLaws.{no-bound, shape-agree}
 use Rattle.checker.proofs.LabelLaws.{flow-table}

@@ -2,7 +2,7 @@
 ghost use mathlib.Core.Path.{_≡_};
 ghost use Prim.Native.Nat.{_<_};
 ghost use Rattle.script.specs.Names.{maxDepth};
-ghost use Rattle.checker.specs.Bindings.{bindOf};
+ghost use Rattle.checker.specs.Internal.Bindings.{bindOf};
 use crate::members::Members;
 
 // Cases nest at most this deep.

@@ -1,7 +1,7 @@
 // Commands over the lines, below a surrounding label (the scope, "Typing"; the paper, figure 5).
 ghost use mathlib.Core.Path.{_≡_};
-ghost use Rattle.checker.specs.Nodes.{refused, skipPassed, seqPassed, assignPassed, whilePassed, casePassed};
-ghost use Rattle.checker.specs.Post.{ChecksCmd};
+ghost use Rattle.checker.specs.Internal.Nodes.{refused, skipPassed, seqPassed, assignPassed, whilePassed, casePassed};
+ghost use Rattle.checker.specs.Internal.Post.{ChecksCmd};
 use crate::Passed;
 use crate::Typed;
 use crate::bindings;

@@ -1,7 +1,7 @@
 // Types and least labels of expressions over the lines (the scope, "Typing"; the paper, figure 4).
 ghost use mathlib.Core.Path.{_≡_};
-ghost use Rattle.checker.specs.Nodes.{isType, nothing, intTyped, locTyped, varTyped, plusTyped, sumTyped, packTyped, unpackTyped};
-ghost use Rattle.checker.specs.Post.{ChecksExpr};
+ghost use Rattle.checker.specs.Internal.Nodes.{isType, nothing, intTyped, locTyped, varTyped, plusTyped, sumTyped, packTyped, unpackTyped};
+ghost use Rattle.checker.specs.Internal.Post.{ChecksExpr};
 use crate::Typed;
 use crate::bindings;
 use crate::members;

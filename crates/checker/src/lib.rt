@@ -6,7 +6,7 @@ mod commands; // commands.rt: commands
 
 ghost use mathlib.Core.Path.{_≡_};
 ghost use Rattle.checker.specs.Verdict.{verdictNumber, verdictOf};
-ghost use Rattle.checker.specs.Post.{ChecksCode};
+ghost use Rattle.checker.specs.Internal.Post.{ChecksCode};
 use members::Members;
 
 // What is found of an expression: its type, if it has one; whether its label conditions hold; its least label; and the word after

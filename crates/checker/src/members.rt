@@ -2,7 +2,7 @@
 // empty set is bottom. Labels are joined where they are compared, so that no frame of the recursion holds one.
 ghost use mathlib.Core.Path.{_≡_};
 ghost use Rattle.sets.specs.Sets.{union};
-ghost use Rattle.checker.specs.Members.{labelMember, integrityMember, memberIn, joinIn, flowsIn};
+ghost use Rattle.checker.specs.Internal.Members.{labelMember, integrityMember, memberIn, joinIn, flowsIn};
 use labels::Label;
 
 pub(crate) type Members = u64;

@@ -10,7 +10,7 @@ use Rattle.text.specs.Reading.Read.{got, bad}
 use Rattle.memory_text.specs.declared.Memory.{Memory}
 use Rattle.sheet.specs.Padding.{padded}
 use Rattle.memory_text.specs.Reading.{memory}
-use Rattle.memory_text.specs.Answers.{table, memoryOf}
+use Rattle.memory_text.specs.Internal.Answers.{table, memoryOf}
 use Rattle.memory_text.proofs.Memories.{memory-sound}
 use Rattle.desk.specs.declared.Group.{Group}
 use Rattle.desk.specs.declared.Given.{Given}

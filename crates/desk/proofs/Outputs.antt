@@ -7,11 +7,11 @@ use lib.ListN.{length, take, drop, getD, set, length-append, length-drop, take-a
 use lib.Seq.{sets, length-take-le, take-at, take-all}
 use borrow.Author.Tests.{le-leb, lt-leb}
 use Rattle.text.specs.Number.{decimal, most}
-use Rattle.text.specs.Writing.{written, reached}
+use Rattle.text.specs.Internal.Writing.{written, reached}
 use Rattle.text.proofs.Writings.{reached-fits, length-decimal}
 use Rattle.memory_text.specs.Printing.{memoryText}
-use Rattle.memory_text.specs.Answers.{printedLength, printed}
-use Rattle.memory_text.specs.Writing.{Puts}
+use Rattle.memory_text.specs.Internal.Answers.{printedLength, printed}
+use Rattle.memory_text.specs.Internal.Writing.{Puts}
 use Rattle.memory_text.specs.Theorems.{Words}
 use Rattle.memory_text.proofs.Memories.{length-lines}
 use Rattle.memory_text.proofs.Writes.{goes-start, goes-put, goes-form, goes-done, number-reach, printed-all}

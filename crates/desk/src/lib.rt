@@ -7,7 +7,7 @@ use text::Mask;
 ghost use mathlib.Core.Path.{_≡_};
 ghost use Prim.Native.Nat.{_+_, _≤_};
 ghost use lib.ListN.{length, take, drop};
-ghost use Rattle.memory_text.specs.Writing.{Puts};
+ghost use Rattle.memory_text.specs.Internal.Writing.{Puts};
 ghost use Rattle.desk.specs.Fields.{closed, groupOf, groupAnswer, budgetOf, budgetAnswer};
 ghost use Rattle.desk.specs.Numbers.{order, placeOf, earlier as earlierOf, unread as unreadOf, asText};
 ghost use Rattle.desk.specs.Given.{givenOf, Whole};

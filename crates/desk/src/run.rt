@@ -5,7 +5,7 @@ ghost use lib.ListN.{length};
 ghost use Rattle.memory_text.specs.Printing.{memoryText};
 ghost use Rattle.language.specs.World.{cell-words};
 ghost use Rattle.memory_text.specs.Sizes.{memoryWords};
-ghost use Rattle.memory_text.specs.Writing.{Puts};
+ghost use Rattle.memory_text.specs.Internal.Writing.{Puts};
 ghost use Rattle.desk.specs.Given.{Whole};
 ghost use Rattle.desk.specs.Output.{places, put, putLength, PutAll};
 ghost use Rattle.desk.specs.Run.{outcomeLine, ranOn, runTextOf};

@@ -16,16 +16,16 @@ use Rattle.language.specs.Transition.{branch, branchV, Out, done, spent, over, 
 use Rattle.logic.proofs.BooleanLaws.{both-left, both-right}
 use Rattle.language.proofs.Interpreter.{go, andThen, spend, go-skip, go-seq, go-case, go-while}
 use Rattle.script.specs.Lines.{Line, SourceE, Source, exprLines, cmdLines}
-use Rattle.script.specs.Code.{code, rowAt}
+use Rattle.script.specs.Internal.Code.{code, rowAt}
 use Rattle.script.specs.Names.{Counts, named}
 use Rattle.script.specs.declared.Row.{Row}
 use Rattle.script.proofs.Rows.{CmdRow, at-skip, at-seq, at-assign, at-while, at-case, cmd-row}
 use Rattle.memory.specs.Memory.{cellOf}
 use Rattle.interpreter.specs.State.{stateNumber}
 use Rattle.interpreter.specs.declared.State.the-variants.{Done, NoRule}
-use Rattle.interpreter.specs.Cells.{CellsHold}
-use Rattle.interpreter.specs.Nodes.{Tells}
-use Rattle.interpreter.specs.Post.{CmdAt, an-expression, a-command, Skips, Finishes, Execs, ticked, Ticks, Assigns, Choice, to-left, to-right, no-budget, too-long, no-rule, choiceV, choice, Chooses, Decides, Enters, Branches}
+use Rattle.interpreter.specs.Internal.Cells.{CellsHold}
+use Rattle.interpreter.specs.Internal.Nodes.{Tells}
+use Rattle.interpreter.specs.Internal.Post.{CmdAt, an-expression, a-command, Skips, Finishes, Execs, ticked, Ticks, Assigns, Choice, to-left, to-right, no-budget, too-long, no-rule, choiceV, choice, Chooses, Decides, Enters, Branches}
 use Rattle.interpreter.proofs.StateLaws.{holds-kept, holds-leave}
 use Rattle.interpreter.proofs.ExecLaws.{ticked-then, ends-there, goes-on}
 

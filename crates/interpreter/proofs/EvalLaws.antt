@@ -15,7 +15,7 @@ use Rattle.language.specs.Substitution.{Env}
 use Rattle.language.specs.Evaluation.{Res, ok, long, stuck, bind, fit, add, packed, unpacked, eval}
 use Rattle.logic.proofs.BooleanLaws.{both-left, both-right}
 use Rattle.script.specs.Lines.{Line, exprLines}
-use Rattle.script.specs.Code.{code, rowAt}
+use Rattle.script.specs.Internal.Code.{code, rowAt}
 use Rattle.script.specs.Names.{Counts, namedE}
 use Rattle.script.specs.declared.Row.{Row}
 use Rattle.script.proofs.Rows.{ExprRow, at-int, at-loc, at-var, at-plus, at-left, at-right, at-pack, at-unpack, expr-row}
@@ -23,9 +23,9 @@ use Rattle.memory.specs.Words.{cell}
 use Rattle.memory.specs.Memory.{cellOf}
 use Rattle.interpreter.specs.State.{stateNumber}
 use Rattle.interpreter.specs.declared.State.the-variants.{Done, NoRule}
-use Rattle.interpreter.specs.Cells.{accumulator, firstLocation, loadOf, storeOf, CellsHold}
-use Rattle.interpreter.specs.Nodes.{Yields, Turns, Applies, Applied, Tags, Tells}
-use Rattle.interpreter.specs.Post.{ExprAt, Evals}
+use Rattle.interpreter.specs.Internal.Cells.{accumulator, firstLocation, loadOf, storeOf, CellsHold}
+use Rattle.interpreter.specs.Internal.Nodes.{Yields, Turns, Applies, Applied, Tags, Tells}
+use Rattle.interpreter.specs.Internal.Post.{ExprAt, Evals}
 use Rattle.interpreter.proofs.CellLaws.{there, load-there, length-load, cell-stored, rest-kept}
 use Rattle.interpreter.proofs.ValueLaws.{tags-left, tags-right}
 use Rattle.interpreter.proofs.NodeLaws.{second-here, turns-past, length-int}

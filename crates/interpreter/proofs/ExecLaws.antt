@@ -13,15 +13,15 @@ use Rattle.language.specs.Evaluation.{Res, ok, long, stuck, eval}
 use Rattle.language.specs.Transition.{Out, done, spent, over, wrong}
 use Rattle.language.proofs.Interpreter.{go, andThen, spend, assigned, go-assign}
 use Rattle.script.specs.Lines.{Line, Source, cmdLines}
-use Rattle.script.specs.Code.{code}
+use Rattle.script.specs.Internal.Code.{code}
 use Rattle.script.specs.Names.{Counts, maxDepth}
 use Rattle.memory.specs.Words.{enc, cell}
 use Rattle.memory.specs.Memory.{cellOf}
 use Rattle.interpreter.specs.State.{stateNumber}
 use Rattle.interpreter.specs.declared.State.the-variants.{Done, Spent, NoRule}
-use Rattle.interpreter.specs.Cells.{accumulator, firstLocation, loadOf, storeOf, popOf, CellsHold}
-use Rattle.interpreter.specs.Nodes.{Yields, Tags, Tells}
-use Rattle.interpreter.specs.Post.{ExprAt, Evals, a-command, Skips, Finishes, ticked, Ticks, Assigns, Choice, to-left, to-right, no-budget, too-long, no-rule, choiceV, choice, Chooses, Decides, Enters, Branches}
+use Rattle.interpreter.specs.Internal.Cells.{accumulator, firstLocation, loadOf, storeOf, popOf, CellsHold}
+use Rattle.interpreter.specs.Internal.Nodes.{Yields, Tags, Tells}
+use Rattle.interpreter.specs.Internal.Post.{ExprAt, Evals, a-command, Skips, Finishes, ticked, Ticks, Assigns, Choice, to-left, to-right, no-budget, too-long, no-rule, choiceV, choice, Chooses, Decides, Enters, Branches}
 use Rattle.interpreter.proofs.CellLaws.{length-load, length-pop}
 use Rattle.interpreter.proofs.ValueLaws.{cell-size, tags-left, tags-right, pop-tag, Kind, is-int, is-err, is-inl, is-inr, is-pkg, is-blank, kind-enc}
 use Rattle.interpreter.proofs.NodeLaws.{words-here, load-here}

@@ -11,15 +11,15 @@ use lib.Seq.{getD-take}
 use Rattle.language.specs.Syntax.{Value, int, err, inl, inr, pkg, blank, size, has}
 use Rattle.language.specs.World.{World, cell-words, wanted}
 use Rattle.language.specs.Evaluation.{Res, ok, long, stuck, bind, fitting, fit, addTo, add, packed, opened, unpacked}
-use Rattle.sheet.specs.Tables.{leftIn, belowIn, readsIn, writesIn}
-use Rattle.sheet.specs.TypeTest.{hasNo}
+use Rattle.sheet.specs.Internal.Tables.{leftIn, belowIn, readsIn, writesIn}
+use Rattle.sheet.specs.Internal.TypeTest.{hasNo}
 use Rattle.memory.specs.Words.{enc, zeros, cell, valueOf, endOf}
 use Rattle.memory.specs.Memory.{cellOf}
 use Rattle.memory.proofs.WordLaws.{length-cell, value-enc, end-enc}
 use Rattle.interpreter.specs.State.{stateNumber}
 use Rattle.interpreter.specs.declared.State.the-variants.{TooLong, NoRule}
-use Rattle.interpreter.specs.Cells.{accumulator, loadOf, storeOf, pushOf, popOf}
-use Rattle.interpreter.specs.Nodes.{Yields, Turns, Applies, Applied, Tags, errorOf, errorIn, Tells}
+use Rattle.interpreter.specs.Internal.Cells.{accumulator, loadOf, storeOf, pushOf, popOf}
+use Rattle.interpreter.specs.Internal.Nodes.{Yields, Turns, Applies, Applied, Tags, errorOf, errorIn, Tells}
 use Rattle.interpreter.proofs.CellLaws.{there, load-there, length-load, length-push, length-pop, cell-stored, rest-kept}
 use Rattle.interpreter.proofs.ValueLaws.{enc-append, cell-size, tags-left, push-tag, push-package, pop-package}
 

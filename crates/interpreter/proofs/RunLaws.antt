@@ -12,10 +12,10 @@ use Rattle.language.specs.World.{Mem, cell-words}
 use Rattle.language.specs.Transition.{Out, done, spent, over, wrong, iterate}
 use Rattle.language.proofs.Substitution.{close-none}
 use Rattle.script.specs.Lines.{Source, cmdLines}
-use Rattle.script.specs.Code.{code}
+use Rattle.script.specs.Internal.Code.{code}
 use Rattle.script.specs.Names.{Counts, named}
 use Rattle.sheet.specs.Sheet.{Sheet, labelCount, locationCount, formed}
-use Rattle.sheet.specs.Tables.{tableOf}
+use Rattle.sheet.specs.Internal.Tables.{tableOf}
 use Rattle.sheet.specs.Meaning.{worldOf}
 use Rattle.sheet.proofs.MeaningLaws.{below-in, reads-in, writes-in}
 use Rattle.sheet.proofs.NumberLaws.{has-wanted}
@@ -26,10 +26,10 @@ use Rattle.memory.proofs.CellsLaws.{cells-ext, cells-all}
 use Rattle.memory.proofs.MemoryLaws.{value-words}
 use Rattle.interpreter.specs.State.{stateNumber}
 use Rattle.interpreter.specs.declared.State.the-variants.{Done, NoRule}
-use Rattle.interpreter.specs.Cells.{firstLocation, workWords, CellsHold, bound-none}
-use Rattle.interpreter.specs.Nodes.{Tells}
-use Rattle.interpreter.specs.Post.{Finishes, Execs}
-use Rattle.interpreter.specs.Run.{RunLeaves, Runs}
+use Rattle.interpreter.specs.Internal.Cells.{firstLocation, workWords, CellsHold, bound-none}
+use Rattle.interpreter.specs.Internal.Nodes.{Tells}
+use Rattle.interpreter.specs.Internal.Post.{Finishes, Execs}
+use Rattle.interpreter.specs.Internal.Run.{RunLeaves, Runs}
 use Rattle.interpreter.proofs.CellLaws.{cell-front}
 
 -- ---- a sheet's table says what the sheet means

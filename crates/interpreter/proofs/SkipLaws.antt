@@ -7,10 +7,10 @@ use native.Mathlib.Omega.{arith}
 use lib.ListN.{length, drop}
 use Rattle.language.specs.Syntax.{Expr, Cmd}
 use Rattle.script.specs.Lines.{Line}
-use Rattle.script.specs.Code.{code, rowAt}
+use Rattle.script.specs.Internal.Code.{code, rowAt}
 use Rattle.script.specs.declared.Row.{Row}
 use Rattle.script.proofs.Rows.{ExprRow, at-int, at-loc, at-var, at-plus, at-left, at-right, at-pack, at-unpack, CmdRow, at-skip, at-seq, at-assign, at-while, at-case, expr-row, cmd-row, row-within}
-use Rattle.interpreter.specs.Post.{operandsOf, Piece, an-expression, a-command, Skips}
+use Rattle.interpreter.specs.Internal.Post.{operandsOf, Piece, an-expression, a-command, Skips}
 
 -- a number that is no kind has no operands
 pub operands-none : (k : ℕ) → (k ≡ 1 → ⊥) → (k ≡ 2 → ⊥) → (k ≡ 3 → ⊥) → (k ≡ 4 → ⊥) → (k ≡ 5 → ⊥) → (k ≡ 6 → ⊥) → (k ≡ 7 → ⊥) → (k ≡ 8 → ⊥)

@@ -12,8 +12,8 @@ use Rattle.language.specs.World.{cell-words}
 use Rattle.memory.specs.Words.{enc, zeros, cell}
 use Rattle.memory.specs.Memory.{cellOf}
 use Rattle.memory.proofs.WordLaws.{length-enc}
-use Rattle.interpreter.specs.Cells.{pushOf, popOf}
-use Rattle.interpreter.specs.Nodes.{Tags}
+use Rattle.interpreter.specs.Internal.Cells.{pushOf, popOf}
+use Rattle.interpreter.specs.Internal.Nodes.{Tags}
 use Rattle.interpreter.proofs.CellLaws.{cell-short}
 
 -- ---- a value's words, then more

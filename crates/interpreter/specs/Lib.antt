@@ -1,5 +1,2 @@
-pub mod Cells
-pub mod Nodes
-pub mod Post
-pub mod Run
 pub mod State
+pub mod Internal

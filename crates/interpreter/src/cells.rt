@@ -5,7 +5,7 @@ ghost use Prim.Native.Nat.{_+_, _≤_};
 ghost use Rattle.memory.specs.Words.{zeros};
 ghost use lib.ListN.{length, drop, getD};
 ghost use lib.Seq.{paste};
-ghost use Rattle.interpreter.specs.Cells.{accumulator, loadOf, storeOf, pushOf, popOf};
+ghost use Rattle.interpreter.specs.Internal.Cells.{accumulator, loadOf, storeOf, pushOf, popOf};
 
 // The words of a cell.
 pub(crate) const CELL: usize = memory::CELL;

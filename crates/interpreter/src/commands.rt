@@ -1,7 +1,7 @@
 // Runs of commands over the lines (the paper, figure 3).
 ghost use mathlib.Core.Path.{_≡_};
 ghost use Rattle.interpreter.specs.State.{stateNumber};
-ghost use Rattle.interpreter.specs.Post.{operandsOf, Skips, Execs, Ticks, Assigns, Decides, Branches};
+ghost use Rattle.interpreter.specs.Internal.Post.{operandsOf, Skips, Execs, Ticks, Assigns, Decides, Branches};
 use crate::State;
 use crate::cells;
 use crate::evaluation;

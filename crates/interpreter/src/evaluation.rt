@@ -1,6 +1,6 @@
 // Evaluation of expressions over the lines (the paper, figure 2).
 ghost use Rattle.interpreter.specs.State.{stateNumber};
-ghost use Rattle.interpreter.specs.Post.{Evals};
+ghost use Rattle.interpreter.specs.Internal.Post.{Evals};
 use crate::State;
 use crate::cells;
 use crate::nodes;

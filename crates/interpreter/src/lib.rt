@@ -6,8 +6,8 @@ mod commands; // commands.rt: commands
 
 ghost use mathlib.Core.Path.{_≡_};
 ghost use lib.ListN.{length};
-ghost use Rattle.interpreter.specs.Cells.{workWords};
-ghost use Rattle.interpreter.specs.Run.{Runs};
+ghost use Rattle.interpreter.specs.Internal.Cells.{workWords};
+ghost use Rattle.interpreter.specs.Internal.Run.{Runs};
 ghost use Rattle.interpreter.specs.State.{stateNumber};
 
 // How an evaluation or a run ends: done, the budget used up, a value too long; or, on words that are no script's code or no sheet's

@@ -13,7 +13,7 @@ use Rattle.sets.specs.Sets.{tab}
 use Rattle.sets.proofs.Walks.{tab-ext, tab-getD}
 use Rattle.labels.specs.declared.Label.{Label}
 use Rattle.labels.specs.Labels.{owners, wholeOf}
-use Rattle.labels.specs.Tables.{labelSize, labelWords, setsAt, labelAt, labelPut}
+use Rattle.labels.specs.Internal.Tables.{labelSize, labelWords, setsAt, labelAt, labelPut}
 use Rattle.labels.proofs.OrderLaws.{label-path, whole-readers, whole-writers}
 
 pub length-words : (a : Label) → wholeOf a ≡ true → length (labelWords a) ≡ labelSize

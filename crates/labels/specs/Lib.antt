@@ -1,3 +1,3 @@
 pub mod Labels
-pub mod Tables
 pub mod Lattice
+pub mod Internal

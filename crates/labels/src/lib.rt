@@ -5,7 +5,7 @@ ghost use lib.ListN.{length, getD};
 ghost use lib.Seq.{paste};
 ghost use Rattle.sets.specs.Sets.{within, meets, every};
 ghost use Rattle.labels.specs.Labels.{owners, openOf, policyOf, belowOf, joinOf, confidentialityOf, integrityOf, bottomOf, readsOf, writesOf};
-ghost use Rattle.labels.specs.Tables.{setsAt, labelAt, labelPut};
+ghost use Rattle.labels.specs.Internal.Tables.{setsAt, labelAt, labelPut};
 use sets::Set;
 
 // A label has a place for each principal that a set has room for.

@@ -13,7 +13,7 @@ use Rattle.language.specs.Syntax.{Value, int, err, inl, inr, pkg, blank, size}
 use Rattle.language.specs.World.{cell-words}
 use Rattle.memory.specs.Words.{enc, zeros, cell, readOf, valueOf}
 use Rattle.memory.specs.Memory.{proper, equalWords, exactly, holdsBy}
-use Rattle.memory.specs.Post.{Walks}
+use Rattle.memory.specs.Internal.Post.{Walks}
 use Rattle.memory.proofs.WordLaws.{length-enc, read-exact}
 use Rattle.memory.proofs.PlaceLaws.{here, past}
 

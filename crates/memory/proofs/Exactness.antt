@@ -13,7 +13,7 @@ use Rattle.language.specs.World.{Mem, cell-words}
 use Rattle.language.specs.View.{seen, mask, maskMem}
 use Rattle.language.specs.Theorems.{WellTyped, Fitting}
 use Rattle.sheet.specs.Sheet.{Sheet, Location, tyOf, labelCount, locationNo, locationCount, formed}
-use Rattle.sheet.specs.Tables.{tableOf, typeIn, homeIn, readsIn}
+use Rattle.sheet.specs.Internal.Tables.{tableOf, typeIn, homeIn, readsIn}
 use Rattle.sheet.specs.Meaning.{shapesOf, readsNo}
 use Rattle.sheet.proofs.TypeLaws.{ty-0}
 use Rattle.sheet.proofs.TableLaws.{types-in, labels-in, locations-in, type-in, home-in}
@@ -22,7 +22,7 @@ use Rattle.sheet.proofs.NumberLaws.{type-in-there, has-no}
 use Rattle.memory.specs.Words.{enc, cell, valueOf}
 use Rattle.memory.specs.Memory.{memoryOf, wordsOf, formedBy, sliceRefusal, refusalBy, fits, wellFormed, memoryRefusal}
 use Rattle.memory.specs.View.{viewCell, viewBy, seesNo, viewWords, viewRefusal, viewLeaves}
-use Rattle.memory.specs.InTable.{fitsIn, wellFormedIn, refusalIn, seesIn, viewIn, viewRefusalIn, viewLeavesIn, TableAgrees}
+use Rattle.memory.specs.Internal.InTable.{fitsIn, wellFormedIn, refusalIn, seesIn, viewIn, viewRefusalIn, viewLeavesIn, TableAgrees}
 use Rattle.memory.specs.Theorems.{WordsExactly, CellExactly, Declared, MemoriesExactly, ViewsExactly}
 use Rattle.memory.proofs.WordLaws.{read-enc, read-exact, cell-inj, length-cell}
 use Rattle.memory.proofs.CellsLaws.{cells-ext, cells-inj}

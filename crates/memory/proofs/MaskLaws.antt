@@ -10,7 +10,7 @@ use lib.ListN.{length, getD, set, drop}
 use Rattle.language.specs.Syntax.{Value, int, err, inl, inr, pkg, blank, size}
 use Rattle.language.specs.View.{seen, mask}
 use Rattle.memory.specs.Words.{Got, enc, wrap, numbered, packaged, readOf}
-use Rattle.memory.specs.Post.{Walks, Masks, Numeral, num-int, num-err, Opens}
+use Rattle.memory.specs.Internal.Post.{Walks, Masks, Numeral, num-int, num-err, Opens}
 use Rattle.memory.proofs.PlaceLaws.{here, past, at-past, at-int, at-err, at-inl, at-inr, at-package, at-none, labelled}
 
 module _ (shows : ℕ → Bool) (ws out : List ℕ) (to : ℕ) {left : List ℕ} {next end : ℕ} where

@@ -9,10 +9,10 @@ use borrow.Author.Tests.{eq-eqb, ne-eqb}
 use lib.ListN.{length, take, drop}
 use Rattle.sets.proofs.Walks.{every-true, every-false}
 use Rattle.language.specs.World.{cell-words}
-use Rattle.sheet.specs.Tables.{labelsIn, locationsIn, typeIn}
-use Rattle.sheet.specs.TypeTest.{hasNo}
+use Rattle.sheet.specs.Internal.Tables.{labelsIn, locationsIn, typeIn}
+use Rattle.sheet.specs.Internal.TypeTest.{hasNo}
 use Rattle.memory.specs.Memory.{cellOf, holdsBy, formedBy, sliceRefusal, refusalBy}
-use Rattle.memory.specs.InTable.{fitsIn, wellFormedIn, refusalIn}
+use Rattle.memory.specs.Internal.InTable.{fitsIn, wellFormedIn, refusalIn}
 
 -- the part of a memory that is a location's
 pub part-cell : (ws : List ℕ) (x : ℕ) → take (cell-words * x + cell-words - cell-words * x) (drop (cell-words * x) ws) ≡ cellOf ws x

@@ -10,8 +10,8 @@ use lib.ListN.{length, getD, drop}
 use Rattle.logic.specs.Booleans.{both}
 use Rattle.logic.proofs.BooleanLaws.{both-no-left, both-off, both-on}
 use Rattle.language.specs.Syntax.{Value, int, err, blank}
-use Rattle.sheet.specs.Tables.{leftIn, rightIn}
-use Rattle.sheet.specs.TypeTest.{isSum, hasNo}
+use Rattle.sheet.specs.Internal.Tables.{leftIn, rightIn}
+use Rattle.sheet.specs.Internal.TypeTest.{isSum, hasNo}
 use Rattle.memory.specs.Words.{Got, wrap, numbered, packaged, readOf, valueOf}
 use Rattle.memory.proofs.PlaceLaws.{here, past, at-past, at-int, at-err, at-inl, at-inr, at-package, at-none}
 

@@ -11,12 +11,12 @@ use lib.Seq.{sets, sets-eq}
 use Rattle.language.specs.Syntax.{Value, int, err, inl, inr, pkg, blank, size}
 use Rattle.language.specs.World.{cell-words}
 use Rattle.language.specs.View.{seen, mask}
-use Rattle.sheet.specs.Tables.{homeIn, readsIn}
+use Rattle.sheet.specs.Internal.Tables.{homeIn, readsIn}
 use Rattle.memory.specs.Words.{enc, zeros, cell, readOf, valueOf}
 use Rattle.memory.specs.Memory.{cellOf}
 use Rattle.memory.specs.View.{viewCell}
-use Rattle.memory.specs.InTable.{seesIn}
-use Rattle.memory.specs.Post.{Masks}
+use Rattle.memory.specs.Internal.InTable.{seesIn}
+use Rattle.memory.specs.Internal.Post.{Masks}
 use Rattle.memory.proofs.WordLaws.{size-pos, length-enc}
 use Rattle.memory.proofs.RefusalLaws.{part-cell}
 

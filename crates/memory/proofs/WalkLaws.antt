@@ -11,7 +11,7 @@ use Rattle.logic.specs.Booleans.{both}
 use Rattle.language.specs.Syntax.{Value, int, err, blank}
 use Rattle.memory.specs.Words.{Got, wrap, numbered, packaged, readOf, endOf}
 use Rattle.memory.specs.Memory.{proper}
-use Rattle.memory.specs.Post.{Walks}
+use Rattle.memory.specs.Internal.Post.{Walks}
 use Rattle.memory.proofs.PlaceLaws.{here, past, at-past, at-int, at-err, at-inl, at-inr, at-package, at-none}
 
 module _ (labels : ℕ) (ws : List ℕ) (at : ℕ) where

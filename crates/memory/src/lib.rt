@@ -11,12 +11,12 @@ ghost use Rattle.logic.specs.Booleans.{both};
 ghost use Rattle.language.specs.Syntax.{size};
 ghost use Rattle.language.specs.World.{cell-words};
 ghost use Rattle.language.specs.View.{mask};
-ghost use Rattle.sheet.specs.Tables.{labelsIn, locationsIn, readsIn};
-ghost use Rattle.sheet.specs.TypeTest.{hasNo};
+ghost use Rattle.sheet.specs.Internal.Tables.{labelsIn, locationsIn, readsIn};
+ghost use Rattle.sheet.specs.Internal.TypeTest.{hasNo};
 ghost use Rattle.memory.specs.Words.{valueOf, endOf};
 ghost use Rattle.memory.specs.Memory.{holdsBy, cellOf};
 ghost use Rattle.memory.specs.View.{viewCell};
-ghost use Rattle.memory.specs.InTable.{fitsIn, refusalIn, seesIn, viewIn, viewRefusalIn, viewLeavesIn};
+ghost use Rattle.memory.specs.Internal.InTable.{fitsIn, refusalIn, seesIn, viewIn, viewRefusalIn, viewLeavesIn};
 use sets::Set;
 
 // The words of a location.

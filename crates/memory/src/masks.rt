@@ -4,9 +4,9 @@ ghost use mathlib.Core.Bool.{Bool};
 ghost use Prim.Native.Nat.{ℕ, _+_, _^_, _≤_, _<_};
 ghost use lib.ListN.{length, getD, drop, set};
 ghost use Rattle.language.specs.Syntax.{Value};
-ghost use Rattle.sheet.specs.Tables.{readsIn};
+ghost use Rattle.sheet.specs.Internal.Tables.{readsIn};
 ghost use Rattle.memory.specs.Words.{numbered, readOf};
-ghost use Rattle.memory.specs.Post.{Masks, Numeral, Opens};
+ghost use Rattle.memory.specs.Internal.Post.{Masks, Numeral, Opens};
 use crate::values;
 use sets::Set;
 

@@ -7,7 +7,7 @@ ghost use Rattle.logic.specs.Booleans.{both};
 ghost use Rattle.language.specs.Syntax.{int, err};
 ghost use Rattle.memory.specs.Words.{zeros, numbered, packaged, readOf};
 ghost use Rattle.memory.specs.Memory.{equalWords};
-ghost use Rattle.memory.specs.Post.{Walks};
+ghost use Rattle.memory.specs.Internal.Post.{Walks};
 
 // Whether a value is proper, and the place after its words.
 pub(crate) struct Walked {

@@ -21,7 +21,7 @@ use Rattle.memory_text.specs.declared.Answer.the-variants as answer
 use Rattle.memory_text.specs.declared.Reached.{Reached}
 use Rattle.sheet.specs.Padding.{padded}
 use Rattle.memory_text.specs.Reading.{location, joined, wordsOf, locations, memory}
-use Rattle.memory_text.specs.Answers.{locationAt, table, memoryOf}
+use Rattle.memory_text.specs.Internal.Answers.{locationAt, table, memoryOf}
 use Rattle.memory_text.proofs.Lines.{memory-lines}
 use Rattle.memory_text.proofs.Memories.{rows-sound}
 

@@ -2,6 +2,5 @@
 pub mod Sizes
 pub mod Printing
 pub mod Reading
-pub mod Answers
-pub mod Writing
 pub mod Theorems
+pub mod Internal

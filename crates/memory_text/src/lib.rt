@@ -14,7 +14,7 @@ ghost use Rattle.text.specs.Reading.Read.{bad};
 ghost use Rattle.language.specs.World.{cell-words};
 ghost use Rattle.sheet.specs.Sheet.{maxLocations};
 ghost use Rattle.memory_text.specs.Reading.{lineWords, locations as locationsOf};
-ghost use Rattle.memory_text.specs.Answers.{placedRow, locationAt, table, memoryOf};
+ghost use Rattle.memory_text.specs.Internal.Answers.{placedRow, locationAt, table, memoryOf};
 
 // The most locations of a sheet.
 pub const LOCATIONS: usize = 64;

@@ -12,7 +12,7 @@ use lib.Seq.{getD-drop, drop-drop}
 use Rattle.language.specs.Syntax.{int, Expr, val, loc, var, plus, left, right, pack, unpack, Cmd, skip, seq, assign, while, case}
 use Rattle.script.specs.declared.Row.{Row}
 use Rattle.script.specs.Lines.{Line, SourceE, s-int, s-loc, s-var, s-plus, s-left, s-right, s-pack, s-unpack, Source, s-skip, s-seq, s-assign, s-while, s-case, numberOf, exprLines, cmdLines}
-use Rattle.script.specs.Code.{lineWords, code, rowAt}
+use Rattle.script.specs.Internal.Code.{lineWords, code, rowAt}
 
 pub row-there : (ws : List ℕ) (at : ℕ) → at + 3 ≤ length ws → rowAt ws at ≡ record { kind = getD ws at 0; a = getD ws (at + 1) 0; b = getD ws (at + 2) 0 }
 unfolding rowAt

@@ -1,3 +1,3 @@
 pub mod Lines
-pub mod Code
 pub mod Names
+pub mod Internal

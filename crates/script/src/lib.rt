@@ -1,6 +1,6 @@
 // The code of a script: rows of three words, one for each line.
 ghost use mathlib.Core.Path.{_≡_};
-ghost use Rattle.script.specs.Code.{rowAt};
+ghost use Rattle.script.specs.Internal.Code.{rowAt};
 
 // The kinds of line, by their numbers in the code.
 pub const SKIP: u32 = 1;

@@ -14,7 +14,7 @@ use Rattle.script.specs.Lines.{cmdLines, exprLines}
 use Rattle.script.specs.Names.{Counts, named, namedE}
 use Rattle.script_text.specs.Bytes.{lineBytes, scriptBytes}
 use Rattle.script_text.specs.Reading.{formOf, operandsOf, lineOf, linesOf}
-use Rattle.script_text.specs.Parse.{popE, popC, onStack, pushOn, stackOf, single, parse}
+use Rattle.script_text.specs.Internal.Parse.{popE, popC, onStack, pushOn, stackOf, single, parse}
 use Rattle.script_text.specs.Script.{namedOnly, commandOf, commandRead, scriptOf}
 
 -- six types, three labels and four locations

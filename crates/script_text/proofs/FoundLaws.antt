@@ -9,7 +9,7 @@ use Rattle.text.specs.Reading.{Read}
 use Rattle.text.specs.Reading.Read.{got, bad}
 use Rattle.text.specs.Number.{most}
 use Rattle.text.specs.Field.{numberField, lineEnd, lastNumber}
-use Rattle.text.specs.Place.{placedDecimal, placedEnd}
+use Rattle.text.specs.Internal.Place.{placedDecimal, placedEnd}
 use Rattle.text.specs.declared.Decimal.{Decimal}
 use Rattle.text.specs.declared.Decimal.the-variants as decimal
 use Rattle.text.specs.declared.Place.{Place}
@@ -25,7 +25,7 @@ use Rattle.script_text.specs.declared.Found.the-variants as found
 use Rattle.script_text.specs.declared.LineRead.the-variants as read
 use Rattle.script_text.specs.declared.Reached.{Reached}
 use Rattle.script_text.specs.Reading.{Form, bare, one, two, other, formOf, operandsOf, lineOf}
-use Rattle.script_text.specs.Placed.{rowOf, placedLine, reached, lineAt}
+use Rattle.script_text.specs.Internal.Placed.{rowOf, placedLine, reached, lineAt}
 use Rattle.script_text.proofs.LineLaws.{script-lines}
 
 -- the answer to a line that was read

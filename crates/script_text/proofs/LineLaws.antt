@@ -13,10 +13,10 @@ use Rattle.text.specs.Lines.{AllGood, LineForm}
 use Rattle.text.proofs.Readings.{not-bad, got-same, andThen-got, andThen-split, byte-here, byte-sound}
 use Rattle.text.proofs.Fields.{number-field-sound, number-field-print, last-number-sound, last-number-print}
 use Rattle.script.specs.Lines.{Line, l-skip, l-seq, l-assign, l-while, l-case, l-int, l-loc, l-var, l-plus, l-left, l-right, l-pack, l-unpack}
-use Rattle.script.specs.Code.{lineWords}
+use Rattle.script.specs.Internal.Code.{lineWords}
 use Rattle.script_text.specs.Bytes.{lineBytes}
 use Rattle.script_text.specs.Reading.{Form, bare, one, two, other, formOf, operandsOf, lineOf}
-use Rattle.script_text.specs.Placed.{rowOf}
+use Rattle.script_text.specs.Internal.Placed.{rowOf}
 use Rattle.logic.specs.Booleans.{both}
 
 -- The form of each kind, by its byte.

@@ -6,7 +6,7 @@ use Prim.Native.Nat.{ℕ}
 use Rattle.logic.proofs.OptionLaws.{none-some, some-path}
 use Rattle.language.specs.Syntax.{Expr, plus, left, right, pack, unpack, Cmd, seq, assign, while, case}
 use Rattle.script.specs.Lines.{Line, l-skip, l-seq, l-assign, l-while, l-case, l-int, l-loc, l-var, l-plus, l-left, l-right, l-pack, l-unpack, SourceE, s-int, s-loc, s-var, s-plus, s-left, s-right, s-pack, s-unpack, Source, s-skip, s-seq, s-assign, s-while, s-case, numberOf, exprLines, cmdLines}
-use Rattle.script_text.specs.Parse.{Tree, ex, cm, Stack, popE, popC, onStack, pushOn, stackOf, single, parse}
+use Rattle.script_text.specs.Internal.Parse.{Tree, ex, cm, Stack, popE, popC, onStack, pushOn, stackOf, single, parse}
 
 -- ---- the lines of a tree leave the tree on the stack
 

@@ -11,17 +11,17 @@ use lib.Seq.{take-at}
 use borrow.Author.Tests.{leb-true, le-leb}
 use Rattle.language.specs.Syntax.{Cmd}
 use Rattle.script.specs.Lines.{Line, Source, cmdLines}
-use Rattle.script.specs.Code.{code}
+use Rattle.script.specs.Internal.Code.{code}
 use Rattle.script.specs.Names.{Counts, named}
 use Rattle.sheet.specs.Padding.{padded}
 use Rattle.sheet.proofs.Words.{length-padded}
 use Rattle.script_text.specs.declared.Script.{Script}
 use Rattle.script_text.specs.declared.Scanned.{Scanned}
 use Rattle.script_text.specs.Reading.{maxLines, linesOf}
-use Rattle.script_text.specs.Parse.{stackOf, single, parse}
+use Rattle.script_text.specs.Internal.Parse.{stackOf, single, parse}
 use Rattle.script_text.specs.Script.{namedOnly, commandOf, commandRead, scriptOf}
-use Rattle.script_text.specs.Decoded.{codeWords, noCode, coded, codedLines, decodedScript}
-use Rattle.script_text.specs.Scan.{ScansCmd, isSome, Whole}
+use Rattle.script_text.specs.Internal.Decoded.{codeWords, noCode, coded, codedLines, decodedScript}
+use Rattle.script_text.specs.Internal.Scan.{ScansCmd, isSome, Whole}
 use Rattle.script_text.proofs.CodeLaws.{words-of, code-length}
 use Rattle.script_text.proofs.ScanLaws.{false-true}
 use Rattle.script_text.proofs.ScriptLaws.{command-sound, command-lines, script-sound}

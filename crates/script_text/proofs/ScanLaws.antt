@@ -13,12 +13,12 @@ use Rattle.logic.proofs.BooleanLaws.{both-assoc, both-left, both-right, both-tr
 use Rattle.language.specs.Syntax.{int, Expr, val, loc, var, plus, left, right, pack, unpack, Cmd, skip, seq, assign, while, case}
 use Rattle.script.specs.declared.Row.{Row}
 use Rattle.script.specs.Lines.{Line, l-skip, l-seq, l-assign, l-while, l-case, l-int, l-loc, l-var, l-plus, l-left, l-right, l-pack, l-unpack, SourceE, s-int, s-loc, s-var, s-plus, s-left, s-right, s-pack, s-unpack, Source, s-skip, s-seq, s-assign, s-while, s-case, numberOf, exprLines, cmdLines}
-use Rattle.script.specs.Code.{lineWords, code, rowAt}
+use Rattle.script.specs.Internal.Code.{lineWords, code, rowAt}
 use Rattle.script.specs.Names.{Counts, maxDepth, namedE, named}
 use Rattle.script.proofs.Rows.{row-read, row-none, row-in, ExprRow, at-int, at-loc, at-var, at-plus, at-left, at-right, at-pack, at-unpack, expr-row, CmdRow, at-skip, at-seq, at-assign, at-while, at-case, cmd-row}
 use Rattle.script_text.specs.declared.Scanned.{Scanned}
-use Rattle.script_text.specs.Placed.{rowOf}
-use Rattle.script_text.specs.Scan.{Scans, ScansExpr, ScansCmd}
+use Rattle.script_text.specs.Internal.Placed.{rowOf}
+use Rattle.script_text.specs.Internal.Scan.{Scans, ScansExpr, ScansCmd}
 use Rattle.script_text.proofs.CodeLaws.{words-of}
 
 pub false-true : {A : Type 0} (b : Bool) → b ≡ false → b ≡ true → A

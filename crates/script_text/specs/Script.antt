@@ -8,7 +8,7 @@ use Rattle.script.specs.Lines.{Line}
 use Rattle.script.specs.Names.{Counts, named}
 use Rattle.sheet.specs.Sheet.{Sheet, typeCount, labelCount, locationCount}
 use Rattle.script_text.specs.Reading.{linesOf}
-use Rattle.script_text.specs.Parse.{parse}
+use Rattle.script_text.specs.Internal.Parse.{parse}
 
 -- how many types, labels and locations are on a sheet
 abbrev pub countsOf : Sheet → Counts

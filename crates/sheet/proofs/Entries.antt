@@ -5,8 +5,8 @@ use Prim.Native.Nat.{ℕ, _+_, _*_, _<_, _≤_}
 use borrow.Author.Tests.{lt-ltb, le-ltb}
 use lib.ListN.{getD}
 use Rattle.labels.specs.Labels.{bottomOf}
-use Rattle.labels.specs.Tables.{labelSize, labelAt}
-use Rattle.sheet.specs.Tables.{labelsBase, labelsIn, everyoneIn, entryIn, labelIn}
+use Rattle.labels.specs.Internal.Tables.{labelSize, labelAt}
+use Rattle.sheet.specs.Internal.Tables.{labelsBase, labelsIn, everyoneIn, entryIn, labelIn}
 
 module _ (t : List ℕ) (count base i : ℕ) where
   pub entry-there : i < count → entryIn t count base i ≡ getD t (base + 2 * i) 0

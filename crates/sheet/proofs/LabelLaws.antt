@@ -12,14 +12,14 @@ use Rattle.sets.specs.Sets.{everyone}
 use Rattle.logic.proofs.BooleanLaws.{both-left, both-right, both-true}
 use Rattle.sets.proofs.SetLaws.{within-everyone}
 use Rattle.labels.specs.Labels.{Policy, policy, policyOn, policiesOn, labelOf, bottomOf, wholeOf, effective}
-use Rattle.labels.specs.Tables.{labelSize, labelWords, labelAt}
+use Rattle.labels.specs.Internal.Tables.{labelSize, labelWords, labelAt}
 use Rattle.labels.specs.declared.Label.{Label}
 use Rattle.labels.proofs.EffectiveLaws.{effective-whole, bottom-effective}
 use Rattle.labels.proofs.PolicyLaws.{policies-effective}
 use Rattle.labels.proofs.TableLaws.{length-words, label-read}
 use Rattle.sheet.specs.Sheet.{Sheet, labelsOf, labelNo, labelCount, rising, formed}
 use Rattle.sheet.specs.Padding.{padded}
-use Rattle.sheet.specs.Tables.{labelsRoom, labelsWords, tableOf, labelIn}
+use Rattle.sheet.specs.Internal.Tables.{labelsRoom, labelsWords, tableOf, labelIn}
 use Rattle.sheet.proofs.Entries.{label-there, label-past}
 use Rattle.sheet.proofs.FormLaws.{label-rising}
 use Rattle.sheet.proofs.TableLaws.{labels-in, everyone-in, toLabels, from-labels, labels-start}

@@ -13,7 +13,7 @@ use Rattle.labels.proofs.PartLaws as part
 use Rattle.labels.proofs.EffectiveLaws as effect
 use Rattle.labels.proofs.LatticeLaws.{effective-path}
 use Rattle.sheet.specs.Sheet.{Sheet, labelNo, locationNo, formed}
-use Rattle.sheet.specs.Tables.{tableOf, belowIn, readsIn, writesIn}
+use Rattle.sheet.specs.Internal.Tables.{tableOf, belowIn, readsIn, writesIn}
 use Rattle.sheet.specs.Meaning.{effectiveIf, effectively, declarationsOf, belowNo, readsNo, writesNo}
 use Rattle.sheet.specs.Theorems.{LeastLabelLawsHold, SameLabelsOnSheets, NumbersAgreeOnSheets}
 use Rattle.sheet.proofs.RepeatLaws.{label-once}

@@ -12,8 +12,8 @@ use Rattle.language.specs.Syntax.{Ty, t-int, t-err, t-pkg, t-sum, Ty-discrete, 
 use Rattle.language.specs.World.{wanted}
 use Rattle.language.specs.Typing.{isYes, sameTy}
 use Rattle.sheet.specs.Sheet.{Sheet, tyOf, givenParts, partsOf, partsNo, typeCount, formed, repeats}
-use Rattle.sheet.specs.Tables.{tableOf, typesIn, leftIn, rightIn, typeIn}
-use Rattle.sheet.specs.TypeTest.{isSum, hasNo}
+use Rattle.sheet.specs.Internal.Tables.{tableOf, typesIn, leftIn, rightIn, typeIn}
+use Rattle.sheet.specs.Internal.TypeTest.{isSum, hasNo}
 use Rattle.sheet.proofs.FormLaws.{left-there, right-there, parts-past, location-type-there}
 use Rattle.sheet.proofs.TypeLaws.{ty-0, ty-past, ty-sum, ty-sum-there, Which, is-int, is-err, is-pkg, is-sum, which, ty-once}
 use Rattle.sheet.proofs.TableLaws.{types-in, left-in, right-in, type-in}

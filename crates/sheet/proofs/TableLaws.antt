@@ -9,7 +9,7 @@ use lib.ListN.{length, getD, length-append}
 use Rattle.sets.specs.Sets.{everyone}
 use Rattle.sheet.specs.Sheet.{Sum, Location, Sheet, partsOf, partsNo, typeCount, labelsOf, labelCount, locationNo, locationCount, formed}
 use Rattle.sheet.specs.Padding.{padded}
-use Rattle.sheet.specs.Tables.{partsRoom, locationsRoom, labelsRoom, partsBase, locationsBase, labelsBase, partWords, locationWords, labelsWords, tableOf, principalsIn, everyoneIn, typesIn, labelsIn, locationsIn, entryIn, leftIn, rightIn, typeIn, homeIn}
+use Rattle.sheet.specs.Internal.Tables.{partsRoom, locationsRoom, labelsRoom, partsBase, locationsBase, labelsBase, partWords, locationWords, labelsWords, tableOf, principalsIn, everyoneIn, typesIn, labelsIn, locationsIn, entryIn, leftIn, rightIn, typeIn, homeIn}
 use Rattle.sheet.proofs.FormLaws.{Formed, formed-facts, type-count}
 use Rattle.sheet.proofs.Words.{length-padded, length-pairs, first-at, second-at, entry-of}
 

@@ -10,7 +10,7 @@ use lib.ListN.{length, getD, length-append, length-replicate, List·getD-append,
 use lib.Seq.{getD-append-add}
 use borrow.Author.Tests.{ltb-true, ltb-false}
 use Rattle.sheet.specs.Padding.{padded}
-use Rattle.sheet.specs.Tables.{pairWords, entryIn}
+use Rattle.sheet.specs.Internal.Tables.{pairWords, entryIn}
 use Rattle.sheet.proofs.Entries.{entry-there, entry-past}
 
 -- ---- filled up with zeros

@@ -1,8 +1,8 @@
 // The decoded sheet: a table of words, and what it says of types, locations and labels.
 ghost use mathlib.Core.Path.{_≡_};
 ghost use lib.ListN.{getD};
-ghost use Rattle.sheet.specs.Tables.{entryIn, principalsIn, everyoneIn, typesIn, labelsIn, locationsIn, leftIn, rightIn, typeIn, homeIn, labelIn, belowIn, readsIn, writesIn};
-ghost use Rattle.sheet.specs.TypeTest.{isSum};
+ghost use Rattle.sheet.specs.Internal.Tables.{entryIn, principalsIn, everyoneIn, typesIn, labelsIn, locationsIn, leftIn, rightIn, typeIn, homeIn, labelIn, belowIn, readsIn, writesIn};
+ghost use Rattle.sheet.specs.Internal.TypeTest.{isSum};
 use labels::LABEL_SIZE;
 use labels::Label;
 use sets::Set;

@@ -20,7 +20,7 @@ use Rattle.sheet.proofs.FormLaws.{Formed, formed-facts, type-count}
 use Rattle.sheet_text.specs.declared.line.Line.{Line}
 use Rattle.sheet_text.specs.declared.line.Line.the-variants.{P, T, L, O, X}
 use Rattle.sheet_text.specs.Lines.{sumLine, policyLine, locationLine, each, labelLines, linesThen, sheetLines}
-use Rattle.sheet_text.specs.Building.{blank, addSum, addLabel, addPolicy, addLocation, leastOwner, sumFits, labelFits, policyFits, locationFits, begin, step, stepOn, steps, build}
+use Rattle.sheet_text.specs.Internal.Building.{blank, addSum, addLabel, addPolicy, addLocation, leastOwner, sumFits, labelFits, policyFits, locationFits, begin, step, stepOn, steps, build}
 use Rattle.sheet_text.proofs.LineLaws.{Fits, AllFit}
 use Rattle.sheet_text.proofs.GrowthLaws.{length-more, no-entries, each-more, labels-more, policies-more, length-toLast, earlier-more, each-rising-more, each-rising-last, each-named-more}
 

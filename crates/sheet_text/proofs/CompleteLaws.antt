@@ -15,7 +15,7 @@ use Rattle.sheet.specs.Sheet.{Sum, Location, Sheet, typeCount, labelCount, loca
 use Rattle.sheet.proofs.FormLaws.{formed-facts, type-count}
 use Rattle.sheet_text.specs.declared.line.Line.{Line}
 use Rattle.sheet_text.specs.Lines.{sumLine, policyLine, locationLine, each, labelLines, linesThen, sheetLines}
-use Rattle.sheet_text.specs.Building.{blank, addSum, addLabel, addPolicy, addLocation, leastAfter, leastOwner, sumFits, labelFits, policyFits, locationFits, begin, step, stepOn, steps, build}
+use Rattle.sheet_text.specs.Internal.Building.{blank, addSum, addLabel, addPolicy, addLocation, leastAfter, leastOwner, sumFits, labelFits, policyFits, locationFits, begin, step, stepOn, steps, build}
 use Rattle.sheet_text.proofs.GrowthLaws.{length-more, last-more, toLast-more, least-more}
 
 -- a line that passes its test

@@ -18,14 +18,14 @@ use Rattle.sets.proofs.SetLaws.{restrict-id}
 use Rattle.labels.specs.Labels.{policy}
 use Rattle.sheet.specs.Sheet.{Sum, Sheet, givenParts, partsOf, typeCount, labelsOf, labelCount, locationCount, formed}
 use Rattle.sheet.specs.Padding.{padded}
-use Rattle.sheet.specs.Tables.{pairWords, labelsWords, tableOf, tableWords, labelsIn}
+use Rattle.sheet.specs.Internal.Tables.{pairWords, labelsWords, tableOf, tableWords, labelsIn}
 use Rattle.sheet.proofs.FormLaws.{formed-facts, type-count}
 use Rattle.sheet.proofs.TableLaws.{types-in, labels-in, locations-in, principals-in, everyone-in}
 use Rattle.sheet_text.specs.declared.line.Line.{Line}
 use Rattle.sheet_text.specs.declared.line.Line.the-variants.{P, T, L, O, X}
 use Rattle.sheet_text.specs.declared.draft.Draft.{Draft}
-use Rattle.sheet_text.specs.Building.{blank, addSum, addLabel, toLast, addPolicy, addLocation, lastOf, leastAfter, leastOwner, sumFits, labelFits, policyFits, locationFits, begin, step, stepOn}
-use Rattle.sheet_text.specs.Drafts.{DraftHolds, FormedIf, Stores, principalsFit, sumFitsIn, labelFitsIn, policyFitsIn, locationFitsIn, principalsStored, pairStored, labelStored, policyStored}
+use Rattle.sheet_text.specs.Internal.Building.{blank, addSum, addLabel, toLast, addPolicy, addLocation, lastOf, leastAfter, leastOwner, sumFits, labelFits, policyFits, locationFits, begin, step, stepOn}
+use Rattle.sheet_text.specs.Internal.Drafts.{DraftHolds, FormedIf, Stores, principalsFit, sumFitsIn, labelFitsIn, policyFitsIn, locationFitsIn, principalsStored, pairStored, labelStored, policyStored}
 use Rattle.logic.proofs.OptionLaws.{none-some}
 use Rattle.sheet_text.proofs.GrowthLaws.{last-more, toLast-more, least-more, labels-split}
 use Rattle.sheet_text.proofs.BuildLaws.{no-labels, begin-sound, step-sound}

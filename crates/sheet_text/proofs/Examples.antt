@@ -15,7 +15,7 @@ use Rattle.labels.specs.Labels.{policy, openAt, openOf, policyOf, withPolicies,
 use Rattle.sheet.specs.Sheet.{Sheet, givenParts, partsOf, typeCount, labelsOf, labelCount, locationCount, earlier, rising, eachRising, eachNamed, formed, among, repeated, sameParts, repeats}
 use Rattle.sheet_text.specs.Lines.{sumLine, policyLine, locationLine, each, labelLines, linesThen, sheetLines, lineBytes, sheetBytes}
 use Rattle.sheet_text.specs.Reading.{principalsRest, pairLine, pairRest, labelRest, policyRest, lineOf}
-use Rattle.sheet_text.specs.Building.{blank, addSum, addLabel, toLast, addPolicy, addLocation, lastOf, leastAfter, leastOwner, sumFits, labelFits, policyFits, locationFits, begin, step, stepOn, steps, build}
+use Rattle.sheet_text.specs.Internal.Building.{blank, addSum, addLabel, toLast, addPolicy, addLocation, lastOf, leastAfter, leastOwner, sumFits, labelFits, policyFits, locationFits, begin, step, stepOn, steps, build}
 use Rattle.sheet_text.specs.Sheets.{buildRead, sheetRead, Answer, malformed, repeating, accepted, judged, sheetOf}
 
 caseSheet : Sheet

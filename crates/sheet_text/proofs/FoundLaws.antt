@@ -16,7 +16,7 @@ use Rattle.sheet_text.specs.declared.line.LineRead.the-variants as read
 use Rattle.sheet_text.specs.declared.line.Reached.{Reached}
 use Rattle.sheet_text.specs.declared.line.Found.the-variants as found
 use Rattle.sheet_text.specs.Reading.{principalsRest, pairRest, labelRest, policyRest, lineOf}
-use Rattle.sheet_text.specs.Placed.{placedLine, reached, lineAt}
+use Rattle.sheet_text.specs.Internal.Placed.{placedLine, reached, lineAt}
 use Rattle.sheet_text.proofs.LineLaws.{sheet-lines}
 
 -- ---- answers

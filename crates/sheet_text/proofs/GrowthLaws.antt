@@ -13,7 +13,7 @@ use Rattle.sheet.specs.Sheet.{Sum, Location, earlier, rising, eachRising, eachN
 use Rattle.sheet_text.specs.declared.line.Line.{Line}
 use Rattle.sheet_text.specs.declared.line.Line.the-variants.{P, L}
 use Rattle.sheet_text.specs.Lines.{policyLine, each, labelLines}
-use Rattle.sheet_text.specs.Building.{toLast, lastOf, leastAfter}
+use Rattle.sheet_text.specs.Internal.Building.{toLast, lastOf, leastAfter}
 
 pub length-more : {A : Type 0} (xs : List A) (x : A) → length (xs ++ (x ∷ [])) ≡ length xs + 1
 length-more xs x = length-append xs (x ∷ [])

@@ -12,18 +12,18 @@ use Rattle.text.specs.Reading.Read.{got, bad}
 use Rattle.text.specs.Lines.{front}
 use Rattle.text.proofs.Lines.{all-none, all-more, all-bad}
 use Rattle.sheet.specs.Sheet.{Sheet, typeCount, labelCount}
-use Rattle.sheet.specs.Tables.{typesIn, labelsIn}
+use Rattle.sheet.specs.Internal.Tables.{typesIn, labelsIn}
 use Rattle.sheet.proofs.FormLaws.{formed-facts, type-count}
 use Rattle.sheet.proofs.TableLaws.{types-in, labels-in}
 use Rattle.sheet_text.specs.declared.line.Line.{Line}
 use Rattle.sheet_text.specs.declared.draft.Draft.{Draft}
 use Rattle.sheet_text.specs.Reading.{lineOf, linesOf}
-use Rattle.sheet_text.specs.Building.{begin, stepOn, steps, build}
+use Rattle.sheet_text.specs.Internal.Building.{begin, stepOn, steps, build}
 use Rattle.sheet_text.specs.Sheets.{buildRead, sheetRead, judged}
 use Rattle.sheet_text.specs.declared.Verdict.the-variants.{Accepted, Malformed, Repeats}
-use Rattle.sheet_text.specs.Decoded.{refusedBy, decodedSheet}
-use Rattle.sheet_text.specs.Drafts.{DraftHolds, FormedIf, stepsRead}
-use Rattle.sheet_text.specs.Repeats.{repeatsIn}
+use Rattle.sheet_text.specs.Internal.Decoded.{refusedBy, decodedSheet}
+use Rattle.sheet_text.specs.Internal.Drafts.{DraftHolds, FormedIf, stepsRead}
+use Rattle.sheet_text.specs.Internal.Repeats.{repeatsIn}
 use Rattle.sheet_text.proofs.LineLaws.{sheet-lines}
 use Rattle.sheet_text.proofs.RepeatFinds.{repeats-in}
 use Rattle.sheet_text.proofs.Theorems.{sheet-in-sound}

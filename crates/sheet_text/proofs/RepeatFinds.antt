@@ -13,14 +13,14 @@ use Rattle.logic.proofs.BooleanLaws.{bool-ext, both-left, both-right, both-true
 use Rattle.sets.specs.Sets.{every, everyone}
 use Rattle.sets.proofs.Walks.{every-true, every-at, getD-tab}
 use Rattle.labels.specs.Labels.{owners, labelOf, bottomOf, readersOf, writersOf, sameAt, sameOf}
-use Rattle.labels.specs.Tables.{labelSize, setsAt, labelAt}
+use Rattle.labels.specs.Internal.Tables.{labelSize, setsAt, labelAt}
 use Rattle.labels.specs.declared.Label.{Label}
 use Rattle.sheet.specs.Sheet.{Sum, Sheet, givenParts, partsOf, partsNo, labelsOf, labelNo, labelCount, formed, among, repeated, sameParts, givenSums, repeats}
-use Rattle.sheet.specs.Tables.{tableOf, typesIn, labelsIn, entryIn, leftIn, rightIn, labelIn}
+use Rattle.sheet.specs.Internal.Tables.{tableOf, typesIn, labelsIn, entryIn, leftIn, rightIn, labelIn}
 use Rattle.sheet.proofs.FormLaws.{type-count}
 use Rattle.sheet.proofs.TableLaws.{types-in, labels-in, left-in, right-in}
 use Rattle.sheet.proofs.LabelLaws.{label-in}
-use Rattle.sheet_text.specs.Repeats.{sameWords, sameIn, anyFrom, againIn, repeatsIn}
+use Rattle.sheet_text.specs.Internal.Repeats.{sameWords, sameIn, anyFrom, againIn, repeatsIn}
 
 -- ---- the cases of a search from i to before n
 

@@ -8,7 +8,7 @@ use lib.ListN.{length, getD, set, replicate, length-append, length-replicate, re
 use lib.Seq.{set-at, getD-append-seam}
 use Rattle.sets.specs.Sets.{everyone}
 use Rattle.labels.specs.Labels.{Policy, policy, openOf, policyOf, withPolicies, labelOf, wholeOf, owners, bottomOf}
-use Rattle.labels.specs.Tables.{labelSize, labelWords, labelPut}
+use Rattle.labels.specs.Internal.Tables.{labelSize, labelWords, labelPut}
 use Rattle.labels.specs.declared.Label.{Label}
 use Rattle.labels.proofs.PolicyLaws.{policy-whole}
 use Rattle.labels.proofs.OrderLaws.{whole-intro}
@@ -16,11 +16,11 @@ use Rattle.labels.proofs.TableLaws.{length-words, put-middle}
 use Rattle.sets.proofs.Walks.{length-tab}
 use Rattle.sheet.specs.Sheet.{Sum, Location, Sheet, givenParts, partsOf, typeCount, labelsOf, labelNo, labelCount, locationCount, formed}
 use Rattle.sheet.specs.Padding.{padded}
-use Rattle.sheet.specs.Tables.{pairWords, partWords, locationWords, labelsWords, tableOf, labelIn}
+use Rattle.sheet.specs.Internal.Tables.{pairWords, partWords, locationWords, labelsWords, tableOf, labelIn}
 use Rattle.sheet.proofs.FormLaws.{formed-facts, type-count}
 use Rattle.sheet.proofs.Words.{length-padded, length-pairs}
 use Rattle.sheet.proofs.LabelLaws.{label-in}
-use Rattle.sheet_text.specs.Building.{addSum, addLabel, toLast, addPolicy, addLocation}
+use Rattle.sheet_text.specs.Internal.Building.{addSum, addLabel, toLast, addPolicy, addLocation}
 use Rattle.sheet_text.proofs.GrowthLaws.{length-more, length-toLast, toLast-more, labels-split}
 
 -- ---- a pair more in a block that is filled up with zeros

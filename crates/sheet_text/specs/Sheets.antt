@@ -8,7 +8,7 @@ use Rattle.text.specs.Reading.{fits}
 use Rattle.sheet.specs.Sheet.{Sheet, repeats}
 use Rattle.sheet_text.specs.declared.line.Line.{Line}
 use Rattle.sheet_text.specs.Reading.{linesOf}
-use Rattle.sheet_text.specs.Building.{build}
+use Rattle.sheet_text.specs.Internal.Building.{build}
 
 unfoldable pub buildRead : Option (List Line) → Option Sheet
 buildRead none = none

@@ -5,9 +5,9 @@ mod repeat; // repeat.rt: whether a table repeats a type or a label
 
 ghost use mathlib.Core.Path.{_≡_};
 ghost use lib.ListN.{replicate};
-ghost use Rattle.sheet.specs.Tables.{tableWords};
+ghost use Rattle.sheet.specs.Internal.Tables.{tableWords};
 ghost use Rattle.sheet_text.specs.Sheets.{sheetOf};
-ghost use Rattle.sheet_text.specs.Decoded.{verdictNumber, decodedSheet};
+ghost use Rattle.sheet_text.specs.Internal.Decoded.{verdictNumber, decodedSheet};
 use draft::draft_of;
 use repeat::repeats;
 use sheet::WORDS;

@@ -2,7 +2,7 @@
 ghost use mathlib.Core.Path.{_≡_};
 ghost use lib.ListN.{drop};
 ghost use Rattle.sheet_text.specs.Reading.{principalsRest, pairLine, pairRest, labelRest, policyRest, lineOf};
-ghost use Rattle.sheet_text.specs.Placed.{placedLine, lineAt};
+ghost use Rattle.sheet_text.specs.Internal.Placed.{placedLine, lineAt};
 use reader::Reader;
 use text::Decimal;
 use text::MOST;

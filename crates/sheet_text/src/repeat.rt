@@ -1,8 +1,8 @@
 // Whether a table repeats a type or a label. Those that are the same have the same words.
 ghost use mathlib.Core.Path.{_≡_};
 ghost use Prim.Native.Nat.{_+_, _-_, _<_, _≤_};
-ghost use Rattle.sheet.specs.Tables.{tableWords, typesIn, labelsIn};
-ghost use Rattle.sheet_text.specs.Repeats.{mostEach, sameWords, sameIn, anyFrom, againIn, repeatsIn};
+ghost use Rattle.sheet.specs.Internal.Tables.{tableWords, typesIn, labelsIn};
+ghost use Rattle.sheet_text.specs.Internal.Repeats.{mostEach, sameWords, sameIn, anyFrom, againIn, repeatsIn};
 use labels::LABEL_SIZE;
 use sheet::LABELS;
 use sheet::PARTS;

@@ -19,11 +19,11 @@ use Rattle.script.specs.Names as names
 use Rattle.sheet.specs.Meaning as meaning
 use Rattle.sheet.specs.Sheet as sheet
 use Rattle.sheet.specs.Padding as padding
-use Rattle.sheet_text.specs.Building as building
+use Rattle.sheet_text.specs.Internal.Building as building
 use Rattle.sheet_text.specs.Reading as sheet-lines
-use Rattle.sheet_text.specs.Repeats as repeats
+use Rattle.sheet_text.specs.Internal.Repeats as repeats
 use Rattle.sheet_text.specs.Sheets as sheets
-use Rattle.script_text.specs.Parse as parse
+use Rattle.script_text.specs.Internal.Parse as parse
 use Rattle.script_text.specs.Reading as script-lines
 use Rattle.script_text.specs.Script as script
 use Rattle.memory.specs.Memory as memory

@@ -6,10 +6,10 @@ use native.Mathlib.Omega.{arith}
 use Rattle.sheet.specs.Sheet.{Sheet}
 use Rattle.sheet_text.specs.declared.Decoded.{Decoded}
 use Rattle.sheet_text.specs.Sheets.{Answer, malformed, repeating, accepted, sheetOf}
-use Rattle.sheet_text.specs.Decoded.{verdictNumber, refusedBy, decodedSheet}
+use Rattle.sheet_text.specs.Internal.Decoded.{verdictNumber, refusedBy, decodedSheet}
 use Rattle.sheet_text.proofs.Theorems.{accepted-exact}
 use Rattle.simp.specs.Calls.{onSheet}
-use Rattle.simp.specs.Stages.{TableOf}
+use Rattle.simp.specs.Internal.Stages.{TableOf}
 
 module _ {A : Type 0} (refuse : ℕ → A) (go : Sheet → A) where
   refused-by : (a : Answer) → (verdictNumber (decodedSheet a .verdict) ≡ 0 → ⊥) → refuse (verdictNumber (decodedSheet a .verdict)) ≡ onSheet refuse a go

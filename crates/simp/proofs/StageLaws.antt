@@ -11,29 +11,29 @@ use Rattle.language.specs.Syntax.{Cmd, skip, seq, assign, while, case}
 use Rattle.language.specs.Transition.{Out, done, spent, over, wrong, iterate}
 use Rattle.language.proofs.TypeSoundness.{type-soundness}
 use Rattle.script.specs.Lines.{Source, cmdLines}
-use Rattle.script.specs.Code.{lineWords, code}
+use Rattle.script.specs.Internal.Code.{lineWords, code}
 use Rattle.script.specs.Names.{named}
 use Rattle.sheet.specs.Sheet.{Sheet, locationCount}
 use Rattle.sets.specs.Sets.{within, everyone}
-use Rattle.sheet.specs.Tables.{everyoneIn}
+use Rattle.sheet.specs.Internal.Tables.{everyoneIn}
 use Rattle.sheet.proofs.TableLaws.{everyone-in}
 use Rattle.sheet.specs.Meaning.{shapesOf, worldOf}
 use Rattle.script_text.specs.declared.Script.{Script}
 use Rattle.script_text.specs.Script.{countsOf, scriptOf}
-use Rattle.script_text.specs.Decoded.{countsIn, decodedScript}
+use Rattle.script_text.specs.Internal.Decoded.{countsIn, decodedScript}
 use Rattle.script_text.proofs.ScriptLaws.{counts-table}
 use Rattle.script_text.proofs.ReadLaws.{read-split}
 use Rattle.memory.specs.Memory.{memoryOf, wellFormed, memoryRefusal}
 use Rattle.memory.specs.View.{viewWords, viewRefusal, leaves, viewLeaves}
-use Rattle.memory.specs.InTable.{refusalIn, viewRefusalIn, viewLeavesIn}
+use Rattle.memory.specs.Internal.InTable.{refusalIn, viewRefusalIn, viewLeavesIn}
 use Rattle.memory.proofs.Exactness.{memories-exactly, table-agrees}
 use Rattle.memory.proofs.MemoryLaws.{unrefused-length, unrefused-formed}
-use Rattle.checker.specs.Post.{ChecksCode}
+use Rattle.checker.specs.Internal.Post.{ChecksCode}
 use Rattle.checker.specs.Verdict.{verdictNumber}
 use Rattle.checker.specs.declared.Verdict.{Verdict}
-use Rattle.interpreter.specs.Run.{RunLeaves, Runs}
+use Rattle.interpreter.specs.Internal.Run.{RunLeaves, Runs}
 use Rattle.simp.specs.Calls.{unless, strangers, onScript, untyped, refusedRun, ended, refusedView}
-use Rattle.simp.specs.Stages.{TableOf, CodeOf, no-code, its-code, Judges, ChecksOn, RunsCode, runFrom, RunsOn, ViewsOn}
+use Rattle.simp.specs.Internal.Stages.{TableOf, CodeOf, no-code, its-code, Judges, ChecksOn, RunsCode, runFrom, RunsOn, ViewsOn}
 use Rattle.simp.proofs.Numbers.{0-typable, typable-shape}
 
 -- ---- the code of a script

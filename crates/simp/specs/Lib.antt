@@ -3,4 +3,4 @@ pub mod Texts
 pub mod Cases
 pub mod Judgements
 pub mod Demands
-pub mod Stages
+pub mod Internal

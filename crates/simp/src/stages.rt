@@ -1,7 +1,7 @@
 // What a call does once the sheet is read: the script, the checks in the order of their numbers, the run or the view.
 ghost use mathlib.Core.Path.{_≡_};
 ghost use Rattle.interpreter.specs.State.{stateNumber};
-ghost use Rattle.simp.specs.Stages.{Judges, ChecksOn, RunsCode, RunsOn, ViewsOn};
+ghost use Rattle.simp.specs.Internal.Stages.{Judges, ChecksOn, RunsCode, RunsOn, ViewsOn};
 use super::Outcome;
 use checker::Verdict;
 use interpreter::State;

@@ -10,7 +10,7 @@ use Rattle.text.specs.Reading.Read.{got, bad}
 use Rattle.text.specs.Number.{number, decimal, opensDigit}
 use Rattle.text.specs.Set.{hexSet, hex4}
 use Rattle.text.specs.Field.{numberField, setField, lineEnd, lastNumber, printNumberField, printSetField, printLineEnd}
-use Rattle.text.specs.Place.{placedDecimal, placedSet, placedEnd}
+use Rattle.text.specs.Internal.Place.{placedDecimal, placedSet, placedEnd}
 use Rattle.text.specs.Theorems.{NumberFieldExact, SetFieldExact, LineEndExact, LastNumberExact}
 use Rattle.text.specs.declared.Decimal.{Decimal}
 use Rattle.text.specs.declared.Decimal.the-variants as decimal

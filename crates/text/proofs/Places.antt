@@ -6,7 +6,7 @@ use mathlib.Core.List.{List, []}
 use lib.ListN.{length, drop, length-drop}
 use Rattle.text.specs.Reading.{Read, andThen}
 use Rattle.text.specs.Reading.Read.{got, bad}
-use Rattle.text.specs.Place.{placed, placedDecimal, placedSet, placedEnd}
+use Rattle.text.specs.Internal.Place.{placed, placedDecimal, placedSet, placedEnd}
 use Rattle.text.specs.declared.Decimal.{Decimal}
 use Rattle.text.specs.declared.Decimal.the-variants as decimal
 use Rattle.text.specs.declared.Mask.{Mask}

@@ -9,7 +9,7 @@ use lib.Seq.{sets, sets-eq}
 use lib.Dec.{ltb}
 use borrow.Author.Tests.{le-leb, lt-leb, ltb-true, ltb-false}
 use Rattle.text.specs.Number.{decimal, most}
-use Rattle.text.specs.Writing.{written, reached}
+use Rattle.text.specs.Internal.Writing.{written, reached}
 use Rattle.logic.proofs.BooleanLaws.{cases}
 use Rattle.text.proofs.Decimals.{decimal-low, decimal-more}
 

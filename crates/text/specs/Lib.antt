@@ -4,6 +4,5 @@ pub mod Number
 pub mod Set
 pub mod Field
 pub mod Lines
-pub mod Place
-pub mod Writing
 pub mod Theorems
+pub mod Internal

@@ -8,7 +8,7 @@ ghost use Rattle.text.specs.Reading.{byte as byteOf, fits as fitsOf};
 ghost use Rattle.text.specs.Number.{digits as digitsOf, number as numberOf, opensDigit};
 ghost use Rattle.text.specs.Set.{hexDigit, hexSet};
 ghost use Rattle.text.specs.Field.{numberField, setField, lineEnd, lastNumber};
-ghost use Rattle.text.specs.Place.{placedDecimal, placedSet, placedEnd};
+ghost use Rattle.text.specs.Internal.Place.{placedDecimal, placedSet, placedEnd};
 
 // The largest number of 32 bits.
 pub const MOST: u32 = 4294967295;

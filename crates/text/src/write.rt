@@ -5,7 +5,7 @@ ghost use Prim.Native.Nat.{_+_, _≤_};
 ghost use lib.ListN.{length};
 ghost use lib.Seq.{sets};
 ghost use Rattle.text.specs.Number.{decimal};
-ghost use Rattle.text.specs.Writing.{written, reached};
+ghost use Rattle.text.specs.Internal.Writing.{written, reached};
 
 // One byte at `at`; the place after it, or `at` where there is no room.
 pub fn put_byte(out: &mut [u8], at: usize, b: u8) -> usize

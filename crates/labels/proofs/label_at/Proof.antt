@@ -1,7 +1,7 @@
 use denote.Ref.{now}
 use mathlib.Core.Path.{ap, _∙_}
 use native.Mathlib.Nat.{add-zero}
-use Rattle.labels.specs.Tables.{setsAt, labelAt}
+use Rattle.labels.specs.Internal.Tables.{setsAt, labelAt}
 use borrow.Author.Needs.{needs}
 use Rattle.labels.proofs.label_at.Statement.{statement}
 use Rattle.labels.proofs.label_at.Tie as tie

@@ -1,6 +1,6 @@
 use mathlib.Core.List.{List}
 use Prim.Native.Nat.{ℕ, _+_, _≤_}
-use Rattle.labels.specs.Tables.{labelSize}
+use Rattle.labels.specs.Internal.Tables.{labelSize}
 use denote.Ref.{now}
 use mathlib.Core.Path.{sym, ap, _∙_, _≡_}
 use native.Mathlib.Omega.{arith}

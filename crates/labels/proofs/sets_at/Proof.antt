@@ -8,7 +8,7 @@ use native.Mathlib.Omega.{arith}
 use lib.ListN.{getD}
 use Rattle.sets.proofs.Walks.{filled, filled-none, fill-store, fill-end}
 use Rattle.labels.specs.Labels.{owners}
-use Rattle.labels.specs.Tables.{setsAt}
+use Rattle.labels.specs.Internal.Tables.{setsAt}
 use borrow.Author.Needs.{needs}
 use Rattle.labels.proofs.sets_at.Statement.{statement}
 use Rattle.labels.proofs.sets_at.Tie as tie

@@ -10,7 +10,7 @@ use Rattle.text.proofs.Places.{placed-got}
 use Rattle.text.proofs.Fields.{number-at, number-bad}
 use Rattle.language.specs.World.{cell-words}
 use Rattle.memory_text.specs.Reading.{lineWords}
-use Rattle.memory_text.specs.Answers.{placedRow}
+use Rattle.memory_text.specs.Internal.Answers.{placedRow}
 use Rattle.memory_text.proofs.Rows as rows
 use Rattle.memory_text.proofs.line_words.Statement.{statement}
 use Rattle.memory_text.proofs.line_words.Tie as tie

@@ -3,7 +3,7 @@ use mathlib.Core.Path.{sym, ap, _∙_}
 use borrow.Author.Needs.{needs}
 use Rattle.text.proofs.Places.{placed-got}
 use Rattle.text.proofs.Fields.{byte-at, byte-bad}
-use Rattle.memory_text.specs.Answers.{placedRow}
+use Rattle.memory_text.specs.Internal.Answers.{placedRow}
 use Rattle.memory_text.proofs.Lines.{location-blank, location-words}
 use Rattle.memory_text.proofs.location.Statement.{statement}
 use Rattle.memory_text.proofs.location.Tie as tie

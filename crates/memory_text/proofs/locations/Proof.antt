@@ -8,7 +8,7 @@ use Rattle.text.specs.Lines.{linesUpTo}
 use Rattle.sheet.specs.Sheet.{maxLocations}
 use Rattle.memory_text.specs.Sizes.{memoryWords}
 use Rattle.memory_text.specs.Reading as spec
-use Rattle.memory_text.specs.Answers.{table}
+use Rattle.memory_text.specs.Internal.Answers.{table}
 use Rattle.memory_text.proofs.Tables.{tabled, tabled-start, rest-done, rest-full, rest-bad, rest-more, row-on, row-off}
 use Rattle.memory_text.proofs.locations.Statement.{statement}
 use Rattle.memory_text.proofs.locations.Tie as tie

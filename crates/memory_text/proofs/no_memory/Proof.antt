@@ -1,6 +1,6 @@
 -- `memory_text::no_memory` meets its contract. Assumes nothing.
 use mathlib.Core.Path.{refl}
-use Rattle.memory_text.specs.Answers.{table}
+use Rattle.memory_text.specs.Internal.Answers.{table}
 use Rattle.memory_text.proofs.no_memory.Statement.{statement}
 use Rattle.memory_text.proofs.no_memory.Tie as tie
 

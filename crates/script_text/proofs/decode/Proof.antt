@@ -7,7 +7,7 @@ use borrow.Author.Tests.{not-true, not-false}
 use lib.ListN.{length, drop, length-set}
 use Rattle.text.specs.Lines.{linesUpTo}
 use Rattle.script_text.specs.Reading.{maxLines, lineOf, linesOf}
-use Rattle.script_text.specs.Decoded.{codeWords, noCode, codedLines}
+use Rattle.script_text.specs.Internal.Decoded.{codeWords, noCode, codedLines}
 use Rattle.script_text.proofs.CodeLaws.{tabled, table-done, table-full, table-bad, table-more, decode-start, decode-long}
 use Rattle.script_text.proofs.decode.Statement.{statement}
 use Rattle.script_text.proofs.decode.Tie as tie

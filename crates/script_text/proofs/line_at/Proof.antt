@@ -2,9 +2,9 @@
 use mathlib.Core.Path.{refl, ap}
 use borrow.Author.Needs.{needs}
 use Rattle.script.specs.Lines.{l-skip, l-seq, l-assign, l-while, l-case, l-int, l-loc, l-var, l-plus, l-left, l-right, l-pack, l-unpack}
-use Rattle.script.specs.Code.{lineWords}
+use Rattle.script.specs.Internal.Code.{lineWords}
 use Rattle.script_text.specs.Reading.{bare, one, two, formOf}
-use Rattle.script_text.specs.Placed.{rowOf}
+use Rattle.script_text.specs.Internal.Placed.{rowOf}
 use Rattle.script_text.proofs.FoundLaws.{line-none, line-kind, line-other, other-form}
 use Rattle.script_text.proofs.line_at.Statement.{statement}
 use Rattle.script_text.proofs.line_at.Tie as tie

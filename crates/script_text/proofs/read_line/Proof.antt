@@ -1,7 +1,7 @@
 -- `script_text::read_line` meets its contract. Assumes nothing.
 use mathlib.Core.Path.{sym, ap, _∙_}
 use borrow.Author.Needs.{needs}
-use Rattle.script_text.specs.Placed.{reached}
+use Rattle.script_text.specs.Internal.Placed.{reached}
 use Rattle.script_text.proofs.read_line.Statement.{statement}
 use Rattle.script_text.proofs.read_line.Tie as tie
 

@@ -1,6 +1,6 @@
 -- `script_text::refused` meets its contract. Assumes nothing.
 use mathlib.Core.Path.{refl}
-use Rattle.script_text.specs.Decoded.{noCode}
+use Rattle.script_text.specs.Internal.Decoded.{noCode}
 use Rattle.script_text.proofs.refused.Statement.{statement}
 use Rattle.script_text.proofs.refused.Tie as tie
 

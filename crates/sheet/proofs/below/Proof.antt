@@ -1,6 +1,6 @@
 -- `sheet::below` meets its contract. Assumes nothing.
 use borrow.Author.Needs.{needs}
-use Rattle.sheet.specs.Tables.{belowIn}
+use Rattle.sheet.specs.Internal.Tables.{belowIn}
 use Rattle.sheet.proofs.below.Statement.{statement}
 use Rattle.sheet.proofs.below.Tie as tie
 

@@ -3,7 +3,7 @@ use borrow.Author.Needs.{needs}
 use mathlib.Core.Path.{refl}
 use borrow.Author.Tests.{lt-leb, le-leb}
 use Rattle.logic.specs.Booleans.{both}
-use Rattle.sheet.specs.TypeTest.{isSum}
+use Rattle.sheet.specs.Internal.TypeTest.{isSum}
 use Rattle.sheet.proofs.is_sum.Statement.{statement}
 use Rattle.sheet.proofs.is_sum.Tie as tie
 

@@ -1,4 +1,4 @@
-use Rattle.sheet.specs.Tables.{leftIn}
+use Rattle.sheet.specs.Internal.Tables.{leftIn}
 use borrow.Author.Needs.{needs}
 use Rattle.sheet.proofs.left_part.Statement.{statement}
 use Rattle.sheet.proofs.left_part.Tie as tie

@@ -1,4 +1,4 @@
-use Rattle.sheet.specs.Tables.{homeIn}
+use Rattle.sheet.specs.Internal.Tables.{homeIn}
 use borrow.Author.Needs.{needs}
 use Rattle.sheet.proofs.location_label.Statement.{statement}
 use Rattle.sheet.proofs.location_label.Tie as tie

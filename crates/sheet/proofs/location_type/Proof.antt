@@ -1,4 +1,4 @@
-use Rattle.sheet.specs.Tables.{typeIn}
+use Rattle.sheet.specs.Internal.Tables.{typeIn}
 use borrow.Author.Needs.{needs}
 use Rattle.sheet.proofs.location_type.Statement.{statement}
 use Rattle.sheet.proofs.location_type.Tie as tie

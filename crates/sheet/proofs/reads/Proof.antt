@@ -1,6 +1,6 @@
 -- `sheet::reads` meets its contract. Assumes nothing.
 use borrow.Author.Needs.{needs}
-use Rattle.sheet.specs.Tables.{readsIn}
+use Rattle.sheet.specs.Internal.Tables.{readsIn}
 use Rattle.sheet.proofs.reads.Statement.{statement}
 use Rattle.sheet.proofs.reads.Tie as tie
 

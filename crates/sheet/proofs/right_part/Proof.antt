@@ -1,4 +1,4 @@
-use Rattle.sheet.specs.Tables.{rightIn}
+use Rattle.sheet.specs.Internal.Tables.{rightIn}
 use borrow.Author.Needs.{needs}
 use Rattle.sheet.proofs.right_part.Statement.{statement}
 use Rattle.sheet.proofs.right_part.Tie as tie

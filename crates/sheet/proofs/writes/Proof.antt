@@ -1,6 +1,6 @@
 -- `sheet::writes` meets its contract. Assumes nothing.
 use borrow.Author.Needs.{needs}
-use Rattle.sheet.specs.Tables.{writesIn}
+use Rattle.sheet.specs.Internal.Tables.{writesIn}
 use Rattle.sheet.proofs.writes.Statement.{statement}
 use Rattle.sheet.proofs.writes.Tie as tie
 

@@ -2,7 +2,7 @@
 use mathlib.Core.Path.{sym, _∙_}
 use borrow.Author.Tests.{not-true, not-false}
 use Rattle.sheet_text.specs.Sheets.{sheetOf}
-use Rattle.sheet_text.specs.Decoded.{refusedBy}
+use Rattle.sheet_text.specs.Internal.Decoded.{refusedBy}
 use Rattle.sheet_text.proofs.ReadLaws.{formed-read, counts-few, answer-malformed, answer-repeating, answer-accepted}
 use borrow.Author.Needs.{needs}
 use Rattle.sheet_text.proofs.fill.Statement.{statement}

@@ -1,7 +1,7 @@
 -- `sheet_text::number` meets its contract. Assumes nothing.
 use mathlib.Core.Path.{sym, ap}
 use borrow.Author.Needs.{needs}
-use Rattle.sheet_text.specs.Decoded.{verdictNumber}
+use Rattle.sheet_text.specs.Internal.Decoded.{verdictNumber}
 use Rattle.sheet_text.proofs.number.Statement.{statement}
 use Rattle.sheet_text.proofs.number.Tie as tie
 

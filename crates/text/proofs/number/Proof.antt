@@ -4,7 +4,7 @@ use native.Mathlib.Omega.{arith}
 use mathlib.Core.Path.{sym, ap, _∙_}
 use lib.ListN.{length}
 use borrow.Author.Needs.{needs}
-use Rattle.text.specs.Place.{placedDecimal}
+use Rattle.text.specs.Internal.Place.{placedDecimal}
 use Rattle.text.proofs.Places.{decimal-got, decimal-none}
 use Rattle.text.proofs.Numbers.{opens-inside, number-none, number-at-long, number-at-zero, number-at-on}
 use Rattle.text.proofs.number.Statement.{statement}

@@ -1,7 +1,7 @@
 -- `text::number_field` meets its contract. Assumes nothing.
 use mathlib.Core.Path.{sym, ap, _∙_}
 use borrow.Author.Needs.{needs}
-use Rattle.text.specs.Place.{placedDecimal}
+use Rattle.text.specs.Internal.Place.{placedDecimal}
 use Rattle.text.proofs.Places.{decimal-none}
 use Rattle.text.proofs.Fields.{byte-at, byte-bad, number-field-on, number-field-none}
 use Rattle.text.proofs.number_field.Statement.{statement}

@@ -1,7 +1,7 @@
 -- `text::set_field` meets its contract. Assumes nothing.
 use mathlib.Core.Path.{sym, ap, _∙_}
 use borrow.Author.Needs.{needs}
-use Rattle.text.specs.Place.{placedSet}
+use Rattle.text.specs.Internal.Place.{placedSet}
 use Rattle.text.proofs.Places.{mask-none}
 use Rattle.text.proofs.Fields.{byte-at, byte-bad, set-field-on, set-field-none}
 use Rattle.text.proofs.set_field.Statement.{statement}

@@ -1,5 +1,5 @@
 use mathlib.Core.Path.{refl}
-use Rattle.checker.specs.Bindings.{bindOf}
+use Rattle.checker.specs.Internal.Bindings.{bindOf}
 use borrow.Author.Needs.{needs}
 use Rattle.checker.proofs.bindings.bind.Statement.{statement}
 use Rattle.checker.proofs.bindings.bind.Tie as tie

@@ -1,6 +1,6 @@
-use Rattle.checker.specs.Members.{flowsIn}
+use Rattle.checker.specs.Internal.Members.{flowsIn}
 use Rattle.logic.specs.Booleans.{both}
-use Rattle.checker.specs.Nodes.{assignPassed}
+use Rattle.checker.specs.Internal.Nodes.{assignPassed}
 use borrow.Author.Needs.{needs}
 use Rattle.checker.proofs.commands.of_assign.Statement.{statement}
 use Rattle.checker.proofs.commands.of_assign.Tie as tie

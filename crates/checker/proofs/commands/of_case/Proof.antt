@@ -1,6 +1,6 @@
 use borrow.Author.Needs.{needs}
 use Rattle.logic.specs.Booleans.{both}
-use Rattle.checker.specs.Nodes.{casePassed}
+use Rattle.checker.specs.Internal.Nodes.{casePassed}
 use Rattle.checker.proofs.commands.of_case.Statement.{statement}
 use Rattle.checker.proofs.commands.of_case.Tie as tie
 

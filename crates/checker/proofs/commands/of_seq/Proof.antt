@@ -1,5 +1,5 @@
 use Rattle.logic.specs.Booleans.{both}
-use Rattle.checker.specs.Nodes.{seqPassed}
+use Rattle.checker.specs.Internal.Nodes.{seqPassed}
 use Rattle.checker.proofs.commands.of_seq.Statement.{statement}
 use Rattle.checker.proofs.commands.of_seq.Tie as tie
 

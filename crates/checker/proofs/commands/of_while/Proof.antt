@@ -1,6 +1,6 @@
 use borrow.Author.Needs.{needs}
 use Rattle.logic.specs.Booleans.{both}
-use Rattle.checker.specs.Nodes.{whilePassed}
+use Rattle.checker.specs.Internal.Nodes.{whilePassed}
 use Rattle.checker.proofs.commands.of_while.Statement.{statement}
 use Rattle.checker.proofs.commands.of_while.Tie as tie
 

@@ -1,5 +1,5 @@
 use Rattle.logic.specs.Booleans.{both}
-use Rattle.checker.specs.Nodes.{isType}
+use Rattle.checker.specs.Internal.Nodes.{isType}
 use Rattle.checker.proofs.expressions.is_type.Statement.{statement}
 use Rattle.checker.proofs.expressions.is_type.Tie as tie
 

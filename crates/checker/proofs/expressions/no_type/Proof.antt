@@ -1,4 +1,4 @@
-use Rattle.checker.specs.Nodes.{nothing}
+use Rattle.checker.specs.Internal.Nodes.{nothing}
 use mathlib.Core.Path.{refl}
 use Rattle.checker.proofs.expressions.no_type.Statement.{statement}
 use Rattle.checker.proofs.expressions.no_type.Tie as tie

@@ -1,4 +1,4 @@
-use Rattle.checker.specs.Nodes.{intTyped}
+use Rattle.checker.specs.Internal.Nodes.{intTyped}
 use mathlib.Core.Path.{refl}
 use Rattle.checker.proofs.expressions.of_int.Statement.{statement}
 use Rattle.checker.proofs.expressions.of_int.Tie as tie

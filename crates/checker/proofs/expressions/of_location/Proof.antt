@@ -1,4 +1,4 @@
-use Rattle.checker.specs.Nodes.{locTyped}
+use Rattle.checker.specs.Internal.Nodes.{locTyped}
 use borrow.Author.Needs.{needs}
 use Rattle.checker.proofs.expressions.of_location.Statement.{statement}
 use Rattle.checker.proofs.expressions.of_location.Tie as tie

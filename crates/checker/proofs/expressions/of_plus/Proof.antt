@@ -1,5 +1,5 @@
 use Rattle.logic.specs.Booleans.{both}
-use Rattle.checker.specs.Nodes.{plusTyped}
+use Rattle.checker.specs.Internal.Nodes.{plusTyped}
 use borrow.Author.Needs.{needs}
 use Rattle.checker.proofs.expressions.of_plus.Statement.{statement}
 use Rattle.checker.proofs.expressions.of_plus.Tie as tie

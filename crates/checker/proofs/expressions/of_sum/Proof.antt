@@ -1,6 +1,6 @@
 use borrow.Author.Needs.{needs}
 use Rattle.logic.specs.Booleans.{both}
-use Rattle.checker.specs.Nodes.{sumTyped}
+use Rattle.checker.specs.Internal.Nodes.{sumTyped}
 use Rattle.checker.proofs.expressions.of_sum.Statement.{statement}
 use Rattle.checker.proofs.expressions.of_sum.Tie as tie
 

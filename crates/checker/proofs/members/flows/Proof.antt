@@ -4,8 +4,8 @@ use Prim.Native.Nat.{ℕ}
 use mathlib.Core.List.{List}
 use Rattle.labels.specs.declared.Label.{Label}
 use Rattle.labels.specs.Labels.{belowOf, confidentialityOf}
-use Rattle.sheet.specs.Tables.{labelIn}
-use Rattle.checker.specs.Members.{joinIn, flowsIn}
+use Rattle.sheet.specs.Internal.Tables.{labelIn}
+use Rattle.checker.specs.Internal.Members.{joinIn, flowsIn}
 use borrow.Author.Needs.{needs}
 use Rattle.checker.proofs.members.flows.Statement.{statement}
 use Rattle.checker.proofs.members.flows.Tie as tie

@@ -6,7 +6,7 @@ use native.Mathlib.Omega.{arith}
 use borrow.Author.Tests.{eq-eqb, ne-eqb}
 use Rattle.sets.specs.Sets.{member}
 use Rattle.labels.specs.Labels.{joinOf}
-use Rattle.checker.specs.Members.{joinUpTo, maxMembers, joinIn}
+use Rattle.checker.specs.Internal.Members.{joinUpTo, maxMembers, joinIn}
 use Rattle.checker.proofs.MemberLaws.{up-to-with, up-to-without}
 use borrow.Author.Needs.{needs}
 use Rattle.checker.proofs.members.joined.Statement.{statement}

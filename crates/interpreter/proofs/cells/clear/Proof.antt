@@ -7,7 +7,7 @@ use lib.ListN.{length, length-set}
 use lib.Seq.{paste, paste-zero}
 use Rattle.language.specs.World.{cell-words}
 use Rattle.memory.specs.Words.{zeros}
-use Rattle.interpreter.specs.Cells.{cellCount}
+use Rattle.interpreter.specs.Internal.Cells.{cellCount}
 use Rattle.interpreter.proofs.CellLaws.{room-left, clear-turn, store-past, store-done, copy-done}
 use Rattle.interpreter.proofs.cells.clear.Statement.{statement}
 use Rattle.interpreter.proofs.cells.clear.Tie as tie

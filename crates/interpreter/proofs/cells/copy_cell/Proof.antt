@@ -2,7 +2,7 @@
 use borrow.Author.Needs.{needs}
 use mathlib.Core.Path.{sym}
 use native.Mathlib.Omega.{arith}
-use Rattle.interpreter.specs.Cells.{cellCount}
+use Rattle.interpreter.specs.Internal.Cells.{cellCount}
 use Rattle.interpreter.proofs.CellLaws.{room-left, store-past, copy-cell-past, copy-cell-done, cells-apart}
 use Rattle.interpreter.proofs.cells.copy_cell.Statement.{statement}
 use Rattle.interpreter.proofs.cells.copy_cell.Tie as tie

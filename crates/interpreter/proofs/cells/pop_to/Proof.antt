@@ -2,7 +2,7 @@
 use borrow.Author.Needs.{needs}
 use mathlib.Core.Path.{sym, refl}
 use native.Mathlib.Omega.{arith}
-use Rattle.interpreter.specs.Cells.{cellCount}
+use Rattle.interpreter.specs.Internal.Cells.{cellCount}
 use Rattle.interpreter.proofs.CellLaws.{room-left, store-past, inside-apart, pop-done}
 use Rattle.interpreter.proofs.cells.pop_to.Statement.{statement}
 use Rattle.interpreter.proofs.cells.pop_to.Tie as tie

@@ -7,7 +7,7 @@ use native.Mathlib.Omega.{arith}
 use lib.ListN.{length, getD, length-set}
 use lib.Seq.{paste, paste-zero}
 use Rattle.language.specs.World.{cell-words}
-use Rattle.interpreter.specs.Cells.{cellCount}
+use Rattle.interpreter.specs.Internal.Cells.{cellCount}
 use Rattle.interpreter.proofs.CellLaws.{room-left, store-past, push-turn, push-held, push-done, copy-done}
 use Rattle.interpreter.proofs.cells.push.Statement.{statement}
 use Rattle.interpreter.proofs.cells.push.Tie as tie

@@ -6,7 +6,7 @@ use mathlib.Core.List.{List}
 use Prim.Native.Nat.{ℕ, _<_, _-_}
 use native.Mathlib.Omega.{arith}
 use lib.ListN.{length}
-use Rattle.interpreter.specs.Post.{Execs}
+use Rattle.interpreter.specs.Internal.Post.{Execs}
 use Rattle.script.proofs.Rows.{row-within}
 use Rattle.interpreter.proofs.NumberLaws.{not-done, is-done}
 use Rattle.interpreter.proofs.CommandLaws as laws

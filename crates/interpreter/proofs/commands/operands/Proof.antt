@@ -1,6 +1,6 @@
 -- `interpreter::commands::operands` meets its contract. Assumes nothing.
 use mathlib.Core.Path.{sym, ap}
-use Rattle.interpreter.specs.Post.{operandsOf}
+use Rattle.interpreter.specs.Internal.Post.{operandsOf}
 use Rattle.interpreter.proofs.SkipLaws.{operands-none}
 use Rattle.interpreter.proofs.commands.operands.Statement.{statement}
 use Rattle.interpreter.proofs.commands.operands.Tie as tie

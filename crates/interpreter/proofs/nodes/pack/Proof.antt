@@ -2,7 +2,7 @@
 use borrow.Author.Needs.{needs}
 use borrow.Author.Tests.{not-true, not-false}
 use mathlib.Core.Path.{refl}
-use Rattle.interpreter.specs.Cells.{pushOf}
+use Rattle.interpreter.specs.Internal.Cells.{pushOf}
 use Rattle.interpreter.proofs.CellLaws.{after, length-push, length-load}
 use Rattle.interpreter.proofs.NumberLaws.{not-done, is-done}
 use Rattle.interpreter.proofs.NodeLaws as laws

@@ -1,7 +1,7 @@
 -- `interpreter::nodes::refusal` meets its contract. Assumes nothing.
 use borrow.Author.Needs.{needs}
 use mathlib.Core.Path.{sym, ap, _∙_}
-use Rattle.sheet.specs.TypeTest.{hasNo}
+use Rattle.sheet.specs.Internal.TypeTest.{hasNo}
 use borrow.Author.Tests.{not-true, not-false}
 use Rattle.interpreter.proofs.NodeLaws as laws
 use Rattle.interpreter.proofs.nodes.refusal.Statement.{statement}

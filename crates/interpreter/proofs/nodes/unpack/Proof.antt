@@ -1,7 +1,7 @@
 -- `interpreter::nodes::unpack` meets its contract. Assumes nothing.
 use borrow.Author.Needs.{needs}
 use mathlib.Core.Path.{refl}
-use Rattle.interpreter.specs.Cells.{pushOf, popOf}
+use Rattle.interpreter.specs.Internal.Cells.{pushOf, popOf}
 use Rattle.interpreter.proofs.CellLaws.{after, length-pop, length-load}
 use Rattle.interpreter.proofs.NumberLaws.{not-done, is-done}
 use Rattle.interpreter.proofs.NodeLaws as laws

@@ -9,7 +9,7 @@ use types.Run.{OneOf}
 use Rattle.sheet_text.specs.declared.line.Line.{Line}
 use Rattle.sheet_text.specs.declared.line.Line.the-variants.{P, T, L, O, X}
 use Rattle.sheet_text.proofs.line.Line.{the-type}
-use Rattle.sheet_text.specs.Building.{begin}
+use Rattle.sheet_text.specs.Internal.Building.{begin}
 use Rattle.sheet_text.proofs.DraftLaws.{begin-holds, holds-none}
 use borrow.Author.Needs.{needs}
 use Rattle.sheet_text.proofs.draft.begin.Statement.{statement}

@@ -7,8 +7,8 @@ use lib.ListN.{length, drop}
 use Rattle.sheet.specs.Sheet.{Sheet}
 use Rattle.text.specs.Reading.Read.{got}
 use Rattle.sheet_text.specs.Reading.{lineOf, linesOf}
-use Rattle.sheet_text.specs.Building.{stepOn}
-use Rattle.sheet_text.specs.Drafts.{DraftHolds, FormedIf, stepsRead}
+use Rattle.sheet_text.specs.Internal.Building.{stepOn}
+use Rattle.sheet_text.specs.Internal.Drafts.{DraftHolds, FormedIf, stepsRead}
 use Rattle.sheet_text.proofs.FoundLaws.{line-found, line-missed, line-onward}
 use Rattle.sheet_text.proofs.DraftLaws.{holds-none, formed-stepped}
 use Rattle.sheet_text.proofs.ReadLaws.{steps-on, steps-bad, steps-end}

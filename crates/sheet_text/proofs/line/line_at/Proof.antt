@@ -1,6 +1,6 @@
 -- `sheet_text::line::line_at` meets its contract. Assumes nothing.
 use mathlib.Core.Path.{sym, ap, _∙_}
-use Rattle.sheet_text.specs.Placed.{placedLine}
+use Rattle.sheet_text.specs.Internal.Placed.{placedLine}
 use Rattle.sheet_text.proofs.FoundLaws.{found-none, line-past, line-principals, line-sum, line-label, line-policy, line-location, line-other}
 use borrow.Author.Needs.{needs}
 use Rattle.sheet_text.proofs.line.line_at.Statement.{statement}

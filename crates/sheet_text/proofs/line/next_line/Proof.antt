@@ -1,6 +1,6 @@
 -- `sheet_text::line::next_line` meets its contract: it takes the reader apart, calls `read_line` and gives the reader after the line. Assumes nothing.
 use Rattle.reader.proofs.Advanced.{advanced}
-use Rattle.sheet_text.specs.Placed.{lineAt}
+use Rattle.sheet_text.specs.Internal.Placed.{lineAt}
 use Rattle.sheet_text.proofs.Readers.{lines}
 use Rattle.sheet_text.proofs.line.read_line.Symbol as callee
 use Rattle.sheet_text.proofs.line.read_line.Met as callee-thm

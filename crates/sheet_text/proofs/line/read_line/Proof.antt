@@ -1,7 +1,7 @@
 -- `sheet_text::line::read_line` meets its contract. Assumes nothing.
 use mathlib.Core.Path.{sym, ap, _∙_}
 use borrow.Author.Needs.{needs}
-use Rattle.sheet_text.specs.Placed.{reached}
+use Rattle.sheet_text.specs.Internal.Placed.{reached}
 use Rattle.sheet_text.proofs.line.read_line.Statement.{statement}
 use Rattle.sheet_text.proofs.line.read_line.Tie as tie
 

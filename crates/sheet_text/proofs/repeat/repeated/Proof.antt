@@ -2,7 +2,7 @@
 use mathlib.Core.Path.{_≡_, refl, sym, _∙_}
 use Prim.Native.Nat.{_-_}
 use native.Mathlib.Omega.{arith}
-use Rattle.sheet_text.specs.Repeats.{anyFrom, againIn}
+use Rattle.sheet_text.specs.Internal.Repeats.{anyFrom, againIn}
 use Rattle.sheet_text.proofs.RepeatFinds.{any-end, any-here, any-on}
 use borrow.Author.Needs.{needs}
 use Rattle.sheet_text.proofs.repeat.repeated.Statement.{statement}

@@ -9,7 +9,7 @@ use lib.ListN.{getD}
 use borrow.Author.Count.{below-more}
 use borrow.Author.Tests.{eq-eqb, ne-eqb}
 use Rattle.sets.proofs.Walks.{every-true, every-false}
-use Rattle.sheet_text.specs.Repeats.{sameWords}
+use Rattle.sheet_text.specs.Internal.Repeats.{sameWords}
 use borrow.Author.Needs.{needs}
 use Rattle.sheet_text.proofs.repeat.same_words.Statement.{statement}
 use Rattle.sheet_text.proofs.repeat.same_words.Tie as tie

@@ -3,10 +3,10 @@ use mathlib.Core.List.{List, []}
 use Prim.Native.Nat.{ℕ}
 use lib.ListN.{getD, drop}
 use Rattle.text.specs.Reading.{Read}
-use Rattle.text.specs.Place.{placed}
+use Rattle.text.specs.Internal.Place.{placed}
 use Rattle.script.specs.declared.Row.{Row}
 use Rattle.script.specs.Lines.{Line}
-use Rattle.script.specs.Code.{lineWords}
+use Rattle.script.specs.Internal.Code.{lineWords}
 use Rattle.script_text.specs.declared.Found.{Found}
 use Rattle.script_text.specs.declared.Found.the-variants as found
 use Rattle.script_text.specs.declared.LineRead.the-variants as read

@@ -7,7 +7,7 @@ use lib.Seq.{sets}
 use lib.Dec.{eqb, leb}
 use Rattle.text.specs.Reading.{Read}
 use Rattle.text.specs.Reading.Read.{got, bad}
-use Rattle.text.specs.Place.{placed}
+use Rattle.text.specs.Internal.Place.{placed}
 use Rattle.language.specs.World.{cell-words}
 use Rattle.memory_text.specs.Sizes.{memoryWords, lineRoom}
 use Rattle.memory_text.specs.declared.Memory.{Memory}

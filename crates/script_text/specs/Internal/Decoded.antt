@@ -5,10 +5,10 @@ use Prim.Native.Nat.{ℕ}
 use lib.ListN.{length, replicate}
 use Rattle.language.specs.Syntax.{Cmd}
 use Rattle.script.specs.Lines.{Line, cmdLines}
-use Rattle.script.specs.Code.{code}
+use Rattle.script.specs.Internal.Code.{code}
 use Rattle.script.specs.Names.{Counts}
 use Rattle.sheet.specs.Padding.{padded}
-use Rattle.sheet.specs.Tables.{typesIn, labelsIn, locationsIn}
+use Rattle.sheet.specs.Internal.Tables.{typesIn, labelsIn, locationsIn}
 use Rattle.script_text.specs.declared.Script.{Script}
 
 -- how many types, labels and locations there are by what a table says

@@ -9,12 +9,12 @@ use lib.ListN.{getD, set}
 use Rattle.logic.specs.Booleans.{both}
 use Rattle.sets.specs.Sets.{width, everyone, restrict}
 use Rattle.labels.specs.Labels.{openOf, policyOf}
-use Rattle.labels.specs.Tables.{labelSize, labelPut}
+use Rattle.labels.specs.Internal.Tables.{labelSize, labelPut}
 use Rattle.sheet.specs.Sheet.{Sheet, formed, maxPrincipals, maxLabels, maxLocations}
-use Rattle.sheet.specs.Tables.{labelsBase, tableOf, principalsIn, everyoneIn, typesIn, labelsIn, locationsIn, labelIn}
+use Rattle.sheet.specs.Internal.Tables.{labelsBase, tableOf, principalsIn, everyoneIn, typesIn, labelsIn, locationsIn, labelIn}
 use Rattle.sheet_text.specs.declared.line.Line.{Line}
 use Rattle.sheet_text.specs.declared.draft.Draft.{Draft}
-use Rattle.sheet_text.specs.Building.{leastOwner, steps}
+use Rattle.sheet_text.specs.Internal.Building.{leastOwner, steps}
 
 -- a draft and a table are those of a sheet of the right form, or the draft is a refusal, whatever the table
 unfoldable pub DraftHolds : Option Sheet → Draft → List ℕ → Type 0

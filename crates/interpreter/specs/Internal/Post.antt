@@ -10,12 +10,12 @@ use Rattle.language.specs.Substitution.{Env, close}
 use Rattle.language.specs.Evaluation.{Res, ok, long, stuck, eval}
 use Rattle.language.specs.Transition.{Out, done, spent, over, wrong, iterate}
 use Rattle.script.specs.Lines.{Line, SourceE, Source, exprLines, cmdLines}
-use Rattle.script.specs.Code.{code}
+use Rattle.script.specs.Internal.Code.{code}
 use Rattle.script.specs.Names.{Counts, namedE, named, maxDepth}
 use Rattle.memory.specs.Words.{cell}
 use Rattle.memory.specs.Memory.{cellOf}
-use Rattle.interpreter.specs.Cells.{accumulator, CellsHold}
-use Rattle.interpreter.specs.Nodes.{Yields, Tells}
+use Rattle.interpreter.specs.Internal.Cells.{accumulator, CellsHold}
+use Rattle.interpreter.specs.Internal.Nodes.{Yields, Tells}
 
 -- ---- places in the code
 

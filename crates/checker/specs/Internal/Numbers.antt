@@ -10,10 +10,10 @@ use Rattle.logic.specs.Booleans.{both}
 use Rattle.language.specs.Syntax.{Expr, val, loc, var, plus, left, right, pack, unpack, Cmd, skip, seq, assign, while, case}
 use Rattle.language.specs.Declarations.{nth}
 use Rattle.language.specs.Typing.{Conditions}
-use Rattle.sheet.specs.TypeTest.{isSum}
-use Rattle.sheet.specs.Tables.{everyoneIn, leftIn, rightIn, typeIn, homeIn, labelIn}
+use Rattle.sheet.specs.Internal.TypeTest.{isSum}
+use Rattle.sheet.specs.Internal.Tables.{everyoneIn, leftIn, rightIn, typeIn, homeIn, labelIn}
 use Rattle.sets.specs.Sets.{union}
-use Rattle.checker.specs.Members.{labelMember, integrityMember, joinIn}
+use Rattle.checker.specs.Internal.Members.{labelMember, integrityMember, joinIn}
 
 -- o is the type number n
 unfoldable pub isNo : ℕ → Option ℕ → Bool

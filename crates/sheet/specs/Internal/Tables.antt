@@ -6,7 +6,7 @@ use lib.Dec.{ltb}
 use lib.ListN.{length, getD, replicate}
 use Rattle.sets.specs.Sets.{everyone}
 use Rattle.labels.specs.Labels.{bottomOf, belowOf, readsOf, writesOf}
-use Rattle.labels.specs.Tables.{labelSize, labelWords, labelAt}
+use Rattle.labels.specs.Internal.Tables.{labelSize, labelWords, labelAt}
 use Rattle.labels.specs.declared.Label.{Label}
 use Rattle.sheet.specs.Padding.{padded}
 use Rattle.sheet.specs.Sheet.{Sum, Location, Sheet, partsOf, typeCount, labelsOf, labelCount, locationCount, maxTypes, maxLabels, maxLocations}

@@ -8,10 +8,10 @@ use lib.ListN.{length}
 use Rattle.language.specs.Syntax.{Cmd}
 use Rattle.language.specs.Transition.{iterate}
 use Rattle.script.specs.Lines.{Source, cmdLines}
-use Rattle.script.specs.Code.{code}
+use Rattle.script.specs.Internal.Code.{code}
 use Rattle.script.specs.Names.{named}
 use Rattle.sheet.specs.Sheet.{Sheet, formed, repeats, locationCount}
-use Rattle.sheet.specs.Tables.{tableOf}
+use Rattle.sheet.specs.Internal.Tables.{tableOf}
 use Rattle.sheet.specs.Meaning.{worldOf}
 use Rattle.script_text.specs.Script.{countsOf, scriptOf}
 use Rattle.memory.specs.Memory.{memoryOf, memoryRefusal}

@@ -8,10 +8,10 @@ use Rattle.language.specs.Syntax.{Cmd}
 use Rattle.language.specs.World.{cell-words}
 use Rattle.language.specs.Transition.{Out, done, spent, over, wrong, iterate}
 use Rattle.script.specs.Lines.{Source, cmdLines}
-use Rattle.script.specs.Code.{code}
+use Rattle.script.specs.Internal.Code.{code}
 use Rattle.script.specs.Names.{Counts, named}
 use Rattle.sheet.specs.Sheet.{Sheet, locationCount, formed}
-use Rattle.sheet.specs.Tables.{tableOf}
+use Rattle.sheet.specs.Internal.Tables.{tableOf}
 use Rattle.sheet.specs.Meaning.{worldOf}
 use Rattle.memory.specs.Memory.{memoryOf, wordsOf, wellFormed}
 

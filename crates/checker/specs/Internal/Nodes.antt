@@ -7,12 +7,12 @@ use Rattle.sets.specs.Sets.{union}
 use Rattle.labels.specs.Labels.{belowOf, confidentialityOf}
 use Rattle.logic.specs.Booleans.{both}
 use Rattle.script.specs.Names.{maxDepth}
-use Rattle.sheet.specs.Tables.{rightIn, typeIn, homeIn, labelIn}
+use Rattle.sheet.specs.Internal.Tables.{rightIn, typeIn, homeIn, labelIn}
 use Rattle.checker.specs.declared.Typed.{Typed}
 use Rattle.checker.specs.declared.Passed.{Passed}
-use Rattle.sheet.specs.TypeTest.{isSum}
-use Rattle.checker.specs.Members.{labelMember, integrityMember, joinIn}
-use Rattle.checker.specs.Bindings.{boundType, boundLabel}
+use Rattle.sheet.specs.Internal.TypeTest.{isSum}
+use Rattle.checker.specs.Internal.Members.{labelMember, integrityMember, joinIn}
+use Rattle.checker.specs.Internal.Bindings.{boundType, boundLabel}
 
 -- the expression has the type number n
 unfoldable pub isType : Typed → ℕ → Bool

@@ -7,8 +7,8 @@ use lib.ListN.{length}
 use Rattle.language.specs.Syntax.{Value}
 use Rattle.sheet.specs.Sheet.{Sheet}
 use Rattle.sheet.specs.Meaning.{readsNo}
-use Rattle.sheet.specs.Tables.{tableOf, labelsIn, locationsIn, typeIn, homeIn, readsIn}
-use Rattle.sheet.specs.TypeTest.{hasNo}
+use Rattle.sheet.specs.Internal.Tables.{tableOf, labelsIn, locationsIn, typeIn, homeIn, readsIn}
+use Rattle.sheet.specs.Internal.TypeTest.{hasNo}
 use Rattle.memory.specs.Memory.{memoryOf, formedBy, sliceRefusal, refusalBy, memoryRefusal}
 use Rattle.memory.specs.View.{viewBy, viewWords, viewRefusal, leaves, viewLeaves}
 

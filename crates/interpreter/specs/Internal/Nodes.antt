@@ -7,11 +7,11 @@ use lib.ListN.{length, drop, getD}
 use Rattle.language.specs.Syntax.{Value, size, has}
 use Rattle.language.specs.World.{World, cell-words, wanted}
 use Rattle.language.specs.Evaluation.{Res, ok, long, stuck, bind, fit, add, packed, unpacked}
-use Rattle.sheet.specs.Tables.{leftIn, belowIn, readsIn, writesIn}
-use Rattle.sheet.specs.TypeTest.{hasNo}
+use Rattle.sheet.specs.Internal.Tables.{leftIn, belowIn, readsIn, writesIn}
+use Rattle.sheet.specs.Internal.TypeTest.{hasNo}
 use Rattle.memory.specs.Words.{enc, cell}
 use Rattle.memory.specs.Memory.{cellOf}
-use Rattle.interpreter.specs.Cells.{accumulator}
+use Rattle.interpreter.specs.Internal.Cells.{accumulator}
 
 -- ---- answers
 

@@ -3,7 +3,7 @@ use mathlib.Core.List.{List}
 use Prim.Native.Nat.{ℕ}
 use lib.ListN.{drop}
 use Rattle.text.specs.Reading.{Read}
-use Rattle.text.specs.Place.{placed}
+use Rattle.text.specs.Internal.Place.{placed}
 use Rattle.sheet_text.specs.declared.line.Line.{Line}
 use Rattle.sheet_text.specs.declared.line.Found.{Found}
 use Rattle.sheet_text.specs.declared.line.Found.the-variants as found

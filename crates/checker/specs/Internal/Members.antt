@@ -8,7 +8,7 @@ use Rattle.sets.specs.Sets.{member, single}
 use Rattle.labels.specs.declared.Label.{Label}
 use Rattle.labels.specs.Labels.{joinOf, integrityOf, bottomOf, confidentialityOf, belowOf}
 use Rattle.sheet.specs.Sheet.{maxLabels}
-use Rattle.sheet.specs.Tables.{everyoneIn, labelIn}
+use Rattle.sheet.specs.Internal.Tables.{everyoneIn, labelIn}
 
 -- {label l} and {I of label l}; no member for a number that names no label
 unfoldable pub labelMember : ℕ → ℕ

@@ -7,15 +7,15 @@ use lib.ListN.{length, drop}
 use Rattle.language.specs.Syntax.{Expr, Cmd}
 use Rattle.language.specs.Typing.{least, flowE, flow, refusal}
 use Rattle.script.specs.Lines.{Line, SourceE, exprLines, Source, cmdLines}
-use Rattle.script.specs.Code.{code}
+use Rattle.script.specs.Internal.Code.{code}
 use Rattle.script.specs.Names.{Counts, maxDepth, named}
 use Rattle.sheet.specs.Sheet.{Sheet, formed, repeats}
-use Rattle.sheet.specs.Tables.{tableOf}
+use Rattle.sheet.specs.Internal.Tables.{tableOf}
 use Rattle.sheet.specs.Meaning.{labelsOver, declarationsOf}
 use Rattle.checker.specs.declared.Typed.{Typed}
 use Rattle.checker.specs.declared.Passed.{Passed}
-use Rattle.checker.specs.Numbers.{givenNo, typeNo, shapeNo, conditionsOn}
-use Rattle.checker.specs.Bindings.{bindingsSize, boundTypes, boundLabels}
+use Rattle.checker.specs.Internal.Numbers.{givenNo, typeNo, shapeNo, conditionsOn}
+use Rattle.checker.specs.Internal.Bindings.{bindingsSize, boundTypes, boundLabels}
 
 -- x is what typing finds of e
 pub record Finds (t Γ Δ : List ℕ) (e : Expr) (x : Typed) : Type 0 where

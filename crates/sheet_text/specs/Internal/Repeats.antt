@@ -6,8 +6,8 @@ use lib.Dec.{eqb}
 use lib.ListN.{getD}
 use Rattle.logic.specs.Booleans.{either}
 use Rattle.sets.specs.Sets.{every}
-use Rattle.labels.specs.Tables.{labelSize}
-use Rattle.sheet.specs.Tables.{partsBase, labelsBase, typesIn, labelsIn}
+use Rattle.labels.specs.Internal.Tables.{labelSize}
+use Rattle.sheet.specs.Internal.Tables.{partsBase, labelsBase, typesIn, labelsIn}
 
 -- the most types, and the most labels, that a table has room for
 abbrev pub mostEach : ℕ

@@ -1,7 +1,7 @@
 -- What the code answers to a text: a verdict, whose number is the scope's, and a table.
 use Prim.Native.Nat.{ℕ}
 use lib.ListN.{replicate}
-use Rattle.sheet.specs.Tables.{tableWords, tableOf}
+use Rattle.sheet.specs.Internal.Tables.{tableWords, tableOf}
 use Rattle.sheet_text.specs.declared.Verdict.{Verdict}
 use Rattle.sheet_text.specs.declared.Verdict.the-variants.{Accepted, Malformed, Repeats}
 use Rattle.sheet_text.specs.declared.Decoded.{Decoded}

@@ -5,7 +5,7 @@ use Prim.Native.Nat.{ℕ}
 use lib.Dec.{eqb, leb, ltb}
 use Rattle.logic.specs.Booleans.{both}
 use Rattle.language.specs.Syntax.{Value, int, err, inl, inr, pkg, blank}
-use Rattle.sheet.specs.Tables.{typesIn, leftIn, rightIn}
+use Rattle.sheet.specs.Internal.Tables.{typesIn, leftIn, rightIn}
 
 -- the number names a sum
 unfoldable pub isSum : List ℕ → ℕ → Bool

@@ -7,14 +7,14 @@ use Prim.Native.Nat.{ℕ, zero, suc, _+_, _*_, _/_, _%_, _^_, _<_, _≤_, _-_, m
 use native.Mathlib.Nat.{div-eq-of-lt, one-mul, zero-div, mod-lt, mod-eq-of-lt, zero-lt-suc, div-add-mod', div-one, lt-of-lt-of-le, le-of-suc-le-suc, not-suc-le-zero}
 use native.Mathlib.Omega.{arith}
 use native.Mathlib.Numerals.{one-add, add-one}
-use native.Mathlib.Decide.{decLt}
 use lib.Arith.{bin-ind, half-le, digits-mod}
 use lib.Bits.{bitAnd, bitOr, and-step, or-step, and-shr, or-shr, and-mask, block-odd, block-half}
 use lib.Pow.{shr-shr, shl-exact, high, split, ones-split, ones-lt, pow-lt, pow-mono, pow-pos}
-use lib.Dec.{T, eqb, ltb, lit<}
+use lib.Dec.{eqb, ltb, lit<}
 use borrow.Author.Tests.{eqb-true, eqb-false, eq-eqb, ne-eqb, not-true, lt-ltb, le-ltb, ltb-true}
 use Rattle.logic.specs.Booleans.{both, either}
-use Rattle.logic.proofs.BooleanLaws.{absurd-false, bool-ext, both-implied, both-left, both-right, both-true, either-case, either-left, either-right, not-so}
+use Rattle.logic.proofs.BooleanLaws.{absurd-false, bool-ext, fails, both-implied, both-left, both-right, both-true, either-case, either-left, either-right, not-so}
+use Rattle.sets.proofs.Walks.{by-below}
 use Rattle.sets.specs.Sets.{member, union, intersection, within, meets, single, everyone, restrict}
 
 -- ---- digits
@@ -22,37 +22,35 @@ abbrev bit : ℕ → Bool
 bit x = eqb x 1
 
 -- a digit is 0 or 1
-module _ (P : ℕ → Type 0) where
-  by-digit : (x : ℕ) → x < 2 → P 0 → P 1 → P x
-  by-digit zero l a b = a
-  by-digit (suc zero) l a b = b
-  by-digit (suc (suc x)) l a b = absurd (not-suc-le-zero (le-of-suc-le-suc (le-of-suc-le-suc l)))
+module _ (P : ℕ → Type 0) (zero-digit : P 0) (one-digit : P 1) where
+  digit : (x : ℕ) → x < 2 → P x
+  digit zero l = zero-digit
+  digit (suc zero) l = one-digit
+  digit (suc (suc x)) l = absurd (omega arith)
 
-bit-min : (x y : ℕ) → x < 2 → y < 2 → bit (min x y) ≡ both (bit x) (bit y)
-unfolding both
-bit-min x y hx hy =
-    by-digit (λ (a : ℕ). bit (min a y) ≡ both (bit a) (bit y)) x hx
-    (by-digit (λ (b : ℕ). bit (min 0 b) ≡ both (bit 0) (bit b)) y hy refl refl)
-    (by-digit (λ (b : ℕ). bit (min 1 b) ≡ both (bit 1) (bit b)) y hy refl refl)
+  by-digit : (a : ℕ) → P (a % 2)
+  by-digit a = digit (a % 2) (mod-lt a (zero-lt-suc 1))
 
-bit-max : (x y : ℕ) → x < 2 → y < 2 → bit (max x y) ≡ either (bit x) (bit y)
-unfolding either
-bit-max x y hx hy =
-    by-digit (λ (a : ℕ). bit (max a y) ≡ either (bit a) (bit y)) x hx
-    (by-digit (λ (b : ℕ). bit (max 0 b) ≡ either (bit 0) (bit b)) y hy refl refl)
-    (by-digit (λ (b : ℕ). bit (max 1 b) ≡ either (bit 1) (bit b)) y hy refl refl)
+bit-inj : (a b : ℕ) → bit (a % 2) ≡ bit (b % 2) → a % 2 ≡ b % 2
+bit-inj a b =
+    by-digit (λ (x : ℕ). bit x ≡ bit (b % 2) → x ≡ b % 2)
+    (by-digit (λ (y : ℕ). bit 0 ≡ bit y → 0 ≡ y) (λ e. refl) (λ e. absurd (absurd-false e)) b)
+    (by-digit (λ (y : ℕ). bit 1 ≡ bit y → 1 ≡ y) (λ e. absurd (absurd-false (sym e))) (λ e. refl) b) a
 
-bit-inj : (x y : ℕ) → x < 2 → y < 2 → bit x ≡ bit y → x ≡ y
-bit-inj x y hx hy =
-    by-digit (λ (a : ℕ). bit a ≡ bit y → a ≡ y) x hx
-    (by-digit (λ (b : ℕ). bit 0 ≡ bit b → 0 ≡ b) y hy (λ e. refl) (λ e. absurd (subst T (sym e) tt)))
-    (by-digit (λ (b : ℕ). bit 1 ≡ bit b → 1 ≡ b) y hy (λ e. absurd (subst T e tt)) (λ e. refl))
+-- an operation on numbers that works digit by digit, and what it does to two digits
+module _ (op : ℕ → ℕ → ℕ) (f : ℕ → ℕ → ℕ) (g : Bool → Bool → Bool) (shr : (a b p : ℕ) → op a b / 2 ^ p ≡ op (a / 2 ^ p) (b / 2 ^ p))
+    (step : (a b : ℕ) → op a b ≡ op (a / 2) (b / 2) * 2 + f (a % 2) (b % 2)) (small : (a b : ℕ) → f (a % 2) (b % 2) < 2)
+  where
+    abbrev Digits : ℕ → ℕ → Type 0
+    Digits x y = bit (f x y) ≡ g (bit x) (bit y)
 
-and-low : (a b : ℕ) → bitAnd a b % 2 ≡ min (a % 2) (b % 2)
-and-low a b = ap (λ (x : ℕ). x % 2) (and-step a b) ∙ digits-mod (bitAnd (a / 2) (b / 2)) (omega arith)
-
-or-low : (a b : ℕ) → bitOr a b % 2 ≡ max (a % 2) (b % 2)
-or-low a b = ap (λ (x : ℕ). x % 2) (or-step a b) ∙ digits-mod (bitOr (a / 2) (b / 2)) (omega arith)
+    member-op : Digits 0 0 → Digits 0 1 → Digits 1 0 → Digits 1 1 → (p a b : ℕ) → member p (op a b) ≡ g (member p a) (member p b)
+    unfolding member
+    member-op oo oi io ii p a b =
+        let x = a / 2 ^ p in
+        let y = b / 2 ^ p in
+        ap (λ (z : ℕ). bit (z % 2)) (shr a b p ∙ step x y) ∙ ap bit (digits-mod (op (x / 2) (y / 2)) (small x y))
+        ∙ by-digit (λ (d : ℕ). Digits d (y % 2)) (by-digit (Digits 0) oo oi y) (by-digit (Digits 1) io ii y) x
 
 pub member-low : (a : ℕ) → member 0 a ≡ bit (a % 2)
 unfolding member
@@ -66,17 +64,13 @@ member-high p a = ap (λ (x : ℕ). bit (x % 2)) (ap (λ (k : ℕ). a / 2 ^ k) (
 
 -- p is in the intersection exactly if it is in both
 pub member-intersection : (p a b : ℕ) → member p (intersection a b) ≡ both (member p a) (member p b)
-unfolding member intersection
-member-intersection p a b =
-    ap (λ (x : ℕ). bit (x % 2)) (and-shr a b p) ∙ ap bit (and-low (a / 2 ^ p) (b / 2 ^ p))
-    ∙ bit-min (a / 2 ^ p % 2) (b / 2 ^ p % 2) (mod-lt _ (zero-lt-suc 1)) (mod-lt _ (zero-lt-suc 1))
+unfolding intersection both
+member-intersection = member-op bitAnd min both and-shr and-step (λ a b. omega arith) refl refl refl refl
 
 -- p is in the union exactly if it is in either
 pub member-union : (p a b : ℕ) → member p (union a b) ≡ either (member p a) (member p b)
-unfolding member union
-member-union p a b =
-    ap (λ (x : ℕ). bit (x % 2)) (or-shr a b p) ∙ ap bit (or-low (a / 2 ^ p) (b / 2 ^ p))
-    ∙ bit-max (a / 2 ^ p % 2) (b / 2 ^ p % 2) (mod-lt _ (zero-lt-suc 1)) (mod-lt _ (zero-lt-suc 1))
+unfolding union either
+member-union = member-op bitOr max either or-shr or-step (λ a b. omega arith) refl refl refl refl
 
 -- two sets with the same members are equal
 pub member-ext : (a b : ℕ) → ((p : ℕ) → member p a ≡ member p b) → a ≡ b
@@ -88,7 +82,7 @@ member-ext a b e = go (a + b) a b (omega arith) (omega arith) e
         sym (div-add-mod' a 2)
         ∙ ap₂ (λ (x y : ℕ). x * 2 + y)
         (go f (a / 2) (b / 2) (half-le ha) (half-le hb) (λ p. sym (member-high p a) ∙ e (suc p) ∙ member-high p b))
-        (bit-inj (a % 2) (b % 2) (mod-lt a (zero-lt-suc 1)) (mod-lt b (zero-lt-suc 1)) (sym (member-low a) ∙ e 0 ∙ member-low b))
+        (bit-inj a b (sym (member-low a) ∙ e 0 ∙ member-low b))
         ∙ div-add-mod' b 2
 
 pub member-empty : (p : ℕ) → member p 0 ≡ false
@@ -112,14 +106,8 @@ member-above (suc p) (suc k) a r l =
 pub some-member : (n : ℕ) → (n ≡ 0 → ⊥) → (p : ℕ) × (member p n ≡ true)
 some-member =
     bin-ind (λ (n : ℕ). (n ≡ 0 → ⊥) → (p : ℕ) × (member p n ≡ true)) (λ h. absurd (h refl))
-    (λ n ih h. step n ih h (n % 2) refl (mod-lt n (zero-lt-suc 1)))
-  where
-    step : (n : ℕ) → ((n / 2 ≡ 0 → ⊥) → (p : ℕ) × (member p (n / 2) ≡ true)) → (n ≡ 0 → ⊥)
-        → (d : ℕ) → n % 2 ≡ d → d < 2 → (p : ℕ) × (member p n ≡ true)
-    step n ih h zero e l =
-        let r = ih (λ z. h (omega arith)) in (suc (r .0), member-high (r .0) n ∙ r .1)
-    step n ih h (suc zero) e l = (0, member-low n ∙ ap bit e)
-    step n ih h (suc (suc d)) e l = absurd (not-suc-le-zero (le-of-suc-le-suc (le-of-suc-le-suc l)))
+    (λ n ih h. by-digit (λ (d : ℕ). n % 2 ≡ d → (p : ℕ) × (member p n ≡ true))
+    (λ e. let r = ih (λ z. h (omega arith)) in (suc (r .0), member-high (r .0) n ∙ r .1)) (λ e. (0, member-low n ∙ ap bit e)) n refl)
 
 -- ---- containment: x is within y exactly if every member of x is one of y
 pub within-intro : (x y : ℕ) → ((p : ℕ) → member p x ≡ true → member p y ≡ true) → within x y ≡ true
@@ -188,28 +176,18 @@ pub meets-empty : (g : ℕ) → meets g 0 ≡ false
 meets-empty g = not-so (meets g 0) (λ e. let r = meets-elim g 0 e in absurd-false (sym (member-empty (r .0)) ∙ r .2))
 
 -- ---- {p} has the one member p
-one-digit : (p : ℕ) → 1 * 2 ^ p + 0 ≡ 2 ^ p
-one-digit p = omega arith
+alone : (p : ℕ) → 1 * 2 ^ p + 0 ≡ 2 ^ p
+alone p = omega arith
 
 pub member-single-self : (p : ℕ) → member p (single p) ≡ true
 unfolding member single
-member-single-self p = ap (member p) (sym (one-digit p)) ∙ ap (λ (x : ℕ). bit (x % 2)) (high 1 p (pow-pos p))
-
-single-above : (q p : ℕ) → q < p → member q (single p) ≡ false
-unfolding single
-single-above q p l = ap (member q) (sym (one-digit p)) ∙ member-above q p 1 0 l ∙ member-empty q
-
-single-below : (q p : ℕ) → p < q → member q (single p) ≡ false
-unfolding single
-single-below q p l = member-beyond q (2 ^ p) (pow-lt l)
+member-single-self p = ap (member p) (sym (alone p)) ∙ ap (λ (x : ℕ). bit (x % 2)) (high 1 p (pow-pos p))
 
 pub member-single : (q p : ℕ) → member q (single p) ≡ true → q ≡ p
-member-single q p e = go (decLt q p) (decLt p q)
-  where
-    go : Dec (q < p) → Dec (p < q) → q ≡ p
-    go (yes l) d = absurd (absurd-false (sym (single-above q p l) ∙ e))
-    go (no h) (yes l) = absurd (absurd-false (sym (single-below q p l) ∙ e))
-    go (no h) (no k) = omega arith
+unfolding single
+member-single q p e =
+    by-below q p (λ l. absurd (fails (ap (member q) (sym (alone p)) ∙ member-above q p 1 0 l ∙ member-empty q) e))
+    (λ l. by-below p q (λ m. absurd (fails (member-beyond q (2 ^ p) (pow-lt m)) e)) (λ m. omega arith))
 
 -- {p} is within the sets that have p
 pub single-within : (p m : ℕ) → within (single p) m ≡ member p m
@@ -225,18 +203,14 @@ ones-odd k =
 
 pub member-everyone : (p n : ℕ) → member p (everyone n) ≡ ltb p n
 unfolding everyone member
-member-everyone p n = go (decLt p n)
-  where
-    inside : (k : ℕ) → member p (2 ^ (suc k + p) - 1) ≡ true
-    inside k =
-        ap (member p) (ones-split (suc k) p) ∙ ap (λ (x : ℕ). bit (x % 2)) (high (2 ^ suc k - 1) p (ones-lt p)) ∙ ap bit (ones-odd k)
-
-    go : Dec (p < n) → member p (2 ^ n - 1) ≡ ltb p n
-    go (yes l) =
-        let e : suc (n - suc p) + p ≡ n = omega arith in
-        ap (λ (k : ℕ). member p (2 ^ k - 1)) (sym e) ∙ inside (n - suc p) ∙ sym (lt-ltb p n l)
-    go (no h) =
-        member-beyond p (2 ^ n - 1) (lt-of-lt-of-le (ones-lt n) (pow-mono (omega arith))) ∙ sym (le-ltb p n (omega arith))
+member-everyone p n =
+    by-below p n
+    (λ l.
+    let k = n - suc p in
+    let e : suc k + p ≡ n = omega arith in
+    ap (λ (j : ℕ). member p (2 ^ j - 1)) (sym e) ∙ ap (member p) (ones-split (suc k) p)
+    ∙ ap (λ (x : ℕ). bit (x % 2)) (high (2 ^ suc k - 1) p (ones-lt p)) ∙ ap bit (ones-odd k) ∙ sym (lt-ltb p n l))
+    (λ l. member-beyond p (2 ^ n - 1) (lt-of-lt-of-le (ones-lt n) (pow-mono l)) ∙ sym (le-ltb p n l))
 
 -- a set lies within the first n principals exactly if it is a number below 2 ^ n
 pub within-everyone : (n g : ℕ) → g < 2 ^ n → within g (everyone n) ≡ true
@@ -249,12 +223,9 @@ single-within-everyone p n l = single-within p (everyone n) ∙ member-everyone 
 -- ---- a set restricted to its members below k
 pub member-restrict : (p k m : ℕ) → member p (restrict k m) ≡ both (ltb p k) (member p m)
 unfolding restrict both
-member-restrict p k m = go (decLt p k)
-  where
-    go : Dec (p < k) → member p (m % 2 ^ k) ≡ both (ltb p k) (member p m)
-    go (yes l) = rw (lt-ltb p k l) (sym (ap (member p) (sym (split m k)) ∙ member-above p k (m / 2 ^ k) (m % 2 ^ k) l))
-    go (no h) =
-        rw (le-ltb p k (omega arith)) (member-beyond p (m % 2 ^ k) (lt-of-lt-of-le (mod-lt m (pow-pos k)) (pow-mono (omega arith))))
+member-restrict p k m =
+    by-below p k (λ l. rw (lt-ltb p k l) (sym (ap (member p) (sym (split m k)) ∙ member-above p k (m / 2 ^ k) (m % 2 ^ k) l)))
+    (λ l. rw (le-ltb p k l) (member-beyond p (m % 2 ^ k) (lt-of-lt-of-le (mod-lt m (pow-pos k)) (pow-mono l))))
 
 pub restrict-id : (k m : ℕ) → m < 2 ^ k → restrict k m ≡ m
 unfolding restrict

@@ -3,14 +3,20 @@
 use mathlib.Core.Path.{_≡_, refl, sym, ap, ap₂, _∙_}
 use mathlib.Core.Bool.{Bool, true, false}
 use mathlib.Core.List.{List, [], _∷_, _++_}
-use Prim.Native.Nat.{ℕ, zero, suc, _+_, _<_, suc-le-suc}
+use Prim.Native.Nat.{ℕ, zero, suc, _+_, _<_, _≤_, suc-le-suc}
 use native.Mathlib.Nat.{not-suc-le-zero, le-of-suc-le-suc, zero-lt-suc}
 use native.Mathlib.Numerals.{add-one}
 use lib.ListN.{length, getD, set, drop}
 use lib.Seq.{set-getD}
+use lib.Dec.{ltb}
+use borrow.Author.Tests.{ltb-true, ltb-false}
 use Rattle.logic.specs.Booleans.{both}
-use Rattle.logic.proofs.BooleanLaws.{bool-ext, both-left, both-no-left, both-no-right, both-right, both-true}
+use Rattle.logic.proofs.BooleanLaws.{bool-ext, both-left, both-no-left, both-no-right, both-right, both-true, cases}
 use Rattle.sets.specs.Sets.{every, tab}
+
+-- by whether m is below n
+pub by-below : {P : Type 0} (m n : ℕ) → (m < n → P) → (n ≤ m → P) → P
+by-below m n f g = cases (ltb m n) (λ e. f (ltb-true m n e)) (λ e. g (ltb-false m n e))
 
 -- ---- every
 pub every-true : (n : ℕ) (f : ℕ → Bool) → ((i : ℕ) → i < n → f i ≡ true) → every n f ≡ true

@@ -3,10 +3,7 @@ use Rattle.sets.specs.Sets.{meets}
 use Rattle.sets.proofs.meets.Statement.{statement}
 use Rattle.sets.proofs.meets.Tie as tie
 
-returns : tie.Need-returns
-unfolding meets
-returns c = refl
-
 pub meets-spec : {M : Type 1} → statement M
+unfolding meets
 meets-spec = tie.close (tie.spec
-    returns)
+    (λ c. refl))  -- returns

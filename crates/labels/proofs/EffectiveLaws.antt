@@ -3,18 +3,17 @@
 use mathlib.Core.Path.{_≡_}
 use mathlib.Core.Bool.{true}
 use Prim.Native.Nat.{ℕ, _<_, _≤_}
-use native.Mathlib.Omega.{arith}
-use native.Mathlib.Decide.{decLt}
+use lib.ListN.{getD-replicate}
 use borrow.Author.Tests.{lt-ltb, le-ltb}
 use Rattle.logic.specs.Booleans.{both}
 use Rattle.logic.proofs.BooleanLaws.{both-left, both-right, both-true}
 use Rattle.sets.specs.Sets.{within, single, everyone}
-use Rattle.sets.proofs.Walks.{getD-tab, length-tab}
+use Rattle.sets.proofs.Walks.{by-below, getD-tab, length-tab}
 use Rattle.sets.proofs.SetLaws.{within-refl, single-within-everyone}
 use Rattle.labels.specs.declared.Label.{Label}
 use Rattle.labels.specs.Labels.{owners, readersOf, writersOf, openAt, belowOf, joinOf, confidentialityOf, integrityOf, bottomOf, closedAt, topOf, wholeOf, effective}
-use Rattle.labels.proofs.OrderLaws.{whole-intro, below-intro, below-readers, below-writers, below-refl, below-trans, join-left, join-least, join-whole}
-use Rattle.labels.proofs.PartLaws.{own-at, all-at, C-whole, I-whole, bottom-whole, C-mono, I-mono, C-bottom, I-bottom}
+use Rattle.labels.proofs.OrderLaws.{whole-intro, below-intro, below-at, below-refl, below-trans, join-left, join-least, join-whole}
+use Rattle.labels.proofs.PartLaws.{own-at, C-whole, I-whole, bottom-whole, C-mono, I-mono, I-bottom}
 
 -- ---- an effective label is whole and lies between bottom and top
 pub effective-intro : (n : ℕ) (a : Label)
@@ -35,21 +34,13 @@ unfolding effective
 top-greatest n a h = both-right (belowOf (bottomOf (everyone n)) a) _ (both-right (wholeOf a) _ h)
 
 -- ---- the sets of bottom and top
-pub bottom-readers : (all o : ℕ) → o < owners → readersOf (bottomOf all) o ≡ all
+pub bottom-at : (all o : ℕ) → o < owners → (readersOf (bottomOf all) o ≡ all) × (writersOf (bottomOf all) o ≡ single o)
 unfolding bottomOf
-bottom-readers all o l = all-at all o l
+bottom-at all o l = (getD-replicate owners o all 0 l, own-at o l)
 
-pub bottom-writers : (all o : ℕ) → o < owners → writersOf (bottomOf all) o ≡ single o
-unfolding bottomOf
-bottom-writers all o l = own-at o l
-
-pub top-readers : (n o : ℕ) → o < owners → readersOf (topOf n) o ≡ closedAt n o
+pub top-at : (n o : ℕ) → o < owners → (readersOf (topOf n) o ≡ closedAt n o) × (writersOf (topOf n) o ≡ openAt n (everyone n) o)
 unfolding topOf
-top-readers n o l = getD-tab owners (closedAt n) o 0 l
-
-pub top-writers : (n o : ℕ) → o < owners → writersOf (topOf n) o ≡ openAt n (everyone n) o
-unfolding topOf
-top-writers n o l = getD-tab owners (openAt n (everyone n)) o 0 l
+top-at n o l = (getD-tab owners _ o 0 l, getD-tab owners _ o 0 l)
 
 pub open-principal : (n all o : ℕ) → o < n → openAt n all o ≡ all
 unfolding openAt
@@ -63,29 +54,19 @@ pub closed-principal : (n o : ℕ) → o < n → closedAt n o ≡ single o
 unfolding closedAt
 closed-principal n o l = rw (lt-ltb o n l)
 
-pub closed-other : (n o : ℕ) → n ≤ o → closedAt n o ≡ everyone n
-unfolding closedAt
-closed-other n o l = rw (le-ltb o n l)
-
 pub closed-within : (n o : ℕ) → within (closedAt n o) (everyone n) ≡ true
-closed-within n o = go (decLt o n)
-  where
-    go : Dec (o < n) → within (closedAt n o) (everyone n) ≡ true
-    go (yes l) = rw (closed-principal n o l) (single-within-everyone o n l)
-    go (no h) = let k : n ≤ o = omega arith in rw (closed-other n o k) (within-refl (everyone n))
+unfolding closedAt
+closed-within n o = by-below o n (λ l. rw (lt-ltb o n l) (single-within-everyone o n l)) (λ l. rw (le-ltb o n l) (within-refl _))
 
 pub single-within-open : (n o : ℕ) → within (single o) (openAt n (everyone n) o) ≡ true
-single-within-open n o = go (decLt o n)
-  where
-    go : Dec (o < n) → within (single o) (openAt n (everyone n) o) ≡ true
-    go (yes l) = rw (open-principal n (everyone n) o l) (single-within-everyone o n l)
-    go (no h) = let k : n ≤ o = omega arith in rw (open-other n (everyone n) o k) (within-refl (single o))
+unfolding openAt
+single-within-open n o = by-below o n (λ l. rw (lt-ltb o n l) (single-within-everyone o n l)) (λ l. rw (le-ltb o n l) (within-refl _))
 
 pub bottom-below-top : (n : ℕ) → belowOf (bottomOf (everyone n)) (topOf n) ≡ true
 bottom-below-top n =
     below-intro (bottomOf (everyone n)) (topOf n)
-    (λ o l. rw (top-readers n o l, bottom-readers (everyone n) o l) (closed-within n o))
-    (λ o l. rw (bottom-writers (everyone n) o l, top-writers n o l) (single-within-open n o))
+    (λ o l. rw (top-at n o l .0, bottom-at (everyone n) o l .0) (closed-within n o))
+    (λ o l. rw (bottom-at (everyone n) o l .1, top-at n o l .1) (single-within-open n o))
 
 pub top-whole : (n : ℕ) → wholeOf (topOf n) ≡ true
 unfolding topOf
@@ -103,10 +84,10 @@ pub record Fits (n o r w : ℕ) : Type 0 where
 pub effective-fits : (n : ℕ) (a : Label) → effective n a ≡ true → (o : ℕ) → o < owners → Fits n o (readersOf a o) (writersOf a o)
 effective-fits n a h o l =
     record {
-      closed-in = rw (top-readers n o l) at (below-readers a (topOf n) (top-greatest n a h) o l);
-      readers-in = rw (bottom-readers (everyone n) o l) at (below-readers (bottomOf (everyone n)) a (bottom-least n a h) o l);
-      owner-in = rw (bottom-writers (everyone n) o l) at (below-writers (bottomOf (everyone n)) a (bottom-least n a h) o l);
-      open-over = rw (top-writers n o l) at (below-writers a (topOf n) (top-greatest n a h) o l);
+      closed-in = rw (top-at n o l .0) at (below-at a (topOf n) (top-greatest n a h) o l .0);
+      readers-in = rw (bottom-at (everyone n) o l .0) at (below-at (bottomOf (everyone n)) a (bottom-least n a h) o l .0);
+      owner-in = rw (bottom-at (everyone n) o l .1) at (below-at (bottomOf (everyone n)) a (bottom-least n a h) o l .1);
+      open-over = rw (top-at n o l .1) at (below-at a (topOf n) (top-greatest n a h) o l .1);
     }
 
 pub fits-effective : (n : ℕ) (a : Label)
@@ -114,8 +95,8 @@ pub fits-effective : (n : ℕ) (a : Label)
 fits-effective n a w f =
     effective-intro n a w
     (below-intro (bottomOf (everyone n)) a
-    (λ o l. rw (bottom-readers (everyone n) o l) (f o l .readers-in)) (λ o l. rw (bottom-writers (everyone n) o l) (f o l .owner-in)))
-    (below-intro a (topOf n) (λ o l. rw (top-readers n o l) (f o l .closed-in)) (λ o l. rw (top-writers n o l) (f o l .open-over)))
+    (λ o l. rw (bottom-at (everyone n) o l .0) (f o l .readers-in)) (λ o l. rw (bottom-at (everyone n) o l .1) (f o l .owner-in)))
+    (below-intro a (topOf n) (λ o l. rw (top-at n o l .0) (f o l .closed-in)) (λ o l. rw (top-at n o l .1) (f o l .open-over)))
 
 -- ---- the operations keep labels effective
 pub bottom-effective : (n : ℕ) → effective n (bottomOf (everyone n)) ≡ true
@@ -138,12 +119,13 @@ C-below n a h =
 pub I-below : (n : ℕ) (a : Label) → effective n a ≡ true → belowOf (integrityOf (everyone n) a) a ≡ true
 unfolding integrityOf
 I-below n a h =
-    below-intro (integrityOf (everyone n) a) a (λ o l. rw (all-at (everyone n) o l) (effective-fits n a h o l .readers-in)) (λ o l. within-refl _)
+    below-intro (integrityOf (everyone n) a) a (λ o l. rw (getD-replicate owners o (everyone n) 0 l) (effective-fits n a h o l .readers-in)) (λ o l. within-refl _)
 
 pub C-effective : (n : ℕ) (a : Label) → effective n a ≡ true → effective n (confidentialityOf a) ≡ true
+unfolding confidentialityOf bottomOf
 C-effective n a h =
     effective-intro n (confidentialityOf a) (C-whole a (effective-whole n a h))
-    (rw (C-bottom (everyone n)) at (C-mono (bottomOf (everyone n)) a (bottom-least n a h)))
+    (C-mono (bottomOf (everyone n)) a (bottom-least n a h))
     (below-trans (confidentialityOf a) a (topOf n) (C-below n a h) (top-greatest n a h))
 
 pub I-effective : (n : ℕ) (a : Label) → effective n a ≡ true → effective n (integrityOf (everyone n) a) ≡ true

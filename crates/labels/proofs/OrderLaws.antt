@@ -4,7 +4,6 @@ use mathlib.Core.Path.{_≡_, sym, _∙_, subst}
 use mathlib.Core.Bool.{true}
 use mathlib.Core.List.{List}
 use Prim.Native.Nat.{ℕ, _<_}
-use lib.Dec.{eqb}
 use lib.ListN.{length, getD}
 use lib.Seq.{ext-getD}
 use borrow.Author.Tests.{eq-eqb, eqb-true}
@@ -24,25 +23,12 @@ pub whole-intro : (a : Label) → length (a .readers) ≡ owners → length (a .
 unfolding wholeOf
 whole-intro a r w = both-true (eq-eqb (length (a .readers)) owners r) (eq-eqb (length (a .writers)) owners w)
 
-pub whole-readers : (a : Label) → wholeOf a ≡ true → length (a .readers) ≡ owners
+pub whole-lengths : (a : Label) → wholeOf a ≡ true → (length (a .readers) ≡ owners) × (length (a .writers) ≡ owners)
 unfolding wholeOf
-whole-readers a h = eqb-true (length (a .readers)) owners (both-left _ (eqb (length (a .writers)) owners) h)
-
-pub whole-writers : (a : Label) → wholeOf a ≡ true → length (a .writers) ≡ owners
-unfolding wholeOf
-whole-writers a h = eqb-true (length (a .writers)) owners (both-right (eqb (length (a .readers)) owners) _ h)
+whole-lengths a h = (eqb-true _ owners (both-left _ _ h), eqb-true _ owners (both-right _ _ h))
 
 sets-path : (x y : List ℕ) → length x ≡ owners → length y ≡ owners → ((o : ℕ) → o < owners → getD x o 0 ≡ getD y o 0) → x ≡ y
 sets-path x y hx hy e = ext-getD 0 x y (hx ∙ sym hy) (λ o l. e o (subst (λ (n : ℕ). o < n) hx l))
-
--- two whole labels with the same sets for each owner are equal
-pub whole-path : (a b : Label) → wholeOf a ≡ true → wholeOf b ≡ true
-    → ((o : ℕ) → o < owners → readersOf a o ≡ readersOf b o)
-    → ((o : ℕ) → o < owners → writersOf a o ≡ writersOf b o)
-    → a ≡ b
-whole-path a b ha hb r w =
-    label-path a b (sets-path (a .readers) (b .readers) (whole-readers a ha) (whole-readers b hb) r)
-    (sets-path (a .writers) (b .writers) (whole-writers a ha) (whole-writers b hb) w)
 
 -- ---- the order, owner by owner
 pub below-intro : (a b : Label)
@@ -52,13 +38,10 @@ pub below-intro : (a b : Label)
 unfolding belowOf belowAt
 below-intro a b r w = every-true owners (belowAt a b) (λ o l. both-true (r o l) (w o l))
 
-pub below-readers : (a b : Label) → belowOf a b ≡ true → (o : ℕ) → o < owners → within (readersOf b o) (readersOf a o) ≡ true
+pub below-at : (a b : Label) → belowOf a b ≡ true → (o : ℕ) → o < owners
+    → (within (readersOf b o) (readersOf a o) ≡ true) × (within (writersOf a o) (writersOf b o) ≡ true)
 unfolding belowOf belowAt
-below-readers a b h o l = both-left _ (within (writersOf a o) (writersOf b o)) (every-at owners (belowAt a b) h o l)
-
-pub below-writers : (a b : Label) → belowOf a b ≡ true → (o : ℕ) → o < owners → within (writersOf a o) (writersOf b o) ≡ true
-unfolding belowOf belowAt
-below-writers a b h o l = both-right (within (readersOf b o) (readersOf a o)) _ (every-at owners (belowAt a b) h o l)
+below-at a b h o l = let e = every-at owners (belowAt a b) h o l in (both-left _ _ e, both-right _ _ e)
 
 -- the order as one test of readers and one of writers
 pub below-split : (a b : Label)
@@ -72,13 +55,14 @@ below-refl a = below-intro a a (λ o l. within-refl _) (λ o l. within-refl _)
 
 pub below-trans : (a b c : Label) → belowOf a b ≡ true → belowOf b c ≡ true → belowOf a c ≡ true
 below-trans a b c h k =
-    below-intro a c (λ o l. within-trans _ _ _ (below-readers b c k o l) (below-readers a b h o l))
-    (λ o l. within-trans _ _ _ (below-writers a b h o l) (below-writers b c k o l))
+    below-intro a c (λ o l. within-trans _ _ _ (below-at b c k o l .0) (below-at a b h o l .0))
+    (λ o l. within-trans _ _ _ (below-at a b h o l .1) (below-at b c k o l .1))
 
 pub below-antisym : (a b : Label) → wholeOf a ≡ true → wholeOf b ≡ true → belowOf a b ≡ true → belowOf b a ≡ true → a ≡ b
 below-antisym a b ha hb h k =
-    whole-path a b ha hb (λ o l. within-antisym _ _ (below-readers b a k o l) (below-readers a b h o l))
-    (λ o l. within-antisym _ _ (below-writers a b h o l) (below-writers b a k o l))
+    label-path a b
+    (sets-path _ _ (whole-lengths a ha .0) (whole-lengths b hb .0) (λ o l. within-antisym _ _ (below-at b a k o l .0) (below-at a b h o l .0)))
+    (sets-path _ _ (whole-lengths a ha .1) (whole-lengths b hb .1) (λ o l. within-antisym _ _ (below-at a b h o l .1) (below-at b a k o l .1)))
 
 -- ---- the test of equality
 
@@ -87,46 +71,25 @@ pub same-both-ways : (a b : Label) → sameOf a b ≡ both (belowOf a b) (belowO
 unfolding sameOf sameAt
 same-both-ways a b =
     bool-ext (sameOf a b) (both (belowOf a b) (belowOf b a))
-    (λ h. both-true (one a b h) (one b a (other h)))
     (λ h.
-    let ab = both-left (belowOf a b) (belowOf b a) h in
-    let ba = both-right (belowOf a b) (belowOf b a) h in
+    let e : (o : ℕ) → o < owners → (readersOf a o ≡ readersOf b o) × (writersOf a o ≡ writersOf b o) =
+    λ o l. let s = every-at owners (sameAt a b) h o l in (eqb-true _ _ (both-left _ _ s), eqb-true _ _ (both-right _ _ s)) in
+    both-true (below-intro a b (λ o l. rw (e o l .0) (within-refl _)) (λ o l. rw (e o l .1) (within-refl _)))
+    (below-intro b a (λ o l. rw (e o l .0) (within-refl _)) (λ o l. rw (e o l .1) (within-refl _))))
+    (λ h.
+    let ab = below-at a b (both-left _ _ h) in
+    let ba = below-at b a (both-right _ _ h) in
     every-true owners (sameAt a b)
-    (λ o l. both-true
-    (eq-eqb (readersOf a o) (readersOf b o) (within-antisym _ _ (below-readers b a ba o l) (below-readers a b ab o l)))
-    (eq-eqb (writersOf a o) (writersOf b o) (within-antisym _ _ (below-writers a b ab o l) (below-writers b a ba o l)))))
-  where
-    same-readers : (a b : Label) → sameOf a b ≡ true → (o : ℕ) → o < owners → readersOf a o ≡ readersOf b o
-    same-readers a b h o l =
-        eqb-true (readersOf a o) (readersOf b o) (both-left _ (eqb (writersOf a o) (writersOf b o)) (every-at owners (sameAt a b) h o l))
-
-    same-writers : (a b : Label) → sameOf a b ≡ true → (o : ℕ) → o < owners → writersOf a o ≡ writersOf b o
-    same-writers a b h o l =
-        eqb-true (writersOf a o) (writersOf b o) (both-right (eqb (readersOf a o) (readersOf b o)) _ (every-at owners (sameAt a b) h o l))
-
-    equal-within : (x y : ℕ) → x ≡ y → within x y ≡ true
-    equal-within x y e = rw e (within-refl y)
-
-    one : (a b : Label) → sameOf a b ≡ true → belowOf a b ≡ true
-    one a b h =
-        below-intro a b (λ o l. equal-within _ _ (sym (same-readers a b h o l))) (λ o l. equal-within _ _ (same-writers a b h o l))
-
-    other : sameOf a b ≡ true → sameOf b a ≡ true
-    other h =
-        every-true owners (sameAt b a)
-        (λ o l. both-true (eq-eqb (readersOf b o) (readersOf a o) (sym (same-readers a b h o l))) (eq-eqb (writersOf b o) (writersOf a o) (sym (same-writers a b h o l))))
+    (λ o l. both-true (eq-eqb _ _ (within-antisym _ _ (ba o l .0) (ab o l .0))) (eq-eqb _ _ (within-antisym _ _ (ab o l .1) (ba o l .1)))))
 
 pub same-refl : (a : Label) → sameOf a a ≡ true
 same-refl a = same-both-ways a a ∙ both-true (below-refl a) (below-refl a)
 
 -- ---- the join is the least upper bound
-pub join-readers : (a b : Label) (o : ℕ) → o < owners → readersOf (joinOf a b) o ≡ intersection (readersOf a o) (readersOf b o)
+pub join-at : (a b : Label) (o : ℕ) → o < owners
+    → (readersOf (joinOf a b) o ≡ intersection (readersOf a o) (readersOf b o)) × (writersOf (joinOf a b) o ≡ union (writersOf a o) (writersOf b o))
 unfolding joinOf
-join-readers a b o l = getD-tab owners (λ (k : ℕ). intersection (readersOf a k) (readersOf b k)) o 0 l
-
-pub join-writers : (a b : Label) (o : ℕ) → o < owners → writersOf (joinOf a b) o ≡ union (writersOf a o) (writersOf b o)
-unfolding joinOf
-join-writers a b o l = getD-tab owners (λ (k : ℕ). union (writersOf a k) (writersOf b k)) o 0 l
+join-at a b o l = (getD-tab owners _ o 0 l, getD-tab owners _ o 0 l)
 
 pub join-whole : (a b : Label) → wholeOf (joinOf a b) ≡ true
 unfolding joinOf
@@ -134,23 +97,23 @@ join-whole a b = whole-intro (joinOf a b) (length-tab _ _) (length-tab _ _)
 
 pub join-left : (a b : Label) → belowOf a (joinOf a b) ≡ true
 join-left a b =
-    below-intro a (joinOf a b) (λ o l. rw (join-readers a b o l) (intersection-within-left _ _))
-    (λ o l. rw (join-writers a b o l) (within-union-left _ _))
+    below-intro a (joinOf a b) (λ o l. rw (join-at a b o l .0) (intersection-within-left _ _))
+    (λ o l. rw (join-at a b o l .1) (within-union-left _ _))
 
 pub join-right : (a b : Label) → belowOf b (joinOf a b) ≡ true
 join-right a b =
-    below-intro b (joinOf a b) (λ o l. rw (join-readers a b o l) (intersection-within-right _ _))
-    (λ o l. rw (join-writers a b o l) (within-union-right _ _))
+    below-intro b (joinOf a b) (λ o l. rw (join-at a b o l .0) (intersection-within-right _ _))
+    (λ o l. rw (join-at a b o l .1) (within-union-right _ _))
 
 pub join-least : (a b c : Label) → belowOf a c ≡ true → belowOf b c ≡ true → belowOf (joinOf a b) c ≡ true
 join-least a b c h k =
     below-intro (joinOf a b) c
-    (λ o l. rw (join-readers a b o l) (within-intersection _ _ _ (below-readers a c h o l) (below-readers b c k o l)))
-    (λ o l. rw (join-writers a b o l) (union-within _ _ _ (below-writers a c h o l) (below-writers b c k o l)))
+    (λ o l. rw (join-at a b o l .0) (within-intersection _ _ _ (below-at a c h o l .0) (below-at b c k o l .0)))
+    (λ o l. rw (join-at a b o l .1) (union-within _ _ _ (below-at a c h o l .1) (below-at b c k o l .1)))
 
 -- one test of the join stands for two
 pub join-below : (a b c : Label) → belowOf (joinOf a b) c ≡ both (belowOf a c) (belowOf b c)
 join-below a b c =
     bool-ext (belowOf (joinOf a b) c) (both (belowOf a c) (belowOf b c))
     (λ h. both-true (below-trans a (joinOf a b) c (join-left a b) h) (below-trans b (joinOf a b) c (join-right a b) h))
-    (λ h. join-least a b c (both-left _ (belowOf b c) h) (both-right (belowOf a c) _ h))
+    (λ h. join-least a b c (both-left _ _ h) (both-right _ _ h))

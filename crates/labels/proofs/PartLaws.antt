@@ -3,7 +3,7 @@
 use mathlib.Core.Path.{_≡_, refl, sym, _∙_}
 use mathlib.Core.Bool.{true}
 use Prim.Native.Nat.{ℕ, _<_}
-use lib.ListN.{length, getD, replicate, getD-replicate, length-replicate}
+use lib.ListN.{getD, length-replicate}
 use Rattle.logic.specs.Booleans.{both}
 use Rattle.logic.proofs.BooleanLaws.{bool-ext, both-left, both-right, both-true}
 use Rattle.sets.specs.Sets.{union, single}
@@ -11,71 +11,44 @@ use Rattle.sets.proofs.Walks.{getD-tab, length-tab, tab-ext}
 use Rattle.sets.proofs.SetLaws.{within-refl, union-of-within}
 use Rattle.labels.specs.declared.Label.{Label}
 use Rattle.labels.specs.Labels.{owners, own, belowOf, joinOf, confidentialityOf, integrityOf, bottomOf, wholeOf}
-use Rattle.labels.proofs.OrderLaws.{label-path, whole-intro, whole-readers, whole-writers, below-intro, below-readers, below-writers}
+use Rattle.labels.proofs.OrderLaws.{label-path, whole-intro, whole-lengths, below-intro, below-at}
 
 -- ---- the sets that are the same in every label
 pub own-at : (o : ℕ) → o < owners → getD own o 0 ≡ single o
 unfolding own
 own-at o l = getD-tab owners single o 0 l
 
-pub length-own : length own ≡ owners
-unfolding own
-length-own = length-tab owners single
-
-pub all-at : (all o : ℕ) → o < owners → getD (replicate owners all) o 0 ≡ all
-all-at all o l = getD-replicate owners o all 0 l
-
--- ---- C(I A) = bottom, I(C A) = bottom, C(C A) = C(A), I(I A) = I(A)
-pub C-of-I : (all : ℕ) (a : Label) → confidentialityOf (integrityOf all a) ≡ bottomOf all
-unfolding confidentialityOf integrityOf bottomOf
-C-of-I all a = refl
-
-pub I-of-C : (all : ℕ) (a : Label) → integrityOf all (confidentialityOf a) ≡ bottomOf all
-unfolding confidentialityOf integrityOf bottomOf
-I-of-C all a = refl
-
-pub C-idem : (a : Label) → confidentialityOf (confidentialityOf a) ≡ confidentialityOf a
-unfolding confidentialityOf
-C-idem a = refl
-
-pub I-idem : (all : ℕ) (a : Label) → integrityOf all (integrityOf all a) ≡ integrityOf all a
-unfolding integrityOf
-I-idem all a = refl
-
-pub C-bottom : (all : ℕ) → confidentialityOf (bottomOf all) ≡ bottomOf all
-unfolding confidentialityOf bottomOf
-C-bottom all = refl
-
+-- ---- I(bottom) = bottom
 pub I-bottom : (all : ℕ) → integrityOf all (bottomOf all) ≡ bottomOf all
 unfolding integrityOf bottomOf
 I-bottom all = refl
 
 -- ---- whole labels stay whole
 pub C-whole : (a : Label) → wholeOf a ≡ true → wholeOf (confidentialityOf a) ≡ true
-unfolding confidentialityOf
-C-whole a h = whole-intro (confidentialityOf a) (whole-readers a h) length-own
+unfolding confidentialityOf own
+C-whole a h = whole-intro (confidentialityOf a) (whole-lengths a h .0) (length-tab owners single)
 
 pub I-whole : (all : ℕ) (a : Label) → wholeOf a ≡ true → wholeOf (integrityOf all a) ≡ true
 unfolding integrityOf
-I-whole all a h = whole-intro (integrityOf all a) (length-replicate owners all) (whole-writers a h)
+I-whole all a h = whole-intro (integrityOf all a) (length-replicate owners all) (whole-lengths a h .1)
 
 pub bottom-whole : (all : ℕ) → wholeOf (bottomOf all) ≡ true
-unfolding bottomOf
-bottom-whole all = whole-intro (bottomOf all) (length-replicate owners all) length-own
+unfolding bottomOf own
+bottom-whole all = whole-intro (bottomOf all) (length-replicate owners all) (length-tab owners single)
 
 -- ---- C and I are monotone, and together they are the order
 pub C-mono : (a b : Label) → belowOf a b ≡ true → belowOf (confidentialityOf a) (confidentialityOf b) ≡ true
 unfolding confidentialityOf
-C-mono a b h = below-intro _ _ (below-readers a b h) (λ o l. within-refl _)
+C-mono a b h = below-intro _ _ (λ o l. below-at a b h o l .0) (λ o l. within-refl _)
 
 pub I-mono : (all : ℕ) (a b : Label) → belowOf a b ≡ true → belowOf (integrityOf all a) (integrityOf all b) ≡ true
 unfolding integrityOf
-I-mono all a b h = below-intro _ _ (λ o l. within-refl _) (below-writers a b h)
+I-mono all a b h = below-intro _ _ (λ o l. within-refl _) (λ o l. below-at a b h o l .1)
 
 pub below-of-parts : (all : ℕ) (a b : Label)
     → belowOf (confidentialityOf a) (confidentialityOf b) ≡ true → belowOf (integrityOf all a) (integrityOf all b) ≡ true → belowOf a b ≡ true
 unfolding confidentialityOf integrityOf
-below-of-parts all a b h k = below-intro a b (below-readers _ _ h) (below-writers _ _ k)
+below-of-parts all a b h k = below-intro a b (λ o l. below-at _ _ h o l .0) (λ o l. below-at _ _ k o l .1)
 
 -- A ≤ B exactly if C(A) ≤ C(B) and I(A) ≤ I(B)
 pub below-parts : (all : ℕ) (a b : Label)
@@ -83,9 +56,7 @@ pub below-parts : (all : ℕ) (a b : Label)
 below-parts all a b =
     bool-ext (belowOf a b) (both (belowOf (confidentialityOf a) (confidentialityOf b)) (belowOf (integrityOf all a) (integrityOf all b)))
     (λ h. both-true (C-mono a b h) (I-mono all a b h))
-    (λ h. below-of-parts all a b
-    (both-left _ (belowOf (integrityOf all a) (integrityOf all b)) h)
-    (both-right (belowOf (confidentialityOf a) (confidentialityOf b)) _ h))
+    (λ h. below-of-parts all a b (both-left _ _ h) (both-right _ _ h))
 
 -- ---- C of a join
 pub C-join : (a b : Label) → confidentialityOf (joinOf a b) ≡ joinOf (confidentialityOf a) (confidentialityOf b)

@@ -6,11 +6,9 @@ use mathlib.Core.List.{List, [], _∷_}
 use Prim.Native.Nat.{ℕ, _<_}
 use native.Mathlib.Decide.{ℕ-discrete}
 use native.Mathlib.Omega.{arith}
-use lib.Dec.{ltb}
-use lib.ListN.{length, length-set, length-replicate}
+use lib.ListN.{length-set, length-replicate, getD-replicate}
 use lib.Seq.{getD-set-same, getD-set-other}
 use borrow.Author.Tests.{ltb-true}
-use Rattle.logic.specs.Booleans.{both}
 use Rattle.logic.proofs.BooleanLaws.{both-left, both-right}
 use Rattle.sets.specs.Sets.{union, within, single, everyone}
 use Rattle.sets.proofs.Walks.{getD-tab, length-tab}
@@ -18,27 +16,15 @@ use Rattle.sets.proofs.SetLaws.{within-refl, within-union-right, union-within, 
 use Rattle.labels.specs.declared.Label.{Label}
 use Rattle.labels.specs.Labels.{owners, readersOf, writersOf, openAt, openOf, policyOf, Policy, policy, withPolicies, labelOf, policyOn, policiesOn, wholeOf, effective}
 use Rattle.labels.specs.Lattice.{PoliciesEffective}
-use Rattle.labels.proofs.OrderLaws.{whole-intro, whole-readers, whole-writers}
-use Rattle.labels.proofs.PartLaws.{all-at}
+use Rattle.labels.proofs.OrderLaws.{whole-intro, whole-lengths}
 use Rattle.labels.proofs.EffectiveLaws.{Fits, effective-whole, effective-fits, fits-effective, closed-principal, open-principal, closed-within, single-within-open}
 
 -- an owner without a policy lets everyone read and write
-pub open-readers : (n all o : ℕ) → o < owners → readersOf (openOf n all) o ≡ all
-unfolding openOf
-open-readers n all o l = all-at all o l
-
-pub open-writers : (n all o : ℕ) → o < owners → writersOf (openOf n all) o ≡ openAt n all o
-unfolding openOf
-open-writers n all o l = getD-tab owners (openAt n all) o 0 l
-
-whole : (n : ℕ) → wholeOf (openOf n (everyone n)) ≡ true
-unfolding openOf
-whole n = whole-intro (openOf n (everyone n)) (length-replicate owners (everyone n)) (length-tab _ _)
-
 pub open-effective : (n : ℕ) → effective n (openOf n (everyone n)) ≡ true
+unfolding openOf
 open-effective n =
-    fits-effective n (openOf n (everyone n)) (whole n)
-    (λ o l. rw (open-readers n (everyone n) o l, open-writers n (everyone n) o l)
+    fits-effective n _ (whole-intro _ (length-replicate owners (everyone n)) (length-tab _ _))
+    (λ o l. rw (getD-replicate owners o (everyone n) 0 l, getD-tab owners (openAt n (everyone n)) o 0 l)
     (record {
       closed-in = closed-within n o;
       readers-in = within-refl (everyone n);
@@ -46,28 +32,11 @@ open-effective n =
       open-over = within-refl (openAt n (everyone n) o);
     }))
 
--- a policy settles the sets of its owner and no other
-pub policy-readers : (a : Label) (o r w : ℕ) → o < length (a .readers) → readersOf (policyOf a o r w) o ≡ union r (single o)
-unfolding policyOf
-policy-readers a o r w l = getD-set-same (a .readers) o (union r (single o)) 0 l
-
-pub policy-writers : (a : Label) (o r w : ℕ) → o < length (a .writers) → writersOf (policyOf a o r w) o ≡ union w (single o)
-unfolding policyOf
-policy-writers a o r w l = getD-set-same (a .writers) o (union w (single o)) 0 l
-
-pub policy-other-readers : (a : Label) (o r w k : ℕ) → (k ≡ o → ⊥) → readersOf (policyOf a o r w) k ≡ readersOf a k
-unfolding policyOf
-policy-other-readers a o r w k h = getD-set-other (a .readers) o k (union r (single o)) 0 h
-
-pub policy-other-writers : (a : Label) (o r w k : ℕ) → (k ≡ o → ⊥) → writersOf (policyOf a o r w) k ≡ writersOf a k
-unfolding policyOf
-policy-other-writers a o r w k h = getD-set-other (a .writers) o k (union w (single o)) 0 h
-
 pub policy-whole : (a : Label) (o r w : ℕ) → wholeOf a ≡ true → wholeOf (policyOf a o r w) ≡ true
 unfolding policyOf
 policy-whole a o r w h =
-    whole-intro (policyOf a o r w) (length-set (a .readers) o (union r (single o)) ∙ whole-readers a h)
-    (length-set (a .writers) o (union w (single o)) ∙ whole-writers a h)
+    whole-intro (policyOf a o r w) (length-set (a .readers) o (union r (single o)) ∙ whole-lengths a h .0)
+    (length-set (a .writers) o (union w (single o)) ∙ whole-lengths a h .1)
 
 -- a policy of the n principals keeps a label effective
 policy-fits : (n o r w : ℕ) → o < n → within r (everyone n) ≡ true → within w (everyone n) ≡ true → Fits n o (union r (single o)) (union w (single o))
@@ -81,27 +50,26 @@ policy-fits n o r w k hr hw =
 
 pub policy-effective : (n : ℕ) (a : Label) (o r w : ℕ) → o < n → within r (everyone n) ≡ true → within w (everyone n) ≡ true
     → effective n a ≡ true → effective n (policyOf a o r w) ≡ true
+unfolding policyOf
 policy-effective n a o r w k hr hw h =
     fits-effective n (policyOf a o r w) (policy-whole a o r w (effective-whole n a h)) (λ i l. go i l (ℕ-discrete i o))
   where
     go : (i : ℕ) → i < owners → Dec (i ≡ o) → Fits n i (readersOf (policyOf a o r w) i) (writersOf (policyOf a o r w) i)
     go i l (yes e) =
-        let m : o < owners = omega arith in
-        let wa = effective-whole n a h in
-        rw (e, policy-readers a o r w (omega (arith, whole-readers a wa)), policy-writers a o r w (omega (arith, whole-writers a wa)))
+        let (x, y) = whole-lengths a (effective-whole n a h) in
+        rw (e, getD-set-same (a .readers) o (union r (single o)) 0 (omega arith), getD-set-same (a .writers) o (union w (single o)) 0 (omega arith))
         (policy-fits n o r w k hr hw)
-    go i l (no d) = rw (policy-other-readers a o r w i d, policy-other-writers a o r w i d) (effective-fits n a h i l)
+    go i l (no d) =
+        rw (getD-set-other (a .readers) o i (union r (single o)) 0 d, getD-set-other (a .writers) o i (union w (single o)) 0 d) (effective-fits n a h i l)
 
 policies-keep : (n : ℕ) (a : Label) (ps : List Policy) → policiesOn n ps ≡ true → effective n a ≡ true → effective n (withPolicies a ps) ≡ true
 unfolding policiesOn policyOn withPolicies
 policies-keep n a [] on h = h
 policies-keep n a (policy o r w ∷ ps) on h =
-    let sets = both (within r (everyone n)) (within w (everyone n)) in
-    let p : both (ltb o n) sets ≡ true = both-left (both (ltb o n) sets) (policiesOn n ps) on in
-    let q : sets ≡ true = both-right (ltb o n) sets p in
-    policies-keep n (policyOf a o r w) ps (both-right (both (ltb o n) sets) (policiesOn n ps) on)
-    (policy-effective n a o r w (ltb-true o n (both-left (ltb o n) sets p)) (both-left _ (within w (everyone n)) q)
-    (both-right (within r (everyone n)) _ q) h)
+    let p = both-left _ _ on in
+    let q = both-right _ _ p in
+    policies-keep n (policyOf a o r w) ps (both-right _ _ on)
+    (policy-effective n a o r w (ltb-true o n (both-left _ _ p)) (both-left _ _ q) (both-right _ _ q) h)
 
 -- the label of policies that name only the n principals is effective
 pub policies-effective : PoliciesEffective

@@ -1,6 +1,6 @@
 -- Who reads and who writes, along the order.
 -- Assumes nothing.
-use mathlib.Core.Path.{_≡_, refl, sym, _∙_}
+use mathlib.Core.Path.{_≡_, refl}
 use mathlib.Core.Bool.{true}
 use Prim.Native.Nat.{ℕ, zero, suc, _≤_}
 use native.Mathlib.Nat.{lt-of-lt-of-le, not-suc-le-zero}
@@ -11,38 +11,25 @@ use Rattle.sets.proofs.SetLaws.{meets-mono}
 use Rattle.labels.specs.declared.Label.{Label}
 use Rattle.labels.specs.Labels.{owners, readersOf, writersOf, belowOf, confidentialityOf, integrityOf, readsOf, writesOf}
 use Rattle.labels.specs.Lattice.{EmptyGroups}
-use Rattle.labels.proofs.OrderLaws.{below-readers, below-writers}
+use Rattle.labels.proofs.OrderLaws.{below-at}
 
--- ---- who reads a label reads every label below it; who writes one writes every label above it
+-- who reads a label reads every label below it
 pub reads-down : (n : ℕ) → n ≤ owners → (g : ℕ) (a b : Label) → belowOf a b ≡ true → readsOf n g b ≡ true → readsOf n g a ≡ true
 unfolding readsOf
 reads-down n e g a b h r =
-    every-true n _ (λ o l. meets-mono g (readersOf b o) (readersOf a o) (below-readers a b h o (lt-of-lt-of-le l e)) (every-at n _ r o l))
+    every-true n _ (λ o l. meets-mono g (readersOf b o) (readersOf a o) (below-at a b h o (lt-of-lt-of-le l e) .0) (every-at n _ r o l))
 
-pub writes-up : (n : ℕ) → n ≤ owners → (g : ℕ) (a b : Label) → belowOf a b ≡ true → writesOf n g a ≡ true → writesOf n g b ≡ true
-unfolding writesOf
-writes-up n e g a b h w =
-    every-true n _ (λ o l. meets-mono g (writersOf a o) (writersOf b o) (below-writers a b h o (lt-of-lt-of-le l e)) (every-at n _ w o l))
-
--- ---- reading depends on C alone, writing on I alone
-pub reads-C : (n g : ℕ) (a : Label) → readsOf n g (confidentialityOf a) ≡ readsOf n g a
-unfolding readsOf confidentialityOf
-reads-C n g a = refl
-
-pub writes-I : (n g all : ℕ) (a : Label) → writesOf n g (integrityOf all a) ≡ writesOf n g a
-unfolding writesOf integrityOf
-writes-I n g all a = refl
-
--- a group that reads B reads A where C(A) ≤ C(B)
+-- reading depends on C alone, writing on I alone: who reads B reads A where C(A) ≤ C(B), and who writes A writes B where I(A) ≤ I(B)
 pub reads-down-C : (n : ℕ) → n ≤ owners → (g : ℕ) (a b : Label)
     → belowOf (confidentialityOf a) (confidentialityOf b) ≡ true → readsOf n g b ≡ true → readsOf n g a ≡ true
-reads-down-C n e g a b h r =
-    sym (reads-C n g a) ∙ reads-down n e g (confidentialityOf a) (confidentialityOf b) h (reads-C n g b ∙ r)
+unfolding readsOf confidentialityOf
+reads-down-C n e g a b h r = reads-down n e g (confidentialityOf a) (confidentialityOf b) h r
 
 pub writes-up-I : (n : ℕ) → n ≤ owners → (g all : ℕ) (a b : Label)
     → belowOf (integrityOf all a) (integrityOf all b) ≡ true → writesOf n g a ≡ true → writesOf n g b ≡ true
+unfolding writesOf integrityOf
 writes-up-I n e g all a b h w =
-    sym (writes-I n g all b) ∙ writes-up n e g (integrityOf all a) (integrityOf all b) h (writes-I n g all a ∙ w)
+    every-true n _ (λ o l. meets-mono g (writersOf a o) (writersOf b o) (below-at _ _ h o (lt-of-lt-of-le l e) .1) (every-at n _ w o l))
 
 -- the empty group reads nothing and writes nothing
 pub empty-groups : EmptyGroups

@@ -14,11 +14,11 @@ use Rattle.sets.proofs.Walks.{tab-ext, tab-getD}
 use Rattle.labels.specs.declared.Label.{Label}
 use Rattle.labels.specs.Labels.{owners, wholeOf}
 use Rattle.labels.specs.Internal.Tables.{labelSize, labelWords, setsAt, labelAt, labelPut}
-use Rattle.labels.proofs.OrderLaws.{label-path, whole-readers, whole-writers}
+use Rattle.labels.proofs.OrderLaws.{label-path, whole-lengths}
 
 pub length-words : (a : Label) → wholeOf a ≡ true → length (labelWords a) ≡ labelSize
 unfolding labelWords
-length-words a h = length-append (a .readers) (a .writers) ∙ ap₂ (λ (x y : ℕ). x + y) (whole-readers a h) (whole-writers a h)
+length-words a h = length-append (a .readers) (a .writers) ∙ ap₂ (λ (x y : ℕ). x + y) (whole-lengths a h .0) (whole-lengths a h .1)
 
 -- ---- what stands in the midst of a table is read back
 sets-read : (xs row ys : List ℕ) → length row ≡ owners → setsAt (xs ++ (row ++ ys)) (length xs) ≡ row
@@ -35,10 +35,10 @@ label-read xs ys a h =
     let w = a .writers in
     let here : xs ++ (r ++ w) ++ ys ≡ xs ++ (r ++ (w ++ ys)) = simp append-assoc in
     let there : xs ++ (r ++ w) ++ ys ≡ (xs ++ r) ++ (w ++ ys) = simp append-assoc in
-    let past : length xs + owners ≡ length (xs ++ r) = sym (length-append xs r ∙ ap (λ (n : ℕ). length xs + n) (whole-readers a h)) in
+    let past : length xs + owners ≡ length (xs ++ r) = sym (length-append xs r ∙ ap (λ (n : ℕ). length xs + n) (whole-lengths a h .0)) in
     label-path (labelAt (xs ++ (r ++ w) ++ ys) (length xs)) a
-    (ap (λ (t : List ℕ). setsAt t (length xs)) here ∙ sets-read xs r (w ++ ys) (whole-readers a h))
-    (ap₂ setsAt there past ∙ sets-read (xs ++ r) w ys (whole-writers a h))
+    (ap (λ (t : List ℕ). setsAt t (length xs)) here ∙ sets-read xs r (w ++ ys) (whole-lengths a h .0))
+    (ap₂ setsAt there past ∙ sets-read (xs ++ r) w ys (whole-lengths a h .1))
 
 -- ---- a label is stored where it fits
 module _ (t : List ℕ) (at : ℕ) (a : Label) where
@@ -68,13 +68,13 @@ put-rows t at a h l =
     let r = a .readers in
     let w = a .writers in
     let p = paste t at r owners in
-    let long : owners ≤ length r = omega (arith, whole-readers a h) in
+    let long : owners ≤ length r = omega (arith, whole-lengths a h .0) in
     let front : take (at + owners) p ≡ take at t ++ r =
-    take-paste t at r owners (omega arith) long ∙ ap (λ (x : List ℕ). take at t ++ x) (take-all owners r (omega (arith, whole-readers a h))) in
+    take-paste t at r owners (omega arith) long ∙ ap (λ (x : List ℕ). take at t ++ x) (take-all owners r (omega (arith, whole-lengths a h .0))) in
     let back : drop (at + owners + owners) p ≡ drop (at + labelSize) t =
     sym (drop-drop owners (at + owners) p) ∙ ap (drop owners) (drop-paste t at r owners (omega arith) long)
     ∙ drop-drop owners (at + owners) t ∙ ap (λ (k : ℕ). drop k t) (add-assoc at owners owners) in
     ap₂ (λ (x y : List ℕ). x ++ take owners w ++ y) front back
-    ∙ ap (λ (x : List ℕ). take at t ++ r ++ x ++ drop (at + labelSize) t) (take-all owners w (omega (arith, whole-writers a h)))
+    ∙ ap (λ (x : List ℕ). take at t ++ r ++ x ++ drop (at + labelSize) t) (take-all owners w (omega (arith, whole-lengths a h .1)))
     ∙ ap (λ (x : List ℕ). x ++ drop (at + labelSize) t) (append-assoc (take at t) r w)
     ∙ sym (put-fits t at a l)

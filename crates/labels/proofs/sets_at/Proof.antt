@@ -19,11 +19,8 @@ Inv-loop table at skip out₀ o₀ out o = (o ≤ owners) × (out ≡ filled (λ
 abbrev μ-loop : tie.MeasureT-loop
 μ-loop table at skip out₀ o₀ out o = owners - o
 
-returns : tie.Need-returns Inv-loop μ-loop
-unfolding setsAt
-returns c = fill-end _ _ _ _ (c .before .loop .inv .1) owners (omega arith) (search needs)
-
 pub sets-at-spec : {M : Type 1} → statement M
+unfolding setsAt
 sets-at-spec = tie.close (tie.spec
     Inv-loop
     μ-loop
@@ -41,4 +38,4 @@ sets-at-spec = tie.close (tie.spec
       fill-store _ _ _ _ (c .before .before .loop .inv .1) (omega arith)
           (c .word-at .ensures ∙ ap (λ (i : ℕ). getD (now (a .table)) i 0) (sym (add-assoc (a .at) (a .skip) o))),
     ))  -- loop-again
-    returns)
+    (λ c. fill-end _ _ _ _ (c .before .loop .inv .1) owners (omega arith) (search needs)))  -- returns

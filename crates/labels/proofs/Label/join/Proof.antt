@@ -6,6 +6,7 @@ use native.Mathlib.Omega.{arith}
 use Rattle.sets.specs.Sets.{union, intersection}
 use Rattle.sets.proofs.Walks.{filled, filled-none, fill-read, fill-store, fill-end}
 use Rattle.labels.specs.Labels.{owners, readersOf, writersOf, joinOf}
+use Rattle.labels.proofs.OrderLaws.{label-path}
 use borrow.Author.Needs.{needs}
 use Rattle.labels.proofs.Label.join.Statement.{statement}
 use Rattle.labels.proofs.Label.join.Tie as tie
@@ -19,26 +20,8 @@ Inv-loop other out₀ o₀ out o =
 abbrev μ-loop : tie.MeasureT-loop
 μ-loop other out₀ o₀ out o = owners - o
 
-loop-again : tie.Need-loop-again Inv-loop μ-loop
-loop-again c =
-    let i = c .before .before .before in
-    let l = i .before .before .before .before .loop in
-    let b = i .before .before .before .before .before .args .t2 in (
-      search needs,
-      fill-store _ _ _ _ (l .inv .1) (search needs)
-          (i .intersection .ensures ∙ ap (λ (x : ℕ). intersection x (readersOf b (l .o))) (fill-read _ _ _ _ (l .inv .1) (search needs))),
-      fill-store _ _ _ _ (l .inv .2) (search needs)
-          (c .union .ensures ∙ ap (λ (x : ℕ). union x (writersOf b (l .o))) (fill-read _ _ _ _ (l .inv .2) (search needs))),
-    )
-
-returns : tie.Need-returns Inv-loop μ-loop
-unfolding joinOf
-returns c =
-    let r = fill-end _ _ _ _ (c .before .loop .inv .1) owners (omega arith) (search needs) in
-    let w = fill-end _ _ _ _ (c .before .loop .inv .2) owners (omega arith) (search needs) in
-    λ i. record { readers = r i; writers = w i }
-
 pub join-spec : {M : Type 1} → statement M
+unfolding joinOf
 join-spec = tie.close (tie.spec
     Inv-loop
     μ-loop
@@ -59,5 +42,16 @@ join-spec = tie.close (tie.spec
     (λ c. search needs)  -- element-write-out-2
     (λ c. search needs)  -- add-o
     (λ c. search needs)  -- loop-less
-    loop-again
-    returns)
+    (λ c.
+    let i = c .before .before .before in
+    let l = i .before .before .before .before .loop in
+    let b = i .before .before .before .before .before .args .t2 in (
+      search needs,
+      fill-store _ _ _ _ (l .inv .1) (search needs)
+          (i .intersection .ensures ∙ ap (λ (x : ℕ). intersection x (readersOf b (l .o))) (fill-read _ _ _ _ (l .inv .1) (search needs))),
+      fill-store _ _ _ _ (l .inv .2) (search needs)
+          (c .union .ensures ∙ ap (λ (x : ℕ). union x (writersOf b (l .o))) (fill-read _ _ _ _ (l .inv .2) (search needs))),
+    ))  -- loop-again
+    (λ c.
+    let l = c .before .loop .inv in
+    label-path _ _ (fill-end _ _ _ _ (l .1) owners (omega arith) (search needs)) (fill-end _ _ _ _ (l .2) owners (omega arith) (search needs))))  -- returns

@@ -3,11 +3,8 @@ use borrow.Author.Needs.{needs}
 use Rattle.labels.proofs.Label.reads.Statement.{statement}
 use Rattle.labels.proofs.Label.reads.Tie as tie
 
-returns : tie.Need-returns
-unfolding readsOf
-returns c = c .meets-each .ensures
-
 pub reads-spec : {M : Type 1} → statement M
+unfolding readsOf
 reads-spec = tie.close (tie.spec
     (λ c κs. search needs)  -- meets-each-requires
-    returns)
+    (λ c. c .meets-each .ensures))  -- returns

@@ -10,26 +10,14 @@ use borrow.Author.Needs.{needs}
 use Rattle.labels.proofs.Label.with_policy.Statement.{statement}
 use Rattle.labels.proofs.Label.with_policy.Tie as tie
 
-returns : tie.Need-returns
+pub with-policy-spec : {M : Type 1} → statement M
 unfolding policyOf
-returns c =
+with-policy-spec = tie.close (tie.spec
+    (λ c.
     let a = c .before .args in
     let r : length (a .t1 .readers) ≡ owners = search needs in
     let w : length (a .t1 .writers) ≡ owners = search needs in
-    label-path (a .t1) (policyOf (a .t1) (a .owner) (a .readers) (a .writers))
-    (sym (set-out (a .t1 .readers) (a .owner) _ (omega arith)))
-    (sym (set-out (a .t1 .writers) (a .owner) _ (omega arith)))
-
-returns-2 : tie.Need-returns-2
-unfolding policyOf
-returns-2 c =
-    let s = c .before .before in
-    let own = s .single .ensures ∙ restrict-single width (s .before .before .args .owner) (omega arith) in
-    rw (c .before .union .ensures, c .union2 .ensures, own)
-
-pub with-policy-spec : {M : Type 1} → statement M
-with-policy-spec = tie.close (tie.spec
-    returns
+    label-path (a .t1) (policyOf (a .t1) (a .owner) (a .readers) (a .writers)) (sym (set-out _ _ _ (omega arith))) (sym (set-out _ _ _ (omega arith))))  -- returns
     (λ c κs. search needs)  -- single-requires
     (λ c κs. search needs)  -- union-requires
     (λ c. search needs)  -- mul-self
@@ -37,4 +25,7 @@ with-policy-spec = tie.close (tie.spec
     (λ c κs. search needs)  -- union-requires-2
     (λ c. search needs)  -- mul-self-2
     (λ c. search needs)  -- element-write-self-2
-    returns-2)
+    (λ c.
+    let s = c .before .before in
+    let own = s .single .ensures ∙ restrict-single width (s .before .before .args .owner) (omega arith) in
+    rw (c .before .union .ensures, c .union2 .ensures, own)))  -- returns-2

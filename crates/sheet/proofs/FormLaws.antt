@@ -1,15 +1,15 @@
 -- What a sheet of the right form satisfies, fact by fact.
 -- Assumes nothing.
 use mathlib.Core.Path.{_≡_, refl}
-use mathlib.Core.Bool.{Bool, true, false}
+use mathlib.Core.Bool.{true}
 use mathlib.Core.List.{List, [], _∷_}
 use Prim.Native.Nat.{ℕ, zero, suc, _+_, _<_, _≤_}
 use native.Mathlib.Nat.{add-zero}
 use native.Mathlib.Omega.{arith}
-use lib.Dec.{ltb}
 use lib.ListN.{length, getD, List·getD-eq-default}
-use borrow.Author.Tests.{ltb-true, ltb-false, leb-true}
+use borrow.Author.Tests.{ltb-true, leb-true}
 use Rattle.logic.proofs.BooleanLaws.{both-left, both-right}
+use Rattle.sets.proofs.Walks.{by-below}
 use Rattle.labels.specs.Labels.{Policy}
 use Rattle.sheet.specs.Sheet.{Sum, Location, Sheet, givenParts, partsOf, partsNo, typeCount, labelCount, locationNo, locationCount, earlier, rising, eachRising, eachNamed, maxPrincipals, maxSums, maxLabels, maxLocations, formed}
 
@@ -92,7 +92,7 @@ module _ (s : Sheet) (fm : formed s ≡ true) where
   facts = formed-facts s fm
 
   -- the parts of a sum are earlier types
-  parts-earlier : (n : ℕ) → 3 ≤ n → n < typeCount s → (partsNo s n .left < n) × (partsNo s n .right < n)
+  pub parts-earlier : (n : ℕ) → 3 ≤ n → n < typeCount s → (partsNo s n .left < n) × (partsNo s n .right < n)
   unfolding partsNo partsOf givenParts
   parts-earlier zero h k = absurd (omega arith)
   parts-earlier (suc zero) h k = absurd (omega arith)
@@ -103,46 +103,23 @@ module _ (s : Sheet) (fm : formed s ≡ true) where
       let (l, r) = earlier-at 5 (s .sums) (facts .sums-earlier) i (record { left = 0; right = 0 }) (omega (arith, type-count s)) in
       (omega arith, omega arith)
 
-  pub left-earlier : (n : ℕ) → 3 ≤ n → n < typeCount s → partsNo s n .left < n
-  left-earlier n h k = parts-earlier n h k .0
-
-  pub right-earlier : (n : ℕ) → 3 ≤ n → n < typeCount s → partsNo s n .right < n
-  right-earlier n h k = parts-earlier n h k .1
-
   -- every number has parts that are there
-  parts-there : (n : ℕ) → (partsNo s n .left < typeCount s) × (partsNo s n .right < typeCount s)
+  pub parts-there : (n : ℕ) → (partsNo s n .left < typeCount s) × (partsNo s n .right < typeCount s)
   unfolding partsNo partsOf givenParts
-  parts-there n = at n (ltb n (typeCount s)) refl
-    where
-      at : (n : ℕ) (b : Bool) → ltb n (typeCount s) ≡ b → (partsNo s n .left < typeCount s) × (partsNo s n .right < typeCount s)
-      at zero b e = (omega (arith, type-count s), omega (arith, type-count s))
-      at (suc zero) b e = (omega (arith, type-count s), omega (arith, type-count s))
-      at (suc (suc zero)) b e = (omega (arith, type-count s), omega (arith, type-count s))
-      at (suc (suc (suc i))) true e =
-          let h = ltb-true _ _ e in
-          (omega (arith, left-earlier (suc (suc (suc i))) (omega arith) h), omega (arith, right-earlier (suc (suc (suc i))) (omega arith) h))
-      at (suc (suc (suc i))) false e = rw (parts-past s _ (ltb-false _ _ e)) (omega (arith, type-count s), omega (arith, type-count s))
-
-  pub left-there : (n : ℕ) → partsNo s n .left < typeCount s
-  left-there n = parts-there n .0
-
-  pub right-there : (n : ℕ) → partsNo s n .right < typeCount s
-  right-there n = parts-there n .1
+  parts-there zero = (omega (arith, type-count s), omega (arith, type-count s))
+  parts-there (suc zero) = (omega (arith, type-count s), omega (arith, type-count s))
+  parts-there (suc (suc zero)) = (omega (arith, type-count s), omega (arith, type-count s))
+  parts-there (suc (suc (suc i))) =
+      by-below (suc (suc (suc i))) (typeCount s) (λ h. let (l, r) = parts-earlier _ (omega arith) h in (omega arith, omega arith))
+      (λ h. rw (parts-past s _ h) (omega (arith, type-count s), omega (arith, type-count s)))
 
   -- the owners of each label rise, and its sets are of the sheet's principals
   pub label-rising : (l : ℕ) → rising (s .principals) 0 (getD (s .labels) l []) ≡ true
   label-rising l = rising-at (s .principals) (s .labels) (facts .labels-rising) l
 
-  -- a location's type is there
-  pub location-type : (x : ℕ) → x < locationCount s → locationNo s x .type < typeCount s
-  unfolding locationNo locationCount
-  location-type x h = named-at _ _ (s .locations) (facts .locations-named) x _ h .0
-
-  -- and every number of a location has a type that is there
+  -- every number of a location has a type that is there
   pub location-type-there : (x : ℕ) → locationNo s x .type < typeCount s
   unfolding locationNo locationCount
-  location-type-there x = at (ltb x (locationCount s)) refl
-    where
-      at : (b : Bool) → ltb x (locationCount s) ≡ b → locationNo s x .type < typeCount s
-      at true e = location-type x (ltb-true _ _ e)
-      at false e = rw (List·getD-eq-default (s .locations) _ {n = x} (ltb-false _ _ e)) (omega (arith, type-count s))
+  location-type-there x =
+      by-below x (locationCount s) (λ h. named-at _ _ (s .locations) (facts .locations-named) x _ h .0)
+      (λ h. rw (List·getD-eq-default (s .locations) _ {n = x} h) (omega (arith, type-count s)))

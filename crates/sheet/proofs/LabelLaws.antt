@@ -1,15 +1,15 @@
 -- The labels of a sheet of the right form: each is one of its principals, and the table has it.
 -- Assumes nothing.
 use mathlib.Core.Path.{_≡_, refl, sym, ap, ap₂, _∙_}
-use mathlib.Core.Bool.{Bool, true, false}
+use mathlib.Core.Bool.{true}
 use mathlib.Core.List.{List, [], _∷_, _++_, append-assoc, map}
 use Prim.Native.Nat.{ℕ, zero, suc, _+_, _*_, _-_, _<_}
 use native.Mathlib.Omega.{arith}
-use lib.Dec.{ltb}
 use lib.ListN.{length, getD, replicate, length-append, length-map, List·getD-eq-default}
-use borrow.Author.Tests.{ltb-true, ltb-false}
+use borrow.Author.Tests.{ltb-true}
 use Rattle.sets.specs.Sets.{everyone}
 use Rattle.logic.proofs.BooleanLaws.{both-left, both-right, both-true}
+use Rattle.sets.proofs.Walks.{by-below}
 use Rattle.sets.proofs.SetLaws.{within-everyone}
 use Rattle.labels.specs.Labels.{Policy, policy, policyOn, policiesOn, labelOf, bottomOf, wholeOf, effective}
 use Rattle.labels.specs.Internal.Tables.{labelSize, labelWords, labelAt}
@@ -37,9 +37,6 @@ rising-on n from (policy o r w ∷ ps) h =
     (both-true (within-everyone n r (ltb-true _ _ (both-left _ _ sets))) (within-everyone n w (ltb-true _ _ (both-right _ _ sets)))))
     (rising-on n (suc o) ps (both-right _ _ sets-and-rest))
 
-pub policies-on : (s : Sheet) → formed s ≡ true → (l : ℕ) → policiesOn (s .principals) (getD (s .labels) l []) ≡ true
-policies-on s fm l = rising-on (s .principals) 0 (getD (s .labels) l []) (label-rising s fm l)
-
 each-effective : (n : ℕ) (pss : List (List Policy)) → ((l : ℕ) → policiesOn n (getD pss l []) ≡ true) → (l : ℕ)
     → effective n (getD (map (labelOf n) pss) l (bottomOf (everyone n))) ≡ true
 each-effective n [] on l = bottom-effective n
@@ -49,7 +46,7 @@ each-effective n (ps ∷ pss) on (suc l) = each-effective n pss (λ k. on (suc k
 -- every number names a label of the sheet's principals
 pub label-no-effective : (s : Sheet) → formed s ≡ true → (l : ℕ) → effective (s .principals) (labelNo s l) ≡ true
 unfolding labelNo labelsOf
-label-no-effective s fm l = each-effective (s .principals) (s .labels) (policies-on s fm) l
+label-no-effective s fm l = each-effective (s .principals) (s .labels) (λ k. rising-on _ 0 _ (label-rising s fm k)) l
 
 -- ---- the words of labels
 
@@ -80,16 +77,12 @@ module _ (s : Sheet) (fm : formed s ≡ true) where
 
   pub label-in : (l : ℕ) → labelIn (tableOf s) l ≡ labelNo s l
   unfolding labelNo padded
-  label-in l = at (ltb l (labelCount s)) refl
-    where
-      at : (b : Bool) → ltb l (labelCount s) ≡ b → labelIn (tableOf s) l ≡ labelNo s l
-      at true e =
-          let h = ltb-true l (labelCount s) e in
-          let zeros : List ℕ = replicate (labelsRoom - length (labelsWords (labelsOf s))) 0 in
-          label-there (tableOf s) l (sym (labels-in s)) h
-          ∙ ap₂ labelAt (from-labels s) (ap (λ (n : ℕ). n + labelSize * l) (sym (labels-start s fm)))
-          ∙ label-among (toLabels s) (labelsOf s) zeros _ (λ l h. whole l) l (omega (arith, labels-long))
-      at false e =
-          let h = ltb-false l (labelCount s) e in
-          label-past (tableOf s) l (sym (labels-in s)) (sym (everyone-in s)) h
-          ∙ sym (List·getD-eq-default (labelsOf s) _ {n = l} (omega (arith, labels-long)))
+  label-in l =
+      by-below l (labelCount s)
+      (λ h.
+      let zeros : List ℕ = replicate (labelsRoom - length (labelsWords (labelsOf s))) 0 in
+      label-there (tableOf s) l (sym (labels-in s)) h
+      ∙ ap₂ labelAt (from-labels s) (ap (λ (n : ℕ). n + labelSize * l) (sym (labels-start s fm)))
+      ∙ label-among (toLabels s) (labelsOf s) zeros _ (λ l h. whole l) l (omega (arith, labels-long)))
+      (λ h. label-past (tableOf s) l (sym (labels-in s)) (sym (everyone-in s)) h
+      ∙ sym (List·getD-eq-default (labelsOf s) _ {n = l} (omega (arith, labels-long))))

@@ -5,8 +5,7 @@ use mathlib.Core.Path.{_≡_, refl, ap₂}
 use mathlib.Core.Bool.{Bool, true, false}
 use Prim.Native.Nat.{ℕ}
 use Rattle.logic.proofs.BooleanLaws.{absurd-false}
-use Rattle.sets.specs.Sets.{everyone}
-use Rattle.labels.specs.Labels.{belowOf, readsOf, writesOf, wholeOf, effective, EffectiveLabel}
+use Rattle.labels.specs.Labels.{belowOf, confidentialityOf, integrityOf, readsOf, writesOf, wholeOf, effective, EffectiveLabel}
 use Rattle.labels.specs.declared.Label.{Label}
 use Rattle.labels.proofs.OrderLaws as order
 use Rattle.labels.proofs.PartLaws as part
@@ -22,6 +21,7 @@ use Rattle.sheet.proofs.TableLaws.{principals-in}
 use Rattle.sheet.proofs.LabelLaws.{label-no-effective, label-in}
 
 pub least-label-laws : LeastLabelLawsHold
+unfolding confidentialityOf integrityOf
 least-label-laws n =
     let whole : (a : EffectiveLabel n) → wholeOf (a .raw) ≡ true = λ a. effect.effective-whole n (a .raw) (a .ok) in
     record {
@@ -33,10 +33,10 @@ least-label-laws n =
       leq-join-right = λ a b. order.join-right (a .raw) (b .raw);
       join-leq = λ a b c. order.join-least (a .raw) (b .raw) (c .raw);
       conf-mono = λ a b. part.C-mono (a .raw) (b .raw);
-      conf-idem = λ a. effective-path n _ _ (part.C-idem (a .raw));
+      conf-idem = λ a. effective-path n _ _ refl;
       conf-join = λ a b. effective-path n _ _ (part.C-join (a .raw) (b .raw));
       integ-leq = λ a. effect.I-below n (a .raw) (a .ok);
-      integ-idem = λ a. effective-path n _ _ (part.I-idem (everyone n) (a .raw));
+      integ-idem = λ a. effective-path n _ _ refl;
     }
 
 -- a label of n principals is taken as it is

@@ -4,37 +4,25 @@ use mathlib.Core.Path.{_≡_, refl, sym, ap, _∙_}
 use mathlib.Core.Bool.{Bool, true, false}
 use Prim.Native.Nat.{ℕ, _<_, _≤_}
 use native.Mathlib.Omega.{arith}
-use lib.Dec.{ltb, eqb}
-use borrow.Author.Tests.{ltb-true, ltb-false, lt-ltb, le-leb, eqb-true, eq-eqb, ne-eqb}
+use lib.Dec.{eqb}
+use borrow.Author.Tests.{lt-ltb, le-leb, eqb-true, eq-eqb, ne-eqb}
 use Rattle.logic.specs.Booleans.{both}
-use Rattle.logic.proofs.BooleanLaws.{absurd-false, bool-ext, both-true}
+use Rattle.logic.proofs.BooleanLaws.{both-true, not-so}
+use Rattle.sets.proofs.Walks.{by-below}
 use Rattle.language.specs.Syntax.{Ty, t-int, t-err, t-pkg, t-sum, Ty-discrete, Value, int, err, inl, inr, pkg, blank, has}
 use Rattle.language.specs.World.{wanted}
 use Rattle.language.specs.Typing.{isYes, sameTy}
 use Rattle.sheet.specs.Sheet.{Sheet, tyOf, givenParts, partsOf, partsNo, typeCount, formed, repeats}
 use Rattle.sheet.specs.Internal.Tables.{tableOf, typesIn, leftIn, rightIn, typeIn}
 use Rattle.sheet.specs.Internal.TypeTest.{isSum, hasNo}
-use Rattle.sheet.proofs.FormLaws.{left-there, right-there, parts-past, location-type-there}
+use Rattle.sheet.proofs.FormLaws.{parts-there, parts-past, location-type-there}
 use Rattle.sheet.proofs.TypeLaws.{ty-0, ty-past, ty-sum, ty-sum-there, Which, is-int, is-err, is-pkg, is-sum, which, ty-once}
 use Rattle.sheet.proofs.TableLaws.{types-in, left-in, right-in, type-in}
 
-is-yes : {P : Type 0} (d : Dec P) → P → isYes d ≡ true
+is-yes : {P : Type 0} (d : Dec P) (b : Bool) → (b ≡ true → P) → (P → b ≡ true) → b ≡ isYes d
 unfolding isYes
-is-yes (yes q) p = refl
-is-yes (no n) p = absurd (n p)
-
-yes-is : {P : Type 0} (d : Dec P) → isYes d ≡ true → P
-unfolding isYes
-yes-is (yes q) e = q
-yes-is (no n) e = absurd (absurd-false e)
-
-same-ty : (a : Ty) → sameTy a a ≡ true
-unfolding sameTy
-same-ty a = is-yes (Ty-discrete a a) refl
-
-ty-same : (a b : Ty) → sameTy a b ≡ true → a ≡ b
-unfolding sameTy
-ty-same a b e = yes-is (Ty-discrete a b) e
+is-yes (yes p) b f g = g p
+is-yes (no n) b f g = not-so b (λ e. n (f e))
 
 module _ (s : Sheet) (fm : formed s ≡ true) where
   -- ---- sums and their parts
@@ -45,10 +33,10 @@ module _ (s : Sheet) (fm : formed s ≡ true) where
 
   -- every number has parts that are there
   pub left-in-there : (n : ℕ) → leftIn (tableOf s) n < typesIn (tableOf s)
-  left-in-there n = rw (left-in s fm n, types-in s) (left-there s fm n)
+  left-in-there n = rw (left-in s fm n, types-in s) (parts-there s fm n .0)
 
   pub right-in-there : (n : ℕ) → rightIn (tableOf s) n < typesIn (tableOf s)
-  right-in-there n = rw (right-in s fm n, types-in s) (right-there s fm n)
+  right-in-there n = rw (right-in s fm n, types-in s) (parts-there s fm n .1)
 
   -- only a sum's number names a sum
   pub sum-in-there : (n : ℕ) (a b : Ty) → tyOf s n ≡ t-sum a b → (3 ≤ n) × (n < typesIn (tableOf s))
@@ -61,10 +49,9 @@ module _ (s : Sheet) (fm : formed s ≡ true) where
   -- so equal numbers are equal types
   pub same-number-type : repeats s ≡ false → (m n : ℕ) → m < typesIn (tableOf s) → n < typesIn (tableOf s)
       → eqb m n ≡ sameTy (tyOf s m) (tyOf s n)
+  unfolding sameTy
   same-number-type once m n h k =
-      bool-ext (eqb m n) (sameTy (tyOf s m) (tyOf s n))
-      (λ e. rw (eqb-true m n e) (same-ty (tyOf s n)))
-      (λ e. eq-eqb m n (type-in-once once m n h k (ty-same (tyOf s m) (tyOf s n) e)))
+      is-yes (Ty-discrete (tyOf s m) (tyOf s n)) (eqb m n) (λ e. ap (tyOf s) (eqb-true m n e)) (λ e. eq-eqb m n (type-in-once once m n h k e))
 
   -- ---- locations
 
@@ -83,11 +70,9 @@ module _ (s : Sheet) (fm : formed s ≡ true) where
 
   pub left-wanted : (n : ℕ) → tyOf s (leftIn (tableOf s) n) ≡ wanted (tyOf s n)
   unfolding wanted
-  left-wanted n = ap (tyOf s) (left-in s fm n) ∙ at (ltb n (typeCount s)) refl
-    where
-      at : (b : Bool) → ltb n (typeCount s) ≡ b → tyOf s (partsNo s n .left) ≡ wanted (tyOf s n)
-      at true e = wanted-of (which s fm n (ltb-true _ _ e))
-      at false e = rw (parts-past s n (ltb-false _ _ e), ty-past s n (ltb-false _ _ e)) (ty-0 s)
+  left-wanted n =
+      ap (tyOf s) (left-in s fm n)
+      ∙ by-below n (typeCount s) (λ h. wanted-of (which s fm n h)) (λ h. rw (parts-past s n h, ty-past s n h) (ty-0 s))
 
   pub sum-number : (n : ℕ) → 3 ≤ n → n < typeCount s → isSum (tableOf s) n ≡ true
   unfolding isSum
@@ -118,10 +103,10 @@ module _ (s : Sheet) (fm : formed s ≡ true) where
   has-no (err e) n h = test-plain 1 (has (err e)) (omega arith) refl refl refl (λ a b. refl) (which s fm n h)
   has-no (inl v) n h =
       test-sum _ (has (inl v)) refl refl refl
-      (λ a b p q. ap (hasNo (tableOf s) v) (left-in s fm n) ∙ has-no v (partsNo s n .left) (left-there s fm n) ∙ ap (has v) p) (which s fm n h)
+      (λ a b p q. ap (hasNo (tableOf s) v) (left-in s fm n) ∙ has-no v (partsNo s n .left) (parts-there s fm n .0) ∙ ap (has v) p) (which s fm n h)
   has-no (inr v) n h =
       test-sum _ (has (inr v)) refl refl refl
-      (λ a b p q. ap (hasNo (tableOf s) v) (right-in s fm n) ∙ has-no v (partsNo s n .right) (right-there s fm n) ∙ ap (has v) q) (which s fm n h)
+      (λ a b p q. ap (hasNo (tableOf s) v) (right-in s fm n) ∙ has-no v (partsNo s n .right) (parts-there s fm n .1) ∙ ap (has v) q) (which s fm n h)
   has-no (pkg l v) n h = test-plain 2 (has (pkg l v)) (omega arith) refl refl refl (λ a b. refl) (which s fm n h)
   has-no blank n h = refl
 

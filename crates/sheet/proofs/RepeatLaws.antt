@@ -1,15 +1,15 @@
 -- What no repeat means: entries that are the same stand at the same place.
 -- Assumes nothing.
-use mathlib.Core.Path.{_≡_, refl, sym, _∙_}
+use mathlib.Core.Path.{_≡_, refl, sym}
 use mathlib.Core.Bool.{Bool, true, false}
 use mathlib.Core.List.{List, [], _∷_, _++_}
 use Prim.Native.Nat.{ℕ, zero, suc, _<_, _≤_}
 use native.Mathlib.Omega.{arith}
-use lib.Dec.{ltb}
 use lib.ListN.{length, getD, length-map}
-use borrow.Author.Tests.{ltb-true, ltb-false, eq-eqb}
+use borrow.Author.Tests.{eq-eqb}
 use Rattle.logic.specs.Booleans.{either}
-use Rattle.logic.proofs.BooleanLaws.{absurd-false, both-true, either-left, either-right}
+use Rattle.logic.proofs.BooleanLaws.{absurd-false, fails, both-true, either-left, either-right}
+use Rattle.sets.proofs.Walks.{by-below}
 use Rattle.sets.specs.Sets.{everyone}
 use Rattle.labels.specs.Labels.{labelOf, bottomOf, sameOf}
 use Rattle.labels.proofs.OrderLaws.{same-refl}
@@ -33,22 +33,14 @@ module _ {A : Type 0} (same : A → A → Bool) (d : A) where
   -- the same entries, both ways round, stand at the same place
   same-place : (xs : List A) → repeated same xs ≡ false → (i j : ℕ) → i < length xs → j < length xs
       → same (getD xs i d) (getD xs j d) ≡ true → same (getD xs j d) (getD xs i d) ≡ true → i ≡ j
-  same-place xs once i j h k p q = at (ltb i j) (ltb j i) refl refl
-    where
-      at : (a b : Bool) → ltb i j ≡ a → ltb j i ≡ b → i ≡ j
-      at true b e f = absurd (absurd-false (sym once ∙ repeated-at xs i j (ltb-true _ _ e) k p))
-      at false true e f = absurd (absurd-false (sym once ∙ repeated-at xs j i (ltb-true _ _ f) h q))
-      at false false e f = omega (arith, ltb-false i j e, ltb-false j i f)
+  same-place xs once i j h k p q =
+      by-below i j (λ l. absurd (fails once (repeated-at xs i j l k p)))
+      (λ l. by-below j i (λ m. absurd (fails once (repeated-at xs j i m h q))) (λ m. omega arith))
 
-neither-left : (a b : Bool) → either a b ≡ false → a ≡ false
+neither : (a b : Bool) → either a b ≡ false → (a ≡ false) × (b ≡ false)
 unfolding either
-neither-left true b e = e
-neither-left false b e = refl
-
-neither-right : (a b : Bool) → either a b ≡ false → b ≡ false
-unfolding either
-neither-right true b e = absurd (absurd-false (sym e))
-neither-right false b e = e
+neither true b e = absurd (absurd-false (sym e))
+neither false b e = (refl, e)
 
 parts-same : (a b : Sum) → a .left ≡ b .left → a .right ≡ b .right → sameParts a b ≡ true
 unfolding sameParts
@@ -67,7 +59,7 @@ parts-once s once (suc (suc (suc i))) (suc (suc zero)) h k h′ k′ p q = absur
 parts-once s once (suc (suc (suc i))) (suc (suc (suc j))) h k h′ k′ p q =
     let no-parts : Sum = record { left = 0; right = 0 } in
     let e =
-    same-place sameParts no-parts (givenSums ++ s .sums) (neither-left _ _ once) i j (omega arith) (omega arith)
+    same-place sameParts no-parts (givenSums ++ s .sums) (neither _ _ once .0) i j (omega arith) (omega arith)
     (parts-same _ _ p q) (parts-same _ _ (sym p) (sym q)) in
     omega (arith, e)
 
@@ -76,5 +68,5 @@ pub label-once : (s : Sheet) → repeats s ≡ false → (l m : ℕ) → l < lab
 unfolding repeats labelNo labelsOf labelCount
 label-once s once l m h k p =
     let long = length-map (s .labels) (labelOf (s .principals)) in
-    same-place sameOf (bottomOf (everyone (s .principals))) (labelsOf s) (neither-right _ _ once) l m (omega arith) (omega arith)
+    same-place sameOf (bottomOf (everyone (s .principals))) (labelsOf s) (neither _ _ once .1) l m (omega arith) (omega arith)
     (rw p (same-refl _)) (rw p (same-refl _))

@@ -11,7 +11,7 @@ use Rattle.sheet.specs.Sheet.{Sum, Location, Sheet, partsOf, partsNo, ty
 use Rattle.sheet.specs.Padding.{padded}
 use Rattle.sheet.specs.Internal.Tables.{partsRoom, locationsRoom, labelsRoom, partsBase, locationsBase, labelsBase, partWords, locationWords, labelsWords, tableOf, principalsIn, everyoneIn, typesIn, labelsIn, locationsIn, entryIn, leftIn, rightIn, typeIn, homeIn}
 use Rattle.sheet.proofs.FormLaws.{Formed, formed-facts, type-count}
-use Rattle.sheet.proofs.Words.{length-padded, length-pairs, first-at, second-at, entry-of}
+use Rattle.sheet.proofs.Words.{length-padded, length-pairs, pair-at, entry-of}
 
 -- ---- counts
 
@@ -100,11 +100,11 @@ module _ (s : Sheet) (fm : formed s ≡ true) where
 
   pub left-in : (n : ℕ) → leftIn (tableOf s) n ≡ partsNo s n .left
   unfolding leftIn
-  left-in n = part-in (λ (p : Sum). p .left) 0 refl (omega arith) (first-at _ _ (partsOf s) _) n
+  left-in n = part-in (λ (p : Sum). p .left) 0 refl (omega arith) (λ i h. pair-at _ _ (partsOf s) _ i h .0) n
 
   pub right-in : (n : ℕ) → rightIn (tableOf s) n ≡ partsNo s n .right
   unfolding rightIn
-  right-in n = part-in (λ (p : Sum). p .right) 1 refl (omega arith) (second-at _ _ (partsOf s) _) n
+  right-in n = part-in (λ (p : Sum). p .right) 1 refl (omega arith) (λ i h. pair-at _ _ (partsOf s) _ i h .1) n
 
   -- ---- locations
 
@@ -120,8 +120,8 @@ module _ (s : Sheet) (fm : formed s ≡ true) where
 
   pub type-in : (x : ℕ) → typeIn (tableOf s) x ≡ locationNo s x .type
   unfolding typeIn
-  type-in x = location-in (λ (y : Location). y .type) 0 refl (omega arith) (first-at _ _ (s .locations) _) x
+  type-in x = location-in (λ (y : Location). y .type) 0 refl (omega arith) (λ i h. pair-at _ _ (s .locations) _ i h .0) x
 
   pub home-in : (x : ℕ) → homeIn (tableOf s) x ≡ locationNo s x .label
   unfolding homeIn
-  home-in x = location-in (λ (y : Location). y .label) 1 refl (omega arith) (second-at _ _ (s .locations) _) x
+  home-in x = location-in (λ (y : Location). y .label) 1 refl (omega arith) (λ i h. pair-at _ _ (s .locations) _ i h .1) x

@@ -1,20 +1,20 @@
 -- The types that numbers name: the given ones, and each sum by its parts; without repeats equal types have equal numbers.
 -- Assumes nothing.
 use mathlib.Core.Path.{_≡_, refl, sym, ap₂, _∙_}
-use mathlib.Core.Bool.{Bool, true, false}
+use mathlib.Core.Bool.{true, false}
 use mathlib.Core.List.{List, [], _∷_, _++_}
 use Prim.Native.Nat.{ℕ, zero, suc, _+_, _<_, _≤_}
 use native.Mathlib.Nat.{add-zero, add-suc, suc-add}
 use native.Mathlib.Omega.{arith}
-use lib.Dec.{ltb}
 use lib.ListN.{length, getD, length-append, List·getD-append, List·getD-eq-default}
 use lib.Seq.{getD-append-seam}
-use borrow.Author.Tests.{ltb-true, ltb-false}
+use borrow.Author.Tests.{ltb-true}
 use Rattle.logic.proofs.BooleanLaws.{both-left, both-right}
+use Rattle.sets.proofs.Walks.{by-below}
 use Rattle.language.specs.Syntax.{Ty, t-int, t-err, t-pkg, t-sum}
 use Rattle.sheet.specs.Sheet.{Sum, Sheet, givenTypes, typesFrom, tyOf, givenParts, partsOf, partsNo, typeCount, earlier, formed, repeats}
 use Rattle.sheet.proofs.RepeatLaws.{parts-once}
-use Rattle.sheet.proofs.FormLaws.{formed-facts, type-count, left-earlier, right-earlier}
+use Rattle.sheet.proofs.FormLaws.{formed-facts, type-count, parts-earlier}
 
 -- ---- the list of types
 
@@ -114,17 +114,15 @@ module _ (s : Sheet) (fm : formed s ≡ true) where
 
   -- only a sum's number names a sum
   pub ty-sum-there : (n : ℕ) (a b : Ty) → tyOf s n ≡ t-sum a b → (3 ≤ n) × (n < typeCount s)
-  ty-sum-there n a b p = at (ltb n (typeCount s)) refl
+  ty-sum-there n a b p =
+      by-below n (typeCount s) (λ h. sum-there (rw p at (which n h)))
+      (λ h.
+      let q : t-int ≡ t-sum a b = sym (ty-past s n h) ∙ p in
+      let z : _≡_ {A = ℕ} 0 1 = cc in
+      absurd (omega arith))
     where
       sum-there : Which n (t-sum a b) → (3 ≤ n) × (n < typeCount s)
       sum-there (is-sum h k q r) = (h, k)
-
-      at : (t : Bool) → ltb n (typeCount s) ≡ t → (3 ≤ n) × (n < typeCount s)
-      at true e = sum-there (rw p at (which n (ltb-true _ _ e)))
-      at false e =
-          let q : t-int ≡ t-sum a b = sym (ty-past s n (ltb-false _ _ e)) ∙ p in
-          let z : _≡_ {A = ℕ} 0 1 = cc in
-          absurd (omega arith)
 
   module _ (once : repeats s ≡ false) where
     same-number : (τ : Ty) {m n : ℕ} → Which m τ → Which n τ → m ≡ n
@@ -133,8 +131,8 @@ module _ (s : Sheet) (fm : formed s ≡ true) where
     same-number t-pkg is-pkg is-pkg = refl
     same-number (t-sum a b) (is-sum {n = m} h k p q) (is-sum {n = n} h′ k′ p′ q′) =
         parts-once s once m n h k h′ k′
-        (same-number a (part p (left-earlier s fm m h k) k) (part p′ (left-earlier s fm n h′ k′) k′))
-        (same-number b (part q (right-earlier s fm m h k) k) (part q′ (right-earlier s fm n h′ k′) k′))
+        (same-number a (part p (parts-earlier s fm m h k .0) k) (part p′ (parts-earlier s fm n h′ k′ .0) k′))
+        (same-number b (part q (parts-earlier s fm m h k .1) k) (part q′ (parts-earlier s fm n h′ k′ .1) k′))
       where
         part : {i k : ℕ} {τ : Ty} → tyOf s i ≡ τ → i < k → k < typeCount s → Which i τ
         part {i} {k} p l r = rw p at (which i (omega arith))

@@ -4,12 +4,6 @@ use borrow.Author.Needs.{needs}
 use Rattle.sheet.proofs.label_of.Statement.{statement}
 use Rattle.sheet.proofs.label_of.Tie as tie
 
-returns : tie.Need-returns
-returns c = c .label-at .ensures ∙ sym (label-there _ _ (c .before .before .labels .ensures) (c .before .if1 .taken))
-
-returns-2 : tie.Need-returns-2
-returns-2 c = c .bottom .ensures ∙ sym (label-past _ _ (c .before .before .before .labels .ensures) (c .before .everyone .ensures) (c .before .before .if1 .left))
-
 pub label-of-spec : {M : Type 1} → statement M
 label-of-spec = tie.close (tie.spec
     (λ c κs. search needs)  -- labels-requires
@@ -18,5 +12,7 @@ label-of-spec = tie.close (tie.spec
     (λ c κs. search needs)  -- label-at-requires
     (λ c κs. search needs)  -- everyone-requires
     (λ c κs. search needs)  -- bottom-requires
-    returns
-    returns-2)
+    (λ c. c .label-at .ensures ∙ sym (label-there _ _ (c .before .before .labels .ensures) (c .before .if1 .taken)))  -- returns
+    (λ c.
+    let b = c .before .before in
+    c .bottom .ensures ∙ sym (label-past _ _ (b .before .labels .ensures) (c .before .everyone .ensures) (b .if1 .left))))  -- returns-2

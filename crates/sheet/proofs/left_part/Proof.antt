@@ -3,12 +3,9 @@ use borrow.Author.Needs.{needs}
 use Rattle.sheet.proofs.left_part.Statement.{statement}
 use Rattle.sheet.proofs.left_part.Tie as tie
 
-returns : tie.Need-returns
-unfolding leftIn
-returns c = cc
-
 pub left-part-spec : {M : Type 1} → statement M
+unfolding leftIn
 left-part-spec = tie.close (tie.spec
     (λ c κs. search needs)  -- types-requires
     (λ c κs. search needs)  -- entry-requires
-    returns)
+    (λ c. cc))  -- returns

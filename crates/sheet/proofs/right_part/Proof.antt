@@ -3,13 +3,10 @@ use borrow.Author.Needs.{needs}
 use Rattle.sheet.proofs.right_part.Statement.{statement}
 use Rattle.sheet.proofs.right_part.Tie as tie
 
-returns : tie.Need-returns
-unfolding rightIn
-returns c = cc
-
 pub right-part-spec : {M : Type 1} → statement M
+unfolding rightIn
 right-part-spec = tie.close (tie.spec
     (λ c κs. search needs)  -- types-requires
     (λ c. search needs)  -- add-entry
     (λ c κs. search needs)  -- entry-requires
-    returns)
+    (λ c. cc))  -- returns

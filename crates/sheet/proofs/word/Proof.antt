@@ -4,12 +4,9 @@ use borrow.Author.Needs.{needs}
 use Rattle.sheet.proofs.word.Statement.{statement}
 use Rattle.sheet.proofs.word.Tie as tie
 
-returns-2 : tie.Need-returns-2
-returns-2 c = sym (List·getD-eq-default (c .before .args .table .now) 0 (c .if1 .left))
-
 pub word-spec : {M : Type 1} → statement M
 word-spec = tie.close (tie.spec
     (λ c. search needs)  -- mul-result
     (λ c. search needs)  -- shared-slice-read-result
     (λ c. search needs)  -- returns
-    returns-2)
+    (λ c. sym (List·getD-eq-default (c .before .args .table .now) 0 (c .if1 .left))))  -- returns-2

@@ -59,20 +59,16 @@ cell-after ws x =
     let e : cell-words * suc x ≡ cell-words + cell-words * x = omega arith in
     rw (e, drop-drop (cell-words * x) cell-words ws) refl
 
-cell-first : (ws : List ℕ) → cellOf ws 0 ++ drop cell-words ws ≡ ws
-unfolding cellOf
-cell-first ws = take-append-drop cell-words ws
-
 -- a memory is its locations' words
 pub cells-all : (n : ℕ) (ws : List ℕ) → length ws ≡ cell-words * n → cells n (λ (x : ℕ). cellOf ws x) ≡ ws
-unfolding cells
+unfolding cells cellOf
 cells-all zero [] h = refl
 cells-all zero (w ∷ ws) h = absurd (omega arith)
 cells-all (suc n) ws h =
     ap (λ (us : List ℕ). cellOf ws 0 ++ us)
     (cells-ext n (λ (x : ℕ). cellOf ws (suc x)) (λ (x : ℕ). cellOf (drop cell-words ws) x) (λ x l. cell-after ws x)
     ∙ cells-all n (drop cell-words ws) (omega (arith, length-drop cell-words ws)))
-    ∙ cell-first ws
+    ∙ take-append-drop cell-words ws
 
 -- ---- a loop that stores location after location: x are stored, and the rest is as in d
 

@@ -1,14 +1,14 @@
 -- The theorems of specs/Theorems. Assumes nothing.
 use mathlib.Core.Logic.{_↔_}
-use mathlib.Core.Path.{_≡_, refl, sym, ap, ap₂, _∙_, fun-ext}
-use mathlib.Core.Bool.{Bool, true, false}
+use mathlib.Core.Path.{_≡_, sym, ap, ap₂, _∙_, fun-ext}
+use mathlib.Core.Bool.{Bool, true}
 use mathlib.Core.List.{List}
 use Prim.Native.Nat.{ℕ, _*_, _<_, _≤_}
 use native.Mathlib.Omega.{arith}
-use borrow.Author.Tests.{ltb-true, ltb-false, eq-eqb}
-use lib.Dec.{ltb}
+use borrow.Author.Tests.{eq-eqb}
+use Rattle.sets.proofs.Walks.{by-below}
 use lib.ListN.{length, List·getD-eq-default}
-use Rattle.language.specs.Syntax.{Value, t-int, size, has}
+use Rattle.language.specs.Syntax.{t-int, has}
 use Rattle.language.specs.World.{Mem, cell-words}
 use Rattle.language.specs.View.{seen, mask, maskMem}
 use Rattle.language.specs.Theorems.{WellTyped, Fitting}
@@ -19,22 +19,22 @@ use Rattle.sheet.proofs.TypeLaws.{ty-0}
 use Rattle.sheet.proofs.TableLaws.{types-in, labels-in, locations-in, type-in, home-in}
 use Rattle.sheet.proofs.MeaningLaws.{reads-in}
 use Rattle.sheet.proofs.NumberLaws.{type-in-there, has-no}
-use Rattle.memory.specs.Words.{enc, cell, valueOf}
+use Rattle.memory.specs.Words.{cell, valueOf}
 use Rattle.memory.specs.Memory.{memoryOf, wordsOf, formedBy, sliceRefusal, refusalBy, fits, wellFormed, memoryRefusal}
-use Rattle.memory.specs.View.{viewCell, viewBy, seesNo, viewWords, viewRefusal, viewLeaves}
+use Rattle.memory.specs.View.{viewBy, seesNo, viewWords, viewRefusal, viewLeaves}
 use Rattle.memory.specs.Internal.InTable.{fitsIn, wellFormedIn, refusalIn, seesIn, viewIn, viewRefusalIn, viewLeavesIn, TableAgrees}
 use Rattle.memory.specs.Theorems.{WordsExactly, CellExactly, Declared, MemoriesExactly, ViewsExactly}
 use Rattle.memory.proofs.WordLaws.{read-enc, read-exact, cell-inj, length-cell}
 use Rattle.memory.proofs.CellsLaws.{cells-ext, cells-inj}
-use Rattle.memory.proofs.MemoryLaws.{exact-proper, exact-test, exact-words, cell-holds, value-past, value-passes, value-proper, value-fits, words-back, length-words, values-back, words-formed, unrefused-length, unrefused-formed}
-use Rattle.memory.proofs.ViewLaws.{mask-size}
+use Rattle.memory.proofs.MemoryLaws.{exact-parts, cell-holds, value-past, value-passes, value-proper, value-fits, words-back, length-words, values-back, words-formed, unrefused-length, unrefused-formed}
+use Rattle.memory.proofs.ViewLaws.{seen-size, mask-size, view-cell}
 
 pub words-exactly : WordsExactly
 words-exactly = record { read-back = read-enc; no-other = read-exact; one-value = cell-inj }
 
 pub cell-exactly : CellExactly
 cell-exactly labels test ws = (
-  λ h. (valueOf ws, exact-proper labels test ws (valueOf ws) h, exact-test labels test ws (valueOf ws) h, exact-words labels test ws (valueOf ws) h),
+  λ h. let (p, q, e) = exact-parts labels test ws (valueOf ws) h in (valueOf ws, p, q, e),
   λ k. cell-holds labels test ws (k .0) (k .1) (k .2) (k .3),
 )
 
@@ -60,13 +60,9 @@ module _ (s : Sheet) where
 
     typed-values : WellTyped (shapesOf s) (memoryOf ws)
     unfolding fits has
-    typed-values x = on (ltb x (locationCount s)) refl
-      where
-        on : (b : Bool) → ltb x (locationCount s) ≡ b → has (memoryOf ws x) (tyOf s (locationNo s x .type)) ≡ true
-        on true e = value-passes (locationCount s) (labelCount s) (fits s) ws whole well-formed x (ltb-true x _ e)
-        on false e =
-            let k = ltb-false x (locationCount s) e in
-            ap₂ has (value-past ws x (omega (arith, whole))) (past-type x k)
+    typed-values x =
+        by-below x (locationCount s) (value-passes (locationCount s) (labelCount s) (fits s) ws whole well-formed x)
+        (λ k. ap₂ has (value-past ws x (omega (arith, whole))) (past-type x k))
 
     pub declared-values : Declared s (memoryOf ws)
     declared-values =
@@ -97,17 +93,6 @@ memories-exactly s = record { values = declared-values s; words = words-of-value
 
 -- ---- views
 
--- what a view has for a location: the cell of the masked value, 16 zero words being the cell of one that is hidden
-view-cell : (b : Bool) (v : Value) → viewCell b v ≡ cell (seen b v)
-unfolding viewCell seen cell enc size
-view-cell true v = refl
-view-cell false v = refl
-
-seen-size : (b : Bool) (v : Value) → size v ≤ cell-words → size (seen b v) ≤ cell-words
-unfolding seen size
-seen-size true v h = h
-seen-size false v h = omega arith
-
 module _ (n : ℕ) (sees shows : ℕ → Bool) where
   -- the view is the words of the masked memory
   pub view-words : (M : Mem) → viewBy n sees shows M ≡ wordsOf n (maskMem sees shows M)
@@ -116,7 +101,7 @@ module _ (n : ℕ) (sees shows : ℕ → Bool) where
 
   masked-fits : (M : Mem) → Fitting M → Fitting (maskMem sees shows M)
   unfolding maskMem
-  masked-fits M h x = seen-size (sees x) (mask shows (M x)) (omega (arith, mask-size shows (M x), h x))
+  masked-fits M h x = seen-size (sees x) (mask shows (M x)) cell-words (omega (arith, mask-size shows (M x), h x)) (omega arith)
 
   module _ (M N : Mem) (h : Fitting M) (k : Fitting N) where
     pub masks-of-view : viewBy n sees shows M ≡ viewBy n sees shows N → (x : ℕ) → x < n → maskMem sees shows M x ≡ maskMem sees shows N x
@@ -139,13 +124,9 @@ module _ (s : Sheet) (g : ℕ) where
     -- past the last location both memories have the integer 0
     all-masks : ((x : ℕ) → x < locationCount s → Masked (memoryOf ws) x ≡ Masked (memoryOf us) x) → (x : ℕ) → Masked (memoryOf ws) x ≡ Masked (memoryOf us) x
     unfolding maskMem
-    all-masks e x = on (ltb x (locationCount s)) refl
-      where
-        on : (b : Bool) → ltb x (locationCount s) ≡ b → seen (seesNo s g x) (mask (readsNo s g) (memoryOf ws x)) ≡ seen (seesNo s g x) (mask (readsNo s g) (memoryOf us x))
-        on true l = e x (ltb-true x _ l)
-        on false l =
-            let m = ltb-false x (locationCount s) l in
-            ap (λ v. seen (seesNo s g x) (mask (readsNo s g) v)) (value-past ws x (omega (arith, whole s ws h)) ∙ sym (value-past us x (omega (arith, whole s us k))))
+    all-masks e x =
+        by-below x (locationCount s) (e x)
+        (λ m. ap (λ v. seen (seesNo s g x) (mask (readsNo s g) v)) (value-past ws x (omega (arith, whole s ws h)) ∙ sym (value-past us x (omega (arith, whole s us k)))))
 
     pub same-view : (viewWords s g ws ≡ viewWords s g us) ↔ ((x : ℕ) → Masked (memoryOf ws) x ≡ Masked (memoryOf us) x)
     unfolding viewWords
@@ -177,31 +158,20 @@ module _ (s : Sheet) (fm : formed s ≡ true) where
   unfolding refusalIn wellFormedIn memoryRefusal wellFormed
   refusal-in-table ws = rw (locations-in s, labels-in s, fits-in-table)
 
-  sees-in-table : (g x : ℕ) → seesIn (tableOf s) g x ≡ seesNo s g x
-  unfolding seesIn seesNo
-  sees-in-table g x = reads-in s fm g (homeIn (tableOf s) x) ∙ ap (readsNo s g) (home-in s fm x)
-
   view-in-table : (g : ℕ) (ws : List ℕ) → viewIn (tableOf s) g ws ≡ viewWords s g ws
-  unfolding viewIn viewWords
+  unfolding viewIn viewWords seesIn seesNo
   view-in-table g ws =
       let a : readsIn (tableOf s) g ≡ readsNo s g = fun-ext λ l. reads-in s fm g l in
-      let b : seesIn (tableOf s) g ≡ seesNo s g = fun-ext λ x. sees-in-table g x in
+      let b : seesIn (tableOf s) g ≡ seesNo s g = fun-ext λ x. reads-in s fm g (homeIn (tableOf s) x) ∙ ap (readsNo s g) (home-in s fm x) in
       rw (locations-in s, a, b)
 
-  view-refusal-in-table : (ws : List ℕ) (len : ℕ) → viewRefusalIn (tableOf s) ws len ≡ viewRefusal s ws len
-  unfolding viewRefusalIn viewRefusal
-  view-refusal-in-table ws len = rw (locations-in s, refusal-in-table ws)
-
-  view-leaves-in-table : (g : ℕ) (ws before : List ℕ) → viewLeavesIn (tableOf s) g ws before ≡ viewLeaves s g ws before
-  unfolding viewLeavesIn viewLeaves
-  view-leaves-in-table g ws before = rw (view-refusal-in-table ws (length before), view-in-table g ws)
-
   pub table-agrees : TableAgrees s
+  unfolding viewRefusalIn viewRefusal viewLeavesIn viewLeaves
   table-agrees =
       record {
         refusal = refusal-in-table;
         reads = reads-in s fm;
         view = view-in-table;
-        view-refusal = view-refusal-in-table;
-        view-leaves = view-leaves-in-table;
+        view-refusal = λ ws len. rw (locations-in s, refusal-in-table ws);
+        view-leaves = λ g ws before. rw (locations-in s, refusal-in-table ws, view-in-table g ws);
       }

@@ -7,11 +7,12 @@ use Prim.Native.Nat.{ℕ, _+_, _≤_, _<_}
 use native.Mathlib.Omega.{arith}
 use native.Mathlib.Numerals.{add-one}
 use lib.ListN.{length, getD, set, drop}
-use Rattle.language.specs.Syntax.{Value, int, err, inl, inr, pkg, blank, size}
+use Rattle.language.specs.Syntax.{Value, pkg, blank, size}
 use Rattle.language.specs.View.{seen, mask}
 use Rattle.memory.specs.Words.{Got, enc, wrap, numbered, packaged, readOf}
 use Rattle.memory.specs.Internal.Post.{Walks, Masks, Numeral, num-int, num-err, Opens}
-use Rattle.memory.proofs.PlaceLaws.{here, past, at-past, at-int, at-err, at-inl, at-inr, at-package, at-none, labelled}
+use Rattle.memory.proofs.WordLaws.{Side, to-left, to-right}
+use Rattle.memory.proofs.PlaceLaws.{here, past, at-past, at-numeral, at-side, at-package, at-none, labelled}
 
 module _ (shows : ℕ → Bool) (ws out : List ℕ) (to : ℕ) {left : List ℕ} {next end : ℕ} where
   read-as : {g got : Got} → g ≡ got → Masks shows ws got out to left next end → Masks shows ws g out to left next end
@@ -30,13 +31,11 @@ module _ (shows : ℕ → Bool) (ws out : List ℕ) (to : ℕ) {left : List ℕ}
   numeral f us num-int s d n = record { stored = s ∙ rw add-one refl; ends = omega arith; after = d }
   numeral f us num-err s d n = record { stored = s ∙ rw add-one refl; ends = omega arith; after = d }
 
-  to-left : {got : Got} {mid : List ℕ} → mid ≡ set out to 3 → Masks shows ws got mid (to + 1) left next end → Masks shows ws (wrap inl got) out to left next end
+  on-side : {w : ℕ} {f : Value → Value} {got : Got} {mid : List ℕ} → Side w f → mid ≡ set out to w → Masks shows ws got mid (to + 1) left next end
+      → Masks shows ws (wrap f got) out to left next end
   unfolding mask enc size wrap
-  to-left s m = record { stored = m .stored ∙ rw (s, add-one) refl; ends = omega (arith, m .ends); after = m .after }
-
-  to-right : {got : Got} {mid : List ℕ} → mid ≡ set out to 4 → Masks shows ws got mid (to + 1) left next end → Masks shows ws (wrap inr got) out to left next end
-  unfolding mask enc size wrap
-  to-right s m = record { stored = m .stored ∙ rw (s, add-one) refl; ends = omega (arith, m .ends); after = m .after }
+  on-side to-left s m = record { stored = m .stored ∙ rw (s, add-one) refl; ends = omega (arith, m .ends); after = m .after }
+  on-side to-right s m = record { stored = m .stored ∙ rw (s, add-one) refl; ends = omega (arith, m .ends); after = m .after }
 
   shown : {got : Got} {mid : List ℕ} (l : ℕ) → shows l ≡ true → mid ≡ set (set out to 5) (to + 1) l → Masks shows ws got mid (to + 1 + 1) left next end
       → Masks shows ws (wrap (pkg l) got) out to left next end
@@ -65,15 +64,18 @@ module _ (shows : ℕ → Bool) (ws out : List ℕ) (to : ℕ) {left : List ℕ}
     mask-no-number f h s d n = none (rw (past ws at h) refl) (ap (λ (j : ℕ). drop j ws) d ∙ past ws at h) s n
 
     -- the label of a package
-    pub opens-past : length ws ≤ at → left ≡ set out to 0 → next ≡ at → end ≡ to + 1 → Opens shows ws at out to false left next end
-    unfolding packaged
-    opens-past h s d n =
+    closed : Masks shows ws (packaged readOf (drop at ws)) out to left next end → Opens shows ws at out to false left next end
+    closed m =
         record {
           head = λ e. absurd (false≢true e);
           content = λ e. absurd (false≢true e);
           seen = λ e. absurd (false≢true e);
-          whole = λ e. none (rw (past ws at h) refl) (ap (λ (j : ℕ). drop j ws) d ∙ past ws at h) s n;
+          whole = λ e. m;
         }
+
+    pub opens-past : length ws ≤ at → left ≡ set out to 0 → next ≡ at → end ≡ to + 1 → Opens shows ws at out to false left next end
+    unfolding packaged
+    opens-past h s d n = closed (none (rw (past ws at h) refl) (ap (λ (j : ℕ). drop j ws) d ∙ past ws at h) s n)
 
     pub opens-shown : {mid : List ℕ} → at < length ws → shows (getD ws at 0) ≡ true → mid ≡ set out to 5 → left ≡ set mid (to + 1) (getD ws at 0)
         → Opens shows ws at out to true left next end
@@ -88,34 +90,21 @@ module _ (shows : ℕ → Bool) (ws out : List ℕ) (to : ℕ) {left : List ℕ}
     pub opens-hidden : {mid mid′ : List ℕ} {labels : ℕ} {ok : Bool} → at < length ws → shows (getD ws at 0) ≡ false → mid ≡ set out to 5
         → mid′ ≡ set mid (to + 1) (getD ws at 0) → left ≡ set mid′ (to + 1 + 1) 0 → end ≡ to + 1 + 1 + 1
         → Walks labels ws (at + 1) (readOf (drop (at + 1) ws)) ok next → Opens shows ws at out to false left next end
-    opens-hidden h s e e′ k n w =
-        record {
-          head = λ x. absurd (false≢true x);
-          content = λ x. absurd (false≢true x);
-          seen = λ x. absurd (false≢true x);
-          whole = λ x. read-as (labelled ws at h) (hidden _ (getD ws at 0) s (k ∙ rw (e′, e) refl) n (w .after));
-        }
+    opens-hidden h s e e′ k n w = closed (read-as (labelled ws at h) (hidden _ (getD ws at 0) s (k ∙ rw (e′, e) refl) n (w .after)))
 
     -- a value
     pub mask-past : length ws ≤ at → left ≡ set out to 0 → next ≡ at → end ≡ to + 1 → Masks shows ws (readOf (drop at ws)) out to left next end
     mask-past h s d n = none (at-past ws at h) (ap (λ (j : ℕ). drop j ws) d ∙ past ws at h) s n
 
     module _ (h : at < length ws) where
-      pub mask-int : getD ws at 0 ≡ 1 → ((f : ℕ → Value) → Numeral (getD ws at 0) f → Masks shows ws (numbered f (drop (at + 1) ws)) out to left next end)
+      pub mask-numeral : {w : ℕ} {f : ℕ → Value} → Numeral w f → getD ws at 0 ≡ w
+          → ((f : ℕ → Value) → Numeral (getD ws at 0) f → Masks shows ws (numbered f (drop (at + 1) ws)) out to left next end)
           → Masks shows ws (readOf (drop at ws)) out to left next end
-      mask-int e m = read-as (at-int ws at h e) (m int (rw e num-int))
+      mask-numeral k e m = read-as (at-numeral ws at h k e) (m _ (rw e k))
 
-      pub mask-err : getD ws at 0 ≡ 2 → ((f : ℕ → Value) → Numeral (getD ws at 0) f → Masks shows ws (numbered f (drop (at + 1) ws)) out to left next end)
-          → Masks shows ws (readOf (drop at ws)) out to left next end
-      mask-err e m = read-as (at-err ws at h e) (m err (rw e num-err))
-
-      pub mask-inl : {mid : List ℕ} → getD ws at 0 ≡ 3 → mid ≡ set out to 3 → Masks shows ws (readOf (drop (at + 1) ws)) mid (to + 1) left next end
-          → Masks shows ws (readOf (drop at ws)) out to left next end
-      mask-inl e s m = read-as (at-inl ws at h e) (to-left s m)
-
-      pub mask-inr : {mid : List ℕ} → getD ws at 0 ≡ 4 → mid ≡ set out to 4 → Masks shows ws (readOf (drop (at + 1) ws)) mid (to + 1) left next end
-          → Masks shows ws (readOf (drop at ws)) out to left next end
-      mask-inr e s m = read-as (at-inr ws at h e) (to-right s m)
+      pub mask-side : {w : ℕ} {f : Value → Value} {mid : List ℕ} → Side w f → getD ws at 0 ≡ w → mid ≡ set out to w
+          → Masks shows ws (readOf (drop (at + 1) ws)) mid (to + 1) left next end → Masks shows ws (readOf (drop at ws)) out to left next end
+      mask-side k e s m = read-as (at-side ws at h k e) (on-side k s m)
 
       pub mask-none : (getD ws at 0 ≡ 1 → ⊥) → (getD ws at 0 ≡ 2 → ⊥) → (getD ws at 0 ≡ 3 → ⊥) → (getD ws at 0 ≡ 4 → ⊥) → (getD ws at 0 ≡ 5 → ⊥)
           → left ≡ set out to 0 → next ≡ at + 1 → end ≡ to + 1 → Masks shows ws (readOf (drop at ws)) out to left next end

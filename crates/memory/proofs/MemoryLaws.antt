@@ -6,43 +6,32 @@ use mathlib.Core.Bool.{Bool, true, false, cond}
 use mathlib.Core.List.{List}
 use Prim.Native.Nat.{ℕ, _*_, _-_, _≤_, _<_}
 use native.Mathlib.Omega.{arith}
-use borrow.Author.Tests.{lt-ltb, le-ltb, ltb-true, ltb-false, eqb-true}
-use lib.Dec.{eqb, ltb}
+use borrow.Author.Tests.{lt-ltb, le-ltb, eqb-true}
+use lib.Dec.{eqb}
 use lib.ListN.{length}
 use Rattle.logic.proofs.BooleanLaws.{both-left, both-right, both-true}
-use Rattle.sets.proofs.Walks.{every-true, every-at}
+use Rattle.sets.proofs.Walks.{by-below, every-true, every-at}
 use Rattle.language.specs.Syntax.{Value, int, size}
 use Rattle.language.specs.World.{Mem, cell-words}
 use Rattle.memory.specs.Words.{zeros, cell, valueOf}
 use Rattle.memory.specs.Memory.{cellOf, memoryOf, wordsOf, proper, exactly, holdsBy, formedBy, sliceRefusal, refusalBy}
-use Rattle.memory.proofs.WordLaws.{size-int, length-enc, length-cell, value-cell, proper-int}
+use Rattle.memory.proofs.WordLaws.{length-enc, length-cell, value-cell}
 use Rattle.memory.proofs.CellLaws.{equal-refl, equal-means}
 use Rattle.memory.proofs.CellsLaws.{Cellwise, length-cells, cells-at, cells-ext, cells-all, length-cell-of}
 
 -- ---- one location
 
 module _ (labels : ℕ) (test : Value → Bool) (ws : List ℕ) (v : Value) where
-  pub exact-proper : exactly labels test ws v ≡ true → proper labels v ≡ true
+  pub exact-parts : exactly labels test ws v ≡ true → (proper labels v ≡ true) × (test v ≡ true) × (cell v ≡ ws)
   unfolding exactly
-  exact-proper h = both-left _ _ h
+  exact-parts h = let k = both-right _ _ h in (both-left _ _ h, both-left _ _ k, equal-means _ _ (both-right _ _ k))
 
-  pub exact-test : exactly labels test ws v ≡ true → test v ≡ true
+  -- words that are a cell hold its value
+  pub cell-holds : proper labels v ≡ true → test v ≡ true → cell v ≡ ws → holdsBy labels test ws ≡ true
   unfolding exactly
-  exact-test h = both-left _ _ (both-right _ _ h)
-
-  pub exact-words : exactly labels test ws v ≡ true → cell v ≡ ws
-  unfolding exactly
-  exact-words h = equal-means _ _ (both-right _ _ (both-right _ _ h))
-
-  pub is-exact : proper labels v ≡ true → test v ≡ true → cell v ≡ ws → exactly labels test ws v ≡ true
-  unfolding exactly
-  is-exact p q e = both-true p (both-true q (rw e (equal-refl ws)))
-
--- words that are a cell hold its value
-pub cell-holds : (labels : ℕ) (test : Value → Bool) (ws : List ℕ) (v : Value) → proper labels v ≡ true → test v ≡ true → cell v ≡ ws → holdsBy labels test ws ≡ true
-cell-holds labels test ws v p q e =
-    let u : valueOf ws ≡ v = ap valueOf (sym e) ∙ value-cell v in
-    rw u (is-exact labels test ws v p q e)
+  cell-holds p q e =
+      let u : valueOf ws ≡ v = ap valueOf (sym e) ∙ value-cell v in
+      rw u (both-true p (both-true q (rw e (equal-refl ws))))
 
 -- a value whose words fill a location is not too long
 pub cell-fits : (v : Value) → length (cell v) ≡ cell-words → size v ≤ cell-words
@@ -61,30 +50,28 @@ module _ (ws : List ℕ) (x : ℕ) where
   value-past h = simp (le-ltb _ _ h)
 
 module _ (n labels : ℕ) (test : ℕ → Value → Bool) (ws : List ℕ) (whole : length ws ≡ cell-words * n) (f : formedBy n labels test ws ≡ true) where
-  pub value-exact : (x : ℕ) → x < n → exactly labels (test x) (cellOf ws x) (memoryOf ws x) ≡ true
+  pub value-exact : (x : ℕ) → x < n → (proper labels (memoryOf ws x) ≡ true) × (test x (memoryOf ws x) ≡ true) × (cell (memoryOf ws x) ≡ cellOf ws x)
   unfolding formedBy
-  value-exact x l = rw (value-there ws x (omega arith)) (every-at n _ f x l)
+  value-exact x l = rw (value-there ws x (omega arith)) (exact-parts labels (test x) (cellOf ws x) _ (every-at n _ f x l))
 
   -- the words of a location are those of its value
   pub value-words : (x : ℕ) → x < n → cell (memoryOf ws x) ≡ cellOf ws x
-  value-words x l = exact-words labels (test x) (cellOf ws x) (memoryOf ws x) (value-exact x l)
+  value-words x l = value-exact x l .2
 
   pub value-passes : (x : ℕ) → x < n → test x (memoryOf ws x) ≡ true
-  value-passes x l = exact-test labels (test x) (cellOf ws x) (memoryOf ws x) (value-exact x l)
+  value-passes x l = value-exact x l .1
 
   by-place : (P : Value → Type 0) → P (int 0) → ((x : ℕ) → x < n → P (memoryOf ws x)) → (x : ℕ) → P (memoryOf ws x)
-  by-place P z h x = on (ltb x n) refl
-    where
-      on : (b : Bool) → ltb x n ≡ b → P (memoryOf ws x)
-      on true e = h x (ltb-true x n e)
-      on false e = let k = ltb-false x n e in rw (value-past ws x (omega arith)) z
+  by-place P z h x = by-below x n (h x) (λ l. rw (value-past ws x (omega arith)) z)
 
   pub value-proper : (x : ℕ) → proper labels (memoryOf ws x) ≡ true
-  value-proper = by-place (λ v. proper labels v ≡ true) (proper-int labels 0) (λ x l. exact-proper labels (test x) (cellOf ws x) (memoryOf ws x) (value-exact x l))
+  unfolding proper
+  value-proper = by-place (λ v. proper labels v ≡ true) refl (λ x l. value-exact x l .0)
 
   -- no value is too long
   pub value-fits : (x : ℕ) → size (memoryOf ws x) ≤ cell-words
-  value-fits = by-place (λ v. size v ≤ cell-words) (size-int 0) (λ x l. cell-fits (memoryOf ws x) (ap length (value-words x l) ∙ length-cell-of ws x (omega arith)))
+  unfolding size
+  value-fits = by-place (λ v. size v ≤ cell-words) (omega arith) (λ x l. cell-fits (memoryOf ws x) (ap length (value-words x l) ∙ length-cell-of ws x (omega arith)))
 
   -- the words are those of the values
   pub words-back : wordsOf n (memoryOf ws) ≡ ws

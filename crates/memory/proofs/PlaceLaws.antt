@@ -6,9 +6,10 @@ use Prim.Native.Nat.{ℕ, _+_, _≤_, _<_}
 use native.Mathlib.Numerals.{add-one}
 use lib.ListN.{length, getD, drop, drop-of-length-le}
 use lib.Seq.{drop-cons}
-use Rattle.language.specs.Syntax.{int, err, inl, inr, pkg, blank}
+use Rattle.language.specs.Syntax.{Value, pkg, blank}
 use Rattle.memory.specs.Words.{wrap, numbered, packaged, read, readOf}
-use Rattle.memory.proofs.WordLaws.{read-int, read-err, read-inl, read-inr, read-package, read-none}
+use Rattle.memory.specs.Internal.Post.{Numeral}
+use Rattle.memory.proofs.WordLaws.{Side, read-numeral, read-side, read-package, read-none}
 
 module _ (ws : List ℕ) (at : ℕ) where
   -- the words from a place on: its word and those after it; nothing past the end
@@ -23,17 +24,11 @@ module _ (ws : List ℕ) (at : ℕ) where
   at-past h = ap readOf (past h)
 
   module _ (h : at < length ws) where
-    pub at-int : getD ws at 0 ≡ 1 → readOf (drop at ws) ≡ numbered int (drop (at + 1) ws)
-    at-int e = ap readOf (here 1 h e) ∙ read-int (drop (at + 1) ws)
+    pub at-numeral : {w : ℕ} {f : ℕ → Value} → Numeral w f → getD ws at 0 ≡ w → readOf (drop at ws) ≡ numbered f (drop (at + 1) ws)
+    at-numeral k e = ap readOf (here _ h e) ∙ read-numeral (drop (at + 1) ws) k
 
-    pub at-err : getD ws at 0 ≡ 2 → readOf (drop at ws) ≡ numbered err (drop (at + 1) ws)
-    at-err e = ap readOf (here 2 h e) ∙ read-err (drop (at + 1) ws)
-
-    pub at-inl : getD ws at 0 ≡ 3 → readOf (drop at ws) ≡ wrap inl (readOf (drop (at + 1) ws))
-    at-inl e = ap readOf (here 3 h e) ∙ read-inl (drop (at + 1) ws)
-
-    pub at-inr : getD ws at 0 ≡ 4 → readOf (drop at ws) ≡ wrap inr (readOf (drop (at + 1) ws))
-    at-inr e = ap readOf (here 4 h e) ∙ read-inr (drop (at + 1) ws)
+    pub at-side : {w : ℕ} {f : Value → Value} → Side w f → getD ws at 0 ≡ w → readOf (drop at ws) ≡ wrap f (readOf (drop (at + 1) ws))
+    at-side k e = ap readOf (here _ h e) ∙ read-side (drop (at + 1) ws) k
 
     pub at-package : getD ws at 0 ≡ 5 → readOf (drop at ws) ≡ packaged readOf (drop (at + 1) ws)
     at-package e = ap readOf (here 5 h e) ∙ read-package (drop (at + 1) ws)

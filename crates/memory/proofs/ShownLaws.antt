@@ -1,16 +1,16 @@
 -- Laws of the loop that stores a view, and of what a call leaves, by the table.
 -- Assumes nothing.
 use mathlib.Core.Path.{_≡_, sym, ap, _∙_}
-use mathlib.Core.Bool.{Bool, true, false}
+use mathlib.Core.Bool.{Bool}
 use mathlib.Core.List.{List, _++_}
 use Prim.Native.Nat.{ℕ, _+_, _*_, _≤_, _<_}
 use native.Mathlib.Omega.{arith}
 use borrow.Author.Tests.{eq-eqb, ne-eqb}
-use lib.ListN.{length, drop, length-replicate}
+use lib.ListN.{length, drop}
 use lib.Seq.{paste}
 use Rattle.language.specs.Syntax.{Value, size}
 use Rattle.language.specs.World.{cell-words}
-use Rattle.language.specs.View.{mask}
+use Rattle.language.specs.View.{seen, mask}
 use Rattle.sheet.specs.Internal.Tables.{labelsIn, locationsIn, readsIn}
 use Rattle.memory.specs.Words.{valueOf}
 use Rattle.memory.specs.Memory.{cellOf, memoryOf, cells, sliceRefusal}
@@ -19,12 +19,10 @@ use Rattle.memory.specs.Internal.InTable.{fitsIn, wellFormedIn, refusalI
 use Rattle.memory.proofs.WordLaws.{length-cell}
 use Rattle.memory.proofs.CellsLaws.{Cellwise, stored-more, stored-all}
 use Rattle.memory.proofs.MemoryLaws.{value-there, value-fits, unrefused-length, unrefused-formed}
-use Rattle.memory.proofs.ViewLaws.{mask-size}
+use Rattle.memory.proofs.ViewLaws.{seen-size, mask-size, view-cell}
 
 pub length-view-cell : (b : Bool) (v : Value) → size v ≤ cell-words → length (viewCell b v) ≡ cell-words
-unfolding viewCell
-length-view-cell true v h = length-cell v h
-length-view-cell false v h = length-replicate {A = ℕ} cell-words 0
+length-view-cell b v h = ap length (view-cell b v) ∙ length-cell (seen b v) (seen-size b v cell-words h (omega arith))
 
 module _ (t ws : List ℕ) where
   -- what the group is shown of location x

@@ -22,7 +22,7 @@ use Rattle.memory.proofs.RefusalLaws.{part-cell}
 
 -- ---- masks
 
-seen-size : (b : Bool) (v : Value) (n : ℕ) → size v ≤ n → 1 ≤ n → size (seen b v) ≤ n
+pub seen-size : (b : Bool) (v : Value) (n : ℕ) → size v ≤ n → 1 ≤ n → size (seen b v) ≤ n
 unfolding seen size
 seen-size true v n h k = h
 seen-size false v n h k = k
@@ -36,6 +36,12 @@ mask-size shows (inl v) = omega (arith, mask-size shows v)
 mask-size shows (inr v) = omega (arith, mask-size shows v)
 mask-size shows (pkg l v) = omega (arith, seen-size (shows l) (mask shows v) (size v) (mask-size shows v) (size-pos v))
 mask-size shows blank = omega arith
+
+-- what a view has for a location: the cell of the masked value, 16 zero words being the cell of one that is hidden
+pub view-cell : (b : Bool) (v : Value) → viewCell b v ≡ cell (seen b v)
+unfolding viewCell seen cell enc size
+view-cell true v = refl
+view-cell false v = refl
 
 -- ---- words stored over zeros
 

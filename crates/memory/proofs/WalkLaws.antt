@@ -8,11 +8,12 @@ use native.Mathlib.Omega.{arith}
 use lib.Dec.{ltb}
 use lib.ListN.{length, getD, drop, length-drop}
 use Rattle.logic.specs.Booleans.{both}
-use Rattle.language.specs.Syntax.{Value, int, err, blank}
+use Rattle.language.specs.Syntax.{Value, blank}
 use Rattle.memory.specs.Words.{Got, wrap, numbered, packaged, readOf, endOf}
 use Rattle.memory.specs.Memory.{proper}
-use Rattle.memory.specs.Internal.Post.{Walks}
-use Rattle.memory.proofs.PlaceLaws.{here, past, at-past, at-int, at-err, at-inl, at-inr, at-package, at-none}
+use Rattle.memory.specs.Internal.Post.{Walks, Numeral}
+use Rattle.memory.proofs.WordLaws.{Side, to-left, to-right}
+use Rattle.memory.proofs.PlaceLaws.{here, past, at-past, at-numeral, at-side, at-package, at-none}
 
 module _ (labels : ℕ) (ws : List ℕ) (at : ℕ) where
   -- nothing is left
@@ -60,22 +61,18 @@ module _ (labels : ℕ) (ws : List ℕ) (at : ℕ) where
       }
 
   module _ (h : at < length ws) {ok : Bool} {next : ℕ} where
-    pub walk-int : getD ws at 0 ≡ 1 → Walks labels ws (at + 1) (numbered int (drop (at + 1) ws)) ok next → Walks labels ws at (readOf (drop at ws)) ok next
-    walk-int e w = onward _ h (at-int ws at h e) w
-
-    pub walk-err : getD ws at 0 ≡ 2 → Walks labels ws (at + 1) (numbered err (drop (at + 1) ws)) ok next → Walks labels ws at (readOf (drop at ws)) ok next
-    walk-err e w = onward _ h (at-err ws at h e) w
+    pub walk-numeral : {n : ℕ} {f : ℕ → Value} → Numeral n f → getD ws at 0 ≡ n
+        → Walks labels ws (at + 1) (numbered f (drop (at + 1) ws)) ok next → Walks labels ws at (readOf (drop at ws)) ok next
+    walk-numeral k e w = onward _ h (at-numeral ws at h k e) w
 
     pub walk-pkg : getD ws at 0 ≡ 5 → Walks labels ws (at + 1) (packaged readOf (drop (at + 1) ws)) ok next → Walks labels ws at (readOf (drop at ws)) ok next
     walk-pkg e w = onward _ h (at-package ws at h e) w
 
-    pub walk-inl : getD ws at 0 ≡ 3 → Walks labels ws (at + 1) (readOf (drop (at + 1) ws)) ok next → Walks labels ws at (readOf (drop at ws)) ok next
+    pub walk-side : {n : ℕ} {f : Value → Value} → Side n f → getD ws at 0 ≡ n
+        → Walks labels ws (at + 1) (readOf (drop (at + 1) ws)) ok next → Walks labels ws at (readOf (drop at ws)) ok next
     unfolding wrap proper
-    walk-inl e w = onward _ h (at-inl ws at h e) (record { forward = w .forward; bounded = w .bounded; told = w .told; after = w .after })
-
-    pub walk-inr : getD ws at 0 ≡ 4 → Walks labels ws (at + 1) (readOf (drop (at + 1) ws)) ok next → Walks labels ws at (readOf (drop at ws)) ok next
-    unfolding wrap proper
-    walk-inr e w = onward _ h (at-inr ws at h e) (record { forward = w .forward; bounded = w .bounded; told = w .told; after = w .after })
+    walk-side to-left e w = onward _ h (at-side ws at h to-left e) (record { forward = w .forward; bounded = w .bounded; told = w .told; after = w .after })
+    walk-side to-right e w = onward _ h (at-side ws at h to-right e) (record { forward = w .forward; bounded = w .bounded; told = w .told; after = w .after })
 
   pub walk-none : at < length ws → (getD ws at 0 ≡ 1 → ⊥) → (getD ws at 0 ≡ 2 → ⊥) → (getD ws at 0 ≡ 3 → ⊥) → (getD ws at 0 ≡ 4 → ⊥) → (getD ws at 0 ≡ 5 → ⊥)
       → Walks labels ws at (readOf (drop at ws)) false (at + 1)

@@ -14,6 +14,7 @@ use Rattle.language.specs.Syntax.{Value, int, err, inl, inr, pkg, blank, size}
 use Rattle.language.specs.World.{cell-words}
 use Rattle.memory.specs.Words.{enc, zeros, cell, Got, wrap, numbered, packaged, tagged, read, readOf, valueOf, endOf}
 use Rattle.memory.specs.Memory.{proper}
+use Rattle.memory.specs.Internal.Post.{Numeral, num-int, num-err}
 
 -- ---- lengths
 
@@ -25,10 +26,6 @@ size-pos (inl v) = omega arith
 size-pos (inr v) = omega arith
 size-pos (pkg l v) = omega arith
 size-pos blank = omega arith
-
-pub size-int : (n : ℕ) → size (int n) ≤ cell-words
-unfolding size
-size-int n = omega arith
 
 pub length-enc : (v : Value) (rest : List ℕ) → length (enc v rest) ≡ size v + length rest
 unfolding enc size
@@ -66,22 +63,21 @@ read-any (suc k) (suc j) (w ∷ ws) h h′ = tagged-same (λ us. read k us) (λ 
 
 -- ---- reading, by the first word
 
+-- the first word of a value on a side of a sum
+pub data Side : ℕ → (Value → Value) → Type 0 where
+  to-left : Side 3 inl
+  to-right : Side 4 inr
+
 module _ (ws : List ℕ) where
-  pub read-int : readOf (1 ∷ ws) ≡ numbered int ws
+  pub read-numeral : {w : ℕ} {f : ℕ → Value} → Numeral w f → readOf (w ∷ ws) ≡ numbered f ws
   unfolding readOf read tagged
-  read-int = refl
+  read-numeral num-int = refl
+  read-numeral num-err = refl
 
-  pub read-err : readOf (2 ∷ ws) ≡ numbered err ws
+  pub read-side : {w : ℕ} {f : Value → Value} → Side w f → readOf (w ∷ ws) ≡ wrap f (readOf ws)
   unfolding readOf read tagged
-  read-err = refl
-
-  pub read-inl : readOf (3 ∷ ws) ≡ wrap inl (readOf ws)
-  unfolding readOf read tagged
-  read-inl = refl
-
-  pub read-inr : readOf (4 ∷ ws) ≡ wrap inr (readOf ws)
-  unfolding readOf read tagged
-  read-inr = refl
+  read-side to-left = refl
+  read-side to-right = refl
 
   pub read-package : readOf (5 ∷ ws) ≡ packaged readOf ws
   unfolding readOf read tagged
@@ -95,10 +91,10 @@ module _ (ws : List ℕ) where
 
 pub read-enc : (v : Value) (rest : List ℕ) → readOf (enc v rest) ≡ (v, rest)
 unfolding enc wrap numbered packaged
-read-enc (int n) rest = read-int (n ∷ rest)
-read-enc (err e) rest = read-err (e ∷ rest)
-read-enc (inl v) rest = read-inl (enc v rest) ∙ ap (wrap inl) (read-enc v rest)
-read-enc (inr v) rest = read-inr (enc v rest) ∙ ap (wrap inr) (read-enc v rest)
+read-enc (int n) rest = read-numeral (n ∷ rest) num-int
+read-enc (err e) rest = read-numeral (e ∷ rest) num-err
+read-enc (inl v) rest = read-side (enc v rest) to-left ∙ ap (wrap inl) (read-enc v rest)
+read-enc (inr v) rest = read-side (enc v rest) to-right ∙ ap (wrap inr) (read-enc v rest)
 read-enc (pkg l v) rest = read-package (l ∷ enc v rest) ∙ ap (wrap (pkg l)) (read-enc v rest)
 read-enc blank rest = read-none rest 0 (λ h. omega arith) (λ h. omega arith) (λ h. omega arith) (λ h. omega arith) (λ h. omega arith)
 
@@ -119,21 +115,13 @@ value-cell v = value-enc v (zeros (cell-words - size v))
 pub cell-inj : (v w : Value) → cell v ≡ cell w → v ≡ w
 cell-inj v w e = sym (value-cell v) ∙ ap valueOf e ∙ value-cell w
 
--- ---- proper values
-
-pub proper-int : (labels n : ℕ) → proper labels (int n) ≡ true
-unfolding proper
-proper-int labels n = refl
-
 -- ---- words that are read as a proper value are the words of that value
 
 -- the graph of reading
 data Reads : List ℕ → Got → Type 0 where
   r-none : {ws us : List ℕ} → Reads ws (blank, us)
-  r-int : {n : ℕ} {ws : List ℕ} → Reads (1 ∷ n ∷ ws) (int n, ws)
-  r-err : {e : ℕ} {ws : List ℕ} → Reads (2 ∷ e ∷ ws) (err e, ws)
-  r-inl : {ws : List ℕ} {g : Got} → Reads ws g → Reads (3 ∷ ws) (wrap inl g)
-  r-inr : {ws : List ℕ} {g : Got} → Reads ws g → Reads (4 ∷ ws) (wrap inr g)
+  r-num : {w n : ℕ} {f : ℕ → Value} {ws : List ℕ} → Numeral w f → Reads (w ∷ n ∷ ws) (f n, ws)
+  r-side : {w : ℕ} {f : Value → Value} {ws : List ℕ} {g : Got} → Side w f → Reads ws g → Reads (w ∷ ws) (wrap f g)
   r-pkg : {l : ℕ} {ws : List ℕ} {g : Got} → Reads ws g → Reads (5 ∷ l ∷ ws) (wrap (pkg l) g)
 
 -- by whether the first word is n
@@ -144,15 +132,10 @@ on-word n w ws x y h k = at (eqb w n) refl
     at true e = let z : w ≡ n = eqb-true w n e in rw z h
     at false e = k
 
-reads-int : (ws : List ℕ) → Reads (1 ∷ ws) (numbered int ws)
+reads-numeral : {w : ℕ} {f : ℕ → Value} → Numeral w f → (ws : List ℕ) → Reads (w ∷ ws) (numbered f ws)
 unfolding numbered
-reads-int [] = r-none
-reads-int (n ∷ ws) = r-int
-
-reads-err : (ws : List ℕ) → Reads (2 ∷ ws) (numbered err ws)
-unfolding numbered
-reads-err [] = r-none
-reads-err (n ∷ ws) = r-err
+reads-numeral k [] = r-none
+reads-numeral k (n ∷ ws) = r-num k
 
 reads-pkg : (r : List ℕ → Got) → ((us : List ℕ) → Reads us (r us)) → (ws : List ℕ) → Reads (5 ∷ ws) (packaged r ws)
 unfolding packaged
@@ -162,10 +145,10 @@ reads-pkg r h (l ∷ ws) = r-pkg (h ws)
 reads-tagged : (r : List ℕ → Got) → ((us : List ℕ) → Reads us (r us)) → (w : ℕ) (ws : List ℕ) → Reads (w ∷ ws) (tagged r w ws)
 unfolding tagged
 reads-tagged r h w ws =
-    on-word 1 w ws _ _ (reads-int ws)
-    (on-word 2 w ws _ _ (reads-err ws)
-    (on-word 3 w ws _ _ (r-inl (h ws))
-    (on-word 4 w ws _ _ (r-inr (h ws))
+    on-word 1 w ws _ _ (reads-numeral num-int ws)
+    (on-word 2 w ws _ _ (reads-numeral num-err ws)
+    (on-word 3 w ws _ _ (r-side to-left (h ws))
+    (on-word 4 w ws _ _ (r-side to-right (h ws))
     (on-word 5 w ws _ _ (reads-pkg r h ws)
     r-none))))
 
@@ -178,10 +161,10 @@ reads (suc k) (w ∷ ws) = reads-tagged (λ us. read k us) (λ us. reads k us) w
 exact : (labels : ℕ) {ws : List ℕ} {g : Got} → Reads ws g → proper labels (g .0) ≡ true → enc (g .0) (g .1) ≡ ws
 unfolding proper enc wrap
 exact labels r-none p = absurd (absurd-false p)
-exact labels r-int p = refl
-exact labels r-err p = refl
-exact labels (r-inl h) p = ap (λ (us : List ℕ). 3 ∷ us) (exact labels h p)
-exact labels (r-inr h) p = ap (λ (us : List ℕ). 4 ∷ us) (exact labels h p)
+exact labels (r-num num-int) p = refl
+exact labels (r-num num-err) p = refl
+exact labels (r-side to-left h) p = ap (λ (us : List ℕ). 3 ∷ us) (exact labels h p)
+exact labels (r-side to-right h) p = ap (λ (us : List ℕ). 4 ∷ us) (exact labels h p)
 exact labels (r-pkg {l} h) p = ap (λ (us : List ℕ). 5 ∷ l ∷ us) (exact labels h (both-right _ _ p))
 
 pub read-exact : (labels : ℕ) (ws : List ℕ) → proper labels (valueOf ws) ≡ true → enc (readOf ws .0) (readOf ws .1) ≡ ws

@@ -1,12 +1,15 @@
 -- The type test over a value's words meets its contract; the measure is the words left. Assumes nothing.
 use borrow.Author.Needs.{needs}
-use mathlib.Core.Path.{sym, _∙_}
+use mathlib.Core.Path.{sym, ap, _∙_}
 use Prim.Native.Nat.{ℕ, _<_, _-_}
 use native.Mathlib.Omega.{arith}
 use lib.ListN.{length}
 use borrow.Author.Tests.{not-true, not-false}
 use borrow.Fn.Kinds.{In}
 use borrow.Fn.PlainCycle.{Measures, is, falls, and}
+use Rattle.logic.proofs.BooleanLaws.{both-off, both-on}
+use Rattle.sheet.specs.Internal.TypeTest.{hasNo}
+use Rattle.memory.specs.Internal.Post.{num-int, num-err}
 use Rattle.memory.proofs.TypeTestLaws as laws
 use Rattle.memory.proofs.has_type.Reads as has-type
 use Rattle.memory.proofs.has_type.Kinds as has-type-kinds
@@ -50,29 +53,29 @@ pub +has-type-spec : {M : Type 1} → statement M
     (λ c κs. search needs)
     (λ c κs. search needs)  -- is-sum-requires
     (λ c. let a = c .before .before .before .before .before .before .before .args
-    in laws.not-inl (a .table .now) (a .words .now) (a .ty) (a .at) (omega arith) (c .before .before .match .keys3)
-    (sym (c .before .is-sum .ensures) ∙ not-true _ (c .if2 .taken)))  -- returns-2
+    in laws.type-inl (a .table .now) (a .words .now) (a .ty) (a .at) (omega arith) (c .before .before .match .keys3)
+    (both-off _ _ (sym (c .before .is-sum .ensures) ∙ not-true _ (c .if2 .taken))))  -- returns-2
     (λ c. search needs)  -- add-has-type
     (λ c κs. search needs)
     (λ c κs. (omega arith, tt))
     (λ c κs. search needs)  -- is-sum-requires-2
     (λ c. let a = c .before .before .before .before .before .before .before .args
-    in laws.not-inr (a .table .now) (a .words .now) (a .ty) (a .at) (omega arith) (c .before .before .match .keys4)
-    (sym (c .before .is-sum2 .ensures) ∙ not-true _ (c .if3 .taken)))  -- returns-3
+    in laws.type-inr (a .table .now) (a .words .now) (a .ty) (a .at) (omega arith) (c .before .before .match .keys4)
+    (both-off _ _ (sym (c .before .is-sum2 .ensures) ∙ not-true _ (c .if3 .taken))))  -- returns-3
     (λ c. search needs)
     (λ c κs. search needs)
     (λ c κs. (omega arith, tt))
     (λ c κs. search needs)  -- one-more-requires-3
     (λ c. let a = c .before .before .before .before .before .before .args
-    in c .one-more .ensures ∙ laws.type-int (a .table .now) (a .words .now) (a .ty) (a .at) (omega arith) (c .before .match .keys1))  -- returns-4
+    in c .one-more .ensures ∙ laws.type-numeral (a .table .now) (a .words .now) (a .ty) (a .at) (omega arith) num-int (c .before .match .keys1))  -- returns-4
     (λ c. let a = c .before .before .before .before .before .before .args
-    in c .one-more2 .ensures ∙ laws.type-err (a .table .now) (a .words .now) (a .ty) (a .at) (omega arith) (c .before .match .keys2))
+    in c .one-more2 .ensures ∙ laws.type-numeral (a .table .now) (a .words .now) (a .ty) (a .at) (omega arith) num-err (c .before .match .keys2))
     (λ c. let a = c .before .before .before .before .before .before .before .before .before .args
     in laws.type-inl (a .table .now) (a .words .now) (a .ty) (a .at) (omega arith) (c .before .before .before .before .match .keys3)
-    (sym (c .before .before .before .is-sum .ensures) ∙ not-false _ (c .before .before .if2 .left)) (c .before .left-part .ensures) (c .has-type .ensures))
+    (c .has-type .ensures ∙ ap (hasNo _ _) (c .before .left-part .ensures) ∙ both-on _ _ (sym (c .before .before .before .is-sum .ensures) ∙ not-false _ (c .before .before .if2 .left))))
     (λ c. let a = c .before .before .before .before .before .before .before .before .before .args
     in laws.type-inr (a .table .now) (a .words .now) (a .ty) (a .at) (omega arith) (c .before .before .before .before .match .keys4)
-    (sym (c .before .before .before .is-sum2 .ensures) ∙ not-false _ (c .before .before .if3 .left)) (c .before .right-part .ensures) (c .has-type2 .ensures))
+    (c .has-type2 .ensures ∙ ap (hasNo _ _) (c .before .right-part .ensures) ∙ both-on _ _ (sym (c .before .before .before .is-sum2 .ensures) ∙ not-false _ (c .before .before .if3 .left))))
     (λ c. let a = c .before .before .before .before .before .before .args
     in c .one-more3 .ensures ∙ laws.type-pkg (a .table .now) (a .words .now) (a .ty) (a .at) (omega arith) (c .before .match .keys5))
     (λ c. let a = c .before .before .before .before .before .args

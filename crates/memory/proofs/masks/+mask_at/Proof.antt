@@ -5,6 +5,8 @@ use native.Mathlib.Omega.{arith}
 use lib.ListN.{length}
 use borrow.Fn.Kinds.{In}
 use borrow.Fn.PlainCycle.{Measures, is, falls, and}
+use Rattle.memory.specs.Internal.Post.{num-int, num-err}
+use Rattle.memory.proofs.WordLaws.{to-left, to-right}
 use Rattle.memory.proofs.MaskLaws as laws
 use Rattle.memory.proofs.masks.mask_at.Reads as mask-at
 use Rattle.memory.proofs.masks.mask_at.Kinds as mask-at-kinds
@@ -64,14 +66,14 @@ pub +mask-at-spec : {M : Type 1} → statement M
     (λ c. search needs)  -- add-mask-blank
     (λ c κs. search needs)  -- mask-blank-requires-2
     (λ c. search needs)  -- same-length-2
-    (λ c. laws.mask-int _ _ _ _ _ (omega arith) (c .before .before .before .before .match .keys1) (c .before .before .mask-number .ensures _))  -- returns-2
+    (λ c. laws.mask-numeral _ _ _ _ _ (omega arith) num-int (c .before .before .before .before .match .keys1) (c .before .before .mask-number .ensures _))  -- returns-2
     (λ c. search needs)  -- same-length-3
-    (λ c. laws.mask-err _ _ _ _ _ (omega arith) (c .before .before .before .before .match .keys2) (c .before .before .mask-number2 .ensures _))  -- returns-3
+    (λ c. laws.mask-numeral _ _ _ _ _ (omega arith) num-err (c .before .before .before .before .match .keys2) (c .before .before .mask-number2 .ensures _))  -- returns-3
     (λ c. search needs)  -- same-length-4
-    (λ c. laws.mask-inl _ _ _ _ _ (omega arith) (c .before .before .before .before .before .before .before .before .match .keys3)
+    (λ c. laws.mask-side _ _ _ _ _ (omega arith) to-left (c .before .before .before .before .before .before .before .before .match .keys3)
     (c .before .before .before .before .before .before .store .ensures) (c .before .before .mask-at .ensures))  -- returns-4
     (λ c. search needs)  -- same-length-5
-    (λ c. laws.mask-inr _ _ _ _ _ (omega arith) (c .before .before .before .before .before .before .before .before .match .keys4)
+    (λ c. laws.mask-side _ _ _ _ _ (omega arith) to-right (c .before .before .before .before .before .before .before .before .match .keys4)
     (c .before .before .before .before .before .before .store2 .ensures) (c .before .before .mask-at2 .ensures))  -- returns-5
     (λ c. search needs)  -- same-length-6
     (λ c. laws.mask-open _ _ _ _ _ (omega arith) (c .before .before .before .before .before .before .before .before .before .match .keys5)

@@ -5,6 +5,8 @@ use native.Mathlib.Omega.{arith}
 use lib.ListN.{length}
 use borrow.Fn.Kinds.{In}
 use borrow.Fn.PlainCycle.{Measures, is, falls, and}
+use Rattle.memory.specs.Internal.Post.{num-int, num-err}
+use Rattle.memory.proofs.WordLaws.{to-left, to-right}
 use Rattle.memory.proofs.WalkLaws as laws
 use Rattle.memory.proofs.values.value_at.Reads as value-at
 use Rattle.memory.proofs.values.value_at.Kinds as value-at-kinds
@@ -54,9 +56,9 @@ pub +value-at-spec : {M : Type 1} → statement M
     (λ c κs. (omega arith, tt))
     (λ c κs. search needs)  -- package-at-requires
     (λ c. search needs)  -- add-t16
-    (λ c. laws.walk-int _ _ _ (omega arith) (c .before .match .keys1) (c .integer-at .ensures _))  -- returns-2
-    (λ c. laws.walk-err _ _ _ (omega arith) (c .before .match .keys2) (c .error-at .ensures _))
-    (λ c. laws.walk-inl _ _ _ (omega arith) (c .before .match .keys3) (c .value-at .ensures))
-    (λ c. laws.walk-inr _ _ _ (omega arith) (c .before .match .keys4) (c .value-at2 .ensures))
+    (λ c. laws.walk-numeral _ _ _ (omega arith) num-int (c .before .match .keys1) (c .integer-at .ensures _))  -- returns-2
+    (λ c. laws.walk-numeral _ _ _ (omega arith) num-err (c .before .match .keys2) (c .error-at .ensures _))
+    (λ c. laws.walk-side _ _ _ (omega arith) to-left (c .before .match .keys3) (c .value-at .ensures))
+    (λ c. laws.walk-side _ _ _ (omega arith) to-right (c .before .match .keys4) (c .value-at2 .ensures))
     (λ c. laws.walk-pkg _ _ _ (omega arith) (c .before .before .match .keys5) (c .package-at .ensures (c .before .value-at3 .ensures)))
     (λ c. laws.walk-none _ _ _ (omega arith) (c .match .rest .0 .0 .0 .0 .1) (c .match .rest .0 .0 .0 .1) (c .match .rest .0 .0 .1) (c .match .rest .0 .1) (c .match .rest .1))

@@ -11,7 +11,7 @@ use Rattle.language.specs.Figures.{EStep, ee-loc, ee-inl, ee-inr, ee-plu
 use Rattle.language.specs.Evaluation.{Res, ok, long, stuck, bind, fit, add, addTo, packed, opened, unpacked, lookup, eval}
 use Rattle.language.specs.Transition.{Next, final, to, too-long, no-rule, at-seq, at-assign, branch, branchV, step}
 use Rattle.language.specs.Theorems.{Agreement}
-use Rattle.language.proofs.Fit.{by-fit}
+use Rattle.language.proofs.Results.{by-fit, by-add, by-unpacked, by-branch}
 
 -- From `eval` to figure 2.
 
@@ -46,18 +46,7 @@ module _ (W : World) (M : Mem) where
   gives-fit e v h = by-fit (Gives e) v (λ s. h) (λ s. long-value h s)
 
   gives-add : (e : Expr) (v w : Value) → EStar W M e (plus (val v) (val w)) → Gives e (add v w)
-  unfolding add addTo
-  gives-add e (int m) (int n) p = gives-fit e (int ((m + n) % 2 ^ 32)) (star-end p ee-plus)
-  gives-add e (int m) (err n) p = tt
-  gives-add e (int m) (inl v) p = tt
-  gives-add e (int m) (inr v) p = tt
-  gives-add e (int m) (pkg l v) p = tt
-  gives-add e (int m) blank p = tt
-  gives-add e (err m) w p = tt
-  gives-add e (inl v) w p = tt
-  gives-add e (inr v) w p = tt
-  gives-add e (pkg l v) w p = tt
-  gives-add e blank w p = tt
+  gives-add e = by-add (λ v w r. EStar W M e (plus (val v) (val w)) → Gives e r) (λ m n p. gives-fit e (int _) (star-end p ee-plus)) (λ v w q p. tt)
 
   gives-pack : (e : Expr) (l : ℕ) (v : Value) (b : Bool) → W .writes l ≡ b → EStar W M e (pack l (val v)) → Gives e (packed b l v)
   unfolding packed
@@ -73,13 +62,8 @@ module _ (W : World) (M : Mem) where
   gives-open e t l m v true true true h i j p = gives-fit e (inl v) (star-end p (ee-unpack-ok h i j))
 
   gives-unpack : (e : Expr) (t l : ℕ) (v : Value) → EStar W M e (unpack t l (val v)) → Gives e (unpacked W t l v)
-  unfolding unpacked
-  gives-unpack e t l (int n) p = tt
-  gives-unpack e t l (err n) p = tt
-  gives-unpack e t l (inl v) p = tt
-  gives-unpack e t l (inr v) p = tt
-  gives-unpack e t l (pkg m v) p = gives-open e t l m v (W .reads l) (W .below m l) (has v (wanted (W .ty t))) refl refl refl p
-  gives-unpack e t l blank p = tt
+  gives-unpack e t l = by-unpacked (λ v r. EStar W M e (unpack t l (val v)) → Gives e r) W t l
+      (λ m v p. gives-open e t l m v (W .reads l) (W .below m l) (has v (wanted (W .ty t))) refl refl refl p) (λ v q p. tt)
 
   pub eval-gives : (e : Expr) → Gives e (eval W [] M e)
   unfolding eval lookup
@@ -192,15 +176,7 @@ module _ (W : World) where
   gives-branch : (M : Mem) (c : Cmd) (e : Expr) (l r : Value → Next) → ((v : Value) → EStar W M e (val (inl v)) → GivesN M c (l v))
       → ((v : Value) → EStar W M e (val (inr v)) → GivesN M c (r v)) → (LongExpr W M e → LongStep W M c) → (s : Res) → Gives W M e s
       → GivesN M c (branch l r too-long no-rule s)
-  unfolding branch branchV
-  gives-branch M c e l r p q o (ok (int n)) h = tt
-  gives-branch M c e l r p q o (ok (err n)) h = tt
-  gives-branch M c e l r p q o (ok (inl v)) h = p v h
-  gives-branch M c e l r p q o (ok (inr v)) h = q v h
-  gives-branch M c e l r p q o (ok (pkg k v)) h = tt
-  gives-branch M c e l r p q o (ok blank) h = tt
-  gives-branch M c e l r p q o long h = o h
-  gives-branch M c e l r p q o stuck h = tt
+  gives-branch M c e l r p q o = by-branch (λ s n. Gives W M e s → GivesN M c n) p q o (λ s a h. tt)
 
   pub step-gives : (M : Mem) (c : Cmd) → GivesN M c (step W M c)
   unfolding step

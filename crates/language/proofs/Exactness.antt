@@ -7,13 +7,13 @@ use mathlib.Core.List.{List, [], _∷_}
 use Prim.Native.Nat.{ℕ, zero, suc}
 use native.Mathlib.Omega.{arith}
 use Rattle.logic.proofs.BooleanLaws.{both-left, both-right, both-true, not-so}
-use Rattle.language.specs.Syntax.{Ty, t-int, t-err, t-pkg, t-sum, int, err, inl, inr, pkg, blank, Expr, val, loc, var, plus, left, right, pack, unpack, Cmd, skip, seq, assign, while, case}
+use Rattle.language.specs.Syntax.{Ty, t-int, t-pkg, Expr, val, loc, var, plus, left, right, pack, unpack, Cmd, skip, seq, assign, while, case}
 use Rattle.language.specs.Labels.{Labels, LeastLabelLaws, struck}
 use Rattle.language.specs.Declarations.{Declarations, unlabelled, nth}
 use Rattle.language.specs.Rules.{LabelledType, Typed, te-int, te-loc, te-var, te-plus, te-suml, te-sumr, te-pack, te-unpack, te-sub, Safe, tc-skip, tc-assign, tc-seq, tc-while, tc-case, tc-subs, Derivable}
 use Rattle.language.specs.Typing.{orElse, typeOfValue, typeOf, shape, least, flowE, flow, conditions, refusal}
 use Rattle.language.specs.Theorems.{Exactness}
-use Rattle.language.proofs.Types.{isTy-true, isTy-path, hasTy-true, hasTy-path, given-true, given-path, leftIs-true, leftIs-path, rightIs-true, rightIs-path, onSum-true, onSum-path}
+use Rattle.language.proofs.Types.{isTy-true, hasTy-true, given-true, leftIs-true, rightIs-true, onSum-true, onSum-path, HasType, h-int, h-loc, h-var, h-plus, h-left, h-right, h-pack, h-unpack, has-type, is-type}
 use Rattle.logic.proofs.OptionLaws.{none-some, some-path}
 
 pub struck-laws : LeastLabelLaws struck
@@ -117,39 +117,18 @@ module _ {L : Type 0} (𝓛 : Labels L) (law : LeastLabelLaws 𝓛) (D : Declara
   conf-absorb : (m a : L) → 𝓛 .leq (𝓛 .conf m) (𝓛 .conf a) ≡ true → 𝓛 .conf (𝓛 .join m (𝓛 .conf a)) ≡ 𝓛 .conf a
   conf-absorb m a h = law .conf-join _ _ ∙ rw (law .conf-idem a) (law .leq-antisym _ _ (law .join-leq _ _ _ h (law .leq-refl _)) (law .leq-join-right _ _))
 
-  sound : (e : Expr) (Γ : List (LabelledType L)) (τ : Ty) → typeOf (D .shapes) (types Γ) e ≡ some τ → flowE (conditions 𝓛 D) (labels Γ) e ≡ true
+  sound : (Γ : List (LabelledType L)) {e : Expr} {τ : Ty} → HasType (D .shapes) (types Γ) e τ → flowE (conditions 𝓛 D) (labels Γ) e ≡ true
       → Typed 𝓛 D Γ e τ (least (conditions 𝓛 D) (labels Γ) e)
-  unfolding typeOf typeOfValue flowE least
-  sound (val (int n)) Γ τ h f = rw (← some-path h) te-int
-  sound (val (err n)) Γ τ h f = none-some h
-  sound (val (inl v)) Γ τ h f = none-some h
-  sound (val (inr v)) Γ τ h f = none-some h
-  sound (val (pkg l v)) Γ τ h f = none-some h
-  sound (val blank) Γ τ h f = none-some h
-  sound (loc x) Γ τ h f = te-loc (some-path h) refl
-  sound (var d) Γ τ h f = te-var (nth-both Γ d τ h)
-  sound (plus a b) Γ τ h f =
-      let g = given-path _ _ _ h in
-      rw (← g .1) (te-plus (te-sub (sound a Γ t-int (isTy-path t-int _ (both-left _ _ (g .0))) (both-left _ _ f)) (law .leq-join-left _ _))
-      (te-sub (sound b Γ t-int (isTy-path t-int _ (both-right _ _ (g .0))) (both-right _ _ f)) (law .leq-join-right _ _)))
-  sound (left t e) Γ τ h f =
-      let g = given-path _ _ _ h in
-      let l = leftIs-path _ _ (g .0) in
-      rw (← g .1, l .2) (te-suml (l .2) (sound e Γ (l .0) (l .3) f))
-  sound (right t e) Γ τ h f =
-      let g = given-path _ _ _ h in
-      let l = rightIs-path _ _ (g .0) in
-      rw (← g .1, l .2) (te-sumr (l .2) (sound e Γ (l .1) (l .3) f))
-  sound (pack A e) Γ τ h f =
-      let g = given-path _ _ _ h in
-      let k = hasTy-path _ (g .0) in
-      rw (← g .1) (te-pack refl (te-sub (sound e Γ (k .0) (k .1) (both-left _ _ f)) (both-right _ _ f)) (sym (law .integ-idem _)))
-  sound (unpack t A e) Γ τ h f =
-      let g = given-path _ _ _ h in
-      let r = rightIs-path _ _ (both-right _ _ (g .0)) in
-      let p : D .shapes .ty t ≡ t-sum (r .0) t-err = r .2 ∙ ap (t-sum (r .0)) (sym (some-path (r .3))) in
-      rw (← g .1, p) (te-unpack p refl (te-sub (sound e Γ t-pkg (isTy-path t-pkg _ (both-left _ _ (g .0))) (both-left _ _ f)) (law .leq-join-left _ _))
-      (conf-absorb _ _ (both-right _ _ f)))
+  unfolding flowE least
+  sound Γ h-int f = te-int
+  sound Γ h-loc f = te-loc refl refl
+  sound Γ (h-var h) f = te-var (nth-both Γ _ _ h)
+  sound Γ (h-plus a b) f = te-plus (te-sub (sound Γ a (both-left _ _ f)) (law .leq-join-left _ _)) (te-sub (sound Γ b (both-right _ _ f)) (law .leq-join-right _ _))
+  sound Γ (h-left p e) f = te-suml p (sound Γ e f)
+  sound Γ (h-right p e) f = te-sumr p (sound Γ e f)
+  sound Γ (h-pack e) f = te-pack refl (te-sub (sound Γ e (both-left _ _ f)) (both-right _ _ f)) (sym (law .integ-idem _))
+  sound Γ (h-unpack p e) f =
+      te-unpack p refl (te-sub (sound Γ e (both-left _ _ f)) (law .leq-join-left _ _)) (conf-absorb _ _ (both-right _ _ f))
 
   below-same : (Γ : List (LabelledType L)) → Below (labels Γ) Γ
   unfolding labels
@@ -204,13 +183,13 @@ module _ {L : Type 0} (𝓛 : Labels L) (law : LeastLabelLaws 𝓛) (D : Declara
   sound-cmd (seq c₁ c₂) Γ pc h f = tc-seq (sound-cmd c₁ Γ pc (both-left _ _ h) (both-left _ _ f)) (sound-cmd c₂ Γ pc (both-right _ _ h) (both-right _ _ f))
   sound-cmd (assign x e) Γ pc h f =
       let k = both-right _ _ f in
-      tc-assign (sound e Γ _ (isTy-path _ _ h) (both-left _ _ f)) refl refl (law .join-leq _ _ _ (both-left _ _ k) (both-right _ _ k))
-  sound-cmd (while e c) Γ pc h f = tc-while (sound e Γ _ (isTy-path _ _ (both-left _ _ h)) (both-left _ _ f)) (sound-cmd c Γ _ (both-right _ _ h) (both-right _ _ f))
+      tc-assign (sound Γ (is-type _ _ h) (both-left _ _ f)) refl refl (law .join-leq _ _ _ (both-left _ _ k) (both-right _ _ k))
+  sound-cmd (while e c) Γ pc h f = tc-while (sound Γ (is-type _ _ (both-left _ _ h)) (both-left _ _ f)) (sound-cmd c Γ _ (both-right _ _ h) (both-right _ _ f))
   sound-cmd (case e c₁ c₂) Γ pc h f =
       let o = onSum-path _ _ h in
       let k = both-right _ _ f in
       let m = least (conditions 𝓛 D) (labels Γ) e in
-      tc-case (sound e Γ _ (o .2) (both-left _ _ f)) (sound-cmd c₁ (record { type = o .0; label = m } ∷ Γ) _ (both-left _ _ (o .3)) (both-left _ _ k))
+      tc-case (sound Γ (has-type _ _ e (o .2)) (both-left _ _ f)) (sound-cmd c₁ (record { type = o .0; label = m } ∷ Γ) _ (both-left _ _ (o .3)) (both-left _ _ k))
       (sound-cmd c₂ (record { type = o .1; label = m } ∷ Γ) _ (both-right _ _ (o .3)) (both-right _ _ k))
 
   -- Figure 5 has a derivation exactly if the command passes both tests.
@@ -251,20 +230,10 @@ shape-iff D c = (
 abbrev answer : Bool → Bool → ℕ
 answer s f = cond s (cond f 0 6) 5
 
-number-0 : (s f : Bool) → answer s f ≡ 0 → (s ≡ true) × (f ≡ true)
-number-0 true true h = (refl, refl)
-number-0 true false h = absurd (omega arith)
-number-0 false f h = absurd (omega arith)
-
-number-5 : (s f : Bool) → answer s f ≡ 5 → s ≡ false
-number-5 true true h = absurd (omega arith)
-number-5 true false h = absurd (omega arith)
-number-5 false f h = refl
-
-number-6 : (s f : Bool) → answer s f ≡ 6 → (s ≡ true) × (f ≡ false)
-number-6 true true h = absurd (omega arith)
-number-6 true false h = (refl, refl)
-number-6 false f h = absurd (omega arith)
+numbers : (s f : Bool) → (answer s f ≡ 0 → (s ≡ true) × (f ≡ true)) × (answer s f ≡ 5 → s ≡ false) × (answer s f ≡ 6 → (s ≡ true) × (f ≡ false))
+numbers true true = ((λ h. (refl, refl)), (λ h. absurd (omega arith)), λ h. absurd (omega arith))
+numbers true false = ((λ h. absurd (omega arith)), (λ h. absurd (omega arith)), λ h. (refl, refl))
+numbers false f = ((λ h. absurd (omega arith)), (λ h. refl), λ h. absurd (omega arith))
 
 number : {s f s′ f′ : Bool} → s ≡ s′ → f ≡ f′ → answer s f ≡ answer s′ f′
 number p q = rw (p, q)
@@ -282,15 +251,15 @@ module _ {L : Type 0} (𝓛 : Labels L) (law : LeastLabelLaws 𝓛) (D : Declara
   unfolding refusal
   exactness = record {
     accepted = λ c. (
-      (λ h. flow-iff (𝓛 .bot) c .0 (number-0 (shape (D .shapes) [] c) _ h)),
+      (λ h. flow-iff (𝓛 .bot) c .0 (numbers (shape (D .shapes) [] c) _ .0 h)),
       (λ d. let a = flow-iff (𝓛 .bot) c .1 d in number (a .0) (a .1)),
     );
     refused-5 = λ c. (
-      (λ h d. true≢false (sym (shape-iff D c .1 d) ∙ number-5 (shape (D .shapes) [] c) (flow (conditions 𝓛 D) (𝓛 .bot) [] c) h)),
+      (λ h d. true≢false (sym (shape-iff D c .1 d) ∙ numbers (shape (D .shapes) [] c) (flow (conditions 𝓛 D) (𝓛 .bot) [] c) .1 h)),
       (λ n. number {f = flow (conditions 𝓛 D) (𝓛 .bot) [] c} (not-so (shape (D .shapes) [] c) (λ h. n (shape-iff D c .0 h))) refl),
     );
     refused-6 = λ c. (
-      (λ h. let n = number-6 (shape (D .shapes) [] c) (flow (conditions 𝓛 D) (𝓛 .bot) [] c) h in
+      (λ h. let n = numbers (shape (D .shapes) [] c) (flow (conditions 𝓛 D) (𝓛 .bot) [] c) .2 h in
           (shape-iff D c .0 (n .0), λ d. true≢false (sym (flow-iff (𝓛 .bot) c .1 d .1) ∙ n .1))),
       (λ n. number (shape-iff D c .1 (n .0)) (not-so (flow (conditions 𝓛 D) (𝓛 .bot) [] c) (λ f. n .1 (flow-iff (𝓛 .bot) c .0 (shape-iff D c .1 (n .0), f))))),
     );

@@ -1,18 +1,17 @@
 -- A property of values that evaluation keeps, runs keep: it holds of every value in every memory that a run reaches.
-use mathlib.Core.Path.{_≡_, subst}
-use mathlib.Core.Bool.{Bool, true, false, cond}
+use mathlib.Core.Path.{_≡_}
+use mathlib.Core.Bool.{Bool, true, false}
 use mathlib.Core.List.{[], _∷_}
 use Prim.Native.Nat.{ℕ, zero, suc, _+_, _%_, _^_, _≤_, _<_}
 use native.Mathlib.Nat.{mod-lt}
 use native.Mathlib.Omega.{arith}
-use lib.Dec.{eqb}
-use Rattle.language.specs.Syntax.{Value, int, err, inl, inr, pkg, blank, size, has, Expr, val, loc, var, plus, left, right, pack, unpack, Cmd, skip, seq, assign, while, case}
+use Rattle.language.specs.Syntax.{Value, int, err, inl, inr, pkg, size, has, Expr, val, loc, var, plus, left, right, pack, unpack, Cmd, skip, seq, assign, while, case}
 use Rattle.language.specs.World.{World, Mem, cell-words, wanted}
-use Rattle.language.specs.Substitution.{Env, lift, close-var, closeE, close, inst, put}
-use Rattle.language.specs.Evaluation.{Res, ok, long, stuck, bind, fit, add, addTo, packed, opened, unpacked, lookup, eval}
-use Rattle.language.specs.Transition.{Next, final, to, too-long, no-rule, at-seq, at-assign, branch, branchV, step, done, iterate}
-use Rattle.language.proofs.Fit.{by-fit}
-use Rattle.language.proofs.Traces.{Trace, Stops, stops-done, iterate-stops, trace-keeps}
+use Rattle.language.specs.Substitution.{Env, lift, close-var, closeE, close, inst}
+use Rattle.language.specs.Evaluation.{Res, bind, fit, add, packed, opened, unpacked, lookup, eval}
+use Rattle.language.specs.Transition.{Next, too-long, no-rule, branch, step, done, iterate}
+use Rattle.language.proofs.Results.{by-fit, Holds, holds-bind, by-add, by-unpacked, by-branch}
+use Rattle.language.proofs.Configurations.{Config, ConfigNext, config-seq, config-assign, config-done}
 
 -- P holds of what evaluation makes of values that have it. A pack may name the labels `named`.
 pub record Kept (P : Value → Type 0) (named : ℕ → Type 0) : Type 0 where
@@ -96,33 +95,21 @@ module _ (P : Value → Type 0) (named : ℕ → Type 0) where
 
   -- where there is a value, P holds of it
   abbrev pub Has : Res → Type 0
-  Has (ok v) = P v
-  Has long = Unit {0}
-  Has stuck = Unit {0}
-
-  has-bind : (r : Res) (f : Value → Res) → Has r → ((v : Value) → P v → Has (f v)) → Has (bind r f)
-  unfolding bind
-  has-bind (ok v) f h k = k v h
-  has-bind long f h k = tt
-  has-bind stuck f h k = tt
+  Has r = Holds P Unit r
 
   has-fit : (v : Value) → (size v ≤ cell-words → P v) → Has (fit v)
   has-fit v h = by-fit Has v h (λ s. tt)
 
+  abbrev has-bind : (r : Res) (f : Value → Res) → Has r → ((v : Value) → P v → Has (f v)) → Has (bind r f)
+  has-bind = holds-bind P P Unit
+
+  -- P holds throughout a configuration
+  abbrev pub Through : Mem → Cmd → Type 0
+  Through M c = Config (λ x. P) (Uses P named) Unit M c
+
   module _ (kept : Kept P named) (W : World) where
     has-add : (v w : Value) → Has (add v w)
-    unfolding add addTo
-    has-add (int m) (int n) = has-fit (int ((m + n) % 2 ^ 32)) λ s. kept .sum _ (mod-lt (m + n) (omega arith))
-    has-add (int m) (err n) = tt
-    has-add (int m) (inl v) = tt
-    has-add (int m) (inr v) = tt
-    has-add (int m) (pkg l v) = tt
-    has-add (int m) blank = tt
-    has-add (err m) w = tt
-    has-add (inl v) w = tt
-    has-add (inr v) w = tt
-    has-add (pkg l v) w = tt
-    has-add blank w = tt
+    has-add = by-add (λ v w r. Has r) (λ m n. has-fit (int ((m + n) % 2 ^ 32)) λ s. kept .sum _ (mod-lt (m + n) (omega arith))) (λ v w e. tt)
 
     has-pack : (b : Bool) (l : ℕ) (v : Value) → named l → P v → Has (packed b l v)
     unfolding packed
@@ -137,13 +124,8 @@ module _ (P : Value → Type 0) (named : ℕ → Type 0) where
     has-open true true true v h = has-fit (inl v) (kept .to-left v h)
 
     has-unpack : (t l : ℕ) (v : Value) → P v → Has (unpacked W t l v)
-    unfolding unpacked
-    has-unpack t l (int n) h = tt
-    has-unpack t l (err n) h = tt
-    has-unpack t l (inl v) h = tt
-    has-unpack t l (inr v) h = tt
-    has-unpack t l (pkg m v) h = has-open (W .reads l) (W .below m l) (has v (wanted (W .ty t))) v (kept .from-package m v h)
-    has-unpack t l blank h = tt
+    has-unpack t l = by-unpacked (λ v r. P v → Has r) W t l
+        (λ m v h. has-open (W .reads l) (W .below m l) (has v (wanted (W .ty t))) v (kept .from-package m v h)) (λ v e h. tt)
 
     has-lookup : {ρ : Env} → AllOf P ρ → (i : ℕ) → Has (lookup ρ i)
     unfolding lookup
@@ -165,72 +147,30 @@ module _ (P : Value → Type 0) (named : ℕ → Type 0) where
 
     -- Transitions.
 
-    -- P holds throughout a configuration
-    pub record Through (M : Mem) (c : Cmd) : Type 0 where
-      pub memory : (x : ℕ) → P (M x)
-      pub command : Uses P named c
-
     abbrev ThroughNext : Next → Type 0
-    ThroughNext final = Unit {0}
-    ThroughNext (to M c) = Through M c
-    ThroughNext too-long = Unit {0}
-    ThroughNext no-rule = Unit {0}
-
-    through-seq : (M : Mem) (c : Cmd) (n : Next) → ((x : ℕ) → P (M x)) → Uses P named c → ThroughNext n → ThroughNext (at-seq M c n)
-    unfolding at-seq
-    through-seq M c final m u h = record { memory = m; command = u }
-    through-seq M c (to M′ c′) m u h = record { memory = h .memory; command = u-seq (h .command) u }
-    through-seq M c too-long m u h = tt
-    through-seq M c no-rule m u h = tt
-
-    through-put : (M : Mem) (x : ℕ) (v : Value) → ((y : ℕ) → P (M y)) → P v → (y : ℕ) → P (put M x v y)
-    unfolding put
-    through-put M x v m h y = on (eqb x y)
-      where
-        on : (b : Bool) → P (cond b v (M y))
-        on true = h
-        on false = m y
-
-    through-assign : (M : Mem) (x : ℕ) (r : Res) → ((y : ℕ) → P (M y)) → Has r → ThroughNext (at-assign M x r)
-    unfolding at-assign
-    through-assign M x (ok v) m h = record { memory = through-put M x v m h; command = u-skip }
-    through-assign M x long m h = tt
-    through-assign M x stuck m h = tt
+    ThroughNext n = ConfigNext (λ x. P) (Uses P named) Unit n
 
     through-branch : (l r : Value → Next) (s : Res) → Has s → ((v : Value) → P v → ThroughNext (l v)) → ((v : Value) → P v → ThroughNext (r v))
         → ThroughNext (branch l r too-long no-rule s)
-    unfolding branch branchV
-    through-branch l r (ok (int n)) h p q = tt
-    through-branch l r (ok (err n)) h p q = tt
-    through-branch l r (ok (inl v)) h p q = p v (kept .from-left v h)
-    through-branch l r (ok (inr v)) h p q = q v (kept .from-right v h)
-    through-branch l r (ok (pkg k v)) h p q = tt
-    through-branch l r (ok blank) h p q = tt
-    through-branch l r long h p q = tt
-    through-branch l r stuck h p q = tt
+    through-branch l r s h p q = by-branch (λ s n. Has s → ThroughNext n) (λ v h. p v (kept .from-left v h)) (λ v h. q v (kept .from-right v h))
+        (λ h. tt) (λ s o h. tt) s h
 
     through-step : (M : Mem) → ((x : ℕ) → P (M x)) → {c : Cmd} → Uses P named c → ThroughNext (step W M c)
     unfolding step
     through-step M m u-skip = tt
-    through-step M m (u-seq a b) = through-seq M _ _ m b (through-step M m a)
-    through-step M m (u-assign {x} e) = through-assign M x _ m (keeps-eval all-none m e)
+    through-step M m (u-seq a b) = config-seq _ _ _ (λ _ _ p q. u-seq p q) M _ (record { memory = m; command = b }) _ (through-step M m a)
+    through-step M m (u-assign {x} e) = config-assign _ _ _ u-skip M x _ m (keeps-eval all-none m e)
     through-step M m (u-while e c) = through-branch _ _ _ (keeps-eval all-none m e)
         (λ v h. record { memory = m; command = u-seq c (u-while e c) }) (λ v h. record { memory = m; command = u-skip })
     through-step M m (u-case e a b) = through-branch _ _ _ (keeps-eval all-none m e)
         (λ v h. record { memory = m; command = uses-inst v h a }) (λ v h. record { memory = m; command = uses-inst v h b })
 
-    pub keeps-step : (M M′ : Mem) (c c′ : Cmd) → Through M c → step W M c ≡ to M′ c′ → Through M′ c′
-    keeps-step M M′ c c′ i h = subst ThroughNext h (through-step M (i .memory) (i .command))
-
-    pub keeps-trace : {k : ℕ} {M M′ : Mem} {c c′ : Cmd} → Trace W k M c M′ c′ → Through M c → Through M′ c′
-    keeps-trace t i = trace-keeps W Through keeps-step t i
-
-    keeps-stop : {b l : ℕ} {M M′ : Mem} {c : Cmd} → Stops W b M c (done M′ l) → Through M c → Through M′ skip
-    keeps-stop (stops-done e t) i = keeps-trace t i
+    pub through : (M : Mem) (c : Cmd) → Through M c → ThroughNext (step W M c)
+    through M c i = through-step M (i .memory) (i .command)
 
     -- A done run keeps P: it holds of every value that the run leaves, if it holds of the values before and in the script.
     pub keeps : (b l : ℕ) (M M′ : Mem) (c : Cmd) → Uses P named c → ((x : ℕ) → P (M x)) → iterate W b M c ≡ done M′ l → (x : ℕ) → P (M′ x)
-    keeps b l M M′ c u m h = (keeps-stop (subst (Stops W b M c) h (iterate-stops W b M c)) (record { memory = m; command = u })) .memory
+    keeps b l M M′ c u m h = config-done _ _ _ W through b h (record { memory = m; command = u }) .memory
 
 -- Properties that are kept.
 

@@ -1,13 +1,14 @@
 pub mod Masking
 pub mod Substitution
 pub mod Interpreter
-pub mod Fit
+pub mod Results
 pub mod Agreement
 pub mod Determinacy
 pub mod Types
 pub mod Exactness
 pub mod Images
 pub mod Traces
+pub mod Configurations
 pub mod Invariants
 pub mod TypeSoundness
 pub mod Outcome

@@ -15,50 +15,38 @@ use Rattle.language.specs.Transition.{Next, final, to, too-long, no-rule
 use Rattle.language.specs.Typing.{typeOfValue, typeOf, shape}
 use Rattle.language.specs.Theorems.{SameTypes, Fitting, RunEnds, ends-done, ends-spent, ends-over, LongExact, Outcome}
 use Rattle.logic.proofs.BooleanLaws.{both-left, both-right}
-use Rattle.language.proofs.Types.{isTy-path, hasTy-path, given-path, leftIs-path, rightIs-path, onSum-path}
+use Rattle.language.proofs.Types.{onSum-path, HasType, h-int, h-loc, h-var, h-plus, h-left, h-right, h-pack, h-unpack, has-type, is-type}
 use Rattle.logic.proofs.OptionLaws.{none-some}
 use Rattle.language.proofs.Agreement.{agreement, Refines, same, was-long, star-eval}
 use Rattle.language.proofs.Determinacy.{once}
 use Rattle.language.proofs.Interpreter.{run-skip}
 use Rattle.language.proofs.Traces.{Trace, t-none, t-more, Stops, stops-done, stops-spent, stops-over, stops-wrong, iterate-stops, trace-run, trace-steps, steps-trace}
-use Rattle.language.proofs.Invariants.{Fits, Anywhere, fits-kept, UsesE, u-val, u-loc, u-var, u-plus, u-left, u-right, u-pack, u-unpack, Uses, u-skip, u-seq, u-assign, u-while, u-case, all-none, Has, Through, keeps-eval, keeps-step, keeps-trace}
+use Rattle.language.proofs.Invariants.{Fits, Anywhere, fits-kept, UsesE, u-val, u-loc, u-var, u-plus, u-left, u-right, u-pack, u-unpack, Uses, u-skip, u-seq, u-assign, u-while, u-case, all-none, Has, Through, keeps-eval, through}
+use Rattle.language.proofs.Configurations.{config-step, config-trace}
 use Rattle.language.proofs.TypeSoundness.{Fine, has-rule, trace-fine, start-fine}
 
 -- No value of a script that passes `shape` is too long: its literals are integers.
 
-fits-expr : (S : Shapes) (Γ : List Ty) (e : Expr) (t : Ty) → typeOf S Γ e ≡ some t → UsesE Fits Anywhere e
-unfolding typeOf typeOfValue size
-fits-expr S Γ (val (int n)) t h = u-val {v = int n} (omega arith)
-fits-expr S Γ (val (err n)) t h = none-some h
-fits-expr S Γ (val (inl v)) t h = none-some h
-fits-expr S Γ (val (inr v)) t h = none-some h
-fits-expr S Γ (val (pkg l v)) t h = none-some h
-fits-expr S Γ (val blank) t h = none-some h
-fits-expr S Γ (loc x) t h = u-loc
-fits-expr S Γ (var i) t h = u-var
-fits-expr S Γ (plus a b) t h =
-    let g = given-path _ _ _ h in
-    u-plus (fits-expr S Γ a t-int (isTy-path t-int _ (both-left _ _ (g .0)))) (fits-expr S Γ b t-int (isTy-path t-int _ (both-right _ _ (g .0))))
-fits-expr S Γ (left n a) t h =
-    let l = leftIs-path _ _ (given-path _ _ _ h .0) in
-    u-left (fits-expr S Γ a (l .0) (l .3))
-fits-expr S Γ (right n a) t h =
-    let l = rightIs-path _ _ (given-path _ _ _ h .0) in
-    u-right (fits-expr S Γ a (l .1) (l .3))
-fits-expr S Γ (pack l a) t h =
-    let k = hasTy-path _ (given-path _ _ _ h .0) in
-    u-pack tt (fits-expr S Γ a (k .0) (k .1))
-fits-expr S Γ (unpack n l a) t h = u-unpack (fits-expr S Γ a t-pkg (isTy-path t-pkg _ (both-left _ _ (given-path _ _ _ h .0))))
+fits-expr : {S : Shapes} {Γ : List Ty} {e : Expr} {t : Ty} → HasType S Γ e t → UsesE Fits Anywhere e
+unfolding size
+fits-expr (h-int {n}) = u-val {v = int n} (omega arith)
+fits-expr h-loc = u-loc
+fits-expr (h-var h) = u-var
+fits-expr (h-plus a b) = u-plus (fits-expr a) (fits-expr b)
+fits-expr (h-left p e) = u-left (fits-expr e)
+fits-expr (h-right p e) = u-right (fits-expr e)
+fits-expr (h-pack e) = u-pack tt (fits-expr e)
+fits-expr (h-unpack p e) = u-unpack (fits-expr e)
 
 pub fits-cmd : (S : Shapes) (Γ : List Ty) (c : Cmd) → shape S Γ c ≡ true → Uses Fits Anywhere c
 unfolding shape
 fits-cmd S Γ skip s = u-skip
 fits-cmd S Γ (seq a b) s = u-seq (fits-cmd S Γ a (both-left _ _ s)) (fits-cmd S Γ b (both-right _ _ s))
-fits-cmd S Γ (assign x e) s = u-assign (fits-expr S Γ e _ (isTy-path _ _ s))
-fits-cmd S Γ (while e c) s = u-while (fits-expr S Γ e _ (isTy-path _ _ (both-left _ _ s))) (fits-cmd S Γ c (both-right _ _ s))
+fits-cmd S Γ (assign x e) s = u-assign (fits-expr (is-type S Γ s))
+fits-cmd S Γ (while e c) s = u-while (fits-expr (is-type S Γ (both-left _ _ s))) (fits-cmd S Γ c (both-right _ _ s))
 fits-cmd S Γ (case e a b) s =
     let p = onSum-path _ _ s in
-    u-case (fits-expr S Γ e _ (p .2)) (fits-cmd S _ a (both-left _ _ (p .3))) (fits-cmd S _ b (both-right _ _ (p .3)))
+    u-case (fits-expr (has-type S Γ e (p .2))) (fits-cmd S _ a (both-left _ _ (p .3))) (fits-cmd S _ b (both-right _ _ (p .3)))
 
 -- Where `eval` has a value, no part of the expression is too long.
 
@@ -139,7 +127,10 @@ module _ (W : World) (M : Mem) (m : Fitting M) where
 
 module _ (S : Shapes) (W : World) (agree : SameTypes S W) where
   abbrev Fit : Mem → Cmd → Type 0
-  Fit M c = Through Fits Anywhere fits-kept W M c
+  Fit M c = Through Fits Anywhere M c
+
+  keep : {k : ℕ} {M M′ : Mem} {c c′ : Cmd} → Trace W k M c M′ c′ → Fit M c → Fit M′ c′
+  keep = config-trace _ _ _ W (through Fits Anywhere fits-kept W)
 
   to-long : {M M₁ : Mem} {c c₁ : Cmd} → Fit M c → step W M c ≡ to M₁ c₁ → ¬ LongStep W M c
   to-long {M = M} f h l = not-long-step W M (f .memory) l (f .command) (subst (Goes W M (f .memory)) (sym h) tt)
@@ -158,7 +149,7 @@ module _ (S : Shapes) (W : World) (agree : SameTypes S W) where
   trace-none-long t-none f j M₁ c₁ lt s l = omega arith
   trace-none-long (t-more h t) f zero M₁ c₁ lt s l = to-long f h (zero-long s l)
   trace-none-long (t-more h t) f (suc j) M₁ c₁ lt s l =
-      trace-none-long t (keeps-step Fits Anywhere fits-kept W _ _ _ _ f h) j M₁ c₁ (omega arith) (after-first (agreement W .has-rule _ _ _ _ h) s) l
+      trace-none-long t (config-step _ _ _ W (through Fits Anywhere fits-kept W) h f) j M₁ c₁ (omega arith) (after-first (agreement W .has-rule _ _ _ _ h) s) l
 
   -- From `iterate` to the figures.
   stops-ends : {b : ℕ} {M : Mem} {c : Cmd} {o : Out} → Fine S W agree M c → Fit M c → Stops W b M c o → RunEnds W b M c o
@@ -194,7 +185,7 @@ module _ (S : Shapes) (W : World) (agree : SameTypes S W) where
   ends-iterate {b} i f (ends-spent {M′} {c′} s h n) = trace-run W zero b (steps-trace W s n) (omega arith) ∙ spent-now M′ c′ h
   ends-iterate {b} i f (ends-over {k} {l} {M′} {c′} e s h n) =
       let t = steps-trace W s n in
-      trace-run W (suc l) b t e ∙ over-now l M′ c′ (long-now M′ c′ (trace-fine S W agree t i) (keeps-trace Fits Anywhere fits-kept W t f) h)
+      trace-run W (suc l) b t e ∙ over-now l M′ c′ (long-now M′ c′ (trace-fine S W agree t i) (keep t f) h)
 
   start-fit : (M : Mem) (c : Cmd) → Fitting M → shape S [] c ≡ true → Fit M c
   start-fit M c g s = record { memory = g; command = fits-cmd S [] c s }
@@ -202,7 +193,7 @@ module _ (S : Shapes) (W : World) (agree : SameTypes S W) where
   pub long-exact : LongExact S W
   long-exact c s M m g k M′ c′ p n =
       let t = steps-trace W p n in
-      (agreement W .is-long M′ c′, long-now M′ c′ (trace-fine S W agree t (start-fine S W agree M c m s)) (keeps-trace Fits Anywhere fits-kept W t (start-fit M c g s)))
+      (agreement W .is-long M′ c′, long-now M′ c′ (trace-fine S W agree t (start-fine S W agree M c m s)) (keep t (start-fit M c g s)))
 
   pub outcome : Outcome S W
   outcome c s M m g b o =

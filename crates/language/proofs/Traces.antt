@@ -25,17 +25,11 @@ module _ (W : World) where
   unfolding step
   skip-final M c e = rw e refl
 
-  not-skip : (M : Mem) (c : Cmd) {n : Next} → step W M c ≡ n → ¬ (n ≡ final) → ¬ (c ≡ skip)
-  not-skip M c h k e = k (sym h ∙ skip-final M c e)
-
-  to-final : {M : Mem} {c : Cmd} → ¬ (to M c ≡ final)
-  to-final h = absurd (let z : _≡_ {A = ℕ} 0 1 = cc in omega arith)
-
-  long-final : ¬ (too-long ≡ final)
-  long-final h = absurd (let z : _≡_ {A = ℕ} 0 1 = cc in omega arith)
-
-  none-final : ¬ (no-rule ≡ final)
-  none-final h = absurd (let z : _≡_ {A = ℕ} 0 1 = cc in omega arith)
+  -- n is not final if that were 0 = 1
+  not-skip : (M : Mem) (c : Cmd) {n : Next} → step W M c ≡ n → (final ≡ n → _≡_ {A = ℕ} 0 1) → ¬ (c ≡ skip)
+  not-skip M c h k e =
+      let z : _≡_ {A = ℕ} 0 1 = k (sym (skip-final M c e) ∙ h) in
+      omega arith
 
   -- one transition before a run
   stops-more : {b : ℕ} {M M₁ : Mem} {c c₁ : Cmd} {o : Out} → step W M c ≡ to M₁ c₁ → Stops W b M₁ c₁ o → Stops W (suc b) M c o
@@ -55,9 +49,9 @@ module _ (W : World) where
     where
       on : (n : Next) → step W M c ≡ n → Stops W zero M c (after (λ M′ c′. spent) done spent spent M zero n)
       on final h = done-now zero h
-      on (to M′ c′) h = stops-spent t-none (not-skip M c h to-final)
-      on too-long h = stops-spent t-none (not-skip M c h long-final)
-      on no-rule h = stops-spent t-none (not-skip M c h none-final)
+      on (to M′ c′) h = stops-spent t-none (not-skip M c h λ e. cc)
+      on too-long h = stops-spent t-none (not-skip M c h λ e. cc)
+      on no-rule h = stops-spent t-none (not-skip M c h λ e. cc)
   run-stops (suc b) M c = on (λ M′ c′. run-stops b M′ c′) (step W M c) refl
     where
       on : ((M′ : Mem) (c′ : Cmd) → Stops W b M′ c′ (run b W done M′ c′)) → (n : Next) → step W M c ≡ n
@@ -81,12 +75,6 @@ module _ (W : World) where
   trace-run l b (t-more {k} {M} {c = c} h t) e =
       let q : b ≡ suc (k + l) = omega arith in
       ap (λ n. run n W done M c) q ∙ rw h (trace-run l (k + l) t refl)
-
-  -- What each transition keeps, a trace keeps.
-  pub trace-keeps : (I : Mem → Cmd → Type 0) → ((M M′ : Mem) (c c′ : Cmd) → I M c → step W M c ≡ to M′ c′ → I M′ c′)
-      → {k : ℕ} {M M′ : Mem} {c c′ : Cmd} → Trace W k M c M′ c′ → I M c → I M′ c′
-  trace-keeps I h t-none i = i
-  trace-keeps I h (t-more s t) i = trace-keeps I h t (h _ _ _ _ i s)
 
   -- The transitions of a trace are figure 3's.
   pub trace-steps : {k : ℕ} {M M′ : Mem} {c c′ : Cmd} → Trace W k M c M′ c′ → Steps W k M c M′ c′

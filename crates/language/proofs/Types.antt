@@ -1,10 +1,14 @@
--- Laws of the type tests: what follows where a test passes, and when it passes.
-use mathlib.Core.Path.{_≡_, refl, ap, sym}
+-- Laws of the type tests: what follows where a test passes, and when it passes; the types of expressions as derivations.
+use mathlib.Core.Path.{_≡_, refl, ap, sym, _∙_, subst}
 use mathlib.Core.Bool.{Bool, true, false, false≢true}
 use mathlib.Core.Option.{Option, none, some}
+use mathlib.Core.List.{List}
+use Prim.Native.Nat.{ℕ}
+use Rattle.logic.proofs.BooleanLaws.{both-left, both-right}
 use Rattle.logic.proofs.OptionLaws.{none-some, some-path}
-use Rattle.language.specs.Syntax.{Ty, t-int, t-err, t-pkg, t-sum, Ty-discrete}
-use Rattle.language.specs.Typing.{isYes, sameTy, isTy, hasTy, leftIs, rightIs, onSum, given}
+use Rattle.language.specs.Syntax.{Ty, t-int, t-err, t-pkg, t-sum, Ty-discrete, int, err, inl, inr, pkg, blank, Expr, val, loc, var, plus, left, right, pack, unpack}
+use Rattle.language.specs.Declarations.{Shapes, nth}
+use Rattle.language.specs.Typing.{isYes, sameTy, isTy, hasTy, leftIs, rightIs, onSum, given, typeOfValue, typeOf}
 
 sameTy-refl : (a : Ty) → sameTy a a ≡ true
 unfolding sameTy isYes
@@ -82,3 +86,49 @@ onSum-path (some t-int) k h = absurd (false≢true h)
 onSum-path (some t-err) k h = absurd (false≢true h)
 onSum-path (some t-pkg) k h = absurd (false≢true h)
 onSum-path (some (t-sum a b)) k h = (a, b, refl, h)
+
+-- The types of figure 4 alone, without its labels.
+pub data HasType (S : Shapes) (Γ : List Ty) : Expr → Ty → Type 0 where
+  h-int : {n : ℕ} → HasType S Γ (val (int n)) t-int
+  h-loc : {x : ℕ} → HasType S Γ (loc x) (S .locTy x)
+  h-var : {d : ℕ} {t : Ty} → nth Γ d ≡ some t → HasType S Γ (var d) t
+  h-plus : {a b : Expr} → HasType S Γ a t-int → HasType S Γ b t-int → HasType S Γ (plus a b) t-int
+  h-left : {n : ℕ} {e : Expr} {a b : Ty} → S .ty n ≡ t-sum a b → HasType S Γ e a → HasType S Γ (left n e) (t-sum a b)
+  h-right : {n : ℕ} {e : Expr} {a b : Ty} → S .ty n ≡ t-sum a b → HasType S Γ e b → HasType S Γ (right n e) (t-sum a b)
+  h-pack : {l : ℕ} {e : Expr} {t : Ty} → HasType S Γ e t → HasType S Γ (pack l e) (t-sum t-pkg t-err)
+  h-unpack : {n l : ℕ} {e : Expr} {t : Ty} → S .ty n ≡ t-sum t t-err → HasType S Γ e t-pkg → HasType S Γ (unpack n l e) (t-sum t t-err)
+
+module _ (S : Shapes) (Γ : List Ty) where
+  -- an expression has the type that `typeOf` gives
+  pub has-type : (e : Expr) {t : Ty} → typeOf S Γ e ≡ some t → HasType S Γ e t
+  unfolding typeOf typeOfValue
+  has-type (val (int n)) h = subst (HasType S Γ (val (int n))) (some-path h) h-int
+  has-type (val (err n)) h = none-some h
+  has-type (val (inl v)) h = none-some h
+  has-type (val (inr v)) h = none-some h
+  has-type (val (pkg l v)) h = none-some h
+  has-type (val blank) h = none-some h
+  has-type (loc x) h = subst (HasType S Γ (loc x)) (some-path h) h-loc
+  has-type (var d) h = h-var h
+  has-type (plus a b) h =
+      let g = given-path _ _ _ h in
+      rw (← g .1) (h-plus (has-type a (isTy-path t-int _ (both-left _ _ (g .0)))) (has-type b (isTy-path t-int _ (both-right _ _ (g .0)))))
+  has-type (left n e) h =
+      let g = given-path _ _ _ h in
+      let l = leftIs-path _ _ (g .0) in
+      rw (← g .1, l .2) (h-left (l .2) (has-type e (l .3)))
+  has-type (right n e) h =
+      let g = given-path _ _ _ h in
+      let r = rightIs-path _ _ (g .0) in
+      rw (← g .1, r .2) (h-right (r .2) (has-type e (r .3)))
+  has-type (pack l e) h =
+      let g = given-path _ _ _ h in
+      rw (← g .1) (h-pack (has-type e (hasTy-path _ (g .0) .1)))
+  has-type (unpack n l e) h =
+      let g = given-path _ _ _ h in
+      let r = rightIs-path _ _ (both-right _ _ (g .0)) in
+      let p : S .ty n ≡ t-sum (r .0) t-err = r .2 ∙ ap (t-sum (r .0)) (sym (some-path (r .3))) in
+      rw (← g .1, p) (h-unpack p (has-type e (isTy-path t-pkg _ (both-left _ _ (g .0)))))
+
+  pub is-type : {e : Expr} {t : Ty} → isTy t (typeOf S Γ e) ≡ true → HasType S Γ e t
+  is-type h = has-type _ (isTy-path _ _ h)

@@ -1,0 +1,82 @@
+-- The results of evaluation by cases: a value that is made is kept if it is not too long; sums, opened packages and branches.
+use mathlib.Core.Path.{_≡_, refl}
+use mathlib.Core.Bool.{Bool, true, false, not, false≢true}
+use Prim.Native.Nat.{ℕ, _+_, _%_, _^_, _≤_, _<_}
+use lib.Dec.{leb, leb→le, nleb→lt, T}
+use Rattle.logic.specs.Booleans.{both}
+use Rattle.language.specs.Syntax.{Ty, t-int, t-pkg, t-sum, Value, int, err, inl, inr, pkg, blank, size, has}
+use Rattle.language.specs.World.{World, cell-words, wanted}
+use Rattle.language.specs.Evaluation.{Res, ok, long, stuck, bind, fitting, fit, add, addTo, opened, unpacked}
+use Rattle.language.specs.Transition.{branch, branchV}
+use Rattle.logic.proofs.BooleanLaws.{T-of}
+
+T-not : {b : Bool} → b ≡ false → T (not b)
+T-not e = rw e tt
+
+-- what holds of a value that fits and of too long holds of `fit`
+pub by-fit : (P : Res → Type 0) (v : Value) → (size v ≤ cell-words → P (ok v)) → (cell-words < size v → P long) → P (fit v)
+unfolding fit fitting
+by-fit P v f g = on (leb (size v) cell-words) refl
+  where
+    on : (b : Bool) → leb (size v) cell-words ≡ b → P (fitting b v)
+    on true e = f (leb→le (size v) cell-words (T-of e))
+    on false e = g (nleb→lt (size v) cell-words (T-not e))
+
+-- P holds of the value, if there is one; X, if no rule applies
+abbrev pub Holds : (Value → Type 0) → Type 0 → Res → Type 0
+Holds P X (ok v) = P v
+Holds P X long = Unit {0}
+Holds P X stuck = X
+
+pub holds-bind : (P Q : Value → Type 0) (X : Type 0) (r : Res) (f : Value → Res) → Holds P X r → ((v : Value) → P v → Holds Q X (f v))
+    → Holds Q X (bind r f)
+unfolding bind
+holds-bind P Q X (ok v) f h k = k v h
+holds-bind P Q X long f h k = tt
+holds-bind P Q X stuck f h k = h
+
+-- the result is a value of the type t, or too long
+abbrev pub Good : Ty → Res → Type 0
+Good t r = Holds (λ v. has v t ≡ true) ⊥ r
+
+-- integers have a sum, other values have none
+pub by-add : (P : Value → Value → Res → Type 0) → ((m n : ℕ) → P (int m) (int n) (fit (int ((m + n) % 2 ^ 32))))
+    → ((v w : Value) → both (has v t-int) (has w t-int) ≡ false → P v w stuck) → (v w : Value) → P v w (add v w)
+unfolding add addTo has both
+by-add P f g (int m) (int n) = f m n
+by-add P f g (int m) (err n) = g _ _ refl
+by-add P f g (int m) (inl v) = g _ _ refl
+by-add P f g (int m) (inr v) = g _ _ refl
+by-add P f g (int m) (pkg l v) = g _ _ refl
+by-add P f g (int m) blank = g _ _ refl
+by-add P f g (err m) w = g _ _ refl
+by-add P f g (inl v) w = g _ _ refl
+by-add P f g (inr v) w = g _ _ refl
+by-add P f g (pkg l v) w = g _ _ refl
+by-add P f g blank w = g _ _ refl
+
+-- packages are opened, other values are not
+pub by-unpacked : (P : Value → Res → Type 0) (W : World) (t l : ℕ)
+    → ((m : ℕ) (v : Value) → P (pkg m v) (opened (W .reads l) (W .below m l) (has v (wanted (W .ty t))) v))
+    → ((v : Value) → has v t-pkg ≡ false → P v stuck) → (v : Value) → P v (unpacked W t l v)
+unfolding unpacked has
+by-unpacked P W t l f g (int n) = g _ refl
+by-unpacked P W t l f g (err n) = g _ refl
+by-unpacked P W t l f g (inl v) = g _ refl
+by-unpacked P W t l f g (inr v) = g _ refl
+by-unpacked P W t l f g (pkg m v) = f m v
+by-unpacked P W t l f g blank = g _ refl
+
+-- left and right go their ways, too long its own, and what is no value of a sum type the last
+pub by-branch : {A : Type 0} (P : Res → A → Type 0) {l r : Value → A} {o n : A} → ((v : Value) → P (ok (inl v)) (l v))
+    → ((v : Value) → P (ok (inr v)) (r v)) → P long o → ((s : Res) → ((a b : Ty) → ¬ Good (t-sum a b) s) → P s n)
+    → (s : Res) → P s (branch l r o n s)
+unfolding branch branchV has
+by-branch P f g h k (ok (int i)) = k _ λ a b e. false≢true e
+by-branch P f g h k (ok (err i)) = k _ λ a b e. false≢true e
+by-branch P f g h k (ok (inl v)) = f v
+by-branch P f g h k (ok (inr v)) = g v
+by-branch P f g h k (ok (pkg i v)) = k _ λ a b e. false≢true e
+by-branch P f g h k (ok blank) = k _ λ a b e. false≢true e
+by-branch P f g h k long = h
+by-branch P f g h k stuck = k _ λ a b e. e

@@ -4,7 +4,7 @@ use mathlib.Core.Bool.{Bool, true, false}
 use mathlib.Core.List.{[]}
 use Prim.Native.Nat.{ℕ, _+_, _%_, _^_}
 use native.Mathlib.Omega.{arith}
-use Rattle.language.specs.Syntax.{Value, int, err, inl, inr, pkg, blank, has, Expr, val, loc, var, plus, left, right, pack, unpack, Cmd, skip, seq, assign, while, case}
+use Rattle.language.specs.Syntax.{Value, int, inl, inr, pkg, has, Expr, val, loc, var, plus, left, right, pack, unpack, Cmd, skip, seq, assign, while, case}
 use Rattle.language.specs.World.{World, Mem, wanted}
 use Rattle.language.specs.Substitution.{inst}
 use Rattle.language.specs.Figures.{EStep, ee-loc, ee-inl, ee-inr, ee-plus-struct1, ee-plus-struct2, ee-plus, ee-pack-struct, ee-pack-ok, ee-pack-fail, ee-unpack-struct, ee-unpack-fail1, ee-unpack-fail2, ee-unpack-fail3, ee-unpack-ok, inl-value, inr-value, EStar, e-none, e-more, Step, ec-assign, ec-seq-skip, ec-seq-struct, ec-while-false, ec-while-true, ec-casel, ec-caser, LongExpr, long-value, in-plus1, in-plus2, in-left, in-right, in-pack, in-unpack, LongStep, in-assign, in-seq, in-while, in-case}
@@ -85,24 +85,29 @@ module _ (W : World) (M : Mem) where
 
 -- From figure 2 to `eval`: a step changes the result at most from too long.
 
-pub data Refines : Res → Res → Type 0 where
-  same : {r : Res} → Refines r r
-  was-long : {s : Res} → Refines long s
+-- r is s, or r is too long, which `bad` stands for
+pub data Refines {A : Type 0} (bad : A) : A → A → Type 0 where
+  same : {r : A} → Refines bad r r
+  was-long : {s : A} → Refines bad bad s
 
-refines-trans : {r s t : Res} → Refines r s → Refines s t → Refines r t
+refines-trans : {A : Type 0} {bad r s t : A} → Refines bad r s → Refines bad s t → Refines bad r t
 refines-trans same q = q
 refines-trans was-long q = was-long
 
-refines-bind : {r s : Res} (f : Value → Res) → Refines r s → Refines (bind r f) (bind s f)
-unfolding bind
-refines-bind f same = same
-refines-bind f was-long = was-long
+-- a function that takes too long to too long
+refines-of : {A B : Type 0} {bad r s : A} {worse : B} (f : A → B) → f bad ≡ worse → Refines bad r s → Refines worse (f r) (f s)
+refines-of f q same = same
+refines-of f q was-long = rw q was-long
 
-refines-fit : (v : Value) → Refines (fit v) (ok v)
-refines-fit v = by-fit (λ r. Refines r (ok v)) v (λ s. same) (λ s. was-long)
+refines-bind : {r s : Res} (f : Value → Res) → Refines long r s → Refines long (bind r f) (bind s f)
+unfolding bind
+refines-bind f = refines-of (λ r. bind r f) refl
+
+refines-fit : (v : Value) → Refines long (fit v) (ok v)
+refines-fit v = by-fit (λ r. Refines long r (ok v)) v (λ s. same) (λ s. was-long)
 
 module _ (W : World) (M : Mem) where
-  step-refines : {a b : Expr} → EStep W M a b → Refines (eval W [] M a) (eval W [] M b)
+  step-refines : {a b : Expr} → EStep W M a b → Refines long (eval W [] M a) (eval W [] M b)
   unfolding eval bind add addTo unpacked packed opened
   step-refines ee-loc = same
   step-refines (ee-inl s) = refines-bind _ (step-refines s)
@@ -121,12 +126,12 @@ module _ (W : World) (M : Mem) where
   step-refines (inl-value {v = v}) = refines-fit (inl v)
   step-refines (inr-value {v = v}) = refines-fit (inr v)
 
-  pub star-refines : {a b : Expr} → EStar W M a b → Refines (eval W [] M a) (eval W [] M b)
+  pub star-refines : {a b : Expr} → EStar W M a b → Refines long (eval W [] M a) (eval W [] M b)
   star-refines e-none = same
   star-refines (e-more s p) = refines-trans (step-refines s) (star-refines p)
 
   -- the value of figure 2 is that of `eval`, or `eval` is too long
-  pub star-eval : {e : Expr} {v : Value} → EStar W M e (val v) → Refines (eval W [] M e) (ok v)
+  pub star-eval : {e : Expr} {v : Value} → EStar W M e (val v) → Refines long (eval W [] M e) (ok v)
   unfolding eval
   star-eval p = star-refines p
 
@@ -134,23 +139,19 @@ module _ (W : World) (M : Mem) where
   pub star-ok : {e : Expr} {v : Value} → EStar W M e (val v) → ¬ LongExpr W M e → eval W [] M e ≡ ok v
   star-ok {e} {v} p n = on (eval W [] M e) (star-eval p) (eval-gives W M e)
     where
-      on : (r : Res) → Refines r (ok v) → Gives W M e r → r ≡ ok v
+      on : (r : Res) → Refines long r (ok v) → Gives W M e r → r ≡ ok v
       on r same g = refl
       on long was-long g = absurd (n g)
 
 -- Figure 3 and `step`.
 
-data RefinesN : Next → Next → Type 0 where
-  same-n : {n : Next} → RefinesN n n
-  was-long-n : {n : Next} → RefinesN too-long n
+not-long : {n m : Next} → Refines too-long n m → ¬ (n ≡ too-long) → n ≡ m
+not-long same h = refl
+not-long was-long h = absurd (h refl)
 
-not-long : {n m : Next} → RefinesN n m → ¬ (n ≡ too-long) → n ≡ m
-not-long same-n h = refl
-not-long was-long-n h = absurd (h refl)
-
-not-none : {n m : Next} {M : Mem} {c : Cmd} → RefinesN n m → n ≡ no-rule → ¬ (m ≡ to M c)
-not-none same-n p q = absurd (let z : _≡_ {A = ℕ} 0 1 = cc in omega arith)
-not-none was-long-n p q = absurd (let z : _≡_ {A = ℕ} 0 1 = cc in omega arith)
+not-none : {n m : Next} {M : Mem} {c : Cmd} → Refines too-long n m → n ≡ no-rule → ¬ (m ≡ to M c)
+not-none same p q = absurd (let z : _≡_ {A = ℕ} 0 1 = cc in omega arith)
+not-none was-long p q = absurd (let z : _≡_ {A = ℕ} 0 1 = cc in omega arith)
 
 module _ (W : World) where
   -- What figure 3 has where `step` gives a result.
@@ -176,7 +177,7 @@ module _ (W : World) where
   gives-branch : (M : Mem) (c : Cmd) (e : Expr) (l r : Value → Next) → ((v : Value) → EStar W M e (val (inl v)) → GivesN M c (l v))
       → ((v : Value) → EStar W M e (val (inr v)) → GivesN M c (r v)) → (LongExpr W M e → LongStep W M c) → (s : Res) → Gives W M e s
       → GivesN M c (branch l r too-long no-rule s)
-  gives-branch M c e l r p q o = by-branch (λ s n. Gives W M e s → GivesN M c n) p q o (λ s a h. tt)
+  gives-branch M c e l r p q o = by-branch (λ s n. Gives W M e s → GivesN M c n) p q o (λ s a e h. tt)
 
   pub step-gives : (M : Mem) (c : Cmd) → GivesN M c (step W M c)
   unfolding step
@@ -186,21 +187,11 @@ module _ (W : World) where
   step-gives M (while e c) = gives-branch M _ e _ _ (λ v p. ec-while-true p) (λ v p. ec-while-false p) (λ h. in-while h) (eval W [] M e) (eval-gives W M e)
   step-gives M (case e a b) = gives-branch M _ e _ _ (λ v p. ec-casel p) (λ v p. ec-caser p) (λ h. in-case h) (eval W [] M e) (eval-gives W M e)
 
-  refines-seq : (M : Mem) (c : Cmd) {n m : Next} → RefinesN n m → RefinesN (at-seq M c n) (at-seq M c m)
-  unfolding at-seq
-  refines-seq M c same-n = same-n
-  refines-seq M c was-long-n = was-long-n
-
-  -- a function on results that takes long to too-long
-  refines-of : (f : Res → Next) → f long ≡ too-long → {r s : Res} → Refines r s → RefinesN (f r) (f s)
-  refines-of f q same = same-n
-  refines-of f q was-long = rw q was-long-n
-
-  step-has : {M M′ : Mem} {c c′ : Cmd} → Step W M c M′ c′ → RefinesN (step W M c) (to M′ c′)
+  step-has : {M M′ : Mem} {c c′ : Cmd} → Step W M c M′ c′ → Refines too-long (step W M c) (to M′ c′)
   unfolding step at-assign at-seq branch branchV eval
   step-has (ec-assign {M} {x} p) = refines-of (at-assign M x) refl (star-refines W M p)
-  step-has ec-seq-skip = same-n
-  step-has (ec-seq-struct {M} {c₂ = c} s) = refines-seq M c (step-has s)
+  step-has ec-seq-skip = same
+  step-has (ec-seq-struct {M} {c₂ = c} s) = refines-of (at-seq M c) refl (step-has s)
   step-has (ec-while-false {M} {e} {c} p) = refines-of (branch (λ v. to M (seq c (while e c))) (λ v. to M skip) too-long no-rule) refl (star-refines W M p)
   step-has (ec-while-true {M} {e} {c} p) = refines-of (branch (λ v. to M (seq c (while e c))) (λ v. to M skip) too-long no-rule) refl (star-refines W M p)
   step-has (ec-casel {M} {e} {c₁} {c₂} p) = refines-of (branch (λ v. to M (inst v c₁)) (λ v. to M (inst v c₂)) too-long no-rule) refl (star-refines W M p)

@@ -77,7 +77,7 @@ module _ (W : World) (N : Mem) where
   sound-case ρ e a c ha hc (suc b) k M h =
       by-branch (λ s o. eval W ρ M e ≡ s → DoneWith N o → Reached W (suc b) k ρ M (case e a c) N)
       (λ v p h. onward (ha v b k M h) (omega arith) λ m r. r-left p r) (λ v p h. onward (hc v b k M h) (omega arith) λ m r. r-right p r)
-      (λ p h. absurd h) (λ s n p h. absurd h) (eval W ρ M e) refl (rw (run-case W k M ρ (suc b) e a c) at h)
+      (λ p h. absurd h) (λ s n e p h. absurd h) (eval W ρ M e) refl (rw (run-case W k M ρ (suc b) e a c) at h)
 
   sound-while : (ρ : Env) (e : Expr) (c : Cmd) → Sounds ρ c → (n b : ℕ) → b < n → (k : Mem → ℕ → Out) (M : Mem)
       → DoneWith N (run b W k M (close zero ρ (while e c))) → Reached W b k ρ M (while e c) N
@@ -91,7 +91,7 @@ module _ (W : World) (N : Mem) where
       onward (on-next ρ (while e c) (r .rest) k (r .mem) (λ b′ l. sound-while ρ e c hc n b′ (omega arith) k (r .mem)) (r .then)) (omega arith)
       λ m q. r-go p (r .run-of) q)
       (λ v p h. record { mem = M; rest = b; fits = omega arith; run-of = r-end p; then = h })
-      (λ p h. absurd h) (λ s n p h. absurd h) (eval W ρ M e) refl (rw (run-while W k M ρ (suc b) e c) at h)
+      (λ p h. absurd h) (λ s n e p h. absurd h) (eval W ρ M e) refl (rw (run-while W k M ρ (suc b) e c) at h)
 
   sound : (c : Cmd) (ρ : Env) → Sounds ρ c
   unfolding close

@@ -1,14 +1,15 @@
 -- The equations of an interpreter with an environment. `go` is the run of a command whose variables ρ binds; each equation
 -- gives it for one command by the runs of its parts.
 use mathlib.Core.Path.{_≡_, refl, ap, sym, _∙_, fun-ext}
-use mathlib.Core.List.{[], _∷_}
+use mathlib.Core.List.{_∷_}
 use Prim.Native.Nat.{ℕ, zero, suc}
-use Rattle.language.specs.Syntax.{Value, int, err, inl, inr, pkg, blank, Expr, Cmd, skip, seq, assign, while, case}
+use Rattle.language.specs.Syntax.{Value, Expr, Cmd, skip, seq, assign, while, case}
 use Rattle.language.specs.World.{World, Mem}
 use Rattle.language.specs.Substitution.{Env, close, put}
 use Rattle.language.specs.Evaluation.{Res, ok, long, stuck, eval}
 use Rattle.language.specs.Transition.{Next, final, to, too-long, no-rule, at-seq, at-assign, branch, branchV, step, Out, done, spent, over, wrong, after, run, iterate}
 use Rattle.language.proofs.Substitution.{inst-close, eval-close}
+use Rattle.language.proofs.Results.{by-branch}
 
 -- The run of c, its variables bound by ρ, from M within the budget b.
 unfoldable pub go : World → Env → Cmd → Mem → ℕ → Out
@@ -61,14 +62,8 @@ module _ (W : World) (k : Mem → ℕ → Out) (c : Cmd) where
 -- the branch taken, after a function on its result
 branch-after : (f : Next → Out) (l r : Value → Next) (t n : Next) (s : Res) → f (branch l r t n s) ≡ branch (λ v. f (l v)) (λ v. f (r v)) (f t) (f n) s
 unfolding branch branchV
-branch-after f l r t n (ok (int k)) = refl
-branch-after f l r t n (ok (err k)) = refl
-branch-after f l r t n (ok (inl v)) = refl
-branch-after f l r t n (ok (inr v)) = refl
-branch-after f l r t n (ok (pkg k v)) = refl
-branch-after f l r t n (ok blank) = refl
-branch-after f l r t n long = refl
-branch-after f l r t n stuck = refl
+branch-after f l r t n = by-branch (λ s x. f x ≡ branch (λ v. f (l v)) (λ v. f (r v)) (f t) (f n) s) (λ v. refl) (λ v. refl) refl
+    (λ s o e. sym (e Out (λ v. f (l v)) (λ v. f (r v)) (f t) (f n)))
 
 branch-cong : {l l′ r r′ : Value → Out} (t n : Out) (s : Res) → ((v : Value) → l v ≡ l′ v) → ((v : Value) → r v ≡ r′ v)
     → branch l r t n s ≡ branch l′ r′ t n s

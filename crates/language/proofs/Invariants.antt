@@ -153,7 +153,7 @@ module _ (P : Value → Type 0) (named : ℕ → Type 0) where
     through-branch : (l r : Value → Next) (s : Res) → Has s → ((v : Value) → P v → ThroughNext (l v)) → ((v : Value) → P v → ThroughNext (r v))
         → ThroughNext (branch l r too-long no-rule s)
     through-branch l r s h p q = by-branch (λ s n. Has s → ThroughNext n) (λ v h. p v (kept .from-left v h)) (λ v h. q v (kept .from-right v h))
-        (λ h. tt) (λ s o h. tt) s h
+        (λ h. tt) (λ s o e h. tt) s h
 
     through-step : (M : Mem) → ((x : ℕ) → P (M x)) → {c : Cmd} → Uses P named c → ThroughNext (step W M c)
     unfolding step

@@ -10,11 +10,11 @@ use Rattle.language.specs.World.{World, Mem, wanted}
 use Rattle.language.specs.Substitution.{Env, put}
 use Rattle.language.specs.Declarations.{nth}
 use Rattle.language.specs.View.{Equiv, ve-int, ve-err, ve-inl, ve-inr, ve-pack-in, ve-pack-lab, ve-blank, EquivMem}
-use Rattle.language.specs.Evaluation.{Res, ok, long, stuck, bind, fit, add, packed, opened, unpacked, lookup, eval}
+use Rattle.language.specs.Evaluation.{Res, ok, stuck, bind, fit, add, packed, opened, unpacked, lookup, eval}
 use Rattle.language.specs.Typing.{Conditions, orElse, least, flowE, flow}
 use Rattle.language.specs.Theorems.{Observer, ExpressionNoninterference, Noninterference}
 use Rattle.logic.proofs.BooleanLaws.{T-of, both-left, both-right, cases, not-so}
-use Rattle.language.proofs.Results.{by-fit, by-add}
+use Rattle.language.proofs.Results.{by-fit, by-add, bind-ok}
 use Rattle.language.proofs.Agreement.{star-ok}
 use Rattle.language.proofs.Masking.{equiv-refl, has-equiv, equiv-of-view, view-of-equiv}
 use Rattle.language.proofs.Confinement.{Quiet, q-seq, q-assign, q-while, q-case, put-unseen, while-quiet, case-quiet}
@@ -27,12 +27,6 @@ ok-path h = cc
 
 never : {v : Value} {A : Type 0} → stuck ≡ ok v → A
 never h = absurd (let z : _≡_ {A = ℕ} 0 1 = cc in omega arith)
-
-bind-ok : (r : Res) (f : Value → Res) (w : Value) → bind r f ≡ ok w → (v : Value) × (r ≡ ok v) × (f v ≡ ok w)
-unfolding bind
-bind-ok (ok v) f w h = (v, refl, h)
-bind-ok long f w h = absurd (let z : _≡_ {A = ℕ} 0 1 = cc in omega arith)
-bind-ok stuck f w h = never h
 
 fit-ok : (v w : Value) → fit v ≡ ok w → v ≡ w
 fit-ok v w = by-fit (λ r. r ≡ ok w → v ≡ w) v (λ s h. cc) (λ s h. cc)

@@ -2,23 +2,22 @@
 -- that is too long.
 use mathlib.Core.Path.{_≡_, refl, sym, _∙_, subst}
 use mathlib.Core.Bool.{true}
-use mathlib.Core.Option.{some}
 use mathlib.Core.List.{List, []}
 use Prim.Native.Nat.{ℕ, zero, suc, _≤_, _<_}
 use native.Mathlib.Omega.{arith}
-use Rattle.language.specs.Syntax.{Ty, t-int, t-pkg, Value, int, err, inl, inr, pkg, blank, size, Expr, val, loc, var, plus, left, right, pack, unpack, Cmd, skip, seq, assign, while, case}
+use Rattle.language.specs.Syntax.{Ty, Value, int, size, Expr, Cmd, skip, seq, assign, while, case}
 use Rattle.language.specs.World.{World, Mem}
 use Rattle.language.specs.Figures.{Step, Steps, s-none, s-more, LongExpr, long-value, in-plus1, in-plus2, in-left, in-right, in-pack, in-unpack, LongStep, in-assign, in-seq, in-while, in-case, NoneLong}
 use Rattle.language.specs.Declarations.{Shapes}
-use Rattle.language.specs.Evaluation.{Res, ok, long, stuck, bind, eval}
+use Rattle.language.specs.Evaluation.{Res, ok, long, stuck, eval}
 use Rattle.language.specs.Transition.{Next, final, to, too-long, no-rule, at-seq, at-assign, branch, step, Out, done, spent, over, after, run, iterate}
-use Rattle.language.specs.Typing.{typeOfValue, typeOf, shape}
+use Rattle.language.specs.Typing.{shape}
 use Rattle.language.specs.Theorems.{SameTypes, Fitting, RunEnds, ends-done, ends-spent, ends-over, LongExact, Outcome}
 use Rattle.logic.proofs.BooleanLaws.{both-left, both-right}
 use Rattle.language.proofs.Types.{onSum-path, HasType, h-int, h-loc, h-var, h-plus, h-left, h-right, h-pack, h-unpack, has-type, is-type}
-use Rattle.logic.proofs.OptionLaws.{none-some}
 use Rattle.language.proofs.Agreement.{agreement, Refines, same, was-long, star-eval}
 use Rattle.language.proofs.Determinacy.{once}
+use Rattle.language.proofs.Results.{bind-ok}
 use Rattle.language.proofs.Interpreter.{run-skip}
 use Rattle.language.proofs.Traces.{Trace, t-none, t-more, Stops, stops-done, stops-spent, stops-over, stops-wrong, iterate-stops, trace-run, trace-steps, steps-trace}
 use Rattle.language.proofs.Invariants.{Fits, Anywhere, fits-kept, UsesE, u-val, u-loc, u-var, u-plus, u-left, u-right, u-pack, u-unpack, Uses, u-skip, u-seq, u-assign, u-while, u-case, all-none, Has, Through, keeps-eval, through}
@@ -50,40 +49,23 @@ fits-cmd S Γ (case e a b) s =
 
 -- Where `eval` has a value, no part of the expression is too long.
 
-abbrev IsOk : Res → Type 0
-IsOk (ok v) = Unit {0}
-IsOk long = ⊥
-IsOk stuck = ⊥
-
-ok-bind : (r : Res) (f : Value → Res) → IsOk (bind r f) → IsOk r
-unfolding bind
-ok-bind (ok v) f h = tt
-ok-bind long f h = h
-ok-bind stuck f h = h
-
-ok-second : (r s : Res) (f : Value → Value → Res) → IsOk (bind r (λ v. bind s (f v))) → IsOk s
-unfolding bind
-ok-second (ok v) s f h = ok-bind s (f v) h
-ok-second long s f h = absurd h
-ok-second stuck s f h = absurd h
-
-refines-ok : {r : Res} {v : Value} → Refines r (ok v) → IsOk r → r ≡ ok v
+refines-ok : {r : Res} {v w : Value} → Refines long r (ok v) → r ≡ ok w → r ≡ ok v
 refines-ok same h = refl
-refines-ok was-long h = absurd h
+refines-ok was-long h = absurd (let z : _≡_ {A = ℕ} 0 1 = cc in omega arith)
 
 too-many : {n m : ℕ} → n ≤ m → m < n → ⊥
 too-many h k = omega arith
 
 module _ (W : World) (M : Mem) (m : Fitting M) where
-  not-long-expr : {e : Expr} → LongExpr W M e → UsesE Fits Anywhere e → ¬ IsOk (eval W [] M e)
+  not-long-expr : {e : Expr} {w : Value} → LongExpr W M e → UsesE Fits Anywhere e → ¬ (eval W [] M e ≡ ok w)
   unfolding eval
   not-long-expr (long-value p s) u h = too-many (subst (Has Fits Anywhere) (refines-ok (star-eval W M p) h) (keeps-eval Fits Anywhere fits-kept W all-none m u)) s
-  not-long-expr (in-plus1 l) (u-plus a b) h = not-long-expr l a (ok-bind _ _ h)
-  not-long-expr (in-plus2 {e₁ = a₁} l) (u-plus a b) h = not-long-expr l b (ok-second (eval W [] M a₁) _ _ h)
-  not-long-expr (in-left l) (u-left a) h = not-long-expr l a (ok-bind _ _ h)
-  not-long-expr (in-right l) (u-right a) h = not-long-expr l a (ok-bind _ _ h)
-  not-long-expr (in-pack l) (u-pack n a) h = not-long-expr l a (ok-bind _ _ h)
-  not-long-expr (in-unpack l) (u-unpack a) h = not-long-expr l a (ok-bind _ _ h)
+  not-long-expr (in-plus1 l) (u-plus a b) h = not-long-expr l a (bind-ok _ _ _ h .1)
+  not-long-expr (in-plus2 l) (u-plus a b) h = not-long-expr l b (bind-ok _ _ _ (bind-ok _ _ _ h .2) .1)
+  not-long-expr (in-left l) (u-left a) h = not-long-expr l a (bind-ok _ _ _ h .1)
+  not-long-expr (in-right l) (u-right a) h = not-long-expr l a (bind-ok _ _ _ h .1)
+  not-long-expr (in-pack l) (u-pack n a) h = not-long-expr l a (bind-ok _ _ _ h .1)
+  not-long-expr (in-unpack l) (u-unpack a) h = not-long-expr l a (bind-ok _ _ _ h .1)
 
   -- the step goes on to a configuration, or there is none
   abbrev Goes : Next → Type 0
@@ -99,24 +81,24 @@ module _ (W : World) (M : Mem) (m : Fitting M) where
   goes-seq c too-long h = h
   goes-seq c no-rule h = h
 
-  goes-assign : (x : ℕ) (r : Res) → Goes (at-assign M x r) → IsOk r
+  goes-assign : (x : ℕ) (r : Res) → Goes (at-assign M x r) → (v : Value) × (r ≡ ok v)
   unfolding at-assign
-  goes-assign x (ok v) h = tt
-  goes-assign x long h = h
-  goes-assign x stuck h = h
+  goes-assign x (ok v) h = (v, refl)
+  goes-assign x long h = absurd h
+  goes-assign x stuck h = absurd h
 
-  goes-branch : (l r : Value → Next) (s : Res) → Goes (branch l r too-long no-rule s) → IsOk s
+  goes-branch : (l r : Value → Next) (s : Res) → Goes (branch l r too-long no-rule s) → (v : Value) × (s ≡ ok v)
   unfolding branch
-  goes-branch l r (ok v) h = tt
-  goes-branch l r long h = h
-  goes-branch l r stuck h = h
+  goes-branch l r (ok v) h = (v, refl)
+  goes-branch l r long h = absurd h
+  goes-branch l r stuck h = absurd h
 
   not-long-step : {c : Cmd} → LongStep W M c → Uses Fits Anywhere c → ¬ Goes (step W M c)
   unfolding step
-  not-long-step (in-assign {x} l) (u-assign u) h = not-long-expr l u (goes-assign x _ h)
+  not-long-step (in-assign {x} l) (u-assign u) h = not-long-expr l u (goes-assign x _ h .1)
   not-long-step (in-seq {c₂ = b} l) (u-seq a b′) h = not-long-step l a (goes-seq b _ h)
-  not-long-step (in-while l) (u-while u c) h = not-long-expr l u (goes-branch _ _ _ h)
-  not-long-step (in-case l) (u-case u a b) h = not-long-expr l u (goes-branch _ _ _ h)
+  not-long-step (in-while l) (u-while u c) h = not-long-expr l u (goes-branch _ _ _ h .1)
+  not-long-step (in-case l) (u-case u a b) h = not-long-expr l u (goes-branch _ _ _ h .1)
 
   -- `step` is too long where the figures meet a value that is too long, unless it has no rule
   long-is : (n : Next) → ¬ Goes n → ¬ (n ≡ no-rule) → n ≡ too-long

@@ -2,6 +2,7 @@
 use mathlib.Core.Path.{_≡_, refl}
 use mathlib.Core.Bool.{Bool, true, false, not, false≢true}
 use Prim.Native.Nat.{ℕ, _+_, _%_, _^_, _≤_, _<_}
+use native.Mathlib.Omega.{arith}
 use lib.Dec.{leb, leb→le, nleb→lt, T}
 use Rattle.logic.specs.Booleans.{both}
 use Rattle.language.specs.Syntax.{Ty, t-int, t-pkg, t-sum, Value, int, err, inl, inr, pkg, blank, size, has}
@@ -34,6 +35,13 @@ unfolding bind
 holds-bind P Q X (ok v) f h k = k v h
 holds-bind P Q X long f h k = tt
 holds-bind P Q X stuck f h k = h
+
+-- where a bind has a value, both parts have
+pub bind-ok : (r : Res) (f : Value → Res) (w : Value) → bind r f ≡ ok w → (v : Value) × (r ≡ ok v) × (f v ≡ ok w)
+unfolding bind
+bind-ok (ok v) f w h = (v, refl, h)
+bind-ok long f w h = absurd (let z : _≡_ {A = ℕ} 0 1 = cc in omega arith)
+bind-ok stuck f w h = absurd (let z : _≡_ {A = ℕ} 0 1 = cc in omega arith)
 
 -- the result is a value of the type t, or too long
 abbrev pub Good : Ty → Res → Type 0
@@ -69,14 +77,15 @@ by-unpacked P W t l f g blank = g _ refl
 
 -- left and right go their ways, too long its own, and what is no value of a sum type the last
 pub by-branch : {A : Type 0} (P : Res → A → Type 0) {l r : Value → A} {o n : A} → ((v : Value) → P (ok (inl v)) (l v))
-    → ((v : Value) → P (ok (inr v)) (r v)) → P long o → ((s : Res) → ((a b : Ty) → ¬ Good (t-sum a b) s) → P s n)
+    → ((v : Value) → P (ok (inr v)) (r v)) → P long o
+    → ((s : Res) → ((a b : Ty) → ¬ Good (t-sum a b) s) → ((B : Type 0) (f g : Value → B) (p q : B) → branch f g p q s ≡ q) → P s n)
     → (s : Res) → P s (branch l r o n s)
 unfolding branch branchV has
-by-branch P f g h k (ok (int i)) = k _ λ a b e. false≢true e
-by-branch P f g h k (ok (err i)) = k _ λ a b e. false≢true e
+by-branch P f g h k (ok (int i)) = k _ (λ a b e. false≢true e) λ B f g p q. refl
+by-branch P f g h k (ok (err i)) = k _ (λ a b e. false≢true e) λ B f g p q. refl
 by-branch P f g h k (ok (inl v)) = f v
 by-branch P f g h k (ok (inr v)) = g v
-by-branch P f g h k (ok (pkg i v)) = k _ λ a b e. false≢true e
-by-branch P f g h k (ok blank) = k _ λ a b e. false≢true e
+by-branch P f g h k (ok (pkg i v)) = k _ (λ a b e. false≢true e) λ B f g p q. refl
+by-branch P f g h k (ok blank) = k _ (λ a b e. false≢true e) λ B f g p q. refl
 by-branch P f g h k long = h
-by-branch P f g h k stuck = k _ λ a b e. e
+by-branch P f g h k stuck = k _ (λ a b e. e) λ B f g p q. refl

@@ -1,5 +1,5 @@
 -- Type soundness: a command that passes `shape`, in a well-typed memory, always has a rule, and keeps the memory well-typed.
-use mathlib.Core.Path.{_≡_, refl, ap, sym, _∙_, subst}
+use mathlib.Core.Path.{_≡_, refl, sym, _∙_, subst}
 use mathlib.Core.Bool.{Bool, true, false}
 use mathlib.Core.Option.{some}
 use mathlib.Core.List.{List, [], _∷_}
@@ -100,7 +100,7 @@ module _ (S : Shapes) (W : World) (agree : SameTypes S W) where
   fine-branch : (s t : Ty) (l r : Value → Next) (q : Res) → Good (t-sum s t) q → ((v : Value) → has v s ≡ true → FineNext (l v))
       → ((v : Value) → has v t ≡ true → FineNext (r v)) → FineNext (branch l r too-long no-rule q)
   unfolding has
-  fine-branch s t l r q g h k = by-branch (λ q n. Good (t-sum s t) q → FineNext n) h k (λ g. tt) (λ q o g. o s t g) q g
+  fine-branch s t l r q g h k = by-branch (λ q n. Good (t-sum s t) q → FineNext n) h k (λ g. tt) (λ q o e g. o s t g) q g
 
   fine-seq : (M : Mem) {c : Cmd} → WellTyped S M → OnWay c → (n : Next) → FineNext n → FineNext (at-seq M c n)
   fine-seq M m u = config-seq _ _ _ (λ _ _ p q. one-after p q) M _ (record { memory = m; command = u })

@@ -22,6 +22,11 @@ unfolding given piece
 given-piece true b t u = refl
 given-piece false b t u = refl
 
+piece-none : (mine : Bool) → piece mine [] ≡ []
+unfolding piece
+piece-none true = refl
+piece-none false = refl
+
 -- the bytes of a text that is over
 module _ (last i : ℕ) where
   from-past : (t : List ℕ) (j : ℕ) (start : Bool) → i < j → textFrom last i j start t ≡ []
@@ -43,30 +48,24 @@ module _ (last i : ℕ) where
       go false h = (refl, h)
   inside j false b t e = (refl, e)
 
-  -- a text without empty lines to the end
-  from-plain : (t : List ℕ) (j : ℕ) (start : Bool) → noEmptyLine start t ≡ true → textFrom last i j start t ≡ piece (eqb j i) t
-  unfolding textFrom piece
-  from-plain [] j start e = nothing (eqb j i)
-    where
-      nothing : (m : Bool) → [] ≡ piece m []
-      nothing true = refl
-      nothing false = refl
-  from-plain (b ∷ t) j start e =
-      let h = inside j start b t e in
+  -- a text that goes on to the end, where P says that no byte of it parts
+  from-whole : (j : ℕ) (P : Bool → List ℕ → Type 0)
+      → ((start : Bool) (b : ℕ) (t : List ℕ) → P start (b ∷ t) → (parting last j start b ≡ false) × P (eqb b 10) t)
+      → (t : List ℕ) (start : Bool) → P start t → textFrom last i j start t ≡ piece (eqb j i) t
+  unfolding textFrom
+  from-whole j P on [] start e = sym (piece-none (eqb j i))
+  from-whole j P on (b ∷ t) start e =
+      let h = on start b t e in
       from-same last i j start b t (h .0)
-      ∙ ap (given (eqb j i) b) (from-plain t j (eqb b 10) (h .1) ∙ sym (append-nil (piece (eqb j i) t)))
+      ∙ ap (given (eqb j i) b) (from-whole j P on t (eqb b 10) (h .1) ∙ sym (append-nil (piece (eqb j i) t)))
       ∙ given-piece (eqb j i) b t []
       ∙ append-nil (piece (eqb j i) (b ∷ t))
 
   -- a text with an empty line after it
   from-parted : (t : List ℕ) (j : ℕ) (start : Bool) (u : List ℕ) → noEmptyLine start t ≡ true → ended start t ≡ true → j < last
       → textFrom last i j start (t ++ (10 ∷ u)) ≡ piece (eqb j i) t ++ textFrom last i (j + 1) true u
-  unfolding ended piece
-  from-parted [] j start u e f l = from-next last i j start 10 u (parting-empty last j start 10 f refl ∙ lt-ltb j last l) ∙ nothing (eqb j i)
-    where
-      nothing : (m : Bool) → textFrom last i (j + 1) true u ≡ piece m [] ++ textFrom last i (j + 1) true u
-      nothing true = refl
-      nothing false = refl
+  unfolding ended
+  from-parted [] j start u e f l = from-next last i j start 10 u (parting-empty last j start 10 f refl ∙ lt-ltb j last l) ∙ rw (piece-none (eqb j i))
   from-parted (b ∷ t) j start u e f l =
       let h = inside j start b t e in
       from-same last i j start b (t ++ (10 ∷ u)) (h .0)
@@ -77,19 +76,6 @@ module _ (last i : ℕ) where
 never-parting : (last : ℕ) (start : Bool) (b : ℕ) → parting last last start b ≡ false
 never-parting last start b =
     cases (parting last last start b) (λ e. let z = parting-below last last start b e in absurd (omega arith)) (λ e. e)
-
-from-last : (last i : ℕ) (t : List ℕ) (start : Bool) → textFrom last i last start t ≡ piece (eqb last i) t
-unfolding textFrom piece
-from-last last i [] start = nothing (eqb last i)
-  where
-    nothing : (m : Bool) → [] ≡ piece m []
-    nothing true = refl
-    nothing false = refl
-from-last last i (b ∷ t) start =
-    from-same last i last start b t (never-parting last start b)
-    ∙ ap (given (eqb last i) b) (from-last last i t (eqb b 10) ∙ sym (append-nil (piece (eqb last i) t)))
-    ∙ given-piece (eqb last i) b t []
-    ∙ append-nil (piece (eqb last i) (b ∷ t))
 
 -- texts from text j on, where the last of them, text k, goes on to the end
 module _ (last k : ℕ) (end : List ℕ) (few : k ≤ last) (rest : (i : ℕ) → textFrom last i k true end ≡ piece (eqb k i) end) where
@@ -108,9 +94,9 @@ module _ (last k : ℕ) (end : List ℕ) (few : k ≤ last) (rest : (i : ℕ) �
 pub joined-apart : JoinedApart
 unfolding textOf
 joined-apart ts end each i =
-    apart (length ts) (length ts) end (omega arith) (λ i. from-last (length ts) i end true) ts 0 each (omega arith) i i (omega arith)
+    apart (length ts) (length ts) end (omega arith) (λ i. from-whole (length ts) i (length ts) (λ _ _. Unit) (λ start b t _. (never-parting (length ts) start b, tt)) end true tt) ts 0 each (omega arith) i i (omega arith)
 
 pub missing-empty : MissingEmpty
 unfolding textOf
 missing-empty ts end each plain last few i =
-    apart last (length ts) end few (λ i. from-plain last i end (length ts) true plain) ts 0 each (omega arith) i i (omega arith)
+    apart last (length ts) end few (λ i. from-whole last i (length ts) (λ start t. noEmptyLine start t ≡ true) (inside last i (length ts)) end true plain) ts 0 each (omega arith) i i (omega arith)

@@ -1,5 +1,5 @@
 -- The buffer holds what is kept of each text. Assumes nothing.
-use Prim.Native.Nat.{ℕ, suc, _+_, _*_, _-_, _≤_, _<_}
+use Prim.Native.Nat.{ℕ, suc, _+_, _*_, _≤_, _<_}
 use native.Mathlib.Omega.{arith}
 use mathlib.Core.Path.{_≡_, refl, sym, ap, _∙_}
 use mathlib.Core.Bool.{true, false}
@@ -34,10 +34,6 @@ sound-turned : (last : ℕ) (h : Held) → Sound last h → h .state .text < las
 unfolding turned
 sound-turned last h s l = record { inside = omega arith; places = s .places; few = s .few; long = s .long }
 
-part-turned : (h : Held) (i : ℕ) → part (turned h) i ≡ part h i
-unfolding turned textHeld
-part-turned h i = refl
-
 -- one number of a list, raised by one
 raised : (ks : List ℕ) (j : ℕ) → (i : ℕ) → getD ks i 0 ≤ keep → getD ks j 0 < keep → j < length ks → getD (set ks j (getD ks j 0 + 1)) i 0 ≤ keep
 raised ks j i h l p =
@@ -53,60 +49,50 @@ module _ (last : ℕ) (h : Held) (s : Sound last h) (b : ℕ) (below : last < te
   abbrev n : ℕ
   n = count (h .state) j
 
-  sound-stored : Sound last (stored h b)
-  sound-stored =
+  -- the byte is stored where there is room
+  by-room : (P : Held → Type 0)
+      → (n < keep → P (held (record { text = j; start = eqb b 10; kept = set (h .state .kept) j (n + 1) }) (set (h .buffer) (j * keep + n) b)))
+      → (keep ≤ n → P (held (record { text = j; start = eqb b 10; kept = h .state .kept }) (h .buffer))) → P (stored h b)
+  by-room P f g =
+      let l : j < texts = omega (arith, s .inside) in
       cases (ltb n keep)
-      (λ e.
-      let l : n < keep = ltb-true _ _ e in
-      let p : j < length (h .state .kept) = omega (arith, s .inside, s .places) in
-      rw (stored-room (h .state) (h .buffer) b (omega (arith, s .inside)) l)
-      (record {
+      (λ e. rw (stored-room (h .state) (h .buffer) b l (ltb-true _ _ e)) (f (ltb-true _ _ e)))
+      (λ e. rw (stored-full (h .state) (h .buffer) b l (ltb-false _ _ e)) (g (ltb-false _ _ e)))
+
+  placed : j < length (h .state .kept)
+  placed = omega (arith, s .inside, s .places)
+
+  sound-stored : Sound last (stored h b)
+  sound-stored = by-room (Sound last)
+      (λ l. record {
         inside = s .inside;
         places = length-set (h .state .kept) j (n + 1) ∙ s .places;
-        few = λ i. raised (h .state .kept) j i (s .few i) l p;
+        few = λ i. raised (h .state .kept) j i (s .few i) l placed;
         long = omega (arith, length-set (h .buffer) (j * keep + n) b, s .long);
-      }))
-      (λ e.
-      rw (stored-full (h .state) (h .buffer) b (omega (arith, s .inside)) (ltb-false _ _ e))
-      (record { inside = s .inside; places = s .places; few = s .few; long = s .long }))
+      })
+      (λ l. record { inside = s .inside; places = s .places; few = s .few; long = s .long })
 
   stored-start : (stored h b .state .text ≡ j) × (stored h b .state .start ≡ eqb b 10)
-  stored-start =
-      cases (ltb n keep)
-      (λ e. rw (stored-room (h .state) (h .buffer) b (omega (arith, s .inside)) (ltb-true _ _ e)) (refl, refl))
-      (λ e. rw (stored-full (h .state) (h .buffer) b (omega (arith, s .inside)) (ltb-false _ _ e)) (refl, refl))
+  stored-start = by-room (λ g. (g .state .text ≡ j) × (g .state .start ≡ eqb b 10)) (λ l. (refl, refl)) (λ l. (refl, refl))
 
   -- of the text itself, with whatever follows
   part-mine : (t : List ℕ) → take keep (part (stored h b) j ++ t) ≡ take keep (part h j ++ (b ∷ t))
   unfolding textHeld
   part-mine t =
-      let p : j < length (h .state .kept) = omega (arith, s .inside, s .places) in
-      cases (ltb n keep)
-      (λ e.
-      let l : n < keep = ltb-true _ _ e in
-      rw (stored-room (h .state) (h .buffer) b (omega (arith, s .inside)) l)
-      (rw (getD-set-same (h .state .kept) j (n + 1) 0 p)
-      (rw (place-same (h .buffer) (j * keep) n b (omega (arith, s .inside, s .long)))
-      (ap (take keep) (append-assoc (take n (drop (j * keep) (h .buffer))) (b ∷ []) t)))))
-      (λ e.
-      let l : keep ≤ n = ltb-false _ _ e in
-      let d : keep ≤ length (take n (drop (j * keep) (h .buffer))) =
-      omega (arith, length-take n (drop (j * keep) (h .buffer)), length-drop (j * keep) (h .buffer), s .few j, s .inside, s .long) in
-      rw (stored-full (h .state) (h .buffer) b (omega (arith, s .inside)) l)
-      (take-append-le keep (take n (drop (j * keep) (h .buffer))) t d
-      ∙ sym (take-append-le keep (take n (drop (j * keep) (h .buffer))) (b ∷ t) d)))
+      let xs = take n (drop (j * keep) (h .buffer)) in
+      by-room (λ g. take keep (part g j ++ t) ≡ take keep (part h j ++ (b ∷ t)))
+      (λ l. rw (getD-set-same (h .state .kept) j (n + 1) 0 placed) (rw (place-same (h .buffer) (j * keep) n b (omega (arith, s .inside, s .long)))
+      (ap (take keep) (append-assoc xs (b ∷ []) t))))
+      (λ l.
+      let d : keep ≤ length xs = omega (arith, length-take n (drop (j * keep) (h .buffer)), length-drop (j * keep) (h .buffer), s .few j, s .inside, s .long) in
+      take-append-le keep xs t d ∙ sym (take-append-le keep xs (b ∷ t) d))
 
   -- of another text
   part-other : (i : ℕ) → (j ≡ i → ⊥) → part (stored h b) i ≡ part h i
   unfolding textHeld
-  part-other i d =
-      cases (ltb n keep)
-      (λ e.
-      let l : n < keep = ltb-true _ _ e in
-      rw (stored-room (h .state) (h .buffer) b (omega (arith, s .inside)) l)
-      (rw (getD-set-other (h .state .kept) j i (n + 1) 0 (λ q. d (sym q)))
-      (place-other (h .buffer) i j (count (h .state) i) n b d (s .few i) l)))
-      (λ e. rw (stored-full (h .state) (h .buffer) b (omega (arith, s .inside)) (ltb-false _ _ e)))
+  part-other i d = by-room (λ g. part g i ≡ part h i)
+      (λ l. rw (getD-set-other (h .state .kept) j i (n + 1) 0 (λ q. d (sym q))) (place-other (h .buffer) i j (count (h .state) i) n b d (s .few i) l))
+      (λ l. refl)
 
   part-stored : (i : ℕ) (t : List ℕ) → take keep (part (stored h b) i ++ t) ≡ take keep (part h i ++ given (eqb j i) b t)
   unfolding given

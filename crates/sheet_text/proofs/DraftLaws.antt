@@ -24,8 +24,9 @@ use Rattle.sheet.proofs.TableLaws.{types-in, labels-in, locations-in, principal
 use Rattle.sheet_text.specs.declared.line.Line.{Line}
 use Rattle.sheet_text.specs.declared.line.Line.the-variants.{P, T, L, O, X}
 use Rattle.sheet_text.specs.declared.draft.Draft.{Draft}
+use Rattle.sheet_text.specs.declared.draft.Draft.the-variants.{Formed, Refused}
 use Rattle.sheet_text.specs.Internal.Building.{blank, addSum, addLabel, toLast, addPolicy, addLocation, lastOf, leastAfter, leastOwner, sumFits, labelFits, policyFits, locationFits, begin, step, stepOn}
-use Rattle.sheet_text.specs.Internal.Drafts.{DraftHolds, FormedIf, Stores, principalsFit, sumFitsIn, labelFitsIn, policyFitsIn, locationFitsIn, principalsStored, pairStored, labelStored, policyStored}
+use Rattle.sheet_text.specs.Internal.Drafts.{draftIf, DraftHolds, FormedIf, Stores, principalsFit, sumFitsIn, labelFitsIn, policyFitsIn, locationFitsIn, principalsStored, pairStored, labelStored, policyStored}
 use Rattle.logic.proofs.OptionLaws.{none-some}
 use Rattle.sheet_text.proofs.GrowthLaws.{last-more, toLast-more, least-more, labels-split}
 use Rattle.sheet_text.proofs.BuildLaws.{no-labels, begin-sound, step-sound}
@@ -103,11 +104,11 @@ low-same n h = mod-eq-of-lt h
 
 -- the sheet after a line, if its test passes, from what the code answered and stored
 holds-if : (c : Bool) (s : Sheet) (fits : List ℕ → Bool) (stored : List ℕ → List ℕ) (t u : List ℕ) (ok : Bool) (k : ℕ) → Stores fits stored t ok u
-    → fits t ≡ c → (c ≡ true → (k ≡ leastOwner s) × (stored t ≡ tableOf s)) → DraftHolds (cond c (some s) none) (record { ok = ok; least = k }) u
-unfolding DraftHolds
+    → fits t ≡ c → (c ≡ true → (k ≡ leastOwner s) × (stored t ≡ tableOf s)) → DraftHolds (cond c (some s) none) (draftIf ok k) u
+unfolding DraftHolds draftIf
 holds-if true s fits stored t u ok k made same h =
-    (made .answer ∙ same, h refl .0, made .table ∙ ap (λ (b : Bool). cond b (stored t) t) same ∙ h refl .1)
-holds-if false s fits stored t u ok k made same h = made .answer ∙ same
+    (ap (λ (b : Bool). draftIf b k) (made .answer ∙ same) ∙ ap Formed (h refl .0), made .table ∙ ap (λ (b : Bool). cond b (stored t) t) same ∙ h refl .1)
+holds-if false s fits stored t u ok k made same h = ap (λ (b : Bool). draftIf b k) (made .answer ∙ same)
 
 -- without labels the least owner is 0
 least-none : (s : Sheet) → s .labels ≡ [] → 0 ≡ leastOwner s
@@ -173,25 +174,25 @@ module _ (s : Sheet) where
 
 -- what was stored in the table of a sheet
 module _ (s : Sheet) (t : List ℕ) (e : t ≡ tableOf s) (ok : Bool) (u : List ℕ) where
-  pub sum-holds : (a b : ℕ) → Stores (sumFitsIn a b) (pairStored 8 2 a b) t ok u → DraftHolds (step s (T a b)) (record { ok = ok; least = 0 }) u
+  pub sum-holds : (a b : ℕ) → Stores (sumFitsIn a b) (pairStored 8 2 a b) t ok u → DraftHolds (step s (T a b)) (draftIf ok 0) u
   unfolding step
   sum-holds a b made =
       holds-if (sumFits s a b) _ (sumFitsIn a b) (pairStored 8 2 a b) (tableOf s) u ok 0 (rw e at made) (sum-fits-in s a b) (λ f. sum-stored s a b f)
 
-  pub label-holds : formed s ≡ true → Stores labelFitsIn labelStored t ok u → DraftHolds (step s L) (record { ok = ok; least = 0 }) u
+  pub label-holds : formed s ≡ true → Stores labelFitsIn labelStored t ok u → DraftHolds (step s L) (draftIf ok 0) u
   unfolding step
   label-holds fm made =
       holds-if (labelFits s) _ labelFitsIn labelStored (tableOf s) u ok 0 (rw e at made) (label-fits-in s) (λ f. label-stored s fm f)
 
   pub policy-holds : (o r w : ℕ) → formed s ≡ true → (least : ℕ) → least ≡ leastOwner s → (k : ℕ) → k ≡ o % 65536
-      → Stores (policyFitsIn least o r w) (policyStored o r w) t ok u → DraftHolds (step s (O o r w)) (record { ok = ok; least = k + 1 }) u
+      → Stores (policyFitsIn least o r w) (policyStored o r w) t ok u → DraftHolds (step s (O o r w)) (draftIf ok (k + 1)) u
   unfolding step
   policy-holds o r w fm least same k low made =
       holds-if (policyFits s o r w) _ (policyFitsIn (leastOwner s) o r w) (policyStored o r w) (tableOf s) u ok (k + 1) (rw (e, same) at made)
       (policy-fits-in s o r w) (λ f. let h = policy-stored s o r w fm f in (ap (λ (k : ℕ). k + 1) low ∙ h .0, h .1))
 
   pub location-holds : (ty l : ℕ) → formed s ≡ true → (least : ℕ) → least ≡ leastOwner s
-      → Stores (locationFitsIn ty l) (pairStored 72 4 ty l) t ok u → DraftHolds (step s (X ty l)) (record { ok = ok; least = least }) u
+      → Stores (locationFitsIn ty l) (pairStored 72 4 ty l) t ok u → DraftHolds (step s (X ty l)) (draftIf ok least) u
   unfolding step
   location-holds ty l fm least same made =
       holds-if (locationFits s ty l) _ (locationFitsIn ty l) (pairStored 72 4 ty l) (tableOf s) u ok least (rw e at made) (location-fits-in s ty l)
@@ -214,7 +215,7 @@ unfolding everyone
 everyone-held n h = let some-set : 0 < 2 ^ n = pow-pos n in let m : 2 ^ n ≤ 2 ^ 16 = pow-mono h in restrict-id 16 (2 ^ n - 1) (omega arith)
 
 pub begin-holds : (n : ℕ) (t : List ℕ) → t ≡ replicate tableWords 0 → (ok : Bool) (u : List ℕ)
-    → Stores (principalsFit n) (principalsStored n) t ok u → DraftHolds (begin (P n)) (record { ok = ok; least = 0 }) u
+    → Stores (principalsFit n) (principalsStored n) t ok u → DraftHolds (begin (P n)) (draftIf ok 0) u
 unfolding begin
 begin-holds n t e ok u made =
     holds-if (both (leb 1 n) (leb n 16)) (blank n) (principalsFit n) (principalsStored n) (replicate tableWords 0) u ok 0 (rw e at made) refl
@@ -243,26 +244,31 @@ formed-stepped (some s) l f = at (step s l) refl
 -- ---- any line
 
 -- a refusal
-pub holds-none : (o : Option Sheet) (d : Draft) (t : List ℕ) → none ≡ o → d .ok ≡ false → DraftHolds o d t
+pub holds-none : (o : Option Sheet) (t : List ℕ) → none ≡ o → DraftHolds o Refused t
 unfolding DraftHolds
-holds-none none d t e h = h
-holds-none (some s) d t e h = none-some e
+holds-none none t e = refl
+holds-none (some s) t e = none-some e
+
+pub refused-formed : {A : Type 0} (d : Draft) (k : ℕ) → d ≡ Refused → d ≡ Formed k → A
+refused-formed d k h e = let z : _≡_ {A = ℕ} 0 1 = cc in absurd (omega arith)
 
 module _ (d : Draft) (t : List ℕ) where
   -- a refusal stays one
-  pub step-refused : (o : Option Sheet) (l : Line) (r : Draft) (u : List ℕ) → d .ok ≡ false → r .ok ≡ false → DraftHolds o d t → DraftHolds (stepOn o l) r u
+  pub step-refused : (o : Option Sheet) (l : Line) (u : List ℕ) → d ≡ Refused → DraftHolds o d t → DraftHolds (stepOn o l) Refused u
   unfolding DraftHolds stepOn
-  step-refused none l r u h g e = g
-  step-refused (some s) l r u h g e = absurd (absurd-false (sym h ∙ e .0))
+  step-refused none l u h e = refl
+  step-refused (some s) l u h e = refused-formed d _ h (e .0)
 
   -- what is made of the sheet by the line
-  pub step-made : (o : Option Sheet) (l l′ : Line) (r : Draft) (u : List ℕ) → d .ok ≡ true → l ≡ l′ → FormedIf o → DraftHolds o d t
-      → ((s : Sheet) → formed s ≡ true → d .least ≡ leastOwner s → t ≡ tableOf s → DraftHolds (step s l′) r u) → DraftHolds (stepOn o l) r u
+  pub step-made : (o : Option Sheet) (l l′ : Line) (r : Draft) (u : List ℕ) (k : ℕ) → d ≡ Formed k → l ≡ l′ → FormedIf o → DraftHolds o d t
+      → ((s : Sheet) → formed s ≡ true → k ≡ leastOwner s → t ≡ tableOf s → DraftHolds (step s l′) r u) → DraftHolds (stepOn o l) r u
   unfolding DraftHolds stepOn FormedIf
-  step-made none l l′ r u h told f e g = absurd (absurd-false (sym e ∙ h))
-  step-made (some s) l l′ r u h told f e g = rw told (g s f (e .1) (e .2))
+  step-made none l l′ r u k h told f e g = refused-formed d k e h
+  step-made (some s) l l′ r u k h told f e g =
+      let same : k ≡ leastOwner s = cc in
+      rw told (g s f same (e .1))
 
 -- a further line `P`
-pub no-principals : (s : Sheet) (n : ℕ) (r : Draft) (u : List ℕ) → r .ok ≡ false → DraftHolds (step s (P n)) r u
+pub no-principals : (s : Sheet) (n : ℕ) (u : List ℕ) → DraftHolds (step s (P n)) Refused u
 unfolding step DraftHolds
-no-principals s n r u e = e
+no-principals s n u = refl

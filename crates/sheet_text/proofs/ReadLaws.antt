@@ -6,7 +6,6 @@ use mathlib.Core.Option.{Option, none, some}
 use Prim.Native.Nat.{ℕ, _≤_, _<_}
 use native.Mathlib.Omega.{arith}
 use lib.ListN.{length, drop, length-drop, drop-of-length-le}
-use Rattle.logic.proofs.BooleanLaws.{absurd-false}
 use Rattle.text.specs.Reading.{fits}
 use Rattle.text.specs.Reading.Read.{got, bad}
 use Rattle.text.specs.Lines.{front}
@@ -17,6 +16,7 @@ use Rattle.sheet.proofs.FormLaws.{formed-facts, type-count}
 use Rattle.sheet.proofs.TableLaws.{types-in, labels-in}
 use Rattle.sheet_text.specs.declared.line.Line.{Line}
 use Rattle.sheet_text.specs.declared.draft.Draft.{Draft}
+use Rattle.sheet_text.specs.declared.draft.Draft.the-variants.{Formed, Refused}
 use Rattle.sheet_text.specs.Reading.{lineOf, linesOf}
 use Rattle.sheet_text.specs.Internal.Building.{begin, stepOn, steps, build}
 use Rattle.sheet_text.specs.Sheets.{buildRead, sheetRead, judged}
@@ -25,6 +25,7 @@ use Rattle.sheet_text.specs.Internal.Decoded.{refusedBy, decodedSheet}
 use Rattle.sheet_text.specs.Internal.Drafts.{DraftHolds, FormedIf, stepsRead}
 use Rattle.sheet_text.specs.Internal.Repeats.{repeatsIn}
 use Rattle.sheet_text.proofs.LineLaws.{sheet-lines}
+use Rattle.sheet_text.proofs.DraftLaws.{refused-formed}
 use Rattle.sheet_text.proofs.RepeatFinds.{repeats-in}
 use Rattle.sheet_text.proofs.Theorems.{sheet-in-sound}
 
@@ -81,29 +82,29 @@ module _ (t : List ℕ) where
 -- ---- the answer
 
 module _ (d : Draft) (t : List ℕ) where
-  pub answer-malformed : (o : Option Sheet) → DraftHolds o d t → d .ok ≡ false → refusedBy Malformed ≡ decodedSheet (judged o)
+  pub answer-malformed : (o : Option Sheet) → DraftHolds o d t → d ≡ Refused → refusedBy Malformed ≡ decodedSheet (judged o)
   unfolding DraftHolds decodedSheet judged
   answer-malformed none e h = refl
-  answer-malformed (some s) e h = absurd (absurd-false (sym h ∙ e .0))
+  answer-malformed (some s) e h = refused-formed d _ h (e .0)
 
-  module _ (h : d .ok ≡ true) where
+  module _ (k : ℕ) (h : d ≡ Formed k) where
     -- a table of a sheet of the right form has at most 32 types and 32 labels
     pub counts-few : (o : Option Sheet) → FormedIf o → DraftHolds o d t → (typesIn t ≤ 32) × (labelsIn t ≤ 32)
     unfolding DraftHolds FormedIf
-    counts-few none f e = absurd (absurd-false (sym e ∙ h))
+    counts-few none f e = refused-formed d k e h
     counts-few (some s) f e =
         let facts = formed-facts s f in
         let types : typeCount s ≤ 32 = omega (arith, type-count s, facts .few-sums) in
         let labels : labelCount s ≤ 32 = unfold labelCount in (facts .few-labels) in
-        rw (e .2, types-in s, labels-in s) (types, labels)
+        rw (e .1, types-in s, labels-in s) (types, labels)
 
     pub answer-repeating : (o : Option Sheet) → FormedIf o → DraftHolds o d t → repeatsIn t ≡ true → refusedBy Repeats ≡ decodedSheet (judged o)
     unfolding DraftHolds decodedSheet judged FormedIf
-    answer-repeating none f e r = absurd (absurd-false (sym e ∙ h))
-    answer-repeating (some s) f e r = rw (sym (repeats-in s f) ∙ ap repeatsIn (sym (e .2)) ∙ r)
+    answer-repeating none f e r = refused-formed d k e h
+    answer-repeating (some s) f e r = rw (sym (repeats-in s f) ∙ ap repeatsIn (sym (e .1)) ∙ r)
 
     pub answer-accepted : (o : Option Sheet) → FormedIf o → DraftHolds o d t → repeatsIn t ≡ false → record { verdict = Accepted; table = t } ≡ decodedSheet (judged o)
     unfolding DraftHolds decodedSheet judged FormedIf
-    answer-accepted none f e r = absurd (absurd-false (sym e ∙ h))
+    answer-accepted none f e r = refused-formed d k e h
     answer-accepted (some s) f e r =
-        rw (sym (repeats-in s f) ∙ ap repeatsIn (sym (e .2)) ∙ r) (ap (λ (t : List ℕ). record { verdict = Accepted; table = t }) (e .2))
+        rw (sym (repeats-in s f) ∙ ap repeatsIn (sym (e .1)) ∙ r) (ap (λ (t : List ℕ). record { verdict = Accepted; table = t }) (e .1))

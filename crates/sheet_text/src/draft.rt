@@ -1,6 +1,5 @@
 // From a sheet's lines to its table, a line at a time.
 ghost use mathlib.Core.Path.{_≡_};
-ghost use mathlib.Core.Bool.{false};
 ghost use mathlib.Core.Option.{Option};
 ghost use Prim.Native.Nat.{_+_, _*_, _%_, _<_, _≤_};
 ghost use lib.ListN.{drop, replicate};
@@ -10,7 +9,7 @@ ghost use Rattle.sheet.specs.Internal.Tables.{partsBase, locationsBase, labelsB
 ghost use Rattle.sheet_text.specs.Internal.Building.{begin, stepOn};
 ghost use Rattle.sheet_text.specs.Sheets.{sheetRead};
 ghost use Rattle.sheet_text.specs.Reading.{linesOf};
-ghost use Rattle.sheet_text.specs.Internal.Drafts.{DraftHolds, FormedIf, stepsRead, Stores, principalsFit, pairFits, sumFitsIn, labelFitsIn, policyFitsIn, locationFitsIn, principalsStored, pairStored, labelStored, policyStored};
+ghost use Rattle.sheet_text.specs.Internal.Drafts.{draftIf, DraftHolds, FormedIf, stepsRead, Stores, principalsFit, pairFits, sumFitsIn, labelFitsIn, policyFitsIn, locationFitsIn, principalsStored, pairStored, labelStored, policyStored};
 use super::line::Line;
 use super::line::LineRead;
 use super::line::line_from;
@@ -43,20 +42,21 @@ const LEFT_OF_4: usize = 16;
 
 const RIGHT_OF_4: usize = 17;
 
-// What is known of the lines so far beside their table: whether they are of the right form, and the least owner that a policy may have
-// next. Where they are not of the right form, nothing is said of the table.
-pub struct Draft {
-    pub ok: bool,
-    pub least: u32,
+// What is known of the lines so far beside their table: the least owner that a policy may have next; or that they are not of the right
+// form, and then nothing is said of the table.
+pub enum Draft {
+    Formed(u32),
+    Refused,
 }
 
-// The lines are not of the right form.
-fn refused() -> Draft
-    ensures { λ r. ⌜ r .ok ≡ false ⌝ }
+// The draft after a line, if it may come next.
+fn drafted(fits: bool, least: u32) -> Draft
+    ensures { λ r. ⌜ r ≡ draftIf fits least ⌝ }
 {
-    Draft {
-        ok: false,
-        least: 0,
+    if fits {
+        Draft::Formed(least)
+    } else {
+        Draft::Refused
     }
 }
 
@@ -211,39 +211,27 @@ fn begin(table: &mut [u16; WORDS], line: Line) -> Draft
     ensures { λ r. ⌜ DraftHolds (begin line) r (now (table .exit)) ⌝ }
 {
     let Line::P(n) = line else {
-        return refused();
+        return Draft::Refused;
     };
-    Draft {
-        ok: set_principals(table, n),
-        least: 0,
-    }
+    drafted(set_principals(table, n), 0)
 }
 
 // The sheet after a further line.
 fn step(d: Draft, table: &mut [u16; WORDS], line: Line) -> Draft
     ensures { λ r. ⌜ ((o : Option Sheet) → FormedIf o → DraftHolds o d (now (table .entry)) → DraftHolds (stepOn o line) r (now (table .exit))) ⌝ }
 {
-    if !d.ok {
-        return refused();
-    }
+    let Draft::Formed(least) = d else {
+        return Draft::Refused;
+    };
     match line {
-        Line::P(_) => refused(),
-        Line::T(a, b) => Draft {
-            ok: add_sum(table, a, b),
-            least: 0,
-        },
-        Line::L => Draft {
-            ok: add_label(table),
-            least: 0,
-        },
-        Line::O(owner, readers, writers) => Draft {
-            ok: add_policy(table, d.least, owner, readers, writers),
-            least: low(owner) as u32 + 1,
-        },
-        Line::X(ty, label) => Draft {
-            ok: add_location(table, ty, label),
-            least: d.least,
-        },
+        Line::P(_) => Draft::Refused,
+        Line::T(a, b) => drafted(add_sum(table, a, b), 0),
+        Line::L => drafted(add_label(table), 0),
+        Line::O(owner, readers, writers) => {
+            let fits = add_policy(table, least, owner, readers, writers);
+            drafted(fits, low(owner) as u32 + 1)
+        }
+        Line::X(ty, label) => drafted(add_location(table, ty, label), least),
     }
 }
 
@@ -262,7 +250,7 @@ fn follow(s: &[u8], from: usize, first: Draft, table: &mut [u16; WORDS]) -> Draf
                 at = next.at;
             }
             LineRead::Refused => {
-                return refused();
+                return Draft::Refused;
             }
         }
     }
@@ -275,7 +263,7 @@ pub(crate) fn draft_of(s: &[u8], table: &mut [u16; WORDS]) -> Draft
     ensures { λ r. ⌜ DraftHolds (sheetRead (now (s .entry))) r (now (table .exit)) ⌝ }
 {
     if !text::fits(s) {
-        return refused();
+        return Draft::Refused;
     }
     let next = line_from(s, 0);
     let read = next.read;
@@ -284,6 +272,6 @@ pub(crate) fn draft_of(s: &[u8], table: &mut [u16; WORDS]) -> Draft
             let first = begin(table, line);
             follow(s, next.at, first, table)
         }
-        LineRead::Refused => refused(),
+        LineRead::Refused => Draft::Refused,
     }
 }

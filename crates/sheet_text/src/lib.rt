@@ -8,6 +8,7 @@ ghost use lib.ListN.{replicate};
 ghost use Rattle.sheet.specs.Internal.Tables.{tableWords};
 ghost use Rattle.sheet_text.specs.Sheets.{sheetOf};
 ghost use Rattle.sheet_text.specs.Internal.Decoded.{verdictNumber, decodedSheet};
+use draft::Draft;
 use draft::draft_of;
 use repeat::repeats;
 use sheet::WORDS;
@@ -41,11 +42,10 @@ fn fill(text: &[u8], table: &mut [u16; WORDS]) -> Verdict
     requires { ⌜ now table ≡ replicate tableWords 0 ⌝ }
     ensures { λ r. ⌜ record { verdict = r; table = now (table .exit) } ≡ decodedSheet (sheetOf (now (text .entry))) ⌝ }
 {
-    let d = draft_of(text, table);
-    if !d.ok {
+    let Draft::Formed(_) = draft_of(text, table) else {
         *table = [0u16; WORDS];
         return Verdict::Malformed;
-    }
+    };
     if repeats(table) {
         *table = [0u16; WORDS];
         return Verdict::Repeats;

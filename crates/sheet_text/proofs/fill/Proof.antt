@@ -1,6 +1,5 @@
 -- `sheet_text::fill` meets its contract. Assumes nothing.
 use mathlib.Core.Path.{sym, _∙_}
-use borrow.Author.Tests.{not-true, not-false}
 use Rattle.sheet_text.specs.Sheets.{sheetOf}
 use Rattle.sheet_text.specs.Internal.Decoded.{refusedBy}
 use Rattle.sheet_text.proofs.ReadLaws.{formed-read, counts-few, answer-malformed, answer-repeating, answer-accepted}
@@ -10,26 +9,32 @@ use Rattle.sheet_text.proofs.fill.Tie as tie
 
 returns : tie.Need-returns
 unfolding sheetOf refusedBy
-returns c = answer-malformed _ _ _ (c .before .before .before .draft-of .ensures) (not-true _ (c .before .if1 .taken))
+returns c = let told = c .before in answer-malformed _ _ _ (told .before .before .draft-of .ensures) (told .enum-told2 .given .1)
 
 repeats-requires : tie.Need-repeats-requires
-repeats-requires c κs = counts-few _ _ (not-false _ (c .before .if1 .left)) _ (formed-read _) (c .before .before .before .draft-of .ensures)
+repeats-requires c κs = let told = c .before in counts-few _ _ _ (told .enum-told .given .1) _ (formed-read _) (told .before .before .draft-of .ensures)
 
 returns-2 : tie.Need-returns-2
 unfolding sheetOf refusedBy
 returns-2 c =
-    answer-repeating _ _ (not-false _ (c .before .before .before .before .if1 .left)) _ (formed-read _) (c .before .before .before .before .before .before .draft-of .ensures)
-    (sym (c .before .before .repeats .ensures) ∙ c .before .if2 .taken)
+    let repeats = c .before .before in
+    let told = repeats .before .before in
+    answer-repeating _ _ _ (told .enum-told .given .1) _ (formed-read _) (told .before .before .draft-of .ensures)
+    (sym (repeats .repeats .ensures) ∙ c .before .if1 .taken)
 
 returns-3 : tie.Need-returns-3
 unfolding sheetOf
 returns-3 c =
-    answer-accepted _ _ (not-false _ (c .before .before .before .if1 .left)) _ (formed-read _) (c .before .before .before .before .before .draft-of .ensures)
-    (sym (c .before .repeats .ensures) ∙ c .if2 .left)
+    let repeats = c .before in
+    let told = repeats .before .before in
+    answer-accepted _ _ _ (told .enum-told .given .1) _ (formed-read _) (told .before .before .draft-of .ensures)
+    (sym (repeats .repeats .ensures) ∙ c .if1 .left)
 
 pub fill-spec : {M : Type 1} → statement M
 fill-spec = tie.close (tie.spec
     (λ c κs. search needs)  -- draft-of-requires
+    (λ c. search needs)  -- enum-told
+    (λ c. search needs)  -- enum-told-2
     returns
     repeats-requires
     returns-2

@@ -14,12 +14,18 @@ use Rattle.sheet.specs.Sheet.{Sheet, formed, maxPrincipals, maxLabels, maxLocat
 use Rattle.sheet.specs.Internal.Tables.{labelsBase, tableOf, principalsIn, everyoneIn, typesIn, labelsIn, locationsIn, labelIn}
 use Rattle.sheet_text.specs.declared.line.Line.{Line}
 use Rattle.sheet_text.specs.declared.draft.Draft.{Draft}
+use Rattle.sheet_text.specs.declared.draft.Draft.the-variants.{Formed, Refused}
 use Rattle.sheet_text.specs.Internal.Building.{leastOwner, steps}
 
 -- a draft and a table are those of a sheet of the right form, or the draft is a refusal, whatever the table
 unfoldable pub DraftHolds : Option Sheet → Draft → List ℕ → Type 0
-DraftHolds none d t = d .ok ≡ false
-DraftHolds (some s) d t = (d .ok ≡ true) × (d .least ≡ leastOwner s) × (t ≡ tableOf s)
+DraftHolds none d t = d ≡ Refused
+DraftHolds (some s) d t = (d ≡ Formed (leastOwner s)) × (t ≡ tableOf s)
+
+-- the draft after a line that may come next, or may not
+unfoldable pub draftIf : Bool → ℕ → Draft
+draftIf true least = Formed least
+draftIf false least = Refused
 
 -- a sheet, if there is one, is of the right form
 unfoldable pub FormedIf : Option Sheet → Type 0

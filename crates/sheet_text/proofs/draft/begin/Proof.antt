@@ -25,15 +25,15 @@ begin-other (O o r w) h = refl
 begin-other (X t l) h = refl
 
 returns : tie.Need-returns
-returns c = holds-none _ _ _ (sym (begin-other _ (c .before .match .keys2))) (c .refused .ensures)
+returns c = holds-none _ _ (sym (begin-other _ (c .match .keys2)))
 
 returns-2 : tie.Need-returns-2
-returns-2 c = rw (c .before .before .before .line .given .1) (begin-holds _ _ (c .before .before .before .before .before .pre) _ _ (c .set-principals .ensures))
+returns-2 c = rw (c .drafted .ensures, c .before .before .before .before .line .given .1) (begin-holds _ _ (c .before .before .before .before .before .before .pre) _ _ (c .before .set-principals .ensures))
 
 pub begin-spec : {M : Type 1} → statement M
 begin-spec = tie.close (tie.spec
     (λ c. search needs)  -- enum-known-line
-    (λ c κs. search needs)  -- refused-requires
     returns
     (λ c κs. search needs)  -- set-principals-requires
+    (λ c κs. search needs)  -- drafted-requires
     returns-2)

@@ -10,7 +10,7 @@ use Rattle.sheet_text.proofs.draft.draft_of.Tie as tie
 
 returns : tie.Need-returns
 returns c =
-    holds-none _ _ _ (sheet-long _ (sym (c .before .before .fits2 .ensures) ∙ not-true _ (c .before .if1 .taken))) (c .refused .ensures)
+    holds-none _ _ (sheet-long _ (sym (c .before .fits2 .ensures) ∙ not-true _ (c .if1 .taken)))
 
 returns-2 : tie.Need-returns-2
 returns-2 c =
@@ -22,21 +22,19 @@ returns-2 c =
 
 returns-3 : tie.Need-returns-3
 returns-3 c =
-    let s = c .before .before .before .before .before .before .before .args .s .now in
-    let fits = sym (c .before .before .before .before .before .fits2 .ensures) ∙ not-false _ (c .before .before .before .before .if1 .left) in
-    let missed = line-missed s 0 _ (c .before .before .before .line-from .ensures) (c .before .enum-told .given .1) in
-    holds-none _ _ _ (sheet-none s fits missed) (c .refused2 .ensures)
+    let s = c .before .before .before .before .before .before .args .s .now in
+    let fits = sym (c .before .before .before .before .fits2 .ensures) ∙ not-false _ (c .before .before .before .if1 .left) in
+    let missed = line-missed s 0 _ (c .before .before .line-from .ensures) (c .enum-told .given .1) in
+    holds-none _ _ (sheet-none s fits missed)
 
 pub draft-of-spec : {M : Type 1} → statement M
 draft-of-spec = tie.close (tie.spec
     (λ c κs. search needs)  -- fits-requires
-    (λ c κs. search needs)  -- refused-requires
     returns
     (λ c κs. search needs)  -- line-from-requires
     (λ c. search needs)  -- enum-known-read
     (λ c κs. c .before .before .before .before .before .before .before .before .pre)  -- begin-requires
     (λ c κs. search needs)  -- follow-requires
     (λ c. search needs)  -- enum-told
-    (λ c κs. search needs)  -- refused-requires-2
     returns-2
     returns-3)

@@ -57,12 +57,12 @@ loop-again c =
 returns : tie.Need-returns Inv-loop μ-loop
 returns c =
     λ o f e.
-    let k = c .before .before .before in
+    let k = c .before .before in
     let at = k .before .before in
     let s = at .before .before .args .s .now in
     let (o′, f′, e′, g) = at .loop .inv o f e in
-    let missed = line-missed s (at .loop .at) _ (k .line-from .ensures) (c .before .enum-told .given .1) in
-    holds-none _ _ _ (steps-bad o′ s (at .loop .at) (k .before .loop-test .taken) missed ∙ g) (c .refused .ensures)
+    let missed = line-missed s (at .loop .at) _ (k .line-from .ensures) (c .enum-told .given .1) in
+    holds-none _ _ (steps-bad o′ s (at .loop .at) (k .before .loop-test .taken) missed ∙ g)
 
 returns-2 : tie.Need-returns-2 Inv-loop μ-loop
 returns-2 c =
@@ -83,6 +83,5 @@ follow-spec = tie.close (tie.spec
     loop-less
     loop-again
     (λ c. search needs)  -- enum-told
-    (λ c κs. search needs)  -- refused-requires
     returns
     returns-2)

@@ -16,7 +16,8 @@ use Rattle.desk.specs.declared.Group.{Group}
 use Rattle.desk.specs.declared.Given.{Given}
 use Rattle.desk.specs.Fields.{groupOf, groupAnswer}
 use Rattle.desk.specs.Numbers.{unread}
-use Rattle.desk.specs.Given.{wordsRead, isRead, givenFrom, givenOf, givenWords, Whole}
+use Rattle.desk.specs.Given.{wordsRead, isRead, givenFrom, givenOf, givenWords}
+use Rattle.desk.specs.Internal.Post.{Whole}
 
 pub given-whole : (text group : List ℕ) (g : Given) → g ≡ givenOf text group → Whole g
 unfolding givenOf givenFrom wordsRead padded

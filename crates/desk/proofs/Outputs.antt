@@ -15,7 +15,8 @@ use Rattle.memory_text.specs.Internal.Writing.{Puts}
 use Rattle.memory_text.specs.Theorems.{Words}
 use Rattle.memory_text.proofs.Memories.{length-lines}
 use Rattle.memory_text.proofs.Writes.{goes-start, goes-put, goes-form, goes-done, number-reach, printed-all}
-use Rattle.desk.specs.Output.{places, numberEnd, put, putLength, PutAll}
+use Rattle.desk.specs.Output.{places, numberEnd, put, putLength}
+use Rattle.desk.specs.Internal.Post.{PutAll}
 use Rattle.desk.specs.Run.{outcomeLine}
 
 -- whether the buffer has room

@@ -9,7 +9,8 @@ use Rattle.memory_text.specs.Printing.{memoryText}
 use Rattle.simp.specs.Calls.{Viewed, viewOf}
 use Rattle.desk.specs.declared.Given.{Given}
 use Rattle.desk.specs.Numbers.{earlier, asText}
-use Rattle.desk.specs.Given.{givenWords, Whole}
+use Rattle.desk.specs.Given.{givenWords}
+use Rattle.desk.specs.Internal.Post.{Whole}
 use Rattle.desk.specs.Output.{numberLine}
 use Rattle.desk.specs.Show.{viewText, viewed}
 use Rattle.desk.proofs.Givens.{words-length}

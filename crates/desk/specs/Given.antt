@@ -1,12 +1,10 @@
 -- What show and run take from the texts of a memory and of a group or an authority.
-use Prim.Native.Nat.{ℕ, _%_, _≤_}
-use mathlib.Core.Path.{_≡_}
+use Prim.Native.Nat.{ℕ}
 use mathlib.Core.Bool.{Bool, true, false}
 use mathlib.Core.List.{List, []}
 use lib.ListN.{length, take}
 use Rattle.text.specs.Reading.{Read}
 use Rattle.text.specs.Reading.Read.{got, bad}
-use Rattle.language.specs.World.{cell-words}
 use Rattle.sheet.specs.Padding.{padded}
 use Rattle.memory_text.specs.Sizes.{memoryWords}
 use Rattle.memory_text.specs.Reading.{memory}
@@ -39,9 +37,3 @@ givenOf memoryText group = givenFrom (memory memoryText) (groupAnswer (groupOf g
 -- the words of the memory, without the zeros after them
 abbrev pub givenWords : Given → List ℕ
 givenWords g = take (g .count) (g .words)
-
--- whole locations, at most 64
-pub record Whole (g : Given) : Type 0 where
-  pub whole : g .count % cell-words ≡ 0
-  pub few : g .count ≤ memoryWords
-  pub all : length (g .words) ≡ memoryWords

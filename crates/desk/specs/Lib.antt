@@ -8,3 +8,4 @@ pub mod Run
 pub mod Order
 pub mod Inputs
 pub mod Theorems
+pub mod Internal

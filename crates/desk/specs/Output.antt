@@ -1,6 +1,5 @@
 -- What is printed goes to the start of a lent buffer, which must have room for the longest output.
 use Prim.Native.Nat.{ℕ}
-use mathlib.Core.Path.{_≡_}
 use mathlib.Core.Bool.{cond}
 use mathlib.Core.List.{List, [], _++_}
 use lib.Dec.{leb}
@@ -27,8 +26,3 @@ put out bytes = cond (leb places (length out)) (sets out 0 bytes) out
 
 unfoldable pub putLength : List ℕ → List ℕ → ℕ
 putLength out bytes = cond (leb places (length out)) (length bytes) 0
-
--- the bytes were put, and `next` is the place after them
-pub record PutAll (out bytes now : List ℕ) (next : ℕ) : Type 0 where
-  pub length-is : next ≡ length bytes
-  pub held : now ≡ sets out 0 bytes

@@ -10,10 +10,11 @@ ghost use lib.ListN.{length, take, drop};
 ghost use Rattle.memory_text.specs.Internal.Writing.{Puts};
 ghost use Rattle.desk.specs.Fields.{closed, groupOf, groupAnswer, budgetOf, budgetAnswer};
 ghost use Rattle.desk.specs.Numbers.{order, placeOf, earlier as earlierOf, unread as unreadOf, asText};
-ghost use Rattle.desk.specs.Given.{givenOf, Whole};
+ghost use Rattle.desk.specs.Given.{givenOf};
+ghost use Rattle.desk.specs.Internal.Post.{Whole, PutAll};
 ghost use Rattle.desk.specs.Show.{viewed, showOf};
 ghost use Rattle.desk.specs.Inputs.{showHeld};
-ghost use Rattle.desk.specs.Output.{places, numberEnd, put, putLength, PutAll};
+ghost use Rattle.desk.specs.Output.{places, numberEnd, put, putLength};
 
 // The places that a buffer must have for what is printed: 64 lines of at most 176 bytes, and before them a line of at most 22.
 pub const PLACES: usize = 11286;

@@ -13,7 +13,8 @@ use Rattle.language.specs.World.{World, cell-words, wanted}
 use Rattle.language.specs.Evaluation.{Res, ok, long, stuck, bind, fitting, fit, addTo, add, packed, opened, unpacked}
 use Rattle.sheet.specs.Internal.Tables.{leftIn, belowIn, readsIn, writesIn}
 use Rattle.sheet.specs.Internal.TypeTest.{hasNo}
-use Rattle.memory.specs.Words.{enc, zeros, cell, valueOf, endOf}
+use Rattle.memory.specs.Words.{enc, zeros, cell, valueOf}
+use Rattle.memory.specs.Internal.Post.{endOf}
 use Rattle.memory.specs.Memory.{cellOf}
 use Rattle.memory.proofs.WordLaws.{length-cell, value-enc, end-enc}
 use Rattle.interpreter.specs.State.{stateNumber}

@@ -21,8 +21,8 @@ use Rattle.sheet.proofs.MeaningLaws.{reads-in}
 use Rattle.sheet.proofs.NumberLaws.{type-in-there, has-no}
 use Rattle.memory.specs.Words.{cell, valueOf}
 use Rattle.memory.specs.Memory.{memoryOf, wordsOf, formedBy, sliceRefusal, refusalBy, fits, wellFormed, memoryRefusal}
-use Rattle.memory.specs.View.{viewBy, seesNo, viewWords, viewRefusal, viewLeaves}
-use Rattle.memory.specs.Internal.InTable.{fitsIn, wellFormedIn, refusalIn, seesIn, viewIn, viewRefusalIn, viewLeavesIn, TableAgrees}
+use Rattle.memory.specs.View.{viewBy, seesNo, viewWords, viewRefusal}
+use Rattle.memory.specs.Internal.InTable.{viewLeaves, fitsIn, wellFormedIn, refusalIn, seesIn, viewIn, viewRefusalIn, viewLeavesIn, TableAgrees}
 use Rattle.memory.specs.Theorems.{WordsExactly, CellExactly, Declared, MemoriesExactly, ViewsExactly}
 use Rattle.memory.proofs.WordLaws.{read-enc, read-exact, cell-inj, length-cell}
 use Rattle.memory.proofs.CellsLaws.{cells-ext, cells-inj}

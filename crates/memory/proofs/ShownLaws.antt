@@ -14,8 +14,8 @@ use Rattle.language.specs.View.{seen, mask}
 use Rattle.sheet.specs.Internal.Tables.{labelsIn, locationsIn, readsIn}
 use Rattle.memory.specs.Words.{valueOf}
 use Rattle.memory.specs.Memory.{cellOf, memoryOf, cells, sliceRefusal}
-use Rattle.memory.specs.View.{viewCell, viewBy, leaves}
-use Rattle.memory.specs.Internal.InTable.{fitsIn, wellFormedIn, refusalIn, seesIn, viewIn, viewRefusalIn, viewLeavesIn}
+use Rattle.memory.specs.View.{viewCell, viewBy}
+use Rattle.memory.specs.Internal.InTable.{leaves, fitsIn, wellFormedIn, refusalIn, seesIn, viewIn, viewRefusalIn, viewLeavesIn}
 use Rattle.memory.proofs.WordLaws.{length-cell}
 use Rattle.memory.proofs.CellsLaws.{Cellwise, stored-more, stored-all}
 use Rattle.memory.proofs.MemoryLaws.{value-there, value-fits, unrefused-length, unrefused-formed}

@@ -9,9 +9,9 @@ use lib.Dec.{ltb}
 use lib.ListN.{length, getD, drop, length-drop}
 use Rattle.logic.specs.Booleans.{both}
 use Rattle.language.specs.Syntax.{Value, blank}
-use Rattle.memory.specs.Words.{Got, wrap, numbered, packaged, readOf, endOf}
+use Rattle.memory.specs.Words.{Got, wrap, numbered, packaged, readOf}
+use Rattle.memory.specs.Internal.Post.{endOf, Walks, Numeral}
 use Rattle.memory.specs.Memory.{proper}
-use Rattle.memory.specs.Internal.Post.{Walks, Numeral}
 use Rattle.memory.proofs.WordLaws.{Side, to-left, to-right}
 use Rattle.memory.proofs.PlaceLaws.{here, past, at-past, at-numeral, at-side, at-package, at-none}
 

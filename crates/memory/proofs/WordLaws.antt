@@ -12,9 +12,9 @@ use lib.ListN.{length, drop, length-replicate}
 use Rattle.logic.proofs.BooleanLaws.{absurd-false, both-right}
 use Rattle.language.specs.Syntax.{Value, int, err, inl, inr, pkg, blank, size}
 use Rattle.language.specs.World.{cell-words}
-use Rattle.memory.specs.Words.{enc, zeros, cell, Got, wrap, numbered, packaged, tagged, read, readOf, valueOf, endOf}
+use Rattle.memory.specs.Words.{enc, zeros, cell, Got, wrap, numbered, packaged, tagged, read, readOf, valueOf}
+use Rattle.memory.specs.Internal.Post.{endOf, Numeral, num-int, num-err}
 use Rattle.memory.specs.Memory.{proper}
-use Rattle.memory.specs.Internal.Post.{Numeral, num-int, num-err}
 
 -- ---- lengths
 

@@ -1,9 +1,7 @@
 -- The words that a group is shown of a memory (the scope, "The view").
-use mathlib.Core.Bool.{Bool, true, false, cond}
+use mathlib.Core.Bool.{Bool, true, false}
 use mathlib.Core.List.{List}
 use Prim.Native.Nat.{ℕ}
-use lib.Dec.{eqb}
-use lib.ListN.{length}
 use Rattle.language.specs.Syntax.{Value}
 use Rattle.language.specs.World.{Mem, cell-words}
 use Rattle.language.specs.View.{mask}
@@ -32,11 +30,3 @@ viewWords s g ws = viewBy (locationCount s) (seesNo s g) (readsNo s g) (memoryOf
 -- refusal 7 of either slice, or 8 of the memory ws, for a view into `len` words; else 0
 unfoldable pub viewRefusal : Sheet → List ℕ → ℕ → ℕ
 viewRefusal s ws len = sliceRefusal (locationCount s) (memoryRefusal s ws) len
-
--- what a lent slice holds after a call: `out` where nothing is refused, else what it held before
-unfoldable pub leaves : ℕ → List ℕ → List ℕ → List ℕ
-leaves refusal out before = cond (eqb refusal 0) out before
-
--- What the slice that is lent for a view holds after the call.
-unfoldable pub viewLeaves : Sheet → ℕ → List ℕ → List ℕ → List ℕ
-viewLeaves s g ws before = leaves (viewRefusal s ws (length before)) (viewWords s g ws) before

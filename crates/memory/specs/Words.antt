@@ -1,9 +1,9 @@
 -- Values as words (the scope, "The three texts", Memory).
 use mathlib.Core.Bool.{cond}
 use mathlib.Core.List.{List, [], _∷_}
-use Prim.Native.Nat.{ℕ, zero, suc, _+_, _-_}
+use Prim.Native.Nat.{ℕ, zero, suc, _-_}
 use lib.Dec.{eqb}
-use lib.ListN.{length, drop, replicate}
+use lib.ListN.{length, replicate}
 use Rattle.language.specs.Syntax.{Value, int, err, inl, inr, pkg, blank, size}
 use Rattle.language.specs.World.{cell-words}
 
@@ -65,7 +65,3 @@ readOf ws = read (length ws) ws
 
 abbrev pub valueOf : List ℕ → Value
 valueOf ws = readOf ws .0
-
--- The place after the value whose words start at `at`.
-unfoldable pub endOf : List ℕ → ℕ → ℕ
-endOf ws at = at + (length (drop at ws) - length (readOf (drop at ws) .1))

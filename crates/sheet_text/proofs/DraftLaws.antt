@@ -12,7 +12,7 @@ use lib.ListN.{length, set, replicate}
 use lib.Pow.{pow-pos, pow-mono}
 use borrow.Author.Tests.{ltb-true, leb-true, le-leb, lt-ltb}
 use Rattle.logic.specs.Booleans.{both}
-use Rattle.logic.proofs.BooleanLaws.{absurd-false, bool-ext, both-left, both-no-right, both-right}
+use Rattle.logic.proofs.BooleanLaws.{bool-ext, both-left, both-no-right, both-right}
 use Rattle.sets.specs.Sets.{width, everyone, restrict}
 use Rattle.sets.proofs.SetLaws.{restrict-id}
 use Rattle.labels.specs.Labels.{policy}

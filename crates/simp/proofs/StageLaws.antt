@@ -24,8 +24,8 @@ use Rattle.script_text.specs.Internal.Decoded.{countsIn, decodedScript}
 use Rattle.script_text.proofs.ScriptLaws.{counts-table}
 use Rattle.script_text.proofs.ReadLaws.{read-split}
 use Rattle.memory.specs.Memory.{memoryOf, wellFormed, memoryRefusal}
-use Rattle.memory.specs.View.{viewWords, viewRefusal, leaves, viewLeaves}
-use Rattle.memory.specs.Internal.InTable.{refusalIn, viewRefusalIn, viewLeavesIn}
+use Rattle.memory.specs.View.{viewWords, viewRefusal}
+use Rattle.memory.specs.Internal.InTable.{leaves, viewLeaves, refusalIn, viewRefusalIn, viewLeavesIn}
 use Rattle.memory.proofs.Exactness.{memories-exactly, table-agrees}
 use Rattle.memory.proofs.MemoryLaws.{unrefused-length, unrefused-formed}
 use Rattle.checker.specs.Internal.Post.{ChecksCode}

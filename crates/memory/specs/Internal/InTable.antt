@@ -1,8 +1,9 @@
 -- The same by a sheet's table, for the code.
 use mathlib.Core.Path.{_≡_}
-use mathlib.Core.Bool.{Bool}
+use mathlib.Core.Bool.{Bool, cond}
 use mathlib.Core.List.{List}
 use Prim.Native.Nat.{ℕ}
+use lib.Dec.{eqb}
 use lib.ListN.{length}
 use Rattle.language.specs.Syntax.{Value}
 use Rattle.sheet.specs.Sheet.{Sheet}
@@ -10,7 +11,15 @@ use Rattle.sheet.specs.Meaning.{readsNo}
 use Rattle.sheet.specs.Internal.Tables.{tableOf, labelsIn, locationsIn, typeIn, homeIn, readsIn}
 use Rattle.sheet.specs.Internal.TypeTest.{hasNo}
 use Rattle.memory.specs.Memory.{memoryOf, formedBy, sliceRefusal, refusalBy, memoryRefusal}
-use Rattle.memory.specs.View.{viewBy, viewWords, viewRefusal, leaves, viewLeaves}
+use Rattle.memory.specs.View.{viewBy, viewWords, viewRefusal}
+
+-- what a lent slice holds after a call: `out` where nothing is refused, else what it held before
+unfoldable pub leaves : ℕ → List ℕ → List ℕ → List ℕ
+leaves refusal out before = cond (eqb refusal 0) out before
+
+-- What the slice that is lent for a view holds after the call.
+unfoldable pub viewLeaves : Sheet → ℕ → List ℕ → List ℕ → List ℕ
+viewLeaves s g ws before = leaves (viewRefusal s ws (length before)) (viewWords s g ws) before
 
 unfoldable pub fitsIn : List ℕ → ℕ → Value → Bool
 fitsIn t x v = hasNo t v (typeIn t x)

@@ -10,6 +10,10 @@ use Rattle.language.specs.View.{mask}
 use Rattle.memory.specs.Words.{Got, enc, wrap, packaged, readOf}
 use Rattle.memory.specs.Memory.{proper}
 
+-- The place after the value whose words start at `at`.
+unfoldable pub endOf : List ℕ → ℕ → ℕ
+endOf ws at = at + (length (drop at ws) - length (readOf (drop at ws) .1))
+
 -- Where the words ws are read as `got` from `at` on: whether the value is proper, and the place after it, which is `at` where
 -- nothing is left.
 pub record Walks (labels : ℕ) (ws : List ℕ) (at : ℕ) (got : Got) (ok : Bool) (next : ℕ) : Type 0 where

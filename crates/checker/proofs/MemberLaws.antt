@@ -69,10 +69,6 @@ module _ (t : List ℕ) where
   up-to-least m zero c h k = h
   up-to-least m (suc n) c h k = more-least (member n m) _ _ c (up-to-least m n c h (λ p l. k p (omega arith))) (k n (omega arith))
 
-  pub join-in-whole : (m : ℕ) → wholeOf (joinIn t m) ≡ true
-  unfolding joinIn
-  join-in-whole m = up-to-whole m maxMembers
-
   -- the empty set is bottom
   pub join-none : joinIn t 0 ≡ Bottom
   unfolding joinIn

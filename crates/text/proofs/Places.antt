@@ -2,9 +2,9 @@
 use Prim.Native.Nat.{ℕ, _-_, _≤_}
 use native.Mathlib.Omega.{arith}
 use mathlib.Core.Path.{_≡_, refl, sym, ap}
-use mathlib.Core.List.{List, []}
+use mathlib.Core.List.{List}
 use lib.ListN.{length, drop, length-drop}
-use Rattle.text.specs.Reading.{Read, andThen}
+use Rattle.text.specs.Reading.{Read}
 use Rattle.text.specs.Reading.Read.{got, bad}
 use Rattle.text.specs.Internal.Place.{placed, placedDecimal, placedSet, placedEnd}
 use Rattle.text.specs.declared.Decimal.{Decimal}
@@ -13,20 +13,11 @@ use Rattle.text.specs.declared.Mask.{Mask}
 use Rattle.text.specs.declared.Mask.the-variants as mask
 use Rattle.text.specs.declared.Place.{Place}
 use Rattle.text.specs.declared.Place.the-variants as place
-use Rattle.text.proofs.Readings.{andThen-split, got-same, Ends, ends-append, ends-trans, ends-place}
+use Rattle.text.proofs.Readings.{Ends, ends-place}
 
 -- each value that x reads from t is followed by the end of t
 abbrev pub Within : {A : Type 0} → List ℕ → Read A → Type 0
 Within {A} t x = (v : A) (u : List ℕ) → x ≡ got v u → Ends t u
-
-pub got-within : {A : Type 0} (v : A) (t : List ℕ) → Within t (got v t)
-got-within v t w u e = rw (got-same v w t u e .1) (ends-append [] u)
-
--- readings one after another
-pub andThen-within : {A B : Type 0} (t : List ℕ) (x : Read A) (f : A → List ℕ → Read B) → Within t x
-    → ((v : A) (u : List ℕ) → Within u (f v u)) → Within t (andThen x f)
-andThen-within t x f h k w u e =
-    andThen-split x f w u (λ v r g i. ends-trans t r u (h v r g) (k v r w u i)) e
 
 module _ {A R : Type 0} (at : A → ℕ → R) (none : R) (s : List ℕ) where
   -- the answer to a reading that is known

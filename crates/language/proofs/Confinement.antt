@@ -42,29 +42,19 @@ module _ (sees : ℕ → Bool) where
   unfolding inst
   quiet-inst v q = quiet-close zero (v ∷ []) q
 
-  -- a transition of a quiet command leaves a quiet one
-  quiet-on : (W : World) {M M′ : Mem} {c c′ : Cmd} → Quiet sees c → Step W M c M′ c′ → Quiet sees c′
-  quiet-on W (q-assign h) (ec-assign p) = q-skip
-  quiet-on W (q-seq a b) ec-seq-skip = b
-  quiet-on W (q-seq a b) (ec-seq-struct s) = q-seq (quiet-on W a s) b
-  quiet-on W (q-while c) (ec-while-false p) = q-skip
-  quiet-on W (q-while c) (ec-while-true p) = q-seq c (q-while c)
-  quiet-on W (q-case a b) (ec-casel {v = v} p) = quiet-inst v a
-  quiet-on W (q-case a b) (ec-caser {v = v} p) = quiet-inst v b
-
-  -- and changes nothing that is seen
-  quiet-step : (W : World) {M M′ : Mem} {c c′ : Cmd} → Quiet sees c → Step W M c M′ c′ → (x : ℕ) → sees x ≡ true → M′ x ≡ M x
-  quiet-step W (q-assign h) (ec-assign {M} {x} {v = v} p) y s = put-unseen M x v h y s
-  quiet-step W (q-seq a b) ec-seq-skip y s = refl
-  quiet-step W (q-seq a b) (ec-seq-struct p) y s = quiet-step W a p y s
-  quiet-step W (q-while c) (ec-while-false p) y s = refl
-  quiet-step W (q-while c) (ec-while-true p) y s = refl
-  quiet-step W (q-case a b) (ec-casel p) y s = refl
-  quiet-step W (q-case a b) (ec-caser p) y s = refl
+  -- a transition of a quiet command leaves a quiet one, and changes nothing that is seen
+  quiet-step : (W : World) {M M′ : Mem} {c c′ : Cmd} → Quiet sees c → Step W M c M′ c′ → Quiet sees c′ × ((y : ℕ) → sees y ≡ true → M′ y ≡ M y)
+  quiet-step W (q-assign h) (ec-assign {M} {x} {v = v} p) = (q-skip, put-unseen M x v h)
+  quiet-step W (q-seq a b) ec-seq-skip = (b, λ y s. refl)
+  quiet-step W (q-seq a b) (ec-seq-struct p) = let i = quiet-step W a p in (q-seq (i .0) b, i .1)
+  quiet-step W (q-while c) (ec-while-false p) = (q-skip, λ y s. refl)
+  quiet-step W (q-while c) (ec-while-true p) = (q-seq c (q-while c), λ y s. refl)
+  quiet-step W (q-case a b) (ec-casel {v = v} p) = (quiet-inst v a, λ y s. refl)
+  quiet-step W (q-case a b) (ec-caser {v = v} p) = (quiet-inst v b, λ y s. refl)
 
   pub quiet-steps : (W : World) {k : ℕ} {M M′ : Mem} {c c′ : Cmd} → Quiet sees c → Steps W k M c M′ c′ → (x : ℕ) → sees x ≡ true → M′ x ≡ M x
   quiet-steps W q s-none x s = refl
-  quiet-steps W q (s-more p r) x s = quiet-steps W (quiet-on W q p) r x s ∙ quiet-step W q p x s
+  quiet-steps W q (s-more p r) x s = let i = quiet-step W q p in quiet-steps W (i .0) r x s ∙ i .1 x s
 
 module _ {L : Type 0} (K : Conditions L) (W : World) (vis : L → Bool) (shows : ℕ → Bool) (O : Observer K W vis shows) where
   abbrev Sees : ℕ → Bool

@@ -5,7 +5,7 @@ use Prim.Native.Nat.{ℕ, suc}
 use native.Mathlib.Omega.{arith}
 use Rattle.language.specs.Syntax.{Value, inl, inr, Expr, val, plus, left, right, pack, unpack, Cmd, skip, seq}
 use Rattle.language.specs.World.{World, Mem}
-use Rattle.language.specs.Substitution.{inst, put}
+use Rattle.language.specs.Substitution.{put}
 use Rattle.language.specs.Figures.{EStep, ee-loc, ee-inl, ee-inr, ee-plus-struct1, ee-plus-struct2, ee-plus, ee-pack-struct, ee-pack-ok, ee-pack-fail, ee-unpack-struct, ee-unpack-fail1, ee-unpack-fail2, ee-unpack-fail3, ee-unpack-ok, inl-value, inr-value, EStar, e-none, e-more, Step, ec-assign, ec-seq-skip, ec-seq-struct, ec-while-false, ec-while-true, ec-casel, ec-caser, Steps, s-none, s-more}
 use Rattle.language.specs.Theorems.{Determinacy}
 
@@ -80,17 +80,9 @@ module _ (W : World) (M : Mem) where
   star-once (e-more s p) e-none = absurd (val-rests s)
   star-once {w = w} (e-more s p) (e-more s′ p′) = star-once p (subst (λ x. EStar W M x (val w)) (sym (step-once s s′)) p′)
 
-  inl-path : {v w : Value} → inl v ≡ inl w → v ≡ w
-  inl-path h = cc
-
-  inr-path : {v w : Value} → inr v ≡ inr w → v ≡ w
-  inr-path h = cc
-
   -- no expression has a left and a right value
   not-both : {e : Expr} {v w : Value} {A : Type 0} → EStar W M e (val (inl v)) → EStar W M e (val (inr w)) → A
-  not-both {v = v} {w} p q =
-      let h : inl v ≡ inr w = star-once p q in
-      absurd (let z : _≡_ {A = ℕ} 0 1 = cc in omega arith)
+  not-both p q = absurd (let z : _≡_ {A = ℕ} 0 1 = cc (star-once p q) in omega arith)
 
 module _ (W : World) where
   skip-rests : {M M′ : Mem} {c : Cmd} → ¬ Step W M skip M′ c
@@ -108,25 +100,26 @@ module _ (W : World) where
   once (ec-while-false p) (ec-while-true q) = not-both W _ q p
   once (ec-while-true p) (ec-while-false q) = not-both W _ p q
   once (ec-while-true p) (ec-while-true q) = (refl, refl)
-  once (ec-casel {M} {c₁ = a} p) (ec-casel q) = (refl, ap (λ v. inst v a) (inl-path W M (star-once W M p q)))
+  once (ec-casel p) (ec-casel q) = let h = star-once W _ p q in (refl, cc)
   once (ec-casel p) (ec-caser q) = not-both W _ p q
   once (ec-caser p) (ec-casel q) = not-both W _ q p
-  once (ec-caser {M} {c₂ = b} p) (ec-caser q) = (refl, ap (λ v. inst v b) (inr-path W M (star-once W M p q)))
+  once (ec-caser p) (ec-caser q) = let h = star-once W _ p q in (refl, cc)
+
+  -- the steps after the first, which is the only one
+  pub after-first : {j : ℕ} {M N M₁ : Mem} {c d c₁ : Cmd} → Step W M c N d → Steps W (suc j) M c M₁ c₁ → Steps W j N d M₁ c₁
+  after-first {j = j} {M₁ = M₁} {c₁ = c₁} s (s-more s′ p) =
+      let h = once s′ s in
+      subst (λ (z : Mem × Cmd). Steps W j (z .0) (z .1) M₁ c₁) (λ i. (h .0 i, h .1 i)) p
 
   pub trace-once : {k : ℕ} {M M₁ M₂ : Mem} {c c₁ c₂ : Cmd} → Steps W k M c M₁ c₁ → Steps W k M c M₂ c₂ → (M₁ ≡ M₂) × (c₁ ≡ c₂)
   trace-once s-none s-none = (refl, refl)
-  trace-once {k = suc k} {M₂ = M₂} {c₂ = c₂} (s-more s p) (s-more {M₁ = N} {c₁ = d} s′ p′) =
-      let h = once s s′ in
-      trace-once p (subst (λ (z : Mem × Cmd). Steps W k (z .0) (z .1) M₂ c₂) (λ i. (sym (h .0) i, sym (h .1) i)) p′)
+  trace-once (s-more s p) q = trace-once p (after-first s q)
 
   end-once : {j k : ℕ} {M M₁ M₂ : Mem} {c : Cmd} → Steps W j M c M₁ skip → Steps W k M c M₂ skip → (j ≡ k) × (M₁ ≡ M₂)
   end-once s-none s-none = (refl, refl)
   end-once s-none (s-more s p) = absurd (skip-rests s)
   end-once (s-more s p) s-none = absurd (skip-rests s)
-  end-once {M₂ = M₂} (s-more s p) (s-more {k} s′ p′) =
-      let h = once s s′ in
-      let t = end-once p (subst (λ (z : Mem × Cmd). Steps W k (z .0) (z .1) M₂ skip) (λ i. (sym (h .0) i, sym (h .1) i)) p′) in
-      (ap suc (t .0), t .1)
+  end-once (s-more s p) (s-more s′ p′) = let t = end-once p (after-first s (s-more s′ p′)) in (ap suc (t .0), t .1)
 
   pub determinacy : Determinacy W
   determinacy = record {

@@ -7,7 +7,7 @@ use Prim.Native.Nat.{ℕ, zero, suc, _≤_, _<_}
 use native.Mathlib.Omega.{arith}
 use Rattle.language.specs.Syntax.{Ty, Value, int, size, Expr, Cmd, skip, seq, assign, while, case}
 use Rattle.language.specs.World.{World, Mem}
-use Rattle.language.specs.Figures.{Step, Steps, s-none, s-more, LongExpr, long-value, in-plus1, in-plus2, in-left, in-right, in-pack, in-unpack, LongStep, in-assign, in-seq, in-while, in-case, NoneLong}
+use Rattle.language.specs.Figures.{Steps, s-none, LongExpr, long-value, in-plus1, in-plus2, in-left, in-right, in-pack, in-unpack, LongStep, in-assign, in-seq, in-while, in-case, NoneLong}
 use Rattle.language.specs.Declarations.{Shapes}
 use Rattle.language.specs.Evaluation.{Res, ok, long, stuck, eval}
 use Rattle.language.specs.Transition.{Next, final, to, too-long, no-rule, at-seq, at-assign, branch, step, Out, done, spent, over, after, run, iterate}
@@ -16,7 +16,7 @@ use Rattle.language.specs.Theorems.{SameTypes, Fitting, RunEnds, ends-do
 use Rattle.logic.proofs.BooleanLaws.{both-left, both-right}
 use Rattle.language.proofs.Types.{onSum-path, HasType, h-int, h-loc, h-var, h-plus, h-left, h-right, h-pack, h-unpack, has-type, is-type}
 use Rattle.language.proofs.Agreement.{agreement, Refines, same, was-long, star-eval}
-use Rattle.language.proofs.Determinacy.{once}
+use Rattle.language.proofs.Determinacy.{after-first}
 use Rattle.language.proofs.Results.{bind-ok}
 use Rattle.language.proofs.Interpreter.{run-skip}
 use Rattle.language.proofs.Traces.{Trace, t-none, t-more, Stops, stops-done, stops-spent, stops-over, stops-wrong, iterate-stops, trace-run, trace-steps, steps-trace}
@@ -120,18 +120,12 @@ module _ (S : Shapes) (W : World) (agree : SameTypes S W) where
   zero-long : {M M₁ : Mem} {c c₁ : Cmd} → Steps W zero M c M₁ c₁ → LongStep W M₁ c₁ → LongStep W M c
   zero-long s-none l = l
 
-  -- the steps after the first, which is the only one
-  after-first : {j : ℕ} {M N M₁ : Mem} {c d c₁ : Cmd} → Step W M c N d → Steps W (suc j) M c M₁ c₁ → Steps W j N d M₁ c₁
-  after-first {j = j} {M₁ = M₁} {c₁ = c₁} s (s-more s′ p) =
-      let h = once W s′ s in
-      subst (λ (z : Mem × Cmd). Steps W j (z .0) (z .1) M₁ c₁) (λ i. (h .0 i, h .1 i)) p
-
   -- No step of a trace meets a value that is too long.
   trace-none-long : {k : ℕ} {M M′ : Mem} {c c′ : Cmd} → Trace W k M c M′ c′ → Fit M c → NoneLong W k M c
   trace-none-long t-none f j M₁ c₁ lt s l = omega arith
   trace-none-long (t-more h t) f zero M₁ c₁ lt s l = to-long f h (zero-long s l)
   trace-none-long (t-more h t) f (suc j) M₁ c₁ lt s l =
-      trace-none-long t (config-step _ _ _ W (through Fits Anywhere fits-kept W) h f) j M₁ c₁ (omega arith) (after-first (agreement W .has-rule _ _ _ _ h) s) l
+      trace-none-long t (config-step _ _ _ W (through Fits Anywhere fits-kept W) h f) j M₁ c₁ (omega arith) (after-first W (agreement W .has-rule _ _ _ _ h) s) l
 
   -- From `iterate` to the figures.
   stops-ends : {b : ℕ} {M : Mem} {c : Cmd} {o : Out} → Fine S W agree M c → Fit M c → Stops W b M c o → RunEnds W b M c o

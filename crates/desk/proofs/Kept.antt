@@ -63,19 +63,13 @@ short-kept f short t =
         go none e = refl
         go (some v) e = let z = short u v e in absurd (omega arith)
 
-group-kept : (t : List ℕ) → groupOf (take keep t) ≡ groupOf t
-group-kept t = short-kept groupOf (λ u g e. let z = group-length u g e in omega arith) t
-
-budget-kept : (t : List ℕ) → budgetOf (take keep t) ≡ budgetOf t
-budget-kept t = short-kept budgetOf budget-length t
-
 run-kept : (sheet script words : List ℕ) (authority budget : ℕ) → runOf (take keep sheet) (take keep script) words authority budget ≡ runOf sheet script words authority budget
 unfolding runOf scriptOf
 run-kept sheet script words authority budget = rw (sheet-kept sheet) (simp (lines-kept script))
 
 given-kept : (text group : List ℕ) → givenOf (take keep text) (take keep group) ≡ givenOf text group
 unfolding givenOf
-given-kept text group = rw (memory-kept text, group-kept group)
+given-kept text group = rw (memory-kept text, short-kept groupOf (λ u g e. let z = group-length u g e in omega arith) group)
 
 run-text-kept : (sheet script text authority budget : List ℕ)
     → runTextOf (take keep sheet) (take keep script) (take keep text) (take keep authority) (take keep budget)
@@ -83,7 +77,7 @@ run-text-kept : (sheet script text authority budget : List ℕ)
 unfolding runTextOf ranOn
 run-text-kept sheet script text authority budget =
     let g = givenOf text authority in
-    rw (budget-kept budget, given-kept text authority, run-kept sheet script (givenWords g) (g .group) (budgetAnswer (budgetOf budget) .number))
+    rw (short-kept budgetOf budget-length budget, given-kept text authority, run-kept sheet script (givenWords g) (g .group) (budgetAnswer (budgetOf budget) .number))
 
 show-kept : (sheet text group : List ℕ) → showOf (take keep sheet) (take keep text) (take keep group) ≡ showOf sheet text group
 unfolding showOf viewed viewOf

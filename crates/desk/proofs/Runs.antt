@@ -2,7 +2,6 @@
 use Prim.Native.Nat.{ℕ, _≤_}
 use mathlib.Core.Path.{_≡_, refl, sym, ap, _∙_}
 use native.Mathlib.Omega.{arith}
-use mathlib.Core.Bool.{true, false}
 use mathlib.Core.Option.{some}
 use mathlib.Core.List.{List, [], _∷_}
 use lib.Dec.{eqb}
@@ -15,11 +14,10 @@ use Rattle.memory_text.specs.Reading.{memory}
 use Rattle.memory_text.proofs.Memories.{memory-sound}
 use Rattle.simp.specs.Calls.{Ran, runOf}
 use Rattle.desk.specs.declared.Given.{Given}
-use Rattle.desk.specs.declared.Budget.{Budget}
 use Rattle.desk.specs.Fields.{groupOf, groupAnswer, budgetOf, budgetAnswer}
 use Rattle.desk.specs.Numbers.{order, placeOf, earlier, unread, asText}
 use Rattle.desk.specs.Given.{wordsRead, isRead, givenFrom, givenOf, givenWords}
-use Rattle.desk.specs.Run.{outcomeLine, ranText, adjusted, ranOn, noBudget, runTextOf}
+use Rattle.desk.specs.Run.{outcomeLine, ranText, adjusted, ranOn, runTextOf}
 use Rattle.desk.specs.Theorems.{RunsPlain}
 use Rattle.desk.proofs.Givens.{given-words}
 
@@ -34,16 +32,6 @@ module _ (sheet script : List ℕ) (g : Given) (budget answer steps : ℕ) (memo
   pub run-other : (k ≡ answer → ⊥) → outcomeLine k 0 (memoryText (givenWords g)) ≡ ranOn sheet script g budget
   unfolding ranOn adjusted ranText
   run-other q = rw (← e, ← ek, ne-eqb k answer q)
-
--- the output of run
-module _ (sheet script text authority budget : List ℕ) (b : Budget) (eb : b ≡ budgetAnswer (budgetOf budget)) where
-  pub run-none : b .ok ≡ false → noBudget ≡ runTextOf sheet script text authority budget
-  unfolding runTextOf
-  run-none z = rw (← eb, z)
-
-  pub run-is : (g : Given) → b .ok ≡ true → g ≡ givenOf text authority → ranOn sheet script g (b .number) ≡ runTextOf sheet script text authority budget
-  unfolding runTextOf
-  run-is g z e = rw (← eb, z, e)
 
 -- a run whose texts are all of their form
 plain-seven : (r : Ran) (ws : List ℕ) → r .answer ≡ 7 → ranText (adjusted r ws 0) ≡ outcomeLine 8 0 (memoryText ws)

@@ -1,9 +1,8 @@
 -- `desk::show` meets its contract. Assumes nothing.
 use borrow.Author.Needs.{needs}
 use native.Mathlib.Omega.{arith}
-use mathlib.Core.Path.{ap}
-use Rattle.desk.specs.Show.{viewed, showOf}
-use Rattle.desk.proofs.Outputs.{put-all, put-none, put-same}
+use Rattle.desk.specs.Show.{showOf}
+use Rattle.desk.proofs.Outputs.{put-all, put-none}
 use Rattle.desk.proofs.Givens.{given-whole}
 use Rattle.desk.proofs.show.Statement.{statement}
 use Rattle.desk.proofs.show.Tie as tie
@@ -22,8 +21,7 @@ returns-2 c =
     let s = c .before .before in
     let g = s .before .before in
     let a = g .before .before .before .before .before .before .args in
-    put-all (a .out .now) _ _ _ (g .before .if1 .left)
-    (put-same _ _ _ _ _ (ap (viewed (a .sheet .now)) (g .read-given .ensures)) (s .show-given .ensures))
+    put-all (a .out .now) _ _ _ (g .before .if1 .left) (rw (← g .read-given .ensures) (s .show-given .ensures))
 
 pub show-spec : {M : Type 1} → statement M
 show-spec = tie.close (tie.spec

@@ -6,13 +6,10 @@ use Prim.Native.Nat.{ℕ, _%_}
 use lib.ListN.{replicate}
 use lib.Seq.{length-take-le}
 use Rattle.desk.proofs.Outputs.{put-same, part-length, part-is, part-fits, part-count, puts-all, memory-puts}
-use Rattle.desk.proofs.Givens.{words-fit, words-length}
+use Rattle.desk.proofs.Givens.{words-length}
 use Rattle.desk.proofs.Shows.{view-shown, view-number}
 use Rattle.desk.proofs.show_given.Statement.{statement}
 use Rattle.desk.proofs.show_given.Tie as tie
-
-array-share-prefix-words : tie.Need-array-share-prefix-words
-array-share-prefix-words c = let t = c .before .before .before in words-fit (t .args .given) (t .pre .0)
 
 slice-aggregate-simp-view : tie.Need-slice-aggregate-simp-view
 slice-aggregate-simp-view c = let t = c .before .before .before .before in sym (words-length (t .args .given) (t .pre .0))
@@ -60,7 +57,7 @@ returns-2 c =
 
 pub show-given-spec : {M : Type 1} → statement M
 show-given-spec = tie.close (tie.spec
-    array-share-prefix-words
+    (λ c. search needs)  -- array-share-prefix-words
     slice-aggregate-simp-view
     (λ c. search needs)  -- array-borrow-prefix-view
     slice-aggregate-simp-view-2

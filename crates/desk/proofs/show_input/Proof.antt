@@ -1,16 +1,15 @@
 -- `desk::show_input` meets its contract. Assumes nothing.
 use borrow.Author.Needs.{needs}
-use Rattle.desk.proofs.Parts.{show-in, put-as}
+use Rattle.desk.specs.Inputs.{showParts, showHeld}
 use Rattle.desk.proofs.show_input.Statement.{statement}
 use Rattle.desk.proofs.show_input.Tie as tie
 
 returns : tie.Need-returns
+unfolding showHeld showParts
 returns c =
     let s = c .before .before in
     let t = s .before .before in
-    let a = t .before .before .before .before .before .args in
-    let e = show-in (a .state) (a .buffer .now) _ _ _ (t .before .before .text-in .ensures) (t .before .text-in2 .ensures) (t .text-in3 .ensures) in
-    put-as (a .out .now) _ _ _ _ e (s .show .ensures)
+    rw (← t .before .before .text-in .ensures, ← t .before .text-in2 .ensures, ← t .text-in3 .ensures) (s .show .ensures)
 
 pub show-input-spec : {M : Type 1} → statement M
 show-input-spec = tie.close (tie.spec

@@ -12,9 +12,6 @@ use Rattle.desk.proofs.Runs.{run-same, run-other}
 use Rattle.desk.proofs.run.run_given.Statement.{statement}
 use Rattle.desk.proofs.run.run_given.Tie as tie
 
-array-borrow-prefix-work : tie.Need-array-borrow-prefix-work
-array-borrow-prefix-work c = let t = c .before .before .before .before in words-fit (t .args .given) (t .pre .0)
-
 slice-aggregate-simp-run : tie.Need-slice-aggregate-simp-run
 slice-aggregate-simp-run c = let t = c .before .before .before .before .before in sym (words-length (t .args .given) (t .pre .0))
 
@@ -57,11 +54,6 @@ returns c =
     ∙ run-same (a .sheet .now) (a .script .now) g (a .budget) (o .answer) (o .steps) x (r .simp-run .ensures) _ (k .ensures) (b .if1 .taken))
     (p .put-run .ensures)
 
-array-share-prefix-words : tie.Need-array-share-prefix-words
-array-share-prefix-words c =
-    let t = c .before .before .before .before .before .before .before .before .before .before .before .before in
-    words-fit (t .args .given) (t .pre .0)
-
 slice-aggregate-put-run-2 : tie.Need-slice-aggregate-put-run-2
 slice-aggregate-put-run-2 c =
     let t = c .before .before .before .before .before .before .before .before .before .before .before .before .before in
@@ -86,7 +78,7 @@ returns-2 c =
 
 pub run-given-spec : {M : Type 1} → statement M
 run-given-spec = tie.close (tie.spec
-    array-borrow-prefix-work
+    (λ c. search needs)  -- array-borrow-prefix-work
     slice-aggregate-simp-run
     (λ c κs. search needs)  -- simp-run-requires
     (λ c κs. search needs)  -- number-requires
@@ -95,7 +87,7 @@ run-given-spec = tie.close (tie.spec
     put-run-requires
     (λ c. search needs)  -- same-length
     returns
-    array-share-prefix-words
+    (λ c. search needs)  -- array-share-prefix-words
     slice-aggregate-put-run-2
     put-run-requires-2
     (λ c. search needs)  -- same-length-2

@@ -1,19 +1,22 @@
 -- `desk::run::run_input` meets its contract. Assumes nothing.
 use borrow.Author.Needs.{needs}
-use Rattle.desk.proofs.Parts.{run-in, put-as}
+use Rattle.desk.specs.Inputs.{runParts, runHeld}
 use Rattle.desk.proofs.run.run_input.Statement.{statement}
 use Rattle.desk.proofs.run.run_input.Tie as tie
 
 returns : tie.Need-returns
+unfolding runHeld runParts
 returns c =
     let r = c .before .before in
     let t = r .before .before in
     let u = t .before .before in
-    let a = u .before .before .before .before .before .args in
-    let e =
-    run-in (a .state) (a .buffer .now) _ _ _ _ _ (u .before .before .text-in .ensures) (u .before .text-in2 .ensures) (u .text-in3 .ensures)
-    (t .before .text-in4 .ensures) (t .text-in5 .ensures) in
-    put-as (a .out .now) _ _ _ _ e (r .run-text .ensures)
+    rw (
+      ← u .before .before .text-in .ensures,
+      ← u .before .text-in2 .ensures,
+      ← u .text-in3 .ensures,
+      ← t .before .text-in4 .ensures,
+      ← t .text-in5 .ensures,
+    ) (r .run-text .ensures)
 
 pub run-input-spec : {M : Type 1} → statement M
 run-input-spec = tie.close (tie.spec

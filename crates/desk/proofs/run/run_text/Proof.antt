@@ -2,9 +2,9 @@
 use borrow.Author.Needs.{needs}
 use native.Mathlib.Omega.{arith}
 use borrow.Author.Tests.{not-true, not-false}
-use Rattle.desk.proofs.Outputs.{put-all, put-none, put-same, copy-puts}
+use Rattle.desk.proofs.Outputs.{put-all, put-none, copy-puts}
 use Rattle.desk.proofs.Givens.{given-whole}
-use Rattle.desk.proofs.Runs.{run-none, run-is}
+use Rattle.desk.specs.Run.{runTextOf}
 use Rattle.desk.proofs.run.run_text.Statement.{statement}
 use Rattle.desk.proofs.run.run_text.Tie as tie
 
@@ -12,15 +12,13 @@ returns : tie.Need-returns
 returns c = put-none (c .before .before .before .before .before .before .before .args .out .now) _ (c .if1 .taken)
 
 returns-2 : tie.Need-returns-2
+unfolding runTextOf
 returns-2 c =
     let p = c .before .before in
     let q = p .before .before .before in
     let b = q .before .before in
     let a = b .before .before .before .before .before .before .before .before .args in
-    put-all (a .out .now) _ _ _ (b .before .if1 .left)
-    (put-same _ _ _ _ _
-    (run-none (a .sheet .now) (a .script .now) (a .memory .now) (a .authority .now) (a .budget .now) (b .budget-line .result) (b .budget-line .ensures)
-    (not-true _ (q .if2 .taken)))
+    put-all (a .out .now) _ _ _ (b .before .if1 .left) (rw (← b .budget-line .ensures, not-true (b .budget-line .result .ok) (q .if2 .taken))
     (copy-puts (a .out .now) _ _ _ (omega (arith, b .before .if1 .left)) (p .copy .ensures .0) (p .copy .ensures .1)))
 
 run-given-requires : tie.Need-run-given-requires
@@ -29,17 +27,14 @@ run-given-requires c κs =
     (given-whole _ _ _ (g .read-given .ensures), omega (arith, g .before .before .before .before .if1 .left))
 
 returns-3 : tie.Need-returns-3
+unfolding runTextOf
 returns-3 c =
     let r = c .before .before in
     let g = r .before .before in
-    let q = g .before in
-    let b = q .before .before in
+    let b = g .before .before .before in
     let a = b .before .before .before .before .before .before .before .before .args in
     put-all (a .out .now) _ _ _ (b .before .if1 .left)
-    (put-same _ _ _ _ _
-    (run-is (a .sheet .now) (a .script .now) (a .memory .now) (a .authority .now) (a .budget .now) (b .budget-line .result) (b .budget-line .ensures)
-    (g .read-given .result) (not-false _ (q .if2 .left)) (g .read-given .ensures))
-    (r .run-given .ensures))
+    (rw (← b .budget-line .ensures, not-false (b .budget-line .result .ok) (g .before .if2 .left), ← g .read-given .ensures) (r .run-given .ensures))
 
 pub run-text-spec : {M : Type 1} → statement M
 run-text-spec = tie.close (tie.spec

@@ -1,15 +1,15 @@
 -- A done run of an accepted script leaves values as the sheet declares them. Assumes nothing.
 use mathlib.Core.Path.{_≡_, refl}
 use mathlib.Core.Bool.{true}
-use mathlib.Core.List.{List}
+use mathlib.Core.List.{List, []}
 use Prim.Native.Nat.{ℕ, suc, _<_}
-use native.Mathlib.Omega.{arith}
 use borrow.Author.Tests.{ltb-true}
 use Rattle.logic.proofs.BooleanLaws.{both-left, both-right}
-use Rattle.language.specs.Syntax.{Value, int, Expr, Cmd, size}
+use Rattle.language.specs.Syntax.{Value, int, Expr, Cmd}
 use Rattle.language.specs.World.{Mem}
 use Rattle.language.specs.Transition.{done, iterate}
-use Rattle.language.proofs.Invariants.{UsesE, u-val, u-loc, u-var, u-plus, u-left, u-right, u-pack, u-unpack, Uses, u-skip, u-seq, u-assign, u-while, u-case, keeps, Fits, fits-kept}
+use Rattle.language.proofs.Invariants.{UsesE, u-val, u-loc, u-var, u-plus, u-left, u-right, u-pack, u-unpack, Uses, u-skip, u-seq, u-assign, u-while, u-case, keeps, Fits, Anywhere, fits-kept}
+use Rattle.language.proofs.Outcome.{fits-cmd}
 use Rattle.language.proofs.TypeSoundness.{type-soundness}
 use Rattle.script.specs.Lines.{SourceE, s-int, s-loc, s-var, s-plus, s-left, s-right, s-pack, s-unpack, Source, s-skip, s-seq, s-assign, s-while, s-case}
 use Rattle.script.specs.Names.{Counts, namedE, named}
@@ -49,10 +49,6 @@ module _ (P : Value → Type 0) (of-int : (n : ℕ) → P (int n)) (k : Counts) 
       let r = both-right _ _ (both-right _ _ h) in
       u-case (uses-expr d e (both-left _ _ h)) (uses (suc d) a (both-left _ _ r)) (uses (suc d) b (both-right _ _ r))
 
-int-fits : (n : ℕ) → Fits (int n)
-unfolding size
-int-fits n = omega arith
-
 int-proper : (labels n : ℕ) → proper labels (int n) ≡ true
 unfolding proper
 int-proper labels n = refl
@@ -65,7 +61,7 @@ left-declared s c script i t authority b l M M′ d h =
     let k = countsOf s in
     record {
       typed = type-soundness (shapesOf s) W (λ n. refl) .done-typed c (typable-shape s c t) M (d .typed) b l M′ h;
-      fitting = keeps Fits (Named Fits int-fits k) fits-kept W b l M M′ c (uses Fits int-fits k 0 (i .source) (i .named-there)) (d .fitting) h;
+      fitting = keeps Fits Anywhere fits-kept W b l M M′ c (fits-cmd (shapesOf s) [] c (typable-shape s c t)) (d .fitting) h;
       named = keeps (λ v. proper (labelCount s) v ≡ true) (λ n. n < labelCount s) (proper-kept (labelCount s)) W b l M M′ c
           (uses (λ v. proper (labelCount s) v ≡ true) (int-proper (labelCount s)) k 0 (i .source) (i .named-there)) (d .named) h;
     }

@@ -6,7 +6,7 @@ ghost use lib.ListN.{take, drop};
 ghost use Rattle.logic.specs.Booleans.{both};
 ghost use Rattle.script.specs.Lines.{Line};
 ghost use Rattle.sheet.specs.Internal.Tables.{typesIn, labelsIn, locationsIn};
-ghost use Rattle.script_text.specs.Reading.{Form, bare, one, two, operandsOf, lineOf, linesOf};
+ghost use Rattle.script_text.specs.Reading.{bare, one, two, operandsOf, lineOf, linesOf};
 ghost use Rattle.script_text.specs.Script.{scriptOf};
 ghost use Rattle.script_text.specs.Internal.Decoded.{countsIn, noCode, codedLines, decodedScript};
 ghost use Rattle.script_text.specs.Internal.Placed.{rowOf, placedLine, lineAt};

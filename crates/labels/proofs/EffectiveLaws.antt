@@ -56,11 +56,13 @@ closed-principal n o l = rw (lt-ltb o n l)
 
 pub closed-within : (n o : ℕ) → within (closedAt n o) (everyone n) ≡ true
 unfolding closedAt
-closed-within n o = by-below o n (λ l. rw (lt-ltb o n l) (single-within-everyone o n l)) (λ l. rw (le-ltb o n l) (within-refl _))
+closed-within n o =
+    by-below o n (λ l. rw (lt-ltb o n l) (single-within-everyone o n l)) (λ l. rw (le-ltb o n l) (within-refl _))
 
 pub single-within-open : (n o : ℕ) → within (single o) (openAt n (everyone n) o) ≡ true
 unfolding openAt
-single-within-open n o = by-below o n (λ l. rw (lt-ltb o n l) (single-within-everyone o n l)) (λ l. rw (le-ltb o n l) (within-refl _))
+single-within-open n o =
+    by-below o n (λ l. rw (lt-ltb o n l) (single-within-everyone o n l)) (λ l. rw (le-ltb o n l) (within-refl _))
 
 pub bottom-below-top : (n : ℕ) → belowOf (bottomOf (everyone n)) (topOf n) ≡ true
 bottom-below-top n =
@@ -119,7 +121,8 @@ C-below n a h =
 pub I-below : (n : ℕ) (a : Label) → effective n a ≡ true → belowOf (integrityOf (everyone n) a) a ≡ true
 unfolding integrityOf
 I-below n a h =
-    below-intro (integrityOf (everyone n) a) a (λ o l. rw (getD-replicate owners o (everyone n) 0 l) (effective-fits n a h o l .readers-in)) (λ o l. within-refl _)
+    below-intro (integrityOf (everyone n) a) a
+    (λ o l. rw (getD-replicate owners o (everyone n) 0 l) (effective-fits n a h o l .readers-in)) (λ o l. within-refl _)
 
 pub C-effective : (n : ℕ) (a : Label) → effective n a ≡ true → effective n (confidentialityOf a) ≡ true
 unfolding confidentialityOf bottomOf

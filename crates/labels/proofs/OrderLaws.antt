@@ -61,8 +61,10 @@ below-trans a b c h k =
 pub below-antisym : (a b : Label) → wholeOf a ≡ true → wholeOf b ≡ true → belowOf a b ≡ true → belowOf b a ≡ true → a ≡ b
 below-antisym a b ha hb h k =
     label-path a b
-    (sets-path _ _ (whole-lengths a ha .0) (whole-lengths b hb .0) (λ o l. within-antisym _ _ (below-at b a k o l .0) (below-at a b h o l .0)))
-    (sets-path _ _ (whole-lengths a ha .1) (whole-lengths b hb .1) (λ o l. within-antisym _ _ (below-at a b h o l .1) (below-at b a k o l .1)))
+    (sets-path _ _ (whole-lengths a ha .0) (whole-lengths b hb .0)
+    (λ o l. within-antisym _ _ (below-at b a k o l .0) (below-at a b h o l .0)))
+    (sets-path _ _ (whole-lengths a ha .1) (whole-lengths b hb .1)
+    (λ o l. within-antisym _ _ (below-at a b h o l .1) (below-at b a k o l .1)))
 
 -- ---- the test of equality
 
@@ -80,14 +82,16 @@ same-both-ways a b =
     let ab = below-at a b (both-left _ _ h) in
     let ba = below-at b a (both-right _ _ h) in
     every-true owners (sameAt a b)
-    (λ o l. both-true (eq-eqb _ _ (within-antisym _ _ (ba o l .0) (ab o l .0))) (eq-eqb _ _ (within-antisym _ _ (ab o l .1) (ba o l .1)))))
+    (λ o l. both-true (eq-eqb _ _ (within-antisym _ _ (ba o l .0) (ab o l .0)))
+    (eq-eqb _ _ (within-antisym _ _ (ab o l .1) (ba o l .1)))))
 
 pub same-refl : (a : Label) → sameOf a a ≡ true
 same-refl a = same-both-ways a a ∙ both-true (below-refl a) (below-refl a)
 
 -- ---- the join is the least upper bound
 pub join-at : (a b : Label) (o : ℕ) → o < owners
-    → (readersOf (joinOf a b) o ≡ intersection (readersOf a o) (readersOf b o)) × (writersOf (joinOf a b) o ≡ union (writersOf a o) (writersOf b o))
+    → (readersOf (joinOf a b) o ≡ intersection (readersOf a o) (readersOf b o))
+    × (writersOf (joinOf a b) o ≡ union (writersOf a o) (writersOf b o))
 unfolding joinOf
 join-at a b o l = (getD-tab owners _ o 0 l, getD-tab owners _ o 0 l)
 

@@ -57,10 +57,13 @@ policy-effective n a o r w k hr hw h =
     go : (i : ℕ) → i < owners → Dec (i ≡ o) → Fits n i (readersOf (policyOf a o r w) i) (writersOf (policyOf a o r w) i)
     go i l (yes e) =
         let (x, y) = whole-lengths a (effective-whole n a h) in
-        rw (e, getD-set-same (a .readers) o (union r (single o)) 0 (omega arith), getD-set-same (a .writers) o (union w (single o)) 0 (omega arith))
-        (policy-fits n o r w k hr hw)
+        let u = getD-set-same (a .readers) o (union r (single o)) 0 (omega arith) in
+        let v = getD-set-same (a .writers) o (union w (single o)) 0 (omega arith) in
+        rw (e, u, v) (policy-fits n o r w k hr hw)
     go i l (no d) =
-        rw (getD-set-other (a .readers) o i (union r (single o)) 0 d, getD-set-other (a .writers) o i (union w (single o)) 0 d) (effective-fits n a h i l)
+        let u = getD-set-other (a .readers) o i (union r (single o)) 0 d in
+        let v = getD-set-other (a .writers) o i (union w (single o)) 0 d in
+        rw (u, v) (effective-fits n a h i l)
 
 policies-keep : (n : ℕ) (a : Label) (ps : List Policy) → policiesOn n ps ≡ true → effective n a ≡ true → effective n (withPolicies a ps) ≡ true
 unfolding policiesOn policyOn withPolicies

@@ -19,7 +19,8 @@ unfolding readsOf
 reads-down n e g a b h r =
     every-true n _ (λ o l. meets-mono g (readersOf b o) (readersOf a o) (below-at a b h o (lt-of-lt-of-le l e) .0) (every-at n _ r o l))
 
--- reading depends on C alone, writing on I alone: who reads B reads A where C(A) ≤ C(B), and who writes A writes B where I(A) ≤ I(B)
+-- reading depends on C alone, writing on I alone: who reads B reads A where C(A) ≤ C(B), and who writes A writes B where
+-- I(A) ≤ I(B)
 pub reads-down-C : (n : ℕ) → n ≤ owners → (g : ℕ) (a b : Label)
     → belowOf (confidentialityOf a) (confidentialityOf b) ≡ true → readsOf n g b ≡ true → readsOf n g a ≡ true
 unfolding readsOf confidentialityOf

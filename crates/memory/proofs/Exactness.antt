@@ -126,7 +126,8 @@ module _ (s : Sheet) (g : ℕ) where
     unfolding maskMem
     all-masks e x =
         by-below x (locationCount s) (e x)
-        (λ m. ap (λ v. seen (seesNo s g x) (mask (readsNo s g) v)) (value-past ws x (omega (arith, whole s ws h)) ∙ sym (value-past us x (omega (arith, whole s us k)))))
+        (λ m. ap (λ v. seen (seesNo s g x) (mask (readsNo s g) v))
+        (value-past ws x (omega (arith, whole s ws h)) ∙ sym (value-past us x (omega (arith, whole s us k)))))
 
     pub same-view : (viewWords s g ws ≡ viewWords s g us) ↔ ((x : ℕ) → Masked (memoryOf ws) x ≡ Masked (memoryOf us) x)
     unfolding viewWords
@@ -162,7 +163,8 @@ module _ (s : Sheet) (fm : formed s ≡ true) where
   unfolding viewIn viewWords seesIn seesNo
   view-in-table g ws =
       let a : readsIn (tableOf s) g ≡ readsNo s g = fun-ext λ l. reads-in s fm g l in
-      let b : seesIn (tableOf s) g ≡ seesNo s g = fun-ext λ x. reads-in s fm g (homeIn (tableOf s) x) ∙ ap (readsNo s g) (home-in s fm x) in
+      let b : seesIn (tableOf s) g ≡ seesNo s g =
+      fun-ext λ x. reads-in s fm g (homeIn (tableOf s) x) ∙ ap (readsNo s g) (home-in s fm x) in
       rw (locations-in s, a, b)
 
   pub table-agrees : TableAgrees s

@@ -31,7 +31,8 @@ module _ (shows : ℕ → Bool) (ws out : List ℕ) (to : ℕ) {left : List ℕ}
   numeral f us num-int s d n = record { stored = s ∙ rw add-one refl; ends = omega arith; after = d }
   numeral f us num-err s d n = record { stored = s ∙ rw add-one refl; ends = omega arith; after = d }
 
-  on-side : {w : ℕ} {f : Value → Value} {got : Got} {mid : List ℕ} → Side w f → mid ≡ set out to w → Masks shows ws got mid (to + 1) left next end
+  on-side : {w : ℕ} {f : Value → Value} {got : Got} {mid : List ℕ} → Side w f → mid ≡ set out to w
+      → Masks shows ws got mid (to + 1) left next end
       → Masks shows ws (wrap f got) out to left next end
   unfolding mask enc size wrap
   on-side to-left s m = record { stored = m .stored ∙ rw (s, add-one) refl; ends = omega (arith, m .ends); after = m .after }
@@ -103,7 +104,8 @@ module _ (shows : ℕ → Bool) (ws out : List ℕ) (to : ℕ) {left : List ℕ}
       mask-numeral k e m = read-as (at-numeral ws at h k e) (m _ (rw e k))
 
       pub mask-side : {w : ℕ} {f : Value → Value} {mid : List ℕ} → Side w f → getD ws at 0 ≡ w → mid ≡ set out to w
-          → Masks shows ws (readOf (drop (at + 1) ws)) mid (to + 1) left next end → Masks shows ws (readOf (drop at ws)) out to left next end
+          → Masks shows ws (readOf (drop (at + 1) ws)) mid (to + 1) left next end
+          → Masks shows ws (readOf (drop at ws)) out to left next end
       mask-side k e s m = read-as (at-side ws at h k e) (on-side k s m)
 
       pub mask-none : (getD ws at 0 ≡ 1 → ⊥) → (getD ws at 0 ≡ 2 → ⊥) → (getD ws at 0 ≡ 3 → ⊥) → (getD ws at 0 ≡ 4 → ⊥) → (getD ws at 0 ≡ 5 → ⊥)

@@ -50,7 +50,8 @@ module _ (ws : List ℕ) (x : ℕ) where
   value-past h = simp (le-ltb _ _ h)
 
 module _ (n labels : ℕ) (test : ℕ → Value → Bool) (ws : List ℕ) (whole : length ws ≡ cell-words * n) (f : formedBy n labels test ws ≡ true) where
-  pub value-exact : (x : ℕ) → x < n → (proper labels (memoryOf ws x) ≡ true) × (test x (memoryOf ws x) ≡ true) × (cell (memoryOf ws x) ≡ cellOf ws x)
+  pub value-exact : (x : ℕ) → x < n
+      → (proper labels (memoryOf ws x) ≡ true) × (test x (memoryOf ws x) ≡ true) × (cell (memoryOf ws x) ≡ cellOf ws x)
   unfolding formedBy
   value-exact x l = rw (value-there ws x (omega arith)) (exact-parts labels (test x) (cellOf ws x) _ (every-at n _ f x l))
 

@@ -38,7 +38,8 @@ module _ (t ws : List ℕ) (ty : ℕ) where
 
     module _ (h : at < length ws) where
       -- the type of the first word w that one number follows is the number w - 1
-      pub type-numeral : {w : ℕ} {f : ℕ → Value} → Numeral w f → getD ws at 0 ≡ w → both (ltb (at + 1) (length ws)) (eqb ty (w - 1)) ≡ hasNo t (valueOf (drop at ws)) ty
+      pub type-numeral : {w : ℕ} {f : ℕ → Value} → Numeral w f → getD ws at 0 ≡ w
+          → both (ltb (at + 1) (length ws)) (eqb ty (w - 1)) ≡ hasNo t (valueOf (drop at ws)) ty
       unfolding hasNo numbered
       type-numeral num-int e = told (at-numeral ws at h num-int e) (after-one (λ us. numbered int us .0) (eqb ty 0) refl (λ n us. refl) (at + 1))
       type-numeral num-err e = told (at-numeral ws at h num-err e) (after-one (λ us. numbered err us .0) (eqb ty 1) refl (λ n us. refl) (at + 1))
@@ -48,11 +49,13 @@ module _ (t ws : List ℕ) (ty : ℕ) where
       type-pkg e = told (at-package ws at h e) (after-one (λ us. packaged readOf us .0) (eqb ty 2) refl (λ n us. refl) (at + 1))
 
       -- a sum: the test of its part
-      pub type-inl : {r : Bool} → getD ws at 0 ≡ 3 → r ≡ both (isSum t ty) (hasNo t (valueOf (drop (at + 1) ws)) (leftIn t ty)) → r ≡ hasNo t (valueOf (drop at ws)) ty
+      pub type-inl : {r : Bool} → getD ws at 0 ≡ 3
+          → r ≡ both (isSum t ty) (hasNo t (valueOf (drop (at + 1) ws)) (leftIn t ty)) → r ≡ hasNo t (valueOf (drop at ws)) ty
       unfolding hasNo wrap
       type-inl e k = told (at-side ws at h to-left e) k
 
-      pub type-inr : {r : Bool} → getD ws at 0 ≡ 4 → r ≡ both (isSum t ty) (hasNo t (valueOf (drop (at + 1) ws)) (rightIn t ty)) → r ≡ hasNo t (valueOf (drop at ws)) ty
+      pub type-inr : {r : Bool} → getD ws at 0 ≡ 4
+          → r ≡ both (isSum t ty) (hasNo t (valueOf (drop (at + 1) ws)) (rightIn t ty)) → r ≡ hasNo t (valueOf (drop at ws)) ty
       unfolding hasNo wrap
       type-inr e k = told (at-side ws at h to-right e) k
 

@@ -71,8 +71,10 @@ module _ (labels : ℕ) (ws : List ℕ) (at : ℕ) where
     pub walk-side : {n : ℕ} {f : Value → Value} → Side n f → getD ws at 0 ≡ n
         → Walks labels ws (at + 1) (readOf (drop (at + 1) ws)) ok next → Walks labels ws at (readOf (drop at ws)) ok next
     unfolding wrap proper
-    walk-side to-left e w = onward _ h (at-side ws at h to-left e) (record { forward = w .forward; bounded = w .bounded; told = w .told; after = w .after })
-    walk-side to-right e w = onward _ h (at-side ws at h to-right e) (record { forward = w .forward; bounded = w .bounded; told = w .told; after = w .after })
+    walk-side to-left e w =
+        onward _ h (at-side ws at h to-left e) (record { forward = w .forward; bounded = w .bounded; told = w .told; after = w .after })
+    walk-side to-right e w =
+        onward _ h (at-side ws at h to-right e) (record { forward = w .forward; bounded = w .bounded; told = w .told; after = w .after })
 
   pub walk-none : at < length ws → (getD ws at 0 ≡ 1 → ⊥) → (getD ws at 0 ≡ 2 → ⊥) → (getD ws at 0 ≡ 3 → ⊥) → (getD ws at 0 ≡ 4 → ⊥) → (getD ws at 0 ≡ 5 → ⊥)
       → Walks labels ws at (readOf (drop at ws)) false (at + 1)

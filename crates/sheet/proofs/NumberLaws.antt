@@ -51,7 +51,8 @@ module _ (s : Sheet) (fm : formed s ≡ true) where
       → eqb m n ≡ sameTy (tyOf s m) (tyOf s n)
   unfolding sameTy
   same-number-type once m n h k =
-      is-yes (Ty-discrete (tyOf s m) (tyOf s n)) (eqb m n) (λ e. ap (tyOf s) (eqb-true m n e)) (λ e. eq-eqb m n (type-in-once once m n h k e))
+      is-yes (Ty-discrete (tyOf s m) (tyOf s n)) (eqb m n) (λ e. ap (tyOf s) (eqb-true m n e))
+      (λ e. eq-eqb m n (type-in-once once m n h k e))
 
   -- ---- locations
 

@@ -35,7 +35,8 @@ module _ {A : Type 0} (first second : A → ℕ) where
   length-pairs (x ∷ xs) = omega (arith, length-pairs xs)
 
   pub pair-at : (xs : List A) (d : A) (i : ℕ) → i < length xs
-      → (getD (pairWords first second xs) (0 + 2 * i) 0 ≡ first (getD xs i d)) × (getD (pairWords first second xs) (1 + 2 * i) 0 ≡ second (getD xs i d))
+      → (getD (pairWords first second xs) (0 + 2 * i) 0 ≡ first (getD xs i d))
+      × (getD (pairWords first second xs) (1 + 2 * i) 0 ≡ second (getD xs i d))
   unfolding pairWords
   pair-at [] d i h = absurd (omega arith)
   pair-at (x ∷ xs) d zero h = (refl, refl)

@@ -14,4 +14,5 @@ label-at-spec = tie.close (tie.spec
     (λ c κs. search needs)  -- sets-at-requires-2
     (λ c.
     let a = c .before .before .before .args in
-    label-path _ _ (c .before .sets-at .ensures ∙ ap (setsAt (now (a .table))) (add-zero (a .at))) (c .sets-at2 .ensures)))  -- returns
+    label-path _ _ (c .before .sets-at .ensures ∙ ap (setsAt (now (a .table))) (add-zero (a .at)))
+    (c .sets-at2 .ensures)))  -- returns

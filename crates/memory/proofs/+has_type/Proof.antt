@@ -72,10 +72,12 @@ pub +has-type-spec : {M : Type 1} → statement M
     in c .one-more2 .ensures ∙ laws.type-numeral (a .table .now) (a .words .now) (a .ty) (a .at) (omega arith) num-err (c .before .match .keys2))
     (λ c. let a = c .before .before .before .before .before .before .before .before .before .args
     in laws.type-inl (a .table .now) (a .words .now) (a .ty) (a .at) (omega arith) (c .before .before .before .before .match .keys3)
-    (c .has-type .ensures ∙ ap (hasNo _ _) (c .before .left-part .ensures) ∙ both-on _ _ (sym (c .before .before .before .is-sum .ensures) ∙ not-false _ (c .before .before .if2 .left))))
+    (c .has-type .ensures ∙ ap (hasNo _ _) (c .before .left-part .ensures)
+    ∙ both-on _ _ (sym (c .before .before .before .is-sum .ensures) ∙ not-false _ (c .before .before .if2 .left))))
     (λ c. let a = c .before .before .before .before .before .before .before .before .before .args
     in laws.type-inr (a .table .now) (a .words .now) (a .ty) (a .at) (omega arith) (c .before .before .before .before .match .keys4)
-    (c .has-type2 .ensures ∙ ap (hasNo _ _) (c .before .right-part .ensures) ∙ both-on _ _ (sym (c .before .before .before .is-sum2 .ensures) ∙ not-false _ (c .before .before .if3 .left))))
+    (c .has-type2 .ensures ∙ ap (hasNo _ _) (c .before .right-part .ensures)
+    ∙ both-on _ _ (sym (c .before .before .before .is-sum2 .ensures) ∙ not-false _ (c .before .before .if3 .left))))
     (λ c. let a = c .before .before .before .before .before .before .args
     in c .one-more3 .ensures ∙ laws.type-pkg (a .table .now) (a .words .now) (a .ty) (a .at) (omega arith) (c .before .match .keys5))
     (λ c. let a = c .before .before .before .before .before .args

@@ -13,7 +13,10 @@ unfolding single everyone
 everyone-spec = tie.close (tie.spec
     (λ c. sym (restrict-everyone-full width (c .before .args .n) (omega arith)))  -- returns
     (λ c κs. search needs)  -- single-requires
-    (λ c. let n = c .before .before .args .n in omega (arith, c .single .ensures ∙ restrict-single width n (omega arith), pow-pos n))  -- sub-result
     (λ c.
     let n = c .before .before .args .n in
-    ap (λ (x : ℕ). x - 1) (c .single .ensures ∙ restrict-single width n (omega arith)) ∙ sym (restrict-everyone width n (omega arith))))  -- returns-2
+    omega (arith, c .single .ensures ∙ restrict-single width n (omega arith), pow-pos n))  -- sub-result
+    (λ c.
+    let n = c .before .before .args .n in
+    ap (λ (x : ℕ). x - 1) (c .single .ensures ∙ restrict-single width n (omega arith))
+    ∙ sym (restrict-everyone width n (omega arith))))  -- returns-2

@@ -15,4 +15,5 @@ label-of-spec = tie.close (tie.spec
     (λ c. c .label-at .ensures ∙ sym (label-there _ _ (c .before .before .labels .ensures) (c .before .if1 .taken)))  -- returns
     (λ c.
     let b = c .before .before in
-    c .bottom .ensures ∙ sym (label-past _ _ (b .before .labels .ensures) (c .before .everyone .ensures) (b .if1 .left))))  -- returns-2
+    c .bottom .ensures
+    ∙ sym (label-past _ _ (b .before .labels .ensures) (c .before .everyone .ensures) (b .if1 .left))))  -- returns-2

@@ -54,4 +54,5 @@ join-spec = tie.close (tie.spec
     ))  -- loop-again
     (λ c.
     let l = c .before .loop .inv in
-    label-path _ _ (fill-end _ _ _ _ (l .1) owners (omega arith) (search needs)) (fill-end _ _ _ _ (l .2) owners (omega arith) (search needs))))  -- returns
+    label-path _ _ (fill-end _ _ _ _ (l .1) owners (omega arith) (search needs))
+    (fill-end _ _ _ _ (l .2) owners (omega arith) (search needs))))  -- returns

@@ -17,7 +17,8 @@ with-policy-spec = tie.close (tie.spec
     let a = c .before .args in
     let r : length (a .t1 .readers) ≡ owners = search needs in
     let w : length (a .t1 .writers) ≡ owners = search needs in
-    label-path (a .t1) (policyOf (a .t1) (a .owner) (a .readers) (a .writers)) (sym (set-out _ _ _ (omega arith))) (sym (set-out _ _ _ (omega arith))))  -- returns
+    label-path (a .t1) (policyOf (a .t1) (a .owner) (a .readers) (a .writers))
+    (sym (set-out _ _ _ (omega arith))) (sym (set-out _ _ _ (omega arith))))  -- returns
     (λ c κs. search needs)  -- single-requires
     (λ c κs. search needs)  -- union-requires
     (λ c. search needs)  -- mul-self

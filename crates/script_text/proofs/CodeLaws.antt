@@ -17,6 +17,7 @@ use Rattle.sheet.specs.Padding.{padded}
 use Rattle.script_text.specs.declared.LineRead.the-variants as read
 use Rattle.script_text.specs.declared.Reached.{Reached}
 use Rattle.script_text.specs.declared.Script.{Script}
+use Rattle.script_text.specs.declared.Answer.the-variants as answer
 use Rattle.script_text.specs.Reading.{lineOf, linesOf, maxLines}
 use Rattle.script_text.specs.Internal.Decoded.{codeWords, noCode, coded, codedLines}
 use Rattle.script_text.specs.Internal.Placed.{rowOf, lineAt}
@@ -55,7 +56,7 @@ put w n k a b = set (set (set w (n * 3) k) (n * 3 + 1) a) (n * 3 + 2) b
 -- n lines, and further ones
 unfoldable pub tabled : ℕ → List ℕ → Option (List Line) → Script
 tabled n w none = noCode
-tabled n w (some ls) = record { count = n + length ls; code = sets w (n * 3) (code ls) }
+tabled n w (some ls) = record { answer = answer.Read; count = n + length ls; code = sets w (n * 3) (code ls) }
 
 -- ---- the table of a text's lines, from line n and byte `at` on
 
@@ -71,7 +72,7 @@ tabled-front n w l (some ls) =
     rw (c, words-of l (code ls), one, two, three)
 
 module _ (n : ℕ) (w : List ℕ) (s : List ℕ) (at : ℕ) where
-  pub table-done : length s ≤ at → tabled n w (linesUpTo lineOf (maxLines - n) (drop at s)) ≡ record { count = n; code = w }
+  pub table-done : length s ≤ at → tabled n w (linesUpTo lineOf (maxLines - n) (drop at s)) ≡ record { answer = answer.Read; count = n; code = w }
   unfolding tabled code
   table-done h = let z : n + 0 ≡ n = omega arith in rw (lines-at-end lineOf maxLines n s at h, z)
 

@@ -14,10 +14,10 @@ use Rattle.script.specs.Lines.{Line, Source, cmdLines}
 use Rattle.script.specs.Internal.Code.{code}
 use Rattle.script.specs.Names.{Counts, named}
 use Rattle.sheet.specs.Padding.{padded}
-use Rattle.sheet.proofs.Words.{length-padded}
 use Rattle.script_text.specs.declared.Script.{Script}
+use Rattle.script_text.specs.declared.Answer.the-variants as answer
 use Rattle.script_text.specs.declared.Scanned.{Scanned}
-use Rattle.script_text.specs.Reading.{maxLines, linesOf}
+use Rattle.script_text.specs.Reading.{linesOf}
 use Rattle.script_text.specs.Internal.Parse.{stackOf, single, parse}
 use Rattle.script_text.specs.Script.{namedOnly, commandOf, commandRead, scriptOf}
 use Rattle.script_text.specs.Internal.Decoded.{codeWords, noCode, coded, codedLines, decodedScript}
@@ -79,9 +79,6 @@ coded-code : (ls : List Line) → take (length ls * 3) (padded codeWords (code l
 unfolding padded
 coded-code ls = take-at (code ls) _ (length ls * 3) (code-length ls)
 
-coded-length : (ls : List Line) → length ls ≤ maxLines → length (padded codeWords (code ls)) ≡ codeWords
-coded-length ls h = length-padded codeWords (code ls) (omega (arith, code-length ls))
-
 -- ---- the answer
 
 module _ (k : Counts) (t : List ℕ) (s : Script) (e : s ≡ codedLines (linesOf t))
@@ -115,9 +112,8 @@ module _ (k : Counts) (t : List ℕ) (s : Script) (e : s ≡ codedLines (linesOf
 
 -- the answer r is a refusal, or the code of the text's command
 pub read-split : {P : Type 0} (k : Counts) (t : List ℕ) (r : Script) → r ≡ decodedScript (scriptOf k t)
-    → (scriptOf k t ≡ none → r .count ≡ 0 → P)
-    → ((c : Cmd) → scriptOf k t ≡ some c → Source c → named k 0 c ≡ true → 1 ≤ r .count → r .count ≤ maxLines → length (r .code) ≡ codeWords
-    → take (r .count * 3) (r .code) ≡ code (cmdLines c []) → P)
+    → (scriptOf k t ≡ none → r .answer ≡ answer.Refused → P)
+    → ((c : Cmd) → scriptOf k t ≡ some c → Source c → named k 0 c ≡ true → r .answer ≡ answer.Read → take (r .count * 3) (r .code) ≡ code (cmdLines c []) → P)
     → P
 unfolding decodedScript coded noCode
 read-split {P} k t r e f g = go (scriptOf k t) refl
@@ -127,4 +123,4 @@ read-split {P} k t r e f g = go (scriptOf k t) refl
     go (some c) x =
         let s = script-sound k t c x in
         let y : r ≡ coded (cmdLines c []) = e ∙ ap decodedScript x in
-        g c x (s .source) (s .named-there) (rw y (s .not-empty)) (rw y (s .few)) (rw y (coded-length (cmdLines c []) (s .few))) (rw y (coded-code (cmdLines c [])))
+        g c x (s .source) (s .named-there) (rw y refl) (rw y (coded-code (cmdLines c [])))

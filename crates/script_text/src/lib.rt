@@ -45,8 +45,15 @@ pub const WORDS: usize = 1536;
 // Cases nest at most this deep.
 const DEPTH: u32 = 8;
 
-// A script's lines, and the words of its code; no lines where the text was refused.
+// Whether a text was read as a script, or refused.
+pub enum Answer {
+    Read,
+    Refused,
+}
+
+// The answer to a text, a script's lines, and the words of its code; no lines where the text was refused.
 pub struct Script {
+    pub answer: Answer,
     pub count: usize,
     pub code: [u32; WORDS],
 }
@@ -190,6 +197,7 @@ fn refused() -> Script
     ensures { λ r. ⌜ r ≡ noCode ⌝ }
 {
     Script {
+        answer: Answer::Refused,
         count: 0,
         code: [0u32; WORDS],
     }
@@ -202,7 +210,11 @@ fn decode(s: &[u8]) -> Script
     if !fits(s) {
         return refused();
     }
-    let mut out = refused();
+    let mut out = Script {
+        answer: Answer::Read,
+        count: 0,
+        code: [0u32; WORDS],
+    };
     let mut n: usize = 0;
     let mut at: usize = 0;
     while at < s.len() {
@@ -376,7 +388,7 @@ fn whole(code: &[u32], table: &[u16]) -> bool
     c.ok && code.len() <= c.next
 }
 
-// The code of a script on a sheet's table; no lines where refusal 4 applies.
+// The code of a script on a sheet's table; refused where 4 applies.
 pub fn read(text: &[u8], table: &[u16]) -> Script
     ensures { λ r. ⌜ r ≡ decodedScript (scriptOf (countsIn (now (table .entry))) (now (text .entry))) ⌝ }
 {

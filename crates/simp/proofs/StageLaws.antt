@@ -7,11 +7,11 @@ use Prim.Native.Nat.{ℕ, zero, suc, _*_}
 use native.Mathlib.Omega.{arith}
 use borrow.Author.Tests.{ne-eqb}
 use lib.ListN.{length, take}
-use Rattle.language.specs.Syntax.{Cmd, skip, seq, assign, while, case}
+use Rattle.language.specs.Syntax.{Cmd}
 use Rattle.language.specs.Transition.{Out, done, spent, over, wrong, iterate}
 use Rattle.language.proofs.TypeSoundness.{type-soundness}
 use Rattle.script.specs.Lines.{Source, cmdLines}
-use Rattle.script.specs.Internal.Code.{lineWords, code}
+use Rattle.script.specs.Internal.Code.{code}
 use Rattle.script.specs.Names.{named}
 use Rattle.sheet.specs.Sheet.{Sheet, locationCount}
 use Rattle.sets.specs.Sets.{within, everyone}
@@ -19,6 +19,8 @@ use Rattle.sheet.specs.Internal.Tables.{everyoneIn}
 use Rattle.sheet.proofs.TableLaws.{everyone-in}
 use Rattle.sheet.specs.Meaning.{shapesOf, worldOf}
 use Rattle.script_text.specs.declared.Script.{Script}
+use Rattle.script_text.specs.declared.Answer.{Answer}
+use Rattle.script_text.specs.declared.Answer.the-variants.{Read, Refused}
 use Rattle.script_text.specs.Script.{countsOf, scriptOf}
 use Rattle.script_text.specs.Internal.Decoded.{countsIn, decodedScript}
 use Rattle.script_text.proofs.ScriptLaws.{counts-table}
@@ -38,49 +40,38 @@ use Rattle.simp.proofs.Numbers.{0-typable, typable-shape}
 
 -- ---- the code of a script
 
--- a command has a line
-some-words : (c : Cmd) → length (code (cmdLines c [])) ≡ 0 → ⊥
-unfolding cmdLines code lineWords
-some-words skip h = omega arith
-some-words (seq a b) h = omega arith
-some-words (assign x e) h = omega arith
-some-words (while e c) h = omega arith
-some-words (case e a b) h = omega arith
-
 pub code-of : (t script ws : List ℕ) (p : Script) → p ≡ decodedScript (scriptOf (countsIn t) script) → ws ≡ take (p .count * 3) (p .code)
-    → (s : Sheet) → TableOf t s → CodeOf s ws (scriptOf (countsOf s) script)
+    → (s : Sheet) → TableOf t s → CodeOf s ws (p .answer) (scriptOf (countsOf s) script)
 code-of t script ws p e w s T =
     let k : countsIn t ≡ countsOf s = ap countsIn (T .words) ∙ counts-table s in
     let e′ : p ≡ decodedScript (scriptOf (countsOf s) script) = e ∙ ap (λ (j : _). decodedScript (scriptOf j script)) k in
     read-split (countsOf s) script p e′
-    (λ n z. let y : ws ≡ [] = w ∙ ap (λ (j : ℕ). take (j * 3) (p .code)) z in rw (n, y) no-code)
-    (λ c i src nm _ _ _ tk. rw i (its-code src nm (w ∙ tk)))
+    (λ n a. rw (n, a) no-code)
+    (λ c i src nm a tk. rw (i, a) (its-code src nm (w ∙ tk)))
 
 -- ---- judging
 
-pub judge-empty : (ws t : List ℕ) → length ws ≡ 0 → Judges ws t 4
+pub judge-refused : (ws t : List ℕ) (a : Answer) → a ≡ Refused → Judges a ws t 4
 unfolding onScript
-judge-empty ws t h = record { judged = λ s T o C. go s C h }
+judge-refused ws t a e = rw e (record { judged = λ s T o C. go s C })
   where
-    go : (s : Sheet) {us : List ℕ} {o : Option Cmd} → CodeOf s us o → length us ≡ 0 → 4 ≡ onScript (λ k. k) o (untyped s)
-    go s no-code z = refl
-    go s (its-code {c = c} src nm e) z = absurd (some-words c (ap length (sym e) ∙ z))
+    go : (s : Sheet) {o : Option Cmd} → CodeOf s ws Refused o → 4 ≡ onScript (λ k. k) o (untyped s)
+    go s no-code = refl
 
-pub judge-some : (ws t : List ℕ) (v u : Verdict) → (length ws ≡ 0 → ⊥) → ChecksCode ws t (verdictNumber v) → v ≡ u → Judges ws t (verdictNumber u)
+pub judge-read : (ws t : List ℕ) (a : Answer) (v u : Verdict) → a ≡ Read → ChecksCode ws t (verdictNumber v) → v ≡ u → Judges a ws t (verdictNumber u)
 unfolding onScript untyped
-judge-some ws t v u n a e = record { judged = λ s T o C. ap verdictNumber (sym e) ∙ go s T refl C }
+judge-read ws t a v u i x e = rw i (record { judged = λ s T o C. ap verdictNumber (sym e) ∙ go s T C })
   where
-    go : (s : Sheet) → TableOf t s → {us : List ℕ} → us ≡ ws → {o : Option Cmd} → CodeOf s us o → verdictNumber v ≡ onScript (λ k. k) o (untyped s)
-    go s T e no-code = absurd (n (ap length (sym e)))
-    go s T e (its-code {c = c} src nm w) = a .exact s (T .form) (T .once) (T .words) (countsOf s) c src nm (sym e ∙ w)
+    go : (s : Sheet) → TableOf t s → {o : Option Cmd} → CodeOf s ws Read o → verdictNumber v ≡ onScript (λ k. k) o (untyped s)
+    go s T (its-code {c = c} src nm w) = x .exact s (T .form) (T .once) (T .words) (countsOf s) c src nm w
 
-pub check-on : (t script ws : List ℕ) (p : Script) (r : ℕ) → p ≡ decodedScript (scriptOf (countsIn t) script) → ws ≡ take (p .count * 3) (p .code) → Judges ws t r
+pub check-on : (t script ws : List ℕ) (p : Script) (r : ℕ) → p ≡ decodedScript (scriptOf (countsIn t) script) → ws ≡ take (p .count * 3) (p .code) → Judges (p .answer) ws t r
     → ChecksOn script t r
 check-on t script ws p r e w j = record { checked = λ s T. j .judged s T _ (code-of t script ws p e w s T) }
 
 -- the judgement 0
-pub judged-0 : (ws t : List ℕ) (a : ℕ) → Judges ws t a → a ≡ 0 → Judges ws t 0
-judged-0 ws t a j e = subst (Judges ws t) e j
+pub judged-0 : (a : Answer) (ws t : List ℕ) (k : ℕ) → Judges a ws t k → k ≡ 0 → Judges a ws t 0
+judged-0 a ws t k j e = subst (Judges a ws t) e j
 
 -- the table's refusal of a memory is the sheet's
 pub refusal-in : (t memory : List ℕ) (a : ℕ) → a ≡ refusalIn t memory → (s : Sheet) → TableOf t s → a ≡ memoryRefusal s memory
@@ -99,8 +90,8 @@ goes : {A : Type 0} (refuse : ℕ → A) (k : ℕ) (go : A) → k ≡ 0 → unle
 unfolding unless
 goes refuse k go e = rw e refl
 
-module _ (ws t memory : List ℕ) (authority budget : ℕ) where
-  pub run-judged : (a : ℕ) → Judges ws t a → (a ≡ 0 → ⊥) → RunsCode ws t memory authority budget a 0 memory
+module _ (read : Answer) (ws t memory : List ℕ) (authority budget : ℕ) where
+  pub run-judged : (a : ℕ) → Judges read ws t a → (a ≡ 0 → ⊥) → RunsCode read ws t memory authority budget a 0 memory
   unfolding onScript
   run-judged a j n = record { ran = λ s T o C. go s o (j .judged s T o C) }
     where
@@ -117,7 +108,7 @@ module _ (ws t memory : List ℕ) (authority budget : ℕ) where
   unfolding onScript
   no-number s e = omega arith
 
-  pub run-refused : (a : ℕ) → Judges ws t 0 → ((s : Sheet) → TableOf t s → a ≡ memoryRefusal s memory) → (a ≡ 0 → ⊥) → RunsCode ws t memory authority budget a 0 memory
+  pub run-refused : (a : ℕ) → Judges read ws t 0 → ((s : Sheet) → TableOf t s → a ≡ memoryRefusal s memory) → (a ≡ 0 → ⊥) → RunsCode read ws t memory authority budget a 0 memory
   unfolding onScript
   run-refused a j m n = record { ran = λ s T o C. go s T o (j .judged s T o C) }
     where
@@ -140,10 +131,10 @@ module _ (ws t memory : List ℕ) (authority budget : ℕ) where
       absurd (type-soundness (shapesOf s) (worldOf s authority) (λ _. refl) .never-wrong c (typable-shape s c (0-typable s c u)) (memoryOf memory)
       (memories-exactly s .values memory m .typed) budget e)
 
-  pub run-done : (state steps : ℕ) (left : List ℕ) → Judges ws t 0 → ((s : Sheet) → TableOf t s → 0 ≡ memoryRefusal s memory)
-      → Runs ws t memory authority budget state steps left → RunsCode ws t memory authority budget state steps left
+  pub run-done : (state steps : ℕ) (left : List ℕ) → Judges read ws t 0 → ((s : Sheet) → TableOf t s → 0 ≡ memoryRefusal s memory)
+      → Runs ws t memory authority budget state steps left → RunsCode read ws t memory authority budget state steps left
   unfolding onScript memoryRefusal
-  run-done state steps left j m r = record { ran = λ s T o C. go s T refl C (j .judged s T o C) }
+  run-done state steps left j m r = record { ran = λ s T o C. go s T C (j .judged s T o C) }
     where
       run-of : (s : Sheet) → TableOf t s → (c : Cmd) → Source c → named (countsOf s) 0 c ≡ true → ws ≡ code (cmdLines c []) → untyped s c ≡ 0
           → record { answer = state; steps = steps; memory = left } ≡ runFrom s memory authority budget c
@@ -154,10 +145,10 @@ module _ (ws t memory : List ℕ) (authority budget : ℕ) where
           (unrefused-formed (locationCount s) (wellFormed s memory) memory z))
           ∙ sym (goes (refusedRun memory) (untyped s c) _ u ∙ goes (refusedRun memory) (memoryRefusal s memory) _ z)
 
-      go : (s : Sheet) → TableOf t s → {us : List ℕ} → us ≡ ws → {o : Option Cmd} → CodeOf s us o → 0 ≡ onScript (λ k. k) o (untyped s)
+      go : (s : Sheet) → TableOf t s → {a : Answer} {o : Option Cmd} → CodeOf s ws a o → 0 ≡ onScript (λ k. k) o (untyped s)
           → record { answer = state; steps = steps; memory = left } ≡ onScript (refusedRun memory) o (runFrom s memory authority budget)
-      go s T y no-code e = absurd (no-number s e)
-      go s T y (its-code {c = c} src nm w) e = run-of s T c src nm (sym y ∙ w) (accepted s c e)
+      go s T no-code e = absurd (no-number s e)
+      go s T (its-code {c = c} src nm w) e = run-of s T c src nm w (accepted s c e)
 
 -- ---- principals
 
@@ -181,7 +172,8 @@ pub run-stranger : (script t memory : List ℕ) (authority budget : ℕ) → wit
 run-stranger script t memory authority budget h = record { ran = λ s T. sym (unless-3 (refusedRun memory) t s authority _ T h) }
 
 pub run-known : (script t memory ws : List ℕ) (authority budget : ℕ) (p : Script) (answer steps : ℕ) (left : List ℕ) → within authority (everyoneIn t) ≡ true
-    → p ≡ decodedScript (scriptOf (countsIn t) script) → ws ≡ take (p .count * 3) (p .code) → RunsCode ws t memory authority budget answer steps left
+    → p ≡ decodedScript (scriptOf (countsIn t) script) → ws ≡ take (p .count * 3) (p .code)
+    → RunsCode (p .answer) ws t memory authority budget answer steps left
     → RunsOn script t memory authority budget answer steps left
 run-known script t memory ws authority budget p answer steps left h e w r = record {
   ran = λ s T. r .ran s T _ (code-of t script ws p e w s T) ∙ sym (not-3 (refusedRun memory) t s authority _ T h);

@@ -5,6 +5,7 @@ ghost use Rattle.simp.specs.Internal.Stages.{Judges, ChecksOn, RunsCode,
 use super::Outcome;
 use checker::Verdict;
 use interpreter::State;
+use script_text::Answer;
 
 // A run that is refused takes no step.
 pub(crate) fn refused(answer: u8) -> Outcome
@@ -14,12 +15,12 @@ pub(crate) fn refused(answer: u8) -> Outcome
 }
 
 // 4 where there is no script, 5 or 6 where it has no derivation, else 0.
-fn judge(code: &[u32], table: &[u16]) -> u8
-    ensures { λ r. ⌜ Judges (now (code .entry)) (now (table .entry)) r ⌝ }
+fn judge(script: Answer, code: &[u32], table: &[u16]) -> u8
+    ensures { λ r. ⌜ Judges script (now (code .entry)) (now (table .entry)) r ⌝ }
 {
-    if code.len() == 0 {
+    let Answer::Read = script else {
         return super::SCRIPT_MALFORMED;
-    }
+    };
     match checker::check(code, table) {
         Verdict::Accepted => super::DONE,
         Verdict::IllTyped => super::ILL_TYPED,
@@ -32,8 +33,9 @@ pub(crate) fn check_on(script: &[u8], table: &[u16]) -> u8
     ensures { λ r. ⌜ ChecksOn (now (script .entry)) (now (table .entry)) r ⌝ }
 {
     let read = script_text::read(script, table);
+    let answer = read.answer;
     let count = read.count;
-    judge(script_text::rows(&read.code, count), table)
+    judge(answer, script_text::rows(&read.code, count), table)
 }
 
 // The answer to a run that ended so.
@@ -49,10 +51,17 @@ fn number(state: State) -> u8
 }
 
 // Checks and runs the code of a script.
-fn run_code(code: &[u32], table: &[u16], memory: &mut [u32], authority: u16, budget: u32) -> Outcome
-    ensures { λ r. ⌜ RunsCode (now (code .entry)) (now (table .entry)) (now (memory .entry)) authority budget (r .answer) (r .steps) (now (memory .exit)) ⌝ }
+fn run_code(
+    script: Answer,
+    code: &[u32],
+    table: &[u16],
+    memory: &mut [u32],
+    authority: u16,
+    budget: u32,
+) -> Outcome
+    ensures { λ r. ⌜ RunsCode script (now (code .entry)) (now (table .entry)) (now (memory .entry)) authority budget (r .answer) (r .steps) (now (memory .exit)) ⌝ }
 {
-    let answer = judge(code, table);
+    let answer = judge(script, code, table);
     if answer != super::DONE {
         return refused(answer);
     }
@@ -82,8 +91,10 @@ pub(crate) fn run_on(
         return refused(super::PRINCIPAL_UNKNOWN);
     }
     let read = script_text::read(script, table);
+    let answer = read.answer;
     let count = read.count;
     run_code(
+        answer,
         script_text::rows(&read.code, count),
         table,
         memory,

@@ -10,6 +10,7 @@ use Rattle.script.specs.Names.{Counts}
 use Rattle.sheet.specs.Padding.{padded}
 use Rattle.sheet.specs.Internal.Tables.{typesIn, labelsIn, locationsIn}
 use Rattle.script_text.specs.declared.Script.{Script}
+use Rattle.script_text.specs.declared.Answer.the-variants as answer
 
 -- how many types, labels and locations there are by what a table says
 abbrev pub countsIn : List ℕ → Counts
@@ -21,11 +22,11 @@ codeWords = 1536
 
 -- the answer to a refused text
 unfoldable pub noCode : Script
-noCode = record { count = 0; code = replicate codeWords 0 }
+noCode = record { answer = answer.Refused; count = 0; code = replicate codeWords 0 }
 
 -- the answer to a text of lines: how many they are, and their code
 unfoldable pub coded : List Line → Script
-coded ls = record { count = length ls; code = padded codeWords (code ls) }
+coded ls = record { answer = answer.Read; count = length ls; code = padded codeWords (code ls) }
 
 unfoldable pub codedLines : Option (List Line) → Script
 codedLines none = noCode

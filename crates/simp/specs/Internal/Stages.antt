@@ -14,6 +14,8 @@ use Rattle.sheet.specs.Sheet.{Sheet, formed, repeats, locationCount}
 use Rattle.sheet.specs.Internal.Tables.{tableOf}
 use Rattle.sheet.specs.Meaning.{worldOf}
 use Rattle.script_text.specs.Script.{countsOf, scriptOf}
+use Rattle.script_text.specs.declared.Answer.{Answer}
+use Rattle.script_text.specs.declared.Answer.the-variants.{Read, Refused}
 use Rattle.memory.specs.Memory.{memoryOf, memoryRefusal}
 use Rattle.memory.specs.View.{viewWords, viewRefusal}
 use Rattle.simp.specs.Calls.{unless, strangers, onScript, untyped, Ran, refusedRun, ended, refusedView}
@@ -24,13 +26,13 @@ pub record TableOf (t : List ℕ) (s : Sheet) : Type 0 where
   pub once : repeats s ≡ false
   pub words : t ≡ tableOf s
 
--- ws is the code of the script, and is empty where there is none
-pub data CodeOf (s : Sheet) : List ℕ → Option Cmd → Type 0 where
-  no-code : CodeOf s [] none
-  its-code : {ws : List ℕ} {c : Cmd} → Source c → named (countsOf s) 0 c ≡ true → ws ≡ code (cmdLines c []) → CodeOf s ws (some c)
+-- The text of the script was refused, or read, and ws is its code.
+pub data CodeOf (s : Sheet) (ws : List ℕ) : Answer → Option Cmd → Type 0 where
+  no-code : CodeOf s ws Refused none
+  its-code : {c : Cmd} → Source c → named (countsOf s) 0 c ≡ true → ws ≡ code (cmdLines c []) → CodeOf s ws Read (some c)
 
-pub record Judges (ws t : List ℕ) (r : ℕ) : Type 0 where
-  pub judged : (s : Sheet) → TableOf t s → (o : Option Cmd) → CodeOf s ws o → r ≡ onScript (λ k. k) o (untyped s)
+pub record Judges (a : Answer) (ws t : List ℕ) (r : ℕ) : Type 0 where
+  pub judged : (s : Sheet) → TableOf t s → (o : Option Cmd) → CodeOf s ws a o → r ≡ onScript (λ k. k) o (untyped s)
 
 pub record ChecksOn (script t : List ℕ) (r : ℕ) : Type 0 where
   pub checked : (s : Sheet) → TableOf t s → r ≡ onScript (λ k. k) (scriptOf (countsOf s) script) (untyped s)
@@ -42,8 +44,8 @@ runFrom s memory authority budget c =
     unless (refusedRun memory) (memoryRefusal s memory) (
     ended (locationCount s) budget memory (iterate (worldOf s authority) budget (memoryOf memory) c)))
 
-pub record RunsCode (ws t memory : List ℕ) (authority budget answer steps : ℕ) (left : List ℕ) : Type 0 where
-  pub ran : (s : Sheet) → TableOf t s → (o : Option Cmd) → CodeOf s ws o
+pub record RunsCode (a : Answer) (ws t memory : List ℕ) (authority budget answer steps : ℕ) (left : List ℕ) : Type 0 where
+  pub ran : (s : Sheet) → TableOf t s → (o : Option Cmd) → CodeOf s ws a o
       → record { answer = answer; steps = steps; memory = left } ≡ onScript (refusedRun memory) o (runFrom s memory authority budget)
 
 pub record RunsOn (script t memory : List ℕ) (authority budget answer steps : ℕ) (left : List ℕ) : Type 0 where

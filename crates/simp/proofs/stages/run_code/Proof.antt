@@ -5,12 +5,12 @@ use Rattle.simp.proofs.stages.run_code.Statement.{statement}
 use Rattle.simp.proofs.stages.run_code.Tie as tie
 
 returns : tie.Need-returns
-returns c = rw (c .refused .ensures) (run-judged _ _ _ _ _ _ (c .before .before .judge .ensures) (c .before .if1 .taken))
+returns c = rw (c .refused .ensures) (run-judged _ _ _ _ _ _ _ (c .before .before .judge .ensures) (c .before .if1 .taken))
 
 returns-2 : tie.Need-returns-2
 returns-2 c =
     rw (c .refused2 .ensures)
-    (run-refused _ _ _ _ _ _ (judged-0 _ _ _ (c .before .before .before .before .before .judge .ensures) (c .before .before .before .before .if1 .left))
+    (run-refused _ _ _ _ _ _ _ (judged-0 _ _ _ _ (c .before .before .before .before .before .judge .ensures) (c .before .before .before .before .if1 .left))
     (refusal-in _ _ _ (c .before .before .refusal .ensures))
     (c .before .if2 .taken))
 
@@ -18,7 +18,7 @@ returns-3 : tie.Need-returns-3
 returns-3 c =
     let r = c .before .before .before in
     let k = r .before .before in
-    rw (c .number .ensures) (run-done _ _ _ _ _ _ _ _ (judged-0 _ _ _ (k .before .before .before .before .judge .ensures) (k .before .before .before .if1 .left))
+    rw (c .number .ensures) (run-done _ _ _ _ _ _ _ _ _ (judged-0 _ _ _ _ (k .before .before .before .before .judge .ensures) (k .before .before .before .if1 .left))
     (refusal-in _ _ _ (sym (k .if2 .left) ∙ k .before .refusal .ensures)) (r .run .ensures))
 
 pub run-code-spec : {M : Type 1} → statement M

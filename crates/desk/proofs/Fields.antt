@@ -1,10 +1,10 @@
 -- Texts of one field, as the code reads them. Assumes nothing.
 use Prim.Native.Nat.{ℕ, _+_, _-_, _≤_, _<_}
 use native.Mathlib.Omega.{arith}
-use mathlib.Core.Path.{_≡_, sym, _∙_}
+use mathlib.Core.Path.{_≡_, refl, sym, ap, _∙_}
 use mathlib.Core.Bool.{true, false}
 use mathlib.Core.List.{List}
-use mathlib.Core.Option.{none, some}
+use mathlib.Core.Option.{Option, none, some}
 use lib.Dec.{eqb}
 use lib.ListN.{length, drop, getD, length-drop, drop-of-length-le}
 use borrow.Author.Tests.{eq-eqb, ne-eqb, eqb-true, eqb-false}
@@ -12,7 +12,11 @@ use Rattle.text.specs.Reading.{Read}
 use Rattle.text.specs.Reading.Read.{got, bad}
 use Rattle.text.proofs.Readings.{drop-step}
 use Rattle.logic.proofs.BooleanLaws.{cases}
-use Rattle.desk.specs.Fields.{closed, onlyField}
+use Rattle.desk.specs.declared.Group.{Group}
+use Rattle.desk.specs.declared.Group.the-variants as group
+use Rattle.desk.specs.declared.Budget.{Budget}
+use Rattle.desk.specs.declared.Budget.the-variants as budget
+use Rattle.desk.specs.Fields.{closed, onlyField, groupAnswer, budgetAnswer}
 use Rattle.logic.specs.Booleans.{both}
 
 -- the end of the line at a place of s
@@ -50,3 +54,38 @@ module _ (field : Read ℕ) (s : List ℕ) (v p : ℕ) (e : field ≡ got v (dro
 pub only-none : (field : Read ℕ) → field ≡ bad → onlyField field ≡ none
 unfolding onlyField
 only-none field e = rw e
+
+-- what the code's answers say of the texts
+module _ (o : Option ℕ) (r : Group) (e : r ≡ groupAnswer o) where
+  pub group-read : (g : ℕ) → r ≡ group.Read g → o ≡ some g
+  unfolding groupAnswer
+  group-read g q = go o e
+    where
+      go : (x : Option ℕ) → r ≡ groupAnswer x → x ≡ some g
+      go none y = let z : _≡_ {A = ℕ} 0 1 = cc in absurd (omega arith)
+      go (some a) y = let z : a ≡ g = cc in ap some z
+
+  pub group-refused : r ≡ group.Refused → o ≡ none
+  unfolding groupAnswer
+  group-refused q = go o e
+    where
+      go : (x : Option ℕ) → r ≡ groupAnswer x → x ≡ none
+      go none y = refl
+      go (some a) y = let z : _≡_ {A = ℕ} 0 1 = cc in absurd (omega arith)
+
+module _ (o : Option ℕ) (r : Budget) (e : r ≡ budgetAnswer o) where
+  pub budget-read : (n : ℕ) → r ≡ budget.Read n → o ≡ some n
+  unfolding budgetAnswer
+  budget-read n q = go o e
+    where
+      go : (x : Option ℕ) → r ≡ budgetAnswer x → x ≡ some n
+      go none y = let z : _≡_ {A = ℕ} 0 1 = cc in absurd (omega arith)
+      go (some a) y = let z : a ≡ n = cc in ap some z
+
+  pub budget-refused : r ≡ budget.Refused → o ≡ none
+  unfolding budgetAnswer
+  budget-refused q = go o e
+    where
+      go : (x : Option ℕ) → r ≡ budgetAnswer x → x ≡ none
+      go none y = refl
+      go (some a) y = let z : _≡_ {A = ℕ} 0 1 = cc in absurd (omega arith)

@@ -1,29 +1,30 @@
 -- What is taken from the texts of a memory and a group, as the code reads them. Assumes nothing.
 use Prim.Native.Nat.{ℕ, _*_, _-_, _/_, _≤_}
 use native.Mathlib.Omega.{arith}
-use mathlib.Core.Path.{_≡_, refl}
+use mathlib.Core.Path.{_≡_, refl, sym, ap, _∙_}
 use mathlib.Core.List.{List}
+use mathlib.Core.Option.{Option, some, Option·getD}
 use lib.ListN.{length, replicate, length-append, length-replicate}
 use lib.Seq.{take-at, length-take-le}
 use Rattle.text.specs.Reading.{Read}
 use Rattle.text.specs.Reading.Read.{got, bad}
 use Rattle.memory_text.specs.declared.Memory.{Memory}
+use Rattle.memory_text.specs.declared.Answer.the-variants as answer
 use Rattle.sheet.specs.Padding.{padded}
 use Rattle.memory_text.specs.Reading.{memory}
 use Rattle.memory_text.specs.Internal.Answers.{table, memoryOf}
 use Rattle.memory_text.proofs.Memories.{memory-sound}
-use Rattle.desk.specs.declared.Group.{Group}
 use Rattle.desk.specs.declared.Given.{Given}
-use Rattle.desk.specs.Fields.{groupOf, groupAnswer}
+use Rattle.desk.specs.Fields.{groupOf}
 use Rattle.desk.specs.Numbers.{unread}
-use Rattle.desk.specs.Given.{wordsRead, isRead, givenFrom, givenOf, givenWords}
+use Rattle.desk.specs.Given.{wordsRead, givenFrom, givenOf, givenWords}
 use Rattle.desk.specs.Internal.Post.{Whole}
 
 pub given-whole : (text group : List ℕ) (g : Given) → g ≡ givenOf text group → Whole g
 unfolding givenOf givenFrom wordsRead padded
 given-whole text group g e = rw e (go (memory text) refl)
   where
-    go : (want : Read (List ℕ)) → memory text ≡ want → Whole (givenFrom want (groupAnswer (groupOf group)))
+    go : (want : Read (List ℕ)) → memory text ≡ want → Whole (givenFrom want (groupOf group))
     go (got ws r) q =
         let s = memory-sound ws text r q .1 in
         record {
@@ -40,7 +41,7 @@ words-fit g w = omega arith
 pub words-length : (g : Given) → Whole g → length (givenWords g) ≡ g .count
 words-length g w = length-take-le (g .count) (g .words) (words-fit g w)
 
-pub given-words : (m : Read (List ℕ)) (g : Group) → givenWords (givenFrom m g) ≡ wordsRead m
+pub given-words : (m : Read (List ℕ)) (g : Option ℕ) → givenWords (givenFrom m g) ≡ wordsRead m
 unfolding givenFrom padded
 given-words m g = take-at (wordsRead m) (replicate (1024 - length (wordsRead m)) 0) (length (wordsRead m)) refl
 
@@ -53,13 +54,31 @@ memory-few text m e = rw e (go (memory text) refl)
     go (got ws r) q = omega (arith, memory-sound ws text r q .1 .most-locations)
     go bad q = omega arith
 
-pub given-is : (text group : List ℕ) (m : Memory) (g : Group) (k : ℕ) → m ≡ memoryOf text → g ≡ groupAnswer (groupOf group) → k ≡ unread (g .ok) (m .ok)
-    → _≡_ {A = Given} (record { words = m .words; count = m .count * 16; group = g .set; other = k }) (givenOf text group)
-unfolding givenOf givenFrom memoryOf table isRead wordsRead padded
-given-is text group m g k em eg ek = rw (ek, em, eg) (go (memory text) refl)
-  where
-    go : (want : Read (List ℕ)) → memory text ≡ want
-        → record { words = table want .words; count = table want .count * 16; group = groupAnswer (groupOf group) .set; other = unread (groupAnswer (groupOf group) .ok) (table want .ok) }
-        ≡ givenFrom want (groupAnswer (groupOf group))
-    go (got ws r) q = let n : length ws / 16 * 16 ≡ length ws = omega (arith, memory-sound ws text r q .1 .whole) in rw n
-    go bad q = refl
+module _ (text : List ℕ) (m : Memory) (em : m ≡ memoryOf text) where
+  pub given-is : (o : Option ℕ) (k : ℕ) → k ≡ unread o (memory text)
+      → _≡_ {A = Given} (record { words = m .words; count = m .count * 16; group = Option·getD o 0; other = k }) (givenFrom (memory text) o)
+  unfolding givenFrom memoryOf table wordsRead padded
+  given-is o k ek = rw (ek, em) (go (memory text) refl)
+    where
+      go : (want : Read (List ℕ)) → memory text ≡ want
+          → record { words = table want .words; count = table want .count * 16; group = Option·getD o 0; other = unread o want } ≡ givenFrom want o
+      go (got ws r) q = let n : length ws / 16 * 16 ≡ length ws = omega (arith, memory-sound ws text r q .1 .whole) in rw n
+      go bad q = refl
+
+  -- the number of the memory's text, by the answer
+  module _ (g : ℕ) where
+    pub read-number : m .answer ≡ answer.Read → 0 ≡ unread (some g) (memory text)
+    unfolding memoryOf table unread
+    read-number e = go (memory text) (sym (ap (λ (q : Memory). q .answer) em) ∙ e)
+      where
+        go : (want : Read (List ℕ)) → table want .answer ≡ answer.Read → 0 ≡ unread (some g) want
+        go (got ws r) q = refl
+        go bad q = let z : _≡_ {A = ℕ} 0 1 = cc in absurd (omega arith)
+
+    pub refused-number : m .answer ≡ answer.Refused → 8 ≡ unread (some g) (memory text)
+    unfolding memoryOf table unread
+    refused-number e = go (memory text) (sym (ap (λ (q : Memory). q .answer) em) ∙ e)
+      where
+        go : (want : Read (List ℕ)) → table want .answer ≡ answer.Refused → 8 ≡ unread (some g) want
+        go (got ws r) q = let z : _≡_ {A = ℕ} 0 1 = cc in absurd (omega arith)
+        go bad q = refl

@@ -4,7 +4,7 @@ use native.Mathlib.Omega.{arith}
 use mathlib.Core.Path.{_≡_, refl, sym, ap, _∙_}
 use mathlib.Core.Bool.{false}
 use mathlib.Core.List.{List}
-use mathlib.Core.Option.{Option, none, some}
+use mathlib.Core.Option.{Option, none, some, Option·elim}
 use lib.Dec.{leb}
 use lib.ListN.{length, take}
 use lib.Seq.{take-all, length-take-le}
@@ -19,10 +19,11 @@ use Rattle.script_text.specs.Reading.{linesOf}
 use Rattle.script_text.specs.Script.{scriptOf}
 use Rattle.memory_text.specs.Reading.{memory}
 use Rattle.simp.specs.Calls.{runOf, viewOf}
-use Rattle.desk.specs.Fields.{groupOf, budgetOf, budgetAnswer}
+use Rattle.desk.specs.declared.Given.{Given}
+use Rattle.desk.specs.Fields.{groupOf, budgetOf}
 use Rattle.desk.specs.Given.{givenOf, givenWords}
 use Rattle.desk.specs.Show.{viewed, showOf}
-use Rattle.desk.specs.Run.{ranOn, runTextOf}
+use Rattle.desk.specs.Run.{ranOn, noBudget, runTextOf}
 use Rattle.desk.specs.Inputs.{showParts, runParts, shownFor, ranFor, showHeld, runHeld}
 use Rattle.desk.specs.Theorems.{KeptEnough, ShowsInput, RunsInput}
 use Rattle.desk.proofs.Exact.{group-length, budget-length}
@@ -74,10 +75,13 @@ given-kept text group = rw (memory-kept text, short-kept groupOf (λ u g e. let 
 run-text-kept : (sheet script text authority budget : List ℕ)
     → runTextOf (take keep sheet) (take keep script) (take keep text) (take keep authority) (take keep budget)
     ≡ runTextOf sheet script text authority budget
-unfolding runTextOf ranOn
+unfolding runTextOf ranOn Option·elim
 run-text-kept sheet script text authority budget =
-    let g = givenOf text authority in
-    rw (short-kept budgetOf budget-length budget, given-kept text authority, run-kept sheet script (givenWords g) (g .group) (budgetAnswer (budgetOf budget) .number))
+    rw (short-kept budgetOf budget-length budget, given-kept text authority) (go (givenOf text authority) (budgetOf budget))
+  where
+    go : (g : Given) (o : Option ℕ) → Option·elim o noBudget (ranOn (take keep sheet) (take keep script) g) ≡ Option·elim o noBudget (ranOn sheet script g)
+    go g none = refl
+    go g (some n) = rw (run-kept sheet script (givenWords g) (g .group) n)
 
 show-kept : (sheet text group : List ℕ) → showOf (take keep sheet) (take keep text) (take keep group) ≡ showOf sheet text group
 unfolding showOf viewed viewOf

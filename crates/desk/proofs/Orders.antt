@@ -2,9 +2,8 @@
 use Prim.Native.Nat.{ℕ}
 use mathlib.Core.Path.{_≡_, refl, sym, ap, _∙_, subst}
 use mathlib.Core.Logic.{_⊎_, inl, inr, ⊎-elim}
-use mathlib.Core.Bool.{Bool, true, false}
 use mathlib.Core.List.{List, [], _∷_}
-use mathlib.Core.Option.{Option, none, some}
+use mathlib.Core.Option.{Option, none, some, Option·getD}
 use lib.ListN.{length, replicate, length-replicate}
 use Rattle.text.specs.Reading.{Read}
 use Rattle.text.specs.Reading.Read.{got, bad}
@@ -20,9 +19,9 @@ use Rattle.simp.specs.Calls.{Viewed, refusedView, viewOf}
 use Rattle.simp.specs.Judgements.{OfSheet, Strangers, OtherSize, IllFormed, View}
 use Rattle.simp.proofs.Judged.{its}
 use Rattle.simp.proofs.SecondDemand.{demand-2}
-use Rattle.desk.specs.Fields.{groupOf, groupAnswer}
+use Rattle.desk.specs.Fields.{groupOf}
 use Rattle.desk.specs.Numbers.{placeOf, earlier, unread, asText}
-use Rattle.desk.specs.Given.{wordsRead, isRead, givenFrom, givenOf}
+use Rattle.desk.specs.Given.{wordsRead, givenFrom, givenOf}
 use Rattle.desk.specs.Output.{numberLine}
 use Rattle.desk.specs.Show.{viewText, viewed, showOf}
 use Rattle.desk.specs.Order.{IsGroup, IsMemoryText, OfGroup, OfMemory, NoGroup, NoMemory, showRows, Shown}
@@ -76,42 +75,44 @@ module _ (sheet text group ws : List ℕ) (g : ℕ) where
   Said rows other = First numberLine (Prints sheet text group) rows (said other view)
 
   -- 1 and 2 come before the number of a text
-  sheet-first : (b c : Bool) → (said (unread b c) (refusedView zeros 1) ≡ numberLine 1) × (said (unread b c) (refusedView zeros 2) ≡ numberLine 2)
+  sheet-first : (o : Option ℕ) (m : Read (List ℕ))
+      → (said (unread o m) (refusedView zeros 1) ≡ numberLine 1) × (said (unread o m) (refusedView zeros 2) ≡ numberLine 2)
   unfolding viewText earlier placeOf asText unread
-  sheet-first true true = (refl, refl)
-  sheet-first true false = (refl, refl)
-  sheet-first false true = (refl, refl)
-  sheet-first false false = (refl, refl)
+  sheet-first none m = (refl, refl)
+  sheet-first (some a) bad = (refl, refl)
+  sheet-first (some a) (got us r) = (refl, refl)
 
-  on-sheet : (b c : Bool) → (Seen past-2 → Said (group-rows sheet text group) (unread b c)) → Said (showRows sheet text group) (unread b c)
+  on-sheet : (o : Option ℕ) (m : Read (List ℕ)) → (Seen past-2 → Said (group-rows sheet text group) (unread o m))
+      → Said (showRows sheet text group) (unread o m)
   unfolding First
-  on-sheet b c k = go (demand-2 .view sheet ws g zeros view .0 refl)
+  on-sheet o m k = go (demand-2 .view sheet ws g zeros view .0 refl)
     where
-      go : View sheet ws g zeros view → Said (showRows sheet text group) (unread b c)
-      go (inl (a, e)) = inl (a, ap (said (unread b c)) e ∙ sheet-first b c .0)
-      go (inr (n, inl (a, e))) = inr (n, inl (a, ap (said (unread b c)) e ∙ sheet-first b c .1))
-      go (inr (n, inr (m, h))) = inr (n, inr (m, k h))
+      go : View sheet ws g zeros view → Said (showRows sheet text group) (unread o m)
+      go (inl (a, e)) = inl (a, ap (said (unread o m)) e ∙ sheet-first o m .0)
+      go (inr (n, inl (a, e))) = inr (n, inl (a, ap (said (unread o m)) e ∙ sheet-first o m .1))
+      go (inr (n, inr (l, h))) = inr (n, inr (l, k h))
 
   -- a group that isn't of its form
-  no-group : (c : Bool) → NoGroup group → Seen past-2 → Said (group-rows sheet text group) (unread false c)
-  unfolding First viewText earlier placeOf asText unread
-  no-group c n (inl (a, e)) = inl (inl n, ap (said 3) e)
-  no-group c n (inr (m, inl (a, e))) = inl (inl n, ap (said 3) e)
-  no-group c n (inr (m, inr (l, inl (a, e)))) = inl (inl n, ap (said 3) e)
-  no-group c n (inr (m, inr (l, inr (k, h)))) = inl (inl n, ap (said 3) (h .2))
+  no-group : NoGroup group → Seen past-2 → Said (group-rows sheet text group) 3
+  unfolding First viewText earlier placeOf asText
+  no-group n (inl (a, e)) = inl (inl n, ap (said 3) e)
+  no-group n (inr (m, inl (a, e))) = inl (inl n, ap (said 3) e)
+  no-group n (inr (m, inr (l, inl (a, e)))) = inl (inl n, ap (said 3) e)
+  no-group n (inr (m, inr (l, inr (k, h)))) = inl (inl n, ap (said 3) (h .2))
 
   -- a group that is
   module _ (i : IsGroup group g) where
-    three-first : (c : Bool) → said (unread true c) (refusedView zeros 3) ≡ numberLine 3
+    three-first : (m : Read (List ℕ)) → said (unread (some g) m) (refusedView zeros 3) ≡ numberLine 3
     unfolding viewText earlier placeOf asText unread
-    three-first true = refl
-    three-first false = refl
+    three-first bad = refl
+    three-first (got us r) = refl
 
-    on-group : (c : Bool) → (Seen past-3 → Said (memory-rows sheet text group) (unread true c)) → Seen past-2 → Said (group-rows sheet text group) (unread true c)
+    on-group : (m : Read (List ℕ)) → (Seen past-3 → Said (memory-rows sheet text group) (unread (some g) m)) → Seen past-2
+        → Said (group-rows sheet text group) (unread (some g) m)
     unfolding First
-    on-group c k (inl (a, e)) = inl (inr (g, i, a), ap (said (unread true c)) e ∙ three-first c)
-    on-group c k (inr (n, h)) =
-        inr (⊎-elim (λ m. m g i) (λ o. n (subst (Strangers sheet) (one-group i (o .1)) (o .2))), k h)
+    on-group m k (inl (a, e)) = inl (inr (g, i, a), ap (said (unread (some g) m)) e ∙ three-first m)
+    on-group m k (inr (n, h)) =
+        inr (⊎-elim (λ l. l g i) (λ o. n (subst (Strangers sheet) (one-group i (o .1)) (o .2))), k h)
 
     -- a memory that isn't of its form
     no-memory : NoMemory text → Seen past-3 → Said (memory-rows sheet text group) 8
@@ -134,31 +135,27 @@ module _ (sheet text group ws : List ℕ) (g : ℕ) where
         )
 
 -- what show prints, by what its texts are read as
-show-by : (sheet text group : List ℕ)
-    → showOf sheet text group
-    ≡ (let o = groupAnswer (groupOf group) in
-    let ws = wordsRead (memory text) in
-    said (unread (o .ok) (isRead (memory text))) (viewOf sheet ws (o .set) (replicate (length ws) 0)))
-unfolding showOf viewed givenOf givenFrom
-show-by sheet text group = rw (given-words (memory text) (groupAnswer (groupOf group)))
-
 module _ (sheet text group : List ℕ) where
   abbrev printed : Option ℕ → Read (List ℕ) → List ℕ
-  printed o m = said (unread (groupAnswer o .ok) (isRead m)) (viewOf sheet (wordsRead m) (groupAnswer o .set) (replicate (length (wordsRead m)) 0))
+  printed o m = said (unread o m) (viewOf sheet (wordsRead m) (Option·getD o 0) (replicate (length (wordsRead m)) 0))
+
+  show-by : showOf sheet text group ≡ printed (groupOf group) (memory text)
+  unfolding showOf viewed givenOf givenFrom
+  show-by = rw (given-words (memory text) (groupOf group))
 
   by-texts : (o : Option ℕ) → groupOf group ≡ o → (m : Read (List ℕ)) → memory text ≡ m → Shown sheet text group (printed o m)
-  unfolding groupAnswer wordsRead isRead unread
+  unfolding wordsRead unread
   by-texts none e m q =
-      on-sheet sheet text group (wordsRead m) 0 false (isRead m)
-      (no-group sheet text group (wordsRead m) 0 (isRead m) (λ g i. none-some (sym e ∙ group-exact group g .1 i)))
+      on-sheet sheet text group (wordsRead m) 0 none m
+      (no-group sheet text group (wordsRead m) 0 (λ g i. none-some (sym e ∙ group-exact group g .1 i)))
   by-texts (some g) e bad q =
-      on-sheet sheet text group [] g true false
-      (on-group sheet text group [] g (group-exact group g .0 e) false
+      on-sheet sheet text group [] g (some g) bad
+      (on-group sheet text group [] g (group-exact group g .0 e) bad
       (no-memory sheet text group [] g (group-exact group g .0 e) (λ us i. not-bad us [] (sym q ∙ memory-exact us text .1 i))))
   by-texts (some g) e (got ws r) q =
       let s = memory-sound ws text r q in
-      on-sheet sheet text group ws g true true
-      (on-group sheet text group ws g (group-exact group g .0 e) true
+      on-sheet sheet text group ws g (some g) (got ws r)
+      (on-group sheet text group ws g (group-exact group g .0 e) (got ws r)
       (on-memory sheet text group ws g (group-exact group g .0 e) (s .0, s .1)))
 
 pub show-in-order : ShowInOrder

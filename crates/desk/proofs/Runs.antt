@@ -2,7 +2,7 @@
 use Prim.Native.Nat.{ℕ, _≤_}
 use mathlib.Core.Path.{_≡_, refl, sym, ap, _∙_}
 use native.Mathlib.Omega.{arith}
-use mathlib.Core.Option.{some}
+use mathlib.Core.Option.{some, Option·elim}
 use mathlib.Core.List.{List, [], _∷_}
 use lib.Dec.{eqb}
 use lib.ListN.{length}
@@ -14,9 +14,9 @@ use Rattle.memory_text.specs.Reading.{memory}
 use Rattle.memory_text.proofs.Memories.{memory-sound}
 use Rattle.simp.specs.Calls.{Ran, runOf}
 use Rattle.desk.specs.declared.Given.{Given}
-use Rattle.desk.specs.Fields.{groupOf, groupAnswer, budgetOf, budgetAnswer}
+use Rattle.desk.specs.Fields.{groupOf, budgetOf}
 use Rattle.desk.specs.Numbers.{order, placeOf, earlier, unread, asText}
-use Rattle.desk.specs.Given.{wordsRead, isRead, givenFrom, givenOf, givenWords}
+use Rattle.desk.specs.Given.{wordsRead, givenFrom, givenOf, givenWords}
 use Rattle.desk.specs.Run.{outcomeLine, ranText, adjusted, ranOn, runTextOf}
 use Rattle.desk.specs.Theorems.{RunsPlain}
 use Rattle.desk.proofs.Givens.{given-words}
@@ -55,8 +55,8 @@ plain-other r ws e = rw (ne-eqb (r .answer) 7 e, none-earlier (r .answer), eq-eq
 module _ (sheet script text authority budget ws rest : List ℕ) (a n : ℕ) (ea : groupOf authority ≡ some a) (en : budgetOf budget ≡ some n)
     (em : memory text ≡ got ws rest) where
   plain : runTextOf sheet script text authority budget ≡ ranText (adjusted (runOf sheet script ws a n) ws 0)
-  unfolding runTextOf ranOn givenOf givenFrom groupAnswer budgetAnswer wordsRead isRead unread
-  plain = rw (en, ea, em, given-words (got ws rest) (groupAnswer (some a)))
+  unfolding runTextOf Option·elim ranOn givenOf givenFrom wordsRead unread
+  plain = rw (en, ea, em, given-words (got ws rest) (some a))
 
 pub runs-plain : RunsPlain
 runs-plain sheet script text authority budget ws rest a n ea en em =

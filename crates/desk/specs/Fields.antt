@@ -10,7 +10,9 @@ use Rattle.text.specs.Reading.Read.{got, bad}
 use Rattle.text.specs.Number.{number, most}
 use Rattle.text.specs.Set.{hexSet}
 use Rattle.desk.specs.declared.Group.{Group}
+use Rattle.desk.specs.declared.Group.the-variants as group
 use Rattle.desk.specs.declared.Budget.{Budget}
+use Rattle.desk.specs.declared.Budget.the-variants as budget
 use Rattle.logic.specs.Booleans.{both}
 
 -- the end of the line, and nothing more
@@ -33,9 +35,9 @@ budgetOf t = onlyField (number most t)
 
 -- the code's answers
 unfoldable pub groupAnswer : Option ℕ → Group
-groupAnswer none = record { ok = false; set = 0 }
-groupAnswer (some m) = record { ok = true; set = m }
+groupAnswer none = group.Refused
+groupAnswer (some m) = group.Read m
 
 unfoldable pub budgetAnswer : Option ℕ → Budget
-budgetAnswer none = record { ok = false; number = 0 }
-budgetAnswer (some n) = record { ok = true; number = n }
+budgetAnswer none = budget.Refused
+budgetAnswer (some n) = budget.Read n

@@ -1,16 +1,15 @@
 -- What show and run take from the texts of a memory and of a group or an authority.
 use Prim.Native.Nat.{ℕ}
-use mathlib.Core.Bool.{Bool, true, false}
 use mathlib.Core.List.{List, []}
+use mathlib.Core.Option.{Option, Option·getD}
 use lib.ListN.{length, take}
 use Rattle.text.specs.Reading.{Read}
 use Rattle.text.specs.Reading.Read.{got, bad}
 use Rattle.sheet.specs.Padding.{padded}
 use Rattle.memory_text.specs.Sizes.{memoryWords}
 use Rattle.memory_text.specs.Reading.{memory}
-use Rattle.desk.specs.declared.Group.{Group}
 use Rattle.desk.specs.declared.Given.{Given}
-use Rattle.desk.specs.Fields.{groupOf, groupAnswer}
+use Rattle.desk.specs.Fields.{groupOf}
 use Rattle.desk.specs.Numbers.{unread}
 
 -- the words of a memory text; none where it isn't of its form
@@ -18,21 +17,17 @@ unfoldable pub wordsRead : Read (List ℕ) → List ℕ
 wordsRead (got ws _) = ws
 wordsRead bad = []
 
-unfoldable pub isRead : {A : Type 0} → Read A → Bool
-isRead (got _ _) = true
-isRead bad = false
-
 -- A text that isn't of its form stands for no location, or for the empty group, and has the number 8 or 3.
-unfoldable pub givenFrom : Read (List ℕ) → Group → Given
+unfoldable pub givenFrom : Read (List ℕ) → Option ℕ → Given
 givenFrom m g = record {
   words = padded memoryWords (wordsRead m);
   count = length (wordsRead m);
-  group = g .set;
-  other = unread (g .ok) (isRead m);
+  group = Option·getD g 0;
+  other = unread g m;
 }
 
 unfoldable pub givenOf : List ℕ → List ℕ → Given
-givenOf memoryText group = givenFrom (memory memoryText) (groupAnswer (groupOf group))
+givenOf memoryText group = givenFrom (memory memoryText) (groupOf group)
 
 -- the words of the memory, without the zeros after them
 abbrev pub givenWords : Given → List ℕ

@@ -1,9 +1,12 @@
 -- The first number that applies is given, in the order judged (the scope, "From the input" and "From the state"), where a text that isn't of its
 -- form has a number too.
 use Prim.Native.Nat.{ℕ, suc}
-use mathlib.Core.Bool.{Bool, cond}
+use mathlib.Core.Bool.{cond}
 use mathlib.Core.List.{List, [], _∷_}
+use mathlib.Core.Option.{Option, none, some}
 use lib.Dec.{eqb, ltb}
+use Rattle.text.specs.Reading.{Read}
+use Rattle.text.specs.Reading.Read.{got, bad}
 
 -- the order in which runs and views judge
 abbrev pub order : List ℕ
@@ -19,8 +22,10 @@ unfoldable pub earlier : ℕ → ℕ → ℕ
 earlier a b = cond (ltb (placeOf order b) (placeOf order a)) b a
 
 -- 3 where the text of the group isn't of its form, else 8 where that of the memory isn't, else 0
-unfoldable pub unread : Bool → Bool → ℕ
-unread group memory = cond group (cond memory 0 8) 3
+unfoldable pub unread : Option ℕ → Read (List ℕ) → ℕ
+unread none _ = 3
+unread (some _) bad = 8
+unread (some _) (got _ _) = 0
 
 -- A memory text with another number of lines than the sheet has locations isn't of its form: 8 stands for 7.
 unfoldable pub asText : ℕ → ℕ

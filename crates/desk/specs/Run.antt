@@ -4,12 +4,13 @@ use Prim.Native.Char.{code}
 use Prim.Native.String.{String, [] as ε, _∷_ as _▹_}
 use mathlib.Core.Bool.{cond}
 use mathlib.Core.List.{List, [], _∷_, _++_}
+use mathlib.Core.Option.{Option·elim}
 use lib.Dec.{eqb}
 use Rattle.text.specs.Number.{decimal}
 use Rattle.memory_text.specs.Printing.{memoryText}
 use Rattle.simp.specs.Calls.{Ran, runOf}
 use Rattle.desk.specs.declared.Given.{Given}
-use Rattle.desk.specs.Fields.{budgetOf, budgetAnswer}
+use Rattle.desk.specs.Fields.{budgetOf}
 use Rattle.desk.specs.Numbers.{earlier, asText}
 use Rattle.desk.specs.Given.{givenOf, givenWords}
 use Rattle.desk.specs.Output.{numberEnd}
@@ -44,5 +45,4 @@ noBudget = quoted "the budget isn't a number from 0 to 4294967295\n"
 -- Run's output. The scope has no number for a budget that isn't of its form, so words stand for it.
 unfoldable pub runTextOf : List ℕ → List ℕ → List ℕ → List ℕ → List ℕ → List ℕ
 runTextOf sheet script memoryText authority budget =
-    let b = budgetAnswer (budgetOf budget) in
-    cond (b .ok) (ranOn sheet script (givenOf memoryText authority) (b .number)) noBudget
+    Option·elim (budgetOf budget) noBudget (ranOn sheet script (givenOf memoryText authority))

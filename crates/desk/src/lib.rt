@@ -1,6 +1,7 @@
 // What the desk programs print, made from the texts that they are given.
 pub mod run; // run.rt: the program run
 
+use memory_text::Answer;
 use parts::State;
 use text::Decimal;
 use text::Mask;
@@ -9,7 +10,7 @@ ghost use Prim.Native.Nat.{_+_, _≤_};
 ghost use lib.ListN.{length, take, drop};
 ghost use Rattle.memory_text.specs.Internal.Writing.{Puts};
 ghost use Rattle.desk.specs.Fields.{closed, groupOf, groupAnswer, budgetOf, budgetAnswer};
-ghost use Rattle.desk.specs.Numbers.{order, placeOf, earlier as earlierOf, unread as unreadOf, asText};
+ghost use Rattle.desk.specs.Numbers.{order, placeOf, earlier as earlierOf, asText};
 ghost use Rattle.desk.specs.Given.{givenOf};
 ghost use Rattle.desk.specs.Internal.Post.{Whole, PutAll};
 ghost use Rattle.desk.specs.Show.{viewed, showOf};
@@ -19,16 +20,16 @@ ghost use Rattle.desk.specs.Output.{places, numberEnd, put, putLength};
 // The places that a buffer must have for what is printed: 64 lines of at most 176 bytes, and before them a line of at most 22.
 pub const PLACES: usize = 11286;
 
-// A group or an authority, or none.
-pub struct Group {
-    pub ok: bool,
-    pub set: u16,
+// A group or an authority, or the refusal of a text that isn't of its form.
+pub enum Group {
+    Read(u16),
+    Refused,
 }
 
-// A budget, or none.
-pub struct Budget {
-    pub ok: bool,
-    pub number: u32,
+// A budget, or the refusal of a text that isn't of its form.
+pub enum Budget {
+    Read(u32),
+    Refused,
 }
 
 // What show and run take from the texts of a memory and of a group or an authority: the words, of which the first `count` are
@@ -59,10 +60,10 @@ fn group_line(s: &[u8]) -> Group
 {
     if let Mask::At(m, p) = text::set(s, 0) {
         if closes(s, p) {
-            return Group { ok: true, set: m };
+            return Group::Read(m);
         }
     }
-    Group { ok: false, set: 0 }
+    Group::Refused
 }
 
 // The budget of a text: a number of 32 bits and byte 10.
@@ -71,16 +72,10 @@ fn budget_line(s: &[u8]) -> Budget
 {
     if let Decimal::At(n, p) = text::number(s, 0, text::MOST) {
         if closes(s, p) {
-            return Budget {
-                ok: true,
-                number: n,
-            };
+            return Budget::Read(n);
         }
     }
-    Budget {
-        ok: false,
-        number: 0,
-    }
+    Budget::Refused
 }
 
 // The place of a number in the order 1 2 3 4 5 6 7 8; what isn't in it comes after all of it.
@@ -107,16 +102,6 @@ fn earlier(a: u8, b: u8) -> u8
     if place(b) < place(a) { b } else { a }
 }
 
-// 3 where the group isn't of its form, else 8 where the memory isn't, else 0.
-fn unread(group: bool, memory: bool) -> u8
-    ensures { λ r. ⌜ r ≡ unreadOf group memory ⌝ }
-{
-    if !group {
-        return 3;
-    }
-    if memory { 0 } else { 8 }
-}
-
 // The number to print: that of a call's answer or `other`, whichever comes first in the order. A memory text with another number
 // of lines than the sheet has locations isn't of its form, so that 8 stands for 7.
 fn number(answer: u8, other: u8) -> u8
@@ -128,18 +113,36 @@ fn number(answer: u8, other: u8) -> u8
     earlier(answer, other)
 }
 
-// What a memory and a group give; a text that isn't of its form stands for no location, or for the empty group.
+// What a memory and a group give; a text that isn't of its form stands for no location, or for the empty group, and has the
+// number 8 or 3.
 fn read_given(memory: &[u8], group: &[u8]) -> Given
     ensures { λ r. ⌜ r ≡ givenOf (now (memory .entry)) (now (group .entry)) ⌝ }
 {
-    let g = group_line(group);
     let m = memory_text::read_memory(memory);
     let words = m.words;
-    Given {
-        words,
-        count: m.count * memory::CELL,
-        group: g.set,
-        other: unread(g.ok, m.ok),
+    let count = m.count * memory::CELL;
+    let Group::Read(g) = group_line(group) else {
+        return Given {
+            words,
+            count,
+            group: 0,
+            other: 3,
+        };
+    };
+    let answer = m.answer;
+    match answer {
+        Answer::Read => Given {
+            words,
+            count,
+            group: g,
+            other: 0,
+        },
+        Answer::Refused => Given {
+            words,
+            count,
+            group: g,
+            other: 8,
+        },
     }
 }
 

@@ -10,6 +10,7 @@ ghost use Rattle.desk.specs.Internal.Post.{Whole, PutAll};
 ghost use Rattle.desk.specs.Output.{places, put, putLength};
 ghost use Rattle.desk.specs.Run.{outcomeLine, ranOn, runTextOf};
 ghost use Rattle.desk.specs.Inputs.{runHeld};
+use super::Budget;
 use super::Given;
 use parts::State;
 use text::write::put_byte;
@@ -67,17 +68,10 @@ pub fn run_text(
     if out.len() < super::PLACES {
         return 0;
     }
-    let b = super::budget_line(budget);
-    if !b.ok {
+    let Budget::Read(n) = super::budget_line(budget) else {
         return bytes::copy(b"the budget isn't a number from 0 to 4294967295\n", out);
-    }
-    run_given(
-        sheet,
-        script,
-        super::read_given(memory, authority),
-        b.number,
-        out,
-    )
+    };
+    run_given(sheet, script, super::read_given(memory, authority), n, out)
 }
 
 // What run prints of an input whose texts 0 to 4 are kept in a buffer: sheet, script, memory, authority and budget.

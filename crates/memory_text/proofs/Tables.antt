@@ -28,7 +28,7 @@ use Rattle.memory_text.proofs.Memories.{rows-sound}
 -- a table of n locations with those that are still read after them
 unfoldable pub tabled : ℕ → List ℕ → Option (List (List ℕ)) → Memory
 tabled n words none = table bad
-tabled n words (some rs) = record { ok = true; count = n + length rs; words = sets words (n * cell-words) (joined rs) }
+tabled n words (some rs) = record { answer = answer.Read; count = n + length rs; words = sets words (n * cell-words) (joined rs) }
 
 pub tabled-start : (t : List ℕ) → tabled 0 (replicate memoryWords 0) (linesUpTo location maxLocations t) ≡ table (locations maxLocations t)
 unfolding tabled table locations wordsOf padded
@@ -55,7 +55,7 @@ tabled-front n words row (some rs) e =
 
 -- what is left at a place of a text
 module _ (n : ℕ) (words s : List ℕ) (i : ℕ) where
-  pub rest-done : length s ≤ i → tabled n words (linesUpTo location (maxLocations - n) (drop i s)) ≡ record { ok = true; count = n; words = words }
+  pub rest-done : length s ≤ i → tabled n words (linesUpTo location (maxLocations - n) (drop i s)) ≡ record { answer = answer.Read; count = n; words = words }
   unfolding tabled joined
   rest-done h = let z : n + 0 ≡ n = omega arith in rw (lines-at-end location maxLocations n s i h, z)
 

@@ -22,17 +22,17 @@ pub const LOCATIONS: usize = 64;
 // The words of so many.
 pub const WORDS: usize = LOCATIONS * CELL;
 
-// The number of locations and their words, 16 for each, with zeros after them; or a refusal, with none.
-pub struct Memory {
-    pub ok: bool,
-    pub count: usize,
-    pub words: [u32; WORDS],
-}
-
-// Whether a line is read, or refused.
+// Whether a line or a text is read, or refused.
 pub enum Answer {
     Read,
     Refused,
+}
+
+// The number of locations and their words, 16 for each, with zeros after them; or a refusal, with none.
+pub struct Memory {
+    pub answer: Answer,
+    pub count: usize,
+    pub words: [u32; WORDS],
 }
 
 // The words of a location; or a refusal, with zeros.
@@ -159,7 +159,7 @@ fn no_memory() -> Memory
     ensures { λ r. ⌜ r ≡ table bad ⌝ }
 {
     Memory {
-        ok: false,
+        answer: Answer::Refused,
         count: 0,
         words: [0u32; WORDS],
     }
@@ -192,7 +192,7 @@ fn locations(s: &[u8]) -> Memory
         }
     }
     Memory {
-        ok: true,
+        answer: Answer::Read,
         count: n,
         words,
     }

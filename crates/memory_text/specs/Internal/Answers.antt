@@ -1,6 +1,6 @@
 -- What the code answers and what it leaves in a lent buffer.
 use Prim.Native.Nat.{ℕ, _/_, _%_}
-use mathlib.Core.Bool.{Bool, true, false, cond}
+use mathlib.Core.Bool.{Bool, cond}
 use mathlib.Core.List.{List}
 use lib.ListN.{length, drop, replicate}
 use lib.Seq.{sets}
@@ -30,8 +30,8 @@ locationAt s i = placedRow i s (location (drop i s))
 
 -- the number of locations and their words, with zeros up to 64 locations, or the refusal
 unfoldable pub table : Read (List ℕ) → Memory
-table (got ws _) = record { ok = true; count = length ws / cell-words; words = padded memoryWords ws }
-table bad = record { ok = false; count = 0; words = replicate memoryWords 0 }
+table (got ws _) = record { answer = answer.Read; count = length ws / cell-words; words = padded memoryWords ws }
+table bad = record { answer = answer.Refused; count = 0; words = replicate memoryWords 0 }
 
 unfoldable pub memoryOf : List ℕ → Memory
 memoryOf t = table (memory t)

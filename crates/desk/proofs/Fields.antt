@@ -4,7 +4,7 @@ use native.Mathlib.Omega.{arith}
 use mathlib.Core.Path.{_≡_, refl, sym, ap, _∙_}
 use mathlib.Core.Bool.{true, false}
 use mathlib.Core.List.{List}
-use mathlib.Core.Option.{Option, none, some}
+use mathlib.Core.Option.{Option, none, some, Option·elim}
 use lib.Dec.{eqb}
 use lib.ListN.{length, drop, getD, length-drop, drop-of-length-le}
 use borrow.Author.Tests.{eq-eqb, ne-eqb, eqb-true, eqb-false}
@@ -55,37 +55,26 @@ pub only-none : (field : Read ℕ) → field ≡ bad → onlyField field ≡ non
 unfolding onlyField
 only-none field e = rw e
 
+-- an answer is the refusal, or that of the value
+answer-split : {R P : Type 0} (refused : R) (read : ℕ → R) (o : Option ℕ) (r : R) → r ≡ Option·elim o refused read
+    → (o ≡ none → r ≡ refused → P) → ((v : ℕ) → o ≡ some v → r ≡ read v → P) → P
+unfolding Option·elim
+answer-split refused read none r e f g = f refl e
+answer-split refused read (some v) r e f g = g v refl e
+
 -- what the code's answers say of the texts
 module _ (o : Option ℕ) (r : Group) (e : r ≡ groupAnswer o) where
-  pub group-read : (g : ℕ) → r ≡ group.Read g → o ≡ some g
-  unfolding groupAnswer
-  group-read g q = go o e
-    where
-      go : (x : Option ℕ) → r ≡ groupAnswer x → x ≡ some g
-      go none y = let z : _≡_ {A = ℕ} 0 1 = cc in absurd (omega arith)
-      go (some a) y = let z : a ≡ g = cc in ap some z
+  pub group-read : (v : ℕ) → r ≡ group.Read v → o ≡ some v
+  group-read v q =
+      answer-split _ _ o r e (λ x y. let z : _≡_ {A = ℕ} 0 1 = cc in absurd (omega arith)) (λ w x y. let z : w ≡ v = cc in x ∙ ap some z)
 
   pub group-refused : r ≡ group.Refused → o ≡ none
-  unfolding groupAnswer
-  group-refused q = go o e
-    where
-      go : (x : Option ℕ) → r ≡ groupAnswer x → x ≡ none
-      go none y = refl
-      go (some a) y = let z : _≡_ {A = ℕ} 0 1 = cc in absurd (omega arith)
+  group-refused q = answer-split _ _ o r e (λ x y. x) (λ w x y. let z : _≡_ {A = ℕ} 0 1 = cc in absurd (omega arith))
 
 module _ (o : Option ℕ) (r : Budget) (e : r ≡ budgetAnswer o) where
-  pub budget-read : (n : ℕ) → r ≡ budget.Read n → o ≡ some n
-  unfolding budgetAnswer
-  budget-read n q = go o e
-    where
-      go : (x : Option ℕ) → r ≡ budgetAnswer x → x ≡ some n
-      go none y = let z : _≡_ {A = ℕ} 0 1 = cc in absurd (omega arith)
-      go (some a) y = let z : a ≡ n = cc in ap some z
+  pub budget-read : (v : ℕ) → r ≡ budget.Read v → o ≡ some v
+  budget-read v q =
+      answer-split _ _ o r e (λ x y. let z : _≡_ {A = ℕ} 0 1 = cc in absurd (omega arith)) (λ w x y. let z : w ≡ v = cc in x ∙ ap some z)
 
   pub budget-refused : r ≡ budget.Refused → o ≡ none
-  unfolding budgetAnswer
-  budget-refused q = go o e
-    where
-      go : (x : Option ℕ) → r ≡ budgetAnswer x → x ≡ none
-      go none y = refl
-      go (some a) y = let z : _≡_ {A = ℕ} 0 1 = cc in absurd (omega arith)
+  budget-refused q = answer-split _ _ o r e (λ x y. x) (λ w x y. let z : _≡_ {A = ℕ} 0 1 = cc in absurd (omega arith))

@@ -2,7 +2,7 @@
 use Prim.Native.Nat.{ℕ}
 use mathlib.Core.Bool.{Bool, true, false, cond}
 use mathlib.Core.List.{List, [], _∷_}
-use mathlib.Core.Option.{Option, none, some}
+use mathlib.Core.Option.{Option, none, some, Option·elim}
 use lib.Dec.{eqb}
 use lib.ListN.{length}
 use Rattle.text.specs.Reading.{Read}
@@ -34,10 +34,8 @@ unfoldable pub budgetOf : List ℕ → Option ℕ
 budgetOf t = onlyField (number most t)
 
 -- the code's answers
-unfoldable pub groupAnswer : Option ℕ → Group
-groupAnswer none = group.Refused
-groupAnswer (some m) = group.Read m
+abbrev pub groupAnswer : Option ℕ → Group
+groupAnswer o = Option·elim o group.Refused (λ m. group.Read m)
 
-unfoldable pub budgetAnswer : Option ℕ → Budget
-budgetAnswer none = budget.Refused
-budgetAnswer (some n) = budget.Read n
+abbrev pub budgetAnswer : Option ℕ → Budget
+budgetAnswer o = Option·elim o budget.Refused (λ n. budget.Read n)

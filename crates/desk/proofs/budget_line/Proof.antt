@@ -1,5 +1,6 @@
 -- `desk::budget_line` meets its contract. Assumes nothing.
 use mathlib.Core.Path.{sym, ap, _∙_}
+use mathlib.Core.Option.{Option·elim}
 use borrow.Author.Needs.{needs}
 use Rattle.text.specs.Number.{number, most}
 use Rattle.text.proofs.Fields.{number-at, number-bad}
@@ -9,7 +10,7 @@ use Rattle.desk.proofs.budget_line.Statement.{statement}
 use Rattle.desk.proofs.budget_line.Tie as tie
 
 returns : tie.Need-returns
-unfolding budgetOf budgetAnswer
+unfolding budgetOf Option·elim
 returns c =
     let k = c .before .before .before in
     let s = k .before .before .before .before .args .s .now in
@@ -17,7 +18,7 @@ returns c =
     sym (ap budgetAnswer (only-whole _ s (k .n .given .0 .0) (k .n .given .0 .1 .0) (e .0) (sym (c .before .closes .ensures) ∙ c .if1 .taken)))
 
 returns-2 : tie.Need-returns-2
-unfolding budgetOf budgetAnswer
+unfolding budgetOf Option·elim
 returns-2 c =
     let k = c .before .before .before in
     let s = k .before .before .before .before .args .s .now in
@@ -25,7 +26,7 @@ returns-2 c =
     sym (ap budgetAnswer (only-part _ s (k .n .given .0 .0) (k .n .given .0 .1 .0) (e .0) (sym (c .before .closes .ensures) ∙ c .if1 .left)))
 
 returns-3 : tie.Need-returns-3
-unfolding budgetOf budgetAnswer
+unfolding budgetOf Option·elim
 returns-3 c =
     let k = c .before .before in
     let s = k .before .before .args .s .now in

@@ -1,5 +1,6 @@
 -- `desk::group_line` meets its contract. Assumes nothing.
 use mathlib.Core.Path.{sym, ap, _∙_}
+use mathlib.Core.Option.{Option·elim}
 use borrow.Author.Needs.{needs}
 use Rattle.text.proofs.Fields.{set-at, set-bad}
 use Rattle.desk.specs.Fields.{groupOf, groupAnswer}
@@ -8,7 +9,7 @@ use Rattle.desk.proofs.group_line.Statement.{statement}
 use Rattle.desk.proofs.group_line.Tie as tie
 
 returns : tie.Need-returns
-unfolding groupOf groupAnswer
+unfolding groupOf Option·elim
 returns c =
     let k = c .before .before .before in
     let s = k .before .before .before .before .args .s .now in
@@ -16,7 +17,7 @@ returns c =
     sym (ap groupAnswer (only-whole _ s (k .m .given .0 .0) (k .m .given .0 .1 .0) (e .0) (sym (c .before .closes .ensures) ∙ c .if1 .taken)))
 
 returns-2 : tie.Need-returns-2
-unfolding groupOf groupAnswer
+unfolding groupOf Option·elim
 returns-2 c =
     let k = c .before .before .before in
     let s = k .before .before .before .before .args .s .now in
@@ -24,7 +25,7 @@ returns-2 c =
     sym (ap groupAnswer (only-part _ s (k .m .given .0 .0) (k .m .given .0 .1 .0) (e .0) (sym (c .before .closes .ensures) ∙ c .if1 .left)))
 
 returns-3 : tie.Need-returns-3
-unfolding groupOf groupAnswer
+unfolding groupOf Option·elim
 returns-3 c =
     let k = c .before .before in
     let s = k .before .before .args .s .now in

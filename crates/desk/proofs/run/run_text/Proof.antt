@@ -5,6 +5,7 @@ use mathlib.Core.Option.{Option·elim}
 use Rattle.desk.proofs.Outputs.{put-all, put-none, copy-puts}
 use Rattle.desk.proofs.Givens.{given-whole}
 use Rattle.desk.proofs.Fields.{budget-read, budget-refused}
+use Rattle.desk.specs.Fields.{budgetOf}
 use Rattle.desk.specs.Run.{runTextOf}
 use Rattle.desk.proofs.run.run_text.Statement.{statement}
 use Rattle.desk.proofs.run.run_text.Tie as tie
@@ -19,7 +20,7 @@ returns-2 c =
     let q = p .before .before .before in
     let b = q .before .before in
     let a = b .before .before .before .before .before .before .before .before .args in
-    put-all (a .out .now) _ _ _ (b .before .if1 .left) (rw (budget-refused _ _ (b .budget-line .ensures) (q .enum-told .given .1))
+    put-all (a .out .now) _ _ _ (b .before .if1 .left) (rw (budget-refused (budgetOf (a .budget .now)) _ (b .budget-line .ensures) (q .enum-told .given .1))
     (copy-puts (a .out .now) _ _ _ (omega (arith, b .before .if1 .left)) (p .copy .ensures .0) (p .copy .ensures .1)))
 
 run-given-requires : tie.Need-run-given-requires
@@ -36,7 +37,7 @@ returns-3 c =
     let b = k .before .before in
     let a = b .before .before .before .before .before .before .before .before .args in
     put-all (a .out .now) _ _ _ (b .before .if1 .left)
-    (rw (budget-read _ _ (b .budget-line .ensures) _ (k .n .given .1), ← g .read-given .ensures) (r .run-given .ensures))
+    (rw (budget-read (budgetOf (a .budget .now)) _ (b .budget-line .ensures) _ (k .n .given .1), ← g .read-given .ensures) (r .run-given .ensures))
 
 pub run-text-spec : {M : Type 1} → statement M
 run-text-spec = tie.close (tie.spec

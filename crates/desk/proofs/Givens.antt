@@ -1,15 +1,16 @@
 -- What is taken from the texts of a memory and a group, as the code reads them. Assumes nothing.
 use Prim.Native.Nat.{ℕ, _*_, _-_, _/_, _≤_}
 use native.Mathlib.Omega.{arith}
-use mathlib.Core.Path.{_≡_, refl, sym, ap, _∙_}
+use mathlib.Core.Path.{_≡_, refl}
 use mathlib.Core.List.{List}
-use mathlib.Core.Option.{Option, some, Option·getD}
+use mathlib.Core.Option.{Option, none, some, Option·getD}
 use lib.ListN.{length, replicate, length-append, length-replicate}
 use lib.Seq.{take-at, length-take-le}
 use Rattle.text.specs.Reading.{Read}
 use Rattle.text.specs.Reading.Read.{got, bad}
 use Rattle.memory_text.specs.declared.Memory.{Memory}
-use Rattle.memory_text.specs.declared.Answer.the-variants as answer
+use Rattle.memory_text.specs.declared.Answer.{Answer}
+use Rattle.memory_text.specs.declared.Answer.the-variants.{Read as Taken, Refused}
 use Rattle.sheet.specs.Padding.{padded}
 use Rattle.memory_text.specs.Reading.{memory}
 use Rattle.memory_text.specs.Internal.Answers.{table, memoryOf}
@@ -54,31 +55,24 @@ memory-few text m e = rw e (go (memory text) refl)
     go (got ws r) q = omega (arith, memory-sound ws text r q .1 .most-locations)
     go bad q = omega arith
 
-module _ (text : List ℕ) (m : Memory) (em : m ≡ memoryOf text) where
-  pub given-is : (o : Option ℕ) (k : ℕ) → k ≡ unread o (memory text)
-      → _≡_ {A = Given} (record { words = m .words; count = m .count * 16; group = Option·getD o 0; other = k }) (givenFrom (memory text) o)
-  unfolding givenFrom memoryOf table wordsRead padded
-  given-is o k ek = rw (ek, em) (go (memory text) refl)
-    where
-      go : (want : Read (List ℕ)) → memory text ≡ want
-          → record { words = table want .words; count = table want .count * 16; group = Option·getD o 0; other = unread o want } ≡ givenFrom want o
-      go (got ws r) q = let n : length ws / 16 * 16 ≡ length ws = omega (arith, memory-sound ws text r q .1 .whole) in rw n
-      go bad q = refl
+-- the number of a text that isn't of its form, by the code's answers
+unfoldable pub numberBy : Option ℕ → Answer → ℕ
+numberBy none _ = 3
+numberBy (some _) Taken = 0
+numberBy (some _) Refused = 8
 
-  -- the number of the memory's text, by the answer
-  module _ (g : ℕ) where
-    pub read-number : m .answer ≡ answer.Read → 0 ≡ unread (some g) (memory text)
-    unfolding memoryOf table unread
-    read-number e = go (memory text) (sym (ap (λ (q : Memory). q .answer) em) ∙ e)
-      where
-        go : (want : Read (List ℕ)) → table want .answer ≡ answer.Read → 0 ≡ unread (some g) want
-        go (got ws r) q = refl
-        go bad q = let z : _≡_ {A = ℕ} 0 1 = cc in absurd (omega arith)
+number-is : (o : Option ℕ) (want : Read (List ℕ)) → numberBy o (table want .answer) ≡ unread o want
+unfolding numberBy table unread
+number-is none want = refl
+number-is (some g) (got ws r) = refl
+number-is (some g) bad = refl
 
-    pub refused-number : m .answer ≡ answer.Refused → 8 ≡ unread (some g) (memory text)
-    unfolding memoryOf table unread
-    refused-number e = go (memory text) (sym (ap (λ (q : Memory). q .answer) em) ∙ e)
-      where
-        go : (want : Read (List ℕ)) → table want .answer ≡ answer.Refused → 8 ≡ unread (some g) want
-        go (got ws r) q = let z : _≡_ {A = ℕ} 0 1 = cc in absurd (omega arith)
-        go bad q = refl
+pub given-is : (text : List ℕ) (m : Memory) → m ≡ memoryOf text → (o : Option ℕ) (a : Answer) → m .answer ≡ a
+    → _≡_ {A = Given} (record { words = m .words; count = m .count * 16; group = Option·getD o 0; other = numberBy o a }) (givenFrom (memory text) o)
+unfolding givenFrom memoryOf table wordsRead padded
+given-is text m em o a e = rw (← e, em, number-is o (memory text)) (go (memory text) refl)
+  where
+    go : (want : Read (List ℕ)) → memory text ≡ want
+        → record { words = table want .words; count = table want .count * 16; group = Option·getD o 0; other = unread o want } ≡ givenFrom want o
+    go (got ws r) q = let n : length ws / 16 * 16 ≡ length ws = omega (arith, memory-sound ws text r q .1 .whole) in rw n
+    go bad q = refl

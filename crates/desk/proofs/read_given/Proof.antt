@@ -3,10 +3,9 @@ use borrow.Author.Needs.{needs}
 use native.Mathlib.Omega.{arith}
 use mathlib.Core.Path.{refl}
 use mathlib.Core.Option.{none, some}
-use Rattle.desk.specs.Numbers.{unread}
 use Rattle.desk.specs.Given.{givenOf}
 use Rattle.desk.proofs.Fields.{group-read, group-refused}
-use Rattle.desk.proofs.Givens.{memory-few, given-is, read-number, refused-number}
+use Rattle.desk.proofs.Givens.{memory-few, numberBy, given-is}
 use Rattle.desk.proofs.read_given.Statement.{statement}
 use Rattle.desk.proofs.read_given.Tie as tie
 
@@ -14,29 +13,27 @@ mul-count : tie.Need-mul-count
 mul-count c = omega (arith, memory-few _ _ (c .before .before .read-memory .ensures))
 
 returns : tie.Need-returns
-unfolding givenOf unread
+unfolding givenOf numberBy
 returns c =
     let g = c .before .before in
     let m = g .before .before .before in
-    rw (group-refused _ _ (g .group-line .ensures) (c .enum-told .given .1)) (given-is _ _ (m .read-memory .ensures) none 3 refl)
+    rw (group-refused _ _ (g .group-line .ensures) (c .enum-told .given .1)) (given-is _ _ (m .read-memory .ensures) none _ refl)
 
 returns-2 : tie.Need-returns-2
-unfolding givenOf
+unfolding givenOf numberBy
 returns-2 c =
     let k = c .before .before .before in
     let g = k .before .before in
     let m = g .before .before .before in
-    rw (group-read _ _ (g .group-line .ensures) _ (k .g .given .1))
-    (given-is _ _ (m .read-memory .ensures) (some _) 0 (read-number _ _ (m .read-memory .ensures) _ (c .enum-told2 .given .1)))
+    rw (group-read _ _ (g .group-line .ensures) _ (k .g .given .1)) (given-is _ _ (m .read-memory .ensures) (some _) _ (c .enum-told2 .given .1))
 
 returns-3 : tie.Need-returns-3
-unfolding givenOf
+unfolding givenOf numberBy
 returns-3 c =
     let k = c .before .before .before in
     let g = k .before .before in
     let m = g .before .before .before in
-    rw (group-read _ _ (g .group-line .ensures) _ (k .g .given .1))
-    (given-is _ _ (m .read-memory .ensures) (some _) 8 (refused-number _ _ (m .read-memory .ensures) _ (c .enum-told3 .given .1)))
+    rw (group-read _ _ (g .group-line .ensures) _ (k .g .given .1)) (given-is _ _ (m .read-memory .ensures) (some _) _ (c .enum-told3 .given .1))
 
 pub read-given-spec : {M : Type 1} → statement M
 read-given-spec = tie.close (tie.spec

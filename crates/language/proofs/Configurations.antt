@@ -9,7 +9,7 @@ use Rattle.language.specs.Substitution.{put}
 use Rattle.language.specs.Evaluation.{Res, ok, long, stuck}
 use Rattle.language.specs.Transition.{Next, final, to, too-long, no-rule, at-seq, at-assign, step, done, iterate}
 use Rattle.logic.proofs.BooleanLaws.{T-of}
-use Rattle.language.proofs.Results.{Holds}
+use Rattle.language.proofs.Results.{ResultHolds}
 use Rattle.language.proofs.Traces.{Trace, t-none, t-more, Stops, stops-done, iterate-stops}
 
 -- Q x holds of the value at each location x, and I of the command. Where no rule applies, X holds.
@@ -31,7 +31,7 @@ module _ (Q : ℕ → Value → Type 0) (I : Cmd → Type 0) (X : Type 0) where
   config-seq s M c i too-long h = tt
   config-seq s M c i no-rule h = h
 
-  pub config-assign : I skip → (M : Mem) (x : ℕ) (r : Res) → ((y : ℕ) → Q y (M y)) → Holds (Q x) X r → ConfigNext (at-assign M x r)
+  pub config-assign : I skip → (M : Mem) (x : ℕ) (r : Res) → ((y : ℕ) → Q y (M y)) → ResultHolds (Q x) X r → ConfigNext (at-assign M x r)
   unfolding at-assign put
   config-assign s M x (ok v) m h = record { memory = λ y. on y (eqb x y) refl; command = s }
     where

@@ -10,7 +10,7 @@ use Rattle.language.specs.World.{World, Mem, cell-words, wanted}
 use Rattle.language.specs.Substitution.{Env, lift, close-var, closeE, close, inst}
 use Rattle.language.specs.Evaluation.{Res, bind, fit, add, packed, opened, unpacked, lookup, eval}
 use Rattle.language.specs.Transition.{Next, too-long, no-rule, branch, step, done, iterate}
-use Rattle.language.proofs.Results.{by-fit, Holds, holds-bind, by-add, by-unpacked, by-branch}
+use Rattle.language.proofs.Results.{by-fit, ResultHolds, holds-bind, by-add, by-unpacked, by-branch}
 use Rattle.language.proofs.Configurations.{Config, ConfigNext, config-seq, config-assign, config-done}
 
 -- P holds of what evaluation makes of values that have it. A pack may name the labels `named`.
@@ -95,7 +95,7 @@ module _ (P : Value → Type 0) (named : ℕ → Type 0) where
 
   -- where there is a value, P holds of it
   abbrev pub Has : Res → Type 0
-  Has r = Holds P Unit r
+  Has r = ResultHolds P Unit r
 
   has-fit : (v : Value) → (size v ≤ cell-words → P v) → Has (fit v)
   has-fit v h = by-fit Has v h (λ s. tt)

@@ -24,13 +24,13 @@ by-fit P v f g = on (leb (size v) cell-words) refl
     on false e = g (nleb→lt (size v) cell-words (T-not e))
 
 -- P holds of the value, if there is one; X, if no rule applies
-abbrev pub Holds : (Value → Type 0) → Type 0 → Res → Type 0
-Holds P X (ok v) = P v
-Holds P X long = Unit {0}
-Holds P X stuck = X
+abbrev pub ResultHolds : (Value → Type 0) → Type 0 → Res → Type 0
+ResultHolds P X (ok v) = P v
+ResultHolds P X long = Unit {0}
+ResultHolds P X stuck = X
 
-pub holds-bind : (P Q : Value → Type 0) (X : Type 0) (r : Res) (f : Value → Res) → Holds P X r → ((v : Value) → P v → Holds Q X (f v))
-    → Holds Q X (bind r f)
+pub holds-bind : (P Q : Value → Type 0) (X : Type 0) (r : Res) (f : Value → Res) → ResultHolds P X r → ((v : Value) → P v → ResultHolds Q X (f v))
+    → ResultHolds Q X (bind r f)
 unfolding bind
 holds-bind P Q X (ok v) f h k = k v h
 holds-bind P Q X long f h k = tt
@@ -45,7 +45,7 @@ bind-ok stuck f w h = absurd (let z : _≡_ {A = ℕ} 0 1 = cc in omega arith)
 
 -- the result is a value of the type t, or too long
 abbrev pub Good : Ty → Res → Type 0
-Good t r = Holds (λ v. has v t ≡ true) ⊥ r
+Good t r = ResultHolds (λ v. has v t ≡ true) ⊥ r
 
 -- integers have a sum, other values have none
 pub by-add : (P : Value → Value → Res → Type 0) → ((m n : ℕ) → P (int m) (int n) (fit (int ((m + n) % 2 ^ 32))))

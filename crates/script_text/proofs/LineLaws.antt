@@ -44,9 +44,9 @@ chosen b k f g p q = go (eqb b k) refl
     go true e = let y : b ≡ k = eqb-true b k e in rw y p
     go false e = q
 
-formed : (b : ℕ) → Formed b (formOf b)
+form-of : (b : ℕ) → Formed b (formOf b)
 unfolding formOf
-formed b =
+form-of b =
     chosen b 115 _ _ f-skip (chosen b 59 _ _ f-seq (chosen b 61 _ _ f-assign (chosen b 119 _ _ f-while
     (chosen b 99 _ _ f-case (chosen b 105 _ _ f-int (chosen b 120 _ _ f-loc (chosen b 118 _ _ f-var
     (chosen b 43 _ _ f-plus (chosen b 108 _ _ f-left (chosen b 114 _ _ f-right (chosen b 107 _ _ f-pack
@@ -112,7 +112,7 @@ formed-sound l t u f-other e = unfold operandsOf in not-bad l u e
 line-sound : (t : List ℕ) (l : Line) (u : List ℕ) → lineOf t ≡ got l u → (t ≡ lineBytes l u) × Fits l
 unfolding lineOf
 line-sound [] l u e = not-bad l u e
-line-sound (b ∷ t) l u e = formed-sound l t u (formed b) e
+line-sound (b ∷ t) l u e = formed-sound l t u (form-of b) e
 
 -- ---- printed lines are read
 

@@ -74,7 +74,7 @@ data Sources : Stack → Type 0 where
   on-cmd : {c : Cmd} {st : Stack} → Source c → Sources st → Sources (cm c ∷ st)
 
 -- the stack st has the lines ls
-record Holds (ls : List Line) (st : Stack) : Type 0 where
+record StackHolds (ls : List Line) (st : Stack) : Type 0 where
   pub lines : ls ≡ stackLines st
   pub sources : Sources st
 
@@ -108,47 +108,47 @@ under-c (has-c s q) = q
 
 -- ---- a line keeps that the stack has the lines so far
 
-onto : {ls : List Line} {x r : Stack} → some x ≡ some r → Holds ls x → Holds ls r
+onto : {ls : List Line} {x r : Stack} → some x ≡ some r → StackHolds ls x → StackHolds ls r
 onto e h = rw (← some-path e) h
 
 leaf-e : {ls : List Line} {st : Stack} {l : Line} {e : Expr} → ls ≡ stackLines st → SourceE e → Sources st
-    → ((rest : List Line) → l ∷ rest ≡ exprLines e rest) → Holds (l ∷ ls) (ex e ∷ st)
+    → ((rest : List Line) → l ∷ rest ≡ exprLines e rest) → StackHolds (l ∷ ls) (ex e ∷ st)
 unfolding stackLines
 leaf-e {l = l} h s q g = record { lines = ap (λ (r : List Line). l ∷ r) h ∙ g _; sources = on-expr s q }
 
 -- one operand, an expression, makes an expression
 one-e : {ls : List Line} {st : Stack} {l : Line} {e : Expr} {u : Stack} (f : Expr → Expr) → ls ≡ stackLines st → HasE st e u
     → ((a : Expr) → SourceE a → SourceE (f a)) → ((a : Expr) (rest : List Line) → l ∷ exprLines a rest ≡ exprLines (f a) rest)
-    → Holds (l ∷ ls) (ex (f e) ∷ u)
+    → StackHolds (l ∷ ls) (ex (f e) ∷ u)
 unfolding stackLines
 one-e {l = l} f h (has-e s q) g k = record { lines = ap (λ (r : List Line). l ∷ r) h ∙ k _ _; sources = on-expr (g _ s) q }
 
 assign-c : {ls : List Line} {st : Stack} {e : Expr} {u : Stack} (x : ℕ) → ls ≡ stackLines st → HasE st e u
-    → Holds (l-assign x ∷ ls) (cm (assign x e) ∷ u)
+    → StackHolds (l-assign x ∷ ls) (cm (assign x e) ∷ u)
 unfolding stackLines cmdLines
 assign-c x h (has-e s q) = record { lines = ap (λ (r : List Line). l-assign x ∷ r) h; sources = on-cmd (s-assign s) q }
 
 plus-e : {ls : List Line} {st : Stack} {a b : Expr} {u w : Stack} → ls ≡ stackLines st → HasE st a u → HasE u b w
-    → Holds (l-plus ∷ ls) (ex (plus a b) ∷ w)
+    → StackHolds (l-plus ∷ ls) (ex (plus a b) ∷ w)
 unfolding stackLines exprLines
 plus-e h (has-e s p) (has-e r q) = record { lines = ap (λ (r : List Line). l-plus ∷ r) h; sources = on-expr (s-plus s r) q }
 
 seq-c : {ls : List Line} {st : Stack} {a b : Cmd} {u w : Stack} → ls ≡ stackLines st → HasC st a u → HasC u b w
-    → Holds (l-seq ∷ ls) (cm (seq a b) ∷ w)
+    → StackHolds (l-seq ∷ ls) (cm (seq a b) ∷ w)
 unfolding stackLines cmdLines
 seq-c h (has-c s p) (has-c r q) = record { lines = ap (λ (r : List Line). l-seq ∷ r) h; sources = on-cmd (s-seq s r) q }
 
 while-c : {ls : List Line} {st : Stack} {e : Expr} {c : Cmd} {u w : Stack} → ls ≡ stackLines st → HasE st e u → HasC u c w
-    → Holds (l-while ∷ ls) (cm (while e c) ∷ w)
+    → StackHolds (l-while ∷ ls) (cm (while e c) ∷ w)
 unfolding stackLines cmdLines
 while-c h (has-e s p) (has-c r q) = record { lines = ap (λ (r : List Line). l-while ∷ r) h; sources = on-cmd (s-while s r) q }
 
 case-c : {ls : List Line} {st : Stack} {e : Expr} {a b : Cmd} {u v w : Stack} → ls ≡ stackLines st → HasE st e u → HasC u a v → HasC v b w
-    → Holds (l-case ∷ ls) (cm (case e a b) ∷ w)
+    → StackHolds (l-case ∷ ls) (cm (case e a b) ∷ w)
 unfolding stackLines cmdLines
 case-c h (has-e s p) (has-c r o) (has-c t q) = record { lines = ap (λ (r : List Line). l-case ∷ r) h; sources = on-cmd (s-case s r t) q }
 
-push-sound : (l : Line) {st r : Stack} {ls : List Line} → ls ≡ stackLines st → Sources st → onStack l st ≡ some r → Holds (l ∷ ls) r
+push-sound : (l : Line) {st r : Stack} {ls : List Line} → ls ≡ stackLines st → Sources st → onStack l st ≡ some r → StackHolds (l ∷ ls) r
 unfolding onStack exprLines cmdLines numberOf
 push-sound l-skip h q e = unfold stackLines in onto e (record { lines = ap (λ (r : List Line). l-skip ∷ r) h; sources = on-cmd s-skip q })
 push-sound l-seq {r = r} h q e = popC-split r q _ e (λ a u x f. popC-split r (under-c x) _ f (λ b w y g. onto g (seq-c h x y)))
@@ -165,13 +165,13 @@ push-sound (l-right t) {r = r} h q e = popE-split r q _ e (λ a u x f. onto f (o
 push-sound (l-pack l) {r = r} h q e = popE-split r q _ e (λ a u x f. onto f (one-e (pack l) h x (λ b. s-pack) (λ b rest. refl)))
 push-sound (l-unpack t l) {r = r} h q e = popE-split r q _ e (λ a u x f. onto f (one-e (unpack t l) h x (λ b. s-unpack) (λ b rest. refl)))
 
-pushOn-sound : (l : Line) (o : Option Stack) (ls : List Line) (r : Stack) → ((st : Stack) → o ≡ some st → Holds ls st)
-    → pushOn l o ≡ some r → Holds (l ∷ ls) r
+pushOn-sound : (l : Line) (o : Option Stack) (ls : List Line) (r : Stack) → ((st : Stack) → o ≡ some st → StackHolds ls st)
+    → pushOn l o ≡ some r → StackHolds (l ∷ ls) r
 unfolding pushOn
 pushOn-sound l none ls r k h = none-some h
 pushOn-sound l (some st) ls r k h = let x = k st refl in push-sound l (x .lines) (x .sources) h
 
-stack-sound : (ls : List Line) (st : Stack) → stackOf ls ≡ some st → Holds ls st
+stack-sound : (ls : List Line) (st : Stack) → stackOf ls ≡ some st → StackHolds ls st
 unfolding stackOf
 stack-sound [] st h = unfold stackLines in onto h (record { lines = refl; sources = no-more })
 stack-sound (l ∷ ls) st h = pushOn-sound l (stackOf ls) ls st (λ u e. stack-sound ls u e) h

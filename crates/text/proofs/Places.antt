@@ -13,11 +13,11 @@ use Rattle.text.specs.declared.Mask.{Mask}
 use Rattle.text.specs.declared.Mask.the-variants as mask
 use Rattle.text.specs.declared.Place.{Place}
 use Rattle.text.specs.declared.Place.the-variants as place
-use Rattle.text.proofs.Readings.{Ends, ends-place}
+use Rattle.text.proofs.Readings.{IsEnd, ends-place}
 
 -- each value that x reads from t is followed by the end of t
 abbrev pub Within : {A : Type 0} → List ℕ → Read A → Type 0
-Within {A} t x = (v : A) (u : List ℕ) → x ≡ got v u → Ends t u
+Within {A} t x = (v : A) (u : List ℕ) → x ≡ got v u → IsEnd t u
 
 module _ {A R : Type 0} (at : A → ℕ → R) (none : R) (s : List ℕ) where
   -- the answer to a reading that is known

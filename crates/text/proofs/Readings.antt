@@ -73,27 +73,27 @@ byte-sound b (c ∷ t) u x e =
     (λ p y. not-bad x u y) e
 
 -- u is the end of t
-abbrev pub Ends : List ℕ → List ℕ → Type 0
-Ends t u = drop (length t - length u) t ≡ u
+abbrev pub IsEnd : List ℕ → List ℕ → Type 0
+IsEnd t u = drop (length t - length u) t ≡ u
 
-pub ends-append : (xs u : List ℕ) → Ends (xs ++ u) u
+pub ends-append : (xs u : List ℕ) → IsEnd (xs ++ u) u
 ends-append xs u =
     let z : length (xs ++ u) - length u ≡ length xs = omega (arith, length-append xs u) in
     rw z (drop-append-seam xs u)
 
 -- what is printed before u ends in u
-pub ends-print : (t xs u : List ℕ) → t ≡ xs ++ u → Ends t u
+pub ends-print : (t xs u : List ℕ) → t ≡ xs ++ u → IsEnd t u
 ends-print t xs u e = rw e (ends-append xs u)
 
-pub ends-short : (t u : List ℕ) → Ends t u → length u ≤ length t
+pub ends-short : (t u : List ℕ) → IsEnd t u → length u ≤ length t
 ends-short t u e = omega (arith, length-drop (length t - length u) t, ap length e)
 
-pub ends-trans : (t u w : List ℕ) → Ends t u → Ends u w → Ends t w
+pub ends-trans : (t u w : List ℕ) → IsEnd t u → IsEnd u w → IsEnd t w
 ends-trans t u w e f =
     let z : length t - length w ≡ length t - length u + (length u - length w) = omega (arith, ends-short t u e, ends-short u w f) in
     rw (z, ← drop-drop (length u - length w) (length t - length u) t, e) f
 
-pub ends-drop : (s : List ℕ) (i : ℕ) → Ends s (drop i s)
+pub ends-drop : (s : List ℕ) (i : ℕ) → IsEnd s (drop i s)
 ends-drop s i =
     cases (leb i (length s))
     (λ h. let l : i ≤ length s = leb-true _ _ h in let z : length s - length (drop i s) ≡ i = omega (arith, length-drop i s) in rw z)
@@ -103,5 +103,5 @@ ends-drop s i =
     rw n (drop-of-length-le s {i = length s - 0} (omega arith)))
 
 -- what follows in the rest of s from i on follows in s
-pub ends-place : (s : List ℕ) (i : ℕ) (u : List ℕ) → Ends (drop i s) u → Ends s u
+pub ends-place : (s : List ℕ) (i : ℕ) (u : List ℕ) → IsEnd (drop i s) u → IsEnd s u
 ends-place s i u e = ends-trans s (drop i s) u (ends-drop s i) e

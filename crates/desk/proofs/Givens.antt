@@ -13,7 +13,7 @@ use Rattle.memory_text.specs.declared.Answer.{Answer}
 use Rattle.memory_text.specs.declared.Answer.the-variants.{Read as Taken, Refused}
 use Rattle.sheet.specs.Padding.{padded}
 use Rattle.memory_text.specs.Reading.{memory}
-use Rattle.memory_text.specs.Internal.Answers.{table, memoryOf}
+use Rattle.memory_text.specs.Internal.Answers.{table, memoryAnswer}
 use Rattle.memory_text.proofs.Memories.{memory-sound}
 use Rattle.desk.specs.declared.Given.{Given}
 use Rattle.desk.specs.Fields.{groupOf}
@@ -47,8 +47,8 @@ unfolding givenFrom padded
 given-words m g = take-at (wordsRead m) (replicate (1024 - length (wordsRead m)) 0) (length (wordsRead m)) refl
 
 -- a memory that is read, and what is made of it
-pub memory-few : (text : List ℕ) (m : Memory) → m ≡ memoryOf text → m .count * 16 ≤ 1024
-unfolding memoryOf table
+pub memory-few : (text : List ℕ) (m : Memory) → m ≡ memoryAnswer text → m .count * 16 ≤ 1024
+unfolding memoryAnswer table
 memory-few text m e = rw e (go (memory text) refl)
   where
     go : (want : Read (List ℕ)) → memory text ≡ want → table want .count * 16 ≤ 1024
@@ -67,9 +67,9 @@ number-is none want = refl
 number-is (some g) (got ws r) = refl
 number-is (some g) bad = refl
 
-pub given-is : (text : List ℕ) (m : Memory) → m ≡ memoryOf text → (o : Option ℕ) (a : Answer) → m .answer ≡ a
+pub given-is : (text : List ℕ) (m : Memory) → m ≡ memoryAnswer text → (o : Option ℕ) (a : Answer) → m .answer ≡ a
     → _≡_ {A = Given} (record { words = m .words; count = m .count * 16; group = Option·getD o 0; other = numberBy o a }) (givenFrom (memory text) o)
-unfolding givenFrom memoryOf table wordsRead padded
+unfolding givenFrom memoryAnswer table wordsRead padded
 given-is text m em o a e = rw (← e, em, number-is o (memory text)) (go (memory text) refl)
   where
     go : (want : Read (List ℕ)) → memory text ≡ want

@@ -33,4 +33,4 @@ runHeld s buffer = runParts (textHeld s buffer)
 
 -- The output for some input was put; which input that is, no contract can say (crate input).
 abbrev pub PutFor : (List ℕ → List ℕ) → List ℕ → List ℕ → ℕ → Type 0
-PutFor output out now next = (input : List ℕ) × (next ≡ putLength out (output input)) × (now ≡ put out (output input))
+PutFor output out left next = (input : List ℕ) × (next ≡ putLength out (output input)) × (left ≡ put out (output input))

@@ -25,7 +25,7 @@ use Rattle.interpreter.specs.State.{stateNumber}
 use Rattle.interpreter.specs.declared.State.the-variants.{Done, NoRule}
 use Rattle.interpreter.specs.Internal.Cells.{CellsHold}
 use Rattle.interpreter.specs.Internal.Nodes.{Tells}
-use Rattle.interpreter.specs.Internal.Post.{CmdAt, an-expression, a-command, Skips, Finishes, Execs, ticked, Ticks, Assigns, Choice, to-left, to-right, no-budget, too-long, no-rule, choiceV, choice, Chooses, Decides, Enters, Branches}
+use Rattle.interpreter.specs.Internal.Post.{CmdAt, an-expression, a-command, Skips, Finishes, Execs, ticked, Ticks, Assigns, Choice, to-left, to-right, no-budget, choice-long, choice-stuck, choiceV, choice, Chooses, Decides, Enters, Branches}
 use Rattle.interpreter.proofs.StateLaws.{holds-kept, holds-leave}
 use Rattle.interpreter.proofs.ExecLaws.{ticked-then, ends-there, goes-on}
 
@@ -57,8 +57,8 @@ chosen : (Value → ℕ → Out) → (Value → ℕ → Out) → Choice → Out
 chosen l r (to-left v b) = l v b
 chosen l r (to-right v b) = r v b
 chosen l r no-budget = spent
-chosen l r (too-long b) = over (suc b)
-chosen l r no-rule = wrong
+chosen l r (choice-long b) = over (suc b)
+chosen l r choice-stuck = wrong
 
 chosen-is : (l r : Value → ℕ → Out) (fuel : ℕ) (res : Res)
     → spend fuel (λ b. branch (λ v. l v b) (λ v. r v b) (over (suc b)) wrong res) ≡ chosen l r (choice fuel res)
@@ -81,8 +81,8 @@ module _ (ws : List ℕ) (rest mid : List Line) (locations depth : ℕ) (M : Mem
   stops (to-left v b) state left n next on words work o h held e = absurd (false≢true (sym o ∙ h .2))
   stops (to-right v b) state left n next on words work o h held e = (h .0, h .1, held, e)
   stops no-budget state left n next on words work o h held e = h
-  stops (too-long b) state left n next on words work o h held e = h
-  stops no-rule state left n next on words work o h held e = tt
+  stops (choice-long b) state left n next on words work o h held e = h
+  stops choice-stuck state left n next on words work o h held e = tt
 
   -- a guard that goes on
   turns-on : (r : Value → ℕ → Out) (ch : Choice) (gs gl n : ℕ) (on : Bool) (words : List ℕ) (state left next : ℕ) (work : List ℕ) → gs ≡ 0 → on ≡ true
@@ -93,8 +93,8 @@ module _ (ws : List ℕ) (rest mid : List Line) (locations depth : ℕ) (M : Mem
       subst (λ (i : ℕ). Finishes ws rest locations depth ρ (l v i) state left work next) (h .1) (k v)
   turns-on r (to-right v b) gs gl n on words state left next work z o h k = absurd (false≢true (sym (h .2) ∙ o))
   turns-on r no-budget gs gl n on words state left next work z o h k = absurd (omega (arith, h .0))
-  turns-on r (too-long b) gs gl n on words state left next work z o h k = absurd (omega (arith, h .0))
-  turns-on r no-rule gs gl n on words state left next work z o h k = tt
+  turns-on r (choice-long b) gs gl n on words state left next work z o h k = absurd (omega (arith, h .0))
+  turns-on r choice-stuck gs gl n on words state left next work z o h k = tt
 
 -- ---- the kinds, each matched at its number
 
@@ -225,8 +225,8 @@ module _ {ws : List ℕ} (at : ℕ) {table : List ℕ} {authority depth : ℕ} {
     case-end-at rest l r c d (to-left v b) z h = absurd (z (h .0))
     case-end-at rest l r c d (to-right v b) z h = absurd (z (h .0))
     case-end-at rest l r c d no-budget z h = h
-    case-end-at rest l r c d (too-long b) z h = h
-    case-end-at rest l r c d no-rule z h = tt
+    case-end-at rest l r c d (choice-long b) z h = h
+    case-end-at rest l r c d choice-stuck z h = tt
 
     case-end-case : {rest : List Line} {a b : ℕ} {c : Cmd} → CmdRow ws at rest 5 a b c → named k depth c ≡ true → (bs ≡ 0 → ⊥)
         → Finishes ws rest (k .locations) depth ρ (go W ρ c M fuel) bs bl work′ at
@@ -254,8 +254,8 @@ module _ {ws : List ℕ} (at : ℕ) {table : List ℕ} {authority depth : ℕ} {
           subst (λ (i : ℕ). Finishes ws rest (k .locations) depth ρ (go W (v ∷ ρ) d M i) ds dl work″ end) (h .1)
           (leaves _ rest v (go W (v ∷ ρ) d M bl) (h .4) (runs x W k d rest M (v ∷ ρ) t (record { source = q; names = n′; lines = h .3 }) (h .2)))
       case-at rest c d no-budget p q n n′ z h = absurd (omega (arith, h .0))
-      case-at rest c d (too-long b) p q n n′ z h = absurd (omega (arith, h .0))
-      case-at rest c d no-rule p q n n′ z h = tt
+      case-at rest c d (choice-long b) p q n n′ z h = absurd (omega (arith, h .0))
+      case-at rest c d choice-stuck p q n n′ z h = tt
 
       case-case : {rest : List Line} {a b : ℕ} {c : Cmd} → CmdRow ws at rest 5 a b c → named k depth c ≡ true → bs ≡ 0
           → Finishes ws rest (k .locations) depth ρ (go W ρ c M fuel) ds dl work″ end

@@ -8,7 +8,7 @@ use native.Mathlib.Omega.{arith}
 use lib.ListN.{drop, getD}
 use Rattle.language.specs.Syntax.{Value, Expr, Cmd}
 use Rattle.language.specs.World.{World, Mem}
-use Rattle.language.specs.Substitution.{Env, put}
+use Rattle.language.specs.Substitution.{Env, update}
 use Rattle.language.specs.Evaluation.{Res, ok, long, stuck, eval}
 use Rattle.language.specs.Transition.{Out, done, spent, over, wrong}
 use Rattle.language.proofs.Interpreter.{go, andThen, spend, assigned, go-assign}
@@ -21,7 +21,7 @@ use Rattle.interpreter.specs.State.{stateNumber}
 use Rattle.interpreter.specs.declared.State.the-variants.{Done, Spent, NoRule}
 use Rattle.interpreter.specs.Internal.Cells.{accumulator, firstLocation, loadOf, storeOf, popOf, CellsHold}
 use Rattle.interpreter.specs.Internal.Nodes.{Yields, Tags, Tells}
-use Rattle.interpreter.specs.Internal.Post.{ExprAt, Evals, a-command, Skips, Finishes, ticked, Ticks, Assigns, Choice, to-left, to-right, no-budget, too-long, no-rule, choiceV, choice, Chooses, Decides, Enters, Branches}
+use Rattle.interpreter.specs.Internal.Post.{ExprAt, Evals, a-command, Skips, Finishes, ticked, Ticks, Assigns, Choice, to-left, to-right, no-budget, choice-long, choice-stuck, choiceV, choice, Chooses, Decides, Enters, Branches}
 use Rattle.interpreter.proofs.CellLaws.{length-load, length-pop}
 use Rattle.interpreter.proofs.ValueLaws.{cell-size, tags-left, tags-right, pop-tag, Kind, is-int, is-err, is-inl, is-inr, is-pkg, is-blank, kind-enc}
 use Rattle.interpreter.proofs.NodeLaws.{words-here, load-here}
@@ -119,7 +119,7 @@ module _ (state left next : ℕ) where
 
 -- an assignment, by the value of its expression
 abbrev assignedTo : Mem → ℕ → ℕ → Res → Out
-assignedTo M x fuel r = spend fuel (λ b. assigned (λ v. done (put M x v) b) b r)
+assignedTo M x fuel r = spend fuel (λ b. assigned (λ v. done (update M x v) b) b r)
 
 module _ (ws : List ℕ) (at depth x : ℕ) where
   assign-fail-at : (rest : List Line) (locations : ℕ) (ρ : Env) (M : Mem) (r : Res) (vs fuel : ℕ) (words work′ : List ℕ) → (fuel ≡ 0 → ⊥) → (vs ≡ 0 → ⊥) → Yields r vs words
@@ -291,8 +291,8 @@ module _ (ws : List ℕ) (rest : List Line) (locations depth : ℕ) (M : Mem) (�
   enters-past (to-left v b) state left n start end on words work z h = absurd (z (h .0))
   enters-past (to-right v b) state left n start end on words work z h = absurd (z (h .0))
   enters-past no-budget state left n start end on words work z h = h
-  enters-past (too-long b) state left n start end on words work z h = h
-  enters-past no-rule state left n start end on words work z h = tt
+  enters-past (choice-long b) state left n start end on words work z h = h
+  enters-past choice-stuck state left n start end on words work z h = tt
 
   module _ (work work′ : List ℕ) (held : CellsHold work locations depth M ρ) (shallow : depth < maxDepth)
       (e : work′ ≡ storeOf work (suc depth) (popOf (loadOf work accumulator))) where
@@ -315,8 +315,8 @@ module _ (ws : List ℕ) (rest : List Line) (locations depth : ℕ) (M : Mem) (�
       enters-left (to-left v b) state left on z o h = (refl, h .1, binds-inside tags-left v (h .3), h .4, end-at (h .4))
       enters-left (to-right v b) state left on z o h = absurd (false≢true (sym (h .2) ∙ o))
       enters-left no-budget state left on z o h = absurd (omega (arith, h .0))
-      enters-left (too-long b) state left on z o h = absurd (omega (arith, h .0))
-      enters-left no-rule state left on z o h = tt
+      enters-left (choice-long b) state left on z o h = absurd (omega (arith, h .0))
+      enters-left choice-stuck state left on z o h = tt
 
       enters-right : (ch : Choice) (state left : ℕ) (on : Bool) → state ≡ 0 → on ≡ false
           → Chooses ws (cmdLines c (cmdLines d rest)) ch state left on (cellOf work accumulator) first → Enters ws rest locations depth M ρ c d ch 0 left work′ second end
@@ -324,8 +324,8 @@ module _ (ws : List ℕ) (rest : List Line) (locations depth : ℕ) (M : Mem) (�
       enters-right (to-left v b) state left on z o h = absurd (false≢true (sym o ∙ h .2))
       enters-right (to-right v b) state left on z o h = (refl, h .1, binds-inside tags-right v (h .3), second-at (h .4), end-at (h .4))
       enters-right no-budget state left on z o h = absurd (omega (arith, h .0))
-      enters-right (too-long b) state left on z o h = absurd (omega (arith, h .0))
-      enters-right no-rule state left on z o h = tt
+      enters-right (choice-long b) state left on z o h = absurd (omega (arith, h .0))
+      enters-right choice-stuck state left on z o h = tt
 
 module _ {ws : List ℕ} {at : ℕ} {table : List ℕ} {authority depth : ℕ} {work : List ℕ} {fuel : ℕ} where
   pub branch-deep : maxDepth ≤ depth → Branches ws at table authority depth work fuel (stateNumber NoRule) fuel at at work

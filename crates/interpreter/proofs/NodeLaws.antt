@@ -10,7 +10,7 @@ use lib.ListN.{length, drop, getD, take-append-drop}
 use lib.Seq.{getD-take}
 use Rattle.language.specs.Syntax.{Value, int, err, inl, inr, pkg, blank, size, has}
 use Rattle.language.specs.World.{World, cell-words, wanted}
-use Rattle.language.specs.Evaluation.{Res, ok, long, stuck, bind, fitting, fit, addTo, add, packed, opened, unpacked}
+use Rattle.language.specs.Evaluation.{Res, ok, long, stuck, bind, fitIf, fit, addTo, add, packed, opened, unpacked}
 use Rattle.sheet.specs.Internal.Tables.{leftIn, belowIn, readsIn, writesIn}
 use Rattle.sheet.specs.Internal.TypeTest.{hasNo}
 use Rattle.memory.specs.Words.{enc, zeros, cell, valueOf}
@@ -83,11 +83,11 @@ applies-keep state′ n m = record { kept = refl; same-place = refl; through = �
 -- ---- values that fit, and that don't
 
 fits : (v : Value) → size v ≤ cell-words → fit v ≡ ok v
-unfolding fit fitting
+unfolding fit fitIf
 fits v h = simp (le-leb (size v) 16 h)
 
 too-long : (v : Value) → cell-words < size v → fit v ≡ long
-unfolding fit fitting
+unfolding fit fitIf
 too-long v h = simp (lt-leb (size v) 16 h)
 
 answers-ok : (r : Res) (v : Value) (state : ℕ) (words : List ℕ) → r ≡ ok v → state ≡ 0 → words ≡ cell v → Yields r state words
@@ -113,7 +113,7 @@ loaded work words l = ap (λ (u : List ℕ). length u) l ∙ length-load work 0
 
 add-answer : (u w : Value) (n m s state : ℕ) (words : List ℕ) → state ≡ 0 → words ≡ cell (int s) → n ≡ getD (cell u) 1 0 → m ≡ getD (cell w) 1 0
     → s ≡ (n + m) % 2 ^ 32 → Yields (add u w) state words
-unfolding Yields add addTo fit fitting size cell enc
+unfolding Yields add addTo fit fitIf size cell enc
 add-answer (int a) (int b) n m s state words z e p q r = (z, e ∙ ap (λ (i : ℕ). cell (int i)) (r ∙ ap (λ (i : ℕ). (i + m) % 2 ^ 32) p ∙ ap (λ (i : ℕ). (a + i) % 2 ^ 32) q))
 add-answer (int a) (err b) n m s state words z e p q r = tt
 add-answer (int a) (inl w) n m s state words z e p q r = tt

@@ -21,7 +21,7 @@ use Rattle.sheet.proofs.MeaningLaws.{below-in, reads-in, writes-in}
 use Rattle.sheet.proofs.NumberLaws.{has-wanted}
 use Rattle.sheet.proofs.FormLaws.{locations-few}
 use Rattle.memory.specs.Words.{cell}
-use Rattle.memory.specs.Memory.{cellOf, memoryOf, wordsOf, fits, wellFormed}
+use Rattle.memory.specs.Memory.{cellOf, memoryOf, wordsOf, asDeclared, wellFormed}
 use Rattle.memory.proofs.CellsLaws.{cells-ext, cells-all}
 use Rattle.memory.proofs.MemoryLaws.{value-words}
 use Rattle.interpreter.specs.State.{stateNumber}
@@ -67,7 +67,7 @@ cell-taken ws n x h l =
 memory-cell : (s : Sheet) (memory : List ℕ) → length memory ≡ cell-words * locationCount s → wellFormed s memory ≡ true → (x : ℕ) → x < locationCount s
     → cellOf memory x ≡ cell (memoryOf memory x)
 unfolding wellFormed
-memory-cell s memory n wf x h = sym (value-words (locationCount s) (labelCount s) (fits s) memory n wf x h)
+memory-cell s memory n wf x h = sym (value-words (locationCount s) (labelCount s) (asDeclared s) memory n wf x h)
 
 module _ (work memory : List ℕ) (whole : length work ≡ workWords) (locations : ℕ) (n : length memory ≡ cell-words * locations) (few : locations ≤ 64) where
   pub copied-in : (work′ : List ℕ) → work′ ≡ paste work (cell-words * firstLocation) memory (length memory) → (M : Mem)

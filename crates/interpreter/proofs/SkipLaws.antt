@@ -10,12 +10,12 @@ use Rattle.script.specs.Lines.{Line}
 use Rattle.script.specs.Internal.Code.{code, rowAt}
 use Rattle.script.specs.declared.Row.{Row}
 use Rattle.script.proofs.Rows.{ExprRow, at-int, at-loc, at-var, at-plus, at-left, at-right, at-pack, at-unpack, CmdRow, at-skip, at-seq, at-assign, at-while, at-case, expr-row, cmd-row, row-within}
-use Rattle.interpreter.specs.Internal.Post.{operandsOf, Piece, an-expression, a-command, Skips}
+use Rattle.interpreter.specs.Internal.Post.{operandCount, Piece, an-expression, a-command, Skips}
 
 -- a number that is no kind has no operands
 pub operands-none : (k : ℕ) → (k ≡ 1 → ⊥) → (k ≡ 2 → ⊥) → (k ≡ 3 → ⊥) → (k ≡ 4 → ⊥) → (k ≡ 5 → ⊥) → (k ≡ 6 → ⊥) → (k ≡ 7 → ⊥) → (k ≡ 8 → ⊥)
-    → (k ≡ 9 → ⊥) → (k ≡ 10 → ⊥) → (k ≡ 11 → ⊥) → (k ≡ 12 → ⊥) → (k ≡ 13 → ⊥) → 4 ≡ operandsOf k
-unfolding operandsOf
+    → (k ≡ 9 → ⊥) → (k ≡ 10 → ⊥) → (k ≡ 11 → ⊥) → (k ≡ 12 → ⊥) → (k ≡ 13 → ⊥) → 4 ≡ operandCount k
+unfolding operandCount
 operands-none zero n1 n2 n3 n4 n5 n6 n7 n8 n9 n10 n11 n12 n13 = refl
 operands-none (suc zero) n1 n2 n3 n4 n5 n6 n7 n8 n9 n10 n11 n12 n13 = absurd (n1 refl)
 operands-none (suc (suc zero)) n1 n2 n3 n4 n5 n6 n7 n8 n9 n10 n11 n12 n13 = absurd (n2 refl)
@@ -40,8 +40,8 @@ module _ (ws : List ℕ) (at : ℕ) where
     two-parts : {ls mid : List Line} → Piece ls mid → Piece mid rest → drop (at + 3) ws ≡ code ls → Parts rest 2
     three-parts : {ls mid end : List Line} → Piece ls mid → Piece mid end → Piece end rest → drop (at + 3) ws ≡ code ls → Parts rest 3
 
-  expr-parts : {rest : List Line} {k a b : ℕ} {e : Expr} → ExprRow ws at rest k a b e → Parts rest (operandsOf k)
-  unfolding operandsOf
+  expr-parts : {rest : List Line} {k a b : ℕ} {e : Expr} → ExprRow ws at rest k a b e → Parts rest (operandCount k)
+  unfolding operandCount
   expr-parts (at-int h) = no-parts h
   expr-parts (at-loc h) = no-parts h
   expr-parts (at-var h) = no-parts h
@@ -51,29 +51,29 @@ module _ (ws : List ℕ) (at : ℕ) where
   expr-parts (at-pack s h) = one-part (an-expression s) h
   expr-parts (at-unpack s h) = one-part (an-expression s) h
 
-  cmd-parts : {rest : List Line} {k a b : ℕ} {c : Cmd} → CmdRow ws at rest k a b c → Parts rest (operandsOf k)
-  unfolding operandsOf
+  cmd-parts : {rest : List Line} {k a b : ℕ} {c : Cmd} → CmdRow ws at rest k a b c → Parts rest (operandCount k)
+  unfolding operandCount
   cmd-parts (at-skip h) = no-parts h
   cmd-parts (at-seq s r h) = two-parts (a-command s) (a-command r) h
   cmd-parts (at-assign s h) = one-part (an-expression s) h
   cmd-parts (at-while s r h) = two-parts (an-expression s) (a-command r) h
   cmd-parts (at-case s p q h) = three-parts (an-expression s) (a-command p) (a-command q) h
 
-  parts : {ls rest : List Line} → Piece ls rest → drop at ws ≡ code ls → Parts rest (operandsOf (rowAt ws at .kind))
+  parts : {ls rest : List Line} → Piece ls rest → drop at ws ≡ code ls → Parts rest (operandCount (rowAt ws at .kind))
   parts (an-expression s) h = expr-parts (expr-row ws at s h)
   parts (a-command s) h = cmd-parts (cmd-row ws at s h)
 
-  module _ {row : Row} {n : ℕ} (r : row ≡ rowAt ws at) (o : n ≡ operandsOf (row .kind)) where
-    count : n ≡ operandsOf (rowAt ws at .kind)
-    count = o ∙ ap (λ (q : Row). operandsOf (q .kind)) r
+  module _ {row : Row} {n : ℕ} (r : row ≡ rowAt ws at) (o : n ≡ operandCount (row .kind)) where
+    count : n ≡ operandCount (rowAt ws at .kind)
+    count = o ∙ ap (λ (q : Row). operandCount (q .kind)) r
 
     -- a line of a kind lies within the code
     pub line-in : n < 4 → at + 3 ≤ length ws
-    unfolding operandsOf
+    unfolding operandCount
     line-in l = on (rowAt ws at .kind) refl
       where
         on : (k : ℕ) → rowAt ws at .kind ≡ k → at + 3 ≤ length ws
-        on zero e = absurd (omega (arith, count ∙ ap operandsOf e))
+        on zero e = absurd (omega (arith, count ∙ ap operandCount e))
         on (suc j) e = row-within ws at refl (omega arith)
 
     by-parts : {m next : ℕ} → n ≡ m → at ≤ next → ((rest : List Line) → Parts rest m → drop next ws ≡ code rest) → Skips ws at next

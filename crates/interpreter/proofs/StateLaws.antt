@@ -10,7 +10,7 @@ use lib.Dec.{eqb}
 use lib.ListN.{length, drop, length-drop}
 use Rattle.language.specs.Syntax.{Value}
 use Rattle.language.specs.World.{Mem, cell-words}
-use Rattle.language.specs.Substitution.{Env, put}
+use Rattle.language.specs.Substitution.{Env, update}
 use Rattle.language.specs.Evaluation.{lookup}
 use Rattle.script.specs.Names.{maxDepth}
 use Rattle.memory.specs.Words.{cell}
@@ -44,8 +44,8 @@ module _ {work : List ℕ} {locations depth : ℕ} {M : Mem} {ρ : Env} (held : 
 
   -- a location is given a value
   pub holds-put : {words work′ : List ℕ} (x : ℕ) (v : Value) → x < locations → words ≡ cell v → length words ≡ cell-words
-      → work′ ≡ storeOf work (firstLocation + x) words → CellsHold work′ locations depth (put M x v) ρ
-  unfolding put
+      → work′ ≡ storeOf work (firstLocation + x) words → CellsHold work′ locations depth (update M x v) ρ
+  unfolding update
   holds-put {words} {work′} x v h w n e =
       record {
         whole = ap (λ (l : List ℕ). length l) e ∙ length-store work (9 + x) words n ∙ held .whole;

@@ -1,7 +1,7 @@
 // Runs of commands over the lines (the paper, figure 3).
 ghost use mathlib.Core.Path.{_≡_};
 ghost use Rattle.interpreter.specs.State.{stateNumber};
-ghost use Rattle.interpreter.specs.Internal.Post.{operandsOf, Skips, Execs, Ticks, Assigns, Decides, Branches};
+ghost use Rattle.interpreter.specs.Internal.Post.{operandCount, Skips, Execs, Ticks, Assigns, Decides, Branches};
 use crate::State;
 use crate::cells;
 use crate::evaluation;
@@ -35,7 +35,7 @@ struct Taken {
 
 // How many operands follow a line of a kind; 4 for a number that is no kind.
 fn operands(kind: u32) -> u32
-    ensures { λ r. ⌜ r ≡ operandsOf kind ⌝ }
+    ensures { λ r. ⌜ r ≡ operandCount kind ⌝ }
 {
     match kind {
         script::SKIP => 0,

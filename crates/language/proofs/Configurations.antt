@@ -5,7 +5,7 @@ use Prim.Native.Nat.{ℕ}
 use lib.Dec.{eqb, eqb→eq}
 use Rattle.language.specs.Syntax.{Value, Cmd, skip, seq}
 use Rattle.language.specs.World.{World, Mem}
-use Rattle.language.specs.Substitution.{put}
+use Rattle.language.specs.Substitution.{update}
 use Rattle.language.specs.Evaluation.{Res, ok, long, stuck}
 use Rattle.language.specs.Transition.{Next, final, to, too-long, no-rule, at-seq, at-assign, step, done, iterate}
 use Rattle.logic.proofs.BooleanLaws.{T-of}
@@ -32,7 +32,7 @@ module _ (Q : ℕ → Value → Type 0) (I : Cmd → Type 0) (X : Type 0) where
   config-seq s M c i no-rule h = h
 
   pub config-assign : I skip → (M : Mem) (x : ℕ) (r : Res) → ((y : ℕ) → Q y (M y)) → ResultHolds (Q x) X r → ConfigNext (at-assign M x r)
-  unfolding at-assign put
+  unfolding at-assign update
   config-assign s M x (ok v) m h = record { memory = λ y. on y (eqb x y) refl; command = s }
     where
       on : (y : ℕ) (b : Bool) → eqb x y ≡ b → Q y (cond b v (M y))

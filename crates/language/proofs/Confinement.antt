@@ -6,7 +6,7 @@ use Prim.Native.Nat.{ℕ, zero, suc}
 use lib.Dec.{eqb, eqb→eq}
 use Rattle.language.specs.Syntax.{Value, Expr, Cmd, skip, seq, assign, while, case}
 use Rattle.language.specs.World.{World, Mem}
-use Rattle.language.specs.Substitution.{Env, close, inst, put}
+use Rattle.language.specs.Substitution.{Env, close, inst, update}
 use Rattle.language.specs.Figures.{Step, ec-assign, ec-seq-skip, ec-seq-struct, ec-while-false, ec-while-true, ec-casel, ec-caser, Steps, s-none, s-more}
 use Rattle.language.specs.Typing.{Conditions, least, flow}
 use Rattle.language.specs.Theorems.{Observer, Confinement}
@@ -26,9 +26,9 @@ put-same false v a h = refl
 
 module _ (sees : ℕ → Bool) where
   -- an assignment to a location that is not seen
-  pub put-unseen : (M : Mem) (x : ℕ) (v : Value) → ¬ (sees x ≡ true) → (y : ℕ) → sees y ≡ true → put M x v y ≡ M y
-  unfolding put
-  put-unseen M x v h y s = put-same (eqb x y) v (M y) λ e. h (rw (eqb→eq x y (T-of e)) s)
+  pub update-unseen : (M : Mem) (x : ℕ) (v : Value) → ¬ (sees x ≡ true) → (y : ℕ) → sees y ≡ true → update M x v y ≡ M y
+  unfolding update
+  update-unseen M x v h y s = put-same (eqb x y) v (M y) λ e. h (rw (eqb→eq x y (T-of e)) s)
 
   quiet-close : (d : ℕ) (ρ : Env) {c : Cmd} → Quiet sees c → Quiet sees (close d ρ c)
   unfolding close
@@ -44,7 +44,7 @@ module _ (sees : ℕ → Bool) where
 
   -- a transition of a quiet command leaves a quiet one, and changes nothing that is seen
   quiet-step : (W : World) {M M′ : Mem} {c c′ : Cmd} → Quiet sees c → Step W M c M′ c′ → Quiet sees c′ × ((y : ℕ) → sees y ≡ true → M′ y ≡ M y)
-  quiet-step W (q-assign h) (ec-assign {M} {x} {v = v} p) = (q-skip, put-unseen M x v h)
+  quiet-step W (q-assign h) (ec-assign {M} {x} {v = v} p) = (q-skip, update-unseen M x v h)
   quiet-step W (q-seq a b) ec-seq-skip = (b, λ y s. refl)
   quiet-step W (q-seq a b) (ec-seq-struct p) = let i = quiet-step W a p in (q-seq (i .0) b, i .1)
   quiet-step W (q-while c) (ec-while-false p) = (q-skip, λ y s. refl)

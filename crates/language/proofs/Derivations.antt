@@ -5,7 +5,7 @@ use Prim.Native.Nat.{ℕ, zero, suc, _≤_, _<_}
 use native.Mathlib.Omega.{arith}
 use Rattle.language.specs.Syntax.{Value, inl, inr, Expr, Cmd, skip, seq, assign, while, case}
 use Rattle.language.specs.World.{World, Mem}
-use Rattle.language.specs.Substitution.{Env, close, put}
+use Rattle.language.specs.Substitution.{Env, close, update}
 use Rattle.language.specs.Evaluation.{Res, ok, long, stuck, eval}
 use Rattle.language.specs.Transition.{Out, done, spent, over, wrong, run, iterate}
 use Rattle.language.proofs.Substitution.{close-none}
@@ -16,7 +16,7 @@ use Rattle.language.proofs.Results.{by-branch}
 pub data Run (W : World) : Env → Mem → Cmd → Mem → Type 0 where
   r-skip : {ρ : Env} {M : Mem} → Run W ρ M skip M
   r-seq : {ρ : Env} {M N P : Mem} {a b : Cmd} → Run W ρ M a N → Run W ρ N b P → Run W ρ M (seq a b) P
-  r-assign : {ρ : Env} {M : Mem} {x : ℕ} {e : Expr} {v : Value} → eval W ρ M e ≡ ok v → Run W ρ M (assign x e) (put M x v)
+  r-assign : {ρ : Env} {M : Mem} {x : ℕ} {e : Expr} {v : Value} → eval W ρ M e ≡ ok v → Run W ρ M (assign x e) (update M x v)
   r-go : {ρ : Env} {M N P : Mem} {e : Expr} {c : Cmd} {v : Value} → eval W ρ M e ≡ ok (inl v) → Run W ρ M c N → Run W ρ N (while e c) P
       → Run W ρ M (while e c) P
   r-end : {ρ : Env} {M : Mem} {e : Expr} {c : Cmd} {v : Value} → eval W ρ M e ≡ ok (inr v) → Run W ρ M (while e c) M
@@ -66,8 +66,8 @@ module _ (W : World) (N : Mem) where
   sound-assign ρ x e zero k M h = absurd (rw (run-assign W k M ρ zero x e) at h)
   sound-assign ρ x e (suc b) k M h = on (eval W ρ M e) refl (rw (run-assign W k M ρ (suc b) x e) at h)
     where
-      on : (r : Res) → eval W ρ M e ≡ r → DoneWith N (assigned (λ v. k (put M x v) b) b r) → Reached W (suc b) k ρ M (assign x e) N
-      on (ok v) p h = record { mem = put M x v; rest = b; fits = omega arith; run-of = r-assign p; then = h }
+      on : (r : Res) → eval W ρ M e ≡ r → DoneWith N (assigned (λ v. k (update M x v) b) b r) → Reached W (suc b) k ρ M (assign x e) N
+      on (ok v) p h = record { mem = update M x v; rest = b; fits = omega arith; run-of = r-assign p; then = h }
       on long p h = absurd h
       on stuck p h = absurd h
 

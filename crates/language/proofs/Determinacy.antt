@@ -5,7 +5,7 @@ use Prim.Native.Nat.{ℕ, suc}
 use native.Mathlib.Omega.{arith}
 use Rattle.language.specs.Syntax.{Value, inl, inr, Expr, val, plus, left, right, pack, unpack, Cmd, skip, seq}
 use Rattle.language.specs.World.{World, Mem}
-use Rattle.language.specs.Substitution.{put}
+use Rattle.language.specs.Substitution.{update}
 use Rattle.language.specs.Figures.{EStep, ee-loc, ee-inl, ee-inr, ee-plus-struct1, ee-plus-struct2, ee-plus, ee-pack-struct, ee-pack-ok, ee-pack-fail, ee-unpack-struct, ee-unpack-fail1, ee-unpack-fail2, ee-unpack-fail3, ee-unpack-ok, inl-value, inr-value, EStar, e-none, e-more, Step, ec-assign, ec-seq-skip, ec-seq-struct, ec-while-false, ec-while-true, ec-casel, ec-caser, Steps, s-none, s-more}
 use Rattle.language.specs.Theorems.{Determinacy}
 
@@ -89,7 +89,7 @@ module _ (W : World) where
   skip-rests = elim [ ]
 
   pub once : {M M₁ M₂ : Mem} {c c₁ c₂ : Cmd} → Step W M c M₁ c₁ → Step W M c M₂ c₂ → (M₁ ≡ M₂) × (c₁ ≡ c₂)
-  once (ec-assign {M} {x} p) (ec-assign q) = (ap (put M x) (star-once W M p q), refl)
+  once (ec-assign {M} {x} p) (ec-assign q) = (ap (update M x) (star-once W M p q), refl)
   once ec-seq-skip ec-seq-skip = (refl, refl)
   once ec-seq-skip (ec-seq-struct s) = absurd (skip-rests s)
   once (ec-seq-struct s) ec-seq-skip = absurd (skip-rests s)

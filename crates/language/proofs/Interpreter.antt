@@ -5,7 +5,7 @@ use mathlib.Core.List.{_∷_}
 use Prim.Native.Nat.{ℕ, zero, suc}
 use Rattle.language.specs.Syntax.{Value, Expr, Cmd, skip, seq, assign, while, case}
 use Rattle.language.specs.World.{World, Mem}
-use Rattle.language.specs.Substitution.{Env, close, put}
+use Rattle.language.specs.Substitution.{Env, close, update}
 use Rattle.language.specs.Evaluation.{Res, ok, long, stuck, eval}
 use Rattle.language.specs.Transition.{Next, final, to, too-long, no-rule, at-seq, at-assign, branch, branchV, step, Out, done, spent, over, wrong, after, run, iterate}
 use Rattle.language.proofs.Substitution.{inst-close, eval-close}
@@ -74,9 +74,9 @@ branch-same : (o : Out) (s : Res) → branch (λ v. o) (λ v. o) o o s ≡ o
 branch-same o s = sym (branch-after (λ n. o) (λ v. final) (λ v. final) final final s)
 
 assign-after : (b : ℕ) (W : World) (k : Mem → ℕ → Out) (M : Mem) (x : ℕ) (r : Res)
-    → after (λ M′ c′. run b W k M′ c′) k (over (suc b)) wrong M (suc b) (at-assign M x r) ≡ assigned (λ v. k (put M x v) b) b r
+    → after (λ M′ c′. run b W k M′ c′) k (over (suc b)) wrong M (suc b) (at-assign M x r) ≡ assigned (λ v. k (update M x v) b) b r
 unfolding after at-assign assigned
-assign-after b W k M x (ok v) = run-skip b W k (put M x v)
+assign-after b W k M x (ok v) = run-skip b W k (update M x v)
 assign-after b W k M x long = refl
 assign-after b W k M x stuck = refl
 
@@ -88,7 +88,7 @@ assign-spent k M x stuck = refl
 
 module _ (W : World) (k : Mem → ℕ → Out) (M : Mem) where
   pub run-assign : (ρ : Env) (b x : ℕ) (e : Expr) → run b W k M (close zero ρ (assign x e))
-      ≡ spend b (λ b′. assigned (λ v. k (put M x v) b′) b′ (eval W ρ M e))
+      ≡ spend b (λ b′. assigned (λ v. k (update M x v) b′) b′ (eval W ρ M e))
   unfolding run step close spend
   run-assign ρ zero x e = assign-spent k M x _
   run-assign ρ (suc b) x e = rw (eval-close W M ρ e) (assign-after b W k M x (eval W ρ M e))
@@ -147,7 +147,7 @@ module _ (W : World) (ρ : Env) (M : Mem) where
   unfolding go iterate close
   go-seq a c b = run-seq W done (close zero ρ c) b M (close zero ρ a) ∙ then-next a c b
 
-  pub go-assign : (x : ℕ) (e : Expr) (b : ℕ) → go W ρ (assign x e) M b ≡ spend b (λ b′. assigned (λ v. done (put M x v) b′) b′ (eval W ρ M e))
+  pub go-assign : (x : ℕ) (e : Expr) (b : ℕ) → go W ρ (assign x e) M b ≡ spend b (λ b′. assigned (λ v. done (update M x v) b′) b′ (eval W ρ M e))
   unfolding go iterate
   go-assign x e b = run-assign W done M ρ b x e
 

@@ -7,7 +7,7 @@ use native.Mathlib.Omega.{arith}
 use lib.Dec.{eqb, eqb→eq}
 use Rattle.language.specs.Syntax.{Value, int, err, inl, inr, pkg, has, Expr, val, loc, var, plus, left, right, pack, unpack, Cmd}
 use Rattle.language.specs.World.{World, Mem, wanted}
-use Rattle.language.specs.Substitution.{Env, put}
+use Rattle.language.specs.Substitution.{Env, update}
 use Rattle.language.specs.Declarations.{nth}
 use Rattle.language.specs.View.{Equiv, ve-int, ve-err, ve-inl, ve-inr, ve-pack-in, ve-pack-lab, ve-blank, EquivMem}
 use Rattle.language.specs.Evaluation.{Res, ok, stuck, bind, fit, add, packed, opened, unpacked, lookup, eval}
@@ -17,7 +17,7 @@ use Rattle.logic.proofs.BooleanLaws.{T-of, both-left, both-right, cases, not-so
 use Rattle.language.proofs.Results.{by-fit, by-add, bind-ok}
 use Rattle.language.proofs.Agreement.{star-ok}
 use Rattle.language.proofs.Masking.{equiv-refl, has-equiv, equiv-of-view, view-of-equiv}
-use Rattle.language.proofs.Confinement.{Quiet, q-seq, q-assign, q-while, q-case, put-unseen, while-quiet, case-quiet}
+use Rattle.language.proofs.Confinement.{Quiet, q-seq, q-assign, q-while, q-case, update-unseen, while-quiet, case-quiet}
 use Rattle.language.proofs.Derivations.{Run, r-skip, r-seq, r-assign, r-go, r-end, r-left, r-right, derivation}
 
 -- Results.
@@ -116,7 +116,7 @@ module _ (shows : ℕ → Bool) where
 quiet-run : (sees : ℕ → Bool) (W : World) {ρ : Env} {M N : Mem} {c : Cmd} → Run W ρ M c N → Quiet sees c → (x : ℕ) → sees x ≡ true → N x ≡ M x
 quiet-run sees W r-skip q x s = refl
 quiet-run sees W (r-seq r t) (q-seq a b) x s = quiet-run sees W t b x s ∙ quiet-run sees W r a x s
-quiet-run sees W (r-assign {M = M} {x = y} {v = v} p) (q-assign h) x s = put-unseen sees M y v h x s
+quiet-run sees W (r-assign {M = M} {x = y} {v = v} p) (q-assign h) x s = update-unseen sees M y v h x s
 quiet-run sees W (r-go p r t) (q-while c) x s = quiet-run sees W t (q-while c) x s ∙ quiet-run sees W r c x s
 quiet-run sees W (r-end p) q x s = refl
 quiet-run sees W (r-left p r) (q-case a b) x s = quiet-run sees W r a x s
@@ -172,7 +172,7 @@ module _ {L : Type 0} (K : Conditions L) (W : World) (vis : L → Bool) (shows :
   -- Derivations from equivalent memories leave equivalent memories.
   pub ni-run : (Γ : List L) (pc : L) {ρ σ : Env} {M N M′ N′ : Mem} {c : Cmd} → EquivEnv Γ ρ σ → EquivMem Sees shows M N → flow K pc Γ c ≡ true
       → Run W ρ M c M′ → Run W σ N c N′ → EquivMem Sees shows M′ N′
-  unfolding flow put
+  unfolding flow update
   ni-run Γ pc es ms f r-skip r-skip = ms
   ni-run Γ pc es ms f (r-seq r q) (r-seq r′ q′) = ni-run Γ pc es (ni-run Γ pc es ms (both-left _ _ f) r r′) (both-right _ _ f) q q′
   ni-run Γ pc es ms f (r-assign {x = y} {e} p) (r-assign p′) = λ x s.

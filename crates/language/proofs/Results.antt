@@ -7,7 +7,7 @@ use lib.Dec.{leb, leb→le, nleb→lt, T}
 use Rattle.logic.specs.Booleans.{both}
 use Rattle.language.specs.Syntax.{Ty, t-int, t-pkg, t-sum, Value, int, err, inl, inr, pkg, blank, size, has}
 use Rattle.language.specs.World.{World, cell-words, wanted}
-use Rattle.language.specs.Evaluation.{Res, ok, long, stuck, bind, fitting, fit, add, addTo, opened, unpacked}
+use Rattle.language.specs.Evaluation.{Res, ok, long, stuck, bind, fitIf, fit, add, addTo, opened, unpacked}
 use Rattle.language.specs.Transition.{branch, branchV}
 use Rattle.logic.proofs.BooleanLaws.{T-of}
 
@@ -16,10 +16,10 @@ T-not e = rw e tt
 
 -- what holds of a value that fits and of too long holds of `fit`
 pub by-fit : (P : Res → Type 0) (v : Value) → (size v ≤ cell-words → P (ok v)) → (cell-words < size v → P long) → P (fit v)
-unfolding fit fitting
+unfolding fit fitIf
 by-fit P v f g = on (leb (size v) cell-words) refl
   where
-    on : (b : Bool) → leb (size v) cell-words ≡ b → P (fitting b v)
+    on : (b : Bool) → leb (size v) cell-words ≡ b → P (fitIf b v)
     on true e = f (leb→le (size v) cell-words (T-of e))
     on false e = g (nleb→lt (size v) cell-words (T-not e))
 

@@ -17,13 +17,13 @@ bind (ok v) f = f v
 bind long f = long
 bind stuck f = stuck
 
-unfoldable pub fitting : Bool → Value → Res
-fitting true v = ok v
-fitting false v = long
+unfoldable pub fitIf : Bool → Value → Res
+fitIf true v = ok v
+fitIf false v = long
 
 -- v, if it is not too long
 unfoldable pub fit : Value → Res
-fit v = fitting (leb (size v) cell-words) v
+fit v = fitIf (leb (size v) cell-words) v
 
 -- EE-PLUS: sums are taken modulo 2^32
 unfoldable pub addTo : ℕ → Value → Res

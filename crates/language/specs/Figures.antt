@@ -4,7 +4,7 @@ use mathlib.Core.Bool.{true, false}
 use Prim.Native.Nat.{ℕ, zero, suc, _+_, _%_, _^_, _<_}
 use Rattle.language.specs.Syntax.{Value, int, err, inl, inr, pkg, size, has, Expr, val, loc, plus, left, right, pack, unpack, Cmd, skip, seq, assign, while, case}
 use Rattle.language.specs.World.{World, Mem, cell-words, wanted}
-use Rattle.language.specs.Substitution.{inst, put}
+use Rattle.language.specs.Substitution.{inst, update}
 
 -- Figure 2, p̄; M ⊢ e → e′. The world holds the authority p̄ with the sheet's types and order of labels.
 -- Sums are taken modulo 2^32. An unpack names the sum type t; the wanted type is its left part. The errors have the scope's numbers.
@@ -38,7 +38,7 @@ pub data EStar (W : World) (M : Mem) : Expr → Expr → Type 0 where
 -- Figure 3, p̄ ⊢ ⟨M, c⟩ → ⟨M′, c′⟩. The paper's true and false are left and right of an integer; here of any value, which
 -- the type of a guard makes an integer.
 pub data Step (W : World) : Mem → Cmd → Mem → Cmd → Type 0 where
-  ec-assign : {M : Mem} {x : ℕ} {e : Expr} {v : Value} → EStar W M e (val v) → Step W M (assign x e) (put M x v) skip
+  ec-assign : {M : Mem} {x : ℕ} {e : Expr} {v : Value} → EStar W M e (val v) → Step W M (assign x e) (update M x v) skip
   ec-seq-skip : {M : Mem} {c : Cmd} → Step W M (seq skip c) M c
   ec-seq-struct : {M M′ : Mem} {c₁ c₁′ c₂ : Cmd} → Step W M c₁ M′ c₁′ → Step W M (seq c₁ c₂) M′ (seq c₁′ c₂)
   ec-while-false : {M : Mem} {e : Expr} {c : Cmd} {v : Value} → EStar W M e (val (inr v)) → Step W M (while e c) M skip

@@ -52,5 +52,5 @@ unfoldable pub inst : Value → Cmd → Cmd
 inst v c = close zero (v ∷ []) c
 
 -- the paper's M[x ↦ v]
-unfoldable pub put : Mem → ℕ → Value → Mem
-put M x v = λ y. cond (eqb x y) v (M y)
+unfoldable pub update : Mem → ℕ → Value → Mem
+update M x v = λ y. cond (eqb x y) v (M y)

@@ -3,7 +3,7 @@ use mathlib.Core.List.{[]}
 use Prim.Native.Nat.{ℕ, zero, suc}
 use Rattle.language.specs.Syntax.{Value, int, err, inl, inr, pkg, blank, Cmd, skip, seq, assign, while, case}
 use Rattle.language.specs.World.{World, Mem}
-use Rattle.language.specs.Substitution.{inst, put}
+use Rattle.language.specs.Substitution.{inst, update}
 use Rattle.language.specs.Evaluation.{Res, ok, long, stuck, eval}
 
 -- What follows a configuration: nothing, for skip alone; the next configuration; or none, since an expression has a part that
@@ -22,7 +22,7 @@ at-seq M c no-rule = no-rule
 
 -- EC-ASSIGN
 unfoldable pub at-assign : Mem → ℕ → Res → Next
-at-assign M x (ok v) = to (put M x v) skip
+at-assign M x (ok v) = to (update M x v) skip
 at-assign M x long = too-long
 at-assign M x stuck = no-rule
 

@@ -20,9 +20,9 @@ use Rattle.sheet.proofs.TableLaws.{types-in, labels-in, locations-in, type-in, 
 use Rattle.sheet.proofs.MeaningLaws.{reads-in}
 use Rattle.sheet.proofs.NumberLaws.{type-in-there, has-no}
 use Rattle.memory.specs.Words.{cell, valueOf}
-use Rattle.memory.specs.Memory.{memoryOf, wordsOf, formedBy, sliceRefusal, refusalBy, fits, wellFormed, memoryRefusal}
+use Rattle.memory.specs.Memory.{memoryOf, wordsOf, formedBy, sliceRefusal, refusalBy, asDeclared, wellFormed, memoryRefusal}
 use Rattle.memory.specs.View.{viewBy, seesNo, viewWords, viewRefusal}
-use Rattle.memory.specs.Internal.InTable.{viewLeaves, fitsIn, wellFormedIn, refusalIn, seesIn, viewIn, viewRefusalIn, viewLeavesIn, TableAgrees}
+use Rattle.memory.specs.Internal.InTable.{viewLeaves, asDeclaredIn, wellFormedIn, refusalIn, seesIn, viewIn, viewRefusalIn, viewLeavesIn, TableAgrees}
 use Rattle.memory.specs.Theorems.{WordsExactly, CellExactly, Declared, MemoriesExactly, ViewsExactly}
 use Rattle.memory.proofs.WordLaws.{read-enc, read-exact, cell-inj, length-cell}
 use Rattle.memory.proofs.CellsLaws.{cells-ext, cells-inj}
@@ -51,17 +51,17 @@ module _ (s : Sheet) where
     unfolding memoryRefusal
     whole = unrefused-length (locationCount s) (wellFormed s ws) ws h
 
-    well-formed : formedBy (locationCount s) (labelCount s) (fits s) ws ≡ true
+    well-formed : formedBy (locationCount s) (labelCount s) (asDeclared s) ws ≡ true
     unfolding memoryRefusal wellFormed
     well-formed = unrefused-formed (locationCount s) (wellFormed s ws) ws h
 
     pub fitting-values : Fitting (memoryOf ws)
-    fitting-values = value-fits (locationCount s) (labelCount s) (fits s) ws whole well-formed
+    fitting-values = value-fits (locationCount s) (labelCount s) (asDeclared s) ws whole well-formed
 
     typed-values : WellTyped (shapesOf s) (memoryOf ws)
-    unfolding fits has
+    unfolding asDeclared has
     typed-values x =
-        by-below x (locationCount s) (value-passes (locationCount s) (labelCount s) (fits s) ws whole well-formed x)
+        by-below x (locationCount s) (value-passes (locationCount s) (labelCount s) (asDeclared s) ws whole well-formed x)
         (λ k. ap₂ has (value-past ws x (omega (arith, whole))) (past-type x k))
 
     pub declared-values : Declared s (memoryOf ws)
@@ -69,19 +69,19 @@ module _ (s : Sheet) where
         record {
           typed = typed-values;
           fitting = fitting-values;
-          named = value-proper (locationCount s) (labelCount s) (fits s) ws whole well-formed;
+          named = value-proper (locationCount s) (labelCount s) (asDeclared s) ws whole well-formed;
         }
 
     pub words-of-values : wordsOf (locationCount s) (memoryOf ws) ≡ ws
-    words-of-values = words-back (locationCount s) (labelCount s) (fits s) ws whole well-formed
+    words-of-values = words-back (locationCount s) (labelCount s) (asDeclared s) ws whole well-formed
 
   module _ (M : Mem) (d : Declared s M) where
     pub words-accepted : memoryRefusal s (wordsOf (locationCount s) M) ≡ 0
-    unfolding memoryRefusal refusalBy sliceRefusal wellFormed fits
+    unfolding memoryRefusal refusalBy sliceRefusal wellFormed asDeclared
     words-accepted =
         simp (
           eq-eqb _ _ (length-words (locationCount s) M (λ x l. d .fitting x)),
-          words-formed (locationCount s) M (λ x l. d .fitting x) (labelCount s) (fits s)
+          words-formed (locationCount s) M (λ x l. d .fitting x) (labelCount s) (asDeclared s)
               (λ x l. d .named x) (λ x l. d .typed x),
         )
 
@@ -150,8 +150,8 @@ views-exactly s g = record { same-view = same-view s g; same-left = same-left s 
 -- ---- the table
 
 module _ (s : Sheet) (fm : formed s ≡ true) where
-  fits-in-table : fitsIn (tableOf s) ≡ fits s
-  unfolding fitsIn fits
+  fits-in-table : asDeclaredIn (tableOf s) ≡ asDeclared s
+  unfolding asDeclaredIn asDeclared
   fits-in-table = fun-ext λ x. fun-ext λ v.
       has-no s fm v (typeIn (tableOf s) x) (rw (types-in s) at (type-in-there s fm x)) ∙ ap (λ (n : ℕ). has v (tyOf s n)) (type-in s fm x)
 

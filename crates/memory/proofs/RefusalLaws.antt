@@ -12,7 +12,7 @@ use Rattle.language.specs.World.{cell-words}
 use Rattle.sheet.specs.Internal.Tables.{labelsIn, locationsIn, typeIn}
 use Rattle.sheet.specs.Internal.TypeTest.{hasNo}
 use Rattle.memory.specs.Memory.{cellOf, holdsBy, formedBy, sliceRefusal, refusalBy}
-use Rattle.memory.specs.Internal.InTable.{fitsIn, wellFormedIn, refusalIn}
+use Rattle.memory.specs.Internal.InTable.{asDeclaredIn, wellFormedIn, refusalIn}
 
 -- the part of a memory that is a location's
 pub part-cell : (ws : List ℕ) (x : ℕ) → take (cell-words * x + cell-words - cell-words * x) (drop (cell-words * x) ws) ≡ cellOf ws x
@@ -24,13 +24,13 @@ part-cell ws x =
 module _ (t ws : List ℕ) where
   pub location-holds : (x : ℕ) {ty : ℕ} {r : Bool} → ty ≡ typeIn t x
       → r ≡ holdsBy (labelsIn t) (λ v. hasNo t v ty) (take (cell-words * x + cell-words - cell-words * x) (drop (cell-words * x) ws))
-      → r ≡ holdsBy (labelsIn t) (fitsIn t x) (cellOf ws x)
-  unfolding fitsIn
+      → r ≡ holdsBy (labelsIn t) (asDeclaredIn t x) (cellOf ws x)
+  unfolding asDeclaredIn
   location-holds x e h = h ∙ rw (part-cell ws x, e) refl
 
   -- location x holds a value as declared
   abbrev pub Held : ℕ → Bool
-  Held x = holdsBy (labelsIn t) (fitsIn t x) (cellOf ws x)
+  Held x = holdsBy (labelsIn t) (asDeclaredIn t x) (cellOf ws x)
 
   pub refused-7 : (length ws ≡ cell-words * locationsIn t → ⊥) → 7 ≡ refusalIn t ws
   unfolding refusalIn refusalBy sliceRefusal

@@ -15,7 +15,7 @@ use Rattle.sheet.specs.Internal.Tables.{labelsIn, locationsIn, readsIn}
 use Rattle.memory.specs.Words.{valueOf}
 use Rattle.memory.specs.Memory.{cellOf, memoryOf, cells, sliceRefusal}
 use Rattle.memory.specs.View.{viewCell, viewBy}
-use Rattle.memory.specs.Internal.InTable.{leaves, fitsIn, wellFormedIn, refusalIn, seesIn, viewIn, viewRefusalIn, viewLeavesIn}
+use Rattle.memory.specs.Internal.InTable.{leaves, asDeclaredIn, wellFormedIn, refusalIn, seesIn, viewIn, viewRefusalIn, viewLeavesIn}
 use Rattle.memory.proofs.WordLaws.{length-cell}
 use Rattle.memory.proofs.CellsLaws.{Cellwise, stored-more, stored-all}
 use Rattle.memory.proofs.MemoryLaws.{value-there, value-fits, unrefused-length, unrefused-formed}
@@ -36,7 +36,7 @@ module _ (t ws : List ℕ) where
 
     fits-in : (x : ℕ) → size (memoryOf ws x) ≤ cell-words
     unfolding refusalIn wellFormedIn
-    fits-in = value-fits (locationsIn t) (labelsIn t) (fitsIn t) ws whole-in (unrefused-formed (locationsIn t) (wellFormedIn t ws) ws h)
+    fits-in = value-fits (locationsIn t) (labelsIn t) (asDeclaredIn t) ws whole-in (unrefused-formed (locationsIn t) (wellFormedIn t ws) ws h)
 
     pub shown-cellwise : (g n : ℕ) → Cellwise n (Shown g)
     shown-cellwise g n x l = length-view-cell (seesIn t g x) (mask (readsIn t g) (memoryOf ws x)) (omega (arith, mask-size (readsIn t g) (memoryOf ws x), fits-in x))

@@ -67,12 +67,12 @@ unfoldable pub refusalBy : ℕ → Bool → List ℕ → ℕ
 refusalBy n formed ws = sliceRefusal n (cond formed 0 8) (length ws)
 
 -- the value has the location's declared type
-unfoldable pub fits : Sheet → ℕ → Value → Bool
-fits s x v = has v (tyOf s (locationNo s x .type))
+unfoldable pub asDeclared : Sheet → ℕ → Value → Bool
+asDeclared s x v = has v (tyOf s (locationNo s x .type))
 
 -- Each location's value has its declared type, and its labels are on the sheet.
 unfoldable pub wellFormed : Sheet → List ℕ → Bool
-wellFormed s ws = formedBy (locationCount s) (labelCount s) (fits s) ws
+wellFormed s ws = formedBy (locationCount s) (labelCount s) (asDeclared s) ws
 
 unfoldable pub memoryRefusal : Sheet → List ℕ → ℕ
 memoryRefusal s ws = refusalBy (locationCount s) (wellFormed s ws) ws

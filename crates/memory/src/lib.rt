@@ -17,7 +17,7 @@ ghost use Rattle.memory.specs.Words.{valueOf};
 ghost use Rattle.memory.specs.Internal.Post.{endOf};
 ghost use Rattle.memory.specs.Memory.{holdsBy, cellOf};
 ghost use Rattle.memory.specs.View.{viewCell};
-ghost use Rattle.memory.specs.Internal.InTable.{fitsIn, refusalIn, seesIn, viewIn, viewRefusalIn, viewLeavesIn};
+ghost use Rattle.memory.specs.Internal.InTable.{asDeclaredIn, refusalIn, seesIn, viewIn, viewRefusalIn, viewLeavesIn};
 use sets::Set;
 
 // The words of a location.
@@ -107,7 +107,7 @@ fn holds(table: &[u16], words: &[u32], ty: u32) -> bool
 // Whether location x of a memory holds a value as declared.
 fn location_holds(table: &[u16], memory: &[u32], x: u32) -> bool
     requires { ⌜ cell-words * x + cell-words ≤ length (now memory) ⌝ }
-    ensures { λ r. ⌜ r ≡ holdsBy (labelsIn (now (table .entry))) (fitsIn (now (table .entry)) x) (cellOf (now (memory .entry)) x) ⌝ }
+    ensures { λ r. ⌜ r ≡ holdsBy (labelsIn (now (table .entry))) (asDeclaredIn (now (table .entry)) x) (cellOf (now (memory .entry)) x) ⌝ }
 {
     let start = CELL * (x as usize);
     let end = start + CELL;

@@ -7,9 +7,9 @@ use Rattle.text.specs.Reading.{andThen, byte, fits}
 use Rattle.text.specs.Reading.Read.{got, bad}
 use Rattle.text.specs.Number.{digit, opensDigit, digits, number, decimalOn, decimal}
 use Rattle.text.specs.Lines.{front, onward, linesUpTo, printLines}
-use Rattle.memory_text.specs.Printing.{keep, trim, fields, line, rows, memoryText}
+use Rattle.memory_text.specs.Printing.{consTrimmed, trim, fields, line, rows, memoryText}
 use Rattle.sheet.specs.Padding.{padded}
-use Rattle.memory_text.specs.Reading.{following, words, blankOr, lineWords, location, joined, wordsOf, locations, memory}
+use Rattle.memory_text.specs.Reading.{following, words, blankOr, filledLine, location, allWords, wordsOfRows, locations, memory}
 use Rattle.logic.specs.Booleans.{both}
 
 -- the view that the scope shows: `1 5`, an empty line, `3 5 2`, an empty line
@@ -20,7 +20,7 @@ viewText : List ℕ
 viewText = 49 ∷ 9 ∷ 53 ∷ 10 ∷ 10 ∷ 51 ∷ 9 ∷ 53 ∷ 9 ∷ 50 ∷ 10 ∷ 10 ∷ []
 
 printed-view : memoryText view ≡ viewText
-unfolding view viewText memoryText printLines rows line fields trim keep padded decimal decimalOn
+unfolding view viewText memoryText printLines rows line fields trim consTrimmed padded decimal decimalOn
 printed-view = refl
 
 read-examples :
@@ -37,5 +37,5 @@ read-examples :
     × (memory (replicate 64 10) ≡ got (replicate 1024 0) [])
     × (memory (replicate 65 10) ≡ bad)
     × (memory (49 ∷ 9 ∷ 49 ∷ 9 ∷ 49 ∷ 9 ∷ 49 ∷ 9 ∷ 49 ∷ 9 ∷ 49 ∷ 9 ∷ 49 ∷ 9 ∷ 49 ∷ 9 ∷ 49 ∷ 9 ∷ 49 ∷ 9 ∷ 49 ∷ 9 ∷ 49 ∷ 9 ∷ 49 ∷ 9 ∷ 49 ∷ 9 ∷ 49 ∷ 9 ∷ 49 ∷ 9 ∷ 49 ∷ 10 ∷ []) ≡ bad)
-unfolding view viewText memory locations wordsOf joined front onward linesUpTo location blankOr lineWords words following padded andThen byte fits number digits digit opensDigit both
+unfolding view viewText memory locations wordsOfRows allWords front onward linesUpTo location blankOr filledLine words following padded andThen byte fits number digits digit opensDigit both
 read-examples = (refl, refl, refl, refl, refl, refl, refl, refl, refl, refl, refl)

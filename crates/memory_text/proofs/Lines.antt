@@ -19,10 +19,10 @@ use Rattle.text.proofs.Decimals.{number-sound, number-print, opens-decimal}
 use Rattle.text.proofs.Writings.{length-decimal}
 use Rattle.language.specs.World.{cell-words}
 use Rattle.memory_text.specs.Sizes.{lineRoom}
-use Rattle.memory_text.specs.Printing.{keep, trim, fields, line, rowLine}
+use Rattle.memory_text.specs.Printing.{consTrimmed, trim, fields, line, rowLine}
 use Rattle.sheet.specs.Padding.{padded}
 use Rattle.sheet.proofs.Words.{length-padded}
-use Rattle.memory_text.specs.Reading.{following, words, blankOr, lineWords, location}
+use Rattle.memory_text.specs.Reading.{following, words, blankOr, filledLine, location}
 use Rattle.memory_text.specs.Theorems.{Words}
 use Rattle.memory_text.proofs.Trimming as trimming
 
@@ -113,7 +113,7 @@ line-more k v t w (x ∷ vs) u e h l = record {
   not-empty = omega arith;
   few = let y : suc (length vs) ≤ k = l .few in omega arith;
   in-range = unfold Words in (h, l .in-range);
-  kept = unfold trim in (ap (keep v) (l .kept) ∙ trimming.keep-more v x vs);
+  kept = unfold trim in (ap (consTrimmed v) (l .kept) ∙ trimming.keep-more v x vs);
 }
 
 pub words-sound : (k : ℕ) (t vs u : List ℕ) → words k t ≡ got vs u → Line k t vs u
@@ -151,12 +151,12 @@ module _ (t : List ℕ) where
   unfolding location blankOr
   location-blank u e = rw e
 
-  pub location-words : lineEnd t ≡ bad → location t ≡ lineWords t
+  pub location-words : lineEnd t ≡ bad → location t ≡ filledLine t
   unfolding location blankOr
   location-words e = rw e
 
 pub location-none : location [] ≡ bad
-unfolding lineWords
+unfolding filledLine
 location-none = location-words [] (byte-none 10) ∙ andThen-bad _ _ (words-bad 15 [] (number-none most [] opens-none))
 
 -- an empty line, and a line of words that is not empty
@@ -170,7 +170,7 @@ line-words v vs u = byte-digit 10 _ (digit-low 10 (omega arith)) (opens-decimal 
 
 -- a location that is read has 16 words in range, and its line stands there
 pub location-sound : (t row u : List ℕ) → location t ≡ got row u → (t ≡ line (trim row) u) × (length row ≡ cell-words) × Words row
-unfolding trim lineWords
+unfolding trim filledLine
 location-sound t row u e = go (lineEnd t) refl
   where
     go : (x : Read Unit) → lineEnd t ≡ x → (t ≡ line (trim row) u) × (length row ≡ cell-words) × Words row
@@ -188,7 +188,7 @@ location-sound t row u e = go (lineEnd t) refl
         (sym (location-words t f) ∙ e)
 
 pub location-print : (row u : List ℕ) → length row ≡ cell-words → Words row → location (line (trim row) u) ≡ got row u
-unfolding padded lineWords
+unfolding padded filledLine
 location-print row u n h = go (trim row) refl
   where
     go : (vs : List ℕ) → trim row ≡ vs → location (line vs u) ≡ got row u

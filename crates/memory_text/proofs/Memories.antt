@@ -17,28 +17,28 @@ use Rattle.language.specs.World.{cell-words}
 use Rattle.sheet.specs.Sheet.{maxLocations}
 use Rattle.memory_text.specs.Sizes.{lineRoom}
 use Rattle.memory_text.specs.Printing.{trim, rows, lines, memoryText}
-use Rattle.memory_text.specs.Reading.{location, joined, wordsOf, locations, memory}
+use Rattle.memory_text.specs.Reading.{location, allWords, wordsOfRows, locations, memory}
 use Rattle.memory_text.specs.Theorems.{Words, IsMemory, MemoryExact}
 use Rattle.memory_text.proofs.Trimming.{words-append, words-left, words-right, words-trim, length-trim}
 use Rattle.memory_text.proofs.Lines.{Row, memory-lines, length-line}
 
 -- ---- the words of locations, and the locations of words
 
-joined-length : (rs : List (List ℕ)) → AllGood Row rs → length (joined rs) ≡ cell-words * length rs
-unfolding joined
+joined-length : (rs : List (List ℕ)) → AllGood Row rs → length (allWords rs) ≡ cell-words * length rs
+unfolding allWords
 joined-length [] none-left = refl
-joined-length (row ∷ rs) (and-then g e) = length-append row (joined rs) ∙ omega (arith, g .0, joined-length rs e)
+joined-length (row ∷ rs) (and-then g e) = length-append row (allWords rs) ∙ omega (arith, g .0, joined-length rs e)
 
-joined-words : (rs : List (List ℕ)) → AllGood Row rs → Words (joined rs)
-unfolding joined Words
+joined-words : (rs : List (List ℕ)) → AllGood Row rs → Words (allWords rs)
+unfolding allWords Words
 joined-words [] none-left = tt
-joined-words (row ∷ rs) (and-then g e) = words-append row (joined rs) (g .1) (joined-words rs e)
+joined-words (row ∷ rs) (and-then g e) = words-append row (allWords rs) (g .1) (joined-words rs e)
 
-rows-joined : (rs : List (List ℕ)) → AllGood Row rs → rows (length rs) (joined rs) ≡ rs
-unfolding joined rows
+rows-joined : (rs : List (List ℕ)) → AllGood Row rs → rows (length rs) (allWords rs) ≡ rs
+unfolding allWords rows
 rows-joined [] none-left = refl
 rows-joined (row ∷ rs) (and-then g e) =
-    rw (take-at row (joined rs) cell-words (g .0), drop-at row (joined rs) cell-words (g .0)) (ap (_∷_ row) (rows-joined rs e))
+    rw (take-at row (allWords rs) cell-words (g .0), drop-at row (allWords rs) cell-words (g .0)) (ap (_∷_ row) (rows-joined rs e))
 
 -- the words of the first location and those of the others
 words-split : (ws : List ℕ) → Words ws → Words (take cell-words ws) × Words (drop cell-words ws)
@@ -51,8 +51,8 @@ unfolding rows
 rows-length zero ws = refl
 rows-length (suc j) ws = ap suc (rows-length j (drop cell-words ws))
 
-rows-good : (j : ℕ) (ws : List ℕ) → length ws ≡ cell-words * j → Words ws → AllGood Row (rows j ws) × (joined (rows j ws) ≡ ws)
-unfolding rows joined
+rows-good : (j : ℕ) (ws : List ℕ) → length ws ≡ cell-words * j → Words ws → AllGood Row (rows j ws) × (allWords (rows j ws) ≡ ws)
+unfolding rows allWords
 rows-good zero [] n h = (none-left, refl)
 rows-good zero (w ∷ ws) n h = absurd (omega arith)
 rows-good (suc j) ws n h =
@@ -78,21 +78,21 @@ length-lines (suc j) ws n h =
 
 -- what is read is 16 words in range for each of at most k locations, printed there
 pub rows-sound : (k : ℕ) (t : List ℕ) (rs : List (List ℕ)) → linesUpTo location k t ≡ some rs
-    → (t ≡ lines (length (joined rs) / cell-words) (joined rs)) × (length (joined rs) ≡ cell-words * length rs) × (length rs ≤ k) × Words (joined rs)
+    → (t ≡ lines (length (allWords rs) / cell-words) (allWords rs)) × (length (allWords rs) ≡ cell-words * length rs) × (length rs ≤ k) × Words (allWords rs)
 rows-sound k t rs e =
     let x = lines-exact memory-lines k t rs .0 e in
     let n = joined-length rs (x .1) in
-    let q : length (joined rs) / cell-words ≡ length rs = omega arith in
+    let q : length (allWords rs) / cell-words ≡ length rs = omega arith in
     (x .0 ∙ rw (q, rows-joined rs (x .1)), n, x .2, joined-words rs (x .1))
 
 locations-sound : (ws t r : List ℕ) → locations maxLocations t ≡ got ws r → (t ≡ memoryText ws) × IsMemory ws × (r ≡ [])
-unfolding locations wordsOf memoryText
+unfolding locations wordsOfRows memoryText
 locations-sound ws t r e = go (linesUpTo location maxLocations t) refl e
   where
-    go : (o : Option (List (List ℕ))) → linesUpTo location maxLocations t ≡ o → wordsOf o ≡ got ws r → (t ≡ memoryText ws) × IsMemory ws × (r ≡ [])
+    go : (o : Option (List (List ℕ))) → linesUpTo location maxLocations t ≡ o → wordsOfRows o ≡ got ws r → (t ≡ memoryText ws) × IsMemory ws × (r ≡ [])
     go none x h = not-bad ws r h
     go (some rs) x h =
-        let z = got-same (joined rs) ws [] r h in
+        let z = got-same (allWords rs) ws [] r h in
         let y = rows-sound maxLocations t rs x in
         let n = y .1 in
         let l = y .2 in
@@ -104,7 +104,7 @@ memory-sound ws t r e = cond-split (fits t) _ _ _ (λ p x. locations-sound ws t 
 
 -- reading what was printed gives it back
 pub memory-print : (ws : List ℕ) → IsMemory ws → memory (memoryText ws) ≡ got ws []
-unfolding memory memoryText fits locations wordsOf
+unfolding memory memoryText fits locations wordsOfRows
 memory-print ws m =
     let n : length ws ≡ cell-words * (length ws / cell-words) = let w = m .whole in omega arith in
     let k : length ws / cell-words ≤ maxLocations = let w = m .most-locations in omega arith in

@@ -13,7 +13,7 @@ use Rattle.text.proofs.Readings.{drop-step, andThen-got, andThen-bad}
 use Rattle.text.proofs.Writings.{sets-zeros}
 use Rattle.language.specs.World.{cell-words}
 use Rattle.sheet.specs.Padding.{padded}
-use Rattle.memory_text.specs.Reading.{following, words, lineWords}
+use Rattle.memory_text.specs.Reading.{following, words, filledLine}
 use Rattle.memory_text.proofs.Lines as lines
 
 -- words that are read go into the array from i on
@@ -34,8 +34,8 @@ left-is : (i : ℕ) (array t : List ℕ) → left i array t ≡ andThen (words (
 unfolding left
 left-is i array t = refl
 
-pub left-start : (t : List ℕ) → left 0 (replicate cell-words 0) t ≡ lineWords t
-unfolding left lineWords padded
+pub left-start : (t : List ℕ) → left 0 (replicate cell-words 0) t ≡ filledLine t
+unfolding left filledLine padded
 left-start t = go (words cell-words t) refl
   where
     go : (x : Read (List ℕ)) → words cell-words t ≡ x

@@ -20,43 +20,43 @@ use Rattle.memory_text.specs.declared.Memory.{Memory}
 use Rattle.memory_text.specs.declared.Answer.the-variants as answer
 use Rattle.memory_text.specs.declared.Reached.{Reached}
 use Rattle.sheet.specs.Padding.{padded}
-use Rattle.memory_text.specs.Reading.{location, joined, wordsOf, locations, memory}
-use Rattle.memory_text.specs.Internal.Answers.{locationAt, table, memoryOf}
+use Rattle.memory_text.specs.Reading.{location, allWords, wordsOfRows, locations, memory}
+use Rattle.memory_text.specs.Internal.Answers.{locationAt, table, memoryAnswer}
 use Rattle.memory_text.proofs.Lines.{memory-lines}
 use Rattle.memory_text.proofs.Memories.{rows-sound}
 
 -- a table of n locations with those that are still read after them
 unfoldable pub tabled : ℕ → List ℕ → Option (List (List ℕ)) → Memory
 tabled n words none = table bad
-tabled n words (some rs) = record { answer = answer.Read; count = n + length rs; words = sets words (n * cell-words) (joined rs) }
+tabled n words (some rs) = record { answer = answer.Read; count = n + length rs; words = sets words (n * cell-words) (allWords rs) }
 
 pub tabled-start : (t : List ℕ) → tabled 0 (replicate memoryWords 0) (linesUpTo location maxLocations t) ≡ table (locations maxLocations t)
-unfolding tabled table locations wordsOf padded
+unfolding tabled table locations wordsOfRows padded
 tabled-start t = go (linesUpTo location maxLocations t) refl
   where
-    go : (o : Option (List (List ℕ))) → linesUpTo location maxLocations t ≡ o → tabled 0 (replicate memoryWords 0) o ≡ table (wordsOf o)
+    go : (o : Option (List (List ℕ))) → linesUpTo location maxLocations t ≡ o → tabled 0 (replicate memoryWords 0) o ≡ table (wordsOfRows o)
     go none e = refl
     go (some rs) e =
         let r = rows-sound maxLocations t rs e in
         let n = r .1 in
         let l = r .2 in
-        let c : 0 + length rs ≡ length (joined rs) / cell-words = omega arith in
-        rw (c, sets-zeros memoryWords (joined rs) (omega arith))
+        let c : 0 + length rs ≡ length (allWords rs) / cell-words = omega arith in
+        rw (c, sets-zeros memoryWords (allWords rs) (omega arith))
 
 -- one location more
 tabled-front : (n : ℕ) (words row : List ℕ) (o : Option (List (List ℕ))) → length row ≡ cell-words
     → tabled n words (front row o) ≡ tabled (n + 1) (sets words (n * cell-words) row) o
-unfolding tabled front joined
+unfolding tabled front allWords
 tabled-front n words row none e = refl
 tabled-front n words row (some rs) e =
     let c : n + suc (length rs) ≡ n + 1 + length rs = omega arith in
     let p : n * cell-words + length row ≡ (n + 1) * cell-words = omega arith in
-    rw (c, sets-append words (n * cell-words) row (joined rs), p)
+    rw (c, sets-append words (n * cell-words) row (allWords rs), p)
 
 -- what is left at a place of a text
 module _ (n : ℕ) (words s : List ℕ) (i : ℕ) where
   pub rest-done : length s ≤ i → tabled n words (linesUpTo location (maxLocations - n) (drop i s)) ≡ record { answer = answer.Read; count = n; words = words }
-  unfolding tabled joined
+  unfolding tabled allWords
   rest-done h = let z : n + 0 ≡ n = omega arith in rw (lines-at-end location maxLocations n s i h, z)
 
   module _ (h : i < length s) where
@@ -92,10 +92,10 @@ module _ (s : List ℕ) (i : ℕ) (r : Reached) (e : r ≡ locationAt s i) where
 
 -- a text that fits, and one that is too long
 module _ (t : List ℕ) where
-  pub memory-fits : fits t ≡ true → memoryOf t ≡ table (locations maxLocations t)
-  unfolding memoryOf memory
+  pub memory-fits : fits t ≡ true → memoryAnswer t ≡ table (locations maxLocations t)
+  unfolding memoryAnswer memory
   memory-fits e = rw e
 
-  pub memory-long : fits t ≡ false → memoryOf t ≡ table bad
-  unfolding memoryOf memory
+  pub memory-long : fits t ≡ false → memoryAnswer t ≡ table bad
+  unfolding memoryAnswer memory
   memory-long e = rw e

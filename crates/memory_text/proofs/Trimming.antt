@@ -7,21 +7,21 @@ use lib.ListN.{length, replicate, length-append}
 use lib.Dec.{eqb}
 use borrow.Author.Tests.{eq-eqb, ne-eqb, eqb-true, eqb-false}
 use Rattle.logic.proofs.BooleanLaws.{cases}
-use Rattle.memory_text.specs.Printing.{keep, trim}
+use Rattle.memory_text.specs.Printing.{consTrimmed, trim}
 use Rattle.sheet.specs.Padding.{padded}
 use Rattle.memory_text.specs.Theorems.{Words}
 
--- the cases of `keep`
-pub keep-zero : (w : ℕ) → w ≡ 0 → keep w [] ≡ []
-unfolding keep
+-- the cases of `consTrimmed`
+pub keep-zero : (w : ℕ) → w ≡ 0 → consTrimmed w [] ≡ []
+unfolding consTrimmed
 keep-zero w h = rw (eq-eqb w 0 h)
 
-pub keep-last : (w : ℕ) → (w ≡ 0 → ⊥) → keep w [] ≡ w ∷ []
-unfolding keep
+pub keep-last : (w : ℕ) → (w ≡ 0 → ⊥) → consTrimmed w [] ≡ w ∷ []
+unfolding consTrimmed
 keep-last w h = rw (ne-eqb w 0 h)
 
-pub keep-more : (w v : ℕ) (vs : List ℕ) → keep w (v ∷ vs) ≡ w ∷ v ∷ vs
-unfolding keep
+pub keep-more : (w v : ℕ) (vs : List ℕ) → consTrimmed w (v ∷ vs) ≡ w ∷ v ∷ vs
+unfolding consTrimmed
 keep-more w v vs = refl
 
 -- `trim` leaves nothing, or a last word that is not zero: what is kept is kept again
@@ -30,26 +30,26 @@ unfolding trim
 trim-trim [] = refl
 trim-trim (w ∷ ws) = go (trim ws) (trim-trim ws)
   where
-    go : (ts : List ℕ) → trim ts ≡ ts → trim (keep w ts) ≡ keep w ts
+    go : (ts : List ℕ) → trim ts ≡ ts → trim (consTrimmed w ts) ≡ consTrimmed w ts
     go [] e =
         cases (eqb w 0)
         (λ z. let y : w ≡ 0 = eqb-true _ _ z in rw (keep-zero w y))
         (λ z. let y : w ≡ 0 → ⊥ = eqb-false _ _ z in rw (keep-last w y, keep-last w y))
-    go (t ∷ ts) e = rw (keep-more w t ts) (ap (keep w) e ∙ keep-more w t ts)
+    go (t ∷ ts) e = rw (keep-more w t ts) (ap (consTrimmed w) e ∙ keep-more w t ts)
 
 -- zeros at the end make no difference
 pub trim-zeros : (ws : List ℕ) (n : ℕ) → trim (ws ++ replicate n 0) ≡ trim ws
 unfolding trim
 trim-zeros [] zero = refl
 trim-zeros [] (suc n) = rw (trim-zeros [] n) (keep-zero 0 refl)
-trim-zeros (w ∷ ws) n = ap (keep w) (trim-zeros ws n)
+trim-zeros (w ∷ ws) n = ap (consTrimmed w) (trim-zeros ws n)
 
 -- and a word that is not zero ends what is kept
 pub trim-last : (ws : List ℕ) (w : ℕ) → (w ≡ 0 → ⊥) → trim (ws ++ w ∷ []) ≡ ws ++ w ∷ []
 unfolding trim
 trim-last [] w h = keep-last w h
 trim-last (v ∷ []) w h = rw (keep-last w h) (keep-more v w [])
-trim-last (v ∷ u ∷ ws) w h = ap (keep v) (trim-last (u ∷ ws) w h) ∙ keep-more v u (ws ++ w ∷ [])
+trim-last (v ∷ u ∷ ws) w h = ap (consTrimmed v) (trim-last (u ∷ ws) w h) ∙ keep-more v u (ws ++ w ∷ [])
 
 -- putting the zeros back
 pub trim-restore : (ws : List ℕ) → trim ws ++ replicate (length ws - length (trim ws)) 0 ≡ ws
@@ -58,7 +58,7 @@ trim-restore [] = refl
 trim-restore (w ∷ ws) = go (trim ws) (trim-restore ws)
   where
     go : (ts : List ℕ) → ts ++ replicate (length ws - length ts) 0 ≡ ws
-        → keep w ts ++ replicate (suc (length ws) - length (keep w ts)) 0 ≡ w ∷ ws
+        → consTrimmed w ts ++ replicate (suc (length ws) - length (consTrimmed w ts)) 0 ≡ w ∷ ws
     go [] e =
         cases (eqb w 0)
         (λ z.
@@ -89,7 +89,7 @@ length-trim ws =
 pub trim-tail : (w v : ℕ) (vs : List ℕ) → trim (w ∷ v ∷ vs) ≡ w ∷ v ∷ vs → trim (v ∷ vs) ≡ v ∷ vs
 trim-tail w v vs e = go (trim (v ∷ vs)) (unfold trim in e)
   where
-    go : (ts : List ℕ) → keep w ts ≡ w ∷ v ∷ vs → ts ≡ v ∷ vs
+    go : (ts : List ℕ) → consTrimmed w ts ≡ w ∷ v ∷ vs → ts ≡ v ∷ vs
     go [] f =
         cases (eqb w 0)
         (λ z. let x : [] ≡ w ∷ v ∷ vs = sym (keep-zero w (eqb-true _ _ z)) ∙ f in let y : _≡_ {A = ℕ} 0 1 = cc in absurd (omega arith))

@@ -10,14 +10,14 @@ use Rattle.text.specs.Lines.{printLines}
 use Rattle.language.specs.World.{cell-words}
 
 -- w before words without zeros at their end
-unfoldable pub keep : ℕ → List ℕ → List ℕ
-keep w [] = cond (eqb w 0) [] (w ∷ [])
-keep w (v ∷ vs) = w ∷ v ∷ vs
+unfoldable pub consTrimmed : ℕ → List ℕ → List ℕ
+consTrimmed w [] = cond (eqb w 0) [] (w ∷ [])
+consTrimmed w (v ∷ vs) = w ∷ v ∷ vs
 
 -- the words without the zeros at their end
 unfoldable pub trim : List ℕ → List ℕ
 trim [] = []
-trim (w ∷ ws) = keep w (trim ws)
+trim (w ∷ ws) = consTrimmed w (trim ws)
 
 -- each word after a tab, before t
 unfoldable pub fields : List ℕ → List ℕ → List ℕ

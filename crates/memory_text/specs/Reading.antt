@@ -27,8 +27,8 @@ words zero t = bad
 words (suc k) t = andThen (number most t) (λ v u. following v u (λ w. words k w))
 
 -- the 16 words of a line that is not empty
-unfoldable pub lineWords : List ℕ → Read (List ℕ)
-lineWords t = andThen (words cell-words t) (λ ws u. got (padded cell-words ws) u)
+unfoldable pub filledLine : List ℕ → Read (List ℕ)
+filledLine t = andThen (words cell-words t) (λ ws u. got (padded cell-words ws) u)
 
 -- a location of zeros where the line is empty, else what is read otherwise
 unfoldable pub blankOr : Read Unit → Read (List ℕ) → Read (List ℕ)
@@ -37,21 +37,21 @@ blankOr bad other = other
 
 -- the 16 words of a location
 unfoldable pub location : List ℕ → Read (List ℕ)
-location t = blankOr (lineEnd t) (lineWords t)
+location t = blankOr (lineEnd t) (filledLine t)
 
 -- the words of locations, one after another
-unfoldable pub joined : List (List ℕ) → List ℕ
-joined [] = []
-joined (row ∷ rows) = row ++ joined rows
+unfoldable pub allWords : List (List ℕ) → List ℕ
+allWords [] = []
+allWords (row ∷ rows) = row ++ allWords rows
 
 -- those of a whole text, after which nothing is left
-unfoldable pub wordsOf : Option (List (List ℕ)) → Read (List ℕ)
-wordsOf none = bad
-wordsOf (some rows) = got (joined rows) []
+unfoldable pub wordsOfRows : Option (List (List ℕ)) → Read (List ℕ)
+wordsOfRows none = bad
+wordsOfRows (some rows) = got (allWords rows) []
 
 -- the words of the locations of a whole text, at most k locations
 unfoldable pub locations : ℕ → List ℕ → Read (List ℕ)
-locations k t = wordsOf (linesUpTo location k t)
+locations k t = wordsOfRows (linesUpTo location k t)
 
 -- the words of a memory
 unfoldable pub memory : List ℕ → Read (List ℕ)

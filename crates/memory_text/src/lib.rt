@@ -13,8 +13,8 @@ ghost use lib.Seq.{sets};
 ghost use Rattle.text.specs.Reading.Read.{bad};
 ghost use Rattle.language.specs.World.{cell-words};
 ghost use Rattle.sheet.specs.Sheet.{maxLocations};
-ghost use Rattle.memory_text.specs.Reading.{lineWords, locations as locationsOf};
-ghost use Rattle.memory_text.specs.Internal.Answers.{placedRow, locationAt, table, memoryOf};
+ghost use Rattle.memory_text.specs.Reading.{filledLine, locations as locationsOf};
+ghost use Rattle.memory_text.specs.Internal.Answers.{placedRow, locationAt, table, memoryAnswer};
 
 // The most locations of a sheet.
 pub const LOCATIONS: usize = 64;
@@ -66,7 +66,7 @@ fn no_row(at: usize) -> Reached
 
 // The words of a line that is not empty: at most 16, the last not zero.
 fn line_words(s: &[u8], at: usize) -> Reached
-    ensures { λ r. ⌜ r ≡ placedRow at (now (s .entry)) (lineWords (drop at (now (s .entry)))) ⌝ }
+    ensures { λ r. ⌜ r ≡ placedRow at (now (s .entry)) (filledLine (drop at (now (s .entry)))) ⌝ }
 {
     let mut words = [0u32; CELL];
     let mut p = at;
@@ -200,7 +200,7 @@ fn locations(s: &[u8]) -> Memory
 
 // The memory that a text holds.
 pub fn read_memory(s: &[u8]) -> Memory
-    ensures { λ r. ⌜ r ≡ memoryOf (now (s .entry)) ⌝ }
+    ensures { λ r. ⌜ r ≡ memoryAnswer (now (s .entry)) ⌝ }
 {
     if text::fits(s) {
         locations(s)

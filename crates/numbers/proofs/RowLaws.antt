@@ -7,7 +7,7 @@ use Prim.Native.Nat.{ℕ}
 use borrow.Author.Tests.{eq-eqb}
 use lib.Dec.{eqb}
 use Rattle.numbers.specs.Rows.{Row, _when_, numbers, None, First, Among, here, later, FirstToApply, GivenInOrder}
-use Rattle.numbers.specs.Theorems.{InOrder, given, none-applies, Settled, ExactlyOneAnswer, EveryTable}
+use Rattle.numbers.specs.Theorems.{InOrder, refuses, none-applies, Settled, ExactlyOneAnswer, EveryTable}
 
 -- a row that does not apply, before one that does
 below : {P : Type 0} {rows : List Row} {j : ℕ} (k : ℕ) → ¬ P → FirstToApply rows j → FirstToApply ((k when P) ∷ rows) j
@@ -55,7 +55,7 @@ module _ {A : Type 0} (refuse : ℕ → A) (Else : A → Type 0) where
   past-all r ((j when Q) ∷ rows) n e = inr (n .0, past-all r rows (n .1) e)
 
   judged : {rows : List Row} {r : A} → InOrder refuse Else rows r → First refuse Else rows r
-  judged (given {k} g) = subst (λ (rs : List Row). First refuse Else rs (refuse k)) (sym (g .order)) (at-row k (g .after) (g .applies) (g .before) (g .none-before))
+  judged (refuses {k} g) = subst (λ (rs : List Row). First refuse Else rs (refuse k)) (sym (g .order)) (at-row k (g .after) (g .applies) (g .before) (g .none-before))
   judged {rows} (none-applies {r} n e) = past-all r rows n e
 
 -- ---- one answer
@@ -77,7 +77,7 @@ every-table = record {
   first-that-applies = λ A refuse number Else rows h. by-rows refuse Else (λ r. GivenInOrder rows (number r)) rows
       (λ k i g. subst (GivenInOrder rows) (sym (h .of-refusal k)) (record { refused = λ _. g; not-refused = λ n. absurd (n i) }))
       (λ r n e. record { refused = λ i. absurd (h .of-others r e i); not-refused = λ _. n });
-  answers-in-order = λ A refuse Else rows r. (by-rows refuse Else (InOrder refuse Else rows) rows (λ k i g. given g) (λ x n e. none-applies n e) r, judged refuse Else);
+  answers-in-order = λ A refuse Else rows r. (by-rows refuse Else (InOrder refuse Else rows) rows (λ k i g. refuses g) (λ x n e. none-applies n e) r, judged refuse Else);
   refused-by-a-number = λ A refuse Else rows. by-rows refuse Else _ rows (λ k i g. inl (k, i, refl)) (λ r n e. inr (n, e));
   exactly-one-answer = one-answer;
 }

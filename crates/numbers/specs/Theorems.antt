@@ -19,7 +19,7 @@ FirstThatAppliesIsGiven = (A : Type 0) (refuse : ℕ → A) (number : A → ℕ)
 
 -- The answer refuses with the first number that applies, or none applies and it is as `Else` has it.
 pub data InOrder {A : Type 0} (refuse : ℕ → A) (Else : A → Type 0) (rows : List Row) : A → Type 1 where
-  given : {k : ℕ} → FirstToApply rows k → InOrder refuse Else rows (refuse k)
+  refuses : {k : ℕ} → FirstToApply rows k → InOrder refuse Else rows (refuse k)
   none-applies : {r : A} → None rows → Else r → InOrder refuse Else rows r
 
 -- The same of whole answers: `First` is neither more nor less.

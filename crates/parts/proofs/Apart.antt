@@ -8,7 +8,7 @@ use lib.ListN.{length, getD}
 use lib.Dec.{eqb, ltb}
 use borrow.Author.Tests.{eq-eqb, ne-eqb, lt-ltb}
 use Rattle.logic.proofs.BooleanLaws.{cases}
-use Rattle.parts.specs.Parts.{parting, given, textFrom, textOf, noEmptyLine, ended, joined}
+use Rattle.parts.specs.Parts.{parting, byteIf, textFrom, textOf, noEmptyLine, lineEnded, joined}
 use Rattle.parts.specs.Theorems.{AllWhole, JoinedApart, MissingEmpty}
 use Rattle.parts.proofs.Steps.{parting-below, parting-empty, from-next, from-same}
 use Rattle.logic.specs.Booleans.{both}
@@ -17,8 +17,8 @@ use Rattle.logic.specs.Booleans.{both}
 piece : Bool → List ℕ → List ℕ
 piece mine t = cond mine t []
 
-given-piece : (mine : Bool) (b : ℕ) (t u : List ℕ) → given mine b (piece mine t ++ u) ≡ piece mine (b ∷ t) ++ u
-unfolding given piece
+given-piece : (mine : Bool) (b : ℕ) (t u : List ℕ) → byteIf mine b (piece mine t ++ u) ≡ piece mine (b ∷ t) ++ u
+unfolding byteIf piece
 given-piece true b t u = refl
 given-piece false b t u = refl
 
@@ -30,7 +30,7 @@ piece-none false = refl
 -- the bytes of a text that is over
 module _ (last i : ℕ) where
   from-past : (t : List ℕ) (j : ℕ) (start : Bool) → i < j → textFrom last i j start t ≡ []
-  unfolding textFrom given
+  unfolding textFrom byteIf
   from-past [] j start l = refl
   from-past (b ∷ t) j start l =
       cases (parting last j start b)
@@ -57,19 +57,19 @@ module _ (last i : ℕ) where
   from-whole j P on (b ∷ t) start e =
       let h = on start b t e in
       from-same last i j start b t (h .0)
-      ∙ ap (given (eqb j i) b) (from-whole j P on t (eqb b 10) (h .1) ∙ sym (append-nil (piece (eqb j i) t)))
+      ∙ ap (byteIf (eqb j i) b) (from-whole j P on t (eqb b 10) (h .1) ∙ sym (append-nil (piece (eqb j i) t)))
       ∙ given-piece (eqb j i) b t []
       ∙ append-nil (piece (eqb j i) (b ∷ t))
 
   -- a text with an empty line after it
-  from-parted : (t : List ℕ) (j : ℕ) (start : Bool) (u : List ℕ) → noEmptyLine start t ≡ true → ended start t ≡ true → j < last
+  from-parted : (t : List ℕ) (j : ℕ) (start : Bool) (u : List ℕ) → noEmptyLine start t ≡ true → lineEnded start t ≡ true → j < last
       → textFrom last i j start (t ++ (10 ∷ u)) ≡ piece (eqb j i) t ++ textFrom last i (j + 1) true u
-  unfolding ended
+  unfolding lineEnded
   from-parted [] j start u e f l = from-next last i j start 10 u (parting-empty last j start 10 f refl ∙ lt-ltb j last l) ∙ rw (piece-none (eqb j i))
   from-parted (b ∷ t) j start u e f l =
       let h = inside j start b t e in
       from-same last i j start b (t ++ (10 ∷ u)) (h .0)
-      ∙ ap (given (eqb j i) b) (from-parted t j (eqb b 10) u (h .1) f l)
+      ∙ ap (byteIf (eqb j i) b) (from-parted t j (eqb b 10) u (h .1) f l)
       ∙ given-piece (eqb j i) b t (textFrom last i (j + 1) true u)
 
 -- the last text goes on to the end

@@ -9,7 +9,7 @@ use lib.Seq.{take-all, take-append-le, getD-set-same, getD-set-other}
 use lib.Dec.{eqb, ltb}
 use borrow.Author.Tests.{ltb-true, ltb-false, eqb-true, eqb-false}
 use Rattle.logic.proofs.BooleanLaws.{cases}
-use Rattle.parts.specs.Parts.{parting, given, textFrom, textOf, keep, keptOf}
+use Rattle.parts.specs.Parts.{parting, byteIf, textFrom, textOf, keep, keptOf}
 use Rattle.parts.specs.Feeding.{texts, beginning, Held, held, count, turned, stored, fed, textHeld}
 use Rattle.parts.specs.Theorems.{HoldsParts}
 use Rattle.parts.proofs.Steps.{parting-below, stored-full, stored-room, stepped-on, stepped-in, from-next, from-same}
@@ -94,8 +94,8 @@ module _ (last : ℕ) (h : Held) (s : Sound last h) (b : ℕ) (below : last < te
       (λ l. rw (getD-set-other (h .state .kept) j i (n + 1) 0 (λ q. d (sym q))) (place-other (h .buffer) i j (count (h .state) i) n b d (s .few i) l))
       (λ l. refl)
 
-  part-stored : (i : ℕ) (t : List ℕ) → take keep (part (stored h b) i ++ t) ≡ take keep (part h i ++ given (eqb j i) b t)
-  unfolding given
+  part-stored : (i : ℕ) (t : List ℕ) → take keep (part (stored h b) i ++ t) ≡ take keep (part h i ++ byteIf (eqb j i) b t)
+  unfolding byteIf
   part-stored i t =
       cases (eqb j i)
       (λ e. let q : j ≡ i = eqb-true _ _ e in rw (e, ← q) (part-mine t))

@@ -8,7 +8,7 @@ use lib.Dec.{eqb, ltb}
 use borrow.Author.Tests.{lt-ltb, le-ltb, eq-eqb, ne-eqb, ltb-true}
 use Rattle.text.proofs.Readings.{drop-step}
 use Rattle.parts.specs.declared.State.{State}
-use Rattle.parts.specs.Parts.{parting, given, textFrom, keep}
+use Rattle.parts.specs.Parts.{parting, byteIf, textFrom, keep}
 use Rattle.parts.specs.Feeding.{texts, Held, held, count, room, turned, stored, stepped, fed}
 use Rattle.parts.specs.Theorems.{Chunks}
 use Rattle.logic.specs.Booleans.{both}
@@ -80,7 +80,7 @@ module _ (last i j : ℕ) (start : Bool) (b : ℕ) (t : List ℕ) where
   unfolding textFrom
   from-next e = rw e
 
-  pub from-same : parting last j start b ≡ false → textFrom last i j start (b ∷ t) ≡ given (eqb j i) b (textFrom last i j (eqb b 10) t)
+  pub from-same : parting last j start b ≡ false → textFrom last i j start (b ∷ t) ≡ byteIf (eqb j i) b (textFrom last i j (eqb b 10) t)
   unfolding textFrom
   from-same e = rw e
 

@@ -12,8 +12,8 @@ unfoldable pub parting : ℕ → ℕ → Bool → ℕ → Bool
 parting last j start b = both start (both (eqb b 10) (ltb j last))
 
 -- the byte in front, where it belongs to the text
-unfoldable pub given : Bool → ℕ → List ℕ → List ℕ
-given mine b t = cond mine (b ∷ t) t
+unfoldable pub byteIf : Bool → ℕ → List ℕ → List ℕ
+byteIf mine b t = cond mine (b ∷ t) t
 
 -- The bytes of text i in what is left of the input, where text j goes on; `start`: a line starts here.
 unfoldable pub textFrom : ℕ → ℕ → ℕ → Bool → List ℕ → List ℕ
@@ -21,7 +21,7 @@ textFrom last i j start [] = []
 textFrom last i j start (b ∷ t) =
     let next = textFrom last i (j + 1) true t in
     let same = textFrom last i j (eqb b 10) t in
-    cond (parting last j start b) next (given (eqb j i) b same)
+    cond (parting last j start b) next (byteIf (eqb j i) b same)
 
 -- text i of an input with the texts 0 to last
 unfoldable pub textOf : ℕ → ℕ → List ℕ → List ℕ
@@ -42,9 +42,9 @@ noEmptyLine start [] = true
 noEmptyLine start (b ∷ t) = both (not (both start (eqb b 10))) (noEmptyLine (eqb b 10) t)
 
 -- the last line of t has its end
-unfoldable pub ended : Bool → List ℕ → Bool
-ended start [] = start
-ended start (b ∷ t) = ended (eqb b 10) t
+unfoldable pub lineEnded : Bool → List ℕ → Bool
+lineEnded start [] = start
+lineEnded start (b ∷ t) = lineEnded (eqb b 10) t
 
 -- the texts, each with an empty line after it, and the last text
 unfoldable pub joined : List (List ℕ) → List ℕ → List ℕ

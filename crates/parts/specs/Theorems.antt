@@ -4,13 +4,13 @@ use mathlib.Core.Path.{_≡_}
 use mathlib.Core.Bool.{true}
 use mathlib.Core.List.{List, [], _∷_, _++_}
 use lib.ListN.{length, getD}
-use Rattle.parts.specs.Parts.{textOf, keep, keptOf, noEmptyLine, ended, joined}
+use Rattle.parts.specs.Parts.{textOf, keep, keptOf, noEmptyLine, lineEnded, joined}
 use Rattle.parts.specs.Feeding.{texts, beginning, Held, held, fed, textHeld}
 
 -- lines that are not empty, each with its end
 pub record Lines (t : List ℕ) : Type 0 where
   pub no-empty : noEmptyLine true t ≡ true
-  pub whole : ended true t ≡ true
+  pub whole : lineEnded true t ≡ true
 
 unfoldable pub AllWhole : List (List ℕ) → Type 0
 AllWhole [] = Unit {0}

@@ -14,7 +14,7 @@ use Rattle.script.specs.Lines.{cmdLines, exprLines}
 use Rattle.script.specs.Names.{Counts, named, namedE}
 use Rattle.script_text.specs.Bytes.{lineBytes, scriptBytes}
 use Rattle.script_text.specs.Reading.{formOf, operandsOf, lineOf, linesOf}
-use Rattle.script_text.specs.Internal.Parse.{popE, popC, onStack, pushOn, stackOf, single, parse}
+use Rattle.script_text.specs.Internal.Parse.{popE, popC, onStack, pushOn, stackOf, onlyCommand, parse}
 use Rattle.script_text.specs.Script.{namedOnly, commandOf, commandRead, scriptOf}
 
 -- six types, three labels and four locations
@@ -27,7 +27,7 @@ opened = 99 ∷ 10 ∷ 120 ∷ 9 ∷ 50 ∷ 10 ∷ 61 ∷ 9 ∷ 51 ∷ 10 ∷ 11
 
 opened-read : scriptOf counts opened ≡ some (case (loc 2) (assign 3 (unpack 5 2 (var 0))) skip)
 unfolding andThen byte fits digit digits opensDigit number both named namedE numberField lastNumber formOf operandsOf lineOf front onward linesUpTo linesOf popE popC onStack pushOn
-    stackOf single parse namedOnly commandOf commandRead scriptOf
+    stackOf onlyCommand parse namedOnly commandOf commandRead scriptOf
 opened-read = refl
 
 opened-printed : scriptBytes (cmdLines (case (loc 2) (assign 3 (unpack 5 2 (var 0))) skip) []) ≡ opened
@@ -40,7 +40,7 @@ refused : (scriptOf counts [] ≡ none) × (scriptOf counts (115 ∷ 10 ∷ 115 
     × (scriptOf counts (61 ∷ 9 ∷ 48 ∷ 10 ∷ 120 ∷ 9 ∷ 52 ∷ 10 ∷ []) ≡ none)
     × (scriptOf counts (115 ∷ []) ≡ none) × (scriptOf counts (115 ∷ 13 ∷ 10 ∷ []) ≡ none)
 unfolding andThen byte fits digit digits opensDigit number both named namedE numberField lastNumber formOf operandsOf lineOf front onward linesUpTo linesOf popE popC onStack pushOn
-    stackOf single parse namedOnly commandOf commandRead scriptOf
+    stackOf onlyCommand parse namedOnly commandOf commandRead scriptOf
 refused = (refl, refl, refl, refl, refl, refl)
 
 -- n cases, each in the left branch of the one before

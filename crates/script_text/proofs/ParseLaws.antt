@@ -6,7 +6,7 @@ use Prim.Native.Nat.{ℕ}
 use Rattle.logic.proofs.OptionLaws.{none-some, some-path}
 use Rattle.language.specs.Syntax.{Expr, plus, left, right, pack, unpack, Cmd, seq, assign, while, case}
 use Rattle.script.specs.Lines.{Line, l-skip, l-seq, l-assign, l-while, l-case, l-int, l-loc, l-var, l-plus, l-left, l-right, l-pack, l-unpack, SourceE, s-int, s-loc, s-var, s-plus, s-left, s-right, s-pack, s-unpack, Source, s-skip, s-seq, s-assign, s-while, s-case, numberOf, exprLines, cmdLines}
-use Rattle.script_text.specs.Internal.Parse.{Tree, ex, cm, Stack, popE, popC, onStack, pushOn, stackOf, single, parse}
+use Rattle.script_text.specs.Internal.Parse.{Tree, ex, cm, Stack, popE, popC, onStack, pushOn, stackOf, onlyCommand, parse}
 
 -- ---- the lines of a tree leave the tree on the stack
 
@@ -58,7 +58,7 @@ stack-cmd rest (s-case {a = a} {b = b} s r q) =
     rw (stack-expr (cmdLines a (cmdLines b rest)) s, stack-cmd (cmdLines b rest) r, stack-cmd rest q) (push-3 _ _ _ _ _ _ (λ st. refl))
 
 pub parse-lines : {c : Cmd} → Source c → parse (cmdLines c []) ≡ some c
-unfolding parse single stackOf topped
+unfolding parse onlyCommand stackOf topped
 parse-lines s = rw (stack-cmd [] s)
 
 -- ---- what is on the stack is what its lines say
@@ -176,8 +176,8 @@ unfolding stackOf
 stack-sound [] st h = unfold stackLines in onto h (record { lines = refl; sources = no-more })
 stack-sound (l ∷ ls) st h = pushOn-sound l (stackOf ls) ls st (λ u e. stack-sound ls u e) h
 
-single-sound : (o : Option Stack) (c : Cmd) → single o ≡ some c → o ≡ some (cm c ∷ [])
-unfolding single
+single-sound : (o : Option Stack) (c : Cmd) → onlyCommand o ≡ some c → o ≡ some (cm c ∷ [])
+unfolding onlyCommand
 single-sound none c h = none-some h
 single-sound (some []) c h = none-some h
 single-sound (some (ex e ∷ st)) c h = none-some h

@@ -18,7 +18,7 @@ use Rattle.script_text.specs.declared.Script.{Script}
 use Rattle.script_text.specs.declared.Answer.the-variants as answer
 use Rattle.script_text.specs.declared.Scanned.{Scanned}
 use Rattle.script_text.specs.Reading.{linesOf}
-use Rattle.script_text.specs.Internal.Parse.{stackOf, single, parse}
+use Rattle.script_text.specs.Internal.Parse.{stackOf, onlyCommand, parse}
 use Rattle.script_text.specs.Script.{namedOnly, commandOf, commandRead, scriptOf}
 use Rattle.script_text.specs.Internal.Decoded.{codeWords, noCode, coded, codedLines, decodedScript}
 use Rattle.script_text.specs.Internal.Scan.{ScansCmd, isSome, Whole}
@@ -89,7 +89,7 @@ module _ (k : Counts) (t : List ℕ) (s : Script) (e : s ≡ codedLines (linesOf
   tested = go (linesOf t) e
     where
       go : (o : Option (List Line)) → s ≡ codedLines o → b ≡ isSome (commandRead k o)
-      go none x = unfold code commandOf namedOnly parse single stackOf in w [] (q ∙ rw x)
+      go none x = unfold code commandOf namedOnly parse onlyCommand stackOf in w [] (q ∙ rw x)
       go (some ls) x = w ls (q ∙ rw x (coded-code ls))
 
   pub read-yes : b ≡ true → s ≡ decodedScript (scriptOf k t)

@@ -23,7 +23,7 @@ use Rattle.sheet.specs.Internal.Tables.{tableOf}
 use Rattle.sheet.proofs.FormLaws.{formed-facts, type-count}
 use Rattle.script_text.specs.Bytes.{scriptBytes}
 use Rattle.script_text.specs.Reading.{maxLines, linesOf}
-use Rattle.script_text.specs.Internal.Parse.{stackOf, single, parse}
+use Rattle.script_text.specs.Internal.Parse.{stackOf, onlyCommand, parse}
 use Rattle.script_text.specs.Script.{countsOf, namedOnly, commandOf, commandRead, scriptOf}
 use Rattle.script_text.specs.Internal.Decoded.{countsIn}
 use Rattle.script_text.specs.Internal.Placed.{rowOf}
@@ -95,7 +95,7 @@ command-lines k c s n = rw (parse-lines s, n)
 
 -- no lines are no command
 pub command-some : (k : Counts) (ls : List Line) (c : Cmd) → commandOf k ls ≡ some c → 1 ≤ length ls
-unfolding commandOf parse single stackOf
+unfolding commandOf parse onlyCommand stackOf
 command-some k [] c e = unfold namedOnly in none-some e
 command-some k (l ∷ ls) c e = omega arith
 

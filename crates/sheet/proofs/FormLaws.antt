@@ -11,7 +11,7 @@ use borrow.Author.Tests.{ltb-true, leb-true}
 use Rattle.logic.proofs.BooleanLaws.{both-left, both-right}
 use Rattle.sets.proofs.Walks.{by-below}
 use Rattle.labels.specs.Labels.{Policy}
-use Rattle.sheet.specs.Sheet.{Sum, Location, Sheet, givenParts, partsOf, partsNo, typeCount, labelCount, locationNo, locationCount, earlier, rising, eachRising, eachNamed, maxPrincipals, maxSums, maxLabels, maxLocations, formed}
+use Rattle.sheet.specs.Sheet.{Sum, Location, Sheet, givenParts, typeParts, partsNo, typeCount, labelCount, locationNo, locationCount, earlierTypes, rising, eachRising, eachNamed, maxPrincipals, maxSums, maxLabels, maxLocations, formed}
 
 -- ---- the form
 
@@ -19,7 +19,7 @@ pub record Formed (s : Sheet) : Type 0 where
   pub some-principal : 1 ≤ s .principals
   pub few-principals : s .principals ≤ maxPrincipals
   pub few-sums : length (s .sums) ≤ maxSums
-  pub sums-earlier : earlier 5 (s .sums) ≡ true
+  pub sums-earlier : earlierTypes 5 (s .sums) ≡ true
   pub few-labels : length (s .labels) ≤ maxLabels
   pub labels-rising : eachRising (s .principals) (s .labels) ≡ true
   pub few-locations : length (s .locations) ≤ maxLocations
@@ -48,7 +48,7 @@ formed-facts s h =
 -- ---- counts
 
 pub type-count : (s : Sheet) → typeCount s ≡ 5 + length (s .sums)
-unfolding typeCount partsOf givenParts
+unfolding typeCount typeParts givenParts
 type-count s = omega arith
 
 pub locations-few : (s : Sheet) → formed s ≡ true → locationCount s ≤ maxLocations
@@ -57,13 +57,13 @@ locations-few s fm = formed-facts s fm .few-locations
 
 pub parts-past : (s : Sheet) (n : ℕ) → typeCount s ≤ n → partsNo s n ≡ record { left = 0; right = 0 }
 unfolding partsNo typeCount
-parts-past s n h = List·getD-eq-default (partsOf s) _ {n = n} h
+parts-past s n h = List·getD-eq-default (typeParts s) _ {n = n} h
 
 -- ---- names
 
-earlier-at : (k : ℕ) (ss : List Sum) → earlier k ss ≡ true → (i : ℕ) (d : Sum) → i < length ss
+earlier-at : (k : ℕ) (ss : List Sum) → earlierTypes k ss ≡ true → (i : ℕ) (d : Sum) → i < length ss
     → (getD ss i d .left < k + i) × (getD ss i d .right < k + i)
-unfolding earlier
+unfolding earlierTypes
 earlier-at k [] e i d h = absurd (omega arith)
 earlier-at k (s ∷ ss) e zero d h =
     let parts = both-left _ _ e in
@@ -93,7 +93,7 @@ module _ (s : Sheet) (fm : formed s ≡ true) where
 
   -- the parts of a sum are earlier types
   pub parts-earlier : (n : ℕ) → 3 ≤ n → n < typeCount s → (partsNo s n .left < n) × (partsNo s n .right < n)
-  unfolding partsNo partsOf givenParts
+  unfolding partsNo typeParts givenParts
   parts-earlier zero h k = absurd (omega arith)
   parts-earlier (suc zero) h k = absurd (omega arith)
   parts-earlier (suc (suc zero)) h k = absurd (omega arith)
@@ -105,7 +105,7 @@ module _ (s : Sheet) (fm : formed s ≡ true) where
 
   -- every number has parts that are there
   pub parts-there : (n : ℕ) → (partsNo s n .left < typeCount s) × (partsNo s n .right < typeCount s)
-  unfolding partsNo partsOf givenParts
+  unfolding partsNo typeParts givenParts
   parts-there zero = (omega (arith, type-count s), omega (arith, type-count s))
   parts-there (suc zero) = (omega (arith, type-count s), omega (arith, type-count s))
   parts-there (suc (suc zero)) = (omega (arith, type-count s), omega (arith, type-count s))

@@ -12,7 +12,7 @@ use Rattle.sets.proofs.Walks.{by-below}
 use Rattle.language.specs.Syntax.{Ty, t-int, t-err, t-pkg, t-sum, Ty-discrete, Value, int, err, inl, inr, pkg, blank, has}
 use Rattle.language.specs.World.{wanted}
 use Rattle.language.specs.Typing.{isYes, sameTy}
-use Rattle.sheet.specs.Sheet.{Sheet, tyOf, givenParts, partsOf, partsNo, typeCount, formed, repeats}
+use Rattle.sheet.specs.Sheet.{Sheet, tyOf, givenParts, typeParts, partsNo, typeCount, formed, repeats}
 use Rattle.sheet.specs.Internal.Tables.{tableOf, typesIn, leftIn, rightIn, typeIn}
 use Rattle.sheet.specs.Internal.TypeTest.{isSum, hasNo}
 use Rattle.sheet.proofs.FormLaws.{parts-there, parts-past, location-type-there}
@@ -63,7 +63,7 @@ module _ (s : Sheet) (fm : formed s ≡ true) where
 
   -- the type that an unpack wants is that of the left part, for every number
   wanted-of : {n : ℕ} {τ : Ty} → Which s fm n τ → tyOf s (partsNo s n .left) ≡ wanted τ
-  unfolding wanted partsNo partsOf givenParts
+  unfolding wanted partsNo typeParts givenParts
   wanted-of is-int = ty-0 s
   wanted-of is-err = ty-0 s
   wanted-of is-pkg = ty-0 s

@@ -13,7 +13,7 @@ use Rattle.sets.proofs.Walks.{by-below}
 use Rattle.sets.specs.Sets.{everyone}
 use Rattle.labels.specs.Labels.{labelOf, bottomOf, sameOf}
 use Rattle.labels.proofs.OrderLaws.{same-refl}
-use Rattle.sheet.specs.Sheet.{Sum, Sheet, givenParts, partsOf, partsNo, typeCount, labelsOf, labelNo, labelCount, among, repeated, sameParts, givenSums, repeats}
+use Rattle.sheet.specs.Sheet.{Sum, Sheet, givenParts, typeParts, partsNo, typeCount, labelsOf, labelNo, labelCount, among, repeated, sameParts, givenSums, repeats}
 
 module _ {A : Type 0} (same : A → A → Bool) (d : A) where
   among-at : (x : A) (xs : List A) (j : ℕ) → j < length xs → same x (getD xs j d) ≡ true → among same x xs ≡ true
@@ -49,7 +49,7 @@ parts-same a b p q = both-true (eq-eqb _ _ p) (eq-eqb _ _ q)
 -- two sums with the same parts have the same number
 pub parts-once : (s : Sheet) → repeats s ≡ false → (m n : ℕ) → 3 ≤ m → m < typeCount s → 3 ≤ n → n < typeCount s
     → partsNo s m .left ≡ partsNo s n .left → partsNo s m .right ≡ partsNo s n .right → m ≡ n
-unfolding repeats partsNo partsOf typeCount givenParts
+unfolding repeats partsNo typeParts typeCount givenParts
 parts-once s once zero n h k h′ k′ p q = absurd (omega arith)
 parts-once s once (suc zero) n h k h′ k′ p q = absurd (omega arith)
 parts-once s once (suc (suc zero)) n h k h′ k′ p q = absurd (omega arith)

@@ -7,7 +7,7 @@ use Prim.Native.Nat.{ℕ, _+_, _*_, _<_, _≤_}
 use native.Mathlib.Omega.{arith}
 use lib.ListN.{length, getD, length-append}
 use Rattle.sets.specs.Sets.{everyone}
-use Rattle.sheet.specs.Sheet.{Sum, Location, Sheet, partsOf, partsNo, typeCount, labelsOf, labelCount, locationNo, locationCount, formed}
+use Rattle.sheet.specs.Sheet.{Sum, Location, Sheet, typeParts, partsNo, typeCount, labelsOf, labelCount, locationNo, locationCount, formed}
 use Rattle.sheet.specs.Padding.{padded}
 use Rattle.sheet.specs.Internal.Tables.{partsRoom, locationsRoom, labelsRoom, partsBase, locationsBase, labelsBase, partWords, locationWords, labelsWords, tableOf, principalsIn, everyoneIn, typesIn, labelsIn, locationsIn, entryIn, leftIn, rightIn, typeIn, homeIn}
 use Rattle.sheet.proofs.FormLaws.{Formed, formed-facts, type-count}
@@ -42,7 +42,7 @@ heading : Sheet → List ℕ
 heading s = s .principals ∷ everyone (s .principals) ∷ typeCount s ∷ labelCount s ∷ locationCount s ∷ 0 ∷ 0 ∷ 0 ∷ []
 
 partBlock : Sheet → List ℕ
-partBlock s = padded partsRoom (partWords (partsOf s))
+partBlock s = padded partsRoom (partWords (typeParts s))
 
 locationBlock : Sheet → List ℕ
 locationBlock s = padded locationsRoom (locationWords (s .locations))
@@ -70,16 +70,16 @@ module _ (s : Sheet) (fm : formed s ≡ true) where
   facts : Formed s
   facts = formed-facts s fm
 
-  types-fit : length (partWords (partsOf s)) ≤ partsRoom
+  types-fit : length (partWords (typeParts s)) ≤ partsRoom
   unfolding typeCount
-  types-fit = omega (arith, length-pairs (λ (p : Sum). p .left) (λ (p : Sum). p .right) (partsOf s), type-count s, facts .few-sums)
+  types-fit = omega (arith, length-pairs (λ (p : Sum). p .left) (λ (p : Sum). p .right) (typeParts s), type-count s, facts .few-sums)
 
   locations-fit : length (locationWords (s .locations)) ≤ locationsRoom
   locations-fit = omega (arith, length-pairs (λ (x : Location). x .type) (λ (x : Location). x .label) (s .locations), facts .few-locations)
 
   locations-start : length (toLocations s) ≡ locationsBase
   unfolding toLocations heading partBlock
-  locations-start = length-append (heading s) (partBlock s) ∙ omega (arith, length-padded partsRoom (partWords (partsOf s)) types-fit)
+  locations-start = length-append (heading s) (partBlock s) ∙ omega (arith, length-padded partsRoom (partWords (typeParts s)) types-fit)
 
   pub labels-start : length (toLabels s) ≡ labelsBase
   unfolding toLabels locationBlock
@@ -90,21 +90,21 @@ module _ (s : Sheet) (fm : formed s ≡ true) where
   -- ---- parts of types
 
   part-in : (f : Sum → ℕ) (j : ℕ) → f (record { left = 0; right = 0 }) ≡ 0 → j < 2
-      → ((i : ℕ) → i < length (partsOf s) → getD (partWords (partsOf s)) (j + 2 * i) 0 ≡ f (getD (partsOf s) i (record { left = 0; right = 0 })))
+      → ((i : ℕ) → i < length (typeParts s) → getD (partWords (typeParts s)) (j + 2 * i) 0 ≡ f (getD (typeParts s) i (record { left = 0; right = 0 })))
       → (i : ℕ) → entryIn (tableOf s) (typesIn (tableOf s)) (partsBase + j) i ≡ f (partsNo s i)
   unfolding tableOf partsNo typeCount heading
   part-in f j none two word i =
-      entry-of (partsOf s) (record { left = 0; right = 0 }) f j (heading s) (partWords (partsOf s))
+      entry-of (typeParts s) (record { left = 0; right = 0 }) f j (heading s) (partWords (typeParts s))
       (padded locationsRoom (locationWords (s .locations)) ++ padded labelsRoom (labelsWords (labelsOf s))) partsRoom (partsBase + j)
-      none refl two (length-pairs _ _ (partsOf s)) types-fit word i
+      none refl two (length-pairs _ _ (typeParts s)) types-fit word i
 
   pub left-in : (n : ℕ) → leftIn (tableOf s) n ≡ partsNo s n .left
   unfolding leftIn
-  left-in n = part-in (λ (p : Sum). p .left) 0 refl (omega arith) (λ i h. pair-at _ _ (partsOf s) _ i h .0) n
+  left-in n = part-in (λ (p : Sum). p .left) 0 refl (omega arith) (λ i h. pair-at _ _ (typeParts s) _ i h .0) n
 
   pub right-in : (n : ℕ) → rightIn (tableOf s) n ≡ partsNo s n .right
   unfolding rightIn
-  right-in n = part-in (λ (p : Sum). p .right) 1 refl (omega arith) (λ i h. pair-at _ _ (partsOf s) _ i h .1) n
+  right-in n = part-in (λ (p : Sum). p .right) 1 refl (omega arith) (λ i h. pair-at _ _ (typeParts s) _ i h .1) n
 
   -- ---- locations
 

@@ -12,7 +12,7 @@ use borrow.Author.Tests.{ltb-true}
 use Rattle.logic.proofs.BooleanLaws.{both-left, both-right}
 use Rattle.sets.proofs.Walks.{by-below}
 use Rattle.language.specs.Syntax.{Ty, t-int, t-err, t-pkg, t-sum}
-use Rattle.sheet.specs.Sheet.{Sum, Sheet, givenTypes, typesFrom, tyOf, givenParts, partsOf, partsNo, typeCount, earlier, formed, repeats}
+use Rattle.sheet.specs.Sheet.{Sum, Sheet, givenTypes, typesFrom, tyOf, givenParts, typeParts, partsNo, typeCount, earlierTypes, formed, repeats}
 use Rattle.sheet.proofs.RepeatLaws.{parts-once}
 use Rattle.sheet.proofs.FormLaws.{formed-facts, type-count, parts-earlier}
 
@@ -36,10 +36,10 @@ unfolding typesFrom sum-of
 types-kept ts [] n d h = refl
 types-kept ts (s ∷ ss) n d h = types-kept (sum-of ts s) ss n d (omega (arith, length-one-more ts s)) ∙ List·getD-append ts _ d n h
 
-types-sum : (ts : List Ty) (ss : List Sum) → earlier (length ts) ss ≡ true → (i : ℕ) (p : Sum) → i < length ss
+types-sum : (ts : List Ty) (ss : List Sum) → earlierTypes (length ts) ss ≡ true → (i : ℕ) (p : Sum) → i < length ss
     → getD (typesFrom ts ss) (length ts + i) t-int
     ≡ t-sum (getD (typesFrom ts ss) (getD ss i p .left) t-int) (getD (typesFrom ts ss) (getD ss i p .right) t-int)
-unfolding typesFrom sum-of earlier
+unfolding typesFrom sum-of earlierTypes
 types-sum ts [] e i p h = absurd (omega arith)
 types-sum ts (s ∷ ss) e zero p h =
     let parts = both-left _ _ e in
@@ -89,7 +89,7 @@ later s fm n i e h p = rw e (types-sum givenTypes (s .sums) (formed-facts s fm .
 module _ (s : Sheet) (fm : formed s ≡ true) where
   -- from 3 on a number names the sum of the types that its parts name
   pub ty-sum : (n : ℕ) → 3 ≤ n → n < typeCount s → tyOf s n ≡ t-sum (tyOf s (partsNo s n .left)) (tyOf s (partsNo s n .right))
-  unfolding partsNo partsOf givenParts
+  unfolding partsNo typeParts givenParts
   ty-sum zero h k = absurd (omega arith)
   ty-sum (suc zero) h k = absurd (omega arith)
   ty-sum (suc (suc zero)) h k = absurd (omega arith)

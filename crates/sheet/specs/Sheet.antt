@@ -49,15 +49,15 @@ givenSums = record { left = 0; right = 0 } ∷ record { left = 2; right = 1 } �
 unfoldable pub givenParts : List Sum
 givenParts = record { left = 0; right = 0 } ∷ record { left = 0; right = 0 } ∷ record { left = 0; right = 0 } ∷ givenSums
 
-unfoldable pub partsOf : Sheet → List Sum
-partsOf s = givenParts ++ s .sums
+unfoldable pub typeParts : Sheet → List Sum
+typeParts s = givenParts ++ s .sums
 
 -- the parts of a type by its number; 0 0 for a number that names none
 unfoldable pub partsNo : Sheet → ℕ → Sum
-partsNo s t = getD (partsOf s) t (record { left = 0; right = 0 })
+partsNo s t = getD (typeParts s) t (record { left = 0; right = 0 })
 
 unfoldable pub typeCount : Sheet → ℕ
-typeCount s = length (partsOf s)
+typeCount s = length (typeParts s)
 
 -- ---- labels and locations count from 0
 
@@ -81,9 +81,9 @@ locationCount s = length (s .locations)
 -- ---- the form (refusal 1): bounds, and names that are there
 
 -- each sum is of types before it, the first being number k
-unfoldable pub earlier : ℕ → List Sum → Bool
-earlier k [] = true
-earlier k (s ∷ ss) = both (both (ltb (s .left) k) (ltb (s .right) k)) (earlier (suc k) ss)
+unfoldable pub earlierTypes : ℕ → List Sum → Bool
+earlierTypes k [] = true
+earlierTypes k (s ∷ ss) = both (both (ltb (s .left) k) (ltb (s .right) k)) (earlierTypes (suc k) ss)
 
 -- owners rise from `from` and are among n principals, as the sets are
 unfoldable pub rising : ℕ → ℕ → List Policy → Bool
@@ -119,7 +119,7 @@ maxLocations = 64
 unfoldable pub formed : Sheet → Bool
 formed s =
     both (both (leb 1 (s .principals)) (leb (s .principals) maxPrincipals))
-    (both (both (leb (length (s .sums)) maxSums) (earlier 5 (s .sums)))
+    (both (both (leb (length (s .sums)) maxSums) (earlierTypes 5 (s .sums)))
     (both (both (leb (length (s .labels)) maxLabels) (eachRising (s .principals) (s .labels)))
     (both (leb (length (s .locations)) maxLocations) (eachNamed (typeCount s) (labelCount s) (s .locations)))))
 

@@ -15,12 +15,12 @@ use Rattle.logic.proofs.BooleanLaws.{both-left, both-right, both-true, cond-spl
 use Rattle.text.specs.Lines.{none-left, and-then}
 use Rattle.logic.proofs.OptionLaws.{none-some, some-path}
 use Rattle.labels.specs.Labels.{policy}
-use Rattle.sheet.specs.Sheet.{Sum, Location, Sheet, partsOf, typeCount, labelCount, locationCount, earlier, rising, eachRising, eachNamed, formed}
+use Rattle.sheet.specs.Sheet.{Sum, Location, Sheet, typeParts, typeCount, labelCount, locationCount, earlierTypes, rising, eachRising, eachNamed, formed}
 use Rattle.sheet.proofs.FormLaws.{Formed, formed-facts, type-count}
 use Rattle.sheet_text.specs.declared.line.Line.{Line}
 use Rattle.sheet_text.specs.declared.line.Line.the-variants.{P, T, L, O, X}
 use Rattle.sheet_text.specs.Lines.{sumLine, policyLine, locationLine, each, labelLines, linesThen, sheetLines}
-use Rattle.sheet_text.specs.Internal.Building.{blank, addSum, addLabel, addPolicy, addLocation, leastOwner, sumFits, labelFits, policyFits, locationFits, begin, step, stepOn, steps, build}
+use Rattle.sheet_text.specs.Internal.Building.{bareSheet, addSum, addLabel, addPolicy, addLocation, leastOwner, sumFits, labelFits, policyFits, locationFits, begin, addLine, addLineOn, addLines, build}
 use Rattle.sheet_text.proofs.LineLaws.{Fits, AllFit}
 use Rattle.sheet_text.proofs.GrowthLaws.{length-more, no-entries, each-more, labels-more, policies-more, length-toLast, earlier-more, each-rising-more, each-rising-last, each-named-more}
 
@@ -139,7 +139,7 @@ module _ (s : Sheet) (fm : formed s ≡ true) where
       }
 
   take-location : (t l : ℕ) → locationFits s t l ≡ true → Taken s (X t l) (addLocation s (record { type = t; label = l }))
-  unfolding locationFits addLocation linesThen locationCount labelCount Fits typeCount partsOf
+  unfolding locationFits addLocation linesThen locationCount labelCount Fits typeCount typeParts
   take-location t l e =
       let x : Location = record { type = t; label = l } in
       let names = both-right _ _ e in
@@ -170,8 +170,8 @@ module _ (s : Sheet) (fm : formed s ≡ true) where
 taken-if : {P : Type 0} (c : Bool) (x y : Sheet) → (c ≡ true → x ≡ y → P) → cond c (some x) none ≡ some y → P
 taken-if c x y f e = cond-split c _ _ _ (λ h k. f h (some-path k)) (λ h k. none-some k) e
 
-pub step-sound : (s : Sheet) (l : Line) (s′ : Sheet) → formed s ≡ true → step s l ≡ some s′ → Taken s l s′
-unfolding step
+pub step-sound : (s : Sheet) (l : Line) (s′ : Sheet) → formed s ≡ true → addLine s l ≡ some s′ → Taken s l s′
+unfolding addLine
 step-sound s (P n) s′ fm e = none-some e
 step-sound s (T a b) s′ fm e = taken-if (sumFits s a b) _ s′ (λ h k. rw (← k) (take-sum s fm a b h)) e
 step-sound s L s′ fm e = taken-if (labelFits s) _ s′ (λ h k. rw (← k) (take-label s fm h)) e
@@ -179,10 +179,10 @@ step-sound s (O o r w) s′ fm e = taken-if (policyFits s o r w) (addPolicy s (p
 step-sound s (X t l) s′ fm e = taken-if (locationFits s t l) _ s′ (λ h k. rw (← k) (take-location s fm t l h)) e
 
 -- the first line
-blank-formed : (n : ℕ) → 1 ≤ n → n ≤ 16 → formed (blank n) ≡ true
-unfolding blank earlier eachRising eachNamed
+blank-formed : (n : ℕ) → 1 ≤ n → n ≤ 16 → formed (bareSheet n) ≡ true
+unfolding bareSheet earlierTypes eachRising eachNamed
 blank-formed n h k =
-    formed-made (blank n)
+    formed-made (bareSheet n)
     (record {
       some-principal = h;
       few-principals = k;
@@ -199,14 +199,14 @@ pub record Begun (l : Line) (s : Sheet) : Type 0 where
   pub right : formed s ≡ true
   pub fits : Fits l
 
-blank-begun : (n : ℕ) → 1 ≤ n → n ≤ 16 → Begun (P n) (blank n)
-unfolding linesThen blank each labelLines Fits
+blank-begun : (n : ℕ) → 1 ≤ n → n ≤ 16 → Begun (P n) (bareSheet n)
+unfolding linesThen bareSheet each labelLines Fits
 blank-begun n h k = record { next = λ rest. refl; right = blank-formed n h k; fits = omega arith }
 
 pub begin-sound : (l : Line) (s : Sheet) → begin l ≡ some s → Begun l s
 unfolding begin
 begin-sound (P n) s e =
-    taken-if (both (leb 1 n) (leb n 16)) (blank n) s
+    taken-if (both (leb 1 n) (leb n 16)) (bareSheet n) s
     (λ h k. rw (← k) (blank-begun n (leb-true _ _ (both-left _ _ h)) (leb-true _ _ (both-right _ _ h)))) e
 begin-sound (T a b) s e = none-some e
 begin-sound L s e = none-some e
@@ -215,19 +215,19 @@ begin-sound (X t l) s e = none-some e
 
 -- ---- lines that a sheet can be built from are those of a sheet of the right form
 
-pub steps-none : (ls : List Line) → steps none ls ≡ none
-unfolding steps stepOn
+pub steps-none : (ls : List Line) → addLines none ls ≡ none
+unfolding addLines addLineOn
 steps-none [] = refl
 steps-none (l ∷ ls) = steps-none ls
 
-pub steps-sound : (ls : List Line) (s s′ : Sheet) → formed s ≡ true → steps (some s) ls ≡ some s′
+pub steps-sound : (ls : List Line) (s s′ : Sheet) → formed s ≡ true → addLines (some s) ls ≡ some s′
     → (linesThen s′ [] ≡ linesThen s ls) × (formed s′ ≡ true) × AllFit ls
-unfolding steps stepOn
+unfolding addLines addLineOn
 steps-sound [] s s′ fm e = let k : s′ ≡ s = sym (some-path e) in rw k (refl, fm, none-left)
-steps-sound (l ∷ ls) s s′ fm e = at (λ s₁ h. steps-sound ls s₁ s′ h) (step s l) refl e
+steps-sound (l ∷ ls) s s′ fm e = at (λ s₁ h. steps-sound ls s₁ s′ h) (addLine s l) refl e
   where
-    at : ((s₁ : Sheet) → formed s₁ ≡ true → steps (some s₁) ls ≡ some s′ → (linesThen s′ [] ≡ linesThen s₁ ls) × (formed s′ ≡ true) × AllFit ls)
-        → (o : Option Sheet) → step s l ≡ o → steps o ls ≡ some s′
+    at : ((s₁ : Sheet) → formed s₁ ≡ true → addLines (some s₁) ls ≡ some s′ → (linesThen s′ [] ≡ linesThen s₁ ls) × (formed s′ ≡ true) × AllFit ls)
+        → (o : Option Sheet) → addLine s l ≡ o → addLines o ls ≡ some s′
         → (linesThen s′ [] ≡ linesThen s (l ∷ ls)) × (formed s′ ≡ true) × AllFit (l ∷ ls)
     at rest none h k = none-some (sym (steps-none ls) ∙ k)
     at rest (some s₁) h k =
@@ -240,7 +240,7 @@ unfolding build sheetLines
 build-sound [] s e = none-some e
 build-sound (l ∷ ls) s e = at (begin l) refl e
   where
-    at : (o : Option Sheet) → begin l ≡ o → steps o ls ≡ some s → (l ∷ ls ≡ linesThen s []) × (formed s ≡ true) × AllFit (l ∷ ls)
+    at : (o : Option Sheet) → begin l ≡ o → addLines o ls ≡ some s → (l ∷ ls ≡ linesThen s []) × (formed s ≡ true) × AllFit (l ∷ ls)
     at none h k = none-some (sym (steps-none ls) ∙ k)
     at (some s₁) h k =
         let b = begin-sound l s₁ h in

@@ -11,11 +11,11 @@ use borrow.Author.Tests.{lt-ltb, le-leb, ltb-true}
 use Rattle.logic.specs.Booleans.{both}
 use Rattle.logic.proofs.BooleanLaws.{both-left, both-right, both-true}
 use Rattle.labels.specs.Labels.{Policy, policy}
-use Rattle.sheet.specs.Sheet.{Sum, Location, Sheet, typeCount, labelCount, locationCount, earlier, rising, eachRising, eachNamed, formed}
+use Rattle.sheet.specs.Sheet.{Sum, Location, Sheet, typeCount, labelCount, locationCount, earlierTypes, rising, eachRising, eachNamed, formed}
 use Rattle.sheet.proofs.FormLaws.{formed-facts, type-count}
 use Rattle.sheet_text.specs.declared.line.Line.{Line}
 use Rattle.sheet_text.specs.Lines.{sumLine, policyLine, locationLine, each, labelLines, linesThen, sheetLines}
-use Rattle.sheet_text.specs.Internal.Building.{blank, addSum, addLabel, addPolicy, addLocation, leastAfter, leastOwner, sumFits, labelFits, policyFits, locationFits, begin, step, stepOn, steps, build}
+use Rattle.sheet_text.specs.Internal.Building.{bareSheet, addSum, addLabel, addPolicy, addLocation, leastAfter, leastOwner, sumFits, labelFits, policyFits, locationFits, begin, addLine, addLineOn, addLines, build}
 use Rattle.sheet_text.proofs.GrowthLaws.{length-more, last-more, toLast-more, least-more}
 
 -- a line that passes its test
@@ -24,14 +24,14 @@ passes c s s′ h e = rw h (ap some e)
 
 -- lines that each make a list of the sheet one longer
 module _ {A : Type 0} (line : A → Line) (sheet : List A → Sheet) (Good : List A → List A → Type 0)
-    (grow : (ys : List A) (xs : List A) (y : A) → Good xs (y ∷ ys) → (step (sheet xs) (line y) ≡ some (sheet (xs ++ (y ∷ [])))) × Good (xs ++ (y ∷ [])) ys) where
-  steps-each : (ys xs : List A) (rest : List Line) → Good xs ys → steps (some (sheet xs)) (each line ys rest) ≡ steps (some (sheet (xs ++ ys))) rest
-  unfolding each steps stepOn
-  steps-each [] xs rest g = ap (λ (zs : List A). steps (some (sheet zs)) rest) (sym (append-nil xs))
+    (grow : (ys : List A) (xs : List A) (y : A) → Good xs (y ∷ ys) → (addLine (sheet xs) (line y) ≡ some (sheet (xs ++ (y ∷ [])))) × Good (xs ++ (y ∷ [])) ys) where
+  steps-each : (ys xs : List A) (rest : List Line) → Good xs ys → addLines (some (sheet xs)) (each line ys rest) ≡ addLines (some (sheet (xs ++ ys))) rest
+  unfolding each addLines addLineOn
+  steps-each [] xs rest g = ap (λ (zs : List A). addLines (some (sheet zs)) rest) (sym (append-nil xs))
   steps-each (y ∷ ys) xs rest g =
       let (e, h) = grow ys xs y g in
-      ap (λ (o : Option Sheet). steps o (each line ys rest)) e ∙ steps-each ys (xs ++ (y ∷ [])) rest h
-      ∙ ap (λ (zs : List A). steps (some (sheet zs)) rest) (append-assoc xs (y ∷ []) ys)
+      ap (λ (o : Option Sheet). addLines o (each line ys rest)) e ∙ steps-each ys (xs ++ (y ∷ [])) rest h
+      ∙ ap (λ (zs : List A). addLines (some (sheet zs)) rest) (append-assoc xs (y ∷ []) ys)
 
 abbrev sheetAt : ℕ → List Sum → List (List Policy) → List Location → Sheet
 sheetAt n ss pss xs = record { principals = n; sums = ss; labels = pss; locations = xs }
@@ -39,11 +39,11 @@ sheetAt n ss pss xs = record { principals = n; sums = ss; labels = pss; location
 -- ---- sums
 
 abbrev GoodSums : List Sum → List Sum → Type 0
-GoodSums xs ys = (length xs + length ys ≤ 27) × (earlier (5 + length xs) ys ≡ true)
+GoodSums xs ys = (length xs + length ys ≤ 27) × (earlierTypes (5 + length xs) ys ≡ true)
 
 sum-built : (n : ℕ) (ys xs : List Sum) (y : Sum) → GoodSums xs (y ∷ ys)
-    → (step (sheetAt n xs [] []) (sumLine y) ≡ some (sheetAt n (xs ++ (y ∷ [])) [] [])) × GoodSums (xs ++ (y ∷ [])) ys
-unfolding earlier step sumLine sumFits addSum labelCount locationCount
+    → (addLine (sheetAt n xs [] []) (sumLine y) ≡ some (sheetAt n (xs ++ (y ∷ [])) [] [])) × GoodSums (xs ++ (y ∷ [])) ys
+unfolding earlierTypes addLine sumLine sumFits addSum labelCount locationCount
 sum-built n ys xs y g =
     let few : length xs < 27 = omega (arith, g .0) in
     let count = type-count (sheetAt n xs [] []) in
@@ -57,7 +57,7 @@ sum-built n ys xs y g =
     let test : sumFits (sheetAt n xs [] []) (y .left) (y .right) ≡ true =
     both-true (both-true refl refl) (both-true (lt-ltb _ _ few) (both-true (lt-ltb _ _ left-there) (lt-ltb _ _ right-there))) in (
       passes _ _ _ test refl,
-      (omega (arith, g .0), ap (λ (k : ℕ). earlier k ys) (sym next) ∙ both-right _ _ (g .1)),
+      (omega (arith, g .0), ap (λ (k : ℕ). earlierTypes k ys) (sym next) ∙ both-right _ _ (g .1)),
     )
 
 -- ---- policies of the last label
@@ -66,9 +66,9 @@ abbrev GoodPolicies : ℕ → List Policy → List Policy → Type 0
 GoodPolicies n qs ps = rising n (leastAfter 0 qs) ps ≡ true
 
 policy-built : (n : ℕ) (ss : List Sum) (done : List (List Policy)) (ps qs : List Policy) (p : Policy) → GoodPolicies n qs (p ∷ ps)
-    → (step (sheetAt n ss (done ++ (qs ∷ [])) []) (policyLine p) ≡ some (sheetAt n ss (done ++ ((qs ++ (p ∷ [])) ∷ [])) []))
+    → (addLine (sheetAt n ss (done ++ (qs ∷ [])) []) (policyLine p) ≡ some (sheetAt n ss (done ++ ((qs ++ (p ∷ [])) ∷ [])) []))
     × GoodPolicies n (qs ++ (p ∷ [])) ps
-unfolding rising step policyLine policyFits addPolicy labelCount locationCount leastOwner
+unfolding rising addLine policyLine policyFits addPolicy labelCount locationCount leastOwner
 policy-built n ss done ps qs (policy o r w) g =
     let rises = both-left _ _ g in
     let sets = both-left _ _ (both-right _ _ g) in
@@ -84,18 +84,18 @@ policy-built n ss done ps qs (policy o r w) g =
 
 labels-built : (n : ℕ) (ss : List Sum) (pss done : List (List Policy)) (rest : List Line)
     → length done + length pss ≤ 32 → eachRising n pss ≡ true
-    → steps (some (sheetAt n ss done [])) (labelLines pss rest) ≡ steps (some (sheetAt n ss (done ++ pss) [])) rest
-unfolding labelLines eachRising steps stepOn step labelFits addLabel labelCount locationCount leastAfter
-labels-built n ss [] done rest few e = ap (λ (zs : List (List Policy)). steps (some (sheetAt n ss zs [])) rest) (sym (append-nil done))
+    → addLines (some (sheetAt n ss done [])) (labelLines pss rest) ≡ addLines (some (sheetAt n ss (done ++ pss) [])) rest
+unfolding labelLines eachRising addLines addLineOn addLine labelFits addLabel labelCount locationCount leastAfter
+labels-built n ss [] done rest few e = ap (λ (zs : List (List Policy)). addLines (some (sheetAt n ss zs [])) rest) (sym (append-nil done))
 labels-built n ss (ps ∷ pss) done rest few e =
     let room : length done < 32 = omega arith in
     let long = length-more done ps in
-    ap (λ (o : Option Sheet). steps o (each policyLine ps (labelLines pss rest)))
+    ap (λ (o : Option Sheet). addLines o (each policyLine ps (labelLines pss rest)))
     (passes (both true (ltb (length done) 32)) _ _ (both-true refl (lt-ltb _ _ room)) refl)
     ∙ steps-each policyLine (λ qs. sheetAt n ss (done ++ (qs ∷ [])) []) (GoodPolicies n) (policy-built n ss done) ps []
     (labelLines pss rest) (both-left _ _ e)
     ∙ labels-built n ss pss (done ++ (ps ∷ [])) rest (omega arith) (both-right _ _ e)
-    ∙ ap (λ (zs : List (List Policy)). steps (some (sheetAt n ss zs [])) rest) (append-assoc done (ps ∷ []) pss)
+    ∙ ap (λ (zs : List (List Policy)). addLines (some (sheetAt n ss zs [])) rest) (append-assoc done (ps ∷ []) pss)
 
 -- ---- locations
 
@@ -104,9 +104,9 @@ GoodLocations types labels xs ys = (length xs + length ys ≤ 64) × (eachNamed 
 
 location-built : (n : ℕ) (ss : List Sum) (pss : List (List Policy)) (ys xs : List Location) (y : Location)
     → GoodLocations (typeCount (sheetAt n ss pss [])) (length pss) xs (y ∷ ys)
-    → (step (sheetAt n ss pss xs) (locationLine y) ≡ some (sheetAt n ss pss (xs ++ (y ∷ []))))
+    → (addLine (sheetAt n ss pss xs) (locationLine y) ≡ some (sheetAt n ss pss (xs ++ (y ∷ []))))
     × GoodLocations (typeCount (sheetAt n ss pss [])) (length pss) (xs ++ (y ∷ [])) ys
-unfolding eachNamed step locationLine locationFits addLocation locationCount labelCount
+unfolding eachNamed addLine locationLine locationFits addLocation locationCount labelCount
 location-built n ss pss ys xs y g =
     let few : length xs < 64 = omega (arith, g .0) in
     let names = both-left _ _ (g .1) in
@@ -121,14 +121,14 @@ location-built n ss pss ys xs y g =
 -- ---- the whole sheet
 
 pub build-complete : (s : Sheet) → formed s ≡ true → build (sheetLines s) ≡ some s
-unfolding build sheetLines linesThen begin blank steps labelCount
+unfolding build sheetLines linesThen begin bareSheet addLines labelCount
 build-complete s fm =
     let n = s .principals in
     let f = formed-facts s fm in
     let count = type-count s in
     let count′ = type-count (sheetAt n (s .sums) (s .labels) []) in
     let types : typeCount s ≡ typeCount (sheetAt n (s .sums) (s .labels) []) = omega arith in
-    ap (λ (o : Option Sheet). steps o (each sumLine (s .sums) (labelLines (s .labels) (each locationLine (s .locations) []))))
+    ap (λ (o : Option Sheet). addLines o (each sumLine (s .sums) (labelLines (s .labels) (each locationLine (s .locations) []))))
     (passes _ _ _ (both-true (le-leb _ _ (f .some-principal)) (le-leb _ _ (f .few-principals))) refl)
     ∙ steps-each sumLine (λ xs. sheetAt n xs [] []) GoodSums (sum-built n) (s .sums) []
     (labelLines (s .labels) (each locationLine (s .locations) [])) (omega (arith, f .few-sums), f .sums-earlier)

@@ -16,7 +16,7 @@ use Rattle.logic.proofs.BooleanLaws.{bool-ext, both-left, both-no-right, both-r
 use Rattle.sets.specs.Sets.{width, everyone, restrict}
 use Rattle.sets.proofs.SetLaws.{restrict-id}
 use Rattle.labels.specs.Labels.{policy}
-use Rattle.sheet.specs.Sheet.{Sum, Sheet, givenParts, partsOf, typeCount, labelsOf, labelCount, locationCount, formed}
+use Rattle.sheet.specs.Sheet.{Sum, Sheet, givenParts, typeParts, typeCount, labelsOf, labelCount, locationCount, formed}
 use Rattle.sheet.specs.Padding.{padded}
 use Rattle.sheet.specs.Internal.Tables.{pairWords, labelsWords, tableOf, tableWords, labelsIn}
 use Rattle.sheet.proofs.FormLaws.{formed-facts, type-count}
@@ -25,7 +25,7 @@ use Rattle.sheet_text.specs.declared.line.Line.{Line}
 use Rattle.sheet_text.specs.declared.line.Line.the-variants.{P, T, L, O, X}
 use Rattle.sheet_text.specs.declared.draft.Draft.{Draft}
 use Rattle.sheet_text.specs.declared.draft.Draft.the-variants.{Formed, Refused}
-use Rattle.sheet_text.specs.Internal.Building.{blank, addSum, addLabel, toLast, addPolicy, addLocation, lastOf, leastAfter, leastOwner, sumFits, labelFits, policyFits, locationFits, begin, step, stepOn}
+use Rattle.sheet_text.specs.Internal.Building.{bareSheet, addSum, addLabel, toLast, addPolicy, addLocation, lastOf, leastAfter, leastOwner, sumFits, labelFits, policyFits, locationFits, begin, addLine, addLineOn}
 use Rattle.sheet_text.specs.Internal.Drafts.{draftIf, DraftHolds, FormedIf, Stores, principalsFit, sumFitsIn, labelFitsIn, policyFitsIn, locationFitsIn, principalsStored, pairStored, labelStored, policyStored}
 use Rattle.logic.proofs.OptionLaws.{none-some}
 use Rattle.sheet_text.proofs.GrowthLaws.{last-more, toLast-more, least-more, labels-split}
@@ -174,26 +174,26 @@ module _ (s : Sheet) where
 
 -- what was stored in the table of a sheet
 module _ (s : Sheet) (t : List ℕ) (e : t ≡ tableOf s) (ok : Bool) (u : List ℕ) where
-  pub sum-holds : (a b : ℕ) → Stores (sumFitsIn a b) (pairStored 8 2 a b) t ok u → DraftHolds (step s (T a b)) (draftIf ok 0) u
-  unfolding step
+  pub sum-holds : (a b : ℕ) → Stores (sumFitsIn a b) (pairStored 8 2 a b) t ok u → DraftHolds (addLine s (T a b)) (draftIf ok 0) u
+  unfolding addLine
   sum-holds a b made =
       holds-if (sumFits s a b) _ (sumFitsIn a b) (pairStored 8 2 a b) (tableOf s) u ok 0 (rw e at made) (sum-fits-in s a b) (λ f. sum-stored s a b f)
 
-  pub label-holds : formed s ≡ true → Stores labelFitsIn labelStored t ok u → DraftHolds (step s L) (draftIf ok 0) u
-  unfolding step
+  pub label-holds : formed s ≡ true → Stores labelFitsIn labelStored t ok u → DraftHolds (addLine s L) (draftIf ok 0) u
+  unfolding addLine
   label-holds fm made =
       holds-if (labelFits s) _ labelFitsIn labelStored (tableOf s) u ok 0 (rw e at made) (label-fits-in s) (λ f. label-stored s fm f)
 
   pub policy-holds : (o r w : ℕ) → formed s ≡ true → (least : ℕ) → least ≡ leastOwner s → (k : ℕ) → k ≡ o % 65536
-      → Stores (policyFitsIn least o r w) (policyStored o r w) t ok u → DraftHolds (step s (O o r w)) (draftIf ok (k + 1)) u
-  unfolding step
+      → Stores (policyFitsIn least o r w) (policyStored o r w) t ok u → DraftHolds (addLine s (O o r w)) (draftIf ok (k + 1)) u
+  unfolding addLine
   policy-holds o r w fm least same k low made =
       holds-if (policyFits s o r w) _ (policyFitsIn (leastOwner s) o r w) (policyStored o r w) (tableOf s) u ok (k + 1) (rw (e, same) at made)
       (policy-fits-in s o r w) (λ f. let h = policy-stored s o r w fm f in (ap (λ (k : ℕ). k + 1) low ∙ h .0, h .1))
 
   pub location-holds : (ty l : ℕ) → formed s ≡ true → (least : ℕ) → least ≡ leastOwner s
-      → Stores (locationFitsIn ty l) (pairStored 72 4 ty l) t ok u → DraftHolds (step s (X ty l)) (draftIf ok least) u
-  unfolding step
+      → Stores (locationFitsIn ty l) (pairStored 72 4 ty l) t ok u → DraftHolds (addLine s (X ty l)) (draftIf ok least) u
+  unfolding addLine
   location-holds ty l fm least same made =
       holds-if (locationFits s ty l) _ (locationFitsIn ty l) (pairStored 72 4 ty l) (tableOf s) u ok least (rw e at made) (location-fits-in s ty l)
       (λ f. (same ∙ least-kept, location-stored s ty l fm f))
@@ -205,8 +205,8 @@ module _ (s : Sheet) (t : List ℕ) (e : t ≡ tableOf s) (ok : Bool) (u : List 
 
 -- the table of a sheet of n principals with nothing else
 blank-table : (n : ℕ)
-    → set (set (set (set (set (replicate tableWords 0) 0 n) 1 (everyone n)) 2 5) 16 2) 17 1 ≡ tableOf (blank n)
-unfolding tableOf blank typeCount labelCount locationCount labelsOf partsOf givenParts padded pairWords labelsWords
+    → set (set (set (set (set (replicate tableWords 0) 0 n) 1 (everyone n)) 2 5) 16 2) 17 1 ≡ tableOf (bareSheet n)
+unfolding tableOf bareSheet typeCount labelCount locationCount labelsOf typeParts givenParts padded pairWords labelsWords
 blank-table n = refl
 
 -- the code's set of n principals
@@ -218,10 +218,10 @@ pub begin-holds : (n : ℕ) (t : List ℕ) → t ≡ replicate tableWords 0 → 
     → Stores (principalsFit n) (principalsStored n) t ok u → DraftHolds (begin (P n)) (draftIf ok 0) u
 unfolding begin
 begin-holds n t e ok u made =
-    holds-if (both (leb 1 n) (leb n 16)) (blank n) (principalsFit n) (principalsStored n) (replicate tableWords 0) u ok 0 (rw e at made) refl
+    holds-if (both (leb 1 n) (leb n 16)) (bareSheet n) (principalsFit n) (principalsStored n) (replicate tableWords 0) u ok 0 (rw e at made) refl
     (λ f.
     let few : n ≤ 16 = leb-true _ _ (both-right _ _ f) in
-    (least-none (blank n) (unfold blank in refl), rw (low-same n (omega arith), everyone-held n few) (blank-table n)))
+    (least-none (bareSheet n) (unfold bareSheet in refl), rw (low-same n (omega arith), everyone-held n few) (blank-table n)))
 
 -- ---- the sheet so far stays of the right form
 
@@ -232,12 +232,12 @@ formed-begun l = at (begin l) refl
     at none e = unfold FormedIf in tt
     at (some s) e = unfold FormedIf in (begin-sound l s e .right)
 
-pub formed-stepped : (o : Option Sheet) (l : Line) → FormedIf o → FormedIf (stepOn o l)
-unfolding stepOn
+pub formed-stepped : (o : Option Sheet) (l : Line) → FormedIf o → FormedIf (addLineOn o l)
+unfolding addLineOn
 formed-stepped none l f = f
-formed-stepped (some s) l f = at (step s l) refl
+formed-stepped (some s) l f = at (addLine s l) refl
   where
-    at : (o : Option Sheet) → step s l ≡ o → FormedIf o
+    at : (o : Option Sheet) → addLine s l ≡ o → FormedIf o
     at none e = unfold FormedIf in tt
     at (some s′) e = unfold FormedIf in (step-sound s l s′ f e .right)
 
@@ -254,21 +254,21 @@ refused-formed d k h e = let z : _≡_ {A = ℕ} 0 1 = cc in absurd (omega arith
 
 module _ (d : Draft) (t : List ℕ) where
   -- a refusal stays one
-  pub step-refused : (o : Option Sheet) (l : Line) (u : List ℕ) → d ≡ Refused → DraftHolds o d t → DraftHolds (stepOn o l) Refused u
-  unfolding DraftHolds stepOn
+  pub step-refused : (o : Option Sheet) (l : Line) (u : List ℕ) → d ≡ Refused → DraftHolds o d t → DraftHolds (addLineOn o l) Refused u
+  unfolding DraftHolds addLineOn
   step-refused none l u h e = refl
   step-refused (some s) l u h e = refused-formed d _ h (e .0)
 
   -- what is made of the sheet by the line
   pub step-made : (o : Option Sheet) (l l′ : Line) (r : Draft) (u : List ℕ) (k : ℕ) → d ≡ Formed k → l ≡ l′ → FormedIf o → DraftHolds o d t
-      → ((s : Sheet) → formed s ≡ true → k ≡ leastOwner s → t ≡ tableOf s → DraftHolds (step s l′) r u) → DraftHolds (stepOn o l) r u
-  unfolding DraftHolds stepOn FormedIf
+      → ((s : Sheet) → formed s ≡ true → k ≡ leastOwner s → t ≡ tableOf s → DraftHolds (addLine s l′) r u) → DraftHolds (addLineOn o l) r u
+  unfolding DraftHolds addLineOn FormedIf
   step-made none l l′ r u k h told f e g = refused-formed d k e h
   step-made (some s) l l′ r u k h told f e g =
       let same : k ≡ leastOwner s = cc in
       rw told (g s f same (e .1))
 
 -- a further line `P`
-pub no-principals : (s : Sheet) (n : ℕ) (u : List ℕ) → DraftHolds (step s (P n)) Refused u
-unfolding step DraftHolds
+pub no-principals : (s : Sheet) (n : ℕ) (u : List ℕ) → DraftHolds (addLine s (P n)) Refused u
+unfolding addLine DraftHolds
 no-principals s n u = refl

@@ -12,10 +12,10 @@ use Rattle.text.specs.Set.{hexDigit, hexDigits, hexByte, hex4}
 use Rattle.text.specs.Field.{numberField, setField, lastNumber}
 use Rattle.text.specs.Lines.{front, onward, linesUpTo, allLines, printLines}
 use Rattle.labels.specs.Labels.{policy, openAt, openOf, policyOf, withPolicies, labelOf, sameAt, sameOf}
-use Rattle.sheet.specs.Sheet.{Sheet, givenParts, partsOf, typeCount, labelsOf, labelCount, locationCount, earlier, rising, eachRising, eachNamed, formed, among, repeated, sameParts, repeats}
+use Rattle.sheet.specs.Sheet.{Sheet, givenParts, typeParts, typeCount, labelsOf, labelCount, locationCount, earlierTypes, rising, eachRising, eachNamed, formed, among, repeated, sameParts, repeats}
 use Rattle.sheet_text.specs.Lines.{sumLine, policyLine, locationLine, each, labelLines, linesThen, sheetLines, lineBytes, sheetBytes}
 use Rattle.sheet_text.specs.Reading.{principalsRest, pairLine, pairRest, labelRest, policyRest, lineOf}
-use Rattle.sheet_text.specs.Internal.Building.{blank, addSum, addLabel, toLast, addPolicy, addLocation, lastOf, leastAfter, leastOwner, sumFits, labelFits, policyFits, locationFits, begin, step, stepOn, steps, build}
+use Rattle.sheet_text.specs.Internal.Building.{bareSheet, addSum, addLabel, toLast, addPolicy, addLocation, lastOf, leastAfter, leastOwner, sumFits, labelFits, policyFits, locationFits, begin, addLine, addLineOn, addLines, build}
 use Rattle.sheet_text.specs.Sheets.{buildRead, sheetRead, Answer, malformed, repeating, accepted, judged, sheetOf}
 
 caseSheet : Sheet
@@ -69,12 +69,12 @@ unfolding caseSheet caseText sheetBytes printLines lineBytes sheetLines linesThe
 case-printed = refl
 
 texts-read : map sheetOf texts ≡ answers
-unfolding caseSheet caseText texts answers sheetOf judged sheetRead buildRead build steps stepOn step begin sumFits labelFits policyFits locationFits leastOwner leastAfter lastOf blank
+unfolding caseSheet caseText texts answers sheetOf judged sheetRead buildRead build addLines addLineOn addLine begin sumFits labelFits policyFits locationFits leastOwner leastAfter lastOf bareSheet
     addSum addLabel addPolicy toLast addLocation allLines linesUpTo onward front lineOf principalsRest pairRest pairLine labelRest policyRest andThen byte fits digit opensDigit
     digits number hexDigit hexDigits numberField setField lastNumber both either union every tab single everyone openAt openOf policyOf withPolicies labelOf sameAt sameOf
-    givenParts partsOf typeCount labelsOf labelCount locationCount among repeated sameParts repeats
+    givenParts typeParts typeCount labelsOf labelCount locationCount among repeated sameParts repeats
 texts-read = refl
 
 case-formed : formed caseSheet ≡ true
-unfolding caseSheet formed both earlier rising eachRising eachNamed typeCount partsOf givenParts labelCount
+unfolding caseSheet formed both earlierTypes rising eachRising eachNamed typeCount typeParts givenParts labelCount
 case-formed = refl

@@ -18,7 +18,7 @@ use Rattle.sheet_text.specs.declared.line.Line.{Line}
 use Rattle.sheet_text.specs.declared.draft.Draft.{Draft}
 use Rattle.sheet_text.specs.declared.draft.Draft.the-variants.{Formed, Refused}
 use Rattle.sheet_text.specs.Reading.{lineOf, linesOf}
-use Rattle.sheet_text.specs.Internal.Building.{begin, stepOn, steps, build}
+use Rattle.sheet_text.specs.Internal.Building.{begin, addLineOn, addLines, build}
 use Rattle.sheet_text.specs.Sheets.{buildRead, sheetRead, judged}
 use Rattle.sheet_text.specs.declared.Verdict.the-variants.{Accepted, Malformed, Repeats}
 use Rattle.sheet_text.specs.Internal.Decoded.{refusedBy, decodedSheet}
@@ -31,14 +31,14 @@ use Rattle.sheet_text.proofs.Theorems.{sheet-in-sound}
 
 -- ---- the lines that are left, at a place of a text
 
-steps-front : (o : Option Sheet) (l : Line) (ls : Option (List Line)) → stepsRead o (front l ls) ≡ stepsRead (stepOn o l) ls
-unfolding stepsRead front steps
+steps-front : (o : Option Sheet) (l : Line) (ls : Option (List Line)) → stepsRead o (front l ls) ≡ stepsRead (addLineOn o l) ls
+unfolding stepsRead front addLines
 steps-front o l none = refl
 steps-front o l (some ls) = refl
 
 module _ (o : Option Sheet) (s : List ℕ) (i : ℕ) where
   pub steps-on : (l : Line) (p : ℕ) → lineOf (drop i s) ≡ got l (drop p s)
-      → stepsRead (stepOn o l) (linesOf (drop p s)) ≡ stepsRead o (linesOf (drop i s))
+      → stepsRead (addLineOn o l) (linesOf (drop p s)) ≡ stepsRead o (linesOf (drop i s))
   steps-on l p e = sym (ap (stepsRead o) (all-more sheet-lines (drop i s) l (drop p s) e) ∙ steps-front o l (linesOf (drop p s)))
 
   pub steps-bad : i < length s → lineOf (drop i s) ≡ bad → none ≡ stepsRead o (linesOf (drop i s))
@@ -46,7 +46,7 @@ module _ (o : Option Sheet) (s : List ℕ) (i : ℕ) where
   steps-bad h e = sym (ap (stepsRead o) (all-bad sheet-lines (drop i s) (omega (arith, length-drop i s)) e))
 
   pub steps-end : length s ≤ i → o ≡ stepsRead o (linesOf (drop i s))
-  unfolding stepsRead steps
+  unfolding stepsRead addLines
   steps-end h = sym (ap (λ (t : List ℕ). stepsRead o (linesOf t)) (drop-of-length-le s {i = i} h) ∙ ap (stepsRead o) (all-none sheet-lines))
 
 -- ---- the sheet of a text

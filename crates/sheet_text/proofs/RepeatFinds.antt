@@ -15,7 +15,7 @@ use Rattle.sets.proofs.Walks.{every-true, every-at, getD-tab}
 use Rattle.labels.specs.Labels.{owners, labelOf, bottomOf, readersOf, writersOf, sameAt, sameOf}
 use Rattle.labels.specs.Internal.Tables.{labelSize, setsAt, labelAt}
 use Rattle.labels.specs.declared.Label.{Label}
-use Rattle.sheet.specs.Sheet.{Sum, Sheet, givenParts, partsOf, partsNo, labelsOf, labelNo, labelCount, formed, among, repeated, sameParts, givenSums, repeats}
+use Rattle.sheet.specs.Sheet.{Sum, Sheet, givenParts, typeParts, partsNo, labelsOf, labelNo, labelCount, formed, among, repeated, sameParts, givenSums, repeats}
 use Rattle.sheet.specs.Internal.Tables.{tableOf, typesIn, labelsIn, entryIn, leftIn, rightIn, labelIn}
 use Rattle.sheet.proofs.FormLaws.{type-count}
 use Rattle.sheet.proofs.TableLaws.{types-in, labels-in, left-in, right-in}
@@ -150,7 +150,7 @@ module _ (s : Sheet) (fm : formed s ≡ true) where
 
   -- the sums are the types from 3 on
   sum-at : (j : ℕ) → partsNo s (3 + j) ≡ getD (givenSums ++ s .sums) j noParts
-  unfolding partsNo partsOf givenParts noParts
+  unfolding partsNo typeParts givenParts noParts
   sum-at j = let z : 3 + j ≡ suc (suc (suc j)) = omega arith in rw z
 
   -- a part of a type that is there

@@ -14,7 +14,7 @@ use Rattle.labels.proofs.PolicyLaws.{policy-whole}
 use Rattle.labels.proofs.OrderLaws.{whole-intro}
 use Rattle.labels.proofs.TableLaws.{length-words, put-middle}
 use Rattle.sets.proofs.Walks.{length-tab}
-use Rattle.sheet.specs.Sheet.{Sum, Location, Sheet, givenParts, partsOf, typeCount, labelsOf, labelNo, labelCount, locationCount, formed}
+use Rattle.sheet.specs.Sheet.{Sum, Location, Sheet, givenParts, typeParts, typeCount, labelsOf, labelNo, labelCount, locationCount, formed}
 use Rattle.sheet.specs.Padding.{padded}
 use Rattle.sheet.specs.Internal.Tables.{pairWords, partWords, locationWords, labelsWords, tableOf, labelIn}
 use Rattle.sheet.proofs.FormLaws.{formed-facts, type-count}
@@ -80,24 +80,24 @@ headed s types labels locations ws = s .principals ∷ everyone (s .principals) 
 
 pub sum-table : (s : Sheet) (x : Sum) → typeCount s < 32
     → set (set (set (tableOf s) (8 + 2 * typeCount s) (x .left)) (8 + 2 * typeCount s + 1) (x .right)) 2 (typeCount s + 1) ≡ tableOf (addSum s x)
-unfolding tableOf addSum typeCount labelCount locationCount labelsOf partsOf givenParts heading headed
+unfolding tableOf addSum typeCount labelCount locationCount labelsOf typeParts givenParts heading headed
 sum-table s x few =
     let after = padded 128 (locationWords (s .locations)) ++ padded 1024 (labelsWords (labelsOf s)) in
-    let parts = padded 64 (partWords (partsOf s ++ (x ∷ []))) ++ after in
+    let parts = padded 64 (partWords (typeParts s ++ (x ∷ []))) ++ after in
     let count : typeCount s + 1 ≡ typeCount (addSum s x) = omega (arith, length-more (s .sums) x) in
     ap (λ (t : List ℕ). set t 2 (typeCount s + 1))
-    (add-pair (λ (p : Sum). p .left) (λ (p : Sum). p .right) (heading s) after 64 (partsOf s) (omega arith) x (8 + 2 * typeCount s) refl)
+    (add-pair (λ (p : Sum). p .left) (λ (p : Sum). p .right) (heading s) after 64 (typeParts s) (omega arith) x (8 + 2 * typeCount s) refl)
     ∙ ap (λ (k : ℕ). headed s k (labelCount s) (locationCount s) parts) count
 
 pub location-table : (s : Sheet) (x : Location) → formed s ≡ true → locationCount s < 64
     → set (set (set (tableOf s) (72 + 2 * locationCount s) (x .type)) (72 + 2 * locationCount s + 1) (x .label)) 4 (locationCount s + 1)
     ≡ tableOf (addLocation s x)
-unfolding tableOf addLocation typeCount labelCount locationCount labelsOf partsOf heading headed
+unfolding tableOf addLocation typeCount labelCount locationCount labelsOf typeParts heading headed
 location-table s x fm few =
-    let parts = padded 64 (partWords (partsOf s)) in
+    let parts = padded 64 (partWords (typeParts s)) in
     let types : typeCount s ≤ 32 = omega (arith, type-count s, formed-facts s fm .few-sums) in
     let long : length parts ≡ 64 =
-    length-padded 64 (partWords (partsOf s)) (omega (arith, length-pairs (λ (p : Sum). p .left) (λ (p : Sum). p .right) (partsOf s))) in
+    length-padded 64 (partWords (typeParts s)) (omega (arith, length-pairs (λ (p : Sum). p .left) (λ (p : Sum). p .right) (typeParts s))) in
     let after = padded 1024 (labelsWords (labelsOf s)) in
     let block = padded 128 (locationWords (s .locations ++ (x ∷ []))) in
     let count : locationCount s + 1 ≡ locationCount (addLocation s x) = sym (length-more (s .locations) x) in
@@ -187,12 +187,12 @@ module _ (n : ℕ) where
 
 -- what stands before the labels
 front : Sheet → List ℕ
-front s = heading s ++ (padded 64 (partWords (partsOf s)) ++ padded 128 (locationWords (s .locations)))
+front s = heading s ++ (padded 64 (partWords (typeParts s)) ++ padded 128 (locationWords (s .locations)))
 
 from-front : (s : Sheet) → tableOf s ≡ front s ++ padded 1024 (wordsOf (s .principals) (s .labels))
 unfolding tableOf front heading wordsOf labelsOf
 from-front s =
-    let parts = padded 64 (partWords (partsOf s)) in
+    let parts = padded 64 (partWords (typeParts s)) in
     let block = padded 128 (locationWords (s .locations)) in
     ap (λ (t : List ℕ). heading s ++ t) (sym (append-assoc parts block (padded 1024 (labelsWords (labelsOf s)))))
 
@@ -201,11 +201,11 @@ module _ (s : Sheet) (fm : formed s ≡ true) where
   unfolding front heading typeCount
   front-long =
       let facts = formed-facts s fm in
-      let parts = padded 64 (partWords (partsOf s)) in
+      let parts = padded 64 (partWords (typeParts s)) in
       let block = padded 128 (locationWords (s .locations)) in
       let types : typeCount s ≤ 32 = omega (arith, type-count s, facts .few-sums) in
       let parts-long : length parts ≡ 64 =
-      length-padded 64 (partWords (partsOf s)) (omega (arith, length-pairs (λ (p : Sum). p .left) (λ (p : Sum). p .right) (partsOf s))) in
+      length-padded 64 (partWords (typeParts s)) (omega (arith, length-pairs (λ (p : Sum). p .left) (λ (p : Sum). p .right) (typeParts s))) in
       let block-long : length block ≡ 128 =
       length-padded 128 (locationWords (s .locations))
       (omega (arith, length-pairs (λ (x : Location). x .type) (λ (x : Location). x .label) (s .locations), facts .few-locations)) in
@@ -214,12 +214,12 @@ module _ (s : Sheet) (fm : formed s ≡ true) where
   pub label-table : labelCount s < 32
       → set (labelPut (tableOf s) (200 + labelSize * labelCount s) (openOf (s .principals) (everyone (s .principals)))) 3 (labelCount s + 1)
       ≡ tableOf (addLabel s)
-  unfolding labelOf withPolicies labelCount addLabel typeCount locationCount partsOf front heading headed
+  unfolding labelOf withPolicies labelCount addLabel typeCount locationCount typeParts front heading headed
   label-table few =
       let n = s .principals in
       let at = 200 + labelSize * labelCount s in
       let new = padded 1024 (wordsOf n (s .labels ++ ([] ∷ []))) in
-      let middle = padded 64 (partWords (partsOf s)) ++ padded 128 (locationWords (s .locations)) in
+      let middle = padded 64 (partWords (typeParts s)) ++ padded 128 (locationWords (s .locations)) in
       ap (λ (t : List ℕ). set (labelPut t at (labelOf n [])) 3 (labelCount s + 1)) (from-front s)
       ∙ ap (λ (t : List ℕ). set t 3 (labelCount s + 1))
       (put-new n (front s) (s .labels) (omega arith) [] at (ap (λ (k : ℕ). k + labelSize * labelCount s) front-long))
@@ -240,10 +240,10 @@ module _ (s : Sheet) (fm : formed s ≡ true) where
     last-there = ap length e ∙ length-more before ps
 
     front-policy : (p : Policy) → front s ++ padded 1024 (wordsOf (s .principals) (before ++ ((ps ++ (p ∷ [])) ∷ []))) ≡ tableOf (addPolicy s p)
-    unfolding addPolicy front heading headed typeCount labelCount locationCount partsOf
+    unfolding addPolicy front heading headed typeCount labelCount locationCount typeParts
     front-policy p =
         let n = s .principals in
-        let middle = padded 64 (partWords (partsOf s)) ++ padded 128 (locationWords (s .locations)) in
+        let middle = padded 64 (partWords (typeParts s)) ++ padded 128 (locationWords (s .locations)) in
         let new : before ++ ((ps ++ (p ∷ [])) ∷ []) ≡ toLast p (s .labels) = sym (ap (toLast p) e ∙ toLast-more p before ps) in
         ap₂ (λ (k : ℕ) (pss : List (List Policy)). headed s (typeCount s) k (locationCount s) (middle ++ padded 1024 (wordsOf n pss)))
         (sym (length-toLast p (s .labels))) new

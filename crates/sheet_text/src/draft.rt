@@ -6,7 +6,7 @@ ghost use lib.ListN.{drop, replicate};
 ghost use Rattle.labels.specs.Internal.Tables.{labelSize, labelPut};
 ghost use Rattle.sheet.specs.Sheet.{Sheet};
 ghost use Rattle.sheet.specs.Internal.Tables.{partsBase, locationsBase, labelsBase, tableWords};
-ghost use Rattle.sheet_text.specs.Internal.Building.{begin, stepOn};
+ghost use Rattle.sheet_text.specs.Internal.Building.{begin, addLineOn};
 ghost use Rattle.sheet_text.specs.Sheets.{sheetRead};
 ghost use Rattle.sheet_text.specs.Reading.{linesOf};
 ghost use Rattle.sheet_text.specs.Internal.Drafts.{draftIf, DraftHolds, FormedIf, stepsRead, Stores, principalsFit, pairFits, sumFitsIn, labelFitsIn, policyFitsIn, locationFitsIn, principalsStored, pairStored, labelStored, policyStored};
@@ -218,7 +218,7 @@ fn begin(table: &mut [u16; WORDS], line: Line) -> Draft
 
 // The sheet after a further line.
 fn step(d: Draft, table: &mut [u16; WORDS], line: Line) -> Draft
-    ensures { λ r. ⌜ ((o : Option Sheet) → FormedIf o → DraftHolds o d (now (table .entry)) → DraftHolds (stepOn o line) r (now (table .exit))) ⌝ }
+    ensures { λ r. ⌜ ((o : Option Sheet) → FormedIf o → DraftHolds o d (now (table .entry)) → DraftHolds (addLineOn o line) r (now (table .exit))) ⌝ }
 {
     let Draft::Formed(least) = d else {
         return Draft::Refused;

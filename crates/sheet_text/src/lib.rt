@@ -7,7 +7,7 @@ ghost use mathlib.Core.Path.{_≡_};
 ghost use lib.ListN.{replicate};
 ghost use Rattle.sheet.specs.Internal.Tables.{tableWords};
 ghost use Rattle.sheet_text.specs.Sheets.{sheetOf};
-ghost use Rattle.sheet_text.specs.Internal.Decoded.{verdictNumber, decodedSheet};
+ghost use Rattle.sheet_text.specs.Internal.Decoded.{sheetNumber, decodedSheet};
 use draft::Draft;
 use draft::draft_of;
 use repeat::repeats;
@@ -28,7 +28,7 @@ pub struct Decoded {
 
 // The number of a verdict: 0, or that of the refusal.
 pub fn number(verdict: Verdict) -> u8
-    ensures { λ r. ⌜ r ≡ verdictNumber verdict ⌝ }
+    ensures { λ r. ⌜ r ≡ sheetNumber verdict ⌝ }
 {
     match verdict {
         Verdict::Accepted => 0,

@@ -3,10 +3,10 @@ use mathlib.Core.Path.{_≡_, refl, ap}
 use Prim.Native.Nat.{ℕ, zero, suc}
 use Rattle.language.specs.Syntax.{int, val, left, Cmd, skip, seq, while, size}
 use Rattle.language.specs.World.{World, Mem}
-use Rattle.language.specs.Evaluation.{bind, fit, fitting, eval}
+use Rattle.language.specs.Evaluation.{bind, fit, fitIf, eval}
 use Rattle.language.specs.Transition.{spent, done, run, iterate, step, after, branch, branchV, at-seq}
 use Rattle.simp.specs.Calls.{ended}
-use Rattle.simp.specs.Cases.{Holds, spends, Each, cases, CasesHold, sheet, nested, memory, before, packed, unpacked, twoPolicies, readersOnly}
+use Rattle.simp.specs.Cases.{Holds, spends, Each, cases, CasesHold, sheet, nested, fourLocations, before, afterPack, afterUnpack, twoPolicies, readersOnly}
 use Rattle.simp.proofs.Computing.{all-used}
 
 -- `w`, `l 3`, `i 1`, `s`
@@ -16,7 +16,7 @@ endless = while (left 3 (val (int 1))) skip
 module _ (W : World) (M : Mem) where
   -- from the loop, and from the loop once its body is done
   turns : (b : ℕ) → (run b W done M endless ≡ spent) × (run b W done M (seq skip endless) ≡ spent)
-  unfolding run step after branch branchV at-seq eval bind fit fitting size
+  unfolding run step after branch branchV at-seq eval bind fit fitIf size
   turns zero = (refl, refl)
   turns (suc b) = (turns b .1, turns b .0)
 
@@ -25,7 +25,7 @@ module _ (W : World) (M : Mem) where
   endless-spent b = turns b .0
 
 spent-always : Holds (spends "w\nl 3\ni 1\ns\n" before 0b000)
-unfolding Holds sheet memory before all-used
+unfolding Holds sheet fourLocations before all-used
 spent-always budget = ap (ended 4 budget before) (endless-spent _ _ budget)
 
 -- a case, and the cases after it
@@ -34,6 +34,6 @@ abbrev _&_ : {A B : Type 0} → A → B → A × B
 a & b = (a, b)
 
 pub cases-hold : CasesHold
-unfolding Each cases Holds sheet nested memory before packed unpacked twoPolicies readersOnly all-used
+unfolding Each cases Holds sheet nested fourLocations before afterPack afterUnpack twoPolicies readersOnly all-used
 cases-hold =
     refl & refl & refl & refl & refl & refl & refl & refl & refl & refl & refl & refl & refl & refl & refl & spent-always & refl & refl & tt

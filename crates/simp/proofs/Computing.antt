@@ -55,10 +55,10 @@ unfolding labels.own labels.openAt labels.openOf labels.policyOf labels.withPoli
 labels-used = tt
 
 unfoldable pub language-used : Unit {0}
-unfolding evaluation.bind evaluation.fitting evaluation.fit evaluation.addTo evaluation.add evaluation.packed evaluation.opened world.wanted
+unfolding evaluation.bind evaluation.fitIf evaluation.fit evaluation.addTo evaluation.add evaluation.packed evaluation.opened world.wanted
     evaluation.unpacked evaluation.lookup evaluation.eval
     syntax.size syntax.has
-    substitution.lift substitution.close-var substitution.closeE substitution.close substitution.inst substitution.put transition.at-seq
+    substitution.lift substitution.close-var substitution.closeE substitution.close substitution.inst substitution.update transition.at-seq
     transition.at-assign transition.branchV transition.branch transition.step transition.after transition.run transition.iterate
     declarations.nth typing.orElse typing.isYes typing.sameTy typing.isTy typing.hasTy typing.leftIs typing.rightIs typing.onSum typing.given
     typing.typeOfValue typing.typeOf typing.shape typing.least typing.flowE typing.flow typing.refusal
@@ -71,30 +71,30 @@ script-used = tt
 
 unfoldable pub sheet-used : Unit {0}
 unfolding meaning.effectiveIf meaning.effectively
-    sheet.givenTypes sheet.typesFrom sheet.tyOf sheet.givenParts sheet.partsOf sheet.typeCount sheet.labelsOf sheet.labelNo sheet.labelCount
-    sheet.locationNo sheet.locationCount sheet.earlier sheet.rising sheet.eachRising sheet.eachNamed sheet.formed sheet.among sheet.repeated
+    sheet.givenTypes sheet.typesFrom sheet.tyOf sheet.givenParts sheet.typeParts sheet.typeCount sheet.labelsOf sheet.labelNo sheet.labelCount
+    sheet.locationNo sheet.locationCount sheet.earlierTypes sheet.rising sheet.eachRising sheet.eachNamed sheet.formed sheet.among sheet.repeated
     sheet.sameParts sheet.repeats
     padding.padded
 sheet-used = tt
 
 unfoldable pub sheet-text-used : Unit {0}
-unfolding building.blank building.addSum building.addLabel building.toLast building.addPolicy building.addLocation building.lastOf building.leastAfter
-    building.leastOwner building.sumFits building.labelFits building.policyFits building.locationFits building.begin building.step
-    building.stepOn building.steps building.build
+unfolding building.bareSheet building.addSum building.addLabel building.toLast building.addPolicy building.addLocation building.lastOf building.leastAfter
+    building.leastOwner building.sumFits building.labelFits building.policyFits building.locationFits building.begin building.addLine
+    building.addLineOn building.addLines building.build
     sheet-lines.principalsRest sheet-lines.pairLine sheet-lines.pairRest sheet-lines.labelRest sheet-lines.policyRest sheet-lines.lineOf
     repeats.anyFrom
     sheets.buildRead sheets.sheetRead sheets.judged sheets.sheetOf
 sheet-text-used = tt
 
 unfoldable pub script-text-used : Unit {0}
-unfolding parse.popE parse.popC parse.onStack parse.pushOn parse.stackOf parse.single parse.parse
+unfolding parse.popE parse.popC parse.onStack parse.pushOn parse.stackOf parse.onlyCommand parse.parse
     script-lines.formOf script-lines.operandsOf script-lines.lineOf script-lines.linesOf
     script.namedOnly script.commandOf script.commandRead script.scriptOf
 script-text-used = tt
 
 unfoldable pub memory-used : Unit {0}
 unfolding memory.cellOf memory.memoryOf memory.cells memory.wordsOf memory.proper memory.equalWords memory.exactly memory.formedBy memory.sliceRefusal
-    memory.refusalBy memory.fits memory.wellFormed memory.memoryRefusal
+    memory.refusalBy memory.asDeclared memory.wellFormed memory.memoryRefusal
     words.enc words.cell words.wrap words.numbered words.packaged words.tagged words.read words.readOf
 memory-used = tt
 

@@ -17,7 +17,7 @@ module _ {memory : List ℕ} {budget : ℕ} where
       → Finished sheet script memory authority budget (r .steps) (r .memory)
   finished st (ends-9 t n l) h = absurd (omega arith)
   finished st (ends-10 k t n l) h = absurd (omega arith)
-  finished {s = s} {c = c} st (ends-0 {M′} k t n) h = record { its-sheet = s; its-command = c; reached = M′; started = st; run = t; words = refl; within = k }
+  finished {s = s} {c = c} st (ends-0 {M′} k t n) h = record { its-sheet = s; its-command = c; reached = M′; started = st; run = t; words = refl; in-budget = k }
 
   ended : {authority : ℕ} {s : Sheet} {c : Cmd} {r : Ran} → Ends s c memory authority budget r → RunAnswers memory budget r
   ended (ends-0 k t n) = record {

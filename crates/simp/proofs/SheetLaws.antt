@@ -6,32 +6,32 @@ use native.Mathlib.Omega.{arith}
 use Rattle.sheet.specs.Sheet.{Sheet}
 use Rattle.sheet_text.specs.declared.Decoded.{Decoded}
 use Rattle.sheet_text.specs.Sheets.{Answer, malformed, repeating, accepted, sheetOf}
-use Rattle.sheet_text.specs.Internal.Decoded.{verdictNumber, refusedBy, decodedSheet}
+use Rattle.sheet_text.specs.Internal.Decoded.{sheetNumber, refusedBy, decodedSheet}
 use Rattle.sheet_text.proofs.Theorems.{accepted-exact}
 use Rattle.simp.specs.Calls.{onSheet}
 use Rattle.simp.specs.Internal.Stages.{TableOf}
 
 module _ {A : Type 0} (refuse : ℕ → A) (go : Sheet → A) where
-  refused-by : (a : Answer) → (verdictNumber (decodedSheet a .verdict) ≡ 0 → ⊥) → refuse (verdictNumber (decodedSheet a .verdict)) ≡ onSheet refuse a go
-  unfolding onSheet decodedSheet refusedBy verdictNumber
+  refused-by : (a : Answer) → (sheetNumber (decodedSheet a .verdict) ≡ 0 → ⊥) → refuse (sheetNumber (decodedSheet a .verdict)) ≡ onSheet refuse a go
+  unfolding onSheet decodedSheet refusedBy sheetNumber
   refused-by malformed n = refl
   refused-by repeating n = refl
   refused-by (accepted s) n = absurd (n refl)
 
-  module _ (sheet : List ℕ) (d : Decoded) (number : ℕ) (e : d ≡ decodedSheet (sheetOf sheet)) (is : number ≡ verdictNumber (d .verdict)) where
+  module _ (sheet : List ℕ) (d : Decoded) (number : ℕ) (e : d ≡ decodedSheet (sheetOf sheet)) (is : number ≡ sheetNumber (d .verdict)) where
     -- a refused sheet
     pub sheet-refused : (number ≡ 0 → ⊥) → refuse number ≡ onSheet refuse (sheetOf sheet) go
     sheet-refused n =
-        let p : number ≡ verdictNumber (decodedSheet (sheetOf sheet) .verdict) = is ∙ ap (λ (x : Decoded). verdictNumber (x .verdict)) e in
+        let p : number ≡ sheetNumber (decodedSheet (sheetOf sheet) .verdict) = is ∙ ap (λ (x : Decoded). sheetNumber (x .verdict)) e in
         ap refuse p ∙ refused-by (sheetOf sheet) (λ z. n (p ∙ z))
 
     -- a sheet that isn't refused: the call goes on with its table
     pub sheet-read : (r : A) → number ≡ 0 → ((s : Sheet) → TableOf (d .table) s → r ≡ go s) → r ≡ onSheet refuse (sheetOf sheet) go
-    unfolding onSheet decodedSheet refusedBy verdictNumber
+    unfolding onSheet decodedSheet refusedBy sheetNumber
     sheet-read r z k = on (sheetOf sheet) refl
       where
-        zero-of : (a : Answer) → sheetOf sheet ≡ a → verdictNumber (decodedSheet a .verdict) ≡ 0
-        zero-of a p = sym (ap (λ (x : Decoded). verdictNumber (x .verdict)) (e ∙ ap decodedSheet p)) ∙ sym is ∙ z
+        zero-of : (a : Answer) → sheetOf sheet ≡ a → sheetNumber (decodedSheet a .verdict) ≡ 0
+        zero-of a p = sym (ap (λ (x : Decoded). sheetNumber (x .verdict)) (e ∙ ap decodedSheet p)) ∙ sym is ∙ z
 
         on : (a : Answer) → sheetOf sheet ≡ a → r ≡ onSheet refuse a go
         on malformed p = absurd (omega (arith, zero-of malformed p))

@@ -25,19 +25,19 @@ unfoldable pub nested : String
 nested = "P 1\nT 3 0\nT 5 0\nT 6 0\nT 7 0\nT 8 0\nT 9 0\nT 10 0\nT 11 0\nT 12 0\nT 13 0\nT 14 0\nT 15 0\nT 16 0\nT 17 0\n"
 
 -- four locations; each row is filled up with zeros
-unfoldable pub memory : List ℕ → List ℕ → List ℕ → List ℕ → List ℕ
-memory a b c d = padded 16 a ++ (padded 16 b ++ (padded 16 c ++ padded 16 d))
+unfoldable pub fourLocations : List ℕ → List ℕ → List ℕ → List ℕ → List ℕ
+fourLocations a b c d = padded 16 a ++ (padded 16 b ++ (padded 16 c ++ padded 16 d))
 
 unfoldable pub before : List ℕ
-before = memory (1 ∷ 5 ∷ []) (1 ∷ 62 ∷ []) (4 ∷ 2 ∷ 1 ∷ []) (4 ∷ 2 ∷ 1 ∷ [])
+before = fourLocations (1 ∷ 5 ∷ []) (1 ∷ 62 ∷ []) (4 ∷ 2 ∷ 1 ∷ []) (4 ∷ 2 ∷ 1 ∷ [])
 
 -- after the pack
-unfoldable pub packed : List ℕ
-packed = memory (1 ∷ 5 ∷ []) (1 ∷ 62 ∷ []) (3 ∷ 5 ∷ 2 ∷ 1 ∷ 62 ∷ []) (4 ∷ 2 ∷ 1 ∷ [])
+unfoldable pub afterPack : List ℕ
+afterPack = fourLocations (1 ∷ 5 ∷ []) (1 ∷ 62 ∷ []) (3 ∷ 5 ∷ 2 ∷ 1 ∷ 62 ∷ []) (4 ∷ 2 ∷ 1 ∷ [])
 
 -- after an unpack that leaves these words in location 3
-unfoldable pub unpacked : List ℕ → List ℕ
-unpacked words = memory (1 ∷ 5 ∷ []) (1 ∷ 62 ∷ []) (3 ∷ 5 ∷ 2 ∷ 1 ∷ 62 ∷ []) words
+unfoldable pub afterUnpack : List ℕ → List ℕ
+afterUnpack words = fourLocations (1 ∷ 5 ∷ []) (1 ∷ 62 ∷ []) (3 ∷ 5 ∷ 2 ∷ 1 ∷ 62 ∷ []) words
 
 pub data Case : Type 0 where
   -- of four principals, whether a group reads or writes the label with these policies
@@ -77,11 +77,11 @@ cases =
     ∷ checks "= 0\nx 1\n" 6
     ∷ checks "= 1\nx 0\n" 0
     ∷ checks "= 0\nx 2\n" 5
-    ∷ runs "= 2\nk 2\nx 1\n" before 0b010 1 packed
+    ∷ runs "= 2\nk 2\nx 1\n" before 0b010 1 afterPack
     ∷ runs "= 2\nk 2\nx 1\n" before 0b000 1 before
     ∷ checks "= 2\nk 1\nx 1\n" 6
-    ∷ runs "c\nx 2\n= 3\nu 5 2\nv 0\ns\n" packed 0b001 2 (unpacked (3 ∷ 1 ∷ 62 ∷ []))
-    ∷ runs "c\nx 2\n= 3\nu 5 1\nv 0\ns\n" packed 0b001 2 (unpacked (4 ∷ 2 ∷ 2 ∷ []))
+    ∷ runs "c\nx 2\n= 3\nu 5 2\nv 0\ns\n" afterPack 0b001 2 (afterUnpack (3 ∷ 1 ∷ 62 ∷ []))
+    ∷ runs "c\nx 2\n= 3\nu 5 1\nv 0\ns\n" afterPack 0b001 2 (afterUnpack (4 ∷ 2 ∷ 2 ∷ []))
     ∷ spends "w\nl 3\ni 1\ns\n" before 0b000
     -- not starred: fourteen lefts over an integer fit, fifteen give 10
     ∷ answers "c\nl 17\nl 16\nl 15\nl 14\nl 13\nl 12\nl 11\nl 10\nl 9\nl 8\nl 7\nl 6\nl 5\nl 3\ni 1\ns\ns\n" 0 1

@@ -21,7 +21,7 @@ pub record Finished (sheet script memory : List ℕ) (authority budget steps : �
   pub started : Started sheet script memory authority its-sheet its-command
   pub run : Steps (worldOf its-sheet authority) steps (memoryOf memory) its-command reached skip
   pub words : left ≡ wordsOf (locationCount its-sheet) reached
-  pub within : steps ≤ budget
+  pub in-budget : steps ≤ budget
 
 -- What a run answers and leaves, whatever it is given: one of its numbers; the memory as it was, unless it is done; and beside 1 to 8
 -- no steps, beside 9 as many as the budget, beside 10 fewer (how many, `Ends` says).

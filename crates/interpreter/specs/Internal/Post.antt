@@ -52,8 +52,8 @@ pub record Skips (ws : List ℕ) (at next : ℕ) : Type 0 where
   pub means : (ls rest : List Line) → Piece ls rest → drop at ws ≡ code ls → drop next ws ≡ code rest
 
 -- how many operands follow a line of a kind; 4 for a number that is no kind
-unfoldable pub operandsOf : ℕ → ℕ
-operandsOf kind = getD (4 ∷ 0 ∷ 2 ∷ 1 ∷ 2 ∷ 3 ∷ 0 ∷ 0 ∷ 0 ∷ 2 ∷ 1 ∷ 1 ∷ 1 ∷ 1 ∷ []) kind 4
+unfoldable pub operandCount : ℕ → ℕ
+operandCount kind = getD (4 ∷ 0 ∷ 2 ∷ 1 ∷ 2 ∷ 3 ∷ 0 ∷ 0 ∷ 0 ∷ 2 ∷ 1 ∷ 1 ∷ 1 ∷ 1 ∷ []) kind 4
 
 -- ---- exec
 
@@ -99,22 +99,22 @@ pub record Assigns (ws : List ℕ) (at : ℕ) (table : List ℕ) (authority dept
 pub data Choice : Type 0 where
   to-left to-right : Value → ℕ → Choice
   no-budget : Choice
-  too-long : ℕ → Choice
-  no-rule : Choice
+  choice-long : ℕ → Choice
+  choice-stuck : Choice
 
 unfoldable pub choiceV : ℕ → Value → Choice
-choiceV b (int n) = no-rule
-choiceV b (err e) = no-rule
+choiceV b (int n) = choice-stuck
+choiceV b (err e) = choice-stuck
 choiceV b (inl v) = to-left v b
 choiceV b (inr v) = to-right v b
-choiceV b (pkg l v) = no-rule
-choiceV b blank = no-rule
+choiceV b (pkg l v) = choice-stuck
+choiceV b blank = choice-stuck
 
 unfoldable pub choice : ℕ → Res → Choice
 choice zero r = no-budget
 choice (suc b) (ok v) = choiceV b v
-choice (suc b) long = too-long b
-choice (suc b) stuck = no-rule
+choice (suc b) long = choice-long b
+choice (suc b) stuck = choice-stuck
 
 -- State 0, with `on` for left; the value in the accumulator, and the place after the expression.
 unfoldable pub Chooses : List ℕ → List Line → Choice → ℕ → ℕ → Bool → List ℕ → ℕ → Type 0
@@ -123,8 +123,8 @@ Chooses ws rest (to-left v b) state left on words next =
 Chooses ws rest (to-right v b) state left on words next =
     (state ≡ 0) × (left ≡ b) × (on ≡ false) × (words ≡ cell (inr v)) × (drop next ws ≡ code rest)
 Chooses ws rest no-budget state left on words next = (state ≡ 9) × (left ≡ 0)
-Chooses ws rest (too-long b) state left on words next = (state ≡ 10) × (left ≡ suc b)
-Chooses ws rest no-rule state left on words next = Unit {0}
+Chooses ws rest (choice-long b) state left on words next = (state ≡ 10) × (left ≡ suc b)
+Chooses ws rest choice-stuck state left on words next = Unit {0}
 
 pub record Decides (ws : List ℕ) (at : ℕ) (table : List ℕ) (authority depth : ℕ) (work : List ℕ) (fuel state left next : ℕ) (on : Bool) (work′ : List ℕ) : Type 0 where
   pub forward : at ≤ next
@@ -143,8 +143,8 @@ Enters ws rest locations depth M ρ c d (to-left v b) state left work start end 
 Enters ws rest locations depth M ρ c d (to-right v b) state left work start end =
     (state ≡ 0) × (left ≡ b) × CellsHold work locations (suc depth) M (v ∷ ρ) × (drop start ws ≡ code (cmdLines d rest)) × (drop end ws ≡ code rest)
 Enters ws rest locations depth M ρ c d no-budget state left work start end = (state ≡ 9) × (left ≡ 0)
-Enters ws rest locations depth M ρ c d (too-long b) state left work start end = (state ≡ 10) × (left ≡ suc b)
-Enters ws rest locations depth M ρ c d no-rule state left work start end = Unit {0}
+Enters ws rest locations depth M ρ c d (choice-long b) state left work start end = (state ≡ 10) × (left ≡ suc b)
+Enters ws rest locations depth M ρ c d choice-stuck state left work start end = Unit {0}
 
 pub record Branches (ws : List ℕ) (at : ℕ) (table : List ℕ) (authority depth : ℕ) (work : List ℕ) (fuel state left start end : ℕ) (work′ : List ℕ) : Type 0 where
   pub forward : at ≤ start

@@ -21,11 +21,11 @@ leaves refusal out before = cond (eqb refusal 0) out before
 unfoldable pub viewLeaves : Sheet → ℕ → List ℕ → List ℕ → List ℕ
 viewLeaves s g ws before = leaves (viewRefusal s ws (length before)) (viewWords s g ws) before
 
-unfoldable pub fitsIn : List ℕ → ℕ → Value → Bool
-fitsIn t x v = hasNo t v (typeIn t x)
+unfoldable pub asDeclaredIn : List ℕ → ℕ → Value → Bool
+asDeclaredIn t x v = hasNo t v (typeIn t x)
 
 unfoldable pub wellFormedIn : List ℕ → List ℕ → Bool
-wellFormedIn t ws = formedBy (locationsIn t) (labelsIn t) (fitsIn t) ws
+wellFormedIn t ws = formedBy (locationsIn t) (labelsIn t) (asDeclaredIn t) ws
 
 -- refusal 7 or 8 of a memory, else 0
 unfoldable pub refusalIn : List ℕ → List ℕ → ℕ

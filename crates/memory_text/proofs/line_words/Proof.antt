@@ -9,14 +9,14 @@ use Rattle.text.specs.Number.{number, most}
 use Rattle.text.proofs.Places.{placed-got}
 use Rattle.text.proofs.Fields.{number-at, number-bad}
 use Rattle.language.specs.World.{cell-words}
-use Rattle.memory_text.specs.Reading.{lineWords}
+use Rattle.memory_text.specs.Reading.{filledLine}
 use Rattle.memory_text.specs.Internal.Answers.{placedRow}
 use Rattle.memory_text.proofs.Rows as rows
 use Rattle.memory_text.proofs.line_words.Statement.{statement}
 use Rattle.memory_text.proofs.line_words.Tie as tie
 
 abbrev Inv-loop : tie.InvT-loop
-Inv-loop s at words₀ p₀ i₀ words p i = (i ≤ cell-words) × (rows.left i words (drop p s) ≡ lineWords (drop at s))
+Inv-loop s at words₀ p₀ i₀ words p i = (i ≤ cell-words) × (rows.left i words (drop p s) ≡ filledLine (drop at s))
 
 abbrev μ-loop : tie.MeasureT-loop
 μ-loop s at words₀ p₀ i₀ words p i = cell-words - i

@@ -33,8 +33,8 @@ unfoldable pub table : Read (List ℕ) → Memory
 table (got ws _) = record { answer = answer.Read; count = length ws / cell-words; words = padded memoryWords ws }
 table bad = record { answer = answer.Refused; count = 0; words = replicate memoryWords 0 }
 
-unfoldable pub memoryOf : List ℕ → Memory
-memoryOf t = table (memory t)
+unfoldable pub memoryAnswer : List ℕ → Memory
+memoryAnswer t = table (memory t)
 
 -- 16 words for each location, and 176 bytes of buffer for its line
 abbrev pub printable : List ℕ → List ℕ → Bool

@@ -49,12 +49,12 @@ stackOf [] = some []
 stackOf (l ∷ ls) = pushOn l (stackOf ls)
 
 -- one command, and nothing beside it
-unfoldable pub single : Option Stack → Option Cmd
-single none = none
-single (some []) = none
-single (some (ex e ∷ st)) = none
-single (some (cm c ∷ [])) = some c
-single (some (cm c ∷ x ∷ st)) = none
+unfoldable pub onlyCommand : Option Stack → Option Cmd
+onlyCommand none = none
+onlyCommand (some []) = none
+onlyCommand (some (ex e ∷ st)) = none
+onlyCommand (some (cm c ∷ [])) = some c
+onlyCommand (some (cm c ∷ x ∷ st)) = none
 
 unfoldable pub parse : List Line → Option Cmd
-parse ls = single (stackOf ls)
+parse ls = onlyCommand (stackOf ls)

@@ -9,7 +9,7 @@ use Rattle.labels.specs.Labels.{bottomOf, belowOf, readsOf, writesOf}
 use Rattle.labels.specs.Internal.Tables.{labelSize, labelWords, labelAt}
 use Rattle.labels.specs.declared.Label.{Label}
 use Rattle.sheet.specs.Padding.{padded}
-use Rattle.sheet.specs.Sheet.{Sum, Location, Sheet, partsOf, typeCount, labelsOf, labelCount, locationCount, maxTypes, maxLabels, maxLocations}
+use Rattle.sheet.specs.Sheet.{Sum, Location, Sheet, typeParts, typeCount, labelsOf, labelCount, locationCount, maxTypes, maxLabels, maxLocations}
 
 -- The table has words of counts, two words for each type and for each location, and the words of each label. These are the words
 -- that the types, the locations and the labels have room in, where they start, and the number of words in all.
@@ -53,7 +53,7 @@ labelsWords (a ∷ rest) = labelWords a ++ labelsWords rest
 unfoldable pub tableOf : Sheet → List ℕ
 tableOf s =
     (s .principals ∷ everyone (s .principals) ∷ typeCount s ∷ labelCount s ∷ locationCount s ∷ 0 ∷ 0 ∷ 0 ∷ [])
-    ++ (padded partsRoom (partWords (partsOf s)) ++ (padded locationsRoom (locationWords (s .locations)) ++ padded labelsRoom (labelsWords (labelsOf s))))
+    ++ (padded partsRoom (partWords (typeParts s)) ++ (padded locationsRoom (locationWords (s .locations)) ++ padded labelsRoom (labelsWords (labelsOf s))))
 
 -- ---- what a table says. A number that names nothing has the parts, type and label 0, and the label bottom.
 

@@ -14,8 +14,8 @@ use Rattle.sheet_text.specs.declared.line.Line.the-variants.{P, T, L, O,
 -- ---- a line more
 
 -- a sheet of n principals with nothing else
-unfoldable pub blank : ℕ → Sheet
-blank n = record { principals = n; sums = []; labels = []; locations = [] }
+unfoldable pub bareSheet : ℕ → Sheet
+bareSheet n = record { principals = n; sums = []; labels = []; locations = [] }
 
 unfoldable pub addSum : Sheet → Sum → Sheet
 addSum s x = record { principals = s .principals; sums = s .sums ++ (x ∷ []); labels = s .labels; locations = s .locations }
@@ -75,28 +75,28 @@ locationFits s t l = both (ltb (locationCount s) maxLocations) (both (ltb t (typ
 
 -- the sheet after a first line, which is `P`
 unfoldable pub begin : Line → Option Sheet
-begin (P n) = cond (both (leb 1 n) (leb n maxPrincipals)) (some (blank n)) none
+begin (P n) = cond (both (leb 1 n) (leb n maxPrincipals)) (some (bareSheet n)) none
 begin (T a b) = none
 begin L = none
 begin (O o r w) = none
 begin (X t l) = none
 
 -- the sheet after a further line
-unfoldable pub step : Sheet → Line → Option Sheet
-step s (P n) = none
-step s (T a b) = cond (sumFits s a b) (some (addSum s (record { left = a; right = b }))) none
-step s L = cond (labelFits s) (some (addLabel s)) none
-step s (O o r w) = cond (policyFits s o r w) (some (addPolicy s (policy o r w))) none
-step s (X t l) = cond (locationFits s t l) (some (addLocation s (record { type = t; label = l }))) none
+unfoldable pub addLine : Sheet → Line → Option Sheet
+addLine s (P n) = none
+addLine s (T a b) = cond (sumFits s a b) (some (addSum s (record { left = a; right = b }))) none
+addLine s L = cond (labelFits s) (some (addLabel s)) none
+addLine s (O o r w) = cond (policyFits s o r w) (some (addPolicy s (policy o r w))) none
+addLine s (X t l) = cond (locationFits s t l) (some (addLocation s (record { type = t; label = l }))) none
 
-unfoldable pub stepOn : Option Sheet → Line → Option Sheet
-stepOn none l = none
-stepOn (some s) l = step s l
+unfoldable pub addLineOn : Option Sheet → Line → Option Sheet
+addLineOn none l = none
+addLineOn (some s) l = addLine s l
 
-unfoldable pub steps : Option Sheet → List Line → Option Sheet
-steps o [] = o
-steps o (l ∷ ls) = steps (stepOn o l) ls
+unfoldable pub addLines : Option Sheet → List Line → Option Sheet
+addLines o [] = o
+addLines o (l ∷ ls) = addLines (addLineOn o l) ls
 
 unfoldable pub build : List Line → Option Sheet
 build [] = none
-build (l ∷ ls) = steps (begin l) ls
+build (l ∷ ls) = addLines (begin l) ls

@@ -8,10 +8,10 @@ use Rattle.sheet_text.specs.declared.Decoded.{Decoded}
 use Rattle.sheet_text.specs.Sheets.{Answer, malformed, repeating, accepted}
 
 -- the number of each verdict
-unfoldable pub verdictNumber : Verdict → ℕ
-verdictNumber Accepted = 0
-verdictNumber Malformed = 1
-verdictNumber Repeats = 2
+unfoldable pub sheetNumber : Verdict → ℕ
+sheetNumber Accepted = 0
+sheetNumber Malformed = 1
+sheetNumber Repeats = 2
 
 -- a refused text has a table of zeros
 unfoldable pub refusedBy : Verdict → Decoded

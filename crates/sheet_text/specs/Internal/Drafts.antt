@@ -15,7 +15,7 @@ use Rattle.sheet.specs.Internal.Tables.{labelsBase, tableOf, principalsIn, ever
 use Rattle.sheet_text.specs.declared.line.Line.{Line}
 use Rattle.sheet_text.specs.declared.draft.Draft.{Draft}
 use Rattle.sheet_text.specs.declared.draft.Draft.the-variants.{Formed, Refused}
-use Rattle.sheet_text.specs.Internal.Building.{leastOwner, steps}
+use Rattle.sheet_text.specs.Internal.Building.{leastOwner, addLines}
 
 -- a draft and a table are those of a sheet of the right form, or the draft is a refusal, whatever the table
 unfoldable pub DraftHolds : Option Sheet → Draft → List ℕ → Type 0
@@ -35,7 +35,7 @@ FormedIf (some s) = formed s ≡ true
 -- the sheet after further lines, if they could be read
 unfoldable pub stepsRead : Option Sheet → Option (List Line) → Option Sheet
 stepsRead o none = none
-stepsRead o (some ls) = steps o ls
+stepsRead o (some ls) = addLines o ls
 
 -- the answer to a line is its test over the table, and what it adds is stored if the test passes
 pub record Stores (fits : List ℕ → Bool) (stored : List ℕ → List ℕ) (t : List ℕ) (ok : Bool) (u : List ℕ) : Type 0 where

@@ -7,13 +7,13 @@ use lib.Seq.{sets}
 use lib.Dec.{leb}
 
 -- there are places for the bytes
-abbrev pub room : List ℕ → ℕ → List ℕ → Bool
-room out at bytes = leb (at + length bytes) (length out)
+abbrev pub hasRoom : List ℕ → ℕ → List ℕ → Bool
+hasRoom out at bytes = leb (at + length bytes) (length out)
 
 -- what the buffer then holds
 unfoldable pub written : List ℕ → ℕ → List ℕ → List ℕ
-written out at bytes = cond (room out at bytes) (sets out at bytes) out
+written out at bytes = cond (hasRoom out at bytes) (sets out at bytes) out
 
 -- the place after the bytes
 unfoldable pub reached : List ℕ → ℕ → List ℕ → ℕ
-reached out at bytes = cond (room out at bytes) (at + length bytes) at
+reached out at bytes = cond (hasRoom out at bytes) (at + length bytes) at

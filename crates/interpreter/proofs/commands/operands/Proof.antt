@@ -1,26 +1,26 @@
 -- `interpreter::commands::operands` meets its contract. Assumes nothing.
 use mathlib.Core.Path.{sym, ap}
-use Rattle.interpreter.specs.Internal.Post.{operandsOf}
+use Rattle.interpreter.specs.Internal.Post.{operandCount}
 use Rattle.interpreter.proofs.SkipLaws.{operands-none}
 use Rattle.interpreter.proofs.commands.operands.Statement.{statement}
 use Rattle.interpreter.proofs.commands.operands.Tie as tie
 
 pub operands-spec : {M : Type 1} → statement M
-unfolding operandsOf
+unfolding operandCount
 operands-spec = tie.close (tie.spec
-    (λ c. ap operandsOf (sym (c .match .keys1)))  -- returns
-    (λ c. ap operandsOf (sym (c .match .keys2)))  -- returns-2
-    (λ c. ap operandsOf (sym (c .match .keys3)))  -- returns-3
-    (λ c. ap operandsOf (sym (c .match .keys4)))  -- returns-4
-    (λ c. ap operandsOf (sym (c .match .keys5)))  -- returns-5
-    (λ c. ap operandsOf (sym (c .match .keys6)))  -- returns-6
-    (λ c. ap operandsOf (sym (c .match .keys7)))  -- returns-7
-    (λ c. ap operandsOf (sym (c .match .keys8)))  -- returns-8
-    (λ c. ap operandsOf (sym (c .match .keys9)))  -- returns-9
-    (λ c. ap operandsOf (sym (c .match .keys10)))  -- returns-10
-    (λ c. ap operandsOf (sym (c .match .keys11)))  -- returns-11
-    (λ c. ap operandsOf (sym (c .match .keys12)))  -- returns-12
-    (λ c. ap operandsOf (sym (c .match .keys13)))  -- returns-13
+    (λ c. ap operandCount (sym (c .match .keys1)))  -- returns
+    (λ c. ap operandCount (sym (c .match .keys2)))  -- returns-2
+    (λ c. ap operandCount (sym (c .match .keys3)))  -- returns-3
+    (λ c. ap operandCount (sym (c .match .keys4)))  -- returns-4
+    (λ c. ap operandCount (sym (c .match .keys5)))  -- returns-5
+    (λ c. ap operandCount (sym (c .match .keys6)))  -- returns-6
+    (λ c. ap operandCount (sym (c .match .keys7)))  -- returns-7
+    (λ c. ap operandCount (sym (c .match .keys8)))  -- returns-8
+    (λ c. ap operandCount (sym (c .match .keys9)))  -- returns-9
+    (λ c. ap operandCount (sym (c .match .keys10)))  -- returns-10
+    (λ c. ap operandCount (sym (c .match .keys11)))  -- returns-11
+    (λ c. ap operandCount (sym (c .match .keys12)))  -- returns-12
+    (λ c. ap operandCount (sym (c .match .keys13)))  -- returns-13
     (λ c. operands-none _ (c .match .rest .0 .0 .0 .0 .0 .0 .0 .0 .0 .0 .0 .0 .1) (c .match .rest .0 .0 .0 .0 .0 .0 .0 .0 .0 .0 .0 .1)
     (c .match .rest .0 .0 .0 .0 .0 .0 .0 .0 .0 .0 .1) (c .match .rest .0 .0 .0 .0 .0 .0 .0 .0 .0 .1) (c .match .rest .0 .0 .0 .0 .0 .0 .0 .0 .1)
     (c .match .rest .0 .0 .0 .0 .0 .0 .0 .1) (c .match .rest .0 .0 .0 .0 .0 .0 .1) (c .match .rest .0 .0 .0 .0 .0 .1) (c .match .rest .0 .0 .0 .0 .1)

@@ -7,7 +7,7 @@ use lib.ListN.{length, drop}
 use Rattle.sheet.specs.Sheet.{Sheet}
 use Rattle.text.specs.Reading.Read.{got}
 use Rattle.sheet_text.specs.Reading.{lineOf, linesOf}
-use Rattle.sheet_text.specs.Internal.Building.{stepOn}
+use Rattle.sheet_text.specs.Internal.Building.{addLineOn}
 use Rattle.sheet_text.specs.Internal.Drafts.{DraftHolds, FormedIf, stepsRead}
 use Rattle.sheet_text.proofs.FoundLaws.{line-found, line-missed, line-onward}
 use Rattle.sheet_text.proofs.DraftLaws.{holds-none, formed-stepped}
@@ -48,7 +48,7 @@ loop-again c =
     let at = k .before .before .before .before in
     let s = at .before .before .args .s .now in
     let (o′, f′, e′, g) = at .loop .inv o f e in (
-      stepOn o′ (k .read .given .0 .0),
+      addLineOn o′ (k .read .given .0 .0),
       formed-stepped o′ _ f′,
       c .step .ensures o′ f′ e′,
       steps-on o′ s (at .loop .at) _ (k .before .before .line-from .result .at) (found k .0) ∙ g,

@@ -1,0 +1,84 @@
+"""What the files of specs/ declare, and what they bring from each other: read off their text, for tests/promises and tests/documents."""
+import glob, os, re
+
+ROOT = os.path.dirname(os.path.dirname(os.path.abspath(__file__)))
+
+
+def text(path):
+    with open(f"{ROOT}/{path}", encoding="utf-8") as f:
+        return f.read()
+
+
+def plain(text):
+    """The text without its comments, line by line."""
+    return re.sub(r"(^|\s)--.*", r"\1", text, flags=re.M)
+
+
+def names_of(block):
+    """What a block brings into scope: its own name, a data type's constructors, and what a module in it declares."""
+    found, data = set(), -1
+    for line in block.split("\n"):
+        depth = len(line) - len(line.lstrip())
+        if m := re.match(r" *(?:abbrev |unfoldable )?(?:pub )?(record |data )?([^\s:(){}]+)", line):
+            if depth <= data:
+                data = -1
+            if data >= 0 and depth == data + 2 and " : " in line:
+                found |= set(line.split(" : ")[0].split())
+            elif m[1] or depth == 0 or (block.startswith("module") and depth == 2 and " : " in line):
+                found.add(m[2])
+            if m[1] == "data ":
+                data = depth
+    return found
+
+
+def cached(f):
+    kept = {}
+    return lambda path: kept[path] if path in kept else kept.setdefault(path, f(path))
+
+
+@cached
+def definitions(path):
+    """name -> the declarations of a file that bring it; of a type of the code, the struct or enum."""
+    found = {}
+    if os.path.isfile(f"{ROOT}/{path}"):
+        declarations = re.sub(r"^(use|(pub )?mod) .*\n", "", plain(text(path)), flags=re.M)
+        for block in re.split(r"\n(?=(?:pub|abbrev|unfoldable|infix|module)\b)", declarations):
+            for name in names_of(block):
+                found.setdefault(name, []).append(block)
+    elif m := re.match(r"(crates/\w+)/specs/declared/(?:\w+/)*(\w+)\.antt", path):
+        for f in sorted(glob.glob(f"{ROOT}/{m[1]}/src/*.rt")):
+            for block in re.findall(rf"^pub (?:struct|enum) {m[2]}\b[^{{]*\{{[^}}]*\}}", text(os.path.relpath(f, ROOT)), re.M):
+                found |= {name: [block] for name in re.findall(r"\w+", block)}
+    return found
+
+
+@cached
+def imports(path):
+    """What a file of specs/ or src/ brings from specs/ of any crate: name -> (file, name there)."""
+    found = {}
+    if os.path.isfile(f"{ROOT}/{path}"):
+        for crate, module, names in re.findall(r"^(?:ghost )?use Rattle·(\w+?)(?:·specs)?\.(specs\.[\w.-]+)\.\{([^}]*)\}", plain(text(path)), re.M):
+            for name in names.split(","):
+                there, _, here = name.strip().partition(" as ")
+                found[here or there] = (f"crates/{crate}/{module.replace('.the-variants', '').replace('.', '/')}.antt", there)
+    return found
+
+
+def named_in(clause, path):
+    """The places of what a text in a file names: in that file, or where the file brings it from."""
+    words = re.findall(r"[^\s(){}.,;]+", clause)
+    return [(path, w) for w in words if w in definitions(path)] + [imports(path)[w] for w in words if w in imports(path) and w not in definitions(path)]
+
+
+def rests_on(places, follow=lambda here, there: True):
+    """The declarations, with their files, that places rest on, in turn; `follow` says whether to go from one file to another."""
+    found, seen, todo = set(), set(), list(places)
+    while todo:
+        place = todo.pop()
+        if place in seen:
+            continue
+        seen.add(place)
+        for block in definitions(place[0]).get(place[1], []):
+            found.add((place[0], " ".join(block.split())))
+            todo += [p for p in named_in(block, place[0]) if follow(place[0], p[0])]
+    return found

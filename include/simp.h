@@ -1,11 +1,12 @@
 /*
  * SImp scripts on a sheet: checking, running, viewing.
  *
- * Link with libsimp.a. The calls keep no state, allocate nothing and read and write only what they are lent.
- * They settle every input: bad input gets one of the numbers below, the first that applies in the order 1 2 3 4 5 6
- * 7 8, then 9 or 10 by the run, and a refused call writes to no lent slice. Each call ends, given stack
- * (docs/PERFORMANCE.md has what was measured); a large budget can take hours, so choose it for the time that you
- * have.
+ * Link with libsimp.a, which is x86-64 code and calls memcpy and memset, nothing else. The calls keep no state,
+ * allocate nothing and read and write only what they are lent. They settle every input: bad input gets one of the
+ * numbers below, the first that applies in the order 1 2 3 4 5 6 7 8, then 9 or 10 by the run, and a refused call
+ * writes to no lent slice. Each call ends, given up to 137 KB of stack (docs/PERFORMANCE.md); a large budget can take
+ * hours, so choose it for the time that you have. docs/TEXTS.md has the forms of sheets, scripts and memories. An
+ * answer of 9 or 10, and the steps, may depend on what a group cannot read: don't show them to everyone.
  *
  * A slice is a pointer and the number of its elements. A pointer is not null and suitably aligned, also where the
  * number is 0, and no other slice of the call overlaps one that the call may write (a memory of simp_run, a view of
@@ -38,7 +39,7 @@ enum {
     SIMP_ILL_TYPED = 5,          /* the script has no derivation, even with every label condition struck out */
     SIMP_ILL_LABELLED = 6,       /* the script has a derivation only with the label conditions struck out */
     SIMP_SLICE_SIZE = 7,         /* a lent memory or view isn't SIMP_CELL words for each location */
-    SIMP_MEMORY_ILL_FORMED = 8,  /* a location's words aren't a value of its type and zeros, or name a label not on the sheet */
+    SIMP_MEMORY_ILL_FORMED = 8,  /* a location's words aren't a value of its type and zeros, or name no label */
     SIMP_SPENT = 9,              /* the budget was used up before the script ended */
     SIMP_TOO_LONG = 10           /* in a step within the budget a value took more than SIMP_CELL words */
 };
@@ -53,8 +54,8 @@ typedef struct {
 /* Whether a script is accepted on a sheet: 0, 1, 2, 4, 5 or 6. */
 uint8_t simp_check(const uint8_t *sheet, size_t sheet_len, const uint8_t *script, size_t script_len);
 
-/* Checks a script and runs it on a memory under an authority, for at most `budget` steps. Bit p of a set is
- * principal p. The memory changes only if the answer is SIMP_DONE. */
+/* Checks a script and runs it on a memory under an authority, for at most `budget` steps: 0 to 10. Bit p of a set
+ * is principal p. The memory changes only if the answer is SIMP_DONE. */
 simp_outcome simp_run(const uint8_t *sheet, size_t sheet_len, const uint8_t *script, size_t script_len,
                       uint32_t *memory, size_t memory_len, uint16_t authority, uint32_t budget);
 

@@ -94,6 +94,8 @@ int main(void)
     report("255 w inside one another");
     write_script("=\t0\n", "+\n", 255, "i\t1\n", 256);
     report("255 + inside one another");
+    write_script("", ";\n", 512, "", 0);
+    report("512 ; and nothing else");
     printf("%-36s       %7zu bytes (answer %d)\n", "a view", used(VIEW) - used(NOTHING), answer);
     return 0;
 }

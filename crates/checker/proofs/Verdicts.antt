@@ -16,9 +16,9 @@ use Rattle.sheet.proofs.MeaningLaws.{least-label-laws}
 use Rattle.checker.specs.declared.Passed.{Passed}
 use Rattle.checker.specs.Internal.Numbers.{shapeNo, conditionsOn}
 use Rattle.checker.specs.Internal.Bindings.{upTo, bindingsSize}
-use Rattle.checker.specs.Verdict.{verdictNumber, verdictOf}
+use Rattle.checker.specs.Verdict.{verdictNumber}
 use Rattle.checker.specs.declared.Verdict.{Verdict}
-use Rattle.checker.specs.Internal.Post.{ChecksCmd, ChecksCode}
+use Rattle.checker.specs.Internal.Post.{ChecksCmd, ChecksCode, verdictOf}
 use Rattle.checker.specs.Theorems.{CheckerExact}
 use Rattle.checker.proofs.TypeLaws.{no-bound, shape-agree}
 use Rattle.checker.proofs.LabelLaws.{flow-table}

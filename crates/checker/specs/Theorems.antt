@@ -18,6 +18,6 @@ pub record Derivations (s : Sheet) (c : Cmd) (r : ℕ) : Type 0 where
   pub refused-6 : (r ≡ 6)
       ↔ (Derivable struck (unlabelled (declarationsOf s)) c × ¬ Derivable (labelsOver (s .principals)) (declarationsOf s) c)
 
--- On every sheet the number that the checker's contract gives, `refusal` over the sheet's labels, is such a number for every command.
+-- For every sheet and command `refusal`, the number that the checker's contract gives on a sheet that isn't refused, is such a number.
 abbrev pub CheckerExact : Type 0
 CheckerExact = (s : Sheet) (c : Cmd) → Derivations s c (refusal (labelsOver (s .principals)) (declarationsOf s) c)

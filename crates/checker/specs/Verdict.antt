@@ -1,5 +1,4 @@
 -- What the checker finds of a script, and the scope's number for it.
-use mathlib.Core.Bool.{Bool, cond}
 use Prim.Native.Nat.{ℕ}
 use Rattle.checker.specs.declared.Verdict.{Verdict}
 use Rattle.checker.specs.declared.Verdict.the-variants.{Accepted, IllTyped, IllLabelled}
@@ -8,7 +7,3 @@ unfoldable pub verdictNumber : Verdict → ℕ
 verdictNumber Accepted = 0
 verdictNumber IllTyped = 5
 verdictNumber IllLabelled = 6
-
--- by whether the types fit, and whether the label conditions hold
-unfoldable pub verdictOf : Bool → Bool → Verdict
-verdictOf typed flow = cond typed (cond flow Accepted IllLabelled) IllTyped

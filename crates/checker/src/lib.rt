@@ -5,8 +5,8 @@ mod expressions; // expressions.rt: types and least labels of expressions
 mod commands; // commands.rt: commands
 
 ghost use mathlib.Core.Path.{_≡_};
-ghost use Rattle.checker.specs.Verdict.{verdictNumber, verdictOf};
-ghost use Rattle.checker.specs.Internal.Post.{ChecksCode};
+ghost use Rattle.checker.specs.Verdict.{verdictNumber};
+ghost use Rattle.checker.specs.Internal.Post.{ChecksCode, verdictOf};
 use members::Members;
 
 // What is found of an expression: its type, if it has one; whether its label conditions hold; its least label; and the word after

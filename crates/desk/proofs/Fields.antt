@@ -16,7 +16,8 @@ use Rattle.desk.specs.declared.Group.{Group}
 use Rattle.desk.specs.declared.Group.the-variants as group
 use Rattle.desk.specs.declared.Budget.{Budget}
 use Rattle.desk.specs.declared.Budget.the-variants as budget
-use Rattle.desk.specs.Fields.{closed, onlyField, groupAnswer, budgetAnswer}
+use Rattle.desk.specs.Internal.Post.{groupAnswer, budgetAnswer}
+use Rattle.desk.specs.Fields.{closed, onlyField}
 use Rattle.logic.specs.Booleans.{both}
 
 -- the end of the line at a place of s

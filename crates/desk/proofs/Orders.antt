@@ -9,13 +9,15 @@ use Rattle.text.specs.Reading.{Read}
 use Rattle.text.specs.Reading.Read.{got, bad}
 use Rattle.text.proofs.Readings.{not-bad}
 use Rattle.logic.proofs.OptionLaws.{none-some}
-use Rattle.numbers.specs.Rows.{Row, _when_, First}
+use Rattle.numbers.specs.Rows.{Row, _when_, numbers, First}
 use Rattle.numbers.proofs.RowLaws.{exactly}
 use Rattle.memory.specs.View.{viewWords}
 use Rattle.memory_text.specs.Printing.{memoryText}
 use Rattle.memory_text.specs.Reading.{memory}
+use Rattle.memory_text.specs.Theorems.{IsMemory}
 use Rattle.memory_text.proofs.Memories.{memory-exact, memory-sound}
-use Rattle.simp.specs.Calls.{Viewed, refusedView, viewOf}
+use Rattle.simp.specs.Answers.{Viewed, refusedView}
+use Rattle.simp.specs.Calls.{viewOf}
 use Rattle.simp.specs.Judgements.{OfSheet, Strangers, OtherSize, IllFormed, View}
 use Rattle.simp.proofs.Judged.{its}
 use Rattle.simp.proofs.SecondDemand.{demand-2}
@@ -24,8 +26,8 @@ use Rattle.desk.specs.Numbers.{placeOf, earlier, unread, asText}
 use Rattle.desk.specs.Given.{wordsRead, givenFrom, givenOf}
 use Rattle.desk.specs.Output.{numberLine}
 use Rattle.desk.specs.Show.{viewText, viewed, showOf}
-use Rattle.desk.specs.Order.{IsGroup, IsMemoryText, OfGroup, OfMemory, NoGroup, NoMemory, showRows, Shown}
-use Rattle.desk.specs.Theorems.{ShowInOrder}
+use Rattle.desk.specs.Order.{IsGroup, OfGroup, OfMemory, NoGroup, NoMemory, showRows, Shown}
+use Rattle.desk.specs.Theorems.{SameOrder, ShowInOrder}
 use Rattle.desk.proofs.Exact.{group-exact}
 use Rattle.desk.proofs.Givens.{given-words}
 
@@ -37,7 +39,7 @@ said other v = viewText (earlier (asText (v .answer)) other) (v .view)
 one-group : {t : List ℕ} {g g′ : ℕ} → IsGroup t g → IsGroup t g′ → g′ ≡ g
 one-group {t} {g} {g′} i i′ = let p = group-exact t g .1 i in let q = group-exact t g′ .1 i′ in cc
 
-one-memory : {t ws us : List ℕ} → IsMemoryText t ws → IsMemoryText t us → us ≡ ws
+one-memory : {t ws us : List ℕ} → IsMemory t ws → IsMemory t us → us ≡ ws
 one-memory {t} {ws} {us} i i′ = let p = memory-exact ws t .1 i in let q = memory-exact us t .1 i′ in cc
 
 -- where none of show's numbers applies, and the rows past those of the sheet, and of the group
@@ -122,7 +124,7 @@ module _ (sheet text group ws : List ℕ) (g : ℕ) where
     no-memory n (inr (m, inr (l, h))) = inl (inl n, ap (said 8) (h .2))
 
     -- and one that is
-    on-memory : IsMemoryText text ws → Seen past-3 → Said (memory-rows sheet text group) 0
+    on-memory : IsMemory text ws → Seen past-3 → Said (memory-rows sheet text group) 0
     unfolding First viewText earlier placeOf asText
     on-memory j (inl (inl a, e)) = inl (inr (ws, j, inl a), ap (said 0) e)
     on-memory j (inl (inr (s, f, a), e)) = inl (inr (ws, j, inl (s, f, λ z. a (length-replicate {A = ℕ} (length ws) 0 ∙ z))), ap (said 0) e)
@@ -157,6 +159,10 @@ module _ (sheet text group : List ℕ) where
       on-sheet sheet text group ws g (some g) (got ws r)
       (on-group sheet text group ws g (group-exact group g .0 e) (got ws r)
       (on-memory sheet text group ws g (group-exact group g .0 e) (s .0, s .1)))
+
+pub same-order : SameOrder
+unfolding numbers
+same-order sheet script memory authority = refl
 
 pub show-in-order : ShowInOrder
 show-in-order sheet text group =

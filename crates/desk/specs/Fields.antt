@@ -1,18 +1,14 @@
 -- Texts of one line and one field: a group, an authority, a budget (the scope, the program show).
 use Prim.Native.Nat.{ℕ}
-use mathlib.Core.Bool.{Bool, true, false, cond}
+use mathlib.Core.Bool.{Bool, false, cond}
 use mathlib.Core.List.{List, [], _∷_}
-use mathlib.Core.Option.{Option, none, some, Option·elim}
+use mathlib.Core.Option.{Option, none, some}
 use lib.Dec.{eqb}
 use lib.ListN.{length}
 use Rattle.text.specs.Reading.{Read}
 use Rattle.text.specs.Reading.Read.{got, bad}
 use Rattle.text.specs.Number.{number, most}
 use Rattle.text.specs.Set.{hexSet}
-use Rattle.desk.specs.declared.Group.{Group}
-use Rattle.desk.specs.declared.Group.the-variants as group
-use Rattle.desk.specs.declared.Budget.{Budget}
-use Rattle.desk.specs.declared.Budget.the-variants as budget
 use Rattle.logic.specs.Booleans.{both}
 
 -- the end of the line, and nothing more
@@ -32,10 +28,3 @@ groupOf t = onlyField (hexSet t)
 -- a budget: a number of 32 bits and byte 10
 unfoldable pub budgetOf : List ℕ → Option ℕ
 budgetOf t = onlyField (number most t)
-
--- the code's answers
-abbrev pub groupAnswer : Option ℕ → Group
-groupAnswer o = Option·elim o group.Refused (λ m. group.Read m)
-
-abbrev pub budgetAnswer : Option ℕ → Budget
-budgetAnswer o = Option·elim o budget.Refused (λ n. budget.Read n)

@@ -17,17 +17,12 @@ use Rattle.desk.specs.Output.{numberLine}
 abbrev pub IsGroup : List ℕ → ℕ → Type 0
 IsGroup text g = (text ≡ hex4 g ++ (10 ∷ [])) × (g < 65536)
 
--- The text is that of a memory: the printed form of 16 words of 32 bits for each of at most 64 locations. Such a text has at most
--- 11,264 bytes, so that the limit on texts needs no mention.
-abbrev pub IsMemoryText : List ℕ → List ℕ → Type 0
-IsMemoryText text ws = (text ≡ memoryText ws) × IsMemory ws
-
 -- The text is that of a group, or of a memory, and P holds of it.
 abbrev pub OfGroup : List ℕ → (ℕ → Type 0) → Type 0
 OfGroup text P = (g : ℕ) × IsGroup text g × P g
 
 abbrev pub OfMemory : List ℕ → (List ℕ → Type 0) → Type 0
-OfMemory text P = (ws : List ℕ) × IsMemoryText text ws × P ws
+OfMemory text P = (ws : List ℕ) × IsMemory text ws × P ws
 
 -- ---- what else 3 and 8 are for: a text that isn't of its form
 
@@ -37,7 +32,7 @@ NoGroup group = (g : ℕ) → ¬ IsGroup group g
 
 -- 8
 abbrev pub NoMemory : List ℕ → Type 0
-NoMemory text = (ws : List ℕ) → ¬ IsMemoryText text ws
+NoMemory text = (ws : List ℕ) → ¬ IsMemory text ws
 
 -- ---- show
 

@@ -7,11 +7,14 @@ use mathlib.Core.Option.{some}
 use lib.ListN.{length, take}
 use Rattle.text.specs.Number.{decimal, most}
 use Rattle.text.specs.Reading.Read.{got}
+use Rattle.numbers.specs.Rows.{numbers}
 use Rattle.memory_text.specs.Reading.{memory}
 use Rattle.simp.specs.Calls.{runOf}
+use Rattle.simp.specs.Judgements.{runRows}
 use Rattle.parts.specs.Parts.{keep}
 use Rattle.parts.specs.Feeding.{beginning, held, fed}
 use Rattle.desk.specs.Fields.{groupOf, budgetOf}
+use Rattle.desk.specs.Numbers.{order}
 use Rattle.desk.specs.Show.{showOf}
 use Rattle.desk.specs.Run.{outcomeLine, ranText, runTextOf}
 use Rattle.desk.specs.Order.{IsGroup, Shown}
@@ -25,11 +28,16 @@ GroupExact = (t : List ℕ) (g : ℕ) → (groupOf t ≡ some g) ↔ IsGroup t g
 abbrev pub BudgetExact : Type 0
 BudgetExact = (t : List ℕ) (n : ℕ) → (budgetOf t ≡ some n) ↔ ((t ≡ decimal n ++ (10 ∷ [])) × (n ≤ most))
 
+-- The list by which the programs order the refusals is the order of a run's table.
+abbrev pub SameOrder : Type 0
+SameOrder = (sheet script memory : List ℕ) (authority : ℕ) → order ≡ numbers (runRows sheet script memory authority)
+
 -- Show prints exactly what its table has: the first number that applies, or the view.
 abbrev pub ShowInOrder : Type 0
 ShowInOrder = (sheet text group out : List ℕ) → (showOf sheet text group ≡ out) ↔ Shown sheet text group out
 
--- Where every text is of its form, run prints the run; 7 can only come from another number of lines than the sheet has locations, and is 8.
+-- Where memory, authority and budget are of their forms, run prints the run, refusals of the sheet and of the script included; 7 can only
+-- come from another number of lines than the sheet has locations, and is 8.
 pub record RunPlain (sheet script text authority budget ws : List ℕ) (a n : ℕ) : Type 0 where
   pub ran : (runOf sheet script ws a n .answer ≡ 7 → ⊥) → runTextOf sheet script text authority budget ≡ ranText (runOf sheet script ws a n)
   pub other-lines : runOf sheet script ws a n .answer ≡ 7 → runTextOf sheet script text authority budget ≡ outcomeLine 8 0 text

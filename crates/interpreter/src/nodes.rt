@@ -181,7 +181,7 @@ fn unpack(
     v
 }
 
-// What a line of a kind with one operand, and with the numbers a and b, makes of the value in the accumulator.
+// What a line of a kind, with the numbers a and b, makes of the value in the accumulator; of a plus, a is the integer on the left.
 pub(crate) fn applied(
     work: &mut [u32; cells::WORK],
     table: &[u16],

@@ -131,7 +131,7 @@ wholeOf a = both (eqb (length (a .readers)) owners) (eqb (length (a .writers)) o
 unfoldable pub effective : ℕ → Label → Bool
 effective n a = both (wholeOf a) (both (belowOf (bottomOf (everyone n)) a) (belowOf a (topOf n)))
 
--- a label with the fact that it is one of n principals
+-- a label, with the fact that it is effective for n principals
 pub record EffectiveLabel (n : ℕ) : Type 0 where
   pub raw : Label
   pub ok : effective n raw ≡ true

@@ -8,11 +8,11 @@ use native.Mathlib.Omega.{arith}
 use Rattle.language.specs.Syntax.{Ty, Value, int, size, Expr, Cmd, skip, seq, assign, while, case}
 use Rattle.language.specs.World.{World, Mem}
 use Rattle.language.specs.Figures.{Steps, s-none, LongExpr, long-value, in-plus1, in-plus2, in-left, in-right, in-pack, in-unpack, LongStep, in-assign, in-seq, in-while, in-case, NoneLong}
-use Rattle.language.specs.Declarations.{Shapes}
+use Rattle.language.specs.Declarations.{Shapes, Fitting}
 use Rattle.language.specs.Evaluation.{Res, ok, long, stuck, eval}
 use Rattle.language.specs.Transition.{Next, final, to, too-long, no-rule, at-seq, at-assign, branch, step, Out, done, spent, over, after, run, iterate}
 use Rattle.language.specs.Typing.{shape}
-use Rattle.language.specs.Theorems.{SameTypes, Fitting, RunEnds, ends-done, ends-spent, ends-over, LongExact, Outcome}
+use Rattle.language.specs.Theorems.{SameTypes, RunEnds, ends-done, ends-spent, ends-over, LongExact, Outcome}
 use Rattle.logic.proofs.BooleanLaws.{both-left, both-right}
 use Rattle.language.proofs.Types.{onSum-path, HasType, h-int, h-loc, h-var, h-plus, h-left, h-right, h-pack, h-unpack, has-type, is-type}
 use Rattle.language.proofs.Agreement.{agreement, Refines, same, was-long, star-eval}

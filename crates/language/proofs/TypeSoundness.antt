@@ -7,11 +7,11 @@ use Prim.Native.Nat.{ℕ, zero, suc}
 use Rattle.language.specs.Syntax.{Ty, t-int, t-err, t-pkg, t-sum, Value, int, inl, inr, pkg, has, Expr, Cmd, skip, seq, assign, while, case}
 use Rattle.language.specs.World.{World, Mem, wanted}
 use Rattle.language.specs.Substitution.{Env, close}
-use Rattle.language.specs.Declarations.{Shapes, nth}
+use Rattle.language.specs.Declarations.{Shapes, nth, WellTyped}
 use Rattle.language.specs.Evaluation.{Res, bind, fit, add, packed, opened, unpacked, lookup, eval}
 use Rattle.language.specs.Transition.{Next, too-long, no-rule, at-seq, branch, step, wrong}
 use Rattle.language.specs.Typing.{shape}
-use Rattle.language.specs.Theorems.{SameTypes, WellTyped, TypeSoundness}
+use Rattle.language.specs.Theorems.{SameTypes, TypeSoundness}
 use Rattle.logic.proofs.BooleanLaws.{both-left, both-right, both-true, fails}
 use Rattle.language.proofs.Results.{by-fit, holds-bind, Good, by-add, by-unpacked, by-branch}
 use Rattle.language.proofs.Types.{onSum-path, HasType, h-int, h-loc, h-var, h-plus, h-left, h-right, h-pack, h-unpack, has-type, is-type}

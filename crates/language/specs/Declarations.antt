@@ -1,13 +1,24 @@
--- What a sheet declares, over any labels, and the element of a list at a place.
+-- What a sheet declares, over any labels; memories as declared; and the element of a list at a place.
+use mathlib.Core.Path.{_≡_}
+use mathlib.Core.Bool.{true}
 use mathlib.Core.Option.{Option, none, some}
 use mathlib.Core.List.{List, [], _∷_}
-use Prim.Native.Nat.{ℕ, zero, suc}
-use Rattle.language.specs.Syntax.{Ty}
+use Prim.Native.Nat.{ℕ, zero, suc, _≤_}
+use Rattle.language.specs.Syntax.{Ty, size, has}
+use Rattle.language.specs.World.{Mem, cell-words}
 
 -- What a sheet says of types: the type that a type number names, and a location's type.
 pub record Shapes : Type 0 where
   pub ty : ℕ → Ty
   pub locTy : ℕ → Ty
+
+-- Definition 2: the memory's values have their declared types.
+abbrev pub WellTyped : Shapes → Mem → Type 0
+WellTyped S M = (x : ℕ) → has (M x) (S .locTy x) ≡ true
+
+-- No value of the memory is too long.
+abbrev pub Fitting : Mem → Type 0
+Fitting M = (x : ℕ) → size (M x) ≤ cell-words
 
 -- What a sheet declares: the types, the label that a label number names, and a location's label.
 pub record Declarations (L : Type 0) : Type 0 where

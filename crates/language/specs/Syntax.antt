@@ -10,7 +10,7 @@ pub data Ty : Type 0 where
   deriving Discrete as Ty-discrete
 
 -- An integer; an error (1 insufficientAuth, 2 illegalFlow, 3 typeMismatch); left and right; a package with its label.
--- `blank` stands for content that a view hides; no run meets it.
+-- `blank` stands for content that a view hides, and for words that are read and are no value's; no run meets it.
 pub data Value : Type 0 where
   int : ℕ → Value
   err : ℕ → Value

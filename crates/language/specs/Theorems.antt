@@ -3,13 +3,13 @@ use mathlib.Core.Logic.{_↔_}
 use mathlib.Core.Path.{_≡_}
 use mathlib.Core.Bool.{Bool, true}
 use mathlib.Core.List.{[]}
-use Prim.Native.Nat.{ℕ, suc, _+_, _≤_}
-use Rattle.language.specs.Syntax.{Value, size, has, Expr, val, Cmd, skip}
-use Rattle.language.specs.World.{World, Mem, cell-words}
+use Prim.Native.Nat.{ℕ, suc, _+_}
+use Rattle.language.specs.Syntax.{Value, Expr, val, Cmd, skip}
+use Rattle.language.specs.World.{World, Mem}
 use Rattle.language.specs.Transition.{final, to, too-long, no-rule, step, Out, done, spent, over, wrong, iterate}
 use Rattle.language.specs.Figures.{EStar, Step, Steps, LongExpr, LongStep, NoneLong}
 use Rattle.language.specs.Labels.{Labels, LeastLabelLaws, struck}
-use Rattle.language.specs.Declarations.{Shapes, Declarations, unlabelled}
+use Rattle.language.specs.Declarations.{Shapes, WellTyped, Fitting, Declarations, unlabelled}
 use Rattle.language.specs.Typing.{shape, Conditions, least, flowE, flow, refusal}
 use Rattle.language.specs.Rules.{Derivable}
 use Rattle.language.specs.View.{mask, maskMem, Equiv, EquivMem}
@@ -36,14 +36,6 @@ pub data RunEnds (W : World) (b : ℕ) (M : Mem) (c : Cmd) : Out → Type 0 wher
   ends-spent : {M′ : Mem} {c′ : Cmd} → Steps W b M c M′ c′ → ¬ (c′ ≡ skip) → NoneLong W b M c → RunEnds W b M c spent
   ends-over : {k l : ℕ} {M′ : Mem} {c′ : Cmd} → k + suc l ≡ b → Steps W k M c M′ c′ → LongStep W M′ c′ → NoneLong W k M c
       → RunEnds W b M c (over (suc l))
-
--- Definition 2: the memory's values have their declared types.
-abbrev pub WellTyped : Shapes → Mem → Type 0
-WellTyped S M = (x : ℕ) → has (M x) (S .locTy x) ≡ true
-
--- No value of the memory is too long.
-abbrev pub Fitting : Mem → Type 0
-Fitting M = (x : ℕ) → size (M x) ≤ cell-words
 
 -- The world's types are the sheet's.
 abbrev pub SameTypes : Shapes → World → Type 0

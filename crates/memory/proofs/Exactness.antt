@@ -11,7 +11,7 @@ use lib.ListN.{length, List·getD-eq-default}
 use Rattle.language.specs.Syntax.{t-int, has}
 use Rattle.language.specs.World.{Mem, cell-words}
 use Rattle.language.specs.View.{seen, mask, maskMem}
-use Rattle.language.specs.Theorems.{WellTyped, Fitting}
+use Rattle.language.specs.Declarations.{WellTyped, Fitting}
 use Rattle.sheet.specs.Sheet.{Sheet, Location, tyOf, labelCount, locationNo, locationCount, formed}
 use Rattle.sheet.specs.Internal.Tables.{tableOf, typeIn, homeIn, readsIn}
 use Rattle.sheet.specs.Meaning.{shapesOf, readsNo}

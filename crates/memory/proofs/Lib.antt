@@ -11,3 +11,4 @@ pub mod MaskLaws
 pub mod ViewLaws
 pub mod ShownLaws
 pub mod Exactness
+pub mod VerdictLaws

@@ -8,14 +8,14 @@ use Prim.Native.Nat.{ℕ, _<_, _≤_}
 use Rattle.language.specs.Syntax.{Value, size}
 use Rattle.language.specs.World.{Mem}
 use Rattle.language.specs.View.{mask, maskMem}
-use Rattle.language.specs.Theorems.{WellTyped, Fitting}
+use Rattle.language.specs.Declarations.{WellTyped, Fitting}
 use Rattle.sheet.specs.Sheet.{Sheet, labelCount, locationCount}
 use Rattle.sheet.specs.Meaning.{shapesOf, readsNo}
 use Rattle.memory.specs.Words.{enc, cell, readOf, valueOf}
 use Rattle.memory.specs.Memory.{memoryOf, wordsOf, proper, holdsBy, memoryRefusal}
 use Rattle.memory.specs.View.{seesNo, viewWords}
 
--- Reading gives back the value whose words stand there, and what it gives without a blank stands there; a cell is that of one value.
+-- Reading gives back the value whose words stand there, and what it gives that is proper stands there; a cell is that of one value.
 pub record WordsExactly : Type 0 where
   pub read-back : (v : Value) (rest : List ℕ) → readOf (enc v rest) ≡ (v, rest)
   pub no-other : (labels : ℕ) (ws : List ℕ) → proper labels (valueOf ws) ≡ true → enc (valueOf ws) (readOf ws .1) ≡ ws

@@ -17,6 +17,7 @@ ghost use Rattle.memory.specs.Words.{valueOf};
 ghost use Rattle.memory.specs.Internal.Post.{endOf};
 ghost use Rattle.memory.specs.Memory.{holdsBy, cellOf};
 ghost use Rattle.memory.specs.View.{viewCell};
+ghost use Rattle.memory.specs.Verdict.{memoryNumber};
 ghost use Rattle.memory.specs.Internal.InTable.{asDeclaredIn, refusalIn, seesIn, viewIn, viewRefusalIn, viewLeavesIn};
 use sets::Set;
 
@@ -38,6 +39,14 @@ pub const PACKAGE: u32 = 5;
 pub const LABEL: usize = 1;
 
 pub const CONTENT: usize = 2;
+
+// What is found of the slices that are lent: a memory that is well-formed, in slices of their size; a slice that isn't 16 words for each
+// location; or a memory that isn't well-formed.
+pub enum Verdict {
+    Accepted,
+    OtherSize,
+    IllFormed,
+}
 
 // The place after the value whose words start at `at`.
 pub fn value_end(words: &[u32], at: usize) -> usize
@@ -114,22 +123,22 @@ fn location_holds(table: &[u16], memory: &[u32], x: u32) -> bool
     holds(table, &memory[start..end], sheet::location_type(table, x))
 }
 
-// 7 where a memory isn't 16 words for each location, 8 where it isn't well-formed, else 0.
-pub fn refusal(table: &[u16], memory: &[u32]) -> u8
-    ensures { λ r. ⌜ r ≡ refusalIn (now (table .entry)) (now (memory .entry)) ⌝ }
+// Whether a memory has its size and is well-formed.
+pub fn judge(table: &[u16], memory: &[u32]) -> Verdict
+    ensures { λ r. ⌜ memoryNumber r ≡ refusalIn (now (table .entry)) (now (memory .entry)) ⌝ }
 {
     let n = sheet::locations(table);
     if memory.len() != CELL * (n as usize) {
-        return 7;
+        return Verdict::OtherSize;
     }
     let mut x = 0;
     while x < n {
         if !location_holds(table, memory, x) {
-            return 8;
+            return Verdict::IllFormed;
         }
         x += 1;
     }
-    0
+    Verdict::Accepted
 }
 
 // What a group is shown of location x.
@@ -172,19 +181,18 @@ fn view_each(table: &[u16], memory: &[u32], group: Set, shown: &mut [u32])
     }
 }
 
-// What a group is shown of a memory; 7 where one of the slices isn't 16 words for each location, 8 where the memory isn't
-// well-formed, and nothing is stored then.
-pub fn view(table: &[u16], memory: &[u32], group: Set, shown: &mut [u32]) -> u8
-    ensures { λ r. ⌜ r ≡ viewRefusalIn (now (table .entry)) (now (memory .entry)) (length (now (shown .entry))) ⌝ }
+// Stores what a group is shown of a memory, if both slices have their size and the memory is well-formed; else nothing.
+pub fn view(table: &[u16], memory: &[u32], group: Set, shown: &mut [u32]) -> Verdict
+    ensures { λ r. ⌜ memoryNumber r ≡ viewRefusalIn (now (table .entry)) (now (memory .entry)) (length (now (shown .entry))) ⌝ }
     ensures { λ r. ⌜ now (shown .exit) ≡ viewLeavesIn (now (table .entry)) group (now (memory .entry)) (now (shown .entry)) ⌝ }
 {
     if shown.len() != CELL * (sheet::locations(table) as usize) {
-        return 7;
+        return Verdict::OtherSize;
     }
-    let answer = refusal(table, memory);
-    if answer != 0 {
-        return answer;
-    }
+    let verdict = judge(table, memory);
+    let Verdict::Accepted = verdict else {
+        return verdict;
+    };
     view_each(table, memory, group, shown);
-    0
+    Verdict::Accepted
 }

@@ -24,7 +24,7 @@ use Rattle.parts.proofs.Apart.{joined-apart, missing-empty}
 use Rattle.parts.proofs.Steps.{chunks}
 use Rattle.parts.proofs.Keeping.{holds-parts}
 use Rattle.desk.proofs.Exact.{group-exact, budget-exact}
-use Rattle.desk.proofs.Orders.{show-in-order}
+use Rattle.desk.proofs.Orders.{same-order, show-in-order}
 use Rattle.desk.proofs.Runs.{runs-plain}
 use Rattle.desk.proofs.Kept.{kept-enough, shows-input, runs-input}
 
@@ -70,6 +70,7 @@ promises = record {
   holds-parts = holds-parts;
   group-exact = group-exact;
   budget-exact = budget-exact;
+  same-order = same-order;
   show-in-order = show-in-order;
   runs-plain = runs-plain;
   kept-enough = kept-enough;

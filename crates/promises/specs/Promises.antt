@@ -18,7 +18,7 @@ use Rattle.numbers.specs.Theorems.{EveryTable}
 use Rattle.simp.specs.Demands.{Demand1, Demand2, Demand3}
 use Rattle.simp.specs.Cases.{CasesHold}
 use Rattle.parts.specs.Theorems.{JoinedApart, MissingEmpty, Chunks, HoldsParts}
-use Rattle.desk.specs.Theorems.{GroupExact, BudgetExact, ShowInOrder, RunsPlain, KeptEnough, ShowsInput, RunsInput}
+use Rattle.desk.specs.Theorems.{GroupExact, BudgetExact, SameOrder, ShowInOrder, RunsPlain, KeptEnough, ShowsInput, RunsInput}
 
 pub record Promises : Type 1 where
   -- ---- The three calls
@@ -28,20 +28,21 @@ pub record Promises : Type 1 where
   pub demand-1 : Demand1
   -- Each call answers exactly what the papers say: the numbers, the typing rules, the memory and the step count of the evaluation rules.
   pub demand-2 : Demand2
-  -- Noninterference: two done runs of an accepted script, from memories that give a group the same view, leave memories that do.
+  -- Noninterference: two done runs of an accepted script under one authority, from memories that give a group the same view, leave memories
+  -- that do.
   pub demand-3 : Demand3
   -- The scope's starred cases, and its two of long values, in one table.
   pub cases-hold : CasesHold
   -- Of any table of refusal numbers: the first that applies is given, and it settles the whole answer; there is exactly one answer where it is
-  -- settled which row applies first, and there is one where none does.
+  -- settled which row applies first, and there is exactly one where none applies.
   pub every-table : EveryTable
   -- ---- The language
 
   -- The functions agree with the figures; runs are determinate, sound and end as the figures have it; typing is exact; the paper's
   -- theorems 1 and 2, noninterference, of one expression and of one command; confinement.
   pub theorems : Theorems
-  -- On every sheet the number that the checker's contract gives says which derivations a script has: 0 if there is one, 5 if there is
-  -- none even with the labels struck out, 6 otherwise.
+  -- For every sheet and command the number that the checker's contract gives on a sheet that isn't refused says which derivations there are:
+  -- 0 if there is one, 5 if there is none even with the labels struck out, 6 otherwise.
   pub checker-exact : CheckerExact
   -- ---- Principals and labels
 
@@ -81,7 +82,7 @@ pub record Promises : Type 1 where
   pub lines-exact : {A : Type 0} {line : List ℕ → Read A} {print : A → List ℕ → List ℕ} {Good : A → Type 0} → LineForm line print Good → LinesExact line print Good
   -- And as any number of them.
   pub all-lines-exact : {A : Type 0} {line : List ℕ → Read A} {print : A → List ℕ → List ℕ} {Good : A → Type 0} → LineForm line print Good → AllLinesExact line print Good
-  -- A sheet is accepted exactly where its printed form stands and it repeats nothing.
+  -- A text is accepted as a sheet exactly where it is the printed form of one of the right form, is not too long, and the sheet repeats nothing.
   pub accepted-exact : AcceptedExact
   -- A sheet is refused by 2 exactly where it is of its form and repeats a type or a label.
   pub repeating-exact : RepeatingExact
@@ -89,13 +90,14 @@ pub record Promises : Type 1 where
   pub malformed-exact : MalformedExact
   -- A text is that of one sheet at most.
   pub one-sheet : OneSheet
-  -- A script is read exactly where the text is the printed form of a command that names only what is on the sheet.
+  -- On a sheet of the form, a script is read exactly where the text is the printed form of a command within the bounds that names only what
+  -- is there.
   pub script-exact : ScriptExact
   -- A memory text is read exactly where it is the printed form of a memory.
   pub memory-exact : MemoryExact
   -- ---- Memories and views
 
-  -- Words are read back as the value that they are the words of, and as no other.
+  -- Words are read back as the value that they are the words of, and as no other that is proper.
   pub words-exactly : WordsExactly
   -- A location's words pass exactly if they are the cell of a proper value that passes the test.
   pub cell-exactly : CellExactly
@@ -105,7 +107,7 @@ pub record Promises : Type 1 where
   pub views-exactly : ViewsExactly
   -- ---- The programs
 
-  -- Texts of whole lines, none empty, and a last text, joined by empty lines, are the parts of the whole.
+  -- Texts of whole lines, no line of them empty, and a last text, joined by empty lines, are the parts of the whole.
   pub joined-apart : JoinedApart
   -- Missing texts are empty.
   pub missing-empty : MissingEmpty
@@ -117,6 +119,8 @@ pub record Promises : Type 1 where
   pub group-exact : GroupExact
   -- A budget is a number of 32 bits and byte 10.
   pub budget-exact : BudgetExact
+  -- The list by which the programs order the refusals is the order of a run's table.
+  pub same-order : SameOrder
   -- Show prints the first number that applies, in the order 1 2 3 8, or the view.
   pub show-in-order : ShowInOrder
   -- Where memory, authority and budget are of their forms, run prints the run, 8 standing for 7.

@@ -1,4 +1,5 @@
--- What a script may name (the scope, "The three texts"): what is on the sheet, variables that a case binds; and how deep cases nest.
+-- What a script may name (the scope, "The three texts"): what is on the sheet, variables that a case binds; how many lines it has, and how
+-- deep its cases nest.
 use mathlib.Core.Bool.{Bool, true}
 use Prim.Native.Nat.{ℕ, suc, _^_}
 use lib.Dec.{ltb}
@@ -11,6 +12,10 @@ pub record Counts : Type 0 where
   pub types : ℕ
   pub labels : ℕ
   pub locations : ℕ
+
+-- a script has at most this many lines
+abbrev pub maxLines : ℕ
+maxLines = 512
 
 -- cases nest at most this deep
 abbrev pub maxDepth : ℕ

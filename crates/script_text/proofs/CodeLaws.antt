@@ -12,13 +12,14 @@ use Rattle.text.specs.Lines.{front, linesUpTo}
 use Rattle.text.proofs.Writings.{sets-zeros}
 use Rattle.text.proofs.Lines.{lines-at-end, lines-at-full, lines-at-bad, lines-at-more, lines-exact}
 use Rattle.script.specs.Lines.{Line, l-skip, l-seq, l-assign, l-while, l-case, l-int, l-loc, l-var, l-plus, l-left, l-right, l-pack, l-unpack}
+use Rattle.script.specs.Names.{maxLines}
 use Rattle.script.specs.Internal.Code.{lineWords, code}
 use Rattle.sheet.specs.Padding.{padded}
 use Rattle.script_text.specs.declared.LineRead.the-variants as read
 use Rattle.script_text.specs.declared.Reached.{Reached}
 use Rattle.script_text.specs.declared.Script.{Script}
 use Rattle.script_text.specs.declared.Answer.the-variants as answer
-use Rattle.script_text.specs.Reading.{lineOf, linesOf, maxLines}
+use Rattle.script_text.specs.Reading.{lineOf, linesOf}
 use Rattle.script_text.specs.Internal.Decoded.{codeWords, noCode, coded, codedLines}
 use Rattle.script_text.specs.Internal.Placed.{rowOf, lineAt}
 use Rattle.script_text.proofs.LineLaws.{script-lines}

@@ -17,14 +17,15 @@ use Rattle.language.specs.Syntax.{Expr, Cmd}
 use Rattle.logic.proofs.BooleanLaws.{both-left, both-right, cond-split}
 use Rattle.script.specs.Lines.{Line, l-skip, l-seq, l-assign, l-while, l-case, l-int, l-loc, l-var, l-plus, l-left, l-right, l-pack, l-unpack, SourceE, s-int, s-loc, s-var, s-plus, s-left, s-right, s-pack, s-unpack, Source, s-skip, s-seq, s-assign, s-while, s-case, numberOf, exprLines, cmdLines}
 use Rattle.script.specs.Internal.Code.{lineWords}
-use Rattle.script.specs.Names.{Counts, maxDepth, namedE, named}
+use Rattle.script.specs.Names.{Counts, maxDepth, namedE, named, maxLines}
 use Rattle.sheet.specs.Sheet.{Sheet, labelCount, locationCount, formed}
 use Rattle.sheet.specs.Internal.Tables.{tableOf}
 use Rattle.sheet.proofs.FormLaws.{formed-facts, type-count}
 use Rattle.script_text.specs.Bytes.{scriptBytes}
-use Rattle.script_text.specs.Reading.{maxLines, linesOf}
+use Rattle.script_text.specs.Reading.{linesOf}
 use Rattle.script_text.specs.Internal.Parse.{stackOf, onlyCommand, parse}
-use Rattle.script_text.specs.Script.{countsOf, namedOnly, commandOf, commandRead, scriptOf}
+use Rattle.script_text.specs.Counts.{countsOf}
+use Rattle.script_text.specs.Script.{namedOnly, commandOf, commandRead, scriptOf}
 use Rattle.script_text.specs.Internal.Decoded.{countsIn}
 use Rattle.script_text.specs.Internal.Placed.{rowOf}
 use Rattle.script_text.specs.Theorems.{IsScript, ScriptExact}

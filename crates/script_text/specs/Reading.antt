@@ -10,6 +10,7 @@ use Rattle.text.specs.Number.{most}
 use Rattle.text.specs.Field.{numberField, lineEnd, lastNumber}
 use Rattle.text.specs.Lines.{linesUpTo}
 use Rattle.script.specs.Lines.{Line, l-skip, l-seq, l-assign, l-while, l-case, l-int, l-loc, l-var, l-plus, l-left, l-right, l-pack, l-unpack}
+use Rattle.script.specs.Names.{maxLines}
 
 -- The form of a kind of line: no operand, one or two numbers; or there is no such kind.
 pub data Form : Type 0 where
@@ -46,10 +47,6 @@ operandsOf other t = bad
 unfoldable pub lineOf : List ℕ → Read Line
 lineOf [] = bad
 lineOf (b ∷ t) = operandsOf (formOf b) t
-
--- a script has at most this many lines
-abbrev pub maxLines : ℕ
-maxLines = 512
 
 -- the lines of a text that is not too long
 unfoldable pub linesOf : List ℕ → Option (List Line)

@@ -6,13 +6,8 @@ use Prim.Native.Nat.{ℕ}
 use Rattle.language.specs.Syntax.{Cmd}
 use Rattle.script.specs.Lines.{Line}
 use Rattle.script.specs.Names.{Counts, named}
-use Rattle.sheet.specs.Sheet.{Sheet, typeCount, labelCount, locationCount}
 use Rattle.script_text.specs.Reading.{linesOf}
 use Rattle.script_text.specs.Internal.Parse.{parse}
-
--- how many types, labels and locations are on a sheet
-abbrev pub countsOf : Sheet → Counts
-countsOf s = record { types = typeCount s; labels = labelCount s; locations = locationCount s }
 
 -- a command that names only what is there, its cases at most 8 deep
 unfoldable pub namedOnly : Counts → Option Cmd → Option Cmd

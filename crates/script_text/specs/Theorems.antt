@@ -9,11 +9,11 @@ use lib.ListN.{length}
 use Rattle.text.specs.Reading.{limit}
 use Rattle.language.specs.Syntax.{Cmd}
 use Rattle.script.specs.Lines.{Source, cmdLines}
-use Rattle.script.specs.Names.{Counts, named}
+use Rattle.script.specs.Names.{Counts, named, maxLines}
 use Rattle.sheet.specs.Sheet.{Sheet, formed}
 use Rattle.script_text.specs.Bytes.{scriptBytes}
-use Rattle.script_text.specs.Reading.{maxLines}
-use Rattle.script_text.specs.Script.{countsOf, scriptOf}
+use Rattle.script_text.specs.Counts.{countsOf}
+use Rattle.script_text.specs.Script.{scriptOf}
 
 -- A text is a script of the command c: the printed form of c's lines, within the bounds, naming only what is there.
 pub record IsScript (k : Counts) (t : List ℕ) (c : Cmd) : Type 0 where

@@ -11,7 +11,8 @@ use borrow.Author.Tests.{ltb-true, leb-true}
 use Rattle.logic.proofs.BooleanLaws.{both-left, both-right}
 use Rattle.sets.proofs.Walks.{by-below}
 use Rattle.labels.specs.Labels.{Policy}
-use Rattle.sheet.specs.Sheet.{Sum, Location, Sheet, givenParts, typeParts, partsNo, typeCount, labelCount, locationNo, locationCount, earlierTypes, rising, eachRising, eachNamed, maxPrincipals, maxSums, maxLabels, maxLocations, formed}
+use Rattle.sheet.specs.Internal.Tables.{givenParts, typeParts, partsNo}
+use Rattle.sheet.specs.Sheet.{Sum, Location, Sheet, typeCount, labelCount, locationNo, locationCount, earlierTypes, rising, eachRising, eachNamed, maxPrincipals, maxSums, maxLabels, maxLocations, formed}
 
 -- ---- the form
 
@@ -48,16 +49,21 @@ formed-facts s h =
 -- ---- counts
 
 pub type-count : (s : Sheet) → typeCount s ≡ 5 + length (s .sums)
+unfolding typeCount
+type-count s = refl
+
+-- each type has its parts in the table
+pub parts-count : (s : Sheet) → length (typeParts s) ≡ typeCount s
 unfolding typeCount typeParts givenParts
-type-count s = omega arith
+parts-count s = omega arith
 
 pub locations-few : (s : Sheet) → formed s ≡ true → locationCount s ≤ maxLocations
 unfolding locationCount
 locations-few s fm = formed-facts s fm .few-locations
 
 pub parts-past : (s : Sheet) (n : ℕ) → typeCount s ≤ n → partsNo s n ≡ record { left = 0; right = 0 }
-unfolding partsNo typeCount
-parts-past s n h = List·getD-eq-default (typeParts s) _ {n = n} h
+unfolding partsNo
+parts-past s n h = List·getD-eq-default (typeParts s) _ {n = n} (omega (arith, parts-count s))
 
 -- ---- names
 

@@ -12,8 +12,8 @@ use Rattle.sets.proofs.Walks.{by-below}
 use Rattle.language.specs.Syntax.{Ty, t-int, t-err, t-pkg, t-sum, Ty-discrete, Value, int, err, inl, inr, pkg, blank, has}
 use Rattle.language.specs.World.{wanted}
 use Rattle.language.specs.Typing.{isYes, sameTy}
-use Rattle.sheet.specs.Sheet.{Sheet, tyOf, givenParts, typeParts, partsNo, typeCount, formed, repeats}
-use Rattle.sheet.specs.Internal.Tables.{tableOf, typesIn, leftIn, rightIn, typeIn}
+use Rattle.sheet.specs.Sheet.{Sheet, tyOf, typeCount, formed, repeats}
+use Rattle.sheet.specs.Internal.Tables.{tableOf, typesIn, leftIn, rightIn, typeIn, givenParts, typeParts, partsNo}
 use Rattle.sheet.specs.Internal.TypeTest.{isSum, hasNo}
 use Rattle.sheet.proofs.FormLaws.{parts-there, parts-past, location-type-there}
 use Rattle.sheet.proofs.TypeLaws.{ty-0, ty-past, ty-sum, ty-sum-there, Which, is-int, is-err, is-pkg, is-sum, which, ty-once}

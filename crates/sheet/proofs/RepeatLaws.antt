@@ -13,7 +13,8 @@ use Rattle.sets.proofs.Walks.{by-below}
 use Rattle.sets.specs.Sets.{everyone}
 use Rattle.labels.specs.Labels.{labelOf, bottomOf, sameOf}
 use Rattle.labels.proofs.OrderLaws.{same-refl}
-use Rattle.sheet.specs.Sheet.{Sum, Sheet, givenParts, typeParts, partsNo, typeCount, labelsOf, labelNo, labelCount, among, repeated, sameParts, givenSums, repeats}
+use Rattle.sheet.specs.Internal.Tables.{givenParts, typeParts, partsNo}
+use Rattle.sheet.specs.Sheet.{Sum, Sheet, typeCount, labelsOf, labelNo, labelCount, among, repeated, sameParts, givenSums, repeats}
 
 module _ {A : Type 0} (same : A → A → Bool) (d : A) where
   among-at : (x : A) (xs : List A) (j : ℕ) → j < length xs → same x (getD xs j d) ≡ true → among same x xs ≡ true

@@ -7,10 +7,10 @@ use Prim.Native.Nat.{ℕ, _+_, _*_, _<_, _≤_}
 use native.Mathlib.Omega.{arith}
 use lib.ListN.{length, getD, length-append}
 use Rattle.sets.specs.Sets.{everyone}
-use Rattle.sheet.specs.Sheet.{Sum, Location, Sheet, typeParts, partsNo, typeCount, labelsOf, labelCount, locationNo, locationCount, formed}
+use Rattle.sheet.specs.Sheet.{Sum, Location, Sheet, typeCount, labelsOf, labelCount, locationNo, locationCount, formed}
 use Rattle.sheet.specs.Padding.{padded}
-use Rattle.sheet.specs.Internal.Tables.{partsRoom, locationsRoom, labelsRoom, partsBase, locationsBase, labelsBase, partWords, locationWords, labelsWords, tableOf, principalsIn, everyoneIn, typesIn, labelsIn, locationsIn, entryIn, leftIn, rightIn, typeIn, homeIn}
-use Rattle.sheet.proofs.FormLaws.{Formed, formed-facts, type-count}
+use Rattle.sheet.specs.Internal.Tables.{partsRoom, locationsRoom, labelsRoom, partsBase, locationsBase, labelsBase, partWords, locationWords, labelsWords, tableOf, principalsIn, everyoneIn, typesIn, labelsIn, locationsIn, entryIn, leftIn, rightIn, typeIn, homeIn, typeParts, partsNo}
+use Rattle.sheet.proofs.FormLaws.{Formed, formed-facts, type-count, parts-count}
 use Rattle.sheet.proofs.Words.{length-padded, length-pairs, pair-at, entry-of}
 
 -- ---- counts
@@ -71,8 +71,8 @@ module _ (s : Sheet) (fm : formed s ≡ true) where
   facts = formed-facts s fm
 
   types-fit : length (partWords (typeParts s)) ≤ partsRoom
-  unfolding typeCount
-  types-fit = omega (arith, length-pairs (λ (p : Sum). p .left) (λ (p : Sum). p .right) (typeParts s), type-count s, facts .few-sums)
+  types-fit =
+      omega (arith, length-pairs (λ (p : Sum). p .left) (λ (p : Sum). p .right) (typeParts s), parts-count s, type-count s, facts .few-sums)
 
   locations-fit : length (locationWords (s .locations)) ≤ locationsRoom
   locations-fit = omega (arith, length-pairs (λ (x : Location). x .type) (λ (x : Location). x .label) (s .locations), facts .few-locations)
@@ -92,9 +92,10 @@ module _ (s : Sheet) (fm : formed s ≡ true) where
   part-in : (f : Sum → ℕ) (j : ℕ) → f (record { left = 0; right = 0 }) ≡ 0 → j < 2
       → ((i : ℕ) → i < length (typeParts s) → getD (partWords (typeParts s)) (j + 2 * i) 0 ≡ f (getD (typeParts s) i (record { left = 0; right = 0 })))
       → (i : ℕ) → entryIn (tableOf s) (typesIn (tableOf s)) (partsBase + j) i ≡ f (partsNo s i)
-  unfolding tableOf partsNo typeCount heading
+  unfolding tableOf partsNo heading
   part-in f j none two word i =
-      entry-of (typeParts s) (record { left = 0; right = 0 }) f j (heading s) (partWords (typeParts s))
+      ap (λ (k : ℕ). entryIn (tableOf s) k (partsBase + j) i) (types-in s ∙ sym (parts-count s))
+      ∙ entry-of (typeParts s) (record { left = 0; right = 0 }) f j (heading s) (partWords (typeParts s))
       (padded locationsRoom (locationWords (s .locations)) ++ padded labelsRoom (labelsWords (labelsOf s))) partsRoom (partsBase + j)
       none refl two (length-pairs _ _ (typeParts s)) types-fit word i
 

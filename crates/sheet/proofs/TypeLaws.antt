@@ -12,7 +12,8 @@ use borrow.Author.Tests.{ltb-true}
 use Rattle.logic.proofs.BooleanLaws.{both-left, both-right}
 use Rattle.sets.proofs.Walks.{by-below}
 use Rattle.language.specs.Syntax.{Ty, t-int, t-err, t-pkg, t-sum}
-use Rattle.sheet.specs.Sheet.{Sum, Sheet, givenTypes, typesFrom, tyOf, givenParts, typeParts, partsNo, typeCount, earlierTypes, formed, repeats}
+use Rattle.sheet.specs.Internal.Tables.{givenParts, typeParts, partsNo}
+use Rattle.sheet.specs.Sheet.{Sum, Sheet, givenTypes, typesFrom, tyOf, typeCount, earlierTypes, formed, repeats}
 use Rattle.sheet.proofs.RepeatLaws.{parts-once}
 use Rattle.sheet.proofs.FormLaws.{formed-facts, type-count, parts-earlier}
 

@@ -27,12 +27,12 @@ labelsOver n =
       bot = record { raw = bottomOf (everyone n); ok = bottom-effective n };
     }
 
--- a, if b says that it is a label of n principals; bottom otherwise
+-- a, if b says that it is effective for n principals; bottom otherwise
 unfoldable pub effectiveIf : (n : ℕ) (a : Label) (b : Bool) → effective n a ≡ b → EffectiveLabel n
 effectiveIf n a true h = record { raw = a; ok = h }
 effectiveIf n a false h = record { raw = bottomOf (everyone n); ok = bottom-effective n }
 
--- a as a label of n principals. (Every label of a sheet of the right form is one.)
+-- a as a label that is effective for n principals. (Every label of a sheet of the right form is.)
 unfoldable pub effectively : (n : ℕ) → Label → EffectiveLabel n
 effectively n a = effectiveIf n a (effective n a) refl
 

@@ -41,23 +41,9 @@ typesFrom ts (s ∷ ss) = typesFrom (ts ++ (t-sum (getD ts (s .left) t-int) (get
 unfoldable pub tyOf : Sheet → ℕ → Ty
 tyOf s t = getD (typesFrom givenTypes (s .sums)) t t-int
 
--- the given sums, types 3 and 4
-abbrev pub givenSums : List Sum
-givenSums = record { left = 0; right = 0 } ∷ record { left = 2; right = 1 } ∷ []
-
--- the parts of the types by number; a type without parts has the parts 0 0 here
-unfoldable pub givenParts : List Sum
-givenParts = record { left = 0; right = 0 } ∷ record { left = 0; right = 0 } ∷ record { left = 0; right = 0 } ∷ givenSums
-
-unfoldable pub typeParts : Sheet → List Sum
-typeParts s = givenParts ++ s .sums
-
--- the parts of a type by its number; 0 0 for a number that names none
-unfoldable pub partsNo : Sheet → ℕ → Sum
-partsNo s t = getD (typeParts s) t (record { left = 0; right = 0 })
-
+-- the given types and the sums
 unfoldable pub typeCount : Sheet → ℕ
-typeCount s = length (typeParts s)
+typeCount s = 5 + length (s .sums)
 
 -- ---- labels and locations count from 0
 
@@ -106,10 +92,6 @@ maxPrincipals = 16
 abbrev pub maxSums : ℕ
 maxSums = 27
 
--- the given types and the sums
-abbrev pub maxTypes : ℕ
-maxTypes = 5 + maxSums
-
 abbrev pub maxLabels : ℕ
 maxLabels = 32
 
@@ -137,6 +119,10 @@ repeated same (x ∷ xs) = either (among same x xs) (repeated same xs)
 
 unfoldable pub sameParts : Sum → Sum → Bool
 sameParts a b = both (eqb (a .left) (b .left)) (eqb (a .right) (b .right))
+
+-- the given sums: types 3 and 4
+abbrev pub givenSums : List Sum
+givenSums = record { left = 0; right = 0 } ∷ record { left = 2; right = 1 } ∷ []
 
 -- two types with the same parts, or two labels with the same effective sets
 unfoldable pub repeats : Sheet → Bool

@@ -12,8 +12,8 @@ use Rattle.sheet.specs.Meaning.{labelsOver, declarationsOf}
 abbrev pub LeastLabelLawsHold : Type 0
 LeastLabelLawsHold = (n : ℕ) → LeastLabelLaws (labelsOver n)
 
--- Typing and running go by the same labels: every label of the sheet is one of its principals, so that what typing takes it for is
--- the label itself.
+-- Typing and running go by the same labels: every label of the sheet is effective for its principals, so that what typing takes it for
+-- is the label itself.
 pub record SameLabels (s : Sheet) : Type 0 where
   pub are-effective : (l : ℕ) → effective (s .principals) (labelNo s l) ≡ true
   pub of-numbers : (l : ℕ) → (declarationsOf s .label l) .raw ≡ labelNo s l

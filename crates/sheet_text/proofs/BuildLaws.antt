@@ -15,7 +15,8 @@ use Rattle.logic.proofs.BooleanLaws.{both-left, both-right, both-true, cond-spl
 use Rattle.text.specs.Lines.{none-left, and-then}
 use Rattle.logic.proofs.OptionLaws.{none-some, some-path}
 use Rattle.labels.specs.Labels.{policy}
-use Rattle.sheet.specs.Sheet.{Sum, Location, Sheet, typeParts, typeCount, labelCount, locationCount, earlierTypes, rising, eachRising, eachNamed, formed}
+use Rattle.sheet.specs.Internal.Tables.{typeParts}
+use Rattle.sheet.specs.Sheet.{Sum, Location, Sheet, typeCount, labelCount, locationCount, earlierTypes, rising, eachRising, eachNamed, formed}
 use Rattle.sheet.proofs.FormLaws.{Formed, formed-facts, type-count}
 use Rattle.sheet_text.specs.declared.line.Line.{Line}
 use Rattle.sheet_text.specs.declared.line.Line.the-variants.{P, T, L, O, X}

@@ -16,9 +16,9 @@ use Rattle.logic.proofs.BooleanLaws.{bool-ext, both-left, both-no-right, both-r
 use Rattle.sets.specs.Sets.{width, everyone, restrict}
 use Rattle.sets.proofs.SetLaws.{restrict-id}
 use Rattle.labels.specs.Labels.{policy}
-use Rattle.sheet.specs.Sheet.{Sum, Sheet, givenParts, typeParts, typeCount, labelsOf, labelCount, locationCount, formed}
+use Rattle.sheet.specs.Sheet.{Sum, Sheet, typeCount, labelsOf, labelCount, locationCount, formed}
 use Rattle.sheet.specs.Padding.{padded}
-use Rattle.sheet.specs.Internal.Tables.{pairWords, labelsWords, tableOf, tableWords, labelsIn}
+use Rattle.sheet.specs.Internal.Tables.{pairWords, labelsWords, tableOf, tableWords, labelsIn, givenParts, typeParts}
 use Rattle.sheet.proofs.FormLaws.{formed-facts, type-count}
 use Rattle.sheet.proofs.TableLaws.{types-in, labels-in, locations-in, principals-in, everyone-in}
 use Rattle.sheet_text.specs.declared.line.Line.{Line}

@@ -12,7 +12,8 @@ use Rattle.text.specs.Set.{hexDigit, hexDigits, hexByte, hex4}
 use Rattle.text.specs.Field.{numberField, setField, lastNumber}
 use Rattle.text.specs.Lines.{front, onward, linesUpTo, allLines, printLines}
 use Rattle.labels.specs.Labels.{policy, openAt, openOf, policyOf, withPolicies, labelOf, sameAt, sameOf}
-use Rattle.sheet.specs.Sheet.{Sheet, givenParts, typeParts, typeCount, labelsOf, labelCount, locationCount, earlierTypes, rising, eachRising, eachNamed, formed, among, repeated, sameParts, repeats}
+use Rattle.sheet.specs.Internal.Tables.{givenParts, typeParts}
+use Rattle.sheet.specs.Sheet.{Sheet, typeCount, labelsOf, labelCount, locationCount, earlierTypes, rising, eachRising, eachNamed, formed, among, repeated, sameParts, repeats}
 use Rattle.sheet_text.specs.Lines.{sumLine, policyLine, locationLine, each, labelLines, linesThen, sheetLines, lineBytes, sheetBytes}
 use Rattle.sheet_text.specs.Reading.{principalsRest, pairLine, pairRest, labelRest, policyRest, lineOf}
 use Rattle.sheet_text.specs.Internal.Building.{bareSheet, addSum, addLabel, toLast, addPolicy, addLocation, lastOf, leastAfter, leastOwner, sumFits, labelFits, policyFits, locationFits, begin, addLine, addLineOn, addLines, build}

@@ -77,7 +77,7 @@ module _ (t : List ℕ) where
     where
       at : (o : Option Sheet) → sheetRead t ≡ o → FormedIf o
       at none e = unfold FormedIf in tt
-      at (some s) e = unfold FormedIf in (sheet-in-sound t s e .right)
+      at (some s) e = unfold FormedIf in (sheet-in-sound t s e .is-formed)
 
 -- ---- the answer
 

@@ -15,8 +15,8 @@ use Rattle.sets.proofs.Walks.{every-true, every-at, getD-tab}
 use Rattle.labels.specs.Labels.{owners, labelOf, bottomOf, readersOf, writersOf, sameAt, sameOf}
 use Rattle.labels.specs.Internal.Tables.{labelSize, setsAt, labelAt}
 use Rattle.labels.specs.declared.Label.{Label}
-use Rattle.sheet.specs.Sheet.{Sum, Sheet, givenParts, typeParts, partsNo, labelsOf, labelNo, labelCount, formed, among, repeated, sameParts, givenSums, repeats}
-use Rattle.sheet.specs.Internal.Tables.{tableOf, typesIn, labelsIn, entryIn, leftIn, rightIn, labelIn}
+use Rattle.sheet.specs.Sheet.{Sum, Sheet, labelsOf, labelNo, labelCount, formed, among, repeated, sameParts, givenSums, repeats}
+use Rattle.sheet.specs.Internal.Tables.{tableOf, typesIn, labelsIn, entryIn, leftIn, rightIn, labelIn, givenParts, typeParts, partsNo}
 use Rattle.sheet.proofs.FormLaws.{type-count}
 use Rattle.sheet.proofs.TableLaws.{types-in, labels-in, left-in, right-in}
 use Rattle.sheet.proofs.LabelLaws.{label-in}

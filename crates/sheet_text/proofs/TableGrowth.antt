@@ -14,10 +14,10 @@ use Rattle.labels.proofs.PolicyLaws.{policy-whole}
 use Rattle.labels.proofs.OrderLaws.{whole-intro}
 use Rattle.labels.proofs.TableLaws.{length-words, put-middle}
 use Rattle.sets.proofs.Walks.{length-tab}
-use Rattle.sheet.specs.Sheet.{Sum, Location, Sheet, givenParts, typeParts, typeCount, labelsOf, labelNo, labelCount, locationCount, formed}
+use Rattle.sheet.specs.Sheet.{Sum, Location, Sheet, typeCount, labelsOf, labelNo, labelCount, locationCount, formed}
 use Rattle.sheet.specs.Padding.{padded}
-use Rattle.sheet.specs.Internal.Tables.{pairWords, partWords, locationWords, labelsWords, tableOf, labelIn}
-use Rattle.sheet.proofs.FormLaws.{formed-facts, type-count}
+use Rattle.sheet.specs.Internal.Tables.{pairWords, partWords, locationWords, labelsWords, tableOf, labelIn, givenParts, typeParts}
+use Rattle.sheet.proofs.FormLaws.{formed-facts, type-count, parts-count}
 use Rattle.sheet.proofs.Words.{length-padded, length-pairs}
 use Rattle.sheet.proofs.LabelLaws.{label-in}
 use Rattle.sheet_text.specs.Internal.Building.{addSum, addLabel, toLast, addPolicy, addLocation}
@@ -86,7 +86,8 @@ sum-table s x few =
     let parts = padded 64 (partWords (typeParts s ++ (x ∷ []))) ++ after in
     let count : typeCount s + 1 ≡ typeCount (addSum s x) = omega (arith, length-more (s .sums) x) in
     ap (λ (t : List ℕ). set t 2 (typeCount s + 1))
-    (add-pair (λ (p : Sum). p .left) (λ (p : Sum). p .right) (heading s) after 64 (typeParts s) (omega arith) x (8 + 2 * typeCount s) refl)
+    (add-pair (λ (p : Sum). p .left) (λ (p : Sum). p .right) (heading s) after 64 (typeParts s) (omega (arith, parts-count s)) x (8 + 2 * typeCount s)
+    (omega (arith, parts-count s)))
     ∙ ap (λ (k : ℕ). headed s k (labelCount s) (locationCount s) parts) count
 
 pub location-table : (s : Sheet) (x : Location) → formed s ≡ true → locationCount s < 64
@@ -97,7 +98,7 @@ location-table s x fm few =
     let parts = padded 64 (partWords (typeParts s)) in
     let types : typeCount s ≤ 32 = omega (arith, type-count s, formed-facts s fm .few-sums) in
     let long : length parts ≡ 64 =
-    length-padded 64 (partWords (typeParts s)) (omega (arith, length-pairs (λ (p : Sum). p .left) (λ (p : Sum). p .right) (typeParts s))) in
+    length-padded 64 (partWords (typeParts s)) (omega (arith, parts-count s, length-pairs (λ (p : Sum). p .left) (λ (p : Sum). p .right) (typeParts s))) in
     let after = padded 1024 (labelsWords (labelsOf s)) in
     let block = padded 128 (locationWords (s .locations ++ (x ∷ []))) in
     let count : locationCount s + 1 ≡ locationCount (addLocation s x) = sym (length-more (s .locations) x) in
@@ -205,7 +206,7 @@ module _ (s : Sheet) (fm : formed s ≡ true) where
       let block = padded 128 (locationWords (s .locations)) in
       let types : typeCount s ≤ 32 = omega (arith, type-count s, facts .few-sums) in
       let parts-long : length parts ≡ 64 =
-      length-padded 64 (partWords (typeParts s)) (omega (arith, length-pairs (λ (p : Sum). p .left) (λ (p : Sum). p .right) (typeParts s))) in
+      length-padded 64 (partWords (typeParts s)) (omega (arith, parts-count s, length-pairs (λ (p : Sum). p .left) (λ (p : Sum). p .right) (typeParts s))) in
       let block-long : length block ≡ 128 =
       length-padded 128 (locationWords (s .locations))
       (omega (arith, length-pairs (λ (x : Location). x .type) (λ (x : Location). x .label) (s .locations), facts .few-locations)) in

@@ -30,7 +30,7 @@ unfolding buildRead sheetBytes
 build-in-sound t s none e h k = none-some k
 build-in-sound t s (some ls) e h k =
     let b = build-sound ls s k in
-    record { printed = all-lines-exact sheet-lines t ls .0 e .0 ∙ ap (printLines lineBytes) (b .0); short = h; right = b .1 }
+    record { printed = all-lines-exact sheet-lines t ls .0 e .0 ∙ ap (printLines lineBytes) (b .0); short = h; is-formed = b .1 }
 
 pub sheet-in-sound : (t : List ℕ) (s : Sheet) → sheetRead t ≡ some s → IsSheet t s
 unfolding sheetRead fits
@@ -40,7 +40,7 @@ sheet-in-sound t s e =
 pub sheet-in-print : (t : List ℕ) (s : Sheet) → IsSheet t s → sheetRead t ≡ some s
 unfolding sheetRead fits buildRead sheetBytes
 sheet-in-print t s i =
-    let b = build-complete s (i .right) in
+    let b = build-complete s (i .is-formed) in
     let fit = build-sound (sheetLines s) s b .2 in
     let l = all-lines-exact sheet-lines t (sheetLines s) .1 (i .printed, fit) in
     rw (le-leb _ _ (i .short), l) b

@@ -2,5 +2,6 @@
 pub mod Lines
 pub mod Reading
 pub mod Sheets
+pub mod Verdict
 pub mod Theorems
 pub mod Internal

@@ -14,7 +14,7 @@ use Rattle.sheet_text.specs.Sheets.{malformed, repeating, accepted, shee
 pub record IsSheet (t : List ℕ) (s : Sheet) : Type 0 where
   pub printed : t ≡ sheetBytes s
   pub short : length t ≤ limit
-  pub right : formed s ≡ true
+  pub is-formed : formed s ≡ true
 
 abbrev pub AcceptedExact : Type 0
 AcceptedExact = (t : List ℕ) (s : Sheet) → (sheetOf t ≡ accepted s) ↔ (IsSheet t s × (repeats s ≡ false))

@@ -7,7 +7,7 @@ ghost use mathlib.Core.Path.{_≡_};
 ghost use lib.ListN.{replicate};
 ghost use Rattle.sheet.specs.Internal.Tables.{tableWords};
 ghost use Rattle.sheet_text.specs.Sheets.{sheetOf};
-ghost use Rattle.sheet_text.specs.Internal.Decoded.{sheetNumber, decodedSheet};
+ghost use Rattle.sheet_text.specs.Internal.Decoded.{decodedSheet};
 use draft::Draft;
 use draft::draft_of;
 use repeat::repeats;
@@ -24,17 +24,6 @@ pub enum Verdict {
 pub struct Decoded {
     pub verdict: Verdict,
     pub table: [u16; WORDS],
-}
-
-// The number of a verdict: 0, or that of the refusal.
-pub fn number(verdict: Verdict) -> u8
-    ensures { λ r. ⌜ r ≡ sheetNumber verdict ⌝ }
-{
-    match verdict {
-        Verdict::Accepted => 0,
-        Verdict::Malformed => 1,
-        Verdict::Repeats => 2,
-    }
 }
 
 // Fills a table of zeros with the sheet of a text, or leaves zeros where the text is refused.

@@ -71,7 +71,7 @@ script-used = tt
 
 unfoldable pub sheet-used : Unit {0}
 unfolding meaning.effectiveIf meaning.effectively
-    sheet.givenTypes sheet.typesFrom sheet.tyOf sheet.givenParts sheet.typeParts sheet.typeCount sheet.labelsOf sheet.labelNo sheet.labelCount
+    sheet.givenTypes sheet.typesFrom sheet.tyOf sheet.typeCount sheet.labelsOf sheet.labelNo sheet.labelCount
     sheet.locationNo sheet.locationCount sheet.earlierTypes sheet.rising sheet.eachRising sheet.eachNamed sheet.formed sheet.among sheet.repeated
     sheet.sameParts sheet.repeats
     padding.padded

@@ -17,7 +17,8 @@ use Rattle.sheet.proofs.MeaningLaws.{least-label-laws}
 use Rattle.sheet_text.specs.Sheets.{Answer, malformed, repeating, accepted, sheetOf}
 use Rattle.sheet_text.specs.Theorems.{IsSheet}
 use Rattle.sheet_text.proofs.Theorems.{accepted-exact, repeating-exact, malformed-exact, one-sheet}
-use Rattle.script_text.specs.Script.{countsOf, scriptOf}
+use Rattle.script_text.specs.Counts.{countsOf}
+use Rattle.script_text.specs.Script.{scriptOf}
 use Rattle.script_text.specs.Theorems.{IsScript}
 use Rattle.script_text.proofs.ScriptLaws.{script-exact}
 use Rattle.memory.specs.Memory.{wellFormed, sliceRefusal, refusalBy, memoryRefusal}
@@ -34,7 +35,7 @@ pub read : {sheet : List ℕ} {s : Sheet} → OnSheet sheet s → sheetOf sheet 
 read {sheet} {s} h = accepted-exact sheet s .1 (h .form, h .once)
 
 pub parsed : {sheet : List ℕ} {s : Sheet} (script : List ℕ) {c : Cmd} → OnSheet sheet s → IsScript (countsOf s) script c → scriptOf (countsOf s) script ≡ some c
-parsed {s = s} script {c} h i = script-exact s (h .form .right) script c .1 i
+parsed {s = s} script {c} h i = script-exact s (h .form .is-formed) script c .1 i
 
 -- what holds of the text's sheet holds of this one
 pub its : {sheet : List ℕ} {s : Sheet} (P : Sheet → Type 0) → IsSheet sheet s → OfSheet sheet P → P s
@@ -97,7 +98,7 @@ module _ {A : Type 0} (refuse : ℕ → A) (Else : A → Type 0) where
       where
         on : (o : Option Cmd) → scriptOf (countsOf s) script ≡ o → First refuse Else (4 when NoScript sheet script ∷ rows) (onScript refuse o go)
         on none e = inl ((s, h .form, λ c i. none-some (sym e ∙ parsed script h i)), refl)
-        on (some c) e = let i = script-exact s (h .form .right) script c .0 e in inr (λ o. its _ (h .form) o c i, k c i)
+        on (some c) e = let i = script-exact s (h .form .is-formed) script c .0 e in inr (λ o. its _ (h .form) o c i, k c i)
 
     pub past-6 : (script : List ℕ) (c : Cmd) (go : A) → IsScript (countsOf s) script c → (Typable s c → First refuse Else rows go)
         → First refuse Else (5 when IllTyped sheet script ∷ 6 when IllLabelled sheet script ∷ rows) (unless refuse (untyped s c) go)

@@ -15,7 +15,7 @@ use Rattle.script.specs.Lines.{SourceE, s-int, s-loc, s-var, s-plus, s-left, s-
 use Rattle.script.specs.Names.{Counts, namedE, named}
 use Rattle.sheet.specs.Sheet.{Sheet, labelCount}
 use Rattle.sheet.specs.Meaning.{shapesOf, worldOf}
-use Rattle.script_text.specs.Script.{countsOf}
+use Rattle.script_text.specs.Counts.{countsOf}
 use Rattle.script_text.specs.Theorems.{IsScript}
 use Rattle.memory.specs.Memory.{proper}
 use Rattle.memory.specs.Theorems.{Declared}

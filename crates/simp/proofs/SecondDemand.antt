@@ -15,7 +15,8 @@ use Rattle.memory.specs.Memory.{memoryOf, wordsOf, wellFormed}
 use Rattle.memory.specs.View.{viewWords}
 use Rattle.memory.specs.Theorems.{Declared}
 use Rattle.memory.proofs.Exactness.{memories-exactly}
-use Rattle.simp.specs.Calls.{onSheet, unless, onScript, untyped, checkOf, Ran, refusedRun, ended, runOf, Viewed, refusedView, viewOf}
+use Rattle.simp.specs.Answers.{Ran, refusedRun, Viewed, refusedView}
+use Rattle.simp.specs.Calls.{onSheet, unless, onScript, untyped, checkOf, ended, runOf, viewOf}
 use Rattle.numbers.specs.Rows.{First}
 use Rattle.simp.specs.Judgements.{OnSheet, Principals, Sized, checkRows, Checked, Started, Ends, ends-0, ends-9, ends-10, runRows, Run, viewRows, View}
 use Rattle.simp.specs.Demands.{Demand2}

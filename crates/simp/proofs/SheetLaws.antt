@@ -6,7 +6,8 @@ use native.Mathlib.Omega.{arith}
 use Rattle.sheet.specs.Sheet.{Sheet}
 use Rattle.sheet_text.specs.declared.Decoded.{Decoded}
 use Rattle.sheet_text.specs.Sheets.{Answer, malformed, repeating, accepted, sheetOf}
-use Rattle.sheet_text.specs.Internal.Decoded.{sheetNumber, refusedBy, decodedSheet}
+use Rattle.sheet_text.specs.Verdict.{sheetNumber}
+use Rattle.sheet_text.specs.Internal.Decoded.{refusedBy, decodedSheet}
 use Rattle.sheet_text.proofs.Theorems.{accepted-exact}
 use Rattle.simp.specs.Calls.{onSheet}
 use Rattle.simp.specs.Internal.Stages.{TableOf}
@@ -38,4 +39,4 @@ module _ {A : Type 0} (refuse : ℕ → A) (go : Sheet → A) where
         on repeating p = absurd (omega (arith, zero-of repeating p))
         on (accepted s) p =
             let h = accepted-exact sheet s .0 p in
-            k s (record { form = h .0 .right; once = h .1; words = ap (λ (x : Decoded). x .table) (e ∙ ap decodedSheet p) })
+            k s (record { form = h .0 .is-formed; once = h .1; words = ap (λ (x : Decoded). x .table) (e ∙ ap decodedSheet p) })

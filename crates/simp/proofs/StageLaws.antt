@@ -21,7 +21,8 @@ use Rattle.sheet.specs.Meaning.{shapesOf, worldOf}
 use Rattle.script_text.specs.declared.Script.{Script}
 use Rattle.script_text.specs.declared.Answer.{Answer}
 use Rattle.script_text.specs.declared.Answer.the-variants.{Read, Refused}
-use Rattle.script_text.specs.Script.{countsOf, scriptOf}
+use Rattle.script_text.specs.Counts.{countsOf}
+use Rattle.script_text.specs.Script.{scriptOf}
 use Rattle.script_text.specs.Internal.Decoded.{countsIn, decodedScript}
 use Rattle.script_text.proofs.ScriptLaws.{counts-table}
 use Rattle.script_text.proofs.ReadLaws.{read-split}
@@ -34,7 +35,8 @@ use Rattle.checker.specs.Internal.Post.{ChecksCode}
 use Rattle.checker.specs.Verdict.{verdictNumber}
 use Rattle.checker.specs.declared.Verdict.{Verdict}
 use Rattle.interpreter.specs.Internal.Run.{RunLeaves, Runs}
-use Rattle.simp.specs.Calls.{unless, strangers, onScript, untyped, refusedRun, ended, refusedView}
+use Rattle.simp.specs.Answers.{refusedRun, refusedView}
+use Rattle.simp.specs.Calls.{unless, strangers, onScript, untyped, ended}
 use Rattle.simp.specs.Internal.Stages.{TableOf, CodeOf, no-code, its-code, Judges, ChecksOn, RunsCode, runFrom, RunsOn, ViewsOn}
 use Rattle.simp.proofs.Numbers.{0-typable, typable-shape}
 

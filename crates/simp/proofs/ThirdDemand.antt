@@ -14,7 +14,8 @@ use Rattle.memory.specs.View.{viewWords}
 use Rattle.memory.specs.Theorems.{Declared}
 use Rattle.memory.proofs.Exactness.{memories-exactly, views-exactly}
 use Rattle.memory.proofs.MemoryLaws.{unrefused-length, unrefused-formed}
-use Rattle.simp.specs.Calls.{Ran, ended, runOf, Viewed, viewOf}
+use Rattle.simp.specs.Answers.{Ran, Viewed}
+use Rattle.simp.specs.Calls.{ended, runOf, viewOf}
 use Rattle.simp.specs.Judgements.{OnSheet, Principals, Sized, Started}
 use Rattle.simp.specs.Demands.{Demand3}
 use Rattle.simp.proofs.Numbers.{sized-0}
@@ -106,7 +107,7 @@ demand-3 sheet script k authority b b′ group m m′ v v′ same r r′ =
     let shown = shown-on group m v on (same .shown) in
     let shown′ = shown-on group m′ v′ on (same .shown′) in
     let before = views-exactly s group .same-view m m′ (started one) (started two) .0 (sym (shown .words) ∙ same .same ∙ shown′ .words) in
-    let after = shown-kept s (on .form .right) group c (one .typable) authority b b′ (ran .rest) (ran′ .rest) (memoryOf m) (memoryOf m′) (ran .reached) (ran′ .reached)
+    let after = shown-kept s (on .form .is-formed) group c (one .typable) authority b b′ (ran .rest) (ran′ .rest) (memoryOf m) (memoryOf m′) (ran .reached) (ran′ .reached)
     before (ran .run) (ran′ .run) in
     let e = left-view group (runOf sheet script m authority b .memory) v (ran .reached) on (shown .known) (shown .room) d (ran .words) in
     let e′ = left-view group (runOf sheet script m′ authority b′ .memory) v′ (ran′ .reached) on (shown .known) (shown′ .room) d′ (ran′ .words) in

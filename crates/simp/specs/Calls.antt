@@ -12,9 +12,11 @@ use Rattle.language.specs.Typing.{refusal}
 use Rattle.sheet.specs.Sheet.{Sheet, locationCount}
 use Rattle.sheet.specs.Meaning.{labelsOver, declarationsOf, worldOf}
 use Rattle.sheet_text.specs.Sheets.{Answer, malformed, repeating, accepted, sheetOf}
-use Rattle.script_text.specs.Script.{countsOf, scriptOf}
+use Rattle.script_text.specs.Counts.{countsOf}
+use Rattle.script_text.specs.Script.{scriptOf}
 use Rattle.memory.specs.Memory.{memoryOf, wordsOf, memoryRefusal}
 use Rattle.memory.specs.View.{viewWords, viewRefusal}
+use Rattle.simp.specs.Answers.{Ran, refusedRun, Viewed, refusedView}
 
 -- ---- in the order judged; `refuse` says what a number leads to. (7 and 8 are crate memory's: memoryRefusal, viewRefusal.)
 
@@ -51,16 +53,6 @@ checkOf sheet script =
     onScript (λ k. k) (scriptOf (countsOf s) script) (λ c.
     untyped s c))
 
--- what a run answers, and what the lent memory then holds
-pub record Ran : Type 0 where
-  pub answer : ℕ
-  pub steps : ℕ
-  pub memory : List ℕ
-
--- a refused run: no steps, and the memory as it was
-abbrev pub refusedRun : List ℕ → ℕ → Ran
-refusedRun memory k = record { answer = k; steps = 0; memory = memory }
-
 -- A run on n locations that ended so. Done, it leaves the words of its last memory; else the memory is as it was.
 -- (`wrong` is no outcome of an accepted script: crate language's TypeSoundness.)
 unfoldable pub ended : ℕ → ℕ → List ℕ → Out → Ran
@@ -78,15 +70,6 @@ runOf sheet script memory authority budget =
     unless (refusedRun memory) (untyped s c) (
     unless (refusedRun memory) (memoryRefusal s memory) (
     ended (locationCount s) budget memory (iterate (worldOf s authority) budget (memoryOf memory) c))))))
-
--- what a view answers, and what the lent view slice then holds
-pub record Viewed : Type 0 where
-  pub answer : ℕ
-  pub view : List ℕ
-
--- a refused view: the slice as it was
-abbrev pub refusedView : List ℕ → ℕ → Viewed
-refusedView view k = record { answer = k; view = view }
 
 -- simp_view
 unfoldable pub viewOf : List ℕ → List ℕ → ℕ → List ℕ → Viewed

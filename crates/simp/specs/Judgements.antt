@@ -18,11 +18,11 @@ use Rattle.language.specs.Rules.{Derivable}
 use Rattle.sheet.specs.Sheet.{Sheet, repeats, locationCount}
 use Rattle.sheet.specs.Meaning.{labelsOver, declarationsOf, worldOf}
 use Rattle.sheet_text.specs.Theorems.{IsSheet}
-use Rattle.script_text.specs.Script.{countsOf}
+use Rattle.script_text.specs.Counts.{countsOf}
 use Rattle.script_text.specs.Theorems.{IsScript}
 use Rattle.memory.specs.Memory.{memoryOf, wordsOf, wellFormed}
 use Rattle.memory.specs.View.{viewWords}
-use Rattle.simp.specs.Calls.{Ran, refusedRun, Viewed, refusedView}
+use Rattle.simp.specs.Answers.{Ran, refusedRun, Viewed, refusedView}
 use Rattle.numbers.specs.Rows.{Row, _when_, First}
 
 -- ---- of a sheet s and a command c
@@ -42,8 +42,8 @@ Principals s group = within group (everyone (s .principals)) ≡ true
 abbrev pub Sized : Sheet → List ℕ → Type 0
 Sized s words = length words ≡ cell-words * locationCount s
 
--- ---- of the texts: a text is that of one sheet at most (crate sheet_text's OneSheet), and of one command at most
--- (its ScriptExact)
+-- ---- of the texts: a text is that of one sheet at most (crate sheet_text's OneSheet), and on a sheet that of one command at most
+-- (crate script_text's ScriptExact)
 
 -- The text is that of a sheet, and P holds of that sheet.
 abbrev pub OfSheet : List ℕ → (Sheet → Type 0) → Type 0

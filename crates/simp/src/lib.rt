@@ -3,7 +3,8 @@
 mod stages; // stages.rt: what a call does once the sheet is read
 
 ghost use mathlib.Core.Path.{_≡_};
-ghost use Rattle.simp.specs.Calls.{checkOf, Ran, runOf, Viewed, viewOf};
+ghost use Rattle.simp.specs.Answers.{Ran, Viewed};
+ghost use Rattle.simp.specs.Calls.{checkOf, runOf, viewOf};
 
 // The answers. 0 is done, or accepted, or shown; the others refuse.
 pub const DONE: u8 = 0;
@@ -42,7 +43,7 @@ pub extern "C" fn simp_check(sheet: &[u8], script: &[u8]) -> u8
 {
     let read = sheet_text::read(sheet);
     let verdict = read.verdict;
-    let answer = sheet_text::number(verdict);
+    let answer = stages::sheet_number(verdict);
     if answer != DONE {
         return answer;
     }
@@ -62,7 +63,7 @@ pub extern "C" fn simp_run(
 {
     let read = sheet_text::read(sheet);
     let verdict = read.verdict;
-    let answer = sheet_text::number(verdict);
+    let answer = stages::sheet_number(verdict);
     if answer != DONE {
         return stages::refused(answer);
     }
@@ -76,7 +77,7 @@ pub extern "C" fn simp_view(sheet: &[u8], memory: &[u32], group: u16, view: &mut
 {
     let read = sheet_text::read(sheet);
     let verdict = read.verdict;
-    let answer = sheet_text::number(verdict);
+    let answer = stages::sheet_number(verdict);
     if answer != DONE {
         return answer;
     }

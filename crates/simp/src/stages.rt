@@ -1,5 +1,7 @@
 // What a call does once the sheet is read: the script, the checks in the order of their numbers, the run or the view.
 ghost use mathlib.Core.Path.{_≡_};
+ghost use Rattle.sheet_text.specs.Verdict.{sheetNumber};
+ghost use Rattle.memory.specs.Verdict.{memoryNumber};
 ghost use Rattle.interpreter.specs.State.{stateNumber};
 ghost use Rattle.simp.specs.Internal.Stages.{Judges, ChecksOn, RunsCode, RunsOn, ViewsOn};
 use super::Outcome;
@@ -12,6 +14,28 @@ pub(crate) fn refused(answer: u8) -> Outcome
     ensures { λ r. ⌜ r ≡ record { answer = answer; steps = 0 } ⌝ }
 {
     Outcome { answer, steps: 0 }
+}
+
+// The answer to a sheet of which this is found.
+pub(crate) fn sheet_number(verdict: sheet_text::Verdict) -> u8
+    ensures { λ r. ⌜ r ≡ sheetNumber verdict ⌝ }
+{
+    match verdict {
+        sheet_text::Verdict::Accepted => super::DONE,
+        sheet_text::Verdict::Malformed => super::SHEET_MALFORMED,
+        sheet_text::Verdict::Repeats => super::SHEET_REPEATS,
+    }
+}
+
+// The answer to lent slices of which this is found.
+fn memory_number(verdict: memory::Verdict) -> u8
+    ensures { λ r. ⌜ r ≡ memoryNumber verdict ⌝ }
+{
+    match verdict {
+        memory::Verdict::Accepted => super::DONE,
+        memory::Verdict::OtherSize => super::SLICE_SIZE,
+        memory::Verdict::IllFormed => super::MEMORY_ILL_FORMED,
+    }
 }
 
 // 4 where there is no script, 5 or 6 where it has no derivation, else 0.
@@ -65,7 +89,8 @@ fn run_code(
     if answer != super::DONE {
         return refused(answer);
     }
-    let answer = memory::refusal(table, memory);
+    let verdict = memory::judge(table, memory);
+    let answer = memory_number(verdict);
     if answer != super::DONE {
         return refused(answer);
     }
@@ -110,5 +135,6 @@ pub(crate) fn view_on(table: &[u16], memory: &[u32], group: u16, view: &mut [u32
     if !sets::contained(group, sheet::everyone(table)) {
         return super::PRINCIPAL_UNKNOWN;
     }
-    memory::view(table, memory, group, view)
+    let verdict = memory::view(table, memory, group, view);
+    memory_number(verdict)
 }

@@ -1,5 +1,5 @@
 -- `checker::answer` meets its contract. Assumes nothing.
-use Rattle.checker.specs.Verdict.{verdictOf}
+use Rattle.checker.specs.Internal.Post.{verdictOf}
 use Rattle.checker.proofs.answer.Statement.{statement}
 use Rattle.checker.proofs.answer.Tie as tie
 

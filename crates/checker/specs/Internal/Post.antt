@@ -1,6 +1,6 @@
 -- What the checkers ensure, for every expression or command whose lines stand at a word of the code.
 use mathlib.Core.Path.{_≡_}
-use mathlib.Core.Bool.{true, false}
+use mathlib.Core.Bool.{Bool, true, false, cond}
 use mathlib.Core.List.{List, []}
 use Prim.Native.Nat.{ℕ, _≤_}
 use lib.ListN.{length, drop}
@@ -12,6 +12,8 @@ use Rattle.script.specs.Names.{Counts, maxDepth, named}
 use Rattle.sheet.specs.Sheet.{Sheet, formed, repeats}
 use Rattle.sheet.specs.Internal.Tables.{tableOf}
 use Rattle.sheet.specs.Meaning.{labelsOver, declarationsOf}
+use Rattle.checker.specs.declared.Verdict.{Verdict}
+use Rattle.checker.specs.declared.Verdict.the-variants.{Accepted, IllTyped, IllLabelled}
 use Rattle.checker.specs.declared.Typed.{Typed}
 use Rattle.checker.specs.declared.Passed.{Passed}
 use Rattle.checker.specs.Internal.Numbers.{givenNo, typeNo, shapeNo, conditionsOn}
@@ -54,3 +56,7 @@ pub record ChecksCmd (ws : List ℕ) (at : ℕ) (t s : List ℕ) (d pc : ℕ) (x
 pub record ChecksCode (ws t : List ℕ) (r : ℕ) : Type 0 where
   pub exact : (s : Sheet) → formed s ≡ true → repeats s ≡ false → t ≡ tableOf s → (k : Counts) (c : Cmd) → Source c → named k 0 c ≡ true
       → ws ≡ code (cmdLines c []) → r ≡ refusal (labelsOver (s .principals)) (declarationsOf s) c
+
+-- what is found of a script, by whether its types fit and whether its label conditions hold
+unfoldable pub verdictOf : Bool → Bool → Verdict
+verdictOf typed flow = cond typed (cond flow Accepted IllLabelled) IllTyped

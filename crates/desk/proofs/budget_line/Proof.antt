@@ -4,7 +4,8 @@ use mathlib.Core.Option.{Option·elim}
 use borrow.Author.Needs.{needs}
 use Rattle.text.specs.Number.{number, most}
 use Rattle.text.proofs.Fields.{number-at, number-bad}
-use Rattle.desk.specs.Fields.{budgetOf, budgetAnswer}
+use Rattle.desk.specs.Internal.Post.{budgetAnswer}
+use Rattle.desk.specs.Fields.{budgetOf}
 use Rattle.desk.proofs.Fields.{only-whole, only-part, only-none}
 use Rattle.desk.proofs.budget_line.Statement.{statement}
 use Rattle.desk.proofs.budget_line.Tie as tie

@@ -3,7 +3,8 @@ use mathlib.Core.Path.{sym, ap, _∙_}
 use mathlib.Core.Option.{Option·elim}
 use borrow.Author.Needs.{needs}
 use Rattle.text.proofs.Fields.{set-at, set-bad}
-use Rattle.desk.specs.Fields.{groupOf, groupAnswer}
+use Rattle.desk.specs.Internal.Post.{groupAnswer}
+use Rattle.desk.specs.Fields.{groupOf}
 use Rattle.desk.proofs.Fields.{only-whole, only-part, only-none}
 use Rattle.desk.proofs.group_line.Statement.{statement}
 use Rattle.desk.proofs.group_line.Tie as tie

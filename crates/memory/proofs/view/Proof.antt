@@ -3,11 +3,14 @@ use borrow.Author.Needs.{needs}
 use mathlib.Core.Path.{sym, _∙_}
 use native.Mathlib.Omega.{arith}
 use lib.ListN.{length}
+use Rattle.memory.specs.Verdict.{memoryNumber}
+use Rattle.memory.proofs.VerdictLaws.{not-accepted, is-accepted}
 use Rattle.memory.proofs.ShownLaws as laws
 use Rattle.memory.proofs.view.Statement.{statement}
 use Rattle.memory.proofs.view.Tie as tie
 
 pub view-spec : {M : Type 1} → statement M
+unfolding memoryNumber
 view-spec = tie.close (tie.spec
     (λ c κs. search needs)
     (λ c. search needs)
@@ -17,18 +20,23 @@ view-spec = tie.close (tie.spec
     let e = laws.view-7 (a .table .now) (a .memory .now) (length (a .shown .now)) (λ k. c .if1 .taken (omega (arith, c .before .locations .ensures))) in
     (e, laws.left-refused (a .table .now) (a .memory .now) (a .group) (a .shown .now) e (λ z. omega arith)))  -- returns
     (λ c κs. search needs)
+    (λ c. search needs)  -- enum-told
     (λ c.
     let b = c .before .before in
     let a = b .before .before .before .before .before .args in
-    let e = c .before .refusal .ensures
+    let e = c .before .judge .ensures
     ∙ laws.view-answer (a .table .now) (a .memory .now) (length (a .shown .now)) (omega (arith, b .before .locations .ensures)) in
-    (e, laws.left-refused (a .table .now) (a .memory .now) (a .group) (a .shown .now) e (c .if2 .taken)))  -- returns-2
-    (λ c κs. (sym (c .before .before .refusal .ensures) ∙ c .before .if2 .left, omega (arith, c .before .before .before .before .locations .ensures)))  -- view-each-requires
+    (e, laws.left-refused (a .table .now) (a .memory .now) (a .group) (a .shown .now) e (not-accepted (c .before .judge .result) (c .match .keys2))))  -- returns-2
+    (λ c κs.
+    let j = c .before .before .before in
+    (sym (j .judge .ensures) ∙ is-accepted (j .judge .result) (c .before .enum-told .given .1), omega (arith, j .before .before .locations .ensures)))  -- view-each-requires
     (λ c. search needs)
     (λ c.
-    let b = c .before .before .before .before .before .before in
+    let told = c .before .before .before .before in
+    let j = told .before .before in
+    let b = j .before in
     let a = b .before .before .before .before .before .args in
-    let z = c .before .before .before .before .if2 .left in
-    let e = c .before .before .before .before .before .refusal .ensures
+    let z = is-accepted (j .judge .result) (told .enum-told .given .1) in
+    let e = j .judge .ensures
     ∙ laws.view-answer (a .table .now) (a .memory .now) (length (a .shown .now)) (omega (arith, b .before .locations .ensures)) in
     (sym z ∙ e, laws.left-shown (a .table .now) (a .memory .now) (a .group) (a .shown .now) e z (c .before .before .view-each .ensures))))  -- returns-3

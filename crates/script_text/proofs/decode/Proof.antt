@@ -6,7 +6,8 @@ use borrow.Author.Needs.{needs}
 use borrow.Author.Tests.{not-true, not-false}
 use lib.ListN.{length, drop, length-set}
 use Rattle.text.specs.Lines.{linesUpTo}
-use Rattle.script_text.specs.Reading.{maxLines, lineOf, linesOf}
+use Rattle.script.specs.Names.{maxLines}
+use Rattle.script_text.specs.Reading.{lineOf, linesOf}
 use Rattle.script_text.specs.declared.Answer.the-variants as answer
 use Rattle.script_text.specs.Internal.Decoded.{codeWords, codedLines}
 use Rattle.script_text.proofs.CodeLaws.{tabled, table-done, table-full, table-bad, table-more, decode-start, decode-long}

@@ -9,10 +9,13 @@ use Rattle.labels.specs.Labels.{bottomOf, belowOf, readsOf, writesOf}
 use Rattle.labels.specs.Internal.Tables.{labelSize, labelWords, labelAt}
 use Rattle.labels.specs.declared.Label.{Label}
 use Rattle.sheet.specs.Padding.{padded}
-use Rattle.sheet.specs.Sheet.{Sum, Location, Sheet, typeParts, typeCount, labelsOf, labelCount, locationCount, maxTypes, maxLabels, maxLocations}
+use Rattle.sheet.specs.Sheet.{Sum, Location, Sheet, typeCount, labelsOf, labelCount, locationCount, maxSums, maxLabels, maxLocations, givenSums}
 
 -- The table has words of counts, two words for each type and for each location, and the words of each label. These are the words
 -- that the types, the locations and the labels have room in, where they start, and the number of words in all.
+abbrev pub maxTypes : ℕ
+maxTypes = 5 + maxSums
+
 abbrev pub partsRoom : ℕ
 partsRoom = 2 * maxTypes
 
@@ -48,6 +51,17 @@ locationWords xs = pairWords (λ (x : Location). x .type) (λ (x : Location). x 
 unfoldable pub labelsWords : List Label → List ℕ
 labelsWords [] = []
 labelsWords (a ∷ rest) = labelWords a ++ labelsWords rest
+
+-- the parts of the given types by number; a type without parts has the parts 0 0
+unfoldable pub givenParts : List Sum
+givenParts = record { left = 0; right = 0 } ∷ record { left = 0; right = 0 } ∷ record { left = 0; right = 0 } ∷ givenSums
+
+unfoldable pub typeParts : Sheet → List Sum
+typeParts s = givenParts ++ s .sums
+
+-- the parts of a type by its number; 0 0 for a number that names none
+unfoldable pub partsNo : Sheet → ℕ → Sum
+partsNo s t = getD (typeParts s) t (record { left = 0; right = 0 })
 
 -- The table of a sheet: eight words of counts, then the parts of its types, its locations and its labels.
 unfoldable pub tableOf : Sheet → List ℕ

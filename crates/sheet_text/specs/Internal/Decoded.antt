@@ -1,17 +1,10 @@
--- What the code answers to a text: a verdict, whose number is the scope's, and a table.
-use Prim.Native.Nat.{ℕ}
+-- What the code answers to a text: a verdict and a table.
 use lib.ListN.{replicate}
 use Rattle.sheet.specs.Internal.Tables.{tableWords, tableOf}
 use Rattle.sheet_text.specs.declared.Verdict.{Verdict}
 use Rattle.sheet_text.specs.declared.Verdict.the-variants.{Accepted, Malformed, Repeats}
 use Rattle.sheet_text.specs.declared.Decoded.{Decoded}
 use Rattle.sheet_text.specs.Sheets.{Answer, malformed, repeating, accepted}
-
--- the number of each verdict
-unfoldable pub sheetNumber : Verdict → ℕ
-sheetNumber Accepted = 0
-sheetNumber Malformed = 1
-sheetNumber Repeats = 2
 
 -- a refused text has a table of zeros
 unfoldable pub refusedBy : Verdict → Decoded

@@ -7,18 +7,18 @@ use Rattle.simp.proofs.simp_check.Tie as tie
 
 returns : tie.Need-returns
 unfolding checkOf
-returns c = sheet-refused (λ k. k) _ _ _ _ (c .before .before .read .ensures) (c .before .number .ensures) (c .if1 .taken)
+returns c = sheet-refused (λ k. k) _ _ _ _ (c .before .before .read .ensures) (c .before .sheet-number .ensures) (c .if1 .taken)
 
 returns-2 : tie.Need-returns-2
 unfolding checkOf
 returns-2 c =
     let k = c .before .before .before .before in
-    sheet-read (λ k. k) _ _ _ _ (k .before .before .read .ensures) (k .before .number .ensures) _ (k .if1 .left) (c .check-on .ensures .checked)
+    sheet-read (λ k. k) _ _ _ _ (k .before .before .read .ensures) (k .before .sheet-number .ensures) _ (k .if1 .left) (c .check-on .ensures .checked)
 
 pub simp-check-spec : {M : Type 1} → statement M
 simp-check-spec = tie.close (tie.spec
     (λ c κs. search needs)  -- read-requires
-    (λ c κs. search needs)  -- number-requires
+    (λ c κs. search needs)  -- sheet-number-requires
     returns
     (λ c κs. search needs)  -- check-on-requires
     returns-2)

@@ -13,12 +13,14 @@ use Rattle.script.specs.Names.{named}
 use Rattle.sheet.specs.Sheet.{Sheet, formed, repeats, locationCount}
 use Rattle.sheet.specs.Internal.Tables.{tableOf}
 use Rattle.sheet.specs.Meaning.{worldOf}
-use Rattle.script_text.specs.Script.{countsOf, scriptOf}
+use Rattle.script_text.specs.Counts.{countsOf}
+use Rattle.script_text.specs.Script.{scriptOf}
 use Rattle.script_text.specs.declared.Answer.{Answer}
 use Rattle.script_text.specs.declared.Answer.the-variants.{Read, Refused}
 use Rattle.memory.specs.Memory.{memoryOf, memoryRefusal}
 use Rattle.memory.specs.View.{viewWords, viewRefusal}
-use Rattle.simp.specs.Calls.{unless, strangers, onScript, untyped, Ran, refusedRun, ended, refusedView}
+use Rattle.simp.specs.Answers.{Ran, refusedRun, refusedView}
+use Rattle.simp.specs.Calls.{unless, strangers, onScript, untyped, ended}
 
 -- t is the table of the sheet s, which is of the form and repeats nothing
 pub record TableOf (t : List ℕ) (s : Sheet) : Type 0 where

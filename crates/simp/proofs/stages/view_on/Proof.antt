@@ -13,10 +13,11 @@ returns c =
 
 returns-2 : tie.Need-returns-2
 returns-2 c =
-    let k = c .before .before .before .before in
+    let v = c .before .before .before in
+    let k = v .before .before in
     view-known _ _ _ _ _ _
     (ap (within _) (sym (k .before .before .everyone .ensures)) ∙ sym (k .before .contained .ensures) ∙ not-false _ (k .if1 .left))
-    (c .before .before .view .ensures .0) (c .before .before .view .ensures .1)
+    (c .memory-number .ensures ∙ v .view .ensures .0) (v .view .ensures .1)
 
 pub view-on-spec : {M : Type 1} → statement M
 view-on-spec = tie.close (tie.spec
@@ -24,5 +25,6 @@ view-on-spec = tie.close (tie.spec
     (λ c κs. search needs)  -- contained-requires
     returns
     (λ c κs. search needs)  -- view-requires
+    (λ c κs. search needs)  -- memory-number-requires
     (λ c. search needs)  -- same-length
     returns-2)

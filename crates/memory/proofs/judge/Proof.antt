@@ -1,4 +1,4 @@
--- `memory::refusal` meets its contract: the locations passed hold values as declared. Assumes nothing.
+-- `memory::judge` meets its contract: the locations passed hold values as declared. Assumes nothing.
 use borrow.Author.Needs.{needs}
 use mathlib.Core.Path.{_≡_, sym, _∙_}
 use mathlib.Core.Bool.{true}
@@ -7,9 +7,10 @@ use native.Mathlib.Nat.{not-suc-le-zero}
 use native.Mathlib.Omega.{arith}
 use borrow.Author.Count.{below-more}
 use borrow.Author.Tests.{not-true, not-false}
+use Rattle.memory.specs.Verdict.{memoryNumber}
 use Rattle.memory.proofs.RefusalLaws as laws
-use Rattle.memory.proofs.refusal.Statement.{statement}
-use Rattle.memory.proofs.refusal.Tie as tie
+use Rattle.memory.proofs.judge.Statement.{statement}
+use Rattle.memory.proofs.judge.Tie as tie
 
 abbrev Inv-loop : tie.InvT-loop
 Inv-loop table memory n x₀ x = (x ≤ n) × ((k : ℕ) → k < x → laws.Held table memory k ≡ true)
@@ -17,8 +18,9 @@ Inv-loop table memory n x₀ x = (x ≤ n) × ((k : ℕ) → k < x → laws.Held
 abbrev μ-loop : tie.MeasureT-loop
 μ-loop table memory n x₀ x = n - x
 
-pub refusal-spec : {M : Type 1} → statement M
-refusal-spec = tie.close (tie.spec
+pub judge-spec : {M : Type 1} → statement M
+unfolding memoryNumber
+judge-spec = tie.close (tie.spec
     Inv-loop
     μ-loop
     (λ c κs. search needs)

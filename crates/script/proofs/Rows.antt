@@ -30,10 +30,6 @@ row-within ws at q h = on (leb (at + 3) (length ws)) refl
     on true e = leb-true _ _ e
     on false e = absurd (omega (arith, h, ap (λ (r : Row). r .kind) (q ∙ row-none ws at (leb-false _ _ e))))
 
--- the same of the row itself
-pub row-in : (ws : List ℕ) (at j : ℕ) → rowAt ws at .kind ≡ suc j → at + 3 ≤ length ws
-row-in ws at j h = row-within ws at refl (omega arith)
-
 module _ (ws : List ℕ) (at : ℕ) where
   -- The row of an expression, by its kind: its words, its parts, and what stands after it.
   pub data ExprRow (rest : List Line) : ℕ → ℕ → ℕ → Expr → Type 0 where

@@ -15,7 +15,7 @@ use Rattle.script.specs.declared.Row.{Row}
 use Rattle.script.specs.Lines.{Line, l-skip, l-seq, l-assign, l-while, l-case, l-int, l-loc, l-var, l-plus, l-left, l-right, l-pack, l-unpack, SourceE, s-int, s-loc, s-var, s-plus, s-left, s-right, s-pack, s-unpack, Source, s-skip, s-seq, s-assign, s-while, s-case, numberOf, exprLines, cmdLines}
 use Rattle.script.specs.Internal.Code.{lineWords, code, rowAt}
 use Rattle.script.specs.Names.{Counts, maxDepth, namedE, named}
-use Rattle.script.proofs.Rows.{row-read, row-none, row-in, ExprRow, at-int, at-loc, at-var, at-plus, at-left, at-right, at-pack, at-unpack, expr-row, CmdRow, at-skip, at-seq, at-assign, at-while, at-case, cmd-row}
+use Rattle.script.proofs.Rows.{row-read, row-none, ExprRow, at-int, at-loc, at-var, at-plus, at-left, at-right, at-pack, at-unpack, expr-row, CmdRow, at-skip, at-seq, at-assign, at-while, at-case, cmd-row}
 use Rattle.script_text.specs.declared.Scanned.{Scanned}
 use Rattle.script_text.specs.Internal.Placed.{rowOf}
 use Rattle.script_text.specs.Internal.Scan.{Scans, ScansExpr, ScansCmd}
@@ -415,11 +415,3 @@ module _ (k : Counts) (d : ℕ) (ws : List ℕ) (at : ℕ) (row : Row) (q : row 
           let y = in-b .complete _ _ s2 (both-left _ _ m′) (x .1) in
           let z = in-c .complete _ _ s3 (both-right _ _ m′) (y .1) in
           (both-true (x .0) (both-true (y .0) (z .0)), z .1)
-
--- a row of one of the kinds lies within the code
-pub row-room : (ws : List ℕ) (at : ℕ) (row : Row) (j : ℕ) → row ≡ rowAt ws at → row .kind ≡ suc j → at + 3 ≤ length ws
-row-room ws at row j q e = row-in ws at j (sym (ap (λ (r : Row). r .kind) q) ∙ e)
-
--- the same of a row of any kind
-pub row-some : (ws : List ℕ) (at : ℕ) (row : Row) → row ≡ rowAt ws at → 0 < row .kind → at + 3 ≤ length ws
-row-some ws at row r h = row-room ws at row (row .kind - 1) r (omega arith)

@@ -102,11 +102,11 @@ command-some k (l ∷ ls) c e = omega arith
 
 -- ---- the command of a text
 
-commandIn-split : {P : Type 0} (k : Counts) (o : Option (List Line)) (c : Cmd)
+command-split : {P : Type 0} (k : Counts) (o : Option (List Line)) (c : Cmd)
     → ((ls : List Line) → o ≡ some ls → commandOf k ls ≡ some c → P) → commandRead k o ≡ some c → P
 unfolding commandRead
-commandIn-split k none c g e = none-some e
-commandIn-split k (some ls) c g e = g ls refl e
+command-split k none c g e = none-some e
+command-split k (some ls) c g e = g ls refl e
 
 pub linesOf-sound : (t : List ℕ) (ls : List Line) → linesOf t ≡ some ls → (t ≡ scriptBytes ls) × (length ls ≤ maxLines) × (length t ≤ limit)
 unfolding linesOf fits
@@ -123,7 +123,7 @@ linesOf-print ls f h l = rw (le-leb _ _ l) (lines-exact script-lines maxLines _ 
 pub script-sound : (k : Counts) (t : List ℕ) (c : Cmd) → scriptOf k t ≡ some c → IsScript k t c
 unfolding scriptOf
 script-sound k t c e =
-    commandIn-split k (linesOf t) c (λ ls x y.
+    command-split k (linesOf t) c (λ ls x y.
     let r = linesOf-sound t ls x in
     let q = command-sound k ls c y in
     let n = command-some k ls c y in

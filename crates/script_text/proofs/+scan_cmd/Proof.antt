@@ -6,7 +6,7 @@ use borrow.Author.Needs.{needs}
 use borrow.Fn.Kinds.{In}
 use borrow.Fn.PlainCycle.{Measures, is, falls, and}
 use Rattle.script.proofs.row_at.Reads as row-at-reads
-use Rattle.script_text.proofs.ScanLaws.{row-room, row-some}
+use Rattle.script.proofs.Rows.{row-within}
 use Rattle.script_text.proofs.ScanLaws as laws
 use Rattle.script_text.proofs.scan_cmd.Reads as scan-cmd
 use Rattle.script_text.proofs.scan_cmd.Kinds as scan-cmd-kinds
@@ -47,22 +47,22 @@ pub +scan-cmd-spec : {M : Type 1} → statement M
 +scan-cmd-spec =
     close μ-scan-cmd λ t. scan-cmd-lts.spec (readings t) (scan-cmd-at t) scan-cmd.Post
     (λ c κs. search needs)  -- row-at-requires
-    (λ c. omega (arith, row-room _ _ _ 0 (c .before .row-at .ensures) (c .match .keys1)))  -- add-t15
-    (λ c. omega (arith, row-room _ _ _ 1 (c .before .row-at .ensures) (c .match .keys2)))  -- add-scan-cmd
-    (λ c κs. (omega (arith, row-room _ _ _ 1 (c .before .row-at .ensures) (c .match .keys2)), tt))  -- scan-cmd-requires
-    (λ c κs. (omega (arith, row-room _ _ _ 1 (c .before .before .row-at .ensures) (c .before .match .keys2), c .scan-cmd .ensures .forward), tt))  -- scan-cmd-requires-2
+    (λ c. omega (arith, row-within _ _ (c .before .row-at .ensures) (omega (arith, c .match .keys1))))  -- add-t15
+    (λ c. omega (arith, row-within _ _ (c .before .row-at .ensures) (omega (arith, c .match .keys2))))  -- add-scan-cmd
+    (λ c κs. (omega (arith, row-within _ _ (c .before .row-at .ensures) (omega (arith, c .match .keys2))), tt))  -- scan-cmd-requires
+    (λ c κs. (omega (arith, row-within _ _ (c .before .before .row-at .ensures) (omega (arith, c .before .match .keys2)), c .scan-cmd .ensures .forward), tt))  -- scan-cmd-requires-2
     (λ c κs. search needs)  -- also-requires
-    (λ c. omega (arith, row-some _ _ _ (c .before .before .before .row-at .ensures) (omega (arith, c .before .if1 .left))))  -- add-scan-expr
+    (λ c. omega (arith, row-within _ _ (c .before .before .before .row-at .ensures) (omega (arith, c .before .if1 .left))))  -- add-scan-expr
     (λ c κs. search needs)  -- scan-expr-requires
     (λ c κs. search needs)  -- is-location-requires
     (λ c κs. search needs)  -- also-requires-2
-    (λ c κs. (omega (arith, row-some _ _ _ (c .before .before .before .before .before .row-at .ensures) (omega (arith, c .before .before .before .if1 .left)), c .before .scan-expr .ensures .forward), tt))  -- scan-cmd-requires-3
+    (λ c κs. (omega (arith, row-within _ _ (c .before .before .before .before .before .row-at .ensures) (omega (arith, c .before .before .before .if1 .left)), c .before .scan-expr .ensures .forward), tt))  -- scan-cmd-requires-3
     (λ c κs. search needs)  -- also-requires-3
     (λ c. laws.scan-deep _ _ _ _ _ (c .before .before .before .before .before .before .row-at .ensures) (c .before .match2 .keys3) (c .if3 .taken))  -- returns
     (λ c. omega arith)  -- add-scan-cmd-2
-    (λ c κs. (omega (arith, row-some _ _ _ (c .before .before .before .before .before .before .row-at .ensures) (omega (arith, c .before .before .before .before .if1 .left)), c .before .before .scan-expr .ensures .forward), tt))  -- scan-cmd-requires-4
+    (λ c κs. (omega (arith, row-within _ _ (c .before .before .before .before .before .before .row-at .ensures) (omega (arith, c .before .before .before .before .if1 .left)), c .before .before .scan-expr .ensures .forward), tt))  -- scan-cmd-requires-4
     (λ c. omega arith)  -- add-scan-cmd-3
-    (λ c κs. (omega (arith, row-some _ _ _ (c .before .before .before .before .before .before .before .row-at .ensures) (omega (arith, c .before .before .before .before .before .if1 .left)), c .before .before .before .scan-expr .ensures .forward, c .scan-cmd4 .ensures .forward), tt))  -- scan-cmd-requires-5
+    (λ c κs. (omega (arith, row-within _ _ (c .before .before .before .before .before .before .before .row-at .ensures) (omega (arith, c .before .before .before .before .before .if1 .left)), c .before .before .before .scan-expr .ensures .forward, c .scan-cmd4 .ensures .forward), tt))  -- scan-cmd-requires-5
     (λ c κs. search needs)  -- also-requires-4
     (λ c κs. search needs)  -- also-requires-5
     (λ c. laws.scan-skip _ _ _ _ _ (c .before .row-at .ensures) (c .match .keys1))  -- returns-2

@@ -7,7 +7,7 @@ use borrow.Author.Needs.{needs}
 use borrow.Fn.Kinds.{In}
 use borrow.Fn.PlainCycle.{Measures, is, falls, and}
 use Rattle.script.proofs.row_at.Reads as row-at-reads
-use Rattle.script_text.proofs.ScanLaws.{row-room, row-some}
+use Rattle.script.proofs.Rows.{row-within}
 use Rattle.script_text.proofs.ScanLaws as laws
 use Rattle.script_text.proofs.scan_expr.Reads as scan-expr
 use Rattle.script_text.proofs.scan_expr.Kinds as scan-expr-kinds
@@ -50,13 +50,13 @@ pub +scan-expr-spec : {M : Type 1} → statement M
 +scan-expr-spec =
     close μ-scan-expr λ t. scan-expr-lts.spec (readings t) (scan-expr-at t) scan-expr.Post
     (λ c κs. search needs)  -- row-at-requires
-    (λ c. omega (arith, row-room _ _ _ 5 (c .before .row-at .ensures) (c .match .keys1)))  -- add-t11
+    (λ c. omega (arith, row-within _ _ (c .before .row-at .ensures) (omega (arith, c .match .keys1))))  -- add-t11
     (λ c κs. search needs)  -- is-location-requires
-    (λ c. omega (arith, row-room _ _ _ 6 (c .before .before .row-at .ensures) (c .before .match .keys2)))  -- add-t13
-    (λ c. omega (arith, row-room _ _ _ 7 (c .before .row-at .ensures) (c .match .keys3)))  -- add-t15
-    (λ c. omega (arith, row-some _ _ _ (c .before .before .before .row-at .ensures) (omega (arith, c .before .if1 .left))))  -- add-scan-expr
-    (λ c κs. (omega (arith, row-some _ _ _ (c .before .before .before .row-at .ensures) (omega (arith, c .before .if1 .left))), tt))  -- scan-expr-requires
-    (λ c κs. (omega (arith, row-some _ _ _ (c .before .before .before .before .before .row-at .ensures) (omega (arith, c .before .before .before .if1 .left)), c .before .scan-expr .ensures .forward), tt))  -- scan-expr-requires-2
+    (λ c. omega (arith, row-within _ _ (c .before .before .row-at .ensures) (omega (arith, c .before .match .keys2))))  -- add-t13
+    (λ c. omega (arith, row-within _ _ (c .before .row-at .ensures) (omega (arith, c .match .keys3))))  -- add-t15
+    (λ c. omega (arith, row-within _ _ (c .before .before .before .row-at .ensures) (omega (arith, c .before .if1 .left))))  -- add-scan-expr
+    (λ c κs. (omega (arith, row-within _ _ (c .before .before .before .row-at .ensures) (omega (arith, c .before .if1 .left))), tt))  -- scan-expr-requires
+    (λ c κs. (omega (arith, row-within _ _ (c .before .before .before .before .before .row-at .ensures) (omega (arith, c .before .before .before .if1 .left)), c .before .scan-expr .ensures .forward), tt))  -- scan-expr-requires-2
     (λ c κs. search needs)  -- also-requires
     (λ c κs. search needs)  -- is-type-requires
     (λ c κs. search needs)  -- also-requires-2

@@ -23,10 +23,11 @@ use Rattle.memory.specs.Words.{cell}
 use Rattle.memory.specs.Memory.{cellOf}
 use Rattle.interpreter.specs.State.{stateNumber}
 use Rattle.interpreter.specs.declared.State.the-variants.{Done, NoRule}
-use Rattle.interpreter.specs.Internal.Cells.{accumulator, firstLocation, loadOf, storeOf, CellsHold}
+use Rattle.cells.specs.Internal.Cells.{accumulator, loadOf, storeOf}
+use Rattle.interpreter.specs.Internal.Cells.{firstLocation, CellsHold}
 use Rattle.interpreter.specs.Internal.Nodes.{Yields, Turns, Applies, Applied, Tags, Tells}
 use Rattle.interpreter.specs.Internal.Post.{ExprAt, Evals}
-use Rattle.interpreter.proofs.CellLaws.{there, load-there, length-load, cell-stored, rest-kept}
+use Rattle.cells.proofs.CellLaws.{there, load-there, length-load, cell-stored, rest-kept}
 use Rattle.interpreter.proofs.ValueLaws.{tags-left, tags-right}
 use Rattle.interpreter.proofs.NodeLaws.{second-here, turns-past, length-int}
 use Rattle.interpreter.proofs.StateLaws.{cell-in, room-here, holds-kept, bound-answers}

@@ -19,10 +19,11 @@ use Rattle.memory.specs.Words.{enc, cell}
 use Rattle.memory.specs.Memory.{cellOf}
 use Rattle.interpreter.specs.State.{stateNumber}
 use Rattle.interpreter.specs.declared.State.the-variants.{Done, Spent, NoRule}
-use Rattle.interpreter.specs.Internal.Cells.{accumulator, firstLocation, loadOf, storeOf, popOf, CellsHold}
+use Rattle.cells.specs.Internal.Cells.{accumulator, loadOf, storeOf, popOf}
+use Rattle.interpreter.specs.Internal.Cells.{firstLocation, CellsHold}
 use Rattle.interpreter.specs.Internal.Nodes.{Yields, Tags, Tells}
 use Rattle.interpreter.specs.Internal.Post.{ExprAt, Evals, a-command, Skips, Finishes, ticked, Ticks, Assigns, Choice, to-left, to-right, no-budget, choice-long, choice-stuck, choiceV, choice, Chooses, Decides, Enters, Branches}
-use Rattle.interpreter.proofs.CellLaws.{length-load, length-pop}
+use Rattle.cells.proofs.CellLaws.{length-load, length-pop}
 use Rattle.interpreter.proofs.ValueLaws.{cell-size, tags-left, tags-right, pop-tag, Kind, is-int, is-err, is-inl, is-inr, is-pkg, is-blank, kind-enc}
 use Rattle.interpreter.proofs.NodeLaws.{words-here, load-here}
 use Rattle.interpreter.proofs.StateLaws.{room-here, holds-kept, holds-put, holds-bind}

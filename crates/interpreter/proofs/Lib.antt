@@ -1,4 +1,3 @@
-pub mod CellLaws
 pub mod ValueLaws
 pub mod SkipLaws
 pub mod NodeLaws

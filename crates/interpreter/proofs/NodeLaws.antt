@@ -19,9 +19,9 @@ use Rattle.memory.specs.Memory.{cellOf}
 use Rattle.memory.proofs.WordLaws.{length-cell, value-enc, end-enc}
 use Rattle.interpreter.specs.State.{stateNumber}
 use Rattle.interpreter.specs.declared.State.the-variants.{TooLong, NoRule}
-use Rattle.interpreter.specs.Internal.Cells.{accumulator, loadOf, storeOf, pushOf, popOf}
+use Rattle.cells.specs.Internal.Cells.{accumulator, loadOf, storeOf, pushOf, popOf}
 use Rattle.interpreter.specs.Internal.Nodes.{Yields, Turns, Applies, Applied, Tags, errorOf, errorIn, Tells}
-use Rattle.interpreter.proofs.CellLaws.{there, load-there, length-load, length-push, length-pop, cell-stored, rest-kept}
+use Rattle.cells.proofs.CellLaws.{there, load-there, length-load, length-push, length-pop, cell-stored, rest-kept}
 use Rattle.interpreter.proofs.ValueLaws.{enc-append, cell-size, tags-left, push-tag, push-package, pop-package}
 
 -- ---- what is in the accumulator

@@ -30,7 +30,7 @@ use Rattle.interpreter.specs.Internal.Cells.{firstLocation, workWords, C
 use Rattle.interpreter.specs.Internal.Nodes.{Tells}
 use Rattle.interpreter.specs.Internal.Post.{Finishes, Execs}
 use Rattle.interpreter.specs.Internal.Run.{RunLeaves, Runs}
-use Rattle.interpreter.proofs.CellLaws.{cell-front}
+use Rattle.cells.proofs.CellLaws.{cell-front}
 
 -- ---- a sheet's table says what the sheet means
 

@@ -15,9 +15,10 @@ use Rattle.language.specs.Evaluation.{lookup}
 use Rattle.script.specs.Names.{maxDepth}
 use Rattle.memory.specs.Words.{cell}
 use Rattle.memory.specs.Memory.{cellOf}
-use Rattle.interpreter.specs.Internal.Cells.{firstLocation, workWords, cellCount, loadOf, storeOf, Binds, bound-none, bound-more, CellsHold}
+use Rattle.cells.specs.Internal.Cells.{cellCount, loadOf, storeOf}
+use Rattle.interpreter.specs.Internal.Cells.{firstLocation, workWords, Binds, bound-none, bound-more, CellsHold}
 use Rattle.interpreter.specs.Internal.Nodes.{Yields}
-use Rattle.interpreter.proofs.CellLaws.{there, cell-agree, load-there, length-store, cell-stored, cell-other}
+use Rattle.cells.proofs.CellLaws.{there, cell-agree, load-there, length-store, cell-stored, cell-other}
 
 pub binds-kept : {a b : List ℕ} {depth : ℕ} {ρ : Env} → ((k : ℕ) → k < depth → cellOf b (suc k) ≡ cellOf a (suc k)) → Binds a depth ρ → Binds b depth ρ
 binds-kept h bound-none = bound-none

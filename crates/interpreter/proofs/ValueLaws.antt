@@ -12,9 +12,9 @@ use Rattle.language.specs.World.{cell-words}
 use Rattle.memory.specs.Words.{enc, zeros, cell}
 use Rattle.memory.specs.Memory.{cellOf}
 use Rattle.memory.proofs.WordLaws.{length-enc}
-use Rattle.interpreter.specs.Internal.Cells.{pushOf, popOf}
+use Rattle.cells.specs.Internal.Cells.{pushOf, popOf}
 use Rattle.interpreter.specs.Internal.Nodes.{Tags}
-use Rattle.interpreter.proofs.CellLaws.{cell-short}
+use Rattle.cells.proofs.CellLaws.{cell-short}
 
 -- ---- a value's words, then more
 

@@ -3,8 +3,8 @@ ghost use mathlib.Core.Path.{_≡_};
 ghost use Rattle.interpreter.specs.State.{stateNumber};
 ghost use Rattle.interpreter.specs.Internal.Post.{operandCount, Skips, Execs, Ticks, Assigns, Decides, Branches};
 use crate::State;
-use crate::cells;
 use crate::evaluation;
+use crate::layout;
 use script::ROW;
 
 // Cases nest at most this deep.
@@ -106,7 +106,7 @@ fn assign(
     table: &[u16],
     authority: u16,
     depth: u32,
-    work: &mut [u32; cells::WORK],
+    work: &mut [u32; layout::WORK],
     fuel: u32,
     x: u32,
 ) -> Stepped
@@ -128,7 +128,7 @@ fn assign(
             next: at,
         };
     };
-    cells::copy_cell(work, cells::ACCUMULATOR, cells::LOCATIONS + x as usize);
+    cells::copy_cell(work, cells::ACCUMULATOR, layout::LOCATIONS + x as usize);
     Stepped {
         state: State::Done,
         left: fuel - 1,
@@ -143,7 +143,7 @@ fn decide(
     table: &[u16],
     authority: u16,
     depth: u32,
-    work: &mut [u32; cells::WORK],
+    work: &mut [u32; layout::WORK],
     fuel: u32,
 ) -> Decided
     ensures { λ r. ⌜ Decides (now (code .entry)) at (now (table .entry)) authority depth (now (work .entry)) fuel (stateNumber (r .state)) (r .left) (r .next) (r .on) (now (work .exit)) ⌝ }
@@ -195,7 +195,7 @@ fn branch(
     table: &[u16],
     authority: u16,
     depth: u32,
-    work: &mut [u32; cells::WORK],
+    work: &mut [u32; layout::WORK],
     fuel: u32,
 ) -> Taken
     ensures { λ r. ⌜ Branches (now (code .entry)) at (now (table .entry)) authority depth (now (work .entry)) fuel (stateNumber (r .state)) (r .left) (r .start) (r .end) (now (work .exit)) ⌝ }
@@ -238,7 +238,7 @@ pub(crate) fn exec(
     table: &[u16],
     authority: u16,
     depth: u32,
-    work: &mut [u32; cells::WORK],
+    work: &mut [u32; layout::WORK],
     fuel: u32,
 ) -> Stepped
     ensures { λ r. ⌜ Execs (now (code .entry)) at (now (table .entry)) authority depth (now (work .entry)) fuel (stateNumber (r .state)) (r .left) (r .next) (now (work .exit)) ⌝ }

@@ -2,7 +2,7 @@
 ghost use Rattle.interpreter.specs.State.{stateNumber};
 ghost use Rattle.interpreter.specs.Internal.Post.{Evals};
 use crate::State;
-use crate::cells;
+use crate::layout;
 use crate::nodes;
 use crate::nodes::Evaluated;
 use script::ROW;
@@ -14,7 +14,7 @@ pub(crate) fn eval(
     table: &[u16],
     authority: u16,
     depth: u32,
-    work: &mut [u32; cells::WORK],
+    work: &mut [u32; layout::WORK],
 ) -> Evaluated
     ensures { λ r. ⌜ Evals (now (code .entry)) at (now (table .entry)) authority depth (now (work .entry)) (stateNumber (r .state)) (r .next) (now (work .exit)) ⌝ }
 {

@@ -1,5 +1,5 @@
 // Runs of decoded scripts: evaluation over the lines, in cells of words.
-mod cells; // cells.rt: the cells that a run works in
+mod layout; // layout.rt: where a run keeps its values
 mod nodes; // nodes.rt: one value made of another, in the accumulator
 mod evaluation; // evaluation.rt: expressions
 mod commands; // commands.rt: commands
@@ -29,7 +29,7 @@ pub struct Ran {
 pub fn run(code: &[u32], table: &[u16], memory: &mut [u32], authority: u16, budget: u32) -> Ran
     ensures { λ r. ⌜ Runs (now (code .entry)) (now (table .entry)) (now (memory .entry)) authority budget (stateNumber (r .state)) (r .steps) (now (memory .exit)) ⌝ }
 {
-    let mut work = [0u32; cells::WORK];
+    let mut work = [0u32; layout::WORK];
     run_in(code, table, memory, authority, budget, &mut work)
 }
 
@@ -40,19 +40,19 @@ fn run_in(
     memory: &mut [u32],
     authority: u16,
     budget: u32,
-    work: &mut [u32; cells::WORK],
+    work: &mut [u32; layout::WORK],
 ) -> Ran
     requires { ⌜ length (now work) ≡ workWords ⌝ }
     ensures { λ r. ⌜ Runs (now (code .entry)) (now (table .entry)) (now (memory .entry)) authority budget (stateNumber (r .state)) (r .steps) (now (memory .exit)) ⌝ }
 {
     let n = memory.len();
-    if n > cells::WORK - cells::MEMORY {
+    if n > layout::WORK - layout::MEMORY {
         return Ran {
             state: State::NoRule,
             steps: 0,
         };
     }
-    cells::copy(work, cells::MEMORY, memory, 0, n);
+    layout::copy(work, layout::MEMORY, memory, 0, n);
     let d = commands::exec(code, 0, table, authority, 0, work, budget);
     let state = d.state;
     let State::Done = state else {
@@ -61,7 +61,7 @@ fn run_in(
             steps: budget - d.left,
         };
     };
-    cells::copy(memory, 0, work, cells::MEMORY, n);
+    layout::copy(memory, 0, work, layout::MEMORY, n);
     Ran {
         state: State::Done,
         steps: budget - d.left,

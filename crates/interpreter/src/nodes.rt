@@ -8,14 +8,15 @@ ghost use Rattle.language.specs.Evaluation.{fit, add, packed, unpacked};
 ghost use Rattle.sheet.specs.Internal.Tables.{leftIn};
 ghost use Rattle.sheet.specs.Internal.TypeTest.{hasNo};
 ghost use Rattle.memory.specs.Words.{cell, valueOf};
-ghost use Rattle.interpreter.specs.Internal.Cells.{loadOf, storeOf, accumulator, firstLocation};
+ghost use Rattle.cells.specs.Internal.Cells.{loadOf, storeOf, accumulator};
+ghost use Rattle.interpreter.specs.Internal.Cells.{firstLocation};
 ghost use Rattle.interpreter.specs.State.{stateNumber};
 ghost use Rattle.interpreter.specs.Internal.Nodes.{Turns, Applies, Applied, Tags, errorIn, Tells};
 use crate::State;
-use crate::cells;
-use crate::cells::ACCUMULATOR;
-use crate::cells::CELL;
-use crate::cells::LOCATIONS;
+use crate::layout;
+use crate::layout::LOCATIONS;
+use cells::ACCUMULATOR;
+use cells::CELL;
 
 // The most words of a value that fits into the left of a package.
 const ROOM: usize = CELL - memory::CONTENT - 1;
@@ -34,7 +35,7 @@ pub(crate) struct Evaluated {
 }
 
 // An integer.
-pub(crate) fn literal(work: &mut [u32; cells::WORK], n: u32)
+pub(crate) fn literal(work: &mut [u32; layout::WORK], n: u32)
     ensures { λ _. ⌜ now (work .exit) ≡ storeOf (now (work .entry)) accumulator (cell (int n)) ⌝ }
 {
     cells::clear(work, ACCUMULATOR);
@@ -43,7 +44,7 @@ pub(crate) fn literal(work: &mut [u32; cells::WORK], n: u32)
 }
 
 // The right of an error.
-fn fail(work: &mut [u32; cells::WORK], e: u32)
+fn fail(work: &mut [u32; layout::WORK], e: u32)
     ensures { λ _. ⌜ now (work .exit) ≡ storeOf (now (work .entry)) accumulator (cell (inr (err e))) ⌝ }
 {
     cells::clear(work, ACCUMULATOR);
@@ -53,14 +54,14 @@ fn fail(work: &mut [u32; cells::WORK], e: u32)
 }
 
 // The value of location x.
-pub(crate) fn location(work: &mut [u32; cells::WORK], x: u32)
+pub(crate) fn location(work: &mut [u32; layout::WORK], x: u32)
     ensures { λ _. ⌜ now (work .exit) ≡ storeOf (now (work .entry)) accumulator (loadOf (now (work .entry)) (firstLocation + x)) ⌝ }
 {
     cells::copy_cell(work, LOCATIONS + x as usize, ACCUMULATOR);
 }
 
 // The value that the d-th enclosing case binds, innermost 0, at a depth.
-pub(crate) fn variable(work: &mut [u32; cells::WORK], depth: u32, d: u32)
+pub(crate) fn variable(work: &mut [u32; layout::WORK], depth: u32, d: u32)
     ensures { λ _. ⌜ now (work .exit) ≡ storeOf (now (work .entry)) accumulator (loadOf (now (work .entry)) (depth - d)) ⌝ }
 {
     let k = if d < depth { depth - d } else { 0 };
@@ -68,7 +69,7 @@ pub(crate) fn variable(work: &mut [u32; cells::WORK], depth: u32, d: u32)
 }
 
 // The sum of n and the integer in the accumulator.
-pub(crate) fn sum(work: &mut [u32; cells::WORK], n: u32, v: Evaluated) -> Evaluated
+pub(crate) fn sum(work: &mut [u32; layout::WORK], n: u32, v: Evaluated) -> Evaluated
     ensures { λ r. ⌜ Applies (now (work .entry)) (stateNumber (v .state)) (v .next) (now (work .exit)) (stateNumber (r .state)) (r .next)
         ((u : Value) → n ≡ getD (cell u) 1 0 → Turns (add u) (now (work .entry)) (stateNumber (v .state)) (now (work .exit)) (stateNumber (r .state))) ⌝ }
 {
@@ -82,7 +83,7 @@ pub(crate) fn sum(work: &mut [u32; cells::WORK], n: u32, v: Evaluated) -> Evalua
 }
 
 // Left or right, as the word says, of the value in the accumulator.
-fn tagged(work: &mut [u32; cells::WORK], w: u32, v: Evaluated) -> Evaluated
+fn tagged(work: &mut [u32; layout::WORK], w: u32, v: Evaluated) -> Evaluated
     ensures { λ r. ⌜ Applies (now (work .entry)) (stateNumber (v .state)) (v .next) (now (work .exit)) (stateNumber (r .state)) (r .next)
         ((f : Value → Value) → Tags w f → Turns (λ u. fit (f u)) (now (work .entry)) (stateNumber (v .state)) (now (work .exit)) (stateNumber (r .state))) ⌝ }
 {
@@ -102,7 +103,7 @@ fn tagged(work: &mut [u32; cells::WORK], w: u32, v: Evaluated) -> Evaluated
 
 // A package of label l of the value in the accumulator, or an error.
 fn pack(
-    work: &mut [u32; cells::WORK],
+    work: &mut [u32; layout::WORK],
     table: &[u16],
     authority: u16,
     l: u32,
@@ -150,7 +151,7 @@ fn refusal(work: &[u32], table: &[u16], authority: u16, t: u32, l: u32) -> u32
 
 // The content of the package in the accumulator, or an error.
 fn unpack(
-    work: &mut [u32; cells::WORK],
+    work: &mut [u32; layout::WORK],
     table: &[u16],
     authority: u16,
     t: u32,
@@ -183,7 +184,7 @@ fn unpack(
 
 // What a line of a kind, with the numbers a and b, makes of the value in the accumulator; of a plus, a is the integer on the left.
 pub(crate) fn applied(
-    work: &mut [u32; cells::WORK],
+    work: &mut [u32; layout::WORK],
     table: &[u16],
     authority: u16,
     kind: u32,

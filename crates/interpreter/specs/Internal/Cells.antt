@@ -1,22 +1,17 @@
--- Where a run keeps its values: one list of cells, each as a location's words in memory.
+-- Where a run keeps its values: one list of cells (crate cells).
 -- Cell 0 is the accumulator, the value of the expression just evaluated; cell d holds what the case at depth d binds; the
 -- locations follow.
 use mathlib.Core.Path.{_≡_}
-use mathlib.Core.Bool.{cond}
-use mathlib.Core.List.{List, [], _∷_, _++_}
-use Prim.Native.Nat.{ℕ, suc, _+_, _*_, _/_, _≤_, _<_}
-use lib.Dec.{ltb}
-use lib.ListN.{length, take, drop}
+use mathlib.Core.List.{List, [], _∷_}
+use Prim.Native.Nat.{ℕ, suc, _+_, _≤_, _<_}
+use lib.ListN.{length}
 use Rattle.language.specs.Syntax.{Value}
 use Rattle.language.specs.World.{Mem, cell-words}
 use Rattle.language.specs.Substitution.{Env}
 use Rattle.script.specs.Names.{maxDepth}
 use Rattle.sheet.specs.Sheet.{maxLocations}
-use Rattle.memory.specs.Words.{zeros, cell}
+use Rattle.memory.specs.Words.{cell}
 use Rattle.memory.specs.Memory.{cellOf}
-
-abbrev pub accumulator : ℕ
-accumulator = 0
 
 -- the cell of location 0
 abbrev pub firstLocation : ℕ
@@ -25,26 +20,6 @@ firstLocation = 9
 -- the words of all cells
 abbrev pub workWords : ℕ
 workWords = 1168
-
--- how many cells the words make
-unfoldable pub cellCount : List ℕ → ℕ
-cellCount ws = length ws / cell-words
-
--- the words of cell k; zeros where there is no such cell
-unfoldable pub loadOf : List ℕ → ℕ → List ℕ
-loadOf ws k = cond (ltb k (cellCount ws)) (cellOf ws k) (zeros cell-words)
-
--- ws with cell k replaced; unchanged where there is no such cell
-unfoldable pub storeOf : List ℕ → ℕ → List ℕ → List ℕ
-storeOf ws k words = cond (ltb k (cellCount ws)) (take (cell-words * k) ws ++ (words ++ drop (cell-words * k + cell-words) ws)) ws
-
--- a word in front; the last word goes
-unfoldable pub pushOf : ℕ → List ℕ → List ℕ
-pushOf w ws = w ∷ take 15 ws
-
--- the first word goes; a zero comes at the end
-unfoldable pub popOf : List ℕ → List ℕ
-popOf ws = drop 1 ws ++ (0 ∷ [])
 
 -- The cells hold what the enclosing cases bind, the innermost at the given depth.
 pub data Binds (work : List ℕ) : ℕ → Env → Type 0 where

@@ -11,7 +11,7 @@ use Rattle.sheet.specs.Internal.Tables.{leftIn, belowIn, readsIn, writesIn}
 use Rattle.sheet.specs.Internal.TypeTest.{hasNo}
 use Rattle.memory.specs.Words.{enc, cell}
 use Rattle.memory.specs.Memory.{cellOf}
-use Rattle.interpreter.specs.Internal.Cells.{accumulator}
+use Rattle.cells.specs.Internal.Cells.{accumulator}
 
 -- ---- answers
 

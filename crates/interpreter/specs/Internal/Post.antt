@@ -14,7 +14,8 @@ use Rattle.script.specs.Internal.Code.{code}
 use Rattle.script.specs.Names.{Counts, namedE, named, maxDepth}
 use Rattle.memory.specs.Words.{cell}
 use Rattle.memory.specs.Memory.{cellOf}
-use Rattle.interpreter.specs.Internal.Cells.{accumulator, CellsHold}
+use Rattle.cells.specs.Internal.Cells.{accumulator}
+use Rattle.interpreter.specs.Internal.Cells.{CellsHold}
 use Rattle.interpreter.specs.Internal.Nodes.{Yields, Tells}
 
 -- ---- places in the code

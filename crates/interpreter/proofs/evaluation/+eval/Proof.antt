@@ -15,7 +15,7 @@ use Rattle.script.proofs.row_at.Reads as row-at-reads
 use Rattle.interpreter.proofs.nodes.literal.Reads as literal-reads
 use Rattle.interpreter.proofs.nodes.location.Reads as location-reads
 use Rattle.interpreter.proofs.nodes.variable.Reads as variable-reads
-use Rattle.interpreter.proofs.cells.word.Reads as word-reads
+use Rattle.cells.proofs.word.Reads as word-reads
 use Rattle.interpreter.proofs.nodes.applied.Reads as applied-reads
 use Rattle.interpreter.proofs.evaluation.+eval.{statement}
 use Rattle.interpreter.proofs.evaluation.+eval.Tie.{close}

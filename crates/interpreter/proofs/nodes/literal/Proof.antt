@@ -2,8 +2,8 @@
 use borrow.Author.Needs.{needs}
 use mathlib.Core.Path.{refl, ap, _∙_}
 use Rattle.memory.specs.Words.{zeros}
-use Rattle.interpreter.specs.Internal.Cells.{storeOf, pushOf}
-use Rattle.interpreter.proofs.CellLaws.{after, length-push}
+use Rattle.cells.specs.Internal.Cells.{storeOf, pushOf}
+use Rattle.cells.proofs.CellLaws.{after, length-push}
 use Rattle.interpreter.proofs.ValueLaws.{push-int}
 use Rattle.interpreter.proofs.nodes.literal.Statement.{statement}
 use Rattle.interpreter.proofs.nodes.literal.Tie as tie

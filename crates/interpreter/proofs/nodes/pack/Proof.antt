@@ -2,8 +2,8 @@
 use borrow.Author.Needs.{needs}
 use borrow.Author.Tests.{not-true, not-false}
 use mathlib.Core.Path.{refl}
-use Rattle.interpreter.specs.Internal.Cells.{pushOf}
-use Rattle.interpreter.proofs.CellLaws.{after, length-push, length-load}
+use Rattle.cells.specs.Internal.Cells.{pushOf}
+use Rattle.cells.proofs.CellLaws.{after, length-push, length-load}
 use Rattle.interpreter.proofs.NumberLaws.{not-done, is-done}
 use Rattle.interpreter.proofs.NodeLaws as laws
 use Rattle.interpreter.proofs.nodes.pack.Statement.{statement}

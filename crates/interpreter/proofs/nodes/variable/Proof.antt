@@ -4,7 +4,7 @@ use mathlib.Core.Path.{ap, _∙_}
 use mathlib.Core.Logic.{⊎-elim}
 use Prim.Native.Nat.{ℕ}
 use native.Mathlib.Omega.{arith}
-use Rattle.interpreter.specs.Internal.Cells.{loadOf, storeOf}
+use Rattle.cells.specs.Internal.Cells.{loadOf, storeOf}
 use Rattle.interpreter.proofs.nodes.variable.Statement.{statement}
 use Rattle.interpreter.proofs.nodes.variable.Tie as tie
 

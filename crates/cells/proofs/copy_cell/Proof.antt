@@ -1,11 +1,11 @@
--- `interpreter::cells::copy_cell` meets its contract. Assumes nothing.
+-- `cells::copy_cell` meets its contract. Assumes nothing.
 use borrow.Author.Needs.{needs}
 use mathlib.Core.Path.{sym}
 use native.Mathlib.Omega.{arith}
-use Rattle.interpreter.specs.Internal.Cells.{cellCount}
-use Rattle.interpreter.proofs.CellLaws.{room-left, store-past, copy-cell-past, copy-cell-done, cells-apart}
-use Rattle.interpreter.proofs.cells.copy_cell.Statement.{statement}
-use Rattle.interpreter.proofs.cells.copy_cell.Tie as tie
+use Rattle.cells.specs.Internal.Cells.{cellCount}
+use Rattle.cells.proofs.CellLaws.{room-left, store-past, copy-cell-past, copy-cell-done, cells-apart}
+use Rattle.cells.proofs.copy_cell.Statement.{statement}
+use Rattle.cells.proofs.copy_cell.Tie as tie
 
 pub copy-cell-spec : {M : Type 1} → statement M
 unfolding cellCount

@@ -1,13 +1,13 @@
--- `interpreter::cells::copy` meets its contract. The invariant: so many words are copied. Assumes nothing.
+-- `interpreter::layout::copy` meets its contract. The invariant: so many words are copied. Assumes nothing.
 use borrow.Author.Needs.{needs}
 use mathlib.Core.Path.{_≡_, refl}
 use Prim.Native.Nat.{_-_, _≤_}
 use native.Mathlib.Omega.{arith}
 use lib.ListN.{length, drop, length-set}
 use lib.Seq.{paste, paste-zero}
-use Rattle.interpreter.proofs.CellLaws.{copy-turn, copy-done}
-use Rattle.interpreter.proofs.cells.copy.Statement.{statement}
-use Rattle.interpreter.proofs.cells.copy.Tie as tie
+use Rattle.cells.proofs.CellLaws.{copy-turn, copy-done}
+use Rattle.interpreter.proofs.layout.copy.Statement.{statement}
+use Rattle.interpreter.proofs.layout.copy.Tie as tie
 
 abbrev Inv-loop : tie.InvT-loop
 Inv-loop dst₀ to src from n i₀ dst i = (i ≤ n) × (dst ≡ paste dst₀ to (drop from src) i) × (length dst ≡ length dst₀)

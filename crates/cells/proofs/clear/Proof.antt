@@ -1,4 +1,4 @@
--- `interpreter::cells::clear` meets its contract. The invariant: so many words are zeros. Assumes nothing.
+-- `cells::clear` meets its contract. The invariant: so many words are zeros. Assumes nothing.
 use borrow.Author.Needs.{needs}
 use mathlib.Core.Path.{_≡_, refl, sym}
 use Prim.Native.Nat.{_*_, _-_, _≤_}
@@ -7,10 +7,10 @@ use lib.ListN.{length, length-set}
 use lib.Seq.{paste, paste-zero}
 use Rattle.language.specs.World.{cell-words}
 use Rattle.memory.specs.Words.{zeros}
-use Rattle.interpreter.specs.Internal.Cells.{cellCount}
-use Rattle.interpreter.proofs.CellLaws.{room-left, clear-turn, store-past, store-done, copy-done}
-use Rattle.interpreter.proofs.cells.clear.Statement.{statement}
-use Rattle.interpreter.proofs.cells.clear.Tie as tie
+use Rattle.cells.specs.Internal.Cells.{cellCount}
+use Rattle.cells.proofs.CellLaws.{room-left, clear-turn, store-past, store-done, copy-done}
+use Rattle.cells.proofs.clear.Statement.{statement}
+use Rattle.cells.proofs.clear.Tie as tie
 
 abbrev Inv-loop : tie.InvT-loop
 Inv-loop work₀ k start i₀ work i = (i ≤ cell-words) × (work ≡ paste work₀ start (zeros cell-words) i) × (length work ≡ length work₀)

@@ -1,27 +1,20 @@
-// The cells that a run works in: the accumulator, what enclosing cases bind, and the locations.
+// Cells of 16 words, one after another, of which the first is the accumulator: moved, pushed and popped in place.
 ghost use mathlib.Core.Path.{_≡_};
 ghost use mathlib.Core.Logic.{_⊎_};
 ghost use Prim.Native.Nat.{_+_, _≤_};
 ghost use Rattle.memory.specs.Words.{zeros};
 ghost use lib.ListN.{length, drop, getD};
 ghost use lib.Seq.{paste};
-ghost use Rattle.interpreter.specs.Internal.Cells.{accumulator, loadOf, storeOf, pushOf, popOf};
+ghost use Rattle.cells.specs.Internal.Cells.{accumulator, loadOf, storeOf, pushOf, popOf};
 
 // The words of a cell.
-pub(crate) const CELL: usize = memory::CELL;
+pub const CELL: usize = memory::CELL;
 
-pub(crate) const ACCUMULATOR: usize = 0;
-
-// The cell of location 0.
-pub(crate) const LOCATIONS: usize = 9;
-
-// Where the words of the locations start, and the words of all cells.
-pub(crate) const MEMORY: usize = CELL * LOCATIONS;
-
-pub(crate) const WORK: usize = MEMORY + CELL * 64;
+// The cell of the value just computed.
+pub const ACCUMULATOR: usize = 0;
 
 // Makes the words of cell k zeros, where there is such a cell.
-pub(crate) fn clear(work: &mut [u32], k: usize)
+pub fn clear(work: &mut [u32], k: usize)
     ensures { λ _. ⌜ now (work .exit) ≡ storeOf (now (work .entry)) k (zeros 16) ⌝ }
 {
     if work.len() / CELL <= k {
@@ -34,7 +27,7 @@ pub(crate) fn clear(work: &mut [u32], k: usize)
 }
 
 // Copies one cell to another, zeros where there is no such cell.
-pub(crate) fn copy_cell(work: &mut [u32], from: usize, to: usize)
+pub fn copy_cell(work: &mut [u32], from: usize, to: usize)
     ensures { λ _. ⌜ now (work .exit) ≡ storeOf (now (work .entry)) to (loadOf (now (work .entry)) from) ⌝ }
 {
     if work.len() / CELL <= to {
@@ -48,7 +41,7 @@ pub(crate) fn copy_cell(work: &mut [u32], from: usize, to: usize)
 }
 
 // The word w in front of the words in the accumulator; the last of these goes.
-pub(crate) fn push(work: &mut [u32], w: u32)
+pub fn push(work: &mut [u32], w: u32)
     ensures { λ _. ⌜ now (work .exit) ≡ storeOf (now (work .entry)) accumulator (pushOf w (loadOf (now (work .entry)) accumulator)) ⌝ }
 {
     if work.len() / CELL == 0 {
@@ -63,7 +56,7 @@ pub(crate) fn push(work: &mut [u32], w: u32)
 }
 
 // Stores the words of the accumulator without the first in cell k; a 0 comes at the end.
-pub(crate) fn pop_to(work: &mut [u32], k: usize)
+pub fn pop_to(work: &mut [u32], k: usize)
     ensures { λ _. ⌜ now (work .exit) ≡ storeOf (now (work .entry)) k (popOf (loadOf (now (work .entry)) accumulator)) ⌝ }
 {
     if work.len() / CELL <= k {
@@ -75,21 +68,10 @@ pub(crate) fn pop_to(work: &mut [u32], k: usize)
 }
 
 // The word at `at`; 0 past the end.
-pub(crate) fn word(work: &[u32], at: usize) -> u32
+pub fn word(work: &[u32], at: usize) -> u32
     ensures { λ r. ⌜ r ≡ getD (now (work .entry)) at 0 ⌝ }
 {
     if at < work.len() { work[at] } else { 0 }
-}
-
-// Copies n words of `src`, from `from` on, into `dst`, from `to` on.
-pub(crate) fn copy(dst: &mut [u32], to: usize, src: &[u32], from: usize, n: usize)
-    requires { ⌜ to + n ≤ length (now dst) ⌝ }
-    requires { ⌜ from + n ≤ length (now src) ⌝ }
-    ensures { λ _. ⌜ now (dst .exit) ≡ paste (now (dst .entry)) to (drop from (now (src .entry))) n ⌝ }
-{
-    for i in 0..n {
-        dst[to + i] = src[from + i];
-    }
 }
 
 // Copies n words, from `from` on, to `to` on; not onto words that are still to be copied.

@@ -1,11 +1,11 @@
--- `interpreter::cells::pop_to` meets its contract. Assumes nothing.
+-- `cells::pop_to` meets its contract. Assumes nothing.
 use borrow.Author.Needs.{needs}
 use mathlib.Core.Path.{sym, refl}
 use native.Mathlib.Omega.{arith}
-use Rattle.interpreter.specs.Internal.Cells.{cellCount}
-use Rattle.interpreter.proofs.CellLaws.{room-left, store-past, inside-apart, pop-done}
-use Rattle.interpreter.proofs.cells.pop_to.Statement.{statement}
-use Rattle.interpreter.proofs.cells.pop_to.Tie as tie
+use Rattle.cells.specs.Internal.Cells.{cellCount}
+use Rattle.cells.proofs.CellLaws.{room-left, store-past, inside-apart, pop-done}
+use Rattle.cells.proofs.pop_to.Statement.{statement}
+use Rattle.cells.proofs.pop_to.Tie as tie
 
 pub pop-to-spec : {M : Type 1} → statement M
 unfolding cellCount

@@ -16,7 +16,7 @@ use Rattle.language.specs.World.{cell-words}
 use Rattle.memory.specs.Words.{zeros}
 use Rattle.memory.specs.Memory.{cellOf}
 use Rattle.memory.proofs.CellsLaws.{length-cell-of}
-use Rattle.interpreter.specs.Internal.Cells.{cellCount, loadOf, storeOf, pushOf, popOf}
+use Rattle.cells.specs.Internal.Cells.{cellCount, loadOf, storeOf, pushOf, popOf}
 
 -- ---- which cells there are
 

@@ -1,4 +1,4 @@
--- `interpreter::cells::push` meets its contract. The invariant: so many words are pushed along, and the next is held. Assumes nothing.
+-- `cells::push` meets its contract. The invariant: so many words are pushed along, and the next is held. Assumes nothing.
 use borrow.Author.Needs.{needs}
 use mathlib.Core.Path.{_≡_, refl, sym}
 use mathlib.Core.List.{_∷_}
@@ -7,10 +7,10 @@ use native.Mathlib.Omega.{arith}
 use lib.ListN.{length, getD, length-set}
 use lib.Seq.{paste, paste-zero}
 use Rattle.language.specs.World.{cell-words}
-use Rattle.interpreter.specs.Internal.Cells.{cellCount}
-use Rattle.interpreter.proofs.CellLaws.{room-left, store-past, push-turn, push-held, push-done, copy-done}
-use Rattle.interpreter.proofs.cells.push.Statement.{statement}
-use Rattle.interpreter.proofs.cells.push.Tie as tie
+use Rattle.cells.specs.Internal.Cells.{cellCount}
+use Rattle.cells.proofs.CellLaws.{room-left, store-past, push-turn, push-held, push-done, copy-done}
+use Rattle.cells.proofs.push.Statement.{statement}
+use Rattle.cells.proofs.push.Tie as tie
 
 abbrev Inv-loop : tie.InvT-loop
 Inv-loop work₀ w held₀ i₀ work held i =

@@ -1,9 +1,9 @@
--- `interpreter::cells::word` meets its contract. Assumes nothing.
+-- `cells::word` meets its contract. Assumes nothing.
 use borrow.Author.Needs.{needs}
 use mathlib.Core.Path.{sym}
 use lib.ListN.{List·getD-eq-default}
-use Rattle.interpreter.proofs.cells.word.Statement.{statement}
-use Rattle.interpreter.proofs.cells.word.Tie as tie
+use Rattle.cells.proofs.word.Statement.{statement}
+use Rattle.cells.proofs.word.Tie as tie
 
 pub word-spec : {M : Type 1} → statement M
 word-spec = tie.close (tie.spec

@@ -1,13 +1,13 @@
--- `interpreter::cells::slide` meets its contract. The invariant: so many words are copied. Assumes nothing.
+-- `cells::slide` meets its contract. The invariant: so many words are copied. Assumes nothing.
 use borrow.Author.Needs.{needs}
 use mathlib.Core.Path.{_≡_, refl}
 use Prim.Native.Nat.{_-_, _≤_}
 use native.Mathlib.Omega.{arith}
 use lib.ListN.{length, drop, length-set}
 use lib.Seq.{paste, paste-zero}
-use Rattle.interpreter.proofs.CellLaws.{slide-turn, copy-done}
-use Rattle.interpreter.proofs.cells.slide.Statement.{statement}
-use Rattle.interpreter.proofs.cells.slide.Tie as tie
+use Rattle.cells.proofs.CellLaws.{slide-turn, copy-done}
+use Rattle.cells.proofs.slide.Statement.{statement}
+use Rattle.cells.proofs.slide.Tie as tie
 
 abbrev Inv-loop : tie.InvT-loop
 Inv-loop work₀ to from n i₀ work i = (i ≤ n) × (work ≡ paste work₀ to (drop from work₀) i) × (length work ≡ length work₀)

@@ -27,7 +27,7 @@ use Rattle.checker.specs.Internal.Bindings.{bindingsSize, boundTypes, bo
 use Rattle.checker.specs.Internal.Nodes.{refused, skipPassed, seqPassed, assignPassed, whilePassed, casePassed}
 use Rattle.checker.specs.Internal.Post.{Finds, Room, ChecksExpr, Kept, Passes, ChecksCmd}
 use Rattle.checker.proofs.BindingLaws.{kept-same, kept-twice, kept-fewer, bind-kept, bind-type, bind-label}
-use Rattle.checker.proofs.MemberLaws.{union-below}
+use Rattle.members.proofs.MemberLaws.{union-below}
 use Rattle.checker.proofs.ExprLaws.{is-type}
 
 -- ---- what a node finds, from what its operands' nodes found

@@ -20,9 +20,9 @@ use Rattle.sheet.proofs.Entries.{label-past}
 use Rattle.sheet.proofs.TableLaws.{everyone-in, home-in, labels-in}
 use Rattle.sheet.proofs.LabelLaws.{label-in, label-no-effective}
 use Rattle.sheet.proofs.MeaningLaws.{declared-label, declared-home}
-use Rattle.checker.specs.Internal.Members.{labelMember, integrityMember, joinIn}
+use Rattle.members.specs.Internal.Members.{labelMember, integrityMember, joinIn}
 use Rattle.checker.specs.Internal.Numbers.{conditionsIn, conditionsOn}
-use Rattle.checker.proofs.MemberLaws.{join-none, join-union, join-label, join-integrity}
+use Rattle.members.proofs.MemberLaws.{join-none, join-union, join-label, join-integrity}
 
 few-of : (s : Sheet) → formed s ≡ true → labelCount s ≤ maxLabels
 unfolding labelCount

@@ -1,4 +1,3 @@
-pub mod MemberLaws
 pub mod BindingLaws
 pub mod ExprLaws
 pub mod CmdLaws

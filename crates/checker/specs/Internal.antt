@@ -1,6 +1,5 @@
 -- What functions promise each other, in this crate and to those above it. A reader need not believe it: docs/READING.md.
 pub mod Numbers
-pub mod Members
 pub mod Bindings
 pub mod Nodes
 pub mod Post

@@ -3,7 +3,7 @@ ghost use mathlib.Core.Path.{_≡_};
 ghost use Prim.Native.Nat.{_<_};
 ghost use Rattle.script.specs.Names.{maxDepth};
 ghost use Rattle.checker.specs.Internal.Bindings.{bindOf};
-use crate::members::Members;
+use members::Members;
 
 // Cases nest at most this deep.
 pub(crate) const DEPTH: usize = 8;

@@ -7,8 +7,7 @@ use crate::Typed;
 use crate::bindings;
 use crate::expressions::check_expr;
 use crate::expressions::is_type;
-use crate::members;
-use crate::members::Members;
+use members::Members;
 use sheet::INT_OR_INT;
 use sheet::is_sum;
 

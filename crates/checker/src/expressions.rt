@@ -4,7 +4,6 @@ ghost use Rattle.checker.specs.Internal.Nodes.{isType, nothing, intTyped
 ghost use Rattle.checker.specs.Internal.Post.{ChecksExpr};
 use crate::Typed;
 use crate::bindings;
-use crate::members;
 use sheet::ERROR;
 use sheet::INT;
 use sheet::PKG;

@@ -1,5 +1,4 @@
 // The checker over the lines of a script: types by their numbers, labels by sets of them, with the sheet's table.
-mod members; // members.rt: least labels as sets of the labels that they are the join of
 mod bindings; // bindings.rt: what enclosing cases bind
 mod expressions; // expressions.rt: types and least labels of expressions
 mod commands; // commands.rt: commands

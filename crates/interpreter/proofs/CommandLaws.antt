@@ -21,12 +21,12 @@ use Rattle.script.specs.Names.{Counts, named}
 use Rattle.script.specs.declared.Row.{Row}
 use Rattle.script.proofs.Rows.{CmdRow, at-skip, at-seq, at-assign, at-while, at-case, cmd-row}
 use Rattle.memory.specs.Memory.{cellOf}
-use Rattle.interpreter.specs.State.{stateNumber}
-use Rattle.interpreter.specs.declared.State.the-variants.{Done, NoRule}
-use Rattle.interpreter.specs.Internal.Cells.{CellsHold}
-use Rattle.interpreter.specs.Internal.Nodes.{Tells}
+use Rattle.evaluator.specs.State.{stateNumber}
+use Rattle.evaluator.specs.declared.State.the-variants.{Done, NoRule}
+use Rattle.evaluator.specs.Internal.Cells.{CellsHold}
+use Rattle.evaluator.specs.Internal.Nodes.{Tells}
 use Rattle.interpreter.specs.Internal.Post.{CmdAt, an-expression, a-command, Skips, Finishes, Execs, ticked, Ticks, Assigns, Choice, to-left, to-right, no-budget, choice-long, choice-stuck, choiceV, choice, Chooses, Decides, Enters, Branches}
-use Rattle.interpreter.proofs.StateLaws.{holds-kept, holds-leave}
+use Rattle.evaluator.proofs.StateLaws.{holds-kept, holds-leave}
 use Rattle.interpreter.proofs.ExecLaws.{ticked-then, ends-there, goes-on}
 
 -- the row that was read is that of the command

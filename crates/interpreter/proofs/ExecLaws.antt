@@ -17,16 +17,17 @@ use Rattle.script.specs.Internal.Code.{code}
 use Rattle.script.specs.Names.{Counts, maxDepth}
 use Rattle.memory.specs.Words.{enc, cell}
 use Rattle.memory.specs.Memory.{cellOf}
-use Rattle.interpreter.specs.State.{stateNumber}
-use Rattle.interpreter.specs.declared.State.the-variants.{Done, Spent, NoRule}
+use Rattle.evaluator.specs.State.{stateNumber}
+use Rattle.evaluator.specs.declared.State.the-variants.{Done, Spent, NoRule}
 use Rattle.cells.specs.Internal.Cells.{accumulator, loadOf, storeOf, popOf}
-use Rattle.interpreter.specs.Internal.Cells.{firstLocation, CellsHold}
-use Rattle.interpreter.specs.Internal.Nodes.{Yields, Tags, Tells}
-use Rattle.interpreter.specs.Internal.Post.{ExprAt, Evals, a-command, Skips, Finishes, ticked, Ticks, Assigns, Choice, to-left, to-right, no-budget, choice-long, choice-stuck, choiceV, choice, Chooses, Decides, Enters, Branches}
+use Rattle.evaluator.specs.Internal.Cells.{firstLocation, CellsHold}
+use Rattle.evaluator.specs.Internal.Nodes.{Yields, Tags, Tells}
+use Rattle.evaluator.specs.Internal.Post.{ExprAt, Evals}
+use Rattle.interpreter.specs.Internal.Post.{a-command, Skips, Finishes, ticked, Ticks, Assigns, Choice, to-left, to-right, no-budget, choice-long, choice-stuck, choiceV, choice, Chooses, Decides, Enters, Branches}
 use Rattle.cells.proofs.CellLaws.{length-load, length-pop}
-use Rattle.interpreter.proofs.ValueLaws.{cell-size, tags-left, tags-right, pop-tag, Kind, is-int, is-err, is-inl, is-inr, is-pkg, is-blank, kind-enc}
-use Rattle.interpreter.proofs.NodeLaws.{words-here, load-here}
-use Rattle.interpreter.proofs.StateLaws.{room-here, holds-kept, holds-put, holds-bind}
+use Rattle.evaluator.proofs.ValueLaws.{cell-size, tags-left, tags-right, pop-tag, Kind, is-int, is-err, is-inl, is-inr, is-pkg, is-blank, kind-enc}
+use Rattle.evaluator.proofs.NodeLaws.{words-here, load-here}
+use Rattle.evaluator.proofs.StateLaws.{room-here, holds-kept, holds-put, holds-bind}
 
 -- ---- how ends follow one another
 

@@ -1,9 +1,4 @@
-pub mod ValueLaws
 pub mod SkipLaws
-pub mod NodeLaws
-pub mod StateLaws
-pub mod EvalLaws
 pub mod ExecLaws
 pub mod CommandLaws
 pub mod RunLaws
-pub mod NumberLaws

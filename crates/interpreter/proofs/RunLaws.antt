@@ -24,10 +24,10 @@ use Rattle.memory.specs.Words.{cell}
 use Rattle.memory.specs.Memory.{cellOf, memoryOf, wordsOf, asDeclared, wellFormed}
 use Rattle.memory.proofs.CellsLaws.{cells-ext, cells-all}
 use Rattle.memory.proofs.MemoryLaws.{value-words}
-use Rattle.interpreter.specs.State.{stateNumber}
-use Rattle.interpreter.specs.declared.State.the-variants.{Done, NoRule}
-use Rattle.interpreter.specs.Internal.Cells.{firstLocation, workWords, CellsHold, bound-none}
-use Rattle.interpreter.specs.Internal.Nodes.{Tells}
+use Rattle.evaluator.specs.State.{stateNumber}
+use Rattle.evaluator.specs.declared.State.the-variants.{Done, NoRule}
+use Rattle.evaluator.specs.Internal.Cells.{firstLocation, workWords, CellsHold, bound-none}
+use Rattle.evaluator.specs.Internal.Nodes.{Tells}
 use Rattle.interpreter.specs.Internal.Post.{Finishes, Execs}
 use Rattle.interpreter.specs.Internal.Run.{RunLeaves, Runs}
 use Rattle.cells.proofs.CellLaws.{cell-front}

@@ -1,10 +1,8 @@
 // Runs of commands over the lines (the paper, figure 3).
 ghost use mathlib.Core.Path.{_≡_};
-ghost use Rattle.interpreter.specs.State.{stateNumber};
+ghost use Rattle.evaluator.specs.State.{stateNumber};
 ghost use Rattle.interpreter.specs.Internal.Post.{operandCount, Skips, Execs, Ticks, Assigns, Decides, Branches};
-use crate::State;
-use crate::evaluation;
-use crate::layout;
+use evaluator::State;
 use script::ROW;
 
 // Cases nest at most this deep.
@@ -106,7 +104,7 @@ fn assign(
     table: &[u16],
     authority: u16,
     depth: u32,
-    work: &mut [u32; layout::WORK],
+    work: &mut [u32; evaluator::WORK],
     fuel: u32,
     x: u32,
 ) -> Stepped
@@ -119,7 +117,7 @@ fn assign(
             next: at,
         };
     }
-    let v = evaluation::eval(code, at, table, authority, depth, work);
+    let v = evaluator::eval(code, at, table, authority, depth, work);
     let state = v.state;
     let State::Done = state else {
         return Stepped {
@@ -128,7 +126,7 @@ fn assign(
             next: at,
         };
     };
-    cells::copy_cell(work, cells::ACCUMULATOR, layout::LOCATIONS + x as usize);
+    cells::copy_cell(work, cells::ACCUMULATOR, evaluator::LOCATIONS + x as usize);
     Stepped {
         state: State::Done,
         left: fuel - 1,
@@ -143,7 +141,7 @@ fn decide(
     table: &[u16],
     authority: u16,
     depth: u32,
-    work: &mut [u32; layout::WORK],
+    work: &mut [u32; evaluator::WORK],
     fuel: u32,
 ) -> Decided
     ensures { λ r. ⌜ Decides (now (code .entry)) at (now (table .entry)) authority depth (now (work .entry)) fuel (stateNumber (r .state)) (r .left) (r .next) (r .on) (now (work .exit)) ⌝ }
@@ -156,7 +154,7 @@ fn decide(
             on: false,
         };
     }
-    let v = evaluation::eval(code, at, table, authority, depth, work);
+    let v = evaluator::eval(code, at, table, authority, depth, work);
     let state = v.state;
     let State::Done = state else {
         return Decided {
@@ -195,7 +193,7 @@ fn branch(
     table: &[u16],
     authority: u16,
     depth: u32,
-    work: &mut [u32; layout::WORK],
+    work: &mut [u32; evaluator::WORK],
     fuel: u32,
 ) -> Taken
     ensures { λ r. ⌜ Branches (now (code .entry)) at (now (table .entry)) authority depth (now (work .entry)) fuel (stateNumber (r .state)) (r .left) (r .start) (r .end) (now (work .exit)) ⌝ }
@@ -238,7 +236,7 @@ pub(crate) fn exec(
     table: &[u16],
     authority: u16,
     depth: u32,
-    work: &mut [u32; layout::WORK],
+    work: &mut [u32; evaluator::WORK],
     fuel: u32,
 ) -> Stepped
     ensures { λ r. ⌜ Execs (now (code .entry)) at (now (table .entry)) authority depth (now (work .entry)) fuel (stateNumber (r .state)) (r .left) (r .next) (now (work .exit)) ⌝ }

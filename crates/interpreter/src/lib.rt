@@ -1,23 +1,14 @@
-// Runs of decoded scripts: evaluation over the lines, in cells of words.
-mod layout; // layout.rt: where a run keeps its values
-mod nodes; // nodes.rt: one value made of another, in the accumulator
-mod evaluation; // evaluation.rt: expressions
+// Runs of decoded scripts over the lines (the paper, figure 3).
 mod commands; // commands.rt: commands
 
 ghost use mathlib.Core.Path.{_≡_};
-ghost use lib.ListN.{length};
-ghost use Rattle.interpreter.specs.Internal.Cells.{workWords};
+ghost use Prim.Native.Nat.{_+_, _≤_};
+ghost use lib.ListN.{length, drop};
+ghost use lib.Seq.{paste};
+ghost use Rattle.evaluator.specs.Internal.Cells.{workWords};
 ghost use Rattle.interpreter.specs.Internal.Run.{Runs};
-ghost use Rattle.interpreter.specs.State.{stateNumber};
-
-// How an evaluation or a run ends: done, the budget used up, a value too long; or, on words that are no script's code or no sheet's
-// memory, that no rule applies.
-pub enum State {
-    Done,
-    Spent,
-    TooLong,
-    NoRule,
-}
+ghost use Rattle.evaluator.specs.State.{stateNumber};
+use evaluator::State;
 
 // How a run ended, and the steps taken.
 pub struct Ran {
@@ -29,7 +20,7 @@ pub struct Ran {
 pub fn run(code: &[u32], table: &[u16], memory: &mut [u32], authority: u16, budget: u32) -> Ran
     ensures { λ r. ⌜ Runs (now (code .entry)) (now (table .entry)) (now (memory .entry)) authority budget (stateNumber (r .state)) (r .steps) (now (memory .exit)) ⌝ }
 {
-    let mut work = [0u32; layout::WORK];
+    let mut work = [0u32; evaluator::WORK];
     run_in(code, table, memory, authority, budget, &mut work)
 }
 
@@ -40,19 +31,19 @@ fn run_in(
     memory: &mut [u32],
     authority: u16,
     budget: u32,
-    work: &mut [u32; layout::WORK],
+    work: &mut [u32; evaluator::WORK],
 ) -> Ran
     requires { ⌜ length (now work) ≡ workWords ⌝ }
     ensures { λ r. ⌜ Runs (now (code .entry)) (now (table .entry)) (now (memory .entry)) authority budget (stateNumber (r .state)) (r .steps) (now (memory .exit)) ⌝ }
 {
     let n = memory.len();
-    if n > layout::WORK - layout::MEMORY {
+    if n > evaluator::WORK - evaluator::MEMORY {
         return Ran {
             state: State::NoRule,
             steps: 0,
         };
     }
-    layout::copy(work, layout::MEMORY, memory, 0, n);
+    copy(work, evaluator::MEMORY, memory, 0, n);
     let d = commands::exec(code, 0, table, authority, 0, work, budget);
     let state = d.state;
     let State::Done = state else {
@@ -61,9 +52,20 @@ fn run_in(
             steps: budget - d.left,
         };
     };
-    layout::copy(memory, 0, work, layout::MEMORY, n);
+    copy(memory, 0, work, evaluator::MEMORY, n);
     Ran {
         state: State::Done,
         steps: budget - d.left,
+    }
+}
+
+// Copies n words of `src`, from `from` on, into `dst`, from `to` on.
+fn copy(dst: &mut [u32], to: usize, src: &[u32], from: usize, n: usize)
+    requires { ⌜ to + n ≤ length (now dst) ⌝ }
+    requires { ⌜ from + n ≤ length (now src) ⌝ }
+    ensures { λ _. ⌜ now (dst .exit) ≡ paste (now (dst .entry)) to (drop from (now (src .entry))) n ⌝ }
+{
+    for i in 0..n {
+        dst[to + i] = src[from + i];
     }
 }

@@ -2,11 +2,11 @@
 ghost use mathlib.Core.Path.{_≡_};
 ghost use Rattle.sheet_text.specs.Verdict.{sheetNumber};
 ghost use Rattle.memory.specs.Verdict.{memoryNumber};
-ghost use Rattle.interpreter.specs.State.{stateNumber};
+ghost use Rattle.evaluator.specs.State.{stateNumber};
 ghost use Rattle.simp.specs.Internal.Stages.{Judges, ChecksOn, RunsCode, RunsOn, ViewsOn};
 use super::Outcome;
 use checker::Verdict;
-use interpreter::State;
+use evaluator::State;
 use script_text::Answer;
 
 // A run that is refused takes no step.

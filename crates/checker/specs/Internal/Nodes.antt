@@ -11,7 +11,7 @@ use Rattle.sheet.specs.Internal.Tables.{rightIn, typeIn, homeIn, labelIn}
 use Rattle.checker.specs.declared.Typed.{Typed}
 use Rattle.checker.specs.declared.Passed.{Passed}
 use Rattle.sheet.specs.Internal.TypeTest.{isSum}
-use Rattle.checker.specs.Internal.Members.{labelMember, integrityMember, joinIn}
+use Rattle.members.specs.Internal.Members.{labelMember, integrityMember, joinIn}
 use Rattle.checker.specs.Internal.Bindings.{boundType, boundLabel}
 
 -- the expression has the type number n

@@ -13,7 +13,7 @@ use Rattle.language.specs.Typing.{Conditions}
 use Rattle.sheet.specs.Internal.TypeTest.{isSum}
 use Rattle.sheet.specs.Internal.Tables.{everyoneIn, leftIn, rightIn, typeIn, homeIn, labelIn}
 use Rattle.sets.specs.Sets.{union}
-use Rattle.checker.specs.Internal.Members.{labelMember, integrityMember, joinIn}
+use Rattle.members.specs.Internal.Members.{labelMember, integrityMember, joinIn}
 
 -- o is the type number n
 unfoldable pub isNo : ℕ → Option ℕ → Bool

@@ -1,7 +1,7 @@
 -- `interpreter::run_in` meets its contract. Assumes nothing.
 use borrow.Author.Needs.{needs}
 use native.Mathlib.Omega.{arith}
-use Rattle.interpreter.proofs.NumberLaws.{not-done, is-done}
+use Rattle.evaluator.proofs.NumberLaws.{not-done, is-done}
 use Rattle.interpreter.proofs.RunLaws as laws
 use Rattle.interpreter.proofs.run_in.Statement.{statement}
 use Rattle.interpreter.proofs.run_in.Tie as tie

@@ -11,35 +11,21 @@ use Rattle.language.specs.Evaluation.{Res, ok, long, stuck, eval}
 use Rattle.language.specs.Transition.{Out, done, spent, over, wrong, iterate}
 use Rattle.script.specs.Lines.{Line, SourceE, Source, exprLines, cmdLines}
 use Rattle.script.specs.Internal.Code.{code}
-use Rattle.script.specs.Names.{Counts, namedE, named, maxDepth}
+use Rattle.script.specs.Names.{Counts, named, maxDepth}
 use Rattle.memory.specs.Words.{cell}
 use Rattle.memory.specs.Memory.{cellOf}
 use Rattle.cells.specs.Internal.Cells.{accumulator}
-use Rattle.interpreter.specs.Internal.Cells.{CellsHold}
-use Rattle.interpreter.specs.Internal.Nodes.{Yields, Tells}
+use Rattle.evaluator.specs.Internal.Cells.{CellsHold}
+use Rattle.evaluator.specs.Internal.Nodes.{Tells}
+use Rattle.evaluator.specs.Internal.Post.{ExprAt}
 
 -- ---- places in the code
 
--- An expression stands at a place, then the rest; it names only what is there, below so many cases.
-pub record ExprAt (ws : List ℕ) (at : ℕ) (rest : List Line) (k : Counts) (depth : ℕ) (e : Expr) : Type 0 where
-  pub source : SourceE e
-  pub names : namedE k depth e ≡ true
-  pub lines : drop at ws ≡ code (exprLines e rest)
-
--- A command stands at a place, likewise.
+-- A command stands at a place, then the rest; it names only what is there, below so many cases.
 pub record CmdAt (ws : List ℕ) (at : ℕ) (rest : List Line) (k : Counts) (depth : ℕ) (c : Cmd) : Type 0 where
   pub source : Source c
   pub names : named k depth c ≡ true
   pub lines : drop at ws ≡ code (cmdLines c rest)
-
--- ---- eval
-
-pub record Evals (ws : List ℕ) (at : ℕ) (table : List ℕ) (authority depth : ℕ) (work : List ℕ) (state next : ℕ) (work′ : List ℕ) : Type 0 where
-  pub forward : at ≤ next
-  pub kept : drop cell-words work′ ≡ drop cell-words work
-  pub means : (W : World) (k : Counts) (e : Expr) (rest : List Line) (M : Mem) (ρ : Env)
-      → Tells table authority W → ExprAt ws at rest k depth e → CellsHold work (k .locations) depth M ρ
-      → Yields (eval W ρ M e) state (cellOf work′ accumulator) × (state ≡ 0 → drop next ws ≡ code rest)
 
 -- ---- skip
 

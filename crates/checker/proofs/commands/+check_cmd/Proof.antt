@@ -19,7 +19,7 @@ use Rattle.checker.proofs.commands.of_seq.Reads as of-seq-reads
 use Rattle.checker.proofs.commands.of_skip.Reads as of-skip-reads
 use Rattle.checker.proofs.commands.of_while.Reads as of-while-reads
 use Rattle.checker.proofs.expressions.check_expr.Reads as check-expr-reads
-use Rattle.checker.proofs.members.join.Reads as join-reads
+use Rattle.members.proofs.join.Reads as join-reads
 use Rattle.script.proofs.row_at.Reads as row-at-reads
 use Rattle.sheet.proofs.left_part.Reads as left-part-reads
 use Rattle.sheet.proofs.right_part.Reads as right-part-reads

@@ -8,7 +8,7 @@ use native.Mathlib.Omega.{arith}
 use lib.ListN.{length}
 use Rattle.interpreter.specs.Internal.Post.{Execs}
 use Rattle.script.proofs.Rows.{row-within}
-use Rattle.interpreter.proofs.NumberLaws.{not-done, is-done}
+use Rattle.evaluator.proofs.NumberLaws.{not-done, is-done}
 use Rattle.interpreter.proofs.CommandLaws as laws
 use borrow.Fn.Kinds.{In}
 use borrow.Fn.PlainCycle.{Measures, is, falls, and}

@@ -1,7 +1,7 @@
 -- `interpreter::commands::branch` meets its contract. Assumes nothing.
 use borrow.Author.Needs.{needs}
 use native.Mathlib.Numerals.{add-one}
-use Rattle.interpreter.proofs.NumberLaws.{not-done, is-done}
+use Rattle.evaluator.proofs.NumberLaws.{not-done, is-done}
 use Rattle.interpreter.proofs.ExecLaws as laws
 use Rattle.interpreter.proofs.commands.branch.Statement.{statement}
 use Rattle.interpreter.proofs.commands.branch.Tie as tie

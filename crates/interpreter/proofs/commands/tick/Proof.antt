@@ -1,6 +1,6 @@
 -- `interpreter::commands::tick` meets its contract. Assumes nothing.
 use borrow.Author.Needs.{needs}
-use Rattle.interpreter.proofs.NumberLaws.{not-done, is-done}
+use Rattle.evaluator.proofs.NumberLaws.{not-done, is-done}
 use Rattle.interpreter.proofs.ExecLaws as laws
 use Rattle.interpreter.proofs.commands.tick.Statement.{statement}
 use Rattle.interpreter.proofs.commands.tick.Tie as tie

@@ -1,7 +1,7 @@
 -- `simp::stages::number` meets its contract. Assumes nothing.
 use mathlib.Core.Path.{sym, ap}
 use borrow.Author.Needs.{needs}
-use Rattle.interpreter.specs.State.{stateNumber}
+use Rattle.evaluator.specs.State.{stateNumber}
 use Rattle.simp.proofs.stages.number.Statement.{statement}
 use Rattle.simp.proofs.stages.number.Tie as tie
 

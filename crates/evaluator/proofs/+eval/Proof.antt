@@ -1,0 +1,74 @@
+-- `evaluator::eval` meets its contract. The measure is the words left. Each return is a law. Assumes nothing.
+use borrow.Author.Needs.{needs}
+use Prim.Native.Nat.{ℕ, _<_, _-_}
+use native.Mathlib.Omega.{arith}
+use lib.ListN.{length}
+use Rattle.script.proofs.Rows.{row-within}
+use Rattle.evaluator.proofs.NumberLaws.{not-done, is-done}
+use Rattle.evaluator.proofs.EvalLaws as laws
+use borrow.Fn.Kinds.{In}
+use borrow.Fn.PlainCycle.{Measures, is, falls, and}
+use Rattle.evaluator.proofs.eval.Reads as eval
+use Rattle.evaluator.proofs.eval.Kinds as eval-kinds
+use Rattle.evaluator.proofs.+eval.Lts-eval as eval-lts
+use Rattle.script.proofs.row_at.Reads as row-at-reads
+use Rattle.evaluator.proofs.nodes.literal.Reads as literal-reads
+use Rattle.evaluator.proofs.nodes.location.Reads as location-reads
+use Rattle.evaluator.proofs.nodes.variable.Reads as variable-reads
+use Rattle.cells.proofs.word.Reads as word-reads
+use Rattle.evaluator.proofs.nodes.applied.Reads as applied-reads
+use Rattle.evaluator.proofs.+eval.{statement}
+use Rattle.evaluator.proofs.+eval.Tie.{close}
+
+abbrev μ-eval : Measures 3 eval-kinds.ps ℕ
+μ-eval κs a = length (a .0 .now) - a .1 .0
+
+abbrev eval-at : ℕ → In 3 eval-kinds.ps
+eval-at t = and 3 eval-kinds.ps (is 3 eval-kinds.ps μ-eval t) eval.Pre
+
+abbrev eval-below : ℕ → In 3 eval-kinds.ps
+eval-below t = and 3 eval-kinds.ps (falls 3 eval-kinds.ps _<_ μ-eval t) eval.Pre
+
+pub +eval-spec : {M : Type 1} → statement M
++eval-spec = close μ-eval λ t. eval-lts.spec (
+  row-at-reads.Asked,
+  row-at-reads.Learnt,
+  literal-reads.Asked,
+  literal-reads.Learnt,
+  location-reads.Asked,
+  location-reads.Learnt,
+  variable-reads.Asked,
+  variable-reads.Learnt,
+  eval-below t,
+  eval.Post,
+  applied-reads.Asked,
+  applied-reads.Learnt,
+  word-reads.Asked,
+  word-reads.Learnt,
+)
+    (eval-at t)
+    eval.Post
+    (λ c κs. search needs)  -- row-at-requires
+    (λ c κs. search needs)  -- literal-requires
+    (λ c. omega (arith, row-within _ _ (c .before .before .before .row-at .ensures) (omega (arith, c .before .before .match .keys1))))  -- add-t20
+    (λ c κs. search needs)  -- location-requires
+    (λ c. omega (arith, row-within _ _ (c .before .before .before .row-at .ensures) (omega (arith, c .before .before .match .keys2))))  -- add-t24
+    (λ c κs. search needs)  -- variable-requires
+    (λ c. omega (arith, row-within _ _ (c .before .before .before .row-at .ensures) (omega (arith, c .before .before .match .keys3))))  -- add-t28
+    (λ c. omega (arith, row-within _ _ (c .before .before .before .row-at .ensures) (omega arith)))  -- add-eval
+    (λ c κs. (omega (arith, row-within _ _ (c .before .before .before .before .row-at .ensures) (omega arith)), tt))  -- eval-requires
+    (λ c κs. search needs)  -- applied-requires
+    (λ c. laws.eval-one (c .before .before .before .before .before .before .before .before .row-at .ensures) (c .before .before .before .eval .ensures) (omega (arith, c .before .before .before .before .before .before .if1 .left, c .before .before .before .before .before .before .before .match .rest .0 .0 .1, c .before .before .before .before .before .before .before .match .rest .0 .1, c .before .before .before .before .before .before .before .match .rest .1)) (omega (arith, c .before .before .before .before .before .if2 .taken)) (c .before .before .if3 .taken) (c .applied .ensures))  -- returns
+    (λ c. search needs)  -- enum-told
+    (λ c. laws.eval-plus-end (c .before .before .before .before .before .before .before .row-at .ensures) (c .before .if3 .left) (c .before .before .eval .ensures) (not-done _ (c .match2 .keys2)))  -- returns-2
+    (λ c κs. search needs)  -- word-requires
+    (λ c κs. (omega (arith, row-within _ _ (c .before .before .before .before .before .before .before .before .before .before .before .before .row-at .ensures) (omega arith), c .before .before .before .before .before .before .before .eval .ensures .forward), tt))  -- eval-requires-2
+    (λ c κs. search needs)  -- applied-requires-2
+    (λ c. laws.eval-int (c .before .before .before .row-at .ensures) (c .before .before .match .keys1) (c .literal .ensures))  -- returns-3
+    (λ c. laws.eval-loc (c .before .before .before .row-at .ensures) (c .before .before .match .keys2) (c .location .ensures))  -- returns-4
+    (λ c. laws.eval-var (c .before .before .before .row-at .ensures) (c .before .before .match .keys3) (c .variable .ensures))  -- returns-5
+    (λ c. laws.eval-plus (c .before .before .before .before .before .before .before .before .before .before .before .before .before .before .before .row-at .ensures) (c .before .before .before .before .before .before .before .before .before .if3 .left) (c .before .before .before .before .before .before .before .before .before .before .eval .ensures) (is-done _ (c .before .before .before .before .before .before .before .enum-told .given .1)) (c .before .before .before .before .word .ensures) (c .before .before .eval2 .ensures) (c .applied2 .ensures .plus (c .before .before .before .before .before .before .before .before .before .if3 .left)))  -- returns-6
+    (λ c. laws.eval-none (c .before .before .row-at .ensures) (c .before .match .rest .0 .0 .1) (c .before .match .rest .0 .1) (c .before .match .rest .1) (λ q. omega (arith, c .if1 .taken)) (λ q. omega (arith, c .if1 .taken)) (λ q. omega (arith, c .if1 .taken))
+    (λ q. omega (arith, c .if1 .taken)) (λ q. omega (arith, c .if1 .taken)))  -- returns-7
+    (λ c. laws.eval-none (c .before .before .before .row-at .ensures) (c .before .before .match .rest .0 .0 .1) (c .before .before .match .rest .0 .1) (c .before .before .match .rest .1) (λ q. omega (arith, c .if2 .left)) (λ q. omega (arith, c .if2 .left)) (λ q. omega (arith, c .if2 .left))
+    (λ q. omega (arith, c .if2 .left)) (λ q. omega (arith, c .if2 .left)))  -- returns-8

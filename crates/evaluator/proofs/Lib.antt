@@ -1,0 +1,5 @@
+pub mod ValueLaws
+pub mod NodeLaws
+pub mod StateLaws
+pub mod EvalLaws
+pub mod NumberLaws

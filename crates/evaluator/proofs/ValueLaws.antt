@@ -1,0 +1,134 @@
+-- The words of values: pushed onto, popped off, and counted.
+-- Assumes nothing.
+use mathlib.Core.Path.{_≡_, refl, sym, ap, _∙_}
+use mathlib.Core.List.{List, [], _∷_, _++_}
+use Prim.Native.Nat.{ℕ, zero, suc, _+_, _-_, _≤_, _<_}
+use native.Mathlib.Omega.{arith}
+use native.Mathlib.Nat.{suc-add}
+use lib.ListN.{length, take, getD, length-replicate, replicate-append-replicate}
+use lib.Seq.{take-take}
+use Rattle.language.specs.Syntax.{Value, int, err, inl, inr, pkg, blank, size}
+use Rattle.language.specs.World.{cell-words}
+use Rattle.memory.specs.Words.{enc, zeros, cell}
+use Rattle.memory.specs.Memory.{cellOf}
+use Rattle.memory.proofs.WordLaws.{length-enc}
+use Rattle.cells.specs.Internal.Cells.{pushOf, popOf}
+use Rattle.evaluator.specs.Internal.Nodes.{Tags}
+use Rattle.cells.proofs.CellLaws.{cell-short}
+
+-- ---- a value's words, then more
+
+pub enc-append : (v : Value) (rest more : List ℕ) → enc v rest ++ more ≡ enc v (rest ++ more)
+unfolding enc
+enc-append (int n) rest more = refl
+enc-append (err e) rest more = refl
+enc-append (inl v) rest more = ap (λ (l : List ℕ). 3 ∷ l) (enc-append v rest more)
+enc-append (inr v) rest more = ap (λ (l : List ℕ). 4 ∷ l) (enc-append v rest more)
+enc-append (pkg l v) rest more = ap (λ (u : List ℕ). 5 ∷ l ∷ u) (enc-append v rest more)
+enc-append blank rest more = refl
+
+take-enc : (v : Value) (m : ℕ) (rest : List ℕ) → take (size v + m) (enc v rest) ≡ enc v (take m rest)
+unfolding enc size
+take-enc (int n) m rest = let e : 2 + m ≡ suc (suc m) = omega arith in rw e refl
+take-enc (err n) m rest = let e : 2 + m ≡ suc (suc m) = omega arith in rw e refl
+take-enc (inl v) m rest = rw (suc-add (size v) m) (ap (λ (l : List ℕ). 3 ∷ l) (take-enc v m rest))
+take-enc (inr v) m rest = rw (suc-add (size v) m) (ap (λ (l : List ℕ). 4 ∷ l) (take-enc v m rest))
+take-enc (pkg l v) m rest =
+    let e : 2 + size v + m ≡ suc (suc (size v + m)) = omega arith in
+    rw e (ap (λ (u : List ℕ). 5 ∷ l ∷ u) (take-enc v m rest))
+take-enc blank m rest = let e : 1 + m ≡ suc m = omega arith in rw e refl
+
+take-zeros : (k n : ℕ) → k ≤ n → take k (zeros n) ≡ zeros k
+take-zeros zero n h = refl
+take-zeros (suc k) zero h = absurd (omega arith)
+take-zeros (suc k) (suc n) h = ap (λ (l : List ℕ). 0 ∷ l) (take-zeros k n (omega arith))
+
+-- the first words of a cell, no fewer than its value has
+take-cell : (v : Value) (n : ℕ) → size v ≤ n → n ≤ cell-words → take n (cell v) ≡ enc v (zeros (n - size v))
+unfolding cell
+take-cell v n h l =
+    let e : n ≡ size v + (n - size v) = omega arith in
+    ap (λ (m : ℕ). take m (enc v (zeros (16 - size v)))) e ∙ take-enc v (n - size v) (zeros (16 - size v))
+    ∙ ap (enc v) (take-zeros (n - size v) (16 - size v) (omega arith))
+
+-- a value's words, and one zero more than there are
+enc-more : (v : Value) (n : ℕ) → enc v (zeros n) ++ (0 ∷ []) ≡ enc v (zeros (n + 1))
+enc-more v n = enc-append v (zeros n) (0 ∷ []) ∙ ap (enc v) (replicate-append-replicate n 1 0)
+
+-- the last zero of a cell
+zeros-more : (v : Value) (n : ℕ) → n + 1 ≡ cell-words - size v → enc v (zeros n) ++ (0 ∷ []) ≡ cell v
+unfolding cell
+zeros-more v n e = enc-more v n ∙ ap (λ (m : ℕ). enc v (zeros m)) e
+
+-- a value in a cell is not too long
+pub cell-size : (ws : List ℕ) (k : ℕ) (v : Value) → cellOf ws k ≡ cell v → size v ≤ cell-words
+unfolding cell
+cell-size ws k v e =
+    omega (arith, cell-short ws k, ap (λ (l : List ℕ). length l) e, length-enc v (zeros (16 - size v)), length-replicate {A = ℕ} (16 - size v) 0)
+
+pub tags-left : Tags 3 inl
+unfolding enc size
+tags-left = record { words = λ v rest. refl; longer = λ v. refl }
+
+pub tags-right : Tags 4 inr
+unfolding enc size
+tags-right = record { words = λ v rest. refl; longer = λ v. refl }
+
+-- ---- words pushed onto the cell of a value, and popped off it
+
+module _ {w : ℕ} {f : Value → Value} (t : Tags w f) (v : Value) where
+  -- the cell of f v, by the words of v
+  tagged-cell : cell (f v) ≡ w ∷ enc v (zeros (15 - size v))
+  unfolding cell
+  tagged-cell =
+      let n : 16 - suc (size v) ≡ 15 - size v = omega arith in
+      ap (λ (m : ℕ). enc (f v) (zeros (16 - m))) (t .longer v) ∙ t .words v (zeros (16 - suc (size v))) ∙ ap (λ (m : ℕ). w ∷ enc v (zeros m)) n
+
+  pub push-tag : size v < cell-words → pushOf w (cell v) ≡ cell (f v)
+  unfolding pushOf
+  push-tag h = ap (λ (l : List ℕ). w ∷ l) (take-cell v 15 (omega arith) (omega arith)) ∙ sym tagged-cell
+
+  pub pop-tag : size v < cell-words → popOf (cell (f v)) ≡ cell v
+  unfolding popOf
+  pop-tag h = ap popOf tagged-cell ∙ zeros-more v (15 - size v) (omega arith)
+
+-- a number pushed onto zeros, then the word that says of what kind it is
+
+pub push-int : (n : ℕ) → pushOf 1 (pushOf n (zeros cell-words)) ≡ cell (int n)
+unfolding pushOf cell enc size
+push-int n = refl
+
+pub push-failure : (e : ℕ) → pushOf 4 (pushOf 2 (pushOf e (zeros cell-words))) ≡ cell (inr (err e))
+unfolding pushOf cell enc size
+push-failure e = refl
+
+pub push-package : (l : ℕ) (v : Value) → size v ≤ 14 → pushOf 5 (pushOf l (cell v)) ≡ cell (pkg l v)
+unfolding pushOf cell enc size
+push-package l v h =
+    let n : 14 - size v ≡ 16 - (2 + size v) = omega arith in
+    ap (λ (u : List ℕ). 5 ∷ l ∷ u) (take-take 14 15 (cell v) (omega arith) ∙ take-cell v 14 h (omega arith) ∙ ap (λ (m : ℕ). enc v (zeros m)) n)
+
+pub pop-package : (l : ℕ) (v : Value) → size v ≤ 14 → popOf (popOf (cell (pkg l v))) ≡ cell v
+unfolding popOf cell enc size
+pop-package l v h =
+    let n : 16 - (2 + size v) + 1 ≡ 15 - size v = omega arith in
+    ap (λ (u : List ℕ). u ++ (0 ∷ [])) (enc-more v (16 - (2 + size v)) ∙ ap (λ (m : ℕ). enc v (zeros m)) n) ∙ zeros-more v (15 - size v) (omega arith)
+
+-- ---- the first word of a value tells its kind
+
+pub data Kind : ℕ → Value → Type 0 where
+  is-int : {n : ℕ} → Kind 1 (int n)
+  is-err : {e : ℕ} → Kind 2 (err e)
+  is-inl : {v : Value} → Kind 3 (inl v)
+  is-inr : {v : Value} → Kind 4 (inr v)
+  is-pkg : {l : ℕ} {v : Value} → Kind 5 (pkg l v)
+  is-blank : Kind 0 blank
+
+pub kind-enc : (v : Value) (rest : List ℕ) → Kind (getD (enc v rest) 0 0) v
+unfolding enc
+kind-enc (int n) rest = is-int
+kind-enc (err e) rest = is-err
+kind-enc (inl v) rest = is-inl
+kind-enc (inr v) rest = is-inr
+kind-enc (pkg l v) rest = is-pkg
+kind-enc blank rest = is-blank

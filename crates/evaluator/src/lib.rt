@@ -1,0 +1,89 @@
+// Evaluation of expressions over the lines (the paper, figure 2), in cells of words.
+mod nodes; // nodes.rt: one value made of another, in the accumulator
+
+ghost use Rattle.evaluator.specs.State.{stateNumber};
+ghost use Rattle.evaluator.specs.Internal.Post.{Evals};
+use cells::CELL;
+use script::ROW;
+
+// The cell of location 0.
+pub const LOCATIONS: usize = 9;
+
+// Where the words of the locations start, and the words of all cells.
+pub const MEMORY: usize = CELL * LOCATIONS;
+
+pub const WORK: usize = MEMORY + CELL * 64;
+
+// How an evaluation or a run ends: done, the budget used up, a value too long; or, on words that are no script's code or no sheet's
+// memory, that no rule applies.
+pub enum State {
+    Done,
+    Spent,
+    TooLong,
+    NoRule,
+}
+
+// Done: the value is in the accumulator, and the expression's lines end at `next`.
+pub struct Evaluated {
+    pub state: State,
+    pub next: usize,
+}
+
+// Evaluates the expression at `at`, below so many cases, into the accumulator.
+pub fn eval(
+    code: &[u32],
+    at: usize,
+    table: &[u16],
+    authority: u16,
+    depth: u32,
+    work: &mut [u32; WORK],
+) -> Evaluated
+    ensures { λ r. ⌜ Evals (now (code .entry)) at (now (table .entry)) authority depth (now (work .entry)) (stateNumber (r .state)) (r .next) (now (work .exit)) ⌝ }
+{
+    let row = script::row_at(code, at);
+    let kind = row.kind;
+    let a = row.a;
+    let b = row.b;
+    match kind {
+        script::INT => {
+            nodes::literal(work, a);
+            Evaluated {
+                state: State::Done,
+                next: at + ROW,
+            }
+        }
+        script::LOC => {
+            nodes::location(work, a);
+            Evaluated {
+                state: State::Done,
+                next: at + ROW,
+            }
+        }
+        script::VAR => {
+            nodes::variable(work, depth, a);
+            Evaluated {
+                state: State::Done,
+                next: at + ROW,
+            }
+        }
+        // One call for the operand that each of these starts with, since each call takes its own place in every frame.
+        script::PLUS | script::LEFT | script::RIGHT | script::PACK | script::UNPACK => {
+            let v = eval(code, at + ROW, table, authority, depth, work);
+            if kind != script::PLUS {
+                return nodes::applied(work, table, authority, kind, a, b, v);
+            }
+            let state = v.state;
+            let State::Done = state else {
+                return v;
+            };
+            let n = cells::word(work, 1);
+            let next = v.next;
+            let w = eval(code, next, table, authority, depth, work);
+            nodes::applied(work, table, authority, kind, n, b, w)
+        }
+        _ => Evaluated {
+            state: State::NoRule,
+            next: at,
+        },
+    }
+}

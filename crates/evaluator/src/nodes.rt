@@ -1,0 +1,197 @@
+// One value made of another: what follows the evaluation of an operand, whose value is in the accumulator.
+ghost use mathlib.Core.Path.{_≡_};
+ghost use Prim.Native.Nat.{_+_, _-_};
+ghost use lib.ListN.{drop, getD};
+ghost use Rattle.language.specs.Syntax.{Value, int, err, inr};
+ghost use Rattle.language.specs.World.{World};
+ghost use Rattle.language.specs.Evaluation.{fit, add, packed, unpacked};
+ghost use Rattle.sheet.specs.Internal.Tables.{leftIn};
+ghost use Rattle.sheet.specs.Internal.TypeTest.{hasNo};
+ghost use Rattle.memory.specs.Words.{cell, valueOf};
+ghost use Rattle.cells.specs.Internal.Cells.{loadOf, storeOf, accumulator};
+ghost use Rattle.evaluator.specs.Internal.Cells.{firstLocation};
+ghost use Rattle.evaluator.specs.State.{stateNumber};
+ghost use Rattle.evaluator.specs.Internal.Nodes.{Turns, Applies, Applied, Tags, errorIn, Tells};
+use crate::Evaluated;
+use crate::LOCATIONS;
+use crate::State;
+use crate::WORK;
+use cells::ACCUMULATOR;
+use cells::CELL;
+
+// The most words of a value that fits into the left of a package.
+const ROOM: usize = CELL - memory::CONTENT - 1;
+
+// The errors of pack and unpack.
+const INSUFFICIENT_AUTH: u32 = 1;
+
+const ILLEGAL_FLOW: u32 = 2;
+
+const TYPE_MISMATCH: u32 = 3;
+
+// An integer.
+pub(crate) fn literal(work: &mut [u32; WORK], n: u32)
+    ensures { λ _. ⌜ now (work .exit) ≡ storeOf (now (work .entry)) accumulator (cell (int n)) ⌝ }
+{
+    cells::clear(work, ACCUMULATOR);
+    cells::push(work, n);
+    cells::push(work, memory::INT);
+}
+
+// The right of an error.
+fn fail(work: &mut [u32; WORK], e: u32)
+    ensures { λ _. ⌜ now (work .exit) ≡ storeOf (now (work .entry)) accumulator (cell (inr (err e))) ⌝ }
+{
+    cells::clear(work, ACCUMULATOR);
+    cells::push(work, e);
+    cells::push(work, memory::ERROR);
+    cells::push(work, memory::RIGHT);
+}
+
+// The value of location x.
+pub(crate) fn location(work: &mut [u32; WORK], x: u32)
+    ensures { λ _. ⌜ now (work .exit) ≡ storeOf (now (work .entry)) accumulator (loadOf (now (work .entry)) (firstLocation + x)) ⌝ }
+{
+    cells::copy_cell(work, LOCATIONS + x as usize, ACCUMULATOR);
+}
+
+// The value that the d-th enclosing case binds, innermost 0, at a depth.
+pub(crate) fn variable(work: &mut [u32; WORK], depth: u32, d: u32)
+    ensures { λ _. ⌜ now (work .exit) ≡ storeOf (now (work .entry)) accumulator (loadOf (now (work .entry)) (depth - d)) ⌝ }
+{
+    let k = if d < depth { depth - d } else { 0 };
+    cells::copy_cell(work, k as usize, ACCUMULATOR);
+}
+
+// The sum of n and the integer in the accumulator.
+pub(crate) fn sum(work: &mut [u32; WORK], n: u32, v: Evaluated) -> Evaluated
+    ensures { λ r. ⌜ Applies (now (work .entry)) (stateNumber (v .state)) (v .next) (now (work .exit)) (stateNumber (r .state)) (r .next)
+        ((u : Value) → n ≡ getD (cell u) 1 0 → Turns (add u) (now (work .entry)) (stateNumber (v .state)) (now (work .exit)) (stateNumber (r .state))) ⌝ }
+{
+    let state = v.state;
+    let State::Done = state else {
+        return v;
+    };
+    let m = cells::word(work, 1);
+    literal(work, std::num::wrapping_add_u32(n, m));
+    v
+}
+
+// Left or right, as the word says, of the value in the accumulator.
+fn tagged(work: &mut [u32; WORK], w: u32, v: Evaluated) -> Evaluated
+    ensures { λ r. ⌜ Applies (now (work .entry)) (stateNumber (v .state)) (v .next) (now (work .exit)) (stateNumber (r .state)) (r .next)
+        ((f : Value → Value) → Tags w f → Turns (λ u. fit (f u)) (now (work .entry)) (stateNumber (v .state)) (now (work .exit)) (stateNumber (r .state))) ⌝ }
+{
+    let state = v.state;
+    let State::Done = state else {
+        return v;
+    };
+    if memory::value_end(work, 0) >= CELL {
+        return Evaluated {
+            state: State::TooLong,
+            next: v.next,
+        };
+    }
+    cells::push(work, w);
+    v
+}
+
+// A package of label l of the value in the accumulator, or an error.
+fn pack(work: &mut [u32; WORK], table: &[u16], authority: u16, l: u32, v: Evaluated) -> Evaluated
+    ensures { λ r. ⌜ Applies (now (work .entry)) (stateNumber (v .state)) (v .next) (now (work .exit)) (stateNumber (r .state)) (r .next)
+        ((W : World) → Tells (now (table .entry)) authority W → Turns (packed (W .writes l) l) (now (work .entry)) (stateNumber (v .state)) (now (work .exit)) (stateNumber (r .state))) ⌝ }
+{
+    let state = v.state;
+    let State::Done = state else {
+        return v;
+    };
+    if !sheet::writes(table, authority, l) {
+        fail(work, INSUFFICIENT_AUTH);
+        return v;
+    }
+    if memory::value_end(work, 0) > ROOM {
+        return Evaluated {
+            state: State::TooLong,
+            next: v.next,
+        };
+    }
+    cells::push(work, l);
+    cells::push(work, memory::PACKAGE);
+    cells::push(work, memory::LEFT);
+    v
+}
+
+// The error of unpacking the package in the accumulator with the wanted label l and the wanted type on the left of type t; else 0.
+fn refusal(work: &[u32], table: &[u16], authority: u16, t: u32, l: u32) -> u32
+    ensures { λ r. ⌜ r ≡ errorIn (now (table .entry)) authority l (getD (now (work .entry)) 1 0)
+        (hasNo (now (table .entry)) (valueOf (drop 2 (now (work .entry)))) (leftIn (now (table .entry)) t)) ⌝ }
+{
+    if !sheet::reads(table, authority, l) {
+        return INSUFFICIENT_AUTH;
+    }
+    if !sheet::below(table, cells::word(work, memory::LABEL), l) {
+        return ILLEGAL_FLOW;
+    }
+    if !memory::has_type(table, work, memory::CONTENT, sheet::left_part(table, t)) {
+        return TYPE_MISMATCH;
+    }
+    0
+}
+
+// The content of the package in the accumulator, or an error.
+fn unpack(
+    work: &mut [u32; WORK],
+    table: &[u16],
+    authority: u16,
+    t: u32,
+    l: u32,
+    v: Evaluated,
+) -> Evaluated
+    ensures { λ r. ⌜ Applies (now (work .entry)) (stateNumber (v .state)) (v .next) (now (work .exit)) (stateNumber (r .state)) (r .next)
+        ((W : World) → Tells (now (table .entry)) authority W → Turns (unpacked W t l) (now (work .entry)) (stateNumber (v .state)) (now (work .exit)) (stateNumber (r .state))) ⌝ }
+{
+    let state = v.state;
+    let State::Done = state else {
+        return v;
+    };
+    if cells::word(work, 0) != memory::PACKAGE {
+        return Evaluated {
+            state: State::NoRule,
+            next: v.next,
+        };
+    }
+    let e = refusal(work, table, authority, t, l);
+    if e != 0 {
+        fail(work, e);
+        return v;
+    }
+    cells::pop_to(work, ACCUMULATOR);
+    cells::pop_to(work, ACCUMULATOR);
+    cells::push(work, memory::LEFT);
+    v
+}
+
+// What a line of a kind, with the numbers a and b, makes of the value in the accumulator; of a plus, a is the integer on the left.
+pub(crate) fn applied(
+    work: &mut [u32; WORK],
+    table: &[u16],
+    authority: u16,
+    kind: u32,
+    a: u32,
+    b: u32,
+    v: Evaluated,
+) -> Evaluated
+    ensures { λ r. ⌜ Applied (now (table .entry)) authority kind a b (now (work .entry)) (stateNumber (v .state)) (v .next) (now (work .exit)) (stateNumber (r .state)) (r .next) ⌝ }
+{
+    match kind {
+        script::PLUS => sum(work, a, v),
+        script::LEFT => tagged(work, memory::LEFT, v),
+        script::RIGHT => tagged(work, memory::RIGHT, v),
+        script::PACK => pack(work, table, authority, a, v),
+        script::UNPACK => unpack(work, table, authority, a, b, v),
+        _ => Evaluated {
+            state: State::NoRule,
+            next: v.next,
+        },
+    }
+}

@@ -1,0 +1,79 @@
+// A least label as the set of the labels that it is the join of: bit l is label l of the table, bit 32 + l is I of label l, and the
+// empty set is bottom. Labels are joined where they are compared, so that no frame of the recursion holds one.
+ghost use mathlib.Core.Path.{_≡_};
+ghost use Rattle.sets.specs.Sets.{union};
+ghost use Rattle.members.specs.Internal.Members.{labelMember, integrityMember, memberIn, joinIn, flowsIn};
+use labels::Label;
+
+pub type Members = u64;
+
+// The least label: the join of nothing.
+pub const BOTTOM: Members = 0;
+
+// The most labels of a table, and the most members.
+const LABELS: u32 = 32;
+
+const MOST: u32 = 2 * LABELS;
+
+// {label l}; empty for a number that names no label.
+pub fn label(l: u32) -> Members
+    ensures { λ r. ⌜ r ≡ labelMember l ⌝ }
+{
+    if l >= LABELS {
+        return BOTTOM;
+    }
+    (1 as Members) << l
+}
+
+// {I of label l}, likewise.
+pub fn integrity(l: u32) -> Members
+    ensures { λ r. ⌜ r ≡ integrityMember l ⌝ }
+{
+    if l >= LABELS {
+        return BOTTOM;
+    }
+    (1 as Members) << (LABELS + l)
+}
+
+pub fn join(x: Members, y: Members) -> Members
+    ensures { λ r. ⌜ r ≡ union x y ⌝ }
+{
+    x | y
+}
+
+// The label of member p.
+fn member(table: &[u16], p: u32) -> Label
+    ensures { λ r. ⌜ r ≡ memberIn (now (table .entry)) p ⌝ }
+{
+    if p < LABELS {
+        return sheet::label_of(table, p);
+    }
+    let label = sheet::label_of(table, p - LABELS);
+    label.integrity(sheet::everyone(table))
+}
+
+// The join of the members' labels.
+fn joined(table: &[u16], members: Members) -> Label
+    ensures { λ r. ⌜ r ≡ joinIn (now (table .entry)) members ⌝ }
+{
+    let mut out = Label::bottom(sheet::everyone(table));
+    for p in 0..MOST {
+        if (members >> p) % 2 == 1 {
+            out = out.join(member(table, p));
+        }
+    }
+    out
+}
+
+// Whether the join of the members is at or below label l; or otherwise whether C of the one is at or below C of the other.
+pub fn flows(table: &[u16], members: Members, l: u32, whole: bool) -> bool
+    ensures { λ r. ⌜ r ≡ flowsIn (now (table .entry)) members l whole ⌝ }
+{
+    let lower = joined(table, members);
+    let upper = sheet::label_of(table, l);
+    if whole {
+        lower.at_or_below(upper)
+    } else {
+        lower.confidentiality_at_or_below(upper)
+    }
+}

@@ -96,6 +96,8 @@ int main(void)
     report("255 + inside one another");
     write_script("", ";\n", 512, "", 0);
     report("512 ; and nothing else");
-    printf("%-36s       %7zu bytes (answer %d)\n", "a view", used(VIEW) - used(NOTHING), answer);
+    size_t own = used(NOTHING);
+    size_t view = used(VIEW) - own;
+    printf("%-36s       %7zu bytes (answer %d)\n", "a view", view, answer);
     return 0;
 }

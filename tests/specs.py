@@ -9,9 +9,36 @@ def text(path):
         return f.read()
 
 
+def cached(f):
+    kept = {}
+    return lambda path: kept[path] if path in kept else kept.setdefault(path, f(path))
+
+
 def plain(text):
     """The text without its comments, line by line."""
+    text = re.sub(r"\{-.*?-\}|/\*.*?\*/", "", text, flags=re.S)
     return re.sub(r"(^|\s)--.*", r"\1", text, flags=re.M)
+
+
+def pieces(name):
+    """What a name is written as where it is used: itself, and the parts of an operator."""
+    return {name} | {part for part in name.split("_") if part}
+
+
+@cached
+def brought(path):
+    """word -> what the `use` and `infix` lines of a file make of it, the toolchain's names too."""
+    found = {}
+    lines = plain(text(path)) if os.path.isfile(f"{ROOT}/{path}") else ""
+    for module, names in re.findall(r"^ *(?:ghost |pub |unfoldable )*use +([^\s{]+?)\.?\{([^}]*)\}", lines, re.M):
+        for name in names.split(","):
+            there, _, here = name.strip().partition(" as ")
+            for word in pieces(here or there):
+                found.setdefault(word, set()).add(f"{here or there} is {module}.{there}")
+    for line in re.findall(r"^infix.*", lines, re.M):
+        for word in pieces(line.split()[-1]):
+            found.setdefault(word, set()).add(line)
+    return found
 
 
 def names_of(block):
@@ -31,11 +58,6 @@ def names_of(block):
     return found
 
 
-def cached(f):
-    kept = {}
-    return lambda path: kept[path] if path in kept else kept.setdefault(path, f(path))
-
-
 @cached
 def definitions(path):
     """name -> the declarations of a file that bring it; of a type of the code, the struct or enum."""
@@ -47,7 +69,7 @@ def definitions(path):
                 found.setdefault(name, []).append(block)
     elif m := re.match(r"(crates/\w+)/specs/declared/(?:\w+/)*(\w+)\.antt", path):
         for f in sorted(glob.glob(f"{ROOT}/{m[1]}/src/*.rt")):
-            for block in re.findall(rf"^pub (?:struct|enum) {m[2]}\b[^{{]*\{{[^}}]*\}}", text(os.path.relpath(f, ROOT)), re.M):
+            for block in re.findall(rf"^(?:pub(?:\(crate\))? )?(?:struct|enum) {m[2]}\b[^{{]*\{{[^}}]*\}}", text(os.path.relpath(f, ROOT)), re.M):
                 found |= {name: [block] for name in re.findall(r"\w+", block)}
     return found
 
@@ -66,8 +88,9 @@ def imports(path):
 
 def named_in(clause, path):
     """The places of what a text in a file names: in that file, or where the file brings it from."""
-    words = re.findall(r"[^\s(){}.,;]+", clause)
-    return [(path, w) for w in words if w in definitions(path)] + [imports(path)[w] for w in words if w in imports(path) and w not in definitions(path)]
+    words = set(re.findall(r"[^\s(){}.,;]+", clause))
+    here = [n for n in definitions(path) if pieces(n) & words]
+    return [(path, n) for n in here] + [place for n, place in imports(path).items() if pieces(n) & words and n not in here]
 
 
 def rests_on(places, follow=lambda here, there: True):
@@ -79,6 +102,8 @@ def rests_on(places, follow=lambda here, there: True):
             continue
         seen.add(place)
         for block in definitions(place[0]).get(place[1], []):
-            found.add((place[0], " ".join(block.split())))
+            words = set(re.findall(r"[^\s(){}.,;]+", block))
+            from_where = sorted({w for word in words for w in brought(place[0]).get(word, ())})
+            found.add((place[0], " ".join(block.split() + from_where)))
             todo += [p for p in named_in(block, place[0]) if follow(place[0], p[0])]
     return found

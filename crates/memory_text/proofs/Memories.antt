@@ -18,7 +18,7 @@ use Rattle.sheet.specs.Sheet.{maxLocations}
 use Rattle.memory_text.specs.Internal.Writing.{lineRoom}
 use Rattle.memory_text.specs.Printing.{trim, rows, lines, memoryText}
 use Rattle.memory_text.specs.Reading.{location, allWords, wordsOfRows, locations, memory}
-use Rattle.memory_text.specs.Theorems.{Words, MemoryWords, MemoryExact}
+use Rattle.memory_text.specs.Theorems.{Words, WholeLocations, MemoryExact}
 use Rattle.memory_text.proofs.Trimming.{words-append, words-left, words-right, words-trim, length-trim}
 use Rattle.memory_text.proofs.Lines.{Row, memory-lines, length-line}
 
@@ -85,11 +85,11 @@ rows-sound k t rs e =
     let q : length (allWords rs) / cell-words ≡ length rs = omega arith in
     (x .0 ∙ rw (q, rows-joined rs (x .1)), n, x .2, joined-words rs (x .1))
 
-locations-sound : (ws t r : List ℕ) → locations maxLocations t ≡ got ws r → (t ≡ memoryText ws) × MemoryWords ws × (r ≡ [])
+locations-sound : (ws t r : List ℕ) → locations maxLocations t ≡ got ws r → (t ≡ memoryText ws) × WholeLocations ws × (r ≡ [])
 unfolding locations wordsOfRows memoryText
 locations-sound ws t r e = go (linesUpTo location maxLocations t) refl e
   where
-    go : (o : Option (List (List ℕ))) → linesUpTo location maxLocations t ≡ o → wordsOfRows o ≡ got ws r → (t ≡ memoryText ws) × MemoryWords ws × (r ≡ [])
+    go : (o : Option (List (List ℕ))) → linesUpTo location maxLocations t ≡ o → wordsOfRows o ≡ got ws r → (t ≡ memoryText ws) × WholeLocations ws × (r ≡ [])
     go none x h = not-bad ws r h
     go (some rs) x h =
         let z = got-same (allWords rs) ws [] r h in
@@ -98,12 +98,12 @@ locations-sound ws t r e = go (linesUpTo location maxLocations t) refl e
         let l = y .2 in
         rw (← z .0, ← z .1) (y .0, record { whole = omega arith; most-locations = omega arith; in-range = y .3 }, refl)
 
-pub memory-sound : (ws t r : List ℕ) → memory t ≡ got ws r → (t ≡ memoryText ws) × MemoryWords ws × (r ≡ [])
+pub memory-sound : (ws t r : List ℕ) → memory t ≡ got ws r → (t ≡ memoryText ws) × WholeLocations ws × (r ≡ [])
 unfolding memory
 memory-sound ws t r e = cond-split (fits t) _ _ _ (λ p x. locations-sound ws t r x) (λ p x. not-bad ws r x) e
 
 -- reading what was printed gives it back
-pub memory-print : (ws : List ℕ) → MemoryWords ws → memory (memoryText ws) ≡ got ws []
+pub memory-print : (ws : List ℕ) → WholeLocations ws → memory (memoryText ws) ≡ got ws []
 unfolding memory memoryText fits locations wordsOfRows
 memory-print ws m =
     let n : length ws ≡ cell-words * (length ws / cell-words) = let w = m .whole in omega arith in

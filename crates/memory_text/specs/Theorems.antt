@@ -17,14 +17,14 @@ Words [] = Unit
 Words (w ∷ ws) = (w ≤ most) × Words ws
 
 -- 16 words of 32 bits for each of at most 64 locations
-pub record MemoryWords (ws : List ℕ) : Type 0 where
+pub record WholeLocations (ws : List ℕ) : Type 0 where
   pub whole : length ws % cell-words ≡ 0
   pub most-locations : length ws ≤ memoryWords
   pub in-range : Words ws
 
 -- The text is that of a memory: its printed form. Such a text has at most 11,264 bytes, so that the limit on texts needs no mention.
 abbrev pub IsMemory : List ℕ → List ℕ → Type 0
-IsMemory t ws = (t ≡ memoryText ws) × MemoryWords ws
+IsMemory t ws = (t ≡ memoryText ws) × WholeLocations ws
 
 -- a text is read exactly if it is that of a memory
 abbrev pub MemoryExact : Type 0

@@ -35,6 +35,7 @@ pub fn integrity(l: u32) -> Members
     (1 as Members) << (LABELS + l)
 }
 
+// The join of both.
 pub fn join(x: Members, y: Members) -> Members
     ensures { λ r. ⌜ r ≡ union x y ⌝ }
 {

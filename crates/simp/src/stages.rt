@@ -16,7 +16,7 @@ pub(crate) fn refused(answer: u8) -> Outcome
     Outcome { answer, steps: 0 }
 }
 
-// The answer to a sheet of which this is found.
+// The number of a verdict on a sheet.
 pub(crate) fn sheet_number(verdict: sheet_text::Verdict) -> u8
     ensures { λ r. ⌜ r ≡ sheetNumber verdict ⌝ }
 {
@@ -27,7 +27,7 @@ pub(crate) fn sheet_number(verdict: sheet_text::Verdict) -> u8
     }
 }
 
-// The answer to lent slices of which this is found.
+// The number of a verdict on the lent slices.
 fn memory_number(verdict: memory::Verdict) -> u8
     ensures { λ r. ⌜ r ≡ memoryNumber verdict ⌝ }
 {

@@ -18,7 +18,7 @@ use Rattle.sheet_text.specs.Sheets.{sheetRead, sheetOf}
 use Rattle.script_text.specs.Reading.{linesOf}
 use Rattle.script_text.specs.Script.{scriptOf}
 use Rattle.memory_text.specs.Reading.{memory}
-use Rattle.simp.specs.Calls.{runOf, viewOf}
+use Rattle.stages.specs.Calls.{runOf, viewOf}
 use Rattle.desk.specs.declared.Given.{Given}
 use Rattle.desk.specs.Fields.{groupOf, budgetOf}
 use Rattle.desk.specs.Given.{givenOf, givenWords}

@@ -16,8 +16,8 @@ use Rattle.memory_text.specs.Printing.{memoryText}
 use Rattle.memory_text.specs.Reading.{memory}
 use Rattle.memory_text.specs.Theorems.{IsMemory}
 use Rattle.memory_text.proofs.Memories.{memory-exact, memory-sound}
-use Rattle.simp.specs.Answers.{Viewed, refusedView}
-use Rattle.simp.specs.Calls.{viewOf}
+use Rattle.stages.specs.Answers.{Viewed, refusedView}
+use Rattle.stages.specs.Calls.{viewOf}
 use Rattle.simp.specs.Judgements.{OfSheet, Strangers, OtherSize, IllFormed, View}
 use Rattle.simp.proofs.Judged.{its}
 use Rattle.simp.proofs.SecondDemand.{demand-2}

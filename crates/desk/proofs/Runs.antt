@@ -12,8 +12,8 @@ use Rattle.logic.proofs.BooleanLaws.{cases}
 use Rattle.memory_text.specs.Printing.{memoryText}
 use Rattle.memory_text.specs.Reading.{memory}
 use Rattle.memory_text.proofs.Memories.{memory-sound}
-use Rattle.simp.specs.Answers.{Ran}
-use Rattle.simp.specs.Calls.{runOf}
+use Rattle.stages.specs.Answers.{Ran}
+use Rattle.stages.specs.Calls.{runOf}
 use Rattle.desk.specs.declared.Given.{Given}
 use Rattle.desk.specs.Fields.{groupOf, budgetOf}
 use Rattle.desk.specs.Numbers.{order, placeOf, earlier, unread, asText}

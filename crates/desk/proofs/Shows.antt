@@ -6,8 +6,8 @@ use mathlib.Core.List.{List, _∷_}
 use lib.ListN.{length, take, replicate}
 use borrow.Author.Tests.{ne-eqb}
 use Rattle.memory_text.specs.Printing.{memoryText}
-use Rattle.simp.specs.Answers.{Viewed}
-use Rattle.simp.specs.Calls.{viewOf}
+use Rattle.stages.specs.Answers.{Viewed}
+use Rattle.stages.specs.Calls.{viewOf}
 use Rattle.desk.specs.declared.Given.{Given}
 use Rattle.desk.specs.Numbers.{earlier, asText}
 use Rattle.desk.specs.Given.{givenWords}

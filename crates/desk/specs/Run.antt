@@ -8,8 +8,8 @@ use mathlib.Core.Option.{Option·elim}
 use lib.Dec.{eqb}
 use Rattle.text.specs.Number.{decimal}
 use Rattle.memory_text.specs.Printing.{memoryText}
-use Rattle.simp.specs.Answers.{Ran}
-use Rattle.simp.specs.Calls.{runOf}
+use Rattle.stages.specs.Answers.{Ran}
+use Rattle.stages.specs.Calls.{runOf}
 use Rattle.desk.specs.declared.Given.{Given}
 use Rattle.desk.specs.Fields.{budgetOf}
 use Rattle.desk.specs.Numbers.{earlier, asText}

@@ -5,7 +5,7 @@ use mathlib.Core.List.{List}
 use lib.Dec.{eqb}
 use lib.ListN.{length, replicate}
 use Rattle.memory_text.specs.Printing.{memoryText}
-use Rattle.simp.specs.Calls.{viewOf}
+use Rattle.stages.specs.Calls.{viewOf}
 use Rattle.desk.specs.declared.Given.{Given}
 use Rattle.desk.specs.Numbers.{earlier, asText}
 use Rattle.desk.specs.Given.{givenOf, givenWords}

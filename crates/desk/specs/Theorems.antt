@@ -9,7 +9,7 @@ use Rattle.text.specs.Number.{decimal, most}
 use Rattle.text.specs.Reading.Read.{got}
 use Rattle.numbers.specs.Rows.{numbers}
 use Rattle.memory_text.specs.Reading.{memory}
-use Rattle.simp.specs.Calls.{runOf}
+use Rattle.stages.specs.Calls.{runOf}
 use Rattle.simp.specs.Judgements.{runRows}
 use Rattle.parts.specs.Parts.{keep}
 use Rattle.parts.specs.Feeding.{beginning, held, fed}

@@ -17,10 +17,9 @@ use Rattle.script.specs.Internal.Code.{lineWords, code}
 use Rattle.sheet.specs.Padding.{padded}
 use Rattle.script_text.specs.declared.LineRead.the-variants as read
 use Rattle.script_text.specs.declared.Reached.{Reached}
-use Rattle.script_text.specs.declared.Script.{Script}
 use Rattle.script_text.specs.declared.Answer.the-variants as answer
 use Rattle.script_text.specs.Reading.{lineOf, linesOf}
-use Rattle.script_text.specs.Internal.Decoded.{codeWords, noCode, coded, codedLines}
+use Rattle.script_text.specs.Internal.Decoded.{Decoded, codeWords, noCode, coded, codedLines}
 use Rattle.script_text.specs.Internal.Placed.{rowOf, lineAt}
 use Rattle.script_text.proofs.LineLaws.{script-lines}
 use Rattle.script_text.proofs.FoundLaws.{found-at, found-none}
@@ -55,7 +54,7 @@ abbrev pub put : List ℕ → ℕ → ℕ → ℕ → ℕ → List ℕ
 put w n k a b = set (set (set w (n * 3) k) (n * 3 + 1) a) (n * 3 + 2) b
 
 -- n lines, and further ones
-unfoldable pub tabled : ℕ → List ℕ → Option (List Line) → Script
+unfoldable pub tabled : ℕ → List ℕ → Option (List Line) → Decoded
 tabled n w none = noCode
 tabled n w (some ls) = record { answer = answer.Read; count = n + length ls; code = sets w (n * 3) (code ls) }
 

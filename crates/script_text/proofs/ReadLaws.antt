@@ -6,7 +6,7 @@ use mathlib.Core.Option.{Option, none, some}
 use Prim.Native.Nat.{ℕ, _*_, _≤_}
 use native.Mathlib.Omega.{arith}
 use lib.Dec.{leb}
-use lib.ListN.{length, take, length-drop, drop-of-length-le}
+use lib.ListN.{length, take, length-drop, drop-of-length-le, length-replicate}
 use lib.Seq.{take-at}
 use borrow.Author.Tests.{leb-true, le-leb}
 use Rattle.language.specs.Syntax.{Cmd}
@@ -14,13 +14,13 @@ use Rattle.script.specs.Lines.{Line, Source, cmdLines}
 use Rattle.script.specs.Internal.Code.{code}
 use Rattle.script.specs.Names.{Counts, named}
 use Rattle.sheet.specs.Padding.{padded}
-use Rattle.script_text.specs.declared.Script.{Script}
+use Rattle.sheet.proofs.Words.{length-padded}
+use Rattle.script_text.specs.Internal.Decoded.{Decoded, codeWords, noCode, coded, codedLines, decodedScript}
 use Rattle.script_text.specs.declared.Answer.the-variants as answer
 use Rattle.script_text.specs.declared.Scanned.{Scanned}
 use Rattle.script_text.specs.Reading.{linesOf}
 use Rattle.script_text.specs.Internal.Parse.{stackOf, onlyCommand, parse}
 use Rattle.script_text.specs.Script.{namedOnly, commandOf, commandRead, scriptOf}
-use Rattle.script_text.specs.Internal.Decoded.{codeWords, noCode, coded, codedLines, decodedScript}
 use Rattle.script_text.specs.Internal.Scan.{ScansCmd, isSome, Whole}
 use Rattle.script_text.proofs.CodeLaws.{words-of, code-length}
 use Rattle.script_text.proofs.ScanLaws.{false-true}
@@ -81,7 +81,7 @@ coded-code ls = take-at (code ls) _ (length ls * 3) (code-length ls)
 
 -- ---- the answer
 
-module _ (k : Counts) (t : List ℕ) (s : Script) (e : s ≡ codedLines (linesOf t))
+module _ (k : Counts) (t : List ℕ) (s : Decoded) (e : s ≡ codedLines (linesOf t))
     (ws : List ℕ) (q : ws ≡ take (s .count * 3) (s .code)) (b : Bool) (w : Whole k ws b) where
   -- what was tested is whether the text has a command
   tested : b ≡ isSome (scriptOf k t)
@@ -111,7 +111,7 @@ module _ (k : Counts) (t : List ℕ) (s : Script) (e : s ≡ codedLines (linesOf
 -- ---- what callers rest on
 
 -- the answer r is a refusal, or the code of the text's command
-pub read-split : {P : Type 0} (k : Counts) (t : List ℕ) (r : Script) → r ≡ decodedScript (scriptOf k t)
+pub read-split : {P : Type 0} (k : Counts) (t : List ℕ) (r : Decoded) → r ≡ decodedScript (scriptOf k t)
     → (scriptOf k t ≡ none → r .answer ≡ answer.Refused → P)
     → ((c : Cmd) → scriptOf k t ≡ some c → Source c → named k 0 c ≡ true → r .answer ≡ answer.Read → take (r .count * 3) (r .code) ≡ code (cmdLines c []) → P)
     → P
@@ -124,3 +124,12 @@ read-split {P} k t r e f g = go (scriptOf k t) refl
         let s = script-sound k t c x in
         let y : r ≡ coded (cmdLines c []) = e ∙ ap decodedScript x in
         g c x (s .source) (s .named-there) (rw y refl) (rw y (coded-code (cmdLines c [])))
+
+-- the lent words stay as many
+pub read-whole : (k : Counts) (t : List ℕ) (r : Decoded) → r ≡ decodedScript (scriptOf k t) → length (r .code) ≡ codeWords
+unfolding decodedScript coded noCode
+read-whole k t r e = ap (λ (d : Decoded). length (d .code)) e ∙ go (scriptOf k t) refl
+  where
+    go : (o : Option Cmd) → scriptOf k t ≡ o → length (decodedScript o .code) ≡ codeWords
+    go none x = length-replicate {A = ℕ} codeWords 0
+    go (some c) x = length-padded codeWords (code (cmdLines c [])) (omega (arith, code-length (cmdLines c []), script-sound k t c x .few))

@@ -40,7 +40,7 @@ use text::line_end;
 use text::number_field;
 
 // The words of a script's code in all.
-pub const WORDS: usize = 1536;
+pub const WORDS: usize = ROW * ROWS;
 
 // Cases nest at most this deep.
 const DEPTH: u32 = 8;
@@ -51,11 +51,10 @@ pub enum Answer {
     Refused,
 }
 
-// The answer to a text, a script's lines, and the words of its code; no lines where the text was refused.
+// The answer to a text, and how many lines its script has: none where the text was refused.
 pub struct Script {
     pub answer: Answer,
     pub count: usize,
-    pub code: [u32; WORDS],
 }
 
 // The words of a line and the place after it, or a refusal.
@@ -192,52 +191,50 @@ fn line_from(text: &[u8], at: usize) -> Reached
     }
 }
 
-// The answer to a text that is refused.
-fn refused() -> Script
-    ensures { λ r. ⌜ r ≡ noCode ⌝ }
+// The answer to a text that is refused, with zeros for its code.
+fn refused(code: &mut [u32; WORDS]) -> Script
+    ensures { λ r. ⌜ record { answer = r .answer; count = r .count; code = now (code .exit) } ≡ noCode ⌝ }
 {
+    *code = [0u32; WORDS];
     Script {
         answer: Answer::Refused,
         count: 0,
-        code: [0u32; WORDS],
     }
 }
 
-// The code of a text's lines, whatever they say.
-fn decode(s: &[u8]) -> Script
-    ensures { λ r. ⌜ r ≡ codedLines (linesOf (now (s .entry))) ⌝ }
+// Fills the lent words with the code of a text's lines, whatever they say.
+fn decode(s: &[u8], code: &mut [u32; WORDS]) -> Script
+    ensures { λ r. ⌜ record { answer = r .answer; count = r .count; code = now (code .exit) } ≡ codedLines (linesOf (now (s .entry))) ⌝ }
 {
     if !fits(s) {
-        return refused();
+        return refused(code);
     }
-    let mut out = Script {
-        answer: Answer::Read,
-        count: 0,
-        code: [0u32; WORDS],
-    };
+    *code = [0u32; WORDS];
     let mut n: usize = 0;
     let mut at: usize = 0;
     while at < s.len() {
         if ROWS <= n {
-            return refused();
+            return refused(code);
         }
         let next = line_from(s, at);
         let read = next.read;
         match read {
             LineRead::Line(kind, a, b) => {
-                out.code[n * ROW] = kind;
-                out.code[n * ROW + 1] = a;
-                out.code[n * ROW + 2] = b;
+                code[n * ROW] = kind;
+                code[n * ROW + 1] = a;
+                code[n * ROW + 2] = b;
                 n += 1;
                 at = next.at;
             }
             LineRead::Refused => {
-                return refused();
+                return refused(code);
             }
         }
     }
-    out.count = n;
-    out
+    Script {
+        answer: Answer::Read,
+        count: n,
+    }
 }
 
 // Whether a number names a type.
@@ -388,14 +385,14 @@ fn whole(code: &[u32], table: &[u16]) -> bool
     c.ok && code.len() <= c.next
 }
 
-// The code of a script on a sheet's table; refused where 4 applies.
-pub fn read(text: &[u8], table: &[u16]) -> Script
-    ensures { λ r. ⌜ r ≡ decodedScript (scriptOf (countsIn (now (table .entry))) (now (text .entry))) ⌝ }
+// Fills the lent words with the code of a script on a sheet's table; refused, and zeros, where 4 applies.
+pub fn read(text: &[u8], table: &[u16], code: &mut [u32; WORDS]) -> Script
+    ensures { λ r. ⌜ record { answer = r .answer; count = r .count; code = now (code .exit) } ≡ decodedScript (scriptOf (countsIn (now (table .entry))) (now (text .entry))) ⌝ }
 {
-    let s = decode(text);
+    let s = decode(text, code);
     let count = s.count;
-    if !whole(rows(&s.code, count), table) {
-        return refused();
+    if !whole(rows(code, count), table) {
+        return refused(code);
     }
     s
 }

@@ -5,7 +5,7 @@ use Rattle.language.specs.Syntax.{int, val, left, Cmd, skip, seq, while, size}
 use Rattle.language.specs.World.{World, Mem}
 use Rattle.language.specs.Evaluation.{bind, fit, fitIf, eval}
 use Rattle.language.specs.Transition.{spent, done, run, iterate, step, after, branch, branchV, at-seq}
-use Rattle.simp.specs.Calls.{ended}
+use Rattle.stages.specs.Calls.{ended}
 use Rattle.simp.specs.Cases.{Holds, spends, Each, cases, CasesHold, sheet, nested, fourLocations, before, afterPack, afterUnpack, twoPolicies, readersOnly}
 use Rattle.simp.proofs.Computing.{all-used}
 

@@ -28,7 +28,7 @@ use Rattle.script_text.specs.Reading as script-lines
 use Rattle.script_text.specs.Script as script
 use Rattle.memory.specs.Memory as memory
 use Rattle.memory.specs.Words as words
-use Rattle.simp.specs.Calls as calls
+use Rattle.stages.specs.Calls as calls
 use Rattle.simp.specs.Texts as texts
 
 unfoldable pub text-used : Unit {0}
@@ -99,7 +99,7 @@ unfolding memory.cellOf memory.memoryOf memory.cells memory.wordsOf memory.prope
 memory-used = tt
 
 unfoldable pub simp-used : Unit {0}
-unfolding calls.onSheet calls.unless calls.strangers calls.onScript calls.untyped calls.checkOf calls.ended calls.runOf
+unfolding calls.onSheet calls.unless calls.strangers calls.onScript calls.untyped calls.numberOf calls.checkOf calls.ended calls.runOf
     texts.bytes
 simp-used = tt
 

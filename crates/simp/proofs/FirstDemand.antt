@@ -5,8 +5,8 @@ use Prim.Native.Nat.{ℕ}
 use native.Mathlib.Omega.{arith}
 use Rattle.sheet.specs.Sheet.{Sheet}
 use Rattle.language.specs.Syntax.{Cmd}
-use Rattle.simp.specs.Answers.{Ran, refusedRun, Viewed, refusedView}
-use Rattle.simp.specs.Calls.{checkOf, runOf, viewOf}
+use Rattle.stages.specs.Answers.{Ran, refusedRun, Viewed, refusedView}
+use Rattle.stages.specs.Calls.{checkOf, runOf, viewOf}
 use Rattle.numbers.specs.Rows.{numbers, Among, here, later}
 use Rattle.simp.specs.Judgements.{checkRows, Started, Ends, ends-0, ends-9, ends-10, runRows, viewRows}
 use Rattle.simp.specs.Demands.{Finished, RunAnswers, ViewAnswers, Demand1}

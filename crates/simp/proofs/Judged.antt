@@ -23,7 +23,7 @@ use Rattle.script_text.specs.Theorems.{IsScript}
 use Rattle.script_text.proofs.ScriptLaws.{script-exact}
 use Rattle.memory.specs.Memory.{wellFormed, sliceRefusal, refusalBy, memoryRefusal}
 use Rattle.memory.specs.View.{viewRefusal}
-use Rattle.simp.specs.Calls.{onSheet, unless, strangers, onScript, untyped}
+use Rattle.stages.specs.Calls.{onSheet, unless, strangers, onScript, untyped}
 use Rattle.numbers.specs.Rows.{Row, _when_, First}
 use Rattle.simp.specs.Judgements.{OnSheet, OfSheet, OfScript, NoSheet, Repeats, Strangers, NoScript, IllTyped, IllLabelled, OtherSize, IllFormed, Principals, Typable, TypableUnlabelled, Sized}
 use Rattle.logic.proofs.OptionLaws.{none-some}

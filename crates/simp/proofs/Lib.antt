@@ -5,7 +5,6 @@ pub mod SecondDemand
 pub mod Readers
 pub mod Runs
 pub mod ThirdDemand
-pub mod StageLaws
 pub mod SheetLaws
 mod Computing
 pub mod CasesHold

@@ -13,7 +13,7 @@ use Rattle.sheet.specs.Meaning.{labelsOver, declarationsOf, shapesOf}
 use Rattle.sheet.proofs.MeaningLaws.{least-label-laws}
 use Rattle.memory.specs.Memory.{wellFormed, sliceRefusal, refusalBy, memoryRefusal}
 use Rattle.memory.specs.View.{viewRefusal}
-use Rattle.simp.specs.Calls.{strangers, untyped}
+use Rattle.stages.specs.Calls.{strangers, untyped}
 use Rattle.simp.specs.Judgements.{Typable, Principals, Sized}
 
 module _ (s : Sheet) where

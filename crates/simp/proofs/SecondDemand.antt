@@ -15,8 +15,8 @@ use Rattle.memory.specs.Memory.{memoryOf, wordsOf, wellFormed}
 use Rattle.memory.specs.View.{viewWords}
 use Rattle.memory.specs.Theorems.{Declared}
 use Rattle.memory.proofs.Exactness.{memories-exactly}
-use Rattle.simp.specs.Answers.{Ran, refusedRun, Viewed, refusedView}
-use Rattle.simp.specs.Calls.{onSheet, unless, onScript, untyped, checkOf, ended, runOf, viewOf}
+use Rattle.stages.specs.Answers.{Ran, refusedRun, Viewed, refusedView}
+use Rattle.stages.specs.Calls.{onSheet, unless, onScript, untyped, numberOf, checkOf, ended, runOf, viewOf}
 use Rattle.numbers.specs.Rows.{First}
 use Rattle.simp.specs.Judgements.{OnSheet, Principals, Sized, checkRows, Checked, Started, Ends, ends-0, ends-9, ends-10, runRows, Run, viewRows, View}
 use Rattle.simp.specs.Demands.{Demand2}
@@ -32,7 +32,7 @@ unless-0 zero = refl
 unless-0 (suc k) = refl
 
 pub checked : (sheet script : List ℕ) → Checked sheet script (checkOf sheet script)
-unfolding checkOf
+unfolding checkOf numberOf
 checked sheet script =
     past-2 (λ k. k) (λ r. r ≡ 0) sheet _ _ λ s h.
     past-4 (λ k. k) (λ r. r ≡ 0) h _ script _ λ c i.

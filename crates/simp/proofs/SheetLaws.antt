@@ -9,8 +9,8 @@ use Rattle.sheet_text.specs.Sheets.{Answer, malformed, repeating, accepted, she
 use Rattle.sheet_text.specs.Verdict.{sheetNumber}
 use Rattle.sheet_text.specs.Internal.Decoded.{refusedBy, decodedSheet}
 use Rattle.sheet_text.proofs.Theorems.{accepted-exact}
-use Rattle.simp.specs.Calls.{onSheet}
-use Rattle.simp.specs.Internal.Stages.{TableOf}
+use Rattle.stages.specs.Calls.{onSheet}
+use Rattle.stages.specs.Internal.Stages.{TableOf}
 
 module _ {A : Type 0} (refuse : ℕ → A) (go : Sheet → A) where
   refused-by : (a : Answer) → (sheetNumber (decodedSheet a .verdict) ≡ 0 → ⊥) → refuse (sheetNumber (decodedSheet a .verdict)) ≡ onSheet refuse a go

@@ -14,8 +14,8 @@ use Rattle.memory.specs.View.{viewWords}
 use Rattle.memory.specs.Theorems.{Declared}
 use Rattle.memory.proofs.Exactness.{memories-exactly, views-exactly}
 use Rattle.memory.proofs.MemoryLaws.{unrefused-length, unrefused-formed}
-use Rattle.simp.specs.Answers.{Ran, Viewed}
-use Rattle.simp.specs.Calls.{ended, runOf, viewOf}
+use Rattle.stages.specs.Answers.{Ran, Viewed}
+use Rattle.stages.specs.Calls.{ended, runOf, viewOf}
 use Rattle.simp.specs.Judgements.{OnSheet, Principals, Sized, Started}
 use Rattle.simp.specs.Demands.{Demand3}
 use Rattle.simp.proofs.Numbers.{sized-0}

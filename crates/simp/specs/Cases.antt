@@ -6,7 +6,7 @@ use Prim.Native.Nat.{ℕ}
 use Prim.Native.String.{String}
 use Rattle.labels.specs.Labels.{Policy, policy, labelOf, readsOf, writesOf}
 use Rattle.sheet.specs.Padding.{padded}
-use Rattle.simp.specs.Calls.{checkOf, runOf}
+use Rattle.stages.specs.Calls.{checkOf, runOf}
 use Rattle.simp.specs.Texts.{bytes}
 
 -- {0: readers 1, writers 2; 1: readers 0, writers 2 and 3}

@@ -9,8 +9,8 @@ use Rattle.language.specs.Figures.{Steps}
 use Rattle.sheet.specs.Sheet.{Sheet, locationCount}
 use Rattle.sheet.specs.Meaning.{worldOf}
 use Rattle.memory.specs.Memory.{memoryOf, wordsOf}
-use Rattle.simp.specs.Answers.{Ran, Viewed}
-use Rattle.simp.specs.Calls.{checkOf, runOf, viewOf}
+use Rattle.stages.specs.Answers.{Ran, Viewed}
+use Rattle.stages.specs.Calls.{checkOf, runOf, viewOf}
 use Rattle.numbers.specs.Rows.{Among, GivenInOrder}
 use Rattle.simp.specs.Judgements.{checkRows, Checked, runRows, Started, Run, viewRows, View}
 

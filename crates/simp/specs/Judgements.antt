@@ -22,7 +22,7 @@ use Rattle.script_text.specs.Counts.{countsOf}
 use Rattle.script_text.specs.Theorems.{IsScript}
 use Rattle.memory.specs.Memory.{memoryOf, wordsOf, wellFormed}
 use Rattle.memory.specs.View.{viewWords}
-use Rattle.simp.specs.Answers.{Ran, refusedRun, Viewed, refusedView}
+use Rattle.stages.specs.Answers.{Ran, refusedRun, Viewed, refusedView}
 use Rattle.numbers.specs.Rows.{Row, _when_, First}
 
 -- ---- of a sheet s and a command c

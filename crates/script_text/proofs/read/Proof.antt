@@ -8,16 +8,16 @@ use Rattle.script_text.proofs.read.Tie as tie
 
 returns : tie.Need-returns
 returns c =
-    let test = c .before .before in
+    let test = c .before .before .before in
     let rows = test .before in
     c .refused .ensures
-    ∙ read-no _ _ _ (rows .before .before .before .before .decode .ensures) _ (rows .rows .ensures) _ (test .whole .ensures) (not-true _ (c .before .if1 .taken))
+    ∙ read-no _ _ _ (rows .before .before .before .decode .ensures) _ (rows .rows .ensures) _ (test .whole .ensures) (not-true _ (c .before .before .if1 .taken))
 
 returns-2 : tie.Need-returns-2
 returns-2 c =
     let test = c .before in
     let rows = test .before in
-    read-yes _ _ _ (rows .before .before .before .before .decode .ensures) _ (rows .rows .ensures) _ (test .whole .ensures) (not-false _ (c .if1 .left))
+    read-yes _ _ _ (rows .before .before .before .decode .ensures) _ (rows .rows .ensures) _ (test .whole .ensures) (not-false _ (c .if1 .left))
 
 pub read-spec : {M : Type 1} → statement M
 read-spec = tie.close (tie.spec

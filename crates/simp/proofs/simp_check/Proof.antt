@@ -1,5 +1,5 @@
 -- `simp::simp_check` meets its contract. Assumes nothing.
-use Rattle.simp.specs.Calls.{checkOf}
+use Rattle.stages.specs.Calls.{checkOf}
 use Rattle.simp.proofs.SheetLaws.{sheet-refused, sheet-read}
 use borrow.Author.Needs.{needs}
 use Rattle.simp.proofs.simp_check.Statement.{statement}

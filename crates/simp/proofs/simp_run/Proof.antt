@@ -1,5 +1,5 @@
 -- `simp::simp_run` meets its contract. Assumes nothing.
-use Rattle.simp.specs.Calls.{runOf}
+use Rattle.stages.specs.Calls.{runOf}
 use Rattle.simp.proofs.SheetLaws.{sheet-refused, sheet-read}
 use borrow.Author.Needs.{needs}
 use Rattle.simp.proofs.simp_run.Statement.{statement}

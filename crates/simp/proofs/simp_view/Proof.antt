@@ -1,5 +1,5 @@
 -- `simp::simp_view` meets its contract. Assumes nothing.
-use Rattle.simp.specs.Calls.{viewOf}
+use Rattle.stages.specs.Calls.{viewOf}
 use Rattle.simp.proofs.SheetLaws.{sheet-refused, sheet-read}
 use borrow.Author.Needs.{needs}
 use Rattle.simp.proofs.simp_view.Statement.{statement}

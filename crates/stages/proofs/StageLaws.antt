@@ -1,0 +1,224 @@
+-- The stages of a call: what each leaves, from what it calls. Assumes nothing.
+use mathlib.Core.Path.{_≡_, refl, sym, ap, _∙_, subst}
+use mathlib.Core.Bool.{Bool, true, false, cond}
+use mathlib.Core.List.{List, []}
+use mathlib.Core.Option.{Option, none, some}
+use Prim.Native.Nat.{ℕ, zero, suc, _*_}
+use native.Mathlib.Omega.{arith}
+use borrow.Author.Tests.{ne-eqb}
+use lib.ListN.{length, take}
+use Rattle.language.specs.Syntax.{Cmd}
+use Rattle.language.specs.Transition.{Out, done, spent, over, wrong, iterate}
+use Rattle.language.specs.Typing.{shape}
+use Rattle.language.proofs.Exactness.{flow-iff, exactness}
+use Rattle.language.proofs.TypeSoundness.{type-soundness}
+use Rattle.script.specs.Lines.{Source, cmdLines}
+use Rattle.script.specs.Internal.Code.{code}
+use Rattle.script.specs.Names.{named}
+use Rattle.sheet.specs.Sheet.{Sheet, locationCount}
+use Rattle.sets.specs.Sets.{within, everyone}
+use Rattle.sheet.specs.Internal.Tables.{everyoneIn}
+use Rattle.sheet.proofs.TableLaws.{everyone-in}
+use Rattle.sheet.specs.Meaning.{labelsOver, declarationsOf, shapesOf, worldOf}
+use Rattle.sheet.proofs.MeaningLaws.{least-label-laws}
+use Rattle.script_text.specs.declared.Answer.{Answer}
+use Rattle.script_text.specs.declared.Answer.the-variants.{Read, Refused}
+use Rattle.script_text.specs.Counts.{countsOf}
+use Rattle.script_text.specs.Script.{scriptOf}
+use Rattle.script_text.specs.Internal.Decoded.{Decoded, countsIn, decodedScript}
+use Rattle.script_text.proofs.ScriptLaws.{counts-table}
+use Rattle.script_text.proofs.ReadLaws.{read-split, read-whole}
+use Rattle.memory.specs.Memory.{memoryOf, wellFormed, memoryRefusal}
+use Rattle.memory.specs.View.{viewWords, viewRefusal}
+use Rattle.memory.specs.Internal.InTable.{leaves, viewLeaves, refusalIn, viewRefusalIn, viewLeavesIn}
+use Rattle.memory.proofs.Exactness.{memories-exactly, table-agrees}
+use Rattle.memory.proofs.MemoryLaws.{unrefused-length, unrefused-formed}
+use Rattle.checker.specs.Internal.Post.{ChecksCode}
+use Rattle.checker.specs.Verdict.{verdictNumber}
+use Rattle.checker.specs.declared.Verdict.{Verdict}
+use Rattle.interpreter.specs.Internal.Run.{RunLeaves, Runs}
+use Rattle.stages.specs.Answers.{Ran, refusedRun, refusedView}
+use Rattle.stages.specs.Calls.{unless, strangers, onScript, untyped, numberOf, ended}
+use Rattle.stages.specs.Internal.Stages.{TableOf, CodeOf, no-code, its-code, Judges, AcceptedCode, NumbersScript, acceptedRun, RunsAccepted, RunsOn, ViewsOn}
+
+-- ---- the code of a script
+
+pub code-of : (t script ws : List ℕ) (p : Decoded) → p ≡ decodedScript (scriptOf (countsIn t) script) → ws ≡ take (p .count * 3) (p .code)
+    → (s : Sheet) → TableOf t s → CodeOf s ws (p .answer) (scriptOf (countsOf s) script)
+code-of t script ws p e w s T =
+    let k : countsIn t ≡ countsOf s = ap countsIn (T .words) ∙ counts-table s in
+    let e′ : p ≡ decodedScript (scriptOf (countsOf s) script) = e ∙ ap (λ (j : _). decodedScript (scriptOf j script)) k in
+    read-split (countsOf s) script p e′
+    (λ n a. rw (n, a) no-code)
+    (λ c i src nm a tk. rw (i, a) (its-code src nm (w ∙ tk)))
+
+-- ---- judging
+
+pub judge-refused : (ws t : List ℕ) (a : Answer) → a ≡ Refused → Judges a ws t 4
+unfolding onScript
+judge-refused ws t a e = rw e (record { judged = λ s T o C. go s C })
+  where
+    go : (s : Sheet) {o : Option Cmd} → CodeOf s ws Refused o → 4 ≡ onScript (λ k. k) o (untyped s)
+    go s no-code = refl
+
+pub judge-read : (ws t : List ℕ) (a : Answer) (v u : Verdict) → a ≡ Read → ChecksCode ws t (verdictNumber v) → v ≡ u → Judges a ws t (verdictNumber u)
+unfolding onScript untyped
+judge-read ws t a v u i x e = rw i (record { judged = λ s T o C. ap verdictNumber (sym e) ∙ go s T C })
+  where
+    go : (s : Sheet) → TableOf t s → {o : Option Cmd} → CodeOf s ws Read o → verdictNumber v ≡ onScript (λ k. k) o (untyped s)
+    go s T (its-code {c = c} src nm w) = x .exact s (T .form) (T .once) (T .words) (countsOf s) c src nm w
+
+-- what the judgement of a script's code says of the script
+pub numbers-script : (t script ws : List ℕ) (p : Decoded) (r : ℕ) → p ≡ decodedScript (scriptOf (countsIn t) script) → ws ≡ take (p .count * 3) (p .code)
+    → Judges (p .answer) ws t r → NumbersScript script t r (p .count) (p .code)
+unfolding numberOf onScript
+numbers-script t script ws p r e w j = record {
+  whole = read-whole (countsIn t) script p e;
+  numbered = λ s T. j .judged s T _ (code-of t script ws p e w s T);
+  accepted = λ s T z. go s (code-of t script ws p e w s T) refl (sym z ∙ j .judged s T _ (code-of t script ws p e w s T));
+}
+  where
+    go : (s : Sheet) {a : Answer} {o : Option Cmd} → CodeOf s ws a o → scriptOf (countsOf s) script ≡ o → 0 ≡ onScript (λ k. k) o (untyped s)
+        → AcceptedCode s script (take (p .count * 3) (p .code))
+    go s no-code i z = absurd (omega arith)
+    go s (its-code {c = c} src nm l) i z = record { command = c; is-its = i; source = src; names = nm; typed = sym z; lines = sym w ∙ l }
+
+-- the table's refusal of a memory is the sheet's
+pub refusal-in : (t memory : List ℕ) (a : ℕ) → a ≡ refusalIn t memory → (s : Sheet) → TableOf t s → a ≡ memoryRefusal s memory
+refusal-in t memory a e s T = e ∙ ap (λ (u : List ℕ). refusalIn u memory) (T .words) ∙ table-agrees s (T .form) .refusal memory
+
+-- ---- running
+
+-- a number that is not 0 refuses
+stops : {A : Type 0} (refuse : ℕ → A) (k : ℕ) (go : A) → (k ≡ 0 → ⊥) → unless refuse k go ≡ refuse k
+unfolding unless
+stops refuse zero go n = absurd (n refl)
+stops refuse (suc k) go n = refl
+
+-- 0 goes on
+goes : {A : Type 0} (refuse : ℕ → A) (k : ℕ) (go : A) → k ≡ 0 → unless refuse k go ≡ go
+unfolding unless
+goes refuse k go e = rw e refl
+
+-- an accepted script passes the test on types
+accepted-shape : (s : Sheet) (c : Cmd) → untyped s c ≡ 0 → shape (shapesOf s) [] c ≡ true
+unfolding untyped
+accepted-shape s c u =
+    let laws = least-label-laws (s .principals) in
+    let derived = exactness (labelsOver (s .principals)) laws (declarationsOf s) .accepted c .0 u in
+    flow-iff (labelsOver (s .principals)) laws (declarationsOf s) (labelsOver (s .principals) .bot) c .1 derived .0
+
+-- an accepted script from a well-formed memory is never stuck, so that its outcome is the answer
+ends : (s : Sheet) (memory : List ℕ) (authority budget : ℕ) (c : Cmd) → untyped s c ≡ 0 → memoryRefusal s memory ≡ 0 → (state steps : ℕ) (left : List ℕ) (o : Out)
+    → iterate (worldOf s authority) budget (memoryOf memory) c ≡ o → RunLeaves (locationCount s) budget memory o state steps left
+    → record { answer = state; steps = steps; memory = left } ≡ ended (locationCount s) budget memory o
+unfolding RunLeaves ended
+ends s memory authority budget c u m state steps left (done M l) e (p, q, r) = rw (p, q, r) refl
+ends s memory authority budget c u m state steps left spent e (p, q, r) = rw (p, q, r) refl
+ends s memory authority budget c u m state steps left (over l) e (p, q, r) = rw (p, q, r) refl
+ends s memory authority budget c u m state steps left wrong e h =
+    absurd (type-soundness (shapesOf s) (worldOf s authority) (λ _. refl) .never-wrong c (accepted-shape s c u) (memoryOf memory)
+    (memories-exactly s .values memory m .typed) budget e)
+
+pub runs-accepted : (ws t memory : List ℕ) (authority budget state steps : ℕ) (left : List ℕ) → Runs ws t memory authority budget state steps left
+    → RunsAccepted ws t memory authority budget (record { answer = state; steps = steps; memory = left })
+unfolding memoryRefusal
+runs-accepted ws t memory authority budget state steps left r = record {
+  ran = λ s T script a z.
+      ends s memory authority budget (a .command) (a .typed) z state steps left _ refl
+      (r .means s (countsOf s) (a .command) (T .form) (T .words) refl (a .source) (a .names) (a .lines)
+      (unrefused-length (locationCount s) (wellFormed s memory) memory z) (unrefused-formed (locationCount s) (wellFormed s memory) memory z));
+}
+
+-- ---- principals
+
+-- the test on the table's set of all principals
+strangers-in : (t : List ℕ) (s : Sheet) (g : ℕ) (b : Bool) → TableOf t s → within g (everyoneIn t) ≡ b → strangers s g ≡ cond b 0 3
+unfolding strangers
+strangers-in t s g b T h =
+    let e : everyoneIn t ≡ everyone (s .principals) = ap (λ (u : List ℕ). everyoneIn u) (T .words) ∙ everyone-in s in
+    ap (λ (x : ℕ). cond (within g x) 0 3) (sym e) ∙ ap (λ (x : Bool). cond x 0 3) h
+
+pub unless-3 : {A : Type 0} (refuse : ℕ → A) (t : List ℕ) (s : Sheet) (g : ℕ) (go : A) → TableOf t s → within g (everyoneIn t) ≡ false
+    → unless refuse (strangers s g) go ≡ refuse 3
+unfolding unless
+unless-3 refuse t s g go T h = rw (strangers-in t s g false T h) refl
+
+pub not-3 : {A : Type 0} (refuse : ℕ → A) (t : List ℕ) (s : Sheet) (g : ℕ) (go : A) → TableOf t s → within g (everyoneIn t) ≡ true
+    → unless refuse (strangers s g) go ≡ go
+not-3 refuse t s g go T h = goes refuse (strangers s g) go (strangers-in t s g true T h)
+
+module _ (script t memory : List ℕ) (authority budget : ℕ) where
+  -- what is left to do where no principal is strange
+  onward : Sheet → Ran
+  onward s =
+      onScript (refusedRun memory) (scriptOf (countsOf s) script) (λ c.
+      unless (refusedRun memory) (untyped s c) (
+      unless (refusedRun memory) (memoryRefusal s memory) (
+      acceptedRun s memory authority budget c)))
+
+  pub run-stranger : within authority (everyoneIn t) ≡ false → RunsOn script t memory authority budget (refusedRun memory 3)
+  run-stranger h = record { ran = λ s T. sym (unless-3 (refusedRun memory) t s authority _ T h) }
+
+  module _ (h : within authority (everyoneIn t) ≡ true) where
+    by-onward : (r : Ran) → ((s : Sheet) → TableOf t s → r ≡ onward s) → RunsOn script t memory authority budget r
+    unfolding onward
+    by-onward r f = record { ran = λ s T. f s T ∙ sym (not-3 (refusedRun memory) t s authority _ T h) }
+
+    module _ {number count : ℕ} {words : List ℕ} (n : NumbersScript script t number count words) where
+      -- 4, 5 and 6
+      pub run-numbered : (number ≡ 0 → ⊥) → RunsOn script t memory authority budget (refusedRun memory number)
+      unfolding onward numberOf onScript
+      run-numbered z = by-onward _ (λ s T. go s (scriptOf (countsOf s) script) (n .numbered s T))
+        where
+          go : (s : Sheet) (o : Option Cmd) → number ≡ onScript (λ k. k) o (untyped s)
+              → refusedRun memory number ≡ onScript (refusedRun memory) o (λ c. unless (refusedRun memory) (untyped s c) (
+              unless (refusedRun memory) (memoryRefusal s memory) (acceptedRun s memory authority budget c)))
+          go s none e = ap (refusedRun memory) e
+          go s (some c) e = ap (refusedRun memory) e ∙ sym (stops (refusedRun memory) (untyped s c) _ (λ w. z (e ∙ w)))
+
+      module _ (z : number ≡ 0) where
+        -- an accepted script: what is left to do is by the memory alone
+        by-memory : (s : Sheet) (T : TableOf t s)
+            → onward s ≡ unless (refusedRun memory) (memoryRefusal s memory) (acceptedRun s memory authority budget (n .accepted s T z .command))
+        unfolding onward onScript
+        by-memory s T = let a = n .accepted s T z in rw (a .is-its) (goes (refusedRun memory) (untyped s (a .command)) _ (a .typed))
+
+        -- 7 and 8
+        pub run-refused : (k : ℕ) → ((s : Sheet) → TableOf t s → k ≡ memoryRefusal s memory) → (k ≡ 0 → ⊥)
+            → RunsOn script t memory authority budget (refusedRun memory k)
+        run-refused k m w =
+            by-onward _ (λ s T. ap (refusedRun memory) (m s T) ∙ sym (by-memory s T ∙ stops (refusedRun memory) (memoryRefusal s memory) _ (λ v. w (m s T ∙ v))))
+
+        pub run-ends : {ws : List ℕ} (r : Ran) → ((s : Sheet) → TableOf t s → 0 ≡ memoryRefusal s memory) → ws ≡ take (count * 3) words
+            → RunsAccepted ws t memory authority budget r → RunsOn script t memory authority budget r
+        run-ends r m e ran =
+            by-onward r (λ s T.
+            let ran′ = rw e at ran in
+            ran′ .ran s T script (n .accepted s T z) (sym (m s T)) ∙ sym (by-memory s T ∙ goes (refusedRun memory) (memoryRefusal s memory) _ (sym (m s T))))
+
+-- ---- viewing
+
+-- a view that is not refused by 1 to 3: the refusal k of its slices, or the words
+left-by : (k : ℕ) (out view : List ℕ)
+    → record { answer = k; view = leaves k out view } ≡ unless (refusedView view) k (record { answer = 0; view = out })
+unfolding leaves unless
+left-by zero out view = refl
+left-by (suc k) out view = rw (ne-eqb (suc k) 0 (λ e. omega arith)) refl
+
+pub view-stranger : (t memory : List ℕ) (group : ℕ) (view : List ℕ) → within group (everyoneIn t) ≡ false → ViewsOn t memory group view 3 view
+view-stranger t memory group view h = record { viewed = λ s T. sym (unless-3 (refusedView view) t s group _ T h) }
+
+pub view-known : (t memory : List ℕ) (group : ℕ) (view : List ℕ) (r : ℕ) (left : List ℕ) → within group (everyoneIn t) ≡ true
+    → r ≡ viewRefusalIn t memory (length view) → left ≡ viewLeavesIn t group memory view → ViewsOn t memory group view r left
+unfolding viewLeaves
+view-known t memory group view r left h p q = record { viewed = on }
+  where
+    on : (s : Sheet) → TableOf t s → record { answer = r; view = left }
+        ≡ unless (refusedView view) (strangers s group) (unless (refusedView view) (viewRefusal s memory (length view)) (record { answer = 0; view = viewWords s group memory }))
+    on s T =
+        let a = table-agrees s (T .form) in
+        let e : r ≡ viewRefusal s memory (length view) = p ∙ ap (λ (u : List ℕ). viewRefusalIn u memory (length view)) (T .words) ∙ a .view-refusal memory (length view) in
+        let f : left ≡ viewLeaves s group memory view = q ∙ ap (λ (u : List ℕ). viewLeavesIn u group memory view) (T .words) ∙ a .view-leaves group memory view in
+        rw (e, f) (left-by (viewRefusal s memory (length view)) (viewWords s group memory) view)
+        ∙ sym (not-3 (refusedView view) t s group _ T h)

@@ -1,0 +1,9 @@
+-- `stages::check_on` meets its contract. Assumes nothing.
+use borrow.Author.Needs.{needs}
+use Rattle.stages.proofs.check_on.Statement.{statement}
+use Rattle.stages.proofs.check_on.Tie as tie
+
+pub check-on-spec : {M : Type 1} → statement M
+check-on-spec = tie.close (tie.spec
+    (λ c κs. search needs)  -- number-of-requires
+    (λ c. record { checked = c .number-of .ensures .numbered }))  -- returns

@@ -1,0 +1,81 @@
+-- The three calls, as functions of what they are given: the answer, the steps, and what every lent slice then holds.
+-- The numbers are the scope's ("From the input", "From the state"); the first that applies, in the order judged, is given (simp, Judgements.antt).
+use mathlib.Core.Bool.{cond}
+use mathlib.Core.List.{List}
+use mathlib.Core.Option.{Option, none, some}
+use Prim.Native.Nat.{ℕ, zero, suc, _-_}
+use lib.ListN.{length}
+use Rattle.sets.specs.Sets.{within, everyone}
+use Rattle.language.specs.Syntax.{Cmd}
+use Rattle.language.specs.Transition.{Out, done, spent, over, wrong, iterate}
+use Rattle.language.specs.Typing.{refusal}
+use Rattle.sheet.specs.Sheet.{Sheet, locationCount}
+use Rattle.sheet.specs.Meaning.{labelsOver, declarationsOf, worldOf}
+use Rattle.sheet_text.specs.Sheets.{Answer, malformed, repeating, accepted, sheetOf}
+use Rattle.script_text.specs.Counts.{countsOf}
+use Rattle.script_text.specs.Script.{scriptOf}
+use Rattle.memory.specs.Memory.{memoryOf, wordsOf, memoryRefusal}
+use Rattle.memory.specs.View.{viewWords, viewRefusal}
+use Rattle.stages.specs.Answers.{Ran, refusedRun, Viewed, refusedView}
+
+-- ---- in the order judged; `refuse` says what a number leads to. (7 and 8 are crate memory's: memoryRefusal, viewRefusal.)
+
+-- 1, 2
+unfoldable pub onSheet : {A : Type 0} → (ℕ → A) → Answer → (Sheet → A) → A
+onSheet refuse malformed go = refuse 1
+onSheet refuse repeating go = refuse 2
+onSheet refuse (accepted s) go = go s
+
+-- a number that refuses, or 0
+unfoldable pub unless : {A : Type 0} → (ℕ → A) → ℕ → A → A
+unless refuse zero go = go
+unless refuse (suc k) go = refuse (suc k)
+
+-- 3: the authority or group holds a principal not on the sheet
+unfoldable pub strangers : Sheet → ℕ → ℕ
+strangers s group = cond (within group (everyone (s .principals))) 0 3
+
+-- 4
+unfoldable pub onScript : {A : Type 0} → (ℕ → A) → Option Cmd → (Cmd → A) → A
+onScript refuse none go = refuse 4
+onScript refuse (some c) go = go c
+
+-- 5, 6: no derivation by figures 4 and 5, over the labels of the sheet's principals
+unfoldable pub untyped : Sheet → Cmd → ℕ
+untyped s c = refusal (labelsOver (s .principals)) (declarationsOf s) c
+
+-- The number of a script on a sheet: 4, 5 or 6, or 0 where it is accepted.
+unfoldable pub numberOf : Sheet → List ℕ → ℕ
+numberOf s script = onScript (λ k. k) (scriptOf (countsOf s) script) (λ c. untyped s c)
+
+-- ---- the calls
+
+-- simp_check: 0, 1, 2, 4, 5 or 6
+unfoldable pub checkOf : List ℕ → List ℕ → ℕ
+checkOf sheet script = onSheet (λ k. k) (sheetOf sheet) (λ s. numberOf s script)
+
+-- A run on n locations that ended so. Done, it leaves the words of its last memory; else the memory is as it was.
+-- (`wrong` is no outcome of an accepted script: crate language's TypeSoundness.)
+unfoldable pub ended : ℕ → ℕ → List ℕ → Out → Ran
+ended n budget memory (done M left) = record { answer = 0; steps = budget - left; memory = wordsOf n M }
+ended n budget memory spent = record { answer = 9; steps = budget; memory = memory }
+ended n budget memory (over left) = record { answer = 10; steps = budget - left; memory = memory }
+ended n budget memory wrong = record { answer = 9; steps = budget; memory = memory }
+
+-- simp_run
+unfoldable pub runOf : List ℕ → List ℕ → List ℕ → ℕ → ℕ → Ran
+runOf sheet script memory authority budget =
+    onSheet (refusedRun memory) (sheetOf sheet) (λ s.
+    unless (refusedRun memory) (strangers s authority) (
+    onScript (refusedRun memory) (scriptOf (countsOf s) script) (λ c.
+    unless (refusedRun memory) (untyped s c) (
+    unless (refusedRun memory) (memoryRefusal s memory) (
+    ended (locationCount s) budget memory (iterate (worldOf s authority) budget (memoryOf memory) c))))))
+
+-- simp_view
+unfoldable pub viewOf : List ℕ → List ℕ → ℕ → List ℕ → Viewed
+viewOf sheet memory group view =
+    onSheet (refusedView view) (sheetOf sheet) (λ s.
+    unless (refusedView view) (strangers s group) (
+    unless (refusedView view) (viewRefusal s memory (length view)) (
+    record { answer = 0; view = viewWords s group memory })))

@@ -1,0 +1,79 @@
+-- What the stages of a call ensure, on a sheet that isn't refused and whose table is given.
+use mathlib.Core.Path.{_≡_}
+use mathlib.Core.Bool.{true, false}
+use mathlib.Core.List.{List, []}
+use mathlib.Core.Option.{Option, none, some}
+use Prim.Native.Nat.{ℕ, _*_}
+use lib.ListN.{length, take}
+use Rattle.language.specs.Syntax.{Cmd}
+use Rattle.language.specs.Transition.{iterate}
+use Rattle.script.specs.Lines.{Source, cmdLines}
+use Rattle.script.specs.Internal.Code.{code}
+use Rattle.script.specs.Names.{named}
+use Rattle.sheet.specs.Sheet.{Sheet, formed, repeats, locationCount}
+use Rattle.sheet.specs.Internal.Tables.{tableOf}
+use Rattle.sheet.specs.Meaning.{worldOf}
+use Rattle.script_text.specs.Counts.{countsOf}
+use Rattle.script_text.specs.Script.{scriptOf}
+use Rattle.script_text.specs.Internal.Decoded.{codeWords}
+use Rattle.script_text.specs.declared.Answer.{Answer}
+use Rattle.script_text.specs.declared.Answer.the-variants.{Read, Refused}
+use Rattle.memory.specs.Memory.{memoryOf, memoryRefusal}
+use Rattle.memory.specs.View.{viewWords, viewRefusal}
+use Rattle.stages.specs.Answers.{Ran, refusedRun, refusedView}
+use Rattle.stages.specs.Calls.{unless, strangers, onScript, untyped, numberOf, ended}
+
+-- t is the table of the sheet s, which is of the form and repeats nothing
+pub record TableOf (t : List ℕ) (s : Sheet) : Type 0 where
+  pub form : formed s ≡ true
+  pub once : repeats s ≡ false
+  pub words : t ≡ tableOf s
+
+-- The text of the script was refused, or read, and ws is its code.
+pub data CodeOf (s : Sheet) (ws : List ℕ) : Answer → Option Cmd → Type 0 where
+  no-code : CodeOf s ws Refused none
+  its-code : {c : Cmd} → Source c → named (countsOf s) 0 c ≡ true → ws ≡ code (cmdLines c []) → CodeOf s ws Read (some c)
+
+pub record Judges (a : Answer) (ws t : List ℕ) (r : ℕ) : Type 0 where
+  pub judged : (s : Sheet) → TableOf t s → (o : Option Cmd) → CodeOf s ws a o → r ≡ onScript (λ k. k) o (untyped s)
+
+-- ws is the code of a script that is accepted on a sheet
+pub record AcceptedCode (s : Sheet) (script ws : List ℕ) : Type 0 where
+  pub command : Cmd
+  pub is-its : scriptOf (countsOf s) script ≡ some command
+  pub source : Source command
+  pub names : named (countsOf s) 0 command ≡ true
+  pub typed : untyped s command ≡ 0
+  pub lines : ws ≡ code (cmdLines command [])
+
+-- r is the script's number; where it is 0, the script has so many lines, and the words hold their code.
+pub record NumbersScript (script t : List ℕ) (r count : ℕ) (words : List ℕ) : Type 0 where
+  pub whole : length words ≡ codeWords
+  pub numbered : (s : Sheet) → TableOf t s → r ≡ numberOf s script
+  pub accepted : (s : Sheet) → TableOf t s → r ≡ 0 → AcceptedCode s script (take (count * 3) words)
+
+-- the run of an accepted script from a memory that isn't refused
+abbrev pub acceptedRun : Sheet → List ℕ → ℕ → ℕ → Cmd → Ran
+acceptedRun s memory authority budget c = ended (locationCount s) budget memory (iterate (worldOf s authority) budget (memoryOf memory) c)
+
+pub record RunsAccepted (ws t memory : List ℕ) (authority budget : ℕ) (r : Ran) : Type 0 where
+  pub ran : (s : Sheet) → TableOf t s → (script : List ℕ) (a : AcceptedCode s script ws) → memoryRefusal s memory ≡ 0
+      → r ≡ acceptedRun s memory authority budget (a .command)
+
+pub record ChecksOn (script t : List ℕ) (r : ℕ) : Type 0 where
+  pub checked : (s : Sheet) → TableOf t s → r ≡ numberOf s script
+
+pub record RunsOn (script t memory : List ℕ) (authority budget : ℕ) (r : Ran) : Type 0 where
+  pub ran : (s : Sheet) → TableOf t s
+      → r ≡ unless (refusedRun memory) (strangers s authority) (
+      onScript (refusedRun memory) (scriptOf (countsOf s) script) (λ c.
+      unless (refusedRun memory) (untyped s c) (
+      unless (refusedRun memory) (memoryRefusal s memory) (
+      acceptedRun s memory authority budget c))))
+
+pub record ViewsOn (t memory : List ℕ) (group : ℕ) (view : List ℕ) (answer : ℕ) (left : List ℕ) : Type 0 where
+  pub viewed : (s : Sheet) → TableOf t s
+      → record { answer = answer; view = left }
+      ≡ unless (refusedView view) (strangers s group) (
+      unless (refusedView view) (viewRefusal s memory (length view)) (
+      record { answer = 0; view = viewWords s group memory }))

@@ -1,11 +1,12 @@
 // Labels in effective form, by value: for each owner a set of readers and a set of writers.
 ghost use mathlib.Core.Path.{_≡_};
 ghost use Prim.Native.Nat.{_+_, _≤_};
+ghost use lib.Dec.{leb};
 ghost use lib.ListN.{length, getD};
 ghost use lib.Seq.{paste};
 ghost use Rattle.sets.specs.Sets.{within, meets, every};
 ghost use Rattle.labels.specs.Labels.{owners, openOf, policyOf, belowOf, joinOf, confidentialityOf, integrityOf, bottomOf, readsOf, writesOf};
-ghost use Rattle.labels.specs.Internal.Tables.{setsAt, labelAt, labelPut};
+ghost use Rattle.labels.specs.Internal.Tables.{labelSize, setsAt, labelAt, labelPut};
 use sets::Set;
 
 // A label has a place for each principal that a set has room for.
@@ -157,6 +158,11 @@ impl Label {
 pub fn label_at(table: &[Set], at: usize) -> Label
     ensures { λ r. ⌜ r ≡ labelAt (now (table .entry)) at ⌝ }
 {
+    if there(table, at) {
+        let readers = row_at(table, at);
+        let writers = row_at(table, at + OWNERS);
+        return Label { readers, writers };
+    }
     let readers = sets_at(table, at, 0);
     let writers = sets_at(table, at, OWNERS);
     Label { readers, writers }
@@ -193,16 +199,38 @@ fn meets_each(held: [Set; OWNERS], n: usize, group: Set) -> bool
     true
 }
 
-// Whether each set of x is contained in that of y at the same place.
+// Whether each set of x is contained in that of y at the same place. All places are tested, since a loop that always goes to its end
+// takes fewer instructions than one that may stop.
 fn contained_each(x: [Set; OWNERS], y: [Set; OWNERS]) -> bool
     ensures { λ r. ⌜ r ≡ every owners (λ o. within (getD x o 0) (getD y o 0)) ⌝ }
 {
+    let mut all = true;
     for o in 0..OWNERS {
-        if !sets::contained(x[o], y[o]) {
-            return false;
-        }
+        all = all & sets::contained(x[o], y[o]);
     }
-    true
+    all
+}
+
+// Whether a label's words, from `at` on, stand in the table.
+fn there(table: &[Set], at: usize) -> bool
+    ensures { λ r. ⌜ r ≡ leb (at + labelSize) (length (now (table .entry))) ⌝ }
+{
+    if table.len() < LABEL_SIZE {
+        return false;
+    }
+    at <= table.len() - LABEL_SIZE
+}
+
+// One set for each owner, from the word at `at` on.
+fn row_at(table: &[Set], at: usize) -> [Set; OWNERS]
+    requires { ⌜ at + owners ≤ length (now table) ⌝ }
+    ensures { λ r. ⌜ r ≡ setsAt (now (table .entry)) at ⌝ }
+{
+    let mut out = [0; OWNERS];
+    for o in 0..OWNERS {
+        out[o] = table[at + o];
+    }
+    out
 }
 
 // The word at `at + k`; 0 past the end of the table.
@@ -218,7 +246,7 @@ fn word_at(table: &[Set], at: usize, k: usize) -> Set
     table[at + k]
 }
 
-// One set for each owner, from the word at `at + skip` on.
+// The same, from the word at `at + skip` on, where not all words need stand in the table.
 fn sets_at(table: &[Set], at: usize, skip: usize) -> [Set; OWNERS]
     requires { ⌜ skip ≤ owners ⌝ }
     ensures { λ r. ⌜ r ≡ setsAt (now (table .entry)) (at + skip) ⌝ }

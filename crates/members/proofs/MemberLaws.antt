@@ -2,15 +2,18 @@
 use mathlib.Core.Path.{_≡_, refl, sym, ap, _∙_}
 use mathlib.Core.Bool.{Bool, true, false, cond}
 use mathlib.Core.List.{List}
-use Prim.Native.Nat.{ℕ, zero, suc, _+_, _-_, _<_, _≤_}
+use Prim.Native.Nat.{ℕ, zero, suc, _+_, _-_, _/_, _%_, _^_, _<_, _≤_}
+use lib.Dec.{eqb}
 use native.Mathlib.Numerals.{add-one}
+use native.Mathlib.Nat.{lt-of-lt-of-le}
 use native.Mathlib.Omega.{arith}
+use lib.Pow.{pow-mono}
 use native.Mathlib.Decide.{decLt}
 use borrow.Author.Tests.{lt-ltb, le-ltb}
 use Rattle.logic.specs.Booleans.{both}
 use Rattle.logic.proofs.BooleanLaws.{absurd-false, either-left, either-right, either-case}
 use Rattle.sets.specs.Sets.{member, union, single}
-use Rattle.sets.proofs.SetLaws.{member-union, member-single, member-single-self, member-empty}
+use Rattle.sets.proofs.SetLaws.{member-low, member-high, member-union, member-single, member-single-self, member-empty, member-beyond, some-member}
 use Rattle.labels.specs.declared.Label.{Label}
 use Rattle.labels.specs.Labels.{belowOf, joinOf, bottomOf, wholeOf, integrityOf}
 use Rattle.labels.proofs.OrderLaws.{below-refl, below-trans, below-antisym, join-left, join-right, join-least, join-whole, join-below}
@@ -121,6 +124,44 @@ module _ (t : List ℕ) where
   pub up-to-without : (m p : ℕ) → member p m ≡ false → joinUpTo t m p ≡ joinUpTo t m (p + 1)
   unfolding joinUpTo
   up-to-without m p h = rw (add-one p, h)
+
+  -- members past the last one add nothing
+  pub up-to-end : (m p n : ℕ) → p ≤ n → ((q : ℕ) → p ≤ q → member q m ≡ false) → joinUpTo t m n ≡ joinUpTo t m p
+  unfolding joinUpTo
+  up-to-end m p zero l h = let e : p ≡ 0 = omega arith in rw e refl
+  up-to-end m p (suc n) l h = on (decLt n p) (λ k. up-to-end m p n k h)
+    where
+      on : Dec (n < p) → (p ≤ n → joinUpTo t m n ≡ joinUpTo t m p) → joinUpTo t m (suc n) ≡ joinUpTo t m p
+      on (yes k) f = let e : p ≡ suc n = omega arith in rw e refl
+      on (no k) f = rw (h n (omega arith)) (f (omega arith))
+
+-- ---- what is left of the members m, from p on
+
+-- bit q of rest is member p + q
+abbrev pub Rest : ℕ → ℕ → ℕ → Type 0
+Rest m p rest = (q : ℕ) → member q rest ≡ member (p + q) m
+
+pub rest-first : (m p rest : ℕ) → Rest m p rest → member p m ≡ eqb (rest % 2) 1
+rest-first m p rest h = let z : p + 0 ≡ p = omega arith in ap (λ (q : ℕ). member q m) (sym z) ∙ sym (h 0) ∙ member-low rest
+
+pub rest-more : (m p rest : ℕ) → Rest m p rest → Rest m (p + 1) (rest / 2)
+rest-more m p rest h q =
+    let z : p + suc q ≡ p + 1 + q = omega arith in sym (member-high q rest) ∙ h (suc q) ∙ ap (λ (k : ℕ). member k m) z
+
+-- the members are below k where the set is below 2 ^ k
+pub rest-below : (m p rest k : ℕ) → Rest m p rest → m < 2 ^ k → (rest ≡ 0 → ⊥) → p < k
+rest-below m p rest k h l n = on (decLt p k)
+  where
+    on : Dec (p < k) → p < k
+    on (yes w) = w
+    on (no w) =
+        let s = some-member rest n in
+        absurd (absurd-false (sym (member-beyond (p + s .0) m (lt-of-lt-of-le l (pow-mono (omega arith)))) ∙ sym (h (s .0)) ∙ s .1))
+
+pub rest-none : (m p rest : ℕ) → Rest m p rest → rest ≡ 0 → (q : ℕ) → p ≤ q → member q m ≡ false
+rest-none m p rest h e q l =
+    let z : p + (q - p) ≡ q = omega arith in
+    ap (λ (k : ℕ). member k m) (sym z) ∙ sym (h (q - p)) ∙ ap (member (q - p)) e ∙ member-empty (q - p)
 
 pub label-there : (l : ℕ) → l < maxLabels → labelMember l ≡ single l
 unfolding labelMember

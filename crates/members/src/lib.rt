@@ -10,10 +10,8 @@ pub type Members = u64;
 // The least label: the join of nothing.
 pub const BOTTOM: Members = 0;
 
-// The most labels of a table, and the most members.
-const LABELS: u32 = 32;
-
-const MOST: u32 = 2 * LABELS;
+// The most labels of a table.
+const LABELS: u32 = sheet::MOST_LABELS;
 
 // {label l}; empty for a number that names no label.
 pub fn label(l: u32) -> Members
@@ -58,10 +56,14 @@ fn joined(table: &[u16], members: Members) -> Label
     ensures { λ r. ⌜ r ≡ joinIn (now (table .entry)) members ⌝ }
 {
     let mut out = Label::bottom(sheet::everyone(table));
-    for p in 0..MOST {
-        if (members >> p) % 2 == 1 {
+    let mut rest = members;
+    let mut p: u32 = 0;
+    while rest != 0 {
+        if rest % 2 == 1 {
             out = out.join(member(table, p));
         }
+        rest = rest / 2;
+        p += 1;
     }
     out
 }

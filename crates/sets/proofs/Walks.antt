@@ -5,6 +5,7 @@ use mathlib.Core.Bool.{Bool, true, false}
 use mathlib.Core.List.{List, [], _∷_, _++_}
 use Prim.Native.Nat.{ℕ, zero, suc, _+_, _<_, _≤_, suc-le-suc}
 use native.Mathlib.Nat.{not-suc-le-zero, le-of-suc-le-suc, zero-lt-suc}
+use native.Mathlib.Omega.{arith}
 use native.Mathlib.Numerals.{add-one}
 use lib.ListN.{length, getD, set, drop}
 use lib.Seq.{set-getD}
@@ -36,6 +37,13 @@ unfolding every
 every-false zero f i l e = absurd (not-suc-le-zero l)
 every-false (suc n) f zero l e = both-no-left (f 0) _ e
 every-false (suc n) f (suc i) l e = both-no-right (f 0) _ (every-false n (λ (k : ℕ). f (suc k)) i (le-of-suc-le-suc l) e)
+
+-- one place more
+pub every-last : (n : ℕ) (f : ℕ → Bool) → every (suc n) f ≡ both (every n f) (f n)
+every-last n f =
+    bool-ext (every (suc n) f) (both (every n f) (f n))
+    (λ h. both-true (every-true n f (λ i l. every-at (suc n) f h i (omega arith))) (every-at (suc n) f h n (omega arith)))
+    (λ h. every-true (suc n) f (λ i l. by-below i n (every-at n f (both-left _ (f n) h) i) (λ k. let e : n ≡ i = omega arith in rw e at (both-right (every n f) _ h))))
 
 -- two tests at each place are two walks of one test
 pub every-both : (n : ℕ) (f g : ℕ → Bool) → every n (λ (i : ℕ). both (f i) (g i)) ≡ both (every n f) (every n g)

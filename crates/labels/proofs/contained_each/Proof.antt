@@ -1,38 +1,52 @@
--- The loop: each set of x below o is contained in that of y.
+-- The loop: whether each set of x below o is contained in that of y.
 -- Assumes nothing.
-use mathlib.Core.Path.{_≡_, sym, _∙_}
-use mathlib.Core.Bool.{true}
-use Prim.Native.Nat.{ℕ, _≤_, _<_, _-_}
-use native.Mathlib.Nat.{not-suc-le-zero}
+use mathlib.Core.Path.{_≡_, refl, sym, ap, ap₂, _∙_}
+use mathlib.Core.Bool.{Bool}
+use mathlib.Core.List.{List}
+use Prim.Native.Nat.{ℕ, suc, _≤_, _-_}
+use native.Mathlib.Numerals.{add-one}
 use native.Mathlib.Omega.{arith}
 use lib.ListN.{getD}
-use borrow.Author.Count.{below-more}
-use borrow.Author.Tests.{not-true, not-false}
-use Rattle.sets.specs.Sets.{within}
-use Rattle.sets.proofs.Walks.{every-true, every-false}
+use Rattle.logic.specs.Booleans.{both}
+use Rattle.sets.specs.Sets.{within, every}
+use Rattle.sets.proofs.Walks.{every-last}
 use Rattle.labels.specs.Labels.{owners}
 use borrow.Author.Needs.{needs}
 use Rattle.labels.proofs.contained_each.Statement.{statement}
 use Rattle.labels.proofs.contained_each.Tie as tie
 
+abbrev Test : List ℕ → List ℕ → ℕ → Bool
+Test x y k = within (getD x k 0) (getD y k 0)
+
 abbrev Inv-loop : tie.InvT-loop
-Inv-loop x y o₀ o = (o ≤ owners) × ((k : ℕ) → k < o → within (getD x k 0) (getD y k 0) ≡ true)
+Inv-loop x y all₀ o₀ all o = (o ≤ owners) × (all ≡ every o (Test x y))
 
 abbrev μ-loop : tie.MeasureT-loop
-μ-loop x y o₀ o = owners - o
+μ-loop x y all₀ o₀ all o = owners - o
+
+loop-holds : tie.Need-loop-holds Inv-loop μ-loop
+unfolding every
+loop-holds c = (search needs, refl)
+
+loop-again : tie.Need-loop-again Inv-loop μ-loop
+unfolding both
+loop-again c =
+    let l = c .before .before .loop in
+    let a = c .before .before .before .args in
+    let f = Test (a .t1) (a .t2) in
+    (search needs, ap₂ both (l .inv .1) (c .contained .ensures) ∙ sym (every-last (l .o) f) ∙ ap (λ (n : ℕ). every n f) (sym (add-one (l .o))))
 
 pub contained-each-spec : {M : Type 1} → statement M
 contained-each-spec = tie.close (tie.spec
     Inv-loop
     μ-loop
-    (λ c. (search needs, λ k l. absurd (not-suc-le-zero l)))  -- loop-holds
+    loop-holds
     (λ c. search needs)  -- mul-contained
     (λ c. search needs)  -- array-read-contained
     (λ c. search needs)  -- mul-contained-2
     (λ c. search needs)  -- array-read-contained-2
     (λ c κs. search needs)  -- contained-requires
-    (λ c. sym (every-false _ _ (c .before .before .before .loop .o) (omega arith) (sym (c .before .contained .ensures) ∙ not-true _ (c .if1 .taken))))  -- returns
     (λ c. search needs)  -- add-o
     (λ c. search needs)  -- loop-less
-    (λ c. (search needs, below-more _ _ (c .before .before .before .loop .inv .1) (sym (c .before .contained .ensures) ∙ not-false _ (c .if1 .left))))  -- loop-again
-    (λ c. sym (every-true _ _ (λ k l. c .before .loop .inv .1 k (omega arith)))))  -- returns-2
+    loop-again
+    (λ c. let e : c .before .loop .o ≡ owners = omega arith in let a = c .before .before .args in c .before .loop .inv .1 ∙ ap (λ (n : ℕ). every n (Test (a .t1) (a .t2))) e))  -- returns

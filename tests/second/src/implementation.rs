@@ -1,4 +1,4 @@
-//! The implementations that tests go through: this one, and the library where it is linked.
+//! The implementations that tests go through: this one, the lean one, and the library where it is linked.
 
 use crate::answer::Outcome;
 
@@ -18,6 +18,13 @@ pub struct Implementation {
 pub const SECOND: Implementation =
     Implementation { name: "second", check: crate::check, run: crate::run, view: crate::view };
 
+pub const LEAN: Implementation = Implementation {
+    name: "lean",
+    check: crate::lean::check,
+    run: crate::lean::run,
+    view: crate::lean::view,
+};
+
 #[cfg(library)]
 pub const LIBRARY: Implementation = Implementation {
     name: "library",
@@ -28,9 +35,9 @@ pub const LIBRARY: Implementation = Implementation {
 
 /// Every implementation that is there.
 #[cfg(library)]
-pub const ALL: &[Implementation] = &[SECOND, LIBRARY];
+pub const ALL: &[Implementation] = &[SECOND, LEAN, LIBRARY];
 #[cfg(not(library))]
-pub const ALL: &[Implementation] = &[SECOND];
+pub const ALL: &[Implementation] = &[SECOND, LEAN];
 
 /// The implementation that property tests are about: the library where it is linked.
 #[cfg(library)]

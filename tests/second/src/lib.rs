@@ -1,7 +1,8 @@
 //! A second implementation of SImp, written from the scope and the paper alone.
 //!
 //! Values, types, expressions and commands are trees, labels are tables of truth values, and a run
-//! is a sequence of the transitions of figure 3. Nothing here is made for speed.
+//! is a sequence of the transitions of figure 3. Nothing here is made for speed, but for `lean`: the
+//! same calls as one would ship them, which the library is measured against.
 
 pub mod answer;
 pub mod evaluate;
@@ -9,6 +10,7 @@ pub mod flow;
 pub mod generate;
 pub mod implementation;
 pub mod label;
+pub mod lean;
 pub mod library;
 pub mod machine;
 pub mod memory;

@@ -1,11 +1,12 @@
-//! The library against the second implementation, on generated cases.
+//! The lean version, and the library where it is linked, against the second implementation, on
+//! generated cases.
 //!
-//! Both must agree in answer, steps and every word of every slice, refused calls included.
+//! They must agree in answer, steps and every word of every slice, refused calls included.
 
 use crate::common::case_count;
 use crate::fenced::Fenced;
 use second::generate::case::{case, Case};
-use second::implementation::{Implementation, LIBRARY, SECOND};
+use second::implementation::{Implementation, SECOND};
 use second::Outcome;
 
 /// Everything that the three calls of a case hand back.
@@ -53,20 +54,18 @@ fn shown(case: &Case) -> String {
     )
 }
 
-#[test]
-fn the_library_agrees_with_the_second_implementation() {
+fn agrees_with_the_second_implementation(tested: &Implementation) {
     for seed in 0..case_count() {
         let case = case(seed);
         let expected = results(&SECOND, &case);
-        let got = results(&LIBRARY, &case);
+        let got = results(tested, &case);
         assert!(got.intact, "seed {seed}: written beside a slice\n{}", shown(&case));
-        assert_eq!(got, expected, "seed {seed} (library, then second)\n{}", shown(&case));
+        assert_eq!(got, expected, "seed {seed} ({}, then second)\n{}", tested.name, shown(&case));
     }
 }
 
 /// The same case after its run: the memory left by one call is what the next is lent.
-#[test]
-fn the_library_agrees_on_the_memory_that_a_run_leaves() {
+fn agrees_on_the_memory_that_a_run_leaves(tested: &Implementation) {
     let mut done = 0;
     for seed in 0..case_count() / 4 {
         let mut case = case(seed);
@@ -78,7 +77,36 @@ fn the_library_agrees_on_the_memory_that_a_run_leaves() {
         done += 1;
         let expected = results(&SECOND, &case);
         assert_ne!(expected.run.answer, 8, "seed {seed}: a run leaves a well-formed memory");
-        assert_eq!(results(&LIBRARY, &case), expected, "seed {seed}\n{}", shown(&case));
+        assert_eq!(results(tested, &case), expected, "seed {seed}\n{}", shown(&case));
     }
     assert!(done * 10 > case_count() / 4, "{done} runs were done");
+}
+
+mod lean {
+    use second::implementation::LEAN;
+
+    #[test]
+    fn agrees_with_the_second_implementation() {
+        super::agrees_with_the_second_implementation(&LEAN);
+    }
+
+    #[test]
+    fn agrees_on_the_memory_that_a_run_leaves() {
+        super::agrees_on_the_memory_that_a_run_leaves(&LEAN);
+    }
+}
+
+#[cfg(library)]
+mod library {
+    use second::implementation::LIBRARY;
+
+    #[test]
+    fn agrees_with_the_second_implementation() {
+        super::agrees_with_the_second_implementation(&LIBRARY);
+    }
+
+    #[test]
+    fn agrees_on_the_memory_that_a_run_leaves() {
+        super::agrees_on_the_memory_that_a_run_leaves(&LIBRARY);
+    }
 }

@@ -6,7 +6,6 @@ mod bounds;
 mod cases;
 mod common;
 mod coverage;
-#[cfg(library)]
 mod differential;
 mod fenced;
 #[cfg(programs)]

@@ -1,0 +1,51 @@
+//! A script as rows, one for each line, in prefix order.
+
+use super::list::List;
+
+pub const MOST_LINES: usize = 512;
+pub const MOST_CASES: usize = 8;
+
+pub type Script = List<Row, MOST_LINES>;
+
+/// A line. The first operand follows it; where it has another, the row says where that starts.
+#[derive(Clone, Copy)]
+pub enum Row {
+    Skip,
+    Seq {
+        second: u16,
+    },
+    Assign {
+        location: u8,
+    },
+    While {
+        body: u16,
+    },
+    /// `depth` cases stand around this one.
+    Case {
+        depth: u8,
+        left: u16,
+        right: u16,
+    },
+    Integer(u32),
+    Location(u8),
+    /// The value bound by the case with `depth` cases around it.
+    Bound {
+        depth: u8,
+    },
+    Plus {
+        second: u16,
+    },
+    Left {
+        ty: u8,
+    },
+    Right {
+        ty: u8,
+    },
+    Pack {
+        label: u8,
+    },
+    Unpack {
+        ty: u8,
+        label: u8,
+    },
+}

@@ -1,6 +1,6 @@
 //! The named workloads of the benchmark.
 
-use crate::answer::{Outcome, DONE};
+use crate::answer::{Outcome, Refusal, DONE};
 use crate::implementation::Implementation;
 
 /// The arguments of a run and of the view of the memory it leaves, and the outcome of the run.
@@ -28,17 +28,37 @@ pub fn all() -> Vec<Workload> {
     ]
 }
 
+/// No line of a script.
+const UNFORMED: &[u8] = b"?\n";
+
 impl Workload {
-    /// One run and one view. Gives the view.
-    pub fn carry_out(&self, implementation: &Implementation) -> Vec<u32> {
+    /// The number of words of the memory and of a view.
+    pub fn words(&self) -> usize {
+        self.memory.len()
+    }
+
+    /// A check that ends where the sheet is read.
+    pub fn sheet(&self, implementation: &Implementation) {
+        let answer = (implementation.check)(self.sheet.as_bytes(), UNFORMED);
+        assert_eq!(answer, Refusal::ScriptForm.number(), "the sheet of {}", self.name);
+    }
+
+    pub fn check(&self, implementation: &Implementation) {
+        let answer = (implementation.check)(self.sheet.as_bytes(), self.script.as_bytes());
+        assert_eq!(answer, DONE, "the check of {}", self.name);
+    }
+
+    /// Leaves the memory of the run in `memory`.
+    pub fn run(&self, implementation: &Implementation, memory: &mut [u32]) {
         let (sheet, script) = (self.sheet.as_bytes(), self.script.as_bytes());
-        let mut memory = self.memory.clone();
-        let outcome = (implementation.run)(sheet, script, &mut memory, self.authority, self.budget);
+        memory.copy_from_slice(&self.memory);
+        let outcome = (implementation.run)(sheet, script, memory, self.authority, self.budget);
         assert_eq!(outcome, self.outcome, "the run of {}", self.name);
-        let mut view = vec![0; memory.len()];
-        let answer = (implementation.view)(sheet, &memory, self.group, &mut view);
+    }
+
+    pub fn view(&self, implementation: &Implementation, memory: &[u32], view: &mut [u32]) {
+        let answer = (implementation.view)(self.sheet.as_bytes(), memory, self.group, view);
         assert_eq!(answer, DONE, "the view of {}", self.name);
-        view
     }
 }
 

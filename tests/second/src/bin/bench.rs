@@ -1,10 +1,10 @@
-//! Runs one workload, to be measured from outside:
+//! Carries out one call of a workload again and again, to be measured from outside:
 //!
 //! ```text
-//! bench second|library WORKLOAD REPEATS
+//! bench second|lean|library WORKLOAD sheet|check|run|view REPEATS
 //! ```
 //!
-//! The workloads are those of `workload.rs`. Each repeat is one run and one view, whose answers are checked. `library` is there where the
+//! The workloads are those of `workload.rs`. Answers are checked. `library` is there where the
 //! package was built with `SIMP_LIB_DIR` set.
 
 use second::implementation::ALL;
@@ -12,7 +12,7 @@ use second::workload;
 use std::hint::black_box;
 use std::process::ExitCode;
 
-const USAGE: &str = "usage: bench second|library WORKLOAD REPEATS";
+const USAGE: &str = "usage: bench second|lean|library WORKLOAD sheet|check|run|view REPEATS";
 
 fn main() -> ExitCode {
     let arguments: Vec<String> = std::env::args().skip(1).collect();
@@ -26,8 +26,8 @@ fn main() -> ExitCode {
 }
 
 fn carry_out(arguments: &[String]) -> Result<(), String> {
-    let [implementation, workload, repeats] = arguments else {
-        return Err("three arguments are needed".to_string());
+    let [implementation, workload, call, repeats] = arguments else {
+        return Err("four arguments are needed".to_string());
     };
     let implementation = ALL
         .iter()
@@ -38,8 +38,18 @@ fn carry_out(arguments: &[String]) -> Result<(), String> {
         .find(|w| w.name == *workload)
         .ok_or(format!("no workload {workload}"))?;
     let repeats: u32 = repeats.parse().map_err(|_| format!("{repeats} is no number"))?;
+    let (mut memory, mut view) = (vec![0; workload.words()], vec![0; workload.words()]);
+    workload.run(implementation, &mut memory);
     for _ in 0..repeats {
-        black_box(workload.carry_out(black_box(implementation)));
+        let implementation = black_box(implementation);
+        match call.as_str() {
+            "sheet" => workload.sheet(implementation),
+            "check" => workload.check(implementation),
+            "run" => workload.run(implementation, &mut memory),
+            "view" => workload.view(implementation, &memory, &mut view),
+            _ => return Err(format!("no call {call}")),
+        }
+        black_box((&mut memory, &mut view));
     }
     Ok(())
 }

@@ -5,13 +5,13 @@ use mathlib.Core.List.{List, [], _∷_}
 use mathlib.Core.Option.{Option, none, some}
 use Prim.Native.Nat.{ℕ, _≤_, _<_}
 use native.Mathlib.Omega.{arith}
-use lib.ListN.{length, drop, length-drop, drop-of-length-le}
+use lib.ListN.{length, drop, length-drop, drop-of-length-le, length-replicate}
 use Rattle.text.specs.Reading.{fits}
 use Rattle.text.specs.Reading.Read.{got, bad}
 use Rattle.text.specs.Lines.{front}
 use Rattle.text.proofs.Lines.{all-none, all-more, all-bad}
 use Rattle.sheet.specs.Sheet.{Sheet, typeCount, labelCount}
-use Rattle.sheet.specs.Internal.Tables.{typesIn, labelsIn}
+use Rattle.sheet.specs.Internal.Tables.{tableWords, typesIn, labelsIn}
 use Rattle.sheet.proofs.FormLaws.{formed-facts, type-count}
 use Rattle.sheet.proofs.TableLaws.{types-in, labels-in}
 use Rattle.sheet_text.specs.declared.line.Line.{Line}
@@ -19,15 +19,16 @@ use Rattle.sheet_text.specs.declared.draft.Draft.{Draft}
 use Rattle.sheet_text.specs.declared.draft.Draft.the-variants.{Formed, Refused}
 use Rattle.sheet_text.specs.Reading.{lineOf, linesOf}
 use Rattle.sheet_text.specs.Internal.Building.{begin, addLineOn, addLines, build}
-use Rattle.sheet_text.specs.Sheets.{buildRead, sheetRead, judged}
+use Rattle.sheet_text.specs.Sheets.{buildRead, sheetRead, Answer, malformed, repeating, accepted, judged, sheetOf}
 use Rattle.sheet_text.specs.declared.Verdict.the-variants.{Accepted, Malformed, Repeats}
-use Rattle.sheet_text.specs.Internal.Decoded.{refusedBy, decodedSheet}
+use Rattle.sheet_text.specs.Internal.Decoded.{Decoded, refusedBy, decodedSheet}
 use Rattle.sheet_text.specs.Internal.Drafts.{DraftHolds, FormedIf, stepsRead}
 use Rattle.sheet_text.specs.Internal.Repeats.{repeatsIn}
 use Rattle.sheet_text.proofs.LineLaws.{sheet-lines}
 use Rattle.sheet_text.proofs.DraftLaws.{refused-formed}
+use Rattle.sheet_text.proofs.TableGrowth.{table-long}
 use Rattle.sheet_text.proofs.RepeatFinds.{repeats-in}
-use Rattle.sheet_text.proofs.Theorems.{sheet-in-sound}
+use Rattle.sheet_text.proofs.Theorems.{sheet-in-sound, accepted-exact}
 
 -- ---- the lines that are left, at a place of a text
 
@@ -108,3 +109,12 @@ module _ (d : Draft) (t : List ℕ) where
     answer-accepted none f e r = refused-formed d k e h
     answer-accepted (some s) f e r =
         rw (sym (repeats-in s f) ∙ ap repeatsIn (sym (e .1)) ∙ r) (ap (λ (t : List ℕ). record { verdict = Accepted; table = t }) (e .1))
+
+-- the table that a text is answered has all its words
+pub decoded-long : (t : List ℕ) (d : Decoded) → d ≡ decodedSheet (sheetOf t) → length (d .table) ≡ tableWords
+decoded-long t d e = ap (λ (x : Decoded). length (x .table)) e ∙ at (sheetOf t) refl
+  where
+    at : (a : Answer) → sheetOf t ≡ a → length (decodedSheet a .table) ≡ tableWords
+    at malformed p = unfold decodedSheet refusedBy in (length-replicate {A = ℕ} tableWords 0)
+    at repeating p = unfold decodedSheet refusedBy in (length-replicate {A = ℕ} tableWords 0)
+    at (accepted s) p = unfold decodedSheet in (table-long s (accepted-exact t s .0 p .0 .is-formed))

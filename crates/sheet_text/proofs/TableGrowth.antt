@@ -16,7 +16,7 @@ use Rattle.labels.proofs.TableLaws.{length-words, put-middle}
 use Rattle.sets.proofs.Walks.{length-tab}
 use Rattle.sheet.specs.Sheet.{Sum, Location, Sheet, typeCount, labelsOf, labelNo, labelCount, locationCount, formed}
 use Rattle.sheet.specs.Padding.{padded}
-use Rattle.sheet.specs.Internal.Tables.{pairWords, partWords, locationWords, labelsWords, tableOf, labelIn, givenParts, typeParts}
+use Rattle.sheet.specs.Internal.Tables.{pairWords, partWords, locationWords, labelsWords, tableOf, tableWords, labelIn, givenParts, typeParts}
 use Rattle.sheet.proofs.FormLaws.{formed-facts, type-count, parts-count}
 use Rattle.sheet.proofs.Words.{length-padded, length-pairs}
 use Rattle.sheet.proofs.LabelLaws.{label-in}
@@ -211,6 +211,13 @@ module _ (s : Sheet) (fm : formed s ≡ true) where
       length-padded 128 (locationWords (s .locations))
       (omega (arith, length-pairs (λ (x : Location). x .type) (λ (x : Location). x .label) (s .locations), facts .few-locations)) in
       omega (arith, length-append (heading s) (parts ++ block), length-append parts block)
+
+  pub table-long : length (tableOf s) ≡ tableWords
+  table-long =
+      let n = s .principals in
+      let fits : length (wordsOf n (s .labels)) ≤ 1024 = omega (arith, words-long n (s .labels), formed-facts s fm .few-labels) in
+      ap length (from-front s) ∙ length-append (front s) (padded 1024 (wordsOf n (s .labels)))
+      ∙ omega (arith, front-long, length-padded 1024 (wordsOf n (s .labels)) fits)
 
   pub label-table : labelCount s < 32
       → set (labelPut (tableOf s) (200 + labelSize * labelCount s) (openOf (s .principals) (everyone (s .principals)))) 3 (labelCount s + 1)

@@ -4,8 +4,6 @@ mod draft; // draft.rt: from lines to the table
 mod repeat; // repeat.rt: whether a table repeats a type or a label
 
 ghost use mathlib.Core.Path.{_≡_};
-ghost use lib.ListN.{replicate};
-ghost use Rattle.sheet.specs.Internal.Tables.{tableWords};
 ghost use Rattle.sheet_text.specs.Sheets.{sheetOf};
 ghost use Rattle.sheet_text.specs.Internal.Decoded.{decodedSheet};
 use draft::Draft;
@@ -20,17 +18,11 @@ pub enum Verdict {
     Repeats,
 }
 
-// The answer to a text: the sheet's table, or zeros for a refused text.
-pub struct Decoded {
-    pub verdict: Verdict,
-    pub table: [u16; WORDS],
-}
-
-// Fills a table of zeros with the sheet of a text, or leaves zeros where the text is refused.
-fn fill(text: &[u8], table: &mut [u16; WORDS]) -> Verdict
-    requires { ⌜ now table ≡ replicate tableWords 0 ⌝ }
+// The verdict on a sheet's text. The lent table becomes the sheet's, or zeros where the text is refused, whatever it held.
+pub fn read(text: &[u8], table: &mut [u16; WORDS]) -> Verdict
     ensures { λ r. ⌜ record { verdict = r; table = now (table .exit) } ≡ decodedSheet (sheetOf (now (text .entry))) ⌝ }
 {
+    *table = [0u16; WORDS];
     let Draft::Formed(_) = draft_of(text, table) else {
         *table = [0u16; WORDS];
         return Verdict::Malformed;
@@ -40,13 +32,4 @@ fn fill(text: &[u8], table: &mut [u16; WORDS]) -> Verdict
         return Verdict::Repeats;
     }
     Verdict::Accepted
-}
-
-// The verdict on a sheet's text, and its table.
-pub fn read(text: &[u8]) -> Decoded
-    ensures { λ r. ⌜ r ≡ decodedSheet (sheetOf (now (text .entry))) ⌝ }
-{
-    let mut table = [0u16; WORDS];
-    let verdict = fill(text, &mut table);
-    Decoded { verdict, table }
 }

@@ -4,10 +4,9 @@ use mathlib.Core.List.{List}
 use Prim.Native.Nat.{ℕ}
 use native.Mathlib.Omega.{arith}
 use Rattle.sheet.specs.Sheet.{Sheet}
-use Rattle.sheet_text.specs.declared.Decoded.{Decoded}
 use Rattle.sheet_text.specs.Sheets.{Answer, malformed, repeating, accepted, sheetOf}
 use Rattle.sheet_text.specs.Verdict.{sheetNumber}
-use Rattle.sheet_text.specs.Internal.Decoded.{refusedBy, decodedSheet}
+use Rattle.sheet_text.specs.Internal.Decoded.{Decoded, refusedBy, decodedSheet}
 use Rattle.sheet_text.proofs.Theorems.{accepted-exact}
 use Rattle.stages.specs.Calls.{onSheet}
 use Rattle.stages.specs.Internal.Stages.{TableOf}

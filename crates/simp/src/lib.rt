@@ -11,13 +11,13 @@ use stages::Outcome;
 pub extern "C" fn simp_check(sheet: &[u8], script: &[u8]) -> u8
     ensures { λ r. ⌜ r ≡ checkOf (now (sheet .entry)) (now (script .entry)) ⌝ }
 {
-    let read = sheet_text::read(sheet);
-    let verdict = read.verdict;
+    let mut table = [0u16; sheet::WORDS];
+    let verdict = sheet_text::read(sheet, &mut table);
     let answer = stages::sheet_number(verdict);
     if answer != stages::DONE {
         return answer;
     }
-    stages::check_on(script, &read.table)
+    stages::check_on(script, &table)
 }
 
 // Runs a script on a memory under an authority, for at most `budget` steps. The memory changes only if the run is done.
@@ -31,13 +31,13 @@ pub extern "C" fn simp_run(
 ) -> Outcome
     ensures { λ r. ⌜ record { answer = r .answer; steps = r .steps; memory = now (memory .exit) } ≡ runOf (now (sheet .entry)) (now (script .entry)) (now (memory .entry)) authority budget ⌝ }
 {
-    let read = sheet_text::read(sheet);
-    let verdict = read.verdict;
+    let mut table = [0u16; sheet::WORDS];
+    let verdict = sheet_text::read(sheet, &mut table);
     let answer = stages::sheet_number(verdict);
     if answer != stages::DONE {
         return stages::refused(answer);
     }
-    stages::run_on(script, &read.table, memory, authority, budget)
+    stages::run_on(script, &table, memory, authority, budget)
 }
 
 // What a group is shown of a memory. The view slice changes only if the answer is 0.
@@ -45,11 +45,11 @@ pub extern "C" fn simp_run(
 pub extern "C" fn simp_view(sheet: &[u8], memory: &[u32], group: Set, view: &mut [u32]) -> u8
     ensures { λ r. ⌜ record { answer = r; view = now (view .exit) } ≡ viewOf (now (sheet .entry)) (now (memory .entry)) group (now (view .entry)) ⌝ }
 {
-    let read = sheet_text::read(sheet);
-    let verdict = read.verdict;
+    let mut table = [0u16; sheet::WORDS];
+    let verdict = sheet_text::read(sheet, &mut table);
     let answer = stages::sheet_number(verdict);
     if answer != stages::DONE {
         return answer;
     }
-    stages::view_on(&read.table, memory, group, view)
+    stages::view_on(&table, memory, group, view)
 }

@@ -1,4 +1,6 @@
 -- `simp::simp_view` meets its contract. Assumes nothing.
+use mathlib.Core.Path.{sym}
+use Rattle.sheet_text.proofs.ReadLaws.{decoded-long}
 use Rattle.stages.specs.Calls.{viewOf}
 use Rattle.simp.proofs.SheetLaws.{sheet-refused, sheet-read}
 use borrow.Author.Needs.{needs}
@@ -9,10 +11,13 @@ returns : tie.Need-returns
 unfolding viewOf
 returns c = sheet-refused _ _ _ _ _ (c .before .before .read .ensures) (c .before .sheet-number .ensures) (c .if1 .taken)
 
+slice-aggregate-view-on : tie.Need-slice-aggregate-view-on
+slice-aggregate-view-on c = sym (decoded-long _ _ (c .before .before .before .read .ensures))
+
 returns-2 : tie.Need-returns-2
 unfolding viewOf
 returns-2 c =
-    let k = c .before .before .before .before .before .before .before in
+    let k = c .before .before .before .before .before in
     sheet-read _ _ _ _ _ (k .before .before .read .ensures) (k .before .sheet-number .ensures) _ (k .if1 .left) (c .before .before .view-on .ensures .viewed)
 
 pub simp-view-spec : {M : Type 1} → statement M
@@ -20,6 +25,7 @@ simp-view-spec = tie.close (tie.spec
     (λ c κs. search needs)  -- read-requires
     (λ c κs. search needs)  -- sheet-number-requires
     returns
+    slice-aggregate-view-on
     (λ c κs. search needs)  -- view-on-requires
     (λ c. search needs)  -- same-length
     returns-2)

@@ -1,11 +1,11 @@
--- `sheet_text::fill` meets its contract. Assumes nothing.
+-- `sheet_text::read` meets its contract. Assumes nothing.
 use mathlib.Core.Path.{sym, _∙_}
 use Rattle.sheet_text.specs.Sheets.{sheetOf}
 use Rattle.sheet_text.specs.Internal.Decoded.{refusedBy}
 use Rattle.sheet_text.proofs.ReadLaws.{formed-read, counts-few, answer-malformed, answer-repeating, answer-accepted}
 use borrow.Author.Needs.{needs}
-use Rattle.sheet_text.proofs.fill.Statement.{statement}
-use Rattle.sheet_text.proofs.fill.Tie as tie
+use Rattle.sheet_text.proofs.read.Statement.{statement}
+use Rattle.sheet_text.proofs.read.Tie as tie
 
 returns : tie.Need-returns
 unfolding sheetOf refusedBy
@@ -30,8 +30,8 @@ returns-3 c =
     answer-accepted _ _ _ (told .enum-told .given .1) _ (formed-read _) (told .before .before .draft-of .ensures)
     (sym (repeats .repeats .ensures) ∙ c .if1 .left)
 
-pub fill-spec : {M : Type 1} → statement M
-fill-spec = tie.close (tie.spec
+pub read-spec : {M : Type 1} → statement M
+read-spec = tie.close (tie.spec
     (λ c κs. search needs)  -- draft-of-requires
     (λ c. search needs)  -- enum-told
     (λ c. search needs)  -- enum-told-2

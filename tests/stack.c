@@ -25,15 +25,25 @@ static int answer;
 
 static const uint8_t *bytes(const char *text) { return (const uint8_t *)text; }
 
+/* A memory of the sheet: integer 0; a left package of label 0 whose content is as deep as a value can be; a left. */
+static void write_memory(uint32_t *memory)
+{
+    uint32_t *package = memory + SIMP_CELL, *deep = package + 3;
+    memset(memory, 0, LOCATIONS * SIMP_CELL * sizeof *memory);
+    memory[0] = 1;
+    package[0] = 3, package[1] = 5;
+    while (deep < package + SIMP_CELL - 2)
+        *deep++ = 3;
+    *deep = 1;
+    memory[2 * SIMP_CELL] = 3, memory[2 * SIMP_CELL + 1] = 1;
+}
+
 /* Makes the chosen call. Its arguments and slices are outside the measured stack. */
 static void *make(void *unused)
 {
     static uint32_t memory[LOCATIONS * SIMP_CELL], view[LOCATIONS * SIMP_CELL];
     (void)unused;
-    memset(memory, 0, sizeof memory);
-    memory[0] = 1;                                                /* integer 0 */
-    memory[SIMP_CELL] = 4, memory[SIMP_CELL + 1] = 2, memory[SIMP_CELL + 2] = 1;  /* right, error 1 */
-    memory[2 * SIMP_CELL] = 3, memory[2 * SIMP_CELL + 1] = 1;     /* left, integer 0 */
+    write_memory(memory);
     if (chosen == CHECK)
         answer = simp_check(bytes(sheet), strlen(sheet), bytes(script), strlen(script));
     if (chosen == RUN)
@@ -63,41 +73,60 @@ static size_t used(enum call call)
     return STACK - untouched;
 }
 
-/* A script: a first part, one part so many times, another so many times. */
-static void write_script(const char *first, const char *part, int times, const char *last, int last_times)
+/* A script: a first part, one part so many times, another so many times; and its answers to a check and a run. */
+struct shape {
+    const char *name, *first, *part;
+    int times;
+    const char *last;
+    int last_times, checked, ran;
+};
+
+static const struct shape shapes[] = {
+    {"one s", "s\n", "", 0, "", 0, 0, 0},
+    {"510 packs inside one another", "=\t1\n", "k\t1\n", 510, "i\t1\n", 1, 0, 10},
+    {"510 packs of a location", "=\t1\n", "k\t1\n", 510, "x\t1\n", 1, 0, 10},
+    {"510 lefts inside one another", "=\t1\n", "l\t3\n", 510, "i\t1\n", 1, 5, 5},
+    {"255 ; inside one another", "", ";\n", 255, "s\n", 256, 0, 0},
+    {"255 ; each the second of another", "", ";\ns\n", 255, "s\n", 1, 0, 0},
+    {"255 w inside one another", "", "w\nx\t2\n", 255, "s\n", 1, 0, 9},
+    {"255 + inside one another", "=\t0\n", "+\n", 255, "i\t1\n", 256, 0, 0},
+    {"512 ; and nothing else", "", ";\n", 512, "", 0, 4, 4},
+    {"512 w and nothing else", "", "w\n", 512, "", 0, 4, 4},
+    {"512 + and nothing else", "", "+\n", 512, "", 0, 4, 4},
+    {"= and 511 packs, nothing else", "=\t1\n", "k\t1\n", 511, "", 0, 4, 4},
+};
+
+static void write_script(const struct shape *shape)
 {
-    strcpy(script, first);
-    for (int i = 0; i < times; i++)
-        strcat(script, part);
-    for (int i = 0; i < last_times; i++)
-        strcat(script, last);
+    strcpy(script, shape->first);
+    for (int i = 0; i < shape->times; i++)
+        strcat(script, shape->part);
+    for (int i = 0; i < shape->last_times; i++)
+        strcat(script, shape->last);
 }
 
-static void report(const char *name)
+/* The bytes that a call took beyond what the thread itself takes. Its answer must be the wanted one. */
+static size_t measured(enum call call, int wanted)
 {
-    size_t own = used(NOTHING);
-    size_t check = used(CHECK) - own;
-    int checked = answer;
-    size_t run = used(RUN) - own;
-    printf("%-36s check %7zu bytes (answer %d), run %7zu bytes (answer %d)\n", name, check, checked, run, answer);
+    size_t own = used(NOTHING), all = used(call);
+    if (answer != wanted) {
+        fprintf(stderr, "stack: the answer is %d, not %d\n", answer, wanted);
+        exit(1);
+    }
+    return all - own;
 }
 
 int main(void)
 {
-    write_script("s\n", "", 0, "", 0);
-    report("one s");
-    write_script("=\t1\n", "k\t1\n", 510, "i\t1\n", 1);
-    report("510 packs inside one another");
-    write_script("", ";\n", 255, "s\n", 256);
-    report("255 ; inside one another");
-    write_script("", "w\nx\t2\n", 255, "s\n", 1);
-    report("255 w inside one another");
-    write_script("=\t0\n", "+\n", 255, "i\t1\n", 256);
-    report("255 + inside one another");
-    write_script("", ";\n", 512, "", 0);
-    report("512 ; and nothing else");
-    size_t own = used(NOTHING);
-    size_t view = used(VIEW) - own;
-    printf("%-36s       %7zu bytes (answer %d)\n", "a view", view, answer);
+    size_t most_check = 0, most_run = 0;
+    for (size_t i = 0; i < sizeof shapes / sizeof *shapes; i++) {
+        write_script(&shapes[i]);
+        size_t check = measured(CHECK, shapes[i].checked), run = measured(RUN, shapes[i].ran);
+        printf("%-36s check %7zu bytes (answer %2d), run %7zu bytes (answer %2d)\n", shapes[i].name, check, shapes[i].checked, run,
+               shapes[i].ran);
+        most_check = check > most_check ? check : most_check;
+        most_run = run > most_run ? run : most_run;
+    }
+    printf("peak check %zu\npeak run %zu\npeak view %zu\n", most_check, most_run, measured(VIEW, 0));
     return 0;
 }

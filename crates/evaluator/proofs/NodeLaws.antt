@@ -3,26 +3,26 @@
 use mathlib.Core.Path.{_≡_, refl, sym, ap, _∙_}
 use mathlib.Core.Bool.{Bool, true, false}
 use mathlib.Core.List.{List, _++_}
-use Prim.Native.Nat.{ℕ, _+_, _-_, _%_, _^_, _≤_, _<_}
+use Prim.Native.Nat.{ℕ, suc, _+_, _-_, _%_, _^_, _≤_, _<_}
 use native.Mathlib.Omega.{arith}
 use borrow.Author.Tests.{le-leb, lt-leb}
 use lib.ListN.{length, drop, getD, take-append-drop}
 use lib.Seq.{getD-take}
-use Rattle.language.specs.Syntax.{Value, int, err, inl, inr, pkg, blank, size, has}
+use Rattle.language.specs.Syntax.{Head, headOf, headSize, Value, int, err, inl, inr, pkg, blank, size, has}
 use Rattle.language.specs.World.{World, cell-words, wanted}
 use Rattle.language.specs.Evaluation.{Res, ok, long, stuck, bind, fitIf, fit, addTo, add, packed, opened, unpacked}
 use Rattle.sheet.specs.Internal.Tables.{leftIn, belowIn, readsIn, writesIn}
 use Rattle.sheet.specs.Internal.TypeTest.{hasNo}
-use Rattle.memory.specs.Words.{enc, zeros, cell, valueOf}
+use Rattle.memory.specs.Words.{headWords, enc, zeros, cell, valueOf}
 use Rattle.memory.specs.Internal.Post.{endOf}
 use Rattle.memory.specs.Memory.{cellOf}
-use Rattle.memory.proofs.WordLaws.{length-cell, value-enc, end-enc}
+use Rattle.memory.proofs.WordLaws.{length-cell, enc-append, value-enc, end-enc}
 use Rattle.evaluator.specs.State.{stateNumber}
 use Rattle.evaluator.specs.declared.State.the-variants.{TooLong, NoRule}
 use Rattle.cells.specs.Internal.Cells.{accumulator, loadOf, storeOf, pushOf, popOf}
 use Rattle.evaluator.specs.Internal.Nodes.{Yields, Turns, Applies, Applied, Tags, errorOf, errorIn, Tells}
 use Rattle.cells.proofs.CellLaws.{there, load-there, length-load, length-push, length-pop, cell-stored, rest-kept}
-use Rattle.evaluator.proofs.ValueLaws.{enc-append, cell-size, tags-left, push-tag, push-package, pop-package}
+use Rattle.evaluator.proofs.ValueLaws.{cell-size, tags-left, push-tag, push-package, pop-package}
 
 -- ---- what is in the accumulator
 
@@ -118,12 +118,12 @@ add-answer (int a) (int b) n m s state words z e p q r = (z, e ∙ ap (λ (i : �
 add-answer (int a) (err b) n m s state words z e p q r = tt
 add-answer (int a) (inl w) n m s state words z e p q r = tt
 add-answer (int a) (inr w) n m s state words z e p q r = tt
-add-answer (int a) (pkg l w) n m s state words z e p q r = tt
+add-answer (int a) (pkg h w) n m s state words z e p q r = tt
 add-answer (int a) blank n m s state words z e p q r = tt
 add-answer (err a) w n m s state words z e p q r = tt
 add-answer (inl u) w n m s state words z e p q r = tt
 add-answer (inr u) w n m s state words z e p q r = tt
-add-answer (pkg l u) w n m s state words z e p q r = tt
+add-answer (pkg h u) w n m s state words z e p q r = tt
 add-answer blank w n m s state words z e p q r = tt
 
 written : {table : List ℕ} {authority : ℕ} (l : ℕ) (may : Bool) → may ≡ writesIn table authority l → (W : World)
@@ -189,7 +189,7 @@ module _ {work : List ℕ} {state next : ℕ} where
       pack-long {end} z y s h =
           applies-keep 10 (λ x. omega arith)
           (λ W t. rw (written l may w W t, y) (turns-keep (packed true l) work state 10 z
-          (λ v a. answers-long (packed true l v) (cellOf work 0) (too-long (inl (pkg l v)) (omega (arith, size-here work v end s a))))))
+          (λ v a. answers-long (packed true l v) (cellOf work 0) (too-long (inl (pkg (headOf l) v)) (omega (arith, size-here work v end s a))))))
 
       pub pack-done : {end : ℕ} {words work′ : List ℕ} → state ≡ 0 → may ≡ true → end ≡ endOf work 0 → end ≤ 13 → words ≡ loadOf work accumulator
           → work′ ≡ storeOf work accumulator (pushOf 3 (pushOf 5 (pushOf l words)))
@@ -201,9 +201,9 @@ module _ {work : List ℕ} {state next : ℕ} where
           applies-put left n e
           (λ W t. rw (e, written l may w W t, y) (turns-put (packed true l) work state left z n
           (λ v g a. let m = size-here work v end s a in
-          answers-ok (packed true l v) (inl (pkg l v)) state left (fits (inl (pkg l v)) (omega arith)) z
+          answers-ok (packed true l v) (inl (pkg (headOf l) v)) state left (fits (inl (pkg (headOf l) v)) (omega arith)) z
           (ap (λ (u : List ℕ). pushOf 3 (pushOf 5 (pushOf l u))) (ld ∙ load-here work v g a)
-          ∙ ap (pushOf 3) (push-package l v (omega arith)) ∙ push-tag tags-left (pkg l v) (omega arith)))))
+          ∙ ap (pushOf 3) (push-package l v (omega arith)) ∙ push-tag tags-left (pkg (headOf l) v) (omega arith)))))
 
 -- ---- unpack
 
@@ -229,7 +229,7 @@ no-package W t l work (int n) state ne e = tt
 no-package W t l work (err n) state ne e = tt
 no-package W t l work (inl v) state ne e = tt
 no-package W t l work (inr v) state ne e = tt
-no-package W t l work (pkg m v) state ne e = absurd (ne (first-word work (pkg m v) e))
+no-package W t l work (pkg h v) state ne e = absurd (ne (first-word work (pkg h v) e))
   where
     first-word : (work : List ℕ) (v : Value) → cellOf work accumulator ≡ cell v → getD work 0 0 ≡ getD (enc v (zeros (16 - size v) ++ drop 16 work)) 0 0
     first-word work v e = ap (λ (l : List ℕ). getD l 0 0) (words-here work v e)
@@ -237,15 +237,15 @@ no-package W t l work blank state ne e = tt
 
 module _ (work table : List ℕ) (authority t l e : ℕ) (p : e ≡ errorIn table authority l (getD work 1 0) (hasNo table (valueOf (drop 2 work)) (leftIn table t))) where
   -- what the three tests say of the package
-  tested : (W : World) → Tells table authority W → (m : ℕ) (v : Value) → cellOf work accumulator ≡ cell (pkg m v)
-      → e ≡ errorOf (W .reads l) (W .below m l) (has v (wanted (W .ty t)))
-  unfolding errorIn enc
-  tested W tells m v a =
-      let h = words-here work (pkg m v) a in
-      let z : List ℕ = zeros (16 - size (pkg m v)) ++ drop 16 work in
-      let m′ : getD work 1 0 ≡ m = ap (λ (u : List ℕ). getD u 1 0) h in
-      let v′ : valueOf (drop 2 work) ≡ v = ap (λ (u : List ℕ). valueOf (drop 2 u)) h ∙ value-enc v z in
-      p ∙ rw (m′, v′, tells .reads-is l, tells .below-is m l, tells .type-is v t) refl
+  tested : (W : World) → Tells table authority W → (h : Head) (v : Value) → cellOf work accumulator ≡ cell (pkg h v)
+      → e ≡ errorOf (W .reads l) (W .below (h .label) l) (has v (wanted (W .ty t)))
+  unfolding errorIn headWords enc
+  tested W tells h v a =
+      let c = words-here work (pkg h v) a in
+      let z : List ℕ = zeros (16 - size (pkg h v)) ++ drop 16 work in
+      let l′ : getD work 1 0 ≡ h .label = ap (λ (u : List ℕ). getD u 1 0) c in
+      let v′ : valueOf (drop 2 work) ≡ v = ap (λ (u : List ℕ). valueOf (drop 2 u)) c ∙ value-enc v z in
+      p ∙ rw (l′, v′, tells .reads-is l, tells .below-is (h .label) l, tells .type-is v t) refl
 
   unpack-error-at : (W : World) → Tells table authority W → (v : Value) (state : ℕ) → state ≡ 0 → (e ≡ 0 → ⊥) → cellOf work accumulator ≡ cell v
       → Yields (unpacked W t l v) state (cell (inr (err e)))
@@ -254,8 +254,8 @@ module _ (work table : List ℕ) (authority t l e : ℕ) (p : e ≡ errorIn tabl
   unpack-error-at W tells (err n) state z ne a = tt
   unpack-error-at W tells (inl v) state z ne a = tt
   unpack-error-at W tells (inr v) state z ne a = tt
-  unpack-error-at W tells (pkg m v) state z ne a =
-      answers-ok _ (inr (err e)) state (cell (inr (err e))) (opened-error _ _ _ v e (tested W tells m v a) ne) z refl
+  unpack-error-at W tells (pkg h v) state z ne a =
+      answers-ok _ (inr (err e)) state (cell (inr (err e))) (opened-error _ _ _ v e (tested W tells h v a) ne) z refl
   unpack-error-at W tells blank state z ne a = tt
 
   unpack-done-at : (W : World) → Tells table authority W → (v : Value) (state : ℕ) (content : List ℕ) → state ≡ 0 → e ≡ 0 → cellOf work accumulator ≡ cell v
@@ -265,10 +265,10 @@ module _ (work table : List ℕ) (authority t l e : ℕ) (p : e ≡ errorIn tabl
   unpack-done-at W tells (err n) state content z ne a c = tt
   unpack-done-at W tells (inl v) state content z ne a c = tt
   unpack-done-at W tells (inr v) state content z ne a c = tt
-  unpack-done-at W tells (pkg m v) state content z ne a c =
-      let n : 2 + size v ≤ 16 = cell-size work 0 (pkg m v) a in
-      answers-ok _ (inl v) state content (opened-fine _ _ _ v e (tested W tells m v a) ne ∙ fits (inl v) (omega arith)) z
-      (c ∙ ap (pushOf 3) (pop-package m v (omega arith)) ∙ push-tag tags-left v (omega arith))
+  unpack-done-at W tells (pkg h v) state content z ne a c =
+      let n : suc (headSize + size v) ≤ 16 = cell-size work 0 (pkg h v) a in
+      answers-ok _ (inl v) state content (opened-fine _ _ _ v e (tested W tells h v a) ne ∙ fits (inl v) (omega arith)) z
+      (c ∙ ap (pushOf 3) (pop-package h v (omega arith)) ∙ push-tag tags-left v (omega arith))
   unpack-done-at W tells blank state content z ne a c = tt
 
   module _ {state next : ℕ} where

@@ -7,25 +7,17 @@ use native.Mathlib.Omega.{arith}
 use native.Mathlib.Nat.{suc-add}
 use lib.ListN.{length, take, getD, length-replicate, replicate-append-replicate}
 use lib.Seq.{take-take}
-use Rattle.language.specs.Syntax.{Value, int, err, inl, inr, pkg, blank, size}
+use Rattle.language.specs.Syntax.{Head, headOf, headSize, Value, int, err, inl, inr, pkg, blank, size}
 use Rattle.language.specs.World.{cell-words}
-use Rattle.memory.specs.Words.{enc, zeros, cell}
+use Rattle.memory.specs.Words.{headWords, enc, zeros, cell}
 use Rattle.memory.specs.Memory.{cellOf}
-use Rattle.memory.proofs.WordLaws.{length-enc}
+use Rattle.memory.proofs.HeadLaws.{head-take}
+use Rattle.memory.proofs.WordLaws.{length-enc, enc-append}
 use Rattle.cells.specs.Internal.Cells.{pushOf, popOf}
 use Rattle.evaluator.specs.Internal.Nodes.{Tags}
 use Rattle.cells.proofs.CellLaws.{cell-short}
 
--- ---- a value's words, then more
-
-pub enc-append : (v : Value) (rest more : List ℕ) → enc v rest ++ more ≡ enc v (rest ++ more)
-unfolding enc
-enc-append (int n) rest more = refl
-enc-append (err e) rest more = refl
-enc-append (inl v) rest more = ap (λ (l : List ℕ). 3 ∷ l) (enc-append v rest more)
-enc-append (inr v) rest more = ap (λ (l : List ℕ). 4 ∷ l) (enc-append v rest more)
-enc-append (pkg l v) rest more = ap (λ (u : List ℕ). 5 ∷ l ∷ u) (enc-append v rest more)
-enc-append blank rest more = refl
+-- ---- the first words of a value and of a cell, and zeros after them
 
 take-enc : (v : Value) (m : ℕ) (rest : List ℕ) → take (size v + m) (enc v rest) ≡ enc v (take m rest)
 unfolding enc size
@@ -33,9 +25,9 @@ take-enc (int n) m rest = let e : 2 + m ≡ suc (suc m) = omega arith in rw e re
 take-enc (err n) m rest = let e : 2 + m ≡ suc (suc m) = omega arith in rw e refl
 take-enc (inl v) m rest = rw (suc-add (size v) m) (ap (λ (l : List ℕ). 3 ∷ l) (take-enc v m rest))
 take-enc (inr v) m rest = rw (suc-add (size v) m) (ap (λ (l : List ℕ). 4 ∷ l) (take-enc v m rest))
-take-enc (pkg l v) m rest =
-    let e : 2 + size v + m ≡ suc (suc (size v + m)) = omega arith in
-    rw e (ap (λ (u : List ℕ). 5 ∷ l ∷ u) (take-enc v m rest))
+take-enc (pkg h v) m rest =
+    let e : suc (headSize + size v) + m ≡ suc (headSize + (size v + m)) = omega arith in
+    rw e (ap (λ (u : List ℕ). 5 ∷ u) (head-take h (size v + m) (enc v rest) ∙ ap (headWords h) (take-enc v m rest)))
 take-enc blank m rest = let e : 1 + m ≡ suc m = omega arith in rw e refl
 
 take-zeros : (k n : ℕ) → k ≤ n → take k (zeros n) ≡ zeros k
@@ -102,17 +94,17 @@ pub push-failure : (e : ℕ) → pushOf 4 (pushOf 2 (pushOf e (zeros cell-words)
 unfolding pushOf cell enc size
 push-failure e = refl
 
-pub push-package : (l : ℕ) (v : Value) → size v ≤ 14 → pushOf 5 (pushOf l (cell v)) ≡ cell (pkg l v)
-unfolding pushOf cell enc size
+pub push-package : (l : ℕ) (v : Value) → size v ≤ 14 → pushOf 5 (pushOf l (cell v)) ≡ cell (pkg (headOf l) v)
+unfolding pushOf cell headWords enc size
 push-package l v h =
-    let n : 14 - size v ≡ 16 - (2 + size v) = omega arith in
+    let n : 14 - size v ≡ 16 - suc (headSize + size v) = omega arith in
     ap (λ (u : List ℕ). 5 ∷ l ∷ u) (take-take 14 15 (cell v) (omega arith) ∙ take-cell v 14 h (omega arith) ∙ ap (λ (m : ℕ). enc v (zeros m)) n)
 
-pub pop-package : (l : ℕ) (v : Value) → size v ≤ 14 → popOf (popOf (cell (pkg l v))) ≡ cell v
-unfolding popOf cell enc size
-pop-package l v h =
-    let n : 16 - (2 + size v) + 1 ≡ 15 - size v = omega arith in
-    ap (λ (u : List ℕ). u ++ (0 ∷ [])) (enc-more v (16 - (2 + size v)) ∙ ap (λ (m : ℕ). enc v (zeros m)) n) ∙ zeros-more v (15 - size v) (omega arith)
+pub pop-package : (h : Head) (v : Value) → size v ≤ 14 → popOf (popOf (cell (pkg h v))) ≡ cell v
+unfolding popOf cell headWords enc size
+pop-package h v s =
+    let n : 16 - suc (headSize + size v) + 1 ≡ 15 - size v = omega arith in
+    ap (λ (u : List ℕ). u ++ (0 ∷ [])) (enc-more v (16 - suc (headSize + size v)) ∙ ap (λ (m : ℕ). enc v (zeros m)) n) ∙ zeros-more v (15 - size v) (omega arith)
 
 -- ---- the first word of a value tells its kind
 
@@ -121,7 +113,7 @@ pub data Kind : ℕ → Value → Type 0 where
   is-err : {e : ℕ} → Kind 2 (err e)
   is-inl : {v : Value} → Kind 3 (inl v)
   is-inr : {v : Value} → Kind 4 (inr v)
-  is-pkg : {l : ℕ} {v : Value} → Kind 5 (pkg l v)
+  is-pkg : {h : Head} {v : Value} → Kind 5 (pkg h v)
   is-blank : Kind 0 blank
 
 pub kind-enc : (v : Value) (rest : List ℕ) → Kind (getD (enc v rest) 0 0) v
@@ -130,5 +122,5 @@ kind-enc (int n) rest = is-int
 kind-enc (err e) rest = is-err
 kind-enc (inl v) rest = is-inl
 kind-enc (inr v) rest = is-inr
-kind-enc (pkg l v) rest = is-pkg
+kind-enc (pkg h v) rest = is-pkg
 kind-enc blank rest = is-blank

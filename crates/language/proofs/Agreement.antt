@@ -4,7 +4,7 @@ use mathlib.Core.Bool.{Bool, true, false}
 use mathlib.Core.List.{[]}
 use Prim.Native.Nat.{ℕ, _+_, _%_, _^_}
 use native.Mathlib.Omega.{arith}
-use Rattle.language.specs.Syntax.{Value, int, inl, inr, pkg, has, Expr, val, loc, var, plus, left, right, pack, unpack, Cmd, skip, seq, assign, while, case}
+use Rattle.language.specs.Syntax.{Head, headOf, Value, int, inl, inr, pkg, has, Expr, val, loc, var, plus, left, right, pack, unpack, Cmd, skip, seq, assign, while, case}
 use Rattle.language.specs.World.{World, Mem, wanted}
 use Rattle.language.specs.Substitution.{inst}
 use Rattle.language.specs.Figures.{EStep, ee-loc, ee-inl, ee-inr, ee-plus-struct1, ee-plus-struct2, ee-plus, ee-pack-struct, ee-pack-ok, ee-pack-fail, ee-unpack-struct, ee-unpack-fail1, ee-unpack-fail2, ee-unpack-fail3, ee-unpack-ok, inl-value, inr-value, EStar, e-none, e-more, Step, ec-assign, ec-seq-skip, ec-seq-struct, ec-while-false, ec-while-true, ec-casel, ec-caser, LongExpr, long-value, in-plus1, in-plus2, in-left, in-right, in-pack, in-unpack, LongStep, in-assign, in-seq, in-while, in-case}
@@ -50,20 +50,20 @@ module _ (W : World) (M : Mem) where
 
   gives-pack : (e : Expr) (l : ℕ) (v : Value) (b : Bool) → W .writes l ≡ b → EStar W M e (pack l (val v)) → Gives e (packed b l v)
   unfolding packed
-  gives-pack e l v true h p = gives-fit e (inl (pkg l v)) (star-end p (ee-pack-ok h))
+  gives-pack e l v true h p = gives-fit e (inl (pkg (headOf l) v)) (star-end p (ee-pack-ok h))
   gives-pack e l v false h p = star-end p (ee-pack-fail h)
 
-  gives-open : (e : Expr) (t l m : ℕ) (v : Value) (a b c : Bool) → W .reads l ≡ a → W .below m l ≡ b → has v (wanted (W .ty t)) ≡ c
-      → EStar W M e (unpack t l (val (pkg m v))) → Gives e (opened a b c v)
+  gives-open : (e : Expr) (t l : ℕ) (h : Head) (v : Value) (a b c : Bool) → W .reads l ≡ a → W .below (h .label) l ≡ b → has v (wanted (W .ty t)) ≡ c
+      → EStar W M e (unpack t l (val (pkg h v))) → Gives e (opened a b c v)
   unfolding opened
-  gives-open e t l m v false b c h i j p = star-end p (ee-unpack-fail1 h)
-  gives-open e t l m v true false c h i j p = star-end p (ee-unpack-fail2 h i)
-  gives-open e t l m v true true false h i j p = star-end p (ee-unpack-fail3 h i j)
-  gives-open e t l m v true true true h i j p = gives-fit e (inl v) (star-end p (ee-unpack-ok h i j))
+  gives-open e t l h v false b c x y z p = star-end p (ee-unpack-fail1 x)
+  gives-open e t l h v true false c x y z p = star-end p (ee-unpack-fail2 x y)
+  gives-open e t l h v true true false x y z p = star-end p (ee-unpack-fail3 x y z)
+  gives-open e t l h v true true true x y z p = gives-fit e (inl v) (star-end p (ee-unpack-ok x y z))
 
   gives-unpack : (e : Expr) (t l : ℕ) (v : Value) → EStar W M e (unpack t l (val v)) → Gives e (unpacked W t l v)
   gives-unpack e t l = by-unpacked (λ v r. EStar W M e (unpack t l (val v)) → Gives e r) W t l
-      (λ m v p. gives-open e t l m v (W .reads l) (W .below m l) (has v (wanted (W .ty t))) refl refl refl p) (λ v q p. tt)
+      (λ h v p. gives-open e t l h v (W .reads l) (W .below (h .label) l) (has v (wanted (W .ty t))) refl refl refl p) (λ v q p. tt)
 
   pub eval-gives : (e : Expr) → Gives e (eval W [] M e)
   unfolding eval lookup
@@ -116,7 +116,7 @@ module _ (W : World) (M : Mem) where
   step-refines (ee-plus-struct2 s) = refines-bind _ (step-refines s)
   step-refines (ee-plus {i₁} {i₂}) = refines-fit (int ((i₁ + i₂) % 2 ^ 32))
   step-refines (ee-pack-struct s) = refines-bind _ (step-refines s)
-  step-refines (ee-pack-ok {l} {v} p) = rw p (refines-fit (inl (pkg l v)))
+  step-refines (ee-pack-ok {l} {v} p) = rw p (refines-fit (inl (pkg (headOf l) v)))
   step-refines (ee-pack-fail p) = rw p same
   step-refines (ee-unpack-struct s) = refines-bind _ (step-refines s)
   step-refines (ee-unpack-fail1 p) = rw p same

@@ -5,7 +5,7 @@ use mathlib.Core.List.{[], _∷_}
 use Prim.Native.Nat.{ℕ, zero, suc, _+_, _%_, _^_, _≤_, _<_}
 use native.Mathlib.Nat.{mod-lt}
 use native.Mathlib.Omega.{arith}
-use Rattle.language.specs.Syntax.{Value, int, err, inl, inr, pkg, size, has, Expr, val, loc, var, plus, left, right, pack, unpack, Cmd, skip, seq, assign, while, case}
+use Rattle.language.specs.Syntax.{Head, headOf, Value, int, err, inl, inr, pkg, size, has, Expr, val, loc, var, plus, left, right, pack, unpack, Cmd, skip, seq, assign, while, case}
 use Rattle.language.specs.World.{World, Mem, cell-words, wanted}
 use Rattle.language.specs.Substitution.{Env, lift, close-var, closeE, close, inst}
 use Rattle.language.specs.Evaluation.{Res, bind, fit, add, packed, opened, unpacked, lookup, eval}
@@ -19,10 +19,10 @@ pub record Kept (P : Value → Type 0) (named : ℕ → Type 0) : Type 0 where
   pub error : (e : ℕ) → 1 ≤ e → e ≤ 3 → P (inr (err e))
   pub to-left : (v : Value) → P v → size (inl v) ≤ cell-words → P (inl v)
   pub to-right : (v : Value) → P v → size (inr v) ≤ cell-words → P (inr v)
-  pub to-package : (l : ℕ) (v : Value) → named l → P v → size (inl (pkg l v)) ≤ cell-words → P (inl (pkg l v))
+  pub to-package : (l : ℕ) (v : Value) → named l → P v → size (inl (pkg (headOf l) v)) ≤ cell-words → P (inl (pkg (headOf l) v))
   pub from-left : (v : Value) → P (inl v) → P v
   pub from-right : (v : Value) → P (inr v) → P v
-  pub from-package : (l : ℕ) (v : Value) → P (pkg l v) → P v
+  pub from-package : (h : Head) (v : Value) → P (pkg h v) → P v
 
 -- P holds of the values in an expression, and its packs name such labels.
 pub data UsesE (P : Value → Type 0) (named : ℕ → Type 0) : Expr → Type 0 where
@@ -113,7 +113,7 @@ module _ (P : Value → Type 0) (named : ℕ → Type 0) where
 
     has-pack : (b : Bool) (l : ℕ) (v : Value) → named l → P v → Has (packed b l v)
     unfolding packed
-    has-pack true l v n h = has-fit (inl (pkg l v)) (kept .to-package l v n h)
+    has-pack true l v n h = has-fit (inl (pkg (headOf l) v)) (kept .to-package l v n h)
     has-pack false l v n h = kept .error 1 (omega arith) (omega arith)
 
     has-open : (a b c : Bool) (v : Value) → P v → Has (opened a b c v)
@@ -125,7 +125,7 @@ module _ (P : Value → Type 0) (named : ℕ → Type 0) where
 
     has-unpack : (t l : ℕ) (v : Value) → P v → Has (unpacked W t l v)
     has-unpack t l = by-unpacked (λ v r. P v → Has r) W t l
-        (λ m v h. has-open (W .reads l) (W .below m l) (has v (wanted (W .ty t))) v (kept .from-package m v h)) (λ v e h. tt)
+        (λ h v p. has-open (W .reads l) (W .below (h .label) l) (has v (wanted (W .ty t))) v (kept .from-package h v p)) (λ v e p. tt)
 
     has-lookup : {ρ : Env} → AllOf P ρ → (i : ℕ) → Has (lookup ρ i)
     unfolding lookup
@@ -191,5 +191,5 @@ fits-kept = record {
   to-package = λ l v n h s. s;
   from-left = λ v h. omega arith;
   from-right = λ v h. omega arith;
-  from-package = λ l v h. omega arith;
+  from-package = λ h v p. omega arith;
 }

@@ -3,7 +3,7 @@ use mathlib.Core.Logic.{_↔_}
 use mathlib.Core.Path.{_≡_, refl, ap}
 use mathlib.Core.Bool.{Bool, true, false}
 use Prim.Native.Nat.{ℕ}
-use Rattle.language.specs.Syntax.{Ty, t-int, t-err, t-pkg, t-sum, Value, int, err, inl, inr, pkg, blank, has}
+use Rattle.language.specs.Syntax.{Ty, t-int, t-err, t-pkg, t-sum, Head, Value, int, err, inl, inr, pkg, blank, has}
 use Rattle.language.specs.World.{Mem}
 use Rattle.language.specs.View.{seen, mask, maskMem, Equiv, ve-int, ve-err, ve-inl, ve-inr, ve-pack-in, ve-pack-lab, ve-blank, EquivMem}
 
@@ -13,8 +13,8 @@ data Masks (shows : ℕ → Bool) : Value → Value → Type 0 where
   s-err : {n : ℕ} → Masks shows (err n) (err n)
   s-inl : {v u : Value} → Masks shows v u → Masks shows (inl v) (inl u)
   s-inr : {v u : Value} → Masks shows v u → Masks shows (inr v) (inr u)
-  s-in : {l : ℕ} {v u : Value} → Masks shows v u → Masks shows (pkg l v) (pkg l u)
-  s-hidden : {l : ℕ} {v : Value} → shows l ≡ false → Masks shows (pkg l v) (pkg l blank)
+  s-in : {h : Head} {v u : Value} → Masks shows v u → Masks shows (pkg h v) (pkg h u)
+  s-hidden : {h : Head} {v : Value} → shows (h .label) ≡ false → Masks shows (pkg h v) (pkg h blank)
   s-blank : Masks shows blank blank
 
 module _ (shows : ℕ → Bool) where
@@ -23,13 +23,13 @@ module _ (shows : ℕ → Bool) where
   equiv-refl (err n) = ve-err
   equiv-refl (inl v) = ve-inl (equiv-refl v)
   equiv-refl (inr v) = ve-inr (equiv-refl v)
-  equiv-refl (pkg l v) = ve-pack-in (equiv-refl v)
+  equiv-refl (pkg h v) = ve-pack-in (equiv-refl v)
   equiv-refl blank = ve-blank
 
-  masks-pkg : (b : Bool) (l : ℕ) (v : Value) → shows l ≡ b → Masks shows v (mask shows v) → Masks shows (pkg l v) (pkg l (seen b (mask shows v)))
+  masks-pkg : (b : Bool) (h : Head) (v : Value) → shows (h .label) ≡ b → Masks shows v (mask shows v) → Masks shows (pkg h v) (pkg h (seen b (mask shows v)))
   unfolding seen
-  masks-pkg true l v e h = s-in h
-  masks-pkg false l v e h = s-hidden e
+  masks-pkg true h v e m = s-in m
+  masks-pkg false h v e m = s-hidden e
 
   masks : (v : Value) → Masks shows v (mask shows v)
   unfolding mask
@@ -37,7 +37,7 @@ module _ (shows : ℕ → Bool) where
   masks (err n) = s-err
   masks (inl v) = s-inl (masks v)
   masks (inr v) = s-inr (masks v)
-  masks (pkg l v) = masks-pkg (shows l) l v refl (masks v)
+  masks (pkg h v) = masks-pkg (shows (h .label)) h v refl (masks v)
   masks blank = s-blank
 
   same-masks : {v w u : Value} → Masks shows v u → Masks shows w u → Equiv shows v w
@@ -62,10 +62,10 @@ module _ (shows : ℕ → Bool) where
   unfolding mask
   mask-of-equiv ve-int = refl
   mask-of-equiv ve-err = refl
-  mask-of-equiv (ve-inl h) = ap inl (mask-of-equiv h)
-  mask-of-equiv (ve-inr h) = ap inr (mask-of-equiv h)
-  mask-of-equiv (ve-pack-in {l} h) = ap (λ u. pkg l (seen (shows l) u)) (mask-of-equiv h)
-  mask-of-equiv (ve-pack-lab {l} {v₁} {v₂} h) = ap (pkg l) (hidden l (mask shows v₁) (mask shows v₂) h)
+  mask-of-equiv (ve-inl e) = ap inl (mask-of-equiv e)
+  mask-of-equiv (ve-inr e) = ap inr (mask-of-equiv e)
+  mask-of-equiv (ve-pack-in {h} e) = ap (λ u. pkg h (seen (shows (h .label)) u)) (mask-of-equiv e)
+  mask-of-equiv (ve-pack-lab {h} {v₁} {v₂} e) = ap (pkg h) (hidden (h .label) (mask shows v₁) (mask shows v₂) e)
   mask-of-equiv ve-blank = refl
 
   pub mask-iff : (v w : Value) → (mask shows v ≡ mask shows w) ↔ Equiv shows v w

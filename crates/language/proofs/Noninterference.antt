@@ -5,7 +5,7 @@ use mathlib.Core.List.{List, [], _∷_}
 use Prim.Native.Nat.{ℕ, zero, suc, _+_, _%_, _^_}
 use native.Mathlib.Omega.{arith}
 use lib.Dec.{eqb, eqb→eq}
-use Rattle.language.specs.Syntax.{Value, int, err, inl, inr, pkg, has, Expr, val, loc, var, plus, left, right, pack, unpack, Cmd}
+use Rattle.language.specs.Syntax.{headOf, Value, int, err, inl, inr, pkg, has, Expr, val, loc, var, plus, left, right, pack, unpack, Cmd}
 use Rattle.language.specs.World.{World, Mem, wanted}
 use Rattle.language.specs.Substitution.{Env, update}
 use Rattle.language.specs.Declarations.{nth}
@@ -63,7 +63,7 @@ module _ (shows : ℕ → Bool) where
   agree-error : {e : ℕ} → Agree shows (ok (inr (err e))) (ok (inr (err e)))
   agree-error {e} v w p q = subst (λ z. Equiv shows z w) (ok-path p) (subst (Equiv shows (inr (err e))) (ok-path q) (ve-inr ve-err))
 
-  agree-pack : (b : Bool) (l : ℕ) {v w : Value} → Equiv shows (pkg l v) (pkg l w) → Agree shows (packed b l v) (packed b l w)
+  agree-pack : (b : Bool) (l : ℕ) {v w : Value} → Equiv shows (pkg (headOf l) v) (pkg (headOf l) w) → Agree shows (packed b l v) (packed b l w)
   unfolding packed
   agree-pack true l h = agree-fit (ve-inl h)
   agree-pack false l h = agree-error
@@ -89,10 +89,10 @@ module _ (shows : ℕ → Bool) where
   agree-unpack W t m s ve-err = λ a b p q. never p
   agree-unpack W t m s (ve-inl h) = λ a b p q. never p
   agree-unpack W t m s (ve-inr h) = λ a b p q. never p
-  agree-unpack W t m s (ve-pack-in {l} {v₂ = w} h) =
-      rw (has-equiv shows h (wanted (W .ty t))) (agree-open (W .reads m) (W .below l m) (has w (wanted (W .ty t))) h)
-  agree-unpack W t m s (ve-pack-lab {l} {v₁} {v₂} e) =
-      rw (not-so (W .below l m) (λ b. false≢true (sym e ∙ s l b)))
+  agree-unpack W t m s (ve-pack-in {h} {v₂ = w} e) =
+      rw (has-equiv shows e (wanted (W .ty t))) (agree-open (W .reads m) (W .below (h .label) m) (has w (wanted (W .ty t))) e)
+  agree-unpack W t m s (ve-pack-lab {h} {v₁} {v₂} e) =
+      rw (not-so (W .below (h .label) m) (λ b. false≢true (sym e ∙ s (h .label) b)))
       (agree-illegal (W .reads m) (has v₁ (wanted (W .ty t))) (has v₂ (wanted (W .ty t))) v₁ v₂)
   agree-unpack W t m s ve-blank = λ a b p q. never p
 

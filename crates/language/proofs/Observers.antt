@@ -21,10 +21,10 @@ use Rattle.language.proofs.Noninterference.{noninterference}
 equal-shown : {v w : Value} → Equiv (λ l. true) v w → v ≡ w
 equal-shown ve-int = refl
 equal-shown ve-err = refl
-equal-shown (ve-inl h) = ap inl (equal-shown h)
-equal-shown (ve-inr h) = ap inr (equal-shown h)
-equal-shown (ve-pack-in {l} h) = ap (pkg l) (equal-shown h)
-equal-shown (ve-pack-lab h) = absurd (true≢false h)
+equal-shown (ve-inl e) = ap inl (equal-shown e)
+equal-shown (ve-inr e) = ap inr (equal-shown e)
+equal-shown (ve-pack-in {h} e) = ap (pkg h) (equal-shown e)
+equal-shown (ve-pack-lab e) = absurd (true≢false e)
 equal-shown ve-blank = refl
 
 -- The join of two labels is at or above both.

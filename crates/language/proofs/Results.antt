@@ -5,7 +5,7 @@ use Prim.Native.Nat.{ℕ, _+_, _%_, _^_, _≤_, _<_}
 use native.Mathlib.Omega.{arith}
 use lib.Dec.{leb, leb→le, nleb→lt, T}
 use Rattle.logic.specs.Booleans.{both}
-use Rattle.language.specs.Syntax.{Ty, t-int, t-pkg, t-sum, Value, int, err, inl, inr, pkg, blank, size, has}
+use Rattle.language.specs.Syntax.{Ty, t-int, t-pkg, t-sum, Head, Value, int, err, inl, inr, pkg, blank, size, has}
 use Rattle.language.specs.World.{World, cell-words, wanted}
 use Rattle.language.specs.Evaluation.{Res, ok, long, stuck, bind, fitIf, fit, add, addTo, opened, unpacked}
 use Rattle.language.specs.Transition.{branch, branchV}
@@ -55,24 +55,24 @@ by-add P f g (int m) (int n) = f m n
 by-add P f g (int m) (err n) = g _ _ refl
 by-add P f g (int m) (inl v) = g _ _ refl
 by-add P f g (int m) (inr v) = g _ _ refl
-by-add P f g (int m) (pkg l v) = g _ _ refl
+by-add P f g (int m) (pkg h v) = g _ _ refl
 by-add P f g (int m) blank = g _ _ refl
 by-add P f g (err m) w = g _ _ refl
 by-add P f g (inl v) w = g _ _ refl
 by-add P f g (inr v) w = g _ _ refl
-by-add P f g (pkg l v) w = g _ _ refl
+by-add P f g (pkg h v) w = g _ _ refl
 by-add P f g blank w = g _ _ refl
 
 -- packages are opened, other values are not
 pub by-unpacked : (P : Value → Res → Type 0) (W : World) (t l : ℕ)
-    → ((m : ℕ) (v : Value) → P (pkg m v) (opened (W .reads l) (W .below m l) (has v (wanted (W .ty t))) v))
+    → ((h : Head) (v : Value) → P (pkg h v) (opened (W .reads l) (W .below (h .label) l) (has v (wanted (W .ty t))) v))
     → ((v : Value) → has v t-pkg ≡ false → P v stuck) → (v : Value) → P v (unpacked W t l v)
 unfolding unpacked has
 by-unpacked P W t l f g (int n) = g _ refl
 by-unpacked P W t l f g (err n) = g _ refl
 by-unpacked P W t l f g (inl v) = g _ refl
 by-unpacked P W t l f g (inr v) = g _ refl
-by-unpacked P W t l f g (pkg m v) = f m v
+by-unpacked P W t l f g (pkg h v) = f h v
 by-unpacked P W t l f g blank = g _ refl
 
 -- left and right go their ways, too long its own, and what is no value of a sum type the last

@@ -4,7 +4,7 @@ use mathlib.Core.Bool.{Bool, true, false}
 use mathlib.Core.Option.{some}
 use mathlib.Core.List.{List, [], _∷_}
 use Prim.Native.Nat.{ℕ, zero, suc}
-use Rattle.language.specs.Syntax.{Ty, t-int, t-err, t-pkg, t-sum, Value, int, inl, inr, pkg, has, Expr, Cmd, skip, seq, assign, while, case}
+use Rattle.language.specs.Syntax.{Ty, t-int, t-err, t-pkg, t-sum, headOf, Value, int, inl, inr, pkg, has, Expr, Cmd, skip, seq, assign, while, case}
 use Rattle.language.specs.World.{World, Mem, wanted}
 use Rattle.language.specs.Substitution.{Env, close}
 use Rattle.language.specs.Declarations.{Shapes, nth, WellTyped}
@@ -35,7 +35,7 @@ good-add = by-add (λ v w r. has v t-int ≡ true → has w t-int ≡ true → G
 
 good-pack : (b : Bool) (l : ℕ) (v : Value) → Good (t-sum t-pkg t-err) (packed b l v)
 unfolding packed has
-good-pack true l v = good-fit (t-sum t-pkg t-err) (inl (pkg l v)) refl
+good-pack true l v = good-fit (t-sum t-pkg t-err) (inl (pkg (headOf l) v)) refl
 good-pack false l v = refl
 
 good-open : (t : Ty) (a b c : Bool) (v : Value) → has v t ≡ c → Good (t-sum t t-err) (opened a b c v)
@@ -50,8 +50,8 @@ unfolding wanted
 wanted-left p = rw p refl
 
 good-unpack : (W : World) (t : Ty) (n l : ℕ) (v : Value) → wanted (W .ty n) ≡ t → has v t-pkg ≡ true → Good (t-sum t t-err) (unpacked W n l v)
-good-unpack W t n l v p h = by-unpacked (λ v r. has v t-pkg ≡ true → Good (t-sum t t-err) r) W n l
-    (λ m v h. rw p (good-open t (W .reads l) (W .below m l) (has v t) v refl)) (λ v e h. fails e h) v h
+good-unpack W t n l v p q = by-unpacked (λ v r. has v t-pkg ≡ true → Good (t-sum t t-err) r) W n l
+    (λ h v q. rw p (good-open t (W .reads l) (W .below (h .label) l) (has v t) v refl)) (λ v e q. fails e q) v q
 
 -- the values of an environment have the types that a context holds
 pub data EnvTyped : List Ty → Env → Type 0 where

@@ -106,7 +106,7 @@ module _ (S : Shapes) (Γ : List Ty) where
   has-type (val (err n)) h = none-some h
   has-type (val (inl v)) h = none-some h
   has-type (val (inr v)) h = none-some h
-  has-type (val (pkg l v)) h = none-some h
+  has-type (val (pkg h v)) e = none-some e
   has-type (val blank) h = none-some h
   has-type (loc x) h = subst (HasType S Γ (loc x)) (some-path h) h-loc
   has-type (var d) h = h-var h

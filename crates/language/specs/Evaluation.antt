@@ -3,7 +3,7 @@ use mathlib.Core.Bool.{Bool, true, false}
 use mathlib.Core.List.{[], _∷_}
 use Prim.Native.Nat.{ℕ, zero, suc, _+_, _%_, _^_}
 use lib.Dec.{leb}
-use Rattle.language.specs.Syntax.{Value, int, err, inl, inr, pkg, blank, Expr, val, loc, var, plus, left, right, pack, unpack, size, has}
+use Rattle.language.specs.Syntax.{headOf, Value, int, err, inl, inr, pkg, blank, Expr, val, loc, var, plus, left, right, pack, unpack, size, has}
 use Rattle.language.specs.World.{World, Mem, cell-words, wanted}
 use Rattle.language.specs.Substitution.{Env}
 
@@ -31,7 +31,7 @@ addTo a (int b) = fit (int ((a + b) % 2 ^ 32))
 addTo a (err e) = stuck
 addTo a (inl v) = stuck
 addTo a (inr v) = stuck
-addTo a (pkg l v) = stuck
+addTo a (pkg h v) = stuck
 addTo a blank = stuck
 
 unfoldable pub add : Value → Value → Res
@@ -39,12 +39,12 @@ add (int a) w = addTo a w
 add (err e) w = stuck
 add (inl v) w = stuck
 add (inr v) w = stuck
-add (pkg l v) w = stuck
+add (pkg h v) w = stuck
 add blank w = stuck
 
 -- EE-PACK-OK and EE-PACK-FAIL, by whether the authority writes the label
 unfoldable pub packed : Bool → ℕ → Value → Res
-packed true l v = fit (inl (pkg l v))
+packed true l v = fit (inl (pkg (headOf l) v))
 packed false l v = ok (inr (err 1))
 
 -- EE-UNPACK-FAIL1, -FAIL2, -FAIL3 and -OK, by: the authority reads the wanted label; the package's label is at or below it;
@@ -61,7 +61,7 @@ unpacked W t l (int n) = stuck
 unpacked W t l (err e) = stuck
 unpacked W t l (inl v) = stuck
 unpacked W t l (inr v) = stuck
-unpacked W t l (pkg m v) = opened (W .reads l) (W .below m l) (has v (wanted (W .ty t))) v
+unpacked W t l (pkg h v) = opened (W .reads l) (W .below (h .label) l) (has v (wanted (W .ty t))) v
 unpacked W t l blank = stuck
 
 unfoldable pub lookup : Env → ℕ → Res

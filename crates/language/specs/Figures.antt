@@ -2,12 +2,13 @@
 use mathlib.Core.Path.{_≡_}
 use mathlib.Core.Bool.{true, false}
 use Prim.Native.Nat.{ℕ, zero, suc, _+_, _%_, _^_, _<_}
-use Rattle.language.specs.Syntax.{Value, int, err, inl, inr, pkg, size, has, Expr, val, loc, plus, left, right, pack, unpack, Cmd, skip, seq, assign, while, case}
+use Rattle.language.specs.Syntax.{Head, headOf, Value, int, err, inl, inr, pkg, size, has, Expr, val, loc, plus, left, right, pack, unpack, Cmd, skip, seq, assign, while, case}
 use Rattle.language.specs.World.{World, Mem, cell-words, wanted}
 use Rattle.language.specs.Substitution.{inst, update}
 
 -- Figure 2, p̄; M ⊢ e → e′. The world holds the authority p̄ with the sheet's types and order of labels.
--- Sums are taken modulo 2^32. An unpack names the sum type t; the wanted type is its left part. The errors have the scope's numbers.
+-- Sums are taken modulo 2^32. A package has its label in its head. An unpack names the sum type t; the wanted type is its left part.
+-- The errors have the scope's numbers.
 -- The last two rules are not in the figure: a value is written `val v` here, so inl of a value has still to become one.
 pub data EStep (W : World) (M : Mem) : Expr → Expr → Type 0 where
   ee-loc : {x : ℕ} → EStep W M (loc x) (val (M x))
@@ -17,16 +18,16 @@ pub data EStep (W : World) (M : Mem) : Expr → Expr → Type 0 where
   ee-plus-struct2 : {v : Value} {e e′ : Expr} → EStep W M e e′ → EStep W M (plus (val v) e) (plus (val v) e′)
   ee-plus : {i₁ i₂ : ℕ} → EStep W M (plus (val (int i₁)) (val (int i₂))) (val (int ((i₁ + i₂) % 2 ^ 32)))
   ee-pack-struct : {l : ℕ} {e e′ : Expr} → EStep W M e e′ → EStep W M (pack l e) (pack l e′)
-  ee-pack-ok : {l : ℕ} {v : Value} → W .writes l ≡ true → EStep W M (pack l (val v)) (val (inl (pkg l v)))
+  ee-pack-ok : {l : ℕ} {v : Value} → W .writes l ≡ true → EStep W M (pack l (val v)) (val (inl (pkg (headOf l) v)))
   ee-pack-fail : {l : ℕ} {v : Value} → W .writes l ≡ false → EStep W M (pack l (val v)) (val (inr (err 1)))
   ee-unpack-struct : {t l : ℕ} {e e′ : Expr} → EStep W M e e′ → EStep W M (unpack t l e) (unpack t l e′)
-  ee-unpack-fail1 : {t l l₀ : ℕ} {v₀ : Value} → W .reads l ≡ false → EStep W M (unpack t l (val (pkg l₀ v₀))) (val (inr (err 1)))
-  ee-unpack-fail2 : {t l l₀ : ℕ} {v₀ : Value} → W .reads l ≡ true → W .below l₀ l ≡ false
-      → EStep W M (unpack t l (val (pkg l₀ v₀))) (val (inr (err 2)))
-  ee-unpack-fail3 : {t l l₀ : ℕ} {v₀ : Value} → W .reads l ≡ true → W .below l₀ l ≡ true → has v₀ (wanted (W .ty t)) ≡ false
-      → EStep W M (unpack t l (val (pkg l₀ v₀))) (val (inr (err 3)))
-  ee-unpack-ok : {t l l₀ : ℕ} {v₀ : Value} → W .reads l ≡ true → W .below l₀ l ≡ true → has v₀ (wanted (W .ty t)) ≡ true
-      → EStep W M (unpack t l (val (pkg l₀ v₀))) (val (inl v₀))
+  ee-unpack-fail1 : {t l : ℕ} {h : Head} {v₀ : Value} → W .reads l ≡ false → EStep W M (unpack t l (val (pkg h v₀))) (val (inr (err 1)))
+  ee-unpack-fail2 : {t l : ℕ} {h : Head} {v₀ : Value} → W .reads l ≡ true → W .below (h .label) l ≡ false
+      → EStep W M (unpack t l (val (pkg h v₀))) (val (inr (err 2)))
+  ee-unpack-fail3 : {t l : ℕ} {h : Head} {v₀ : Value} → W .reads l ≡ true → W .below (h .label) l ≡ true → has v₀ (wanted (W .ty t)) ≡ false
+      → EStep W M (unpack t l (val (pkg h v₀))) (val (inr (err 3)))
+  ee-unpack-ok : {t l : ℕ} {h : Head} {v₀ : Value} → W .reads l ≡ true → W .below (h .label) l ≡ true → has v₀ (wanted (W .ty t)) ≡ true
+      → EStep W M (unpack t l (val (pkg h v₀))) (val (inl v₀))
   inl-value : {t : ℕ} {v : Value} → EStep W M (left t (val v)) (val (inl v))
   inr-value : {t : ℕ} {v : Value} → EStep W M (right t (val v)) (val (inr v))
 

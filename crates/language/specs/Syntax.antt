@@ -9,16 +9,27 @@ pub data Ty : Type 0 where
   t-sum : Ty → Ty → Ty
   deriving Discrete as Ty-discrete
 
--- An integer; an error (1 insufficientAuth, 2 illegalFlow, 3 typeMismatch); left and right; a package with its label.
+-- What a package says of its content: the label that its pack names.
+pub record Head : Type 0 where
+  pub label : ℕ
+
+-- the head of a package that a pack of label l makes
+abbrev pub headOf : ℕ → Head
+headOf l = record { label = l }
+
+-- The words that a head takes in memory.
+abbrev pub headSize : ℕ
+headSize = 1
+
+-- An integer; an error (1 insufficientAuth, 2 illegalFlow, 3 typeMismatch); left and right; a package with its head.
 -- `blank` stands for content that a view hides, and for words that are read and are no value's; no run meets it.
 pub data Value : Type 0 where
   int : ℕ → Value
   err : ℕ → Value
   inl : Value → Value
   inr : Value → Value
-  pkg : ℕ → Value → Value
+  pkg : Head → Value → Value
   blank : Value
-  deriving Discrete as Value-discrete
 
 -- A value is an expression; a script's only values are integers, and substitution brings in the others.
 -- `var d` is bound by the d-th enclosing case, innermost 0. `left t`, `right t` and `unpack t` name the sum type t that they make.
@@ -44,7 +55,7 @@ size (int n) = 2
 size (err n) = 2
 size (inl v) = suc (size v)
 size (inr v) = suc (size v)
-size (pkg l v) = 2 + size v
+size (pkg h v) = suc (headSize + size v)
 size blank = 1
 
 -- Whether a value has a type. What a package holds is not looked at: its content may be any value.
@@ -65,8 +76,8 @@ has (inr v) t-int = false
 has (inr v) t-err = false
 has (inr v) t-pkg = false
 has (inr v) (t-sum a b) = has v b
-has (pkg l v) t-int = false
-has (pkg l v) t-err = false
-has (pkg l v) t-pkg = true
-has (pkg l v) (t-sum a b) = false
+has (pkg h v) t-int = false
+has (pkg h v) t-err = false
+has (pkg h v) t-pkg = true
+has (pkg h v) (t-sum a b) = false
 has blank t = false

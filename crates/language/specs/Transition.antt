@@ -32,7 +32,7 @@ branchV l r n (int k) = n
 branchV l r n (err k) = n
 branchV l r n (inl v) = l v
 branchV l r n (inr v) = r v
-branchV l r n (pkg k v) = n
+branchV l r n (pkg h v) = n
 branchV l r n blank = n
 
 unfoldable pub branch {ℓ} : {A : Type ℓ} → (Value → A) → (Value → A) → A → A → Res → A

@@ -64,7 +64,7 @@ typeOfValue (int n) = some t-int
 typeOfValue (err e) = none
 typeOfValue (inl v) = none
 typeOfValue (inr v) = none
-typeOfValue (pkg l v) = none
+typeOfValue (pkg h v) = none
 typeOfValue blank = none
 
 -- The type of an expression, if it has one; Γ holds the types that enclosing cases bind, innermost first.

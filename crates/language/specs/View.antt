@@ -2,7 +2,7 @@
 use mathlib.Core.Path.{_≡_}
 use mathlib.Core.Bool.{Bool, true, false}
 use Prim.Native.Nat.{ℕ}
-use Rattle.language.specs.Syntax.{Value, int, err, inl, inr, pkg, blank}
+use Rattle.language.specs.Syntax.{Head, Value, int, err, inl, inr, pkg, blank}
 use Rattle.language.specs.World.{Mem}
 
 -- v where it is seen
@@ -17,7 +17,7 @@ mask shows (int n) = int n
 mask shows (err e) = err e
 mask shows (inl v) = inl (mask shows v)
 mask shows (inr v) = inr (mask shows v)
-mask shows (pkg l v) = pkg l (seen (shows l) (mask shows v))
+mask shows (pkg h v) = pkg h (seen (shows (h .label)) (mask shows v))
 mask shows blank = blank
 
 -- What stands in a view for a memory; `sees x` tells whether the location's label is seen.
@@ -31,8 +31,8 @@ pub data Equiv (shows : ℕ → Bool) : Value → Value → Type 0 where
   ve-err : {e : ℕ} → Equiv shows (err e) (err e)
   ve-inl : {v₁ v₂ : Value} → Equiv shows v₁ v₂ → Equiv shows (inl v₁) (inl v₂)
   ve-inr : {v₁ v₂ : Value} → Equiv shows v₁ v₂ → Equiv shows (inr v₁) (inr v₂)
-  ve-pack-in : {l : ℕ} {v₁ v₂ : Value} → Equiv shows v₁ v₂ → Equiv shows (pkg l v₁) (pkg l v₂)
-  ve-pack-lab : {l : ℕ} {v₁ v₂ : Value} → shows l ≡ false → Equiv shows (pkg l v₁) (pkg l v₂)
+  ve-pack-in : {h : Head} {v₁ v₂ : Value} → Equiv shows v₁ v₂ → Equiv shows (pkg h v₁) (pkg h v₂)
+  ve-pack-lab : {h : Head} {v₁ v₂ : Value} → shows (h .label) ≡ false → Equiv shows (pkg h v₁) (pkg h v₂)
   ve-blank : Equiv shows blank blank
 
 -- Definition 1: memories are equivalent when the values at each location that is seen are.

@@ -9,9 +9,9 @@ use borrow.Author.Tests.{eq-eqb, eqb-true, ne-eqb}
 use lib.Dec.{eqb}
 use lib.ListN.{length, getD, drop, length-drop}
 use Rattle.logic.proofs.BooleanLaws.{absurd-false, both-left, both-off, both-on, both-right, both-true}
-use Rattle.language.specs.Syntax.{Value, int, err, inl, inr, pkg, blank, size}
+use Rattle.language.specs.Syntax.{Head, Value, int, err, inl, inr, pkg, blank, size}
 use Rattle.language.specs.World.{cell-words}
-use Rattle.memory.specs.Words.{enc, zeros, cell, readOf, valueOf}
+use Rattle.memory.specs.Words.{headWords, enc, zeros, cell, readOf, valueOf}
 use Rattle.memory.specs.Memory.{proper, equalWords, exactly, holdsBy}
 use Rattle.memory.specs.Internal.Post.{Walks}
 use Rattle.memory.proofs.WordLaws.{length-enc, read-exact}
@@ -35,13 +35,17 @@ equal-cons : (x : ℕ) (xs ys : List ℕ) → equalWords (x ∷ xs) (x ∷ ys) �
 unfolding equalWords
 equal-cons x xs ys = sym (both-on _ _ (eq-eqb x x refl))
 
+equal-head : (h : Head) (xs ys : List ℕ) → equalWords (headWords h xs) (headWords h ys) ≡ equalWords xs ys
+unfolding headWords
+equal-head h xs ys = equal-cons (h .label) xs ys
+
 equal-enc : (v : Value) (xs ys : List ℕ) → equalWords (enc v xs) (enc v ys) ≡ equalWords xs ys
 unfolding enc
 equal-enc (int n) xs ys = equal-cons 1 _ _ ∙ equal-cons n xs ys
 equal-enc (err e) xs ys = equal-cons 2 _ _ ∙ equal-cons e xs ys
 equal-enc (inl v) xs ys = equal-cons 3 _ _ ∙ equal-enc v xs ys
 equal-enc (inr v) xs ys = equal-cons 4 _ _ ∙ equal-enc v xs ys
-equal-enc (pkg l v) xs ys = equal-cons 5 _ _ ∙ equal-cons l _ _ ∙ equal-enc v xs ys
+equal-enc (pkg h v) xs ys = equal-cons 5 _ _ ∙ equal-head h _ _ ∙ equal-enc v xs ys
 equal-enc blank xs ys = equal-cons 0 xs ys
 
 -- ---- zeros from a place on

@@ -1,3 +1,4 @@
+pub mod HeadLaws
 pub mod WordLaws
 pub mod ProperLaws
 pub mod PlaceLaws

@@ -2,17 +2,19 @@
 -- Assumes nothing.
 use mathlib.Core.Path.{_≡_, refl, sym, ap, _∙_}
 use mathlib.Core.Bool.{Bool, true, false, false≢true}
-use mathlib.Core.List.{List}
+use mathlib.Core.List.{List, [], _∷_}
 use Prim.Native.Nat.{ℕ, _+_, _≤_, _<_}
 use native.Mathlib.Omega.{arith}
 use native.Mathlib.Numerals.{add-one}
 use lib.ListN.{length, getD, set, drop}
-use Rattle.language.specs.Syntax.{Value, pkg, blank, size}
+use lib.Seq.{sets}
+use Rattle.language.specs.Syntax.{Head, headSize, Value, pkg, blank, size}
 use Rattle.language.specs.View.{seen, mask}
-use Rattle.memory.specs.Words.{Got, enc, wrap, numbered, packaged, readOf}
+use Rattle.memory.specs.Words.{Got, headWords, enc, wrap, numbered, headAt, packaged, readOf}
 use Rattle.memory.specs.Internal.Post.{Walks, Masks, Numeral, num-int, num-err, Opens}
+use Rattle.memory.proofs.HeadLaws.{head-sets}
 use Rattle.memory.proofs.WordLaws.{Side, to-left, to-right}
-use Rattle.memory.proofs.PlaceLaws.{here, past, at-past, at-numeral, at-side, at-package, at-none, labelled}
+use Rattle.memory.proofs.PlaceLaws.{here, past, at-past, at-numeral, at-side, at-package, at-none, headed, headless}
 
 module _ (shows : ℕ → Bool) (ws out : List ℕ) (to : ℕ) {left : List ℕ} {next end : ℕ} where
   read-as : {g got : Got} → g ≡ got → Masks shows ws got out to left next end → Masks shows ws g out to left next end
@@ -38,15 +40,22 @@ module _ (shows : ℕ → Bool) (ws out : List ℕ) (to : ℕ) {left : List ℕ}
   on-side to-left s m = record { stored = m .stored ∙ rw (s, add-one) refl; ends = omega (arith, m .ends); after = m .after }
   on-side to-right s m = record { stored = m .stored ∙ rw (s, add-one) refl; ends = omega (arith, m .ends); after = m .after }
 
-  shown : {got : Got} {mid : List ℕ} (l : ℕ) → shows l ≡ true → mid ≡ set (set out to 5) (to + 1) l → Masks shows ws got mid (to + 1 + 1) left next end
-      → Masks shows ws (wrap (pkg l) got) out to left next end
+  -- a package: its first word, its head, and what is seen of its content
+  shown : {got : Got} {mid : List ℕ} (h : Head) → shows (h .label) ≡ true → mid ≡ sets (set out to 5) (to + 1) (headWords h [])
+      → Masks shows ws got mid (to + 1 + headSize) left next end → Masks shows ws (wrap (pkg h) got) out to left next end
   unfolding mask enc size wrap seen
-  shown l s e m = record { stored = m .stored ∙ rw (e, s, add-one, add-one) refl; ends = rw s (omega (arith, m .ends)); after = m .after }
+  shown {got} h s e m =
+      record {
+        stored = m .stored ∙ rw (e, s) (head-sets h (set out to 5) (to + 1) (enc (mask shows (got .0)) []) ∙ rw add-one refl);
+        ends = rw s (omega (arith, m .ends));
+        after = m .after;
+      }
 
-  hidden : (got : Got) (l : ℕ) → shows l ≡ false → left ≡ set (set (set out to 5) (to + 1) l) (to + 1 + 1) 0 → end ≡ to + 1 + 1 + 1
-      → drop next ws ≡ got .1 → Masks shows ws (wrap (pkg l) got) out to left next end
+  hidden : (got : Got) (h : Head) → shows (h .label) ≡ false → left ≡ set (sets (set out to 5) (to + 1) (headWords h [])) (to + 1 + headSize) 0
+      → end ≡ to + 1 + headSize + 1 → drop next ws ≡ got .1 → Masks shows ws (wrap (pkg h) got) out to left next end
   unfolding mask enc size wrap seen
-  hidden got l s e n d = record { stored = e ∙ rw (s, add-one, add-one) refl; ends = rw s (omega arith); after = d }
+  hidden got h s e n d =
+      record { stored = e ∙ rw s (head-sets h (set out to 5) (to + 1) (0 ∷ []) ∙ rw add-one refl); ends = rw s (omega arith); after = d }
 
   -- ---- by the word at a place
 
@@ -64,7 +73,7 @@ module _ (shows : ℕ → Bool) (ws out : List ℕ) (to : ℕ) {left : List ℕ}
     unfolding numbered
     mask-no-number f h s d n = none (rw (past ws at h) refl) (ap (λ (j : ℕ). drop j ws) d ∙ past ws at h) s n
 
-    -- the label of a package
+    -- the head of a package
     closed : Masks shows ws (packaged readOf (drop at ws)) out to left next end → Opens shows ws at out to false left next end
     closed m =
         record {
@@ -75,23 +84,24 @@ module _ (shows : ℕ → Bool) (ws out : List ℕ) (to : ℕ) {left : List ℕ}
         }
 
     pub opens-past : length ws ≤ at → left ≡ set out to 0 → next ≡ at → end ≡ to + 1 → Opens shows ws at out to false left next end
-    unfolding packaged
-    opens-past h s d n = closed (none (rw (past ws at h) refl) (ap (λ (j : ℕ). drop j ws) d ∙ past ws at h) s n)
+    opens-past h s d n = closed (none (headless ws at h) (ap (λ (j : ℕ). drop j ws) d ∙ past ws at h) s n)
 
-    pub opens-shown : {mid : List ℕ} → at < length ws → shows (getD ws at 0) ≡ true → mid ≡ set out to 5 → left ≡ set mid (to + 1) (getD ws at 0)
+    pub opens-shown : {mid : List ℕ} → at + headSize ≤ length ws → shows (getD ws at 0) ≡ true → mid ≡ set out to 5 → left ≡ set mid (to + 1) (getD ws at 0)
         → Opens shows ws at out to true left next end
+    unfolding headWords headAt
     opens-shown h s e k =
         record {
           head = λ _. k ∙ ap (λ (l : List ℕ). set l (to + 1) (getD ws at 0)) e;
-          content = λ _. labelled ws at h;
+          content = λ _. headed ws at h;
           seen = λ _. s;
           whole = λ e. absurd (false≢true (sym e));
         }
 
-    pub opens-hidden : {mid mid′ : List ℕ} {labels : ℕ} {ok : Bool} → at < length ws → shows (getD ws at 0) ≡ false → mid ≡ set out to 5
-        → mid′ ≡ set mid (to + 1) (getD ws at 0) → left ≡ set mid′ (to + 1 + 1) 0 → end ≡ to + 1 + 1 + 1
-        → Walks labels ws (at + 1) (readOf (drop (at + 1) ws)) ok next → Opens shows ws at out to false left next end
-    opens-hidden h s e e′ k n w = closed (read-as (labelled ws at h) (hidden _ (getD ws at 0) s (k ∙ rw (e′, e) refl) n (w .after)))
+    pub opens-hidden : {mid mid′ : List ℕ} {labels : ℕ} {ok : Bool} → at + headSize ≤ length ws → shows (getD ws at 0) ≡ false → mid ≡ set out to 5
+        → mid′ ≡ set mid (to + 1) (getD ws at 0) → left ≡ set mid′ (to + 1 + headSize) 0 → end ≡ to + 1 + headSize + 1
+        → Walks labels ws (at + headSize) (readOf (drop (at + headSize) ws)) ok next → Opens shows ws at out to false left next end
+    unfolding headWords headAt
+    opens-hidden h s e e′ k n w = closed (read-as (headed ws at h) (hidden _ (headAt ws at) s (k ∙ rw (e′, e) refl) n (w .after)))
 
     -- a value
     pub mask-past : length ws ≤ at → left ≡ set out to 0 → next ≡ at → end ≡ to + 1 → Masks shows ws (readOf (drop at ws)) out to left next end
@@ -112,12 +122,12 @@ module _ (shows : ℕ → Bool) (ws out : List ℕ) (to : ℕ) {left : List ℕ}
           → left ≡ set out to 0 → next ≡ at + 1 → end ≡ to + 1 → Masks shows ws (readOf (drop at ws)) out to left next end
       mask-none n1 n2 n3 n4 n5 s d n = none (at-none ws at h n1 n2 n3 n4 n5) (ap (λ (j : ℕ). drop j ws) d) s n
 
--- a package, whose label's words were stored first
+-- a package, whose head's words were stored first
 module _ (shows : ℕ → Bool) (ws out : List ℕ) (to at : ℕ) (h : at < length ws) (k : getD ws at 0 ≡ 5) {is : Bool} {mid : List ℕ} {n e : ℕ}
     (o : Opens shows ws (at + 1) out to is mid n e) where
-  pub mask-open : {left : List ℕ} {next end : ℕ} → is ≡ true → Masks shows ws (readOf (drop (at + 1 + 1) ws)) mid (to + 1 + 1) left next end
+  pub mask-open : {left : List ℕ} {next end : ℕ} → is ≡ true → Masks shows ws (readOf (drop (at + 1 + headSize) ws)) mid (to + 1 + headSize) left next end
       → Masks shows ws (readOf (drop at ws)) out to left next end
-  mask-open s m = read-as shows ws out to (at-package ws at h k ∙ o .content s) (shown shows ws out to (getD ws (at + 1) 0) (o .seen s) (o .head s) m)
+  mask-open s m = read-as shows ws out to (at-package ws at h k ∙ o .content s) (shown shows ws out to (headAt ws (at + 1)) (o .seen s) (o .head s) m)
 
   pub mask-closed : is ≡ false → Masks shows ws (readOf (drop at ws)) out to mid n e
   mask-closed s = read-as shows ws out to (at-package ws at h k) (o .whole s)

@@ -4,11 +4,13 @@ use mathlib.Core.Path.{_≡_, refl, ap, _∙_}
 use mathlib.Core.List.{List, [], _∷_}
 use Prim.Native.Nat.{ℕ, _+_, _≤_, _<_}
 use native.Mathlib.Numerals.{add-one}
-use lib.ListN.{length, getD, drop, drop-of-length-le}
-use lib.Seq.{drop-cons}
-use Rattle.language.specs.Syntax.{Value, pkg, blank}
-use Rattle.memory.specs.Words.{wrap, numbered, packaged, read, readOf}
+use native.Mathlib.Omega.{arith}
+use lib.ListN.{length, getD, drop, drop-of-length-le, length-drop}
+use lib.Seq.{drop-cons, drop-drop}
+use Rattle.language.specs.Syntax.{headSize, Value, pkg, blank}
+use Rattle.memory.specs.Words.{wrap, numbered, headAt, packaged, read, readOf}
 use Rattle.memory.specs.Internal.Post.{Numeral}
+use Rattle.memory.proofs.HeadLaws.{head-from, package-none, package-some}
 use Rattle.memory.proofs.WordLaws.{Side, read-numeral, read-side, read-package, read-none}
 
 module _ (ws : List ℕ) (at : ℕ) where
@@ -37,7 +39,9 @@ module _ (ws : List ℕ) (at : ℕ) where
         → readOf (drop at ws) ≡ (blank, drop (at + 1) ws)
     at-none n1 n2 n3 n4 n5 = ap readOf (here (getD ws at 0) h refl) ∙ read-none (drop (at + 1) ws) (getD ws at 0) n1 n2 n3 n4 n5
 
-    -- a label and the content after it
-    pub labelled : packaged readOf (drop at ws) ≡ wrap (pkg (getD ws at 0)) (readOf (drop (at + 1) ws))
-    unfolding packaged
-    labelled = rw (here _ h refl) refl
+  -- the head of a package, and the content after it
+  pub headed : at + headSize ≤ length ws → packaged readOf (drop at ws) ≡ wrap (pkg (headAt ws at)) (readOf (drop (at + headSize) ws))
+  headed h = package-some readOf (drop at ws) (omega (arith, length-drop at ws)) ∙ rw (head-from ws at, drop-drop headSize at ws) refl
+
+  pub headless : length ws ≤ at → packaged readOf (drop at ws) ≡ (blank, [])
+  headless h = package-none readOf (drop at ws) (omega (arith, length-drop at ws))

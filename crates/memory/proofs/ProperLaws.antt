@@ -6,11 +6,11 @@ use Prim.Native.Nat.{ℕ, _<_}
 use borrow.Author.Tests.{le-leb, lt-ltb}
 use Rattle.logic.proofs.BooleanLaws.{both-right, both-true}
 use Rattle.language.proofs.Invariants.{Kept}
-use Rattle.memory.specs.Memory.{proper}
+use Rattle.memory.specs.Memory.{properHead, proper}
 
 -- packs may name the labels below `labels`
 pub proper-kept : (labels : ℕ) → Kept (λ v. proper labels v ≡ true) (λ l. l < labels)
-unfolding proper
+unfolding properHead proper
 proper-kept labels =
     record {
       sum = λ n h. refl;
@@ -20,5 +20,5 @@ proper-kept labels =
       to-package = λ l v n p h. both-true (lt-ltb l labels n) p;
       from-left = λ v p. p;
       from-right = λ v p. p;
-      from-package = λ l v p. both-right _ _ p;
+      from-package = λ h v p. both-right _ _ p;
     }

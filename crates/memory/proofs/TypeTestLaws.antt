@@ -4,6 +4,7 @@ use mathlib.Core.Path.{_≡_, refl, sym, ap, _∙_}
 use mathlib.Core.Bool.{Bool, false}
 use mathlib.Core.List.{List, [], _∷_}
 use Prim.Native.Nat.{ℕ, _+_, _-_, _≤_, _<_}
+use native.Mathlib.Omega.{arith}
 use borrow.Author.Tests.{lt-ltb, le-ltb}
 use lib.Dec.{eqb, ltb}
 use lib.ListN.{length, getD, drop}
@@ -13,10 +14,10 @@ use Rattle.sets.proofs.Walks.{by-below}
 use Rattle.language.specs.Syntax.{Value, int, err, blank}
 use Rattle.sheet.specs.Internal.Tables.{leftIn, rightIn}
 use Rattle.sheet.specs.Internal.TypeTest.{isSum, hasNo}
-use Rattle.memory.specs.Words.{Got, wrap, numbered, packaged, readOf, valueOf}
+use Rattle.memory.specs.Words.{Got, wrap, numbered, readOf, valueOf}
 use Rattle.memory.specs.Internal.Post.{Numeral, num-int, num-err}
 use Rattle.memory.proofs.WordLaws.{to-left, to-right}
-use Rattle.memory.proofs.PlaceLaws.{here, past, at-past, at-numeral, at-side, at-package, at-none}
+use Rattle.memory.proofs.PlaceLaws.{here, past, at-past, at-numeral, at-side, at-package, at-none, headed, headless}
 
 module _ (t ws : List ℕ) (ty : ℕ) where
   -- a value that is known by one word more, and whose type doesn't depend on what follows
@@ -45,8 +46,11 @@ module _ (t ws : List ℕ) (ty : ℕ) where
       type-numeral num-err e = told (at-numeral ws at h num-err e) (after-one (λ us. numbered err us .0) (eqb ty 1) refl (λ n us. refl) (at + 1))
 
       pub type-pkg : getD ws at 0 ≡ 5 → both (ltb (at + 1) (length ws)) (eqb ty 2) ≡ hasNo t (valueOf (drop at ws)) ty
-      unfolding hasNo packaged wrap
-      type-pkg e = told (at-package ws at h e) (after-one (λ us. packaged readOf us .0) (eqb ty 2) refl (λ n us. refl) (at + 1))
+      unfolding hasNo wrap
+      type-pkg e =
+          told (at-package ws at h e)
+          (by-below (at + 1) (length ws) (λ l. both-yes-left _ _ (lt-ltb _ _ l) ∙ rw (headed ws (at + 1) (omega arith)) refl)
+          (λ l. both-no-left _ _ (le-ltb _ _ l) ∙ rw (headless ws (at + 1) l) refl))
 
       -- a sum: the test of its part
       pub type-inl : {r : Bool} → getD ws at 0 ≡ 3

@@ -17,7 +17,7 @@ use Rattle.memory.specs.Memory.{cellOf}
 use Rattle.memory.specs.View.{viewCell}
 use Rattle.memory.specs.Internal.InTable.{seesIn}
 use Rattle.memory.specs.Internal.Post.{Masks}
-use Rattle.memory.proofs.WordLaws.{size-pos, length-enc}
+use Rattle.memory.proofs.WordLaws.{size-pos, length-enc, enc-append}
 use Rattle.memory.proofs.RefusalLaws.{part-cell}
 
 -- ---- masks
@@ -34,7 +34,7 @@ mask-size shows (int n) = omega arith
 mask-size shows (err e) = omega arith
 mask-size shows (inl v) = omega (arith, mask-size shows v)
 mask-size shows (inr v) = omega (arith, mask-size shows v)
-mask-size shows (pkg l v) = omega (arith, seen-size (shows l) (mask shows v) (size v) (mask-size shows v) (size-pos v))
+mask-size shows (pkg h v) = omega (arith, seen-size (shows (h .label)) (mask shows v) (size v) (mask-size shows v) (size-pos v))
 mask-size shows blank = omega arith
 
 -- what a view has for a location: the cell of the masked value, 16 zero words being the cell of one that is hidden
@@ -44,15 +44,6 @@ view-cell true v = refl
 view-cell false v = refl
 
 -- ---- words stored over zeros
-
-enc-append : (v : Value) (us : List ℕ) → enc v [] ++ us ≡ enc v us
-unfolding enc
-enc-append (int n) us = refl
-enc-append (err e) us = refl
-enc-append (inl v) us = ap (λ (xs : List ℕ). 3 ∷ xs) (enc-append v us)
-enc-append (inr v) us = ap (λ (xs : List ℕ). 4 ∷ xs) (enc-append v us)
-enc-append (pkg l v) us = ap (λ (xs : List ℕ). 5 ∷ l ∷ xs) (enc-append v us)
-enc-append blank us = refl
 
 drop-zeros : (k n : ℕ) → drop k (zeros (k + n)) ≡ zeros n
 drop-zeros zero n = rw (zero-add n) refl
@@ -67,7 +58,7 @@ stored-cell v h =
     let e : cell-words ≡ size v + (cell-words - size v) = omega arith in
     sets-eq (enc v []) (zeros cell-words) 0 (omega arith)
     ∙ rw (zero-add (length (enc v [])), n) (ap (λ (us : List ℕ). enc v [] ++ us) (ap (λ (k : ℕ). drop (size v) (zeros k)) e ∙ drop-zeros (size v) (cell-words - size v)))
-    ∙ enc-append v (zeros (cell-words - size v))
+    ∙ enc-append v [] (zeros (cell-words - size v))
 
 -- ---- one location
 

@@ -8,12 +8,12 @@ use native.Mathlib.Omega.{arith}
 use lib.Dec.{ltb}
 use lib.ListN.{length, getD, drop, length-drop}
 use Rattle.logic.specs.Booleans.{both}
-use Rattle.language.specs.Syntax.{Value, blank}
-use Rattle.memory.specs.Words.{Got, wrap, numbered, packaged, readOf}
+use Rattle.language.specs.Syntax.{headSize, Value, blank}
+use Rattle.memory.specs.Words.{Got, wrap, numbered, headAt, packaged, readOf}
 use Rattle.memory.specs.Internal.Post.{endOf, Walks, Numeral}
-use Rattle.memory.specs.Memory.{proper}
+use Rattle.memory.specs.Memory.{properHead, proper}
 use Rattle.memory.proofs.WordLaws.{Side, to-left, to-right}
-use Rattle.memory.proofs.PlaceLaws.{here, past, at-past, at-numeral, at-side, at-package, at-none}
+use Rattle.memory.proofs.PlaceLaws.{here, past, at-past, at-numeral, at-side, at-package, at-none, headed, headless}
 
 module _ (labels : ℕ) (ws : List ℕ) (at : ℕ) where
   -- nothing is left
@@ -33,16 +33,15 @@ module _ (labels : ℕ) (ws : List ℕ) (at : ℕ) where
   unfolding numbered
   number-there f ok h e = rw (here ws at _ h refl) (record { forward = omega arith; bounded = omega arith; told = e; after = refl })
 
-  -- a label with its content
+  -- a head with its content
   pub package-past : length ws ≤ at → Walks labels ws at (packaged readOf (drop at ws)) false at
-  unfolding packaged
-  package-past h = stopped _ (rw (past ws at h) refl) h
+  package-past h = stopped _ (headless ws at h) h
 
-  pub package-there : {ok : Bool} {next : ℕ} (ok′ : Bool) → at < length ws → ok′ ≡ both (ltb (getD ws at 0) labels) ok
-      → Walks labels ws (at + 1) (readOf (drop (at + 1) ws)) ok next → Walks labels ws at (packaged readOf (drop at ws)) ok′ next
-  unfolding packaged wrap proper
+  pub package-there : {ok : Bool} {next : ℕ} (ok′ : Bool) → at + headSize ≤ length ws → ok′ ≡ both (ltb (getD ws at 0) labels) ok
+      → Walks labels ws (at + headSize) (readOf (drop (at + headSize) ws)) ok next → Walks labels ws at (packaged readOf (drop at ws)) ok′ next
+  unfolding headAt wrap properHead proper
   package-there ok′ h e w =
-      rw (here ws at _ h refl)
+      rw (headed ws at h)
       (record {
         forward = omega (arith, w .forward);
         bounded = omega (arith, w .bounded);

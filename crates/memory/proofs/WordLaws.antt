@@ -1,8 +1,8 @@
 -- Reading words gives back the value that they are the words of, and no other words are read as that value.
 -- Assumes nothing.
-use mathlib.Core.Path.{_≡_, refl, sym, ap, _∙_}
+use mathlib.Core.Path.{_≡_, refl, sym, ap, _∙_, subst}
 use mathlib.Core.Bool.{Bool, true, false, cond}
-use mathlib.Core.List.{List, [], _∷_}
+use mathlib.Core.List.{List, [], _∷_, _++_}
 use Prim.Native.Nat.{ℕ, zero, suc, _+_, _-_, _≤_}
 use native.Mathlib.Omega.{arith}
 use native.Mathlib.Nat.{le-refl}
@@ -10,11 +10,13 @@ use borrow.Author.Tests.{ne-eqb, eqb-true}
 use lib.Dec.{eqb}
 use lib.ListN.{length, drop, length-replicate}
 use Rattle.logic.proofs.BooleanLaws.{absurd-false, both-right}
-use Rattle.language.specs.Syntax.{Value, int, err, inl, inr, pkg, blank, size}
+use Rattle.sets.proofs.Walks.{by-below}
+use Rattle.language.specs.Syntax.{Head, headSize, Value, int, err, inl, inr, pkg, blank, size}
 use Rattle.language.specs.World.{cell-words}
-use Rattle.memory.specs.Words.{enc, zeros, cell, Got, wrap, numbered, packaged, tagged, read, readOf, valueOf}
+use Rattle.memory.specs.Words.{headWords, enc, zeros, cell, Got, wrap, numbered, packaged, tagged, read, readOf, valueOf}
 use Rattle.memory.specs.Internal.Post.{endOf, Numeral, num-int, num-err}
 use Rattle.memory.specs.Memory.{proper}
+use Rattle.memory.proofs.HeadLaws.{length-head, head-append, head-whole, package-head, package-none, package-some, packaged-same}
 
 -- ---- lengths
 
@@ -24,7 +26,7 @@ size-pos (int n) = omega arith
 size-pos (err e) = omega arith
 size-pos (inl v) = omega arith
 size-pos (inr v) = omega arith
-size-pos (pkg l v) = omega arith
+size-pos (pkg h v) = omega arith
 size-pos blank = omega arith
 
 pub length-enc : (v : Value) (rest : List ℕ) → length (enc v rest) ≡ size v + length rest
@@ -33,19 +35,24 @@ length-enc (int n) rest = omega arith
 length-enc (err e) rest = omega arith
 length-enc (inl v) rest = omega (arith, length-enc v rest)
 length-enc (inr v) rest = omega (arith, length-enc v rest)
-length-enc (pkg l v) rest = omega (arith, length-enc v rest)
+length-enc (pkg h v) rest = omega (arith, length-head h (enc v rest), length-enc v rest)
 length-enc blank rest = omega arith
+
+-- a value's words, then more
+pub enc-append : (v : Value) (rest more : List ℕ) → enc v rest ++ more ≡ enc v (rest ++ more)
+unfolding enc
+enc-append (int n) rest more = refl
+enc-append (err e) rest more = refl
+enc-append (inl v) rest more = ap (λ (us : List ℕ). 3 ∷ us) (enc-append v rest more)
+enc-append (inr v) rest more = ap (λ (us : List ℕ). 4 ∷ us) (enc-append v rest more)
+enc-append (pkg h v) rest more = ap (λ (us : List ℕ). 5 ∷ us) (head-append h (enc v rest) more ∙ ap (headWords h) (enc-append v rest more))
+enc-append blank rest more = refl
 
 pub length-cell : (v : Value) → size v ≤ cell-words → length (cell v) ≡ cell-words
 unfolding cell
 length-cell v h = length-enc v (zeros (cell-words - size v)) ∙ simp length-replicate (omega arith)
 
 -- ---- reading: more words allowed than there are change nothing
-
-packaged-same : (r r′ : List ℕ → Got) (ws : List ℕ) → ((us : List ℕ) → length us ≤ length ws → r us ≡ r′ us) → packaged r ws ≡ packaged r′ ws
-unfolding packaged
-packaged-same r r′ [] h = refl
-packaged-same r r′ (l ∷ ws) h = ap (wrap (pkg l)) (h ws (omega arith))
 
 tagged-same : (r r′ : List ℕ → Got) (w : ℕ) (ws : List ℕ) → ((us : List ℕ) → length us ≤ length ws → r us ≡ r′ us) → tagged r w ws ≡ tagged r′ w ws
 unfolding tagged
@@ -90,12 +97,12 @@ module _ (ws : List ℕ) where
 -- ---- reading the words of a value
 
 pub read-enc : (v : Value) (rest : List ℕ) → readOf (enc v rest) ≡ (v, rest)
-unfolding enc wrap numbered packaged
+unfolding enc wrap numbered
 read-enc (int n) rest = read-numeral (n ∷ rest) num-int
 read-enc (err e) rest = read-numeral (e ∷ rest) num-err
 read-enc (inl v) rest = read-side (enc v rest) to-left ∙ ap (wrap inl) (read-enc v rest)
 read-enc (inr v) rest = read-side (enc v rest) to-right ∙ ap (wrap inr) (read-enc v rest)
-read-enc (pkg l v) rest = read-package (l ∷ enc v rest) ∙ ap (wrap (pkg l)) (read-enc v rest)
+read-enc (pkg h v) rest = read-package (headWords h (enc v rest)) ∙ package-head readOf h (enc v rest) ∙ ap (wrap (pkg h)) (read-enc v rest)
 read-enc blank rest = read-none rest 0 (λ h. omega arith) (λ h. omega arith) (λ h. omega arith) (λ h. omega arith) (λ h. omega arith)
 
 pub value-enc : (v : Value) (rest : List ℕ) → valueOf (enc v rest) ≡ v
@@ -122,7 +129,7 @@ data Reads : List ℕ → Got → Type 0 where
   r-none : {ws us : List ℕ} → Reads ws (blank, us)
   r-num : {w n : ℕ} {f : ℕ → Value} {ws : List ℕ} → Numeral w f → Reads (w ∷ n ∷ ws) (f n, ws)
   r-side : {w : ℕ} {f : Value → Value} {ws : List ℕ} {g : Got} → Side w f → Reads ws g → Reads (w ∷ ws) (wrap f g)
-  r-pkg : {l : ℕ} {ws : List ℕ} {g : Got} → Reads ws g → Reads (5 ∷ l ∷ ws) (wrap (pkg l) g)
+  r-pkg : (h : Head) {ws : List ℕ} {g : Got} → Reads ws g → Reads (5 ∷ headWords h ws) (wrap (pkg h) g)
 
 -- by whether the first word is n
 on-word : (n w : ℕ) (ws : List ℕ) (x y : Got) → Reads (n ∷ ws) x → Reads (w ∷ ws) y → Reads (w ∷ ws) (cond (eqb w n) x y)
@@ -138,9 +145,9 @@ reads-numeral k [] = r-none
 reads-numeral k (n ∷ ws) = r-num k
 
 reads-pkg : (r : List ℕ → Got) → ((us : List ℕ) → Reads us (r us)) → (ws : List ℕ) → Reads (5 ∷ ws) (packaged r ws)
-unfolding packaged
-reads-pkg r h [] = r-none
-reads-pkg r h (l ∷ ws) = r-pkg (h ws)
+reads-pkg r h ws =
+    by-below (length ws) headSize (λ l. rw (package-none r ws l) r-none)
+    (λ l. subst (λ us. Reads (5 ∷ us) (packaged r ws)) (head-whole ws l) (rw (package-some r ws l) (r-pkg _ (h (drop headSize ws)))))
 
 reads-tagged : (r : List ℕ → Got) → ((us : List ℕ) → Reads us (r us)) → (w : ℕ) (ws : List ℕ) → Reads (w ∷ ws) (tagged r w ws)
 unfolding tagged
@@ -165,7 +172,7 @@ exact labels (r-num num-int) p = refl
 exact labels (r-num num-err) p = refl
 exact labels (r-side to-left h) p = ap (λ (us : List ℕ). 3 ∷ us) (exact labels h p)
 exact labels (r-side to-right h) p = ap (λ (us : List ℕ). 4 ∷ us) (exact labels h p)
-exact labels (r-pkg {l} h) p = ap (λ (us : List ℕ). 5 ∷ l ∷ us) (exact labels h (both-right _ _ p))
+exact labels (r-pkg h r) p = ap (λ (us : List ℕ). 5 ∷ headWords h us) (exact labels r (both-right _ _ p))
 
 pub read-exact : (labels : ℕ) (ws : List ℕ) → proper labels (valueOf ws) ≡ true → enc (readOf ws .0) (readOf ws .1) ≡ ws
 unfolding readOf

@@ -6,7 +6,7 @@ use lib.Dec.{eqb, leb, ltb}
 use lib.ListN.{length, take, drop}
 use Rattle.logic.specs.Booleans.{both}
 use Rattle.sets.specs.Sets.{every}
-use Rattle.language.specs.Syntax.{Value, int, err, inl, inr, pkg, blank, has}
+use Rattle.language.specs.Syntax.{Head, Value, int, err, inl, inr, pkg, blank, has}
 use Rattle.language.specs.World.{Mem, cell-words}
 use Rattle.sheet.specs.Sheet.{Sheet, tyOf, labelCount, locationNo, locationCount}
 use Rattle.memory.specs.Words.{cell, valueOf}
@@ -30,13 +30,17 @@ wordsOf n M = cells n (λ (x : ℕ). cell (M x))
 
 -- ---- well-formed
 
--- Errors are 1 to 3, and the labels of packages are on the sheet, which has this many, also inside a content. Nothing is blank.
+-- The head's label is on the sheet, which has this many.
+unfoldable pub properHead : ℕ → Head → Bool
+properHead labels h = ltb (h .label) labels
+
+-- Errors are 1 to 3, and the heads of packages are proper, also inside a content. Nothing is blank.
 unfoldable pub proper : ℕ → Value → Bool
 proper labels (int n) = true
 proper labels (err e) = both (leb 1 e) (leb e 3)
 proper labels (inl v) = proper labels v
 proper labels (inr v) = proper labels v
-proper labels (pkg l v) = both (ltb l labels) (proper labels v)
+proper labels (pkg h v) = both (properHead labels h) (proper labels v)
 proper labels blank = false
 
 -- the lists are equal, word by word

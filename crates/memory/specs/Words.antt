@@ -2,19 +2,23 @@
 use mathlib.Core.Bool.{cond}
 use mathlib.Core.List.{List, [], _∷_}
 use Prim.Native.Nat.{ℕ, zero, suc, _-_}
-use lib.Dec.{eqb}
-use lib.ListN.{length, replicate}
-use Rattle.language.specs.Syntax.{Value, int, err, inl, inr, pkg, blank, size}
+use lib.Dec.{eqb, leb}
+use lib.ListN.{length, drop, getD, replicate}
+use Rattle.language.specs.Syntax.{Head, headSize, Value, int, err, inl, inr, pkg, blank, size}
 use Rattle.language.specs.World.{cell-words}
 
--- The words of a value, then the rest: `1 n` integer, `2 e` error, `3` left or `4` right and a value, `5 label` package and a value.
--- Content that a view hides is one zero word.
+-- The words of a package's head, its label, then the rest.
+unfoldable pub headWords : Head → List ℕ → List ℕ
+headWords h rest = h .label ∷ rest
+
+-- The words of a value, then the rest: `1 n` integer, `2 e` error, `3` left or `4` right and a value, `5` package with its head and
+-- a value. Content that a view hides is one zero word.
 unfoldable pub enc : Value → List ℕ → List ℕ
 enc (int n) rest = 1 ∷ n ∷ rest
 enc (err e) rest = 2 ∷ e ∷ rest
 enc (inl v) rest = 3 ∷ enc v rest
 enc (inr v) rest = 4 ∷ enc v rest
-enc (pkg l v) rest = 5 ∷ l ∷ enc v rest
+enc (pkg h v) rest = 5 ∷ headWords h (enc v rest)
 enc blank rest = 0 ∷ rest
 
 abbrev pub zeros : ℕ → List ℕ
@@ -38,10 +42,13 @@ unfoldable pub numbered : (ℕ → Value) → List ℕ → Got
 numbered f [] = (blank, [])
 numbered f (n ∷ ws) = (f n, ws)
 
--- a package whose content r reads
+-- the head whose words start at a place
+unfoldable pub headAt : List ℕ → ℕ → Head
+headAt ws at = record { label = getD ws at 0 }
+
+-- a package whose content r reads after its head; blank where the words end before
 unfoldable pub packaged : (List ℕ → Got) → List ℕ → Got
-packaged r [] = (blank, [])
-packaged r (l ∷ ws) = wrap (pkg l) (r ws)
+packaged r ws = cond (leb headSize (length ws)) (wrap (pkg (headAt ws 0)) (r (drop headSize ws))) (blank, [])
 
 -- the value whose first word is w, with r reading its part; blank where no value starts with w
 unfoldable pub tagged : (List ℕ → Got) → ℕ → List ℕ → Got

@@ -35,10 +35,13 @@ pub const RIGHT: u32 = 4;
 
 pub const PACKAGE: u32 = 5;
 
-// Where a package has its label and its content, counted from its first word.
+// The words of a package's head.
+const HEAD: usize = 1;
+
+// Where a package has its label, with which its head starts, and its content, counted from its first word.
 pub const LABEL: usize = 1;
 
-pub const CONTENT: usize = 2;
+pub const CONTENT: usize = LABEL + HEAD;
 
 // What is found of the slices that are lent: a memory that is well-formed, in slices of their size; a slice that isn't 16 words for each
 // location; or a memory that isn't well-formed.

@@ -48,7 +48,14 @@ pub(crate) fn mask_at(
             let second = to + 1;
             let head = mask_label(table, group, words, label, out, to);
             if head.shown {
-                mask_at(table, group, words, label + 1, out, second + 1)
+                mask_at(
+                    table,
+                    group,
+                    words,
+                    label + crate::HEAD,
+                    out,
+                    second + crate::HEAD,
+                )
             } else {
                 Places {
                     next: head.next,
@@ -96,7 +103,7 @@ struct Head {
     end: usize,
 }
 
-// Stores the first two words of a package whose label stands at `at`, and one zero word where its content is hidden.
+// Stores a package's first word and its head, which stands at `at`, and one zero word where its content is hidden.
 fn mask_label(
     table: &[u16],
     group: Set,
@@ -126,9 +133,9 @@ fn mask_label(
             end: to,
         };
     }
-    let content = values::value_at(sheet::labels(table), words, at + 1);
+    let content = values::value_at(sheet::labels(table), words, at + crate::HEAD);
     let next = content.next;
-    let third = second + 1;
+    let third = second + crate::HEAD;
     store(out, third, 0);
     Head {
         shown: false,

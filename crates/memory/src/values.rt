@@ -4,7 +4,7 @@ ghost use Prim.Native.Nat.{ℕ, _+_, _-_, _<_};
 ghost use lib.Dec.{leb};
 ghost use lib.ListN.{length, drop};
 ghost use Rattle.logic.specs.Booleans.{both};
-ghost use Rattle.language.specs.Syntax.{int, err};
+ghost use Rattle.language.specs.Syntax.{headSize, int, err};
 ghost use Rattle.memory.specs.Words.{zeros, numbered, packaged, readOf};
 ghost use Rattle.memory.specs.Memory.{equalWords};
 ghost use Rattle.memory.specs.Internal.Post.{Walks};
@@ -32,7 +32,7 @@ pub(crate) fn value_at(labels: u32, words: &[u32], at: usize) -> Walked
         crate::RIGHT => value_at(labels, words, at + 1),
         crate::PACKAGE => {
             let label = at + crate::LABEL;
-            let content = value_at(labels, words, label + 1);
+            let content = value_at(labels, words, label + crate::HEAD);
             package_at(labels, words, label, content)
         }
         _ => Walked {
@@ -84,9 +84,9 @@ fn is_error(e: u32) -> bool
     e <= 3
 }
 
-// A package, whose label stands at `at` before its content.
+// A package, whose head stands at `at` before its content.
 fn package_at(labels: u32, words: &[u32], at: usize, content: Walked) -> Walked
-    ensures { λ r. ⌜ (Walks labels (now (words .entry)) (at + 1) (readOf (drop (at + 1) (now (words .entry)))) (content .ok) (content .next)
+    ensures { λ r. ⌜ (Walks labels (now (words .entry)) (at + headSize) (readOf (drop (at + headSize) (now (words .entry)))) (content .ok) (content .next)
         → Walks labels (now (words .entry)) at (packaged readOf (drop at (now (words .entry)))) (r .ok) (r .next)) ⌝ }
 {
     if words.len() <= at {

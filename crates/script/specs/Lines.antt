@@ -38,7 +38,7 @@ numberOf (int n) = n
 numberOf (err e) = 0
 numberOf (inl v) = 0
 numberOf (inr v) = 0
-numberOf (pkg l v) = 0
+numberOf (pkg h v) = 0
 numberOf blank = 0
 
 -- The lines of an expression in prefix order, then rest.

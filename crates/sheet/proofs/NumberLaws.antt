@@ -108,7 +108,7 @@ module _ (s : Sheet) (fm : formed s ≡ true) where
   has-no (inr v) n h =
       test-sum _ (has (inr v)) refl refl refl
       (λ a b p q. ap (hasNo (tableOf s) v) (right-in s fm n) ∙ has-no v (partsNo s n .right) (parts-there s fm n .1) ∙ ap (has v) q) (which s fm n h)
-  has-no (pkg l v) n h = test-plain 2 (has (pkg l v)) (omega arith) refl refl refl (λ a b. refl) (which s fm n h)
+  has-no (pkg h v) n k = test-plain 2 (has (pkg h v)) (omega arith) refl refl refl (λ a b. refl) (which s fm n k)
   has-no blank n h = refl
 
   -- the last test of an unpack, for every number

@@ -93,9 +93,9 @@ unfolding parse.popE parse.popC parse.onStack parse.pushOn parse.stackOf parse.o
 script-text-used = tt
 
 unfoldable pub memory-used : Unit {0}
-unfolding memory.cellOf memory.memoryOf memory.cells memory.wordsOf memory.proper memory.equalWords memory.exactly memory.formedBy memory.sliceRefusal
+unfolding memory.cellOf memory.memoryOf memory.cells memory.wordsOf memory.properHead memory.proper memory.equalWords memory.exactly memory.formedBy memory.sliceRefusal
     memory.refusalBy memory.asDeclared memory.wellFormed memory.memoryRefusal
-    words.enc words.cell words.wrap words.numbered words.packaged words.tagged words.read words.readOf
+    words.headWords words.enc words.cell words.wrap words.numbered words.headAt words.packaged words.tagged words.read words.readOf
 memory-used = tt
 
 unfoldable pub simp-used : Unit {0}

@@ -94,7 +94,7 @@ choiceV b (int n) = choice-stuck
 choiceV b (err e) = choice-stuck
 choiceV b (inl v) = to-left v b
 choiceV b (inr v) = to-right v b
-choiceV b (pkg l v) = choice-stuck
+choiceV b (pkg h v) = choice-stuck
 choiceV b blank = choice-stuck
 
 unfoldable pub choice : ℕ → Res → Choice

@@ -3,11 +3,11 @@ use mathlib.Core.Path.{_≡_}
 use mathlib.Core.Bool.{Bool, true, false}
 use mathlib.Core.List.{List, []}
 use Prim.Native.Nat.{ℕ, _+_, _-_, _≤_}
-use lib.ListN.{length, getD, set, drop}
+use lib.ListN.{length, set, drop}
 use lib.Seq.{sets}
-use Rattle.language.specs.Syntax.{Value, int, err, pkg, size}
+use Rattle.language.specs.Syntax.{headSize, Value, int, err, pkg, size}
 use Rattle.language.specs.View.{mask}
-use Rattle.memory.specs.Words.{Got, enc, wrap, packaged, readOf}
+use Rattle.memory.specs.Words.{Got, headWords, enc, wrap, headAt, packaged, readOf}
 use Rattle.memory.specs.Memory.{proper}
 
 -- The place after the value whose words start at `at`.
@@ -34,9 +34,9 @@ pub data Numeral : ℕ → (ℕ → Value) → Type 0 where
   num-int : Numeral 1 int
   num-err : Numeral 2 err
 
--- A package whose label stands at `at`: its content is shown and its words are to follow, or all its words are stored.
+-- A package whose head stands at `at`: its content is shown and its words are to follow, or all its words are stored.
 pub record Opens (shows : ℕ → Bool) (ws : List ℕ) (at : ℕ) (out : List ℕ) (to : ℕ) (shown : Bool) (left : List ℕ) (next end : ℕ) : Type 0 where
-  pub head : shown ≡ true → left ≡ set (set out to 5) (to + 1) (getD ws at 0)
-  pub content : shown ≡ true → packaged readOf (drop at ws) ≡ wrap (pkg (getD ws at 0)) (readOf (drop (at + 1) ws))
-  pub seen : shown ≡ true → shows (getD ws at 0) ≡ true
+  pub head : shown ≡ true → left ≡ sets (set out to 5) (to + 1) (headWords (headAt ws at) [])
+  pub content : shown ≡ true → packaged readOf (drop at ws) ≡ wrap (pkg (headAt ws at)) (readOf (drop (at + headSize) ws))
+  pub seen : shown ≡ true → shows (headAt ws at .label) ≡ true
   pub whole : shown ≡ false → Masks shows ws (packaged readOf (drop at ws)) out to left next end

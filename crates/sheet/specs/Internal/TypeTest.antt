@@ -17,5 +17,5 @@ hasNo t (int n) ty = eqb ty 0
 hasNo t (err e) ty = eqb ty 1
 hasNo t (inl v) ty = both (isSum t ty) (hasNo t v (leftIn t ty))
 hasNo t (inr v) ty = both (isSum t ty) (hasNo t v (rightIn t ty))
-hasNo t (pkg l v) ty = eqb ty 2
+hasNo t (pkg h v) ty = eqb ty 2
 hasNo t blank ty = false

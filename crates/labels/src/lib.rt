@@ -184,6 +184,21 @@ pub fn put_label(table: &mut [Set], at: usize, label: Label)
     put_sets(table, at + OWNERS, writers);
 }
 
+// Whether a group meets each of the first n sets from the word at `at` on: a label's readers, or its writers, without the label.
+pub fn meets_at(table: &[Set], at: usize, n: usize, group: Set) -> bool
+    ensures { λ r. ⌜ r ≡ every n (λ o. meets group (getD (setsAt (now (table .entry)) at) o 0)) ⌝ }
+{
+    if n > OWNERS {
+        return false;
+    }
+    for o in 0..n {
+        if !sets::meets(group, word_at(table, at, o)) {
+            return false;
+        }
+    }
+    true
+}
+
 // Whether a group meets each of the first n sets.
 fn meets_each(held: [Set; OWNERS], n: usize, group: Set) -> bool
     ensures { λ r. ⌜ r ≡ every n (λ o. meets group (getD held o 0)) ⌝ }

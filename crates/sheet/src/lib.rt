@@ -5,6 +5,7 @@ ghost use Rattle.sheet.specs.Internal.Tables.{entryIn, principalsIn, eve
 ghost use Rattle.sheet.specs.Internal.TypeTest.{isSum};
 use labels::LABEL_SIZE;
 use labels::Label;
+use labels::OWNERS;
 use sets::Set;
 
 // How many types, locations and labels a sheet has at most.
@@ -158,14 +159,20 @@ pub fn below(table: &[u16], l: u32, m: u32) -> bool
 pub fn reads(table: &[u16], group: Set, l: u32) -> bool
     ensures { λ r. ⌜ r ≡ readsIn (now (table .entry)) group l ⌝ }
 {
-    let label = label_of(table, l);
-    label.reads(principals(table) as usize, group)
+    let n = principals(table) as usize;
+    if labels(table) <= l {
+        return Label::bottom(everyone(table)).reads(n, group);
+    }
+    labels::meets_at(table, LABELS + LABEL_SIZE * (l as usize), n, group)
 }
 
 // Whether a group writes label l.
 pub fn writes(table: &[u16], group: Set, l: u32) -> bool
     ensures { λ r. ⌜ r ≡ writesIn (now (table .entry)) group l ⌝ }
 {
-    let label = label_of(table, l);
-    label.writes(principals(table) as usize, group)
+    let n = principals(table) as usize;
+    if labels(table) <= l {
+        return Label::bottom(everyone(table)).writes(n, group);
+    }
+    labels::meets_at(table, LABELS + LABEL_SIZE * (l as usize) + OWNERS, n, group)
 }

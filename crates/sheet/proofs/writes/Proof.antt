@@ -1,14 +1,44 @@
 -- `sheet::writes` meets its contract. Assumes nothing.
+use mathlib.Core.Path.{sym, ap, ap₂, _∙_}
 use borrow.Author.Needs.{needs}
+use Prim.Native.Nat.{ℕ}
+use Rattle.labels.specs.Internal.Tables.{labelAt}
+use Rattle.labels.specs.Labels.{writesOf}
+use Rattle.labels.specs.declared.Label.{Label}
 use Rattle.sheet.specs.Internal.Tables.{writesIn}
+use Rattle.sheet.proofs.Entries.{label-there, label-past}
 use Rattle.sheet.proofs.writes.Statement.{statement}
 use Rattle.sheet.proofs.writes.Tie as tie
 
-pub writes-spec : {M : Type 1} → statement M
+returns : tie.Need-returns
 unfolding writesIn
+returns c =
+    let b = c .before .before .before in
+    let n = b .before .before in
+    let g = n .before .before .args .group in
+    c .writes .ensures
+    ∙ ap₂ (λ (k : ℕ) (a : Label). writesOf k g a) (n .principals .ensures)
+    (c .before .bottom .ensures ∙ sym (label-past _ _ (b .before .labels .ensures) (c .before .before .everyone .ensures) (b .if1 .taken)))
+
+returns-2 : tie.Need-returns-2
+unfolding writesIn writesOf labelAt
+returns-2 c =
+    let n = c .before .before .before in
+    let g = n .before .before .args .group in
+    c .meets-at .ensures
+    ∙ ap₂ (λ (k : ℕ) (a : Label). writesOf k g a) (n .principals .ensures) (sym (label-there _ _ (c .before .before .labels .ensures) (c .before .if1 .left)))
+
+pub writes-spec : {M : Type 1} → statement M
 writes-spec = tie.close (tie.spec
-    (λ c κs. search needs)  -- label-of-requires
     (λ c κs. search needs)  -- principals-requires
-    (λ c. search needs)  -- cast-writes
+    (λ c. search needs)  -- cast-n
+    (λ c κs. search needs)  -- labels-requires
+    (λ c κs. search needs)  -- everyone-requires
+    (λ c κs. search needs)  -- bottom-requires
     (λ c κs. search needs)  -- writes-requires
-    (λ c. cc))  -- returns
+    returns
+    (λ c. search needs)  -- mul-meets-at
+    (λ c. search needs)  -- add-meets-at
+    (λ c. search needs)  -- add-meets-at-2
+    (λ c κs. search needs)  -- meets-at-requires
+    returns-2)

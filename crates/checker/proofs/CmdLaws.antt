@@ -17,7 +17,9 @@ use Rattle.script.specs.declared.Row.{Row}
 use Rattle.script.specs.Lines.{Line, cmdLines}
 use Rattle.script.specs.Internal.Code.{code, rowAt}
 use Rattle.script.specs.Names.{Counts, maxDepth, namedE, named}
-use Rattle.script.proofs.Rows.{CmdRow, at-skip, at-seq, at-assign, at-while, at-case, cmd-row}
+use Rattle.script.specs.Internal.Pieces.{Sort, command}
+use Rattle.script.proofs.Rows.{row-of, KindOf, not-here}
+use Rattle.script.proofs.Nodes.{Makes, Node, n-skip, n-seq, n-assign, n-while, n-case, OfOperands, of-operands}
 use Rattle.sheet.specs.Internal.TypeTest.{isSum}
 use Rattle.sheet.specs.Internal.Tables.{leftIn, rightIn, homeIn, labelIn}
 use Rattle.checker.specs.declared.Typed.{Typed}
@@ -96,66 +98,69 @@ pass-bound t {s} {s′} d n a e k small h l lab p =
     let labels = ap (λ (z : List ℕ). boundLabels z (d + 1)) e ∙ bind-label s′ d n a h l ∙ ap (λ (z : List ℕ). a ∷ z) (k .labels) in
     record { typed-is = rw (← types) (p .typed-is); flow-is = rw (← labels, ← lab) (p .flow-is) }
 
-module _ (ws : List ℕ) (at : ℕ) (t s : List ℕ) (d pc : ℕ) {row : Row} (q : row ≡ rowAt ws at) where
-  Done : Cmd → List Line → Passed → Type 0
-  Done c rest x = Passes t (boundTypes s d) pc (boundLabels s d) c x × (drop (x .next) ws ≡ code rest)
+-- x is what is found of c, if its names are there, and rest stands after it
+abbrev Done : List ℕ → List ℕ → List ℕ → ℕ → ℕ → Counts → List Line → Passed → Cmd → Type 0
+Done ws t s d pc k rest x c = named k d c ≡ true → Passes t (boundTypes s d) pc (boundLabels s d) c x × (drop (x .next) ws ≡ code rest)
 
-  by-row : (j : ℕ) → row .kind ≡ j → (x : Passed) → at ≤ x .next → {s′ : List ℕ} → Kept s s′ d
-      → ((k : Counts) (c : Cmd) (rest : List Line) → CmdRow ws at rest j (row .a) (row .b) c → named k d c ≡ true → Room s d → Done c rest x)
+module _ {ws : List ℕ} {at : ℕ} {t s : List ℕ} {d pc : ℕ} {row : Row} (q : row ≡ rowAt ws at) where
+  by-node : {ss : List Sort} {j : ℕ} {f : Makes ss Cmd} (x : Passed) → Node command ss j (row .a) (row .b) f → row .kind ≡ j → at ≤ x .next
+      → {s′ : List ℕ} → Kept s s′ d → ((k : Counts) → Room s d → (rest : List Line) → OfOperands ws at rest command ss f (λ more. more) (Done ws t s d pc k rest x))
       → ChecksCmd ws at t s d pc x s′
-  unfolding Done
-  by-row j h x n same m = record {
-    onward = n;
+  by-node x n h g same m = record {
+    onward = g;
     kept = same;
-    means = λ k c rest src w names room. m k c rest (rw (← q, h) at (cmd-row ws at src w)) names room;
+    means = λ k c rest src w names room.
+        of-operands ws at rest n (row-of ws at command c rest q h src w) (Done ws t s d pc k rest x) (m k room rest) names;
   }
 
   pub arm-skip : row .kind ≡ 1 → {x : Passed} → x ≡ skipPassed (at + 3) → ChecksCmd ws at t s d pc x s
-  unfolding Done
-  arm-skip h e = rw e (by-row 1 h _ (omega arith) kept-same (λ k c rest v names room. go v))
-    where
-      go : {rest : List Line} {a b : ℕ} {c : Cmd} → CmdRow ws at rest 1 a b c → Done c rest (skipPassed (at + 3))
-      go (at-skip w) = (pass-skip t _ pc _ (at + 3), w)
+  arm-skip h e = rw e (by-node _ n-skip h (omega arith) kept-same (λ k room rest w names. (pass-skip t _ pc _ (at + 3), w)))
 
   pub arm-seq : row .kind ≡ 2 → {x y : Passed} {s₁ s₂ : List ℕ} → ChecksCmd ws (at + 3) t s d pc x s₁ → ChecksCmd ws (x .next) t s₁ d pc y s₂
       → {r : Passed} → r ≡ seqPassed x y → ChecksCmd ws at t s d pc r s₂
-  unfolding Done seqPassed named
-  arm-seq h {x} {y} cx cy e =
-      rw e (by-row 2 h _ (omega (arith, cx .onward, cy .onward)) (kept-twice (cx .kept) (cy .kept)) (λ k c rest v names room. go k v names room))
-    where
-      go : (k : Counts) {rest : List Line} {a b : ℕ} {c : Cmd} → CmdRow ws at rest 2 a b c → named k d c ≡ true → Room s d → Done c rest (seqPassed x y)
-      go k {rest} (at-seq {c = f} {d = g} p r w) names room =
-          let m = cx .means k f (cmdLines g rest) p w (both-left _ (named k d g) names) room in
-          let n = cy .means k g rest r (m .1) (both-right (named k d f) _ names) (room .0, rw (cx .kept .size) (room .1)) in
-          (pass-seq t _ pc _ (m .0) (pass-kept (cx .kept) (n .0)), n .1)
+  unfolding seqPassed named
+  arm-seq h cx cy e =
+      rw e (by-node _ n-seq h (omega (arith, cx .onward, cy .onward)) (kept-twice (cx .kept) (cy .kept))
+      (λ k room rest f p g r w names.
+      let m = cx .means k f (cmdLines g rest) p w (both-left _ (named k d g) names) room in
+      let n = cy .means k g rest r (m .1) (both-right (named k d f) _ names) (room .0, rw (cx .kept .size) (room .1)) in
+      (pass-seq t _ pc _ (m .0) (pass-kept (cx .kept) (n .0)), n .1)))
 
   module _ {x : Typed} (cx : ChecksExpr ws (at + 3) t s d x) where
     pub arm-assign : row .kind ≡ 3 → {r : Passed} → r ≡ assignPassed t (row .a) pc x → ChecksCmd ws at t s d pc r s
-    unfolding Done assignPassed
-    arm-assign h e = rw e (by-row 3 h _ (omega (arith, cx .onward)) kept-same (λ k c rest v names room. go v room))
-      where
-        go : {rest : List Line} {a b : ℕ} {c : Cmd} → CmdRow ws at rest 3 a b c → Room s d → Done c rest (assignPassed t a pc x)
-        go {rest} (at-assign {x = n} {e} p w) room = let m = cx .means e rest p w room in (pass-assign t _ pc _ (m .0) n, m .1)
+    unfolding assignPassed
+    arm-assign h e =
+        rw e (by-node _ n-assign h (omega (arith, cx .onward)) kept-same
+        (λ k room rest f p w names. let m = cx .means f rest p w room in (pass-assign t _ pc _ (m .0) (row .a), m .1)))
 
     pub arm-while : row .kind ≡ 4 → {pc′ : ℕ} → pc′ ≡ union pc (x .label) → {y : Passed} {s₁ : List ℕ}
         → ChecksCmd ws (x .next) t s d pc′ y s₁ → {r : Passed} → r ≡ whilePassed x y → ChecksCmd ws at t s d pc r s₁
-    unfolding Done whilePassed named
-    arm-while h lab {y} cy e = rw e (by-row 4 h _ (omega (arith, cx .onward, cy .onward)) (cy .kept) (λ k c rest v names room. go k v names room))
-      where
-        go : (k : Counts) {rest : List Line} {a b : ℕ} {c : Cmd} → CmdRow ws at rest 4 a b c → named k d c ≡ true → Room s d → Done c rest (whilePassed x y)
-        go k {rest} (at-while {e} {c} p r w) names room =
-            let m = cx .means e (cmdLines c rest) p w room in
-            let n = cy .means k c rest r (m .1) (both-right (namedE k d e) _ names) room in
-            (pass-while t _ pc _ (m .0) (rw lab at (n .0)), n .1)
+    unfolding whilePassed named
+    arm-while h lab cy e =
+        rw e (by-node _ n-while h (omega (arith, cx .onward, cy .onward)) (cy .kept)
+        (λ k room rest f p c r w names.
+        let m = cx .means f (cmdLines c rest) p w room in
+        let n = cy .means k c rest r (m .1) (both-right (namedE k d f) _ names) room in
+        (pass-while t _ pc _ (m .0) (rw lab at (n .0)), n .1)))
 
     -- a case, with the words for bindings after each step
     pub arm-case : row .kind ≡ 5 → d < maxDepth → {pc′ : ℕ} → pc′ ≡ union pc (x .label)
         → {s₁ s₂ s₃ s₄ : List ℕ} {y z : Passed} {m : ℕ} → m < 4294967296 → m ≡ leftIn t (x .ty) → s₁ ≡ bindOf s d m (x .label) → ChecksCmd ws (x .next) t s₁ (d + 1) pc′ y s₂
         → {n : ℕ} → n < 4294967296 → n ≡ rightIn t (x .ty) → s₃ ≡ bindOf s₂ d n (x .label) → ChecksCmd ws (y .next) t s₃ (d + 1) pc′ z s₄
         → {r : Passed} → r ≡ casePassed t x y z → ChecksCmd ws at t s d pc r s₄
-    unfolding Done casePassed
+    unfolding casePassed
     arm-case h shallow lab {s₁} {s₂} {s₃} {y = y} {z} {m} ml tl bl cy {n} nl tr br cz e =
-        rw e (by-row 5 h _ (omega (arith, cx .onward, cy .onward, cz .onward)) (kept-twice upto₃ (kept-fewer (cz .kept))) (λ k c rest v names room. go k v names room))
+        rw e (by-node _ n-case h (omega (arith, cx .onward, cy .onward, cz .onward)) (kept-twice upto₃ (kept-fewer (cz .kept)))
+        (λ k room rest e p f r g u w names.
+        let ns = case-names k d e f g names in
+        let me = cx .means e (cmdLines f (cmdLines g rest)) p w room in
+        let mf = cy .means k f (cmdLines g rest) r (me .1) (ns .1) (inner upto₁ room) in
+        let mg = cz .means k g rest u (mf .1) (ns .2) (inner upto₃ room) in
+        let long₂ : bindingsSize ≤ length s₂ = rw (upto₂ .size) (room .1) in (
+          pass-case t _ pc _ (me .0) (rw tl at (pass-bound t d m (x .label) bl kept-same ml shallow (room .1) lab (mf .0)))
+              (rw tr at (pass-bound t d n (x .label) br upto₂ nl shallow long₂ lab (mg .0))),
+          mg .1,
+        )))
       where
         upto₁ : Kept s s₁ d
         upto₁ = rw bl (bind-kept s d m (x .label))
@@ -169,34 +174,13 @@ module _ (ws : List ℕ) (at : ℕ) (t s : List ℕ) (d pc : ℕ) {row : Row} (q
         inner : {s′ : List ℕ} → Kept s s′ d → Room s d → Room s′ (d + 1)
         inner k room = (omega arith, rw (k .size) (room .1))
 
-        go : (k : Counts) {rest : List Line} {a b : ℕ} {c : Cmd} → CmdRow ws at rest 5 a b c → named k d c ≡ true → Room s d → Done c rest (casePassed t x y z)
-        go k {rest} (at-case {e} {c = f} {d = g} p r u w) names room =
-            let ns = case-names k d e f g names in
-            let me = cx .means e (cmdLines f (cmdLines g rest)) p w room in
-            let mf = cy .means k f (cmdLines g rest) r (me .1) (ns .1) (inner upto₁ room) in
-            let mg = cz .means k g rest u (mf .1) (ns .2) (inner upto₃ room) in
-            let long₂ : bindingsSize ≤ length s₂ = rw (upto₂ .size) (room .1) in (
-              pass-case t _ pc _ (me .0) (rw tl at (pass-bound t d m (x .label) bl kept-same ml shallow (room .1) lab (mf .0)))
-                  (rw tr at (pass-bound t d n (x .label) br upto₂ nl shallow long₂ lab (mg .0))),
-              mg .1,
-            )
-
   -- a case deeper than a script may nest
   pub arm-deep : row .kind ≡ 5 → maxDepth ≤ d → {x : Passed} → x ≡ refused at → ChecksCmd ws at t s d pc x s
-  unfolding Done named
-  arm-deep h deep e = rw e (by-row 5 h _ (omega arith) kept-same (λ k c rest v names room. absurd (go k v names)))
-    where
-      go : (k : Counts) {rest : List Line} {a b : ℕ} {c : Cmd} → CmdRow ws at rest 5 a b c → named k d c ≡ true → ⊥
-      go k (at-case {e} {c = f} {d = g} p r u w) names = let n = case-names k d e f g names in omega (arith, n .0)
+  arm-deep h deep e =
+      rw e (by-node _ n-case h (omega arith) kept-same
+      (λ k room rest e p f r g u w names. let n = case-names k d e f g names in absurd (omega (arith, n .0))))
 
   -- a row of another kind is no command's
-  pub arm-other : (1 ≤ row .kind → row .kind < 6 → ⊥) → {x : Passed} → x ≡ refused at → ChecksCmd ws at t s d pc x s
-  unfolding Done
-  arm-other f e = rw e (by-row (row .kind) refl _ (omega arith) kept-same (λ k c rest v names room. absurd (go v refl)))
-    where
-      go : {rest : List Line} {j a b : ℕ} {c : Cmd} → CmdRow ws at rest j a b c → row .kind ≡ j → ⊥
-      go (at-skip w) h = f (omega arith) (omega arith)
-      go (at-seq p r w) h = f (omega arith) (omega arith)
-      go (at-assign p w) h = f (omega arith) (omega arith)
-      go (at-while p r w) h = f (omega arith) (omega arith)
-      go (at-case p r u w) h = f (omega arith) (omega arith)
+  pub arm-other : (KindOf command (row .kind) → ⊥) → {x : Passed} → x ≡ refused at → ChecksCmd ws at t s d pc x s
+  arm-other f e =
+      rw e (record { onward = omega arith; kept = kept-same; means = λ k c rest src w names room. absurd (not-here command c rest ws at q f src w) })

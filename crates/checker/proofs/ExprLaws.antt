@@ -1,8 +1,8 @@
 -- What each arm of `check_expr` shows. Assumes nothing.
-use mathlib.Core.Path.{_≡_, refl, sym, ap, _∙_}
+use mathlib.Core.Path.{_≡_, refl, sym}
 use mathlib.Core.Bool.{Bool, true, false}
-use mathlib.Core.List.{List}
-use Prim.Native.Nat.{ℕ, suc, _+_, _≤_, _<_}
+use mathlib.Core.List.{List, [], _∷_}
+use Prim.Native.Nat.{ℕ, _+_, _≤_, _<_}
 use native.Mathlib.Omega.{arith}
 use native.Mathlib.Decide.{decLt}
 use lib.Dec.{eqb}
@@ -13,7 +13,9 @@ use Rattle.language.specs.Typing.{orElse, least, flowE}
 use Rattle.script.specs.declared.Row.{Row}
 use Rattle.script.specs.Lines.{Line, exprLines}
 use Rattle.script.specs.Internal.Code.{code, rowAt}
-use Rattle.script.proofs.Rows.{ExprRow, at-int, at-loc, at-var, at-plus, at-left, at-right, at-pack, at-unpack, expr-row}
+use Rattle.script.specs.Internal.Pieces.{Sort, expression}
+use Rattle.script.proofs.Rows.{row-of, KindOf, not-here}
+use Rattle.script.proofs.Nodes.{Makes, Node, n-int, n-loc, n-var, n-plus, n-left, n-right, n-pack, n-unpack, OfOperands, of-operands}
 use Rattle.sheet.specs.Internal.Tables.{leftIn, rightIn}
 use Rattle.checker.specs.declared.Typed.{Typed}
 use Rattle.checker.specs.Internal.Numbers.{isNo, someNo, leftIsNo, rightIsNo, givenNo, typeNo}
@@ -88,97 +90,64 @@ find-var t s d i next room = on (decLt i d)
 
 -- ---- the arms: the row at `at`, what the operands' checks ensure, and what the node gives
 
-past : {k n : ℕ} → n ≤ k → (k ≡ n → ⊥) → suc n ≤ k
-past h f = omega arith
+-- x is what is found of e, and rest stands after it
+abbrev Done : List ℕ → List ℕ → List ℕ → ℕ → List Line → Typed → Expr → Type 0
+Done ws t s d rest x e = Finds t (boundTypes s d) (boundLabels s d) e x × (drop (x .next) ws ≡ code rest)
 
-only : {k n : ℕ} → k < suc n → n ≤ k → k ≡ n
-only u l = omega arith
-
--- the kind that is left, of those from 6 to 13
-pub last-kind : {k : ℕ} → 6 ≤ k → k < 14 → (k ≡ 6 → ⊥) → (k ≡ 7 → ⊥) → (k ≡ 8 → ⊥) → (k ≡ 9 → ⊥) → (k ≡ 10 → ⊥) → (k ≡ 11 → ⊥) → (k ≡ 12 → ⊥) → k ≡ 13
-last-kind l u f6 f7 f8 f9 f10 f11 f12 = only u (past (past (past (past (past (past (past l f6) f7) f8) f9) f10) f11) f12)
-
-module _ (ws : List ℕ) (at : ℕ) (t s : List ℕ) (d : ℕ) {row : Row} (q : row ≡ rowAt ws at) where
-  Done : Expr → List Line → Typed → Type 0
-  Done e rest x = Finds t (boundTypes s d) (boundLabels s d) e x × (drop (x .next) ws ≡ code rest)
-
-  by-row : (k : ℕ) → row .kind ≡ k → (x : Typed) → at ≤ x .next
-      → ((e : Expr) (rest : List Line) → ExprRow ws at rest k (row .a) (row .b) e → Room s d → Done e rest x)
-      → ChecksExpr ws at t s d x
-  unfolding Done
-  by-row k h x n m = record { onward = n; means = λ e rest src w room. m e rest (rw (← q, h) at (expr-row ws at src w)) room }
+module _ {ws : List ℕ} {at : ℕ} {t s : List ℕ} {d : ℕ} {row : Row} (q : row ≡ rowAt ws at) where
+  by-node : {ss : List Sort} {k : ℕ} {f : Makes ss Expr} (x : Typed) → Node expression ss k (row .a) (row .b) f → row .kind ≡ k → at ≤ x .next
+      → (Room s d → (rest : List Line) → OfOperands ws at rest expression ss f (λ more. more) (Done ws t s d rest x)) → ChecksExpr ws at t s d x
+  by-node x n h g m = record {
+    onward = g;
+    means = λ e rest src w room. of-operands ws at rest n (row-of ws at expression e rest q h src w) (Done ws t s d rest x) (m room rest);
+  }
 
   pub arm-int : row .kind ≡ 6 → {x : Typed} → x ≡ intTyped (at + 3) → ChecksExpr ws at t s d x
-  unfolding Done intTyped
-  arm-int h e = rw e (by-row 6 h _ (omega arith) (λ e rest v room. go v))
-    where
-      go : {rest : List Line} {a b : ℕ} {e : Expr} → ExprRow ws at rest 6 a b e → Done e rest (intTyped (at + 3))
-      go (at-int {n} w) = (find-int t _ _ n (at + 3), w)
+  unfolding intTyped
+  arm-int h e = rw e (by-node _ n-int h (omega arith) (λ room rest w. (find-int t _ _ (row .a) (at + 3), w)))
 
   pub arm-loc : row .kind ≡ 7 → {x : Typed} → x ≡ locTyped t (row .a) (at + 3) → ChecksExpr ws at t s d x
-  unfolding Done locTyped
-  arm-loc h e = rw e (by-row 7 h _ (omega arith) (λ e rest v room. go v))
-    where
-      go : {rest : List Line} {a b : ℕ} {e : Expr} → ExprRow ws at rest 7 a b e → Done e rest (locTyped t a (at + 3))
-      go (at-loc {x} w) = (find-loc t _ _ x (at + 3), w)
+  unfolding locTyped
+  arm-loc h e = rw e (by-node _ n-loc h (omega arith) (λ room rest w. (find-loc t _ _ (row .a) (at + 3), w)))
 
   pub arm-var : row .kind ≡ 8 → {x : Typed} → x ≡ varTyped s d (row .a) (at + 3) → ChecksExpr ws at t s d x
-  unfolding Done
-  arm-var h e = rw e (by-row 8 h _ (omega (arith, var-next s d (row .a) (at + 3))) (λ e rest v room. go room v))
-    where
-      go : Room s d → {rest : List Line} {a b : ℕ} {e : Expr} → ExprRow ws at rest 8 a b e → Done e rest (varTyped s d a (at + 3))
-      go room (at-var {d = i} w) = (find-var t s d i (at + 3) room, ap (λ (m : ℕ). drop m ws) (var-next s d i (at + 3)) ∙ w)
+  arm-var h e =
+      let next = var-next s d (row .a) (at + 3) in
+      rw e (by-node _ n-var h (omega arith) (λ room rest w. (find-var t s d (row .a) (at + 3) room, rw next w)))
 
   module _ {x : Typed} (cx : ChecksExpr ws (at + 3) t s d x) where
     pub arm-plus : row .kind ≡ 9 → {y : Typed} → ChecksExpr ws (x .next) t s d y → {r : Typed} → r ≡ plusTyped x y → ChecksExpr ws at t s d r
-    unfolding Done plusTyped
-    arm-plus h {y} cy e = rw e (by-row 9 h _ (omega (arith, cx .onward, cy .onward)) (λ e rest v room. go room v))
-      where
-        go : Room s d → {rest : List Line} {a b : ℕ} {e : Expr} → ExprRow ws at rest 9 a b e → Done e rest (plusTyped x y)
-        go room {rest} (at-plus {e} {f} p r w) =
-            let m = cx .means e (exprLines f rest) p w room in
-            let n = cy .means f rest r (m .1) room in
-            (find-plus t _ _ (m .0) (n .0), n .1)
+    unfolding plusTyped
+    arm-plus h cy e =
+        rw e (by-node _ n-plus h (omega (arith, cx .onward, cy .onward))
+        (λ room rest e p f r w.
+        let m = cx .means e (exprLines f rest) p w room in
+        let n = cy .means f rest r (m .1) room in
+        (find-plus t _ _ (m .0) (n .0), n .1)))
+
+    -- a line with one operand
+    arm-one : {k : ℕ} {f : Expr → Expr} {r : Typed} → Node expression (expression ∷ []) k (row .a) (row .b) f → row .kind ≡ k → r .next ≡ x .next
+        → ((e : Expr) → Finds t (boundTypes s d) (boundLabels s d) e x → Finds t (boundTypes s d) (boundLabels s d) (f e) r) → ChecksExpr ws at t s d r
+    arm-one n h i find =
+        by-node _ n h (omega (arith, cx .onward)) (λ room rest e p w. let m = cx .means e rest p w room in (find e (m .0), rw i (m .1)))
 
     pub arm-left : row .kind ≡ 10 → {m : ℕ} → m ≡ leftIn t (row .a) → {r : Typed} → r ≡ sumTyped t (row .a) m x → ChecksExpr ws at t s d r
-    unfolding Done sumTyped
-    arm-left h p e = rw (e, p) (by-row 10 h _ (omega (arith, cx .onward)) (λ e rest v room. go room v))
-      where
-        go : Room s d → {rest : List Line} {a b : ℕ} {e : Expr} → ExprRow ws at rest 10 a b e → Done e rest (sumTyped t a (leftIn t a) x)
-        go room {rest} (at-left {t = n} {e} p w) = let m = cx .means e rest p w room in (find-left t _ _ (m .0) n, m .1)
+    unfolding sumTyped
+    arm-left h p e = rw (e, p) (arm-one n-left h refl (λ e g. find-left t _ _ g (row .a)))
 
     pub arm-right : row .kind ≡ 11 → {m : ℕ} → m ≡ rightIn t (row .a) → {r : Typed} → r ≡ sumTyped t (row .a) m x → ChecksExpr ws at t s d r
-    unfolding Done sumTyped
-    arm-right h p e = rw (e, p) (by-row 11 h _ (omega (arith, cx .onward)) (λ e rest v room. go room v))
-      where
-        go : Room s d → {rest : List Line} {a b : ℕ} {e : Expr} → ExprRow ws at rest 11 a b e → Done e rest (sumTyped t a (rightIn t a) x)
-        go room {rest} (at-right {t = n} {e} p w) = let m = cx .means e rest p w room in (find-right t _ _ (m .0) n, m .1)
+    unfolding sumTyped
+    arm-right h p e = rw (e, p) (arm-one n-right h refl (λ e g. find-right t _ _ g (row .a)))
 
     pub arm-pack : row .kind ≡ 12 → {r : Typed} → r ≡ packTyped t (row .a) x → ChecksExpr ws at t s d r
-    unfolding Done packTyped
-    arm-pack h e = rw e (by-row 12 h _ (omega (arith, cx .onward)) (λ e rest v room. go room v))
-      where
-        go : Room s d → {rest : List Line} {a b : ℕ} {e : Expr} → ExprRow ws at rest 12 a b e → Done e rest (packTyped t a x)
-        go room {rest} (at-pack {l} {e} p w) = let m = cx .means e rest p w room in (find-pack t _ _ (m .0) l, m .1)
+    unfolding packTyped
+    arm-pack h e = rw e (arm-one n-pack h refl (λ e g. find-pack t _ _ g (row .a)))
 
     pub arm-unpack : row .kind ≡ 13 → {r : Typed} → r ≡ unpackTyped t (row .a) (row .b) x → ChecksExpr ws at t s d r
-    unfolding Done unpackTyped
-    arm-unpack h e = rw e (by-row 13 h _ (omega (arith, cx .onward)) (λ e rest v room. go room v))
-      where
-        go : Room s d → {rest : List Line} {a b : ℕ} {e : Expr} → ExprRow ws at rest 13 a b e → Done e rest (unpackTyped t a b x)
-        go room {rest} (at-unpack {t = n} {l} {e} p w) = let m = cx .means e rest p w room in (find-unpack t _ _ (m .0) n l, m .1)
+    unfolding unpackTyped
+    arm-unpack h e = rw e (arm-one n-unpack h refl (λ e g. find-unpack t _ _ g (row .a) (row .b)))
 
   -- a row of another kind is no expression's
-  pub arm-other : (6 ≤ row .kind → row .kind < 14 → ⊥) → {x : Typed} → x ≡ nothing at → ChecksExpr ws at t s d x
-  unfolding Done nothing
-  arm-other f e = rw e (by-row (row .kind) refl _ (omega arith) (λ e rest v room. absurd (go v refl)))
-    where
-      go : {rest : List Line} {k a b : ℕ} {e : Expr} → ExprRow ws at rest k a b e → row .kind ≡ k → ⊥
-      go (at-int w) h = f (omega arith) (omega arith)
-      go (at-loc w) h = f (omega arith) (omega arith)
-      go (at-var w) h = f (omega arith) (omega arith)
-      go (at-plus p r w) h = f (omega arith) (omega arith)
-      go (at-left p w) h = f (omega arith) (omega arith)
-      go (at-right p w) h = f (omega arith) (omega arith)
-      go (at-pack p w) h = f (omega arith) (omega arith)
-      go (at-unpack p w) h = f (omega arith) (omega arith)
+  pub arm-other : (KindOf expression (row .kind) → ⊥) → {x : Typed} → x ≡ nothing at → ChecksExpr ws at t s d x
+  unfolding nothing
+  arm-other f e = rw e (record { onward = omega arith; means = λ e rest src w room. absurd (not-here expression e rest ws at q f src w) })

@@ -1,13 +1,12 @@
 -- `Evals`: a law for each kind of line.
 -- Assumes nothing.
-use mathlib.Core.Path.{_≡_, refl, sym, ap, subst, _∙_}
-use mathlib.Core.Logic.{_⊎_, ⊎-elim}
-use mathlib.Core.Bool.{Bool, true, false}
+use mathlib.Core.Path.{_≡_, refl, ap, _∙_}
+use mathlib.Core.Logic.{⊎-elim}
+use mathlib.Core.Bool.{true}
 use mathlib.Core.List.{List}
 use Prim.Native.Nat.{ℕ, _+_, _-_, _≤_, _<_}
 use native.Mathlib.Omega.{arith}
-use borrow.Author.Tests.{ltb-true, eqb-true, eqb-false}
-use lib.Dec.{eqb}
+use borrow.Author.Tests.{ltb-true}
 use lib.ListN.{length, drop, getD}
 use Rattle.language.specs.Syntax.{Value, int, Expr, inl, inr}
 use Rattle.language.specs.World.{World, Mem, cell-words}
@@ -18,7 +17,9 @@ use Rattle.script.specs.Lines.{Line, exprLines}
 use Rattle.script.specs.Internal.Code.{code, rowAt}
 use Rattle.script.specs.Names.{Counts, namedE}
 use Rattle.script.specs.declared.Row.{Row}
-use Rattle.script.proofs.Rows.{ExprRow, at-int, at-loc, at-var, at-plus, at-left, at-right, at-pack, at-unpack, expr-row}
+use Rattle.script.specs.Internal.Pieces.{expression}
+use Rattle.script.proofs.Rows as rows
+use Rattle.script.proofs.Rows.{ExprRow, at-int, at-loc, at-var, at-plus, at-left, at-right, at-pack, at-unpack, KindOf, not-here, one-between}
 use Rattle.memory.specs.Words.{cell}
 use Rattle.memory.specs.Memory.{cellOf}
 use Rattle.evaluator.specs.State.{stateNumber}
@@ -35,9 +36,7 @@ use Rattle.evaluator.proofs.StateLaws.{cell-in, room-here, holds-kept, 
 -- the row that was read is that of the expression
 pub row-of : {ws : List ℕ} {at : ℕ} {row : Row} {rest : List Line} {k : Counts} {depth : ℕ} {e : Expr} (kind : ℕ) → row ≡ rowAt ws at → row .kind ≡ kind
     → ExprAt ws at rest k depth e → ExprRow ws at rest kind (row .a) (row .b) e
-row-of {ws} {at} {row} {rest} {k} {depth} {e} kind r q p =
-    subst (λ (i : ℕ). ExprRow ws at rest i (row .a) (row .b) e) q
-    (subst (λ (u : Row). ExprRow ws at rest (u .kind) (u .a) (u .b) e) (sym r) (expr-row ws at (p .source) (p .lines)))
+row-of {ws} {at} {rest = rest} {e = e} kind r q p = rows.row-of ws at expression e rest r q (p .source) (p .lines)
 
 -- what an evaluation promises of one expression
 abbrev Means : World → Mem → Env → Expr → List ℕ → List Line → ℕ → List ℕ → ℕ → Type 0
@@ -125,39 +124,12 @@ module _ {ws : List ℕ} (at : ℕ) {table : List ℕ} {authority depth : ℕ} {
         λ q. ap (λ (i : ℕ). drop i ws) (y .same-place) ∙ m′ .1 (y .through q),
       )
 
-none-case : (W : World) (M : Mem) (ρ : Env) (state next : ℕ) (words : List ℕ) {ws : List ℕ} {at : ℕ} {rest : List Line} {kind a b : ℕ} {e : Expr} → ExprRow ws at rest kind a b e
-    → (kind ≡ 6 → ⊥) → (kind ≡ 7 → ⊥) → (kind ≡ 8 → ⊥) → (kind ≡ 9 → ⊥) → (kind ≡ 10 → ⊥) → (kind ≡ 11 → ⊥) → (kind ≡ 12 → ⊥) → (kind ≡ 13 → ⊥)
-    → Means W M ρ e ws rest state words next
-none-case W M ρ state next words (at-int h) n6 n7 n8 n9 n10 n11 n12 n13 = absurd (n6 refl)
-none-case W M ρ state next words (at-loc h) n6 n7 n8 n9 n10 n11 n12 n13 = absurd (n7 refl)
-none-case W M ρ state next words (at-var h) n6 n7 n8 n9 n10 n11 n12 n13 = absurd (n8 refl)
-none-case W M ρ state next words (at-plus s r h) n6 n7 n8 n9 n10 n11 n12 n13 = absurd (n9 refl)
-none-case W M ρ state next words (at-left s h) n6 n7 n8 n9 n10 n11 n12 n13 = absurd (n10 refl)
-none-case W M ρ state next words (at-right s h) n6 n7 n8 n9 n10 n11 n12 n13 = absurd (n11 refl)
-none-case W M ρ state next words (at-pack s h) n6 n7 n8 n9 n10 n11 n12 n13 = absurd (n12 refl)
-none-case W M ρ state next words (at-unpack s h) n6 n7 n8 n9 n10 n11 n12 n13 = absurd (n13 refl)
-
 -- a cell is copied to the accumulator
 copied : (work : List ℕ) {work′ : List ℕ} (j : ℕ) → work′ ≡ storeOf work accumulator (loadOf work j) → drop cell-words work′ ≡ drop cell-words work
 copied work j e = ap (drop 16) e ∙ rest-kept work (loadOf work j) (length-load work j)
 
 copy-here : (work : List ℕ) {work′ : List ℕ} (j : ℕ) → cell-words ≤ length work → work′ ≡ storeOf work accumulator (loadOf work j) → cellOf work′ accumulator ≡ loadOf work j
 copy-here work j h e = ap (λ (u : List ℕ). cellOf u 0) e ∙ cell-stored work 0 (loadOf work j) (length-load work j) (there work 0 (omega arith))
-
-one-of : (k : ℕ) → 8 < k → k ≤ 13 → (k ≡ 9 → ⊥) → (k ≡ 10) ⊎ ((k ≡ 11) ⊎ ((k ≡ 12) ⊎ (k ≡ 13)))
-one-of k h l n = on (eqb k 10) refl
-  where
-    last : (b : Bool) → eqb k 12 ≡ b → (k ≡ 10 → ⊥) → (k ≡ 11 → ⊥) → (k ≡ 12) ⊎ (k ≡ 13)
-    last true e n10 n11 = _⊎_.inl (eqb-true k 12 e)
-    last false e n10 n11 = _⊎_.inr (let n12 = eqb-false k 12 e in omega arith)
-
-    next : (b : Bool) → eqb k 11 ≡ b → (k ≡ 10 → ⊥) → (k ≡ 11) ⊎ ((k ≡ 12) ⊎ (k ≡ 13))
-    next true e n10 = _⊎_.inl (eqb-true k 11 e)
-    next false e n10 = _⊎_.inr (last (eqb k 12) refl n10 (eqb-false k 11 e))
-
-    on : (b : Bool) → eqb k 10 ≡ b → (k ≡ 10) ⊎ ((k ≡ 11) ⊎ ((k ≡ 12) ⊎ (k ≡ 13)))
-    on true e = _⊎_.inl (eqb-true k 10 e)
-    on false e = _⊎_.inr (next (eqb k 11) refl (eqb-false k 10 e))
 
 -- ---- a law for each arm of the code
 
@@ -256,16 +228,13 @@ module _ {ws : List ℕ} {at : ℕ} {table : List ℕ} {authority depth : ℕ} {
     pub eval-one : 9 ≤ row .kind → row .kind ≤ 13 → (row .kind ≡ 9 → ⊥) → Applied table authority (row .kind) (row .a) (row .b) work′ vs vn work″ state next
         → Evals ws at table authority depth work state next work″
     eval-one h l n y =
-        ⊎-elim (λ q. eval-left q (y .left q)) (⊎-elim (λ q. eval-right q (y .right q)) (⊎-elim (λ q. eval-pack q (y .pack q)) (λ q. eval-unpack q (y .unpack q))))
-        (one-of (row .kind) (omega arith) l n)
+        ⊎-elim (⊎-elim (⊎-elim (⊎-elim absurd (λ q. eval-left q (y .left q))) (λ q. eval-right q (y .right q))) (λ q. eval-pack q (y .pack q)))
+        (λ q. eval-unpack q (y .unpack q)) (one-between 10 4 (omega arith) (omega arith))
 
-  pub eval-none : (row .kind ≡ 6 → ⊥) → (row .kind ≡ 7 → ⊥) → (row .kind ≡ 8 → ⊥) → (row .kind ≡ 9 → ⊥)
-      → (row .kind ≡ 10 → ⊥) → (row .kind ≡ 11 → ⊥) → (row .kind ≡ 12 → ⊥) → (row .kind ≡ 13 → ⊥)
-      → Evals ws at table authority depth work (stateNumber NoRule) at work
-  unfolding stateNumber
-  eval-none n6 n7 n8 n9 n10 n11 n12 n13 =
+  pub eval-none : (KindOf expression (row .kind) → ⊥) → Evals ws at table authority depth work (stateNumber NoRule) at work
+  eval-none f =
       record {
         forward = omega arith;
         kept = refl;
-        means = λ W k e rest M ρ t p held. none-case W M ρ 4 at (cellOf work 0) (row-of (row .kind) r refl p) n6 n7 n8 n9 n10 n11 n12 n13;
+        means = λ W k e rest M ρ t p held. absurd (not-here expression e rest ws at r f (p .source) (p .lines));
       }

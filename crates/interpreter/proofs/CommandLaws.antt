@@ -19,22 +19,21 @@ use Rattle.script.specs.Lines.{Line, SourceE, Source, exprLines, cmdLines}
 use Rattle.script.specs.Internal.Code.{code, rowAt}
 use Rattle.script.specs.Names.{Counts, named}
 use Rattle.script.specs.declared.Row.{Row}
-use Rattle.script.proofs.Rows.{CmdRow, at-skip, at-seq, at-assign, at-while, at-case, cmd-row}
+use Rattle.script.specs.Internal.Pieces.{command, an-expression, a-command}
+use Rattle.script.proofs.Rows.{CmdRow, at-skip, at-seq, at-assign, at-while, at-case, row-of, KindOf, not-here}
 use Rattle.memory.specs.Memory.{cellOf}
 use Rattle.evaluator.specs.State.{stateNumber}
 use Rattle.evaluator.specs.declared.State.the-variants.{Done, NoRule}
 use Rattle.evaluator.specs.Internal.Cells.{CellsHold}
 use Rattle.evaluator.specs.Internal.Nodes.{Tells}
-use Rattle.interpreter.specs.Internal.Post.{CmdAt, an-expression, a-command, Skips, Finishes, Execs, ticked, Ticks, Assigns, Choice, to-left, to-right, no-budget, choice-long, choice-stuck, choiceV, choice, Chooses, Decides, Enters, Branches}
+use Rattle.interpreter.specs.Internal.Post.{CmdAt, Skips, Finishes, Execs, ticked, Ticks, Assigns, Choice, to-left, to-right, no-budget, choice-long, choice-stuck, choiceV, choice, Chooses, Decides, Enters, Branches}
 use Rattle.evaluator.proofs.StateLaws.{holds-kept, holds-leave}
 use Rattle.interpreter.proofs.ExecLaws.{ticked-then, ends-there, goes-on}
 
 -- the row that was read is that of the command
 cmd-row-of : {ws : List ℕ} {at : ℕ} {row : Row} {rest : List Line} {k : Counts} {depth : ℕ} {c : Cmd} (kind : ℕ) → row ≡ rowAt ws at → row .kind ≡ kind
     → CmdAt ws at rest k depth c → CmdRow ws at rest kind (row .a) (row .b) c
-cmd-row-of {ws} {at} {row} {rest} {k} {depth} {c} kind r q p =
-    subst (λ (i : ℕ). CmdRow ws at rest i (row .a) (row .b) c) q
-    (subst (λ (u : Row). CmdRow ws at rest (u .kind) (u .a) (u .b) c) (sym r) (cmd-row ws at (p .source) (p .lines)))
+cmd-row-of {ws} {at} {rest = rest} {c = c} kind r q p = row-of ws at command c rest r q (p .source) (p .lines)
 
 -- what `Execs` says, by the run with an environment
 runs : {ws : List ℕ} {at : ℕ} {table : List ℕ} {authority depth : ℕ} {work : List ℕ} {fuel state left next : ℕ} {work′ : List ℕ}
@@ -265,14 +264,6 @@ module _ {ws : List ℕ} (at : ℕ) {table : List ℕ} {authority depth : ℕ} {
           rw (case-is e c d)
           (case-at rest c d (choice fuel (eval W ρ M e)) p q (both-left _ _ m) (both-right _ _ m) z (enters rest s p q n h))
 
-none-case : {ws : List ℕ} {at : ℕ} {rest : List Line} {kind a b : ℕ} {c : Cmd} (Q : Type 0) → CmdRow ws at rest kind a b c
-    → (kind ≡ 1 → ⊥) → (kind ≡ 2 → ⊥) → (kind ≡ 3 → ⊥) → (kind ≡ 4 → ⊥) → (kind ≡ 5 → ⊥) → Q
-none-case Q (at-skip h) n1 n2 n3 n4 n5 = absurd (n1 refl)
-none-case Q (at-seq s r h) n1 n2 n3 n4 n5 = absurd (n2 refl)
-none-case Q (at-assign s h) n1 n2 n3 n4 n5 = absurd (n3 refl)
-none-case Q (at-while s r h) n1 n2 n3 n4 n5 = absurd (n4 refl)
-none-case Q (at-case s p q h) n1 n2 n3 n4 n5 = absurd (n5 refl)
-
 -- ---- a law for each arm of the code
 
 module _ {ws : List ℕ} {at : ℕ} {table : List ℕ} {authority depth : ℕ} {work : List ℕ} {fuel : ℕ} {row : Row} (r : row ≡ rowAt ws at) where
@@ -329,10 +320,6 @@ module _ {ws : List ℕ} {at : ℕ} {table : List ℕ} {authority depth : ℕ} {
         by-runs (omega (arith, y .onward)) (omega (arith, x .spends, y .spends))
         (λ W k c rest M ρ t p held. case-case at W k M ρ t held y x′ (cmd-row-of 5 r q p) (p .names) z)
 
-  pub exec-none : (row .kind ≡ 1 → ⊥) → (row .kind ≡ 2 → ⊥) → (row .kind ≡ 3 → ⊥) → (row .kind ≡ 4 → ⊥) → (row .kind ≡ 5 → ⊥)
-      → Execs ws at table authority depth work fuel (stateNumber NoRule) fuel at work
-  unfolding stateNumber
-  exec-none n1 n2 n3 n4 n5 =
-      by-runs (omega arith) (omega arith)
-      (λ W k c rest M ρ t p held.
-      none-case (Finishes ws rest (k .locations) depth ρ (go W ρ c M fuel) 4 fuel work at) (cmd-row-of (row .kind) r refl p) n1 n2 n3 n4 n5)
+  pub exec-none : (KindOf command (row .kind) → ⊥) → Execs ws at table authority depth work fuel (stateNumber NoRule) fuel at work
+  exec-none f =
+      by-runs (omega arith) (omega arith) (λ W k c rest M ρ t p held. absurd (not-here command c rest ws at r f (p .source) (p .lines)))

@@ -14,6 +14,7 @@ use Rattle.language.specs.Transition.{Out, done, spent, over, wrong}
 use Rattle.language.proofs.Interpreter.{go, andThen, spend, assigned, go-assign}
 use Rattle.script.specs.Lines.{Line, Source, cmdLines}
 use Rattle.script.specs.Internal.Code.{code}
+use Rattle.script.specs.Internal.Pieces.{a-command}
 use Rattle.script.specs.Names.{Counts, maxDepth}
 use Rattle.memory.specs.Words.{enc, cell}
 use Rattle.memory.specs.Memory.{cellOf}
@@ -23,7 +24,7 @@ use Rattle.cells.specs.Internal.Cells.{accumulator, loadOf, storeOf, popOf}
 use Rattle.evaluator.specs.Internal.Cells.{firstLocation, CellsHold}
 use Rattle.evaluator.specs.Internal.Nodes.{Yields, Tags, Tells}
 use Rattle.evaluator.specs.Internal.Post.{ExprAt, Evals}
-use Rattle.interpreter.specs.Internal.Post.{a-command, Skips, Finishes, ticked, Ticks, Assigns, Choice, to-left, to-right, no-budget, choice-long, choice-stuck, choiceV, choice, Chooses, Decides, Enters, Branches}
+use Rattle.interpreter.specs.Internal.Post.{Skips, Finishes, ticked, Ticks, Assigns, Choice, to-left, to-right, no-budget, choice-long, choice-stuck, choiceV, choice, Chooses, Decides, Enters, Branches}
 use Rattle.cells.proofs.CellLaws.{length-load, length-pop}
 use Rattle.evaluator.proofs.ValueLaws.{cell-size, tags-left, tags-right, pop-tag, Kind, is-int, is-err, is-inl, is-inr, is-pkg, is-blank, kind-enc}
 use Rattle.evaluator.proofs.NodeLaws.{words-here, load-here}

@@ -1,7 +1,8 @@
 // Runs of commands over the lines (the paper, figure 3).
 ghost use mathlib.Core.Path.{_≡_};
 ghost use Rattle.evaluator.specs.State.{stateNumber};
-ghost use Rattle.interpreter.specs.Internal.Post.{operandCount, Skips, Execs, Ticks, Assigns, Decides, Branches};
+ghost use Rattle.script.specs.Internal.Pieces.{operandCount};
+ghost use Rattle.interpreter.specs.Internal.Post.{Skips, Execs, Ticks, Assigns, Decides, Branches};
 use evaluator::State;
 use script::ROW;
 

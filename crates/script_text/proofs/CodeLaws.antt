@@ -11,41 +11,25 @@ use Rattle.text.specs.Reading.{fits}
 use Rattle.text.specs.Lines.{front, linesUpTo}
 use Rattle.text.proofs.Writings.{sets-zeros}
 use Rattle.text.proofs.Lines.{lines-at-end, lines-at-full, lines-at-bad, lines-at-more, lines-exact}
-use Rattle.script.specs.Lines.{Line, l-skip, l-seq, l-assign, l-while, l-case, l-int, l-loc, l-var, l-plus, l-left, l-right, l-pack, l-unpack}
+use Rattle.script.specs.Lines.{Line}
 use Rattle.script.specs.Names.{maxLines}
-use Rattle.script.specs.Internal.Code.{lineWords, code}
+use Rattle.script.specs.Internal.Code.{rowOf, code}
 use Rattle.sheet.specs.Padding.{padded}
 use Rattle.script_text.specs.declared.LineRead.the-variants as read
 use Rattle.script_text.specs.declared.Reached.{Reached}
 use Rattle.script_text.specs.declared.Answer.the-variants as answer
 use Rattle.script_text.specs.Reading.{lineOf, linesOf}
 use Rattle.script_text.specs.Internal.Decoded.{Decoded, codeWords, noCode, coded, codedLines}
-use Rattle.script_text.specs.Internal.Placed.{rowOf, lineAt}
+use Rattle.script_text.specs.Internal.Placed.{lineAt}
 use Rattle.script_text.proofs.LineLaws.{script-lines}
 use Rattle.script_text.proofs.FoundLaws.{found-at, found-none}
 
 -- ---- three words a line
 
-pub words-of : (l : Line) (rest : List ℕ) → lineWords l rest ≡ rowOf l .kind ∷ rowOf l .a ∷ rowOf l .b ∷ rest
-unfolding lineWords rowOf
-words-of l-skip rest = refl
-words-of l-seq rest = refl
-words-of (l-assign x) rest = refl
-words-of l-while rest = refl
-words-of l-case rest = refl
-words-of (l-int n) rest = refl
-words-of (l-loc x) rest = refl
-words-of (l-var d) rest = refl
-words-of l-plus rest = refl
-words-of (l-left t) rest = refl
-words-of (l-right t) rest = refl
-words-of (l-pack l) rest = refl
-words-of (l-unpack t l) rest = refl
-
 pub code-length : (ls : List Line) → length (code ls) ≡ length ls * 3
 unfolding code
 code-length [] = refl
-code-length (l ∷ ls) = rw (words-of l (code ls)) (omega (arith, code-length ls))
+code-length (l ∷ ls) = omega (arith, code-length ls)
 
 -- ---- a table that is filled line by line
 
@@ -69,7 +53,7 @@ tabled-front n w l (some ls) =
     let one : n * 3 + 1 ≡ suc (n * 3) = omega arith in
     let two : n * 3 + 2 ≡ suc (suc (n * 3)) = omega arith in
     let three : (n + 1) * 3 ≡ suc (suc (suc (n * 3))) = omega arith in
-    rw (c, words-of l (code ls), one, two, three)
+    rw (c, one, two, three)
 
 module _ (n : ℕ) (w : List ℕ) (s : List ℕ) (at : ℕ) where
   pub table-done : length s ≤ at → tabled n w (linesUpTo lineOf (maxLines - n) (drop at s)) ≡ record { answer = answer.Read; count = n; code = w }

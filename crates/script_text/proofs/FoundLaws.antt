@@ -20,12 +20,13 @@ use Rattle.text.proofs.Fields.{byte-at, byte-bad, number-field-at, number-field
 use Rattle.text.proofs.Lines.{line-within}
 use Rattle.script.specs.declared.Row.{Row}
 use Rattle.script.specs.Lines.{Line}
+use Rattle.script.specs.Internal.Code.{rowOf}
 use Rattle.script_text.specs.declared.Found.{Found}
 use Rattle.script_text.specs.declared.Found.the-variants as found
 use Rattle.script_text.specs.declared.LineRead.the-variants as read
 use Rattle.script_text.specs.declared.Reached.{Reached}
 use Rattle.script_text.specs.Reading.{Form, bare, one, two, other, formOf, operandsOf, lineOf}
-use Rattle.script_text.specs.Internal.Placed.{rowOf, placedLine, reached, lineAt}
+use Rattle.script_text.specs.Internal.Placed.{placedLine, reached, lineAt}
 use Rattle.script_text.proofs.LineLaws.{script-lines}
 
 -- the answer to a line that was read

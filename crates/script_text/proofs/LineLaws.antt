@@ -13,10 +13,9 @@ use Rattle.text.specs.Lines.{AllGood, LineForm}
 use Rattle.text.proofs.Readings.{not-bad, got-same, andThen-got, andThen-split, byte-here, byte-sound}
 use Rattle.text.proofs.Fields.{number-field-sound, number-field-print, last-number-sound, last-number-print}
 use Rattle.script.specs.Lines.{Line, l-skip, l-seq, l-assign, l-while, l-case, l-int, l-loc, l-var, l-plus, l-left, l-right, l-pack, l-unpack}
-use Rattle.script.specs.Internal.Code.{lineWords}
+use Rattle.script.specs.Internal.Code.{rowOf}
 use Rattle.script_text.specs.Bytes.{lineBytes}
 use Rattle.script_text.specs.Reading.{Form, bare, one, two, other, formOf, operandsOf, lineOf}
-use Rattle.script_text.specs.Internal.Placed.{rowOf}
 use Rattle.logic.specs.Booleans.{both}
 
 -- The form of each kind, by its byte.
@@ -93,7 +92,7 @@ module _ (l : Line) (t u : List ℕ) (P : Type 0) where
       g a b (m .0 ∙ ap (printNumberField a) (n .0 ∙ ap (λ r. printNumberField b (printLineEnd r)) (s .1))) (m .1) (n .1) (s .0))) e
 
 formed-sound : {b : ℕ} {f : Form} (l : Line) (t u : List ℕ) → Formed b f → operandsOf f t ≡ got l u → (b ∷ t ≡ lineBytes l u) × Fits l
-unfolding lineBytes rowOf lineWords
+unfolding lineBytes rowOf
 formed-sound l t u f-skip e = let r = bare-sound _ l t u e in rw (← r .1, r .0) (refl, (no-operand, no-operand))
 formed-sound l t u f-seq e = let r = bare-sound _ l t u e in rw (← r .1, r .0) (refl, (no-operand, no-operand))
 formed-sound l t u f-while e = let r = bare-sound _ l t u e in rw (← r .1, r .0) (refl, (no-operand, no-operand))
@@ -133,7 +132,7 @@ module _ (u : List ℕ) where
       ∙ andThen-got _ _ b u (last-number-print most b u k)
 
 line-print : (l : Line) (u : List ℕ) → Fits l → lineOf (lineBytes l u) ≡ got l u
-unfolding lineBytes lineOf formOf rowOf lineWords
+unfolding lineBytes lineOf formOf rowOf
 line-print l-skip u h = bare-print u l-skip
 line-print l-seq u h = bare-print u l-seq
 line-print (l-assign x) u h = one-print u l-assign x (h .0)

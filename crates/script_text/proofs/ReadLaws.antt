@@ -22,7 +22,7 @@ use Rattle.script_text.specs.Reading.{linesOf}
 use Rattle.script_text.specs.Internal.Parse.{stackOf, onlyCommand, parse}
 use Rattle.script_text.specs.Script.{namedOnly, commandOf, commandRead, scriptOf}
 use Rattle.script_text.specs.Internal.Scan.{ScansCmd, isSome, Whole}
-use Rattle.script_text.proofs.CodeLaws.{words-of, code-length}
+use Rattle.script_text.proofs.CodeLaws.{code-length}
 use Rattle.script_text.proofs.ScanLaws.{false-true}
 use Rattle.script_text.proofs.ScriptLaws.{command-sound, command-lines, script-sound}
 use Rattle.logic.proofs.BooleanLaws.{bool-ext}
@@ -47,7 +47,7 @@ is-some o c e = rw e
 code-empty : (ls : List Line) → code ls ≡ [] → ls ≡ []
 unfolding code
 code-empty [] h = refl
-code-empty (l ∷ ls) h = absurd (omega (arith, ap length (sym (words-of l (code ls)) ∙ h)))
+code-empty (l ∷ ls) h = absurd (omega (arith, ap length h))
 
 module _ (k : Counts) (ws : List ℕ) (r : Scanned) (s : ScansCmd k 0 ws 0 r) where
   -- the lines are those of a command exactly if one was found and it ends where the code does

@@ -16,7 +16,7 @@ use Rattle.text.proofs.Lines.{lines-exact}
 use Rattle.language.specs.Syntax.{Expr, Cmd}
 use Rattle.logic.proofs.BooleanLaws.{both-left, both-right, cond-split}
 use Rattle.script.specs.Lines.{Line, l-skip, l-seq, l-assign, l-while, l-case, l-int, l-loc, l-var, l-plus, l-left, l-right, l-pack, l-unpack, SourceE, s-int, s-loc, s-var, s-plus, s-left, s-right, s-pack, s-unpack, Source, s-skip, s-seq, s-assign, s-while, s-case, numberOf, exprLines, cmdLines}
-use Rattle.script.specs.Internal.Code.{lineWords}
+use Rattle.script.specs.Internal.Code.{rowOf}
 use Rattle.script.specs.Names.{Counts, maxDepth, namedE, named, maxLines}
 use Rattle.sheet.specs.Sheet.{Sheet, labelCount, locationCount, formed}
 use Rattle.sheet.specs.Internal.Tables.{tableOf}
@@ -27,7 +27,6 @@ use Rattle.script_text.specs.Internal.Parse.{stackOf, onlyCommand, parse
 use Rattle.script_text.specs.Counts.{countsOf}
 use Rattle.script_text.specs.Script.{namedOnly, commandOf, commandRead, scriptOf}
 use Rattle.script_text.specs.Internal.Decoded.{countsIn}
-use Rattle.script_text.specs.Internal.Placed.{rowOf}
 use Rattle.script_text.specs.Theorems.{IsScript, ScriptExact}
 use Rattle.script_text.proofs.LineLaws.{AllFit, script-lines}
 use Rattle.script_text.proofs.ParseLaws.{parse-sound, parse-lines}
@@ -46,7 +45,7 @@ small x n h l = omega (arith, ltb-true x n h)
 
 module _ (k : Counts) (narrow : Narrow k) where
   fit-expr : {e : Expr} {rest : List Line} (d : ℕ) → SourceE e → d ≤ maxDepth → namedE k d e ≡ true → AllFit rest → AllFit (exprLines e rest)
-  unfolding exprLines namedE numberOf rowOf lineWords
+  unfolding exprLines namedE numberOf rowOf
   fit-expr d (s-int {n = n}) h m r = and-then {l = l-int n} (small n (2 ^ 32) m (omega arith), omega arith) r
   fit-expr d (s-loc {x = n}) h m r = and-then {l = l-loc n} (small n (k .locations) m (omega (arith, narrow .locations)), omega arith) r
   fit-expr d (s-var {d = n}) h m r = and-then {l = l-var n} (small n d m (omega arith), omega arith) r
@@ -63,7 +62,7 @@ module _ (k : Counts) (narrow : Narrow k) where
       (fit-expr d s h (both-right _ _ n) r)
 
   fit-cmd : {c : Cmd} {rest : List Line} (d : ℕ) → Source c → d ≤ maxDepth → named k d c ≡ true → AllFit rest → AllFit (cmdLines c rest)
-  unfolding cmdLines named rowOf lineWords
+  unfolding cmdLines named rowOf
   fit-cmd d s-skip h n r = and-then {l = l-skip} (omega arith, omega arith) r
   fit-cmd d (s-seq s q) h n r = and-then {l = l-seq} (omega arith, omega arith) (fit-cmd d s h (both-left _ _ n) (fit-cmd d q h (both-right _ _ n) r))
   fit-cmd d (s-assign {x = x} s) h n r =

@@ -3,7 +3,7 @@ use borrow.Author.Needs.{needs}
 use Prim.Native.Nat.{ℕ, _<_, _-_}
 use native.Mathlib.Omega.{arith}
 use lib.ListN.{length}
-use Rattle.script.proofs.Rows.{row-within}
+use Rattle.script.proofs.Rows.{row-within, none-past}
 use Rattle.evaluator.proofs.NumberLaws.{not-done, is-done}
 use Rattle.evaluator.proofs.EvalLaws as laws
 use borrow.Fn.Kinds.{In}
@@ -58,7 +58,7 @@ pub +eval-spec : {M : Type 1} → statement M
     (λ c. omega (arith, row-within _ _ (c .before .before .before .row-at .ensures) (omega arith)))  -- add-eval
     (λ c κs. (omega (arith, row-within _ _ (c .before .before .before .before .row-at .ensures) (omega arith)), tt))  -- eval-requires
     (λ c κs. search needs)  -- applied-requires
-    (λ c. laws.eval-one (c .before .before .before .before .before .before .before .before .row-at .ensures) (c .before .before .before .eval .ensures) (omega (arith, c .before .before .before .before .before .before .if1 .left, c .before .before .before .before .before .before .before .match .rest .0 .0 .1, c .before .before .before .before .before .before .before .match .rest .0 .1, c .before .before .before .before .before .before .before .match .rest .1)) (omega (arith, c .before .before .before .before .before .if2 .taken)) (c .before .before .if3 .taken) (c .applied .ensures))  -- returns
+    (λ c. laws.eval-one (c .before .before .before .before .before .before .before .before .row-at .ensures) (c .before .before .before .eval .ensures) (none-past 6 3 (c .before .before .before .before .before .before .before .match .rest) (c .before .before .before .before .before .before .if1 .left)) (omega (arith, c .before .before .before .before .before .if2 .taken)) (c .before .before .if3 .taken) (c .applied .ensures))  -- returns
     (λ c. search needs)  -- enum-told
     (λ c. laws.eval-plus-end (c .before .before .before .before .before .before .before .row-at .ensures) (c .before .if3 .left) (c .before .before .eval .ensures) (not-done _ (c .match2 .keys2)))  -- returns-2
     (λ c κs. search needs)  -- word-requires
@@ -68,7 +68,5 @@ pub +eval-spec : {M : Type 1} → statement M
     (λ c. laws.eval-loc (c .before .before .before .row-at .ensures) (c .before .before .match .keys2) (c .location .ensures))  -- returns-4
     (λ c. laws.eval-var (c .before .before .before .row-at .ensures) (c .before .before .match .keys3) (c .variable .ensures))  -- returns-5
     (λ c. laws.eval-plus (c .before .before .before .before .before .before .before .before .before .before .before .before .before .before .before .row-at .ensures) (c .before .before .before .before .before .before .before .before .before .if3 .left) (c .before .before .before .before .before .before .before .before .before .before .eval .ensures) (is-done _ (c .before .before .before .before .before .before .before .enum-told .given .1)) (c .before .before .before .before .word .ensures) (c .before .before .eval2 .ensures) (c .applied2 .ensures .plus (c .before .before .before .before .before .before .before .before .before .if3 .left)))  -- returns-6
-    (λ c. laws.eval-none (c .before .before .row-at .ensures) (c .before .match .rest .0 .0 .1) (c .before .match .rest .0 .1) (c .before .match .rest .1) (λ q. omega (arith, c .if1 .taken)) (λ q. omega (arith, c .if1 .taken)) (λ q. omega (arith, c .if1 .taken))
-    (λ q. omega (arith, c .if1 .taken)) (λ q. omega (arith, c .if1 .taken)))  -- returns-7
-    (λ c. laws.eval-none (c .before .before .before .row-at .ensures) (c .before .before .match .rest .0 .0 .1) (c .before .before .match .rest .0 .1) (c .before .before .match .rest .1) (λ q. omega (arith, c .if2 .left)) (λ q. omega (arith, c .if2 .left)) (λ q. omega (arith, c .if2 .left))
-    (λ q. omega (arith, c .if2 .left)) (λ q. omega (arith, c .if2 .left)))  -- returns-8
+    (λ c. laws.eval-none (c .before .before .row-at .ensures) (λ h. omega (arith, h .0, c .if1 .taken)))  -- returns-7
+    (λ c. laws.eval-none (c .before .before .before .row-at .ensures) (λ h. omega (arith, h .1, c .if2 .left)))  -- returns-8

@@ -1,16 +1,17 @@
 -- What the functions over a script's lines ensure.
 use mathlib.Core.Path.{_≡_}
 use mathlib.Core.Bool.{Bool, true, false}
-use mathlib.Core.List.{List, [], _∷_}
+use mathlib.Core.List.{List, _∷_}
 use Prim.Native.Nat.{ℕ, zero, suc, _≤_, _<_}
-use lib.ListN.{drop, getD}
+use lib.ListN.{drop}
 use Rattle.language.specs.Syntax.{Value, int, err, inl, inr, pkg, blank, Expr, Cmd, assign}
 use Rattle.language.specs.World.{World, Mem, cell-words}
 use Rattle.language.specs.Substitution.{Env, close}
 use Rattle.language.specs.Evaluation.{Res, ok, long, stuck, eval}
 use Rattle.language.specs.Transition.{Out, done, spent, over, wrong, iterate}
-use Rattle.script.specs.Lines.{Line, SourceE, Source, exprLines, cmdLines}
+use Rattle.script.specs.Lines.{Line, Source, cmdLines}
 use Rattle.script.specs.Internal.Code.{code}
+use Rattle.script.specs.Internal.Pieces.{Piece}
 use Rattle.script.specs.Names.{Counts, named, maxDepth}
 use Rattle.memory.specs.Words.{cell}
 use Rattle.memory.specs.Memory.{cellOf}
@@ -29,18 +30,9 @@ pub record CmdAt (ws : List ℕ) (at : ℕ) (rest : List Line) (k : Counts) (dep
 
 -- ---- skip
 
--- The lines of one expression or command, then the rest.
-pub data Piece : List Line → List Line → Type 0 where
-  an-expression : {e : Expr} {rest : List Line} → SourceE e → Piece (exprLines e rest) rest
-  a-command : {c : Cmd} {rest : List Line} → Source c → Piece (cmdLines c rest) rest
-
 pub record Skips (ws : List ℕ) (at next : ℕ) : Type 0 where
   pub forward : at ≤ next
   pub means : (ls rest : List Line) → Piece ls rest → drop at ws ≡ code ls → drop next ws ≡ code rest
-
--- how many operands follow a line of a kind; 4 for a number that is no kind
-unfoldable pub operandCount : ℕ → ℕ
-operandCount kind = getD (4 ∷ 0 ∷ 2 ∷ 1 ∷ 2 ∷ 3 ∷ 0 ∷ 0 ∷ 0 ∷ 2 ∷ 1 ∷ 1 ∷ 1 ∷ 1 ∷ []) kind 4
 
 -- ---- exec
 

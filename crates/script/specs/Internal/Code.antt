@@ -7,30 +7,31 @@ use lib.ListN.{length, getD}
 use Rattle.script.specs.declared.Row.{Row}
 use Rattle.script.specs.Lines.{Line, l-skip, l-seq, l-assign, l-while, l-case, l-int, l-loc, l-var, l-plus, l-left, l-right, l-pack, l-unpack}
 
--- the words of a line, then rest
-unfoldable pub lineWords : Line → List ℕ → List ℕ
-lineWords l-skip rest = 1 ∷ 0 ∷ 0 ∷ rest
-lineWords l-seq rest = 2 ∷ 0 ∷ 0 ∷ rest
-lineWords (l-assign x) rest = 3 ∷ x ∷ 0 ∷ rest
-lineWords l-while rest = 4 ∷ 0 ∷ 0 ∷ rest
-lineWords l-case rest = 5 ∷ 0 ∷ 0 ∷ rest
-lineWords (l-int n) rest = 6 ∷ n ∷ 0 ∷ rest
-lineWords (l-loc x) rest = 7 ∷ x ∷ 0 ∷ rest
-lineWords (l-var d) rest = 8 ∷ d ∷ 0 ∷ rest
-lineWords l-plus rest = 9 ∷ 0 ∷ 0 ∷ rest
-lineWords (l-left t) rest = 10 ∷ t ∷ 0 ∷ rest
-lineWords (l-right t) rest = 11 ∷ t ∷ 0 ∷ rest
-lineWords (l-pack l) rest = 12 ∷ l ∷ 0 ∷ rest
-lineWords (l-unpack t l) rest = 13 ∷ t ∷ l ∷ rest
+-- a row by its words
+abbrev pub rowWith : ℕ → ℕ → ℕ → Row
+rowWith k a b = record { kind = k; a = a; b = b }
+
+-- the row of a line
+unfoldable pub rowOf : Line → Row
+rowOf l-skip = rowWith 1 0 0
+rowOf l-seq = rowWith 2 0 0
+rowOf (l-assign x) = rowWith 3 x 0
+rowOf l-while = rowWith 4 0 0
+rowOf l-case = rowWith 5 0 0
+rowOf (l-int n) = rowWith 6 n 0
+rowOf (l-loc x) = rowWith 7 x 0
+rowOf (l-var d) = rowWith 8 d 0
+rowOf l-plus = rowWith 9 0 0
+rowOf (l-left t) = rowWith 10 t 0
+rowOf (l-right t) = rowWith 11 t 0
+rowOf (l-pack l) = rowWith 12 l 0
+rowOf (l-unpack t l) = rowWith 13 t l
 
 -- the code of lines
 unfoldable pub code : List Line → List ℕ
 code [] = []
-code (l ∷ ls) = lineWords l (code ls)
+code (l ∷ ls) = rowOf l .kind ∷ rowOf l .a ∷ rowOf l .b ∷ code ls
 
 -- the row that starts at a word, if three words are there; else a row of kind 0, which no line has
 unfoldable pub rowAt : List ℕ → ℕ → Row
-rowAt ws at =
-    cond (leb (at + 3) (length ws))
-    (record { kind = getD ws at 0; a = getD ws (at + 1) 0; b = getD ws (at + 2) 0 })
-    (record { kind = 0; a = 0; b = 0 })
+rowAt ws at = cond (leb (at + 3) (length ws)) (rowWith (getD ws at 0) (getD ws (at + 1) 0) (getD ws (at + 2) 0)) (rowWith 0 0 0)

@@ -1,4 +1,5 @@
 -- `script_text::scan_cmd` meets its contract. Assumes nothing.
+use mathlib.Core.Path.{refl}
 use Prim.Native.Nat.{ℕ, _<_, _-_}
 use native.Mathlib.Omega.{arith}
 use lib.ListN.{length}
@@ -6,7 +7,9 @@ use borrow.Author.Needs.{needs}
 use borrow.Fn.Kinds.{In}
 use borrow.Fn.PlainCycle.{Measures, is, falls, and}
 use Rattle.script.proofs.row_at.Reads as row-at-reads
-use Rattle.script.proofs.Rows.{row-within}
+use Rattle.script.specs.Names.{named}
+use Rattle.script.proofs.Rows.{row-within, none-past, none-between}
+use Rattle.script.proofs.Nodes.{n-skip, n-seq, n-assign, n-while}
 use Rattle.script_text.proofs.ScanLaws as laws
 use Rattle.script_text.proofs.scan_cmd.Reads as scan-cmd
 use Rattle.script_text.proofs.scan_cmd.Kinds as scan-cmd-kinds
@@ -44,6 +47,7 @@ readings t = (
 -- the calls of the five kinds, in order: room for the next row, and fewer words left, with the return of a case that is too deep;
 -- then a return for each kind and the others
 pub +scan-cmd-spec : {M : Type 1} → statement M
+unfolding named
 +scan-cmd-spec =
     close μ-scan-cmd λ t. scan-cmd-lts.spec (readings t) (scan-cmd-at t) scan-cmd.Post
     (λ c κs. search needs)  -- row-at-requires
@@ -58,22 +62,19 @@ pub +scan-cmd-spec : {M : Type 1} → statement M
     (λ c κs. search needs)  -- also-requires-2
     (λ c κs. (omega (arith, row-within _ _ (c .before .before .before .before .before .row-at .ensures) (omega (arith, c .before .before .before .if1 .left)), c .before .scan-expr .ensures .forward), tt))  -- scan-cmd-requires-3
     (λ c κs. search needs)  -- also-requires-3
-    (λ c. laws.scan-deep _ _ _ _ _ (c .before .before .before .before .before .before .row-at .ensures) (c .before .match2 .keys3) (c .if3 .taken))  -- returns
+    (λ c. laws.scan-deep _ _ (c .before .before .before .before .before .before .row-at .ensures) (c .before .match2 .keys3) (c .if3 .taken))  -- returns
     (λ c. omega arith)  -- add-scan-cmd-2
     (λ c κs. (omega (arith, row-within _ _ (c .before .before .before .before .before .before .row-at .ensures) (omega (arith, c .before .before .before .before .if1 .left)), c .before .before .scan-expr .ensures .forward), tt))  -- scan-cmd-requires-4
     (λ c. omega arith)  -- add-scan-cmd-3
     (λ c κs. (omega (arith, row-within _ _ (c .before .before .before .before .before .before .before .row-at .ensures) (omega (arith, c .before .before .before .before .before .if1 .left)), c .before .before .before .scan-expr .ensures .forward, c .scan-cmd4 .ensures .forward), tt))  -- scan-cmd-requires-5
     (λ c κs. search needs)  -- also-requires-4
     (λ c κs. search needs)  -- also-requires-5
-    (λ c. laws.scan-skip _ _ _ _ _ (c .before .row-at .ensures) (c .match .keys1))  -- returns-2
-    (λ c. laws.scan-seq _ _ _ _ _ (c .before .before .before .before .row-at .ensures) _ _ _ (c .before .before .before .match .keys2) (c .before .before .scan-cmd .ensures) (c .before .scan-cmd2 .ensures) (c .also .ensures))  -- returns-3
-    (λ c. laws.scan-assign _ _ _ _ _ (c .before .before .before .before .before .before .before .row-at .ensures) _ _ _ (c .before .before .match2 .keys1) (c .before .is-location .ensures) (c .before .before .before .scan-expr .ensures) (c .also2 .ensures))  -- returns-4
-    (λ c. laws.scan-while _ _ _ _ _ (c .before .before .before .before .before .before .before .row-at .ensures) _ _ _ (c .before .before .match2 .keys2) (c .before .before .before .scan-expr .ensures) (c .before .scan-cmd3 .ensures) (c .also3 .ensures))  -- returns-5
-    (λ c. laws.scan-case _ _ _ _ _ (c .before .before .before .before .before .before .before .before .before .before .row-at .ensures) _ _ _ _ _ (c .before .before .before .before .before .match2 .keys3) (c .before .before .before .before .if3 .left)
+    (λ c. laws.scan-leaf (c .before .row-at .ensures) n-skip (c .match .keys1) refl)  -- returns-2
+    (λ c. laws.scan-two (c .before .before .before .before .row-at .ensures) n-seq (c .before .before .before .match .keys2) (c .before .before .scan-cmd .ensures) (c .before .scan-cmd2 .ensures) (c .also .ensures) (λ x y. refl))  -- returns-3
+    (λ c. laws.scan-one (c .before .before .before .before .before .before .before .row-at .ensures) n-assign (c .before .before .match2 .keys1) (c .before .is-location .ensures) (c .before .before .before .scan-expr .ensures) (c .also2 .ensures) (λ x. refl))  -- returns-4
+    (λ c. laws.scan-two (c .before .before .before .before .before .before .before .row-at .ensures) n-while (c .before .before .match2 .keys2) (c .before .before .before .scan-expr .ensures) (c .before .scan-cmd3 .ensures) (c .also3 .ensures) (λ x y. refl))  -- returns-5
+    (λ c. laws.scan-case _ _ (c .before .before .before .before .before .before .before .before .before .before .row-at .ensures) (c .before .before .before .before .before .match2 .keys3) (c .before .before .before .before .if3 .left)
     (c .before .before .before .before .before .before .scan-expr .ensures) (c .before .before .before .scan-cmd4 .ensures) (c .before .before .scan-cmd5 .ensures) (c .before .also4 .ensures) (c .also5 .ensures))  -- returns-6
-    (λ c.
-    let from-match = c .before .before .before .before in
-    let inner = c .match2 .rest in
-    laws.scan-no-cmd _ _ _ _ _ (from-match .before .row-at .ensures) (from-match .match .rest .0 .1) (from-match .match .rest .1) (inner .0 .0 .1) (inner .0 .1) (inner .1))  -- returns-7
-    (λ c. laws.scan-no-cmd _ _ _ _ _ (c .before .before .row-at .ensures) (c .before .match .rest .0 .1) (c .before .match .rest .1) (λ q. omega (arith, c .if1 .taken)) (λ q. omega (arith, c .if1 .taken)) (λ q. omega (arith, c .if1 .taken)))  -- returns-8
-    (λ c. laws.scan-no-cmd _ _ _ _ _ (c .before .before .before .row-at .ensures) (c .before .before .match .rest .0 .1) (c .before .before .match .rest .1) (λ q. omega (arith, c .if2 .left)) (λ q. omega (arith, c .if2 .left)) (λ q. omega (arith, c .if2 .left)))  -- returns-9
+    (λ c. laws.scan-none (c .before .before .before .before .before .row-at .ensures) (λ h. none-between 3 3 (c .match2 .rest) (none-past 1 2 (c .before .before .before .before .match .rest) (h .0)) (h .1)))  -- returns-7
+    (λ c. laws.scan-none (c .before .before .row-at .ensures) (λ h. omega (arith, h .0, c .if1 .taken)))  -- returns-8
+    (λ c. laws.scan-none (c .before .before .before .row-at .ensures) (λ h. omega (arith, h .1, c .if2 .left)))  -- returns-9

@@ -1,13 +1,18 @@
 -- `script_text::scan_expr` meets its contract. Assumes nothing.
-use mathlib.Core.Path.{refl}
+use mathlib.Core.Path.{refl, sym, ap₂}
 use Prim.Native.Nat.{ℕ, _<_, _-_}
 use native.Mathlib.Omega.{arith}
 use lib.ListN.{length}
+use borrow.Author.Tests.{lt-ltb}
+use Rattle.logic.specs.Booleans.{both}
 use borrow.Author.Needs.{needs}
 use borrow.Fn.Kinds.{In}
 use borrow.Fn.PlainCycle.{Measures, is, falls, and}
 use Rattle.script.proofs.row_at.Reads as row-at-reads
-use Rattle.script.proofs.Rows.{row-within}
+use Rattle.script.specs.Names.{namedE}
+use Rattle.script.specs.Lines.{numberOf}
+use Rattle.script.proofs.Rows.{row-within, none-past, none-between}
+use Rattle.script.proofs.Nodes.{n-int, n-loc, n-var, n-plus, n-left, n-right, n-pack, n-unpack}
 use Rattle.script_text.proofs.ScanLaws as laws
 use Rattle.script_text.proofs.scan_expr.Reads as scan-expr
 use Rattle.script_text.proofs.scan_expr.Kinds as scan-expr-kinds
@@ -47,6 +52,7 @@ readings t = (
 
 -- room for the next row, and fewer words left; then a return for each kind and the others
 pub +scan-expr-spec : {M : Type 1} → statement M
+unfolding namedE numberOf
 +scan-expr-spec =
     close μ-scan-expr λ t. scan-expr-lts.spec (readings t) (scan-expr-at t) scan-expr.Post
     (λ c κs. search needs)  -- row-at-requires
@@ -68,22 +74,16 @@ pub +scan-expr-spec : {M : Type 1} → statement M
     (λ c κs. search needs)  -- is-label-requires-2
     (λ c κs. search needs)  -- also-requires-5
     (λ c κs. search needs)  -- also-requires-6
-    (λ c. laws.scan-int _ _ _ _ _ (c .before .row-at .ensures) (c .match .keys1) (omega (arith, c .before .row-at .ok)))  -- returns
-    (λ c. laws.scan-loc _ _ _ _ _ (c .before .before .row-at .ensures) _ (c .before .match .keys2) (c .is-location .ensures))  -- returns-2
-    (λ c. laws.scan-var _ _ _ _ _ (c .before .row-at .ensures) _ (c .match .keys3) refl)  -- returns-3
-    (λ c. laws.scan-plus _ _ _ _ _ (c .before .before .before .before .before .before .before .row-at .ensures) _ _ _ (c .before .before .match2 .keys1) (c .before .before .before .scan-expr .ensures) (c .before .scan-expr2 .ensures) (c .also .ensures))  -- returns-4
-    (λ c. laws.scan-left _ _ _ _ _ (c .before .before .before .before .before .before .before .row-at .ensures) _ _ _ (c .before .before .match2 .keys2) (c .before .is-type .ensures) (c .before .before .before .scan-expr .ensures) (c .also2 .ensures))  -- returns-5
-    (λ c. laws.scan-right _ _ _ _ _ (c .before .before .before .before .before .before .before .row-at .ensures) _ _ _ (c .before .before .match2 .keys3) (c .before .is-type2 .ensures) (c .before .before .before .scan-expr .ensures) (c .also3 .ensures))  -- returns-6
-    (λ c. laws.scan-pack _ _ _ _ _ (c .before .before .before .before .before .before .before .row-at .ensures) _ _ _ (c .before .before .match2 .keys4) (c .before .is-label .ensures) (c .before .before .before .scan-expr .ensures) (c .also4 .ensures))  -- returns-7
-    (λ c. laws.scan-unpack _ _ _ _ _ (c .before .before .before .before .before .before .before .before .before .row-at .ensures) _ _ _ _ _
-    (c .before .before .before .before .match2 .keys5)
-    (c .before .before .before .is-type3 .ensures) (c .before .before .is-label2 .ensures) (c .before .before .before .before .before .scan-expr .ensures) (c .before .also5 .ensures) (c .also6 .ensures))  -- returns-8
-    (λ c.
-    let from-match = c .before .before .before .before in
-    let inner = c .match2 .rest in
-    laws.scan-no-expr _ _ _ _ _ (from-match .before .row-at .ensures) (from-match .match .rest .0 .0 .1) (from-match .match .rest .0 .1) (from-match .match .rest .1)
-    (inner .0 .0 .0 .0 .1) (inner .0 .0 .0 .1) (inner .0 .0 .1) (inner .0 .1) (inner .1))  -- returns-9
-    (λ c. laws.scan-no-expr _ _ _ _ _ (c .before .before .row-at .ensures) (c .before .match .rest .0 .0 .1) (c .before .match .rest .0 .1) (c .before .match .rest .1) (λ q. omega (arith, c .if1 .taken)) (λ q. omega (arith, c .if1 .taken))
-    (λ q. omega (arith, c .if1 .taken)) (λ q. omega (arith, c .if1 .taken)) (λ q. omega (arith, c .if1 .taken)))  -- returns-10
-    (λ c. laws.scan-no-expr _ _ _ _ _ (c .before .before .before .row-at .ensures) (c .before .before .match .rest .0 .0 .1) (c .before .before .match .rest .0 .1) (c .before .before .match .rest .1) (λ q. omega (arith, c .if2 .left)) (λ q. omega (arith, c .if2 .left))
-    (λ q. omega (arith, c .if2 .left)) (λ q. omega (arith, c .if2 .left)) (λ q. omega (arith, c .if2 .left)))  -- returns-11
+    (λ c. laws.scan-leaf (c .before .row-at .ensures) n-int (c .match .keys1) (sym (lt-ltb (c .before .row-at .result .a) 4294967296 (omega (arith, c .before .row-at .ok)))))  -- returns
+    (λ c. laws.scan-leaf (c .before .before .row-at .ensures) n-loc (c .before .match .keys2) (c .is-location .ensures))  -- returns-2
+    (λ c. laws.scan-leaf (c .before .row-at .ensures) n-var (c .match .keys3) refl)  -- returns-3
+    (λ c. laws.scan-two (c .before .before .before .before .before .before .before .row-at .ensures) n-plus (c .before .before .match2 .keys1) (c .before .before .before .scan-expr .ensures) (c .before .scan-expr2 .ensures) (c .also .ensures) (λ x y. refl))  -- returns-4
+    (λ c. laws.scan-one (c .before .before .before .before .before .before .before .row-at .ensures) n-left (c .before .before .match2 .keys2) (c .before .is-type .ensures) (c .before .before .before .scan-expr .ensures) (c .also2 .ensures) (λ x. refl))  -- returns-5
+    (λ c. laws.scan-one (c .before .before .before .before .before .before .before .row-at .ensures) n-right (c .before .before .match2 .keys3) (c .before .is-type2 .ensures) (c .before .before .before .scan-expr .ensures) (c .also3 .ensures) (λ x. refl))  -- returns-6
+    (λ c. laws.scan-one (c .before .before .before .before .before .before .before .row-at .ensures) n-pack (c .before .before .match2 .keys4) (c .before .is-label .ensures) (c .before .before .before .scan-expr .ensures) (c .also4 .ensures) (λ x. refl))  -- returns-7
+    (λ c. laws.scan-one (c .before .before .before .before .before .before .before .before .before .row-at .ensures) n-unpack (c .before .before .before .before .match2 .keys5)
+    (ap₂ both (c .before .before .before .is-type3 .ensures) (c .before .before .is-label2 .ensures)) (c .before .before .before .before .before .scan-expr .ensures)
+    (laws.both-tests _ _ _ (c .before .also5 .ensures) (c .also6 .ensures)) (λ x. refl))  -- returns-8
+    (λ c. laws.scan-none (c .before .before .before .before .before .row-at .ensures) (λ h. none-between 9 5 (c .match2 .rest) (none-past 6 3 (c .before .before .before .before .match .rest) (h .0)) (h .1)))  -- returns-9
+    (λ c. laws.scan-none (c .before .before .row-at .ensures) (λ h. omega (arith, h .0, c .if1 .taken)))  -- returns-10
+    (λ c. laws.scan-none (c .before .before .before .row-at .ensures) (λ h. omega (arith, h .1, c .if2 .left)))  -- returns-11

@@ -1,21 +1,16 @@
 -- What the code answers to a line: its words and the place after it, or a refusal.
-use mathlib.Core.List.{List, []}
+use mathlib.Core.List.{List}
 use Prim.Native.Nat.{ℕ}
-use lib.ListN.{getD, drop}
+use lib.ListN.{drop}
 use Rattle.text.specs.Reading.{Read}
 use Rattle.text.specs.Internal.Place.{placed}
-use Rattle.script.specs.declared.Row.{Row}
 use Rattle.script.specs.Lines.{Line}
-use Rattle.script.specs.Internal.Code.{lineWords}
+use Rattle.script.specs.Internal.Code.{rowOf}
 use Rattle.script_text.specs.declared.Found.{Found}
 use Rattle.script_text.specs.declared.Found.the-variants as found
 use Rattle.script_text.specs.declared.LineRead.the-variants as read
 use Rattle.script_text.specs.declared.Reached.{Reached}
 use Rattle.script_text.specs.Reading.{lineOf}
-
--- the three words of a line
-unfoldable pub rowOf : Line → Row
-rowOf l = record { kind = getD (lineWords l []) 0 0; a = getD (lineWords l []) 1 0; b = getD (lineWords l []) 2 0 }
 
 -- a line that is read in s, with its place
 abbrev pub placedLine : List ℕ → Read Line → Found

@@ -4,7 +4,7 @@ use Prim.Native.Nat.{ℕ, _<_, _-_}
 use native.Mathlib.Omega.{arith}
 use lib.ListN.{length}
 use mathlib.Core.Logic.{⊎-elim}
-use Rattle.script.proofs.Rows.{row-within}
+use Rattle.script.proofs.Rows.{row-within, none-past, none-between}
 use Rattle.checker.proofs.CmdLaws.{arm-skip, arm-seq, arm-assign, arm-while, arm-case, arm-deep, arm-other}
 use borrow.Fn.Kinds.{In}
 use borrow.Fn.PlainCycle.{Measures, is, falls, and}
@@ -68,29 +68,29 @@ pub +check-cmd-spec : {M : Type 1} → statement M
     (check-cmd-at t)
     check-cmd.Post
     (λ c κs. search needs)  -- row-at-requires
-    (λ c. let r = c .before in let a = r .before .before .before .args in omega (arith, row-within (a .code .now) (a .at) (r .row-at .ensures) (omega (arith, c .match .keys1))))  -- add-of-skip
+    (λ c. omega (arith, row-within _ _ (c .before .row-at .ensures) (omega (arith, c .match .keys1))))  -- add-of-skip
     (λ c κs. search needs)  -- of-skip-requires
-    (λ c. let r = c .before in let a = r .before .before .before .args in omega (arith, row-within (a .code .now) (a .at) (r .row-at .ensures) (omega (arith, c .match .keys2))))  -- add-check-cmd
-    (λ c κs. let r = c .before .before in let a = r .before .before .before .args in (omega (arith, r .before .before .before .pre .0, row-within (a .code .now) (a .at) (r .row-at .ensures) (omega (arith, c .before .match .keys2))), tt))  -- check-cmd-requires
-    (λ c κs. let r = c .before .before .before .before in let a = r .before .before .before .args in (
+    (λ c. omega (arith, row-within _ _ (c .before .row-at .ensures) (omega (arith, c .match .keys2))))  -- add-check-cmd
+    (λ c κs. (omega (arith, c .before .before .before .before .before .pre .0, row-within _ _ (c .before .before .row-at .ensures) (omega (arith, c .before .match .keys2))), tt))  -- check-cmd-requires
+    (λ c κs. let r = c .before .before .before .before in (
       omega (
         arith,
         r .before .before .before .pre .0,
-        row-within (a .code .now) (a .at) (r .row-at .ensures) (omega (arith, c .before .before .before .match .keys2)),
+        row-within _ _ (r .row-at .ensures) (omega (arith, c .before .before .before .match .keys2)),
         c .before .check-cmd .ensures .onward,
       ),
       tt,
     ))  -- check-cmd-requires-2
     (λ c κs. search needs)  -- of-seq-requires
-    (λ c. let r = c .before .before .before in let a = r .before .before .before .args in omega (arith, row-within (a .code .now) (a .at) (r .row-at .ensures) (omega (arith, c .before .if1 .left))))  -- add-check-expr
+    (λ c. omega (arith, row-within _ _ (c .before .before .before .row-at .ensures) (omega (arith, c .before .if1 .left))))  -- add-check-expr
     (λ c κs. search needs)  -- check-expr-requires
     (λ c κs. search needs)  -- of-assign-requires
     (λ c κs. search needs)  -- join-requires
-    (λ c κs. let r = c .before .before .before .before .before .before .before .before in let a = r .before .before .before .args in (
+    (λ c κs. let r = c .before .before .before .before .before .before .before .before in (
       omega (
         arith,
         r .before .before .before .pre .0,
-        row-within (a .code .now) (a .at) (r .row-at .ensures)
+        row-within _ _ (r .row-at .ensures)
             (omega (arith, c .before .before .before .before .before .before .if1 .left)),
         c .before .before .before .check-expr .ensures .onward,
       ),
@@ -98,17 +98,17 @@ pub +check-cmd-spec : {M : Type 1} → statement M
     ))  -- check-cmd-requires-3
     (λ c κs. search needs)  -- of-while-requires
     (λ c κs. search needs)  -- not-passed-requires
-    (λ c. let r = c .before .before .before .before .before .before .before .before in let a = r .before .before .before .args in arm-deep (a .code .now) (a .at) (a .table .now) (a .bound .now) (a .depth) (a .pc) (r .row-at .ensures)
+    (λ c. arm-deep (c .before .before .before .before .before .before .before .before .row-at .ensures)
     (c .before .before .match2 .keys3) (c .before .if3 .taken) (c .not-passed .ensures))  -- returns
     (λ c κs. search needs)  -- join-requires-2
     (λ c κs. search needs)  -- left-part-requires
     (λ c κs. c .before .before .before .if3 .left)  -- bind-requires
     (λ c. omega (arith, c .before .before .before .before .before .if3 .left))  -- add-check-cmd-2
-    (λ c κs. let r = c .before .before .before .before .before .before .before .before .before .before .before .before in let a = r .before .before .before .args in (
+    (λ c κs. let r = c .before .before .before .before .before .before .before .before .before .before .before .before in (
       omega (
         arith,
         r .before .before .before .pre .0,
-        row-within (a .code .now) (a .at) (r .row-at .ensures)
+        row-within _ _ (r .row-at .ensures)
             (omega (arith, c .before .before .before .before .before .before .before .before .before .before .if1 .left)),
         c .before .before .before .before .before .before .before .check-expr .ensures .onward,
       ),
@@ -117,11 +117,11 @@ pub +check-cmd-spec : {M : Type 1} → statement M
     (λ c κs. search needs)  -- right-part-requires
     (λ c κs. c .before .before .before .before .before .before .before .before .if3 .left)  -- bind-requires-2
     (λ c. omega (arith, c .before .before .before .before .before .before .before .before .before .before .if3 .left))  -- add-check-cmd-3
-    (λ c κs. let r = c .before .before .before .before .before .before .before .before .before .before .before .before .before .before .before .before .before in let a = r .before .before .before .args in (
+    (λ c κs. let r = c .before .before .before .before .before .before .before .before .before .before .before .before .before .before .before .before .before in (
       omega (
         arith,
         r .before .before .before .pre .0,
-        row-within (a .code .now) (a .at) (r .row-at .ensures)
+        row-within _ _ (r .row-at .ensures)
             (omega (arith, c .before .before .before .before .before .before .before .before .before .before .before .before .before .before .before .if1 .left)),
         c .before .before .before .before .before .before .before .before .before .before .before .before .check-expr .ensures .onward,
         c .before .before .before .before .check-cmd4 .ensures .onward,
@@ -131,14 +131,14 @@ pub +check-cmd-spec : {M : Type 1} → statement M
     (λ c κs. search needs)  -- of-case-requires
     (λ c κs. search needs)  -- not-passed-requires-2
     (λ c κs. search needs)  -- not-passed-requires-3
-    (λ c. let r = c .before .before in let a = r .before .before .before .args in arm-skip (a .code .now) (a .at) (a .table .now) (a .bound .now) (a .depth) (a .pc) (r .row-at .ensures) (c .before .match .keys1) (c .of-skip .ensures))  -- returns-2
-    (λ c. let r = c .before .before .before .before .before .before in let a = r .before .before .before .args in arm-seq (a .code .now) (a .at) (a .table .now) (a .bound .now) (a .depth) (a .pc) (r .row-at .ensures) (c .before .before .before .before .before .match .keys2)
+    (λ c. arm-skip (c .before .before .row-at .ensures) (c .before .match .keys1) (c .of-skip .ensures))  -- returns-2
+    (λ c. arm-seq (c .before .before .before .before .before .before .row-at .ensures) (c .before .before .before .before .before .match .keys2)
     (c .before .before .before .check-cmd .ensures) (c .before .check-cmd2 .ensures) (c .of-seq .ensures))  -- returns-3
-    (λ c. let r = c .before .before .before .before .before .before .before in let a = r .before .before .before .args in arm-assign (a .code .now) (a .at) (a .table .now) (a .bound .now) (a .depth) (a .pc) (r .row-at .ensures) (c .before .before .check-expr .ensures)
+    (λ c. arm-assign (c .before .before .before .before .before .before .before .row-at .ensures) (c .before .before .check-expr .ensures)
     (c .before .match2 .keys1) (c .of-assign .ensures))  -- returns-4
-    (λ c. let r = c .before .before .before .before .before .before .before .before .before .before in let a = r .before .before .before .args in arm-while (a .code .now) (a .at) (a .table .now) (a .bound .now) (a .depth) (a .pc) (r .row-at .ensures) (c .before .before .before .before .before .check-expr .ensures)
+    (λ c. arm-while (c .before .before .before .before .before .before .before .before .before .before .row-at .ensures) (c .before .before .before .before .before .check-expr .ensures)
     (c .before .before .before .before .match2 .keys2) (c .before .before .before .join .ensures) (c .before .check-cmd3 .ensures) (c .of-while .ensures))  -- returns-5
-    (λ c. let r = c .before .before .before .before .before .before .before .before .before .before .before .before .before .before .before .before .before .before .before in let a = r .before .before .before .args in arm-case (a .code .now) (a .at) (a .table .now) (a .bound .now) (a .depth) (a .pc) (r .row-at .ensures)
+    (λ c. arm-case (c .before .before .before .before .before .before .before .before .before .before .before .before .before .before .before .before .before .before .before .row-at .ensures)
     (c .before .before .before .before .before .before .before .before .before .before .before .before .before .before .check-expr .ensures)
     (c .before .before .before .before .before .before .before .before .before .before .before .before .before .match2 .keys3)
     (c .before .before .before .before .before .before .before .before .before .before .before .before .if3 .left)
@@ -146,7 +146,7 @@ pub +check-cmd-spec : {M : Type 1} → statement M
     (search (needs, c .before .before .before .before .before .before .before .before .before .left-part .ok)) (c .before .before .before .before .before .before .before .before .before .left-part .ensures)
     (c .before .before .before .before .before .before .before .before .bind .ensures) (c .before .before .before .before .before .before .check-cmd4 .ensures)
     (search (needs, c .before .before .before .before .right-part .ok)) (c .before .before .before .before .right-part .ensures) (c .before .before .before .bind2 .ensures) (c .before .check-cmd5 .ensures) (c .of-case .ensures))  -- returns-6
-    (λ c. let r = c .before .before .before .before .before .before .before in let a = r .before .before .before .args in let k = c .before .match2 .rest in let m = c .before .before .before .before .before .before .match .rest in arm-other (a .code .now) (a .at) (a .table .now) (a .bound .now) (a .depth) (a .pc) (r .row-at .ensures)
-    (λ l u. omega (arith, m .0 .1, m .1, k .0 .0 .1, k .0 .1, k .1)) (c .not-passed2 .ensures))  -- returns-7
-    (λ c. let r = c .before .before .before in let a = r .before .before .before .args in arm-other (a .code .now) (a .at) (a .table .now) (a .bound .now) (a .depth) (a .pc) (r .row-at .ensures)
-    (λ l u. ⊎-elim (λ w. omega (arith, w .taken)) (λ w. omega (arith, w .1 .left)) (c .before .if1 .came)) (c .not-passed3 .ensures))  -- returns-8
+    (λ c. arm-other (c .before .before .before .before .before .before .before .row-at .ensures)
+    (λ h. none-between 3 3 (c .before .match2 .rest) (none-past 1 2 (c .before .before .before .before .before .before .match .rest) (h .0)) (h .1)) (c .not-passed2 .ensures))  -- returns-7
+    (λ c. arm-other (c .before .before .before .row-at .ensures)
+    (λ h. ⊎-elim (λ w. omega (arith, h .0, w .taken)) (λ w. omega (arith, h .1, w .1 .left)) (c .before .if1 .came)) (c .not-passed3 .ensures))  -- returns-8

@@ -4,8 +4,8 @@ use Prim.Native.Nat.{ℕ, _<_, _-_}
 use native.Mathlib.Omega.{arith}
 use lib.ListN.{length}
 use mathlib.Core.Logic.{⊎-elim}
-use Rattle.script.proofs.Rows.{row-within}
-use Rattle.checker.proofs.ExprLaws.{last-kind, arm-int, arm-loc, arm-var, arm-plus, arm-left, arm-right, arm-pack, arm-unpack, arm-other}
+use Rattle.script.proofs.Rows.{row-within, none-past, none-between}
+use Rattle.checker.proofs.ExprLaws.{arm-int, arm-loc, arm-var, arm-plus, arm-left, arm-right, arm-pack, arm-unpack, arm-other}
 use borrow.Fn.Kinds.{In}
 use borrow.Fn.PlainCycle.{Measures, is, falls, and}
 use Rattle.checker.proofs.expressions.check_expr.Reads as check-expr
@@ -66,15 +66,15 @@ pub +check-expr-spec : {M : Type 1} → statement M
     (check-expr-at t)
     check-expr.Post
     (λ c κs. search needs)  -- row-at-requires
-    (λ c. let r = c .before in let a = r .before .before .before .args in omega (arith, row-within (a .code .now) (a .at) (r .row-at .ensures) (omega (arith, c .match .keys1))))  -- add-of-int
+    (λ c. omega (arith, row-within _ _ (c .before .row-at .ensures) (omega (arith, c .match .keys1))))  -- add-of-int
     (λ c κs. search needs)  -- of-int-requires
-    (λ c. let r = c .before in let a = r .before .before .before .args in omega (arith, row-within (a .code .now) (a .at) (r .row-at .ensures) (omega (arith, c .match .keys2))))  -- add-of-location
+    (λ c. omega (arith, row-within _ _ (c .before .row-at .ensures) (omega (arith, c .match .keys2))))  -- add-of-location
     (λ c κs. search needs)  -- of-location-requires
-    (λ c. let r = c .before in let a = r .before .before .before .args in omega (arith, row-within (a .code .now) (a .at) (r .row-at .ensures) (omega (arith, c .match .keys3))))  -- add-of-variable
+    (λ c. omega (arith, row-within _ _ (c .before .row-at .ensures) (omega (arith, c .match .keys3))))  -- add-of-variable
     (λ c κs. search needs)  -- of-variable-requires
-    (λ c. let r = c .before .before .before in let a = r .before .before .before .args in omega (arith, row-within (a .code .now) (a .at) (r .row-at .ensures) (omega (arith, c .before .if1 .left))))  -- add-check-expr
-    (λ c κs. let r = c .before .before .before in let a = r .before .before .before .args in (omega (arith, row-within (a .code .now) (a .at) (r .row-at .ensures) (omega (arith, c .before .if1 .left))), tt))  -- check-expr-requires
-    (λ c κs. let r = c .before .before .before .before .before in let a = r .before .before .before .args in (omega (arith, row-within (a .code .now) (a .at) (r .row-at .ensures) (omega (arith, c .before .before .before .if1 .left)), c .before .check-expr .ensures .onward), tt))  -- check-expr-requires-2
+    (λ c. omega (arith, row-within _ _ (c .before .before .before .row-at .ensures) (omega (arith, c .before .if1 .left))))  -- add-check-expr
+    (λ c κs. (omega (arith, row-within _ _ (c .before .before .before .row-at .ensures) (omega (arith, c .before .if1 .left))), tt))  -- check-expr-requires
+    (λ c κs. (omega (arith, row-within _ _ (c .before .before .before .before .before .row-at .ensures) (omega (arith, c .before .before .before .if1 .left)), c .before .check-expr .ensures .onward), tt))  -- check-expr-requires-2
     (λ c κs. search needs)  -- of-plus-requires
     (λ c κs. search needs)  -- left-part-requires
     (λ c κs. search needs)  -- of-sum-requires
@@ -84,20 +84,20 @@ pub +check-expr-spec : {M : Type 1} → statement M
     (λ c κs. search needs)  -- of-unpack-requires
     (λ c κs. search needs)  -- no-type-requires
     (λ c κs. search needs)  -- no-type-requires-2
-    (λ c. let r = c .before .before in let a = r .before .before .before .args in arm-int (a .code .now) (a .at) (a .table .now) (a .bound .now) (a .depth) (r .row-at .ensures) (c .before .match .keys1) (c .of-int .ensures))  -- returns
-    (λ c. let r = c .before .before in let a = r .before .before .before .args in arm-loc (a .code .now) (a .at) (a .table .now) (a .bound .now) (a .depth) (r .row-at .ensures) (c .before .match .keys2) (c .of-location .ensures))  -- returns-2
-    (λ c. let r = c .before .before in let a = r .before .before .before .args in arm-var (a .code .now) (a .at) (a .table .now) (a .bound .now) (a .depth) (r .row-at .ensures) (c .before .match .keys3) (c .of-variable .ensures))  -- returns-3
-    (λ c. let r = c .before .before .before .before .before .before .before in let a = r .before .before .before .args in arm-plus (a .code .now) (a .at) (a .table .now) (a .bound .now) (a .depth) (r .row-at .ensures) (c .before .before .before .check-expr .ensures)
+    (λ c. arm-int (c .before .before .row-at .ensures) (c .before .match .keys1) (c .of-int .ensures))  -- returns
+    (λ c. arm-loc (c .before .before .row-at .ensures) (c .before .match .keys2) (c .of-location .ensures))  -- returns-2
+    (λ c. arm-var (c .before .before .row-at .ensures) (c .before .match .keys3) (c .of-variable .ensures))  -- returns-3
+    (λ c. arm-plus (c .before .before .before .before .before .before .before .row-at .ensures) (c .before .before .before .check-expr .ensures)
     (c .before .before .match2 .keys1) (c .before .check-expr2 .ensures) (c .of-plus .ensures))  -- returns-4
-    (λ c. let r = c .before .before .before .before .before .before .before in let a = r .before .before .before .args in arm-left (a .code .now) (a .at) (a .table .now) (a .bound .now) (a .depth) (r .row-at .ensures) (c .before .before .before .check-expr .ensures)
+    (λ c. arm-left (c .before .before .before .before .before .before .before .row-at .ensures) (c .before .before .before .check-expr .ensures)
     (c .before .before .match2 .keys2) (c .before .left-part .ensures) (c .of-sum .ensures))  -- returns-5
-    (λ c. let r = c .before .before .before .before .before .before .before in let a = r .before .before .before .args in arm-right (a .code .now) (a .at) (a .table .now) (a .bound .now) (a .depth) (r .row-at .ensures) (c .before .before .before .check-expr .ensures)
+    (λ c. arm-right (c .before .before .before .before .before .before .before .row-at .ensures) (c .before .before .before .check-expr .ensures)
     (c .before .before .match2 .keys3) (c .before .right-part .ensures) (c .of-sum2 .ensures))  -- returns-6
-    (λ c. let r = c .before .before .before .before .before .before in let a = r .before .before .before .args in arm-pack (a .code .now) (a .at) (a .table .now) (a .bound .now) (a .depth) (r .row-at .ensures) (c .before .before .check-expr .ensures) (c .before .match2 .keys4)
+    (λ c. arm-pack (c .before .before .before .before .before .before .row-at .ensures) (c .before .before .check-expr .ensures) (c .before .match2 .keys4)
     (c .of-pack .ensures))  -- returns-7
-    (λ c. let r = c .before .before .before .before .before .before in let a = r .before .before .before .args in arm-unpack (a .code .now) (a .at) (a .table .now) (a .bound .now) (a .depth) (r .row-at .ensures) (c .before .before .check-expr .ensures) (c .before .match2 .keys5)
+    (λ c. arm-unpack (c .before .before .before .before .before .before .row-at .ensures) (c .before .before .check-expr .ensures) (c .before .match2 .keys5)
     (c .of-unpack .ensures))  -- returns-8
-    (λ c. let r = c .before .before .before .before .before .before in let a = r .before .before .before .args in let k = c .before .match2 .rest in let m = c .before .before .before .before .before .match .rest in arm-other (a .code .now) (a .at) (a .table .now) (a .bound .now) (a .depth) (r .row-at .ensures)
-    (λ l u. k .1 (last-kind l u (m .0 .0 .1) (m .0 .1) (m .1) (k .0 .0 .0 .0 .1) (k .0 .0 .0 .1) (k .0 .0 .1) (k .0 .1))) (c .no-type .ensures))  -- returns-9
-    (λ c. let r = c .before .before .before in let a = r .before .before .before .args in arm-other (a .code .now) (a .at) (a .table .now) (a .bound .now) (a .depth) (r .row-at .ensures)
-    (λ l u. ⊎-elim (λ w. omega (arith, w .taken)) (λ w. omega (arith, w .1 .left)) (c .before .if1 .came)) (c .no-type2 .ensures))  -- returns-10
+    (λ c. arm-other (c .before .before .before .before .before .before .row-at .ensures)
+    (λ h. none-between 9 5 (c .before .match2 .rest) (none-past 6 3 (c .before .before .before .before .before .match .rest) (h .0)) (h .1)) (c .no-type .ensures))  -- returns-9
+    (λ c. arm-other (c .before .before .before .row-at .ensures)
+    (λ h. ⊎-elim (λ w. omega (arith, h .0, w .taken)) (λ w. omega (arith, h .1, w .1 .left)) (c .before .if1 .came)) (c .no-type2 .ensures))  -- returns-10

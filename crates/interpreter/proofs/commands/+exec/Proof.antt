@@ -7,7 +7,7 @@ use Prim.Native.Nat.{ℕ, _<_, _-_}
 use native.Mathlib.Omega.{arith}
 use lib.ListN.{length}
 use Rattle.interpreter.specs.Internal.Post.{Execs}
-use Rattle.script.proofs.Rows.{row-within}
+use Rattle.script.proofs.Rows.{row-within, none-between}
 use Rattle.evaluator.proofs.NumberLaws.{not-done, is-done}
 use Rattle.interpreter.proofs.CommandLaws as laws
 use borrow.Fn.Kinds.{In}
@@ -99,4 +99,4 @@ pub +exec-spec : {M : Type 1} → statement M
     (λ c. laws.exec-seq (c .before .before .before .before .before .before .before .before .row-at .ensures) (c .before .before .before .before .before .before .before .match .keys2) (c .before .before .before .before .before .exec .ensures) (c .before .before .before .before .tick .ensures) (is-done _ (c .before .before .enum-told .given .1)) (c .exec2 .ensures))  -- returns-6
     (λ c. laws.exec-assign (c .before .before .before .row-at .ensures) (c .before .before .match .keys3) (c .assign .ensures))  -- returns-7
     (λ c. laws.exec-case (c .before .before .before .before .before .before .before .row-at .ensures) (c .before .before .before .before .before .before .match .keys5) (c .before .before .before .before .branch .ensures) (is-done _ (c .before .before .enum-told3 .given .1)) (c .exec4 .ensures))  -- returns-8
-    (λ c. laws.exec-none (c .before .row-at .ensures) (c .match .rest .0 .0 .0 .0 .1) (c .match .rest .0 .0 .0 .1) (c .match .rest .0 .0 .1) (c .match .rest .0 .1) (c .match .rest .1))  -- returns-9
+    (λ c. laws.exec-none (c .before .row-at .ensures) (λ h. none-between 1 5 (c .match .rest) (h .0) (h .1)))  -- returns-9

@@ -3,6 +3,7 @@ use borrow.Author.Needs.{needs}
 use Prim.Native.Nat.{ℕ, _<_, _-_}
 use native.Mathlib.Omega.{arith}
 use lib.ListN.{length}
+use Rattle.script.proofs.Rows.{none-between}
 use Rattle.interpreter.proofs.SkipLaws.{line-in}
 use Rattle.interpreter.proofs.SkipLaws as laws
 use borrow.Fn.Kinds.{In}
@@ -61,5 +62,4 @@ pub +skip-spec : {M : Type 1} → statement M
     (c .before .skip2 .ensures) (c .skip3 .ensures))  -- returns-3
     (λ c. laws.skip-three _ _ (c .before .before .before .before .before .row-at .ensures) (c .before .before .before .before .operands .ensures)
     (c .before .before .before .match .keys4) (c .before .before .skip4 .ensures) (c .before .skip5 .ensures) (c .skip6 .ensures))  -- returns-4
-    (λ c. laws.skip-none _ _ (c .before .before .row-at .ensures) (c .before .operands .ensures) (c .match .rest .0 .0 .0 .1) (c .match .rest .0 .0 .1) (c .match .rest .0 .1)
-    (c .match .rest .1))  -- returns-5
+    (λ c. laws.skip-none _ _ (c .before .before .row-at .ensures) (c .before .operands .ensures) (none-between 0 4 (c .match .rest) (omega arith)))  -- returns-5

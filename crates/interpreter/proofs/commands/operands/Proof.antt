@@ -1,7 +1,8 @@
 -- `interpreter::commands::operands` meets its contract. Assumes nothing.
 use mathlib.Core.Path.{sym, ap}
-use Rattle.interpreter.specs.Internal.Post.{operandCount}
-use Rattle.interpreter.proofs.SkipLaws.{operands-none}
+use Rattle.script.specs.Internal.Pieces.{operandCount}
+use Rattle.script.proofs.Rows.{none-between}
+use Rattle.script.proofs.Nodes.{operands-none}
 use Rattle.interpreter.proofs.commands.operands.Statement.{statement}
 use Rattle.interpreter.proofs.commands.operands.Tie as tie
 
@@ -21,7 +22,4 @@ operands-spec = tie.close (tie.spec
     (λ c. ap operandCount (sym (c .match .keys11)))  -- returns-11
     (λ c. ap operandCount (sym (c .match .keys12)))  -- returns-12
     (λ c. ap operandCount (sym (c .match .keys13)))  -- returns-13
-    (λ c. operands-none _ (c .match .rest .0 .0 .0 .0 .0 .0 .0 .0 .0 .0 .0 .0 .1) (c .match .rest .0 .0 .0 .0 .0 .0 .0 .0 .0 .0 .0 .1)
-    (c .match .rest .0 .0 .0 .0 .0 .0 .0 .0 .0 .0 .1) (c .match .rest .0 .0 .0 .0 .0 .0 .0 .0 .0 .1) (c .match .rest .0 .0 .0 .0 .0 .0 .0 .0 .1)
-    (c .match .rest .0 .0 .0 .0 .0 .0 .0 .1) (c .match .rest .0 .0 .0 .0 .0 .0 .1) (c .match .rest .0 .0 .0 .0 .0 .1) (c .match .rest .0 .0 .0 .0 .1)
-    (c .match .rest .0 .0 .0 .1) (c .match .rest .0 .0 .1) (c .match .rest .0 .1) (c .match .rest .1)))  -- returns-14
+    (λ c. operands-none _ (none-between 1 13 (c .match .rest))))  -- returns-14

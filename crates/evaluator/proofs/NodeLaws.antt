@@ -11,7 +11,8 @@ use lib.Seq.{getD-take}
 use Rattle.language.specs.Syntax.{Head, headOf, headSize, Value, int, err, inl, inr, pkg, blank, size, has}
 use Rattle.language.specs.World.{World, cell-words, wanted}
 use Rattle.language.specs.Evaluation.{Res, ok, long, stuck, bind, fitIf, fit, addTo, add, packed, opened, unpacked}
-use Rattle.sheet.specs.Internal.Tables.{leftIn, belowIn, readsIn, writesIn}
+use Rattle.sheet.specs.Internal.Tables.{labelsIn, leftIn, belowIn}
+use Rattle.sheet.specs.Internal.Powers.{mayWrite, mayRead}
 use Rattle.sheet.specs.Internal.TypeTest.{hasNo}
 use Rattle.memory.specs.Words.{headWords, enc, zeros, cell, valueOf}
 use Rattle.memory.specs.Internal.Post.{endOf}
@@ -20,7 +21,9 @@ use Rattle.memory.proofs.WordLaws.{length-cell, enc-append, value-enc, end-enc}
 use Rattle.evaluator.specs.State.{stateNumber}
 use Rattle.evaluator.specs.declared.State.the-variants.{TooLong, NoRule}
 use Rattle.cells.specs.Internal.Cells.{accumulator, loadOf, storeOf, pushOf, popOf}
-use Rattle.evaluator.specs.Internal.Nodes.{Yields, Turns, Applies, Applied, Tags, errorOf, errorIn, Tells}
+use Rattle.script.specs.declared.Row.{Row}
+use Rattle.evaluator.specs.Internal.Records.{Setting, Result}
+use Rattle.evaluator.specs.Internal.Nodes.{Yields, Turns, Applies, errorOf, errorIn, Tells, Sums, Tagged, Packs, Unpacks, Applied}
 use Rattle.cells.proofs.CellLaws.{there, load-there, length-load, length-push, length-pop, cell-stored, rest-kept}
 use Rattle.evaluator.proofs.ValueLaws.{cell-size, tags-left, push-tag, push-package, pop-package}
 
@@ -45,40 +48,47 @@ second-here work v e = sym (getD-take 16 work 1 0 (omega arith)) ∙ ap (λ (l :
 
 -- ---- answers
 
-pub turns-past : (f : Value → Res) (work : List ℕ) (state : ℕ) → (state ≡ 0 → ⊥) → Turns f work state work state
-unfolding Yields bind
-turns-past f work state n (ok v) h a = absurd (n (a .0))
-turns-past f work state n long h a = a
-turns-past f work state n stuck h a = tt
+-- the result v, with other cells or in another state
+abbrev pub withCells : Result → List ℕ → Result
+withCells v cells = record { state = v .state; next = v .next; cells = cells }
 
--- a new value is stored
-turns-put : (f : Value → Res) (work : List ℕ) (state : ℕ) (words : List ℕ) → state ≡ 0 → length words ≡ cell-words
-    → ((v : Value) → cell-words ≤ length work → cellOf work accumulator ≡ cell v → Yields (f v) state words)
-    → Turns f work state (storeOf work accumulator words) state
-unfolding Yields bind
-turns-put f work state words z n k (ok v) h a =
-    rw (cell-stored work 0 words n (there work 0 (omega arith))) (k v h (a .1))
-turns-put f work state words z n k long h a = absurd (omega arith)
-turns-put f work state words z n k stuck h a = tt
+abbrev pub withState : Result → ℕ → Result
+withState v state = record { state = state; next = v .next; cells = v .cells }
 
--- nothing is stored
-turns-keep : (f : Value → Res) (work : List ℕ) (state state′ : ℕ) → state ≡ 0
-    → ((v : Value) → cellOf work accumulator ≡ cell v → Yields (f v) state′ (cellOf work accumulator)) → Turns f work state work state′
-unfolding Yields bind
-turns-keep f work state state′ z k (ok v) h a = k v (a .1)
-turns-keep f work state state′ z k long h a = absurd (omega arith)
-turns-keep f work state state′ z k stuck h a = tt
+module _ (f : Value → Res) (v : Result) where
+  pub turns-past : (v .state ≡ 0 → ⊥) → Turns f v v
+  unfolding Yields bind
+  turns-past n (ok u) h a = absurd (n (a .0))
+  turns-past n long h a = a
+  turns-past n stuck h a = tt
 
-pub applies-past : {Means : Type 0} {work : List ℕ} {state next : ℕ} → Means → Applies work state next work state next Means
-applies-past m = record { kept = refl; same-place = refl; through = λ z. z; means = m }
+  -- a new value is stored
+  turns-put : (words : List ℕ) → v .state ≡ 0 → length words ≡ cell-words
+      → ((u : Value) → cell-words ≤ length (v .cells) → cellOf (v .cells) accumulator ≡ cell u → Yields (f u) (v .state) words)
+      → Turns f v (withCells v (storeOf (v .cells) accumulator words))
+  unfolding Yields bind
+  turns-put words z n k (ok u) h a = rw (cell-stored (v .cells) 0 words n (there (v .cells) 0 (omega arith))) (k u h (a .1))
+  turns-put words z n k long h a = absurd (omega arith)
+  turns-put words z n k stuck h a = tt
 
-applies-put : {Means : Type 0} {work work′ : List ℕ} {state next : ℕ} (words : List ℕ) → length words ≡ cell-words → work′ ≡ storeOf work accumulator words → Means
-    → Applies work state next work′ state next Means
-applies-put {work = work} words n e m =
-    record { kept = ap (drop 16) e ∙ rest-kept work words n; same-place = refl; through = λ z. z; means = m }
+  -- nothing is stored
+  turns-keep : (state : ℕ) → v .state ≡ 0
+      → ((u : Value) → cellOf (v .cells) accumulator ≡ cell u → Yields (f u) state (cellOf (v .cells) accumulator)) → Turns f v (withState v state)
+  unfolding Yields bind
+  turns-keep state z k (ok u) h a = k u (a .1)
+  turns-keep state z k long h a = absurd (omega arith)
+  turns-keep state z k stuck h a = tt
 
-applies-keep : {Means : Type 0} {work : List ℕ} {state next : ℕ} (state′ : ℕ) → (state′ ≡ 0 → ⊥) → Means → Applies work state next work state′ next Means
-applies-keep state′ n m = record { kept = refl; same-place = refl; through = λ z. absurd (n z); means = m }
+module _ {Means : Type 0} {v : Result} where
+  pub applies-past : Means → Applies v v Means
+  applies-past m = record { kept = refl; same-place = refl; through = λ z. z; means = m }
+
+  applies-put : {cells : List ℕ} (words : List ℕ) → length words ≡ cell-words → cells ≡ storeOf (v .cells) accumulator words → Means
+      → Applies v (withCells v cells) Means
+  applies-put words n e m = record { kept = ap (drop 16) e ∙ rest-kept (v .cells) words n; same-place = refl; through = λ z. z; means = m }
+
+  applies-keep : (state : ℕ) → (state ≡ 0 → ⊥) → Means → Applies v (withState v state) Means
+  applies-keep state n m = record { kept = refl; same-place = refl; through = λ z. absurd (n z); means = m }
 
 -- ---- values that fit, and that don't
 
@@ -126,84 +136,72 @@ add-answer (inr u) w n m s state words z e p q r = tt
 add-answer (pkg h u) w n m s state words z e p q r = tt
 add-answer blank w n m s state words z e p q r = tt
 
-written : {table : List ℕ} {authority : ℕ} (l : ℕ) (may : Bool) → may ≡ writesIn table authority l → (W : World)
-    → Tells table authority W → W .writes l ≡ may
-written l may w W t = sym (w ∙ t .writes-is l)
+module _ {v : Result} where
+  pub sum-past : {n : ℕ} → (v .state ≡ 0 → ⊥) → Sums n v v
+  sum-past z = applies-past (λ u p. turns-past (add u) v z)
 
-module _ {work : List ℕ} {state next : ℕ} where
-  pub sum-past : {n : ℕ} → (state ≡ 0 → ⊥)
-      → Applies work state next work state next ((u : Value) → n ≡ getD (cell u) 1 0 → Turns (add u) work state work state)
-  sum-past z = applies-past (λ u p. turns-past (add u) work state z)
-
-  pub sum-done : {n m s : ℕ} {work′ : List ℕ} → state ≡ 0 → m ≡ getD work 1 0 → s ≡ (n + m) % 2 ^ 32 → work′ ≡ storeOf work accumulator (cell (int s))
-      → Applies work state next work′ state next ((u : Value) → n ≡ getD (cell u) 1 0 → Turns (add u) work state work′ state)
-  sum-done {n} {m} {s} {work′} z q r e =
+  pub sum-done : {n m s : ℕ} {cells : List ℕ} → v .state ≡ 0 → m ≡ getD (v .cells) 1 0 → s ≡ (n + m) % 2 ^ 32
+      → cells ≡ storeOf (v .cells) accumulator (cell (int s)) → Sums n v (withCells v cells)
+  sum-done {n} {m} {s} z q r e =
       applies-put (cell (int s)) (length-int s) e
-      (λ u p. rw e (turns-put (add u) work state (cell (int s)) z (length-int s)
-      (λ w h a. add-answer u w n m s state (cell (int s)) z refl p (q ∙ second-here work w a) r)))
+      (λ u p. rw e (turns-put (add u) v (cell (int s)) z (length-int s)
+      (λ w h a. add-answer u w n m s (v .state) (cell (int s)) z refl p (q ∙ second-here (v .cells) w a) r)))
 
   -- ---- left and right
 
-  pub tagged-past : {w : ℕ} → (state ≡ 0 → ⊥)
-      → Applies work state next work state next ((f : Value → Value) → Tags w f → Turns (λ u. fit (f u)) work state work state)
-  tagged-past z = applies-past (λ f t. turns-past (λ u. fit (f u)) work state z)
+  pub tagged-past : {w : ℕ} → (v .state ≡ 0 → ⊥) → Tagged w v v
+  tagged-past z = applies-past (λ f t. turns-past (λ u. fit (f u)) v z)
 
-  pub tagged-long : {w end : ℕ} → state ≡ 0 → end ≡ endOf work 0 → cell-words ≤ end
-      → Applies work state next work (stateNumber TooLong) next ((f : Value → Value) → Tags w f → Turns (λ u. fit (f u)) work state work (stateNumber TooLong))
+  pub tagged-long : {w end : ℕ} → v .state ≡ 0 → end ≡ endOf (v .cells) 0 → cell-words ≤ end → Tagged w v (withState v (stateNumber TooLong))
   unfolding stateNumber
   tagged-long {end = end} z s h =
       applies-keep 10 (λ x. omega arith)
-      (λ f t. turns-keep (λ u. fit (f u)) work state 10 z
-      (λ v a. answers-long (fit (f v)) (cellOf work 0) (too-long (f v) (omega (arith, t .longer v, size-here work v end s a)))))
+      (λ f t. turns-keep (λ u. fit (f u)) v 10 z
+      (λ u a. answers-long (fit (f u)) (cellOf (v .cells) 0) (too-long (f u) (omega (arith, t .longer u, size-here (v .cells) u end s a)))))
 
-  pub tagged-done : {w end : ℕ} {words work′ : List ℕ} → state ≡ 0 → end ≡ endOf work 0 → end < cell-words → words ≡ loadOf work accumulator
-      → work′ ≡ storeOf work accumulator (pushOf w words)
-      → Applies work state next work′ state next ((f : Value → Value) → Tags w f → Turns (λ u. fit (f u)) work state work′ state)
+  pub tagged-done : {w end : ℕ} {words cells : List ℕ} → v .state ≡ 0 → end ≡ endOf (v .cells) 0 → end < cell-words → words ≡ loadOf (v .cells) accumulator
+      → cells ≡ storeOf (v .cells) accumulator (pushOf w words) → Tagged w v (withCells v cells)
   tagged-done {w} {end} {words} z s h l e =
-      let n = length-push w words (loaded work words l) in
+      let n = length-push w words (loaded (v .cells) words l) in
       applies-put (pushOf w words) n e
-      (λ f t. rw e (turns-put (λ u. fit (f u)) work state (pushOf w words) z n
-      (λ v g q. let m = size-here work v end s q in
-      answers-ok (fit (f v)) (f v) state (pushOf w words) (fits (f v) (omega (arith, t .longer v))) z
-      (ap (pushOf w) (l ∙ load-here work v g q) ∙ push-tag t v (omega arith)))))
+      (λ f t. rw e (turns-put (λ u. fit (f u)) v (pushOf w words) z n
+      (λ u g q. let m = size-here (v .cells) u end s q in
+      answers-ok (fit (f u)) (f u) (v .state) (pushOf w words) (fits (f u) (omega (arith, t .longer u))) z
+      (ap (pushOf w) (l ∙ load-here (v .cells) u g q) ∙ push-tag t u (omega arith)))))
 
   -- ---- pack
 
-  module _ {table : List ℕ} {authority : ℕ} (l : ℕ) where
-    pub pack-past : (state ≡ 0 → ⊥)
-        → Applies work state next work state next ((W : World) → Tells table authority W → Turns (packed (W .writes l) l) work state work state)
-    pack-past z = applies-past (λ W t. turns-past (packed (W .writes l) l) work state z)
+  module _ (powers l : ℕ) where
+    pub pack-past : (v .state ≡ 0 → ⊥) → Packs powers l v v
+    pack-past z = applies-past (turns-past (packed (mayWrite powers l) l) v z)
 
-    module _ {may : Bool} (w : may ≡ writesIn table authority l) where
-      pub pack-error : {work′ : List ℕ} → state ≡ 0 → may ≡ false → work′ ≡ storeOf work accumulator (cell (inr (err 1)))
-          → Applies work state next work′ state next ((W : World) → Tells table authority W → Turns (packed (W .writes l) l) work state work′ state)
+    module _ {may : Bool} (w : may ≡ mayWrite powers l) where
+      pub pack-error : {cells : List ℕ} → v .state ≡ 0 → may ≡ false → cells ≡ storeOf (v .cells) accumulator (cell (inr (err 1))) → Packs powers l v (withCells v cells)
       unfolding packed
       pack-error z n e =
           applies-put (cell (inr (err 1))) (length-error 1) e
-          (λ W t. rw (e, written l may w W t, n) (turns-put (packed false l) work state (cell (inr (err 1))) z (length-error 1)
-          (λ v h a. answers-ok (packed false l v) (inr (err 1)) state (cell (inr (err 1))) refl z refl)))
+          (rw (e, ← w, n) (turns-put (packed false l) v (cell (inr (err 1))) z (length-error 1)
+          (λ u h a. answers-ok (packed false l u) (inr (err 1)) (v .state) (cell (inr (err 1))) refl z refl)))
 
-      pub pack-long : {end : ℕ} → state ≡ 0 → may ≡ true → end ≡ endOf work 0 → 13 < end
-          → Applies work state next work (stateNumber TooLong) next ((W : World) → Tells table authority W → Turns (packed (W .writes l) l) work state work (stateNumber TooLong))
+      pub pack-long : {end : ℕ} → v .state ≡ 0 → may ≡ true → end ≡ endOf (v .cells) 0 → 13 < end → Packs powers l v (withState v (stateNumber TooLong))
       unfolding stateNumber packed size
       pack-long {end} z y s h =
           applies-keep 10 (λ x. omega arith)
-          (λ W t. rw (written l may w W t, y) (turns-keep (packed true l) work state 10 z
-          (λ v a. answers-long (packed true l v) (cellOf work 0) (too-long (inl (pkg (headOf l) v)) (omega (arith, size-here work v end s a))))))
+          (rw (← w, y) (turns-keep (packed true l) v 10 z
+          (λ u a. answers-long (packed true l u) (cellOf (v .cells) 0) (too-long (inl (pkg (headOf l) u)) (omega (arith, size-here (v .cells) u end s a))))))
 
-      pub pack-done : {end : ℕ} {words work′ : List ℕ} → state ≡ 0 → may ≡ true → end ≡ endOf work 0 → end ≤ 13 → words ≡ loadOf work accumulator
-          → work′ ≡ storeOf work accumulator (pushOf 3 (pushOf 5 (pushOf l words)))
-          → Applies work state next work′ state next ((W : World) → Tells table authority W → Turns (packed (W .writes l) l) work state work′ state)
+      pub pack-done : {end : ℕ} {words cells : List ℕ} → v .state ≡ 0 → may ≡ true → end ≡ endOf (v .cells) 0 → end ≤ 13 → words ≡ loadOf (v .cells) accumulator
+          → cells ≡ storeOf (v .cells) accumulator (pushOf 3 (pushOf 5 (pushOf l words))) → Packs powers l v (withCells v cells)
       unfolding packed size
       pack-done {end} {words} z y s h ld e =
           let left : List ℕ = pushOf 3 (pushOf 5 (pushOf l words)) in
-          let n : length left ≡ 16 = length-push 3 _ (length-push 5 _ (length-push l words (loaded work words ld))) in
+          let n : length left ≡ 16 = length-push 3 _ (length-push 5 _ (length-push l words (loaded (v .cells) words ld))) in
           applies-put left n e
-          (λ W t. rw (e, written l may w W t, y) (turns-put (packed true l) work state left z n
-          (λ v g a. let m = size-here work v end s a in
-          answers-ok (packed true l v) (inl (pkg (headOf l) v)) state left (fits (inl (pkg (headOf l) v)) (omega arith)) z
-          (ap (λ (u : List ℕ). pushOf 3 (pushOf 5 (pushOf l u))) (ld ∙ load-here work v g a)
-          ∙ ap (pushOf 3) (push-package l v (omega arith)) ∙ push-tag tags-left (pkg (headOf l) v) (omega arith)))))
+          (rw (e, ← w, y) (turns-put (packed true l) v left z n
+          (λ u g a. let m = size-here (v .cells) u end s a in
+          answers-ok (packed true l u) (inl (pkg (headOf l) u)) (v .state) left (fits (inl (pkg (headOf l) u)) (omega arith)) z
+          (ap (λ (x : List ℕ). pushOf 3 (pushOf 5 (pushOf l x))) (ld ∙ load-here (v .cells) u g a)
+          ∙ ap (pushOf 3) (push-package l u (omega arith)) ∙ push-tag tags-left (pkg (headOf l) u) (omega arith)))))
 
 -- ---- unpack
 
@@ -235,127 +233,113 @@ no-package W t l work (pkg h v) state ne e = absurd (ne (first-word work (pkg h 
     first-word work v e = ap (λ (l : List ℕ). getD l 0 0) (words-here work v e)
 no-package W t l work blank state ne e = tt
 
-module _ (work table : List ℕ) (authority t l e : ℕ) (p : e ≡ errorIn table authority l (getD work 1 0) (hasNo table (valueOf (drop 2 work)) (leftIn table t))) where
+module _ {S : Setting} (v : Result) (t l e : ℕ)
+    (p : e ≡ errorIn S l (getD (v .cells) 1 0) (hasNo (S .table) (valueOf (drop 2 (v .cells))) (leftIn (S .table) t))) where
   -- what the three tests say of the package
-  tested : (W : World) → Tells table authority W → (h : Head) (v : Value) → cellOf work accumulator ≡ cell (pkg h v)
-      → e ≡ errorOf (W .reads l) (W .below (h .label) l) (has v (wanted (W .ty t)))
+  tested : (W : World) → Tells S W → l < labelsIn (S .table) → (h : Head) (u : Value) → cellOf (v .cells) accumulator ≡ cell (pkg h u)
+      → e ≡ errorOf (W .reads l) (W .below (h .label) l) (has u (wanted (W .ty t)))
   unfolding errorIn headWords enc
-  tested W tells h v a =
-      let c = words-here work (pkg h v) a in
-      let z : List ℕ = zeros (16 - size (pkg h v)) ++ drop 16 work in
-      let l′ : getD work 1 0 ≡ h .label = ap (λ (u : List ℕ). getD u 1 0) c in
-      let v′ : valueOf (drop 2 work) ≡ v = ap (λ (u : List ℕ). valueOf (drop 2 u)) c ∙ value-enc v z in
-      p ∙ rw (l′, v′, tells .reads-is l, tells .below-is (h .label) l, tells .type-is v t) refl
+  tested W tells there h u a =
+      let c = words-here (v .cells) (pkg h u) a in
+      let z : List ℕ = zeros (16 - size (pkg h u)) ++ drop 16 (v .cells) in
+      let l′ : getD (v .cells) 1 0 ≡ h .label = ap (λ (ws : List ℕ). getD ws 1 0) c in
+      let u′ : valueOf (drop 2 (v .cells)) ≡ u = ap (λ (ws : List ℕ). valueOf (drop 2 ws)) c ∙ value-enc u z in
+      p ∙ rw (l′, u′, tells .reads-is l there, tells .below-is (h .label) l, tells .type-is u t) refl
 
-  unpack-error-at : (W : World) → Tells table authority W → (v : Value) (state : ℕ) → state ≡ 0 → (e ≡ 0 → ⊥) → cellOf work accumulator ≡ cell v
-      → Yields (unpacked W t l v) state (cell (inr (err e)))
-  unfolding Yields unpacked
-  unpack-error-at W tells (int n) state z ne a = tt
-  unpack-error-at W tells (err n) state z ne a = tt
-  unpack-error-at W tells (inl v) state z ne a = tt
-  unpack-error-at W tells (inr v) state z ne a = tt
-  unpack-error-at W tells (pkg h v) state z ne a =
-      answers-ok _ (inr (err e)) state (cell (inr (err e))) (opened-error _ _ _ v e (tested W tells h v a) ne) z refl
-  unpack-error-at W tells blank state z ne a = tt
+  module _ (z : v .state ≡ 0) where
+    unpack-error-at : (W : World) → Tells S W → l < labelsIn (S .table) → (u : Value) → (e ≡ 0 → ⊥) → cellOf (v .cells) accumulator ≡ cell u
+        → Yields (unpacked W t l u) (v .state) (cell (inr (err e)))
+    unfolding Yields unpacked
+    unpack-error-at W tells there (int n) ne a = tt
+    unpack-error-at W tells there (err n) ne a = tt
+    unpack-error-at W tells there (inl u) ne a = tt
+    unpack-error-at W tells there (inr u) ne a = tt
+    unpack-error-at W tells there (pkg h u) ne a =
+        answers-ok _ (inr (err e)) (v .state) (cell (inr (err e))) (opened-error _ _ _ u e (tested W tells there h u a) ne) z refl
+    unpack-error-at W tells there blank ne a = tt
 
-  unpack-done-at : (W : World) → Tells table authority W → (v : Value) (state : ℕ) (content : List ℕ) → state ≡ 0 → e ≡ 0 → cellOf work accumulator ≡ cell v
-      → content ≡ pushOf 3 (popOf (popOf (cell v))) → Yields (unpacked W t l v) state content
-  unfolding Yields unpacked size
-  unpack-done-at W tells (int n) state content z ne a c = tt
-  unpack-done-at W tells (err n) state content z ne a c = tt
-  unpack-done-at W tells (inl v) state content z ne a c = tt
-  unpack-done-at W tells (inr v) state content z ne a c = tt
-  unpack-done-at W tells (pkg h v) state content z ne a c =
-      let n : suc (headSize + size v) ≤ 16 = cell-size work 0 (pkg h v) a in
-      answers-ok _ (inl v) state content (opened-fine _ _ _ v e (tested W tells h v a) ne ∙ fits (inl v) (omega arith)) z
-      (c ∙ ap (pushOf 3) (pop-package h v (omega arith)) ∙ push-tag tags-left v (omega arith))
-  unpack-done-at W tells blank state content z ne a c = tt
+    unpack-done-at : (W : World) → Tells S W → l < labelsIn (S .table) → (u : Value) (content : List ℕ) → e ≡ 0 → cellOf (v .cells) accumulator ≡ cell u
+        → content ≡ pushOf 3 (popOf (popOf (cell u))) → Yields (unpacked W t l u) (v .state) content
+    unfolding Yields unpacked size
+    unpack-done-at W tells there (int n) content ne a c = tt
+    unpack-done-at W tells there (err n) content ne a c = tt
+    unpack-done-at W tells there (inl u) content ne a c = tt
+    unpack-done-at W tells there (inr u) content ne a c = tt
+    unpack-done-at W tells there (pkg h u) content ne a c =
+        let n : suc (headSize + size u) ≤ 16 = cell-size (v .cells) 0 (pkg h u) a in
+        answers-ok _ (inl u) (v .state) content (opened-fine _ _ _ u e (tested W tells there h u a) ne ∙ fits (inl u) (omega arith)) z
+        (c ∙ ap (pushOf 3) (pop-package h u (omega arith)) ∙ push-tag tags-left u (omega arith))
+    unpack-done-at W tells there blank content ne a c = tt
 
-  module _ {state next : ℕ} where
-    pub unpack-error : {work′ : List ℕ} → state ≡ 0 → (e ≡ 0 → ⊥) → work′ ≡ storeOf work accumulator (cell (inr (err e)))
-        → Applies work state next work′ state next ((W : World) → Tells table authority W → Turns (unpacked W t l) work state work′ state)
-    unpack-error z ne s =
+    pub unpack-error : {cells : List ℕ} → (e ≡ 0 → ⊥) → cells ≡ storeOf (v .cells) accumulator (cell (inr (err e))) → Unpacks S t l v (withCells v cells)
+    unpack-error ne s =
         applies-put (cell (inr (err e))) (length-error e) s
-        (λ W tells. rw s (turns-put (unpacked W t l) work state (cell (inr (err e))) z (length-error e)
-        (λ v h a. unpack-error-at W tells v state z ne a)))
+        (λ W tells there. rw s (turns-put (unpacked W t l) v (cell (inr (err e))) z (length-error e) (λ u h a. unpack-error-at W tells there u ne a)))
 
-    pub unpack-done : {words work′ : List ℕ} → state ≡ 0 → e ≡ 0 → words ≡ loadOf work accumulator
-        → work′ ≡ storeOf work accumulator (pushOf 3 (popOf (popOf words)))
-        → Applies work state next work′ state next ((W : World) → Tells table authority W → Turns (unpacked W t l) work state work′ state)
-    unpack-done {words} z ne ld s =
+    pub unpack-done : {words cells : List ℕ} → e ≡ 0 → words ≡ loadOf (v .cells) accumulator
+        → cells ≡ storeOf (v .cells) accumulator (pushOf 3 (popOf (popOf words))) → Unpacks S t l v (withCells v cells)
+    unpack-done {words} ne ld s =
         let left : List ℕ = pushOf 3 (popOf (popOf words)) in
-        let n : length left ≡ 16 = length-push 3 _ (length-pop _ (length-pop words (loaded work words ld))) in
+        let n : length left ≡ 16 = length-push 3 _ (length-pop _ (length-pop words (loaded (v .cells) words ld))) in
         applies-put left n s
-        (λ W tells. rw s (turns-put (unpacked W t l) work state left z n
-        (λ v h a. unpack-done-at W tells v state left z ne a (ap (λ (u : List ℕ). pushOf 3 (popOf (popOf u))) (ld ∙ load-here work v h a)))))
+        (λ W tells there. rw s (turns-put (unpacked W t l) v left z n
+        (λ u h a. unpack-done-at W tells there u left ne a (ap (λ (ws : List ℕ). pushOf 3 (popOf (popOf ws))) (ld ∙ load-here (v .cells) u h a)))))
 
-module _ {work table : List ℕ} {authority state next : ℕ} (t l : ℕ) where
-  pub unpack-past : (state ≡ 0 → ⊥)
-      → Applies work state next work state next ((W : World) → Tells table authority W → Turns (unpacked W t l) work state work state)
-  unpack-past z = applies-past (λ W tells. turns-past (unpacked W t l) work state z)
+module _ {S : Setting} {v : Result} (t l : ℕ) where
+  pub unpack-past : (v .state ≡ 0 → ⊥) → Unpacks S t l v v
+  unpack-past z = applies-past (λ W tells there. turns-past (unpacked W t l) v z)
 
-  pub unpack-none : {w : ℕ} → state ≡ 0 → w ≡ getD work 0 0 → (w ≡ 5 → ⊥)
-      → Applies work state next work (stateNumber NoRule) next ((W : World) → Tells table authority W → Turns (unpacked W t l) work state work (stateNumber NoRule))
+  pub unpack-none : {w : ℕ} → v .state ≡ 0 → w ≡ getD (v .cells) 0 0 → (w ≡ 5 → ⊥) → Unpacks S t l v (withState v (stateNumber NoRule))
   unfolding stateNumber
   unpack-none z p ne =
       applies-keep 4 (λ x. omega arith)
-      (λ W tells. turns-keep (unpacked W t l) work state 4 z (λ v a. no-package W t l work v 4 (λ q. ne (p ∙ q)) a))
+      (λ W tells there. turns-keep (unpacked W t l) v 4 z (λ u a. no-package W t l (v .cells) u 4 (λ q. ne (p ∙ q)) a))
 
 -- the error of an unpack, by the tests that are made in order
-module _ (table : List ℕ) (authority l m : ℕ) (fits : Bool) {may : Bool} (r : may ≡ readsIn table authority l) where
-  pub error-reads : may ≡ false → 1 ≡ errorIn table authority l m fits
+module _ (S : Setting) (l m : ℕ) (fits : Bool) {may : Bool} (r : may ≡ mayRead (S .powers) l) where
+  pub error-reads : may ≡ false → 1 ≡ errorIn S l m fits
   unfolding errorIn errorOf
   error-reads n = rw (sym r ∙ n) refl
 
-  module _ {flows : Bool} {w : ℕ} (y : may ≡ true) (e : w ≡ m) (b : flows ≡ belowIn table w l) where
-    flow-is : flows ≡ belowIn table m l
-    flow-is = b ∙ ap (λ (i : ℕ). belowIn table i l) e
+  module _ {flows : Bool} {w : ℕ} (y : may ≡ true) (e : w ≡ m) (b : flows ≡ belowIn (S .table) w l) where
+    flow-is : flows ≡ belowIn (S .table) m l
+    flow-is = b ∙ ap (λ (i : ℕ). belowIn (S .table) i l) e
 
-    pub error-flow : flows ≡ false → 2 ≡ errorIn table authority l m fits
+    pub error-flow : flows ≡ false → 2 ≡ errorIn S l m fits
     unfolding errorIn errorOf
     error-flow n = rw (sym r ∙ y, sym flow-is ∙ n) refl
 
-    pub error-type : flows ≡ true → fits ≡ false → 3 ≡ errorIn table authority l m fits
+    pub error-type : flows ≡ true → fits ≡ false → 3 ≡ errorIn S l m fits
     unfolding errorIn errorOf
     error-type f n = rw (sym r ∙ y, sym flow-is ∙ f, n) refl
 
-    pub error-none : flows ≡ true → fits ≡ true → 0 ≡ errorIn table authority l m fits
+    pub error-none : flows ≡ true → fits ≡ true → 0 ≡ errorIn S l m fits
     unfolding errorIn errorOf
     error-none f g = rw (sym r ∙ y, sym flow-is ∙ f, g) refl
 
 -- ---- what a line makes, by its kind
 
-module _ {table : List ℕ} {authority kind a b : ℕ} {work : List ℕ} {state next : ℕ} {work′ : List ℕ} {state′ next′ : ℕ} where
-  pub applied-plus : kind ≡ 9 → Applies work state next work′ state′ next′ ((u : Value) → a ≡ getD (cell u) 1 0 → Turns (add u) work state work′ state′)
-      → Applied table authority kind a b work state next work′ state′ next′
+module _ {S : Setting} {row : Row} {v r : Result} where
+  pub applied-plus : row .kind ≡ 9 → Sums (row .a) v r → Applied S row v r
   applied-plus k y =
       record { plus = λ q. y; left = λ q. absurd (omega arith); right = λ q. absurd (omega arith); pack = λ q. absurd (omega arith); unpack = λ q. absurd (omega arith) }
 
-  pub applied-left : kind ≡ 10
-      → Applies work state next work′ state′ next′ ((f : Value → Value) → Tags 3 f → Turns (λ u. fit (f u)) work state work′ state′)
-      → Applied table authority kind a b work state next work′ state′ next′
+  pub applied-left : row .kind ≡ 10 → Tagged 3 v r → Applied S row v r
   applied-left k y =
       record { plus = λ q. absurd (omega arith); left = λ q. y; right = λ q. absurd (omega arith); pack = λ q. absurd (omega arith); unpack = λ q. absurd (omega arith) }
 
-  pub applied-right : kind ≡ 11
-      → Applies work state next work′ state′ next′ ((f : Value → Value) → Tags 4 f → Turns (λ u. fit (f u)) work state work′ state′)
-      → Applied table authority kind a b work state next work′ state′ next′
+  pub applied-right : row .kind ≡ 11 → Tagged 4 v r → Applied S row v r
   applied-right k y =
       record { plus = λ q. absurd (omega arith); left = λ q. absurd (omega arith); right = λ q. y; pack = λ q. absurd (omega arith); unpack = λ q. absurd (omega arith) }
 
-  pub applied-pack : kind ≡ 12
-      → Applies work state next work′ state′ next′ ((W : World) → Tells table authority W → Turns (packed (W .writes a) a) work state work′ state′)
-      → Applied table authority kind a b work state next work′ state′ next′
+  pub applied-pack : row .kind ≡ 12 → Packs (S .powers) (row .a) v r → Applied S row v r
   applied-pack k y =
       record { plus = λ q. absurd (omega arith); left = λ q. absurd (omega arith); right = λ q. absurd (omega arith); pack = λ q. y; unpack = λ q. absurd (omega arith) }
 
-  pub applied-unpack : kind ≡ 13
-      → Applies work state next work′ state′ next′ ((W : World) → Tells table authority W → Turns (unpacked W a b) work state work′ state′)
-      → Applied table authority kind a b work state next work′ state′ next′
+  pub applied-unpack : row .kind ≡ 13 → Unpacks S (row .a) (row .b) v r → Applied S row v r
   applied-unpack k y =
       record { plus = λ q. absurd (omega arith); left = λ q. absurd (omega arith); right = λ q. absurd (omega arith); pack = λ q. absurd (omega arith); unpack = λ q. y }
 
-  pub applied-none : (kind ≡ 9 → ⊥) → (kind ≡ 10 → ⊥) → (kind ≡ 11 → ⊥) → (kind ≡ 12 → ⊥) → (kind ≡ 13 → ⊥)
-      → Applied table authority kind a b work state next work′ state′ next′
+  pub applied-none : (row .kind ≡ 9 → ⊥) → (row .kind ≡ 10 → ⊥) → (row .kind ≡ 11 → ⊥) → (row .kind ≡ 12 → ⊥) → (row .kind ≡ 13 → ⊥) → Applied S row v r
   applied-none n9 n10 n11 n12 n13 =
       record { plus = λ q. absurd (n9 q); left = λ q. absurd (n10 q); right = λ q. absurd (n11 q); pack = λ q. absurd (n12 q); unpack = λ q. absurd (n13 q) }

@@ -1,10 +1,11 @@
 // Evaluation of expressions over the lines (the paper, figure 2), in cells of words.
 mod nodes; // nodes.rt: one value made of another, in the accumulator
 
-ghost use Rattle.evaluator.specs.State.{stateNumber};
+ghost use Rattle.evaluator.specs.Internal.Records.{result};
 ghost use Rattle.evaluator.specs.Internal.Post.{Evals};
 use cells::CELL;
 use script::ROW;
+use sheet::powers::Powers;
 
 // The cell of location 0.
 pub const LOCATIONS: usize = 9;
@@ -34,11 +35,12 @@ pub fn eval(
     code: &[u32],
     at: usize,
     table: &[u16],
-    authority: u16,
+    powers: Powers,
     depth: u32,
     work: &mut [u32; WORK],
 ) -> Evaluated
-    ensures { λ r. ⌜ Evals (now (code .entry)) at (now (table .entry)) authority depth (now (work .entry)) (stateNumber (r .state)) (r .next) (now (work .exit)) ⌝ }
+    ensures { λ r. ⌜ Evals (record { table = now (table .entry); powers = powers })
+        (record { code = now (code .entry); at = at; depth = depth; cells = now (work .entry) }) (result r (now (work .exit))) ⌝ }
 {
     let row = script::row_at(code, at);
     let kind = row.kind;
@@ -68,9 +70,9 @@ pub fn eval(
         }
         // One call for the operand that each of these starts with, since each call takes its own place in every frame.
         script::PLUS | script::LEFT | script::RIGHT | script::PACK | script::UNPACK => {
-            let v = eval(code, at + ROW, table, authority, depth, work);
+            let v = eval(code, at + ROW, table, powers, depth, work);
             if kind != script::PLUS {
-                return nodes::applied(work, table, authority, kind, a, b, v);
+                return nodes::applied(work, table, powers, kind, a, b, v);
             }
             let state = v.state;
             let State::Done = state else {
@@ -78,8 +80,8 @@ pub fn eval(
             };
             let n = cells::word(work, 1);
             let next = v.next;
-            let w = eval(code, next, table, authority, depth, work);
-            nodes::applied(work, table, authority, kind, n, b, w)
+            let w = eval(code, next, table, powers, depth, work);
+            nodes::applied(work, table, powers, kind, n, b, w)
         }
         _ => Evaluated {
             state: State::NoRule,

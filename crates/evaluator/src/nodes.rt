@@ -2,22 +2,21 @@
 ghost use mathlib.Core.Path.{_≡_};
 ghost use Prim.Native.Nat.{_+_, _-_};
 ghost use lib.ListN.{drop, getD};
-ghost use Rattle.language.specs.Syntax.{Value, int, err, inr};
-ghost use Rattle.language.specs.World.{World};
-ghost use Rattle.language.specs.Evaluation.{fit, add, packed, unpacked};
+ghost use Rattle.language.specs.Syntax.{int, err, inr};
 ghost use Rattle.sheet.specs.Internal.Tables.{leftIn};
 ghost use Rattle.sheet.specs.Internal.TypeTest.{hasNo};
 ghost use Rattle.memory.specs.Words.{cell, valueOf};
 ghost use Rattle.cells.specs.Internal.Cells.{loadOf, storeOf, accumulator};
 ghost use Rattle.evaluator.specs.Internal.Cells.{firstLocation};
-ghost use Rattle.evaluator.specs.State.{stateNumber};
-ghost use Rattle.evaluator.specs.Internal.Nodes.{Turns, Applies, Applied, Tags, errorIn, Tells};
+ghost use Rattle.evaluator.specs.Internal.Records.{result};
+ghost use Rattle.evaluator.specs.Internal.Nodes.{Sums, Tagged, Packs, Unpacks, Applied, errorIn};
 use crate::Evaluated;
 use crate::LOCATIONS;
 use crate::State;
 use crate::WORK;
 use cells::ACCUMULATOR;
 use cells::CELL;
+use sheet::powers::Powers;
 
 // The most words of a value that fits into the left of a package.
 const ROOM: usize = CELL - memory::CONTENT - 1;
@@ -65,8 +64,7 @@ pub(crate) fn variable(work: &mut [u32; WORK], depth: u32, d: u32)
 
 // The sum of n and the integer in the accumulator.
 pub(crate) fn sum(work: &mut [u32; WORK], n: u32, v: Evaluated) -> Evaluated
-    ensures { λ r. ⌜ Applies (now (work .entry)) (stateNumber (v .state)) (v .next) (now (work .exit)) (stateNumber (r .state)) (r .next)
-        ((u : Value) → n ≡ getD (cell u) 1 0 → Turns (add u) (now (work .entry)) (stateNumber (v .state)) (now (work .exit)) (stateNumber (r .state))) ⌝ }
+    ensures { λ r. ⌜ Sums n (result v (now (work .entry))) (result r (now (work .exit))) ⌝ }
 {
     let state = v.state;
     let State::Done = state else {
@@ -79,8 +77,7 @@ pub(crate) fn sum(work: &mut [u32; WORK], n: u32, v: Evaluated) -> Evaluated
 
 // Left or right, as the word says, of the value in the accumulator.
 fn tagged(work: &mut [u32; WORK], w: u32, v: Evaluated) -> Evaluated
-    ensures { λ r. ⌜ Applies (now (work .entry)) (stateNumber (v .state)) (v .next) (now (work .exit)) (stateNumber (r .state)) (r .next)
-        ((f : Value → Value) → Tags w f → Turns (λ u. fit (f u)) (now (work .entry)) (stateNumber (v .state)) (now (work .exit)) (stateNumber (r .state))) ⌝ }
+    ensures { λ r. ⌜ Tagged w (result v (now (work .entry))) (result r (now (work .exit))) ⌝ }
 {
     let state = v.state;
     let State::Done = state else {
@@ -97,15 +94,14 @@ fn tagged(work: &mut [u32; WORK], w: u32, v: Evaluated) -> Evaluated
 }
 
 // A package of label l of the value in the accumulator, or an error.
-fn pack(work: &mut [u32; WORK], table: &[u16], authority: u16, l: u32, v: Evaluated) -> Evaluated
-    ensures { λ r. ⌜ Applies (now (work .entry)) (stateNumber (v .state)) (v .next) (now (work .exit)) (stateNumber (r .state)) (r .next)
-        ((W : World) → Tells (now (table .entry)) authority W → Turns (packed (W .writes l) l) (now (work .entry)) (stateNumber (v .state)) (now (work .exit)) (stateNumber (r .state))) ⌝ }
+fn pack(work: &mut [u32; WORK], powers: Powers, l: u32, v: Evaluated) -> Evaluated
+    ensures { λ r. ⌜ Packs powers l (result v (now (work .entry))) (result r (now (work .exit))) ⌝ }
 {
     let state = v.state;
     let State::Done = state else {
         return v;
     };
-    if !sheet::writes(table, authority, l) {
+    if !sheet::powers::may_write(powers, l) {
         fail(work, INSUFFICIENT_AUTH);
         return v;
     }
@@ -122,11 +118,11 @@ fn pack(work: &mut [u32; WORK], table: &[u16], authority: u16, l: u32, v: Evalua
 }
 
 // The error of unpacking the package in the accumulator with the wanted label l and the wanted type on the left of type t; else 0.
-fn refusal(work: &[u32], table: &[u16], authority: u16, t: u32, l: u32) -> u32
-    ensures { λ r. ⌜ r ≡ errorIn (now (table .entry)) authority l (getD (now (work .entry)) 1 0)
+fn refusal(work: &[u32], table: &[u16], powers: Powers, t: u32, l: u32) -> u32
+    ensures { λ r. ⌜ r ≡ errorIn (record { table = now (table .entry); powers = powers }) l (getD (now (work .entry)) 1 0)
         (hasNo (now (table .entry)) (valueOf (drop 2 (now (work .entry)))) (leftIn (now (table .entry)) t)) ⌝ }
 {
-    if !sheet::reads(table, authority, l) {
+    if !sheet::powers::may_read(powers, l) {
         return INSUFFICIENT_AUTH;
     }
     if !sheet::below(table, cells::word(work, memory::LABEL), l) {
@@ -142,13 +138,12 @@ fn refusal(work: &[u32], table: &[u16], authority: u16, t: u32, l: u32) -> u32
 fn unpack(
     work: &mut [u32; WORK],
     table: &[u16],
-    authority: u16,
+    powers: Powers,
     t: u32,
     l: u32,
     v: Evaluated,
 ) -> Evaluated
-    ensures { λ r. ⌜ Applies (now (work .entry)) (stateNumber (v .state)) (v .next) (now (work .exit)) (stateNumber (r .state)) (r .next)
-        ((W : World) → Tells (now (table .entry)) authority W → Turns (unpacked W t l) (now (work .entry)) (stateNumber (v .state)) (now (work .exit)) (stateNumber (r .state))) ⌝ }
+    ensures { λ r. ⌜ Unpacks (record { table = now (table .entry); powers = powers }) t l (result v (now (work .entry))) (result r (now (work .exit))) ⌝ }
 {
     let state = v.state;
     let State::Done = state else {
@@ -160,7 +155,7 @@ fn unpack(
             next: v.next,
         };
     }
-    let e = refusal(work, table, authority, t, l);
+    let e = refusal(work, table, powers, t, l);
     if e != 0 {
         fail(work, e);
         return v;
@@ -175,20 +170,20 @@ fn unpack(
 pub(crate) fn applied(
     work: &mut [u32; WORK],
     table: &[u16],
-    authority: u16,
+    powers: Powers,
     kind: u32,
     a: u32,
     b: u32,
     v: Evaluated,
 ) -> Evaluated
-    ensures { λ r. ⌜ Applied (now (table .entry)) authority kind a b (now (work .entry)) (stateNumber (v .state)) (v .next) (now (work .exit)) (stateNumber (r .state)) (r .next) ⌝ }
+    ensures { λ r. ⌜ Applied (record { table = now (table .entry); powers = powers }) (record { kind = kind; a = a; b = b }) (result v (now (work .entry))) (result r (now (work .exit))) ⌝ }
 {
     match kind {
         script::PLUS => sum(work, a, v),
         script::LEFT => tagged(work, memory::LEFT, v),
         script::RIGHT => tagged(work, memory::RIGHT, v),
-        script::PACK => pack(work, table, authority, a, v),
-        script::UNPACK => unpack(work, table, authority, a, b, v),
+        script::PACK => pack(work, powers, a, v),
+        script::UNPACK => unpack(work, table, powers, a, b, v),
         _ => Evaluated {
             state: State::NoRule,
             next: v.next,

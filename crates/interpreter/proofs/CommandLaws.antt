@@ -1,7 +1,7 @@
 -- `Execs`: a law for each kind of line.
 -- Assumes nothing.
 use mathlib.Core.Path.{_≡_, refl, sym, subst, _∙_}
-use mathlib.Core.Bool.{Bool, true, false, false≢true}
+use mathlib.Core.Bool.{true, false, false≢true}
 use mathlib.Core.List.{List, _∷_}
 use Prim.Native.Nat.{ℕ, zero, suc, _+_, _≤_}
 use native.Mathlib.Omega.{arith}
@@ -9,8 +9,7 @@ use native.Mathlib.Numerals.{add-one}
 use borrow.Author.Tests.{ltb-true}
 use lib.ListN.{drop}
 use Rattle.language.specs.Syntax.{Value, int, err, inl, inr, pkg, blank, Expr, Cmd, seq, while, case}
-use Rattle.language.specs.World.{World, Mem}
-use Rattle.language.specs.Substitution.{Env}
+use Rattle.language.specs.World.{Mem}
 use Rattle.language.specs.Evaluation.{Res, ok, long, stuck, eval}
 use Rattle.language.specs.Transition.{branch, branchV, Out, done, spent, over, wrong}
 use Rattle.logic.proofs.BooleanLaws.{both-left, both-right}
@@ -21,34 +20,47 @@ use Rattle.script.specs.Names.{Counts, named}
 use Rattle.script.specs.declared.Row.{Row}
 use Rattle.script.specs.Internal.Pieces.{command, an-expression, a-command}
 use Rattle.script.proofs.Rows.{CmdRow, at-skip, at-seq, at-assign, at-while, at-case, row-of, KindOf, not-here}
-use Rattle.memory.specs.Memory.{cellOf}
 use Rattle.evaluator.specs.State.{stateNumber}
 use Rattle.evaluator.specs.declared.State.the-variants.{Done, NoRule}
 use Rattle.evaluator.specs.Internal.Cells.{CellsHold}
-use Rattle.evaluator.specs.Internal.Nodes.{Tells}
-use Rattle.interpreter.specs.Internal.Post.{CmdAt, Skips, Finishes, Execs, ticked, Ticks, Assigns, Choice, to-left, to-right, no-budget, choice-long, choice-stuck, choiceV, choice, Chooses, Decides, Enters, Branches}
+use Rattle.evaluator.specs.Internal.Records.{Setting, Place, Context}
+use Rattle.evaluator.specs.Internal.Post.{StandsFor}
+use Rattle.interpreter.specs.declared.commands.Stepped.{Stepped}
+use Rattle.interpreter.specs.declared.commands.Decided.{Decided}
+use Rattle.interpreter.specs.declared.commands.Taken.{Taken}
+use Rattle.interpreter.specs.Internal.Post.{CmdAt, Skips, Target, target, Finishes, finish-done, finish-spent, finish-over, finish-wrong, Execs, ticked, Ticks, Assigns, Choice, to-left, to-right, no-budget, choice-long, choice-stuck, choiceV, choice, Chooses, goes-left, goes-right, has-none, is-long, is-stuck, Decides, Branching, Enters, enters-left, enters-right, enters-spent, enters-long, enters-stuck, Branches}
 use Rattle.evaluator.proofs.StateLaws.{holds-kept, holds-leave}
+use Rattle.evaluator.proofs.EvalLaws.{moved, operand, held-after}
 use Rattle.interpreter.proofs.ExecLaws.{ticked-then, ends-there, goes-on}
 
 -- the row that was read is that of the command
-cmd-row-of : {ws : List ℕ} {at : ℕ} {row : Row} {rest : List Line} {k : Counts} {depth : ℕ} {c : Cmd} (kind : ℕ) → row ≡ rowAt ws at → row .kind ≡ kind
-    → CmdAt ws at rest k depth c → CmdRow ws at rest kind (row .a) (row .b) c
-cmd-row-of {ws} {at} {rest = rest} {c = c} kind r q p = row-of ws at command c rest r q (p .source) (p .lines)
+cmd-row-of : {p : Place} {row : Row} {k : Counts} {rest : List Line} {c : Cmd} (kind : ℕ) → row ≡ rowAt (p .code) (p .at) → row .kind ≡ kind
+    → CmdAt p k rest c → CmdRow (p .code) (p .at) rest kind (row .a) (row .b) c
+cmd-row-of {p} {rest = rest} {c = c} kind r q x = row-of (p .code) (p .at) command c rest r q (x .source) (x .lines)
 
--- what `Execs` says, by the run with an environment
-runs : {ws : List ℕ} {at : ℕ} {table : List ℕ} {authority depth : ℕ} {work : List ℕ} {fuel state left next : ℕ} {work′ : List ℕ}
-    → Execs ws at table authority depth work fuel state left next work′ → (W : World) (k : Counts) (c : Cmd) (rest : List Line) (M : Mem) (ρ : Env)
-    → Tells table authority W → CmdAt ws at rest k depth c → CellsHold work (k .locations) depth M ρ
-    → Finishes ws rest (k .locations) depth ρ (go W ρ c M fuel) state left work′ next
-unfolding go
-runs x W k c rest M ρ t p held = x .means W k c rest M ρ t p held
+-- the run of a command in a context
+abbrev ran : Context → Cmd → Mem → ℕ → Out
+ran C c M b = go (C .world) (C .env) c M b
 
-by-runs : {ws : List ℕ} {at : ℕ} {table : List ℕ} {authority depth : ℕ} {work : List ℕ} {fuel state left next : ℕ} {work′ : List ℕ} → at ≤ next → left ≤ fuel
-    → ((W : World) (k : Counts) (c : Cmd) (rest : List Line) (M : Mem) (ρ : Env) → Tells table authority W → CmdAt ws at rest k depth c
-    → CellsHold work (k .locations) depth M ρ → Finishes ws rest (k .locations) depth ρ (go W ρ c M fuel) state left work′ next)
-    → Execs ws at table authority depth work fuel state left next work′
-unfolding go
-by-runs f s m = record { forward = f; spends = s; means = m }
+-- the context and the place of a branch that binds v
+abbrev bound : Context → Value → Context
+bound C v = record { world = C .world; counts = C .counts; env = v ∷ C .env }
+
+abbrev inside : Place → ℕ → List ℕ → Place
+inside p n cells = record { code = p .code; at = n; depth = suc (p .depth); cells = cells }
+
+-- what `Execs` says, by that run
+module _ {S : Setting} {p : Place} {fuel : ℕ} {d : Stepped} {cells : List ℕ} where
+  runs : Execs S p fuel d cells → (C : Context) (M : Mem) (c : Cmd) (rest : List Line) → StandsFor S p C M → CmdAt p (C .counts) rest c
+      → Finishes (target p C rest) d cells (ran C c M fuel)
+  unfolding go
+  runs x C M c rest held here = x .means C M c rest held here
+
+  by-runs : p .at ≤ d .next → d .left ≤ fuel
+      → ((C : Context) (M : Mem) (c : Cmd) (rest : List Line) → StandsFor S p C M → CmdAt p (C .counts) rest c → Finishes (target p C rest) d cells (ran C c M fuel))
+      → Execs S p fuel d cells
+  unfolding go
+  by-runs f s m = record { forward = f; spends = s; means = m }
 
 -- ---- decisions
 
@@ -72,254 +84,252 @@ chosen-is l r (suc b) (ok blank) = refl
 chosen-is l r (suc b) long = refl
 chosen-is l r (suc b) stuck = refl
 
-module _ (ws : List ℕ) (rest mid : List Line) (locations depth : ℕ) (M : Mem) (ρ : Env) (l : Value → ℕ → Out) where
+module _ {t : Target} {g : Decided} {ws : List ℕ} {mid : List Line} {seen : List ℕ} (l : Value → ℕ → Out) where
   -- a guard that doesn't go on
-  stops : (ch : Choice) (state left n next : ℕ) (on : Bool) (words work : List ℕ) → on ≡ false → Chooses ws mid ch state left on words n
-      → CellsHold work locations depth M ρ → drop next ws ≡ code rest → Finishes ws rest locations depth ρ (chosen l (λ v b. done M b) ch) state left work next
-  unfolding Chooses Finishes chosen
-  stops (to-left v b) state left n next on words work o h held e = absurd (false≢true (sym o ∙ h .2))
-  stops (to-right v b) state left n next on words work o h held e = (h .0, h .1, held, e)
-  stops no-budget state left n next on words work o h held e = h
-  stops (choice-long b) state left n next on words work o h held e = h
-  stops choice-stuck state left n next on words work o h held e = tt
+  stops : {M : Mem} {c : Choice} {cells : List ℕ} (next : ℕ) → g .on ≡ false → Chooses ws mid g seen c → CellsHold cells (t .locations) (t .depth) M (t .env)
+      → drop next (t .code) ≡ code (t .rest)
+      → Finishes t (record { state = g .state; left = g .left; next = next }) cells (chosen l (λ v b. done M b) c)
+  unfolding chosen
+  stops next o (goes-left s f i a n) held e = absurd (false≢true (sym o ∙ i))
+  stops next o (goes-right s f i a n) held e = finish-done s f held e
+  stops next o (has-none s f) held e = finish-spent s f
+  stops next o (is-long s f) held e = finish-over s f
+  stops next o is-stuck held e = finish-wrong
 
   -- a guard that goes on
-  turns-on : (r : Value → ℕ → Out) (ch : Choice) (gs gl n : ℕ) (on : Bool) (words : List ℕ) (state left next : ℕ) (work : List ℕ) → gs ≡ 0 → on ≡ true
-      → Chooses ws mid ch gs gl on words n
-      → ((v : Value) → Finishes ws rest locations depth ρ (l v gl) state left work next) → Finishes ws rest locations depth ρ (chosen l r ch) state left work next
-  unfolding Chooses Finishes chosen
-  turns-on r (to-left v b) gs gl n on words state left next work z o h k =
-      subst (λ (i : ℕ). Finishes ws rest locations depth ρ (l v i) state left work next) (h .1) (k v)
-  turns-on r (to-right v b) gs gl n on words state left next work z o h k = absurd (false≢true (sym (h .2) ∙ o))
-  turns-on r no-budget gs gl n on words state left next work z o h k = absurd (omega (arith, h .0))
-  turns-on r (choice-long b) gs gl n on words state left next work z o h k = absurd (omega (arith, h .0))
-  turns-on r choice-stuck gs gl n on words state left next work z o h k = tt
+  turns-on : {c : Choice} {d : Stepped} {cells : List ℕ} (r : Value → ℕ → Out) → stateNumber (g .state) ≡ 0 → g .on ≡ true → Chooses ws mid g seen c
+      → ((v : Value) → Finishes t d cells (l v (g .left))) → Finishes t d cells (chosen l r c)
+  unfolding chosen
+  turns-on {d = d} {cells = cells} r z o (goes-left {v = v} s f i a n) k = subst (λ (b : ℕ). Finishes t d cells (l v b)) f (k v)
+  turns-on r z o (goes-right s f i a n) k = absurd (false≢true (sym i ∙ o))
+  turns-on r z o (has-none s f) k = absurd (omega arith)
+  turns-on r z o (is-long s f) k = absurd (omega arith)
+  turns-on r z o is-stuck k = finish-wrong
 
 -- ---- the kinds, each matched at its number
 
-skip-case : (W : World) (k : Counts) (M : Mem) (ρ : Env) (fuel : ℕ) {ws : List ℕ} {at : ℕ} {rest : List Line} {a b depth : ℕ} {work : List ℕ} {c : Cmd} → CmdRow ws at rest 1 a b c
-    → CellsHold work (k .locations) depth M ρ → Finishes ws rest (k .locations) depth ρ (go W ρ c M fuel) 0 fuel work (at + 3)
-unfolding Finishes
-skip-case W k M ρ fuel (at-skip h) held = rw (go-skip W ρ M fuel) (refl, refl, held, h)
+module _ {S : Setting} (p : Place) {C : Context} {M : Mem} (held : StandsFor S p C M) where
+  operand-held : StandsFor S (operand p) C M
+  operand-held = held-after held refl refl
 
-module _ {ws : List ℕ} (at : ℕ) {table : List ℕ} {authority depth : ℕ} {work : List ℕ} {fuel : ℕ} (W : World) (k : Counts) (M : Mem) (ρ : Env)
-    (t : Tells table authority W) (held : CellsHold work (k .locations) depth M ρ) where
+  skip-case : {fuel : ℕ} {rest : List Line} {a b : ℕ} {c : Cmd} → CmdRow (p .code) (p .at) rest 1 a b c
+      → Finishes (target p C rest) (record { state = Done; left = fuel; next = p .at + 3 }) (p .cells) (ran C c M fuel)
+  unfolding stateNumber
+  skip-case {fuel} (at-skip h) = rw (go-skip (C .world) (C .env) M fuel) (finish-done refl refl (held .cells) h)
+
   -- a command that stands after the line of `;`
-  module _ {ds dl dn ts tl tn : ℕ} {work′ : List ℕ} (x : Execs ws (at + 3) table authority depth work fuel ds dl dn work′) (y : Ticks ds dl dn ts tl tn) where
-    first-ends : (c d : Cmd) (rest : List Line) → Source c → named k depth c ≡ true → drop (at + 3) ws ≡ code (cmdLines c (cmdLines d rest))
-        → Finishes ws (cmdLines d rest) (k .locations) depth ρ (ticked (go W ρ c M fuel)) ts tl work′ tn
-    first-ends c d rest s n h =
-        y .means ws (cmdLines d rest) (k .locations) depth ρ (go W ρ c M fuel) work′
-        (runs x W k c (cmdLines d rest) M ρ t (record { source = s; names = n; lines = h }) held)
+  module _ {fuel : ℕ} {d t : Stepped} {cells : List ℕ} (x : Execs S (operand p) fuel d cells) (y : Ticks d t) where
+    first-ends : (c d : Cmd) (rest : List Line) → Source c → named (C .counts) (p .depth) c ≡ true
+        → drop (p .at + 3) (p .code) ≡ code (cmdLines c (cmdLines d rest)) → Finishes (target p C (cmdLines d rest)) t cells (ticked (ran C c M fuel))
+    first-ends c d rest s n h = y .means (runs x C M c (cmdLines d rest) operand-held (record { source = s; names = n; lines = h }))
 
-    seq-is : (c d : Cmd) → go W ρ (seq c d) M fuel ≡ andThen (ticked (go W ρ c M fuel)) (λ M′ b. go W ρ d M′ b)
-    seq-is c d = go-seq W ρ M c d fuel ∙ ticked-then (go W ρ c M fuel) (λ M′ b. go W ρ d M′ b)
+    seq-is : (c d : Cmd) → ran C (seq c d) M fuel ≡ andThen (ticked (ran C c M fuel)) (λ M′ b. ran C d M′ b)
+    seq-is c d = go-seq (C .world) (C .env) M c d fuel ∙ ticked-then (ran C c M fuel) (λ M′ b. ran C d M′ b)
 
-    seq-end-case : {rest : List Line} {a b : ℕ} {c : Cmd} → CmdRow ws at rest 2 a b c → named k depth c ≡ true → (ts ≡ 0 → ⊥)
-        → Finishes ws rest (k .locations) depth ρ (go W ρ c M fuel) ts tl work′ tn
+    seq-end-case : {rest : List Line} {a b : ℕ} {c : Cmd} → CmdRow (p .code) (p .at) rest 2 a b c → named (C .counts) (p .depth) c ≡ true
+        → (stateNumber (t .state) ≡ 0 → ⊥) → Finishes (target p C rest) t cells (ran C c M fuel)
     unfolding named
     seq-end-case {rest} (at-seq {c = c} {d = d} s r h) n z =
-        rw (seq-is c d)
-        (ends-there ws rest (k .locations) depth ρ _ (ticked (go W ρ c M fuel)) (λ M′ b. go W ρ d M′ b) ts tl work′ tn tn z (first-ends c d rest s (both-left _ _ n) h))
+        rw (seq-is c d) (ends-there (λ M′ b. ran C d M′ b) (t .next) z (first-ends c d rest s (both-left _ _ n) h))
 
-    seq-case : {rest : List Line} {a b : ℕ} {c : Cmd} {rs rl rn : ℕ} {work″ : List ℕ} → CmdRow ws at rest 2 a b c → named k depth c ≡ true → ts ≡ 0
-        → Execs ws tn table authority depth work′ tl rs rl rn work″ → Finishes ws rest (k .locations) depth ρ (go W ρ c M fuel) rs rl work″ rn
+    seq-case : {rest : List Line} {a b : ℕ} {c : Cmd} {r : Stepped} {cells′ : List ℕ} → CmdRow (p .code) (p .at) rest 2 a b c
+        → named (C .counts) (p .depth) c ≡ true → stateNumber (t .state) ≡ 0 → Execs S (moved p (t .next) cells) (t .left) r cells′
+        → Finishes (target p C rest) r cells′ (ran C c M fuel)
     unfolding named
-    seq-case {rest} {rs = rs} {rl = rl} {rn = rn} {work″ = work″} (at-seq {c = c} {d = d} s r h) n z u =
+    seq-case {rest} (at-seq {c = c} {d = d} s s′ h) n z u =
         rw (seq-is c d)
-        (goes-on ws rest (k .locations) depth ρ _ (ticked (go W ρ c M fuel)) (λ M′ b. go W ρ d M′ b) ts tl work′ tn rs rl work″ rn z
-        (first-ends c d rest s (both-left _ _ n) h)
-        (λ M′ held′ p. runs u W k d rest M′ ρ t (record { source = r; names = both-right _ _ n; lines = p }) held′))
+        (goes-on (λ M′ b. ran C d M′ b) z (first-ends c d rest s (both-left _ _ n) h)
+        (λ M′ held′ q. runs u C M′ d rest (record { tells = held .tells; labels = held .labels; cells = held′ }) (record { source = s′; names = both-right _ _ n; lines = q })))
 
-  assign-case : {rest : List Line} {a b : ℕ} {c : Cmd} {state left next : ℕ} {work′ : List ℕ} → CmdRow ws at rest 3 a b c → named k depth c ≡ true
-      → Assigns ws (at + 3) table authority depth work fuel a state left next work′ → Finishes ws rest (k .locations) depth ρ (go W ρ c M fuel) state left work′ next
+  assign-case : {fuel : ℕ} {rest : List Line} {a b : ℕ} {c : Cmd} {d : Stepped} {cells : List ℕ} → CmdRow (p .code) (p .at) rest 3 a b c → named (C .counts) (p .depth) c ≡ true
+      → Assigns S (operand p) fuel a d cells → Finishes (target p C rest) d cells (ran C c M fuel)
   unfolding named go
-  assign-case {rest} (at-assign {x = x} {e = e} s h) n y =
-      y .means W k e rest M ρ t (record { source = s; names = both-right _ _ n; lines = h }) (ltb-true _ _ (both-left _ _ n)) held
+  assign-case {rest = rest} (at-assign {x = x} {e = e} s h) n y =
+      y .means C M e rest operand-held (record { source = s; names = both-right _ _ n; lines = h }) (ltb-true _ _ (both-left _ _ n))
 
   -- a loop
-  module _ {body end gs gl gn : ℕ} {on : Bool} {work′ : List ℕ} (sb : Skips ws (at + 3) body) (se : Skips ws body end)
-      (g : Decides ws (at + 3) table authority depth work fuel gs gl gn on work′) where
+  module _ {fuel : ℕ} {g : Decided} {cells : List ℕ} {body end : ℕ} (sb : Skips (p .code) (p .at + 3) body) (se : Skips (p .code) body end)
+      (y : Decides S (operand p) fuel g cells) where
     -- a round, the first part of it being the guard
     round : Expr → Cmd → Value → ℕ → Out
-    round e c v b = andThen (go W ρ c M b) (λ M′ b′. spend b′ (λ b″. go W ρ (while e c) M′ b″))
+    round e c v b = andThen (ran C c M b) (λ M′ b′. spend b′ (λ b″. ran C (while e c) M′ b″))
 
-    while-is : (e : Expr) (c : Cmd) → go W ρ (while e c) M fuel ≡ chosen (round e c) (λ v b. done M b) (choice fuel (eval W ρ M e))
+    while-is : (e : Expr) (c : Cmd) → ran C (while e c) M fuel ≡ chosen (round e c) (λ v b. done M b) (choice fuel (eval (C .world) (C .env) M e))
     unfolding round
-    while-is e c = go-while W ρ M e c fuel ∙ chosen-is (round e c) (λ v b. done M b) fuel (eval W ρ M e)
+    while-is e c = go-while (C .world) (C .env) M e c fuel ∙ chosen-is (round e c) (λ v b. done M b) fuel (eval (C .world) (C .env) M e)
 
-    module _ (e : Expr) (c : Cmd) (rest : List Line) (s : SourceE e) (r : Source c) (n : named k depth (while e c) ≡ true)
-        (h : drop (at + 3) ws ≡ code (exprLines e (cmdLines c rest))) where
-      guard-chooses : Chooses ws (cmdLines c rest) (choice fuel (eval W ρ M e)) gs gl on (cellOf work′ 0) gn
+    module _ (e : Expr) (c : Cmd) (rest : List Line) (s : SourceE e) (r : Source c) (n : named (C .counts) (p .depth) (while e c) ≡ true)
+        (h : drop (p .at + 3) (p .code) ≡ code (exprLines e (cmdLines c rest))) where
+      guard-chooses : Chooses (p .code) (cmdLines c rest) g cells (choice fuel (eval (C .world) (C .env) M e))
       unfolding named
-      guard-chooses = g .means W k e (cmdLines c rest) M ρ t (record { source = s; names = both-left _ _ n; lines = h }) held
+      guard-chooses = y .means C M e (cmdLines c rest) operand-held (record { source = s; names = both-left _ _ n; lines = h })
 
-      body-at : drop body ws ≡ code (cmdLines c rest)
+      body-at : drop body (p .code) ≡ code (cmdLines c rest)
       body-at = sb .means _ _ (an-expression s) h
 
-      end-at : drop end ws ≡ code rest
+      end-at : drop end (p .code) ≡ code rest
       end-at = se .means _ _ (a-command r) body-at
 
       -- the end of a round, after its transition
-      module _ {ds dl dn ts tl tn : ℕ} {work″ : List ℕ} (x : Execs ws body table authority depth work′ gl ds dl dn work″) (y : Ticks ds dl dn ts tl tn) where
-        round-ends : Finishes ws rest (k .locations) depth ρ (ticked (go W ρ c M gl)) ts tl work″ tn
+      module _ {d t : Stepped} {cells′ : List ℕ} (x : Execs S (moved p body cells) (g .left) d cells′) (y′ : Ticks d t) where
+        round-ends : Finishes (target p C rest) t cells′ (ticked (ran C c M (g .left)))
         unfolding named
-        round-ends =
-            y .means ws rest (k .locations) depth ρ (go W ρ c M gl) work″
-            (runs x W k c rest M ρ t (record { source = r; names = both-right _ _ n; lines = body-at }) (holds-kept held work′ (g .kept)))
+        round-ends = y′ .means (runs x C M c rest (held-after held (y .kept) refl) (record { source = r; names = both-right _ _ n; lines = body-at }))
 
-        round-stops : (v : Value) → (ts ≡ 0 → ⊥) → Finishes ws rest (k .locations) depth ρ (round e c v gl) ts tl work″ end
+        round-stops : (v : Value) → (stateNumber (t .state) ≡ 0 → ⊥)
+            → Finishes (target p C rest) (record { state = t .state; left = t .left; next = end }) cells′ (round e c v (g .left))
         unfolding round
-        round-stops v z =
-            rw (ticked-then (go W ρ c M gl) (λ M′ b. go W ρ (while e c) M′ b))
-            (ends-there ws rest (k .locations) depth ρ _ (ticked (go W ρ c M gl)) (λ M′ b. go W ρ (while e c) M′ b) ts tl work″ tn end z round-ends)
+        round-stops v z = rw (ticked-then (ran C c M (g .left)) (λ M′ b. ran C (while e c) M′ b)) (ends-there (λ M′ b. ran C (while e c) M′ b) end z round-ends)
 
-        round-goes : {state left next : ℕ} {work‴ : List ℕ} (v : Value) → ts ≡ 0 → drop at ws ≡ code (cmdLines (while e c) rest) → Source (while e c)
-            → Execs ws at table authority depth work″ tl state left next work‴ → Finishes ws rest (k .locations) depth ρ (round e c v gl) state left work‴ next
+        round-goes : {r : Stepped} {cells″ : List ℕ} (v : Value) → stateNumber (t .state) ≡ 0 → CmdAt p (C .counts) rest (while e c)
+            → Execs S (moved p (p .at) cells′) (t .left) r cells″ → Finishes (target p C rest) r cells″ (round e c v (g .left))
         unfolding round
-        round-goes {state} {left} {next} {work‴} v z p w u =
-            rw (ticked-then (go W ρ c M gl) (λ M′ b. go W ρ (while e c) M′ b))
-            (goes-on ws rest (k .locations) depth ρ _ (ticked (go W ρ c M gl)) (λ M′ b. go W ρ (while e c) M′ b) ts tl work″ tn state left work‴ next z round-ends
-            (λ M′ held′ q. runs u W k (while e c) rest M′ ρ t (record { source = w; names = n; lines = p }) held′))
+        round-goes v z here u =
+            rw (ticked-then (ran C c M (g .left)) (λ M′ b. ran C (while e c) M′ b))
+            (goes-on (λ M′ b. ran C (while e c) M′ b) z round-ends
+            (λ M′ held′ q. runs u C M′ (while e c) rest (record { tells = held .tells; labels = held .labels; cells = held′ })
+            (record { source = here .source; names = here .names; lines = here .lines })))
 
-    while-stop-case : {rest : List Line} {a b : ℕ} {c : Cmd} → CmdRow ws at rest 4 a b c → named k depth c ≡ true → on ≡ false
-        → Finishes ws rest (k .locations) depth ρ (go W ρ c M fuel) gs gl work′ end
+    while-stop-case : {rest : List Line} {a b : ℕ} {c : Cmd} → CmdRow (p .code) (p .at) rest 4 a b c → named (C .counts) (p .depth) c ≡ true → g .on ≡ false
+        → Finishes (target p C rest) (record { state = g .state; left = g .left; next = end }) cells (ran C c M fuel)
     while-stop-case {rest} (at-while {e = e} {c = c} s r h) n z =
         rw (while-is e c)
-        (stops ws rest (cmdLines c rest) (k .locations) depth M ρ (round e c) (choice fuel (eval W ρ M e)) gs gl gn end on (cellOf work′ 0) work′ z
-        (guard-chooses e c rest s r n h) (holds-kept held work′ (g .kept)) (end-at e c rest s r n h))
+        (stops (round e c) end z (guard-chooses e c rest s r n h) (holds-kept (held .cells) cells (y .kept)) (end-at e c rest s r n h))
 
-    module _ {ds dl dn ts tl tn : ℕ} {work″ : List ℕ} (o : on ≡ true) (x : Execs ws body table authority depth work′ gl ds dl dn work″) (y : Ticks ds dl dn ts tl tn) where
-      while-end-case : {rest : List Line} {a b : ℕ} {c : Cmd} → CmdRow ws at rest 4 a b c → named k depth c ≡ true → (ts ≡ 0 → ⊥)
-          → Finishes ws rest (k .locations) depth ρ (go W ρ c M fuel) ts tl work″ end
+    module _ {d t : Stepped} {cells′ : List ℕ} (o : g .on ≡ true) (x : Execs S (moved p body cells) (g .left) d cells′) (y′ : Ticks d t) where
+      while-end-case : {rest : List Line} {a b : ℕ} {c : Cmd} → CmdRow (p .code) (p .at) rest 4 a b c → named (C .counts) (p .depth) c ≡ true
+          → (stateNumber (t .state) ≡ 0 → ⊥) → Finishes (target p C rest) (record { state = t .state; left = t .left; next = end }) cells′ (ran C c M fuel)
       while-end-case {rest} (at-while {e = e} {c = c} s r h) n z =
           rw (while-is e c)
-          (turns-on ws rest (cmdLines c rest) (k .locations) depth M ρ (round e c) (λ v b. done M b) (choice fuel (eval W ρ M e)) gs gl gn on (cellOf work′ 0) ts tl end work″
-          (g .settled o) o
-          (guard-chooses e c rest s r n h) (λ v. round-stops e c rest s r n h x y v z))
+          (turns-on (round e c) (λ v b. done M b) (y .settled o) o (guard-chooses e c rest s r n h) (λ v. round-stops e c rest s r n h x y′ v z))
 
-      while-again-case : {rest : List Line} {a b : ℕ} {c : Cmd} {state left next : ℕ} {work‴ : List ℕ} → CmdRow ws at rest 4 a b c → CmdAt ws at rest k depth c → ts ≡ 0
-          → Execs ws at table authority depth work″ tl state left next work‴ → Finishes ws rest (k .locations) depth ρ (go W ρ c M fuel) state left work‴ next
-      while-again-case {rest} {state = state} {left = left} {next = next} {work‴ = work‴} (at-while {e = e} {c = c} s r h) p z u =
+      while-again-case : {rest : List Line} {a b : ℕ} {c : Cmd} {u : Stepped} {cells″ : List ℕ} → CmdRow (p .code) (p .at) rest 4 a b c
+          → CmdAt p (C .counts) rest c → stateNumber (t .state) ≡ 0 → Execs S (moved p (p .at) cells′) (t .left) u cells″
+          → Finishes (target p C rest) u cells″ (ran C c M fuel)
+      while-again-case {rest} (at-while {e = e} {c = c} s r h) here z w =
           rw (while-is e c)
-          (turns-on ws rest (cmdLines c rest) (k .locations) depth M ρ (round e c) (λ v b. done M b) (choice fuel (eval W ρ M e)) gs gl gn on (cellOf work′ 0) state left next work‴
-          (g .settled o) o
-          (guard-chooses e c rest s r (p .names) h) (λ v. round-goes e c rest s r (p .names) h x y v z (p .lines) (p .source) u))
+          (turns-on (round e c) (λ v b. done M b) (y .settled o) o (guard-chooses e c rest s r (here .names) h)
+          (λ v. round-goes e c rest s r (here .names) h x y′ v z here w))
 
   -- a case
-  module _ {bs bl start end : ℕ} {work′ : List ℕ} (y : Branches ws (at + 3) table authority depth work fuel bs bl start end work′) where
-    case-is : (e : Expr) (c d : Cmd) → go W ρ (case e c d) M fuel ≡ chosen (λ v b. go W (v ∷ ρ) c M b) (λ v b. go W (v ∷ ρ) d M b) (choice fuel (eval W ρ M e))
-    case-is e c d = go-case W ρ M e c d fuel ∙ chosen-is (λ v b. go W (v ∷ ρ) c M b) (λ v b. go W (v ∷ ρ) d M b) fuel (eval W ρ M e)
+  module _ {fuel : ℕ} {t : Taken} {cells : List ℕ} (y : Branches S (operand p) fuel t cells) where
+    case-is : (e : Expr) (c d : Cmd)
+        → ran C (case e c d) M fuel ≡ chosen (λ v b. ran (bound C v) c M b) (λ v b. ran (bound C v) d M b) (choice fuel (eval (C .world) (C .env) M e))
+    case-is e c d =
+        go-case (C .world) (C .env) M e c d fuel
+        ∙ chosen-is (λ v b. ran (bound C v) c M b) (λ v b. ran (bound C v) d M b) fuel (eval (C .world) (C .env) M e)
 
-    enters : (rest : List Line) {e : Expr} {c d : Cmd} → SourceE e → Source c → Source d → named k depth (case e c d) ≡ true
-        → drop (at + 3) ws ≡ code (exprLines e (cmdLines c (cmdLines d rest)))
-        → Enters ws rest (k .locations) depth M ρ c d (choice fuel (eval W ρ M e)) bs bl work′ start end
+    enters : (rest : List Line) {e : Expr} {c d : Cmd} → SourceE e → Source c → Source d → named (C .counts) (p .depth) (case e c d) ≡ true
+        → drop (p .at + 3) (p .code) ≡ code (exprLines e (cmdLines c (cmdLines d rest)))
+        → Enters (target p C rest) M (record { on-left = c; on-right = d }) t cells (choice fuel (eval (C .world) (C .env) M e))
     unfolding named
-    enters rest {e} {c} {d} s p q n h =
-        y .means W k e c d rest M ρ t (record { source = s; names = both-left _ _ n; lines = h }) p q (ltb-true _ _ (both-left _ _ (both-right _ _ n))) held
+    enters rest {e} {c} {d} s s′ s″ n h =
+        y .means C M e (record { on-left = c; on-right = d }) rest operand-held (record { source = s; names = both-left _ _ n; lines = h }) s′ s″
+        (ltb-true _ _ (both-left _ _ (both-right _ _ n)))
 
-    case-end-at : (rest : List Line) (l r : Value → ℕ → Out) (c d : Cmd) (ch : Choice) → (bs ≡ 0 → ⊥) → Enters ws rest (k .locations) depth M ρ c d ch bs bl work′ start end
-        → Finishes ws rest (k .locations) depth ρ (chosen l r ch) bs bl work′ at
-    unfolding Enters Finishes chosen
-    case-end-at rest l r c d (to-left v b) z h = absurd (z (h .0))
-    case-end-at rest l r c d (to-right v b) z h = absurd (z (h .0))
-    case-end-at rest l r c d no-budget z h = h
-    case-end-at rest l r c d (choice-long b) z h = h
-    case-end-at rest l r c d choice-stuck z h = tt
+    case-end-at : {g : Target} {cs : Branching} {c : Choice} (l r : Value → ℕ → Out) (at : ℕ) → (stateNumber (t .state) ≡ 0 → ⊥) → Enters g M cs t cells c
+        → Finishes g (record { state = t .state; left = t .left; next = at }) cells (chosen l r c)
+    unfolding chosen
+    case-end-at l r at z (enters-left s f b n e) = absurd (z s)
+    case-end-at l r at z (enters-right s f b n e) = absurd (z s)
+    case-end-at l r at z (enters-spent s f) = finish-spent s f
+    case-end-at l r at z (enters-long s f) = finish-over s f
+    case-end-at l r at z enters-stuck = finish-wrong
 
-    case-end-case : {rest : List Line} {a b : ℕ} {c : Cmd} → CmdRow ws at rest 5 a b c → named k depth c ≡ true → (bs ≡ 0 → ⊥)
-        → Finishes ws rest (k .locations) depth ρ (go W ρ c M fuel) bs bl work′ at
-    case-end-case {rest} (at-case {e = e} {c = c} {d = d} s p q h) n z =
-        rw (case-is e c d) (case-end-at rest _ _ c d (choice fuel (eval W ρ M e)) z (enters rest s p q n h))
+    case-end-case : {rest : List Line} {a b : ℕ} {c : Cmd} → CmdRow (p .code) (p .at) rest 5 a b c → named (C .counts) (p .depth) c ≡ true
+        → (stateNumber (t .state) ≡ 0 → ⊥) → Finishes (target p C rest) (record { state = t .state; left = t .left; next = p .at }) cells (ran C c M fuel)
+    case-end-case {rest} (at-case {e = e} {c = c} {d = d} s s′ s″ h) n z = rw (case-is e c d) (case-end-at _ _ (p .at) z (enters rest s s′ s″ n h))
 
-    module _ {ds dl dn : ℕ} {work″ : List ℕ} (x : Execs ws start table authority (suc depth) work′ bl ds dl dn work″) where
+    module _ {d : Stepped} {cells′ : List ℕ} (x : Execs S (inside p (t .start) cells) (t .left) d cells′) where
       -- the branch's run, seen from outside of the case
-      leaves : (mid rest : List Line) (v : Value) (o : Out) → drop end ws ≡ code rest → Finishes ws mid (k .locations) (suc depth) (v ∷ ρ) o ds dl work″ dn
-          → Finishes ws rest (k .locations) depth ρ o ds dl work″ end
-      unfolding Finishes
-      leaves mid rest v (done M′ b) e h = (h .0, h .1, holds-leave (h .2), e)
-      leaves mid rest v spent e h = h
-      leaves mid rest v (over b) e h = h
-      leaves mid rest v wrong e h = tt
+      leaves : {rest : List Line} {v : Value} {o : Out} (mid : List Line) → drop (t .end) (p .code) ≡ code rest
+          → Finishes (target (inside p (t .start) cells) (bound C v) mid) d cells′ o
+          → Finishes (target p C rest) (record { state = d .state; left = d .left; next = t .end }) cells′ o
+      leaves mid e (finish-done s f held n) = finish-done s f (holds-leave held) e
+      leaves mid e (finish-spent s f) = finish-spent s f
+      leaves mid e (finish-over s f) = finish-over s f
+      leaves mid e finish-wrong = finish-wrong
 
-      case-at : (rest : List Line) (c d : Cmd) (ch : Choice) → Source c → Source d → named k (suc depth) c ≡ true → named k (suc depth) d ≡ true → bs ≡ 0
-          → Enters ws rest (k .locations) depth M ρ c d ch bs bl work′ start end
-          → Finishes ws rest (k .locations) depth ρ (chosen (λ v b. go W (v ∷ ρ) c M b) (λ v b. go W (v ∷ ρ) d M b) ch) ds dl work″ end
-      unfolding Enters Finishes chosen
-      case-at rest c d (to-left v b) p q n n′ z h =
-          subst (λ (i : ℕ). Finishes ws rest (k .locations) depth ρ (go W (v ∷ ρ) c M i) ds dl work″ end) (h .1)
-          (leaves _ rest v (go W (v ∷ ρ) c M bl) (h .4) (runs x W k c (cmdLines d rest) M (v ∷ ρ) t (record { source = p; names = n; lines = h .3 }) (h .2)))
-      case-at rest c d (to-right v b) p q n n′ z h =
-          subst (λ (i : ℕ). Finishes ws rest (k .locations) depth ρ (go W (v ∷ ρ) d M i) ds dl work″ end) (h .1)
-          (leaves _ rest v (go W (v ∷ ρ) d M bl) (h .4) (runs x W k d rest M (v ∷ ρ) t (record { source = q; names = n′; lines = h .3 }) (h .2)))
-      case-at rest c d no-budget p q n n′ z h = absurd (omega (arith, h .0))
-      case-at rest c d (choice-long b) p q n n′ z h = absurd (omega (arith, h .0))
-      case-at rest c d choice-stuck p q n n′ z h = tt
+      -- a branch is run
+      branch-runs : {rest : List Line} (v : Value) (c : Cmd) (mid : List Line) (b : ℕ) → t .left ≡ b → Source c → named (C .counts) (suc (p .depth)) c ≡ true
+          → CellsHold cells (C .counts .locations) (suc (p .depth)) M (v ∷ C .env) → drop (t .start) (p .code) ≡ code (cmdLines c mid)
+          → drop (t .end) (p .code) ≡ code rest
+          → Finishes (target p C rest) (record { state = d .state; left = d .left; next = t .end }) cells′ (ran (bound C v) c M b)
+      branch-runs {rest} v c mid b f s n b′ h e =
+          subst (λ (i : ℕ). Finishes (target p C rest) (record { state = d .state; left = d .left; next = t .end }) cells′ (ran (bound C v) c M i)) f
+          (leaves mid e (runs x (bound C v) M c mid (record { tells = held .tells; labels = held .labels; cells = b′ }) (record { source = s; names = n; lines = h })))
 
-      case-case : {rest : List Line} {a b : ℕ} {c : Cmd} → CmdRow ws at rest 5 a b c → named k depth c ≡ true → bs ≡ 0
-          → Finishes ws rest (k .locations) depth ρ (go W ρ c M fuel) ds dl work″ end
+      case-at : {rest : List Line} {cs : Branching} {c : Choice} → Source (cs .on-left) → Source (cs .on-right)
+          → named (C .counts) (suc (p .depth)) (cs .on-left) ≡ true → named (C .counts) (suc (p .depth)) (cs .on-right) ≡ true
+          → stateNumber (t .state) ≡ 0 → Enters (target p C rest) M cs t cells c
+          → Finishes (target p C rest) (record { state = d .state; left = d .left; next = t .end }) cells′
+          (chosen (λ v b. ran (bound C v) (cs .on-left) M b) (λ v b. ran (bound C v) (cs .on-right) M b) c)
+      unfolding chosen
+      case-at s s′ n n′ z (enters-left {v = v} q f b h e) = branch-runs v _ _ _ f s n b h e
+      case-at s s′ n n′ z (enters-right {v = v} q f b h e) = branch-runs v _ _ _ f s′ n′ b h e
+      case-at s s′ n n′ z (enters-spent q f) = absurd (omega arith)
+      case-at s s′ n n′ z (enters-long q f) = absurd (omega arith)
+      case-at s s′ n n′ z enters-stuck = finish-wrong
+
+      case-case : {rest : List Line} {a b : ℕ} {c : Cmd} → CmdRow (p .code) (p .at) rest 5 a b c → named (C .counts) (p .depth) c ≡ true → stateNumber (t .state) ≡ 0
+          → Finishes (target p C rest) (record { state = d .state; left = d .left; next = t .end }) cells′ (ran C c M fuel)
       unfolding named
-      case-case {rest} (at-case {e = e} {c = c} {d = d} s p q h) n z =
+      case-case {rest} (at-case {e = e} {c = c} {d = d} s s′ s″ h) n z =
           let m = both-right _ _ (both-right _ _ n) in
-          rw (case-is e c d)
-          (case-at rest c d (choice fuel (eval W ρ M e)) p q (both-left _ _ m) (both-right _ _ m) z (enters rest s p q n h))
+          rw (case-is e c d) (case-at s′ s″ (both-left _ _ m) (both-right _ _ m) z (enters rest s s′ s″ n h))
 
 -- ---- a law for each arm of the code
 
-module _ {ws : List ℕ} {at : ℕ} {table : List ℕ} {authority depth : ℕ} {work : List ℕ} {fuel : ℕ} {row : Row} (r : row ≡ rowAt ws at) where
-  pub exec-skip : row .kind ≡ 1 → Execs ws at table authority depth work fuel (stateNumber Done) fuel (at + 3) work
-  unfolding stateNumber
-  exec-skip q = by-runs (omega arith) (omega arith) (λ W k c rest M ρ t p held. skip-case W k M ρ fuel (cmd-row-of 1 r q p) held)
+module _ {S : Setting} {p : Place} {fuel : ℕ} {row : Row} (r : row ≡ rowAt (p .code) (p .at)) where
+  pub exec-skip : row .kind ≡ 1 → Execs S p fuel (record { state = Done; left = fuel; next = p .at + 3 }) (p .cells)
+  exec-skip q = by-runs (omega arith) (omega arith) (λ C M c rest held here. skip-case p held (cmd-row-of 1 r q here))
 
-  module _ {ds dl dn ts tl tn : ℕ} {work′ : List ℕ} (q : row .kind ≡ 2) (x : Execs ws (at + 3) table authority depth work fuel ds dl dn work′)
-      (y : Ticks ds dl dn ts tl tn) where
-    pub exec-seq-end : (ts ≡ 0 → ⊥) → Execs ws at table authority depth work fuel ts tl tn work′
+  module _ {d t : Stepped} {cells : List ℕ} (q : row .kind ≡ 2) (x : Execs S (operand p) fuel d cells) (y : Ticks d t) where
+    pub exec-seq-end : (stateNumber (t .state) ≡ 0 → ⊥) → Execs S p fuel t cells
     exec-seq-end z =
         by-runs (omega (arith, x .forward, y .same-place)) (omega (arith, x .spends, y .spends))
-        (λ W k c rest M ρ t p held. seq-end-case at W k M ρ t held x y (cmd-row-of 2 r q p) (p .names) z)
+        (λ C M c rest held here. seq-end-case p held x y (cmd-row-of 2 r q here) (here .names) z)
 
-    pub exec-seq : {rs rl rn : ℕ} {work″ : List ℕ} → ts ≡ 0 → Execs ws tn table authority depth work′ tl rs rl rn work″
-        → Execs ws at table authority depth work fuel rs rl rn work″
+    pub exec-seq : {u : Stepped} {cells′ : List ℕ} → stateNumber (t .state) ≡ 0 → Execs S (moved p (t .next) cells) (t .left) u cells′ → Execs S p fuel u cells′
     exec-seq z u =
         by-runs (omega (arith, x .forward, y .same-place, u .forward)) (omega (arith, x .spends, y .spends, u .spends))
-        (λ W k c rest M ρ t p held. seq-case at W k M ρ t held x y (cmd-row-of 2 r q p) (p .names) z u)
+        (λ C M c rest held here. seq-case p held x y (cmd-row-of 2 r q here) (here .names) z u)
 
-  pub exec-assign : {state left next : ℕ} {work′ : List ℕ} → row .kind ≡ 3 → Assigns ws (at + 3) table authority depth work fuel (row .a) state left next work′
-      → Execs ws at table authority depth work fuel state left next work′
+  pub exec-assign : {d : Stepped} {cells : List ℕ} → row .kind ≡ 3 → Assigns S (operand p) fuel (row .a) d cells → Execs S p fuel d cells
   exec-assign q y =
-      by-runs (omega (arith, y .forward)) (y .spends) (λ W k c rest M ρ t p held. assign-case at W k M ρ t held (cmd-row-of 3 r q p) (p .names) y)
+      by-runs (omega (arith, y .forward)) (y .spends) (λ C M c rest held here. assign-case p held (cmd-row-of 3 r q here) (here .names) y)
 
-  module _ {body end gs gl gn : ℕ} {on : Bool} {work′ : List ℕ} (q : row .kind ≡ 4) (sb : Skips ws (at + 3) body) (se : Skips ws body end)
-      (g : Decides ws (at + 3) table authority depth work fuel gs gl gn on work′) where
-    pub while-stop : on ≡ false → Execs ws at table authority depth work fuel gs gl end work′
+  module _ {g : Decided} {cells : List ℕ} {body end : ℕ} (q : row .kind ≡ 4) (sb : Skips (p .code) (p .at + 3) body) (se : Skips (p .code) body end)
+      (y : Decides S (operand p) fuel g cells) where
+    pub while-stop : g .on ≡ false → Execs S p fuel (record { state = g .state; left = g .left; next = end }) cells
     while-stop z =
-        by-runs (omega (arith, sb .forward, se .forward)) (g .spends)
-        (λ W k c rest M ρ t p held. while-stop-case at W k M ρ t held sb se g (cmd-row-of 4 r q p) (p .names) z)
+        by-runs (omega (arith, sb .forward, se .forward)) (y .spends)
+        (λ C M c rest held here. while-stop-case p held sb se y (cmd-row-of 4 r q here) (here .names) z)
 
-    module _ {ds dl dn ts tl tn : ℕ} {work″ : List ℕ} (o : on ≡ true) (x : Execs ws body table authority depth work′ gl ds dl dn work″) (y : Ticks ds dl dn ts tl tn) where
-      pub while-end : (ts ≡ 0 → ⊥) → Execs ws at table authority depth work fuel ts tl end work″
+    module _ {d t : Stepped} {cells′ : List ℕ} (o : g .on ≡ true) (x : Execs S (moved p body cells) (g .left) d cells′) (y′ : Ticks d t) where
+      pub while-end : (stateNumber (t .state) ≡ 0 → ⊥) → Execs S p fuel (record { state = t .state; left = t .left; next = end }) cells′
       while-end z =
-          by-runs (omega (arith, sb .forward, se .forward)) (omega (arith, g .spends, x .spends, y .spends))
-          (λ W k c rest M ρ t p held. while-end-case at W k M ρ t held sb se g o x y (cmd-row-of 4 r q p) (p .names) z)
+          by-runs (omega (arith, sb .forward, se .forward)) (omega (arith, y .spends, x .spends, y′ .spends))
+          (λ C M c rest held here. while-end-case p held sb se y o x y′ (cmd-row-of 4 r q here) (here .names) z)
 
-      pub while-again : {state left next : ℕ} {work‴ : List ℕ} → ts ≡ 0 → Execs ws at table authority depth work″ tl state left next work‴
-          → Execs ws at table authority depth work fuel state left next work‴
+      pub while-again : {u : Stepped} {cells″ : List ℕ} → stateNumber (t .state) ≡ 0 → Execs S (moved p (p .at) cells′) (t .left) u cells″ → Execs S p fuel u cells″
       while-again z u =
-          by-runs (u .forward) (omega (arith, g .spends, x .spends, y .spends, u .spends))
-          (λ W k c rest M ρ t p held. while-again-case at W k M ρ t held sb se g o x y (cmd-row-of 4 r q p) p z u)
+          by-runs (u .forward) (omega (arith, y .spends, x .spends, y′ .spends, u .spends))
+          (λ C M c rest held here. while-again-case p held sb se y o x y′ (cmd-row-of 4 r q here) here z u)
 
-  module _ {bs bl start end : ℕ} {work′ : List ℕ} (q : row .kind ≡ 5) (y : Branches ws (at + 3) table authority depth work fuel bs bl start end work′) where
-    pub exec-case-end : (bs ≡ 0 → ⊥) → Execs ws at table authority depth work fuel bs bl at work′
+  module _ {t : Taken} {cells : List ℕ} (q : row .kind ≡ 5) (y : Branches S (operand p) fuel t cells) where
+    pub exec-case-end : (stateNumber (t .state) ≡ 0 → ⊥) → Execs S p fuel (record { state = t .state; left = t .left; next = p .at }) cells
     exec-case-end z =
-        by-runs (omega arith) (y .spends) (λ W k c rest M ρ t p held. case-end-case at W k M ρ t held y (cmd-row-of 5 r q p) (p .names) z)
+        by-runs (omega arith) (y .spends) (λ C M c rest held here. case-end-case p held y (cmd-row-of 5 r q here) (here .names) z)
 
-    pub exec-case : {ds dl dn : ℕ} {work″ : List ℕ} → bs ≡ 0 → Execs ws start table authority (depth + 1) work′ bl ds dl dn work″
-        → Execs ws at table authority depth work fuel ds dl end work″
-    exec-case {ds} {dl} {dn} {work″} z x =
-        let x′ : Execs ws start table authority (suc depth) work′ bl ds dl dn work″ = rw (add-one depth) at x in
+    pub exec-case : {d : Stepped} {cells′ : List ℕ} → stateNumber (t .state) ≡ 0
+        → Execs S (record { code = p .code; at = t .start; depth = p .depth + 1; cells = cells }) (t .left) d cells′
+        → Execs S p fuel (record { state = d .state; left = d .left; next = t .end }) cells′
+    exec-case {d} {cells′} z x =
+        let x′ : Execs S (inside p (t .start) cells) (t .left) d cells′ = rw (add-one (p .depth)) at x in
         by-runs (omega (arith, y .onward)) (omega (arith, x .spends, y .spends))
-        (λ W k c rest M ρ t p held. case-case at W k M ρ t held y x′ (cmd-row-of 5 r q p) (p .names) z)
+        (λ C M c rest held here. case-case p held y x′ (cmd-row-of 5 r q here) (here .names) z)
 
-  pub exec-none : (KindOf command (row .kind) → ⊥) → Execs ws at table authority depth work fuel (stateNumber NoRule) fuel at work
+  pub exec-none : (KindOf command (row .kind) → ⊥) → Execs S p fuel (record { state = NoRule; left = fuel; next = p .at }) (p .cells)
   exec-none f =
-      by-runs (omega arith) (omega arith) (λ W k c rest M ρ t p held. absurd (not-here command c rest ws at r f (p .source) (p .lines)))
+      by-runs (omega arith) (omega arith) (λ C M c rest held here. absurd (not-here command c rest (p .code) (p .at) r f (here .source) (here .lines)))

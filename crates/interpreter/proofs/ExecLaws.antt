@@ -6,25 +6,29 @@ use mathlib.Core.List.{List, _∷_}
 use Prim.Native.Nat.{ℕ, zero, suc, _+_, _-_, _≤_, _<_}
 use native.Mathlib.Omega.{arith}
 use lib.ListN.{drop, getD}
-use Rattle.language.specs.Syntax.{Value, Expr, Cmd}
-use Rattle.language.specs.World.{World, Mem}
-use Rattle.language.specs.Substitution.{Env, update}
+use Rattle.language.specs.Syntax.{Value, Expr}
+use Rattle.language.specs.World.{Mem}
+use Rattle.language.specs.Substitution.{update}
 use Rattle.language.specs.Evaluation.{Res, ok, long, stuck, eval}
 use Rattle.language.specs.Transition.{Out, done, spent, over, wrong}
 use Rattle.language.proofs.Interpreter.{go, andThen, spend, assigned, go-assign}
 use Rattle.script.specs.Lines.{Line, Source, cmdLines}
 use Rattle.script.specs.Internal.Code.{code}
 use Rattle.script.specs.Internal.Pieces.{a-command}
-use Rattle.script.specs.Names.{Counts, maxDepth}
+use Rattle.script.specs.Names.{maxDepth}
 use Rattle.memory.specs.Words.{enc, cell}
 use Rattle.memory.specs.Memory.{cellOf}
 use Rattle.evaluator.specs.State.{stateNumber}
+use Rattle.evaluator.specs.declared.State.{State}
 use Rattle.evaluator.specs.declared.State.the-variants.{Done, Spent, NoRule}
 use Rattle.cells.specs.Internal.Cells.{accumulator, loadOf, storeOf, popOf}
 use Rattle.evaluator.specs.Internal.Cells.{firstLocation, CellsHold}
-use Rattle.evaluator.specs.Internal.Nodes.{Yields, Tags, Tells}
-use Rattle.evaluator.specs.Internal.Post.{ExprAt, Evals}
-use Rattle.interpreter.specs.Internal.Post.{Skips, Finishes, ticked, Ticks, Assigns, Choice, to-left, to-right, no-budget, choice-long, choice-stuck, choiceV, choice, Chooses, Decides, Enters, Branches}
+use Rattle.evaluator.specs.Internal.Records.{Setting, Place, Result, Context}
+use Rattle.evaluator.specs.Internal.Nodes.{Yields, Gives, Tags}
+use Rattle.evaluator.specs.Internal.Post.{ExprAt, StandsFor, Evals}
+use Rattle.interpreter.specs.declared.commands.Stepped.{Stepped}
+use Rattle.interpreter.specs.declared.commands.Decided.{Decided}
+use Rattle.interpreter.specs.Internal.Post.{Skips, Target, target, Finishes, finish-done, finish-spent, finish-over, finish-wrong, ticked, Ticks, Assigns, Choice, choiceV, choice, Chooses, goes-left, goes-right, has-none, is-long, is-stuck, Decides, Branching, Enters, enters-left, enters-right, enters-spent, enters-long, enters-stuck, Branches}
 use Rattle.cells.proofs.CellLaws.{length-load, length-pop}
 use Rattle.evaluator.proofs.ValueLaws.{cell-size, tags-left, tags-right, pop-tag, Kind, is-int, is-err, is-inl, is-inr, is-pkg, is-blank, kind-enc}
 use Rattle.evaluator.proofs.NodeLaws.{words-here, load-here}
@@ -41,82 +45,63 @@ ticked-then spent F = refl
 ticked-then (over b) F = refl
 ticked-then wrong F = refl
 
-module _ (ws : List ℕ) (rest : List Line) (locations depth : ℕ) (ρ : Env) where
+module _ {g h : Target} {d : Stepped} {cells : List ℕ} (F : Mem → ℕ → Out) where
   -- a run that isn't done is the end, at whatever place
-  pub ends-there : (mid : List Line) (o : Out) (F : Mem → ℕ → Out) (state left : ℕ) (work : List ℕ) (n next : ℕ) → (state ≡ 0 → ⊥)
-      → Finishes ws mid locations depth ρ o state left work n → Finishes ws rest locations depth ρ (andThen o F) state left work next
-  unfolding Finishes andThen
-  ends-there mid (done M b) F state left work n next z h = absurd (z (h .0))
-  ends-there mid spent F state left work n next z h = h
-  ends-there mid (over b) F state left work n next z h = h
-  ends-there mid wrong F state left work n next z h = tt
+  pub ends-there : {o : Out} (next : ℕ) → (stateNumber (d .state) ≡ 0 → ⊥) → Finishes g d cells o
+      → Finishes h (record { state = d .state; left = d .left; next = next }) cells (andThen o F)
+  unfolding andThen
+  ends-there next z (finish-done s l held n) = absurd (z s)
+  ends-there next z (finish-spent s l) = finish-spent s l
+  ends-there next z (finish-over s l) = finish-over s l
+  ends-there next z finish-wrong = finish-wrong
 
   -- a run that is done goes on
-  pub goes-on : (mid : List Line) (o : Out) (F : Mem → ℕ → Out) (state left : ℕ) (work : List ℕ) (n state′ left′ : ℕ) (work′ : List ℕ) (next : ℕ) → state ≡ 0
-      → Finishes ws mid locations depth ρ o state left work n
-      → ((M : Mem) → CellsHold work locations depth M ρ → drop n ws ≡ code mid → Finishes ws rest locations depth ρ (F M left) state′ left′ work′ next)
-      → Finishes ws rest locations depth ρ (andThen o F) state′ left′ work′ next
-  unfolding Finishes andThen
-  goes-on mid (done M b) F state left work n state′ left′ work′ next z h k =
-      subst (λ (i : ℕ). Finishes ws rest locations depth ρ (F M i) state′ left′ work′ next) (h .1) (k M (h .2) (h .3))
-  goes-on mid spent F state left work n state′ left′ work′ next z h k = absurd (omega arith)
-  goes-on mid (over b) F state left work n state′ left′ work′ next z h k = absurd (omega arith)
-  goes-on mid wrong F state left work n state′ left′ work′ next z h k = tt
+  pub goes-on : {o : Out} {r : Stepped} {cells′ : List ℕ} → stateNumber (d .state) ≡ 0 → Finishes g d cells o
+      → ((M : Mem) → CellsHold cells (g .locations) (g .depth) M (g .env) → drop (d .next) (g .code) ≡ code (g .rest) → Finishes h r cells′ (F M (d .left)))
+      → Finishes h r cells′ (andThen o F)
+  unfolding andThen
+  goes-on {r = r} {cells′ = cells′} z (finish-done {M = M} s l held n) k = subst (λ (i : ℕ). Finishes h r cells′ (F M i)) l (k M held n)
+  goes-on z (finish-spent s l) k = absurd (omega arith)
+  goes-on z (finish-over s l) k = absurd (omega arith)
+  goes-on z finish-wrong k = finish-wrong
 
 -- ---- tick
 
-module _ (state left next : ℕ) where
-  tick-same-at : (ws : List ℕ) (rest : List Line) (locations depth : ℕ) (ρ : Env) (o : Out) (work : List ℕ) → (state ≡ 0 → ⊥)
-      → Finishes ws rest locations depth ρ o state left work next → Finishes ws rest locations depth ρ (ticked o) state left work next
-  unfolding Finishes ticked
-  tick-same-at ws rest locations depth ρ (done M b) work z h = absurd (z (h .0))
-  tick-same-at ws rest locations depth ρ spent work z h = h
-  tick-same-at ws rest locations depth ρ (over b) work z h = h
-  tick-same-at ws rest locations depth ρ wrong work z h = tt
+module _ {d : Stepped} {g : Target} {cells : List ℕ} where
+  same-end : {o : Out} → (stateNumber (d .state) ≡ 0 → ⊥) → Finishes g d cells o → Finishes g d cells (ticked o)
+  unfolding ticked
+  same-end z (finish-done s l held n) = absurd (z s)
+  same-end z (finish-spent s l) = finish-spent s l
+  same-end z (finish-over s l) = finish-over s l
+  same-end z finish-wrong = finish-wrong
 
-  pub tick-same : (state ≡ 0 → ⊥) → Ticks state left next state left next
-  tick-same z =
-      record {
-        spends = omega arith;
-        same-place = refl;
-        means = λ ws rest locations depth ρ o work h. tick-same-at ws rest locations depth ρ o work z h;
-      }
+  spent-end : {o : Out} → stateNumber (d .state) ≡ 0 → d .left ≡ 0 → Finishes g d cells o
+      → Finishes g (record { state = Spent; left = 0; next = d .next }) cells (ticked o)
+  unfolding ticked stateNumber
+  spent-end z f (finish-done {b = zero} s l held n) = finish-spent refl refl
+  spent-end z f (finish-done {b = suc b} s l held n) = absurd (omega arith)
+  spent-end z f (finish-spent s l) = absurd (omega arith)
+  spent-end z f (finish-over s l) = absurd (omega arith)
+  spent-end z f finish-wrong = finish-wrong
 
-  tick-spent-at : (ws : List ℕ) (rest : List Line) (locations depth : ℕ) (ρ : Env) (o : Out) (work : List ℕ) → state ≡ 0 → left ≡ 0
-      → Finishes ws rest locations depth ρ o state left work next → Finishes ws rest locations depth ρ (ticked o) 9 0 work next
-  unfolding Finishes ticked
-  tick-spent-at ws rest locations depth ρ (done M zero) work z f h = (refl, refl)
-  tick-spent-at ws rest locations depth ρ (done M (suc b)) work z f h = absurd (omega (arith, h .1))
-  tick-spent-at ws rest locations depth ρ spent work z f h = absurd (omega arith)
-  tick-spent-at ws rest locations depth ρ (over b) work z f h = absurd (omega arith)
-  tick-spent-at ws rest locations depth ρ wrong work z f h = tt
+  step-end : {o : Out} → stateNumber (d .state) ≡ 0 → (d .left ≡ 0 → ⊥) → Finishes g d cells o
+      → Finishes g (record { state = Done; left = d .left - 1; next = d .next }) cells (ticked o)
+  unfolding ticked stateNumber
+  step-end z f (finish-done {b = zero} s l held n) = absurd (f l)
+  step-end z f (finish-done {b = suc b} s l held n) = finish-done {b = b} refl (omega arith) held n
+  step-end z f (finish-spent s l) = absurd (omega arith)
+  step-end z f (finish-over s l) = absurd (omega arith)
+  step-end z f finish-wrong = finish-wrong
 
-  pub tick-spent : state ≡ 0 → left ≡ 0 → Ticks state left next (stateNumber Spent) 0 next
-  unfolding stateNumber
-  tick-spent z f =
-      record {
-        spends = omega arith;
-        same-place = refl;
-        means = λ ws rest locations depth ρ o work h. tick-spent-at ws rest locations depth ρ o work z f h;
-      }
+module _ (d : Stepped) where
+  pub tick-same : (stateNumber (d .state) ≡ 0 → ⊥) → Ticks d d
+  tick-same z = record { spends = omega arith; same-place = refl; means = same-end z }
 
-  tick-step-at : (ws : List ℕ) (rest : List Line) (locations depth : ℕ) (ρ : Env) (o : Out) (work : List ℕ) → state ≡ 0 → (left ≡ 0 → ⊥)
-      → Finishes ws rest locations depth ρ o state left work next → Finishes ws rest locations depth ρ (ticked o) 0 (left - 1) work next
-  unfolding Finishes ticked
-  tick-step-at ws rest locations depth ρ (done M zero) work z f h = absurd (f (h .1))
-  tick-step-at ws rest locations depth ρ (done M (suc b)) work z f h = (refl, omega (arith, h .1), h .2, h .3)
-  tick-step-at ws rest locations depth ρ spent work z f h = absurd (omega arith)
-  tick-step-at ws rest locations depth ρ (over b) work z f h = absurd (omega arith)
-  tick-step-at ws rest locations depth ρ wrong work z f h = tt
+  pub tick-spent : stateNumber (d .state) ≡ 0 → d .left ≡ 0 → Ticks d (record { state = Spent; left = 0; next = d .next })
+  tick-spent z f = record { spends = omega arith; same-place = refl; means = spent-end z f }
 
-  pub tick-step : state ≡ 0 → (left ≡ 0 → ⊥) → Ticks state left next (stateNumber Done) (left - 1) next
-  unfolding stateNumber
-  tick-step z f =
-      record {
-        spends = omega arith;
-        same-place = refl;
-        means = λ ws rest locations depth ρ o work h. tick-step-at ws rest locations depth ρ o work z f h;
-      }
+  pub tick-step : stateNumber (d .state) ≡ 0 → (d .left ≡ 0 → ⊥) → Ticks d (record { state = Done; left = d .left - 1; next = d .next })
+  tick-step z f = record { spends = omega arith; same-place = refl; means = step-end z f }
 
 -- ---- assign
 
@@ -124,70 +109,69 @@ module _ (state left next : ℕ) where
 abbrev assignedTo : Mem → ℕ → ℕ → Res → Out
 assignedTo M x fuel r = spend fuel (λ b. assigned (λ v. done (update M x v) b) b r)
 
-module _ (ws : List ℕ) (at depth x : ℕ) where
-  assign-fail-at : (rest : List Line) (locations : ℕ) (ρ : Env) (M : Mem) (r : Res) (vs fuel : ℕ) (words work′ : List ℕ) → (fuel ≡ 0 → ⊥) → (vs ≡ 0 → ⊥) → Yields r vs words
-      → Finishes ws rest locations depth ρ (assignedTo M x fuel r) vs fuel work′ at
-  unfolding Finishes spend assigned Yields
-  assign-fail-at rest locations ρ M r vs zero words work′ f z a = absurd (f refl)
-  assign-fail-at rest locations ρ M (ok v) vs (suc b) words work′ f z a = absurd (z (a .0))
-  assign-fail-at rest locations ρ M long vs (suc b) words work′ f z a = (a, refl)
-  assign-fail-at rest locations ρ M stuck vs (suc b) words work′ f z a = tt
+assign-fail-at : {g : Target} (M : Mem) (x : ℕ) {s : State} {cells : List ℕ} (at fuel : ℕ) (r : Res) (words : List ℕ) → (fuel ≡ 0 → ⊥) → (stateNumber s ≡ 0 → ⊥)
+    → Yields r (stateNumber s) words → Finishes g (record { state = s; left = fuel; next = at }) cells (assignedTo M x fuel r)
+unfolding spend assigned Yields
+assign-fail-at M x at zero r words f z a = absurd (f refl)
+assign-fail-at M x at (suc b) (ok v) words f z a = absurd (z (a .0))
+assign-fail-at M x at (suc b) long words f z a = finish-over a refl
+assign-fail-at M x at (suc b) stuck words f z a = finish-wrong
 
-  assign-done-at : (rest : List Line) (locations : ℕ) (ρ : Env) (M : Mem) (r : Res) (vs vn fuel : ℕ) (work′ work″ : List ℕ) → (fuel ≡ 0 → ⊥) → vs ≡ 0
-      → Yields r vs (cellOf work′ accumulator) → x < locations → CellsHold work′ locations depth M ρ → drop vn ws ≡ code rest
-      → work″ ≡ storeOf work′ (firstLocation + x) (loadOf work′ accumulator) → Finishes ws rest locations depth ρ (assignedTo M x fuel r) 0 (fuel - 1) work″ vn
-  unfolding Finishes spend assigned Yields
-  assign-done-at rest locations ρ M r vs vn zero work′ work″ f z a l held d e = absurd (f refl)
-  assign-done-at rest locations ρ M (ok v) vs vn (suc b) work′ work″ f z a l held d e =
-      (refl, omega arith, holds-put held x v l (load-here work′ v (room-here held) (a .1)) (length-load work′ 0) e, d)
-  assign-done-at rest locations ρ M long vs vn (suc b) work′ work″ f z a l held d e = absurd (omega arith)
-  assign-done-at rest locations ρ M stuck vs vn (suc b) work′ work″ f z a l held d e = tt
+assign-done-at : (g : Target) {M : Mem} (x : ℕ) (v : Result) {cells : List ℕ} (fuel : ℕ) (r : Res) → (fuel ≡ 0 → ⊥) → v .state ≡ 0 → Gives r v → x < g .locations
+    → CellsHold (v .cells) (g .locations) (g .depth) M (g .env) → drop (v .next) (g .code) ≡ code (g .rest)
+    → cells ≡ storeOf (v .cells) (firstLocation + x) (loadOf (v .cells) accumulator)
+    → Finishes g (record { state = Done; left = fuel - 1; next = v .next }) cells (assignedTo M x fuel r)
+unfolding spend assigned Yields stateNumber
+assign-done-at g x v zero r f z a l held n e = absurd (f refl)
+assign-done-at g x v (suc b) (ok u) f z a l held n e =
+    finish-done {b = b} refl (omega arith) (holds-put held x u l (load-here (v .cells) u (room-here held) (a .1)) (length-load (v .cells) 0) e) n
+assign-done-at g x v (suc b) long f z a l held n e = absurd (omega arith)
+assign-done-at g x v (suc b) stuck f z a l held n e = finish-wrong
 
-module _ {ws : List ℕ} {at : ℕ} {table : List ℕ} {authority depth : ℕ} {work : List ℕ} {fuel x : ℕ} where
-  assign-by : {state left next : ℕ} {work′ : List ℕ} → at ≤ next → left ≤ fuel
-      → ((W : World) (k : Counts) (e : Expr) (rest : List Line) (M : Mem) (ρ : Env) → Tells table authority W → ExprAt ws at rest k depth e → x < k .locations
-      → CellsHold work (k .locations) depth M ρ → Finishes ws rest (k .locations) depth ρ (assignedTo M x fuel (eval W ρ M e)) state left work′ next)
-      → Assigns ws at table authority depth work fuel x state left next work′
+module _ {S : Setting} {p : Place} {fuel x : ℕ} where
+  assign-by : {d : Stepped} {cells : List ℕ} → p .at ≤ d .next → d .left ≤ fuel
+      → ((C : Context) (M : Mem) (e : Expr) (rest : List Line) → StandsFor S p C M → ExprAt p (C .counts) rest e → x < C .counts .locations
+      → Finishes (target p C rest) d cells (assignedTo M x fuel (eval (C .world) (C .env) M e)))
+      → Assigns S p fuel x d cells
   unfolding go
-  assign-by {state} {left} {next} {work′} f s m =
+  assign-by {d} {cells} f s m =
       record {
         forward = f;
         spends = s;
-        means = λ W k e rest M ρ t p l held.
-            subst (λ (o : Out). Finishes ws rest (k .locations) depth ρ o state left work′ next) (sym (go-assign W ρ M x e fuel)) (m W k e rest M ρ t p l held);
+        means = λ C M e rest held here l.
+            subst (λ (o : Out). Finishes (target p C rest) d cells o) (sym (go-assign (C .world) (C .env) M x e fuel)) (m C M e rest held here l);
       }
 
-  pub assign-spent : fuel ≡ 0 → Assigns ws at table authority depth work fuel x (stateNumber Spent) 0 at work
-  unfolding stateNumber Finishes spend
-  assign-spent z = assign-by (omega arith) (omega arith) (λ W k e rest M ρ t p l held. rw z (refl, refl))
+  pub assign-spent : fuel ≡ 0 → Assigns S p fuel x (record { state = Spent; left = 0; next = p .at }) (p .cells)
+  unfolding stateNumber spend
+  assign-spent z = assign-by (omega arith) (omega arith) (λ C M e rest held here l. rw z (finish-spent refl refl))
 
-  pub assign-fail : {vs vn : ℕ} {work′ : List ℕ} → (fuel ≡ 0 → ⊥) → Evals ws at table authority depth work vs vn work′ → (vs ≡ 0 → ⊥)
-      → Assigns ws at table authority depth work fuel x vs fuel at work′
-  assign-fail {vs} {vn} {work′} f y z =
-      assign-by (omega arith) (omega arith)
-      (λ W k e rest M ρ t p l held. assign-fail-at ws at depth x rest (k .locations) ρ M (eval W ρ M e) vs fuel (cellOf work′ 0) work′ f z (y .means W k e rest M ρ t p held .0))
+  pub assign-fail : {s : State} {n : ℕ} {cells : List ℕ} → (fuel ≡ 0 → ⊥) → Evals S p (record { state = stateNumber s; next = n; cells = cells })
+      → (stateNumber s ≡ 0 → ⊥) → Assigns S p fuel x (record { state = s; left = fuel; next = p .at }) cells
+  assign-fail f y z =
+      assign-by (omega arith) (omega arith) (λ C M e rest held here l. assign-fail-at M x (p .at) fuel _ _ f z (y .means C M e rest held here .0))
 
-  pub assign-done : {vs vn : ℕ} {work′ work″ : List ℕ} → (fuel ≡ 0 → ⊥) → Evals ws at table authority depth work vs vn work′ → vs ≡ 0
-      → work″ ≡ storeOf work′ (firstLocation + x) (loadOf work′ accumulator) → Assigns ws at table authority depth work fuel x (stateNumber Done) (fuel - 1) vn work″
-  unfolding stateNumber
-  assign-done {vs} {vn} {work′} {work″} f y z e =
+  pub assign-done : {v : Result} {cells : List ℕ} → (fuel ≡ 0 → ⊥) → Evals S p v → v .state ≡ 0
+      → cells ≡ storeOf (v .cells) (firstLocation + x) (loadOf (v .cells) accumulator)
+      → Assigns S p fuel x (record { state = Done; left = fuel - 1; next = v .next }) cells
+  assign-done {v} f y z e =
       assign-by (y .forward) (omega arith)
-      (λ W k u rest M ρ t p l held. let m = y .means W k u rest M ρ t p held in
-      assign-done-at ws at depth x rest (k .locations) ρ M (eval W ρ M u) vs vn fuel work′ work″ f z (m .0) l (holds-kept held work′ (y .kept)) (m .1 z) e)
+      (λ C M u rest held here l. let m = y .means C M u rest held here in
+      assign-done-at (target p C rest) x v fuel _ f z (m .0) l (holds-kept (held .cells) (v .cells) (y .kept)) (m .1 z) e)
 
 -- ---- decide
 
-decide-fail-at : (ws : List ℕ) (at : ℕ) (rest : List Line) (r : Res) (vs fuel : ℕ) (words : List ℕ) → (fuel ≡ 0 → ⊥) → (vs ≡ 0 → ⊥) → Yields r vs words
-    → Chooses ws rest (choice fuel r) vs fuel false words at
-unfolding Chooses choice Yields
-decide-fail-at ws at rest r vs zero words f z a = absurd (f refl)
-decide-fail-at ws at rest (ok v) vs (suc b) words f z a = absurd (z (a .0))
-decide-fail-at ws at rest long vs (suc b) words f z a = (a, refl)
-decide-fail-at ws at rest stuck vs (suc b) words f z a = tt
+decide-fail-at : {ws : List ℕ} {rest : List Line} {s : State} {cells : List ℕ} (at fuel : ℕ) (r : Res) → (fuel ≡ 0 → ⊥) → (stateNumber s ≡ 0 → ⊥)
+    → Yields r (stateNumber s) (cellOf cells accumulator) → Chooses ws rest (record { state = s; left = fuel; next = at; on = false }) cells (choice fuel r)
+unfolding choice Yields
+decide-fail-at at zero r f z a = absurd (f refl)
+decide-fail-at at (suc b) (ok v) f z a = absurd (z (a .0))
+decide-fail-at at (suc b) long f z a = is-long a refl
+decide-fail-at at (suc b) stuck f z a = is-stuck
 
-module _ {ws : List ℕ} {at : ℕ} {table : List ℕ} {authority depth : ℕ} {work : List ℕ} {fuel : ℕ} where
-  pub decide-spent : fuel ≡ 0 → Decides ws at table authority depth work fuel (stateNumber Spent) 0 at false work
-  unfolding stateNumber Chooses choice
+module _ {S : Setting} {p : Place} {fuel : ℕ} where
+  pub decide-spent : fuel ≡ 0 → Decides S p fuel (record { state = Spent; left = 0; next = p .at; on = false }) (p .cells)
+  unfolding stateNumber choice
   decide-spent z =
       record {
         forward = omega arith;
@@ -195,19 +179,19 @@ module _ {ws : List ℕ} {at : ℕ} {table : List ℕ} {authority depth : ℕ} {
         settled = λ q. absurd (false≢true q);
         falls = λ q. absurd (false≢true q);
         kept = refl;
-        means = λ W k e rest M ρ t p held. rw z (refl, refl);
+        means = λ C M e rest held here. rw z (has-none refl refl);
       }
 
-  pub decide-fail : {vs vn : ℕ} {work′ : List ℕ} → (fuel ≡ 0 → ⊥) → Evals ws at table authority depth work vs vn work′ → (vs ≡ 0 → ⊥)
-      → Decides ws at table authority depth work fuel vs fuel at false work′
-  decide-fail {vs} {vn} {work′} f y z =
+  pub decide-fail : {s : State} {n : ℕ} {cells : List ℕ} → (fuel ≡ 0 → ⊥) → Evals S p (record { state = stateNumber s; next = n; cells = cells })
+      → (stateNumber s ≡ 0 → ⊥) → Decides S p fuel (record { state = s; left = fuel; next = p .at; on = false }) cells
+  decide-fail f y z =
       record {
         forward = omega arith;
         spends = omega arith;
         settled = λ q. absurd (false≢true q);
         falls = λ q. absurd (false≢true q);
         kept = y .kept;
-        means = λ W k e rest M ρ t p held. decide-fail-at ws at rest (eval W ρ M e) vs fuel (cellOf work′ 0) f z (y .means W k e rest M ρ t p held .0);
+        means = λ C M e rest held here. decide-fail-at (p .at) fuel _ f z (y .means C M e rest held here .0);
       }
 
 -- the value in the accumulator, by its first word
@@ -221,57 +205,54 @@ pub data Side : ℕ → Bool → Type 0 where
   side-left : Side 3 true
   side-right : Side 4 false
 
-module _ (ws : List ℕ) (rest : List Line) (next : ℕ) where
-  chooses-side : (b : ℕ) (words : List ℕ) (v : Value) {n : ℕ} {on : Bool} → Side n on → Kind n v → words ≡ cell v → drop next ws ≡ code rest
-      → Chooses ws rest (choiceV b v) 0 b on words next
-  unfolding Chooses choiceV
-  chooses-side b words v side-left is-inl e d = (refl, refl, refl, e, d)
-  chooses-side b words v side-right is-inr e d = (refl, refl, refl, e, d)
+module _ {ws : List ℕ} {rest : List Line} {cells : List ℕ} where
+  chooses-side : {next b : ℕ} (v : Value) {n : ℕ} {on : Bool} → Side n on → Kind n v → cellOf cells accumulator ≡ cell v → drop next ws ≡ code rest
+      → Chooses ws rest (record { state = Done; left = b; next = next; on = on }) cells (choiceV b v)
+  unfolding choiceV stateNumber
+  chooses-side v side-left is-inl e d = goes-left refl refl refl e d
+  chooses-side v side-right is-inr e d = goes-right refl refl refl e d
 
-  chooses-none : (b state left : ℕ) (on : Bool) (words : List ℕ) (v : Value) {w : ℕ} → Kind w v → (w ≡ 3 → ⊥) → (w ≡ 4 → ⊥)
-      → Chooses ws rest (choiceV b v) state left on words next
-  unfolding Chooses choiceV
-  chooses-none b state left on words v is-int n3 n4 = tt
-  chooses-none b state left on words v is-err n3 n4 = tt
-  chooses-none b state left on words v is-inl n3 n4 = absurd (n3 refl)
-  chooses-none b state left on words v is-inr n3 n4 = absurd (n4 refl)
-  chooses-none b state left on words v is-pkg n3 n4 = tt
-  chooses-none b state left on words v is-blank n3 n4 = tt
+  chooses-none : {g : Decided} (b : ℕ) (v : Value) {w : ℕ} → Kind w v → (w ≡ 3 → ⊥) → (w ≡ 4 → ⊥) → Chooses ws rest g cells (choiceV b v)
+  unfolding choiceV
+  chooses-none b v is-int n3 n4 = is-stuck
+  chooses-none b v is-err n3 n4 = is-stuck
+  chooses-none b v is-inl n3 n4 = absurd (n3 refl)
+  chooses-none b v is-inr n3 n4 = absurd (n4 refl)
+  chooses-none b v is-pkg n3 n4 = is-stuck
+  chooses-none b v is-blank n3 n4 = is-stuck
 
-  -- a decision, by the value that was found
-  decided : (r : Res) (vs fuel state left : ℕ) (on : Bool) (work : List ℕ) → (fuel ≡ 0 → ⊥) → vs ≡ 0 → Yields r vs (cellOf work accumulator)
-      → ((b : ℕ) (v : Value) → fuel ≡ suc b → cellOf work accumulator ≡ cell v → Chooses ws rest (choiceV b v) state left on (cellOf work accumulator) next)
-      → Chooses ws rest (choice fuel r) state left on (cellOf work accumulator) next
-  unfolding choice Yields Chooses
-  decided r vs zero state left on work f z a k = absurd (f refl)
-  decided (ok v) vs (suc b) state left on work f z a k = k b v refl (a .1)
-  decided long vs (suc b) state left on work f z a k = absurd (omega arith)
-  decided stuck vs (suc b) state left on work f z a k = tt
+-- a decision, by the value that was found
+decided : {ws : List ℕ} {rest : List Line} {g : Decided} (v : Result) (fuel : ℕ) (r : Res) → (fuel ≡ 0 → ⊥) → v .state ≡ 0 → Gives r v
+    → ((b : ℕ) (u : Value) → fuel ≡ suc b → cellOf (v .cells) accumulator ≡ cell u → Chooses ws rest g (v .cells) (choiceV b u))
+    → Chooses ws rest g (v .cells) (choice fuel r)
+unfolding choice Yields
+decided v zero r f z a k = absurd (f refl)
+decided v (suc b) (ok u) f z a k = k b u refl (a .1)
+decided v (suc b) long f z a k = absurd (omega arith)
+decided v (suc b) stuck f z a k = is-stuck
 
-module _ {ws : List ℕ} {at : ℕ} {table : List ℕ} {authority depth : ℕ} {work : List ℕ} {fuel vs vn w : ℕ} {work′ : List ℕ}
-    (f : fuel ≡ 0 → ⊥) (y : Evals ws at table authority depth work vs vn work′) (z : vs ≡ 0) (p : w ≡ getD work′ 0 0) where
-  pub decide-side : {n : ℕ} {on : Bool} → Side n on → w ≡ n → Decides ws at table authority depth work fuel (stateNumber Done) (fuel - 1) vn on work′
+module _ {S : Setting} {p : Place} {fuel w : ℕ} {v : Result} (f : fuel ≡ 0 → ⊥) (y : Evals S p v) (z : v .state ≡ 0) (q : w ≡ getD (v .cells) 0 0) where
+  pub decide-side : {n : ℕ} {on : Bool} → Side n on → w ≡ n → Decides S p fuel (record { state = Done; left = fuel - 1; next = v .next; on = on }) (v .cells)
   unfolding stateNumber
-  decide-side {n} {on} side q =
+  decide-side {n} {on} side i =
       record {
         forward = y .forward;
         spends = omega arith;
         settled = λ o. refl;
         falls = λ o. less fuel f;
         kept = y .kept;
-        means = λ W k e rest M ρ t place held.
-            let m = y .means W k e rest M ρ t place held in
-            decided ws rest vn (eval W ρ M e) vs fuel 0 (fuel - 1) on work′ f z (m .0)
-            (λ b v s a. let s′ : fuel - 1 ≡ b = omega arith in
-            rw s′ (chooses-side ws rest vn b (cellOf work′ 0) v side (kind-here work′ v n a p q) a (m .1 z)));
+        means = λ C M e rest held here.
+            let m = y .means C M e rest held here in
+            decided v fuel _ f z (m .0)
+            (λ b u s a. let s′ : fuel - 1 ≡ b = omega arith in
+            rw s′ (chooses-side u side (kind-here (v .cells) u n a q i) a (m .1 z)));
       }
     where
       less : (n : ℕ) → (n ≡ 0 → ⊥) → n - 1 < n
       less zero f = absurd (f refl)
       less (suc n) f = omega arith
 
-  pub decide-none : (w ≡ 3 → ⊥) → (w ≡ 4 → ⊥) → Decides ws at table authority depth work fuel (stateNumber NoRule) fuel at false work′
-  unfolding stateNumber
+  pub decide-none : (w ≡ 3 → ⊥) → (w ≡ 4 → ⊥) → Decides S p fuel (record { state = NoRule; left = fuel; next = p .at; on = false }) (v .cells)
   decide-none n3 n4 =
       record {
         forward = omega arith;
@@ -279,59 +260,61 @@ module _ {ws : List ℕ} {at : ℕ} {table : List ℕ} {authority depth : ℕ} {
         settled = λ o. absurd (false≢true o);
         falls = λ o. absurd (false≢true o);
         kept = y .kept;
-        means = λ W k e rest M ρ t place held.
-            let m = y .means W k e rest M ρ t place held in
-            decided ws rest at (eval W ρ M e) vs fuel 4 fuel false work′ f z (m .0)
-            (λ b v s a. chooses-none ws rest at b 4 fuel false (cellOf work′ 0) v (kind-here work′ v w a p refl) n3 n4);
+        means = λ C M e rest held here.
+            decided v fuel _ f z (y .means C M e rest held here .0) (λ b u s a. chooses-none b u (kind-here (v .cells) u w a q refl) n3 n4);
       }
 
 -- ---- branch
 
-module _ (ws : List ℕ) (rest : List Line) (locations depth : ℕ) (M : Mem) (ρ : Env) (c d : Cmd) where
-  enters-past : (ch : Choice) (state left n start end : ℕ) (on : Bool) (words work : List ℕ) → (state ≡ 0 → ⊥)
-      → Chooses ws (cmdLines c (cmdLines d rest)) ch state left on words n → Enters ws rest locations depth M ρ c d ch state left work start end
-  unfolding Chooses Enters
-  enters-past (to-left v b) state left n start end on words work z h = absurd (z (h .0))
-  enters-past (to-right v b) state left n start end on words work z h = absurd (z (h .0))
-  enters-past no-budget state left n start end on words work z h = h
-  enters-past (choice-long b) state left n start end on words work z h = h
-  enters-past choice-stuck state left n start end on words work z h = tt
+-- where the branch starts that is taken, for a left and for a right
+pub data Starts (first second : ℕ) : Bool → ℕ → Type 0 where
+  at-first : Starts first second true first
+  at-second : Starts first second false second
 
-  module _ (work work′ : List ℕ) (held : CellsHold work locations depth M ρ) (shallow : depth < maxDepth)
-      (e : work′ ≡ storeOf work (suc depth) (popOf (loadOf work accumulator))) where
-    binds-inside : {w : ℕ} {f : Value → Value} → Tags w f → (v : Value) → cellOf work accumulator ≡ cell (f v) → CellsHold work′ locations (suc depth) M (v ∷ ρ)
-    binds-inside {f = f} t v a =
-        holds-bind held v shallow
-        (ap popOf (load-here work (f v) (room-here held) a) ∙ pop-tag t v (omega (arith, t .longer v, cell-size work 0 (f v) a)))
-        (length-pop _ (length-load work 0)) e
+starts-after : {first second start : ℕ} {on : Bool} → Starts first second on start → first ≤ second → first ≤ start
+starts-after at-first h = omega arith
+starts-after at-second h = h
 
-    module _ (first second end : ℕ) (s : Source c) (s′ : Source d) (k : Skips ws first second) (k′ : Skips ws second end) where
-      second-at : drop first ws ≡ code (cmdLines c (cmdLines d rest)) → drop second ws ≡ code (cmdLines d rest)
-      second-at p = k .means _ _ (a-command s) p
+module _ {t : Target} {M : Mem} {cs : Branching} {g : Decided} {ws : List ℕ} {mid : List Line} {cells : List ℕ} where
+  enters-past : {c : Choice} (at : ℕ) → (stateNumber (g .state) ≡ 0 → ⊥) → Chooses ws mid g cells c
+      → Enters t M cs (record { state = g .state; left = g .left; start = at; end = at }) cells c
+  enters-past at z (goes-left s l o e n) = absurd (z s)
+  enters-past at z (goes-right s l o e n) = absurd (z s)
+  enters-past at z (has-none s l) = enters-spent s l
+  enters-past at z (is-long s l) = enters-long s l
+  enters-past at z is-stuck = enters-stuck
 
-      end-at : drop first ws ≡ code (cmdLines c (cmdLines d rest)) → drop end ws ≡ code rest
-      end-at p = k′ .means _ _ (a-command s′) (second-at p)
+module _ (t : Target) {M : Mem} {cells cells′ : List ℕ} (held : CellsHold cells (t .locations) (t .depth) M (t .env))
+    (shallow : t .depth < maxDepth) (e : cells′ ≡ storeOf cells (suc (t .depth)) (popOf (loadOf cells accumulator))) where
+  binds-inside : {w : ℕ} {f : Value → Value} → Tags w f → (v : Value) → cellOf cells accumulator ≡ cell (f v)
+      → CellsHold cells′ (t .locations) (suc (t .depth)) M (v ∷ t .env)
+  binds-inside {f = f} tag v a =
+      holds-bind held v shallow
+      (ap popOf (load-here cells (f v) (room-here held) a) ∙ pop-tag tag v (omega (arith, tag .longer v, cell-size cells 0 (f v) a)))
+      (length-pop _ (length-load cells 0)) e
 
-      enters-left : (ch : Choice) (state left : ℕ) (on : Bool) → state ≡ 0 → on ≡ true
-          → Chooses ws (cmdLines c (cmdLines d rest)) ch state left on (cellOf work accumulator) first → Enters ws rest locations depth M ρ c d ch 0 left work′ first end
-      unfolding Chooses Enters
-      enters-left (to-left v b) state left on z o h = (refl, h .1, binds-inside tags-left v (h .3), h .4, end-at (h .4))
-      enters-left (to-right v b) state left on z o h = absurd (false≢true (sym (h .2) ∙ o))
-      enters-left no-budget state left on z o h = absurd (omega (arith, h .0))
-      enters-left (choice-long b) state left on z o h = absurd (omega (arith, h .0))
-      enters-left choice-stuck state left on z o h = tt
+  module _ {cs : Branching} (g : Decided) {second end : ℕ} (s : Source (cs .on-left)) (s′ : Source (cs .on-right)) (k : Skips (t .code) (g .next) second) (k′ : Skips (t .code) second end) where
+    second-at : drop (g .next) (t .code) ≡ code (cmdLines (cs .on-left) (cmdLines (cs .on-right) (t .rest)))
+        → drop second (t .code) ≡ code (cmdLines (cs .on-right) (t .rest))
+    second-at n = k .means _ _ (a-command s) n
 
-      enters-right : (ch : Choice) (state left : ℕ) (on : Bool) → state ≡ 0 → on ≡ false
-          → Chooses ws (cmdLines c (cmdLines d rest)) ch state left on (cellOf work accumulator) first → Enters ws rest locations depth M ρ c d ch 0 left work′ second end
-      unfolding Chooses Enters
-      enters-right (to-left v b) state left on z o h = absurd (false≢true (sym o ∙ h .2))
-      enters-right (to-right v b) state left on z o h = (refl, h .1, binds-inside tags-right v (h .3), second-at (h .4), end-at (h .4))
-      enters-right no-budget state left on z o h = absurd (omega (arith, h .0))
-      enters-right (choice-long b) state left on z o h = absurd (omega (arith, h .0))
-      enters-right choice-stuck state left on z o h = tt
+    end-at : drop (g .next) (t .code) ≡ code (cmdLines (cs .on-left) (cmdLines (cs .on-right) (t .rest))) → drop end (t .code) ≡ code (t .rest)
+    end-at n = k′ .means _ _ (a-command s′) (second-at n)
 
-module _ {ws : List ℕ} {at : ℕ} {table : List ℕ} {authority depth : ℕ} {work : List ℕ} {fuel : ℕ} where
-  pub branch-deep : maxDepth ≤ depth → Branches ws at table authority depth work fuel (stateNumber NoRule) fuel at at work
+    enters-on : {c : Choice} {on : Bool} {start : ℕ} → stateNumber (g .state) ≡ 0 → g .on ≡ on → Starts (g .next) second on start
+        → Chooses (t .code) (cmdLines (cs .on-left) (cmdLines (cs .on-right) (t .rest))) g cells c
+        → Enters t M cs (record { state = Done; left = g .left; start = start; end = end }) cells′ c
+    unfolding stateNumber
+    enters-on z i at-first (goes-left {v = v} q l o a n) = enters-left refl l (binds-inside tags-left v a) n (end-at n)
+    enters-on z i at-second (goes-left q l o a n) = absurd (false≢true (sym i ∙ o))
+    enters-on z i at-first (goes-right q l o a n) = absurd (false≢true (sym o ∙ i))
+    enters-on z i at-second (goes-right {v = v} q l o a n) = enters-right refl l (binds-inside tags-right v a) (second-at n) (end-at n)
+    enters-on z i h (has-none q l) = absurd (omega arith)
+    enters-on z i h (is-long q l) = absurd (omega arith)
+    enters-on z i h is-stuck = enters-stuck
+
+module _ {S : Setting} {p : Place} {fuel : ℕ} where
+  pub branch-deep : maxDepth ≤ p .depth → Branches S p fuel (record { state = NoRule; left = fuel; start = p .at; end = p .at }) (p .cells)
   unfolding stateNumber
   branch-deep h =
       record {
@@ -339,46 +322,30 @@ module _ {ws : List ℕ} {at : ℕ} {table : List ℕ} {authority depth : ℕ} {
         onward = omega arith;
         spends = omega arith;
         shallow = λ z. absurd (omega arith);
-        means = λ W k e c d rest M ρ t p s s′ l held. absurd (omega arith);
+        means = λ C M e cs rest held here s s′ l. absurd (omega arith);
       }
 
-  module _ {gs gl gn : ℕ} {on : Bool} {work′ : List ℕ} (g : Decides ws at table authority depth work fuel gs gl gn on work′) where
-    pub branch-past : (gs ≡ 0 → ⊥) → Branches ws at table authority depth work fuel gs gl at at work′
+  module _ {g : Decided} {cells : List ℕ} (y : Decides S p fuel g cells) where
+    pub branch-past : (stateNumber (g .state) ≡ 0 → ⊥) → Branches S p fuel (record { state = g .state; left = g .left; start = p .at; end = p .at }) cells
     branch-past h =
         record {
           forward = omega arith;
           onward = omega arith;
-          spends = g .spends;
+          spends = y .spends;
           shallow = λ z. absurd (h z);
-          means = λ W k e c d rest M ρ t p s s′ l held.
-              enters-past ws rest (k .locations) depth M ρ c d (choice fuel (eval W ρ M e)) gs gl gn at at on (cellOf work′ 0) work′ h
-              (g .means W k e (cmdLines c (cmdLines d rest)) M ρ t p held);
+          means = λ C M e cs rest held here s s′ l. enters-past (p .at) h (y .means C M e _ held here);
         }
 
-    module _ {work″ : List ℕ} {second end : ℕ} (l : depth < maxDepth) (b : work″ ≡ storeOf work′ (suc depth) (popOf (loadOf work′ accumulator)))
-        (k : Skips ws gn second) (k′ : Skips ws second end) where
-      pub branch-left : gs ≡ 0 → on ≡ true → Branches ws at table authority depth work fuel (stateNumber Done) gl gn end work″
-      unfolding stateNumber
-      branch-left z o =
-          record {
-            forward = g .forward;
-            onward = omega (arith, g .forward, k .forward, k′ .forward);
-            spends = g .spends;
-            shallow = λ q. l;
-            means = λ W n e c d rest M ρ t p s s′ h held.
-                enters-left ws rest (n .locations) depth M ρ c d work′ work″ (holds-kept held work′ (g .kept)) l b gn second end s s′ k k′
-                (choice fuel (eval W ρ M e)) gs gl on z o (g .means W n e (cmdLines c (cmdLines d rest)) M ρ t p held);
-          }
-
-      pub branch-right : gs ≡ 0 → on ≡ false → Branches ws at table authority depth work fuel (stateNumber Done) gl second end work″
-      unfolding stateNumber
-      branch-right z o =
-          record {
-            forward = omega (arith, g .forward, k .forward);
-            onward = omega (arith, g .forward, k .forward, k′ .forward);
-            spends = g .spends;
-            shallow = λ q. l;
-            means = λ W n e c d rest M ρ t p s s′ h held.
-                enters-right ws rest (n .locations) depth M ρ c d work′ work″ (holds-kept held work′ (g .kept)) l b gn second end s s′ k k′
-                (choice fuel (eval W ρ M e)) gs gl on z o (g .means W n e (cmdLines c (cmdLines d rest)) M ρ t p held);
-          }
+    pub branch-taken : {cells′ : List ℕ} {on : Bool} {second start end : ℕ} → p .depth < maxDepth
+        → cells′ ≡ storeOf cells (suc (p .depth)) (popOf (loadOf cells accumulator)) → Skips (p .code) (g .next) second → Skips (p .code) second end
+        → stateNumber (g .state) ≡ 0 → g .on ≡ on → Starts (g .next) second on start
+        → Branches S p fuel (record { state = Done; left = g .left; start = start; end = end }) cells′
+    branch-taken l b k k′ z o h =
+        record {
+          forward = omega (arith, y .forward, starts-after h (k .forward));
+          onward = omega (arith, y .forward, k .forward, k′ .forward);
+          spends = y .spends;
+          shallow = λ q. l;
+          means = λ C M e cs rest held here s s′ m.
+              enters-on (target p C rest) (holds-kept (held .cells) cells (y .kept)) l b g s s′ k k′ z o h (y .means C M e _ held here);
+        }

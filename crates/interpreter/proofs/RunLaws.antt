@@ -9,17 +9,20 @@ use lib.ListN.{length, take, drop, take-append-drop, length-drop, drop-of-length
 use lib.Seq.{take-all, drop-drop, drop-append-add, length-take-le, paste, length-paste}
 use Rattle.language.specs.Syntax.{Cmd}
 use Rattle.language.specs.World.{Mem, cell-words}
-use Rattle.language.specs.Transition.{Out, done, spent, over, wrong, iterate}
+use Rattle.language.specs.Transition.{Out, iterate}
 use Rattle.language.proofs.Substitution.{close-none}
 use Rattle.script.specs.Lines.{Source, cmdLines}
 use Rattle.script.specs.Internal.Code.{code}
 use Rattle.script.specs.Names.{Counts, named}
-use Rattle.sheet.specs.Sheet.{Sheet, labelCount, locationCount, formed}
-use Rattle.sheet.specs.Internal.Tables.{tableOf}
+use Rattle.sheet.specs.Sheet.{Sheet, labelCount, locationCount, maxLabels, formed}
+use Rattle.sheet.specs.Internal.Tables.{labelsIn, tableOf}
+use Rattle.sheet.specs.Internal.Powers.{powersIn}
 use Rattle.sheet.specs.Meaning.{worldOf}
 use Rattle.sheet.proofs.MeaningLaws.{below-in, reads-in, writes-in}
 use Rattle.sheet.proofs.NumberLaws.{has-wanted}
-use Rattle.sheet.proofs.FormLaws.{locations-few}
+use Rattle.sheet.proofs.FormLaws.{formed-facts, locations-few}
+use Rattle.sheet.proofs.TableLaws.{labels-in}
+use Rattle.sheet.proofs.PowerLaws.{writes-by, reads-by}
 use Rattle.memory.specs.Words.{cell}
 use Rattle.memory.specs.Memory.{cellOf, memoryOf, wordsOf, asDeclared, wellFormed}
 use Rattle.memory.proofs.CellsLaws.{cells-ext, cells-all}
@@ -28,17 +31,20 @@ use Rattle.evaluator.specs.State.{stateNumber}
 use Rattle.evaluator.specs.declared.State.the-variants.{Done, NoRule}
 use Rattle.evaluator.specs.Internal.Cells.{firstLocation, workWords, CellsHold, bound-none}
 use Rattle.evaluator.specs.Internal.Nodes.{Tells}
-use Rattle.interpreter.specs.Internal.Post.{Finishes, Execs}
+use Rattle.interpreter.specs.declared.commands.Stepped.{Stepped}
+use Rattle.interpreter.specs.Internal.Post.{Target, Finishes, finish-done, finish-spent, finish-over, finish-wrong, Execs}
 use Rattle.interpreter.specs.Internal.Run.{RunLeaves, Runs}
 use Rattle.cells.proofs.CellLaws.{cell-front}
 
--- ---- a sheet's table says what the sheet means
+-- ---- a sheet's table, and an authority's powers by it, say what the sheet means
 
-pub tells-sheet : (s : Sheet) → formed s ≡ true → (authority : ℕ) → Tells (tableOf s) authority (worldOf s authority)
+tells-sheet : (s : Sheet) → formed s ≡ true → (authority : ℕ) → Tells (record { table = tableOf s; powers = powersIn (tableOf s) authority }) (worldOf s authority)
+unfolding labelCount
 tells-sheet s fm authority =
+    let few : labelsIn (tableOf s) ≤ maxLabels = omega (arith, labels-in s, formed-facts s fm .few-labels) in
     record {
-      reads-is = reads-in s fm authority;
-      writes-is = writes-in s fm authority;
+      reads-is = λ l h. reads-by (tableOf s) authority l few h ∙ reads-in s fm authority l;
+      writes-is = λ l h. writes-by (tableOf s) authority l few h ∙ writes-in s fm authority l;
       below-is = below-in s fm;
       type-is = λ v t. has-wanted s fm v t;
     }
@@ -103,21 +109,26 @@ module _ (work memory : List ℕ) (whole : length work ≡ workWords) (locations
 
 -- ---- the run
 
-done-at : (ws work memory memory′ : List ℕ) (locations budget left next : ℕ) (o : Out) (state : ℕ) → state ≡ 0 → Finishes ws [] locations 0 [] o state left work next
-    → ((M : Mem) → CellsHold work locations 0 M [] → memory′ ≡ wordsOf locations M) → RunLeaves locations budget memory o 0 (budget - left) memory′
-unfolding Finishes RunLeaves
-done-at ws work memory memory′ locations budget left next (done M b) state z h k = (refl, ap (λ (i : ℕ). budget - i) (h .1), k M (h .2))
-done-at ws work memory memory′ locations budget left next spent state z h k = absurd (omega (arith, h .0))
-done-at ws work memory memory′ locations budget left next (over b) state z h k = absurd (omega (arith, h .0))
-done-at ws work memory memory′ locations budget left next wrong state z h k = tt
+-- where the run of a whole script comes out
+abbrev whole-target : List ℕ → ℕ → Target
+whole-target ws locations = record { code = ws; rest = []; locations = locations; depth = 0; env = [] }
 
-kept-at : (ws work memory : List ℕ) (locations budget left next : ℕ) (o : Out) (state : ℕ) → (state ≡ 0 → ⊥) → Finishes ws [] locations 0 [] o state left work next
-    → RunLeaves locations budget memory o state (budget - left) memory
-unfolding Finishes RunLeaves
-kept-at ws work memory locations budget left next (done M b) state z h = absurd (z (h .0))
-kept-at ws work memory locations budget left next spent state z h = (h .0, omega (arith, h .1), refl)
-kept-at ws work memory locations budget left next (over b) state z h = (h .0, ap (λ (i : ℕ). budget - i) (h .1), refl)
-kept-at ws work memory locations budget left next wrong state z h = tt
+module _ (memory : List ℕ) (budget : ℕ) {ws cells : List ℕ} {locations : ℕ} {d : Stepped} where
+  done-at : {memory′ : List ℕ} {o : Out} → stateNumber (d .state) ≡ 0 → Finishes (whole-target ws locations) d cells o
+      → ((M : Mem) → CellsHold cells locations 0 M [] → memory′ ≡ wordsOf locations M) → RunLeaves locations budget memory o 0 (budget - d .left) memory′
+  unfolding RunLeaves
+  done-at z (finish-done {M = M} s l held n) k = (refl, ap (λ (i : ℕ). budget - i) l, k M held)
+  done-at z (finish-spent s l) k = absurd (omega arith)
+  done-at z (finish-over s l) k = absurd (omega arith)
+  done-at z finish-wrong k = tt
+
+  kept-at : {o : Out} → (stateNumber (d .state) ≡ 0 → ⊥) → Finishes (whole-target ws locations) d cells o
+      → RunLeaves locations budget memory o (stateNumber (d .state)) (budget - d .left) memory
+  unfolding RunLeaves
+  kept-at z (finish-done s l held n) = absurd (z s)
+  kept-at z (finish-spent s l) = (s, omega arith, refl)
+  kept-at z (finish-over s l) = (s, ap (λ (i : ℕ). budget - i) l, refl)
+  kept-at z finish-wrong = tt
 
 -- a memory of more locations than a sheet has
 pub run-large : {ws table memory : List ℕ} {authority budget : ℕ} → 1024 < length memory → Runs ws table memory authority budget (stateNumber NoRule) 0 memory
@@ -127,41 +138,41 @@ run-large h =
       long = refl;
       untouched = λ z. refl;
       within = omega arith;
-      means = λ s k c fm te ke src nm w n wf. absurd (omega (arith, locations-few s fm));
+      means = λ s k c fm te le ke src nm w n wf. absurd (omega (arith, locations-few s fm));
     }
 
-module _ {ws table : List ℕ} {authority budget : ℕ} (work memory : List ℕ) (whole : length work ≡ workWords)
-    {work′ : List ℕ} (e : work′ ≡ paste work (cell-words * firstLocation) memory (length memory))
-    {state left next : ℕ} {work″ : List ℕ} (x : Execs ws 0 table authority 0 work′ budget state left next work″) where
+module _ (authority : ℕ) {ws table : List ℕ} {budget : ℕ} (work memory : List ℕ) (whole : length work ≡ workWords)
+    {start : List ℕ} (e : start ≡ paste work (cell-words * firstLocation) memory (length memory)) {d : Stepped} {cells : List ℕ}
+    {powers : ℕ} (may : powers ≡ powersIn table authority) (x : Execs (record { table = table; powers = powers }) (record { code = ws; at = 0; depth = 0; cells = start }) budget d cells) where
   -- how the command's run ends
-  run-ends : (s : Sheet) (k : Counts) (c : Cmd) → formed s ≡ true → table ≡ tableOf s → k .locations ≡ locationCount s → Source c → named k 0 c ≡ true
+  run-ends : (s : Sheet) (k : Counts) (c : Cmd) → formed s ≡ true → table ≡ tableOf s → k .labels ≡ labelCount s → k .locations ≡ locationCount s → Source c → named k 0 c ≡ true
       → ws ≡ code (cmdLines c []) → length memory ≡ cell-words * locationCount s → wellFormed s memory ≡ true
-      → Finishes ws [] (locationCount s) 0 [] (iterate (worldOf s authority) budget (memoryOf memory) c) state left work″ next
-  run-ends s k c fm te ke src nm w n wf =
-      let held = copied-in work memory whole (locationCount s) n (locations-few s fm) work′ e (memoryOf memory) (memory-cell s memory n wf) in
-      let t : Tells table authority (worldOf s authority) = rw te (tells-sheet s fm authority) in
-      let m = x .means (worldOf s authority) k c [] (memoryOf memory) [] t (record { source = src; names = nm; lines = w }) (rw ke held) in
-      subst (λ (u : Cmd). Finishes ws [] (locationCount s) 0 [] (iterate (worldOf s authority) budget (memoryOf memory) u) state left work″ next) (close-none zero c) (rw ke at m)
+      → Finishes (whole-target ws (locationCount s)) d cells (iterate (worldOf s authority) budget (memoryOf memory) c)
+  run-ends s k c fm te le ke src nm w n wf =
+      let held = copied-in work memory whole (locationCount s) n (locations-few s fm) start e (memoryOf memory) (memory-cell s memory n wf) in
+      let t : Tells (record { table = table; powers = powers }) (worldOf s authority) = rw (may, te) (tells-sheet s fm authority) in
+      let m = x .means (record { world = worldOf s authority; counts = k; env = [] }) (memoryOf memory) c [] (record { tells = t; labels = le ∙ sym (ap labelsIn te ∙ labels-in s); cells = rw ke held })
+      (record { source = src; names = nm; lines = w }) in
+      subst (λ (u : Cmd). Finishes (whole-target ws (locationCount s)) d cells (iterate (worldOf s authority) budget (memoryOf memory) u)) (close-none zero c) (rw ke at m)
 
-  pub run-done : {memory′ : List ℕ} → state ≡ 0 → length memory′ ≡ length memory
-      → memory′ ≡ paste memory 0 (drop (cell-words * firstLocation) work″) (length memory) → Runs ws table memory authority budget (stateNumber Done) (budget - left) memory′
+  pub run-done : {memory′ : List ℕ} → stateNumber (d .state) ≡ 0 → length memory′ ≡ length memory
+      → memory′ ≡ paste memory 0 (drop (cell-words * firstLocation) cells) (length memory) → Runs ws table memory authority budget (stateNumber Done) (budget - d .left) memory′
   unfolding stateNumber
-  run-done {memory′} z l d =
+  run-done {memory′} z l p =
       record {
         long = l;
         untouched = λ q. absurd (q refl);
         within = omega arith;
-        means = λ s k c fm te ke src nm w n wf.
-            done-at ws work″ memory memory′ (locationCount s) budget left next _ state z (run-ends s k c fm te ke src nm w n wf)
-            (λ M held. copied-out work memory whole (locationCount s) n (locations-few s fm) work″ memory′ M held d);
+        means = λ s k c fm te le ke src nm w n wf.
+            done-at memory budget z (run-ends s k c fm te le ke src nm w n wf)
+            (λ M held. copied-out work memory whole (locationCount s) n (locations-few s fm) cells memory′ M held p);
       }
 
-  pub run-kept : (state ≡ 0 → ⊥) → Runs ws table memory authority budget state (budget - left) memory
+  pub run-kept : (stateNumber (d .state) ≡ 0 → ⊥) → Runs ws table memory authority budget (stateNumber (d .state)) (budget - d .left) memory
   run-kept z =
       record {
         long = refl;
         untouched = λ q. refl;
         within = omega arith;
-        means = λ s k c fm te ke src nm w n wf.
-            kept-at ws work″ memory (locationCount s) budget left next _ state z (run-ends s k c fm te ke src nm w n wf);
+        means = λ s k c fm te le ke src nm w n wf. kept-at memory budget z (run-ends s k c fm te le ke src nm w n wf);
       }

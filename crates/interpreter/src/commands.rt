@@ -1,10 +1,10 @@
 // Runs of commands over the lines (the paper, figure 3).
 ghost use mathlib.Core.Path.{_≡_};
-ghost use Rattle.evaluator.specs.State.{stateNumber};
 ghost use Rattle.script.specs.Internal.Pieces.{operandCount};
 ghost use Rattle.interpreter.specs.Internal.Post.{Skips, Execs, Ticks, Assigns, Decides, Branches};
 use evaluator::State;
 use script::ROW;
+use sheet::powers::Powers;
 
 // Cases nest at most this deep.
 const MAX_DEPTH: u32 = 8;
@@ -78,7 +78,7 @@ fn skip(code: &[u32], at: usize) -> usize
 
 // One transition after d, where d is done.
 fn tick(d: Stepped) -> Stepped
-    ensures { λ r. ⌜ Ticks (stateNumber (d .state)) (d .left) (d .next) (stateNumber (r .state)) (r .left) (r .next) ⌝ }
+    ensures { λ r. ⌜ Ticks d r ⌝ }
 {
     let state = d.state;
     let State::Done = state else {
@@ -103,13 +103,14 @@ fn assign(
     code: &[u32],
     at: usize,
     table: &[u16],
-    authority: u16,
+    powers: Powers,
     depth: u32,
     work: &mut [u32; evaluator::WORK],
     fuel: u32,
     x: u32,
 ) -> Stepped
-    ensures { λ r. ⌜ Assigns (now (code .entry)) at (now (table .entry)) authority depth (now (work .entry)) fuel x (stateNumber (r .state)) (r .left) (r .next) (now (work .exit)) ⌝ }
+    ensures { λ r. ⌜ Assigns (record { table = now (table .entry); powers = powers })
+        (record { code = now (code .entry); at = at; depth = depth; cells = now (work .entry) }) fuel x r (now (work .exit)) ⌝ }
 {
     if fuel == 0 {
         return Stepped {
@@ -118,7 +119,7 @@ fn assign(
             next: at,
         };
     }
-    let v = evaluator::eval(code, at, table, authority, depth, work);
+    let v = evaluator::eval(code, at, table, powers, depth, work);
     let state = v.state;
     let State::Done = state else {
         return Stepped {
@@ -140,12 +141,13 @@ fn decide(
     code: &[u32],
     at: usize,
     table: &[u16],
-    authority: u16,
+    powers: Powers,
     depth: u32,
     work: &mut [u32; evaluator::WORK],
     fuel: u32,
 ) -> Decided
-    ensures { λ r. ⌜ Decides (now (code .entry)) at (now (table .entry)) authority depth (now (work .entry)) fuel (stateNumber (r .state)) (r .left) (r .next) (r .on) (now (work .exit)) ⌝ }
+    ensures { λ r. ⌜ Decides (record { table = now (table .entry); powers = powers })
+        (record { code = now (code .entry); at = at; depth = depth; cells = now (work .entry) }) fuel r (now (work .exit)) ⌝ }
 {
     if fuel == 0 {
         return Decided {
@@ -155,7 +157,7 @@ fn decide(
             on: false,
         };
     }
-    let v = evaluator::eval(code, at, table, authority, depth, work);
+    let v = evaluator::eval(code, at, table, powers, depth, work);
     let state = v.state;
     let State::Done = state else {
         return Decided {
@@ -192,12 +194,13 @@ fn branch(
     code: &[u32],
     at: usize,
     table: &[u16],
-    authority: u16,
+    powers: Powers,
     depth: u32,
     work: &mut [u32; evaluator::WORK],
     fuel: u32,
 ) -> Taken
-    ensures { λ r. ⌜ Branches (now (code .entry)) at (now (table .entry)) authority depth (now (work .entry)) fuel (stateNumber (r .state)) (r .left) (r .start) (r .end) (now (work .exit)) ⌝ }
+    ensures { λ r. ⌜ Branches (record { table = now (table .entry); powers = powers })
+        (record { code = now (code .entry); at = at; depth = depth; cells = now (work .entry) }) fuel r (now (work .exit)) ⌝ }
 {
     if depth >= MAX_DEPTH {
         return Taken {
@@ -207,7 +210,7 @@ fn branch(
             end: at,
         };
     }
-    let g = decide(code, at, table, authority, depth, work, fuel);
+    let g = decide(code, at, table, powers, depth, work, fuel);
     let state = g.state;
     let State::Done = state else {
         return Taken {
@@ -235,12 +238,13 @@ pub(crate) fn exec(
     code: &[u32],
     at: usize,
     table: &[u16],
-    authority: u16,
+    powers: Powers,
     depth: u32,
     work: &mut [u32; evaluator::WORK],
     fuel: u32,
 ) -> Stepped
-    ensures { λ r. ⌜ Execs (now (code .entry)) at (now (table .entry)) authority depth (now (work .entry)) fuel (stateNumber (r .state)) (r .left) (r .next) (now (work .exit)) ⌝ }
+    ensures { λ r. ⌜ Execs (record { table = now (table .entry); powers = powers })
+        (record { code = now (code .entry); at = at; depth = depth; cells = now (work .entry) }) fuel r (now (work .exit)) ⌝ }
 {
     let row = script::row_at(code, at);
     let kind = row.kind;
@@ -251,22 +255,22 @@ pub(crate) fn exec(
             next: at + ROW,
         },
         script::SEQ => {
-            let d = exec(code, at + ROW, table, authority, depth, work, fuel);
+            let d = exec(code, at + ROW, table, powers, depth, work, fuel);
             let t = tick(d);
             let first = t.state;
             let State::Done = first else {
                 return t;
             };
             let next = t.next;
-            exec(code, next, table, authority, depth, work, t.left)
+            exec(code, next, table, powers, depth, work, t.left)
         }
-        script::ASSIGN => assign(code, at + ROW, table, authority, depth, work, fuel, row.a),
+        script::ASSIGN => assign(code, at + ROW, table, powers, depth, work, fuel, row.a),
         script::WHILE => {
             let body = skip(code, at + ROW);
             let end = skip(code, body);
             let mut left = fuel;
             loop {
-                let g = decide(code, at + ROW, table, authority, depth, work, left);
+                let g = decide(code, at + ROW, table, powers, depth, work, left);
                 if !g.on {
                     let state = g.state;
                     return Stepped {
@@ -275,7 +279,7 @@ pub(crate) fn exec(
                         next: end,
                     };
                 }
-                let d = exec(code, body, table, authority, depth, work, g.left);
+                let d = exec(code, body, table, powers, depth, work, g.left);
                 let t = tick(d);
                 let state = t.state;
                 let State::Done = state else {
@@ -289,7 +293,7 @@ pub(crate) fn exec(
             }
         }
         script::CASE => {
-            let b = branch(code, at + ROW, table, authority, depth, work, fuel);
+            let b = branch(code, at + ROW, table, powers, depth, work, fuel);
             let state = b.state;
             let State::Done = state else {
                 return Stepped {
@@ -299,7 +303,7 @@ pub(crate) fn exec(
                 };
             };
             let start = b.start;
-            let d = exec(code, start, table, authority, depth + 1, work, b.left);
+            let d = exec(code, start, table, powers, depth + 1, work, b.left);
             let state = d.state;
             Stepped {
                 state,

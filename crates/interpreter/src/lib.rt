@@ -44,7 +44,8 @@ fn run_in(
         };
     }
     copy(work, evaluator::MEMORY, memory, 0, n);
-    let d = commands::exec(code, 0, table, authority, 0, work, budget);
+    let powers = sheet::powers::powers(table, authority);
+    let d = commands::exec(code, 0, table, powers, 0, work, budget);
     let state = d.state;
     let State::Done = state else {
         return Ran {

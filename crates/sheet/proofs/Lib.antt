@@ -7,3 +7,4 @@ pub mod TableLaws
 pub mod LabelLaws
 pub mod MeaningLaws
 pub mod NumberLaws
+pub mod PowerLaws

@@ -1,4 +1,6 @@
 // The decoded sheet: a table of words, and what it says of types, locations and labels.
+pub mod powers; // powers.rt: what a group may do to the labels
+
 ghost use mathlib.Core.Path.{_≡_};
 ghost use lib.ListN.{getD};
 ghost use Rattle.sheet.specs.Internal.Tables.{entryIn, principalsIn, everyoneIn, typesIn, labelsIn, locationsIn, leftIn, rightIn, typeIn, homeIn, labelIn, belowIn, readsIn, writesIn};

@@ -126,7 +126,7 @@ unfolding memoryRefusal
 runs-accepted ws t memory authority budget state steps left r = record {
   ran = λ s T script a z.
       ends s memory authority budget (a .command) (a .typed) z state steps left _ refl
-      (r .means s (countsOf s) (a .command) (T .form) (T .words) refl (a .source) (a .names) (a .lines)
+      (r .means s (countsOf s) (a .command) (T .form) (T .words) refl refl (a .source) (a .names) (a .lines)
       (unrefused-length (locationCount s) (wellFormed s memory) memory z) (unrefused-formed (locationCount s) (wellFormed s memory) memory z));
 }
 

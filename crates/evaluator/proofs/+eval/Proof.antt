@@ -60,13 +60,13 @@ pub +eval-spec : {M : Type 1} → statement M
     (λ c κs. search needs)  -- applied-requires
     (λ c. laws.eval-one (c .before .before .before .before .before .before .before .before .row-at .ensures) (c .before .before .before .eval .ensures) (none-past 6 3 (c .before .before .before .before .before .before .before .match .rest) (c .before .before .before .before .before .before .if1 .left)) (omega (arith, c .before .before .before .before .before .if2 .taken)) (c .before .before .if3 .taken) (c .applied .ensures))  -- returns
     (λ c. search needs)  -- enum-told
-    (λ c. laws.eval-plus-end (c .before .before .before .before .before .before .before .row-at .ensures) (c .before .if3 .left) (c .before .before .eval .ensures) (not-done _ (c .match2 .keys2)))  -- returns-2
+    (λ c. laws.eval-plus-end (c .before .before .before .before .before .before .before .row-at .ensures) (c .before .before .eval .ensures) (c .before .if3 .left) (not-done _ (c .match2 .keys2)))  -- returns-2
     (λ c κs. search needs)  -- word-requires
     (λ c κs. (omega (arith, row-within _ _ (c .before .before .before .before .before .before .before .before .before .before .before .before .row-at .ensures) (omega arith), c .before .before .before .before .before .before .before .eval .ensures .forward), tt))  -- eval-requires-2
     (λ c κs. search needs)  -- applied-requires-2
     (λ c. laws.eval-int (c .before .before .before .row-at .ensures) (c .before .before .match .keys1) (c .literal .ensures))  -- returns-3
     (λ c. laws.eval-loc (c .before .before .before .row-at .ensures) (c .before .before .match .keys2) (c .location .ensures))  -- returns-4
     (λ c. laws.eval-var (c .before .before .before .row-at .ensures) (c .before .before .match .keys3) (c .variable .ensures))  -- returns-5
-    (λ c. laws.eval-plus (c .before .before .before .before .before .before .before .before .before .before .before .before .before .before .before .row-at .ensures) (c .before .before .before .before .before .before .before .before .before .if3 .left) (c .before .before .before .before .before .before .before .before .before .before .eval .ensures) (is-done _ (c .before .before .before .before .before .before .before .enum-told .given .1)) (c .before .before .before .before .word .ensures) (c .before .before .eval2 .ensures) (c .applied2 .ensures .plus (c .before .before .before .before .before .before .before .before .before .if3 .left)))  -- returns-6
+    (λ c. laws.eval-plus (c .before .before .before .before .before .before .before .before .before .before .before .before .before .before .before .row-at .ensures) (c .before .before .before .before .before .before .before .before .before .before .eval .ensures) (c .before .before .before .before .before .before .before .before .before .if3 .left) (is-done _ (c .before .before .before .before .before .before .before .enum-told .given .1)) (c .before .before .before .before .word .ensures) (c .before .before .eval2 .ensures) (c .applied2 .ensures .plus (c .before .before .before .before .before .before .before .before .before .if3 .left)))  -- returns-6
     (λ c. laws.eval-none (c .before .before .row-at .ensures) (λ h. omega (arith, h .0, c .if1 .taken)))  -- returns-7
     (λ c. laws.eval-none (c .before .before .before .row-at .ensures) (λ h. omega (arith, h .1, c .if2 .left)))  -- returns-8

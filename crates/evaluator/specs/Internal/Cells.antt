@@ -6,7 +6,7 @@ use mathlib.Core.List.{List, [], _∷_}
 use Prim.Native.Nat.{ℕ, suc, _+_, _≤_, _<_}
 use lib.ListN.{length}
 use Rattle.language.specs.Syntax.{Value}
-use Rattle.language.specs.World.{Mem, cell-words}
+use Rattle.language.specs.World.{Mem}
 use Rattle.language.specs.Substitution.{Env}
 use Rattle.script.specs.Names.{maxDepth}
 use Rattle.sheet.specs.Sheet.{maxLocations}

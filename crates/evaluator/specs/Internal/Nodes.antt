@@ -2,16 +2,19 @@
 use mathlib.Core.Path.{_≡_}
 use mathlib.Core.Bool.{Bool, true, false}
 use mathlib.Core.List.{List, _∷_}
-use Prim.Native.Nat.{ℕ, suc, _≤_}
+use Prim.Native.Nat.{ℕ, suc, _≤_, _<_}
 use lib.ListN.{length, drop, getD}
 use Rattle.language.specs.Syntax.{Value, size, has}
 use Rattle.language.specs.World.{World, cell-words, wanted}
 use Rattle.language.specs.Evaluation.{Res, ok, long, stuck, bind, fit, add, packed, unpacked}
-use Rattle.sheet.specs.Internal.Tables.{leftIn, belowIn, readsIn, writesIn}
+use Rattle.sheet.specs.Internal.Tables.{labelsIn, leftIn, belowIn}
+use Rattle.sheet.specs.Internal.Powers.{mayWrite, mayRead}
 use Rattle.sheet.specs.Internal.TypeTest.{hasNo}
 use Rattle.memory.specs.Words.{enc, cell}
 use Rattle.memory.specs.Memory.{cellOf}
+use Rattle.script.specs.declared.Row.{Row}
 use Rattle.cells.specs.Internal.Cells.{accumulator}
+use Rattle.evaluator.specs.Internal.Records.{Setting, Result}
 
 -- ---- answers
 
@@ -22,16 +25,19 @@ Yields (ok v) state words = (state ≡ 0) × (words ≡ cell v)
 Yields long state words = state ≡ 10
 Yields stuck state words = Unit {0}
 
--- f is applied to the value of the accumulator.
-abbrev pub Turns : (Value → Res) → List ℕ → ℕ → List ℕ → ℕ → Type 0
-Turns f before state after state′ =
-    (r : Res) → cell-words ≤ length before → Yields r state (cellOf before accumulator) → Yields (bind r f) state′ (cellOf after accumulator)
+-- the answer's value is in the accumulator
+abbrev pub Gives : Res → Result → Type 0
+Gives x r = Yields x (r .state) (cellOf (r .cells) accumulator)
 
--- What follows the evaluation of an operand: only the accumulator changes, as Means says.
-pub record Applies (before : List ℕ) (state next : ℕ) (after : List ℕ) (state′ next′ : ℕ) (Means : Type 0) : Type 0 where
-  pub kept : drop cell-words after ≡ drop cell-words before
-  pub same-place : next′ ≡ next
-  pub through : state′ ≡ 0 → state ≡ 0
+-- f is applied to the value of the accumulator.
+abbrev pub Turns : (Value → Res) → Result → Result → Type 0
+Turns f v r = (x : Res) → cell-words ≤ length (v .cells) → Gives x v → Gives (bind x f) r
+
+-- What follows the evaluation v of an operand: only the accumulator changes, as Means says.
+pub record Applies (v r : Result) (Means : Type 0) : Type 0 where
+  pub kept : drop cell-words (r .cells) ≡ drop cell-words (v .cells)
+  pub same-place : r .next ≡ v .next
+  pub through : r .state ≡ 0 → v .state ≡ 0
   pub means : Means
 
 -- The word stands in front of a value's words to make the value that f makes.
@@ -46,25 +52,36 @@ errorOf true false c = 2
 errorOf true true false = 3
 errorOf true true true = 0
 
--- the three tests, by the table: the wanted label l, the package's label m, the content, and the wanted type
-unfoldable pub errorIn : List ℕ → ℕ → ℕ → ℕ → Bool → ℕ
-errorIn t authority l m fits = errorOf (readsIn t authority l) (belowIn t m l) fits
+-- the three tests, by the table: the wanted label l, the package's label m, and whether the content has the wanted type
+unfoldable pub errorIn : Setting → ℕ → ℕ → Bool → ℕ
+errorIn S l m fits = errorOf (mayRead (S .powers) l) (belowIn (S .table) m l) fits
 
--- The table says of types and labels what the world does.
-pub record Tells (table : List ℕ) (authority : ℕ) (W : World) : Type 0 where
-  pub reads-is : (l : ℕ) → readsIn table authority l ≡ W .reads l
-  pub writes-is : (l : ℕ) → writesIn table authority l ≡ W .writes l
-  pub below-is : (l m : ℕ) → belowIn table l m ≡ W .below l m
-  pub type-is : (v : Value) (t : ℕ) → hasNo table v (leftIn table t) ≡ has v (wanted (W .ty t))
+-- The table and the powers say of types, and of the labels that are there, what the world does.
+pub record Tells (S : Setting) (W : World) : Type 0 where
+  pub reads-is : (l : ℕ) → l < labelsIn (S .table) → mayRead (S .powers) l ≡ W .reads l
+  pub writes-is : (l : ℕ) → l < labelsIn (S .table) → mayWrite (S .powers) l ≡ W .writes l
+  pub below-is : (l m : ℕ) → belowIn (S .table) l m ≡ W .below l m
+  pub type-is : (v : Value) (t : ℕ) → hasNo (S .table) v (leftIn (S .table) t) ≡ has v (wanted (W .ty t))
 
--- What a line of a kind makes of the value in the accumulator; of plus, a is the integer on the left.
-pub record Applied (table : List ℕ) (authority kind a b : ℕ) (before : List ℕ) (state next : ℕ) (after : List ℕ) (state′ next′ : ℕ) : Type 0 where
-  pub plus : kind ≡ 9 → Applies before state next after state′ next′ ((u : Value) → a ≡ getD (cell u) 1 0 → Turns (add u) before state after state′)
-  pub left : kind ≡ 10
-      → Applies before state next after state′ next′ ((f : Value → Value) → Tags 3 f → Turns (λ u. fit (f u)) before state after state′)
-  pub right : kind ≡ 11
-      → Applies before state next after state′ next′ ((f : Value → Value) → Tags 4 f → Turns (λ u. fit (f u)) before state after state′)
-  pub pack : kind ≡ 12
-      → Applies before state next after state′ next′ ((W : World) → Tells table authority W → Turns (packed (W .writes a) a) before state after state′)
-  pub unpack : kind ≡ 13
-      → Applies before state next after state′ next′ ((W : World) → Tells table authority W → Turns (unpacked W a b) before state after state′)
+-- ---- what the kinds of line with an operand make of its value
+
+-- the integer n on the left of a plus
+abbrev pub Sums : ℕ → Result → Result → Type 0
+Sums n v r = Applies v r ((u : Value) → n ≡ getD (cell u) 1 0 → Turns (add u) v r)
+
+abbrev pub Tagged : ℕ → Result → Result → Type 0
+Tagged word v r = Applies v r ((f : Value → Value) → Tags word f → Turns (λ u. fit (f u)) v r)
+
+abbrev pub Packs : ℕ → ℕ → Result → Result → Type 0
+Packs powers l v r = Applies v r (Turns (packed (mayWrite powers l) l) v r)
+
+abbrev pub Unpacks : Setting → ℕ → ℕ → Result → Result → Type 0
+Unpacks S t l v r = Applies v r ((W : World) → Tells S W → l < labelsIn (S .table) → Turns (unpacked W t l) v r)
+
+-- What a line makes of the value in the accumulator; of plus, a is the integer on the left.
+pub record Applied (S : Setting) (row : Row) (v r : Result) : Type 0 where
+  pub plus : row .kind ≡ 9 → Sums (row .a) v r
+  pub left : row .kind ≡ 10 → Tagged 3 v r
+  pub right : row .kind ≡ 11 → Tagged 4 v r
+  pub pack : row .kind ≡ 12 → Packs (S .powers) (row .a) v r
+  pub unpack : row .kind ≡ 13 → Unpacks S (row .a) (row .b) v r

@@ -1,11 +1,11 @@
 -- What the functions over a script's lines ensure.
 use mathlib.Core.Path.{_≡_}
-use mathlib.Core.Bool.{Bool, true, false}
+use mathlib.Core.Bool.{true, false}
 use mathlib.Core.List.{List, _∷_}
 use Prim.Native.Nat.{ℕ, zero, suc, _≤_, _<_}
 use lib.ListN.{drop}
 use Rattle.language.specs.Syntax.{Value, int, err, inl, inr, pkg, blank, Expr, Cmd, assign}
-use Rattle.language.specs.World.{World, Mem, cell-words}
+use Rattle.language.specs.World.{Mem, cell-words}
 use Rattle.language.specs.Substitution.{Env, close}
 use Rattle.language.specs.Evaluation.{Res, ok, long, stuck, eval}
 use Rattle.language.specs.Transition.{Out, done, spent, over, wrong, iterate}
@@ -17,16 +17,20 @@ use Rattle.memory.specs.Words.{cell}
 use Rattle.memory.specs.Memory.{cellOf}
 use Rattle.cells.specs.Internal.Cells.{accumulator}
 use Rattle.evaluator.specs.Internal.Cells.{CellsHold}
-use Rattle.evaluator.specs.Internal.Nodes.{Tells}
-use Rattle.evaluator.specs.Internal.Post.{ExprAt}
+use Rattle.evaluator.specs.Internal.Records.{Setting, Place, Context}
+use Rattle.evaluator.specs.Internal.Post.{ExprAt, StandsFor}
+use Rattle.evaluator.specs.State.{stateNumber}
+use Rattle.interpreter.specs.declared.commands.Stepped.{Stepped}
+use Rattle.interpreter.specs.declared.commands.Decided.{Decided}
+use Rattle.interpreter.specs.declared.commands.Taken.{Taken}
 
 -- ---- places in the code
 
--- A command stands at a place, then the rest; it names only what is there, below so many cases.
-pub record CmdAt (ws : List ℕ) (at : ℕ) (rest : List Line) (k : Counts) (depth : ℕ) (c : Cmd) : Type 0 where
+-- A command stands at a place, then the rest; it names only what is there.
+pub record CmdAt (p : Place) (k : Counts) (rest : List Line) (c : Cmd) : Type 0 where
   pub source : Source c
-  pub names : named k depth c ≡ true
-  pub lines : drop at ws ≡ code (cmdLines c rest)
+  pub names : named k (p .depth) c ≡ true
+  pub lines : drop (p .at) (p .code) ≡ code (cmdLines c rest)
 
 -- ---- skip
 
@@ -36,20 +40,31 @@ pub record Skips (ws : List ℕ) (at next : ℕ) : Type 0 where
 
 -- ---- exec
 
--- How the run of a command ends, by its state's number: done, with the memory in the cells and the place after the command; the budget used up; a value too
--- long. Where no rule applies nothing is promised: no accepted script comes there.
-unfoldable pub Finishes : List ℕ → List Line → ℕ → ℕ → Env → Out → ℕ → ℕ → List ℕ → ℕ → Type 0
-Finishes ws rest locations depth ρ (done M b) state left work next = (state ≡ 0) × (left ≡ b) × CellsHold work locations depth M ρ × (drop next ws ≡ code rest)
-Finishes ws rest locations depth ρ spent state left work next = (state ≡ 9) × (left ≡ 0)
-Finishes ws rest locations depth ρ (over b) state left work next = (state ≡ 10) × (left ≡ b)
-Finishes ws rest locations depth ρ wrong state left work next = Unit {0}
+-- Where a run that is done comes out: before the rest of the code, with so many locations and what the cases bind in the cells.
+pub record Target : Type 0 where
+  pub code : List ℕ
+  pub rest : List Line
+  pub locations : ℕ
+  pub depth : ℕ
+  pub env : Env
 
-pub record Execs (ws : List ℕ) (at : ℕ) (table : List ℕ) (authority depth : ℕ) (work : List ℕ) (fuel state left next : ℕ) (work′ : List ℕ) : Type 0 where
-  pub forward : at ≤ next
-  pub spends : left ≤ fuel
-  pub means : (W : World) (k : Counts) (c : Cmd) (rest : List Line) (M : Mem) (ρ : Env)
-      → Tells table authority W → CmdAt ws at rest k depth c → CellsHold work (k .locations) depth M ρ
-      → Finishes ws rest (k .locations) depth ρ (iterate W fuel M (close zero ρ c)) state left work′ next
+abbrev pub target : Place → Context → List Line → Target
+target p C rest = record { code = p .code; rest = rest; locations = C .counts .locations; depth = p .depth; env = C .env }
+
+-- How the run of a command ends, by its state's number: done, with the memory in the cells and the place after the command; the budget
+-- used up; a value too long. Where no rule applies nothing is promised: no accepted script comes there.
+pub data Finishes (g : Target) (d : Stepped) (cells : List ℕ) : Out → Type 0 where
+  finish-done : {M : Mem} {b : ℕ} → stateNumber (d .state) ≡ 0 → d .left ≡ b → CellsHold cells (g .locations) (g .depth) M (g .env)
+      → drop (d .next) (g .code) ≡ code (g .rest) → Finishes g d cells (done M b)
+  finish-spent : stateNumber (d .state) ≡ 9 → d .left ≡ 0 → Finishes g d cells spent
+  finish-over : {b : ℕ} → stateNumber (d .state) ≡ 10 → d .left ≡ b → Finishes g d cells (over b)
+  finish-wrong : Finishes g d cells wrong
+
+pub record Execs (S : Setting) (p : Place) (fuel : ℕ) (d : Stepped) (cells : List ℕ) : Type 0 where
+  pub forward : p .at ≤ d .next
+  pub spends : d .left ≤ fuel
+  pub means : (C : Context) (M : Mem) (c : Cmd) (rest : List Line) → StandsFor S p C M → CmdAt p (C .counts) rest c
+      → Finishes (target p C rest) d cells (iterate (C .world) fuel M (close zero (C .env) c))
 
 -- the transition after a run that is done
 unfoldable pub ticked : Out → Out
@@ -59,19 +74,17 @@ ticked spent = spent
 ticked (over b) = over b
 ticked wrong = wrong
 
-pub record Ticks (state left next state′ left′ next′ : ℕ) : Type 0 where
-  pub spends : left′ ≤ left
-  pub same-place : next′ ≡ next
-  pub means : (ws : List ℕ) (rest : List Line) (locations depth : ℕ) (ρ : Env) (o : Out) (work : List ℕ)
-      → Finishes ws rest locations depth ρ o state left work next → Finishes ws rest locations depth ρ (ticked o) state′ left′ work next′
+pub record Ticks (d t : Stepped) : Type 0 where
+  pub spends : t .left ≤ d .left
+  pub same-place : t .next ≡ d .next
+  pub means : {g : Target} {cells : List ℕ} {o : Out} → Finishes g d cells o → Finishes g t cells (ticked o)
 
--- An assignment to location x, the expression standing at `at`.
-pub record Assigns (ws : List ℕ) (at : ℕ) (table : List ℕ) (authority depth : ℕ) (work : List ℕ) (fuel x state left next : ℕ) (work′ : List ℕ) : Type 0 where
-  pub forward : at ≤ next
-  pub spends : left ≤ fuel
-  pub means : (W : World) (k : Counts) (e : Expr) (rest : List Line) (M : Mem) (ρ : Env)
-      → Tells table authority W → ExprAt ws at rest k depth e → x < k .locations → CellsHold work (k .locations) depth M ρ
-      → Finishes ws rest (k .locations) depth ρ (iterate W fuel M (close zero ρ (assign x e))) state left work′ next
+-- An assignment to location x, the expression standing at p.
+pub record Assigns (S : Setting) (p : Place) (fuel x : ℕ) (d : Stepped) (cells : List ℕ) : Type 0 where
+  pub forward : p .at ≤ d .next
+  pub spends : d .left ≤ fuel
+  pub means : (C : Context) (M : Mem) (e : Expr) (rest : List Line) → StandsFor S p C M → ExprAt p (C .counts) rest e → x < C .counts .locations
+      → Finishes (target p C rest) d cells (iterate (C .world) fuel M (close zero (C .env) (assign x e)))
 
 -- What a guard or the expression of a case decides, as a transition: left or right, with the value inside and what is left of the
 -- budget; no budget; a value too long, with what would have been left; no rule.
@@ -96,41 +109,46 @@ choice (suc b) long = choice-long b
 choice (suc b) stuck = choice-stuck
 
 -- State 0, with `on` for left; the value in the accumulator, and the place after the expression.
-unfoldable pub Chooses : List ℕ → List Line → Choice → ℕ → ℕ → Bool → List ℕ → ℕ → Type 0
-Chooses ws rest (to-left v b) state left on words next =
-    (state ≡ 0) × (left ≡ b) × (on ≡ true) × (words ≡ cell (inl v)) × (drop next ws ≡ code rest)
-Chooses ws rest (to-right v b) state left on words next =
-    (state ≡ 0) × (left ≡ b) × (on ≡ false) × (words ≡ cell (inr v)) × (drop next ws ≡ code rest)
-Chooses ws rest no-budget state left on words next = (state ≡ 9) × (left ≡ 0)
-Chooses ws rest (choice-long b) state left on words next = (state ≡ 10) × (left ≡ suc b)
-Chooses ws rest choice-stuck state left on words next = Unit {0}
+pub data Chooses (ws : List ℕ) (rest : List Line) (g : Decided) (cells : List ℕ) : Choice → Type 0 where
+  goes-left : {v : Value} {b : ℕ} → stateNumber (g .state) ≡ 0 → g .left ≡ b → g .on ≡ true → cellOf cells accumulator ≡ cell (inl v)
+      → drop (g .next) ws ≡ code rest → Chooses ws rest g cells (to-left v b)
+  goes-right : {v : Value} {b : ℕ} → stateNumber (g .state) ≡ 0 → g .left ≡ b → g .on ≡ false → cellOf cells accumulator ≡ cell (inr v)
+      → drop (g .next) ws ≡ code rest → Chooses ws rest g cells (to-right v b)
+  has-none : stateNumber (g .state) ≡ 9 → g .left ≡ 0 → Chooses ws rest g cells no-budget
+  is-long : {b : ℕ} → stateNumber (g .state) ≡ 10 → g .left ≡ suc b → Chooses ws rest g cells (choice-long b)
+  is-stuck : Chooses ws rest g cells choice-stuck
 
-pub record Decides (ws : List ℕ) (at : ℕ) (table : List ℕ) (authority depth : ℕ) (work : List ℕ) (fuel state left next : ℕ) (on : Bool) (work′ : List ℕ) : Type 0 where
-  pub forward : at ≤ next
-  pub spends : left ≤ fuel
-  pub settled : on ≡ true → state ≡ 0
-  pub falls : on ≡ true → left < fuel
-  pub kept : drop cell-words work′ ≡ drop cell-words work
-  pub means : (W : World) (k : Counts) (e : Expr) (rest : List Line) (M : Mem) (ρ : Env)
-      → Tells table authority W → ExprAt ws at rest k depth e → CellsHold work (k .locations) depth M ρ
-      → Chooses ws rest (choice fuel (eval W ρ M e)) state left on (cellOf work′ accumulator) next
+pub record Decides (S : Setting) (p : Place) (fuel : ℕ) (g : Decided) (cells : List ℕ) : Type 0 where
+  pub forward : p .at ≤ g .next
+  pub spends : g .left ≤ fuel
+  pub settled : g .on ≡ true → stateNumber (g .state) ≡ 0
+  pub falls : g .on ≡ true → g .left < fuel
+  pub kept : drop cell-words cells ≡ drop cell-words (p .cells)
+  pub means : (C : Context) (M : Mem) (e : Expr) (rest : List Line) → StandsFor S p C M → ExprAt p (C .counts) rest e
+      → Chooses (p .code) rest g cells (choice fuel (eval (C .world) (C .env) M e))
+
+-- The branches of a case, for a left and for a right.
+pub record Branching : Type 0 where
+  pub on-left : Cmd
+  pub on-right : Cmd
 
 -- The branch taken: its value is bound, it starts at `start`, and the case ends at `end`.
-unfoldable pub Enters : List ℕ → List Line → ℕ → ℕ → Mem → Env → Cmd → Cmd → Choice → ℕ → ℕ → List ℕ → ℕ → ℕ → Type 0
-Enters ws rest locations depth M ρ c d (to-left v b) state left work start end =
-    (state ≡ 0) × (left ≡ b) × CellsHold work locations (suc depth) M (v ∷ ρ) × (drop start ws ≡ code (cmdLines c (cmdLines d rest))) × (drop end ws ≡ code rest)
-Enters ws rest locations depth M ρ c d (to-right v b) state left work start end =
-    (state ≡ 0) × (left ≡ b) × CellsHold work locations (suc depth) M (v ∷ ρ) × (drop start ws ≡ code (cmdLines d rest)) × (drop end ws ≡ code rest)
-Enters ws rest locations depth M ρ c d no-budget state left work start end = (state ≡ 9) × (left ≡ 0)
-Enters ws rest locations depth M ρ c d (choice-long b) state left work start end = (state ≡ 10) × (left ≡ suc b)
-Enters ws rest locations depth M ρ c d choice-stuck state left work start end = Unit {0}
+pub data Enters (g : Target) (M : Mem) (cs : Branching) (t : Taken) (cells : List ℕ) : Choice → Type 0 where
+  enters-left : {v : Value} {b : ℕ} → stateNumber (t .state) ≡ 0 → t .left ≡ b → CellsHold cells (g .locations) (suc (g .depth)) M (v ∷ g .env)
+      → drop (t .start) (g .code) ≡ code (cmdLines (cs .on-left) (cmdLines (cs .on-right) (g .rest))) → drop (t .end) (g .code) ≡ code (g .rest)
+      → Enters g M cs t cells (to-left v b)
+  enters-right : {v : Value} {b : ℕ} → stateNumber (t .state) ≡ 0 → t .left ≡ b → CellsHold cells (g .locations) (suc (g .depth)) M (v ∷ g .env)
+      → drop (t .start) (g .code) ≡ code (cmdLines (cs .on-right) (g .rest)) → drop (t .end) (g .code) ≡ code (g .rest)
+      → Enters g M cs t cells (to-right v b)
+  enters-spent : stateNumber (t .state) ≡ 9 → t .left ≡ 0 → Enters g M cs t cells no-budget
+  enters-long : {b : ℕ} → stateNumber (t .state) ≡ 10 → t .left ≡ suc b → Enters g M cs t cells (choice-long b)
+  enters-stuck : Enters g M cs t cells choice-stuck
 
-pub record Branches (ws : List ℕ) (at : ℕ) (table : List ℕ) (authority depth : ℕ) (work : List ℕ) (fuel state left start end : ℕ) (work′ : List ℕ) : Type 0 where
-  pub forward : at ≤ start
-  pub onward : at ≤ end
-  pub spends : left ≤ fuel
-  pub shallow : state ≡ 0 → depth < maxDepth
-  pub means : (W : World) (k : Counts) (e : Expr) (c d : Cmd) (rest : List Line) (M : Mem) (ρ : Env)
-      → Tells table authority W → ExprAt ws at (cmdLines c (cmdLines d rest)) k depth e → Source c → Source d → depth < maxDepth
-      → CellsHold work (k .locations) depth M ρ
-      → Enters ws rest (k .locations) depth M ρ c d (choice fuel (eval W ρ M e)) state left work′ start end
+pub record Branches (S : Setting) (p : Place) (fuel : ℕ) (t : Taken) (cells : List ℕ) : Type 0 where
+  pub forward : p .at ≤ t .start
+  pub onward : p .at ≤ t .end
+  pub spends : t .left ≤ fuel
+  pub shallow : stateNumber (t .state) ≡ 0 → p .depth < maxDepth
+  pub means : (C : Context) (M : Mem) (e : Expr) (cs : Branching) (rest : List Line) → StandsFor S p C M
+      → ExprAt p (C .counts) (cmdLines (cs .on-left) (cmdLines (cs .on-right) rest)) e → Source (cs .on-left) → Source (cs .on-right) → p .depth < maxDepth
+      → Enters (target p C rest) M cs t cells (choice fuel (eval (C .world) (C .env) M e))

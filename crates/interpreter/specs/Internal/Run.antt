@@ -10,7 +10,7 @@ use Rattle.language.specs.Transition.{Out, done, spent, over, wrong, iterate}
 use Rattle.script.specs.Lines.{Source, cmdLines}
 use Rattle.script.specs.Internal.Code.{code}
 use Rattle.script.specs.Names.{Counts, named}
-use Rattle.sheet.specs.Sheet.{Sheet, locationCount, formed}
+use Rattle.sheet.specs.Sheet.{Sheet, labelCount, locationCount, formed}
 use Rattle.sheet.specs.Internal.Tables.{tableOf}
 use Rattle.sheet.specs.Meaning.{worldOf}
 use Rattle.memory.specs.Memory.{memoryOf, wordsOf, wellFormed}
@@ -29,7 +29,7 @@ pub record Runs (ws table memory : List ℕ) (authority budget state steps : ℕ
   pub long : length memory′ ≡ length memory
   pub untouched : (state ≡ 0 → ⊥) → memory′ ≡ memory
   pub within : steps ≤ budget
-  pub means : (s : Sheet) (k : Counts) (c : Cmd) → formed s ≡ true → table ≡ tableOf s → k .locations ≡ locationCount s
+  pub means : (s : Sheet) (k : Counts) (c : Cmd) → formed s ≡ true → table ≡ tableOf s → k .labels ≡ labelCount s → k .locations ≡ locationCount s
       → Source c → named k 0 c ≡ true → ws ≡ code (cmdLines c [])
       → length memory ≡ cell-words * locationCount s → wellFormed s memory ≡ true
       → RunLeaves (locationCount s) budget memory (iterate (worldOf s authority) budget (memoryOf memory) c) state steps memory′

@@ -12,15 +12,15 @@ use Rattle.evaluator.proofs.nodes.pack.Tie as tie
 pub pack-spec : {M : Type 1} → statement M
 pack-spec = tie.close (tie.spec
     (λ c. search needs)  -- enum-told
-    (λ c. laws.pack-past _ (not-done _ (c .match .keys2)))  -- returns
-    (λ c κs. search needs)  -- writes-requires
+    (λ c. laws.pack-past _ _ (not-done _ (c .match .keys2)))  -- returns
+    (λ c κs. search needs)  -- may-write-requires
     (λ c κs. search needs)  -- fail-requires
-    (λ c. laws.pack-error _ (c .before .before .before .writes .ensures) (is-done _ (c .before .before .before .before .enum-told .given .1)) (not-true _ (c .before .before .if1 .taken)) (c .fail .ensures))  -- returns-2
+    (λ c. laws.pack-error _ _ (c .before .before .before .may-write .ensures) (is-done _ (c .before .before .before .before .enum-told .given .1)) (not-true _ (c .before .before .if1 .taken)) (c .fail .ensures))  -- returns-2
     (λ c κs. search needs)  -- value-end-requires
-    (λ c. laws.pack-long _ (c .before .before .before .before .before .writes .ensures) (is-done _ (c .before .before .before .before .before .before .enum-told .given .1)) (not-false _ (c .before .before .before .before .if1 .left)) (c .before .value-end .ensures) (c .if2 .taken))  -- returns-3
+    (λ c. laws.pack-long _ _ (c .before .before .before .before .before .may-write .ensures) (is-done _ (c .before .before .before .before .before .before .enum-told .given .1)) (not-false _ (c .before .before .before .before .if1 .left)) (c .before .value-end .ensures) (c .if2 .taken))  -- returns-3
     (λ c κs. search needs)  -- push-requires
     (λ c κs. search needs)  -- push-requires-2
     (λ c κs. search needs)  -- push-requires-3
-    (λ c. laws.pack-done _ (c .before .before .before .before .before .before .before .before .before .before .before .writes .ensures) (is-done _ (c .before .before .before .before .before .before .before .before .before .before .before .before .enum-told .given .1)) (not-false _ (c .before .before .before .before .before .before .before .before .before .before .if1 .left)) (c .before .before .before .before .before .before .before .value-end .ensures) (c .before .before .before .before .before .before .if2 .left) refl
+    (λ c. laws.pack-done _ _ (c .before .before .before .before .before .before .before .before .before .before .before .may-write .ensures) (is-done _ (c .before .before .before .before .before .before .before .before .before .before .before .before .enum-told .given .1)) (not-false _ (c .before .before .before .before .before .before .before .before .before .before .if1 .left)) (c .before .before .before .before .before .before .before .value-end .ensures) (c .before .before .before .before .before .before .if2 .left) refl
     (after _ _ _ (pushOf 3) (length-push _ _ (length-push _ _ (length-load _ _))) (after _ _ _ (pushOf 5) (length-push _ _ (length-load _ _)) (c .before .before .before .before .push .ensures) (c .before .before .push2 .ensures))
     (c .push3 .ensures))))  -- returns-4

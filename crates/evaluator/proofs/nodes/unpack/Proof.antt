@@ -16,10 +16,10 @@ unpack-spec = tie.close (tie.spec
     (λ c. laws.unpack-none _ _ (is-done _ (c .before .before .before .before .enum-told .given .1)) (c .before .word .ensures) (c .if1 .taken))  -- returns-2
     (λ c κs. search needs)  -- refusal-requires
     (λ c κs. search needs)  -- fail-requires
-    (λ c. laws.unpack-error _ _ _ _ _ _ (c .before .before .before .refusal .ensures) (is-done _ (c .before .before .before .before .before .before .before .before .before .before .enum-told .given .1)) (c .before .before .if2 .taken) (c .fail .ensures))  -- returns-3
+    (λ c. laws.unpack-error _ _ _ _ (c .before .before .before .refusal .ensures) (is-done _ (c .before .before .before .before .before .before .before .before .before .before .enum-told .given .1)) (c .before .before .if2 .taken) (c .fail .ensures))  -- returns-3
     (λ c κs. search needs)  -- pop-to-requires
     (λ c κs. search needs)  -- pop-to-requires-2
     (λ c κs. search needs)  -- push-requires
-    (λ c. laws.unpack-done _ _ _ _ _ _ (c .before .before .before .before .before .before .before .refusal .ensures) (is-done _ (c .before .before .before .before .before .before .before .before .before .before .before .before .before .before .enum-told .given .1)) (c .before .before .before .before .before .before .if2 .left) refl
+    (λ c. laws.unpack-done _ _ _ _ (c .before .before .before .before .before .before .before .refusal .ensures) (is-done _ (c .before .before .before .before .before .before .before .before .before .before .before .before .before .before .enum-told .given .1)) (c .before .before .before .before .before .before .if2 .left) refl
     (after _ _ _ (pushOf 3) (length-pop _ (length-pop _ (length-load _ _))) (after _ _ _ popOf (length-pop _ (length-load _ _)) (c .before .before .before .before .pop-to .ensures) (c .before .before .pop-to2 .ensures))
     (c .push .ensures))))  -- returns-4

@@ -6,6 +6,7 @@ use mathlib.Core.List.{List}
 use Prim.Native.Nat.{ℕ, _<_, _-_}
 use native.Mathlib.Omega.{arith}
 use lib.ListN.{length}
+use Rattle.interpreter.specs.declared.commands.Stepped.{Stepped}
 use Rattle.interpreter.specs.Internal.Post.{Execs}
 use Rattle.script.proofs.Rows.{row-within, none-between}
 use Rattle.evaluator.proofs.NumberLaws.{not-done, is-done}
@@ -34,11 +35,13 @@ abbrev exec-below : ℕ → In 3 exec-kinds.ps
 exec-below t = and 3 exec-kinds.ps (falls 3 exec-kinds.ps _<_ μ-exec t) exec.Pre
 
 abbrev exec-Inv-loop : exec-lts.InvT-loop
-exec-Inv-loop code at table authority depth work₀ fuel kind body end left₀ work left =
-    (s f n : ℕ) (w : List ℕ) → Execs code at table authority depth work left s f n w → Execs code at table authority depth work₀ fuel s f n w
+exec-Inv-loop code at table powers depth work₀ fuel kind body end left₀ work left =
+    (d : Stepped) (cells : List ℕ)
+    → Execs (record { table = table; powers = powers }) (record { code = code; at = at; depth = depth; cells = work }) left d cells
+    → Execs (record { table = table; powers = powers }) (record { code = code; at = at; depth = depth; cells = work₀ }) fuel d cells
 
 abbrev exec-μ-loop : exec-lts.MeasureT-loop
-exec-μ-loop code at table authority depth work₀ fuel kind body end left₀ work left = left
+exec-μ-loop code at table powers depth work₀ fuel kind body end left₀ work left = left
 
 pub +exec-spec : {M : Type 1} → statement M
 +exec-spec = close μ-exec λ t. exec-lts.spec (
@@ -74,19 +77,19 @@ pub +exec-spec : {M : Type 1} → statement M
     (λ c. omega (arith, row-within _ _ (c .before .row-at .ensures) (omega (arith, c .match .keys4))))  -- add-skip
     (λ c κs. search needs)  -- skip-requires
     (λ c κs. search needs)  -- skip-requires-2
-    (λ c. λ s f n m x. x)  -- loop-holds
+    (λ c. λ d cells x. x)  -- loop-holds
     (λ c. omega (arith, row-within _ _ (c .before .before .before .before .row-at .ensures) (omega (arith, c .before .before .before .match .keys4))))  -- add-decide
     (λ c κs. search needs)  -- decide-requires
-    (λ c. c .before .before .before .before .loop .inv _ _ _ _
+    (λ c. c .before .before .before .before .loop .inv _ _
     (laws.while-stop (c .before .before .before .before .before .before .before .before .row-at .ensures) (c .before .before .before .before .before .before .before .match .keys4) (c .before .before .before .before .before .before .skip .ensures) (c .before .before .before .before .before .skip2 .ensures) (c .before .before .decide .ensures) (not-true _ (c .if1 .taken))))  -- returns-2
     (λ c κs. (omega (arith, row-within _ _ (c .before .before .before .before .before .before .before .before .before .row-at .ensures) (omega (arith, c .before .before .before .before .before .before .before .before .match .keys4)), c .before .before .before .before .before .before .before .skip .ensures .forward, c .before .before .before .before .before .before .before .before .before .before .before .before .pre .0), tt))  -- exec-requires-3
     (λ c κs. search needs)  -- tick-requires-2
     (λ c. search needs)  -- enum-told-2
-    (λ c. c .before .before .before .before .before .before .before .before .loop .inv _ _ _ _
+    (λ c. c .before .before .before .before .before .before .before .before .loop .inv _ _
     (laws.while-end (c .before .before .before .before .before .before .before .before .before .before .before .before .row-at .ensures) (c .before .before .before .before .before .before .before .before .before .before .before .match .keys4) (c .before .before .before .before .before .before .before .before .before .before .skip .ensures) (c .before .before .before .before .before .before .before .before .before .skip2 .ensures) (c .before .before .before .before .before .before .decide .ensures) (not-false _ (c .before .before .before .before .if1 .left)) (c .before .before .exec3 .ensures)
     (c .before .tick2 .ensures) (not-done _ (c .match3 .keys2))))  -- returns-3
     (λ c. omega (arith, c .before .before .before .before .before .before .before .decide .ensures .falls (not-false _ (c .before .before .before .before .before .if1 .left)), c .before .before .before .exec3 .ensures .spends, c .before .before .tick2 .ensures .spends))  -- loop-less
-    (λ c. λ s f n m y. c .before .before .before .before .before .before .before .before .before .loop .inv s f n m
+    (λ c. λ d cells y. c .before .before .before .before .before .before .before .before .before .loop .inv d cells
     (laws.while-again (c .before .before .before .before .before .before .before .before .before .before .before .before .before .row-at .ensures) (c .before .before .before .before .before .before .before .before .before .before .before .before .match .keys4) (c .before .before .before .before .before .before .before .before .before .before .before .skip .ensures) (c .before .before .before .before .before .before .before .before .before .before .skip2 .ensures) (c .before .before .before .before .before .before .before .decide .ensures) (not-false _ (c .before .before .before .before .before .if1 .left)) (c .before .before .before .exec3 .ensures)
     (c .before .before .tick2 .ensures) (is-done _ (c .enum-told2 .given .1)) y))  -- loop-again
     (λ c. omega (arith, row-within _ _ (c .before .row-at .ensures) (omega (arith, c .match .keys5))))  -- add-branch

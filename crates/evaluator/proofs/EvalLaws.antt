@@ -216,12 +216,11 @@ module _ {S : Setting} {p : Place} {row : Row} (r : row ≡ rowAt (p .code) (p .
       -- the kinds with one operand
       pub eval-one : 9 ≤ row .kind → row .kind ≤ 13 → (row .kind ≡ 9 → ⊥) → Applied S row v u → Evals S p u
       eval-one h l n y =
-          ⊎-elim (⊎-elim (⊎-elim (⊎-elim absurd
-          (λ q. eval-by (y .left q) (λ C M e rest held here. left-case p x held (y .left q) (row-of 10 r q here) (here .names) (y .left q .means inl tags-left))))
-          (λ q. eval-by (y .right q) (λ C M e rest held here. right-case p x held (y .right q) (row-of 11 r q here) (here .names) (y .right q .means inr tags-right))))
-          (λ q. eval-by (y .pack q) (λ C M e rest held here. pack-case p x held (y .pack q) (row-of 12 r q here) (here .names) (y .pack q .means))))
-          (λ q. eval-by (y .unpack q) (λ C M e rest held here. unpack-case p x held (y .unpack q) (row-of 13 r q here) (here .names) (y .unpack q .means (C .world) (held .tells))))
-          (one-between 10 4 (omega arith) (omega arith))
+          ⊎-elim (λ q. eval-by (y .left q) (λ C M e rest held here. left-case p x held (y .left q) (row-of 10 r q here) (here .names) (y .left q .means inl tags-left)))
+          (⊎-elim (λ q. eval-by (y .right q) (λ C M e rest held here. right-case p x held (y .right q) (row-of 11 r q here) (here .names) (y .right q .means inr tags-right)))
+          (⊎-elim (λ q. eval-by (y .pack q) (λ C M e rest held here. pack-case p x held (y .pack q) (row-of 12 r q here) (here .names) (y .pack q .means)))
+          (λ q. eval-by (y .unpack q) (λ C M e rest held here. unpack-case p x held (y .unpack q) (row-of 13 r q here) (here .names) (y .unpack q .means (C .world) (held .tells))))))
+          (one-between 10 3 (omega arith) l)
 
   pub eval-none : (KindOf expression (row .kind) → ⊥) → Evals S p (result (record { state = NoRule; next = p .at }) (p .cells))
   eval-none f =

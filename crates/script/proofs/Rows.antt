@@ -155,15 +155,15 @@ none-past first (suc n) f l = omega (arith, f .1, none-past first n (f .0) l)
 pub none-between : {k : ℕ} (first n : ℕ) → NoneOf k first n → first ≤ k → k < first + n → ⊥
 none-between first n f l u = omega (arith, none-past first n f l)
 
--- k is one of n numbers from `first` on
+-- k is `first` or one of the n numbers after it
 abbrev pub OneOf : ℕ → ℕ → ℕ → Type 0
-OneOf k first zero = ⊥
-OneOf k first (suc n) = OneOf k first n ⊎ (k ≡ first + n)
+OneOf k first zero = k ≡ first
+OneOf k first (suc n) = (k ≡ first) ⊎ OneOf k (suc first) n
 
-pub one-between : {k : ℕ} (first n : ℕ) → first ≤ k → k < first + n → OneOf k first n
-one-between first zero l u = absurd (omega arith)
-one-between {k} first (suc n) l u = on (decLt k (first + n)) (λ h. one-between first n l h)
+pub one-between : {k : ℕ} (first n : ℕ) → first ≤ k → k ≤ first + n → OneOf k first n
+one-between first zero l u = omega arith
+one-between {k} first (suc n) l u = on (decLt first k) (λ h. one-between (suc first) n h (omega arith))
   where
-    on : Dec (k < first + n) → (k < first + n → OneOf k first n) → OneOf k first (suc n)
-    on (yes h) f = _⊎_.inl (f h)
-    on (no h) f = _⊎_.inr (omega arith)
+    on : Dec (first < k) → (first < k → OneOf k (suc first) n) → OneOf k first (suc n)
+    on (yes h) f = _⊎_.inr (f h)
+    on (no h) f = _⊎_.inl (omega arith)

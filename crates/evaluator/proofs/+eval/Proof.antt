@@ -1,8 +1,8 @@
--- `evaluator::eval` meets its contract. The measure is the words left. Each return is a law. Assumes nothing.
+-- `evaluator::eval` meets its contract. The measure is the rows left. Each return is a law. Assumes nothing.
 use borrow.Author.Needs.{needs}
-use Prim.Native.Nat.{ℕ, _<_, _-_}
+use Prim.Native.Nat.{ℕ, _<_}
 use native.Mathlib.Omega.{arith}
-use lib.ListN.{length}
+use Rattle.script.specs.Internal.Code.{rowsLeft}
 use Rattle.script.proofs.Rows.{row-within, none-past}
 use Rattle.evaluator.proofs.NumberLaws.{not-done, is-done}
 use Rattle.evaluator.proofs.EvalLaws as laws
@@ -21,7 +21,7 @@ use Rattle.evaluator.proofs.+eval.{statement}
 use Rattle.evaluator.proofs.+eval.Tie.{close}
 
 abbrev μ-eval : Measures 3 eval-kinds.ps ℕ
-μ-eval κs a = length (a .0 .now) - a .1 .0
+μ-eval κs a = rowsLeft (a .0 .now) (a .1 .0)
 
 abbrev eval-at : ℕ → In 3 eval-kinds.ps
 eval-at t = and 3 eval-kinds.ps (is 3 eval-kinds.ps μ-eval t) eval.Pre

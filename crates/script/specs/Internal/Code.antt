@@ -1,7 +1,7 @@
 -- The code of a script: three words a line, its kind's number and two operands; a word without an operand is 0.
 use mathlib.Core.Bool.{cond}
 use mathlib.Core.List.{List, [], _∷_}
-use Prim.Native.Nat.{ℕ, _+_}
+use Prim.Native.Nat.{ℕ, _+_, _-_, _/_}
 use lib.Dec.{leb}
 use lib.ListN.{length, getD}
 use Rattle.script.specs.declared.Row.{Row}
@@ -35,3 +35,7 @@ code (l ∷ ls) = rowOf l .kind ∷ rowOf l .a ∷ rowOf l .b ∷ code ls
 -- the row that starts at a word, if three words are there; else a row of kind 0, which no line has
 unfoldable pub rowAt : List ℕ → ℕ → Row
 rowAt ws at = cond (leb (at + 3) (length ws)) (rowWith (getD ws at 0) (getD ws (at + 1) 0) (getD ws (at + 2) 0)) (rowWith 0 0 0)
+
+-- The rows left from a word on. It is the measure of every walk over the code: each call stands at a later row than the one that made it.
+abbrev pub rowsLeft : List ℕ → ℕ → ℕ
+rowsLeft ws at = (length ws - at) / 3

@@ -1,11 +1,11 @@
 -- `script_text::scan_cmd` meets its contract. Assumes nothing.
 use mathlib.Core.Path.{refl}
-use Prim.Native.Nat.{ℕ, _<_, _-_}
+use Prim.Native.Nat.{ℕ, _<_}
 use native.Mathlib.Omega.{arith}
-use lib.ListN.{length}
 use borrow.Author.Needs.{needs}
 use borrow.Fn.Kinds.{In}
 use borrow.Fn.PlainCycle.{Measures, is, falls, and}
+use Rattle.script.specs.Internal.Code.{rowsLeft}
 use Rattle.script.proofs.row_at.Reads as row-at-reads
 use Rattle.script.specs.Names.{named}
 use Rattle.script.proofs.Rows.{row-within, none-past, none-between}
@@ -20,9 +20,8 @@ use Rattle.script_text.proofs.scan_expr.Reads as scan-expr-reads
 use Rattle.script_text.proofs.+scan_cmd.{statement}
 use Rattle.script_text.proofs.+scan_cmd.Tie.{close}
 
--- the words that are left
 abbrev μ-scan-cmd : Measures 2 scan-cmd-kinds.ps ℕ
-μ-scan-cmd κs a = length (a .0 .now) - a .1 .0
+μ-scan-cmd κs a = rowsLeft (a .0 .now) (a .1 .0)
 
 abbrev scan-cmd-at : ℕ → In 2 scan-cmd-kinds.ps
 scan-cmd-at t = and 2 scan-cmd-kinds.ps (is 2 scan-cmd-kinds.ps μ-scan-cmd t) scan-cmd.Pre
@@ -44,7 +43,7 @@ readings t = (
   is-location-reads.Learnt,
 )
 
--- the calls of the five kinds, in order: room for the next row, and fewer words left, with the return of a case that is too deep;
+-- the calls of the five kinds, in order: room for the next row, and fewer rows left, with the return of a case that is too deep;
 -- then a return for each kind and the others
 pub +scan-cmd-spec : {M : Type 1} → statement M
 unfolding named

@@ -1,9 +1,9 @@
 -- `script_text::scan_expr` meets its contract. Assumes nothing.
 use mathlib.Core.Path.{refl, sym, ap₂}
-use Prim.Native.Nat.{ℕ, _<_, _-_}
+use Prim.Native.Nat.{ℕ, _<_}
 use native.Mathlib.Omega.{arith}
-use lib.ListN.{length}
 use borrow.Author.Tests.{lt-ltb}
+use Rattle.script.specs.Internal.Code.{rowsLeft}
 use Rattle.logic.specs.Booleans.{both}
 use borrow.Author.Needs.{needs}
 use borrow.Fn.Kinds.{In}
@@ -24,9 +24,8 @@ use Rattle.script_text.proofs.is_type.Reads as is-type-reads
 use Rattle.script_text.proofs.+scan_expr.{statement}
 use Rattle.script_text.proofs.+scan_expr.Tie.{close}
 
--- the words that are left
 abbrev μ-scan-expr : Measures 2 scan-expr-kinds.ps ℕ
-μ-scan-expr κs a = length (a .0 .now) - a .1 .0
+μ-scan-expr κs a = rowsLeft (a .0 .now) (a .1 .0)
 
 abbrev scan-expr-at : ℕ → In 2 scan-expr-kinds.ps
 scan-expr-at t = and 2 scan-expr-kinds.ps (is 2 scan-expr-kinds.ps μ-scan-expr t) scan-expr.Pre
@@ -50,7 +49,7 @@ readings t = (
   is-label-reads.Learnt,
 )
 
--- room for the next row, and fewer words left; then a return for each kind and the others
+-- room for the next row, and fewer rows left; then a return for each kind and the others
 pub +scan-expr-spec : {M : Type 1} → statement M
 unfolding namedE numberOf
 +scan-expr-spec =

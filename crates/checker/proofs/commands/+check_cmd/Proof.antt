@@ -1,9 +1,9 @@
--- The proof of the cycle of calls {check_cmd}. The measure is the words left; each return is a law of `CmdLaws`. Assumes nothing.
+-- The proof of the cycle of calls {check_cmd}. The measure is the rows left; each return is a law of `CmdLaws`. Assumes nothing.
 use borrow.Author.Needs.{needs}
-use Prim.Native.Nat.{ℕ, _<_, _-_}
+use Prim.Native.Nat.{ℕ, _<_}
 use native.Mathlib.Omega.{arith}
-use lib.ListN.{length}
 use mathlib.Core.Logic.{⊎-elim}
+use Rattle.script.specs.Internal.Code.{rowsLeft}
 use Rattle.script.proofs.Rows.{row-within, none-past, none-between}
 use Rattle.checker.proofs.CmdLaws.{arm-skip, arm-seq, arm-assign, arm-while, arm-case, arm-deep, arm-other}
 use borrow.Fn.Kinds.{In}
@@ -27,7 +27,7 @@ use Rattle.checker.proofs.commands.+check_cmd.{statement}
 use Rattle.checker.proofs.commands.+check_cmd.Tie.{close}
 
 abbrev μ-check-cmd : Measures 3 check-cmd-kinds.ps ℕ
-μ-check-cmd κs a = length (a .0 .now) - a .1 .0
+μ-check-cmd κs a = rowsLeft (a .0 .now) (a .1 .0)
 
 abbrev check-cmd-at : ℕ → In 3 check-cmd-kinds.ps
 check-cmd-at t = and 3 check-cmd-kinds.ps (is 3 check-cmd-kinds.ps μ-check-cmd t) check-cmd.Pre

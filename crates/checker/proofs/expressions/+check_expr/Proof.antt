@@ -1,9 +1,9 @@
--- The proof of the cycle of calls {check_expr}. The measure is the words left; each return is a law of `ExprLaws`. Assumes nothing.
+-- The proof of the cycle of calls {check_expr}. The measure is the rows left; each return is a law of `ExprLaws`. Assumes nothing.
 use borrow.Author.Needs.{needs}
-use Prim.Native.Nat.{ℕ, _<_, _-_}
+use Prim.Native.Nat.{ℕ, _<_}
 use native.Mathlib.Omega.{arith}
-use lib.ListN.{length}
 use mathlib.Core.Logic.{⊎-elim}
+use Rattle.script.specs.Internal.Code.{rowsLeft}
 use Rattle.script.proofs.Rows.{row-within, none-past, none-between}
 use Rattle.checker.proofs.ExprLaws.{arm-int, arm-loc, arm-var, arm-plus, arm-left, arm-right, arm-pack, arm-unpack, arm-other}
 use borrow.Fn.Kinds.{In}
@@ -26,7 +26,7 @@ use Rattle.checker.proofs.expressions.+check_expr.{statement}
 use Rattle.checker.proofs.expressions.+check_expr.Tie.{close}
 
 abbrev μ-check-expr : Measures 3 check-expr-kinds.ps ℕ
-μ-check-expr κs a = length (a .0 .now) - a .1 .0
+μ-check-expr κs a = rowsLeft (a .0 .now) (a .1 .0)
 
 abbrev check-expr-at : ℕ → In 3 check-expr-kinds.ps
 check-expr-at t =

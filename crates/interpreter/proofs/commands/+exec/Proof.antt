@@ -1,11 +1,11 @@
--- `interpreter::commands::exec` meets its contract. The measure is the words left. Each return is a law.
+-- `interpreter::commands::exec` meets its contract. The measure is the rows left. Each return is a law.
 -- The loop's invariant: what the loop ends with from here, it ends with from the start. Assumes nothing.
 use borrow.Author.Needs.{needs}
 use borrow.Author.Tests.{not-true, not-false}
 use mathlib.Core.List.{List}
-use Prim.Native.Nat.{ℕ, _<_, _-_}
+use Prim.Native.Nat.{ℕ, _<_}
 use native.Mathlib.Omega.{arith}
-use lib.ListN.{length}
+use Rattle.script.specs.Internal.Code.{rowsLeft}
 use Rattle.interpreter.specs.declared.commands.Stepped.{Stepped}
 use Rattle.interpreter.specs.Internal.Post.{Execs}
 use Rattle.script.proofs.Rows.{row-within, none-between}
@@ -26,7 +26,7 @@ use Rattle.interpreter.proofs.commands.+exec.{statement}
 use Rattle.interpreter.proofs.commands.+exec.Tie.{close}
 
 abbrev μ-exec : Measures 3 exec-kinds.ps ℕ
-μ-exec κs a = length (a .0 .now) - a .1 .0
+μ-exec κs a = rowsLeft (a .0 .now) (a .1 .0)
 
 abbrev exec-at : ℕ → In 3 exec-kinds.ps
 exec-at t = and 3 exec-kinds.ps (is 3 exec-kinds.ps μ-exec t) exec.Pre

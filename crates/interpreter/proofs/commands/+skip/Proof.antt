@@ -1,8 +1,8 @@
--- `interpreter::commands::skip` meets its contract. The measure is the words left. Each return is a law. Assumes nothing.
+-- `interpreter::commands::skip` meets its contract. The measure is the rows left. Each return is a law. Assumes nothing.
 use borrow.Author.Needs.{needs}
-use Prim.Native.Nat.{ℕ, _<_, _-_}
+use Prim.Native.Nat.{ℕ, _<_}
 use native.Mathlib.Omega.{arith}
-use lib.ListN.{length}
+use Rattle.script.specs.Internal.Code.{rowsLeft}
 use Rattle.script.proofs.Rows.{none-between}
 use Rattle.interpreter.proofs.SkipLaws.{line-in}
 use Rattle.interpreter.proofs.SkipLaws as laws
@@ -17,7 +17,7 @@ use Rattle.interpreter.proofs.commands.+skip.{statement}
 use Rattle.interpreter.proofs.commands.+skip.Tie.{close}
 
 abbrev μ-skip : Measures 1 skip-kinds.ps ℕ
-μ-skip κs a = length (a .0 .now) - a .1 .0
+μ-skip κs a = rowsLeft (a .0 .now) (a .1 .0)
 
 abbrev skip-at : ℕ → In 1 skip-kinds.ps
 skip-at t = and 1 skip-kinds.ps (is 1 skip-kinds.ps μ-skip t) skip.Pre

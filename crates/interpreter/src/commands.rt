@@ -1,6 +1,5 @@
 // Runs of commands over the lines (the paper, figure 3).
 ghost use mathlib.Core.Path.{_≡_};
-ghost use Rattle.script.specs.Internal.Pieces.{operandCount};
 ghost use Rattle.interpreter.specs.Internal.Post.{Skips, Execs, Ticks, Assigns, Decides, Branches};
 use evaluator::State;
 use script::ROW;
@@ -32,34 +31,12 @@ struct Taken {
     end: usize,
 }
 
-// How many operands follow a line of a kind; 4 for a number that is no kind.
-fn operands(kind: u32) -> u32
-    ensures { λ r. ⌜ r ≡ operandCount kind ⌝ }
-{
-    match kind {
-        script::SKIP => 0,
-        script::SEQ => 2,
-        script::ASSIGN => 1,
-        script::WHILE => 2,
-        script::CASE => 3,
-        script::INT => 0,
-        script::LOC => 0,
-        script::VAR => 0,
-        script::PLUS => 2,
-        script::LEFT => 1,
-        script::RIGHT => 1,
-        script::PACK => 1,
-        script::UNPACK => 1,
-        _ => 4,
-    }
-}
-
 // The place after the expression or command at `at`.
 fn skip(code: &[u32], at: usize) -> usize
     ensures { λ r. ⌜ Skips (now (code .entry)) at r ⌝ }
 {
     let row = script::row_at(code, at);
-    let n = operands(row.kind);
+    let n = script::operands(row.kind);
     match n {
         0 => at + ROW,
         1 => skip(code, at + ROW),

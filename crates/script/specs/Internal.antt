@@ -2,3 +2,4 @@
 pub mod Code
 pub mod Pieces
 pub mod Nesting
+pub mod Balance

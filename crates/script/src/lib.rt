@@ -1,6 +1,7 @@
 // The code of a script: rows of three words, one for each line.
 ghost use mathlib.Core.Path.{_≡_};
 ghost use Rattle.script.specs.Internal.Code.{rowAt};
+ghost use Rattle.script.specs.Internal.Pieces.{operandCount};
 
 // The kinds of line, by their numbers in the code.
 pub const SKIP: u32 = 1;
@@ -63,5 +64,27 @@ pub fn row_at(code: &[u32], at: usize) -> Row
         kind: code[at],
         a: code[at + 1],
         b: code[at + 2],
+    }
+}
+
+// How many operands follow a line of a kind; 4 for a number that is no kind.
+pub fn operands(kind: u32) -> u32
+    ensures { λ r. ⌜ r ≡ operandCount kind ⌝ }
+{
+    match kind {
+        SKIP => 0,
+        SEQ => 2,
+        ASSIGN => 1,
+        WHILE => 2,
+        CASE => 3,
+        INT => 0,
+        LOC => 0,
+        VAR => 0,
+        PLUS => 2,
+        LEFT => 1,
+        RIGHT => 1,
+        PACK => 1,
+        UNPACK => 1,
+        _ => 4,
     }
 }

@@ -1,5 +1,5 @@
 -- The code of lines, filled in line by line. Assumes nothing.
-use mathlib.Core.Path.{_≡_, refl}
+use mathlib.Core.Path.{_≡_, refl, ap}
 use mathlib.Core.Bool.{true, false}
 use mathlib.Core.List.{List, [], _∷_}
 use mathlib.Core.Option.{Option, none, some}
@@ -30,6 +30,12 @@ pub code-length : (ls : List Line) → length (code ls) ≡ length ls * 3
 unfolding code
 code-length [] = refl
 code-length (l ∷ ls) = omega (arith, code-length ls)
+
+-- only no lines have no code
+pub code-empty : (ls : List Line) → code ls ≡ [] → ls ≡ []
+unfolding code
+code-empty [] h = refl
+code-empty (l ∷ ls) h = absurd (omega (arith, ap length h))
 
 -- ---- a table that is filled line by line
 

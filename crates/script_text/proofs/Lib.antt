@@ -5,5 +5,6 @@ pub mod FoundLaws
 mod Readers
 pub mod CodeLaws
 pub mod ScanLaws
+pub mod BalanceLaws
 pub mod ReadLaws
 pub mod Examples

@@ -12,6 +12,8 @@ use borrow.Author.Tests.{leb-true, le-leb}
 use Rattle.language.specs.Syntax.{Cmd}
 use Rattle.script.specs.Lines.{Line, Source, cmdLines}
 use Rattle.script.specs.Internal.Code.{code}
+use Rattle.script.specs.Internal.Balance.{closes}
+use Rattle.script.proofs.Balance.{cmd-closes}
 use Rattle.script.specs.Names.{Counts, named}
 use Rattle.sheet.specs.Padding.{padded}
 use Rattle.sheet.proofs.Words.{length-padded}
@@ -21,8 +23,8 @@ use Rattle.script_text.specs.declared.Scanned.{Scanned}
 use Rattle.script_text.specs.Reading.{linesOf}
 use Rattle.script_text.specs.Internal.Parse.{stackOf, onlyCommand, parse}
 use Rattle.script_text.specs.Script.{namedOnly, commandOf, commandRead, scriptOf}
-use Rattle.script_text.specs.Internal.Scan.{ScansCmd, isSome, Whole}
-use Rattle.script_text.proofs.CodeLaws.{code-length}
+use Rattle.script_text.specs.Internal.Scan.{ScansCmd, isSome, Balanced, Whole}
+use Rattle.script_text.proofs.CodeLaws.{code-empty, code-length}
 use Rattle.script_text.proofs.ScanLaws.{false-true}
 use Rattle.script_text.proofs.ScriptLaws.{command-sound, command-lines, script-sound}
 use Rattle.logic.proofs.BooleanLaws.{bool-ext}
@@ -42,12 +44,6 @@ none-of (some c) h = false-true true h refl
 is-some : (o : Option Cmd) (c : Cmd) → o ≡ some c → isSome o ≡ true
 unfolding isSome
 is-some o c e = rw e
-
--- only no lines have no code
-code-empty : (ls : List Line) → code ls ≡ [] → ls ≡ []
-unfolding code
-code-empty [] h = refl
-code-empty (l ∷ ls) h = absurd (omega (arith, ap length h))
 
 module _ (k : Counts) (ws : List ℕ) (r : Scanned) (s : ScansCmd k 0 ws 0 r) where
   -- the lines are those of a command exactly if one was found and it ends where the code does
@@ -72,6 +68,18 @@ module _ (k : Counts) (ws : List ℕ) (r : Scanned) (s : ScansCmd k 0 ws 0 r) wh
 
   pub whole-none : r .ok ≡ false → Whole k ws (r .ok)
   whole-none f ls h = bool-ext _ _ (λ e. false-true (r .ok) f e) (λ e. false-true (r .ok) f (whole-complete ls h e .0))
+
+-- lines that aren't as many as their kinds ask for are no command's
+pub whole-unbalanced : (k : Counts) (ws : List ℕ) (b : Bool) → Balanced ws b → b ≡ false → Whole k ws false
+unfolding closes
+whole-unbalanced k ws b f e ls h = on (isSome (commandOf k ls)) refl
+  where
+    on : (t : Bool) → isSome (commandOf k ls) ≡ t → false ≡ isSome (commandOf k ls)
+    on false z = sym z
+    on true z =
+        let o = some-of (commandOf k ls) z in
+        let c = command-sound k ls (o .0) (o .1) in
+        false-true b e (f ls h ∙ ap (closes 1) (c .0) ∙ cmd-closes (o .0) 0 [])
 
 -- ---- the code of lines, filled up with zeros
 

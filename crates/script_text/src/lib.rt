@@ -11,7 +11,7 @@ ghost use Rattle.script_text.specs.Reading.{bare, one, two, operandsOf, 
 ghost use Rattle.script_text.specs.Script.{scriptOf};
 ghost use Rattle.script_text.specs.Internal.Decoded.{countsIn, noCode, codedLines, decodedScript};
 ghost use Rattle.script_text.specs.Internal.Placed.{placedLine, lineAt};
-ghost use Rattle.script_text.specs.Internal.Scan.{ScansExpr, ScansCmd, Whole};
+ghost use Rattle.script_text.specs.Internal.Scan.{ScansExpr, ScansCmd, Balanced, Whole};
 use reader::Reader;
 use script::ASSIGN;
 use script::CASE;
@@ -28,6 +28,7 @@ use script::SKIP;
 use script::UNPACK;
 use script::VAR;
 use script::WHILE;
+use script::operands;
 use script::row_at;
 use sheet::labels;
 use sheet::locations;
@@ -378,10 +379,31 @@ pub fn rows(code: &[u32], count: usize) -> &[u32]
     &code[..end]
 }
 
+// Whether the lines are as many as their kinds ask for: one tree, with all its operands. Fewer than half of them then have two operands
+// or more, so that commands nest no deeper, whatever the kinds are (crate script, Balance).
+fn balanced(code: &[u32]) -> bool
+    ensures { λ r. ⌜ Balanced (now (code .entry)) r ⌝ }
+{
+    let mut trees: usize = 1;
+    let mut at: usize = 0;
+    while at < code.len() {
+        if trees == 0 {
+            return false;
+        }
+        let row = row_at(code, at);
+        trees = trees - 1 + operands(row.kind) as usize;
+        at += ROW;
+    }
+    trees == 0
+}
+
 // Whether the code is that of one command and nothing after it.
 fn whole(code: &[u32], table: &[u16]) -> bool
     ensures { λ r. ⌜ Whole (countsIn (now (table .entry))) (now (code .entry)) r ⌝ }
 {
+    if !balanced(code) {
+        return false;
+    }
     let c = scan_cmd(code, 0, table, 0);
     c.ok && code.len() <= c.next
 }

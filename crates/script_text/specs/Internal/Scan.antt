@@ -8,6 +8,7 @@ use lib.ListN.{drop}
 use Rattle.language.specs.Syntax.{Cmd}
 use Rattle.script.specs.Lines.{Line}
 use Rattle.script.specs.Internal.Code.{code}
+use Rattle.script.specs.Internal.Balance.{closes}
 use Rattle.script.specs.Internal.Pieces.{Sort, expression, command, Tree, SourceOf, linesOf}
 use Rattle.script.specs.Names.{Counts, namedE, named}
 use Rattle.script_text.specs.declared.Scanned.{Scanned}
@@ -28,6 +29,10 @@ ScansExpr k d ws at r = Scans expression (namedE k d) ws at r
 -- a command likewise
 abbrev pub ScansCmd : Counts → ℕ → List ℕ → ℕ → Scanned → Type 0
 ScansCmd k d ws at r = Scans command (named k d) ws at r
+
+-- whether lines are as many as their kinds ask for
+abbrev pub Balanced : List ℕ → Bool → Type 0
+Balanced ws r = (ls : List Line) → ws ≡ code ls → r ≡ closes 1 ls
 
 unfoldable pub isSome : Option Cmd → Bool
 isSome none = false

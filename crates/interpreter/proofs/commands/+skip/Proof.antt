@@ -12,7 +12,7 @@ use Rattle.interpreter.proofs.commands.skip.Reads as skip
 use Rattle.interpreter.proofs.commands.skip.Kinds as skip-kinds
 use Rattle.interpreter.proofs.commands.+skip.Lts-skip as skip-lts
 use Rattle.script.proofs.row_at.Reads as row-at-reads
-use Rattle.interpreter.proofs.commands.operands.Reads as operands-reads
+use Rattle.script.proofs.operands.Reads as operands-reads
 use Rattle.interpreter.proofs.commands.+skip.{statement}
 use Rattle.interpreter.proofs.commands.+skip.Tie.{close}
 

@@ -1,10 +1,10 @@
--- `interpreter::commands::operands` meets its contract. Assumes nothing.
+-- `script::operands` meets its contract. Assumes nothing.
 use mathlib.Core.Path.{sym, ap}
 use Rattle.script.specs.Internal.Pieces.{operandCount}
 use Rattle.script.proofs.Rows.{none-between}
 use Rattle.script.proofs.Nodes.{operands-none}
-use Rattle.interpreter.proofs.commands.operands.Statement.{statement}
-use Rattle.interpreter.proofs.commands.operands.Tie as tie
+use Rattle.script.proofs.operands.Statement.{statement}
+use Rattle.script.proofs.operands.Tie as tie
 
 pub operands-spec : {M : Type 1} → statement M
 unfolding operandCount

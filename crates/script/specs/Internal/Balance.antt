@@ -1,0 +1,22 @@
+-- Lines that are as many as their kinds ask for. A text that isn't is no script's, and this is told before any walk over its lines.
+use mathlib.Core.Bool.{Bool, true, false, cond}
+use mathlib.Core.List.{List, [], _∷_}
+use Prim.Native.Nat.{ℕ, zero, suc, _+_}
+use lib.Dec.{eqb, ltb}
+use Rattle.script.specs.Lines.{Line}
+use Rattle.script.specs.Internal.Code.{rowOf}
+use Rattle.script.specs.Internal.Pieces.{operandCount}
+
+abbrev pub operandsOf : Line → ℕ
+operandsOf l = operandCount (rowOf l .kind)
+
+-- the lines are those of n trees: each line takes one tree off, and puts one on for each of its operands
+unfoldable pub closes : ℕ → List Line → Bool
+closes n [] = eqb n 0
+closes zero (l ∷ ls) = false
+closes (suc n) (l ∷ ls) = closes (n + operandsOf l) ls
+
+-- how many of the lines have two operands or more
+unfoldable pub wideLines : List Line → ℕ
+wideLines [] = 0
+wideLines (l ∷ ls) = cond (ltb 1 (operandsOf l)) 1 0 + wideLines ls

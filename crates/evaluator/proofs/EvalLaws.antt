@@ -24,15 +24,16 @@ use Rattle.script.proofs.Rows.{ExprRow, at-int, at-loc, at-var, at-plus, at-lef
 use Rattle.memory.specs.Words.{cell}
 use Rattle.memory.specs.Memory.{cellOf}
 use Rattle.evaluator.specs.State.{stateNumber}
-use Rattle.evaluator.specs.declared.State.the-variants.{Done, NoRule}
+use Rattle.evaluator.specs.declared.State.{State}
+use Rattle.evaluator.specs.declared.State.the-variants.{Done, TooLong, NoRule}
 use Rattle.cells.specs.Internal.Cells.{accumulator, loadOf, storeOf}
 use Rattle.evaluator.specs.Internal.Cells.{firstLocation}
-use Rattle.evaluator.specs.Internal.Records.{Setting, Place, Result, result, Context}
+use Rattle.evaluator.specs.Internal.Records.{Setting, Place, Result, endState, reached, Context}
 use Rattle.evaluator.specs.Internal.Nodes.{Yields, Gives, Turns, Applies, Sums, Applied}
 use Rattle.evaluator.specs.Internal.Post.{ExprAt, StandsFor, Answers, Evals}
 use Rattle.cells.proofs.CellLaws.{there, load-there, length-load, cell-stored, rest-kept}
 use Rattle.evaluator.proofs.ValueLaws.{tags-left, tags-right}
-use Rattle.evaluator.proofs.NodeLaws.{second-here, turns-past, length-int}
+use Rattle.evaluator.proofs.NodeLaws.{end-done, end-none, second-here, turns-past, length-int}
 use Rattle.evaluator.proofs.StateLaws.{cell-in, room-here, holds-kept, bound-answers}
 
 -- the row that was read is that of the expression
@@ -54,10 +55,6 @@ after p v = moved p (v .next) (v .cells)
 abbrev Means : Place → Context → Mem → Expr → List Line → Result → Type 0
 Means p C M e rest r = Answers (eval (C .world) (C .env) M e) (p .code) rest r
 
--- the result of a line without operands whose value is found
-abbrev found : Place → List ℕ → Result
-found p cells = record { state = 0; next = p .at + 3; cells = cells }
-
 pub held-after : {S : Setting} {p q : Place} {C : Context} {M : Mem} → StandsFor S p C M → drop cell-words (q .cells) ≡ drop cell-words (p .cells) → q .depth ≡ p .depth
     → StandsFor S q C M
 held-after {q = q} h e d = record { tells = h .tells; labels = h .labels; cells = rw d (holds-kept (h .cells) (q .cells) e) }
@@ -66,22 +63,22 @@ held-after {q = q} h e d = record { tells = h .tells; labels = h .labels; cells 
 
 module _ {S : Setting} (p : Place) {C : Context} {M : Mem} (held : StandsFor S p C M) {rest : List Line} (cells : List ℕ) where
   int-case : {a b : ℕ} {e : Expr} → ExprRow (p .code) (p .at) rest 6 a b e → cellOf cells accumulator ≡ cell (int a)
-      → Means p C M e rest (found p cells)
+      → Means p C M e rest (reached (p .at + 3) cells)
   unfolding eval Yields
-  int-case (at-int h) w = ((refl, w), λ z. h)
+  int-case (at-int h) w = ((end-done (p .at + 3) (omega arith), w), λ z. h)
 
   loc-case : {a b : ℕ} {e : Expr} → ExprRow (p .code) (p .at) rest 7 a b e → namedE (C .counts) (p .depth) e ≡ true → cellOf cells accumulator ≡ loadOf (p .cells) (firstLocation + a)
-      → Means p C M e rest (found p cells)
+      → Means p C M e rest (reached (p .at + 3) cells)
   unfolding eval Yields namedE
   loc-case (at-loc {x = x} h) n w =
       let l : x < C .counts .locations = ltb-true _ _ n in
-      ((refl, w ∙ load-there (p .cells) (9 + x) (cell-in (held .cells) (9 + x) (omega (arith, held .cells .few))) ∙ held .cells .memory x l), λ z. h)
+      ((end-done (p .at + 3) (omega arith), w ∙ load-there (p .cells) (9 + x) (cell-in (held .cells) (9 + x) (omega (arith, held .cells .few))) ∙ held .cells .memory x l), λ z. h)
 
   var-case : {a b : ℕ} {e : Expr} → ExprRow (p .code) (p .at) rest 8 a b e → cellOf cells accumulator ≡ loadOf (p .cells) (p .depth - a)
-      → Means p C M e rest (found p cells)
+      → Means p C M e rest (reached (p .at + 3) cells)
   unfolding eval
   var-case (at-var {d = d} h) w =
-      (rw w (bound-answers (held .cells .bindings) (held .cells .whole) (held .cells .shallow) d), λ z. h)
+      (rw (w, end-done (p .at + 3) (omega arith)) (bound-answers (held .cells .bindings) (held .cells .whole) (held .cells .shallow) d), λ z. h)
 
 sum-answers : (v : Result) {n : ℕ} (r : Result) (x y : Res) → v .state ≡ 0 → Gives x v → n ≡ getD (v .cells) 1 0
     → ((u : Value) → n ≡ getD (cell u) 1 0 → Gives (bind y (add u)) r) → Gives (bind x (λ u. bind y (λ w. add u w))) r
@@ -102,7 +99,7 @@ module _ {S : Setting} (p : Place) {v : Result} (x : Evals S (operand p) v) {C :
       → Answers (bind (eval (C .world) (C .env) M e) f) (p .code) rest r
   one-operand {e} {rest} f here y u =
       let m = x .means C M e rest operand-held here in
-      (u _ room-after (m .0), λ z. ap (λ (n : ℕ). drop n (p .code)) (y .same-place) ∙ m .1 (y .through z))
+      (u _ room-after (m .0), λ z. ap (λ (n : ℕ). drop n (p .code)) (y .same-place z) ∙ m .1 (y .through z))
 
   module _ {rest : List Line} {r : Result} {Q : Type 0} (y : Applies v r Q) where
     left-case : {a b : ℕ} {e : Expr} → ExprRow (p .code) (p .at) rest 10 a b e → namedE (C .counts) (p .depth) e ≡ true → Turns (λ u. fit (inl u)) v r → Means p C M e rest r
@@ -146,7 +143,7 @@ module _ {S : Setting} (p : Place) {v : Result} (x : Evals S (operand p) v) {C :
         let m′ = x′ .means C M f rest held′ (record { source = s′; names = both-right _ _ nm; lines = m .1 z }) in
         let room = room-here (holds-kept (held′ .cells) (w .cells) (x′ .kept)) in (
           sum-answers v r _ _ z (m .0) n (λ u q. y .means u q _ room (m′ .0)),
-          λ q. ap (λ (i : ℕ). drop i (p .code)) (y .same-place) ∙ m′ .1 (y .through q),
+          λ q. ap (λ (i : ℕ). drop i (p .code)) (y .same-place q) ∙ m′ .1 (y .through q),
         )
 
 -- a cell is copied to the accumulator
@@ -160,32 +157,29 @@ copy-here work j h e = ap (λ (u : List ℕ). cellOf u 0) e ∙ cell-stored work
 
 module _ {S : Setting} {p : Place} {row : Row} (r : row ≡ rowAt (p .code) (p .at)) where
   module _ {cells : List ℕ} where
-    pub eval-int : row .kind ≡ 6 → cells ≡ storeOf (p .cells) accumulator (cell (int (row .a))) → Evals S p (result (record { state = Done; next = p .at + 3 }) cells)
-    unfolding stateNumber
+    pub eval-int : row .kind ≡ 6 → cells ≡ storeOf (p .cells) accumulator (cell (int (row .a))) → Evals S p (reached (p .at + 3) cells)
     eval-int q e =
         record {
-          forward = omega arith;
+          forward = λ z. omega arith;
           kept = ap (drop 16) e ∙ rest-kept (p .cells) (cell (int (row .a))) (length-int (row .a));
           means = λ C M x rest held here. int-case p held cells (row-of 6 r q here)
               (ap (λ (u : List ℕ). cellOf u 0) e ∙ cell-stored (p .cells) 0 (cell (int (row .a))) (length-int (row .a)) (cell-in (held .cells) 0 (omega arith)));
         }
 
     pub eval-loc : row .kind ≡ 7 → cells ≡ storeOf (p .cells) accumulator (loadOf (p .cells) (firstLocation + row .a))
-        → Evals S p (result (record { state = Done; next = p .at + 3 }) cells)
-    unfolding stateNumber
+        → Evals S p (reached (p .at + 3) cells)
     eval-loc q e =
         record {
-          forward = omega arith;
+          forward = λ z. omega arith;
           kept = copied (p .cells) (9 + row .a) e;
           means = λ C M x rest held here. loc-case p held cells (row-of 7 r q here) (here .names) (copy-here (p .cells) (9 + row .a) (room-here (held .cells)) e);
         }
 
     pub eval-var : row .kind ≡ 8 → cells ≡ storeOf (p .cells) accumulator (loadOf (p .cells) (p .depth - row .a))
-        → Evals S p (result (record { state = Done; next = p .at + 3 }) cells)
-    unfolding stateNumber
+        → Evals S p (reached (p .at + 3) cells)
     eval-var q e =
         record {
-          forward = omega arith;
+          forward = λ z. omega arith;
           kept = copied (p .cells) (p .depth - row .a) e;
           means = λ C M x rest held here. var-case p held cells (row-of 8 r q here) (copy-here (p .cells) (p .depth - row .a) (room-here (held .cells)) e);
         }
@@ -194,7 +188,7 @@ module _ {S : Setting} {p : Place} {row : Row} (r : row ≡ rowAt (p .code) (p .
     pub eval-plus-end : row .kind ≡ 9 → (v .state ≡ 0 → ⊥) → Evals S p v
     eval-plus-end q z =
         record {
-          forward = omega (arith, x .forward);
+          forward = λ q. absurd (z q);
           kept = x .kept;
           means = λ C M e rest held here. plus-end-case p x held (row-of 9 r q here) (here .names) z;
         }
@@ -202,7 +196,7 @@ module _ {S : Setting} {p : Place} {row : Row} (r : row ≡ rowAt (p .code) (p .
     pub eval-plus : {n : ℕ} {w u : Result} → row .kind ≡ 9 → v .state ≡ 0 → n ≡ getD (v .cells) 1 0 → Evals S (after p v) w → Sums n w u → Evals S p u
     eval-plus q z n x′ y =
         record {
-          forward = omega (arith, x .forward, x′ .forward, y .same-place);
+          forward = λ q. omega (arith, x .forward z, x′ .forward (y .through q), y .same-place q);
           kept = y .kept ∙ x′ .kept ∙ x .kept;
           means = λ C M e rest held here. plus-case p x held (row-of 9 r q here) (here .names) z n x′ y;
         }
@@ -211,7 +205,7 @@ module _ {S : Setting} {p : Place} {row : Row} (r : row ≡ rowAt (p .code) (p .
       -- a line with one operand
       eval-by : {Q : Type 0} → Applies v u Q → ((C : Context) (M : Mem) (e : Expr) (rest : List Line) → StandsFor S p C M → ExprAt p (C .counts) rest e
           → Means p C M e rest u) → Evals S p u
-      eval-by y m = record { forward = omega (arith, x .forward, y .same-place); kept = y .kept ∙ x .kept; means = m }
+      eval-by y m = record { forward = λ z. omega (arith, x .forward (y .through z), y .same-place z); kept = y .kept ∙ x .kept; means = m }
 
       -- the kinds with one operand
       pub eval-one : 9 ≤ row .kind → row .kind ≤ 13 → (row .kind ≡ 9 → ⊥) → Applied S row v u → Evals S p u
@@ -222,10 +216,28 @@ module _ {S : Setting} {p : Place} {row : Row} (r : row ≡ rowAt (p .code) (p .
           (λ q. eval-by (y .unpack q) (λ C M e rest held here. unpack-case p x held (y .unpack q) (row-of 13 r q here) (here .names) (y .unpack q .means (C .world) (held .tells))))))
           (one-between 10 3 (omega arith) l)
 
-  pub eval-none : (KindOf expression (row .kind) → ⊥) → Evals S p (result (record { state = NoRule; next = p .at }) (p .cells))
+  pub eval-none : (KindOf expression (row .kind) → ⊥) → Evals S p (reached 0 (p .cells))
   eval-none f =
       record {
-        forward = omega arith;
+        forward = λ z. absurd (end-none 0 (omega arith) z);
         kept = refl;
         means = λ C M e rest held here. absurd (not-here expression e rest (p .code) (p .at) r f (here .source) (here .lines));
       }
+
+-- ---- the state by its name
+
+module _ {S : Setting} {p : Place} {end : ℕ} {cells : List ℕ} where
+  named-by : (s : State) → endState end ≡ stateNumber s → Evals S p (reached end cells) → Evals S p (record { state = stateNumber s; next = end; cells = cells })
+  named-by s e x = rw e at x
+
+  pub eval-no-rule : end ≡ 0 → Evals S p (reached end cells) → Evals S p (record { state = stateNumber NoRule; next = end; cells = cells })
+  unfolding endState stateNumber
+  eval-no-rule e x = named-by NoRule (ap endState e) x
+
+  pub eval-too-long : end ≡ 1 → Evals S p (reached end cells) → Evals S p (record { state = stateNumber TooLong; next = end; cells = cells })
+  unfolding endState stateNumber
+  eval-too-long e x = named-by TooLong (ap endState e) x
+
+  pub eval-done : (end ≡ 0 → ⊥) → (end ≡ 1 → ⊥) → Evals S p (reached end cells) → Evals S p (record { state = stateNumber Done; next = end; cells = cells })
+  unfolding stateNumber
+  eval-done n0 n1 x = named-by Done (end-done end (omega arith)) x

@@ -3,7 +3,7 @@
 use mathlib.Core.Path.{_≡_, refl, sym, ap, _∙_}
 use mathlib.Core.Bool.{Bool, true, false}
 use mathlib.Core.List.{List, _++_}
-use Prim.Native.Nat.{ℕ, suc, _+_, _-_, _%_, _^_, _≤_, _<_}
+use Prim.Native.Nat.{ℕ, zero, suc, _+_, _-_, _%_, _^_, _≤_, _<_}
 use native.Mathlib.Omega.{arith}
 use borrow.Author.Tests.{le-leb, lt-leb}
 use lib.ListN.{length, drop, getD, take-append-drop}
@@ -18,12 +18,10 @@ use Rattle.memory.specs.Words.{headWords, enc, zeros, cell, valueOf}
 use Rattle.memory.specs.Internal.Post.{endOf}
 use Rattle.memory.specs.Memory.{cellOf}
 use Rattle.memory.proofs.WordLaws.{length-cell, enc-append, value-enc, end-enc}
-use Rattle.evaluator.specs.State.{stateNumber}
-use Rattle.evaluator.specs.declared.State.the-variants.{TooLong, NoRule}
 use Rattle.cells.specs.Internal.Cells.{accumulator, loadOf, storeOf, pushOf, popOf}
 use Rattle.script.specs.declared.Row.{Row}
-use Rattle.evaluator.specs.Internal.Records.{Setting, Result}
-use Rattle.evaluator.specs.Internal.Nodes.{Yields, Turns, Applies, errorOf, errorIn, Tells, Sums, Tagged, Packs, Unpacks, Applied}
+use Rattle.evaluator.specs.Internal.Records.{Setting, Result, endState, reached}
+use Rattle.evaluator.specs.Internal.Nodes.{Yields, Gives, Turns, Applies, errorOf, errorIn, Tells, Sums, Tagged, Packs, Unpacks, Applied}
 use Rattle.cells.proofs.CellLaws.{there, load-there, length-load, length-push, length-pop, cell-stored, rest-kept}
 use Rattle.evaluator.proofs.ValueLaws.{cell-size, tags-left, push-tag, push-package, pop-package}
 
@@ -48,12 +46,22 @@ second-here work v e = sym (getD-take 16 work 1 0 (omega arith)) ∙ ap (λ (l :
 
 -- ---- answers
 
--- the result v, with other cells or in another state
-abbrev pub withCells : Result → List ℕ → Result
-withCells v cells = record { state = v .state; next = v .next; cells = cells }
+-- a number that is a place, and one that is none
+pub end-done : (end : ℕ) → 1 < end → endState end ≡ 0
+unfolding endState
+end-done zero h = absurd (omega arith)
+end-done (suc zero) h = absurd (omega arith)
+end-done (suc (suc n)) h = refl
 
-abbrev pub withState : Result → ℕ → Result
-withState v state = record { state = state; next = v .next; cells = v .cells }
+pub end-none : (end : ℕ) → end ≤ 1 → endState end ≡ 0 → ⊥
+unfolding endState
+end-none zero h z = omega arith
+end-none (suc zero) h z = omega arith
+end-none (suc (suc n)) h z = omega arith
+
+-- the result v, with other cells
+abbrev withCells : Result → List ℕ → Result
+withCells v cells = record { state = v .state; next = v .next; cells = cells }
 
 module _ (f : Value → Res) (v : Result) where
   pub turns-past : (v .state ≡ 0 → ⊥) → Turns f v v
@@ -72,23 +80,23 @@ module _ (f : Value → Res) (v : Result) where
   turns-put words z n k stuck h a = tt
 
   -- nothing is stored
-  turns-keep : (state : ℕ) → v .state ≡ 0
-      → ((u : Value) → cellOf (v .cells) accumulator ≡ cell u → Yields (f u) state (cellOf (v .cells) accumulator)) → Turns f v (withState v state)
+  turns-keep : (end : ℕ) → v .state ≡ 0 → ((u : Value) → cellOf (v .cells) accumulator ≡ cell u → Gives (f u) (reached end (v .cells)))
+      → Turns f v (reached end (v .cells))
   unfolding Yields bind
-  turns-keep state z k (ok u) h a = k u (a .1)
-  turns-keep state z k long h a = absurd (omega arith)
-  turns-keep state z k stuck h a = tt
+  turns-keep end z k (ok u) h a = k u (a .1)
+  turns-keep end z k long h a = absurd (omega arith)
+  turns-keep end z k stuck h a = tt
 
 module _ {Means : Type 0} {v : Result} where
   pub applies-past : Means → Applies v v Means
-  applies-past m = record { kept = refl; same-place = refl; through = λ z. z; means = m }
+  applies-past m = record { kept = refl; through = λ z. z; same-place = λ z. refl; means = m }
 
   applies-put : {cells : List ℕ} (words : List ℕ) → length words ≡ cell-words → cells ≡ storeOf (v .cells) accumulator words → Means
       → Applies v (withCells v cells) Means
-  applies-put words n e m = record { kept = ap (drop 16) e ∙ rest-kept (v .cells) words n; same-place = refl; through = λ z. z; means = m }
+  applies-put words n e m = record { kept = ap (drop 16) e ∙ rest-kept (v .cells) words n; through = λ z. z; same-place = λ z. refl; means = m }
 
-  applies-keep : (state : ℕ) → (state ≡ 0 → ⊥) → Means → Applies v (withState v state) Means
-  applies-keep state n m = record { kept = refl; same-place = refl; through = λ z. absurd (n z); means = m }
+  applies-keep : (end : ℕ) → end ≤ 1 → Means → Applies v (reached end (v .cells)) Means
+  applies-keep end h m = record { kept = refl; through = λ z. absurd (end-none end h z); same-place = λ z. absurd (end-none end h z); means = m }
 
 -- ---- values that fit, and that don't
 
@@ -104,8 +112,8 @@ answers-ok : (r : Res) (v : Value) (state : ℕ) (words : List ℕ) → r ≡ ok
 unfolding Yields
 answers-ok r v state words e z w = rw e (z, w)
 
-answers-long : (r : Res) (words : List ℕ) → r ≡ long → Yields r 10 words
-unfolding Yields
+answers-long : (r : Res) (words : List ℕ) → r ≡ long → Yields r (endState 1) words
+unfolding Yields endState
 answers-long r words e = rw e refl
 
 pub length-int : (n : ℕ) → length (cell (int n)) ≡ cell-words
@@ -152,11 +160,10 @@ module _ {v : Result} where
   pub tagged-past : {w : ℕ} → (v .state ≡ 0 → ⊥) → Tagged w v v
   tagged-past z = applies-past (λ f t. turns-past (λ u. fit (f u)) v z)
 
-  pub tagged-long : {w end : ℕ} → v .state ≡ 0 → end ≡ endOf (v .cells) 0 → cell-words ≤ end → Tagged w v (withState v (stateNumber TooLong))
-  unfolding stateNumber
+  pub tagged-long : {w end : ℕ} → v .state ≡ 0 → end ≡ endOf (v .cells) 0 → cell-words ≤ end → Tagged w v (reached 1 (v .cells))
   tagged-long {end = end} z s h =
-      applies-keep 10 (λ x. omega arith)
-      (λ f t. turns-keep (λ u. fit (f u)) v 10 z
+      applies-keep 1 (omega arith)
+      (λ f t. turns-keep (λ u. fit (f u)) v 1 z
       (λ u a. answers-long (fit (f u)) (cellOf (v .cells) 0) (too-long (f u) (omega (arith, t .longer u, size-here (v .cells) u end s a)))))
 
   pub tagged-done : {w end : ℕ} {words cells : List ℕ} → v .state ≡ 0 → end ≡ endOf (v .cells) 0 → end < cell-words → words ≡ loadOf (v .cells) accumulator
@@ -183,11 +190,11 @@ module _ {v : Result} where
           (rw (e, ← w, n) (turns-put (packed false l) v (cell (inr (err 1))) z (length-error 1)
           (λ u h a. answers-ok (packed false l u) (inr (err 1)) (v .state) (cell (inr (err 1))) refl z refl)))
 
-      pub pack-long : {end : ℕ} → v .state ≡ 0 → may ≡ true → end ≡ endOf (v .cells) 0 → 13 < end → Packs powers l v (withState v (stateNumber TooLong))
-      unfolding stateNumber packed size
+      pub pack-long : {end : ℕ} → v .state ≡ 0 → may ≡ true → end ≡ endOf (v .cells) 0 → 13 < end → Packs powers l v (reached 1 (v .cells))
+      unfolding packed size
       pack-long {end} z y s h =
-          applies-keep 10 (λ x. omega arith)
-          (rw (← w, y) (turns-keep (packed true l) v 10 z
+          applies-keep 1 (omega arith)
+          (rw (← w, y) (turns-keep (packed true l) v 1 z
           (λ u a. answers-long (packed true l u) (cellOf (v .cells) 0) (too-long (inl (pkg (headOf l) u)) (omega (arith, size-here (v .cells) u end s a))))))
 
       pub pack-done : {end : ℕ} {words cells : List ℕ} → v .state ≡ 0 → may ≡ true → end ≡ endOf (v .cells) 0 → end ≤ 13 → words ≡ loadOf (v .cells) accumulator
@@ -289,11 +296,10 @@ module _ {S : Setting} {v : Result} (t l : ℕ) where
   pub unpack-past : (v .state ≡ 0 → ⊥) → Unpacks S t l v v
   unpack-past z = applies-past (λ W tells there. turns-past (unpacked W t l) v z)
 
-  pub unpack-none : {w : ℕ} → v .state ≡ 0 → w ≡ getD (v .cells) 0 0 → (w ≡ 5 → ⊥) → Unpacks S t l v (withState v (stateNumber NoRule))
-  unfolding stateNumber
+  pub unpack-none : {w : ℕ} → v .state ≡ 0 → w ≡ getD (v .cells) 0 0 → (w ≡ 5 → ⊥) → Unpacks S t l v (reached 0 (v .cells))
   unpack-none z p ne =
-      applies-keep 4 (λ x. omega arith)
-      (λ W tells there. turns-keep (unpacked W t l) v 4 z (λ u a. no-package W t l (v .cells) u 4 (λ q. ne (p ∙ q)) a))
+      applies-keep 0 (omega arith)
+      (λ W tells there. turns-keep (unpacked W t l) v 0 z (λ u a. no-package W t l (v .cells) u _ (λ q. ne (p ∙ q)) a))
 
 -- the error of an unpack, by the tests that are made in order
 module _ (S : Setting) (l m : ℕ) (fits : Bool) {may : Bool} (r : may ≡ mayRead (S .powers) l) where

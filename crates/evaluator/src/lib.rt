@@ -1,7 +1,7 @@
 // Evaluation of expressions over the lines (the paper, figure 2), in cells of words.
 mod nodes; // nodes.rt: one value made of another, in the accumulator
 
-ghost use Rattle.evaluator.specs.Internal.Records.{result};
+ghost use Rattle.evaluator.specs.Internal.Records.{result, reached};
 ghost use Rattle.evaluator.specs.Internal.Post.{Evals};
 use cells::CELL;
 use script::ROW;
@@ -30,6 +30,13 @@ pub struct Evaluated {
     pub next: usize,
 }
 
+// The same as one number, which the recursion hands back in a register: where the lines end, or one of these.
+pub(crate) type End = usize;
+
+pub(crate) const NO_RULE: End = 0;
+
+pub(crate) const TOO_LONG: End = 1;
+
 // Evaluates the expression at `at`, below so many cases, into the accumulator.
 pub fn eval(
     code: &[u32],
@@ -42,6 +49,35 @@ pub fn eval(
     ensures { λ r. ⌜ Evals (record { table = now (table .entry); powers = powers })
         (record { code = now (code .entry); at = at; depth = depth; cells = now (work .entry) }) (result r (now (work .exit))) ⌝ }
 {
+    let next = reach(code, at, table, powers, depth, work);
+    match next {
+        NO_RULE => Evaluated {
+            state: State::NoRule,
+            next,
+        },
+        TOO_LONG => Evaluated {
+            state: State::TooLong,
+            next,
+        },
+        _ => Evaluated {
+            state: State::Done,
+            next,
+        },
+    }
+}
+
+// The same, by recursion.
+fn reach(
+    code: &[u32],
+    at: usize,
+    table: &[u16],
+    powers: Powers,
+    depth: u32,
+    work: &mut [u32; WORK],
+) -> End
+    ensures { λ r. ⌜ Evals (record { table = now (table .entry); powers = powers })
+        (record { code = now (code .entry); at = at; depth = depth; cells = now (work .entry) }) (reached r (now (work .exit))) ⌝ }
+{
     let row = script::row_at(code, at);
     let kind = row.kind;
     let a = row.a;
@@ -49,43 +85,29 @@ pub fn eval(
     match kind {
         script::INT => {
             nodes::literal(work, a);
-            Evaluated {
-                state: State::Done,
-                next: at + ROW,
-            }
+            at + ROW
         }
         script::LOC => {
             nodes::location(work, a);
-            Evaluated {
-                state: State::Done,
-                next: at + ROW,
-            }
+            at + ROW
         }
         script::VAR => {
             nodes::variable(work, depth, a);
-            Evaluated {
-                state: State::Done,
-                next: at + ROW,
-            }
+            at + ROW
         }
         // One call for the operand that each of these starts with, since each call takes its own place in every frame.
         script::PLUS | script::LEFT | script::RIGHT | script::PACK | script::UNPACK => {
-            let v = eval(code, at + ROW, table, powers, depth, work);
+            let v = reach(code, at + ROW, table, powers, depth, work);
             if kind != script::PLUS {
                 return nodes::applied(work, table, powers, kind, a, b, v);
             }
-            let state = v.state;
-            let State::Done = state else {
+            if v <= TOO_LONG {
                 return v;
-            };
+            }
             let n = cells::word(work, 1);
-            let next = v.next;
-            let w = eval(code, next, table, powers, depth, work);
+            let w = reach(code, v, table, powers, depth, work);
             nodes::applied(work, table, powers, kind, n, b, w)
         }
-        _ => Evaluated {
-            state: State::NoRule,
-            next: at,
-        },
+        _ => NO_RULE,
     }
 }

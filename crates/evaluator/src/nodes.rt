@@ -8,11 +8,12 @@ ghost use Rattle.sheet.specs.Internal.TypeTest.{hasNo};
 ghost use Rattle.memory.specs.Words.{cell, valueOf};
 ghost use Rattle.cells.specs.Internal.Cells.{loadOf, storeOf, accumulator};
 ghost use Rattle.evaluator.specs.Internal.Cells.{firstLocation};
-ghost use Rattle.evaluator.specs.Internal.Records.{result};
+ghost use Rattle.evaluator.specs.Internal.Records.{reached};
 ghost use Rattle.evaluator.specs.Internal.Nodes.{Sums, Tagged, Packs, Unpacks, Applied, errorIn};
-use crate::Evaluated;
+use crate::End;
 use crate::LOCATIONS;
-use crate::State;
+use crate::NO_RULE;
+use crate::TOO_LONG;
 use crate::WORK;
 use cells::ACCUMULATOR;
 use cells::CELL;
@@ -63,53 +64,44 @@ pub(crate) fn variable(work: &mut [u32; WORK], depth: u32, d: u32)
 }
 
 // The sum of n and the integer in the accumulator.
-pub(crate) fn sum(work: &mut [u32; WORK], n: u32, v: Evaluated) -> Evaluated
-    ensures { λ r. ⌜ Sums n (result v (now (work .entry))) (result r (now (work .exit))) ⌝ }
+pub(crate) fn sum(work: &mut [u32; WORK], n: u32, v: End) -> End
+    ensures { λ r. ⌜ Sums n (reached v (now (work .entry))) (reached r (now (work .exit))) ⌝ }
 {
-    let state = v.state;
-    let State::Done = state else {
+    if v <= TOO_LONG {
         return v;
-    };
+    }
     let m = cells::word(work, 1);
     literal(work, std::num::wrapping_add_u32(n, m));
     v
 }
 
 // Left or right, as the word says, of the value in the accumulator.
-fn tagged(work: &mut [u32; WORK], w: u32, v: Evaluated) -> Evaluated
-    ensures { λ r. ⌜ Tagged w (result v (now (work .entry))) (result r (now (work .exit))) ⌝ }
+fn tagged(work: &mut [u32; WORK], w: u32, v: End) -> End
+    ensures { λ r. ⌜ Tagged w (reached v (now (work .entry))) (reached r (now (work .exit))) ⌝ }
 {
-    let state = v.state;
-    let State::Done = state else {
+    if v <= TOO_LONG {
         return v;
-    };
+    }
     if memory::value_end(work, 0) >= CELL {
-        return Evaluated {
-            state: State::TooLong,
-            next: v.next,
-        };
+        return TOO_LONG;
     }
     cells::push(work, w);
     v
 }
 
 // A package of label l of the value in the accumulator, or an error.
-fn pack(work: &mut [u32; WORK], powers: Powers, l: u32, v: Evaluated) -> Evaluated
-    ensures { λ r. ⌜ Packs powers l (result v (now (work .entry))) (result r (now (work .exit))) ⌝ }
+fn pack(work: &mut [u32; WORK], powers: Powers, l: u32, v: End) -> End
+    ensures { λ r. ⌜ Packs powers l (reached v (now (work .entry))) (reached r (now (work .exit))) ⌝ }
 {
-    let state = v.state;
-    let State::Done = state else {
+    if v <= TOO_LONG {
         return v;
-    };
+    }
     if !sheet::powers::may_write(powers, l) {
         fail(work, INSUFFICIENT_AUTH);
         return v;
     }
     if memory::value_end(work, 0) > ROOM {
-        return Evaluated {
-            state: State::TooLong,
-            next: v.next,
-        };
+        return TOO_LONG;
     }
     cells::push(work, l);
     cells::push(work, memory::PACKAGE);
@@ -135,25 +127,14 @@ fn refusal(work: &[u32], table: &[u16], powers: Powers, t: u32, l: u32) -> u32
 }
 
 // The content of the package in the accumulator, or an error.
-fn unpack(
-    work: &mut [u32; WORK],
-    table: &[u16],
-    powers: Powers,
-    t: u32,
-    l: u32,
-    v: Evaluated,
-) -> Evaluated
-    ensures { λ r. ⌜ Unpacks (record { table = now (table .entry); powers = powers }) t l (result v (now (work .entry))) (result r (now (work .exit))) ⌝ }
+fn unpack(work: &mut [u32; WORK], table: &[u16], powers: Powers, t: u32, l: u32, v: End) -> End
+    ensures { λ r. ⌜ Unpacks (record { table = now (table .entry); powers = powers }) t l (reached v (now (work .entry))) (reached r (now (work .exit))) ⌝ }
 {
-    let state = v.state;
-    let State::Done = state else {
+    if v <= TOO_LONG {
         return v;
-    };
+    }
     if cells::word(work, 0) != memory::PACKAGE {
-        return Evaluated {
-            state: State::NoRule,
-            next: v.next,
-        };
+        return NO_RULE;
     }
     let e = refusal(work, table, powers, t, l);
     if e != 0 {
@@ -174,9 +155,9 @@ pub(crate) fn applied(
     kind: u32,
     a: u32,
     b: u32,
-    v: Evaluated,
-) -> Evaluated
-    ensures { λ r. ⌜ Applied (record { table = now (table .entry); powers = powers }) (record { kind = kind; a = a; b = b }) (result v (now (work .entry))) (result r (now (work .exit))) ⌝ }
+    v: End,
+) -> End
+    ensures { λ r. ⌜ Applied (record { table = now (table .entry); powers = powers }) (record { kind = kind; a = a; b = b }) (reached v (now (work .entry))) (reached r (now (work .exit))) ⌝ }
 {
     match kind {
         script::PLUS => sum(work, a, v),
@@ -184,9 +165,6 @@ pub(crate) fn applied(
         script::RIGHT => tagged(work, memory::RIGHT, v),
         script::PACK => pack(work, powers, a, v),
         script::UNPACK => unpack(work, table, powers, a, b, v),
-        _ => Evaluated {
-            state: State::NoRule,
-            next: v.next,
-        },
+        _ => NO_RULE,
     }
 }

@@ -155,7 +155,7 @@ module _ {S : Setting} {p : Place} {fuel x : ℕ} where
       → cells ≡ storeOf (v .cells) (firstLocation + x) (loadOf (v .cells) accumulator)
       → Assigns S p fuel x (record { state = Done; left = fuel - 1; next = v .next }) cells
   assign-done {v} f y z e =
-      assign-by (y .forward) (omega arith)
+      assign-by (y .forward z) (omega arith)
       (λ C M u rest held here l. let m = y .means C M u rest held here in
       assign-done-at (target p C rest) x v fuel _ f z (m .0) l (holds-kept (held .cells) (v .cells) (y .kept)) (m .1 z) e)
 
@@ -236,7 +236,7 @@ module _ {S : Setting} {p : Place} {fuel w : ℕ} {v : Result} (f : fuel ≡ 0 �
   unfolding stateNumber
   decide-side {n} {on} side i =
       record {
-        forward = y .forward;
+        forward = y .forward z;
         spends = omega arith;
         settled = λ o. refl;
         falls = λ o. less fuel f;

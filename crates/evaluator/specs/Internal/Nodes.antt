@@ -36,8 +36,8 @@ Turns f v r = (x : Res) → cell-words ≤ length (v .cells) → Gives x v → G
 -- What follows the evaluation v of an operand: only the accumulator changes, as Means says.
 pub record Applies (v r : Result) (Means : Type 0) : Type 0 where
   pub kept : drop cell-words (r .cells) ≡ drop cell-words (v .cells)
-  pub same-place : r .next ≡ v .next
   pub through : r .state ≡ 0 → v .state ≡ 0
+  pub same-place : r .state ≡ 0 → r .next ≡ v .next
   pub means : Means
 
 -- The word stands in front of a value's words to make the value that f makes.

@@ -32,7 +32,7 @@ abbrev pub Answers : Res → List ℕ → List Line → Result → Type 0
 Answers x ws rest r = Gives x r × (r .state ≡ 0 → drop (r .next) ws ≡ code rest)
 
 pub record Evals (S : Setting) (p : Place) (r : Result) : Type 0 where
-  pub forward : p .at ≤ r .next
+  pub forward : r .state ≡ 0 → p .at ≤ r .next
   pub kept : drop cell-words (r .cells) ≡ drop cell-words (p .cells)
   pub means : (C : Context) (M : Mem) (e : Expr) (rest : List Line) → StandsFor S p C M → ExprAt p (C .counts) rest e
       → Answers (eval (C .world) (C .env) M e) (p .code) rest r

@@ -39,7 +39,7 @@ module _ (s : Sheet) (fm : formed s ≡ true) where
   home-is x = declared-home s fm x ∙ sym (label-in s fm _) ∙ ap (labelIn T) (sym (home-in s fm x))
 
   all-is : everyone (s .principals) ≡ everyoneIn T
-  all-is = sym (everyone-in s)
+  all-is = sym (everyone-in s fm)
 
   -- the conditions of the sheet and those of its table
   table-image : Image (conditions (labelsOver (s .principals)) (declarationsOf s)) (conditionsIn T) (λ a. a .raw)
@@ -63,7 +63,7 @@ module _ (s : Sheet) (fm : formed s ≡ true) where
   bottom-under a h = rw all-is at (bottom-least (s .principals) a h)
 
   past : (l : ℕ) → maxLabels ≤ l → labelIn T l ≡ bottomOf (everyoneIn T)
-  past l h = let few : labelCount s ≤ maxLabels = few-of s fm in label-past T l (sym (labels-in s)) refl (omega arith)
+  past l h = let few : labelCount s ≤ maxLabels = few-of s fm in label-past T l (sym (labels-in s fm)) refl (omega arith)
 
   -- the conditions over sets of members, and those over the labels that they stand for
   members-image : Image (conditionsOn T) (conditionsIn T) (joinIn T)

@@ -68,7 +68,7 @@ module _ (s : Sheet) (fm : formed s ≡ true) (once : repeats s ≡ false) where
 
       on : Dec (3 ≤ n) → Dec (n < typesIn T) → both (isSum T n) b ≡ f (tyOf s n)
       on (yes l) (yes k) = rw (sum-yes T n l k, sum-in s fm n l k) h
-      on (yes l) (no k) = low (is-int (ty-past s n (rw (types-in s) at (let z : typesIn T ≤ n = omega arith in z)))) (sum-past T n l (omega arith))
+      on (yes l) (no k) = low (is-int (ty-past s n (rw (types-in s fm) at (let z : typesIn T ≤ n = omega arith in z)))) (sum-past T n l (omega arith))
       on (no l) k = low (plain n (omega arith)) (sum-low T n (omega arith))
 
   -- The number of a type that there is, and no number where there is no type.

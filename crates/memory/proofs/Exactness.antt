@@ -153,11 +153,11 @@ module _ (s : Sheet) (fm : formed s ≡ true) where
   fits-in-table : asDeclaredIn (tableOf s) ≡ asDeclared s
   unfolding asDeclaredIn asDeclared
   fits-in-table = fun-ext λ x. fun-ext λ v.
-      has-no s fm v (typeIn (tableOf s) x) (rw (types-in s) at (type-in-there s fm x)) ∙ ap (λ (n : ℕ). has v (tyOf s n)) (type-in s fm x)
+      has-no s fm v (typeIn (tableOf s) x) (rw (types-in s fm) at (type-in-there s fm x)) ∙ ap (λ (n : ℕ). has v (tyOf s n)) (type-in s fm x)
 
   refusal-in-table : (ws : List ℕ) → refusalIn (tableOf s) ws ≡ memoryRefusal s ws
   unfolding refusalIn wellFormedIn memoryRefusal wellFormed
-  refusal-in-table ws = rw (locations-in s, labels-in s, fits-in-table)
+  refusal-in-table ws = rw (locations-in s fm, labels-in s fm, fits-in-table)
 
   view-in-table : (g : ℕ) (ws : List ℕ) → viewIn (tableOf s) g ws ≡ viewWords s g ws
   unfolding viewIn viewWords seesIn seesNo
@@ -165,7 +165,7 @@ module _ (s : Sheet) (fm : formed s ≡ true) where
       let a : readsIn (tableOf s) g ≡ readsNo s g = fun-ext λ l. reads-in s fm g l in
       let b : seesIn (tableOf s) g ≡ seesNo s g =
       fun-ext λ x. reads-in s fm g (homeIn (tableOf s) x) ∙ ap (readsNo s g) (home-in s fm x) in
-      rw (locations-in s, a, b)
+      rw (locations-in s fm, a, b)
 
   pub table-agrees : TableAgrees s
   unfolding viewRefusalIn viewRefusal viewLeavesIn viewLeaves
@@ -174,6 +174,6 @@ module _ (s : Sheet) (fm : formed s ≡ true) where
         refusal = refusal-in-table;
         reads = reads-in s fm;
         view = view-in-table;
-        view-refusal = λ ws len. rw (locations-in s, refusal-in-table ws);
-        view-leaves = λ g ws before. rw (locations-in s, refusal-in-table ws, view-in-table g ws);
+        view-refusal = λ ws len. rw (locations-in s fm, refusal-in-table ws);
+        view-leaves = λ g ws before. rw (locations-in s fm, refusal-in-table ws, view-in-table g ws);
       }

@@ -81,8 +81,8 @@ module _ (s : Sheet) (fm : formed s ≡ true) where
       by-below l (labelCount s)
       (λ h.
       let zeros : List ℕ = replicate (labelsRoom - length (labelsWords (labelsOf s))) 0 in
-      label-there (tableOf s) l (sym (labels-in s)) h
+      label-there (tableOf s) l (sym (labels-in s fm)) h
       ∙ ap₂ labelAt (from-labels s) (ap (λ (n : ℕ). n + labelSize * l) (sym (labels-start s fm)))
       ∙ label-among (toLabels s) (labelsOf s) zeros _ (λ l h. whole l) l (omega (arith, labels-long)))
-      (λ h. label-past (tableOf s) l (sym (labels-in s)) (sym (everyone-in s)) h
+      (λ h. label-past (tableOf s) l (sym (labels-in s fm)) (sym (everyone-in s fm)) h
       ∙ sym (List·getD-eq-default (labelsOf s) _ {n = l} (omega (arith, labels-long))))

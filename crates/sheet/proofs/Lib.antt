@@ -8,3 +8,5 @@ pub mod LabelLaws
 pub mod MeaningLaws
 pub mod NumberLaws
 pub mod PowerLaws
+pub mod GrowthLaws
+pub mod TableGrowth

@@ -62,11 +62,11 @@ module _ (s : Sheet) (fm : formed s ≡ true) where
 
   pub reads-in : (g l : ℕ) → readsIn (tableOf s) g l ≡ readsNo s g l
   unfolding readsIn
-  reads-in g l = ap₂ (λ (n : ℕ) (a : Label). readsOf n g a) (principals-in s) (label-in s fm l)
+  reads-in g l = ap₂ (λ (n : ℕ) (a : Label). readsOf n g a) (principals-in s fm) (label-in s fm l)
 
   pub writes-in : (g l : ℕ) → writesIn (tableOf s) g l ≡ writesNo s g l
   unfolding writesIn
-  writes-in g l = ap₂ (λ (n : ℕ) (a : Label). writesOf n g a) (principals-in s) (label-in s fm l)
+  writes-in g l = ap₂ (λ (n : ℕ) (a : Label). writesOf n g a) (principals-in s fm) (label-in s fm l)
 
 pub same-labels-on-sheets : SameLabelsOnSheets
 same-labels-on-sheets s fm =

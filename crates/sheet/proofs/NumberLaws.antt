@@ -29,22 +29,22 @@ module _ (s : Sheet) (fm : formed s ≡ true) where
 
   pub sum-in : (n : ℕ) → 3 ≤ n → n < typesIn (tableOf s)
       → tyOf s n ≡ t-sum (tyOf s (leftIn (tableOf s) n)) (tyOf s (rightIn (tableOf s) n))
-  sum-in n h k = rw (left-in s fm n, right-in s fm n) (ty-sum s fm n h (rw (types-in s) at k))
+  sum-in n h k = rw (left-in s fm n, right-in s fm n) (ty-sum s fm n h (rw (types-in s fm) at k))
 
   -- every number has parts that are there
   pub left-in-there : (n : ℕ) → leftIn (tableOf s) n < typesIn (tableOf s)
-  left-in-there n = rw (left-in s fm n, types-in s) (parts-there s fm n .0)
+  left-in-there n = rw (left-in s fm n, types-in s fm) (parts-there s fm n .0)
 
   pub right-in-there : (n : ℕ) → rightIn (tableOf s) n < typesIn (tableOf s)
-  right-in-there n = rw (right-in s fm n, types-in s) (parts-there s fm n .1)
+  right-in-there n = rw (right-in s fm n, types-in s fm) (parts-there s fm n .1)
 
   -- only a sum's number names a sum
   pub sum-in-there : (n : ℕ) (a b : Ty) → tyOf s n ≡ t-sum a b → (3 ≤ n) × (n < typesIn (tableOf s))
-  sum-in-there n a b p = rw (types-in s) (ty-sum-there s fm n a b p)
+  sum-in-there n a b p = rw (types-in s fm) (ty-sum-there s fm n a b p)
 
   -- equal types have equal numbers
   pub type-in-once : repeats s ≡ false → (m n : ℕ) → m < typesIn (tableOf s) → n < typesIn (tableOf s) → tyOf s m ≡ tyOf s n → m ≡ n
-  type-in-once once m n h k p = ty-once s fm once m n (rw (types-in s) at h) (rw (types-in s) at k) p
+  type-in-once once m n h k p = ty-once s fm once m n (rw (types-in s fm) at h) (rw (types-in s fm) at k) p
 
   -- so equal numbers are equal types
   pub same-number-type : repeats s ≡ false → (m n : ℕ) → m < typesIn (tableOf s) → n < typesIn (tableOf s)
@@ -57,7 +57,7 @@ module _ (s : Sheet) (fm : formed s ≡ true) where
   -- ---- locations
 
   pub type-in-there : (x : ℕ) → typeIn (tableOf s) x < typesIn (tableOf s)
-  type-in-there x = rw (type-in s fm x, types-in s) (location-type-there s fm x)
+  type-in-there x = rw (type-in s fm x, types-in s fm) (location-type-there s fm x)
 
   -- ---- the type test
 
@@ -77,7 +77,7 @@ module _ (s : Sheet) (fm : formed s ≡ true) where
 
   pub sum-number : (n : ℕ) → 3 ≤ n → n < typeCount s → isSum (tableOf s) n ≡ true
   unfolding isSum
-  sum-number n h k = both-true (le-leb 3 n h) (lt-ltb n _ (rw (types-in s) k))
+  sum-number n h k = both-true (le-leb 3 n h) (lt-ltb n _ (rw (types-in s fm) k))
 
   -- a test that no sum passes is a test for one of the numbers 0 to 2
   test-plain : (k : ℕ) (test : Ty → Bool) → k < 3 → eqb 0 k ≡ test t-int → eqb 1 k ≡ test t-err → eqb 2 k ≡ test t-pkg
@@ -113,4 +113,4 @@ module _ (s : Sheet) (fm : formed s ≡ true) where
 
   -- the last test of an unpack, for every number
   pub has-wanted : (v : Value) (n : ℕ) → hasNo (tableOf s) v (leftIn (tableOf s) n) ≡ has v (wanted (tyOf s n))
-  has-wanted v n = has-no v (leftIn (tableOf s) n) (rw (types-in s) at (left-in-there n)) ∙ ap (has v) (left-wanted n)
+  has-wanted v n = has-no v (leftIn (tableOf s) n) (rw (types-in s fm) at (left-in-there n)) ∙ ap (has v) (left-wanted n)

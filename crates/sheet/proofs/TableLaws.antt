@@ -15,7 +15,7 @@ use Rattle.sheet.proofs.Words.{length-padded, length-pairs, pair-at, en
 
 -- ---- counts
 
-module _ (s : Sheet) where
+module _ (s : Sheet) (fm : formed s ≡ true) where
   pub principals-in : principalsIn (tableOf s) ≡ s .principals
   unfolding tableOf
   principals-in = refl
@@ -38,27 +38,27 @@ module _ (s : Sheet) where
 
 -- ---- the four blocks
 
-heading : Sheet → List ℕ
+unfoldable pub heading : Sheet → List ℕ
 heading s = s .principals ∷ everyone (s .principals) ∷ typeCount s ∷ labelCount s ∷ locationCount s ∷ 0 ∷ 0 ∷ 0 ∷ []
 
-partBlock : Sheet → List ℕ
+unfoldable pub partBlock : Sheet → List ℕ
 partBlock s = padded partsRoom (partWords (typeParts s))
 
-locationBlock : Sheet → List ℕ
+unfoldable pub locationBlock : Sheet → List ℕ
 locationBlock s = padded locationsRoom (locationWords (s .locations))
 
-labelBlock : Sheet → List ℕ
+unfoldable pub labelBlock : Sheet → List ℕ
 labelBlock s = padded labelsRoom (labelsWords (labelsOf s))
 
 -- what stands before the locations
-toLocations : Sheet → List ℕ
+unfoldable pub toLocations : Sheet → List ℕ
 toLocations s = heading s ++ partBlock s
 
 -- what stands before the labels
-pub toLabels : Sheet → List ℕ
+unfoldable pub toLabels : Sheet → List ℕ
 toLabels s = toLocations s ++ locationBlock s
 
-from-locations : (s : Sheet) → tableOf s ≡ toLocations s ++ (locationBlock s ++ labelBlock s)
+pub from-locations : (s : Sheet) → tableOf s ≡ toLocations s ++ (locationBlock s ++ labelBlock s)
 unfolding tableOf toLocations heading partBlock locationBlock labelBlock
 from-locations s = sym (append-assoc (heading s) (partBlock s) (locationBlock s ++ labelBlock s))
 
@@ -70,14 +70,14 @@ module _ (s : Sheet) (fm : formed s ≡ true) where
   facts : Formed s
   facts = formed-facts s fm
 
-  types-fit : length (partWords (typeParts s)) ≤ partsRoom
+  pub types-fit : length (partWords (typeParts s)) ≤ partsRoom
   types-fit =
       omega (arith, length-pairs (λ (p : Sum). p .left) (λ (p : Sum). p .right) (typeParts s), parts-count s, type-count s, facts .few-sums)
 
-  locations-fit : length (locationWords (s .locations)) ≤ locationsRoom
+  pub locations-fit : length (locationWords (s .locations)) ≤ locationsRoom
   locations-fit = omega (arith, length-pairs (λ (x : Location). x .type) (λ (x : Location). x .label) (s .locations), facts .few-locations)
 
-  locations-start : length (toLocations s) ≡ locationsBase
+  pub locations-start : length (toLocations s) ≡ locationsBase
   unfolding toLocations heading partBlock
   locations-start = length-append (heading s) (partBlock s) ∙ omega (arith, length-padded partsRoom (partWords (typeParts s)) types-fit)
 
@@ -94,7 +94,7 @@ module _ (s : Sheet) (fm : formed s ≡ true) where
       → (i : ℕ) → entryIn (tableOf s) (typesIn (tableOf s)) (partsBase + j) i ≡ f (partsNo s i)
   unfolding tableOf partsNo heading
   part-in f j none two word i =
-      ap (λ (k : ℕ). entryIn (tableOf s) k (partsBase + j) i) (types-in s ∙ sym (parts-count s))
+      ap (λ (k : ℕ). entryIn (tableOf s) k (partsBase + j) i) (types-in s fm ∙ sym (parts-count s))
       ∙ entry-of (typeParts s) (record { left = 0; right = 0 }) f j (heading s) (partWords (typeParts s))
       (padded locationsRoom (locationWords (s .locations)) ++ padded labelsRoom (labelsWords (labelsOf s))) partsRoom (partsBase + j)
       none refl two (length-pairs _ _ (typeParts s)) types-fit word i
@@ -115,7 +115,7 @@ module _ (s : Sheet) (fm : formed s ≡ true) where
   unfolding locationNo locationCount locationBlock
   location-in f j none two word x =
       ap (λ (t : List ℕ). entryIn t (locationsIn (tableOf s)) (locationsBase + j) x) (from-locations s)
-      ∙ ap (λ (c : ℕ). entryIn (toLocations s ++ (locationBlock s ++ labelBlock s)) c (locationsBase + j) x) (locations-in s)
+      ∙ ap (λ (c : ℕ). entryIn (toLocations s ++ (locationBlock s ++ labelBlock s)) c (locationsBase + j) x) (locations-in s fm)
       ∙ entry-of (s .locations) (record { type = 0; label = 0 }) f j (toLocations s) (locationWords (s .locations)) (labelBlock s) locationsRoom
       (locationsBase + j) none (ap (λ (n : ℕ). n + j) (sym locations-start)) two (length-pairs _ _ (s .locations)) locations-fit word x
 

@@ -1,5 +1,6 @@
 // The decoded sheet: a table of words, and what it says of types, locations and labels.
 pub mod powers; // powers.rt: what a group may do to the labels
+pub mod write; // write.rt: what is stored where the sheet grows
 
 ghost use mathlib.Core.Path.{_≡_};
 ghost use lib.ListN.{getD};
@@ -10,12 +11,26 @@ use labels::Label;
 use labels::OWNERS;
 use sets::Set;
 
-// How many types, locations and labels a sheet has at most.
-pub const MOST_TYPES: u32 = 32;
+// A word of a table: wide enough for a set, and for each count.
+pub type Word = Set;
+
+// The types that are given, and how many principals, types, locations and labels a sheet has at most.
+pub const GIVEN_TYPES: u32 = 5;
+
+pub const MOST_PRINCIPALS: u32 = 16;
+
+pub const MOST_TYPES: u32 = GIVEN_TYPES + 27;
 
 pub const MOST_LOCATIONS: u32 = 64;
 
 pub const MOST_LABELS: u32 = 32;
+
+// The words that count the types, the labels and the locations.
+const TYPE_COUNT: usize = 2;
+
+const LABEL_COUNT: usize = 3;
+
+const LOCATION_COUNT: usize = 4;
 
 // Where the parts of types, the locations and the labels start in a table, and its words in all.
 pub const PARTS: u32 = 8;
@@ -27,21 +42,21 @@ pub const LABELS: usize = (LOCATIONS + 2 * MOST_LOCATIONS) as usize;
 pub const WORDS: usize = LABELS + LABEL_SIZE * (MOST_LABELS as usize);
 
 // The word at `at`, or 0 past the end.
-fn word(table: &[u16], at: usize) -> u16
+fn word(table: &[Word], at: usize) -> Word
     ensures { λ r. ⌜ r ≡ getD (now (table .entry)) at 0 ⌝ }
 {
     if at < table.len() { table[at] } else { 0 }
 }
 
 // The same word as a wider number.
-fn number(table: &[u16], at: usize) -> u32
+fn number(table: &[Word], at: usize) -> u32
     ensures { λ r. ⌜ r ≡ getD (now (table .entry)) at 0 ⌝ }
 {
     word(table, at) as u32
 }
 
 // The word of entry i in a list of `count` pairs that starts at `base`, or 0 past the last entry.
-fn entry(table: &[u16], count: u32, base: u32, i: u32) -> u32
+fn entry(table: &[Word], count: u32, base: u32, i: u32) -> u32
     ensures { λ r. ⌜ r ≡ entryIn (now (table .entry)) count base i ⌝ }
 {
     if i < count {
@@ -65,42 +80,42 @@ pub const PKG_OR_ERROR: u32 = 4;
 pub const SUMS: u32 = INT_OR_INT;
 
 // The number of principals.
-pub fn principals(table: &[u16]) -> u32
+pub fn principals(table: &[Word]) -> u32
     ensures { λ r. ⌜ r ≡ principalsIn (now (table .entry)) ⌝ }
 {
     number(table, 0)
 }
 
 // The set of all principals.
-pub fn everyone(table: &[u16]) -> Set
+pub fn everyone(table: &[Word]) -> Set
     ensures { λ r. ⌜ r ≡ everyoneIn (now (table .entry)) ⌝ }
 {
     word(table, 1)
 }
 
 // The number of types.
-pub fn types(table: &[u16]) -> u32
+pub fn types(table: &[Word]) -> u32
     ensures { λ r. ⌜ r ≡ typesIn (now (table .entry)) ⌝ }
 {
-    number(table, 2)
+    number(table, TYPE_COUNT)
 }
 
 // The number of labels.
-pub fn labels(table: &[u16]) -> u32
+pub fn labels(table: &[Word]) -> u32
     ensures { λ r. ⌜ r ≡ labelsIn (now (table .entry)) ⌝ }
 {
-    number(table, 3)
+    number(table, LABEL_COUNT)
 }
 
 // The number of locations.
-pub fn locations(table: &[u16]) -> u32
+pub fn locations(table: &[Word]) -> u32
     ensures { λ r. ⌜ r ≡ locationsIn (now (table .entry)) ⌝ }
 {
-    number(table, 4)
+    number(table, LOCATION_COUNT)
 }
 
 // Whether a number names a sum type.
-pub fn is_sum(table: &[u16], ty: u32) -> bool
+pub fn is_sum(table: &[Word], ty: u32) -> bool
     ensures { λ r. ⌜ r ≡ isSum (now (table .entry)) ty ⌝ }
 {
     if ty < SUMS {
@@ -110,35 +125,35 @@ pub fn is_sum(table: &[u16], ty: u32) -> bool
 }
 
 // The left part of a type; 0 for a number that names no type.
-pub fn left_part(table: &[u16], ty: u32) -> u32
+pub fn left_part(table: &[Word], ty: u32) -> u32
     ensures { λ r. ⌜ r ≡ leftIn (now (table .entry)) ty ⌝ }
 {
     entry(table, types(table), PARTS, ty)
 }
 
 // The right part, likewise.
-pub fn right_part(table: &[u16], ty: u32) -> u32
+pub fn right_part(table: &[Word], ty: u32) -> u32
     ensures { λ r. ⌜ r ≡ rightIn (now (table .entry)) ty ⌝ }
 {
     entry(table, types(table), PARTS + 1, ty)
 }
 
 // The type of a location; 0 for a number that names no location.
-pub fn location_type(table: &[u16], x: u32) -> u32
+pub fn location_type(table: &[Word], x: u32) -> u32
     ensures { λ r. ⌜ r ≡ typeIn (now (table .entry)) x ⌝ }
 {
     entry(table, locations(table), LOCATIONS, x)
 }
 
 // The number of a location's label, likewise.
-pub fn location_label(table: &[u16], x: u32) -> u32
+pub fn location_label(table: &[Word], x: u32) -> u32
     ensures { λ r. ⌜ r ≡ homeIn (now (table .entry)) x ⌝ }
 {
     entry(table, locations(table), LOCATIONS + 1, x)
 }
 
 // A label; bottom for a number that names none.
-pub fn label_of(table: &[u16], l: u32) -> Label
+pub fn label_of(table: &[Word], l: u32) -> Label
     ensures { λ r. ⌜ r ≡ labelIn (now (table .entry)) l ⌝ }
 {
     if l < labels(table) {
@@ -149,7 +164,7 @@ pub fn label_of(table: &[u16], l: u32) -> Label
 }
 
 // Whether label l is at or below label m.
-pub fn below(table: &[u16], l: u32, m: u32) -> bool
+pub fn below(table: &[Word], l: u32, m: u32) -> bool
     ensures { λ r. ⌜ r ≡ belowIn (now (table .entry)) l m ⌝ }
 {
     let lower = label_of(table, l);
@@ -158,7 +173,7 @@ pub fn below(table: &[u16], l: u32, m: u32) -> bool
 }
 
 // Whether a group reads label l.
-pub fn reads(table: &[u16], group: Set, l: u32) -> bool
+pub fn reads(table: &[Word], group: Set, l: u32) -> bool
     ensures { λ r. ⌜ r ≡ readsIn (now (table .entry)) group l ⌝ }
 {
     let n = principals(table) as usize;
@@ -169,7 +184,7 @@ pub fn reads(table: &[u16], group: Set, l: u32) -> bool
 }
 
 // Whether a group writes label l.
-pub fn writes(table: &[u16], group: Set, l: u32) -> bool
+pub fn writes(table: &[Word], group: Set, l: u32) -> bool
     ensures { λ r. ⌜ r ≡ writesIn (now (table .entry)) group l ⌝ }
 {
     let n = principals(table) as usize;

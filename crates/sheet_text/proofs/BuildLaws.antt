@@ -21,9 +21,11 @@ use Rattle.sheet.proofs.FormLaws.{Formed, formed-facts, type-count}
 use Rattle.sheet_text.specs.declared.line.Line.{Line}
 use Rattle.sheet_text.specs.declared.line.Line.the-variants.{P, T, L, O, X}
 use Rattle.sheet_text.specs.Lines.{sumLine, policyLine, locationLine, each, labelLines, linesThen, sheetLines}
-use Rattle.sheet_text.specs.Internal.Building.{bareSheet, addSum, addLabel, addPolicy, addLocation, leastOwner, sumFits, labelFits, policyFits, locationFits, begin, addLine, addLineOn, addLines, build}
+use Rattle.sheet.specs.Internal.Growth.{bareSheet, addSum, addLabel, addPolicy, addLocation}
+use Rattle.sheet_text.specs.Internal.Building.{leastOwner, sumFits, labelFits, policyFits, locationFits, begin, addLine, addLineOn, addLines, build}
 use Rattle.sheet_text.proofs.LineLaws.{Fits, AllFit}
-use Rattle.sheet_text.proofs.GrowthLaws.{length-more, no-entries, each-more, labels-more, policies-more, length-toLast, earlier-more, each-rising-more, each-rising-last, each-named-more}
+use Rattle.sheet.proofs.GrowthLaws.{length-more, length-toLast}
+use Rattle.sheet_text.proofs.GrowthLaws.{no-entries, each-more, labels-more, policies-more, earlier-more, each-rising-more, each-rising-last, each-named-more}
 
 pub formed-made : (s : Sheet) → Formed s → formed s ≡ true
 unfolding formed

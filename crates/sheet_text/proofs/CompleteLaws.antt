@@ -15,8 +15,10 @@ use Rattle.sheet.specs.Sheet.{Sum, Location, Sheet, typeCount, labelCount, loca
 use Rattle.sheet.proofs.FormLaws.{formed-facts, type-count}
 use Rattle.sheet_text.specs.declared.line.Line.{Line}
 use Rattle.sheet_text.specs.Lines.{sumLine, policyLine, locationLine, each, labelLines, linesThen, sheetLines}
-use Rattle.sheet_text.specs.Internal.Building.{bareSheet, addSum, addLabel, addPolicy, addLocation, leastAfter, leastOwner, sumFits, labelFits, policyFits, locationFits, begin, addLine, addLineOn, addLines, build}
-use Rattle.sheet_text.proofs.GrowthLaws.{length-more, last-more, toLast-more, least-more}
+use Rattle.sheet.specs.Internal.Growth.{bareSheet, addSum, addLabel, addPolicy, addLocation}
+use Rattle.sheet_text.specs.Internal.Building.{leastAfter, leastOwner, sumFits, labelFits, policyFits, locationFits, begin, addLine, addLineOn, addLines, build}
+use Rattle.sheet.proofs.GrowthLaws.{length-more, toLast-more}
+use Rattle.sheet_text.proofs.GrowthLaws.{last-more, least-more}
 
 -- a line that passes its test
 passes : (c : Bool) (s s′ : Sheet) → c ≡ true → s ≡ s′ → cond c (some s) none ≡ some s′

@@ -8,54 +8,49 @@ use native.Mathlib.Omega.{arith}
 use native.Mathlib.Nat.{mod-eq-of-lt}
 use native.Mathlib.Numerals.{add-one}
 use lib.Dec.{leb, ltb}
-use lib.ListN.{length, set, replicate}
-use lib.Pow.{pow-pos, pow-mono}
+use lib.ListN.{length, replicate}
+use lib.Pow.{pow-pos}
 use borrow.Author.Tests.{ltb-true, leb-true, le-leb, lt-ltb}
 use Rattle.logic.specs.Booleans.{both}
-use Rattle.logic.proofs.BooleanLaws.{bool-ext, both-left, both-no-right, both-right}
-use Rattle.sets.specs.Sets.{width, everyone, restrict}
-use Rattle.sets.proofs.SetLaws.{restrict-id}
+use Rattle.logic.proofs.BooleanLaws.{bool-ext, both-left, both-right}
+use Rattle.sets.specs.Sets.{everyone}
 use Rattle.labels.specs.Labels.{policy}
-use Rattle.sheet.specs.Sheet.{Sum, Sheet, typeCount, labelsOf, labelCount, locationCount, formed}
-use Rattle.sheet.specs.Padding.{padded}
-use Rattle.sheet.specs.Internal.Tables.{pairWords, labelsWords, tableOf, tableWords, labelsIn, givenParts, typeParts}
+use Rattle.sheet.specs.Sheet.{Sum, Sheet, typeCount, labelCount, maxPrincipals, maxSums, formed}
+use Rattle.sheet.specs.Internal.Tables.{maxTypes, tableWords, tableOf}
+use Rattle.sheet.specs.Internal.Growth.{bareSheet, addSum, addLabel, toLast, addPolicy, addLocation}
+use Rattle.sheet.specs.Internal.Writers.{principalsPut, sumPut, openPut, policyPut, locationPut}
 use Rattle.sheet.proofs.FormLaws.{formed-facts, type-count}
 use Rattle.sheet.proofs.TableLaws.{types-in, labels-in, locations-in, principals-in, everyone-in}
+use Rattle.sheet.proofs.GrowthLaws.{toLast-more, labels-split}
+use Rattle.sheet.proofs.TableGrowth.{sum-put, open-put, policy-put, location-put, principals-put}
 use Rattle.sheet_text.specs.declared.line.Line.{Line}
 use Rattle.sheet_text.specs.declared.line.Line.the-variants.{P, T, L, O, X}
 use Rattle.sheet_text.specs.declared.draft.Draft.{Draft}
 use Rattle.sheet_text.specs.declared.draft.Draft.the-variants.{Formed, Refused}
-use Rattle.sheet_text.specs.Internal.Building.{bareSheet, addSum, addLabel, toLast, addPolicy, addLocation, lastOf, leastAfter, leastOwner, sumFits, labelFits, policyFits, locationFits, begin, addLine, addLineOn}
-use Rattle.sheet_text.specs.Internal.Drafts.{draftIf, DraftHolds, FormedIf, Stores, principalsFit, sumFitsIn, labelFitsIn, policyFitsIn, locationFitsIn, principalsStored, pairStored, labelStored, policyStored}
+use Rattle.sheet_text.specs.Internal.Building.{lastOf, leastAfter, leastOwner, sumFits, labelFits, policyFits, locationFits, begin, addLine, addLineOn}
+use Rattle.sheet_text.specs.Internal.Drafts.{draftIf, DraftHolds, FormedIf, Stores, principalsFit, sumFitsIn, labelFitsIn, policyFitsIn, locationFitsIn}
 use Rattle.logic.proofs.OptionLaws.{none-some}
-use Rattle.sheet_text.proofs.GrowthLaws.{last-more, toLast-more, least-more, labels-split}
+use Rattle.sheet_text.proofs.GrowthLaws.{last-more, least-more}
 use Rattle.sheet_text.proofs.BuildLaws.{no-labels, begin-sound, step-sound}
-use Rattle.sheet_text.proofs.TableGrowth.{sum-table, label-table, policy-table, location-table}
 
 -- ---- the tests, over the table of a sheet
 
--- the code tests first whether there is room
-room-first : (room first known : Bool) → both room (both first known) ≡ both first (both room known)
-unfolding both
-room-first true first known = refl
-room-first false first known = sym (both-no-right first false refl)
-
-module _ (s : Sheet) where
-  -- the count of types, of which five are given, is that of sums
-  types-fit-in : ltb (typeCount s) 32 ≡ ltb (length (s .sums)) 27
+module _ (s : Sheet) (fm : formed s ≡ true) where
+  -- there is room for a type more where there is for a sum
+  types-fit-in : ltb (typeCount s) maxTypes ≡ ltb (length (s .sums)) maxSums
   types-fit-in =
       let count = type-count s in
-      bool-ext (ltb (typeCount s) 32) (ltb (length (s .sums)) 27)
-      (λ e. let h : typeCount s < 32 = ltb-true _ _ e in let k : length (s .sums) < 27 = omega arith in lt-ltb _ _ k)
-      (λ e. let h : length (s .sums) < 27 = ltb-true _ _ e in let k : typeCount s < 32 = omega arith in lt-ltb _ _ k)
+      bool-ext (ltb (typeCount s) maxTypes) (ltb (length (s .sums)) maxSums)
+      (λ e. let h : typeCount s < maxTypes = ltb-true _ _ e in let k : length (s .sums) < maxSums = omega arith in lt-ltb _ _ k)
+      (λ e. let h : length (s .sums) < maxSums = ltb-true _ _ e in let k : typeCount s < maxTypes = omega arith in lt-ltb _ _ k)
 
   sum-fits-in : (a b : ℕ) → sumFitsIn a b (tableOf s) ≡ sumFits s a b
-  unfolding sumFits tableOf
-  sum-fits-in a b = rw (← types-fit-in) (room-first _ _ _)
+  unfolding sumFits
+  sum-fits-in a b = rw (labels-in s fm, locations-in s fm, types-in s fm, types-fit-in)
 
   label-fits-in : labelFitsIn (tableOf s) ≡ labelFits s
-  unfolding labelFits tableOf
-  label-fits-in = refl
+  unfolding labelFits
+  label-fits-in = rw (locations-in s fm, labels-in s fm)
 
   -- a set of the principals
   set-fits-in : (r : ℕ) → leb r (everyone (s .principals)) ≡ ltb r (2 ^ s .principals)
@@ -67,22 +62,14 @@ module _ (s : Sheet) where
       (λ e. let h : r < 2 ^ s .principals = ltb-true _ _ e in let k : r ≤ 2 ^ s .principals - 1 = omega arith in le-leb _ _ k)
 
   policy-fits-in : (o r w : ℕ) → policyFitsIn (leastOwner s) o r w (tableOf s) ≡ policyFits s o r w
-  unfolding policyFits tableOf
-  policy-fits-in o r w = rw (set-fits-in r, set-fits-in w)
+  unfolding policyFits
+  policy-fits-in o r w = rw (locations-in s fm, labels-in s fm, principals-in s fm, everyone-in s fm, set-fits-in r, set-fits-in w)
 
   location-fits-in : (t l : ℕ) → locationFitsIn t l (tableOf s) ≡ locationFits s t l
-  unfolding locationFits tableOf
-  location-fits-in t l = refl
+  unfolding locationFits
+  location-fits-in t l = rw (locations-in s fm, types-in s fm, labels-in s fm)
 
--- ---- what the code's tests say, and what it leaves
-
--- the tests of a policy say that there is a label
-pub some-label : (t : List ℕ) (least o r w : ℕ) → policyFitsIn least o r w t ≡ true → 0 < labelsIn t
-some-label t least o r w e = ltb-true _ _ (both-right _ _ (both-left _ _ e))
-
--- and those of a label that there is room for it
-pub label-room : (t : List ℕ) → labelFitsIn t ≡ true → labelsIn t < 32
-label-room t e = ltb-true _ _ (both-right _ _ e)
+-- ---- what the code answers
 
 -- a line that may not come next, and one that may
 module _ (fits : List ℕ → Bool) (stored : List ℕ → List ℕ) (t : List ℕ) where
@@ -92,15 +79,7 @@ module _ (fits : List ℕ → Bool) (stored : List ℕ → List ℕ) (t : List �
   pub taken : fits t ≡ true → (u : List ℕ) → u ≡ stored t → Stores fits stored t true u
   taken e u f = record { answer = sym e; table = f ∙ sym (ap (λ (b : Bool). cond b (stored t) t) e) }
 
-  -- by another test that comes to the same
-  pub tested-as : (other : List ℕ → Bool) (ok : Bool) (u : List ℕ) → other t ≡ fits t → Stores other stored t ok u → Stores fits stored t ok u
-  tested-as other ok u e h = record { answer = h .answer ∙ e; table = h .table ∙ ap (λ (b : Bool). cond b (stored t) t) e }
-
 -- ---- what the code holds after each line
-
--- a number that fits 16 bits
-low-same : (n : ℕ) → n < 65536 → n % 65536 ≡ n
-low-same n h = mod-eq-of-lt h
 
 -- the sheet after a line, if its test passes, from what the code answered and stored
 holds-if : (c : Bool) (s : Sheet) (fits : List ℕ → Bool) (stored : List ℕ → List ℕ) (t u : List ℕ) (ok : Bool) (k : ℕ) → Stores fits stored t ok u
@@ -117,29 +96,25 @@ least-none s e = rw e
 
 -- ---- what a line that passes its test stores
 
-module _ (s : Sheet) where
+module _ (s : Sheet) (fm : formed s ≡ true) where
   sum-stored : (a b : ℕ) → sumFits s a b ≡ true
       → (0 ≡ leastOwner (addSum s (record { left = a; right = b })))
-      × (pairStored 8 2 a b (tableOf s) ≡ tableOf (addSum s (record { left = a; right = b })))
+      × (sumPut a b (tableOf s) ≡ tableOf (addSum s (record { left = a; right = b })))
   unfolding sumFits
   sum-stored a b f =
       let x : Sum = record { left = a; right = b } in
       let rest = both-right _ _ f in
-      let few : length (s .sums) < 27 = ltb-true _ _ (both-left _ _ rest) in
+      let few : length (s .sums) < maxSums = ltb-true _ _ (both-left _ _ rest) in
       let left : a < typeCount s = ltb-true _ _ (both-left _ _ (both-right _ _ rest)) in
-      let right : b < typeCount s = ltb-true _ _ (both-right _ _ (both-right _ _ rest)) in
-      let count = type-count s in (
+      let right : b < typeCount s = ltb-true _ _ (both-right _ _ (both-right _ _ rest)) in (
         least-none (addSum s x) (unfold addSum in (no-labels s (both-left _ _ (both-left _ _ f)))),
-        rw (types-in s, low-same a (omega arith), low-same b (omega arith), low-same (typeCount s + 1) (omega arith)) (sum-table s x (omega arith)),
+        sum-put s fm x (omega (arith, type-count s)) left right,
       )
 
-  label-stored : formed s ≡ true → labelFits s ≡ true → (0 ≡ leastOwner (addLabel s)) × (labelStored (tableOf s) ≡ tableOf (addLabel s))
+  label-stored : labelFits s ≡ true → (0 ≡ leastOwner (addLabel s)) × (openPut (tableOf s) ≡ tableOf (addLabel s))
   unfolding labelFits
-  label-stored fm f =
-      let few : labelCount s < 32 = ltb-true _ _ (both-right _ _ f) in (
-        unfold leastOwner addLabel leastAfter in (sym (ap (leastAfter 0) (last-more (s .labels) []))),
-        rw (labels-in s, principals-in s, everyone-in s, low-same (labelCount s + 1) (omega arith)) (label-table s fm few),
-      )
+  label-stored f =
+      (unfold leastOwner addLabel leastAfter in (sym (ap (leastAfter 0) (last-more (s .labels) []))), open-put s fm (ltb-true _ _ (both-right _ _ f)))
 
   least-policy : (o r w : ℕ) → 0 < labelCount s → o + 1 ≡ leastOwner (addPolicy s (policy o r w))
   unfolding leastOwner addPolicy labelCount
@@ -149,79 +124,61 @@ module _ (s : Sheet) where
       let new = ap (λ pss. lastOf (toLast (policy o r w) pss)) e ∙ ap lastOf (toLast-more (policy o r w) before ps) ∙ last-more before _ in
       add-one o ∙ sym (ap (leastAfter 0) new ∙ least-more 0 ps o r w))
 
-  policy-stored : (o r w : ℕ) → formed s ≡ true → policyFits s o r w ≡ true
-      → (o % 65536 + 1 ≡ leastOwner (addPolicy s (policy o r w)))
-      × (policyStored o r w (tableOf s) ≡ tableOf (addPolicy s (policy o r w)))
+  policy-stored : (o r w : ℕ) → policyFits s o r w ≡ true
+      → (o % maxPrincipals + 1 ≡ leastOwner (addPolicy s (policy o r w)))
+      × (policyPut o r w (tableOf s) ≡ tableOf (addPolicy s (policy o r w)))
   unfolding policyFits
-  policy-stored o r w fm f =
+  policy-stored o r w f =
       let some-label : 0 < labelCount s = ltb-true _ _ (both-right _ _ (both-left _ _ f)) in
       let owner : o < s .principals = ltb-true _ _ (both-right _ _ (both-left _ _ (both-right _ _ f))) in
-      let narrow = low-same o (omega (arith, formed-facts s fm .few-principals)) in
-      (ap (λ (k : ℕ). k + 1) narrow ∙ least-policy o r w some-label, rw (labels-in s) (policy-table s fm o r w some-label))
+      let few : o < maxPrincipals = omega (arith, formed-facts s fm .few-principals) in
+      (ap (λ (k : ℕ). k + 1) (mod-eq-of-lt few) ∙ least-policy o r w some-label, policy-put s fm o r w some-label)
 
-  location-stored : (t l : ℕ) → formed s ≡ true → locationFits s t l ≡ true
-      → pairStored 72 4 t l (tableOf s) ≡ tableOf (addLocation s (record { type = t; label = l }))
-  unfolding locationFits labelCount
-  location-stored t l fm f =
+  location-stored : (t l : ℕ) → locationFits s t l ≡ true
+      → locationPut t l (tableOf s) ≡ tableOf (addLocation s (record { type = t; label = l }))
+  unfolding locationFits
+  location-stored t l f =
       let names = both-right _ _ f in
-      let few : locationCount s < 64 = ltb-true _ _ (both-left _ _ f) in
-      let type : t < typeCount s = ltb-true _ _ (both-left _ _ names) in
-      let label : l < labelCount s = ltb-true _ _ (both-right _ _ names) in
-      let count = type-count s in
-      let facts = formed-facts s fm in
-      rw (locations-in s, low-same t (omega (arith, facts .few-sums)), low-same l (omega (arith, facts .few-labels)), low-same (locationCount s + 1) (omega arith))
-      (location-table s (record { type = t; label = l }) fm few)
+      location-put s fm (record { type = t; label = l }) (ltb-true _ _ (both-left _ _ f)) (ltb-true _ _ (both-left _ _ names))
+      (ltb-true _ _ (both-right _ _ names))
 
 -- what was stored in the table of a sheet
-module _ (s : Sheet) (t : List ℕ) (e : t ≡ tableOf s) (ok : Bool) (u : List ℕ) where
-  pub sum-holds : (a b : ℕ) → Stores (sumFitsIn a b) (pairStored 8 2 a b) t ok u → DraftHolds (addLine s (T a b)) (draftIf ok 0) u
+module _ (s : Sheet) (fm : formed s ≡ true) (t : List ℕ) (e : t ≡ tableOf s) (ok : Bool) (u : List ℕ) where
+  pub sum-holds : (a b : ℕ) → Stores (sumFitsIn a b) (sumPut a b) t ok u → DraftHolds (addLine s (T a b)) (draftIf ok 0) u
   unfolding addLine
   sum-holds a b made =
-      holds-if (sumFits s a b) _ (sumFitsIn a b) (pairStored 8 2 a b) (tableOf s) u ok 0 (rw e at made) (sum-fits-in s a b) (λ f. sum-stored s a b f)
+      holds-if (sumFits s a b) _ (sumFitsIn a b) (sumPut a b) (tableOf s) u ok 0 (rw e at made) (sum-fits-in s fm a b) (λ f. sum-stored s fm a b f)
 
-  pub label-holds : formed s ≡ true → Stores labelFitsIn labelStored t ok u → DraftHolds (addLine s L) (draftIf ok 0) u
+  pub label-holds : Stores labelFitsIn openPut t ok u → DraftHolds (addLine s L) (draftIf ok 0) u
   unfolding addLine
-  label-holds fm made =
-      holds-if (labelFits s) _ labelFitsIn labelStored (tableOf s) u ok 0 (rw e at made) (label-fits-in s) (λ f. label-stored s fm f)
+  label-holds made =
+      holds-if (labelFits s) _ labelFitsIn openPut (tableOf s) u ok 0 (rw e at made) (label-fits-in s fm) (λ f. label-stored s fm f)
 
-  pub policy-holds : (o r w : ℕ) → formed s ≡ true → (least : ℕ) → least ≡ leastOwner s → (k : ℕ) → k ≡ o % 65536
-      → Stores (policyFitsIn least o r w) (policyStored o r w) t ok u → DraftHolds (addLine s (O o r w)) (draftIf ok (k + 1)) u
+  pub policy-holds : (o r w : ℕ) (least : ℕ) → least ≡ leastOwner s → Stores (policyFitsIn least o r w) (policyPut o r w) t ok u
+      → DraftHolds (addLine s (O o r w)) (draftIf ok (o % maxPrincipals + 1)) u
   unfolding addLine
-  policy-holds o r w fm least same k low made =
-      holds-if (policyFits s o r w) _ (policyFitsIn (leastOwner s) o r w) (policyStored o r w) (tableOf s) u ok (k + 1) (rw (e, same) at made)
-      (policy-fits-in s o r w) (λ f. let h = policy-stored s o r w fm f in (ap (λ (k : ℕ). k + 1) low ∙ h .0, h .1))
+  policy-holds o r w least same made =
+      holds-if (policyFits s o r w) _ (policyFitsIn (leastOwner s) o r w) (policyPut o r w) (tableOf s) u ok (o % maxPrincipals + 1)
+      (rw (e, same) at made) (policy-fits-in s fm o r w) (λ f. policy-stored s fm o r w f)
 
-  pub location-holds : (ty l : ℕ) → formed s ≡ true → (least : ℕ) → least ≡ leastOwner s
-      → Stores (locationFitsIn ty l) (pairStored 72 4 ty l) t ok u → DraftHolds (addLine s (X ty l)) (draftIf ok least) u
+  pub location-holds : (ty l : ℕ) (least : ℕ) → least ≡ leastOwner s → Stores (locationFitsIn ty l) (locationPut ty l) t ok u
+      → DraftHolds (addLine s (X ty l)) (draftIf ok least) u
   unfolding addLine
-  location-holds ty l fm least same made =
-      holds-if (locationFits s ty l) _ (locationFitsIn ty l) (pairStored 72 4 ty l) (tableOf s) u ok least (rw e at made) (location-fits-in s ty l)
-      (λ f. (same ∙ least-kept, location-stored s ty l fm f))
+  location-holds ty l least same made =
+      holds-if (locationFits s ty l) _ (locationFitsIn ty l) (locationPut ty l) (tableOf s) u ok least (rw e at made) (location-fits-in s fm ty l)
+      (λ f. (same ∙ least-kept, location-stored s fm ty l f))
     where
       least-kept : leastOwner s ≡ leastOwner (addLocation s (record { type = ty; label = l }))
       least-kept = unfold leastOwner addLocation in refl
 
 -- ---- the first line
 
--- the table of a sheet of n principals with nothing else
-blank-table : (n : ℕ)
-    → set (set (set (set (set (replicate tableWords 0) 0 n) 1 (everyone n)) 2 5) 16 2) 17 1 ≡ tableOf (bareSheet n)
-unfolding tableOf bareSheet typeCount labelCount locationCount labelsOf typeParts givenParts padded pairWords labelsWords
-blank-table n = refl
-
--- the code's set of n principals
-everyone-held : (n : ℕ) → n ≤ 16 → restrict width (everyone n) ≡ everyone n
-unfolding everyone
-everyone-held n h = let some-set : 0 < 2 ^ n = pow-pos n in let m : 2 ^ n ≤ 2 ^ 16 = pow-mono h in restrict-id 16 (2 ^ n - 1) (omega arith)
-
 pub begin-holds : (n : ℕ) (t : List ℕ) → t ≡ replicate tableWords 0 → (ok : Bool) (u : List ℕ)
-    → Stores (principalsFit n) (principalsStored n) t ok u → DraftHolds (begin (P n)) (draftIf ok 0) u
+    → Stores (principalsFit n) (principalsPut n) t ok u → DraftHolds (begin (P n)) (draftIf ok 0) u
 unfolding begin
 begin-holds n t e ok u made =
-    holds-if (both (leb 1 n) (leb n 16)) (bareSheet n) (principalsFit n) (principalsStored n) (replicate tableWords 0) u ok 0 (rw e at made) refl
-    (λ f.
-    let few : n ≤ 16 = leb-true _ _ (both-right _ _ f) in
-    (least-none (bareSheet n) (unfold bareSheet in refl), rw (low-same n (omega arith), everyone-held n few) (blank-table n)))
+    holds-if (both (leb 1 n) (leb n maxPrincipals)) (bareSheet n) (principalsFit n) (principalsPut n) (replicate tableWords 0) u ok 0 (rw e at made) refl
+    (λ f. (least-none (bareSheet n) (unfold bareSheet in refl), principals-put n (leb-true _ _ (both-right _ _ f))))
 
 -- ---- the sheet so far stays of the right form
 

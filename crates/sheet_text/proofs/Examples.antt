@@ -16,7 +16,8 @@ use Rattle.sheet.specs.Internal.Tables.{givenParts, typeParts}
 use Rattle.sheet.specs.Sheet.{Sheet, typeCount, labelsOf, labelCount, locationCount, earlierTypes, rising, eachRising, eachNamed, formed, among, repeated, sameParts, repeats}
 use Rattle.sheet_text.specs.Lines.{sumLine, policyLine, locationLine, each, labelLines, linesThen, sheetLines, lineBytes, sheetBytes}
 use Rattle.sheet_text.specs.Reading.{principalsRest, pairLine, pairRest, labelRest, policyRest, lineOf}
-use Rattle.sheet_text.specs.Internal.Building.{bareSheet, addSum, addLabel, toLast, addPolicy, addLocation, lastOf, leastAfter, leastOwner, sumFits, labelFits, policyFits, locationFits, begin, addLine, addLineOn, addLines, build}
+use Rattle.sheet.specs.Internal.Growth.{bareSheet, addSum, addLabel, toLast, addPolicy, addLocation}
+use Rattle.sheet_text.specs.Internal.Building.{lastOf, leastAfter, leastOwner, sumFits, labelFits, policyFits, locationFits, begin, addLine, addLineOn, addLines, build}
 use Rattle.sheet_text.specs.Sheets.{buildRead, sheetRead, Answer, malformed, repeating, accepted, judged, sheetOf}
 
 caseSheet : Sheet

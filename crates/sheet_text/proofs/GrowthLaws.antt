@@ -5,7 +5,7 @@ use mathlib.Core.List.{List, [], _∷_, _++_}
 use Prim.Native.Nat.{ℕ, suc, _+_, _<_, _≤_}
 use native.Mathlib.Omega.{arith}
 use native.Mathlib.Nat.{add-zero}
-use lib.ListN.{length, length-append}
+use lib.ListN.{length}
 use borrow.Author.Tests.{lt-ltb}
 use Rattle.logic.proofs.BooleanLaws.{both-left, both-right, both-true}
 use Rattle.labels.specs.Labels.{Policy, policy}
@@ -13,10 +13,8 @@ use Rattle.sheet.specs.Sheet.{Sum, Location, earlierTypes, rising, eachRising, 
 use Rattle.sheet_text.specs.declared.line.Line.{Line}
 use Rattle.sheet_text.specs.declared.line.Line.the-variants.{P, L}
 use Rattle.sheet_text.specs.Lines.{policyLine, each, labelLines}
-use Rattle.sheet_text.specs.Internal.Building.{toLast, lastOf, leastAfter}
-
-pub length-more : {A : Type 0} (xs : List A) (x : A) → length (xs ++ (x ∷ [])) ≡ length xs + 1
-length-more xs x = length-append xs (x ∷ [])
+use Rattle.sheet.specs.Internal.Growth.{toLast}
+use Rattle.sheet_text.specs.Internal.Building.{lastOf, leastAfter}
 
 pub no-entries : {A : Type 0} (xs : List A) → length xs ≡ 0 → xs ≡ []
 no-entries [] h = refl
@@ -43,30 +41,11 @@ policies-more p (ps ∷ qs ∷ pss) rest h = ap (λ ls. L ∷ each policyLine ps
 
 -- ---- the last label
 
-pub length-toLast : (p : Policy) (pss : List (List Policy)) → length (toLast p pss) ≡ length pss
-unfolding toLast
-length-toLast p [] = refl
-length-toLast p (ps ∷ []) = refl
-length-toLast p (ps ∷ qs ∷ pss) = ap suc (length-toLast p (qs ∷ pss))
-
 pub last-more : (pss : List (List Policy)) (ps : List Policy) → lastOf (pss ++ (ps ∷ [])) ≡ ps
 unfolding lastOf
 last-more [] ps = refl
 last-more (qs ∷ []) ps = refl
 last-more (qs ∷ rs ∷ pss) ps = last-more (rs ∷ pss) ps
-
-pub toLast-more : (p : Policy) (pss : List (List Policy)) (ps : List Policy) → toLast p (pss ++ (ps ∷ [])) ≡ pss ++ ((ps ++ (p ∷ [])) ∷ [])
-unfolding toLast
-toLast-more p [] ps = refl
-toLast-more p (qs ∷ []) ps = refl
-toLast-more p (qs ∷ rs ∷ pss) ps = ap (_∷_ qs) (toLast-more p (rs ∷ pss) ps)
-
--- some labels are some before the last, and the last
-pub labels-split : {P : Type 0} (pss : List (List Policy)) → 1 ≤ length pss
-    → ((before : List (List Policy)) (ps : List Policy) → pss ≡ before ++ (ps ∷ []) → P) → P
-labels-split [] h f = absurd (omega arith)
-labels-split (ps ∷ []) h f = f [] ps refl
-labels-split (ps ∷ qs ∷ pss) h f = labels-split (qs ∷ pss) (omega arith) (λ before rs e. f (ps ∷ before) rs (ap (_∷_ ps) e))
 
 pub least-more : (from : ℕ) (ps : List Policy) (o r w : ℕ) → leastAfter from (ps ++ (policy o r w ∷ [])) ≡ suc o
 unfolding leastAfter

@@ -5,7 +5,6 @@ pub mod GrowthLaws
 pub mod BuildLaws
 pub mod CompleteLaws
 pub mod Theorems
-pub mod TableGrowth
 pub mod DraftLaws
 pub mod RepeatFinds
 pub mod FoundLaws

@@ -14,6 +14,7 @@ use Rattle.sheet.specs.Sheet.{Sheet, typeCount, labelCount}
 use Rattle.sheet.specs.Internal.Tables.{tableWords, typesIn, labelsIn}
 use Rattle.sheet.proofs.FormLaws.{formed-facts, type-count}
 use Rattle.sheet.proofs.TableLaws.{types-in, labels-in}
+use Rattle.sheet.proofs.TableGrowth.{table-long}
 use Rattle.sheet_text.specs.declared.line.Line.{Line}
 use Rattle.sheet_text.specs.declared.draft.Draft.{Draft}
 use Rattle.sheet_text.specs.declared.draft.Draft.the-variants.{Formed, Refused}
@@ -26,7 +27,6 @@ use Rattle.sheet_text.specs.Internal.Drafts.{DraftHolds, FormedIf, steps
 use Rattle.sheet_text.specs.Internal.Repeats.{repeatsIn}
 use Rattle.sheet_text.proofs.LineLaws.{sheet-lines}
 use Rattle.sheet_text.proofs.DraftLaws.{refused-formed}
-use Rattle.sheet_text.proofs.TableGrowth.{table-long}
 use Rattle.sheet_text.proofs.RepeatFinds.{repeats-in}
 use Rattle.sheet_text.proofs.Theorems.{sheet-in-sound, accepted-exact}
 
@@ -97,7 +97,7 @@ module _ (d : Draft) (t : List ℕ) where
         let facts = formed-facts s f in
         let types : typeCount s ≤ 32 = omega (arith, type-count s, facts .few-sums) in
         let labels : labelCount s ≤ 32 = unfold labelCount in (facts .few-labels) in
-        rw (e .1, types-in s, labels-in s) (types, labels)
+        rw (e .1, types-in s f, labels-in s f) (types, labels)
 
     pub answer-repeating : (o : Option Sheet) → FormedIf o → DraftHolds o d t → repeatsIn t ≡ true → refusedBy Repeats ≡ decodedSheet (judged o)
     unfolding DraftHolds decodedSheet judged FormedIf

@@ -10,6 +10,7 @@ use draft::Draft;
 use draft::draft_of;
 use repeat::repeats;
 use sheet::WORDS;
+use sheet::Word;
 
 // What a text is: a sheet; not of the form, or naming what isn't there; or a sheet that repeats a type or a label.
 pub enum Verdict {
@@ -19,16 +20,16 @@ pub enum Verdict {
 }
 
 // The verdict on a sheet's text. The lent table becomes the sheet's, or zeros where the text is refused, whatever it held.
-pub fn read(text: &[u8], table: &mut [u16; WORDS]) -> Verdict
+pub fn read(text: &[u8], table: &mut [Word; WORDS]) -> Verdict
     ensures { λ r. ⌜ record { verdict = r; table = now (table .exit) } ≡ decodedSheet (sheetOf (now (text .entry))) ⌝ }
 {
-    *table = [0u16; WORDS];
+    *table = [0; WORDS];
     let Draft::Formed(_) = draft_of(text, table) else {
-        *table = [0u16; WORDS];
+        *table = [0; WORDS];
         return Verdict::Malformed;
     };
     if repeats(table) {
-        *table = [0u16; WORDS];
+        *table = [0; WORDS];
         return Verdict::Repeats;
     }
     Verdict::Accepted

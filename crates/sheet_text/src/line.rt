@@ -4,6 +4,7 @@ ghost use lib.ListN.{drop};
 ghost use Rattle.sheet_text.specs.Reading.{principalsRest, pairLine, pairRest, labelRest, policyRest, lineOf};
 ghost use Rattle.sheet_text.specs.Internal.Placed.{placedLine, lineAt};
 use reader::Reader;
+use sets::Set;
 use text::Decimal;
 use text::MOST;
 use text::Mask;
@@ -18,7 +19,7 @@ pub enum Line {
     P(u32),
     T(u32, u32),
     L,
-    O(u32, u16, u16),
+    O(u32, Set, Set),
     X(u32, u32),
 }
 

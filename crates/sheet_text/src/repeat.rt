@@ -8,9 +8,10 @@ use sheet::LABELS;
 use sheet::PARTS;
 use sheet::SUMS;
 use sheet::WORDS;
+use sheet::Word;
 
 // Whether the n words from a on are those from b on.
-fn same_words(table: &[u16; WORDS], a: usize, b: usize, n: usize) -> bool
+fn same_words(table: &[Word; WORDS], a: usize, b: usize, n: usize) -> bool
     requires { ⌜ (a + n ≤ tableWords) × (b + n ≤ tableWords) ⌝ }
     ensures { λ r. ⌜ r ≡ sameWords (now (table .entry)) a b n ⌝ }
 {
@@ -23,7 +24,7 @@ fn same_words(table: &[u16; WORDS], a: usize, b: usize, n: usize) -> bool
 }
 
 // Whether two types have the same parts, or two labels the same sets.
-fn same(table: &[u16; WORDS], labels: bool, i: u32, j: u32) -> bool
+fn same(table: &[Word; WORDS], labels: bool, i: u32, j: u32) -> bool
     requires { ⌜ (i < mostEach) × (j < mostEach) ⌝ }
     ensures { λ r. ⌜ r ≡ sameIn (now (table .entry)) labels i j ⌝ }
 {
@@ -36,7 +37,7 @@ fn same(table: &[u16; WORDS], labels: bool, i: u32, j: u32) -> bool
 }
 
 // Whether one of those from `from` to before n is the same as the one at i.
-fn again(table: &[u16; WORDS], labels: bool, i: u32, from: u32, n: u32) -> bool
+fn again(table: &[Word; WORDS], labels: bool, i: u32, from: u32, n: u32) -> bool
     requires { ⌜ (i < mostEach) × (n ≤ mostEach) ⌝ }
     ensures { λ r. ⌜ r ≡ anyFrom (sameIn (now (table .entry)) labels i) from (n - from) ⌝ }
 {
@@ -49,7 +50,7 @@ fn again(table: &[u16; WORDS], labels: bool, i: u32, from: u32, n: u32) -> bool
 }
 
 // Whether one of those from `from` to before n comes again before n.
-fn repeated(table: &[u16; WORDS], labels: bool, from: u32, n: u32) -> bool
+fn repeated(table: &[Word; WORDS], labels: bool, from: u32, n: u32) -> bool
     requires { ⌜ n ≤ mostEach ⌝ }
     ensures { λ r. ⌜ r ≡ anyFrom (againIn (now (table .entry)) labels n) from (n - from) ⌝ }
 {
@@ -62,7 +63,7 @@ fn repeated(table: &[u16; WORDS], labels: bool, from: u32, n: u32) -> bool
 }
 
 // Whether the table repeats a type or a label.
-pub(crate) fn repeats(table: &[u16; WORDS]) -> bool
+pub(crate) fn repeats(table: &[Word; WORDS]) -> bool
     requires { ⌜ (typesIn (now table) ≤ mostEach) × (labelsIn (now table) ≤ mostEach) ⌝ }
     ensures { λ r. ⌜ r ≡ repeatsIn (now (table .entry)) ⌝ }
 {

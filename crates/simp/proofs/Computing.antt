@@ -19,6 +19,7 @@ use Rattle.script.specs.Names as names
 use Rattle.sheet.specs.Meaning as meaning
 use Rattle.sheet.specs.Sheet as sheet
 use Rattle.sheet.specs.Padding as padding
+use Rattle.sheet.specs.Internal.Growth as growth
 use Rattle.sheet_text.specs.Internal.Building as building
 use Rattle.sheet_text.specs.Reading as sheet-lines
 use Rattle.sheet_text.specs.Internal.Repeats as repeats
@@ -75,10 +76,11 @@ unfolding meaning.effectiveIf meaning.effectively
     sheet.locationNo sheet.locationCount sheet.earlierTypes sheet.rising sheet.eachRising sheet.eachNamed sheet.formed sheet.among sheet.repeated
     sheet.sameParts sheet.repeats
     padding.padded
+    growth.bareSheet growth.addSum growth.addLabel growth.toLast growth.addPolicy growth.addLocation
 sheet-used = tt
 
 unfoldable pub sheet-text-used : Unit {0}
-unfolding building.bareSheet building.addSum building.addLabel building.toLast building.addPolicy building.addLocation building.lastOf building.leastAfter
+unfolding building.lastOf building.leastAfter
     building.leastOwner building.sumFits building.labelFits building.policyFits building.locationFits building.begin building.addLine
     building.addLineOn building.addLines building.build
     sheet-lines.principalsRest sheet-lines.pairLine sheet-lines.pairRest sheet-lines.labelRest sheet-lines.policyRest sheet-lines.lineOf

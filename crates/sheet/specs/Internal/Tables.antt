@@ -4,7 +4,7 @@ use mathlib.Core.List.{List, [], _∷_, _++_}
 use Prim.Native.Nat.{ℕ, _+_, _*_}
 use lib.Dec.{ltb}
 use lib.ListN.{getD}
-use Rattle.sets.specs.Sets.{everyone}
+use Rattle.sets.specs.Sets.{width, everyone}
 use Rattle.labels.specs.Labels.{bottomOf, belowOf, readsOf, writesOf}
 use Rattle.labels.specs.Internal.Tables.{labelSize, labelWords, labelAt}
 use Rattle.labels.specs.declared.Label.{Label}
@@ -36,6 +36,20 @@ labelsBase = locationsBase + locationsRoom
 
 abbrev pub tableWords : ℕ
 tableWords = labelsBase + labelsRoom
+
+-- the number of bits of a word, which has room for a set and for each count
+abbrev pub wordWidth : ℕ
+wordWidth = width
+
+-- where the counts of types, of labels and of locations stand
+abbrev pub typesAt : ℕ
+typesAt = 2
+
+abbrev pub labelsAt : ℕ
+labelsAt = 3
+
+abbrev pub locationsAt : ℕ
+locationsAt = 4
 
 -- two words for each element
 unfoldable pub pairWords : {A : Type 0} → (A → ℕ) → (A → ℕ) → List A → List ℕ
@@ -78,13 +92,13 @@ abbrev pub everyoneIn : List ℕ → ℕ
 everyoneIn t = getD t 1 0
 
 abbrev pub typesIn : List ℕ → ℕ
-typesIn t = getD t 2 0
+typesIn t = getD t typesAt 0
 
 abbrev pub labelsIn : List ℕ → ℕ
-labelsIn t = getD t 3 0
+labelsIn t = getD t labelsAt 0
 
 abbrev pub locationsIn : List ℕ → ℕ
-locationsIn t = getD t 4 0
+locationsIn t = getD t locationsAt 0
 
 -- the word of entry i in a list of count pairs of words that starts at base; 0 past its last entry
 unfoldable pub entryIn : List ℕ → ℕ → ℕ → ℕ → ℕ

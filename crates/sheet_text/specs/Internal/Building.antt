@@ -1,39 +1,16 @@
 -- From lines to the sheet, a line at a time: each is tested against the sheet so far, which refuses those that break the form.
 use mathlib.Core.Bool.{Bool, cond}
-use mathlib.Core.List.{List, [], _∷_, _++_}
+use mathlib.Core.List.{List, [], _∷_}
 use mathlib.Core.Option.{Option, none, some}
 use Prim.Native.Nat.{ℕ, suc, _^_}
 use lib.Dec.{eqb, leb, ltb}
 use lib.ListN.{length}
 use Rattle.logic.specs.Booleans.{both}
 use Rattle.labels.specs.Labels.{Policy, policy}
-use Rattle.sheet.specs.Sheet.{Sum, Location, Sheet, typeCount, labelCount, locationCount, maxPrincipals, maxSums, maxLabels, maxLocations}
+use Rattle.sheet.specs.Sheet.{Sheet, typeCount, labelCount, locationCount, maxPrincipals, maxSums, maxLabels, maxLocations}
+use Rattle.sheet.specs.Internal.Growth.{bareSheet, addSum, addLabel, addPolicy, addLocation}
 use Rattle.sheet_text.specs.declared.line.Line.{Line}
 use Rattle.sheet_text.specs.declared.line.Line.the-variants.{P, T, L, O, X}
-
--- ---- a line more
-
--- a sheet of n principals with nothing else
-unfoldable pub bareSheet : ℕ → Sheet
-bareSheet n = record { principals = n; sums = []; labels = []; locations = [] }
-
-unfoldable pub addSum : Sheet → Sum → Sheet
-addSum s x = record { principals = s .principals; sums = s .sums ++ (x ∷ []); labels = s .labels; locations = s .locations }
-
-unfoldable pub addLabel : Sheet → Sheet
-addLabel s = record { principals = s .principals; sums = s .sums; labels = s .labels ++ ([] ∷ []); locations = s .locations }
-
--- a policy more at the last label
-unfoldable pub toLast : Policy → List (List Policy) → List (List Policy)
-toLast p [] = []
-toLast p (ps ∷ []) = (ps ++ (p ∷ [])) ∷ []
-toLast p (ps ∷ qs ∷ pss) = ps ∷ toLast p (qs ∷ pss)
-
-unfoldable pub addPolicy : Sheet → Policy → Sheet
-addPolicy s p = record { principals = s .principals; sums = s .sums; labels = toLast p (s .labels); locations = s .locations }
-
-unfoldable pub addLocation : Sheet → Location → Sheet
-addLocation s x = record { principals = s .principals; sums = s .sums; labels = s .labels; locations = s .locations ++ (x ∷ []) }
 
 -- ---- which line may come next
 

@@ -1,17 +1,22 @@
 -- `sheet_text::draft::add_location` meets its contract. Assumes nothing.
-use Rattle.logic.specs.Booleans.{both}
-use Rattle.sheet_text.proofs.DraftLaws.{tested-as}
+use mathlib.Core.Path.{sym, _∙_}
+use borrow.Author.Tests.{not-true, not-false}
+use Rattle.sheet_text.proofs.DraftLaws.{passed-over, taken}
 use borrow.Author.Needs.{needs}
 use Rattle.sheet_text.proofs.draft.add_location.Statement.{statement}
 use Rattle.sheet_text.proofs.draft.add_location.Tie as tie
 
 returns : tie.Need-returns
-unfolding both
-returns c = tested-as _ _ _ _ _ _ (rw (c .before .before .before .before .before .types .ensures, c .before .before .labels .ensures)) (c .add-pair .ensures)
+returns c = passed-over _ _ _ (sym (c .before .location-fits .ensures) ∙ not-true _ (c .if1 .taken))
+
+returns-2 : tie.Need-returns-2
+returns-2 c =
+    let here = c .before .before in
+    taken _ _ _ (sym (here .before .location-fits .ensures) ∙ not-false _ (here .if1 .left)) _ (c .add-location .ensures)
 
 pub add-location-spec : {M : Type 1} → statement M
 add-location-spec = tie.close (tie.spec
-    (λ c κs. search needs)  -- types-requires
-    (λ c κs. search needs)  -- labels-requires
-    (λ c κs. search needs)  -- add-pair-requires
-    returns)
+    (λ c κs. search needs)  -- location-fits-requires
+    returns
+    (λ c κs. search needs)  -- add-location-requires
+    returns-2)

@@ -12,16 +12,10 @@ returns c = passed-over _ _ _ (not-true _ (c .if1 .taken))
 
 returns-2 : tie.Need-returns-2
 unfolding both
-returns-2 c = taken _ _ _ (not-false _ (c .before .before .if1 .left)) _ (rw (c .everyone .ensures, c .before .low .ensures))
+returns-2 c = taken _ _ _ (not-false _ (c .before .before .if1 .left)) _ (c .put-principals .ensures)
 
 pub set-principals-spec : {M : Type 1} → statement M
 set-principals-spec = tie.close (tie.spec
     returns
-    (λ c κs. search needs)  -- low-requires
-    (λ c. search needs)  -- element-write-table
-    (λ c κs. search needs)  -- everyone-requires
-    (λ c. search needs)  -- element-write-table-2
-    (λ c. search needs)  -- element-write-table-3
-    (λ c. search needs)  -- element-write-table-4
-    (λ c. search needs)  -- element-write-table-5
+    (λ c κs. search needs)  -- put-principals-requires
     returns-2)

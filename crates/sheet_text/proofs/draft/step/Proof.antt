@@ -15,25 +15,25 @@ returns-3 : tie.Need-returns-3
 returns-3 c =
     let read = c .before .before .before .before in
     λ o f e. step-made _ _ o _ _ _ _ _ (read .before .before .before .d .given .1) (read .line .given .1) f e
-    (λ s fm k t. rw (c .drafted .ensures) (sum-holds s _ t _ _ _ _ (c .before .add-sum .ensures)))
+    (λ s fm k t. rw (c .drafted .ensures) (sum-holds s fm _ t _ _ _ _ (c .before .add-sum .ensures)))
 
 returns-4 : tie.Need-returns-4
 returns-4 c =
     let read = c .before .before .before in
     λ o f e. step-made _ _ o _ _ _ _ _ (read .before .before .before .d .given .1) (read .enum-told3 .given .1) f e
-    (λ s fm k t. rw (c .drafted2 .ensures) (label-holds s _ t _ _ fm (c .before .add-label .ensures)))
+    (λ s fm k t. rw (c .drafted2 .ensures) (label-holds s fm _ t _ _ (c .before .add-label .ensures)))
 
 returns-5 : tie.Need-returns-5
 returns-5 c =
-    let read = c .before .before .before .before .before in
+    let read = c .before .before .before .before in
     λ o f e. step-made _ _ o _ _ _ _ _ (read .before .before .before .d .given .1) (read .line2 .given .1) f e
-    (λ s fm k t. rw (c .drafted3 .ensures) (policy-holds s _ t _ _ _ _ _ fm _ k _ (c .before .low .ensures) (c .before .before .add-policy .ensures)))
+    (λ s fm k t. rw (c .drafted3 .ensures) (policy-holds s fm _ t _ _ _ _ _ _ k (c .before .add-policy .ensures)))
 
 returns-6 : tie.Need-returns-6
 returns-6 c =
     let read = c .before .before .before .before in
     λ o f e. step-made _ _ o _ _ _ _ _ (read .before .before .before .d .given .1) (read .line3 .given .1) f e
-    (λ s fm k t. rw (c .drafted4 .ensures) (location-holds s _ t _ _ _ _ fm _ k (c .before .add-location .ensures)))
+    (λ s fm k t. rw (c .drafted4 .ensures) (location-holds s fm _ t _ _ _ _ _ k (c .before .add-location .ensures)))
 
 pub step-spec : {M : Type 1} → statement M
 step-spec = tie.close (tie.spec
@@ -49,8 +49,6 @@ step-spec = tie.close (tie.spec
     (λ c κs. search needs)  -- drafted-requires-2
     (λ c. search needs)  -- enum-known-line-2
     (λ c κs. search needs)  -- add-policy-requires
-    (λ c κs. search needs)  -- low-requires
-    (λ c. search needs)  -- cast-drafted
     (λ c. search needs)  -- add-drafted
     (λ c κs. search needs)  -- drafted-requires-3
     (λ c. search needs)  -- enum-known-line-3

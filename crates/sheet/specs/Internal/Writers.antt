@@ -1,0 +1,51 @@
+-- What is stored in a table where its sheet grows. A table without room for more is left as it is.
+use mathlib.Core.Bool.{cond}
+use mathlib.Core.List.{List}
+use Prim.Native.Nat.{ℕ, _+_, _*_, _-_, _%_, _^_}
+use lib.Dec.{ltb}
+use lib.ListN.{getD, set}
+use Rattle.sets.specs.Sets.{width, everyone, restrict}
+use Rattle.labels.specs.Labels.{openOf, policyOf}
+use Rattle.labels.specs.Internal.Tables.{labelSize, labelPut}
+use Rattle.labels.specs.declared.Label.{Label}
+use Rattle.sheet.specs.Sheet.{maxLabels, maxLocations}
+use Rattle.sheet.specs.Internal.Tables.{wordWidth, maxTypes, partsBase, locationsBase, labelsBase, typesAt, labelsAt, locationsAt, principalsIn, everyoneIn, labelsIn, labelIn}
+
+-- the part of a number that a word has room for
+unfoldable pub low : ℕ → ℕ
+low n = n % 2 ^ wordWidth
+
+-- the number of principals, their set, the count of the five given types, and the parts of type 4; the others have the parts 0 0
+abbrev pub principalsPut : ℕ → List ℕ → List ℕ
+principalsPut n t =
+    set (set (set (set (set t 0 (low n)) 1 (restrict width (everyone n))) typesAt 5) (partsBase + 2 * 4) 2) (partsBase + 2 * 4 + 1) 1
+
+-- the pair a b behind the pairs from base on, of which there are at most `most` and as many as the word at `count` says
+unfoldable pub pairPut : ℕ → ℕ → ℕ → ℕ → ℕ → List ℕ → List ℕ
+pairPut base count most a b t =
+    let n = getD t count 0 in
+    cond (ltb n most) (set (set (set t (base + 2 * n) (low a)) (base + 2 * n + 1) (low b)) count (low (n + 1))) t
+
+-- a sum of the types a and b
+abbrev pub sumPut : ℕ → ℕ → List ℕ → List ℕ
+sumPut a b t = pairPut partsBase typesAt maxTypes a b t
+
+-- a location
+abbrev pub locationPut : ℕ → ℕ → List ℕ → List ℕ
+locationPut ty l t = pairPut locationsBase locationsAt maxLocations ty l t
+
+-- label l
+abbrev pub labelSet : ℕ → Label → List ℕ → List ℕ
+labelSet l a t = labelPut t (labelsBase + labelSize * l) a
+
+-- a label without policies behind the others
+unfoldable pub openPut : List ℕ → List ℕ
+openPut t =
+    let n = labelsIn t in
+    cond (ltb n maxLabels) (set (labelSet n (openOf (principalsIn t) (everyoneIn t)) t) labelsAt (low (n + 1))) t
+
+-- a policy more at the last label
+unfoldable pub policyPut : ℕ → ℕ → ℕ → List ℕ → List ℕ
+policyPut o r w t =
+    let last = labelsIn t - 1 in
+    cond (ltb 0 (labelsIn t)) (labelSet last (policyOf (labelIn t last) o r w) t) t

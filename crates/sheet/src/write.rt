@@ -1,0 +1,110 @@
+// What is stored in a table where its sheet grows: a line at a time, each behind what is there. A table without room for more is left as
+// it is. That what is named is there is for the caller to see.
+ghost use mathlib.Core.Path.{_≡_};
+ghost use Prim.Native.Nat.{_+_, _*_, _<_, _≤_};
+ghost use Rattle.sheet.specs.Internal.Tables.{tableWords};
+ghost use Rattle.sheet.specs.Internal.Writers.{low, principalsPut, pairPut, sumPut, locationPut, labelSet, openPut, policyPut};
+use super::ERROR;
+use super::GIVEN_TYPES;
+use super::LABEL_COUNT;
+use super::LABELS;
+use super::LOCATION_COUNT;
+use super::LOCATIONS;
+use super::MOST_LABELS;
+use super::MOST_LOCATIONS;
+use super::MOST_TYPES;
+use super::PARTS;
+use super::PKG;
+use super::PKG_OR_ERROR;
+use super::TYPE_COUNT;
+use super::WORDS;
+use super::Word;
+use labels::LABEL_SIZE;
+use labels::Label;
+use sets::Set;
+
+// Where the parts of pkg+error stand.
+const PKG_PLACE: usize = (PARTS + 2 * PKG_OR_ERROR) as usize;
+
+// How many values a word has.
+const VALUES: u32 = 1 << sets::WIDTH;
+
+// The part of a number that a word has room for.
+fn low(n: u32) -> Word
+    ensures { λ r. ⌜ r ≡ low n ⌝ }
+{
+    (n % VALUES) as Word
+}
+
+// The number of principals, and what every sheet has: the given types. Only pkg+error has parts other than 0 0.
+pub fn put_principals(table: &mut [Word; WORDS], n: u32)
+    ensures { λ _. ⌜ now (table .exit) ≡ principalsPut n (now (table .entry)) ⌝ }
+{
+    table[0] = low(n);
+    table[1] = sets::everyone(n as usize);
+    table[TYPE_COUNT] = GIVEN_TYPES as Word;
+    table[PKG_PLACE] = PKG as Word;
+    table[PKG_PLACE + 1] = ERROR as Word;
+}
+
+// A pair of words behind those from `base` on, of which there are at most `most` and as many as the word at `count` says.
+fn add_pair(table: &mut [Word; WORDS], base: u32, count: usize, most: u32, a: u32, b: u32)
+    requires { ⌜ (base + 2 * most ≤ tableWords) × (count < tableWords) ⌝ }
+    ensures { λ _. ⌜ now (table .exit) ≡ pairPut base count most a b (now (table .entry)) ⌝ }
+{
+    let n = super::number(table, count);
+    if most <= n {
+        return;
+    }
+    let at = (base + 2 * n) as usize;
+    table[at] = low(a);
+    table[at + 1] = low(b);
+    table[count] = low(n + 1);
+}
+
+// The sum of two types.
+pub fn add_sum(table: &mut [Word; WORDS], a: u32, b: u32)
+    ensures { λ _. ⌜ now (table .exit) ≡ sumPut a b (now (table .entry)) ⌝ }
+{
+    add_pair(table, PARTS, TYPE_COUNT, MOST_TYPES, a, b);
+}
+
+// A location.
+pub fn add_location(table: &mut [Word; WORDS], ty: u32, label: u32)
+    ensures { λ _. ⌜ now (table .exit) ≡ locationPut ty label (now (table .entry)) ⌝ }
+{
+    add_pair(table, LOCATIONS, LOCATION_COUNT, MOST_LOCATIONS, ty, label);
+}
+
+// Label l.
+fn set_label(table: &mut [Word; WORDS], l: u32, label: Label)
+    ensures { λ _. ⌜ now (table .exit) ≡ labelSet l label (now (table .entry)) ⌝ }
+{
+    labels::put_label(table, LABELS + LABEL_SIZE * (l as usize), label);
+}
+
+// A label without policies.
+pub fn add_label(table: &mut [Word; WORDS])
+    ensures { λ _. ⌜ now (table .exit) ≡ openPut (now (table .entry)) ⌝ }
+{
+    let l = super::labels(table);
+    if MOST_LABELS <= l {
+        return;
+    }
+    let label = Label::open(super::principals(table) as usize, super::everyone(table));
+    set_label(table, l, label);
+    table[LABEL_COUNT] = low(l + 1);
+}
+
+// A policy of the last label.
+pub fn add_policy(table: &mut [Word; WORDS], owner: u32, readers: Set, writers: Set)
+    ensures { λ _. ⌜ now (table .exit) ≡ policyPut owner readers writers (now (table .entry)) ⌝ }
+{
+    let n = super::labels(table);
+    if n == 0 {
+        return;
+    }
+    let last = n - 1;
+    let label = super::label_of(table, last).with_policy(owner as usize, readers, writers);
+    set_label(table, last, label);
+}

@@ -1,5 +1,5 @@
 -- A group and a budget are read exactly where their printed form is the text. Assumes nothing.
-use Prim.Native.Nat.{ℕ, suc, _≤_}
+use Prim.Native.Nat.{ℕ, suc, _+_, _≤_}
 use native.Mathlib.Omega.{arith}
 use mathlib.Core.Path.{_≡_, refl, ap}
 use mathlib.Core.Bool.{Bool, true, false, false≢true}
@@ -11,10 +11,10 @@ use borrow.Author.Tests.{eqb-true}
 use Rattle.text.specs.Reading.{Read}
 use Rattle.text.specs.Reading.Read.{got, bad}
 use Rattle.text.specs.Number.{number, decimal, most, opensDigit, digit}
-use Rattle.text.specs.Set.{hexSet, hex4}
+use Rattle.text.specs.Set.{setDigits, hexSet, hexForm}
 use Rattle.logic.proofs.BooleanLaws.{cond-split}
 use Rattle.text.proofs.Decimals.{number-sound, number-exact}
-use Rattle.text.proofs.Sets.{set-sound, set-exact}
+use Rattle.text.proofs.Sets.{set-exact, length-form}
 use Rattle.text.proofs.Writings.{length-decimal}
 use Rattle.desk.specs.Fields.{closed, onlyField, groupOf, budgetOf}
 use Rattle.desk.specs.Theorems.{GroupExact, BudgetExact}
@@ -50,7 +50,7 @@ only-print field v e = rw e
 pub group-exact : GroupExact
 unfolding groupOf
 group-exact t g =
-    (λ e. set-sound t g (10 ∷ []) (only-sound (hexSet t) g e), λ h. only-print (hexSet t) g (set-exact g t (10 ∷ []) .1 h))
+    (λ e. set-exact g t (10 ∷ []) .0 (only-sound (hexSet t) g e), λ h. only-print (hexSet t) g (set-exact g t (10 ∷ []) .1 h))
 
 -- the end of a line is no digit
 end-plain : opensDigit (10 ∷ []) ≡ false
@@ -65,9 +65,9 @@ budget-exact t n = (
 )
 
 -- how long such texts are
-pub group-length : (t : List ℕ) (g : ℕ) → groupOf t ≡ some g → length t ≤ 5
-unfolding hex4
-group-length t g e = let h = group-exact t g .0 e .0 in omega (arith, ap length h)
+pub group-length : (t : List ℕ) (g : ℕ) → groupOf t ≡ some g → length t ≤ setDigits + 1
+group-length t g e =
+    omega (arith, ap length (group-exact t g .0 e .0), length-append (hexForm setDigits g) (10 ∷ []), length-form setDigits g)
 
 pub budget-length : (t : List ℕ) (n : ℕ) → budgetOf t ≡ some n → length t ≤ 11
 budget-length t n e =

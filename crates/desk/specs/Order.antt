@@ -1,9 +1,10 @@
 -- What show must print, by the scope: its numbers in the order judged, each with when it applies, and the view where none does.
-use Prim.Native.Nat.{ℕ, _<_}
+use Prim.Native.Nat.{ℕ, _^_, _<_}
 use mathlib.Core.Logic.{_⊎_}
 use mathlib.Core.Path.{_≡_}
 use mathlib.Core.List.{List, [], _∷_, _++_}
-use Rattle.text.specs.Set.{hex4}
+use Rattle.sets.specs.Sets.{width}
+use Rattle.text.specs.Set.{setDigits, hexForm}
 use Rattle.numbers.specs.Rows.{Row, _when_, First}
 use Rattle.memory.specs.View.{viewWords}
 use Rattle.memory_text.specs.Printing.{memoryText}
@@ -13,9 +14,9 @@ use Rattle.desk.specs.Output.{numberLine}
 
 -- ---- of the texts: a text is that of one group at most, and of one memory at most
 
--- The text is that of a group: four digits and byte 10.
+-- The text is that of a group: its digits and byte 10.
 abbrev pub IsGroup : List ℕ → ℕ → Type 0
-IsGroup text g = (text ≡ hex4 g ++ (10 ∷ [])) × (g < 65536)
+IsGroup text g = (text ≡ hexForm setDigits g ++ (10 ∷ [])) × (g < 2 ^ width)
 
 -- The text is that of a group, or of a memory, and P holds of it.
 abbrev pub OfGroup : List ℕ → (ℕ → Type 0) → Type 0

@@ -14,9 +14,10 @@ use Rattle.logic.specs.Booleans.{both}
 use Rattle.logic.proofs.BooleanLaws.{both-left, both-right, both-true, cond-split}
 use Rattle.text.specs.Lines.{none-left, and-then}
 use Rattle.logic.proofs.OptionLaws.{none-some, some-path}
+use Rattle.sets.specs.Sets.{width}
 use Rattle.labels.specs.Labels.{policy}
 use Rattle.sheet.specs.Internal.Tables.{typeParts}
-use Rattle.sheet.specs.Sheet.{Sum, Location, Sheet, typeCount, labelCount, locationCount, earlierTypes, rising, eachRising, eachNamed, formed}
+use Rattle.sheet.specs.Sheet.{Sum, Location, Sheet, typeCount, labelCount, locationCount, earlierTypes, rising, eachRising, eachNamed, maxPrincipals, maxSums, maxLabels, maxLocations, formed}
 use Rattle.sheet.proofs.FormLaws.{Formed, formed-facts, type-count}
 use Rattle.sheet_text.specs.declared.line.Line.{Line}
 use Rattle.sheet_text.specs.declared.line.Line.the-variants.{P, T, L, O, X}
@@ -59,7 +60,7 @@ module _ (s : Sheet) (fm : formed s ≡ true) where
       let x : Sum = record { left = a; right = b } in
       let order = both-left _ _ e in
       let rest = both-right _ _ e in
-      let few : length (s .sums) < 27 = ltb-true _ _ (both-left _ _ rest) in
+      let few : length (s .sums) < maxSums = ltb-true _ _ (both-left _ _ rest) in
       let parts = both-right _ _ rest in
       let left : a < typeCount s = ltb-true _ _ (both-left _ _ parts) in
       let right : b < typeCount s = ltb-true _ _ (both-right _ _ parts) in
@@ -86,7 +87,7 @@ module _ (s : Sheet) (fm : formed s ≡ true) where
   take-label : labelFits s ≡ true → Taken s L (addLabel s)
   unfolding labelFits addLabel linesThen labelCount Fits
   take-label e =
-      let few : length (s .labels) < 32 = ltb-true _ _ (both-right _ _ e) in
+      let few : length (s .labels) < maxLabels = ltb-true _ _ (both-right _ _ e) in
       let x0 = no-locations s (both-left _ _ e) in
       record {
         next = λ rest. unfold each in (rw x0 (ap (λ ls. P (s .principals) ∷ each sumLine (s .sums) ls) (labels-more (s .labels) rest)));
@@ -105,9 +106,9 @@ module _ (s : Sheet) (fm : formed s ≡ true) where
         fits = tt;
       }
 
-  -- a set of the principals is one of 16 bits
-  narrow : (r : ℕ) → r < 2 ^ s .principals → r < 65536
-  narrow r h = let m : 2 ^ s .principals ≤ 2 ^ 16 = pow-mono (facts .few-principals) in lt-of-lt-of-le h m
+  -- a set of the principals has room in a set
+  narrow : (r : ℕ) → r < 2 ^ s .principals → r < 2 ^ width
+  narrow r h = let m : 2 ^ s .principals ≤ 2 ^ width = pow-mono (facts .few-principals) in lt-of-lt-of-le h m
 
   take-policy : (o r w : ℕ) → policyFits s o r w ≡ true → Taken s (O o r w) (addPolicy s (policy o r w))
   unfolding policyFits addPolicy linesThen labelCount Fits each policyLine rising leastOwner eachNamed
@@ -146,7 +147,7 @@ module _ (s : Sheet) (fm : formed s ≡ true) where
   take-location t l e =
       let x : Location = record { type = t; label = l } in
       let names = both-right _ _ e in
-      let few : length (s .locations) < 64 = ltb-true _ _ (both-left _ _ e) in
+      let few : length (s .locations) < maxLocations = ltb-true _ _ (both-left _ _ e) in
       let type : t < typeCount s = ltb-true _ _ (both-left _ _ names) in
       let label : l < labelCount s = ltb-true _ _ (both-right _ _ names) in
       let count = type-count s in
@@ -182,7 +183,7 @@ step-sound s (O o r w) s′ fm e = taken-if (policyFits s o r w) (addPolicy s (p
 step-sound s (X t l) s′ fm e = taken-if (locationFits s t l) _ s′ (λ h k. rw (← k) (take-location s fm t l h)) e
 
 -- the first line
-blank-formed : (n : ℕ) → 1 ≤ n → n ≤ 16 → formed (bareSheet n) ≡ true
+blank-formed : (n : ℕ) → 1 ≤ n → n ≤ maxPrincipals → formed (bareSheet n) ≡ true
 unfolding bareSheet earlierTypes eachRising eachNamed
 blank-formed n h k =
     formed-made (bareSheet n)
@@ -202,14 +203,14 @@ pub record Begun (l : Line) (s : Sheet) : Type 0 where
   pub right : formed s ≡ true
   pub fits : Fits l
 
-blank-begun : (n : ℕ) → 1 ≤ n → n ≤ 16 → Begun (P n) (bareSheet n)
+blank-begun : (n : ℕ) → 1 ≤ n → n ≤ maxPrincipals → Begun (P n) (bareSheet n)
 unfolding linesThen bareSheet each labelLines Fits
 blank-begun n h k = record { next = λ rest. refl; right = blank-formed n h k; fits = omega arith }
 
 pub begin-sound : (l : Line) (s : Sheet) → begin l ≡ some s → Begun l s
 unfolding begin
 begin-sound (P n) s e =
-    taken-if (both (leb 1 n) (leb n 16)) (bareSheet n) s
+    taken-if (both (leb 1 n) (leb n maxPrincipals)) (bareSheet n) s
     (λ h k. rw (← k) (blank-begun n (leb-true _ _ (both-left _ _ h)) (leb-true _ _ (both-right _ _ h)))) e
 begin-sound (T a b) s e = none-some e
 begin-sound L s e = none-some e

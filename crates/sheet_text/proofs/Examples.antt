@@ -8,7 +8,7 @@ use Rattle.logic.specs.Booleans.{both, either}
 use Rattle.sets.specs.Sets.{union, every, tab, single, everyone}
 use Rattle.text.specs.Reading.{andThen, byte, fits}
 use Rattle.text.specs.Number.{digit, opensDigit, digits, number, decimalOn, decimal}
-use Rattle.text.specs.Set.{hexDigit, hexDigits, hexByte, hex4}
+use Rattle.text.specs.Set.{hexDigit, hexDigits, hexByte, hexForm}
 use Rattle.text.specs.Field.{numberField, setField, lastNumber}
 use Rattle.text.specs.Lines.{front, onward, linesUpTo, allLines, printLines}
 use Rattle.labels.specs.Labels.{policy, openAt, openOf, policyOf, withPolicies, labelOf, sameAt, sameOf}
@@ -67,7 +67,7 @@ answers : List Answer
 answers = accepted caseSheet ∷ malformed ∷ malformed ∷ repeating ∷ repeating ∷ replicate 13 malformed
 
 case-printed : sheetBytes caseSheet ≡ caseText
-unfolding caseSheet caseText sheetBytes printLines lineBytes sheetLines linesThen each labelLines sumLine policyLine locationLine decimal decimalOn hex4 hexByte
+unfolding caseSheet caseText sheetBytes printLines lineBytes sheetLines linesThen each labelLines sumLine policyLine locationLine decimal decimalOn hexForm hexByte
 case-printed = refl
 
 texts-read : map sheetOf texts ≡ answers

@@ -2,9 +2,10 @@
 use mathlib.Core.Path.{_≡_, refl, sym, ap, _∙_}
 use mathlib.Core.Bool.{Bool, true, false}
 use mathlib.Core.List.{List, [], _∷_, _++_, append-assoc}
-use Prim.Native.Nat.{ℕ, _≤_, _<_}
+use Prim.Native.Nat.{ℕ, _^_, _≤_, _<_}
 use lib.Dec.{eqb}
 use borrow.Author.Tests.{eqb-true}
+use Rattle.sets.specs.Sets.{width}
 use Rattle.text.specs.Reading.Read.{got}
 use Rattle.text.specs.Number.{most, opensDigit, digit}
 use Rattle.text.specs.Field.{numberField, setField, lineEnd, lastNumber, printNumberField, printSetField, printLineEnd}
@@ -18,12 +19,12 @@ use Rattle.sheet_text.specs.Lines.{lineBytes}
 use Rattle.sheet_text.specs.Reading.{principalsRest, pairLine, pairRest, labelRest, policyRest, lineOf}
 use Rattle.logic.specs.Booleans.{both}
 
--- the numbers of a line are of 32 bits, and its sets of 16
+-- the numbers of a line are of 32 bits, and its sets have room in a set
 unfoldable pub Fits : Line → Type 0
 Fits (P n) = n ≤ most
 Fits (T a b) = (a ≤ most) × (b ≤ most)
 Fits L = Unit
-Fits (O o r w) = (o ≤ most) × (r < 65536) × (w < 65536)
+Fits (O o r w) = (o ≤ most) × (r < 2 ^ width) × (w < 2 ^ width)
 Fits (X t l) = (t ≤ most) × (l ≤ most)
 
 -- ---- what is read stands there, printed

@@ -136,7 +136,7 @@ runs-accepted ws t memory authority budget state steps left r = record {
 strangers-in : (t : List ℕ) (s : Sheet) (g : ℕ) (b : Bool) → TableOf t s → within g (everyoneIn t) ≡ b → strangers s g ≡ cond b 0 3
 unfolding strangers
 strangers-in t s g b T h =
-    let e : everyoneIn t ≡ everyone (s .principals) = ap (λ (u : List ℕ). everyoneIn u) (T .words) ∙ everyone-in s in
+    let e : everyoneIn t ≡ everyone (s .principals) = ap (λ (u : List ℕ). everyoneIn u) (T .words) ∙ everyone-in s (T .form) in
     ap (λ (x : ℕ). cond (within g x) 0 3) (sym e) ∙ ap (λ (x : Bool). cond x 0 3) h
 
 pub unless-3 : {A : Type 0} (refuse : ℕ → A) (t : List ℕ) (s : Sheet) (g : ℕ) (go : A) → TableOf t s → within g (everyoneIn t) ≡ false

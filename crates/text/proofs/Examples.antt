@@ -6,7 +6,7 @@ use lib.ListN.{replicate}
 use Rattle.text.specs.Reading.{andThen, byte, fits}
 use Rattle.text.specs.Reading.Read.{got, bad}
 use Rattle.text.specs.Number.{digit, opensDigit, digits, number, decimalOn, decimal, most}
-use Rattle.text.specs.Set.{hexDigit, hexDigits, hexSet, hexByte, hex4}
+use Rattle.text.specs.Set.{hexDigit, hexDigits, hexSet, hexByte, hexForm}
 use Rattle.text.specs.Field.{numberField, setField, lineEnd, lastNumber}
 use Rattle.logic.specs.Booleans.{both}
 
@@ -39,8 +39,8 @@ set-examples :
     × (hexSet (48 ∷ 65 ∷ 55 ∷ 102 ∷ 10 ∷ []) ≡ bad)
     × (hexSet (48 ∷ 48 ∷ 55 ∷ 10 ∷ []) ≡ bad)
     × (hexSet (48 ∷ 48 ∷ 48 ∷ 55 ∷ 55 ∷ []) ≡ got 7 (55 ∷ []))
-    × (hex4 2687 ≡ 48 ∷ 97 ∷ 55 ∷ 102 ∷ [])
-unfolding hexDigits hexDigit hex4 hexByte
+    × (hexForm 4 2687 ≡ 48 ∷ 97 ∷ 55 ∷ 102 ∷ [])
+unfolding hexDigits hexDigit hexForm hexByte
 set-examples = (refl, refl, refl, refl, refl)
 
 field-examples :

@@ -1,14 +1,15 @@
 -- Fields and line ends: each is read exactly where its printed form stands, and what an answer in a text says. Assumes nothing.
-use Prim.Native.Nat.{ℕ, _≤_, _<_}
+use Prim.Native.Nat.{ℕ, _^_, _≤_, _<_}
 use native.Mathlib.Omega.{arith}
 use mathlib.Core.Path.{_≡_, refl, sym, ap, _∙_}
 use mathlib.Core.Bool.{false}
 use mathlib.Core.List.{List, [], _∷_, _++_, append-assoc}
 use lib.ListN.{length, drop}
+use Rattle.sets.specs.Sets.{width}
 use Rattle.text.specs.Reading.{byte}
 use Rattle.text.specs.Reading.Read.{got, bad}
 use Rattle.text.specs.Number.{number, decimal, opensDigit}
-use Rattle.text.specs.Set.{hexSet, hex4}
+use Rattle.text.specs.Set.{setDigits, hexSet, hexForm}
 use Rattle.text.specs.Field.{numberField, setField, lineEnd, lastNumber, printNumberField, printSetField, printLineEnd}
 use Rattle.text.specs.Internal.Place.{placedDecimal, placedSet, placedEnd}
 use Rattle.text.specs.Theorems.{NumberFieldExact, SetFieldExact, LineEndExact, LastNumberExact}
@@ -22,7 +23,7 @@ use Rattle.text.proofs.Readings.{andThen-got, andThen-bad, andThen-spli
 use Rattle.text.proofs.Places.{Within, decimal-at, decimal-bad, mask-at, mask-bad, place-at, place-bad}
 use Rattle.text.proofs.Numbers.{opens-byte, digit-low}
 use Rattle.text.proofs.Decimals.{number-sound, number-print, number-within}
-use Rattle.text.proofs.Sets.{set-sound, set-print, set-within}
+use Rattle.text.proofs.Sets.{digits-sound, digits-print, set-within}
 
 pub line-end-exact : LineEndExact
 line-end-exact t rest = (λ e. byte-sound 10 t rest tt e, λ r. ap (byte 10) r ∙ byte-here 10 10 rest refl)
@@ -93,16 +94,16 @@ pub last-number-exact : LastNumberExact
 last-number-exact bound v t rest =
     (λ e. last-number-sound bound t v rest e, λ r. ap (lastNumber bound) (r .0) ∙ last-number-print bound v rest (r .1))
 
-pub set-field-sound : (t : List ℕ) (m : ℕ) (u : List ℕ) → setField t ≡ got m u → (t ≡ printSetField m u) × (m < 65536)
+pub set-field-sound : (t : List ℕ) (m : ℕ) (u : List ℕ) → setField t ≡ got m u → (t ≡ printSetField m u) × (m < 2 ^ width)
 unfolding setField
 set-field-sound t m u e =
     andThen-split (byte 9 t) _ m u
     (λ x w f g.
-    let r = set-sound w m u g in
+    let r = digits-sound setDigits w m u g in
     (byte-sound 9 t w x f ∙ rw (r .0), r .1)) e
 
-pub set-field-print : (m : ℕ) (u : List ℕ) → m < 65536 → setField (printSetField m u) ≡ got m u
-set-field-print m u h = set-field-on _ (hex4 m ++ u) (byte-here 9 9 _ refl) ∙ set-print m u h
+pub set-field-print : (m : ℕ) (u : List ℕ) → m < 2 ^ width → setField (printSetField m u) ≡ got m u
+set-field-print m u h = set-field-on _ (hexForm setDigits m ++ u) (byte-here 9 9 _ refl) ∙ digits-print setDigits m u h
 
 pub set-field-exact : SetFieldExact
 set-field-exact m t rest = (λ e. set-field-sound t m rest e, λ r. ap setField (r .0) ∙ set-field-print m rest (r .1))
@@ -115,7 +116,7 @@ pub number-field-within : (bound : ℕ) (t : List ℕ) → Within t (numberField
 number-field-within bound t v u e = ends-print t (9 ∷ decimal v) u (number-field-sound bound t v u e .0)
 
 pub set-field-within : (t : List ℕ) → Within t (setField t)
-set-field-within t m u e = ends-print t (9 ∷ hex4 m) u (set-field-sound t m u e .0)
+set-field-within t m u e = ends-print t (9 ∷ hexForm setDigits m) u (set-field-sound t m u e .0)
 
 pub last-number-within : (bound : ℕ) (t : List ℕ) → Within t (lastNumber bound t)
 last-number-within bound t v u e =

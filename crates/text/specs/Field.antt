@@ -4,7 +4,7 @@ use mathlib.Core.List.{List, _∷_, _++_}
 use Rattle.text.specs.Reading.{Read, andThen, byte}
 use Rattle.text.specs.Reading.Read.{got}
 use Rattle.text.specs.Number.{number, decimal}
-use Rattle.text.specs.Set.{hexSet, hex4}
+use Rattle.text.specs.Set.{setDigits, hexSet, hexForm}
 
 -- a tab and a number up to the bound
 unfoldable pub numberField : ℕ → List ℕ → Read ℕ
@@ -27,7 +27,7 @@ abbrev pub printNumberField : ℕ → List ℕ → List ℕ
 printNumberField v t = 9 ∷ (decimal v ++ t)
 
 abbrev pub printSetField : ℕ → List ℕ → List ℕ
-printSetField m t = 9 ∷ (hex4 m ++ t)
+printSetField m t = 9 ∷ (hexForm setDigits m ++ t)
 
 abbrev pub printLineEnd : List ℕ → List ℕ
 printLineEnd t = 10 ∷ t

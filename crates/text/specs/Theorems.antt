@@ -1,15 +1,16 @@
 -- What is shown of the forms: each is read exactly where its printed form stands.
-use Prim.Native.Nat.{ℕ, _≤_, _<_}
+use Prim.Native.Nat.{ℕ, _^_, _≤_, _<_}
 use mathlib.Core.Path.{_≡_}
 use mathlib.Core.Logic.{_↔_}
 use mathlib.Core.Bool.{false}
 use mathlib.Core.List.{List, _++_}
 use mathlib.Core.Option.{some}
 use lib.ListN.{length}
+use Rattle.sets.specs.Sets.{width}
 use Rattle.text.specs.Reading.{Read}
 use Rattle.text.specs.Reading.Read.{got}
 use Rattle.text.specs.Number.{number, decimal, opensDigit}
-use Rattle.text.specs.Set.{hexSet, hex4}
+use Rattle.text.specs.Set.{setDigits, hexSet, hexForm}
 use Rattle.text.specs.Field.{numberField, setField, lineEnd, lastNumber, printNumberField, printSetField, printLineEnd}
 use Rattle.text.specs.Lines.{linesUpTo, allLines, printLines, AllGood}
 
@@ -19,9 +20,9 @@ NumberExact =
     (bound v : ℕ) (t rest : List ℕ)
     → (number bound t ≡ got v rest) ↔ ((t ≡ decimal v ++ rest) × (v ≤ bound) × (opensDigit rest ≡ false))
 
--- a set: its four digits
+-- a set: its digits
 abbrev pub SetExact : Type 0
-SetExact = (m : ℕ) (t rest : List ℕ) → (hexSet t ≡ got m rest) ↔ ((t ≡ hex4 m ++ rest) × (m < 65536))
+SetExact = (m : ℕ) (t rest : List ℕ) → (hexSet t ≡ got m rest) ↔ ((t ≡ hexForm setDigits m ++ rest) × (m < 2 ^ width))
 
 abbrev pub NumberFieldExact : Type 0
 NumberFieldExact =
@@ -29,7 +30,7 @@ NumberFieldExact =
     → (numberField bound t ≡ got v rest) ↔ ((t ≡ printNumberField v rest) × (v ≤ bound) × (opensDigit rest ≡ false))
 
 abbrev pub SetFieldExact : Type 0
-SetFieldExact = (m : ℕ) (t rest : List ℕ) → (setField t ≡ got m rest) ↔ ((t ≡ printSetField m rest) × (m < 65536))
+SetFieldExact = (m : ℕ) (t rest : List ℕ) → (setField t ≡ got m rest) ↔ ((t ≡ printSetField m rest) × (m < 2 ^ width))
 
 abbrev pub LineEndExact : Type 0
 LineEndExact = (t rest : List ℕ) → (lineEnd t ≡ got tt rest) ↔ (t ≡ printLineEnd rest)

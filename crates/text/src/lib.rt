@@ -9,9 +9,13 @@ ghost use Rattle.text.specs.Number.{digits as digitsOf, number as number
 ghost use Rattle.text.specs.Set.{hexDigit, hexSet};
 ghost use Rattle.text.specs.Field.{numberField, setField, lineEnd, lastNumber};
 ghost use Rattle.text.specs.Internal.Place.{placedDecimal, placedSet, placedEnd};
+use sets::Set;
 
 // The largest number of 32 bits.
 pub const MOST: u32 = 4294967295;
+
+// The number of digits of a set: four bits each.
+const SET_DIGITS: usize = sets::WIDTH / 4;
 
 // The longest text, in bytes.
 const LIMIT: usize = 16384;
@@ -24,7 +28,7 @@ pub enum Decimal {
 
 // A set and the place after it, or a refusal.
 pub enum Mask {
-    At(u16, usize),
+    At(Set, usize),
     Refused,
 }
 
@@ -120,33 +124,33 @@ pub fn number(s: &[u8], at: usize, bound: u32) -> Decimal
 }
 
 // The value of a lowercase hexadecimal digit, 16 for any other byte. After b'9' comes b':', after b'f' b'g', and b'a' is 87 and 10.
-fn hex_digit(b: u8) -> u16
+fn hex_digit(b: u8) -> Set
     ensures { λ r. ⌜ r ≡ hexDigit b ⌝ }
 {
     if b < b'0' {
         16
     } else if b < b':' {
-        (b - b'0') as u16
+        (b - b'0') as Set
     } else if b < b'a' {
         16
     } else if b < b'g' {
-        (b - 87) as u16
+        (b - 87) as Set
     } else {
         16
     }
 }
 
-// A set of four digits.
+// A set.
 pub fn set(s: &[u8], at: usize) -> Mask
     ensures { λ r. ⌜ r ≡ placedSet (now (s .entry)) (hexSet (drop at (now (s .entry)))) ⌝ }
 {
     if s.len() <= at {
         return Mask::Refused;
     }
-    let mut m: u16 = 0;
+    let mut m: Set = 0;
     let mut p = at;
     let mut i: usize = 0;
-    while i < 4 {
+    while i < SET_DIGITS {
         if s.len() <= p {
             return Mask::Refused;
         }

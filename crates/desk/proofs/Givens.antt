@@ -15,6 +15,8 @@ use Rattle.sheet.specs.Padding.{padded}
 use Rattle.memory_text.specs.Reading.{memory}
 use Rattle.memory_text.specs.Internal.Answers.{table, memoryAnswer}
 use Rattle.memory_text.proofs.Memories.{memory-sound}
+use Rattle.language.specs.World.{cell-words}
+use Rattle.memory_text.specs.Sizes.{memoryWords}
 use Rattle.desk.specs.declared.Given.{Given}
 use Rattle.desk.specs.Fields.{groupOf}
 use Rattle.desk.specs.Numbers.{unread}
@@ -31,9 +33,9 @@ given-whole text group g e = rw e (go (memory text) refl)
         record {
           whole = s .whole;
           few = omega (arith, s .most-locations);
-          all = omega (arith, length-append ws (replicate (1024 - length ws) 0), length-replicate {A = ℕ} (1024 - length ws) 0, s .most-locations);
+          all = omega (arith, length-append ws (replicate (memoryWords - length ws) 0), length-replicate {A = ℕ} (memoryWords - length ws) 0, s .most-locations);
         }
-    go bad q = record { whole = refl; few = omega arith; all = length-replicate {A = ℕ} 1024 0 }
+    go bad q = record { whole = refl; few = omega arith; all = length-replicate {A = ℕ} memoryWords 0 }
 
 -- the words in use
 pub words-fit : (g : Given) → Whole g → g .count ≤ length (g .words)
@@ -44,14 +46,14 @@ words-length g w = length-take-le (g .count) (g .words) (words-fit g w)
 
 pub given-words : (m : Read (List ℕ)) (g : Option ℕ) → givenWords (givenFrom m g) ≡ wordsRead m
 unfolding givenFrom padded
-given-words m g = take-at (wordsRead m) (replicate (1024 - length (wordsRead m)) 0) (length (wordsRead m)) refl
+given-words m g = take-at (wordsRead m) (replicate (memoryWords - length (wordsRead m)) 0) (length (wordsRead m)) refl
 
 -- a memory that is read, and what is made of it
-pub memory-few : (text : List ℕ) (m : Memory) → m ≡ memoryAnswer text → m .count * 16 ≤ 1024
+pub memory-few : (text : List ℕ) (m : Memory) → m ≡ memoryAnswer text → m .count * cell-words ≤ memoryWords
 unfolding memoryAnswer table
 memory-few text m e = rw e (go (memory text) refl)
   where
-    go : (want : Read (List ℕ)) → memory text ≡ want → table want .count * 16 ≤ 1024
+    go : (want : Read (List ℕ)) → memory text ≡ want → table want .count * cell-words ≤ memoryWords
     go (got ws r) q = omega (arith, memory-sound ws text r q .1 .most-locations)
     go bad q = omega arith
 
@@ -68,11 +70,11 @@ number-is (some g) (got ws r) = refl
 number-is (some g) bad = refl
 
 pub given-is : (text : List ℕ) (m : Memory) → m ≡ memoryAnswer text → (o : Option ℕ) (a : Answer) → m .answer ≡ a
-    → _≡_ {A = Given} (record { words = m .words; count = m .count * 16; group = Option·getD o 0; other = numberBy o a }) (givenFrom (memory text) o)
+    → _≡_ {A = Given} (record { words = m .words; count = m .count * cell-words; group = Option·getD o 0; other = numberBy o a }) (givenFrom (memory text) o)
 unfolding givenFrom memoryAnswer table wordsRead padded
 given-is text m em o a e = rw (← e, em, number-is o (memory text)) (go (memory text) refl)
   where
     go : (want : Read (List ℕ)) → memory text ≡ want
-        → record { words = table want .words; count = table want .count * 16; group = Option·getD o 0; other = unread o want } ≡ givenFrom want o
-    go (got ws r) q = let n : length ws / 16 * 16 ≡ length ws = omega (arith, memory-sound ws text r q .1 .whole) in rw n
+        → record { words = table want .words; count = table want .count * cell-words; group = Option·getD o 0; other = unread o want } ≡ givenFrom want o
+    go (got ws r) q = let n : length ws / cell-words * cell-words ≡ length ws = omega (arith, memory-sound ws text r q .1 .whole) in rw n
     go bad q = refl

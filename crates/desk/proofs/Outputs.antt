@@ -15,6 +15,8 @@ use Rattle.memory_text.specs.Internal.Writing.{Puts}
 use Rattle.memory_text.specs.Theorems.{Words}
 use Rattle.memory_text.proofs.Memories.{length-lines}
 use Rattle.memory_text.proofs.Writes.{goes-start, goes-put, goes-form, goes-done, number-reach, printed-all}
+use Rattle.language.specs.World.{cell-words}
+use Rattle.memory_text.specs.Sizes.{memoryWords, memoryRoom}
 use Rattle.desk.specs.Output.{places, numberEnd, put, putLength}
 use Rattle.desk.specs.Internal.Post.{PutAll}
 use Rattle.desk.specs.Run.{outcomeLine}
@@ -74,7 +76,7 @@ outcome-puts out a s o₁ p o₂ q o₃ e ep e₁ eq e₂ line l m h =
 
 -- a memory that is printed whole
 pub memory-puts : (out w x now : List ℕ) (r : ℕ) → w ≡ x → r ≡ printedLength w out → now ≡ printed w out
-    → length x % 16 ≡ 0 → length x ≤ 1024 → 11264 ≤ length out → PutAll out (memoryText x) now r
+    → length x % cell-words ≡ 0 → length x ≤ memoryWords → memoryRoom ≤ length out → PutAll out (memoryText x) now r
 memory-puts out w x now r e er en h l room =
     let p = printed-all x out h (omega arith) in
     record { length-is = er ∙ ap (λ (u : List ℕ). printedLength u out) e ∙ p .0; held = en ∙ ap (λ (u : List ℕ). printed u out) e ∙ p .1 }
@@ -131,12 +133,12 @@ unfolding Words
 words-all [] f = tt
 words-all (w ∷ ws) f = (f 0, words-all ws (λ i. f (suc i)))
 
-pub length-memory : (ws : List ℕ) → length ws % 16 ≡ 0 → length ws ≤ 1024 → ((i : ℕ) → getD ws i 0 ≤ most) → length (memoryText ws) ≤ 11264
+pub length-memory : (ws : List ℕ) → length ws % cell-words ≡ 0 → length ws ≤ memoryWords → ((i : ℕ) → getD ws i 0 ≤ most) → length (memoryText ws) ≤ memoryRoom
 unfolding memoryText
-length-memory ws h l f = omega (arith, length-lines (length ws / 16) ws (omega arith) (words-all ws f))
+length-memory ws h l f = omega (arith, length-lines (length ws / cell-words) ws (omega arith) (words-all ws f))
 
 -- a memory after the line of its run
-module _ (ws : List ℕ) (whole : length ws % 16 ≡ 0) (few : length ws ≤ 1024) (out : List ℕ) (a s : ℕ) (o : List ℕ) (p : ℕ)
+module _ (ws : List ℕ) (whole : length ws % cell-words ≡ 0) (few : length ws ≤ memoryWords) (out : List ℕ) (a s : ℕ) (o : List ℕ) (p : ℕ)
     (line : Puts (outcomeLine a s) 22 out 0 o p) (same : length o ≡ length out) (room : places ≤ length out) where
   rest-is : take (length o - p) (drop p o) ≡ drop p o
   rest-is = take-all (length o - p) (drop p o) (omega (arith, length-drop p o))

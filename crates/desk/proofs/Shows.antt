@@ -8,6 +8,7 @@ use borrow.Author.Tests.{ne-eqb}
 use Rattle.memory_text.specs.Printing.{memoryText}
 use Rattle.stages.specs.Answers.{Viewed}
 use Rattle.stages.specs.Calls.{viewOf}
+use Rattle.memory_text.specs.Sizes.{memoryWords}
 use Rattle.desk.specs.declared.Given.{Given}
 use Rattle.desk.specs.Numbers.{earlier, asText}
 use Rattle.desk.specs.Given.{givenWords}
@@ -24,13 +25,13 @@ take-zeros (suc n) (suc m) h = ap {B = List ℕ} (λ (l : List ℕ). 0 ∷ l) (t
 
 -- a view that was made in an array of zeros
 module _ (sheet : List ℕ) (g : Given) (answer : ℕ) (view : List ℕ) (w : Whole g)
-    (e : _≡_ {A = Viewed} (record { answer = answer; view = view }) (viewOf sheet (givenWords g) (g .group) (take (g .count) (replicate 1024 0))))
+    (e : _≡_ {A = Viewed} (record { answer = answer; view = view }) (viewOf sheet (givenWords g) (g .group) (take (g .count) (replicate memoryWords 0))))
     (k : ℕ) (ek : k ≡ earlier (asText answer) (g .other)) where
   view-is : viewed sheet g ≡ viewText k view
   unfolding viewed
   view-is =
       let q : viewOf sheet (givenWords g) (g .group) (replicate (length (givenWords g)) 0) ≡ record { answer = answer; view = view }
-      = ap (viewOf sheet (givenWords g) (g .group)) (rw (words-length g w) (sym (take-zeros (g .count) 1024 (w .few)))) ∙ sym e in
+      = ap (viewOf sheet (givenWords g) (g .group)) (rw (words-length g w) (sym (take-zeros (g .count) memoryWords (w .few)))) ∙ sym e in
       rw (q, ek)
 
   pub view-shown : k ≡ 0 → memoryText view ≡ viewed sheet g

@@ -1,5 +1,5 @@
 -- What is printed goes to the start of a lent buffer, which must have room for the longest output.
-use Prim.Native.Nat.{ℕ}
+use Prim.Native.Nat.{ℕ, _+_}
 use mathlib.Core.Bool.{cond}
 use mathlib.Core.List.{List, [], _++_}
 use lib.Dec.{leb}
@@ -7,10 +7,11 @@ use lib.ListN.{length}
 use lib.Seq.{sets}
 use Rattle.text.specs.Number.{decimal}
 use Rattle.text.specs.Field.{printLineEnd}
+use Rattle.memory_text.specs.Sizes.{memoryRoom}
 
--- 64 lines of at most 176 bytes, and before them a line of at most 22
+-- a line for each of the most locations, and before them one of at most 22 bytes
 abbrev pub places : ℕ
-places = 11286
+places = memoryRoom + 22
 
 -- a number and the end of its line, before t
 unfoldable pub numberEnd : ℕ → List ℕ → List ℕ

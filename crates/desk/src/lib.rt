@@ -3,6 +3,7 @@ pub mod run; // run.rt: the program run
 
 use memory_text::Answer;
 use parts::State;
+use sets::Set;
 use text::Decimal;
 use text::Mask;
 ghost use mathlib.Core.Path.{_≡_};
@@ -17,12 +18,13 @@ ghost use Rattle.desk.specs.Show.{viewed, showOf};
 ghost use Rattle.desk.specs.Inputs.{showHeld};
 ghost use Rattle.desk.specs.Output.{places, numberEnd, put, putLength};
 
-// The places that a buffer must have for what is printed: 64 lines of at most 176 bytes, and before them a line of at most 22.
-pub const PLACES: usize = 11286;
+// The places that a buffer must have for what is printed: a line for each of the most locations, and before them one
+// of at most 22 bytes.
+pub const PLACES: usize = memory_text::LOCATIONS * memory_text::write::LINE + 22;
 
 // A group or an authority, or the refusal of a text that isn't of its form.
 pub enum Group {
-    Read(u16),
+    Read(Set),
     Refused,
 }
 
@@ -37,7 +39,7 @@ pub enum Budget {
 struct Given {
     words: [u32; memory_text::WORDS],
     count: usize,
-    group: u16,
+    group: Set,
     other: u8,
 }
 
@@ -54,7 +56,7 @@ fn closes(s: &[u8], p: usize) -> bool
     s.len() - p == 1
 }
 
-// The group of a text: four digits and byte 10.
+// The group of a text: a set and byte 10.
 fn group_line(s: &[u8]) -> Group
     ensures { λ r. ⌜ r ≡ groupAnswer (groupOf (now (s .entry))) ⌝ }
 {

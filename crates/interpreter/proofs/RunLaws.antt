@@ -151,7 +151,7 @@ module _ (authority : ℕ) {ws table : List ℕ} {budget : ℕ} (work memory : L
   run-ends s k c fm te le ke src nm w n wf =
       let held = copied-in work memory whole (locationCount s) n (locations-few s fm) start e (memoryOf memory) (memory-cell s memory n wf) in
       let t : Tells (record { table = table; powers = powers }) (worldOf s authority) = rw (may, te) (tells-sheet s fm authority) in
-      let m = x .means (record { world = worldOf s authority; counts = k; env = [] }) (memoryOf memory) c [] (record { tells = t; labels = le ∙ sym (ap labelsIn te ∙ labels-in s); cells = rw ke held })
+      let m = x .means (record { world = worldOf s authority; counts = k; env = [] }) (memoryOf memory) c [] (record { tells = t; labels = le ∙ sym (ap labelsIn te ∙ labels-in s fm); cells = rw ke held })
       (record { source = src; names = nm; lines = w }) in
       subst (λ (u : Cmd). Finishes (whole-target ws (locationCount s)) d cells (iterate (worldOf s authority) budget (memoryOf memory) u)) (close-none zero c) (rw ke at m)
 

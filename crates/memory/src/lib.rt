@@ -20,6 +20,7 @@ ghost use Rattle.memory.specs.View.{viewCell};
 ghost use Rattle.memory.specs.Verdict.{memoryNumber};
 ghost use Rattle.memory.specs.Internal.InTable.{asDeclaredIn, refusalIn, seesIn, viewIn, viewRefusalIn, viewLeavesIn};
 use sets::Set;
+use sheet::Word;
 
 // The words of a location.
 pub const CELL: usize = 16;
@@ -60,7 +61,7 @@ pub fn value_end(words: &[u32], at: usize) -> usize
 }
 
 // Whether the value whose words start at `at` has a type. What a package holds is not looked at.
-pub fn has_type(table: &[u16], words: &[u32], at: usize, ty: u32) -> bool
+pub fn has_type(table: &[Word], words: &[u32], at: usize, ty: u32) -> bool
     ensures { λ r. ⌜ r ≡ hasNo (now (table .entry)) (valueOf (drop at (now (words .entry)))) ty ⌝ }
 {
     if words.len() <= at {
@@ -101,7 +102,7 @@ fn one_more(words: &[u32], at: usize, ty: u32, wanted: u32) -> bool
 }
 
 // Whether the words of a location are exactly those of a proper value of a type.
-fn holds(table: &[u16], words: &[u32], ty: u32) -> bool
+fn holds(table: &[Word], words: &[u32], ty: u32) -> bool
     requires { ⌜ length (now words) ≡ cell-words ⌝ }
     ensures { λ r. ⌜ r ≡ holdsBy (labelsIn (now (table .entry))) (λ v. hasNo (now (table .entry)) v ty) (now (words .entry)) ⌝ }
 {
@@ -117,7 +118,7 @@ fn holds(table: &[u16], words: &[u32], ty: u32) -> bool
 }
 
 // Whether location x of a memory holds a value as declared.
-fn location_holds(table: &[u16], memory: &[u32], x: u32) -> bool
+fn location_holds(table: &[Word], memory: &[u32], x: u32) -> bool
     requires { ⌜ cell-words * x + cell-words ≤ length (now memory) ⌝ }
     ensures { λ r. ⌜ r ≡ holdsBy (labelsIn (now (table .entry))) (asDeclaredIn (now (table .entry)) x) (cellOf (now (memory .entry)) x) ⌝ }
 {
@@ -127,7 +128,7 @@ fn location_holds(table: &[u16], memory: &[u32], x: u32) -> bool
 }
 
 // Whether a memory has its size and is well-formed.
-pub fn judge(table: &[u16], memory: &[u32]) -> Verdict
+pub fn judge(table: &[Word], memory: &[u32]) -> Verdict
     ensures { λ r. ⌜ memoryNumber r ≡ refusalIn (now (table .entry)) (now (memory .entry)) ⌝ }
 {
     let n = sheet::locations(table);
@@ -145,7 +146,7 @@ pub fn judge(table: &[u16], memory: &[u32]) -> Verdict
 }
 
 // What a group is shown of location x.
-fn location_view(table: &[u16], memory: &[u32], group: Set, x: u32) -> [u32; CELL]
+fn location_view(table: &[Word], memory: &[u32], group: Set, x: u32) -> [u32; CELL]
     requires { ⌜ cell-words * x + cell-words ≤ length (now memory) ⌝ }
     ensures { λ r. ⌜ (size (valueOf (cellOf (now (memory .entry)) x)) ≤ cell-words
         → r ≡ viewCell (seesIn (now (table .entry)) group x) (mask (readsIn (now (table .entry)) group) (valueOf (cellOf (now (memory .entry)) x)))) ⌝ }
@@ -171,7 +172,7 @@ fn put_cell(shown: &mut [u32], x: u32, cell: [u32; CELL])
 }
 
 // Stores what a group is shown of a well-formed memory.
-fn view_each(table: &[u16], memory: &[u32], group: Set, shown: &mut [u32])
+fn view_each(table: &[Word], memory: &[u32], group: Set, shown: &mut [u32])
     requires { ⌜ (refusalIn (now table) (now memory) ≡ 0) × (length (now shown) ≡ cell-words * locationsIn (now table)) ⌝ }
     ensures { λ _. ⌜ now (shown .exit) ≡ viewIn (now (table .entry)) group (now (memory .entry)) ⌝ }
 {
@@ -185,7 +186,7 @@ fn view_each(table: &[u16], memory: &[u32], group: Set, shown: &mut [u32])
 }
 
 // Stores what a group is shown of a memory, if both slices have their size and the memory is well-formed; else nothing.
-pub fn view(table: &[u16], memory: &[u32], group: Set, shown: &mut [u32]) -> Verdict
+pub fn view(table: &[Word], memory: &[u32], group: Set, shown: &mut [u32]) -> Verdict
     ensures { λ r. ⌜ memoryNumber r ≡ viewRefusalIn (now (table .entry)) (now (memory .entry)) (length (now (shown .entry))) ⌝ }
     ensures { λ r. ⌜ now (shown .exit) ≡ viewLeavesIn (now (table .entry)) group (now (memory .entry)) (now (shown .entry)) ⌝ }
 {

@@ -9,6 +9,7 @@ ghost use Rattle.memory.specs.Words.{numbered, readOf};
 ghost use Rattle.memory.specs.Internal.Post.{Masks, Numeral, Opens};
 use crate::values;
 use sets::Set;
+use sheet::Word;
 
 // The places after a value: in the words that are read, and in those that are written.
 pub(crate) struct Places {
@@ -18,7 +19,7 @@ pub(crate) struct Places {
 
 // Stores what a group is shown of the value whose words start at `at`, from `to` on.
 pub(crate) fn mask_at(
-    table: &[u16],
+    table: &[Word],
     group: Set,
     words: &[u32],
     at: usize,
@@ -105,7 +106,7 @@ struct Head {
 
 // Stores a package's first word and its head, which stands at `at`, and one zero word where its content is hidden.
 fn mask_label(
-    table: &[u16],
+    table: &[Word],
     group: Set,
     words: &[u32],
     at: usize,

@@ -1,5 +1,5 @@
 -- Memory texts by computing. Assumes nothing.
-use Prim.Native.Nat.{ℕ}
+use Prim.Native.Nat.{ℕ, _+_}
 use mathlib.Core.Path.{_≡_, refl}
 use mathlib.Core.List.{List, [], _∷_, _++_}
 use lib.ListN.{replicate}
@@ -8,7 +8,9 @@ use Rattle.text.specs.Reading.Read.{got, bad}
 use Rattle.text.specs.Number.{digit, opensDigit, digits, number, decimalOn, decimal}
 use Rattle.text.specs.Lines.{front, onward, linesUpTo, printLines}
 use Rattle.memory_text.specs.Printing.{consTrimmed, trim, fields, line, rows, memoryText}
+use Rattle.sheet.specs.Sheet.{maxLocations}
 use Rattle.sheet.specs.Padding.{padded}
+use Rattle.memory_text.specs.Sizes.{memoryWords}
 use Rattle.memory_text.specs.Reading.{following, words, blankOr, filledLine, location, allWords, wordsOfRows, locations, memory}
 use Rattle.logic.specs.Booleans.{both}
 
@@ -33,9 +35,9 @@ read-examples :
     × (memory (49 ∷ 9 ∷ 9 ∷ 50 ∷ 10 ∷ []) ≡ bad)
     × (memory (49 ∷ 13 ∷ 10 ∷ []) ≡ bad)
     × (memory (49 ∷ 9 ∷ 10 ∷ []) ≡ bad)
-    -- 64 locations and 65, 17 words
-    × (memory (replicate 64 10) ≡ got (replicate 1024 0) [])
-    × (memory (replicate 65 10) ≡ bad)
+    -- the most locations and one more, 17 words
+    × (memory (replicate maxLocations 10) ≡ got (replicate memoryWords 0) [])
+    × (memory (replicate (maxLocations + 1) 10) ≡ bad)
     × (memory (49 ∷ 9 ∷ 49 ∷ 9 ∷ 49 ∷ 9 ∷ 49 ∷ 9 ∷ 49 ∷ 9 ∷ 49 ∷ 9 ∷ 49 ∷ 9 ∷ 49 ∷ 9 ∷ 49 ∷ 9 ∷ 49 ∷ 9 ∷ 49 ∷ 9 ∷ 49 ∷ 9 ∷ 49 ∷ 9 ∷ 49 ∷ 9 ∷ 49 ∷ 9 ∷ 49 ∷ 9 ∷ 49 ∷ 10 ∷ []) ≡ bad)
 unfolding view viewText memory locations wordsOfRows allWords front onward linesUpTo location blankOr filledLine words following padded andThen byte fits number digits digit opensDigit both
 read-examples = (refl, refl, refl, refl, refl, refl, refl, refl, refl, refl, refl)

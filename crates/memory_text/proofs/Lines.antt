@@ -18,7 +18,7 @@ use Rattle.text.proofs.Numbers.{digit-low, opens-none, opens-byte, number-none,
 use Rattle.text.proofs.Decimals.{number-sound, number-print, opens-decimal}
 use Rattle.text.proofs.Writings.{length-decimal}
 use Rattle.language.specs.World.{cell-words}
-use Rattle.memory_text.specs.Internal.Writing.{lineRoom}
+use Rattle.memory_text.specs.Sizes.{lineRoom}
 use Rattle.memory_text.specs.Printing.{consTrimmed, trim, fields, line, rowLine}
 use Rattle.sheet.specs.Padding.{padded}
 use Rattle.sheet.proofs.Words.{length-padded}

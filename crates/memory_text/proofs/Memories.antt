@@ -15,7 +15,7 @@ use Rattle.text.proofs.Readings.{not-bad, got-same}
 use Rattle.text.proofs.Lines.{lines-exact}
 use Rattle.language.specs.World.{cell-words}
 use Rattle.sheet.specs.Sheet.{maxLocations}
-use Rattle.memory_text.specs.Internal.Writing.{lineRoom}
+use Rattle.memory_text.specs.Sizes.{lineRoom}
 use Rattle.memory_text.specs.Printing.{trim, rows, lines, memoryText}
 use Rattle.memory_text.specs.Reading.{location, allWords, wordsOfRows, locations, memory}
 use Rattle.memory_text.specs.Theorems.{Words, WholeLocations, MemoryExact}

@@ -15,7 +15,8 @@ use Rattle.text.proofs.Writings.{sets-append, written-fits, reached-fits, lengt
 use Rattle.language.specs.World.{cell-words}
 use Rattle.memory_text.specs.Printing.{trim, fields, line, rows, lines, memoryText}
 use Rattle.memory_text.specs.Internal.Answers.{printedLength, printed}
-use Rattle.memory_text.specs.Internal.Writing.{Used, Puts, lineRoom}
+use Rattle.memory_text.specs.Sizes.{lineRoom}
+use Rattle.memory_text.specs.Internal.Writing.{Used, Puts}
 use Rattle.memory_text.proofs.Trimming.{trim-zeros, trim-last}
 use Rattle.logic.specs.Booleans.{both}
 

@@ -1,4 +1,4 @@
--- The size of a memory.
+-- The size of a memory, and of its text.
 use Prim.Native.Nat.{ℕ, _*_}
 use Rattle.language.specs.World.{cell-words}
 use Rattle.sheet.specs.Sheet.{maxLocations}
@@ -6,3 +6,11 @@ use Rattle.sheet.specs.Sheet.{maxLocations}
 -- the words of the most locations
 abbrev pub memoryWords : ℕ
 memoryWords = maxLocations * cell-words
+
+-- the bytes of the longest line: ten digits and a tab, or the line's end, for each word
+abbrev pub lineRoom : ℕ
+lineRoom = 11 * cell-words
+
+-- the bytes of so many lines
+abbrev pub memoryRoom : ℕ
+memoryRoom = maxLocations * lineRoom

@@ -17,7 +17,7 @@ ghost use Rattle.memory_text.specs.Reading.{filledLine, locations as loc
 ghost use Rattle.memory_text.specs.Internal.Answers.{placedRow, locationAt, table, memoryAnswer};
 
 // The most locations of a sheet.
-pub const LOCATIONS: usize = 64;
+pub const LOCATIONS: usize = sheet::MOST_LOCATIONS as usize;
 
 // The words of so many.
 pub const WORDS: usize = LOCATIONS * CELL;

@@ -8,7 +8,8 @@ ghost use lib.ListN.{length, take, drop};
 ghost use Rattle.language.specs.World.{cell-words};
 ghost use Rattle.memory_text.specs.Printing.{trim, fields, line};
 ghost use Rattle.memory_text.specs.Internal.Answers.{printedLength, printed};
-ghost use Rattle.memory_text.specs.Internal.Writing.{Used, Puts, lineRoom};
+ghost use Rattle.memory_text.specs.Sizes.{lineRoom};
+ghost use Rattle.memory_text.specs.Internal.Writing.{Used, Puts};
 
 // The bytes of the longest line: ten digits and a tab, or the line's end, for each word.
 pub const LINE: usize = 11 * CELL;

@@ -5,8 +5,8 @@ use Prim.Native.Nat.{ℕ, _+_, _*_, _<_, _≤_}
 use borrow.Author.Tests.{lt-ltb, le-ltb}
 use lib.ListN.{getD}
 use Rattle.labels.specs.Labels.{bottomOf}
-use Rattle.labels.specs.Internal.Tables.{labelSize, labelAt}
-use Rattle.sheet.specs.Internal.Tables.{labelsBase, labelsIn, everyoneIn, entryIn, labelIn}
+use Rattle.labels.specs.Internal.Tables.{labelAt}
+use Rattle.sheet.specs.Internal.Tables.{labelPlace, labelsIn, everyoneIn, entryIn, labelIn}
 
 module _ (t : List ℕ) (count base i : ℕ) where
   pub entry-there : i < count → entryIn t count base i ≡ getD t (base + 2 * i) 0
@@ -18,7 +18,7 @@ module _ (t : List ℕ) (count base i : ℕ) where
   entry-past h = simp (le-ltb _ _ h)
 
 module _ (t : List ℕ) (l : ℕ) {count : ℕ} (counted : count ≡ labelsIn t) where
-  pub label-there : l < count → labelIn t l ≡ labelAt t (labelsBase + labelSize * l)
+  pub label-there : l < count → labelIn t l ≡ labelAt t (labelPlace l)
   unfolding labelIn
   label-there h = simp (lt-ltb _ _ (rw counted at h))
 

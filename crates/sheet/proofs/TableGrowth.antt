@@ -2,15 +2,14 @@
 use mathlib.Core.Path.{_≡_, refl, sym, ap, ap₂, _∙_}
 use mathlib.Core.Bool.{true}
 use mathlib.Core.List.{List, [], _∷_, _++_, append-assoc, append-nil, map, map-append}
-use Prim.Native.Nat.{ℕ, suc, _+_, _*_, _-_, _^_, _<_, _≤_}
+use Prim.Native.Nat.{ℕ, suc, _+_, _*_, _-_, _<_, _≤_}
 use native.Mathlib.Omega.{arith}
 use native.Mathlib.Nat.{mod-eq-of-lt}
 use lib.ListN.{length, getD, set, replicate, length-append, length-replicate, replicate-append-replicate, length-map}
-use lib.Pow.{pow-pos, pow-mono}
 use lib.Seq.{set-at, getD-append-seam}
 use borrow.Author.Tests.{lt-ltb}
-use Rattle.sets.specs.Sets.{width, everyone, restrict}
-use Rattle.sets.proofs.SetLaws.{restrict-id}
+use Rattle.sets.specs.Sets.{width, everyone}
+use Rattle.sets.proofs.SetLaws.{restrict-everyone}
 use Rattle.sets.proofs.Walks.{length-tab}
 use Rattle.labels.specs.Labels.{Policy, policy, openOf, policyOf, withPolicies, labelOf, wholeOf, owners, bottomOf}
 use Rattle.labels.specs.Internal.Tables.{labelSize, labelWords, labelPut}
@@ -20,18 +19,17 @@ use Rattle.labels.proofs.OrderLaws.{whole-intro}
 use Rattle.labels.proofs.TableLaws.{length-words, put-middle}
 use Rattle.sheet.specs.Sheet.{Sum, Location, Sheet, typeCount, labelsOf, labelNo, labelCount, locationCount, maxPrincipals, maxLabels, maxLocations, formed}
 use Rattle.sheet.specs.Padding.{padded}
-use Rattle.sheet.specs.Internal.Tables.{maxTypes, partsRoom, locationsRoom, labelsRoom, partsBase, locationsBase, labelsBase, tableWords, typesAt, labelsAt, locationsAt, pairWords, partWords, locationWords, labelsWords, tableOf, labelIn, givenParts, typeParts}
+use Rattle.sheet.specs.Internal.Tables.{maxTypes, partsRoom, locationsRoom, labelsRoom, partsBase, locationsBase, partsPlace, labelPlace, tableWords, typesAt, labelsAt, locationsAt, pairWords, partWords, locationWords, labelsWords, tableOf, labelIn, givenParts, typeParts}
 use Rattle.sheet.specs.Internal.Growth.{bareSheet, addSum, addLabel, toLast, addPolicy, addLocation}
 use Rattle.sheet.specs.Internal.Writers.{low, principalsPut, pairPut, sumPut, locationPut, labelSet, openPut, policyPut}
 use Rattle.sheet.proofs.FormLaws.{formed-facts, type-count, parts-count}
 use Rattle.sheet.proofs.Words.{length-padded, length-pairs}
-use Rattle.sheet.proofs.TableLaws.{principals-in, everyone-in, types-in, labels-in, locations-in, heading, partBlock, locationBlock, labelBlock, toLocations, toLabels, from-locations, from-labels, types-fit, locations-fit, locations-start, labels-start}
+use Rattle.sheet.proofs.TableLaws.{principals-in, everyone-in, types-in, labels-in, locations-in, heading, partBlock, locationBlock, labelBlock, toLocations, toLabels, from-locations, from-labels, locations-start, labels-start}
 use Rattle.sheet.proofs.LabelLaws.{label-in}
 use Rattle.sheet.proofs.GrowthLaws.{length-more, length-toLast, toLast-more, labels-split}
 
 -- ---- counts fit a word
 
--- No count is above the most locations.
 pub low-count : (n : ℕ) → n ≤ maxLocations → low n ≡ n
 unfolding low
 low-count n h = mod-eq-of-lt (omega arith)
@@ -107,7 +105,7 @@ module _ (s : Sheet) (fm : formed s ≡ true) where
       pair-put partsBase typesAt maxTypes (x .left) (x .right) n (tableOf s) (types-in s fm) few (omega arith) (omega arith) (omega arith)
       ∙ ap (λ (t : List ℕ). set t typesAt (n + 1))
       (add-pair (λ (p : Sum). p .left) (λ (p : Sum). p .right) (heading s) after partsRoom (typeParts s) (omega (arith, parts-count s)) x
-      (partsBase + 2 * n) (omega (arith, parts-count s)))
+      (partsPlace n) (omega (arith, parts-count s)))
       ∙ ap (λ (k : ℕ). headed s k (labelCount s) (locationCount s) parts) count
 
   pub location-put : (x : Location) → locationCount s < maxLocations → x .type < typeCount s → x .label < labelCount s
@@ -221,7 +219,7 @@ module _ (s : Sheet) (fm : formed s ≡ true) where
   open-put few =
       let n = s .principals in
       let count = labelCount s in
-      let at = labelsBase + labelSize * count in
+      let at = labelPlace count in
       let new = padded labelsRoom (wordsOf n (s .labels ++ ([] ∷ []))) in
       let stored : openPut (tableOf s) ≡ set (labelPut (tableOf s) at (labelOf n [])) labelsAt (count + 1) =
       rw (labels-in s fm, principals-in s fm, everyone-in s fm, lt-ltb count maxLabels few, low-count (count + 1) (omega arith)) in
@@ -256,15 +254,15 @@ module _ (s : Sheet) (fm : formed s ≡ true) where
         ∙ sym (from-words (addPolicy s p))
 
     last-stored : (o r w : ℕ)
-        → labelPut (tableOf s) (labelsBase + labelSize * (length (s .labels) - 1)) (policyOf (labelIn (tableOf s) (length (s .labels) - 1)) o r w)
+        → labelPut (tableOf s) (labelPlace (length (s .labels) - 1)) (policyOf (labelIn (tableOf s) (length (s .labels) - 1)) o r w)
         ≡ tableOf (addPolicy s (policy o r w))
     last-stored o r w =
         let n = s .principals in
         let last : length (s .labels) - 1 ≡ length before = omega (arith, last-there) in
         let few : labelSize * length before + labelSize ≤ labelsRoom = omega (arith, last-there, formed-facts s fm .few-labels) in
         let label : labelIn (tableOf s) (length before) ≡ labelOf n ps = label-in s fm (length before) ∙ label-number in
-        let at = labelsBase + labelSize * length before in
-        ap (λ (k : ℕ). labelPut (tableOf s) (labelsBase + labelSize * k) (policyOf (labelIn (tableOf s) k) o r w)) last
+        let at = labelPlace (length before) in
+        ap (λ (k : ℕ). labelPut (tableOf s) (labelPlace k) (policyOf (labelIn (tableOf s) k) o r w)) last
         ∙ ap (λ (a : Label). labelPut (tableOf s) at (policyOf a o r w)) label
         ∙ ap₂ (λ (t : List ℕ) (a : Label). labelPut t at a)
         (from-words s ∙ ap (λ (pss : List (List Policy)). toLabels s ++ padded labelsRoom (wordsOf n pss)) e) (sym (label-of-more n ps o r w))
@@ -280,11 +278,6 @@ module _ (s : Sheet) (fm : formed s ≡ true) where
 
 -- ---- a sheet with nothing but its principals
 
--- the code's set of n principals
-everyone-held : (n : ℕ) → n ≤ maxPrincipals → restrict width (everyone n) ≡ everyone n
-unfolding everyone
-everyone-held n h = let some-set : 0 < 2 ^ n = pow-pos n in let m : 2 ^ n ≤ 2 ^ width = pow-mono h in restrict-id width (2 ^ n - 1) (omega arith)
-
 pub principals-put : (n : ℕ) → n ≤ maxPrincipals → principalsPut n (replicate tableWords 0) ≡ tableOf (bareSheet n)
 unfolding tableOf bareSheet typeCount labelCount locationCount labelsOf typeParts givenParts padded pairWords labelsWords
-principals-put n few = rw (low-count n (omega arith), everyone-held n few)
+principals-put n few = rw (low-count n (omega arith), restrict-everyone width n few)

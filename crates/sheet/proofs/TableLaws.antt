@@ -70,11 +70,11 @@ module _ (s : Sheet) (fm : formed s ≡ true) where
   facts : Formed s
   facts = formed-facts s fm
 
-  pub types-fit : length (partWords (typeParts s)) ≤ partsRoom
+  types-fit : length (partWords (typeParts s)) ≤ partsRoom
   types-fit =
       omega (arith, length-pairs (λ (p : Sum). p .left) (λ (p : Sum). p .right) (typeParts s), parts-count s, type-count s, facts .few-sums)
 
-  pub locations-fit : length (locationWords (s .locations)) ≤ locationsRoom
+  locations-fit : length (locationWords (s .locations)) ≤ locationsRoom
   locations-fit = omega (arith, length-pairs (λ (x : Location). x .type) (λ (x : Location). x .label) (s .locations), facts .few-locations)
 
   pub locations-start : length (toLocations s) ≡ locationsBase

@@ -4,7 +4,7 @@ pub mod write; // write.rt: what is stored where the sheet grows
 
 ghost use mathlib.Core.Path.{_≡_};
 ghost use lib.ListN.{getD};
-ghost use Rattle.sheet.specs.Internal.Tables.{entryIn, principalsIn, everyoneIn, typesIn, labelsIn, locationsIn, leftIn, rightIn, typeIn, homeIn, labelIn, belowIn, readsIn, writesIn};
+ghost use Rattle.sheet.specs.Internal.Tables.{partsPlace, labelPlace, entryIn, principalsIn, everyoneIn, typesIn, labelsIn, locationsIn, leftIn, rightIn, typeIn, homeIn, labelIn, belowIn, readsIn, writesIn};
 ghost use Rattle.sheet.specs.Internal.TypeTest.{isSum};
 use labels::LABEL_SIZE;
 use labels::Label;
@@ -25,7 +25,11 @@ pub const MOST_LOCATIONS: u32 = 64;
 
 pub const MOST_LABELS: u32 = 32;
 
-// The words that count the types, the labels and the locations.
+// The words of the number of principals, of their set, and of the counts of types, of labels and of locations.
+const PRINCIPAL_COUNT: usize = 0;
+
+const EVERYONE: usize = 1;
+
 const TYPE_COUNT: usize = 2;
 
 const LABEL_COUNT: usize = 3;
@@ -33,11 +37,11 @@ const LABEL_COUNT: usize = 3;
 const LOCATION_COUNT: usize = 4;
 
 // Where the parts of types, the locations and the labels start in a table, and its words in all.
-pub const PARTS: u32 = 8;
+const PARTS: u32 = 8;
 
-pub const LOCATIONS: u32 = PARTS + 2 * MOST_TYPES;
+const LOCATIONS: u32 = PARTS + 2 * MOST_TYPES;
 
-pub const LABELS: usize = (LOCATIONS + 2 * MOST_LOCATIONS) as usize;
+const LABELS: usize = (LOCATIONS + 2 * MOST_LOCATIONS) as usize;
 
 pub const WORDS: usize = LABELS + LABEL_SIZE * (MOST_LABELS as usize);
 
@@ -83,14 +87,14 @@ pub const SUMS: u32 = INT_OR_INT;
 pub fn principals(table: &[Word]) -> u32
     ensures { λ r. ⌜ r ≡ principalsIn (now (table .entry)) ⌝ }
 {
-    number(table, 0)
+    number(table, PRINCIPAL_COUNT)
 }
 
 // The set of all principals.
 pub fn everyone(table: &[Word]) -> Set
     ensures { λ r. ⌜ r ≡ everyoneIn (now (table .entry)) ⌝ }
 {
-    word(table, 1)
+    word(table, EVERYONE)
 }
 
 // The number of types.
@@ -152,12 +156,26 @@ pub fn location_label(table: &[Word], x: u32) -> u32
     entry(table, locations(table), LOCATIONS + 1, x)
 }
 
+// Where the parts of a type start.
+pub fn parts_place(ty: u32) -> usize
+    ensures { λ r. ⌜ r ≡ partsPlace ty ⌝ }
+{
+    PARTS as usize + 2 * (ty as usize)
+}
+
+// Where the words of a label start.
+pub fn label_place(l: u32) -> usize
+    ensures { λ r. ⌜ r ≡ labelPlace l ⌝ }
+{
+    LABELS + LABEL_SIZE * (l as usize)
+}
+
 // A label; bottom for a number that names none.
 pub fn label_of(table: &[Word], l: u32) -> Label
     ensures { λ r. ⌜ r ≡ labelIn (now (table .entry)) l ⌝ }
 {
     if l < labels(table) {
-        labels::label_at(table, LABELS + LABEL_SIZE * (l as usize))
+        labels::label_at(table, label_place(l))
     } else {
         Label::bottom(everyone(table))
     }

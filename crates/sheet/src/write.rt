@@ -1,13 +1,13 @@
-// What is stored in a table where its sheet grows: a line at a time, each behind what is there. A table without room for more is left as
-// it is. That what is named is there is for the caller to see.
+// What is stored in a table where its sheet grows, a line at a time, each behind what is there. A table without room
+// for more is left as it is. That what a line names is there is for the caller to see.
 ghost use mathlib.Core.Path.{_≡_};
 ghost use Prim.Native.Nat.{_+_, _*_, _<_, _≤_};
 ghost use Rattle.sheet.specs.Internal.Tables.{tableWords};
 ghost use Rattle.sheet.specs.Internal.Writers.{low, principalsPut, pairPut, sumPut, locationPut, labelSet, openPut, policyPut};
 use super::ERROR;
+use super::EVERYONE;
 use super::GIVEN_TYPES;
 use super::LABEL_COUNT;
-use super::LABELS;
 use super::LOCATION_COUNT;
 use super::LOCATIONS;
 use super::MOST_LABELS;
@@ -16,38 +16,39 @@ use super::MOST_TYPES;
 use super::PARTS;
 use super::PKG;
 use super::PKG_OR_ERROR;
+use super::PRINCIPAL_COUNT;
 use super::TYPE_COUNT;
 use super::WORDS;
 use super::Word;
-use labels::LABEL_SIZE;
 use labels::Label;
 use sets::Set;
 
 // Where the parts of pkg+error stand.
 const PKG_PLACE: usize = (PARTS + 2 * PKG_OR_ERROR) as usize;
 
-// How many values a word has.
-const VALUES: u32 = 1 << sets::WIDTH;
+// The numbers from 0 to the most of anything that is counted, locations.
+const COUNTS: u32 = MOST_LOCATIONS + 1;
 
-// The part of a number that a word has room for.
+// One of these numbers, so that it fits a word, however wide.
 fn low(n: u32) -> Word
     ensures { λ r. ⌜ r ≡ low n ⌝ }
 {
-    (n % VALUES) as Word
+    (n % COUNTS) as Word
 }
 
-// The number of principals, and what every sheet has: the given types. Only pkg+error has parts other than 0 0.
+// The number of principals, and the types that every sheet has. Of these only pkg+error has parts other than 0 0.
 pub fn put_principals(table: &mut [Word; WORDS], n: u32)
     ensures { λ _. ⌜ now (table .exit) ≡ principalsPut n (now (table .entry)) ⌝ }
 {
-    table[0] = low(n);
-    table[1] = sets::everyone(n as usize);
+    table[PRINCIPAL_COUNT] = low(n);
+    table[EVERYONE] = sets::everyone(n as usize);
     table[TYPE_COUNT] = GIVEN_TYPES as Word;
     table[PKG_PLACE] = PKG as Word;
     table[PKG_PLACE + 1] = ERROR as Word;
 }
 
-// A pair of words behind those from `base` on, of which there are at most `most` and as many as the word at `count` says.
+// A pair of words behind those from `base` on, of which there are at most `most` and as many as the word at `count`
+// says.
 fn add_pair(table: &mut [Word; WORDS], base: u32, count: usize, most: u32, a: u32, b: u32)
     requires { ⌜ (base + 2 * most ≤ tableWords) × (count < tableWords) ⌝ }
     ensures { λ _. ⌜ now (table .exit) ≡ pairPut base count most a b (now (table .entry)) ⌝ }
@@ -80,7 +81,7 @@ pub fn add_location(table: &mut [Word; WORDS], ty: u32, label: u32)
 fn set_label(table: &mut [Word; WORDS], l: u32, label: Label)
     ensures { λ _. ⌜ now (table .exit) ≡ labelSet l label (now (table .entry)) ⌝ }
 {
-    labels::put_label(table, LABELS + LABEL_SIZE * (l as usize), label);
+    labels::put_label(table, super::label_place(l), label);
 }
 
 // A label without policies.

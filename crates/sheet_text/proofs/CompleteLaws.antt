@@ -11,7 +11,7 @@ use borrow.Author.Tests.{lt-ltb, le-leb, ltb-true}
 use Rattle.logic.specs.Booleans.{both}
 use Rattle.logic.proofs.BooleanLaws.{both-left, both-right, both-true}
 use Rattle.labels.specs.Labels.{Policy, policy}
-use Rattle.sheet.specs.Sheet.{Sum, Location, Sheet, typeCount, labelCount, locationCount, earlierTypes, rising, eachRising, eachNamed, formed}
+use Rattle.sheet.specs.Sheet.{Sum, Location, Sheet, typeCount, labelCount, locationCount, earlierTypes, rising, eachRising, eachNamed, maxSums, maxLabels, maxLocations, formed}
 use Rattle.sheet.proofs.FormLaws.{formed-facts, type-count}
 use Rattle.sheet_text.specs.declared.line.Line.{Line}
 use Rattle.sheet_text.specs.Lines.{sumLine, policyLine, locationLine, each, labelLines, linesThen, sheetLines}
@@ -41,13 +41,13 @@ sheetAt n ss pss xs = record { principals = n; sums = ss; labels = pss; location
 -- ---- sums
 
 abbrev GoodSums : List Sum → List Sum → Type 0
-GoodSums xs ys = (length xs + length ys ≤ 27) × (earlierTypes (5 + length xs) ys ≡ true)
+GoodSums xs ys = (length xs + length ys ≤ maxSums) × (earlierTypes (5 + length xs) ys ≡ true)
 
 sum-built : (n : ℕ) (ys xs : List Sum) (y : Sum) → GoodSums xs (y ∷ ys)
     → (addLine (sheetAt n xs [] []) (sumLine y) ≡ some (sheetAt n (xs ++ (y ∷ [])) [] [])) × GoodSums (xs ++ (y ∷ [])) ys
 unfolding earlierTypes addLine sumLine sumFits addSum labelCount locationCount
 sum-built n ys xs y g =
-    let few : length xs < 27 = omega (arith, g .0) in
+    let few : length xs < maxSums = omega (arith, g .0) in
     let count = type-count (sheetAt n xs [] []) in
     let parts = both-left _ _ (g .1) in
     let left : y .left < 5 + length xs = ltb-true _ _ (both-left _ _ parts) in
@@ -85,15 +85,15 @@ policy-built n ss done ps qs (policy o r w) g =
 -- ---- labels
 
 labels-built : (n : ℕ) (ss : List Sum) (pss done : List (List Policy)) (rest : List Line)
-    → length done + length pss ≤ 32 → eachRising n pss ≡ true
+    → length done + length pss ≤ maxLabels → eachRising n pss ≡ true
     → addLines (some (sheetAt n ss done [])) (labelLines pss rest) ≡ addLines (some (sheetAt n ss (done ++ pss) [])) rest
 unfolding labelLines eachRising addLines addLineOn addLine labelFits addLabel labelCount locationCount leastAfter
 labels-built n ss [] done rest few e = ap (λ (zs : List (List Policy)). addLines (some (sheetAt n ss zs [])) rest) (sym (append-nil done))
 labels-built n ss (ps ∷ pss) done rest few e =
-    let room : length done < 32 = omega arith in
+    let room : length done < maxLabels = omega arith in
     let long = length-more done ps in
     ap (λ (o : Option Sheet). addLines o (each policyLine ps (labelLines pss rest)))
-    (passes (both true (ltb (length done) 32)) _ _ (both-true refl (lt-ltb _ _ room)) refl)
+    (passes (both true (ltb (length done) maxLabels)) _ _ (both-true refl (lt-ltb _ _ room)) refl)
     ∙ steps-each policyLine (λ qs. sheetAt n ss (done ++ (qs ∷ [])) []) (GoodPolicies n) (policy-built n ss done) ps []
     (labelLines pss rest) (both-left _ _ e)
     ∙ labels-built n ss pss (done ++ (ps ∷ [])) rest (omega arith) (both-right _ _ e)
@@ -102,7 +102,7 @@ labels-built n ss (ps ∷ pss) done rest few e =
 -- ---- locations
 
 abbrev GoodLocations : ℕ → ℕ → List Location → List Location → Type 0
-GoodLocations types labels xs ys = (length xs + length ys ≤ 64) × (eachNamed types labels ys ≡ true)
+GoodLocations types labels xs ys = (length xs + length ys ≤ maxLocations) × (eachNamed types labels ys ≡ true)
 
 location-built : (n : ℕ) (ss : List Sum) (pss : List (List Policy)) (ys xs : List Location) (y : Location)
     → GoodLocations (typeCount (sheetAt n ss pss [])) (length pss) xs (y ∷ ys)
@@ -110,7 +110,7 @@ location-built : (n : ℕ) (ss : List Sum) (pss : List (List Policy)) (ys xs : L
     × GoodLocations (typeCount (sheetAt n ss pss [])) (length pss) (xs ++ (y ∷ [])) ys
 unfolding eachNamed addLine locationLine locationFits addLocation locationCount labelCount
 location-built n ss pss ys xs y g =
-    let few : length xs < 64 = omega (arith, g .0) in
+    let few : length xs < maxLocations = omega (arith, g .0) in
     let names = both-left _ _ (g .1) in
     let count = type-count (sheetAt n ss pss []) in
     let count′ = type-count (sheetAt n ss pss xs) in

@@ -11,7 +11,7 @@ use Rattle.logic.proofs.BooleanLaws.{both-left, both-right, both-true}
 use Rattle.labels.specs.Labels.{Policy, policy}
 use Rattle.sheet.specs.Sheet.{Sum, Location, earlierTypes, rising, eachRising, eachNamed}
 use Rattle.sheet_text.specs.declared.line.Line.{Line}
-use Rattle.sheet_text.specs.declared.line.Line.the-variants.{P, L}
+use Rattle.sheet_text.specs.declared.line.Line.the-variants.{L}
 use Rattle.sheet_text.specs.Lines.{policyLine, each, labelLines}
 use Rattle.sheet.specs.Internal.Growth.{toLast}
 use Rattle.sheet_text.specs.Internal.Building.{lastOf, leastAfter}

@@ -10,8 +10,8 @@ use Rattle.text.specs.Reading.{fits}
 use Rattle.text.specs.Reading.Read.{got, bad}
 use Rattle.text.specs.Lines.{front}
 use Rattle.text.proofs.Lines.{all-none, all-more, all-bad}
-use Rattle.sheet.specs.Sheet.{Sheet, typeCount, labelCount}
-use Rattle.sheet.specs.Internal.Tables.{tableWords, typesIn, labelsIn}
+use Rattle.sheet.specs.Sheet.{Sheet, typeCount, labelCount, maxLabels}
+use Rattle.sheet.specs.Internal.Tables.{maxTypes, tableWords, typesIn, labelsIn}
 use Rattle.sheet.proofs.FormLaws.{formed-facts, type-count}
 use Rattle.sheet.proofs.TableLaws.{types-in, labels-in}
 use Rattle.sheet.proofs.TableGrowth.{table-long}
@@ -89,14 +89,14 @@ module _ (d : Draft) (t : List ℕ) where
   answer-malformed (some s) e h = refused-formed d _ h (e .0)
 
   module _ (k : ℕ) (h : d ≡ Formed k) where
-    -- a table of a sheet of the right form has at most 32 types and 32 labels
-    pub counts-few : (o : Option Sheet) → FormedIf o → DraftHolds o d t → (typesIn t ≤ 32) × (labelsIn t ≤ 32)
+    -- a table of a sheet of the right form has few types and labels
+    pub counts-few : (o : Option Sheet) → FormedIf o → DraftHolds o d t → (typesIn t ≤ maxTypes) × (labelsIn t ≤ maxLabels)
     unfolding DraftHolds FormedIf
     counts-few none f e = refused-formed d k e h
     counts-few (some s) f e =
         let facts = formed-facts s f in
-        let types : typeCount s ≤ 32 = omega (arith, type-count s, facts .few-sums) in
-        let labels : labelCount s ≤ 32 = unfold labelCount in (facts .few-labels) in
+        let types : typeCount s ≤ maxTypes = omega (arith, type-count s, facts .few-sums) in
+        let labels : labelCount s ≤ maxLabels = unfold labelCount in (facts .few-labels) in
         rw (e .1, types-in s f, labels-in s f) (types, labels)
 
     pub answer-repeating : (o : Option Sheet) → FormedIf o → DraftHolds o d t → repeatsIn t ≡ true → refusedBy Repeats ≡ decodedSheet (judged o)

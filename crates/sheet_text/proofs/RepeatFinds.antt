@@ -7,7 +7,6 @@ use native.Mathlib.Omega.{arith}
 use native.Mathlib.Decide.{decLe}
 use lib.Dec.{eqb}
 use lib.ListN.{length, getD, length-map}
-use borrow.Author.Tests.{lt-ltb}
 use Rattle.logic.specs.Booleans.{both, either}
 use Rattle.logic.proofs.BooleanLaws.{bool-ext, both-left, both-right, both-true}
 use Rattle.sets.specs.Sets.{every, everyone}
@@ -15,12 +14,13 @@ use Rattle.sets.proofs.Walks.{every-true, every-at, getD-tab}
 use Rattle.labels.specs.Labels.{owners, labelOf, bottomOf, readersOf, writersOf, sameAt, sameOf}
 use Rattle.labels.specs.Internal.Tables.{labelSize, setsAt, labelAt}
 use Rattle.labels.specs.declared.Label.{Label}
-use Rattle.sheet.specs.Sheet.{Sum, Sheet, labelsOf, labelNo, labelCount, formed, among, repeated, sameParts, givenSums, repeats}
-use Rattle.sheet.specs.Internal.Tables.{tableOf, typesIn, labelsIn, entryIn, leftIn, rightIn, labelIn, givenParts, typeParts, partsNo}
+use Rattle.sheet.specs.Sheet.{Sum, Sheet, labelsOf, labelNo, labelCount, maxLabels, formed, among, repeated, sameParts, givenSums, repeats}
+use Rattle.sheet.specs.Internal.Tables.{maxTypes, partsBase, partsPlace, labelPlace, tableOf, typesIn, labelsIn, leftIn, rightIn, givenParts, typeParts, partsNo}
+use Rattle.sheet.proofs.Entries.{entry-there, label-there}
 use Rattle.sheet.proofs.FormLaws.{type-count}
 use Rattle.sheet.proofs.TableLaws.{types-in, labels-in, left-in, right-in}
 use Rattle.sheet.proofs.LabelLaws.{label-in}
-use Rattle.sheet_text.specs.Internal.Repeats.{sameWords, sameIn, anyFrom, againIn, repeatsIn}
+use Rattle.sheet_text.specs.Internal.Repeats.{mostOf, sameWords, sameIn, anyFrom, againIn, repeatsIn}
 
 -- ---- the cases of a search from i to before n
 
@@ -39,14 +39,21 @@ module _ (test : ℕ → Bool) (i n : ℕ) where
 
 -- ---- the cases of the test and of the two searches
 
-module _ (t : List ℕ) (labels : Bool) (i j : ℕ) where
-  pub same-labels-at : labels ≡ true → sameWords t (200 + labelSize * i) (200 + labelSize * j) labelSize ≡ sameIn t labels i j
-  unfolding sameIn
-  same-labels-at e = rw e
+module _ (labels : Bool) (i : ℕ) where
+  pub few-labels : labels ≡ true → i < mostOf labels → i < maxLabels
+  few-labels e h = rw e at h
 
-  pub same-types-at : labels ≡ false → sameWords t (8 + 2 * i) (8 + 2 * j) 2 ≡ sameIn t labels i j
+  pub few-types : labels ≡ false → i < mostOf labels → i < maxTypes
+  few-types e h = rw e at h
+
+module _ (t : List ℕ) (labels : Bool) (i j : ℕ) where
+  pub same-labels-at : (a b : ℕ) → a ≡ labelPlace i → b ≡ labelPlace j → labels ≡ true → sameWords t a b labelSize ≡ sameIn t labels i j
   unfolding sameIn
-  same-types-at e = rw e
+  same-labels-at a b p q e = rw (p, q, e)
+
+  pub same-types-at : (a b : ℕ) → a ≡ partsPlace i → b ≡ partsPlace j → labels ≡ false → sameWords t a b 2 ≡ sameIn t labels i j
+  unfolding sameIn
+  same-types-at a b p q e = rw (p, q, e)
 
 module _ (t : List ℕ) where
   pub repeats-type : (n : ℕ) → n ≡ typesIn t → anyFrom (againIn t false n) 3 (n - 3) ≡ true → true ≡ repeatsIn t
@@ -91,15 +98,7 @@ module _ {A : Type 0} (same : A → A → Bool) (d : A) where
         let second : i + 1 + k ≡ i + suc k = omega arith in
         ap₂ (sameIn t labels) first second ∙ h (suc j) (suc k) (omega arith) (omega arith)))
 
--- ---- what stands in the table of an entry that is there
-
-entry-there : (t : List ℕ) (count base i : ℕ) → i < count → entryIn t count base i ≡ getD t (base + 2 * i) 0
-unfolding entryIn
-entry-there t count base i h = rw (lt-ltb _ _ h)
-
-label-there : (t : List ℕ) (l : ℕ) → l < labelsIn t → labelIn t l ≡ labelAt t (200 + labelSize * l)
-unfolding labelIn
-label-there t l h = rw (lt-ltb _ _ h)
+-- ---- what stands in the table of a label
 
 both-yes-right : (a : Bool) → both a true ≡ a
 unfolding both
@@ -154,15 +153,15 @@ module _ (s : Sheet) (fm : formed s ≡ true) where
   sum-at j = let z : 3 + j ≡ suc (suc (suc j)) = omega arith in rw z
 
   -- a part of a type that is there
-  left-at : (i : ℕ) → i < typesIn (tableOf s) → getD (tableOf s) (8 + 2 * i + 0) 0 ≡ partsNo s i .left
+  left-at : (i : ℕ) → i < typesIn (tableOf s) → getD (tableOf s) (partsBase + 2 * i + 0) 0 ≡ partsNo s i .left
   left-at i h =
-      let z : 8 + 2 * i + 0 ≡ 8 + 2 * i = omega arith in
-      rw z (sym (entry-there (tableOf s) (typesIn (tableOf s)) 8 i h) ∙ unfold leftIn in (left-in s fm i))
+      let z : partsBase + 2 * i + 0 ≡ partsBase + 2 * i = omega arith in
+      rw z (sym (entry-there (tableOf s) (typesIn (tableOf s)) partsBase i h) ∙ unfold leftIn in (left-in s fm i))
 
-  right-at : (i : ℕ) → i < typesIn (tableOf s) → getD (tableOf s) (8 + 2 * i + 1) 0 ≡ partsNo s i .right
+  right-at : (i : ℕ) → i < typesIn (tableOf s) → getD (tableOf s) (partsBase + 2 * i + 1) 0 ≡ partsNo s i .right
   right-at i h =
-      let z : 8 + 2 * i + 1 ≡ 9 + 2 * i = omega arith in
-      rw z (sym (entry-there (tableOf s) (typesIn (tableOf s)) 9 i h) ∙ unfold rightIn in (right-in s fm i))
+      let z : partsBase + 2 * i + 1 ≡ partsBase + 1 + 2 * i = omega arith in
+      rw z (sym (entry-there (tableOf s) (typesIn (tableOf s)) (partsBase + 1) i h) ∙ unfold rightIn in (right-in s fm i))
 
   same-sums : (j k : ℕ) → 3 + j < typesIn (tableOf s) → 3 + k < typesIn (tableOf s)
       → sameIn (tableOf s) false (3 + j) (3 + k) ≡ sameParts (getD (givenSums ++ s .sums) j noParts) (getD (givenSums ++ s .sums) k noParts)
@@ -173,7 +172,7 @@ module _ (s : Sheet) (fm : formed s ≡ true) where
   types-repeated : anyFrom (againIn (tableOf s) false (typesIn (tableOf s))) 3 (typesIn (tableOf s) - 3) ≡ repeated sameParts (givenSums ++ s .sums)
   types-repeated =
       let xs = givenSums ++ s .sums in
-      let long : 3 + length xs ≡ typesIn (tableOf s) = omega (arith, type-count s, types-in s) in
+      let long : 3 + length xs ≡ typesIn (tableOf s) = omega (arith, type-count s, types-in s fm) in
       let left : typesIn (tableOf s) - 3 ≡ length xs = omega arith in
       ap (λ (k : ℕ). anyFrom (againIn (tableOf s) false (typesIn (tableOf s))) 3 k) left
       ∙ any-repeated sameParts noParts (tableOf s) false (typesIn (tableOf s)) xs 3 long (λ j k l m. same-sums j k (omega arith) (omega arith))
@@ -187,14 +186,14 @@ module _ (s : Sheet) (fm : formed s ≡ true) where
   same-labels j k h i =
       let first : 0 + j ≡ j = omega arith in
       let second : 0 + k ≡ k = omega arith in
-      ap₂ (λ (a b : ℕ). sameWords (tableOf s) (200 + labelSize * a) (200 + labelSize * b) labelSize) first second
-      ∙ label-words-same (tableOf s) (200 + labelSize * j) (200 + labelSize * k)
-      ∙ ap₂ sameOf (sym (label-there (tableOf s) j h) ∙ label-in s fm j) (sym (label-there (tableOf s) k i) ∙ label-in s fm k)
+      ap₂ (λ (a b : ℕ). sameWords (tableOf s) (labelPlace a) (labelPlace b) labelSize) first second
+      ∙ label-words-same (tableOf s) (labelPlace j) (labelPlace k)
+      ∙ ap₂ sameOf (sym (label-there (tableOf s) j refl h) ∙ label-in s fm j) (sym (label-there (tableOf s) k refl i) ∙ label-in s fm k)
 
   labels-repeated : anyFrom (againIn (tableOf s) true (labelsIn (tableOf s))) 0 (labelsIn (tableOf s) - 0) ≡ repeated sameOf (labelsOf s)
   labels-repeated =
       let long : 0 + length (labelsOf s) ≡ labelsIn (tableOf s) =
-      unfold labelsOf labelCount in (omega (arith, length-map (s .labels) (labelOf (s .principals)), labels-in s)) in
+      unfold labelsOf labelCount in (omega (arith, length-map (s .labels) (labelOf (s .principals)), labels-in s fm)) in
       let left : labelsIn (tableOf s) - 0 ≡ length (labelsOf s) = omega arith in
       ap (λ (k : ℕ). anyFrom (againIn (tableOf s) true (labelsIn (tableOf s))) 0 k) left
       ∙ any-repeated sameOf noLabel (tableOf s) true (labelsIn (tableOf s)) (labelsOf s) 0 long (λ j k l m. same-labels j k (omega arith) (omega arith))

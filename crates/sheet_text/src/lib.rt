@@ -19,7 +19,8 @@ pub enum Verdict {
     Repeats,
 }
 
-// The verdict on a sheet's text. The lent table becomes the sheet's, or zeros where the text is refused, whatever it held.
+// The verdict on a sheet's text. The lent table becomes the sheet's, or zeros where the text is refused, whatever it
+// held.
 pub fn read(text: &[u8], table: &mut [Word; WORDS]) -> Verdict
     ensures { λ r. ⌜ record { verdict = r; table = now (table .exit) } ≡ decodedSheet (sheetOf (now (text .entry))) ⌝ }
 {

@@ -1,14 +1,15 @@
 // Whether a table repeats a type or a label. Those that are the same have the same words.
 ghost use mathlib.Core.Path.{_≡_};
 ghost use Prim.Native.Nat.{_+_, _-_, _<_, _≤_};
-ghost use Rattle.sheet.specs.Internal.Tables.{tableWords, typesIn, labelsIn};
-ghost use Rattle.sheet_text.specs.Internal.Repeats.{mostEach, sameWords, sameIn, anyFrom, againIn, repeatsIn};
+ghost use Rattle.sheet.specs.Internal.Tables.{maxTypes, tableWords, typesIn, labelsIn};
+ghost use Rattle.sheet.specs.Sheet.{maxLabels};
+ghost use Rattle.sheet_text.specs.Internal.Repeats.{mostOf, sameWords, sameIn, anyFrom, againIn, repeatsIn};
 use labels::LABEL_SIZE;
-use sheet::LABELS;
-use sheet::PARTS;
 use sheet::SUMS;
 use sheet::WORDS;
 use sheet::Word;
+use sheet::label_place;
+use sheet::parts_place;
 
 // Whether the n words from a on are those from b on.
 fn same_words(table: &[Word; WORDS], a: usize, b: usize, n: usize) -> bool
@@ -25,20 +26,18 @@ fn same_words(table: &[Word; WORDS], a: usize, b: usize, n: usize) -> bool
 
 // Whether two types have the same parts, or two labels the same sets.
 fn same(table: &[Word; WORDS], labels: bool, i: u32, j: u32) -> bool
-    requires { ⌜ (i < mostEach) × (j < mostEach) ⌝ }
+    requires { ⌜ (i < mostOf labels) × (j < mostOf labels) ⌝ }
     ensures { λ r. ⌜ r ≡ sameIn (now (table .entry)) labels i j ⌝ }
 {
     if labels {
-        let a = LABELS + LABEL_SIZE * (i as usize);
-        let b = LABELS + LABEL_SIZE * (j as usize);
-        return same_words(table, a, b, LABEL_SIZE);
+        return same_words(table, label_place(i), label_place(j), LABEL_SIZE);
     }
-    same_words(table, (PARTS + 2 * i) as usize, (PARTS + 2 * j) as usize, 2)
+    same_words(table, parts_place(i), parts_place(j), 2)
 }
 
 // Whether one of those from `from` to before n is the same as the one at i.
 fn again(table: &[Word; WORDS], labels: bool, i: u32, from: u32, n: u32) -> bool
-    requires { ⌜ (i < mostEach) × (n ≤ mostEach) ⌝ }
+    requires { ⌜ (i < mostOf labels) × (n ≤ mostOf labels) ⌝ }
     ensures { λ r. ⌜ r ≡ anyFrom (sameIn (now (table .entry)) labels i) from (n - from) ⌝ }
 {
     for j in from..n {
@@ -51,7 +50,7 @@ fn again(table: &[Word; WORDS], labels: bool, i: u32, from: u32, n: u32) -> bool
 
 // Whether one of those from `from` to before n comes again before n.
 fn repeated(table: &[Word; WORDS], labels: bool, from: u32, n: u32) -> bool
-    requires { ⌜ n ≤ mostEach ⌝ }
+    requires { ⌜ n ≤ mostOf labels ⌝ }
     ensures { λ r. ⌜ r ≡ anyFrom (againIn (now (table .entry)) labels n) from (n - from) ⌝ }
 {
     for i in from..n {
@@ -64,7 +63,7 @@ fn repeated(table: &[Word; WORDS], labels: bool, from: u32, n: u32) -> bool
 
 // Whether the table repeats a type or a label.
 pub(crate) fn repeats(table: &[Word; WORDS]) -> bool
-    requires { ⌜ (typesIn (now table) ≤ mostEach) × (labelsIn (now table) ≤ mostEach) ⌝ }
+    requires { ⌜ (typesIn (now table) ≤ maxTypes) × (labelsIn (now table) ≤ maxLabels) ⌝ }
     ensures { λ r. ⌜ r ≡ repeatsIn (now (table .entry)) ⌝ }
 {
     if repeated(table, false, SUMS, sheet::types(table)) {

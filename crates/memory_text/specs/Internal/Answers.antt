@@ -9,7 +9,7 @@ use Rattle.text.specs.Reading.{Read}
 use Rattle.text.specs.Reading.Read.{got, bad}
 use Rattle.text.specs.Internal.Place.{placed}
 use Rattle.language.specs.World.{cell-words}
-use Rattle.memory_text.specs.Internal.Writing.{lineRoom}
+use Rattle.memory_text.specs.Sizes.{lineRoom}
 use Rattle.memory_text.specs.Sizes.{memoryWords}
 use Rattle.memory_text.specs.declared.Memory.{Memory}
 use Rattle.memory_text.specs.declared.Answer.the-variants as answer

@@ -1,15 +1,11 @@
 -- What the parts of writing a memory promise one another.
-use Prim.Native.Nat.{ℕ, _*_, _+_, _≤_}
+use Prim.Native.Nat.{ℕ, _+_, _≤_}
 use mathlib.Core.Path.{_≡_}
 use mathlib.Core.List.{List}
 use lib.ListN.{length, take, drop}
 use lib.Seq.{sets}
 use Rattle.language.specs.World.{cell-words}
 use Rattle.memory_text.specs.Printing.{trim}
-
--- the bytes of the longest line: ten digits and a tab, or the line's end, for each word
-abbrev pub lineRoom : ℕ
-lineRoom = 11 * cell-words
 
 -- the first n words from `from` on are those that the line of that location keeps
 pub record Used (ws : List ℕ) (from n : ℕ) : Type 0 where

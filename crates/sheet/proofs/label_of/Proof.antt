@@ -1,4 +1,5 @@
-use mathlib.Core.Path.{sym, _∙_}
+use mathlib.Core.Path.{sym, ap, _∙_}
+use Rattle.labels.specs.Internal.Tables.{labelAt}
 use Rattle.sheet.proofs.Entries.{label-there, label-past}
 use borrow.Author.Needs.{needs}
 use Rattle.sheet.proofs.label_of.Statement.{statement}
@@ -7,12 +8,15 @@ use Rattle.sheet.proofs.label_of.Tie as tie
 pub label-of-spec : {M : Type 1} → statement M
 label-of-spec = tie.close (tie.spec
     (λ c κs. search needs)  -- labels-requires
-    (λ c. search needs)  -- mul-label-at
-    (λ c. search needs)  -- add-label-at
+    (λ c κs. search needs)  -- label-place-requires
     (λ c κs. search needs)  -- label-at-requires
     (λ c κs. search needs)  -- everyone-requires
     (λ c κs. search needs)  -- bottom-requires
-    (λ c. c .label-at .ensures ∙ sym (label-there _ _ (c .before .before .labels .ensures) (c .before .if1 .taken)))  -- returns
+    (λ c.
+    let b = c .before .before in
+    c .label-at .ensures
+    ∙ ap (labelAt _) (c .before .label-place .ensures)
+    ∙ sym (label-there _ _ (b .before .labels .ensures) (b .if1 .taken)))  -- returns
     (λ c.
     let b = c .before .before in
     c .bottom .ensures

@@ -4,7 +4,7 @@ use mathlib.Core.List.{List, [], _∷_, _++_}
 use Prim.Native.Nat.{ℕ, _+_, _*_}
 use lib.Dec.{ltb}
 use lib.ListN.{getD}
-use Rattle.sets.specs.Sets.{width, everyone}
+use Rattle.sets.specs.Sets.{everyone}
 use Rattle.labels.specs.Labels.{bottomOf, belowOf, readsOf, writesOf}
 use Rattle.labels.specs.Internal.Tables.{labelSize, labelWords, labelAt}
 use Rattle.labels.specs.declared.Label.{Label}
@@ -37,11 +37,13 @@ labelsBase = locationsBase + locationsRoom
 abbrev pub tableWords : ℕ
 tableWords = labelsBase + labelsRoom
 
--- the number of bits of a word, which has room for a set and for each count
-abbrev pub wordWidth : ℕ
-wordWidth = width
+-- where the number of principals, their set, and the counts of types, of labels and of locations stand
+abbrev pub principalsAt : ℕ
+principalsAt = 0
 
--- where the counts of types, of labels and of locations stand
+abbrev pub everyoneAt : ℕ
+everyoneAt = 1
+
 abbrev pub typesAt : ℕ
 typesAt = 2
 
@@ -50,6 +52,13 @@ labelsAt = 3
 
 abbrev pub locationsAt : ℕ
 locationsAt = 4
+
+-- where the parts of type i, and the words of label l, start
+abbrev pub partsPlace : ℕ → ℕ
+partsPlace i = partsBase + 2 * i
+
+abbrev pub labelPlace : ℕ → ℕ
+labelPlace l = labelsBase + labelSize * l
 
 -- two words for each element
 unfoldable pub pairWords : {A : Type 0} → (A → ℕ) → (A → ℕ) → List A → List ℕ
@@ -86,10 +95,10 @@ tableOf s =
 -- ---- what a table says. A number that names nothing has the parts, type and label 0, and the label bottom.
 
 abbrev pub principalsIn : List ℕ → ℕ
-principalsIn t = getD t 0 0
+principalsIn t = getD t principalsAt 0
 
 abbrev pub everyoneIn : List ℕ → ℕ
-everyoneIn t = getD t 1 0
+everyoneIn t = getD t everyoneAt 0
 
 abbrev pub typesIn : List ℕ → ℕ
 typesIn t = getD t typesAt 0
@@ -120,7 +129,7 @@ homeIn t x = entryIn t (locationsIn t) (locationsBase + 1) x
 
 -- label l
 unfoldable pub labelIn : List ℕ → ℕ → Label
-labelIn t l = cond (ltb l (labelsIn t)) (labelAt t (labelsBase + labelSize * l)) (bottomOf (everyoneIn t))
+labelIn t l = cond (ltb l (labelsIn t)) (labelAt t (labelPlace l)) (bottomOf (everyoneIn t))
 
 -- label l is at or below label m
 unfoldable pub belowIn : List ℕ → ℕ → ℕ → Bool

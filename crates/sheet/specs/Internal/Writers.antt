@@ -1,24 +1,24 @@
 -- What is stored in a table where its sheet grows. A table without room for more is left as it is.
 use mathlib.Core.Bool.{cond}
 use mathlib.Core.List.{List}
-use Prim.Native.Nat.{ℕ, _+_, _*_, _-_, _%_, _^_}
+use Prim.Native.Nat.{ℕ, _+_, _*_, _-_, _%_}
 use lib.Dec.{ltb}
 use lib.ListN.{getD, set}
 use Rattle.sets.specs.Sets.{width, everyone, restrict}
 use Rattle.labels.specs.Labels.{openOf, policyOf}
-use Rattle.labels.specs.Internal.Tables.{labelSize, labelPut}
+use Rattle.labels.specs.Internal.Tables.{labelPut}
 use Rattle.labels.specs.declared.Label.{Label}
 use Rattle.sheet.specs.Sheet.{maxLabels, maxLocations}
-use Rattle.sheet.specs.Internal.Tables.{wordWidth, maxTypes, partsBase, locationsBase, labelsBase, typesAt, labelsAt, locationsAt, principalsIn, everyoneIn, labelsIn, labelIn}
+use Rattle.sheet.specs.Internal.Tables.{maxTypes, partsBase, locationsBase, partsPlace, labelPlace, principalsAt, everyoneAt, typesAt, labelsAt, locationsAt, principalsIn, everyoneIn, labelsIn, labelIn}
 
--- the part of a number that a word has room for
+-- a number up to the most of anything that is counted, locations, so that it fits a word, however wide
 unfoldable pub low : ℕ → ℕ
-low n = n % 2 ^ wordWidth
+low n = n % (maxLocations + 1)
 
 -- the number of principals, their set, the count of the five given types, and the parts of type 4; the others have the parts 0 0
 abbrev pub principalsPut : ℕ → List ℕ → List ℕ
 principalsPut n t =
-    set (set (set (set (set t 0 (low n)) 1 (restrict width (everyone n))) typesAt 5) (partsBase + 2 * 4) 2) (partsBase + 2 * 4 + 1) 1
+    set (set (set (set (set t principalsAt (low n)) everyoneAt (restrict width (everyone n))) typesAt 5) (partsPlace 4) 2) (partsPlace 4 + 1) 1
 
 -- the pair a b behind the pairs from base on, of which there are at most `most` and as many as the word at `count` says
 unfoldable pub pairPut : ℕ → ℕ → ℕ → ℕ → ℕ → List ℕ → List ℕ
@@ -36,7 +36,7 @@ locationPut ty l t = pairPut locationsBase locationsAt maxLocations ty l t
 
 -- label l
 abbrev pub labelSet : ℕ → Label → List ℕ → List ℕ
-labelSet l a t = labelPut t (labelsBase + labelSize * l) a
+labelSet l a t = labelPut t (labelPlace l) a
 
 -- a label without policies behind the others
 unfoldable pub openPut : List ℕ → List ℕ

@@ -1,17 +1,18 @@
 -- What the code looks for to find a repeat in a table.
-use mathlib.Core.Bool.{Bool, true, false}
+use mathlib.Core.Bool.{Bool, true, false, cond}
 use mathlib.Core.List.{List}
-use Prim.Native.Nat.{ℕ, zero, suc, _+_, _*_, _-_}
+use Prim.Native.Nat.{ℕ, zero, suc, _+_, _-_}
 use lib.Dec.{eqb}
 use lib.ListN.{getD}
 use Rattle.logic.specs.Booleans.{either}
 use Rattle.sets.specs.Sets.{every}
 use Rattle.labels.specs.Internal.Tables.{labelSize}
-use Rattle.sheet.specs.Internal.Tables.{partsBase, labelsBase, typesIn, labelsIn}
+use Rattle.sheet.specs.Sheet.{maxLabels}
+use Rattle.sheet.specs.Internal.Tables.{maxTypes, partsPlace, labelPlace, typesIn, labelsIn}
 
--- the most types, and the most labels, that a table has room for
-abbrev pub mostEach : ℕ
-mostEach = 32
+-- the most labels, or otherwise the most types, that a table has room for
+abbrev pub mostOf : Bool → ℕ
+mostOf labels = cond labels maxLabels maxTypes
 
 -- the n words from a on are those from b on
 unfoldable pub sameWords : List ℕ → ℕ → ℕ → ℕ → Bool
@@ -19,8 +20,8 @@ sameWords t a b n = every n (λ (k : ℕ). eqb (getD t (a + k) 0) (getD t (b + k
 
 -- two labels have the same sets, or otherwise two types the same parts
 unfoldable pub sameIn : List ℕ → Bool → ℕ → ℕ → Bool
-sameIn t true i j = sameWords t (labelsBase + labelSize * i) (labelsBase + labelSize * j) labelSize
-sameIn t false i j = sameWords t (partsBase + 2 * i) (partsBase + 2 * j) 2
+sameIn t true i j = sameWords t (labelPlace i) (labelPlace j) labelSize
+sameIn t false i j = sameWords t (partsPlace i) (partsPlace j) 2
 
 -- the test passes at one of k numbers from i on
 unfoldable pub anyFrom : (ℕ → Bool) → ℕ → ℕ → Bool

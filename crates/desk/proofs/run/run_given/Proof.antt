@@ -5,6 +5,7 @@ use mathlib.Core.Path.{sym, ap, _∙_}
 use native.Mathlib.Omega.{arith}
 use mathlib.Core.List.{List}
 use Rattle.memory_text.specs.Printing.{memoryText}
+use Rattle.language.specs.World.{cell-words}
 use Rattle.desk.specs.Run.{outcomeLine}
 use Rattle.desk.proofs.Outputs.{put-same, part-is, part-fits, part-count}
 use Rattle.desk.proofs.Givens.{words-fit, words-length}
@@ -35,7 +36,7 @@ put-run-requires c κs =
     let t = r .before .before .before .before .before .before in
     let g = t .args .given in
     let n = part-count (g .count) (r .simp-run .last .1 .1 .0) (g .words) (r .simp-run .kept .1 .1 .0) (words-fit g (t .pre .0)) in
-    (ap (λ (k : ℕ). k % 16) (sym n) ∙ t .pre .0 .whole, omega (arith, t .pre .0 .few), t .pre .1)
+    (ap (λ (k : ℕ). k % cell-words) (sym n) ∙ t .pre .0 .whole, omega (arith, t .pre .0 .few), t .pre .1)
 
 returns : tie.Need-returns
 returns c =
@@ -63,7 +64,7 @@ put-run-requires-2 : tie.Need-put-run-requires-2
 put-run-requires-2 c κs =
     let t = c .before .before .before .before .before .before .before .before .before .before .before .before .before in
     let n = words-length (t .args .given) (t .pre .0) in
-    (ap (λ (k : ℕ). k % 16) n ∙ t .pre .0 .whole, omega (arith, t .pre .0 .few), t .pre .1)
+    (ap (λ (k : ℕ). k % cell-words) n ∙ t .pre .0 .whole, omega (arith, t .pre .0 .few), t .pre .1)
 
 returns-2 : tie.Need-returns-2
 returns-2 c =

@@ -3,7 +3,7 @@ use Prim.Native.Nat.{_≤_, _*_, _-_}
 use mathlib.Core.Path.{_≡_, refl, sym, _∙_}
 use native.Mathlib.Omega.{arith}
 use lib.ListN.{length}
-use Rattle.memory_text.specs.Internal.Writing.{lineRoom}
+use Rattle.memory_text.specs.Sizes.{lineRoom}
 use Rattle.memory_text.specs.Printing.{lines, memoryText}
 use Rattle.memory_text.proofs.Writes.{Goes, linesFrom, lines-start, lines-goes, lines-done, printed-all, printed-part, printed-small}
 use Rattle.memory_text.proofs.write.write_memory.Statement.{statement}

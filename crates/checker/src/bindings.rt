@@ -6,7 +6,7 @@ ghost use Rattle.checker.specs.Internal.Bindings.{bindOf};
 use members::Members;
 
 // Cases nest at most this deep.
-pub(crate) const DEPTH: usize = 8;
+pub(crate) const DEPTH: usize = script::DEPTH as usize;
 
 // The words of one case: its type's number and its label; and the words of all.
 pub(crate) const BINDING: usize = 2;

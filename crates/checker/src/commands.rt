@@ -42,7 +42,7 @@ fn of_seq(x: Passed, y: Passed) -> Passed
 }
 
 // An assignment to location x below the surrounding label pc.
-fn of_assign(table: &[u16], x: u32, pc: Members, e: Typed) -> Passed
+fn of_assign(table: &[sheet::Word], x: u32, pc: Members, e: Typed) -> Passed
     ensures { λ r. ⌜ r ≡ assignPassed (now (table .entry)) x pc e ⌝ }
 {
     let flow = members::flows(
@@ -68,7 +68,7 @@ fn of_while(x: Typed, y: Passed) -> Passed
     }
 }
 
-fn of_case(table: &[u16], x: Typed, y: Passed, z: Passed) -> Passed
+fn of_case(table: &[sheet::Word], x: Typed, y: Passed, z: Passed) -> Passed
     ensures { λ r. ⌜ r ≡ casePassed (now (table .entry)) x y z ⌝ }
 {
     let typed = is_sum(table, x.ty) & (y.typed & z.typed);
@@ -83,7 +83,7 @@ fn of_case(table: &[u16], x: Typed, y: Passed, z: Passed) -> Passed
 pub(crate) fn check_cmd(
     code: &[u32],
     at: usize,
-    table: &[u16],
+    table: &[sheet::Word],
     bound: &mut [u64; bindings::BINDINGS],
     depth: usize,
     pc: Members,

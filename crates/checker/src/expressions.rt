@@ -41,7 +41,7 @@ fn of_int(next: usize) -> Typed
     }
 }
 
-fn of_location(table: &[u16], x: u32, next: usize) -> Typed
+fn of_location(table: &[sheet::Word], x: u32, next: usize) -> Typed
     ensures { λ r. ⌜ r ≡ locTyped (now (table .entry)) x next ⌝ }
 {
     Typed {
@@ -86,7 +86,7 @@ fn of_plus(x: Typed, y: Typed) -> Typed
 }
 
 // A sum of type `ty`, whose part on the operand's side is `part`.
-fn of_sum(table: &[u16], ty: u32, part: u32, x: Typed) -> Typed
+fn of_sum(table: &[sheet::Word], ty: u32, part: u32, x: Typed) -> Typed
     ensures { λ r. ⌜ r ≡ sumTyped (now (table .entry)) ty part x ⌝ }
 {
     Typed {
@@ -98,7 +98,7 @@ fn of_sum(table: &[u16], ty: u32, part: u32, x: Typed) -> Typed
     }
 }
 
-fn of_pack(table: &[u16], l: u32, x: Typed) -> Typed
+fn of_pack(table: &[sheet::Word], l: u32, x: Typed) -> Typed
     ensures { λ r. ⌜ r ≡ packTyped (now (table .entry)) l x ⌝ }
 {
     Typed {
@@ -110,7 +110,7 @@ fn of_pack(table: &[u16], l: u32, x: Typed) -> Typed
     }
 }
 
-fn of_unpack(table: &[u16], ty: u32, l: u32, x: Typed) -> Typed
+fn of_unpack(table: &[sheet::Word], ty: u32, l: u32, x: Typed) -> Typed
     ensures { λ r. ⌜ r ≡ unpackTyped (now (table .entry)) ty l x ⌝ }
 {
     let or_error = is_sum(table, ty) & (sheet::right_part(table, ty) == ERROR);
@@ -127,7 +127,7 @@ fn of_unpack(table: &[u16], ty: u32, l: u32, x: Typed) -> Typed
 pub(crate) fn check_expr(
     code: &[u32],
     at: usize,
-    table: &[u16],
+    table: &[sheet::Word],
     bound: &[u64; bindings::BINDINGS],
     depth: usize,
 ) -> Typed

@@ -33,7 +33,7 @@ pub enum Verdict {
 }
 
 // Checks a script's code against a sheet's table.
-pub fn check(code: &[u32], table: &[u16]) -> Verdict
+pub fn check(code: &[u32], table: &[sheet::Word]) -> Verdict
     ensures { λ r. ⌜ ChecksCode (now (code .entry)) (now (table .entry)) (verdictNumber r) ⌝ }
 {
     let mut bound: [u64; bindings::BINDINGS] = [0; bindings::BINDINGS];

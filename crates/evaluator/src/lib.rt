@@ -7,13 +7,13 @@ use cells::CELL;
 use script::ROW;
 use sheet::powers::Powers;
 
-// The cell of location 0.
-pub const LOCATIONS: usize = 9;
+// The cell of location 0: after the accumulator and those that cases bind.
+pub const LOCATIONS: usize = 1 + script::DEPTH as usize;
 
 // Where the words of the locations start, and the words of all cells.
 pub const MEMORY: usize = CELL * LOCATIONS;
 
-pub const WORK: usize = MEMORY + CELL * 64;
+pub const WORK: usize = MEMORY + CELL * (sheet::MOST_LOCATIONS as usize);
 
 // How an evaluation or a run ends: done, the budget used up, a value too long; or, on words that are no script's code or no sheet's
 // memory, that no rule applies.
@@ -41,7 +41,7 @@ pub(crate) const TOO_LONG: End = 1;
 pub fn eval(
     code: &[u32],
     at: usize,
-    table: &[u16],
+    table: &[sheet::Word],
     powers: Powers,
     depth: u32,
     work: &mut [u32; WORK],
@@ -70,7 +70,7 @@ pub fn eval(
 fn reach(
     code: &[u32],
     at: usize,
-    table: &[u16],
+    table: &[sheet::Word],
     powers: Powers,
     depth: u32,
     work: &mut [u32; WORK],

@@ -110,7 +110,7 @@ fn pack(work: &mut [u32; WORK], powers: Powers, l: u32, v: End) -> End
 }
 
 // The error of unpacking the package in the accumulator with the wanted label l and the wanted type on the left of type t; else 0.
-fn refusal(work: &[u32], table: &[u16], powers: Powers, t: u32, l: u32) -> u32
+fn refusal(work: &[u32], table: &[sheet::Word], powers: Powers, t: u32, l: u32) -> u32
     ensures { λ r. ⌜ r ≡ errorIn (record { table = now (table .entry); powers = powers }) l (getD (now (work .entry)) 1 0)
         (hasNo (now (table .entry)) (valueOf (drop 2 (now (work .entry)))) (leftIn (now (table .entry)) t)) ⌝ }
 {
@@ -127,7 +127,14 @@ fn refusal(work: &[u32], table: &[u16], powers: Powers, t: u32, l: u32) -> u32
 }
 
 // The content of the package in the accumulator, or an error.
-fn unpack(work: &mut [u32; WORK], table: &[u16], powers: Powers, t: u32, l: u32, v: End) -> End
+fn unpack(
+    work: &mut [u32; WORK],
+    table: &[sheet::Word],
+    powers: Powers,
+    t: u32,
+    l: u32,
+    v: End,
+) -> End
     ensures { λ r. ⌜ Unpacks (record { table = now (table .entry); powers = powers }) t l (reached v (now (work .entry))) (reached r (now (work .exit))) ⌝ }
 {
     if v <= TOO_LONG {
@@ -150,7 +157,7 @@ fn unpack(work: &mut [u32; WORK], table: &[u16], powers: Powers, t: u32, l: u32,
 // What a line of a kind, with the numbers a and b, makes of the value in the accumulator; of a plus, a is the integer on the left.
 pub(crate) fn applied(
     work: &mut [u32; WORK],
-    table: &[u16],
+    table: &[sheet::Word],
     powers: Powers,
     kind: u32,
     a: u32,

@@ -14,7 +14,7 @@ use Rattle.language.proofs.Substitution.{close-none}
 use Rattle.script.specs.Lines.{Source, cmdLines}
 use Rattle.script.specs.Internal.Code.{code}
 use Rattle.script.specs.Names.{Counts, named}
-use Rattle.sheet.specs.Sheet.{Sheet, labelCount, locationCount, maxLabels, formed}
+use Rattle.sheet.specs.Sheet.{Sheet, labelCount, locationCount, maxLabels, formed, maxLocations}
 use Rattle.sheet.specs.Internal.Tables.{labelsIn, tableOf}
 use Rattle.sheet.specs.Internal.Powers.{powersIn}
 use Rattle.sheet.specs.Meaning.{worldOf}
@@ -131,7 +131,7 @@ module _ (memory : List ℕ) (budget : ℕ) {ws cells : List ℕ} {locations : �
   kept-at z finish-wrong = tt
 
 -- a memory of more locations than a sheet has
-pub run-large : {ws table memory : List ℕ} {authority budget : ℕ} → 1024 < length memory → Runs ws table memory authority budget (stateNumber NoRule) 0 memory
+pub run-large : {ws table memory : List ℕ} {authority budget : ℕ} → cell-words * maxLocations < length memory → Runs ws table memory authority budget (stateNumber NoRule) 0 memory
 unfolding stateNumber
 run-large h =
     record {

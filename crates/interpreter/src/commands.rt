@@ -5,9 +5,6 @@ use evaluator::State;
 use script::ROW;
 use sheet::powers::Powers;
 
-// Cases nest at most this deep.
-const MAX_DEPTH: u32 = 8;
-
 // Done: skip is reached, with so much of the budget left, and the command's lines end at `next`.
 pub(crate) struct Stepped {
     pub(crate) state: State,
@@ -79,7 +76,7 @@ fn tick(d: Stepped) -> Stepped
 fn assign(
     code: &[u32],
     at: usize,
-    table: &[u16],
+    table: &[sheet::Word],
     powers: Powers,
     depth: u32,
     work: &mut [u32; evaluator::WORK],
@@ -117,7 +114,7 @@ fn assign(
 fn decide(
     code: &[u32],
     at: usize,
-    table: &[u16],
+    table: &[sheet::Word],
     powers: Powers,
     depth: u32,
     work: &mut [u32; evaluator::WORK],
@@ -170,7 +167,7 @@ fn decide(
 fn branch(
     code: &[u32],
     at: usize,
-    table: &[u16],
+    table: &[sheet::Word],
     powers: Powers,
     depth: u32,
     work: &mut [u32; evaluator::WORK],
@@ -179,7 +176,7 @@ fn branch(
     ensures { λ r. ⌜ Branches (record { table = now (table .entry); powers = powers })
         (record { code = now (code .entry); at = at; depth = depth; cells = now (work .entry) }) fuel r (now (work .exit)) ⌝ }
 {
-    if depth >= MAX_DEPTH {
+    if depth >= script::DEPTH {
         return Taken {
             state: State::NoRule,
             left: fuel,
@@ -214,7 +211,7 @@ fn branch(
 pub(crate) fn exec(
     code: &[u32],
     at: usize,
-    table: &[u16],
+    table: &[sheet::Word],
     powers: Powers,
     depth: u32,
     work: &mut [u32; evaluator::WORK],

@@ -9,6 +9,7 @@ ghost use Rattle.evaluator.specs.Internal.Cells.{workWords};
 ghost use Rattle.interpreter.specs.Internal.Run.{Runs};
 ghost use Rattle.evaluator.specs.State.{stateNumber};
 use evaluator::State;
+use sets::Set;
 
 // How a run ended, and the steps taken.
 pub struct Ran {
@@ -17,7 +18,13 @@ pub struct Ran {
 }
 
 // Runs a script's code on a memory, under an authority, within a budget. The memory changes only where the run is done.
-pub fn run(code: &[u32], table: &[u16], memory: &mut [u32], authority: u16, budget: u32) -> Ran
+pub fn run(
+    code: &[u32],
+    table: &[sheet::Word],
+    memory: &mut [u32],
+    authority: Set,
+    budget: u32,
+) -> Ran
     ensures { λ r. ⌜ Runs (now (code .entry)) (now (table .entry)) (now (memory .entry)) authority budget (stateNumber (r .state)) (r .steps) (now (memory .exit)) ⌝ }
 {
     let mut work = [0u32; evaluator::WORK];
@@ -27,9 +34,9 @@ pub fn run(code: &[u32], table: &[u16], memory: &mut [u32], authority: u16, budg
 // The same, in the cells `work`.
 fn run_in(
     code: &[u32],
-    table: &[u16],
+    table: &[sheet::Word],
     memory: &mut [u32],
-    authority: u16,
+    authority: Set,
     budget: u32,
     work: &mut [u32; evaluator::WORK],
 ) -> Ran

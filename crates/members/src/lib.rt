@@ -41,7 +41,7 @@ pub fn join(x: Members, y: Members) -> Members
 }
 
 // The label of member p.
-fn member(table: &[u16], p: u32) -> Label
+fn member(table: &[sheet::Word], p: u32) -> Label
     ensures { λ r. ⌜ r ≡ memberIn (now (table .entry)) p ⌝ }
 {
     if p < LABELS {
@@ -52,7 +52,7 @@ fn member(table: &[u16], p: u32) -> Label
 }
 
 // The join of the members' labels.
-fn joined(table: &[u16], members: Members) -> Label
+fn joined(table: &[sheet::Word], members: Members) -> Label
     ensures { λ r. ⌜ r ≡ joinIn (now (table .entry)) members ⌝ }
 {
     let mut out = Label::bottom(sheet::everyone(table));
@@ -69,7 +69,7 @@ fn joined(table: &[u16], members: Members) -> Label
 }
 
 // Whether the join of the members is at or below label l; or otherwise whether C of the one is at or below C of the other.
-pub fn flows(table: &[u16], members: Members, l: u32, whole: bool) -> bool
+pub fn flows(table: &[sheet::Word], members: Members, l: u32, whole: bool) -> bool
     ensures { λ r. ⌜ r ≡ flowsIn (now (table .entry)) members l whole ⌝ }
 {
     let lower = joined(table, members);

@@ -35,6 +35,9 @@ pub const ROW: usize = 3;
 
 pub const ROWS: usize = 512;
 
+// Cases nest at most this deep.
+pub const DEPTH: u32 = 8;
+
 pub struct Row {
     pub kind: u32,
     pub a: u32,

@@ -15,6 +15,7 @@ ghost use Rattle.script_text.specs.Internal.Scan.{ScansExpr, ScansCmd, B
 use reader::Reader;
 use script::ASSIGN;
 use script::CASE;
+use script::DEPTH;
 use script::INT;
 use script::LEFT;
 use script::LOC;
@@ -43,9 +44,6 @@ use text::number_field;
 
 // The words of a script's code in all.
 pub const WORDS: usize = ROW * ROWS;
-
-// Cases nest at most this deep.
-const DEPTH: u32 = 8;
 
 // Whether a text was read as a script, or refused.
 pub enum Answer {
@@ -240,21 +238,21 @@ fn decode(s: &[u8], code: &mut [u32; WORDS]) -> Script
 }
 
 // Whether a number names a type.
-fn is_type(table: &[u16], t: u32) -> bool
+fn is_type(table: &[sheet::Word], t: u32) -> bool
     ensures { λ r. ⌜ r ≡ ltb t (typesIn (now (table .entry))) ⌝ }
 {
     t < types(table)
 }
 
 // Whether a number names a label.
-fn is_label(table: &[u16], l: u32) -> bool
+fn is_label(table: &[sheet::Word], l: u32) -> bool
     ensures { λ r. ⌜ r ≡ ltb l (labelsIn (now (table .entry))) ⌝ }
 {
     l < labels(table)
 }
 
 // Whether a number names a location.
-fn is_location(table: &[u16], x: u32) -> bool
+fn is_location(table: &[sheet::Word], x: u32) -> bool
     ensures { λ r. ⌜ r ≡ ltb x (locationsIn (now (table .entry))) ⌝ }
 {
     x < locations(table)
@@ -275,7 +273,7 @@ fn also(test: bool, r: Scanned) -> Scanned
 }
 
 // Whether an expression below `depth` cases starts at word `at`, and where the next row starts.
-fn scan_expr(code: &[u32], at: usize, table: &[u16], depth: u32) -> Scanned
+fn scan_expr(code: &[u32], at: usize, table: &[sheet::Word], depth: u32) -> Scanned
     ensures { λ r. ⌜ ScansExpr (countsIn (now (table .entry))) depth (now (code .entry)) at r ⌝ }
 {
     let row = row_at(code, at);
@@ -320,7 +318,7 @@ fn scan_expr(code: &[u32], at: usize, table: &[u16], depth: u32) -> Scanned
 }
 
 // Whether a command below `depth` cases starts at word `at`, and where the next row starts.
-fn scan_cmd(code: &[u32], at: usize, table: &[u16], depth: u32) -> Scanned
+fn scan_cmd(code: &[u32], at: usize, table: &[sheet::Word], depth: u32) -> Scanned
     ensures { λ r. ⌜ ScansCmd (countsIn (now (table .entry))) depth (now (code .entry)) at r ⌝ }
 {
     let row = row_at(code, at);
@@ -398,7 +396,7 @@ fn balanced(code: &[u32]) -> bool
 }
 
 // Whether the code is that of one command and nothing after it.
-fn whole(code: &[u32], table: &[u16]) -> bool
+fn whole(code: &[u32], table: &[sheet::Word]) -> bool
     ensures { λ r. ⌜ Whole (countsIn (now (table .entry))) (now (code .entry)) r ⌝ }
 {
     if !balanced(code) {
@@ -409,7 +407,7 @@ fn whole(code: &[u32], table: &[u16]) -> bool
 }
 
 // Fills the lent words with the code of a script on a sheet's table; refused, and zeros, where 4 applies.
-pub fn read(text: &[u8], table: &[u16], code: &mut [u32; WORDS]) -> Script
+pub fn read(text: &[u8], table: &[sheet::Word], code: &mut [u32; WORDS]) -> Script
     ensures { λ r. ⌜ record { answer = r .answer; count = r .count; code = now (code .exit) } ≡ decodedScript (scriptOf (countsIn (now (table .entry))) (now (text .entry))) ⌝ }
 {
     let s = decode(text, code);

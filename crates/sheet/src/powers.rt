@@ -2,6 +2,7 @@
 ghost use mathlib.Core.Path.{_≡_};
 ghost use Rattle.sheet.specs.Internal.Powers.{hasPower, powersIn, mayWrite, mayRead};
 use crate::MOST_LABELS;
+use crate::Word;
 use sets::Set;
 
 pub type Powers = u64;
@@ -9,7 +10,7 @@ pub type Powers = u64;
 const MOST: u32 = 2 * MOST_LABELS;
 
 // Whether a group has power p; none over a label that isn't there.
-fn has_power(table: &[u16], group: Set, p: u32) -> bool
+fn has_power(table: &[Word], group: Set, p: u32) -> bool
     ensures { λ r. ⌜ r ≡ hasPower (now (table .entry)) group p ⌝ }
 {
     let l = p % MOST_LABELS;
@@ -24,7 +25,7 @@ fn has_power(table: &[u16], group: Set, p: u32) -> bool
 }
 
 // All powers of a group.
-pub fn powers(table: &[u16], group: Set) -> Powers
+pub fn powers(table: &[Word], group: Set) -> Powers
     ensures { λ r. ⌜ r ≡ powersIn (now (table .entry)) group ⌝ }
 {
     let mut out = 0 as Powers;

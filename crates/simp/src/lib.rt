@@ -11,7 +11,7 @@ use stages::Outcome;
 pub extern "C" fn simp_check(sheet: &[u8], script: &[u8]) -> u8
     ensures { λ r. ⌜ r ≡ checkOf (now (sheet .entry)) (now (script .entry)) ⌝ }
 {
-    let mut table = [0u16; sheet::WORDS];
+    let mut table: [sheet::Word; sheet::WORDS] = [0; sheet::WORDS];
     let verdict = sheet_text::read(sheet, &mut table);
     let answer = stages::sheet_number(verdict);
     if answer != stages::DONE {
@@ -31,7 +31,7 @@ pub extern "C" fn simp_run(
 ) -> Outcome
     ensures { λ r. ⌜ record { answer = r .answer; steps = r .steps; memory = now (memory .exit) } ≡ runOf (now (sheet .entry)) (now (script .entry)) (now (memory .entry)) authority budget ⌝ }
 {
-    let mut table = [0u16; sheet::WORDS];
+    let mut table: [sheet::Word; sheet::WORDS] = [0; sheet::WORDS];
     let verdict = sheet_text::read(sheet, &mut table);
     let answer = stages::sheet_number(verdict);
     if answer != stages::DONE {
@@ -45,7 +45,7 @@ pub extern "C" fn simp_run(
 pub extern "C" fn simp_view(sheet: &[u8], memory: &[u32], group: Set, view: &mut [u32]) -> u8
     ensures { λ r. ⌜ record { answer = r; view = now (view .exit) } ≡ viewOf (now (sheet .entry)) (now (memory .entry)) group (now (view .entry)) ⌝ }
 {
-    let mut table = [0u16; sheet::WORDS];
+    let mut table: [sheet::Word; sheet::WORDS] = [0; sheet::WORDS];
     let verdict = sheet_text::read(sheet, &mut table);
     let answer = stages::sheet_number(verdict);
     if answer != stages::DONE {

@@ -88,7 +88,7 @@ fn number(state: State) -> u8
 }
 
 // 4 where there is no script, 5 or 6 where it has no derivation, else 0.
-fn judge(script: Answer, code: &[u32], table: &[u16]) -> u8
+fn judge(script: Answer, code: &[u32], table: &[sheet::Word]) -> u8
     ensures { λ r. ⌜ Judges script (now (code .entry)) (now (table .entry)) r ⌝ }
 {
     let Answer::Read = script else {
@@ -102,7 +102,11 @@ fn judge(script: Answer, code: &[u32], table: &[u16]) -> u8
 }
 
 // The number of a script on the sheet of a table: 4, 5 or 6, or 0 where it is accepted, and then the lent words hold its code.
-pub fn number_of(script: &[u8], table: &[u16], code: &mut [u32; script_text::WORDS]) -> Numbered
+pub fn number_of(
+    script: &[u8],
+    table: &[sheet::Word],
+    code: &mut [u32; script_text::WORDS],
+) -> Numbered
     ensures { λ r. ⌜ NumbersScript (now (script .entry)) (now (table .entry)) (r .number) (r .count) (now (code .exit)) ⌝ }
 {
     let read = script_text::read(script, table, code);
@@ -117,7 +121,7 @@ pub fn number_of(script: &[u8], table: &[u16], code: &mut [u32; script_text::WOR
 // Runs the code of an accepted script on a memory that isn't refused.
 pub fn run_accepted(
     code: &[u32],
-    table: &[u16],
+    table: &[sheet::Word],
     memory: &mut [u32],
     authority: Set,
     budget: u32,
@@ -133,7 +137,7 @@ pub fn run_accepted(
 }
 
 // Checks a script on the sheet of a table.
-pub fn check_on(script: &[u8], table: &[u16]) -> u8
+pub fn check_on(script: &[u8], table: &[sheet::Word]) -> u8
     ensures { λ r. ⌜ ChecksOn (now (script .entry)) (now (table .entry)) r ⌝ }
 {
     let mut code = [0u32; script_text::WORDS];
@@ -143,7 +147,7 @@ pub fn check_on(script: &[u8], table: &[u16]) -> u8
 // Checks a script, and runs it on a memory, on the sheet of a table.
 pub fn run_on(
     script: &[u8],
-    table: &[u16],
+    table: &[sheet::Word],
     memory: &mut [u32],
     authority: Set,
     budget: u32,
@@ -173,7 +177,7 @@ pub fn run_on(
 }
 
 // Shows a group a memory on the sheet of a table.
-pub fn view_on(table: &[u16], memory: &[u32], group: Set, view: &mut [u32]) -> u8
+pub fn view_on(table: &[sheet::Word], memory: &[u32], group: Set, view: &mut [u32]) -> u8
     ensures { λ r. ⌜ ViewsOn (now (table .entry)) (now (memory .entry)) group (now (view .entry)) r (now (view .exit)) ⌝ }
 {
     if !sets::contained(group, sheet::everyone(table)) {

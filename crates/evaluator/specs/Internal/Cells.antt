@@ -3,10 +3,10 @@
 -- locations follow.
 use mathlib.Core.Path.{_≡_}
 use mathlib.Core.List.{List, [], _∷_}
-use Prim.Native.Nat.{ℕ, suc, _+_, _≤_, _<_}
+use Prim.Native.Nat.{ℕ, suc, _+_, _*_, _≤_, _<_}
 use lib.ListN.{length}
 use Rattle.language.specs.Syntax.{Value}
-use Rattle.language.specs.World.{Mem}
+use Rattle.language.specs.World.{Mem, cell-words}
 use Rattle.language.specs.Substitution.{Env}
 use Rattle.script.specs.Names.{maxDepth}
 use Rattle.sheet.specs.Sheet.{maxLocations}
@@ -15,11 +15,11 @@ use Rattle.memory.specs.Memory.{cellOf}
 
 -- the cell of location 0
 abbrev pub firstLocation : ℕ
-firstLocation = 9
+firstLocation = 1 + maxDepth
 
 -- the words of all cells
 abbrev pub workWords : ℕ
-workWords = 1168
+workWords = cell-words * (firstLocation + maxLocations)
 
 -- The cells hold what the enclosing cases bind, the innermost at the given depth.
 pub data Binds (work : List ℕ) : ℕ → Env → Type 0 where

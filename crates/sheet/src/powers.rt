@@ -1,38 +1,50 @@
 // What a group may do to each label, worked out once: bit l, it writes label l; bit 32 + l, it reads label l.
 ghost use mathlib.Core.Path.{_≡_};
-ghost use Rattle.sheet.specs.Internal.Powers.{hasPower, powersIn, mayWrite, mayRead};
+ghost use Prim.Native.Nat.{_<_};
+ghost use Rattle.sheet.specs.Internal.Powers.{hasPower, withPower, powersIn, mayWrite, mayRead};
 use crate::MOST_LABELS;
 use crate::Word;
 use sets::Set;
 
 pub type Powers = u64;
 
-const MOST: u32 = 2 * MOST_LABELS;
-
-// Whether a group has power p; none over a label that isn't there.
+// Whether a group has power p.
 fn has_power(table: &[Word], group: Set, p: u32) -> bool
     ensures { λ r. ⌜ r ≡ hasPower (now (table .entry)) group p ⌝ }
 {
-    let l = p % MOST_LABELS;
-    if l >= crate::labels(table) {
-        return false;
-    }
     if p < MOST_LABELS {
-        crate::writes(table, group, l)
+        crate::writes(table, group, p)
     } else {
-        crate::reads(table, group, l)
+        crate::reads(table, group, p - MOST_LABELS)
     }
 }
 
-// All powers of a group.
+// These powers, with p if the group has power p.
+fn with_power(table: &[Word], group: Set, powers: Powers, p: u32) -> Powers
+    requires { ⌜ p < 64 ⌝ }
+    ensures { λ r. ⌜ r ≡ withPower (now (table .entry)) group powers p ⌝ }
+{
+    if has_power(table, group, p) {
+        powers | ((1 as Powers) << p)
+    } else {
+        powers
+    }
+}
+
+// All powers of a group over the labels that are there.
 pub fn powers(table: &[Word], group: Set) -> Powers
     ensures { λ r. ⌜ r ≡ powersIn (now (table .entry)) group ⌝ }
 {
+    let there = crate::labels(table);
+    let n = if there < MOST_LABELS {
+        there
+    } else {
+        MOST_LABELS
+    };
     let mut out = 0 as Powers;
-    for p in 0..MOST {
-        if has_power(table, group, p) {
-            out = out | ((1 as Powers) << p);
-        }
+    for l in 0..n {
+        out = with_power(table, group, out, l);
+        out = with_power(table, group, out, MOST_LABELS + l);
     }
     out
 }

@@ -1,16 +1,14 @@
 -- `sheet::powers::has_power` meets its contract. Assumes nothing.
-use mathlib.Core.Path.{refl, _∙_}
+use mathlib.Core.Path.{_∙_}
 use borrow.Author.Needs.{needs}
 use native.Mathlib.Omega.{arith}
-use Rattle.sheet.proofs.PowerLaws.{power-none, power-write, power-read}
+use Rattle.sheet.proofs.PowerLaws.{power-write, power-read}
 use Rattle.sheet.proofs.powers.has_power.Statement.{statement}
 use Rattle.sheet.proofs.powers.has_power.Tie as tie
 
 pub has-power-spec : {M : Type 1} → statement M
 has-power-spec = tie.close (tie.spec
-    (λ c κs. search needs)  -- labels-requires
-    (λ c. power-none _ _ _ refl (omega arith))  -- returns
     (λ c κs. search needs)  -- writes-requires
     (λ c κs. search needs)  -- reads-requires
-    (λ c. c .writes .ensures ∙ power-write _ _ _ refl (omega arith) (omega arith))  -- returns-2
-    (λ c. c .reads .ensures ∙ power-read _ _ _ refl (omega arith) (omega arith)))  -- returns-3
+    (λ c. c .writes .ensures ∙ power-write _ _ _ (omega arith))  -- returns
+    (λ c. c .reads .ensures ∙ power-read _ _ _ (omega arith)))  -- returns-2

@@ -47,7 +47,8 @@ pub fn eval(
     work: &mut [u32; WORK],
 ) -> Evaluated
     ensures { λ r. ⌜ Evals (record { table = now (table .entry); powers = powers })
-        (record { code = now (code .entry); at = at; depth = depth; cells = now (work .entry) }) (result r (now (work .exit))) ⌝ }
+        (record { code = now (code .entry); at = at; depth = depth; cells = now (work .entry) })
+        (result r (now (work .exit))) ⌝ }
 {
     let next = reach(code, at, table, powers, depth, work);
     match next {
@@ -76,7 +77,8 @@ fn reach(
     work: &mut [u32; WORK],
 ) -> End
     ensures { λ r. ⌜ Evals (record { table = now (table .entry); powers = powers })
-        (record { code = now (code .entry); at = at; depth = depth; cells = now (work .entry) }) (reached r (now (work .exit))) ⌝ }
+        (record { code = now (code .entry); at = at; depth = depth; cells = now (work .entry) })
+        (reached r (now (work .exit))) ⌝ }
 {
     let row = script::row_at(code, at);
     let kind = row.kind;

@@ -135,7 +135,8 @@ fn unpack(
     l: u32,
     v: End,
 ) -> End
-    ensures { λ r. ⌜ Unpacks (record { table = now (table .entry); powers = powers }) t l (reached v (now (work .entry))) (reached r (now (work .exit))) ⌝ }
+    ensures { λ r. ⌜ Unpacks (record { table = now (table .entry); powers = powers }) t l
+        (reached v (now (work .entry))) (reached r (now (work .exit))) ⌝ }
 {
     if v <= TOO_LONG {
         return v;
@@ -164,7 +165,8 @@ pub(crate) fn applied(
     b: u32,
     v: End,
 ) -> End
-    ensures { λ r. ⌜ Applied (record { table = now (table .entry); powers = powers }) (record { kind = kind; a = a; b = b }) (reached v (now (work .entry))) (reached r (now (work .exit))) ⌝ }
+    ensures { λ r. ⌜ Applied (record { table = now (table .entry); powers = powers }) (record { kind = kind; a = a; b = b })
+        (reached v (now (work .entry))) (reached r (now (work .exit))) ⌝ }
 {
     match kind {
         script::PLUS => sum(work, a, v),

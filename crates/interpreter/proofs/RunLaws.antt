@@ -143,7 +143,8 @@ run-large h =
 
 module _ (authority : ℕ) {ws table : List ℕ} {budget : ℕ} (work memory : List ℕ) (whole : length work ≡ workWords)
     {start : List ℕ} (e : start ≡ paste work (cell-words * firstLocation) memory (length memory)) {d : Stepped} {cells : List ℕ}
-    {powers : ℕ} (may : powers ≡ powersIn table authority) (x : Execs (record { table = table; powers = powers }) (record { code = ws; at = 0; depth = 0; cells = start }) budget d cells) where
+    {powers : ℕ} (may : powers ≡ powersIn table authority)
+    (x : Execs (record { table = table; powers = powers }) (record { code = ws; at = 0; depth = 0; cells = start }) budget d cells) where
   -- how the command's run ends
   run-ends : (s : Sheet) (k : Counts) (c : Cmd) → formed s ≡ true → table ≡ tableOf s → k .labels ≡ labelCount s → k .locations ≡ locationCount s → Source c → named k 0 c ≡ true
       → ws ≡ code (cmdLines c []) → length memory ≡ cell-words * locationCount s → wellFormed s memory ≡ true
@@ -151,7 +152,8 @@ module _ (authority : ℕ) {ws table : List ℕ} {budget : ℕ} (work memory : L
   run-ends s k c fm te le ke src nm w n wf =
       let held = copied-in work memory whole (locationCount s) n (locations-few s fm) start e (memoryOf memory) (memory-cell s memory n wf) in
       let t : Tells (record { table = table; powers = powers }) (worldOf s authority) = rw (may, te) (tells-sheet s fm authority) in
-      let m = x .means (record { world = worldOf s authority; counts = k; env = [] }) (memoryOf memory) c [] (record { tells = t; labels = le ∙ sym (ap labelsIn te ∙ labels-in s fm); cells = rw ke held })
+      let m = x .means (record { world = worldOf s authority; counts = k; env = [] }) (memoryOf memory) c []
+      (record { tells = t; labels = le ∙ sym (ap labelsIn te ∙ labels-in s fm); cells = rw ke held })
       (record { source = src; names = nm; lines = w }) in
       subst (λ (u : Cmd). Finishes (whole-target ws (locationCount s)) d cells (iterate (worldOf s authority) budget (memoryOf memory) u)) (close-none zero c) (rw ke at m)
 

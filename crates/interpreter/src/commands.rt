@@ -84,7 +84,8 @@ fn assign(
     x: u32,
 ) -> Stepped
     ensures { λ r. ⌜ Assigns (record { table = now (table .entry); powers = powers })
-        (record { code = now (code .entry); at = at; depth = depth; cells = now (work .entry) }) fuel x r (now (work .exit)) ⌝ }
+        (record { code = now (code .entry); at = at; depth = depth; cells = now (work .entry) })
+        fuel x r (now (work .exit)) ⌝ }
 {
     if fuel == 0 {
         return Stepped {
@@ -121,7 +122,8 @@ fn decide(
     fuel: u32,
 ) -> Decided
     ensures { λ r. ⌜ Decides (record { table = now (table .entry); powers = powers })
-        (record { code = now (code .entry); at = at; depth = depth; cells = now (work .entry) }) fuel r (now (work .exit)) ⌝ }
+        (record { code = now (code .entry); at = at; depth = depth; cells = now (work .entry) })
+        fuel r (now (work .exit)) ⌝ }
 {
     if fuel == 0 {
         return Decided {
@@ -174,7 +176,8 @@ fn branch(
     fuel: u32,
 ) -> Taken
     ensures { λ r. ⌜ Branches (record { table = now (table .entry); powers = powers })
-        (record { code = now (code .entry); at = at; depth = depth; cells = now (work .entry) }) fuel r (now (work .exit)) ⌝ }
+        (record { code = now (code .entry); at = at; depth = depth; cells = now (work .entry) })
+        fuel r (now (work .exit)) ⌝ }
 {
     if depth >= script::DEPTH {
         return Taken {
@@ -218,7 +221,8 @@ pub(crate) fn exec(
     fuel: u32,
 ) -> Stepped
     ensures { λ r. ⌜ Execs (record { table = now (table .entry); powers = powers })
-        (record { code = now (code .entry); at = at; depth = depth; cells = now (work .entry) }) fuel r (now (work .exit)) ⌝ }
+        (record { code = now (code .entry); at = at; depth = depth; cells = now (work .entry) })
+        fuel r (now (work .exit)) ⌝ }
 {
     let row = script::row_at(code, at);
     let kind = row.kind;

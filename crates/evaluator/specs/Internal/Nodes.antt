@@ -18,8 +18,8 @@ use Rattle.evaluator.specs.Internal.Records.{Setting, Result}
 
 -- ---- answers
 
--- The answer to an evaluation, by its state's number (`stateNumber`): 0 and the value's cell; 10 where a value is too long. Where no rule
--- applies nothing is promised: no accepted script comes there.
+-- The answer to an evaluation, by its state's number (`stateNumber`): 0 and the value's cell; 10 where a value is too
+-- long. Where no rule applies nothing is promised: no accepted script comes there.
 unfoldable pub Yields : Res → ℕ → List ℕ → Type 0
 Yields (ok v) state words = (state ≡ 0) × (words ≡ cell v)
 Yields long state words = state ≡ 10

@@ -28,7 +28,8 @@ pub record Result : Type 0 where
 abbrev pub result : Evaluated → List ℕ → Result
 result r cells = record { state = stateNumber (r .state); next = r .next; cells = cells }
 
--- The same where one number is handed back: the place where the lines end, with 0 and 1 for the states in which there is none.
+-- The same where one number is handed back: the place where the lines end, with 0 and 1 for the states in which there
+-- is none.
 unfoldable pub endState : ℕ → ℕ
 endState zero = 4
 endState (suc zero) = 10

@@ -54,8 +54,8 @@ target p C rest = record { code = p .code; rest = rest; locations = C .counts .l
 -- How the run of a command ends, by its state's number: done, with the memory in the cells and the place after the command; the budget
 -- used up; a value too long. Where no rule applies nothing is promised: no accepted script comes there.
 pub data Finishes (g : Target) (d : Stepped) (cells : List ℕ) : Out → Type 0 where
-  finish-done : {M : Mem} {b : ℕ} → stateNumber (d .state) ≡ 0 → d .left ≡ b → CellsHold cells (g .locations) (g .depth) M (g .env)
-      → drop (d .next) (g .code) ≡ code (g .rest) → Finishes g d cells (done M b)
+  finish-done : {M : Mem} {b : ℕ} → stateNumber (d .state) ≡ 0 → d .left ≡ b
+      → CellsHold cells (g .locations) (g .depth) M (g .env) → drop (d .next) (g .code) ≡ code (g .rest) → Finishes g d cells (done M b)
   finish-spent : stateNumber (d .state) ≡ 9 → d .left ≡ 0 → Finishes g d cells spent
   finish-over : {b : ℕ} → stateNumber (d .state) ≡ 10 → d .left ≡ b → Finishes g d cells (over b)
   finish-wrong : Finishes g d cells wrong
@@ -83,7 +83,8 @@ pub record Ticks (d t : Stepped) : Type 0 where
 pub record Assigns (S : Setting) (p : Place) (fuel x : ℕ) (d : Stepped) (cells : List ℕ) : Type 0 where
   pub forward : p .at ≤ d .next
   pub spends : d .left ≤ fuel
-  pub means : (C : Context) (M : Mem) (e : Expr) (rest : List Line) → StandsFor S p C M → ExprAt p (C .counts) rest e → x < C .counts .locations
+  pub means : (C : Context) (M : Mem) (e : Expr) (rest : List Line) → StandsFor S p C M
+      → ExprAt p (C .counts) rest e → x < C .counts .locations
       → Finishes (target p C rest) d cells (iterate (C .world) fuel M (close zero (C .env) (assign x e)))
 
 -- What a guard or the expression of a case decides, as a transition: left or right, with the value inside and what is left of the
@@ -110,10 +111,10 @@ choice (suc b) stuck = choice-stuck
 
 -- State 0, with `on` for left; the value in the accumulator, and the place after the expression.
 pub data Chooses (ws : List ℕ) (rest : List Line) (g : Decided) (cells : List ℕ) : Choice → Type 0 where
-  goes-left : {v : Value} {b : ℕ} → stateNumber (g .state) ≡ 0 → g .left ≡ b → g .on ≡ true → cellOf cells accumulator ≡ cell (inl v)
-      → drop (g .next) ws ≡ code rest → Chooses ws rest g cells (to-left v b)
-  goes-right : {v : Value} {b : ℕ} → stateNumber (g .state) ≡ 0 → g .left ≡ b → g .on ≡ false → cellOf cells accumulator ≡ cell (inr v)
-      → drop (g .next) ws ≡ code rest → Chooses ws rest g cells (to-right v b)
+  goes-left : {v : Value} {b : ℕ} → stateNumber (g .state) ≡ 0 → g .left ≡ b → g .on ≡ true
+      → cellOf cells accumulator ≡ cell (inl v) → drop (g .next) ws ≡ code rest → Chooses ws rest g cells (to-left v b)
+  goes-right : {v : Value} {b : ℕ} → stateNumber (g .state) ≡ 0 → g .left ≡ b → g .on ≡ false
+      → cellOf cells accumulator ≡ cell (inr v) → drop (g .next) ws ≡ code rest → Chooses ws rest g cells (to-right v b)
   has-none : stateNumber (g .state) ≡ 9 → g .left ≡ 0 → Chooses ws rest g cells no-budget
   is-long : {b : ℕ} → stateNumber (g .state) ≡ 10 → g .left ≡ suc b → Chooses ws rest g cells (choice-long b)
   is-stuck : Chooses ws rest g cells choice-stuck
@@ -134,10 +135,13 @@ pub record Branching : Type 0 where
 
 -- The branch taken: its value is bound, it starts at `start`, and the case ends at `end`.
 pub data Enters (g : Target) (M : Mem) (cs : Branching) (t : Taken) (cells : List ℕ) : Choice → Type 0 where
-  enters-left : {v : Value} {b : ℕ} → stateNumber (t .state) ≡ 0 → t .left ≡ b → CellsHold cells (g .locations) (suc (g .depth)) M (v ∷ g .env)
-      → drop (t .start) (g .code) ≡ code (cmdLines (cs .on-left) (cmdLines (cs .on-right) (g .rest))) → drop (t .end) (g .code) ≡ code (g .rest)
+  enters-left : {v : Value} {b : ℕ} → stateNumber (t .state) ≡ 0 → t .left ≡ b
+      → CellsHold cells (g .locations) (suc (g .depth)) M (v ∷ g .env)
+      → drop (t .start) (g .code) ≡ code (cmdLines (cs .on-left) (cmdLines (cs .on-right) (g .rest)))
+      → drop (t .end) (g .code) ≡ code (g .rest)
       → Enters g M cs t cells (to-left v b)
-  enters-right : {v : Value} {b : ℕ} → stateNumber (t .state) ≡ 0 → t .left ≡ b → CellsHold cells (g .locations) (suc (g .depth)) M (v ∷ g .env)
+  enters-right : {v : Value} {b : ℕ} → stateNumber (t .state) ≡ 0 → t .left ≡ b
+      → CellsHold cells (g .locations) (suc (g .depth)) M (v ∷ g .env)
       → drop (t .start) (g .code) ≡ code (cmdLines (cs .on-right) (g .rest)) → drop (t .end) (g .code) ≡ code (g .rest)
       → Enters g M cs t cells (to-right v b)
   enters-spent : stateNumber (t .state) ≡ 9 → t .left ≡ 0 → Enters g M cs t cells no-budget
@@ -150,5 +154,6 @@ pub record Branches (S : Setting) (p : Place) (fuel : ℕ) (t : Taken) (cells : 
   pub spends : t .left ≤ fuel
   pub shallow : stateNumber (t .state) ≡ 0 → p .depth < maxDepth
   pub means : (C : Context) (M : Mem) (e : Expr) (cs : Branching) (rest : List Line) → StandsFor S p C M
-      → ExprAt p (C .counts) (cmdLines (cs .on-left) (cmdLines (cs .on-right) rest)) e → Source (cs .on-left) → Source (cs .on-right) → p .depth < maxDepth
+      → ExprAt p (C .counts) (cmdLines (cs .on-left) (cmdLines (cs .on-right) rest)) e
+      → Source (cs .on-left) → Source (cs .on-right) → p .depth < maxDepth
       → Enters (target p C rest) M cs t cells (choice fuel (eval (C .world) (C .env) M e))

@@ -13,7 +13,7 @@ use Rattle.language.specs.Syntax.{Expr, val, loc, var, plus, left, right, pack,
 use Rattle.script.specs.Lines.{Line, exprLines, cmdLines}
 use Rattle.script.specs.Internal.Code.{rowOf}
 use Rattle.script.specs.Internal.Pieces.{operandCount}
-use Rattle.script.specs.Internal.Balance.{operandsOf, closes, wideLines}
+use Rattle.script.specs.Internal.Balance.{lineOperands, closes, wideLines}
 
 -- the trees after a line of so many operands: with a sum by which the walk goes on
 after : (n k m : ℕ) (ls : List Line) {b : Bool} → n + k ≡ m → closes m ls ≡ b → closes (n + k) ls ≡ b
@@ -48,9 +48,9 @@ pub half-wide : (n : ℕ) (ls : List Line) → closes n ls ≡ true → 2 * wide
 unfolding closes wideLines
 half-wide n [] h = omega (arith, eqb-true n 0 h)
 half-wide zero (l ∷ ls) h = absurd (absurd-false h)
-half-wide (suc n) (l ∷ ls) h = on (ltb 1 (operandsOf l)) refl (half-wide (n + operandsOf l) ls h)
+half-wide (suc n) (l ∷ ls) h = on (ltb 1 (lineOperands l)) refl (half-wide (n + lineOperands l) ls h)
   where
-    on : (b : Bool) → ltb 1 (operandsOf l) ≡ b → 2 * wideLines ls + (n + operandsOf l) ≤ length ls
-        → 2 * (cond (ltb 1 (operandsOf l)) 1 0 + wideLines ls) + suc n ≤ length (l ∷ ls)
-    on true e i = rw e (omega (arith, ltb-true 1 (operandsOf l) e))
+    on : (b : Bool) → ltb 1 (lineOperands l) ≡ b → 2 * wideLines ls + (n + lineOperands l) ≤ length ls
+        → 2 * (cond (ltb 1 (lineOperands l)) 1 0 + wideLines ls) + suc n ≤ length (l ∷ ls)
+    on true e i = rw e (omega (arith, ltb-true 1 (lineOperands l) e))
     on false e i = rw e (omega arith)

@@ -7,7 +7,7 @@ use native.Mathlib.Omega.{arith}
 use lib.ListN.{length, drop, List·getD-eq-default}
 use Rattle.language.specs.Syntax.{int, Expr, val, loc, var, plus, left, right, pack, unpack, Cmd, skip, seq, assign, while, case}
 use Rattle.script.specs.declared.Row.{Row}
-use Rattle.script.specs.Lines.{Line, l-skip, l-seq, l-assign, l-while, l-case, l-int, l-loc, l-var, l-plus, l-left, l-right, l-pack, l-unpack, s-int, s-loc, s-var, s-plus, s-left, s-right, s-pack, s-unpack, s-skip, s-seq, s-assign, s-while, s-case, numberOf, exprLines, cmdLines}
+use Rattle.script.specs.Lines.{Line, l-skip, l-seq, l-assign, l-while, l-case, l-int, l-loc, l-var, l-plus, l-left, l-right, l-pack, l-unpack, s-int, s-loc, s-var, s-plus, s-left, s-right, s-pack, s-unpack, s-skip, s-seq, s-assign, s-while, s-case, integerOf, exprLines, cmdLines}
 use Rattle.script.specs.Internal.Code.{rowOf, code, rowAt}
 use Rattle.script.specs.Internal.Pieces.{Sort, expression, command, Tree, SourceOf, linesOf, Piece, an-expression, a-command, operandCounts, operandCount}
 use Rattle.script.proofs.Rows.{RowOf, at-skip, at-seq, at-assign, at-while, at-case, at-int, at-loc, at-var, at-plus, at-left, at-right, at-pack, at-unpack, row-of, row-within}
@@ -77,7 +77,7 @@ Made s [] x lines = SourceOf s x × ((rest : List Line) → lines rest ≡ lines
 Made s (t ∷ ss) f lines = (x : Tree t) → SourceOf t x → Made s ss (f x) (λ rest. lines (linesOf t x rest))
 
 pub made : {s : Sort} {ss : List Sort} {k a b : ℕ} {f : Makes ss (Tree s)} {l : Line} → Node s ss k a b f → View k a b l → Made s ss f (λ rest. l ∷ rest)
-unfolding exprLines cmdLines numberOf
+unfolding exprLines cmdLines integerOf
 made n-skip v-skip = (s-skip, λ rest. refl)
 made n-seq v-seq = λ c u d v. (s-seq u v, λ rest. refl)
 made n-assign v-assign = λ e u. (s-assign u, λ rest. refl)

@@ -13,7 +13,7 @@ use lib.ListN.{length, getD, drop, length-drop}
 use lib.Seq.{getD-drop, drop-drop}
 use Rattle.language.specs.Syntax.{int, Expr, val, loc, var, plus, left, right, pack, unpack, Cmd, skip, seq, assign, while, case}
 use Rattle.script.specs.declared.Row.{Row}
-use Rattle.script.specs.Lines.{Line, SourceE, s-int, s-loc, s-var, s-plus, s-left, s-right, s-pack, s-unpack, Source, s-skip, s-seq, s-assign, s-while, s-case, numberOf, exprLines, cmdLines}
+use Rattle.script.specs.Lines.{Line, SourceE, s-int, s-loc, s-var, s-plus, s-left, s-right, s-pack, s-unpack, Source, s-skip, s-seq, s-assign, s-while, s-case, integerOf, exprLines, cmdLines}
 use Rattle.script.specs.Internal.Code.{rowWith, rowOf, code, rowAt}
 use Rattle.script.specs.Internal.Pieces.{Sort, expression, command, Tree, SourceOf, linesOf}
 
@@ -73,7 +73,7 @@ module _ (ws : List ℕ) (at : ℕ) where
 
   expr-row : {rest : List Line} {e : Expr} → SourceE e → drop at ws ≡ code (exprLines e rest)
       → ExprRow rest (rowAt ws at .kind) (rowAt ws at .a) (rowAt ws at .b) e
-  unfolding exprLines code rowOf numberOf
+  unfolding exprLines code rowOf integerOf
   expr-row {rest} s-int h = row-read (ExprRow rest) _ _ _ _ _ h at-int
   expr-row {rest} s-loc h = row-read (ExprRow rest) _ _ _ _ _ h at-loc
   expr-row {rest} s-var h = row-read (ExprRow rest) _ _ _ _ _ h at-var

@@ -33,17 +33,17 @@ pub data Source : Cmd → Type 0 where
   s-case : {e : Expr} {a b : Cmd} → SourceE e → Source a → Source b → Source (case e a b)
 
 -- the number of an integer; no script has another value
-unfoldable pub numberOf : Value → ℕ
-numberOf (int n) = n
-numberOf (err e) = 0
-numberOf (inl v) = 0
-numberOf (inr v) = 0
-numberOf (pkg h v) = 0
-numberOf blank = 0
+unfoldable pub integerOf : Value → ℕ
+integerOf (int n) = n
+integerOf (err e) = 0
+integerOf (inl v) = 0
+integerOf (inr v) = 0
+integerOf (pkg h v) = 0
+integerOf blank = 0
 
 -- The lines of an expression in prefix order, then rest.
 unfoldable pub exprLines : Expr → List Line → List Line
-exprLines (val v) rest = l-int (numberOf v) ∷ rest
+exprLines (val v) rest = l-int (integerOf v) ∷ rest
 exprLines (loc x) rest = l-loc x ∷ rest
 exprLines (var d) rest = l-var d ∷ rest
 exprLines (plus a b) rest = l-plus ∷ exprLines a (exprLines b rest)

@@ -5,7 +5,7 @@ use Prim.Native.Nat.{ℕ, suc, _^_}
 use lib.Dec.{ltb}
 use Rattle.logic.specs.Booleans.{both}
 use Rattle.language.specs.Syntax.{Expr, val, loc, var, plus, left, right, pack, unpack, Cmd, skip, seq, assign, while, case}
-use Rattle.script.specs.Lines.{numberOf}
+use Rattle.script.specs.Lines.{integerOf}
 
 -- How many types, labels and locations a sheet has.
 pub record Counts : Type 0 where
@@ -23,7 +23,7 @@ maxDepth = 8
 
 -- Below d enclosing cases an expression names only what is there; its integers are of 32 bits.
 unfoldable pub namedE : Counts → ℕ → Expr → Bool
-namedE k d (val v) = ltb (numberOf v) (2 ^ 32)
+namedE k d (val v) = ltb (integerOf v) (2 ^ 32)
 namedE k d (loc x) = ltb x (k .locations)
 namedE k d (var i) = ltb i d
 namedE k d (plus a b) = both (namedE k d a) (namedE k d b)

@@ -13,7 +13,7 @@ use Rattle.script.specs.Lines.{Line}
 use Rattle.script.specs.declared.Row.{Row}
 use Rattle.script.specs.Internal.Code.{code, rowOf, rowAt}
 use Rattle.script.specs.Internal.Pieces.{operandCounts, operandCount}
-use Rattle.script.specs.Internal.Balance.{operandsOf, closes}
+use Rattle.script.specs.Internal.Balance.{lineOperands, closes}
 use Rattle.script.proofs.Rows.{line-there}
 use Rattle.script_text.proofs.CodeLaws.{code-empty}
 
@@ -68,6 +68,6 @@ module _ (ws : List ℕ) (at : ℕ) {row : Row} (q : row ≡ rowAt ws at) where
       on (suc j) n r =
           let f = first-line ws at (r .0) h (r .1) in
           let t = line-there ws at (f .0) (f .1) (r .1 ∙ ap code (f .2)) in
-          let c : j + operandsOf (f .0) ≡ suc j - 1 + k =
+          let c : j + lineOperands (f .0) ≡ suc j - 1 + k =
           omega (arith, e, ap (λ (u : Row). operandCount (u .kind)) (q ∙ t .0)) in
           (f .1, t .1, r .2 ∙ ap (closes (suc j)) (f .2) ∙ ap (λ (i : ℕ). closes i (f .1)) c)

@@ -5,7 +5,7 @@ use mathlib.Core.Option.{Option, none, some}
 use Prim.Native.Nat.{ℕ}
 use Rattle.logic.proofs.OptionLaws.{none-some, some-path}
 use Rattle.language.specs.Syntax.{Expr, plus, left, right, pack, unpack, Cmd, seq, assign, while, case}
-use Rattle.script.specs.Lines.{Line, l-skip, l-seq, l-assign, l-while, l-case, l-int, l-loc, l-var, l-plus, l-left, l-right, l-pack, l-unpack, SourceE, s-int, s-loc, s-var, s-plus, s-left, s-right, s-pack, s-unpack, Source, s-skip, s-seq, s-assign, s-while, s-case, numberOf, exprLines, cmdLines}
+use Rattle.script.specs.Lines.{Line, l-skip, l-seq, l-assign, l-while, l-case, l-int, l-loc, l-var, l-plus, l-left, l-right, l-pack, l-unpack, SourceE, s-int, s-loc, s-var, s-plus, s-left, s-right, s-pack, s-unpack, Source, s-skip, s-seq, s-assign, s-while, s-case, integerOf, exprLines, cmdLines}
 use Rattle.script_text.specs.Internal.Parse.{Tree, ex, cm, Stack, popE, popC, onStack, pushOn, stackOf, onlyCommand, parse}
 
 -- ---- the lines of a tree leave the tree on the stack
@@ -38,7 +38,7 @@ module _ (l : Line) (t : Tree) where
   push-3 x y z (some st) h = h st
 
 stack-expr : {e : Expr} (rest : List Line) → SourceE e → stackOf (exprLines e rest) ≡ topped (ex e) (stackOf rest)
-unfolding stackOf exprLines onStack popE numberOf
+unfolding stackOf exprLines onStack popE integerOf
 stack-expr rest s-int = push-0 _ _ _ (λ st. refl)
 stack-expr rest s-loc = push-0 _ _ _ (λ st. refl)
 stack-expr rest s-var = push-0 _ _ _ (λ st. refl)
@@ -149,7 +149,7 @@ unfolding stackLines cmdLines
 case-c h (has-e s p) (has-c r o) (has-c t q) = record { lines = ap (λ (r : List Line). l-case ∷ r) h; sources = on-cmd (s-case s r t) q }
 
 push-sound : (l : Line) {st r : Stack} {ls : List Line} → ls ≡ stackLines st → Sources st → onStack l st ≡ some r → StackHolds (l ∷ ls) r
-unfolding onStack exprLines cmdLines numberOf
+unfolding onStack exprLines cmdLines integerOf
 push-sound l-skip h q e = unfold stackLines in onto e (record { lines = ap (λ (r : List Line). l-skip ∷ r) h; sources = on-cmd s-skip q })
 push-sound l-seq {r = r} h q e = popC-split r q _ e (λ a u x f. popC-split r (under-c x) _ f (λ b w y g. onto g (seq-c h x y)))
 push-sound (l-assign x) {r = r} h q e = popE-split r q _ e (λ a u y f. onto f (assign-c x h y))

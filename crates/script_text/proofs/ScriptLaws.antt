@@ -15,7 +15,7 @@ use Rattle.logic.proofs.OptionLaws.{none-some, some-path}
 use Rattle.text.proofs.Lines.{lines-exact}
 use Rattle.language.specs.Syntax.{Expr, Cmd}
 use Rattle.logic.proofs.BooleanLaws.{both-left, both-right, cond-split}
-use Rattle.script.specs.Lines.{Line, l-skip, l-seq, l-assign, l-while, l-case, l-int, l-loc, l-var, l-plus, l-left, l-right, l-pack, l-unpack, SourceE, s-int, s-loc, s-var, s-plus, s-left, s-right, s-pack, s-unpack, Source, s-skip, s-seq, s-assign, s-while, s-case, numberOf, exprLines, cmdLines}
+use Rattle.script.specs.Lines.{Line, l-skip, l-seq, l-assign, l-while, l-case, l-int, l-loc, l-var, l-plus, l-left, l-right, l-pack, l-unpack, SourceE, s-int, s-loc, s-var, s-plus, s-left, s-right, s-pack, s-unpack, Source, s-skip, s-seq, s-assign, s-while, s-case, integerOf, exprLines, cmdLines}
 use Rattle.script.specs.Internal.Code.{rowOf}
 use Rattle.script.specs.Names.{Counts, maxDepth, namedE, named, maxLines}
 use Rattle.sheet.specs.Sheet.{Sheet, labelCount, locationCount, formed}
@@ -45,7 +45,7 @@ small x n h l = omega (arith, ltb-true x n h)
 
 module _ (k : Counts) (narrow : Narrow k) where
   fit-expr : {e : Expr} {rest : List Line} (d : ℕ) → SourceE e → d ≤ maxDepth → namedE k d e ≡ true → AllFit rest → AllFit (exprLines e rest)
-  unfolding exprLines namedE numberOf rowOf
+  unfolding exprLines namedE integerOf rowOf
   fit-expr d (s-int {n = n}) h m r = and-then {l = l-int n} (small n (2 ^ 32) m (omega arith), omega arith) r
   fit-expr d (s-loc {x = n}) h m r = and-then {l = l-loc n} (small n (k .locations) m (omega (arith, narrow .locations)), omega arith) r
   fit-expr d (s-var {d = n}) h m r = and-then {l = l-var n} (small n d m (omega arith), omega arith) r

@@ -66,7 +66,7 @@ unfolding evaluation.bind evaluation.fitIf evaluation.fit evaluation.addTo evalu
 language-used = tt
 
 unfoldable pub script-used : Unit {0}
-unfolding lines.numberOf lines.exprLines lines.cmdLines
+unfolding lines.integerOf lines.exprLines lines.cmdLines
     names.namedE names.named
 script-used = tt
 

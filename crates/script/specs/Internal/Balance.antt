@@ -7,16 +7,16 @@ use Rattle.script.specs.Lines.{Line}
 use Rattle.script.specs.Internal.Code.{rowOf}
 use Rattle.script.specs.Internal.Pieces.{operandCount}
 
-abbrev pub operandsOf : Line → ℕ
-operandsOf l = operandCount (rowOf l .kind)
+abbrev pub lineOperands : Line → ℕ
+lineOperands l = operandCount (rowOf l .kind)
 
 -- the lines are those of n trees: each line takes one tree off, and puts one on for each of its operands
 unfoldable pub closes : ℕ → List Line → Bool
 closes n [] = eqb n 0
 closes zero (l ∷ ls) = false
-closes (suc n) (l ∷ ls) = closes (n + operandsOf l) ls
+closes (suc n) (l ∷ ls) = closes (n + lineOperands l) ls
 
 -- how many of the lines have two operands or more
 unfoldable pub wideLines : List Line → ℕ
 wideLines [] = 0
-wideLines (l ∷ ls) = cond (ltb 1 (operandsOf l)) 1 0 + wideLines ls
+wideLines (l ∷ ls) = cond (ltb 1 (lineOperands l)) 1 0 + wideLines ls

@@ -10,7 +10,7 @@ use borrow.Fn.Kinds.{In}
 use borrow.Fn.PlainCycle.{Measures, is, falls, and}
 use Rattle.script.proofs.row_at.Reads as row-at-reads
 use Rattle.script.specs.Names.{namedE}
-use Rattle.script.specs.Lines.{numberOf}
+use Rattle.script.specs.Lines.{integerOf}
 use Rattle.script.proofs.Rows.{row-within, none-past, none-between}
 use Rattle.script.proofs.Nodes.{n-int, n-loc, n-var, n-plus, n-left, n-right, n-pack, n-unpack}
 use Rattle.script_text.proofs.ScanLaws as laws
@@ -51,7 +51,7 @@ readings t = (
 
 -- room for the next row, and fewer rows left; then a return for each kind and the others
 pub +scan-expr-spec : {M : Type 1} → statement M
-unfolding namedE numberOf
+unfolding namedE integerOf
 +scan-expr-spec =
     close μ-scan-expr λ t. scan-expr-lts.spec (readings t) (scan-expr-at t) scan-expr.Post
     (λ c κs. search needs)  -- row-at-requires

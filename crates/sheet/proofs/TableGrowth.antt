@@ -280,4 +280,4 @@ module _ (s : Sheet) (fm : formed s ≡ true) where
 
 pub principals-put : (n : ℕ) → n ≤ maxPrincipals → principalsPut n (replicate tableWords 0) ≡ tableOf (bareSheet n)
 unfolding tableOf bareSheet typeCount labelCount locationCount labelsOf typeParts givenParts padded pairWords labelsWords
-principals-put n few = rw (low-count n (omega arith), restrict-everyone width n few)
+principals-put n few = rw (low-count n (omega arith), restrict-everyone width n (omega arith))

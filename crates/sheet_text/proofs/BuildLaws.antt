@@ -108,7 +108,7 @@ module _ (s : Sheet) (fm : formed s ≡ true) where
 
   -- a set of the principals has room in a set
   narrow : (r : ℕ) → r < 2 ^ s .principals → r < 2 ^ width
-  narrow r h = let m : 2 ^ s .principals ≤ 2 ^ width = pow-mono (facts .few-principals) in lt-of-lt-of-le h m
+  narrow r h = let m : 2 ^ s .principals ≤ 2 ^ width = pow-mono {i = s .principals} {j = width} (omega (arith, facts .few-principals)) in lt-of-lt-of-le h m
 
   take-policy : (o r w : ℕ) → policyFits s o r w ≡ true → Taken s (O o r w) (addPolicy s (policy o r w))
   unfolding policyFits addPolicy linesThen labelCount Fits each policyLine rising leastOwner eachNamed

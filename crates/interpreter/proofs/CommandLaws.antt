@@ -1,7 +1,7 @@
 -- `Execs`: a law for each kind of line.
 -- Assumes nothing.
 use mathlib.Core.Path.{_≡_, refl, sym, subst, _∙_}
-use mathlib.Core.Bool.{true, false, false≢true}
+use mathlib.Core.Bool.{Bool, true, false, false≢true}
 use mathlib.Core.List.{List, _∷_}
 use Prim.Native.Nat.{ℕ, zero, suc, _+_, _≤_}
 use native.Mathlib.Omega.{arith}
@@ -105,6 +105,15 @@ module _ {t : Target} {g : Decided} {ws : List ℕ} {mid : List Line} {seen : Li
   turns-on r z o (has-none s f) k = absurd (omega arith)
   turns-on r z o (is-long s f) k = absurd (omega arith)
   turns-on r z o is-stuck k = finish-wrong
+
+-- where a case ends whose branch ends at `next`, for a left and for a right
+pub data Ends (ws : List ℕ) (next : ℕ) : Bool → ℕ → Type 0 where
+  past-second : {end : ℕ} → Skips ws next end → Ends ws next true end
+  at-end : Ends ws next false next
+
+ends-after : {ws : List ℕ} {next end : ℕ} {on : Bool} → Ends ws next on end → next ≤ end
+ends-after (past-second k) = k .forward
+ends-after at-end = omega arith
 
 -- ---- the kinds, each matched at its number
 
@@ -219,64 +228,67 @@ module _ {S : Setting} (p : Place) {C : Context} {M : Mem} (held : StandsFor S p
         go-case (C .world) (C .env) M e c d fuel
         ∙ chosen-is (λ v b. ran (bound C v) c M b) (λ v b. ran (bound C v) d M b) fuel (eval (C .world) (C .env) M e)
 
-    enters : (rest : List Line) {e : Expr} {c d : Cmd} → SourceE e → Source c → Source d → named (C .counts) (p .depth) (case e c d) ≡ true
+    enters : (rest : List Line) {e : Expr} {c d : Cmd} → SourceE e → Source c → named (C .counts) (p .depth) (case e c d) ≡ true
         → drop (p .at + 3) (p .code) ≡ code (exprLines e (cmdLines c (cmdLines d rest)))
         → Enters (target p C rest) M (record { on-left = c; on-right = d }) t cells (choice fuel (eval (C .world) (C .env) M e))
     unfolding named
-    enters rest {e} {c} {d} s s′ s″ n h =
-        y .means C M e (record { on-left = c; on-right = d }) rest operand-held (record { source = s; names = both-left _ _ n; lines = h }) s′ s″
+    enters rest {e} {c} {d} s s′ n h =
+        y .means C M e (record { on-left = c; on-right = d }) rest operand-held (record { source = s; names = both-left _ _ n; lines = h }) s′
         (ltb-true _ _ (both-left _ _ (both-right _ _ n)))
 
     case-end-at : {g : Target} {cs : Branching} {c : Choice} (l r : Value → ℕ → Out) (at : ℕ) → (stateNumber (t .state) ≡ 0 → ⊥) → Enters g M cs t cells c
         → Finishes g (record { state = t .state; left = t .left; next = at }) cells (chosen l r c)
     unfolding chosen
-    case-end-at l r at z (enters-left s f b n e) = absurd (z s)
-    case-end-at l r at z (enters-right s f b n e) = absurd (z s)
+    case-end-at l r at z (enters-left s f o b n) = absurd (z s)
+    case-end-at l r at z (enters-right s f o b n) = absurd (z s)
     case-end-at l r at z (enters-spent s f) = finish-spent s f
     case-end-at l r at z (enters-long s f) = finish-over s f
     case-end-at l r at z enters-stuck = finish-wrong
 
     case-end-case : {rest : List Line} {a b : ℕ} {c : Cmd} → CmdRow (p .code) (p .at) rest 5 a b c → named (C .counts) (p .depth) c ≡ true
         → (stateNumber (t .state) ≡ 0 → ⊥) → Finishes (target p C rest) (record { state = t .state; left = t .left; next = p .at }) cells (ran C c M fuel)
-    case-end-case {rest} (at-case {e = e} {c = c} {d = d} s s′ s″ h) n z = rw (case-is e c d) (case-end-at _ _ (p .at) z (enters rest s s′ s″ n h))
+    case-end-case {rest} (at-case {e = e} {c = c} {d = d} s s′ s″ h) n z = rw (case-is e c d) (case-end-at _ _ (p .at) z (enters rest s s′ n h))
 
     module _ {d : Stepped} {cells′ : List ℕ} (x : Execs S (inside p (t .start) cells) (t .left) d cells′) where
       -- the branch's run, seen from outside of the case
-      leaves : {rest : List Line} {v : Value} {o : Out} (mid : List Line) → drop (t .end) (p .code) ≡ code rest
+      leaves : {rest mid : List Line} {v : Value} {o : Out} {end : ℕ} → (drop (d .next) (p .code) ≡ code mid → drop end (p .code) ≡ code rest)
           → Finishes (target (inside p (t .start) cells) (bound C v) mid) d cells′ o
-          → Finishes (target p C rest) (record { state = d .state; left = d .left; next = t .end }) cells′ o
-      leaves mid e (finish-done s f held n) = finish-done s f (holds-leave held) e
-      leaves mid e (finish-spent s f) = finish-spent s f
-      leaves mid e (finish-over s f) = finish-over s f
-      leaves mid e finish-wrong = finish-wrong
+          → Finishes (target p C rest) (record { state = d .state; left = d .left; next = end }) cells′ o
+      leaves e (finish-done s f held n) = finish-done s f (holds-leave held) (e n)
+      leaves e (finish-spent s f) = finish-spent s f
+      leaves e (finish-over s f) = finish-over s f
+      leaves e finish-wrong = finish-wrong
 
       -- a branch is run
-      branch-runs : {rest : List Line} (v : Value) (c : Cmd) (mid : List Line) (b : ℕ) → t .left ≡ b → Source c → named (C .counts) (suc (p .depth)) c ≡ true
+      branch-runs : {rest : List Line} {end : ℕ} (v : Value) (c : Cmd) (mid : List Line) (b : ℕ) → t .left ≡ b → Source c → named (C .counts) (suc (p .depth)) c ≡ true
           → CellsHold cells (C .counts .locations) (suc (p .depth)) M (v ∷ C .env) → drop (t .start) (p .code) ≡ code (cmdLines c mid)
-          → drop (t .end) (p .code) ≡ code rest
-          → Finishes (target p C rest) (record { state = d .state; left = d .left; next = t .end }) cells′ (ran (bound C v) c M b)
-      branch-runs {rest} v c mid b f s n b′ h e =
-          subst (λ (i : ℕ). Finishes (target p C rest) (record { state = d .state; left = d .left; next = t .end }) cells′ (ran (bound C v) c M i)) f
-          (leaves mid e (runs x (bound C v) M c mid (record { tells = held .tells; labels = held .labels; cells = b′ }) (record { source = s; names = n; lines = h })))
+          → (drop (d .next) (p .code) ≡ code mid → drop end (p .code) ≡ code rest)
+          → Finishes (target p C rest) (record { state = d .state; left = d .left; next = end }) cells′ (ran (bound C v) c M b)
+      branch-runs {rest} {end} v c mid b f s n b′ h e =
+          subst (λ (i : ℕ). Finishes (target p C rest) (record { state = d .state; left = d .left; next = end }) cells′ (ran (bound C v) c M i)) f
+          (leaves e (runs x (bound C v) M c mid (record { tells = held .tells; labels = held .labels; cells = b′ }) (record { source = s; names = n; lines = h })))
 
-      case-at : {rest : List Line} {cs : Branching} {c : Choice} → Source (cs .on-left) → Source (cs .on-right)
+      case-at : {rest : List Line} {cs : Branching} {c : Choice} {on : Bool} {end : ℕ} → Source (cs .on-left) → Source (cs .on-right)
           → named (C .counts) (suc (p .depth)) (cs .on-left) ≡ true → named (C .counts) (suc (p .depth)) (cs .on-right) ≡ true
-          → stateNumber (t .state) ≡ 0 → Enters (target p C rest) M cs t cells c
-          → Finishes (target p C rest) (record { state = d .state; left = d .left; next = t .end }) cells′
+          → stateNumber (t .state) ≡ 0 → t .on ≡ on → Ends (p .code) (d .next) on end → Enters (target p C rest) M cs t cells c
+          → Finishes (target p C rest) (record { state = d .state; left = d .left; next = end }) cells′
           (chosen (λ v b. ran (bound C v) (cs .on-left) M b) (λ v b. ran (bound C v) (cs .on-right) M b) c)
       unfolding chosen
-      case-at s s′ n n′ z (enters-left {v = v} q f b h e) = branch-runs v _ _ _ f s n b h e
-      case-at s s′ n n′ z (enters-right {v = v} q f b h e) = branch-runs v _ _ _ f s′ n′ b h e
-      case-at s s′ n n′ z (enters-spent q f) = absurd (omega arith)
-      case-at s s′ n n′ z (enters-long q f) = absurd (omega arith)
-      case-at s s′ n n′ z enters-stuck = finish-wrong
+      case-at s s′ n n′ z i (past-second k) (enters-left {v = v} q f o b h) = branch-runs v _ _ _ f s n b h (λ e. k .means _ _ (a-command s′) e)
+      case-at s s′ n n′ z i at-end (enters-left q f o b h) = absurd (false≢true (sym i ∙ o))
+      case-at s s′ n n′ z i (past-second k) (enters-right q f o b h) = absurd (false≢true (sym o ∙ i))
+      case-at s s′ n n′ z i at-end (enters-right {v = v} q f o b h) = branch-runs v _ _ _ f s′ n′ b h (λ e. e)
+      case-at s s′ n n′ z i k (enters-spent q f) = absurd (omega arith)
+      case-at s s′ n n′ z i k (enters-long q f) = absurd (omega arith)
+      case-at s s′ n n′ z i k enters-stuck = finish-wrong
 
-      case-case : {rest : List Line} {a b : ℕ} {c : Cmd} → CmdRow (p .code) (p .at) rest 5 a b c → named (C .counts) (p .depth) c ≡ true → stateNumber (t .state) ≡ 0
-          → Finishes (target p C rest) (record { state = d .state; left = d .left; next = t .end }) cells′ (ran C c M fuel)
+      case-case : {rest : List Line} {a b : ℕ} {c : Cmd} {on : Bool} {end : ℕ} → CmdRow (p .code) (p .at) rest 5 a b c → named (C .counts) (p .depth) c ≡ true
+          → stateNumber (t .state) ≡ 0 → t .on ≡ on → Ends (p .code) (d .next) on end
+          → Finishes (target p C rest) (record { state = d .state; left = d .left; next = end }) cells′ (ran C c M fuel)
       unfolding named
-      case-case {rest} (at-case {e = e} {c = c} {d = d} s s′ s″ h) n z =
+      case-case {rest} (at-case {e = e} {c = c} {d = d} s s′ s″ h) n z i k =
           let m = both-right _ _ (both-right _ _ n) in
-          rw (case-is e c d) (case-at s′ s″ (both-left _ _ m) (both-right _ _ m) z (enters rest s s′ s″ n h))
+          rw (case-is e c d) (case-at s′ s″ (both-left _ _ m) (both-right _ _ m) z i k (enters rest s s′ n h))
 
 -- ---- a law for each arm of the code
 
@@ -322,13 +334,13 @@ module _ {S : Setting} {p : Place} {fuel : ℕ} {row : Row} (r : row ≡ rowAt (
     exec-case-end z =
         by-runs (omega arith) (y .spends) (λ C M c rest held here. case-end-case p held y (cmd-row-of 5 r q here) (here .names) z)
 
-    pub exec-case : {d : Stepped} {cells′ : List ℕ} → stateNumber (t .state) ≡ 0
+    pub exec-case : {d : Stepped} {cells′ : List ℕ} {on : Bool} {end : ℕ} → stateNumber (t .state) ≡ 0
         → Execs S (record { code = p .code; at = t .start; depth = p .depth + 1; cells = cells }) (t .left) d cells′
-        → Execs S p fuel (record { state = d .state; left = d .left; next = t .end }) cells′
-    exec-case {d} {cells′} z x =
+        → t .on ≡ on → Ends (p .code) (d .next) on end → Execs S p fuel (record { state = d .state; left = d .left; next = end }) cells′
+    exec-case {d} {cells′} z x i k =
         let x′ : Execs S (inside p (t .start) cells) (t .left) d cells′ = rw (add-one (p .depth)) at x in
-        by-runs (omega (arith, y .onward)) (omega (arith, x .spends, y .spends))
-        (λ C M c rest held here. case-case p held y x′ (cmd-row-of 5 r q here) (here .names) z)
+        by-runs (omega (arith, y .forward, x .forward, ends-after k)) (omega (arith, x .spends, y .spends))
+        (λ C M c rest held here. case-case p held y x′ (cmd-row-of 5 r q here) (here .names) z i k)
 
   pub exec-none : (KindOf command (row .kind) → ⊥) → Execs S p fuel (record { state = NoRule; left = fuel; next = p .at }) (p .cells)
   exec-none f =

@@ -267,17 +267,17 @@ module _ {S : Setting} {p : Place} {fuel w : ℕ} {v : Result} (f : fuel ≡ 0 �
 -- ---- branch
 
 -- where the branch starts that is taken, for a left and for a right
-pub data Starts (first second : ℕ) : Bool → ℕ → Type 0 where
-  at-first : Starts first second true first
-  at-second : Starts first second false second
+pub data Starts (ws : List ℕ) (first : ℕ) : Bool → ℕ → Type 0 where
+  at-first : Starts ws first true first
+  at-second : {second : ℕ} → Skips ws first second → Starts ws first false second
 
-starts-after : {first second start : ℕ} {on : Bool} → Starts first second on start → first ≤ second → first ≤ start
-starts-after at-first h = omega arith
-starts-after at-second h = h
+starts-after : {ws : List ℕ} {first start : ℕ} {on : Bool} → Starts ws first on start → first ≤ start
+starts-after at-first = omega arith
+starts-after (at-second k) = k .forward
 
 module _ {t : Target} {M : Mem} {cs : Branching} {g : Decided} {ws : List ℕ} {mid : List Line} {cells : List ℕ} where
   enters-past : {c : Choice} (at : ℕ) → (stateNumber (g .state) ≡ 0 → ⊥) → Chooses ws mid g cells c
-      → Enters t M cs (record { state = g .state; left = g .left; start = at; end = at }) cells c
+      → Enters t M cs (record { state = g .state; left = g .left; start = at; on = false }) cells c
   enters-past at z (goes-left s l o e n) = absurd (z s)
   enters-past at z (goes-right s l o e n) = absurd (z s)
   enters-past at z (has-none s l) = enters-spent s l
@@ -293,59 +293,48 @@ module _ (t : Target) {M : Mem} {cells cells′ : List ℕ} (held : CellsHold ce
       (ap popOf (load-here cells (f v) (room-here held) a) ∙ pop-tag tag v (omega (arith, tag .longer v, cell-size cells 0 (f v) a)))
       (length-pop _ (length-load cells 0)) e
 
-  module _ {cs : Branching} (g : Decided) {second end : ℕ} (s : Source (cs .on-left)) (s′ : Source (cs .on-right)) (k : Skips (t .code) (g .next) second) (k′ : Skips (t .code) second end) where
-    second-at : drop (g .next) (t .code) ≡ code (cmdLines (cs .on-left) (cmdLines (cs .on-right) (t .rest)))
-        → drop second (t .code) ≡ code (cmdLines (cs .on-right) (t .rest))
-    second-at n = k .means _ _ (a-command s) n
-
-    end-at : drop (g .next) (t .code) ≡ code (cmdLines (cs .on-left) (cmdLines (cs .on-right) (t .rest))) → drop end (t .code) ≡ code (t .rest)
-    end-at n = k′ .means _ _ (a-command s′) (second-at n)
-
-    enters-on : {c : Choice} {on : Bool} {start : ℕ} → stateNumber (g .state) ≡ 0 → g .on ≡ on → Starts (g .next) second on start
+  module _ {cs : Branching} (g : Decided) (s : Source (cs .on-left)) where
+    enters-on : {c : Choice} {on : Bool} {start : ℕ} → stateNumber (g .state) ≡ 0 → g .on ≡ on → Starts (t .code) (g .next) on start
         → Chooses (t .code) (cmdLines (cs .on-left) (cmdLines (cs .on-right) (t .rest))) g cells c
-        → Enters t M cs (record { state = Done; left = g .left; start = start; end = end }) cells′ c
+        → Enters t M cs (record { state = Done; left = g .left; start = start; on = g .on }) cells′ c
     unfolding stateNumber
-    enters-on z i at-first (goes-left {v = v} q l o a n) = enters-left refl l (binds-inside tags-left v a) n (end-at n)
-    enters-on z i at-second (goes-left q l o a n) = absurd (false≢true (sym i ∙ o))
+    enters-on z i at-first (goes-left {v = v} q l o a n) = enters-left refl l o (binds-inside tags-left v a) n
+    enters-on z i (at-second k) (goes-left q l o a n) = absurd (false≢true (sym i ∙ o))
     enters-on z i at-first (goes-right q l o a n) = absurd (false≢true (sym o ∙ i))
-    enters-on z i at-second (goes-right {v = v} q l o a n) = enters-right refl l (binds-inside tags-right v a) (second-at n) (end-at n)
+    enters-on z i (at-second k) (goes-right {v = v} q l o a n) = enters-right refl l o (binds-inside tags-right v a) (k .means _ _ (a-command s) n)
     enters-on z i h (has-none q l) = absurd (omega arith)
     enters-on z i h (is-long q l) = absurd (omega arith)
     enters-on z i h is-stuck = enters-stuck
 
 module _ {S : Setting} {p : Place} {fuel : ℕ} where
-  pub branch-deep : maxDepth ≤ p .depth → Branches S p fuel (record { state = NoRule; left = fuel; start = p .at; end = p .at }) (p .cells)
+  pub branch-deep : maxDepth ≤ p .depth → Branches S p fuel (record { state = NoRule; left = fuel; start = p .at; on = false }) (p .cells)
   unfolding stateNumber
   branch-deep h =
       record {
         forward = omega arith;
-        onward = omega arith;
         spends = omega arith;
         shallow = λ z. absurd (omega arith);
-        means = λ C M e cs rest held here s s′ l. absurd (omega arith);
+        means = λ C M e cs rest held here s l. absurd (omega arith);
       }
 
   module _ {g : Decided} {cells : List ℕ} (y : Decides S p fuel g cells) where
-    pub branch-past : (stateNumber (g .state) ≡ 0 → ⊥) → Branches S p fuel (record { state = g .state; left = g .left; start = p .at; end = p .at }) cells
+    pub branch-past : (stateNumber (g .state) ≡ 0 → ⊥) → Branches S p fuel (record { state = g .state; left = g .left; start = p .at; on = false }) cells
     branch-past h =
         record {
           forward = omega arith;
-          onward = omega arith;
           spends = y .spends;
           shallow = λ z. absurd (h z);
-          means = λ C M e cs rest held here s s′ l. enters-past (p .at) h (y .means C M e _ held here);
+          means = λ C M e cs rest held here s l. enters-past (p .at) h (y .means C M e _ held here);
         }
 
-    pub branch-taken : {cells′ : List ℕ} {on : Bool} {second start end : ℕ} → p .depth < maxDepth
-        → cells′ ≡ storeOf cells (suc (p .depth)) (popOf (loadOf cells accumulator)) → Skips (p .code) (g .next) second → Skips (p .code) second end
-        → stateNumber (g .state) ≡ 0 → g .on ≡ on → Starts (g .next) second on start
-        → Branches S p fuel (record { state = Done; left = g .left; start = start; end = end }) cells′
-    branch-taken l b k k′ z o h =
+    pub branch-taken : {cells′ : List ℕ} {on : Bool} {start : ℕ} → p .depth < maxDepth
+        → cells′ ≡ storeOf cells (suc (p .depth)) (popOf (loadOf cells accumulator)) → stateNumber (g .state) ≡ 0 → g .on ≡ on
+        → Starts (p .code) (g .next) on start → Branches S p fuel (record { state = Done; left = g .left; start = start; on = g .on }) cells′
+    branch-taken l b z o h =
         record {
-          forward = omega (arith, y .forward, starts-after h (k .forward));
-          onward = omega (arith, y .forward, k .forward, k′ .forward);
+          forward = omega (arith, y .forward, starts-after h);
           spends = y .spends;
           shallow = λ q. l;
-          means = λ C M e cs rest held here s s′ m.
-              enters-on (target p C rest) (holds-kept (held .cells) cells (y .kept)) l b g s s′ k k′ z o h (y .means C M e _ held here);
+          means = λ C M e cs rest held here s m.
+              enters-on (target p C rest) (holds-kept (held .cells) cells (y .kept)) l b g s z o h (y .means C M e _ held here);
         }

@@ -20,12 +20,12 @@ struct Decided {
     on: bool,
 }
 
-// Done: the branch that starts at `start` is taken; the case ends at `end`.
+// Done: the branch that starts at `start` is taken, the first, for a left, where `on`.
 struct Taken {
     state: State,
     left: u32,
     start: usize,
-    end: usize,
+    on: bool,
 }
 
 // The place after the expression or command at `at`.
@@ -184,7 +184,7 @@ fn branch(
             state: State::NoRule,
             left: fuel,
             start: at,
-            end: at,
+            on: false,
         };
     }
     let g = decide(code, at, table, powers, depth, work, fuel);
@@ -194,19 +194,17 @@ fn branch(
             state,
             left: g.left,
             start: at,
-            end: at,
+            on: false,
         };
     };
     cells::pop_to(work, depth as usize + 1);
     let first = g.next;
-    let second = skip(code, first);
-    let end = skip(code, second);
-    let start = if g.on { first } else { second };
+    let start = if g.on { first } else { skip(code, first) };
     Taken {
         state: State::Done,
         left: g.left,
         start,
-        end,
+        on: g.on,
     }
 }
 
@@ -283,10 +281,11 @@ pub(crate) fn exec(
             let start = b.start;
             let d = exec(code, start, table, powers, depth + 1, work, b.left);
             let state = d.state;
+            let next = if b.on { skip(code, d.next) } else { d.next };
             Stepped {
                 state,
                 left: d.left,
-                next: b.end,
+                next,
             }
         }
         _ => Stepped {

@@ -133,27 +133,24 @@ pub record Branching : Type 0 where
   pub on-left : Cmd
   pub on-right : Cmd
 
--- The branch taken: its value is bound, it starts at `start`, and the case ends at `end`.
+-- The branch taken, with `on` for left: its value is bound, and it starts at `start`.
 pub data Enters (g : Target) (M : Mem) (cs : Branching) (t : Taken) (cells : List ℕ) : Choice → Type 0 where
-  enters-left : {v : Value} {b : ℕ} → stateNumber (t .state) ≡ 0 → t .left ≡ b
+  enters-left : {v : Value} {b : ℕ} → stateNumber (t .state) ≡ 0 → t .left ≡ b → t .on ≡ true
       → CellsHold cells (g .locations) (suc (g .depth)) M (v ∷ g .env)
       → drop (t .start) (g .code) ≡ code (cmdLines (cs .on-left) (cmdLines (cs .on-right) (g .rest)))
-      → drop (t .end) (g .code) ≡ code (g .rest)
       → Enters g M cs t cells (to-left v b)
-  enters-right : {v : Value} {b : ℕ} → stateNumber (t .state) ≡ 0 → t .left ≡ b
+  enters-right : {v : Value} {b : ℕ} → stateNumber (t .state) ≡ 0 → t .left ≡ b → t .on ≡ false
       → CellsHold cells (g .locations) (suc (g .depth)) M (v ∷ g .env)
-      → drop (t .start) (g .code) ≡ code (cmdLines (cs .on-right) (g .rest)) → drop (t .end) (g .code) ≡ code (g .rest)
-      → Enters g M cs t cells (to-right v b)
+      → drop (t .start) (g .code) ≡ code (cmdLines (cs .on-right) (g .rest)) → Enters g M cs t cells (to-right v b)
   enters-spent : stateNumber (t .state) ≡ 9 → t .left ≡ 0 → Enters g M cs t cells no-budget
   enters-long : {b : ℕ} → stateNumber (t .state) ≡ 10 → t .left ≡ suc b → Enters g M cs t cells (choice-long b)
   enters-stuck : Enters g M cs t cells choice-stuck
 
 pub record Branches (S : Setting) (p : Place) (fuel : ℕ) (t : Taken) (cells : List ℕ) : Type 0 where
   pub forward : p .at ≤ t .start
-  pub onward : p .at ≤ t .end
   pub spends : t .left ≤ fuel
   pub shallow : stateNumber (t .state) ≡ 0 → p .depth < maxDepth
   pub means : (C : Context) (M : Mem) (e : Expr) (cs : Branching) (rest : List Line) → StandsFor S p C M
       → ExprAt p (C .counts) (cmdLines (cs .on-left) (cmdLines (cs .on-right) rest)) e
-      → Source (cs .on-left) → Source (cs .on-right) → p .depth < maxDepth
+      → Source (cs .on-left) → p .depth < maxDepth
       → Enters (target p C rest) M cs t cells (choice fuel (eval (C .world) (C .env) M e))

@@ -98,8 +98,10 @@ pub +exec-spec : {M : Type 1} → statement M
     (λ c. laws.exec-case-end (c .before .before .before .before .row-at .ensures) (c .before .before .before .match .keys5) (c .before .branch .ensures) (not-done _ (c .match4 .keys2)))  -- returns-4
     (λ c. omega (arith, c .before .before .branch .ensures .shallow (is-done _ (c .enum-told3 .given .1))))  -- add-exec-2
     (λ c κs. (omega (arith, row-within _ _ (c .before .before .before .before .before .before .row-at .ensures) (omega (arith, c .before .before .before .before .before .match .keys5)), c .before .before .before .branch .ensures .forward, c .before .before .before .before .before .before .before .before .before .pre .0), tt))  -- exec-requires-4
+    (λ c κs. search needs)  -- skip-requires-3
     (λ c. laws.exec-skip (c .before .row-at .ensures) (c .match .keys1))  -- returns-5
     (λ c. laws.exec-seq (c .before .before .before .before .before .before .before .before .row-at .ensures) (c .before .before .before .before .before .before .before .match .keys2) (c .before .before .before .before .before .exec .ensures) (c .before .before .before .before .tick .ensures) (is-done _ (c .before .before .enum-told .given .1)) (c .exec2 .ensures))  -- returns-6
     (λ c. laws.exec-assign (c .before .before .before .row-at .ensures) (c .before .before .match .keys3) (c .assign .ensures))  -- returns-7
-    (λ c. laws.exec-case (c .before .before .before .before .before .before .before .row-at .ensures) (c .before .before .before .before .before .before .match .keys5) (c .before .before .before .before .branch .ensures) (is-done _ (c .before .before .enum-told3 .given .1)) (c .exec4 .ensures))  -- returns-8
-    (λ c. laws.exec-none (c .before .row-at .ensures) (λ h. none-between 1 5 (c .match .rest) (h .0) (h .1)))  -- returns-9
+    (λ c. laws.exec-case (c .before .before .before .before .before .before .before .before .before .row-at .ensures) (c .before .before .before .before .before .before .before .before .match .keys5) (c .before .before .before .before .before .before .branch .ensures) (is-done _ (c .before .before .before .before .enum-told3 .given .1)) (c .before .before .exec4 .ensures) (c .before .if2 .taken) (laws.past-second (c .skip3 .ensures)))  -- returns-8
+    (λ c. laws.exec-case (c .before .before .before .before .before .before .before .before .row-at .ensures) (c .before .before .before .before .before .before .before .match .keys5) (c .before .before .before .before .before .branch .ensures) (is-done _ (c .before .before .before .enum-told3 .given .1)) (c .before .exec4 .ensures) (c .if2 .left) laws.at-end)  -- returns-9
+    (λ c. laws.exec-none (c .before .row-at .ensures) (λ h. none-between 1 5 (c .match .rest) (h .0) (h .1)))  -- returns-10

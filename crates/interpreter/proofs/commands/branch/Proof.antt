@@ -15,6 +15,5 @@ branch-spec = tie.close (tie.spec
     (λ c. search needs)  -- add-pop-to
     (λ c κs. search needs)  -- pop-to-requires
     (λ c κs. search needs)  -- skip-requires
-    (λ c κs. search needs)  -- skip-requires-2
-    (λ c. laws.branch-taken (c .before .before .before .before .before .before .before .decide .ensures) (c .before .before .before .before .before .before .before .before .before .if1 .left) (rw add-one at (c .before .before .before .pop-to .ensures)) (c .before .before .skip .ensures) (c .before .skip2 .ensures) (is-done _ (c .before .before .before .before .before .enum-told .given .1)) (c .if2 .taken) laws.at-first)  -- returns-3
-    (λ c. laws.branch-taken (c .before .before .before .before .before .before .before .decide .ensures) (c .before .before .before .before .before .before .before .before .before .if1 .left) (rw add-one at (c .before .before .before .pop-to .ensures)) (c .before .before .skip .ensures) (c .before .skip2 .ensures) (is-done _ (c .before .before .before .before .before .enum-told .given .1)) (c .if2 .left) laws.at-second))  -- returns-4
+    (λ c. laws.branch-taken (c .before .before .before .before .before .decide .ensures) (c .before .before .before .before .before .before .before .if1 .left) (rw add-one at (c .before .pop-to .ensures)) (is-done _ (c .before .before .before .enum-told .given .1)) (c .if2 .taken) laws.at-first)  -- returns-3
+    (λ c. laws.branch-taken (c .before .before .before .before .before .before .decide .ensures) (c .before .before .before .before .before .before .before .before .if1 .left) (rw add-one at (c .before .before .pop-to .ensures)) (is-done _ (c .before .before .before .before .enum-told .given .1)) (c .before .if2 .left) (laws.at-second (c .skip .ensures))))  -- returns-4

@@ -18,7 +18,7 @@ use Rattle.script.specs.Lines.{Line, SourceE, Source, exprLines, cmdLines}
 use Rattle.script.specs.Internal.Code.{code, rowAt}
 use Rattle.script.specs.Names.{Counts, named}
 use Rattle.script.specs.declared.Row.{Row}
-use Rattle.script.specs.Internal.Pieces.{command, an-expression, a-command}
+use Rattle.script.specs.Internal.Pieces.{command, a-command}
 use Rattle.script.proofs.Rows.{CmdRow, at-skip, at-seq, at-assign, at-while, at-case, row-of, KindOf, not-here}
 use Rattle.evaluator.specs.State.{stateNumber}
 use Rattle.evaluator.specs.declared.State.the-variants.{Done, NoRule}
@@ -87,20 +87,20 @@ chosen-is l r (suc b) stuck = refl
 module _ {t : Target} {g : Decided} {ws : List ℕ} {mid : List Line} {seen : List ℕ} (l : Value → ℕ → Out) where
   -- a guard that doesn't go on
   stops : {M : Mem} {c : Choice} {cells : List ℕ} (next : ℕ) → g .on ≡ false → Chooses ws mid g seen c → CellsHold cells (t .locations) (t .depth) M (t .env)
-      → drop next (t .code) ≡ code (t .rest)
+      → (drop (g .next) ws ≡ code mid → drop next (t .code) ≡ code (t .rest))
       → Finishes t (record { state = g .state; left = g .left; next = next }) cells (chosen l (λ v b. done M b) c)
   unfolding chosen
   stops next o (goes-left s f i a n) held e = absurd (false≢true (sym o ∙ i))
-  stops next o (goes-right s f i a n) held e = finish-done s f held e
+  stops next o (goes-right s f i a n) held e = finish-done s f held (e n)
   stops next o (has-none s f) held e = finish-spent s f
   stops next o (is-long s f) held e = finish-over s f
   stops next o is-stuck held e = finish-wrong
 
   -- a guard that goes on
   turns-on : {c : Choice} {d : Stepped} {cells : List ℕ} (r : Value → ℕ → Out) → stateNumber (g .state) ≡ 0 → g .on ≡ true → Chooses ws mid g seen c
-      → ((v : Value) → Finishes t d cells (l v (g .left))) → Finishes t d cells (chosen l r c)
+      → ((v : Value) → drop (g .next) ws ≡ code mid → Finishes t d cells (l v (g .left))) → Finishes t d cells (chosen l r c)
   unfolding chosen
-  turns-on {d = d} {cells = cells} r z o (goes-left {v = v} s f i a n) k = subst (λ (b : ℕ). Finishes t d cells (l v b)) f (k v)
+  turns-on {d = d} {cells = cells} r z o (goes-left {v = v} s f i a n) k = subst (λ (b : ℕ). Finishes t d cells (l v b)) f (k v n)
   turns-on r z o (goes-right s f i a n) k = absurd (false≢true (sym i ∙ o))
   turns-on r z o (has-none s f) k = absurd (omega arith)
   turns-on r z o (is-long s f) k = absurd (omega arith)
@@ -157,8 +157,7 @@ module _ {S : Setting} (p : Place) {C : Context} {M : Mem} (held : StandsFor S p
       y .means C M e rest operand-held (record { source = s; names = both-right _ _ n; lines = h }) (ltb-true _ _ (both-left _ _ n))
 
   -- a loop
-  module _ {fuel : ℕ} {g : Decided} {cells : List ℕ} {body end : ℕ} (sb : Skips (p .code) (p .at + 3) body) (se : Skips (p .code) body end)
-      (y : Decides S (operand p) fuel g cells) where
+  module _ {fuel : ℕ} {g : Decided} {cells : List ℕ} (y : Decides S (operand p) fuel g cells) where
     -- a round, the first part of it being the guard
     round : Expr → Cmd → Value → ℕ → Out
     round e c v b = andThen (ran C c M b) (λ M′ b′. spend b′ (λ b″. ran C (while e c) M′ b″))
@@ -173,22 +172,17 @@ module _ {S : Setting} (p : Place) {C : Context} {M : Mem} (held : StandsFor S p
       unfolding named
       guard-chooses = y .means C M e (cmdLines c rest) operand-held (record { source = s; names = both-left _ _ n; lines = h })
 
-      body-at : drop body (p .code) ≡ code (cmdLines c rest)
-      body-at = sb .means _ _ (an-expression s) h
-
-      end-at : drop end (p .code) ≡ code rest
-      end-at = se .means _ _ (a-command r) body-at
-
       -- the end of a round, after its transition
-      module _ {d t : Stepped} {cells′ : List ℕ} (x : Execs S (moved p body cells) (g .left) d cells′) (y′ : Ticks d t) where
+      module _ {d t : Stepped} {cells′ : List ℕ} (x : Execs S (moved p (g .next) cells) (g .left) d cells′) (y′ : Ticks d t)
+          (b : drop (g .next) (p .code) ≡ code (cmdLines c rest)) where
         round-ends : Finishes (target p C rest) t cells′ (ticked (ran C c M (g .left)))
         unfolding named
-        round-ends = y′ .means (runs x C M c rest (held-after held (y .kept) refl) (record { source = r; names = both-right _ _ n; lines = body-at }))
+        round-ends = y′ .means (runs x C M c rest (held-after held (y .kept) refl) (record { source = r; names = both-right _ _ n; lines = b }))
 
         round-stops : (v : Value) → (stateNumber (t .state) ≡ 0 → ⊥)
-            → Finishes (target p C rest) (record { state = t .state; left = t .left; next = end }) cells′ (round e c v (g .left))
+            → Finishes (target p C rest) t cells′ (round e c v (g .left))
         unfolding round
-        round-stops v z = rw (ticked-then (ran C c M (g .left)) (λ M′ b. ran C (while e c) M′ b)) (ends-there (λ M′ b. ran C (while e c) M′ b) end z round-ends)
+        round-stops v z = rw (ticked-then (ran C c M (g .left)) (λ M′ b. ran C (while e c) M′ b)) (ends-there (λ M′ b. ran C (while e c) M′ b) (t .next) z round-ends)
 
         round-goes : {r : Stepped} {cells″ : List ℕ} (v : Value) → stateNumber (t .state) ≡ 0 → CmdAt p (C .counts) rest (while e c)
             → Execs S (moved p (p .at) cells′) (t .left) r cells″ → Finishes (target p C rest) r cells″ (round e c v (g .left))
@@ -199,18 +193,18 @@ module _ {S : Setting} (p : Place) {C : Context} {M : Mem} (held : StandsFor S p
             (λ M′ held′ q. runs u C M′ (while e c) rest (record { tells = held .tells; labels = held .labels; cells = held′ })
             (record { source = here .source; names = here .names; lines = here .lines })))
 
-    while-stop-case : {rest : List Line} {a b : ℕ} {c : Cmd} → CmdRow (p .code) (p .at) rest 4 a b c → named (C .counts) (p .depth) c ≡ true → g .on ≡ false
-        → Finishes (target p C rest) (record { state = g .state; left = g .left; next = end }) cells (ran C c M fuel)
-    while-stop-case {rest} (at-while {e = e} {c = c} s r h) n z =
+    while-stop-case : {rest : List Line} {a b : ℕ} {c : Cmd} {end : ℕ} → CmdRow (p .code) (p .at) rest 4 a b c → named (C .counts) (p .depth) c ≡ true
+        → g .on ≡ false → Skips (p .code) (g .next) end → Finishes (target p C rest) (record { state = g .state; left = g .left; next = end }) cells (ran C c M fuel)
+    while-stop-case {rest} {end = end} (at-while {e = e} {c = c} s r h) n z k =
         rw (while-is e c)
-        (stops (round e c) end z (guard-chooses e c rest s r n h) (holds-kept (held .cells) cells (y .kept)) (end-at e c rest s r n h))
+        (stops (round e c) end z (guard-chooses e c rest s r n h) (holds-kept (held .cells) cells (y .kept)) (λ b. k .means _ _ (a-command r) b))
 
-    module _ {d t : Stepped} {cells′ : List ℕ} (o : g .on ≡ true) (x : Execs S (moved p body cells) (g .left) d cells′) (y′ : Ticks d t) where
+    module _ {d t : Stepped} {cells′ : List ℕ} (o : g .on ≡ true) (x : Execs S (moved p (g .next) cells) (g .left) d cells′) (y′ : Ticks d t) where
       while-end-case : {rest : List Line} {a b : ℕ} {c : Cmd} → CmdRow (p .code) (p .at) rest 4 a b c → named (C .counts) (p .depth) c ≡ true
-          → (stateNumber (t .state) ≡ 0 → ⊥) → Finishes (target p C rest) (record { state = t .state; left = t .left; next = end }) cells′ (ran C c M fuel)
+          → (stateNumber (t .state) ≡ 0 → ⊥) → Finishes (target p C rest) t cells′ (ran C c M fuel)
       while-end-case {rest} (at-while {e = e} {c = c} s r h) n z =
           rw (while-is e c)
-          (turns-on (round e c) (λ v b. done M b) (y .settled o) o (guard-chooses e c rest s r n h) (λ v. round-stops e c rest s r n h x y′ v z))
+          (turns-on (round e c) (λ v b. done M b) (y .settled o) o (guard-chooses e c rest s r n h) (λ v b. round-stops e c rest s r n h x y′ b v z))
 
       while-again-case : {rest : List Line} {a b : ℕ} {c : Cmd} {u : Stepped} {cells″ : List ℕ} → CmdRow (p .code) (p .at) rest 4 a b c
           → CmdAt p (C .counts) rest c → stateNumber (t .state) ≡ 0 → Execs S (moved p (p .at) cells′) (t .left) u cells″
@@ -218,7 +212,7 @@ module _ {S : Setting} (p : Place) {C : Context} {M : Mem} (held : StandsFor S p
       while-again-case {rest} (at-while {e = e} {c = c} s r h) here z w =
           rw (while-is e c)
           (turns-on (round e c) (λ v b. done M b) (y .settled o) o (guard-chooses e c rest s r (here .names) h)
-          (λ v. round-goes e c rest s r (here .names) h x y′ v z here w))
+          (λ v b. round-goes e c rest s r (here .names) h x y′ b v z here w))
 
   -- a case
   module _ {fuel : ℕ} {t : Taken} {cells : List ℕ} (y : Branches S (operand p) fuel t cells) where
@@ -311,23 +305,22 @@ module _ {S : Setting} {p : Place} {fuel : ℕ} {row : Row} (r : row ≡ rowAt (
   exec-assign q y =
       by-runs (omega (arith, y .forward)) (y .spends) (λ C M c rest held here. assign-case p held (cmd-row-of 3 r q here) (here .names) y)
 
-  module _ {g : Decided} {cells : List ℕ} {body end : ℕ} (q : row .kind ≡ 4) (sb : Skips (p .code) (p .at + 3) body) (se : Skips (p .code) body end)
-      (y : Decides S (operand p) fuel g cells) where
-    pub while-stop : g .on ≡ false → Execs S p fuel (record { state = g .state; left = g .left; next = end }) cells
-    while-stop z =
-        by-runs (omega (arith, sb .forward, se .forward)) (y .spends)
-        (λ C M c rest held here. while-stop-case p held sb se y (cmd-row-of 4 r q here) (here .names) z)
+  module _ {g : Decided} {cells : List ℕ} (q : row .kind ≡ 4) (y : Decides S (operand p) fuel g cells) where
+    pub while-stop : {end : ℕ} → g .on ≡ false → Skips (p .code) (g .next) end → Execs S p fuel (record { state = g .state; left = g .left; next = end }) cells
+    while-stop z k =
+        by-runs (omega (arith, y .forward, k .forward)) (y .spends)
+        (λ C M c rest held here. while-stop-case p held y (cmd-row-of 4 r q here) (here .names) z k)
 
-    module _ {d t : Stepped} {cells′ : List ℕ} (o : g .on ≡ true) (x : Execs S (moved p body cells) (g .left) d cells′) (y′ : Ticks d t) where
-      pub while-end : (stateNumber (t .state) ≡ 0 → ⊥) → Execs S p fuel (record { state = t .state; left = t .left; next = end }) cells′
+    module _ {d t : Stepped} {cells′ : List ℕ} (o : g .on ≡ true) (x : Execs S (moved p (g .next) cells) (g .left) d cells′) (y′ : Ticks d t) where
+      pub while-end : (stateNumber (t .state) ≡ 0 → ⊥) → Execs S p fuel t cells′
       while-end z =
-          by-runs (omega (arith, sb .forward, se .forward)) (omega (arith, y .spends, x .spends, y′ .spends))
-          (λ C M c rest held here. while-end-case p held sb se y o x y′ (cmd-row-of 4 r q here) (here .names) z)
+          by-runs (omega (arith, y .forward, x .forward, y′ .same-place)) (omega (arith, y .spends, x .spends, y′ .spends))
+          (λ C M c rest held here. while-end-case p held y o x y′ (cmd-row-of 4 r q here) (here .names) z)
 
       pub while-again : {u : Stepped} {cells″ : List ℕ} → stateNumber (t .state) ≡ 0 → Execs S (moved p (p .at) cells′) (t .left) u cells″ → Execs S p fuel u cells″
       while-again z u =
           by-runs (u .forward) (omega (arith, y .spends, x .spends, y′ .spends, u .spends))
-          (λ C M c rest held here. while-again-case p held sb se y o x y′ (cmd-row-of 4 r q here) here z u)
+          (λ C M c rest held here. while-again-case p held y o x y′ (cmd-row-of 4 r q here) here z u)
 
   module _ {t : Taken} {cells : List ℕ} (q : row .kind ≡ 5) (y : Branches S (operand p) fuel t cells) where
     pub exec-case-end : (stateNumber (t .state) ≡ 0 → ⊥) → Execs S p fuel (record { state = t .state; left = t .left; next = p .at }) cells

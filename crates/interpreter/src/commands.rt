@@ -242,28 +242,23 @@ pub(crate) fn exec(
         }
         script::ASSIGN => assign(code, at + ROW, table, powers, depth, work, fuel, row.a),
         script::WHILE => {
-            let body = skip(code, at + ROW);
-            let end = skip(code, body);
             let mut left = fuel;
             loop {
                 let g = decide(code, at + ROW, table, powers, depth, work, left);
+                let body = g.next;
                 if !g.on {
                     let state = g.state;
                     return Stepped {
                         state,
                         left: g.left,
-                        next: end,
+                        next: skip(code, body),
                     };
                 }
                 let d = exec(code, body, table, powers, depth, work, g.left);
                 let t = tick(d);
                 let state = t.state;
                 let State::Done = state else {
-                    return Stepped {
-                        state,
-                        left: t.left,
-                        next: end,
-                    };
+                    return t;
                 };
                 left = t.left;
             }

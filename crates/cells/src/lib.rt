@@ -2,6 +2,7 @@
 ghost use mathlib.Core.Path.{_≡_};
 ghost use mathlib.Core.Logic.{_⊎_};
 ghost use Prim.Native.Nat.{_+_, _≤_};
+ghost use Rattle.language.specs.World.{cell-words};
 ghost use Rattle.memory.specs.Words.{zeros};
 ghost use lib.ListN.{length, drop, getD};
 ghost use lib.Seq.{paste};
@@ -15,7 +16,7 @@ pub const ACCUMULATOR: usize = 0;
 
 // Makes the words of cell k zeros, where there is such a cell.
 pub fn clear(work: &mut [u32], k: usize)
-    ensures { λ _. ⌜ now (work .exit) ≡ storeOf (now (work .entry)) k (zeros 16) ⌝ }
+    ensures { λ _. ⌜ now (work .exit) ≡ storeOf (now (work .entry)) k (zeros cell-words) ⌝ }
 {
     if work.len() / CELL <= k {
         return;

@@ -1,19 +1,17 @@
--- The lines of an expression or a command are balanced, and of balanced lines fewer than half have two operands or more: no walk over
--- them nests deeper. Assumes nothing.
+-- The lines of an expression or a command are balanced, and how many operands balanced lines have. Assumes nothing.
 use mathlib.Core.Path.{_≡_, refl, sym, ap, _∙_}
-use mathlib.Core.Bool.{Bool, true, false, cond}
+use mathlib.Core.Bool.{Bool, true}
 use mathlib.Core.List.{List, [], _∷_}
-use Prim.Native.Nat.{ℕ, zero, suc, _+_, _*_, _≤_}
+use Prim.Native.Nat.{ℕ, zero, suc, _+_}
 use native.Mathlib.Omega.{arith}
-use borrow.Author.Tests.{eqb-true, ltb-true}
-use lib.Dec.{ltb}
+use borrow.Author.Tests.{eqb-true}
 use lib.ListN.{length}
 use Rattle.logic.proofs.BooleanLaws.{absurd-false}
 use Rattle.language.specs.Syntax.{Expr, val, loc, var, plus, left, right, pack, unpack, Cmd, skip, seq, assign, while, case}
 use Rattle.script.specs.Lines.{Line, exprLines, cmdLines}
 use Rattle.script.specs.Internal.Code.{rowOf}
 use Rattle.script.specs.Internal.Pieces.{operandCount}
-use Rattle.script.specs.Internal.Balance.{lineOperands, closes, wideLines}
+use Rattle.script.specs.Internal.Balance.{lineOperands, closes, allOperands}
 
 -- the trees after a line of so many operands: with a sum by which the walk goes on
 after : (n k m : ℕ) (ls : List Line) {b : Bool} → n + k ≡ m → closes m ls ≡ b → closes (n + k) ls ≡ b
@@ -43,14 +41,10 @@ cmd-closes (case e a b) n rest =
     after n 3 (suc (suc (suc n))) (exprLines e (cmdLines a (cmdLines b rest))) (omega arith)
     (expr-closes e (suc (suc n)) (cmdLines a (cmdLines b rest)) ∙ cmd-closes a (suc n) (cmdLines b rest) ∙ cmd-closes b n rest)
 
--- of the lines of n trees, twice as many as have two operands or more, and n, are no more than all
-pub half-wide : (n : ℕ) (ls : List Line) → closes n ls ≡ true → 2 * wideLines ls + n ≤ length ls
-unfolding closes wideLines
-half-wide n [] h = omega (arith, eqb-true n 0 h)
-half-wide zero (l ∷ ls) h = absurd (absurd-false h)
-half-wide (suc n) (l ∷ ls) h = on (ltb 1 (lineOperands l)) refl (half-wide (n + lineOperands l) ls h)
-  where
-    on : (b : Bool) → ltb 1 (lineOperands l) ≡ b → 2 * wideLines ls + (n + lineOperands l) ≤ length ls
-        → 2 * (cond (ltb 1 (lineOperands l)) 1 0 + wideLines ls) + suc n ≤ length (l ∷ ls)
-    on true e i = rw e (omega (arith, ltb-true 1 (lineOperands l) e))
-    on false e i = rw e (omega arith)
+-- The lines of n trees have as many operands as lines, but for n. So where a call of a walk over the lines stands in an operand of a line,
+-- that line has taken as many lines as it has operands: two for a command around a command, one for an expression around another.
+pub closed-operands : (n : ℕ) (ls : List Line) → closes n ls ≡ true → allOperands ls + n ≡ length ls
+unfolding closes allOperands
+closed-operands n [] h = omega (arith, eqb-true n 0 h)
+closed-operands zero (l ∷ ls) h = absurd (absurd-false h)
+closed-operands (suc n) (l ∷ ls) h = omega (arith, closed-operands (n + lineOperands l) ls h)

@@ -377,8 +377,8 @@ pub fn rows(code: &[u32], count: usize) -> &[u32]
     &code[..end]
 }
 
-// Whether the lines are as many as their kinds ask for: one tree, with all its operands. Fewer than half of them then have two operands
-// or more, so that commands nest no deeper, whatever the kinds are (crate script, Balance).
+// Whether the lines are as many as their kinds ask for: one tree, with all its operands. Whatever the kinds are, calls over the lines then
+// nest no deeper than over a script's: the lines have one operand less than they are (crate script, Balance).
 fn balanced(code: &[u32]) -> bool
     ensures { λ r. ⌜ Balanced (now (code .entry)) r ⌝ }
 {

@@ -1,6 +1,7 @@
 // What a group may do to each label, worked out once: bit l, it writes label l; bit 32 + l, it reads label l.
 ghost use mathlib.Core.Path.{_≡_};
-ghost use Prim.Native.Nat.{_<_};
+ghost use Prim.Native.Nat.{_*_, _<_};
+ghost use Rattle.sheet.specs.Sheet.{maxLabels};
 ghost use Rattle.sheet.specs.Internal.Powers.{hasPower, withPower, powersIn, mayWrite, mayRead};
 use crate::MOST_LABELS;
 use crate::Word;
@@ -21,7 +22,7 @@ fn has_power(table: &[Word], group: Set, p: u32) -> bool
 
 // These powers, with p if the group has power p.
 fn with_power(table: &[Word], group: Set, powers: Powers, p: u32) -> Powers
-    requires { ⌜ p < 64 ⌝ }
+    requires { ⌜ p < 2 * maxLabels ⌝ }
     ensures { λ r. ⌜ r ≡ withPower (now (table .entry)) group powers p ⌝ }
 {
     if has_power(table, group, p) {

@@ -1,8 +1,8 @@
 -- Lines that are as many as their kinds ask for. A text that isn't is no script's, and this is told before any walk over its lines.
-use mathlib.Core.Bool.{Bool, true, false, cond}
+use mathlib.Core.Bool.{Bool, false}
 use mathlib.Core.List.{List, [], _∷_}
 use Prim.Native.Nat.{ℕ, zero, suc, _+_}
-use lib.Dec.{eqb, ltb}
+use lib.Dec.{eqb}
 use Rattle.script.specs.Lines.{Line}
 use Rattle.script.specs.Internal.Code.{rowOf}
 use Rattle.script.specs.Internal.Pieces.{operandCount}
@@ -16,7 +16,7 @@ closes n [] = eqb n 0
 closes zero (l ∷ ls) = false
 closes (suc n) (l ∷ ls) = closes (n + lineOperands l) ls
 
--- how many of the lines have two operands or more
-unfoldable pub wideLines : List Line → ℕ
-wideLines [] = 0
-wideLines (l ∷ ls) = cond (ltb 1 (lineOperands l)) 1 0 + wideLines ls
+-- how many operands the lines have in all
+unfoldable pub allOperands : List Line → ℕ
+allOperands [] = 0
+allOperands (l ∷ ls) = lineOperands l + allOperands ls

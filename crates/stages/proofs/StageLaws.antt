@@ -25,12 +25,12 @@ use Rattle.script_text.specs.declared.Answer.{Answer}
 use Rattle.script_text.specs.declared.Answer.the-variants.{Read, Refused}
 use Rattle.script_text.specs.Counts.{countsOf}
 use Rattle.script_text.specs.Script.{scriptOf}
-use Rattle.script_text.specs.Internal.Decoded.{Decoded, countsIn, decodedScript}
+use Rattle.script_text.specs.Internal.Decoded.{Decoded, codeWords, countsIn, decodedScript}
 use Rattle.script_text.proofs.ScriptLaws.{counts-table}
 use Rattle.script_text.proofs.ReadLaws.{read-split, read-whole}
 use Rattle.memory.specs.Memory.{memoryOf, wellFormed, memoryRefusal}
 use Rattle.memory.specs.View.{viewWords, viewRefusal}
-use Rattle.memory.specs.Internal.InTable.{leaves, viewLeaves, refusalIn, viewRefusalIn, viewLeavesIn}
+use Rattle.memory.specs.Internal.InTable.{viewIn, leaves, viewLeaves, refusalIn, viewRefusalIn, viewLeavesIn}
 use Rattle.memory.proofs.Exactness.{memories-exactly, table-agrees}
 use Rattle.memory.proofs.MemoryLaws.{unrefused-length, unrefused-formed}
 use Rattle.checker.specs.Internal.Post.{ChecksCode}
@@ -39,7 +39,7 @@ use Rattle.checker.specs.declared.Verdict.{Verdict}
 use Rattle.interpreter.specs.Internal.Run.{RunLeaves, Runs}
 use Rattle.stages.specs.Answers.{Ran, refusedRun, refusedView}
 use Rattle.stages.specs.Calls.{unless, strangers, onScript, untyped, numberOf, ended}
-use Rattle.stages.specs.Internal.Stages.{TableOf, CodeOf, no-code, its-code, Judges, AcceptedCode, NumbersScript, acceptedRun, RunsAccepted, RunsOn, ViewsOn}
+use Rattle.stages.specs.Internal.Stages.{TableOf, CodeOf, no-code, its-code, Judges, AcceptedCode, NumbersScript, acceptedRun, Spares, RunsAccepted, RunsOn, ViewsOn}
 
 -- ---- the code of a script
 
@@ -73,7 +73,8 @@ pub numbers-script : (t script ws : List ℕ) (p : Decoded) (r : ℕ) → p ≡ 
     → Judges (p .answer) ws t r → NumbersScript script t r (p .count) (p .code)
 unfolding numberOf onScript
 numbers-script t script ws p r e w j = record {
-  whole = read-whole (countsIn t) script p e;
+  count-is = ap (λ (d : Decoded). d .count) e;
+  words-are = ap (λ (d : Decoded). d .code) e;
   numbered = λ s T. j .judged s T _ (code-of t script ws p e w s T);
   accepted = λ s T z. go s (code-of t script ws p e w s T) refl (sym z ∙ j .judged s T _ (code-of t script ws p e w s T));
 }
@@ -86,6 +87,10 @@ numbers-script t script ws p r e w j = record {
 -- the table's refusal of a memory is the sheet's
 pub refusal-in : (t memory : List ℕ) (a : ℕ) → a ≡ refusalIn t memory → (s : Sheet) → TableOf t s → a ≡ memoryRefusal s memory
 refusal-in t memory a e s T = e ∙ ap (λ (u : List ℕ). refusalIn u memory) (T .words) ∙ table-agrees s (T .form) .refusal memory
+
+-- the words that were lent for the code stay as many
+pub code-whole : {script t : List ℕ} {r count : ℕ} {words : List ℕ} → NumbersScript script t r count words → length words ≡ codeWords
+code-whole {script} {t} n = ap length (n .words-are) ∙ read-whole (countsIn t) script (decodedScript (scriptOf (countsIn t) script)) refl
 
 -- ---- running
 
@@ -124,6 +129,7 @@ pub runs-accepted : (ws t memory : List ℕ) (authority budget state steps : ℕ
     → RunsAccepted ws t memory authority budget (record { answer = state; steps = steps; memory = left })
 unfolding memoryRefusal
 runs-accepted ws t memory authority budget state steps left r = record {
+  spares = record { untouched = r .untouched; within = r .within };
   ran = λ s T script a z.
       ends s memory authority budget (a .command) (a .typed) z state steps left _ refl
       (r .means s (countsOf s) (a .command) (T .form) (T .words) refl refl (a .source) (a .names) (a .lines)
@@ -157,19 +163,23 @@ module _ (script t memory : List ℕ) (authority budget : ℕ) where
       unless (refusedRun memory) (memoryRefusal s memory) (
       acceptedRun s memory authority budget c)))
 
+  -- a refused run takes no step and leaves the memory
+  refusal-spares : (k : ℕ) → Spares memory budget (refusedRun memory k)
+  refusal-spares k = record { untouched = λ n. refl; within = omega arith }
+
   pub run-stranger : within authority (everyoneIn t) ≡ false → RunsOn script t memory authority budget (refusedRun memory 3)
-  run-stranger h = record { ran = λ s T. sym (unless-3 (refusedRun memory) t s authority _ T h) }
+  run-stranger h = record { spares = refusal-spares 3; ran = λ s T. sym (unless-3 (refusedRun memory) t s authority _ T h) }
 
   module _ (h : within authority (everyoneIn t) ≡ true) where
-    by-onward : (r : Ran) → ((s : Sheet) → TableOf t s → r ≡ onward s) → RunsOn script t memory authority budget r
+    by-onward : (r : Ran) → Spares memory budget r → ((s : Sheet) → TableOf t s → r ≡ onward s) → RunsOn script t memory authority budget r
     unfolding onward
-    by-onward r f = record { ran = λ s T. f s T ∙ sym (not-3 (refusedRun memory) t s authority _ T h) }
+    by-onward r k f = record { spares = k; ran = λ s T. f s T ∙ sym (not-3 (refusedRun memory) t s authority _ T h) }
 
     module _ {number count : ℕ} {words : List ℕ} (n : NumbersScript script t number count words) where
       -- 4, 5 and 6
       pub run-numbered : (number ≡ 0 → ⊥) → RunsOn script t memory authority budget (refusedRun memory number)
       unfolding onward numberOf onScript
-      run-numbered z = by-onward _ (λ s T. go s (scriptOf (countsOf s) script) (n .numbered s T))
+      run-numbered z = by-onward _ (refusal-spares number) (λ s T. go s (scriptOf (countsOf s) script) (n .numbered s T))
         where
           go : (s : Sheet) (o : Option Cmd) → number ≡ onScript (λ k. k) o (untyped s)
               → refusedRun memory number ≡ onScript (refusedRun memory) o (λ c. unless (refusedRun memory) (untyped s c) (
@@ -188,12 +198,12 @@ module _ (script t memory : List ℕ) (authority budget : ℕ) where
         pub run-refused : (k : ℕ) → ((s : Sheet) → TableOf t s → k ≡ memoryRefusal s memory) → (k ≡ 0 → ⊥)
             → RunsOn script t memory authority budget (refusedRun memory k)
         run-refused k m w =
-            by-onward _ (λ s T. ap (refusedRun memory) (m s T) ∙ sym (by-memory s T ∙ stops (refusedRun memory) (memoryRefusal s memory) _ (λ v. w (m s T ∙ v))))
+            by-onward _ (refusal-spares k) (λ s T. ap (refusedRun memory) (m s T) ∙ sym (by-memory s T ∙ stops (refusedRun memory) (memoryRefusal s memory) _ (λ v. w (m s T ∙ v))))
 
         pub run-ends : {ws : List ℕ} (r : Ran) → ((s : Sheet) → TableOf t s → 0 ≡ memoryRefusal s memory) → ws ≡ take (count * 3) words
             → RunsAccepted ws t memory authority budget r → RunsOn script t memory authority budget r
         run-ends r m e ran =
-            by-onward r (λ s T.
+            by-onward r (ran .spares) (λ s T.
             let ran′ = rw e at ran in
             ran′ .ran s T script (n .accepted s T z) (sym (m s T)) ∙ sym (by-memory s T ∙ goes (refusedRun memory) (memoryRefusal s memory) _ (sym (m s T))))
 
@@ -207,12 +217,17 @@ left-by zero out view = refl
 left-by (suc k) out view = rw (ne-eqb (suc k) 0 (λ e. omega arith)) refl
 
 pub view-stranger : (t memory : List ℕ) (group : ℕ) (view : List ℕ) → within group (everyoneIn t) ≡ false → ViewsOn t memory group view 3 view
-view-stranger t memory group view h = record { viewed = λ s T. sym (unless-3 (refusedView view) t s group _ T h) }
+view-stranger t memory group view h = record { untouched = λ n. refl; viewed = λ s T. sym (unless-3 (refusedView view) t s group _ T h) }
+
+-- a refused view leaves the slice
+kept : (out view : List ℕ) (k : ℕ) → (k ≡ 0 → ⊥) → leaves k out view ≡ view
+unfolding leaves
+kept out view k n = rw (ne-eqb k 0 n)
 
 pub view-known : (t memory : List ℕ) (group : ℕ) (view : List ℕ) (r : ℕ) (left : List ℕ) → within group (everyoneIn t) ≡ true
     → r ≡ viewRefusalIn t memory (length view) → left ≡ viewLeavesIn t group memory view → ViewsOn t memory group view r left
-unfolding viewLeaves
-view-known t memory group view r left h p q = record { viewed = on }
+unfolding viewLeaves viewLeavesIn
+view-known t memory group view r left h p q = record { untouched = λ n. q ∙ kept (viewIn t group memory) view (viewRefusalIn t memory (length view)) (λ z. n (p ∙ z)); viewed = on }
   where
     on : (s : Sheet) → TableOf t s → record { answer = r; view = left }
         ≡ unless (refusedView view) (strangers s group) (unless (refusedView view) (viewRefusal s memory (length view)) (record { answer = 0; view = viewWords s group memory }))

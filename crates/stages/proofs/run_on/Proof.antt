@@ -2,7 +2,7 @@
 use mathlib.Core.Path.{sym, ap, _∙_}
 use borrow.Author.Tests.{not-true, not-false}
 use Rattle.sets.specs.Sets.{within}
-use Rattle.stages.proofs.StageLaws.{refusal-in, run-stranger, run-numbered, run-refused, run-ends}
+use Rattle.stages.proofs.StageLaws.{code-whole, refusal-in, run-stranger, run-numbered, run-refused, run-ends}
 use borrow.Author.Needs.{needs}
 use Rattle.stages.proofs.run_on.Statement.{statement}
 use Rattle.stages.proofs.run_on.Tie as tie
@@ -62,7 +62,7 @@ run-on-spec = tie.close (tie.spec
     (λ c κs. search needs)  -- refused-requires-3
     (λ c. search needs)  -- same-length
     returns-3
-    (λ c. search (needs, c .before .before .before .before .before .before .before .number-of .ensures .whole))  -- slice-aggregate-rows
+    (λ c. search (needs, code-whole (c .before .before .before .before .before .before .before .number-of .ensures)))  -- slice-aggregate-rows
     (λ c κs. search needs)  -- rows-requires
     (λ c κs. search needs)  -- run-accepted-requires
     (λ c. search needs)  -- same-length-2

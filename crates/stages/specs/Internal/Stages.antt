@@ -3,7 +3,7 @@ use mathlib.Core.Path.{_≡_}
 use mathlib.Core.Bool.{true, false}
 use mathlib.Core.List.{List, []}
 use mathlib.Core.Option.{Option, none, some}
-use Prim.Native.Nat.{ℕ, _*_}
+use Prim.Native.Nat.{ℕ, _*_, _≤_}
 use lib.ListN.{length, take}
 use Rattle.language.specs.Syntax.{Cmd}
 use Rattle.language.specs.Transition.{iterate}
@@ -15,7 +15,7 @@ use Rattle.sheet.specs.Internal.Tables.{tableOf}
 use Rattle.sheet.specs.Meaning.{worldOf}
 use Rattle.script_text.specs.Counts.{countsOf}
 use Rattle.script_text.specs.Script.{scriptOf}
-use Rattle.script_text.specs.Internal.Decoded.{codeWords}
+use Rattle.script_text.specs.Internal.Decoded.{countsIn, decodedScript}
 use Rattle.script_text.specs.declared.Answer.{Answer}
 use Rattle.script_text.specs.declared.Answer.the-variants.{Read, Refused}
 use Rattle.memory.specs.Memory.{memoryOf, memoryRefusal}
@@ -46,9 +46,10 @@ pub record AcceptedCode (s : Sheet) (script ws : List ℕ) : Type 0 where
   pub typed : untyped s command ≡ 0
   pub lines : ws ≡ code (cmdLines command [])
 
--- r is the script's number; where it is 0, the script has so many lines, and the words hold their code.
+-- r is the script's number, and count and words are what its reader leaves; where r is 0, that is the code of an accepted script.
 pub record NumbersScript (script t : List ℕ) (r count : ℕ) (words : List ℕ) : Type 0 where
-  pub whole : length words ≡ codeWords
+  pub count-is : count ≡ decodedScript (scriptOf (countsIn t) script) .count
+  pub words-are : words ≡ decodedScript (scriptOf (countsIn t) script) .code
   pub numbered : (s : Sheet) → TableOf t s → r ≡ numberOf s script
   pub accepted : (s : Sheet) → TableOf t s → r ≡ 0 → AcceptedCode s script (take (count * 3) words)
 
@@ -56,7 +57,13 @@ pub record NumbersScript (script t : List ℕ) (r count : ℕ) (words : List ℕ
 abbrev pub acceptedRun : Sheet → List ℕ → ℕ → ℕ → Cmd → Ran
 acceptedRun s memory authority budget c = ended (locationCount s) budget memory (iterate (worldOf s authority) budget (memoryOf memory) c)
 
+-- Whatever the table and the code are: the memory is untouched unless the answer is 0, and no more steps are taken than the budget has.
+pub record Spares (memory : List ℕ) (budget : ℕ) (r : Ran) : Type 0 where
+  pub untouched : (r .answer ≡ 0 → ⊥) → r .memory ≡ memory
+  pub within : r .steps ≤ budget
+
 pub record RunsAccepted (ws t memory : List ℕ) (authority budget : ℕ) (r : Ran) : Type 0 where
+  pub spares : Spares memory budget r
   pub ran : (s : Sheet) → TableOf t s → (script : List ℕ) (a : AcceptedCode s script ws) → memoryRefusal s memory ≡ 0
       → r ≡ acceptedRun s memory authority budget (a .command)
 
@@ -64,6 +71,7 @@ pub record ChecksOn (script t : List ℕ) (r : ℕ) : Type 0 where
   pub checked : (s : Sheet) → TableOf t s → r ≡ numberOf s script
 
 pub record RunsOn (script t memory : List ℕ) (authority budget : ℕ) (r : Ran) : Type 0 where
+  pub spares : Spares memory budget r
   pub ran : (s : Sheet) → TableOf t s
       → r ≡ unless (refusedRun memory) (strangers s authority) (
       onScript (refusedRun memory) (scriptOf (countsOf s) script) (λ c.
@@ -72,6 +80,7 @@ pub record RunsOn (script t memory : List ℕ) (authority budget : ℕ) (r : Ran
       acceptedRun s memory authority budget c))))
 
 pub record ViewsOn (t memory : List ℕ) (group : ℕ) (view : List ℕ) (answer : ℕ) (left : List ℕ) : Type 0 where
+  pub untouched : (answer ≡ 0 → ⊥) → left ≡ view
   pub viewed : (s : Sheet) → TableOf t s
       → record { answer = answer; view = left }
       ≡ unless (refusedView view) (strangers s group) (

@@ -4,9 +4,10 @@
  * Link with libsimp.a, which is x86-64 code and calls memcpy and memset, nothing else. The calls keep no state,
  * allocate nothing and read and write only what they are lent. They settle every input: bad input gets one of the
  * numbers below, the first that applies in the order 1 2 3 4 5 6 7 8, then 9 or 10 by the run, and a refused call
- * writes to no lent slice. Each call ends, given up to 137 KB of stack (docs/PERFORMANCE.md); a large budget can take
- * hours, so choose it for the time that you have. docs/TEXTS.md has the forms of sheets, scripts and memories. An
- * answer of 9 or 10, and the steps, may depend on what a group cannot read: don't show them to everyone.
+ * writes to no lent slice. Each call ends, given the stack that SIMP_STACK_CHECK, SIMP_STACK_RUN and SIMP_STACK_VIEW
+ * state; a large budget can take hours, so choose it for the time that you have. docs/TEXTS.md has the forms of
+ * sheets, scripts and memories. An answer of 9 or 10, and the steps, may depend on what a group cannot read: don't
+ * show them to everyone.
  *
  * A slice is a pointer and the number of its elements. A pointer is not null and suitably aligned, also where the
  * number is 0, and no other slice of the call overlaps one that the call may write (a memory of simp_run, a view of
@@ -28,6 +29,12 @@ extern "C" {
 /* The most locations that a sheet has, and the most bytes of a text. A longer text is refused. */
 #define SIMP_MOST_LOCATIONS 64
 #define SIMP_MOST_TEXT 16384
+
+/* The most bytes of stack that a call of this archive takes, its own return address included, for every input: computed
+ * from its code, and held by the project's gate (docs/PERFORMANCE.md). What memcpy and memset take comes on top. */
+#define SIMP_STACK_CHECK 86016
+#define SIMP_STACK_RUN 90112
+#define SIMP_STACK_VIEW 7168
 
 /* Answers. */
 enum {

@@ -1,18 +1,19 @@
--- Labels in a table of words: one that stands there is read back, and one is stored where it fits.
+-- Labels in a table of words: one that stands there is read back, one is stored where it fits, and so is a policy, in place.
 -- Assumes nothing.
 use mathlib.Core.Path.{_≡_, refl, sym, ap, ap₂, _∙_, subst}
 use mathlib.Core.Bool.{true}
+use mathlib.Core.Logic.{_≢_}
 use mathlib.Core.List.{List, _++_, append-assoc}
 use Prim.Native.Nat.{ℕ, _+_, _<_, _≤_}
 use native.Mathlib.Nat.{add-assoc}
 use native.Mathlib.Omega.{arith}
-use lib.ListN.{length, getD, take, drop, length-append, List·getD-append}
-use lib.Seq.{paste, take-paste, drop-paste, take-all, drop-drop, getD-append-add, take-at, drop-at}
+use lib.ListN.{length, getD, set, take, drop, length-append, length-drop, length-set, take-append-drop, List·getD-append}
+use lib.Seq.{paste, take-paste, drop-paste, take-all, drop-drop, getD-append-add, take-at, drop-at, length-take-le, getD-take, getD-drop, getD-set-other, drop-set-add, take-set-lt, take-set-le, drop-set-lt, take-add, set-out}
 use borrow.Author.Tests.{le-leb, lt-leb}
-use Rattle.sets.specs.Sets.{tab}
-use Rattle.sets.proofs.Walks.{tab-ext, tab-getD}
+use Rattle.sets.specs.Sets.{union, single, tab}
+use Rattle.sets.proofs.Walks.{length-tab, tab-ext, tab-getD}
 use Rattle.labels.specs.declared.Label.{Label}
-use Rattle.labels.specs.Labels.{owners, wholeOf}
+use Rattle.labels.specs.Labels.{owners, policyOf, wholeOf}
 use Rattle.labels.specs.Internal.Tables.{labelSize, labelWords, setsAt, labelAt, labelPut}
 use Rattle.labels.proofs.OrderLaws.{label-path, whole-lengths}
 
@@ -21,12 +22,16 @@ unfolding labelWords
 length-words a h = length-append (a .readers) (a .writers) ∙ ap₂ (λ (x y : ℕ). x + y) (whole-lengths a h .0) (whole-lengths a h .1)
 
 -- ---- what stands in the midst of a table is read back
-sets-read : (xs row ys : List ℕ) → length row ≡ owners → setsAt (xs ++ (row ++ ys)) (length xs) ≡ row
+sets-are : (t : List ℕ) (at : ℕ) (row : List ℕ) → length row ≡ owners → ((o : ℕ) → o < owners → getD t (at + o) 0 ≡ getD row o 0) → setsAt t at ≡ row
 unfolding setsAt
-sets-read xs row ys h =
-    tab-ext owners (λ (o : ℕ). getD (xs ++ (row ++ ys)) (length xs + o) 0) (λ (o : ℕ). getD row o 0)
-    (λ o l. getD-append-add xs (row ++ ys) o 0 ∙ List·getD-append row ys 0 o (subst (λ (n : ℕ). o < n) (sym h) l))
+sets-are t at row h e =
+    tab-ext owners (λ (o : ℕ). getD t (at + o) 0) (λ (o : ℕ). getD row o 0) e
     ∙ ap (λ (n : ℕ). tab n (λ (o : ℕ). getD row o 0)) (sym h) ∙ tab-getD row 0
+
+sets-read : (xs row ys : List ℕ) → length row ≡ owners → setsAt (xs ++ (row ++ ys)) (length xs) ≡ row
+sets-read xs row ys h =
+    sets-are (xs ++ (row ++ ys)) (length xs) row h
+    (λ o l. getD-append-add xs (row ++ ys) o 0 ∙ List·getD-append row ys 0 o (subst (λ (n : ℕ). o < n) (sym h) l))
 
 pub label-read : (xs ys : List ℕ) (a : Label) → wholeOf a ≡ true → labelAt (xs ++ labelWords a ++ ys) (length xs) ≡ a
 unfolding labelAt labelWords
@@ -78,3 +83,71 @@ put-rows t at a h l =
     ∙ ap (λ (x : List ℕ). take at t ++ r ++ x ++ drop (at + labelSize) t) (take-all owners w (omega (arith, whole-lengths a h .1)))
     ∙ ap (λ (x : List ℕ). x ++ drop (at + labelSize) t) (append-assoc (take at t) r w)
     ∙ sym (put-fits t at a l)
+
+-- ---- a policy is stored in place
+
+-- one set for each owner, where all their words stand in the table
+sets-there : (t : List ℕ) (at : ℕ) → at + owners ≤ length t → setsAt t at ≡ take owners (drop at t)
+sets-there t at l =
+    sets-are t at (take owners (drop at t)) (length-take-le owners (drop at t) (omega (arith, length-drop at t)))
+    (λ o k. sym (getD-take owners (drop at t) o 0 k ∙ getD-drop at t o 0))
+
+-- after a store in one of these words, and after one elsewhere
+sets-set : (t : List ℕ) (at o v : ℕ) → at + owners ≤ length t → o < owners → setsAt (set t (at + o) v) at ≡ set (setsAt t at) o v
+sets-set t at o v l k =
+    sets-there (set t (at + o) v) at (omega (arith, length-set t (at + o) v))
+    ∙ ap (take owners) (drop-set-add at t o v)
+    ∙ take-set-lt owners (drop at t) o v k
+    ∙ ap (λ (x : List ℕ). set x o v) (sym (sets-there t at l))
+
+sets-apart : (t : List ℕ) (at j v : ℕ) → ((o : ℕ) → o < owners → at + o ≢ j) → setsAt (set t j v) at ≡ setsAt t at
+unfolding setsAt
+sets-apart t at j v h =
+    tab-ext owners (λ (o : ℕ). getD (set t j v) (at + o) 0) (λ (o : ℕ). getD t (at + o) 0) (λ o k. getD-set-other t j (at + o) v 0 (h o k))
+
+-- the label that stands in u, stored in a table that is as u elsewhere, gives u
+put-from : (t u : List ℕ) (at : ℕ) → at + labelSize ≤ length t → length u ≡ length t
+    → take at t ≡ take at u → drop (at + labelSize) t ≡ drop (at + labelSize) u
+    → labelPut t at (labelAt u at) ≡ u
+unfolding labelAt labelWords
+put-from t u at l e front back =
+    let words : setsAt u at ++ setsAt u (at + owners) ≡ take labelSize (drop at u) =
+    ap₂ (λ (x y : List ℕ). x ++ y) (sets-there u at (omega arith))
+    (sets-there u (at + owners) (omega arith) ∙ ap (take owners) (sym (drop-drop owners at u)))
+    ∙ sym (take-add owners owners (drop at u)) in
+    put-fits t at (labelAt u at) l
+    ∙ ap₂ (λ (x y : List ℕ). x ++ labelWords (labelAt u at) ++ y) front back
+    ∙ ap (λ (x : List ℕ). take at u ++ x ++ drop (at + labelSize) u) words
+    ∙ ap (λ (x : List ℕ). x ++ drop (at + labelSize) u) (sym (take-add at labelSize u))
+    ∙ take-append-drop (at + labelSize) u
+
+-- a label with one policy more, stored where it stood
+module _ (t : List ℕ) (at : ℕ) (l : at + labelSize ≤ length t) (o r w : ℕ) where
+  pub put-policy : o < owners
+      → labelPut t at (policyOf (labelAt t at) o r w) ≡ set (set t (at + o) (union r (single o))) (at + owners + o) (union w (single o))
+  unfolding policyOf labelAt
+  put-policy k =
+      let x = union r (single o) in
+      let y = union w (single o) in
+      let first = set t (at + o) x in
+      let both = set first (at + owners + o) y in
+      let same : length first ≡ length t = length-set t (at + o) x in
+      let label : policyOf (labelAt t at) o r w ≡ labelAt both at =
+      label-path (policyOf (labelAt t at) o r w) (labelAt both at)
+      (sym (sets-apart first at (at + owners + o) y (λ i j e. omega arith) ∙ sets-set t at o x (omega arith) k))
+      (sym (sets-set first (at + owners) o y (omega arith) k
+      ∙ ap (λ (row : List ℕ). set row o y) (sets-apart t (at + owners) (at + o) x (λ i j e. omega arith)))) in
+      ap (labelPut t at) label
+      ∙ put-from t both at l (length-set first (at + owners + o) y ∙ same)
+      (sym (take-set-le at first (at + owners + o) y (omega arith) ∙ take-set-le at t (at + o) x (omega arith)))
+      (sym (drop-set-lt (at + labelSize) first (at + owners + o) y (omega arith) ∙ drop-set-lt (at + labelSize) t (at + o) x (omega arith)))
+
+  -- an owner without a place
+  pub put-policy-past : owners ≤ o → labelPut t at (policyOf (labelAt t at) o r w) ≡ t
+  unfolding policyOf labelAt setsAt
+  put-policy-past k =
+      ap (labelPut t at)
+      (label-path (policyOf (labelAt t at) o r w) (labelAt t at)
+      (set-out (setsAt t at) o (union r (single o)) (omega (arith, length-tab owners (λ (i : ℕ). getD t (at + i) 0))))
+      (set-out (setsAt t (at + owners)) o (union w (single o)) (omega (arith, length-tab owners (λ (i : ℕ). getD t (at + owners + i) 0)))))
+      ∙ put-from t t at l refl refl refl

@@ -57,19 +57,6 @@ impl Label {
         }
     }
 
-    // The label with a policy of an owner; unchanged if it has no place for that owner.
-    pub fn with_policy(mut self, owner: usize, readers: Set, writers: Set) -> Label
-        ensures { λ r. ⌜ r ≡ policyOf self owner readers writers ⌝ }
-    {
-        if owner >= OWNERS {
-            return self;
-        }
-        let own = sets::single(owner);
-        self.readers[owner] = sets::union(readers, own);
-        self.writers[owner] = sets::union(writers, own);
-        self
-    }
-
     // Whether this label is at or below the other: its readers contain the other's, and its writers lie within the other's.
     pub fn at_or_below(self, other: Label) -> bool
         ensures { λ r. ⌜ r ≡ belowOf self other ⌝ }
@@ -182,6 +169,25 @@ pub fn put_label(table: &mut [Set], at: usize, label: Label)
     let writers = label.writers;
     put_sets(table, at, readers);
     put_sets(table, at + OWNERS, writers);
+}
+
+// A policy of an owner for the label whose words start at `at`, stored in place; the table is left as it is where the label's words
+// don't fit, or where it has no place for that owner.
+pub fn put_policy(table: &mut [Set], at: usize, owner: usize, readers: Set, writers: Set)
+    ensures { λ _. ⌜ now (table .exit) ≡ labelPut (now (table .entry)) at (policyOf (labelAt (now (table .entry)) at) owner readers writers) ⌝ }
+{
+    if at > table.len() {
+        return;
+    }
+    if table.len() - at < LABEL_SIZE {
+        return;
+    }
+    if owner >= OWNERS {
+        return;
+    }
+    let own = sets::single(owner);
+    table[at + owner] = sets::union(readers, own);
+    table[at + OWNERS + owner] = sets::union(writers, own);
 }
 
 // Whether a group meets each of the first n sets from the word at `at` on: a label's readers, or its writers, without the label.

@@ -3,7 +3,7 @@
 ghost use mathlib.Core.Path.{_≡_};
 ghost use Prim.Native.Nat.{_+_, _*_, _<_, _≤_};
 ghost use Rattle.sheet.specs.Internal.Tables.{tableWords};
-ghost use Rattle.sheet.specs.Internal.Writers.{low, principalsPut, pairPut, sumPut, locationPut, labelSet, openPut, policyPut};
+ghost use Rattle.sheet.specs.Internal.Writers.{low, principalsPut, pairPut, sumPut, locationPut, openPut, policyPut};
 use super::ERROR;
 use super::EVERYONE;
 use super::GIVEN_TYPES;
@@ -77,13 +77,6 @@ pub fn add_location(table: &mut [Word; WORDS], ty: u32, label: u32)
     add_pair(table, LOCATIONS, LOCATION_COUNT, MOST_LOCATIONS, ty, label);
 }
 
-// Label l.
-fn set_label(table: &mut [Word; WORDS], l: u32, label: Label)
-    ensures { λ _. ⌜ now (table .exit) ≡ labelSet l label (now (table .entry)) ⌝ }
-{
-    labels::put_label(table, super::label_place(l), label);
-}
-
 // A label without policies.
 pub fn add_label(table: &mut [Word; WORDS])
     ensures { λ _. ⌜ now (table .exit) ≡ openPut (now (table .entry)) ⌝ }
@@ -93,7 +86,7 @@ pub fn add_label(table: &mut [Word; WORDS])
         return;
     }
     let label = Label::open(super::principals(table) as usize, super::everyone(table));
-    set_label(table, l, label);
+    labels::put_label(table, super::label_place(l), label);
     table[LABEL_COUNT] = low(l + 1);
 }
 
@@ -105,7 +98,11 @@ pub fn add_policy(table: &mut [Word; WORDS], owner: u32, readers: Set, writers: 
     if n == 0 {
         return;
     }
-    let last = n - 1;
-    let label = super::label_of(table, last).with_policy(owner as usize, readers, writers);
-    set_label(table, last, label);
+    labels::put_policy(
+        table,
+        super::label_place(n - 1),
+        owner as usize,
+        readers,
+        writers,
+    );
 }

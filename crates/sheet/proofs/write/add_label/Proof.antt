@@ -12,12 +12,13 @@ returns c = rw (rw (c .before .labels .ensures) at (le-ltb _ _ (c .if1 .taken)))
 returns-2 : tie.Need-returns-2
 unfolding openPut
 returns-2 c =
-    let opened = c .before .before .before in
+    let opened = c .before .before .before .before in
     let here = opened .before .before .before .before .before .before .before in
     rw (
       rw (here .before .labels .ensures) at (lt-ltb _ _ (here .if1 .left)),
       c .low .ensures,
-      c .before .set-label .ensures,
+      c .before .put-label .ensures,
+      c .before .before .label-place .ensures,
       opened .open .ensures,
       opened .before .everyone .ensures,
       opened .before .before .before .before .principals .ensures,
@@ -32,7 +33,8 @@ add-label-spec = tie.close (tie.spec
     (λ c. search needs)  -- cast-open
     (λ c κs. search needs)  -- everyone-requires
     (λ c κs. search needs)  -- open-requires
-    (λ c κs. search needs)  -- set-label-requires
+    (λ c κs. search needs)  -- label-place-requires
+    (λ c κs. search needs)  -- put-label-requires
     (λ c. search needs)  -- add-low
     (λ c κs. search needs)  -- low-requires
     (λ c. search needs)  -- element-write-table

@@ -1,6 +1,11 @@
 -- `sheet::write::add_policy` meets its contract. Assumes nothing.
+use denote.Ref.{now}
+use mathlib.Core.Path.{refl}
+use Prim.Native.Nat.{_-_}
 use borrow.Author.Tests.{le-ltb, lt-ltb}
 use native.Mathlib.Omega.{arith}
+use Rattle.sheet.specs.Internal.Tables.{labelsIn}
+use Rattle.sheet.proofs.Entries.{label-there}
 use Rattle.sheet.specs.Internal.Writers.{policyPut}
 use borrow.Author.Needs.{needs}
 use Rattle.sheet.proofs.write.add_policy.Statement.{statement}
@@ -13,22 +18,22 @@ returns c = rw (rw (c .before .labels .ensures) at (le-ltb 0 (c .before .labels 
 returns-2 : tie.Need-returns-2
 unfolding policyPut
 returns-2 c =
-    let label = c .before .before in
-    let here = label .before .before .before .before in
+    let here = c .before .before .before in
+    let count = here .before .labels in
+    let t = now (here .before .before .before .before .args .table) in
     rw (
-      rw (here .before .labels .ensures) at (lt-ltb 0 (here .before .labels .result) (omega arith)),
-      c .set-label .ensures,
-      label .with-policy .ensures,
-      label .before .label-of .ensures,
-      here .before .labels .ensures,
+      rw (count .ensures) at (lt-ltb 0 (count .result) (omega arith)),
+      c .put-policy .ensures,
+      c .before .label-place .ensures,
+      count .ensures,
+      label-there t (labelsIn t - 1) refl (omega (arith, count .ensures)),
     )
 
 pub add-policy-spec : {M : Type 1} → statement M
 add-policy-spec = tie.close (tie.spec
     (λ c κs. search needs)  -- labels-requires
     returns
-    (λ c. search needs)  -- sub-last
-    (λ c κs. search needs)  -- label-of-requires
-    (λ c κs. search needs)  -- with-policy-requires
-    (λ c κs. search needs)  -- set-label-requires
+    (λ c. search needs)  -- sub-label-place
+    (λ c κs. search needs)  -- label-place-requires
+    (λ c κs. search needs)  -- put-policy-requires
     returns-2)

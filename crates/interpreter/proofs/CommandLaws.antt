@@ -106,6 +106,35 @@ module _ {t : Target} {g : Decided} {ws : List ℕ} {mid : List Line} {seen : Li
   turns-on r z o (is-long s f) k = absurd (omega arith)
   turns-on r z o is-stuck k = finish-wrong
 
+-- where a while ends that stops: past its body, or where its last round ended
+pub data Stops (ws : List ℕ) (at body last : ℕ) : ℕ → Type 0 where
+  past-body : {end : ℕ} → Skips ws body end → Stops ws at body last end
+  at-last : (last ≡ at → ⊥) → Stops ws at body last last
+
+module _ {ws : List ℕ} {at body last : ℕ} where
+  stops-after : {end : ℕ} → Stops ws at body last end → at ≤ body → at ≤ last → at ≤ end
+  stops-after (past-body k) b l = omega (arith, k .forward)
+  stops-after (at-last f) b l = l
+
+  stops-at : (c : Cmd) (rest : List Line) {end : ℕ} → Stops ws at body last end → Source c → ((last ≡ at → ⊥) → drop last ws ≡ code rest)
+      → drop body ws ≡ code (cmdLines c rest) → drop end ws ≡ code rest
+  stops-at c rest (past-body k) s l b = k .means _ _ (a-command s) b
+  stops-at c rest (at-last f) s l b = l f
+
+-- `Execs` of a while in its rounds, the last of which ended at `last`, or none where that is the while's own place
+pub record Rounds (S : Setting) (p : Place) (fuel last : ℕ) (d : Stepped) (cells : List ℕ) : Type 0 where
+  pub forward : p .at ≤ d .next
+  pub spends : d .left ≤ fuel
+  pub means : (C : Context) (M : Mem) (c : Cmd) (rest : List Line) → StandsFor S p C M → CmdAt p (C .counts) rest c
+      → ((last ≡ p .at → ⊥) → drop last (p .code) ≡ code rest) → Finishes (target p C rest) d cells (ran C c M fuel)
+
+module _ {S : Setting} {p : Place} {fuel : ℕ} {d : Stepped} {cells : List ℕ} where
+  pub rounds-first : Rounds S p fuel (p .at) d cells → Execs S p fuel d cells
+  rounds-first x = by-runs (x .forward) (x .spends) (λ C M c rest held here. x .means C M c rest held here (λ f. absurd (f refl)))
+
+  pub rounds-any : {last : ℕ} → Execs S p fuel d cells → Rounds S p fuel last d cells
+  rounds-any x = record { forward = x .forward; spends = x .spends; means = λ C M c rest held here l. runs x C M c rest held here }
+
 -- where a case ends whose branch ends at `next`, for a left and for a right
 pub data Ends (ws : List ℕ) (next : ℕ) : Bool → ℕ → Type 0 where
   past-second : {end : ℕ} → Skips ws next end → Ends ws next true end
@@ -185,19 +214,20 @@ module _ {S : Setting} (p : Place) {C : Context} {M : Mem} (held : StandsFor S p
         round-stops v z = rw (ticked-then (ran C c M (g .left)) (λ M′ b. ran C (while e c) M′ b)) (ends-there (λ M′ b. ran C (while e c) M′ b) (t .next) z round-ends)
 
         round-goes : {r : Stepped} {cells″ : List ℕ} (v : Value) → stateNumber (t .state) ≡ 0 → CmdAt p (C .counts) rest (while e c)
-            → Execs S (moved p (p .at) cells′) (t .left) r cells″ → Finishes (target p C rest) r cells″ (round e c v (g .left))
+            → Rounds S (moved p (p .at) cells′) (t .left) (t .next) r cells″ → Finishes (target p C rest) r cells″ (round e c v (g .left))
         unfolding round
         round-goes v z here u =
             rw (ticked-then (ran C c M (g .left)) (λ M′ b. ran C (while e c) M′ b))
             (goes-on (λ M′ b. ran C (while e c) M′ b) z round-ends
-            (λ M′ held′ q. runs u C M′ (while e c) rest (record { tells = held .tells; labels = held .labels; cells = held′ })
-            (record { source = here .source; names = here .names; lines = here .lines })))
+            (λ M′ held′ q. u .means C M′ (while e c) rest (record { tells = held .tells; labels = held .labels; cells = held′ })
+            (record { source = here .source; names = here .names; lines = here .lines }) (λ f. q)))
 
-    while-stop-case : {rest : List Line} {a b : ℕ} {c : Cmd} {end : ℕ} → CmdRow (p .code) (p .at) rest 4 a b c → named (C .counts) (p .depth) c ≡ true
-        → g .on ≡ false → Skips (p .code) (g .next) end → Finishes (target p C rest) (record { state = g .state; left = g .left; next = end }) cells (ran C c M fuel)
-    while-stop-case {rest} {end = end} (at-while {e = e} {c = c} s r h) n z k =
+    while-stop-case : {rest : List Line} {a b : ℕ} {c : Cmd} {last end : ℕ} → CmdRow (p .code) (p .at) rest 4 a b c → named (C .counts) (p .depth) c ≡ true
+        → g .on ≡ false → Stops (p .code) (p .at) (g .next) last end → ((last ≡ p .at → ⊥) → drop last (p .code) ≡ code rest)
+        → Finishes (target p C rest) (record { state = g .state; left = g .left; next = end }) cells (ran C c M fuel)
+    while-stop-case {rest} {end = end} (at-while {e = e} {c = c} s r h) n z k l =
         rw (while-is e c)
-        (stops (round e c) end z (guard-chooses e c rest s r n h) (holds-kept (held .cells) cells (y .kept)) (λ b. k .means _ _ (a-command r) b))
+        (stops (round e c) end z (guard-chooses e c rest s r n h) (holds-kept (held .cells) cells (y .kept)) (stops-at c rest k r l))
 
     module _ {d t : Stepped} {cells′ : List ℕ} (o : g .on ≡ true) (x : Execs S (moved p (g .next) cells) (g .left) d cells′) (y′ : Ticks d t) where
       while-end-case : {rest : List Line} {a b : ℕ} {c : Cmd} → CmdRow (p .code) (p .at) rest 4 a b c → named (C .counts) (p .depth) c ≡ true
@@ -207,7 +237,7 @@ module _ {S : Setting} (p : Place) {C : Context} {M : Mem} (held : StandsFor S p
           (turns-on (round e c) (λ v b. done M b) (y .settled o) o (guard-chooses e c rest s r n h) (λ v b. round-stops e c rest s r n h x y′ b v z))
 
       while-again-case : {rest : List Line} {a b : ℕ} {c : Cmd} {u : Stepped} {cells″ : List ℕ} → CmdRow (p .code) (p .at) rest 4 a b c
-          → CmdAt p (C .counts) rest c → stateNumber (t .state) ≡ 0 → Execs S (moved p (p .at) cells′) (t .left) u cells″
+          → CmdAt p (C .counts) rest c → stateNumber (t .state) ≡ 0 → Rounds S (moved p (p .at) cells′) (t .left) (t .next) u cells″
           → Finishes (target p C rest) u cells″ (ran C c M fuel)
       while-again-case {rest} (at-while {e = e} {c = c} s r h) here z w =
           rw (while-is e c)
@@ -306,10 +336,14 @@ module _ {S : Setting} {p : Place} {fuel : ℕ} {row : Row} (r : row ≡ rowAt (
       by-runs (omega (arith, y .forward)) (y .spends) (λ C M c rest held here. assign-case p held (cmd-row-of 3 r q here) (here .names) y)
 
   module _ {g : Decided} {cells : List ℕ} (q : row .kind ≡ 4) (y : Decides S (operand p) fuel g cells) where
-    pub while-stop : {end : ℕ} → g .on ≡ false → Skips (p .code) (g .next) end → Execs S p fuel (record { state = g .state; left = g .left; next = end }) cells
-    while-stop z k =
-        by-runs (omega (arith, y .forward, k .forward)) (y .spends)
-        (λ C M c rest held here. while-stop-case p held y (cmd-row-of 4 r q here) (here .names) z k)
+    pub while-stop : {last end : ℕ} → g .on ≡ false → Stops (p .code) (p .at) (g .next) last end → p .at ≤ last
+        → Rounds S p fuel last (record { state = g .state; left = g .left; next = end }) cells
+    while-stop z k l =
+        record {
+          forward = stops-after k (omega (arith, y .forward)) l;
+          spends = y .spends;
+          means = λ C M c rest held here. while-stop-case p held y (cmd-row-of 4 r q here) (here .names) z k;
+        }
 
     module _ {d t : Stepped} {cells′ : List ℕ} (o : g .on ≡ true) (x : Execs S (moved p (g .next) cells) (g .left) d cells′) (y′ : Ticks d t) where
       pub while-end : (stateNumber (t .state) ≡ 0 → ⊥) → Execs S p fuel t cells′
@@ -317,7 +351,8 @@ module _ {S : Setting} {p : Place} {fuel : ℕ} {row : Row} (r : row ≡ rowAt (
           by-runs (omega (arith, y .forward, x .forward, y′ .same-place)) (omega (arith, y .spends, x .spends, y′ .spends))
           (λ C M c rest held here. while-end-case p held y o x y′ (cmd-row-of 4 r q here) (here .names) z)
 
-      pub while-again : {u : Stepped} {cells″ : List ℕ} → stateNumber (t .state) ≡ 0 → Execs S (moved p (p .at) cells′) (t .left) u cells″ → Execs S p fuel u cells″
+      pub while-again : {u : Stepped} {cells″ : List ℕ} → stateNumber (t .state) ≡ 0 → Rounds S (moved p (p .at) cells′) (t .left) (t .next) u cells″
+          → Execs S p fuel u cells″
       while-again z u =
           by-runs (u .forward) (omega (arith, y .spends, x .spends, y′ .spends, u .spends))
           (λ C M c rest held here. while-again-case p held y o x y′ (cmd-row-of 4 r q here) here z u)

@@ -243,15 +243,18 @@ pub(crate) fn exec(
         script::ASSIGN => assign(code, at + ROW, table, powers, depth, work, fuel, row.a),
         script::WHILE => {
             let mut left = fuel;
+            // where the last round ended; `at` before the first
+            let mut end = at;
             loop {
                 let g = decide(code, at + ROW, table, powers, depth, work, left);
                 let body = g.next;
                 if !g.on {
                     let state = g.state;
+                    let next = if end == at { skip(code, body) } else { end };
                     return Stepped {
                         state,
                         left: g.left,
-                        next: skip(code, body),
+                        next,
                     };
                 }
                 let d = exec(code, body, table, powers, depth, work, g.left);
@@ -261,6 +264,7 @@ pub(crate) fn exec(
                     return t;
                 };
                 left = t.left;
+                end = t.next;
             }
         }
         script::CASE => {

@@ -1,7 +1,8 @@
 /*
  * SImp scripts on a sheet: checking, running, viewing.
  *
- * Link with libsimp.a, which is x86-64 code and calls memcpy and memset, nothing else. The calls keep no state,
+ * Link with libsimp.a, which is x86-64 code (System V ABI: a stack aligned to 16 bytes, SSE2 enabled, the red zone in
+ * use, so run interrupt handlers on another stack) and calls memcpy and memset, nothing else. The calls keep no state,
  * allocate nothing and read and write only what they are lent. They settle every input: bad input gets one of the
  * numbers below, the first that applies in the order 1 2 3 4 5 6 7 8, then 9 or 10 by the run, and a refused call
  * writes to no lent slice. Each call ends, given the stack that SIMP_STACK_CHECK, SIMP_STACK_RUN and SIMP_STACK_VIEW
@@ -30,8 +31,9 @@ extern "C" {
 #define SIMP_MOST_LOCATIONS 64
 #define SIMP_MOST_TEXT 16384
 
-/* The most bytes of stack that a call of this archive takes, its own return address included, for every input: computed
- * from its code, and held by the project's gate (docs/PERFORMANCE.md). What memcpy and memset take comes on top. */
+/* The most bytes of stack that a call of this archive takes, its return address included, for every input: no less than
+ * what is computed from its code, as the project's gate holds (docs/PERFORMANCE.md). Not in it are the 16 bytes of
+ * simp_run's arguments on the stack; memcpy and memset are called where most of it is free (3.5 KB in a view). */
 #define SIMP_STACK_CHECK 86016
 #define SIMP_STACK_RUN 90112
 #define SIMP_STACK_VIEW 7168

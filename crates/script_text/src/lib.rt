@@ -377,8 +377,8 @@ pub fn rows(code: &[u32], count: usize) -> &[u32]
     &code[..end]
 }
 
-// Whether the lines are as many as their kinds ask for: one tree, with all its operands. Whatever the kinds are, calls over the lines then
-// nest no deeper than over a script's: the lines have one operand less than they are (crate script, Balance).
+// Whether the operand counts of all lines sum to the number of lines minus one, and no sooner: one tree, with all its operands. Whatever
+// the kinds are, calls over the lines then nest no deeper than over a script's (crate script, Balance).
 fn balanced(code: &[u32]) -> bool
     ensures { λ r. ⌜ Balanced (now (code .entry)) r ⌝ }
 {

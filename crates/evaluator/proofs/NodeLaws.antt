@@ -20,6 +20,7 @@ use Rattle.memory.specs.Memory.{cellOf}
 use Rattle.memory.proofs.WordLaws.{length-cell, enc-append, value-enc, end-enc}
 use Rattle.cells.specs.Internal.Cells.{accumulator, loadOf, storeOf, pushOf, popOf}
 use Rattle.script.specs.declared.Row.{Row}
+use Rattle.script.proofs.Rows.{NoneOf, none-between}
 use Rattle.evaluator.specs.Internal.Records.{Setting, Result, endState, reached}
 use Rattle.evaluator.specs.Internal.Nodes.{Yields, Gives, Turns, Applies, errorOf, errorIn, Tells, Sums, Tagged, Packs, Unpacks, Applied}
 use Rattle.cells.proofs.CellLaws.{there, load-there, length-load, length-push, length-pop, cell-stored, rest-kept}
@@ -346,6 +347,13 @@ module _ {S : Setting} {row : Row} {v r : Result} where
   applied-unpack k y =
       record { plus = λ q. absurd (omega arith); left = λ q. absurd (omega arith); right = λ q. absurd (omega arith); pack = λ q. absurd (omega arith); unpack = λ q. y }
 
-  pub applied-none : (row .kind ≡ 9 → ⊥) → (row .kind ≡ 10 → ⊥) → (row .kind ≡ 11 → ⊥) → (row .kind ≡ 12 → ⊥) → (row .kind ≡ 13 → ⊥) → Applied S row v r
-  applied-none n9 n10 n11 n12 n13 =
-      record { plus = λ q. absurd (n9 q); left = λ q. absurd (n10 q); right = λ q. absurd (n11 q); pack = λ q. absurd (n12 q); unpack = λ q. absurd (n13 q) }
+  pub applied-none : NoneOf (row .kind) 9 5 → Applied S row v r
+  applied-none f =
+      let other : 9 ≤ row .kind → row .kind < 14 → ⊥ = none-between 9 5 f in
+      record {
+        plus = λ q. absurd (other (omega arith) (omega arith));
+        left = λ q. absurd (other (omega arith) (omega arith));
+        right = λ q. absurd (other (omega arith) (omega arith));
+        pack = λ q. absurd (other (omega arith) (omega arith));
+        unpack = λ q. absurd (other (omega arith) (omega arith));
+      }

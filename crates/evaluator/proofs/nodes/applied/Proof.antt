@@ -16,4 +16,4 @@ applied-spec = tie.close (tie.spec
     (λ c. laws.applied-right (c .before .before .match .keys3) (c .tagged2 .ensures))  -- returns-3
     (λ c. laws.applied-pack (c .before .before .match .keys4) (c .pack .ensures))  -- returns-4
     (λ c. laws.applied-unpack (c .before .before .match .keys5) (c .unpack .ensures))  -- returns-5
-    (λ c. laws.applied-none (c .match .rest .0 .0 .0 .0 .1) (c .match .rest .0 .0 .0 .1) (c .match .rest .0 .0 .1) (c .match .rest .0 .1) (c .match .rest .1)))  -- returns-6
+    (λ c. laws.applied-none (c .match .rest)))  -- returns-6

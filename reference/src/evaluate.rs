@@ -1,0 +1,81 @@
+//! Evaluation of expressions, after figure 2.
+
+use crate::memory::Memory;
+use crate::principals::Principals;
+use crate::script::{Expression, Term};
+use crate::sheet::{LabelId, Sheet};
+use crate::types::TypeId;
+use crate::value::{Error, Value, MOST_WORDS};
+
+/// What stays the same during a run.
+pub struct Context<'a> {
+    pub sheet: &'a Sheet,
+    pub authority: Principals,
+}
+
+/// The expression, or a part of one, in this line has a value of more than 16 words: so many.
+#[derive(Clone, Copy, Debug, PartialEq, Eq)]
+pub struct ValueTooLong {
+    pub line: usize,
+    pub words: usize,
+}
+
+/// The value of a well-typed expression whose bound values have been put in.
+pub fn evaluate(context: &Context, memory: &Memory, e: &Expression) -> Result<Value, ValueTooLong> {
+    let value = match &e.term {
+        Term::Integer(n) => Value::Integer(*n),
+        Term::Location(location) => memory[*location].clone(),
+        Term::Value(value) => value.clone(),
+        Term::Plus(e1, e2) => plus(evaluate(context, memory, e1)?, evaluate(context, memory, e2)?),
+        Term::Left(_, e) => Value::Left(Box::new(evaluate(context, memory, e)?)),
+        Term::Right(_, e) => Value::Right(Box::new(evaluate(context, memory, e)?)),
+        Term::Pack(label, e) => pack(context, *label, evaluate(context, memory, e)?),
+        Term::Unpack(ty, label, e) => unpack(context, *ty, *label, evaluate(context, memory, e)?),
+        Term::Bound(_) => unreachable!("bound values have been put in"),
+    };
+    let words = value.length();
+    if words <= MOST_WORDS {
+        Ok(value)
+    } else {
+        Err(ValueTooLong { line: e.line, words })
+    }
+}
+
+/// EE-PLUS, modulo 2^32.
+fn plus(v1: Value, v2: Value) -> Value {
+    match (v1, v2) {
+        (Value::Integer(n1), Value::Integer(n2)) => Value::Integer(n1.wrapping_add(n2)),
+        _ => unreachable!("operands of a sum are integers"),
+    }
+}
+
+fn failed(error: Error) -> Value {
+    Value::Right(Box::new(Value::Error(error)))
+}
+
+/// EE-PACK-OK and EE-PACK-FAIL.
+fn pack(context: &Context, label: LabelId, content: Value) -> Value {
+    if context.sheet.labels[label].written_by(context.authority) {
+        Value::Left(Box::new(Value::Package(label, Box::new(content))))
+    } else {
+        failed(Error::InsufficientAuth)
+    }
+}
+
+/// EE-UNPACK-OK and the three ways to fail, in their order.
+fn unpack(context: &Context, ty: TypeId, label: LabelId, package: Value) -> Value {
+    let Value::Package(package_label, content) = package else {
+        unreachable!("the operand of an unpack is a package");
+    };
+    let labels = &context.sheet.labels;
+    let (wanted, _) = context.sheet.parts(ty).expect("the type of an unpack is a sum");
+    if !labels[label].read_by(context.authority) {
+        failed(Error::InsufficientAuth)
+    } else if !labels[package_label].at_or_below(&labels[label]) {
+        failed(Error::IllegalFlow)
+    } else if !content.has_type(context.sheet, wanted) {
+        failed(Error::TypeMismatch)
+    } else {
+        Value::Left(content)
+    }
+}

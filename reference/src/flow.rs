@@ -1,0 +1,209 @@
+//! The label conditions, by the least label of each expression, after "Typing".
+
+use crate::label::Label;
+use crate::script::{Command, Expression, Phrase, Term};
+use crate::sheet::{LabelId, LocationId, Sheet};
+
+/// Why a label condition fails: the line, what the flow goes into, and a part of what flows there
+/// whose label isn't at or below the one that is asked.
+#[derive(Clone, Debug, PartialEq, Eq)]
+pub struct NoFlow {
+    pub line: usize,
+    pub into: Into,
+    pub source: Source,
+    pub through: Through,
+}
+
+/// What a flow goes into.
+#[derive(Clone, Copy, Debug, PartialEq, Eq)]
+pub enum Into {
+    /// A location.
+    Location(LocationId),
+    /// A package of this label.
+    Package(LabelId),
+    /// What is opened as this label, whose readers alone count.
+    Opened(LabelId),
+}
+
+/// How what flows gets there.
+#[derive(Clone, Copy, Debug, PartialEq, Eq)]
+pub enum Through {
+    /// As the value.
+    Value,
+    /// The `w` or `c` in this line decides whether the line is reached.
+    Guard(usize),
+}
+
+/// A part of an expression that has a label of its own: the least label of the whole is the join of
+/// its sources' labels. An integer's is bottom, which every label is above.
+#[derive(Clone, Debug, PartialEq, Eq)]
+pub struct Source {
+    pub line: usize,
+    pub origin: Origin,
+    pub label: Label,
+    /// The line of the `c` that bound the value, if it comes by a binding: the innermost.
+    pub bound_in: Option<usize>,
+}
+
+#[derive(Clone, Copy, Debug, PartialEq, Eq)]
+pub enum Origin {
+    Location(LocationId),
+    Packed(LabelId),
+    Opened(LabelId),
+}
+
+/// The least label of an expression, and where it comes from.
+#[derive(Clone, Debug)]
+struct Least {
+    label: Label,
+    sources: Vec<Source>,
+}
+
+impl Least {
+    fn bottom(sheet: &Sheet) -> Least {
+        Least { label: Label::bottom(sheet.principals), sources: Vec::new() }
+    }
+
+    fn of(line: usize, origin: Origin, label: Label) -> Least {
+        let source = Source { line, origin, label: label.clone(), bound_in: None };
+        Least { label, sources: vec![source] }
+    }
+
+    fn join(mut self, other: Least) -> Least {
+        self.sources.extend(other.sources);
+        Least { label: self.label.join(&other.label), sources: self.sources }
+    }
+
+    /// The same as the value that the `c` in this line binds.
+    fn bound_in(mut self, line: usize) -> Least {
+        self.sources.iter_mut().for_each(|source| source.bound_in = Some(line));
+        self
+    }
+
+    /// A source whose label fails the condition that the join fails.
+    fn culprit(&self, passes: impl Fn(&Label) -> bool) -> Source {
+        let culprit = self.sources.iter().find(|source| !passes(&source.label));
+        culprit.expect("a join is at or below a label if all that is joined is").clone()
+    }
+}
+
+/// What surrounds a command: the labels of the guards that it stands in, each with its line.
+#[derive(Clone)]
+struct Surrounding {
+    label: Label,
+    guards: Vec<(usize, Least)>,
+}
+
+impl Surrounding {
+    fn within(&self, line: usize, guard: &Least) -> Surrounding {
+        let mut guards = self.guards.clone();
+        guards.push((line, guard.clone()));
+        Surrounding { label: self.label.join(&guard.label), guards }
+    }
+}
+
+/// Whether the least labels of a script pass.
+pub fn check(sheet: &Sheet, script: &Command) -> Result<(), NoFlow> {
+    let surrounding = Surrounding { label: Label::bottom(sheet.principals), guards: Vec::new() };
+    command(sheet, &mut Vec::new(), &surrounding, script)
+}
+
+/// `bound` holds the labels of the bound values, the innermost last.
+fn command(
+    sheet: &Sheet,
+    bound: &mut Vec<Least>,
+    surrounding: &Surrounding,
+    c: &Command,
+) -> Result<(), NoFlow> {
+    match &c.phrase {
+        Phrase::Skip => Ok(()),
+        Phrase::Seq(first, second) => {
+            command(sheet, bound, surrounding, first)?;
+            command(sheet, bound, surrounding, second)
+        }
+        Phrase::Assign(location, e) => {
+            let least = expression(sheet, bound, e)?;
+            assign(sheet, surrounding, c.line, *location, &least)
+        }
+        Phrase::While(guard, body) => {
+            let least = expression(sheet, bound, guard)?;
+            command(sheet, bound, &surrounding.within(c.line, &least), body)
+        }
+        Phrase::Case(e, on_left, on_right) => {
+            let least = expression(sheet, bound, e)?;
+            let inside = surrounding.within(c.line, &least);
+            bound.push(least.bound_in(c.line));
+            let both = command(sheet, bound, &inside, on_left)
+                .and_then(|()| command(sheet, bound, &inside, on_right));
+            bound.pop();
+            both
+        }
+    }
+}
+
+/// The expression and the surrounding label are both at or below the location's.
+fn assign(
+    sheet: &Sheet,
+    surrounding: &Surrounding,
+    line: usize,
+    location: LocationId,
+    least: &Least,
+) -> Result<(), NoFlow> {
+    let passes = |label: &Label| label.at_or_below(sheet.label_at(location));
+    let into = Into::Location(location);
+    if !passes(&least.label) {
+        let source = least.culprit(passes);
+        return Err(NoFlow { line, into, source, through: Through::Value });
+    }
+    if passes(&surrounding.label) {
+        return Ok(());
+    }
+    let guard = surrounding.guards.iter().find(|(_, guard)| !passes(&guard.label));
+    let (guard_line, guard) = guard.expect("the surrounding label is the join of the guards'");
+    let source = guard.culprit(passes);
+    Err(NoFlow { line, into, source, through: Through::Guard(*guard_line) })
+}
+
+/// The least label of an expression.
+fn expression(sheet: &Sheet, bound: &[Least], e: &Expression) -> Result<Least, NoFlow> {
+    match &e.term {
+        Term::Integer(_) => Ok(Least::bottom(sheet)),
+        Term::Location(location) => {
+            let label = sheet.label_at(*location).clone();
+            Ok(Least::of(e.line, Origin::Location(*location), label))
+        }
+        Term::Bound(d) => Ok(bound[bound.len() - 1 - d].clone()),
+        Term::Plus(e1, e2) => {
+            let least = expression(sheet, bound, e1)?;
+            Ok(least.join(expression(sheet, bound, e2)?))
+        }
+        Term::Left(_, e) | Term::Right(_, e) => expression(sheet, bound, e),
+        Term::Pack(label, operand) => {
+            let packed = &sheet.labels[*label];
+            let least = expression(sheet, bound, operand)?;
+            require(e.line, Into::Package(*label), &least, |label| label.at_or_below(packed))?;
+            Ok(Least::of(e.line, Origin::Packed(*label), packed.integrity()))
+        }
+        Term::Unpack(_, label, operand) => {
+            let wanted = &sheet.labels[*label];
+            let least = expression(sheet, bound, operand)?;
+            let passes =
+                |label: &Label| label.confidentiality().at_or_below(&wanted.confidentiality());
+            require(e.line, Into::Opened(*label), &least, passes)?;
+            Ok(Least::of(e.line, Origin::Opened(*label), wanted.clone()))
+        }
+        Term::Value(_) => unreachable!("no script has a value"),
+    }
+}
+
+fn require(
+    line: usize,
+    into: Into,
+    least: &Least,
+    passes: impl Fn(&Label) -> bool,
+) -> Result<(), NoFlow> {
+    if passes(&least.label) {
+        return Ok(());
+    }
+    Err(NoFlow { line, into, source: least.culprit(passes), through: Through::Value })
+}

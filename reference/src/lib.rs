@@ -1,0 +1,28 @@
+//! A second implementation of SImp, written from the scope and the paper alone.
+//!
+//! Values, types, expressions and commands are trees, labels are tables of truth values, and a run
+//! is a sequence of the transitions of figure 3. Nothing here is made for speed.
+
+pub mod answer;
+pub mod calls;
+pub mod evaluate;
+pub mod flow;
+pub mod label;
+pub mod machine;
+pub mod memory;
+pub mod memory_text;
+pub mod principals;
+pub mod reason;
+pub mod script;
+pub mod script_text;
+pub mod shape;
+pub mod sheet;
+pub mod sheet_text;
+pub mod text;
+pub mod types;
+pub mod value;
+pub mod view;
+
+pub use answer::{Outcome, Refusal, DONE};
+pub use calls::{check, run, try_check, try_run, try_view, view};
+pub use reason::Reason;

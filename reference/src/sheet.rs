@@ -1,0 +1,61 @@
+//! What a sheet says.
+
+use crate::label::Label;
+use crate::types::{Type, TypeId};
+
+pub type LabelId = usize;
+pub type LocationId = usize;
+
+/// The declared type and label of a location.
+#[derive(Clone, Copy, Debug, PartialEq, Eq)]
+pub struct Location {
+    pub ty: TypeId,
+    pub label: LabelId,
+}
+
+#[derive(Clone, Debug, PartialEq, Eq)]
+pub struct Sheet {
+    /// The number n of principals.
+    pub principals: usize,
+    /// The given types, then those made by `T`.
+    pub types: Vec<Type>,
+    pub labels: Vec<Label>,
+    pub locations: Vec<Location>,
+}
+
+impl Sheet {
+    /// The label of a location.
+    pub fn label_at(&self, location: LocationId) -> &Label {
+        &self.labels[self.locations[location].label]
+    }
+
+    /// The two parts of a sum, or nothing for another type.
+    pub fn parts(&self, ty: TypeId) -> Option<(TypeId, TypeId)> {
+        match self.types[ty] {
+            Type::Sum(left, right) => Some((left, right)),
+            _ => None,
+        }
+    }
+
+    /// Two types with the same parts, else two labels with the same effective sets.
+    pub fn repeat(&self) -> Option<Repeat> {
+        let types = equal_pair(&self.types).map(|(first, again)| Repeat::Type { first, again });
+        let labels = || equal_pair(&self.labels);
+        types.or_else(|| labels().map(|(first, again)| Repeat::Label { first, again }))
+    }
+}
+
+/// What a sheet has twice.
+#[derive(Clone, Copy, Debug, PartialEq, Eq)]
+pub enum Repeat {
+    Type { first: TypeId, again: TypeId },
+    Label { first: LabelId, again: LabelId },
+}
+
+/// The first of the things that an earlier one equals, after that one.
+fn equal_pair<T: PartialEq>(things: &[T]) -> Option<(usize, usize)> {
+    (0..things.len()).find_map(|again| {
+        let first = things[..again].iter().position(|thing| *thing == things[again])?;
+        Some((first, again))
+    })
+}

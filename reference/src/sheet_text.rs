@@ -1,0 +1,149 @@
+//! The reader of a sheet.
+
+use crate::label::{Label, Policy};
+use crate::principals;
+use crate::sheet::{LabelId, Location, Sheet};
+use crate::text::{fields, lines, name, number, set, Cause, Counted, Expected, Fault, Thing};
+use crate::types::{given, Type, TypeId};
+
+/// The most lines of each kind.
+const MOST_SUMS: usize = 27;
+const MOST_LABELS: usize = 32;
+pub const MOST_LOCATIONS: usize = 64;
+
+type Line<'a> = Vec<&'a [u8]>;
+
+/// The lines not yet read.
+struct Rest<'a> {
+    lines: Vec<Line<'a>>,
+    read: usize,
+}
+
+impl<'a> Rest<'a> {
+    /// Reads the next line if its first field is `kind`, and gives its `count` other fields.
+    fn take<const COUNT: usize>(
+        &mut self,
+        kind: &[u8],
+    ) -> Result<Option<[&'a [u8]; COUNT]>, Cause> {
+        let Some(line) = self.lines.get(self.read).filter(|line| line[0] == kind) else {
+            return Ok(None);
+        };
+        self.read += 1;
+        let found = line.len() - 1;
+        let other = |_| Cause::FieldCount { kind: kind.to_vec(), wanted: COUNT, found };
+        line[1..].try_into().map(Some).map_err(other)
+    }
+
+    /// That a line of one of the expected kinds should stand next.
+    fn expected(&mut self, kinds: &'static [&'static str]) -> Cause {
+        let next = self.lines.get(self.read).map(|line| line[0].to_vec());
+        self.read += 1;
+        match next {
+            None => Cause::NoLines,
+            Some(found) => Cause::LineKind { found, expected: Expected::Sheet(kinds) },
+        }
+    }
+}
+
+/// A sheet is one `P`, then `T` lines, labels and `X` lines, in this order.
+pub fn parse(text: &[u8]) -> Result<Sheet, Fault> {
+    let lines = lines(text)?.into_iter().map(fields).collect();
+    let mut rest = Rest { lines, read: 0 };
+    // the line read last is the one at fault
+    parse_lines(&mut rest).map_err(|cause| cause.at(rest.read))
+}
+
+fn parse_lines(rest: &mut Rest) -> Result<Sheet, Cause> {
+    let principals = parse_principals(rest)?;
+    let types = parse_types(rest)?;
+    let labels = parse_labels(rest, principals)?;
+    let locations = parse_locations(rest, types.len(), labels.len())?;
+    if rest.read == rest.lines.len() {
+        return Ok(Sheet { principals, types, labels, locations });
+    }
+    Err(rest.expected(match (labels.is_empty(), locations.is_empty()) {
+        (_, false) => &["X"],
+        (false, true) => &["O", "L", "X"],
+        (true, true) => &["T", "L", "X"],
+    }))
+}
+
+fn parse_principals(rest: &mut Rest) -> Result<usize, Cause> {
+    let Some([count]) = rest.take(b"P")? else {
+        return Err(rest.expected(&["P"]));
+    };
+    let count = number(count)? as usize;
+    if (1..=principals::MOST).contains(&count) {
+        Ok(count)
+    } else {
+        Err(Cause::PrincipalCount(count))
+    }
+}
+
+/// `T` makes the sum of two earlier types.
+fn parse_types(rest: &mut Rest) -> Result<Vec<Type>, Cause> {
+    let mut types = given();
+    let given = types.len();
+    while let Some([left, right]) = rest.take(b"T")? {
+        let left = name(left, types.len(), Thing::EarlierType)?;
+        let right = name(right, types.len(), Thing::EarlierType)?;
+        types.push(Type::Sum(left, right));
+        within(types.len() - given, Counted::SumLines, MOST_SUMS)?;
+    }
+    Ok(types)
+}
+
+fn parse_labels(rest: &mut Rest, n: usize) -> Result<Vec<Label>, Cause> {
+    let mut labels = Vec::new();
+    while let Some([]) = rest.take(b"L")? {
+        within(labels.len() + 1, Counted::Labels, MOST_LABELS)?;
+        let policies = parse_policies(rest, n)?;
+        labels.push(Label::of_policies(n, &policies));
+    }
+    Ok(labels)
+}
+
+/// Owners rise, so there are at most n policies.
+fn parse_policies(rest: &mut Rest, n: usize) -> Result<Vec<Policy>, Cause> {
+    let mut policies: Vec<Policy> = Vec::new();
+    while let Some([owner, readers, writers]) = rest.take(b"O")? {
+        let owner = name(owner, n, Thing::Principal)?;
+        if let Some(last) = policies.last().filter(|last| last.owner >= owner) {
+            return Err(Cause::OwnerOrder { owner, before: last.owner });
+        }
+        policies.push(Policy { owner, readers: set(readers, n)?, writers: set(writers, n)? });
+    }
+    Ok(policies)
+}
+
+fn parse_locations(rest: &mut Rest, types: usize, labels: usize) -> Result<Vec<Location>, Cause> {
+    let mut locations = Vec::new();
+    while let Some([ty, label]) = rest.take(b"X")? {
+        let ty = name(ty, types, Thing::Type)?;
+        let label = name(label, labels, Thing::Label)?;
+        locations.push(Location { ty, label });
+        within(locations.len(), Counted::Locations, MOST_LOCATIONS)?;
+    }
+    Ok(locations)
+}
+
+fn within(count: usize, what: Counted, most: usize) -> Result<(), Cause> {
+    if count <= most {
+        Ok(())
+    } else {
+        Err(Cause::TooMany { what, most })
+    }
+}
+
+/// The line of a type that `T` makes.
+pub fn line_of_type(ty: TypeId) -> usize {
+    2 + ty - given().len()
+}
+
+/// The line that a label of a sheet starts with.
+pub fn line_of_label(text: &[u8], label: LabelId) -> usize {
+    let lines = text.split(|&byte| byte == b'\n').enumerate();
+    let labels = lines.filter(|(_, line)| *line == b"L");
+    let (before, _) = labels.skip(label).next().expect("the label is on the sheet");
+    before + 1
+}

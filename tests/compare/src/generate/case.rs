@@ -1,0 +1,147 @@
+//! Whole calls: a sheet, a script, a memory and the other arguments.
+
+use super::prng::Prng;
+use super::script::Wrong;
+use super::{damage, memory, script, sheet};
+use reference::sheet::Sheet;
+use reference::sheet_text;
+
+/// The arguments of a check, a run and a view.
+#[derive(Clone, Debug)]
+pub struct Case {
+    pub sheet: Vec<u8>,
+    pub script: Vec<u8>,
+    pub memory: Vec<u32>,
+    pub authority: u16,
+    pub budget: u32,
+    pub group: u16,
+    pub view_length: usize,
+}
+
+/// The case of a seed: nothing in it is damaged in about half of the seeds.
+pub fn case(seed: u64) -> Case {
+    let prng = &mut Prng::new(seed);
+    let wrong = match prng.below(12) {
+        0 => Wrong::Types,
+        1..=3 => Wrong::Labels,
+        _ => Wrong::Nothing,
+    };
+    let (mut case, sheet) = undamaged(prng, wrong);
+    if prng.chance(35) {
+        damage_some(prng, &mut case, sheet.principals);
+    }
+    case.budget = budget(prng, &case.script);
+    case
+}
+
+/// A case in which nothing is damaged: the texts are of their form, the memory is well-formed where
+/// every location's type has a value of 16 words, and the script is accepted but for what is `wrong`.
+pub fn undamaged(prng: &mut Prng, wrong: Wrong) -> (Case, Sheet) {
+    let text = sheet::plan(prng).text().into_bytes();
+    let sheet = sheet_text::parse(&text).expect("a sheet without damage is of the form");
+    let size = match prng.below(40) {
+        0 => prng.between(200, 400),
+        1..=5 => prng.between(40, 100),
+        _ => prng.between(1, 40),
+    };
+    let mut lines = script::lines(prng, &sheet, size, wrong);
+    match prng.below(50) {
+        0 => lengthen(prng, &mut lines),
+        1 => nest(prng, &mut lines),
+        _ => (),
+    }
+    let script = script::text(&lines);
+    let memory = memory::memory(prng, &sheet);
+    let case = Case {
+        view_length: memory.len(),
+        sheet: text,
+        budget: budget(prng, &script),
+        script,
+        memory,
+        authority: group(prng, sheet.principals),
+        group: group(prng, sheet.principals),
+    };
+    (case, sheet)
+}
+
+/// Puts `;` and `s` around a script until it has 511 to 514 lines.
+fn lengthen(prng: &mut Prng, lines: &mut Vec<String>) {
+    let least = prng.between(510, 513);
+    let pairs = least.saturating_sub(lines.len()).div_ceil(2);
+    lines.splice(0..0, vec![";".to_string(); pairs]);
+    lines.extend(vec!["s".to_string(); pairs]);
+}
+
+/// Puts cases around a script, 9 at most.
+fn nest(prng: &mut Prng, lines: &mut Vec<String>) {
+    let most = 9usize.saturating_sub(lines.iter().filter(|line| *line == "c").count());
+    for _ in 0..prng.between(most.min(5), most) {
+        lines.splice(0..0, ["c", "l\t3", "i\t7"].map(String::from));
+        lines.push("s".to_string());
+    }
+}
+
+/// A group of some of the first n principals.
+fn group(prng: &mut Prng, n: usize) -> u16 {
+    let everyone = u16::MAX >> (16 - n);
+    match prng.below(5) {
+        0 => everyone,
+        1 => 1 << prng.below(n),
+        _ => prng.draw() as u16 & everyone,
+    }
+}
+
+/// A budget that ends every run soon: only a script without a loop gets a large one.
+fn budget(prng: &mut Prng, script: &[u8]) -> u32 {
+    let loops = script.split(|&b| b == b'\n').any(|line| line.starts_with(b"w"));
+    match prng.below(8) {
+        0 => 0,
+        1 => prng.below(8) as u32,
+        2 => prng.below(60) as u32,
+        3 if !loops => u32::MAX,
+        _ => prng.between(60, 600) as u32,
+    }
+}
+
+/// Damages at least one part of a case, and each of the others at times.
+fn damage_some(prng: &mut Prng, case: &mut Case, n: usize) {
+    let sure = prng.below(7);
+    for part in 0..7 {
+        if part != sure && !prng.chance(12) {
+            continue;
+        }
+        match part {
+            0 => case.sheet = damage::sheet(prng, &case.sheet),
+            1 => case.script = damage::script(prng, &case.script),
+            2 => case.memory = damage::memory(prng, &case.memory),
+            3 => case.authority |= beyond(prng, n),
+            4 => case.group |= beyond(prng, n),
+            5 => resize(prng, &mut case.memory),
+            _ => case.view_length = other_length(prng, case.view_length),
+        }
+    }
+}
+
+/// A set with a principal that isn't among the first n, where there is one.
+fn beyond(prng: &mut Prng, n: usize) -> u16 {
+    if n == 16 {
+        0
+    } else {
+        1 << prng.between(n, 15)
+    }
+}
+
+fn other_length(prng: &mut Prng, length: usize) -> usize {
+    match prng.below(5) {
+        0 => 0,
+        1 => length + 1,
+        2 => length.saturating_sub(1),
+        3 => length + 16,
+        _ => length.saturating_sub(16),
+    }
+}
+
+fn resize(prng: &mut Prng, memory: &mut Vec<u32>) {
+    let length = other_length(prng, memory.len());
+    memory.resize(length, prng.integer());
+}

@@ -1,0 +1,184 @@
+//! Expressions of a wanted type, at or below a wanted label.
+
+use super::prng::Prng;
+use reference::label::Label;
+use reference::sheet::Sheet;
+use reference::types::{TypeId, ERROR, INT, PACKAGE, PACKED};
+
+/// The writer of one script: the lines so far and what is bound where it stands.
+pub struct Writer<'a> {
+    pub prng: &'a mut Prng,
+    pub sheet: &'a Sheet,
+    pub lines: Vec<String>,
+    /// The types and labels of the bound values, the innermost last.
+    pub bound: Vec<(TypeId, Label)>,
+    /// The location that the expression is assigned to, which it mostly doesn't read alone.
+    pub target: Option<usize>,
+    /// How often in a hundred a type is chosen wrongly.
+    pub wrong_types: usize,
+    /// How often in a hundred a label condition is passed over.
+    pub wrong_labels: usize,
+    /// Expressions that may still be tried, which keeps the search for one short.
+    pub tries: usize,
+}
+
+#[derive(Clone, Copy)]
+enum Form {
+    Integer,
+    Location,
+    Bound,
+    Plus,
+    Left,
+    Right,
+    Pack,
+    Unpack,
+}
+
+impl Writer<'_> {
+    /// Writes an expression and gives its least label, or writes nothing where none is found.
+    /// Without a limit any label will do.
+    pub fn expression(&mut self, ty: TypeId, limit: Option<&Label>, fuel: usize) -> Option<Label> {
+        self.tries = self.tries.checked_sub(1)?;
+        let wrong = self.prng.chance(self.wrong_types);
+        let ty = if wrong { self.prng.below(self.sheet.types.len()) } else { ty };
+        let mut forms = self.forms(ty, fuel);
+        self.prng.shuffle(&mut forms);
+        let start = self.lines.len();
+        for form in forms {
+            if let Some(label) = self.form(form, ty, limit, fuel.saturating_sub(1)) {
+                return Some(label);
+            }
+            self.lines.truncate(start);
+        }
+        None
+    }
+
+    /// The forms that can have a type, and where types may be wrong others too.
+    fn forms(&mut self, ty: TypeId, fuel: usize) -> Vec<Form> {
+        let mut forms = vec![Form::Location, Form::Location, Form::Bound, Form::Bound];
+        if ty == INT {
+            forms.push(Form::Integer);
+        }
+        if ty == INT && fuel > 1 {
+            forms.push(Form::Plus);
+        }
+        let wrong = self.prng.chance(self.wrong_types);
+        let parts = self.sheet.parts(ty);
+        if wrong || parts.is_some() {
+            forms.extend([Form::Left, Form::Right]);
+        }
+        if wrong || parts.is_some_and(|(_, right)| right == ERROR) {
+            forms.extend([Form::Unpack, Form::Unpack]);
+        }
+        if ty == PACKED {
+            forms.extend([Form::Pack, Form::Pack, Form::Pack]);
+        }
+        forms
+    }
+
+    fn form(
+        &mut self,
+        form: Form,
+        ty: TypeId,
+        limit: Option<&Label>,
+        fuel: usize,
+    ) -> Option<Label> {
+        match form {
+            Form::Integer => {
+                let n = self.prng.integer();
+                self.lines.push(format!("i\t{n}"));
+                Some(Label::bottom(self.sheet.principals))
+            }
+            Form::Location => self.location(ty, |label| passes(label, limit)),
+            Form::Bound => self.bound(ty, |label| passes(label, limit)),
+            Form::Plus => {
+                self.target = None;
+                self.lines.push("+".to_string());
+                let label = self.expression(INT, limit, fuel / 2)?;
+                Some(label.join(&self.expression(INT, limit, fuel / 2)?))
+            }
+            Form::Left => {
+                let (left, _) = self.sheet.parts(ty).unwrap_or((INT, INT));
+                self.lines.push(format!("l\t{ty}"));
+                self.expression(left, limit, fuel)
+            }
+            Form::Right => {
+                let (_, right) = self.sheet.parts(ty).unwrap_or((INT, INT));
+                self.lines.push(format!("r\t{ty}"));
+                self.expression(right, limit, fuel)
+            }
+            Form::Pack => self.pack(limit, fuel),
+            Form::Unpack => self.unpack(ty, limit),
+        }
+    }
+
+    fn location(&mut self, ty: TypeId, passes: impl Fn(&Label) -> bool) -> Option<Label> {
+        let any_label = self.prng.chance(self.wrong_labels);
+        let avoided = if self.prng.chance(90) { self.target } else { None };
+        let fits = |&x: &usize| {
+            let typed = self.sheet.locations[x].ty == ty && Some(x) != avoided;
+            typed && (any_label || passes(self.sheet.label_at(x)))
+        };
+        let locations: Vec<usize> = (0..self.sheet.locations.len()).filter(fits).collect();
+        let location = self.choose(&locations)?;
+        self.lines.push(format!("x\t{location}"));
+        Some(self.sheet.label_at(location).clone())
+    }
+
+    fn bound(&mut self, ty: TypeId, passes: impl Fn(&Label) -> bool) -> Option<Label> {
+        let any_label = self.prng.chance(self.wrong_labels);
+        let fits = |&i: &usize| self.bound[i].0 == ty && (any_label || passes(&self.bound[i].1));
+        let places: Vec<usize> = (0..self.bound.len()).filter(fits).collect();
+        let place = self.choose(&places)?;
+        self.lines.push(format!("v\t{}", self.bound.len() - 1 - place));
+        Some(self.bound[place].1.clone())
+    }
+
+    fn choose(&mut self, things: &[usize]) -> Option<usize> {
+        if things.is_empty() {
+            None
+        } else {
+            Some(self.prng.pick(things))
+        }
+    }
+
+    /// A label of the sheet that passes.
+    fn label(&mut self, passes: impl Fn(&Label) -> bool) -> Option<usize> {
+        let any_label = self.prng.chance(self.wrong_labels);
+        let fits = |&a: &usize| any_label || passes(&self.sheet.labels[a]);
+        let labels: Vec<usize> = (0..self.sheet.labels.len()).filter(fits).collect();
+        self.choose(&labels)
+    }
+
+    fn pack(&mut self, limit: Option<&Label>, fuel: usize) -> Option<Label> {
+        let label = self.label(|label| passes(&label.integrity(), limit))?;
+        let packed = self.sheet.labels[label].clone();
+        let ty = match self.prng.below(4) {
+            0 => PACKED,
+            1 => self.prng.below(self.sheet.types.len()),
+            _ => INT,
+        };
+        self.target = None;
+        self.lines.push(format!("k\t{label}"));
+        self.expression(ty, Some(&packed), fuel)?;
+        Some(packed.integrity())
+    }
+
+    fn unpack(&mut self, ty: TypeId, limit: Option<&Label>) -> Option<Label> {
+        let label = self.label(|label| passes(label, limit))?;
+        let wanted = self.sheet.labels[label].clone();
+        let confidential = wanted.confidentiality();
+        let passes = |operand: &Label| operand.confidentiality().at_or_below(&confidential);
+        self.lines.push(format!("u\t{ty}\t{label}"));
+        let operand = if self.prng.chance(60) {
+            self.bound(PACKAGE, passes).or_else(|| self.location(PACKAGE, passes))
+        } else {
+            self.location(PACKAGE, passes).or_else(|| self.bound(PACKAGE, passes))
+        };
+        operand.map(|_| wanted)
+    }
+}
+
+fn passes(label: &Label, limit: Option<&Label>) -> bool {
+    limit.is_none_or(|limit| label.at_or_below(limit))
+}

@@ -1,0 +1,179 @@
+//! Scripts built along their types and labels.
+
+use super::expression::Writer;
+use super::prng::Prng;
+use reference::label::Label;
+use reference::sheet::Sheet;
+use reference::types::{TypeId, CHOICE, PACKED};
+
+/// What may go wrong in a script that is otherwise built to be accepted.
+#[derive(Clone, Copy, PartialEq, Eq)]
+pub enum Wrong {
+    Nothing,
+    Types,
+    Labels,
+}
+
+const MOST_CASES: usize = 8;
+const TRIES: usize = 60;
+
+/// The lines of a script of about `size` lines.
+pub fn lines(prng: &mut Prng, sheet: &Sheet, size: usize, wrong: Wrong) -> Vec<String> {
+    let wrong_labels = if wrong == Wrong::Labels { prng.pick(&[5, 10, 20, 100]) } else { 0 };
+    let mut writer = Writer {
+        prng,
+        sheet,
+        lines: Vec::new(),
+        bound: Vec::new(),
+        target: None,
+        wrong_types: if wrong == Wrong::Types { 10 } else { 0 },
+        wrong_labels,
+        tries: 0,
+    };
+    writer.command(&Label::bottom(sheet.principals), size);
+    writer.lines
+}
+
+/// The text of lines.
+pub fn text(lines: &[String]) -> Vec<u8> {
+    lines.iter().flat_map(|line| format!("{line}\n").into_bytes()).collect()
+}
+
+impl Writer<'_> {
+    fn line(&mut self, line: &str) {
+        self.lines.push(line.to_string());
+    }
+
+    /// Writes a command under a surrounding label.
+    fn command(&mut self, surrounding: &Label, size: usize) {
+        let start = self.lines.len();
+        let sequences = if size > 12 { 60 } else { 20 };
+        let written = if size < 2 {
+            false
+        } else if size > 3 && self.prng.chance(sequences) {
+            self.sequence(surrounding, size)
+        } else {
+            match self.prng.below(20) {
+                0..=7 => self.case(surrounding, size),
+                8 => self.while_any(surrounding, size),
+                9 | 10 => self.while_once(surrounding, size),
+                11 if self.prng.chance(50) => self.while_packing(surrounding),
+                _ => self.assign(surrounding, size),
+            }
+        };
+        if written {
+            return;
+        }
+        self.lines.truncate(start);
+        if size < 2 || !self.assign(surrounding, size) {
+            self.lines.truncate(start);
+            self.line("s");
+        }
+    }
+
+    fn sequence(&mut self, surrounding: &Label, size: usize) -> bool {
+        let first = self.prng.between(1, size - 2);
+        self.line(";");
+        self.command(surrounding, first);
+        self.command(surrounding, size - 1 - first);
+        true
+    }
+
+    /// An expression, found within a number of tries.
+    fn found(&mut self, ty: TypeId, limit: Option<&Label>, fuel: usize) -> Option<Label> {
+        self.tries = TRIES;
+        self.expression(ty, limit, fuel)
+    }
+
+    /// A location that may be written under a surrounding label.
+    fn open_location(
+        &mut self,
+        surrounding: &Label,
+        fits: impl Fn(TypeId) -> bool,
+    ) -> Option<usize> {
+        let any_label = self.prng.chance(self.wrong_labels);
+        let open = |&x: &usize| {
+            let passes = any_label || surrounding.at_or_below(self.sheet.label_at(x));
+            passes && fits(self.sheet.locations[x].ty)
+        };
+        let targets: Vec<usize> = (0..self.sheet.locations.len()).filter(open).collect();
+        if targets.is_empty() {
+            None
+        } else {
+            Some(self.prng.pick(&targets))
+        }
+    }
+
+    fn assign(&mut self, surrounding: &Label, size: usize) -> bool {
+        let Some(target) = self.open_location(surrounding, |_| true) else {
+            return false;
+        };
+        self.target = Some(target);
+        self.line(&format!("=\t{target}"));
+        let limit = self.sheet.label_at(target).clone();
+        let label = self.found(self.sheet.locations[target].ty, Some(&limit), size - 1);
+        self.target = None;
+        label.is_some()
+    }
+
+    fn case(&mut self, surrounding: &Label, size: usize) -> bool {
+        if self.bound.len() == MOST_CASES {
+            return false;
+        }
+        let sums = (CHOICE..self.sheet.types.len()).collect::<Vec<TypeId>>();
+        let ty = if self.prng.chance(40) { PACKED } else { self.prng.pick(&sums) };
+        self.line("c");
+        let Some(label) = self.found(ty, None, size.min(24)) else {
+            return false;
+        };
+        let inside = surrounding.join(&label);
+        let (left, right) = self.sheet.parts(ty).expect("a sum");
+        for part in [left, right] {
+            self.bound.push((part, label.clone()));
+            self.command(&inside, size / 2);
+            self.bound.pop();
+        }
+        true
+    }
+
+    /// A loop with any guard.
+    fn while_any(&mut self, surrounding: &Label, size: usize) -> bool {
+        self.line("w");
+        let Some(label) = self.found(CHOICE, None, 3) else {
+            return false;
+        };
+        self.command(&surrounding.join(&label), size - 1);
+        true
+    }
+
+    /// A loop whose body stops it.
+    fn while_once(&mut self, surrounding: &Label, size: usize) -> bool {
+        let Some(guard) = self.open_location(surrounding, |ty| ty == CHOICE) else {
+            return false;
+        };
+        let inside = surrounding.join(self.sheet.label_at(guard));
+        self.line("w");
+        self.line(&format!("x\t{guard}"));
+        self.line(";");
+        self.command(&inside, size - 1);
+        self.line(&format!("=\t{guard}"));
+        self.line("r\t3");
+        self.line("i\t0");
+        true
+    }
+
+    /// A loop that packs a location's value again and again.
+    fn while_packing(&mut self, surrounding: &Label) -> bool {
+        let Some(location) = self.open_location(surrounding, |ty| ty == PACKED) else {
+            return false;
+        };
+        let label = self.sheet.locations[location].label;
+        for line in ["w", "l\t3", "i\t0"] {
+            self.line(line);
+        }
+        self.line(&format!("=\t{location}"));
+        self.line(&format!("k\t{label}"));
+        self.line(&format!("x\t{location}"));
+        true
+    }
+}

@@ -1,0 +1,54 @@
+//! The implementations that tests go through: the reference, the lean one, and the library where it
+//! is linked.
+
+use reference::Outcome;
+
+pub type Check = fn(&[u8], &[u8]) -> u8;
+pub type Run = fn(&[u8], &[u8], &mut [u32], u16, u32) -> Outcome;
+pub type View = fn(&[u8], &[u32], u16, &mut [u32]) -> u8;
+
+/// The three calls of one implementation.
+#[derive(Clone, Copy)]
+pub struct Implementation {
+    pub name: &'static str,
+    pub check: Check,
+    pub run: Run,
+    pub view: View,
+}
+
+pub const REFERENCE: Implementation = Implementation {
+    name: "reference",
+    check: reference::check,
+    run: reference::run,
+    view: reference::view,
+};
+
+pub const LEAN: Implementation = Implementation {
+    name: "lean",
+    check: crate::lean::check,
+    run: crate::lean::run,
+    view: crate::lean::view,
+};
+
+#[cfg(feature = "library")]
+pub const LIBRARY: Implementation = Implementation {
+    name: "library",
+    check: bindings::check,
+    run: |sheet, script, memory, authority, budget| {
+        let outcome = bindings::run(sheet, script, memory, authority, budget);
+        Outcome { answer: outcome.answer, steps: outcome.steps }
+    },
+    view: bindings::view,
+};
+
+/// Every implementation that is there.
+#[cfg(feature = "library")]
+pub const ALL: &[Implementation] = &[REFERENCE, LEAN, LIBRARY];
+#[cfg(not(feature = "library"))]
+pub const ALL: &[Implementation] = &[REFERENCE, LEAN];
+
+/// The implementation that property tests are about: the library where it is linked.
+#[cfg(feature = "library")]
+pub const TESTED: Implementation = LIBRARY;
+#[cfg(not(feature = "library"))]
+pub const TESTED: Implementation = REFERENCE;

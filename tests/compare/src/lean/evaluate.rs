@@ -1,0 +1,72 @@
+//! Evaluation of expressions: figure 2 as recursion over the rows.
+
+use super::machine::Machine;
+use super::script::Row;
+use super::value::{has_type, Failure, Value, LEFT, PACKAGE, RIGHT};
+use reference::answer::Refusal;
+
+impl Machine<'_> {
+    /// The value of the expression at a row.
+    pub fn evaluate(&self, at: usize, value: &mut Value) -> Result<(), Refusal> {
+        match self.rows[at] {
+            Row::Integer(_) | Row::Plus { .. } => *value = Value::integer(self.integer(at)),
+            Row::Location(location) => *value = self.cells[usize::from(location)],
+            Row::Bound { depth } => *value = self.bound[usize::from(depth)],
+            Row::Left { .. } => {
+                self.evaluate(at + 1, value)?;
+                value.prefix([LEFT])?;
+            }
+            Row::Right { .. } => {
+                self.evaluate(at + 1, value)?;
+                value.prefix([RIGHT])?;
+            }
+            Row::Pack { label } => {
+                self.evaluate(at + 1, value)?;
+                if self.written >> label & 1 == 1 {
+                    value.prefix([LEFT, PACKAGE, label.into()])?;
+                } else {
+                    *value = Value::failed(Failure::InsufficientAuth);
+                }
+            }
+            Row::Unpack { ty, label } => {
+                self.evaluate(at + 1, value)?;
+                match self.unpack_failure(ty, label, value) {
+                    Some(failure) => *value = Value::failed(failure),
+                    None => {
+                        value.strip::<1>();
+                        value.words[0] = LEFT;
+                    }
+                }
+            }
+            _ => unreachable!("a command stands in no expression's place"),
+        }
+        Ok(())
+    }
+
+    /// The integer that an expression of type int is.
+    fn integer(&self, at: usize) -> u32 {
+        match self.rows[at] {
+            Row::Integer(n) => n,
+            Row::Location(location) => self.cells[usize::from(location)].words[1],
+            Row::Bound { depth } => self.bound[usize::from(depth)].words[1],
+            Row::Plus { second } => self.integer(at + 1).wrapping_add(self.integer(second.into())),
+            _ => unreachable!("no other expression is an integer"),
+        }
+    }
+
+    /// Why a package can't be unpacked to the left of a type, at a label.
+    fn unpack_failure(&self, ty: u8, label: u8, package: &Value) -> Option<Failure> {
+        let labels = &self.sheet.labels;
+        let (packed, wanted) = (&labels[package.words[1] as usize], &labels[usize::from(label)]);
+        let (wanted_type, _) = self.sheet.parts(ty)?;
+        if self.read >> label & 1 == 0 {
+            Some(Failure::InsufficientAuth)
+        } else if !packed.at_or_below(wanted) {
+            Some(Failure::IllegalFlow)
+        } else if !has_type(&package.words[2..], &self.sheet.types, wanted_type) {
+            Some(Failure::TypeMismatch)
+        } else {
+            None
+        }
+    }
+}

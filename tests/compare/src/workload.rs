@@ -1,0 +1,192 @@
+//! The named workloads of the benchmark.
+
+use crate::implementation::Implementation;
+use reference::answer::{Outcome, Refusal, DONE};
+
+/// The arguments of a run and of the view of the memory it leaves, and the outcome of the run.
+pub struct Workload {
+    pub name: String,
+    sheet: String,
+    script: String,
+    memory: Vec<u32>,
+    authority: u16,
+    budget: u32,
+    group: u16,
+    outcome: Outcome,
+}
+
+pub fn all() -> Vec<Workload> {
+    vec![
+        small(),
+        lines(25),
+        lines(51),
+        lines(102),
+        long_loop(4, 300),
+        long_loop(6, 1468),
+        long_loop(8, 6908),
+        locations_64(),
+    ]
+}
+
+/// No line of a script.
+const UNFORMED: &[u8] = b"?\n";
+
+impl Workload {
+    /// The number of words of the memory and of a view.
+    pub fn words(&self) -> usize {
+        self.memory.len()
+    }
+
+    /// A check that ends where the sheet is read.
+    pub fn sheet(&self, implementation: &Implementation) {
+        let answer = (implementation.check)(self.sheet.as_bytes(), UNFORMED);
+        assert_eq!(answer, Refusal::ScriptForm.number(), "the sheet of {}", self.name);
+    }
+
+    pub fn check(&self, implementation: &Implementation) {
+        let answer = (implementation.check)(self.sheet.as_bytes(), self.script.as_bytes());
+        assert_eq!(answer, DONE, "the check of {}", self.name);
+    }
+
+    /// Leaves the memory of the run in `memory`.
+    pub fn run(&self, implementation: &Implementation, memory: &mut [u32]) {
+        let (sheet, script) = (self.sheet.as_bytes(), self.script.as_bytes());
+        memory.copy_from_slice(&self.memory);
+        let outcome = (implementation.run)(sheet, script, memory, self.authority, self.budget);
+        assert_eq!(outcome, self.outcome, "the run of {}", self.name);
+    }
+
+    pub fn view(&self, implementation: &Implementation, memory: &[u32], view: &mut [u32]) {
+        let answer = (implementation.view)(self.sheet.as_bytes(), memory, self.group, view);
+        assert_eq!(answer, DONE, "the view of {}", self.name);
+    }
+}
+
+/// The text of lines whose fields are parted by blanks.
+fn text(lines: &[String]) -> String {
+    lines.iter().map(|line| format!("{}\n", line.replace(' ', "\t"))).collect()
+}
+
+fn listed(lines: &[&str]) -> Vec<String> {
+    lines.iter().map(|line| line.to_string()).collect()
+}
+
+/// The words of a location's value.
+fn location(start: &[u32]) -> Vec<u32> {
+    let mut words = start.to_vec();
+    words.resize(16, 0);
+    words
+}
+
+/// Commands one after the other: `;` before each but the last.
+fn in_order(commands: Vec<Vec<String>>) -> Vec<String> {
+    let last = commands.len() - 1;
+    let mut lines = Vec::new();
+    for (i, command) in commands.into_iter().enumerate() {
+        if i < last {
+            lines.push(";".to_string());
+        }
+        lines.extend(command);
+    }
+    lines
+}
+
+/// The scope's example: a pack, then a case with an unpack.
+fn small() -> Workload {
+    let sheet = [
+        "P 3",
+        "T 0 1",
+        "L",
+        "L",
+        "O 0 0000 0000",
+        "L",
+        "O 0 0000 0007",
+        "X 0 0",
+        "X 0 2",
+        "X 4 0",
+        "X 5 2",
+    ];
+    let script = ["= 2", "k 2", "x 1", "c", "x 2", "= 3", "u 5 2", "v 0", "s"];
+    let (pack, unpack) = script.split_at(3);
+    Workload {
+        name: "small".to_string(),
+        sheet: text(&listed(&sheet)),
+        script: text(&in_order(vec![listed(pack), listed(unpack)])),
+        memory: [&[1, 5][..], &[1, 62], &[4, 2, 1], &[4, 2, 1]].map(location).concat(),
+        authority: 1,
+        budget: 100,
+        group: 1,
+        outcome: Outcome::done(4),
+    }
+}
+
+/// Assignments of a sum, so many, and one of an integer: 5 lines and 2 steps each, 2 lines and 1 step at the end.
+fn lines(sums: usize) -> Workload {
+    let mut commands = vec![listed(&["= 0", "+", "x 1", "i 7"]); sums];
+    commands.push(listed(&["= 1", "i 9"]));
+    let script = in_order(commands);
+    Workload {
+        name: format!("{}-lines", script.len()),
+        sheet: text(&listed(&["P 4", "L", "O 1 0004 000f", "X 0 0", "X 0 0"])),
+        script: text(&script),
+        memory: [&[1, 5][..], &[1, 62]].map(location).concat(),
+        authority: 1,
+        budget: 1000,
+        group: 2,
+        outcome: Outcome::done(2 * sums as u32 + 1),
+    }
+}
+
+/// A counter of so many bits, up to eight, that runs through all its numbers. Left is 1. Location 8 is the
+/// guard, location 9 the carry.
+fn long_loop(bits: usize, steps: u32) -> Workload {
+    let mut sheet = listed(&["P 2", "L"]);
+    sheet.extend(vec!["X 3 0".to_string(); 10]);
+    let mut body = vec![listed(&["= 9", "l 3", "i 0"])];
+    for bit in 0..bits {
+        let read = format!("x {bit}");
+        let write = format!("= {bit}");
+        let carry_on = listed(&[&write, "r 3", "i 0"]);
+        let carry_ends = listed(&[";", &write, "l 3", "i 0", "= 9", "r 3", "i 0"]);
+        let add = [listed(&["c", "x 9", "c", &read]), carry_on, carry_ends, listed(&["s"])];
+        body.push(add.concat());
+    }
+    body.push(listed(&["c", "x 9", "= 8", "r 3", "i 0", "s"]));
+    let script = [listed(&["w", "x 8"]), in_order(body)].concat();
+    let mut memory = location(&[4, 1, 0]).repeat(10);
+    memory[8 * 16] = 3;
+    Workload {
+        name: format!("{steps}-steps"),
+        sheet: text(&sheet),
+        script: text(&script),
+        memory,
+        authority: 1,
+        budget: 100_000,
+        group: 3,
+        outcome: Outcome::done(steps),
+    }
+}
+
+/// 16 principals, 32 labels and 64 locations of packages, each packed anew.
+fn locations_64() -> Workload {
+    let mut sheet = listed(&["P 16"]);
+    for label in 0..32 {
+        sheet.push("L".to_string());
+        for owner in 0..16 {
+            let writers = if label < 16 { 0x00ff } else { 0xffff };
+            sheet.push(format!("O {owner} {:04x} {writers:04x}", 1 << (label % 16)));
+        }
+    }
+    sheet.extend((0..64).map(|x| format!("X 4 {}", x / 2)));
+    let packs = (0..64).map(|x| listed(&[&format!("= {x}"), &format!("k {}", x / 2), "i 1"]));
+    Workload {
+        name: "64-locations".to_string(),
+        sheet: text(&sheet),
+        script: text(&in_order(packs.collect())),
+        memory: location(&[3, 5, 3, 3, 5, 7, 1, 8]).repeat(64),
+        authority: 0xffff,
+        budget: 1000,
+        group: 0x0101,
+        outcome: Outcome::done(127),
+    }
+}

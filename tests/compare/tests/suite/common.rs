@@ -1,0 +1,82 @@
+//! Texts and memories written as in the scope: blanks for tabs, values without their zeros.
+
+/// The text of lines whose fields are parted by blanks here.
+pub fn text(lines: &[&str]) -> Vec<u8> {
+    lines.iter().flat_map(|line| format!("{line}\n").replace(' ', "\t").into_bytes()).collect()
+}
+
+/// The words of a memory, 16 for each location.
+pub fn memory(locations: &[&[u32]]) -> Vec<u32> {
+    let mut words = Vec::new();
+    for (location, start) in locations.iter().enumerate() {
+        words.extend_from_slice(start);
+        words.resize(16 * (location + 1), 0);
+    }
+    words
+}
+
+/// The sheet of the scope's cases.
+pub fn sheet() -> Vec<u8> {
+    text(&[
+        "P 3",
+        "T 0 1",
+        "L",
+        "L",
+        "O 0 0000 0000",
+        "L",
+        "O 0 0000 0007",
+        "X 0 0",
+        "X 0 2",
+        "X 4 0",
+        "X 5 2",
+    ])
+}
+
+/// A sheet with as many lines of each kind as there may be.
+#[cfg(feature = "programs")]
+pub fn largest_sheet() -> Vec<u8> {
+    let mut sheet = lines(&["P 16", "T 3 0"]);
+    sheet.extend((5..31).map(|t| format!("T {t} 0")));
+    for label in 0..32 {
+        sheet.push("L".to_string());
+        sheet.extend((0..16).map(|owner| format!("O {owner} {:04x} ffff", label << 11)));
+    }
+    sheet.extend((0..64).map(|location| format!("X 4 {}", location / 2)));
+    text_of(&[&sheet])
+}
+
+/// The memory of the scope's cases.
+pub fn start() -> Vec<u32> {
+    memory(&[&[1, 5], &[1, 62], &[4, 2, 1], &[4, 2, 1]])
+}
+
+/// The lines of a script that puts `count` lefts over integer 1, and of the sums it needs: at most 15.
+pub fn lefts(count: usize) -> (Vec<String>, Vec<String>) {
+    let mut sums = vec!["T 3 0".to_string()];
+    sums.extend((5..18).map(|t| format!("T {t} 0")));
+    let types: Vec<usize> = std::iter::once(3).chain(5..19).take(count).collect();
+    let mut lefts: Vec<String> = types.iter().rev().map(|t| format!("l {t}")).collect();
+    lefts.push("i 1".to_string());
+    (sums, lefts)
+}
+
+/// The text of lines that are put together from parts.
+pub fn text_of(parts: &[&[String]]) -> Vec<u8> {
+    let lines = parts.concat();
+    text(&lines.iter().map(String::as_str).collect::<Vec<&str>>())
+}
+
+/// Lines as strings.
+pub fn lines(lines: &[&str]) -> Vec<String> {
+    lines.iter().map(|line| line.to_string()).collect()
+}
+
+/// The number of generated cases: `SIMP_CASES`, or what the gate takes.
+pub fn case_count() -> u64 {
+    let count = match std::env::var("SIMP_CASES") {
+        Ok(count) => count.parse().expect("SIMP_CASES is a number"),
+        Err(_) => 20_000,
+    };
+    assert!(count >= 2000, "fewer than 2000 cases don't reach every answer");
+    count
+}

@@ -1,0 +1,118 @@
+//! The lean version, and the library where it is linked, against the reference, on
+//! generated cases.
+//!
+//! They must agree in answer, steps and every word of every slice, refused calls included.
+
+use crate::common::case_count;
+use crate::fenced::Fenced;
+use compare::generate::case::{case, Case};
+use compare::implementation::{Implementation, REFERENCE};
+use reference::Outcome;
+
+/// Everything that the three calls of a case hand back.
+#[derive(Debug, PartialEq, Eq)]
+struct Results {
+    check: u8,
+    run: Outcome,
+    memory: Vec<u32>,
+    view_answer: u8,
+    view: Vec<u32>,
+    /// The memory that the view was lent, and the bytes beside every slice, are as before.
+    intact: bool,
+}
+
+fn results(i: &Implementation, case: &Case) -> Results {
+    let check = (i.check)(&case.sheet, &case.script);
+    let mut ran = Fenced::new(&case.memory);
+    let run = (i.run)(&case.sheet, &case.script, ran.words_mut(), case.authority, case.budget);
+    let lent = Fenced::new(&case.memory);
+    let mut view = Fenced::blank(case.view_length);
+    let view_answer = (i.view)(&case.sheet, lent.words(), case.group, view.words_mut());
+    let intact =
+        ran.is_intact() && view.is_intact() && lent.is_intact() && lent.words() == case.memory;
+    Results {
+        check,
+        run,
+        memory: ran.words().to_vec(),
+        view_answer,
+        view: view.words().to_vec(),
+        intact,
+    }
+}
+
+/// A case as it can be read in a failure.
+fn shown(case: &Case) -> String {
+    format!(
+        "authority {:04x}, group {:04x}, budget {}, view of {} words\n{}---\n{}---\n{:?}",
+        case.authority,
+        case.group,
+        case.budget,
+        case.view_length,
+        String::from_utf8_lossy(&case.sheet),
+        String::from_utf8_lossy(&case.script),
+        case.memory.chunks(16).collect::<Vec<&[u32]>>(),
+    )
+}
+
+fn agrees_with_the_reference(tested: &Implementation) {
+    for seed in 0..case_count() {
+        let case = case(seed);
+        let expected = results(&REFERENCE, &case);
+        let got = results(tested, &case);
+        assert!(got.intact, "seed {seed}: written beside a slice\n{}", shown(&case));
+        assert_eq!(
+            got,
+            expected,
+            "seed {seed} ({}, then reference)\n{}",
+            tested.name,
+            shown(&case)
+        );
+    }
+}
+
+/// The same case after its run: the memory left by one call is what the next is lent.
+fn agrees_on_the_memory_that_a_run_leaves(tested: &Implementation) {
+    let mut done = 0;
+    for seed in 0..case_count() / 4 {
+        let mut case = case(seed);
+        let first = results(&REFERENCE, &case);
+        case.memory = first.memory;
+        if first.run.answer != 0 {
+            continue;
+        }
+        done += 1;
+        let expected = results(&REFERENCE, &case);
+        assert_ne!(expected.run.answer, 8, "seed {seed}: a run leaves a well-formed memory");
+        assert_eq!(results(tested, &case), expected, "seed {seed}\n{}", shown(&case));
+    }
+    assert!(done * 10 > case_count() / 4, "{done} runs were done");
+}
+
+mod lean {
+    use compare::implementation::LEAN;
+
+    #[test]
+    fn agrees_with_the_reference() {
+        super::agrees_with_the_reference(&LEAN);
+    }
+
+    #[test]
+    fn agrees_on_the_memory_that_a_run_leaves() {
+        super::agrees_on_the_memory_that_a_run_leaves(&LEAN);
+    }
+}
+
+#[cfg(feature = "library")]
+mod library {
+    use compare::implementation::LIBRARY;
+
+    #[test]
+    fn agrees_with_the_reference() {
+        super::agrees_with_the_reference(&LIBRARY);
+    }
+
+    #[test]
+    fn agrees_on_the_memory_that_a_run_leaves() {
+        super::agrees_on_the_memory_that_a_run_leaves(&LIBRARY);
+    }
+}

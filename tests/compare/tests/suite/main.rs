@@ -1,0 +1,17 @@
+//! The tests of the reference, and of the lean version and the library against it, in one program.
+
+mod bounds;
+mod cases;
+mod common;
+mod coverage;
+mod differential;
+mod fenced;
+mod hostile;
+mod noninterference;
+#[cfg(feature = "programs")]
+mod program;
+mod refusals;
+mod show;
+mod steps;
+mod views;
+mod workloads;

@@ -1,0 +1,120 @@
+//! Demand 3 on generated cases: two done runs of an accepted script from memories that give a group
+//! the same view leave memories that give it the same view.
+
+use crate::common::case_count;
+use compare::generate::case::{undamaged, Case};
+use compare::generate::pair::same_view;
+use compare::generate::prng::Prng;
+use compare::generate::script::Wrong;
+use compare::implementation::TESTED;
+use reference::evaluate::Context;
+use reference::machine::{self, Configuration};
+use reference::memory::{decode, encode, Memory};
+use reference::principals::Principals;
+use reference::sheet::Sheet;
+use reference::{flow, script_text, shape, view, DONE};
+use std::rc::Rc;
+
+/// A case and a second memory with the same view, or nothing where a location's type has no value
+/// of 16 words.
+struct Pair {
+    case: Case,
+    sheet: Sheet,
+    first: Memory,
+    other: Memory,
+}
+
+fn pair(seed: u64, wrong: Wrong) -> Option<Pair> {
+    let prng = &mut Prng::new(seed);
+    let (mut case, sheet) = undamaged(prng, wrong);
+    if prng.chance(50) {
+        case.group = 1 << prng.below(sheet.principals);
+    }
+    case.budget = case.budget.max(200);
+    let first = decode(&sheet, &case.memory).ok()?;
+    let other = same_view(prng, &sheet, &first, Principals::from_bits(case.group));
+    Some(Pair { case, sheet, first, other })
+}
+
+/// The view of a memory by the implementation tested.
+fn seen(case: &Case, memory: &[u32]) -> Vec<u32> {
+    let mut view = vec![7; memory.len()];
+    assert_eq!((TESTED.view)(&case.sheet, memory, case.group, &mut view), DONE);
+    view
+}
+
+/// The memory that a run of the implementation tested leaves, where it is done, and the steps taken.
+fn left(case: &Case, memory: &Memory, budget: u32) -> Option<(Vec<u32>, u32)> {
+    let mut words = encode(memory);
+    let outcome = (TESTED.run)(&case.sheet, &case.script, &mut words, case.authority, budget);
+    assert!([0, 9, 10].contains(&outcome.answer), "an accepted script runs: {}", outcome.answer);
+    (outcome.answer == DONE).then_some((words, outcome.steps))
+}
+
+#[test]
+fn what_a_group_sees_follows_from_what_it_saw() {
+    let (mut pairs, mut compared, mut hidden, mut shown, mut stepped) = (0, 0, 0, 0, 0);
+    for seed in 0..case_count() {
+        let Some(Pair { case, first, other, .. }) = pair(seed, Wrong::Nothing) else {
+            continue;
+        };
+        let check = (TESTED.check)(&case.sheet, &case.script);
+        if check == 4 {
+            continue;
+        }
+        assert_eq!(check, DONE, "seed {seed}: a script without damage is accepted or too long");
+        let before = seen(&case, &encode(&first));
+        assert_eq!(before, seen(&case, &encode(&other)), "seed {seed}: the views before");
+        pairs += 1;
+        let budget = case.budget / 2 + 1 + (seed % 997) as u32; // another budget for the second run
+        let runs = (left(&case, &first, case.budget), left(&case, &other, budget));
+        let (Some((after_first, steps)), Some((after_other, other_steps))) = runs else {
+            continue;
+        };
+        let after = seen(&case, &after_first);
+        assert_eq!(after, seen(&case, &after_other), "seed {seed}: the views after");
+        compared += 1;
+        let differ = encode(&first) != encode(&other);
+        hidden += u64::from(differ && after_first != encode(&first));
+        shown += u64::from(differ && after != before);
+        stepped += u64::from(steps != other_steps);
+    }
+    println!("{pairs} pairs, {compared} done twice; {hidden} differ and write, {shown} write what is seen, {stepped} differ in steps");
+    assert!(pairs * 2 > case_count() && compared * 2 > pairs, "{pairs} pairs, {compared} compared");
+    assert!(hidden * 20 > compared && shown * 40 > compared, "{hidden} hidden, {shown} shown");
+    assert!(stepped * 100 > compared, "{stepped} differ in steps");
+}
+
+/// The memory that the reference leaves, label conditions passed over.
+fn left_unchecked(pair: &Pair, memory: &Memory) -> Option<Memory> {
+    let sheet = &pair.sheet;
+    let command = Rc::new(script_text::parse(sheet, &pair.case.script).ok()?);
+    shape::check(sheet, &command).ok()?;
+    if flow::check(sheet, &command).is_ok() {
+        return None;
+    }
+    let context = Context { sheet, authority: Principals::from_bits(pair.case.authority) };
+    let mut configuration = Configuration { memory: memory.clone(), command };
+    machine::run(&context, &mut configuration, pair.case.budget).ok()?;
+    Some(configuration.memory)
+}
+
+/// The pairs can tell: where scripts that are refused with 6 run all the same, views often differ.
+#[test]
+fn scripts_refused_by_their_labels_do_leak() {
+    let (mut compared, mut leaks) = (0, 0);
+    for seed in 0..4000 {
+        let Some(pair) = pair(seed, Wrong::Labels) else {
+            continue;
+        };
+        let group = Principals::from_bits(pair.case.group);
+        let after = (left_unchecked(&pair, &pair.first), left_unchecked(&pair, &pair.other));
+        if let (Some(first), Some(other)) = after {
+            compared += 1;
+            let sees = |memory| view::words(&pair.sheet, memory, group);
+            leaks += u64::from(sees(&first) != sees(&other));
+        }
+    }
+    println!("{leaks} of {compared} runs of refused scripts leak");
+    assert!(compared > 200 && leaks * 20 > compared, "{leaks} of {compared}");
+}

@@ -1,0 +1,21 @@
+//! The workloads of the benchmark, on every implementation.
+
+use compare::implementation::ALL;
+use compare::workload;
+
+#[test]
+fn every_workload_has_its_outcome_and_one_view() {
+    for workload in workload::all() {
+        let views = ALL.iter().map(|i| {
+            let (mut memory, mut view) = (vec![0; workload.words()], vec![0; workload.words()]);
+            workload.sheet(i);
+            workload.check(i);
+            workload.run(i, &mut memory);
+            workload.view(i, &memory, &mut view);
+            (memory, view)
+        });
+        let views: Vec<(Vec<u32>, Vec<u32>)> = views.collect();
+        assert!(views[0].1.iter().any(|&word| word != 0), "{}", workload.name);
+        assert!(views.iter().all(|view| *view == views[0]), "{}", workload.name);
+    }
+}

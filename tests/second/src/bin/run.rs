@@ -1,9 +1,0 @@
-//! The program *run* of the second implementation.
-
-use std::io::{self, Read, Write};
-
-fn main() -> io::Result<()> {
-    let mut input = Vec::new();
-    io::stdin().read_to_end(&mut input)?;
-    io::stdout().write_all(&second::programs::run::run(&input))
-}

@@ -1,4 +1,4 @@
--- A group and a budget are read exactly where their printed form is the text. Assumes nothing.
+-- A group is read exactly where its printed form is the text. Assumes nothing.
 use Prim.Native.Nat.{ℕ, suc, _+_, _≤_}
 use native.Mathlib.Omega.{arith}
 use mathlib.Core.Path.{_≡_, refl, ap}
@@ -10,14 +10,11 @@ use lib.ListN.{length, length-append}
 use borrow.Author.Tests.{eqb-true}
 use Rattle.text.specs.Reading.{Read}
 use Rattle.text.specs.Reading.Read.{got, bad}
-use Rattle.text.specs.Number.{number, decimal, most, opensDigit, digit}
 use Rattle.text.specs.Set.{setDigits, hexSet, hexForm}
 use Rattle.logic.proofs.BooleanLaws.{cond-split}
-use Rattle.text.proofs.Decimals.{number-sound, number-exact}
 use Rattle.text.proofs.Sets.{set-exact, length-form}
-use Rattle.text.proofs.Writings.{length-decimal}
-use Rattle.desk.specs.Fields.{closed, onlyField, groupOf, budgetOf}
-use Rattle.desk.specs.Theorems.{GroupExact, BudgetExact}
+use Rattle.desk.specs.Fields.{closed, onlyField, groupOf}
+use Rattle.desk.specs.Theorems.{GroupExact}
 use Rattle.logic.specs.Booleans.{both}
 
 -- the end of a line and nothing more is one byte
@@ -52,24 +49,7 @@ unfolding groupOf
 group-exact t g =
     (λ e. set-exact g t (10 ∷ []) .0 (only-sound (hexSet t) g e), λ h. only-print (hexSet t) g (set-exact g t (10 ∷ []) .1 h))
 
--- the end of a line is no digit
-end-plain : opensDigit (10 ∷ []) ≡ false
-unfolding opensDigit digit both
-end-plain = refl
-
-pub budget-exact : BudgetExact
-unfolding budgetOf
-budget-exact t n = (
-  λ e. let s = number-sound most t n (10 ∷ []) (only-sound (number most t) n e) in (s .0, s .1),
-  λ h. only-print (number most t) n (number-exact most n t (10 ∷ []) .1 (h .0, h .1, end-plain)),
-)
-
--- how long such texts are
+-- how long such a text is
 pub group-length : (t : List ℕ) (g : ℕ) → groupOf t ≡ some g → length t ≤ setDigits + 1
 group-length t g e =
     omega (arith, ap length (group-exact t g .0 e .0), length-append (hexForm setDigits g) (10 ∷ []), length-form setDigits g)
-
-pub budget-length : (t : List ℕ) (n : ℕ) → budgetOf t ≡ some n → length t ≤ 11
-budget-length t n e =
-    let h = budget-exact t n .0 e in
-    omega (arith, ap length (h .0), length-append (decimal n) (10 ∷ []), length-decimal n (h .1))

@@ -1,4 +1,4 @@
--- Texts of one field, as the code reads them. Assumes nothing.
+-- A text of one field, as the code reads it. Assumes nothing.
 use Prim.Native.Nat.{ℕ, _+_, _-_, _≤_, _<_}
 use native.Mathlib.Omega.{arith}
 use mathlib.Core.Path.{_≡_, refl, sym, ap, _∙_}
@@ -14,9 +14,7 @@ use Rattle.text.proofs.Readings.{drop-step}
 use Rattle.logic.proofs.BooleanLaws.{cases}
 use Rattle.desk.specs.declared.Group.{Group}
 use Rattle.desk.specs.declared.Group.the-variants as group
-use Rattle.desk.specs.declared.Budget.{Budget}
-use Rattle.desk.specs.declared.Budget.the-variants as budget
-use Rattle.desk.specs.Internal.Post.{groupAnswer, budgetAnswer}
+use Rattle.desk.specs.Internal.Post.{groupAnswer}
 use Rattle.desk.specs.Fields.{closed, onlyField}
 use Rattle.logic.specs.Booleans.{both}
 
@@ -56,26 +54,13 @@ pub only-none : (field : Read ℕ) → field ≡ bad → onlyField field ≡ non
 unfolding onlyField
 only-none field e = rw e
 
--- an answer is the refusal, or that of the value
-answer-split : {R P : Type 0} (refused : R) (read : ℕ → R) (o : Option ℕ) (r : R) → r ≡ Option·elim o refused read
-    → (o ≡ none → r ≡ refused → P) → ((v : ℕ) → o ≡ some v → r ≡ read v → P) → P
+-- what the code's answer says of the text
+pub group-read : (o : Option ℕ) (r : Group) → r ≡ groupAnswer o → (v : ℕ) → r ≡ group.Read v → o ≡ some v
 unfolding Option·elim
-answer-split refused read none r e f g = f refl e
-answer-split refused read (some v) r e f g = g v refl e
+group-read none r e v q = let z : _≡_ {A = ℕ} 0 1 = cc in absurd (omega arith)
+group-read (some w) r e v q = let z : w ≡ v = cc in ap some z
 
--- what the code's answers say of the texts
-module _ (o : Option ℕ) (r : Group) (e : r ≡ groupAnswer o) where
-  pub group-read : (v : ℕ) → r ≡ group.Read v → o ≡ some v
-  group-read v q =
-      answer-split _ _ o r e (λ x y. let z : _≡_ {A = ℕ} 0 1 = cc in absurd (omega arith)) (λ w x y. let z : w ≡ v = cc in x ∙ ap some z)
-
-  pub group-refused : r ≡ group.Refused → o ≡ none
-  group-refused q = answer-split _ _ o r e (λ x y. x) (λ w x y. let z : _≡_ {A = ℕ} 0 1 = cc in absurd (omega arith))
-
-module _ (o : Option ℕ) (r : Budget) (e : r ≡ budgetAnswer o) where
-  pub budget-read : (v : ℕ) → r ≡ budget.Read v → o ≡ some v
-  budget-read v q =
-      answer-split _ _ o r e (λ x y. let z : _≡_ {A = ℕ} 0 1 = cc in absurd (omega arith)) (λ w x y. let z : w ≡ v = cc in x ∙ ap some z)
-
-  pub budget-refused : r ≡ budget.Refused → o ≡ none
-  budget-refused q = answer-split _ _ o r e (λ x y. x) (λ w x y. let z : _≡_ {A = ℕ} 0 1 = cc in absurd (omega arith))
+pub group-refused : (o : Option ℕ) (r : Group) → r ≡ groupAnswer o → r ≡ group.Refused → o ≡ none
+unfolding Option·elim
+group-refused none r e q = refl
+group-refused (some w) r e q = let z : _≡_ {A = ℕ} 0 1 = cc in absurd (omega arith)

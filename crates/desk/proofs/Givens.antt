@@ -1,5 +1,5 @@
 -- What is taken from the texts of a memory and a group, as the code reads them. Assumes nothing.
-use Prim.Native.Nat.{ℕ, _*_, _-_, _/_, _≤_}
+use Prim.Native.Nat.{ℕ, _*_, _-_, _/_}
 use native.Mathlib.Omega.{arith}
 use mathlib.Core.Path.{_≡_, refl}
 use mathlib.Core.List.{List}
@@ -38,24 +38,12 @@ given-whole text group g e = rw e (go (memory text) refl)
     go bad q = record { whole = refl; few = omega arith; all = length-replicate {A = ℕ} memoryWords 0 }
 
 -- the words in use
-pub words-fit : (g : Given) → Whole g → g .count ≤ length (g .words)
-words-fit g w = omega arith
-
 pub words-length : (g : Given) → Whole g → length (givenWords g) ≡ g .count
-words-length g w = length-take-le (g .count) (g .words) (words-fit g w)
+words-length g w = length-take-le (g .count) (g .words) (omega arith)
 
 pub given-words : (m : Read (List ℕ)) (g : Option ℕ) → givenWords (givenFrom m g) ≡ wordsRead m
 unfolding givenFrom padded
 given-words m g = take-at (wordsRead m) (replicate (memoryWords - length (wordsRead m)) 0) (length (wordsRead m)) refl
-
--- a memory that is read, and what is made of it
-pub memory-few : (text : List ℕ) (m : Memory) → m ≡ memoryAnswer text → m .count * cell-words ≤ memoryWords
-unfolding memoryAnswer table
-memory-few text m e = rw e (go (memory text) refl)
-  where
-    go : (want : Read (List ℕ)) → memory text ≡ want → table want .count * cell-words ≤ memoryWords
-    go (got ws r) q = omega (arith, memory-sound ws text r q .1 .most-locations)
-    go bad q = omega arith
 
 -- the number of a text that isn't of its form, by the code's answers
 unfoldable pub numberBy : Option ℕ → Answer → ℕ

@@ -1,9 +1,8 @@
--- The laws of what the desk programs print.
+-- The laws of what show prints.
 pub mod Fields
 pub mod Outputs
 pub mod Givens
 pub mod Shows
-pub mod Runs
 pub mod Exact
 pub mod Orders
 pub mod Kept

@@ -162,7 +162,7 @@ module _ (sheet text group : List ℕ) where
 
 pub same-order : SameOrder
 unfolding numbers
-same-order sheet script memory authority = refl
+same-order sheet memory group view = refl
 
 pub show-in-order : ShowInOrder
 show-in-order sheet text group =

@@ -1,4 +1,4 @@
--- Texts of one line and one field: a group, an authority, a budget (the scope, the program show).
+-- A text of one line and one field: a group (the scope, the program show).
 use Prim.Native.Nat.{ℕ}
 use mathlib.Core.Bool.{Bool, false, cond}
 use mathlib.Core.List.{List, [], _∷_}
@@ -7,7 +7,6 @@ use lib.Dec.{eqb}
 use lib.ListN.{length}
 use Rattle.text.specs.Reading.{Read}
 use Rattle.text.specs.Reading.Read.{got, bad}
-use Rattle.text.specs.Number.{number, most}
 use Rattle.text.specs.Set.{hexSet}
 use Rattle.logic.specs.Booleans.{both}
 
@@ -21,10 +20,6 @@ unfoldable pub onlyField : Read ℕ → Option ℕ
 onlyField (got v t) = cond (closed t) (some v) none
 onlyField bad = none
 
--- a group or an authority: four digits and byte 10
+-- a group: four digits and byte 10
 unfoldable pub groupOf : List ℕ → Option ℕ
 groupOf t = onlyField (hexSet t)
-
--- a budget: a number of 32 bits and byte 10
-unfoldable pub budgetOf : List ℕ → Option ℕ
-budgetOf t = onlyField (number most t)

@@ -1,4 +1,4 @@
--- What show and run take from the texts of a memory and of a group or an authority.
+-- What show takes from the texts of a memory and of a group.
 use Prim.Native.Nat.{ℕ}
 use mathlib.Core.List.{List, []}
 use mathlib.Core.Option.{Option, Option·getD}

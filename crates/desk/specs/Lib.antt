@@ -1,10 +1,9 @@
--- What the desk programs print, as functions of the texts that they are given.
+-- What the program show prints, as a function of the texts that it is given.
 pub mod Fields
 pub mod Numbers
 pub mod Given
 pub mod Output
 pub mod Show
-pub mod Run
 pub mod Order
 pub mod Inputs
 pub mod Theorems

@@ -8,11 +8,11 @@ use lib.Dec.{eqb, ltb}
 use Rattle.text.specs.Reading.{Read}
 use Rattle.text.specs.Reading.Read.{got, bad}
 
--- the order in which runs and views judge
+-- the order in which a view judges
 abbrev pub order : List ℕ
-order = 1 ∷ 2 ∷ 3 ∷ 4 ∷ 5 ∷ 6 ∷ 7 ∷ 8 ∷ []
+order = 1 ∷ 2 ∷ 3 ∷ 7 ∷ 8 ∷ []
 
--- the place of a number in an order; what isn't in it comes after all of it: 0, which is no number, and 9 and 10, which follow the run
+-- the place of a number in an order; what isn't in it, such as 0, which is no number, comes after all of it
 unfoldable pub placeOf : List ℕ → ℕ → ℕ
 placeOf [] k = 0
 placeOf (n ∷ ns) k = cond (eqb k n) 0 (suc (placeOf ns k))

@@ -1,5 +1,5 @@
 -- What is printed goes to the start of a lent buffer, which must have room for the longest output.
-use Prim.Native.Nat.{ℕ, _+_}
+use Prim.Native.Nat.{ℕ}
 use mathlib.Core.Bool.{cond}
 use mathlib.Core.List.{List, [], _++_}
 use lib.Dec.{leb}
@@ -9,17 +9,13 @@ use Rattle.text.specs.Number.{decimal}
 use Rattle.text.specs.Field.{printLineEnd}
 use Rattle.memory_text.specs.Sizes.{memoryRoom}
 
--- a line for each of the most locations, and before them one of at most 22 bytes
+-- a line for each of the most locations; a number and the end of its line take less
 abbrev pub places : ℕ
-places = memoryRoom + 22
+places = memoryRoom
 
--- a number and the end of its line, before t
-unfoldable pub numberEnd : ℕ → List ℕ → List ℕ
-numberEnd k t = decimal k ++ printLineEnd t
-
--- the number alone
-abbrev pub numberLine : ℕ → List ℕ
-numberLine k = numberEnd k []
+-- the number alone, with the end of its line
+unfoldable pub numberLine : ℕ → List ℕ
+numberLine k = decimal k ++ printLineEnd []
 
 -- what the buffer then holds, and how many bytes were put
 unfoldable pub put : List ℕ → List ℕ → List ℕ

@@ -1,41 +1,30 @@
-// What the desk programs print, made from the texts that they are given.
-pub mod run; // run.rt: the program run
-
+// What the program show prints, made from the texts that it is given.
 use memory_text::Answer;
 use parts::State;
 use sets::Set;
-use text::Decimal;
 use text::Mask;
 ghost use mathlib.Core.Path.{_≡_};
-ghost use Prim.Native.Nat.{_+_, _≤_};
+ghost use Prim.Native.Nat.{_≤_};
 ghost use lib.ListN.{length, take, drop};
-ghost use Rattle.memory_text.specs.Internal.Writing.{Puts};
-ghost use Rattle.desk.specs.Fields.{closed, groupOf, budgetOf};
+ghost use Rattle.desk.specs.Fields.{closed, groupOf};
 ghost use Rattle.desk.specs.Numbers.{order, placeOf, earlier as earlierOf, asText};
 ghost use Rattle.desk.specs.Given.{givenOf};
-ghost use Rattle.desk.specs.Internal.Post.{Whole, PutAll, groupAnswer, budgetAnswer};
+ghost use Rattle.desk.specs.Internal.Post.{Whole, PutAll, groupAnswer};
 ghost use Rattle.desk.specs.Show.{viewed, showOf};
 ghost use Rattle.desk.specs.Inputs.{showHeld};
-ghost use Rattle.desk.specs.Output.{places, numberEnd, put, putLength};
+ghost use Rattle.desk.specs.Output.{places, numberLine, put, putLength};
 
-// The places that a buffer must have for what is printed: a line for each of the most locations, and before them one
-// of at most 22 bytes.
-pub const PLACES: usize = memory_text::LOCATIONS * memory_text::write::LINE + 22;
+// The places that a buffer must have for what is printed: a line for each of the most locations.
+pub const PLACES: usize = memory_text::LOCATIONS * memory_text::write::LINE;
 
-// A group or an authority, or the refusal of a text that isn't of its form.
+// A group, or the refusal of a text that isn't of its form.
 pub enum Group {
     Read(Set),
     Refused,
 }
 
-// A budget, or the refusal of a text that isn't of its form.
-pub enum Budget {
-    Read(u32),
-    Refused,
-}
-
-// What show and run take from the texts of a memory and of a group or an authority: the words, of which the first `count` are
-// the memory's, the group, and the number of a text that isn't of its form (0: none).
+// What show takes from the texts of a memory and of a group: the words, of which the first `count` are the memory's,
+// the group, and the number of a text that isn't of its form (0: none).
 struct Given {
     words: [u32; memory_text::WORDS],
     count: usize,
@@ -68,19 +57,7 @@ fn group_line(s: &[u8]) -> Group
     Group::Refused
 }
 
-// The budget of a text: a number of 32 bits and byte 10.
-fn budget_line(s: &[u8]) -> Budget
-    ensures { λ r. ⌜ r ≡ budgetAnswer (budgetOf (now (s .entry))) ⌝ }
-{
-    if let Decimal::At(n, p) = text::number(s, 0, text::MOST) {
-        if closes(s, p) {
-            return Budget::Read(n);
-        }
-    }
-    Budget::Refused
-}
-
-// The place of a number in the order 1 2 3 4 5 6 7 8; what isn't in it comes after all of it.
+// The place of a number in the order of a view's table, 1 2 3 7 8; what isn't in it comes after all of it.
 fn place(k: u8) -> u8
     ensures { λ r. ⌜ r ≡ placeOf order k ⌝ }
 {
@@ -88,12 +65,9 @@ fn place(k: u8) -> u8
         1 => 0,
         2 => 1,
         3 => 2,
-        4 => 3,
-        5 => 4,
-        6 => 5,
-        7 => 6,
-        8 => 7,
-        _ => 8,
+        7 => 3,
+        8 => 4,
+        _ => 5,
     }
 }
 
@@ -104,8 +78,8 @@ fn earlier(a: u8, b: u8) -> u8
     if place(b) < place(a) { b } else { a }
 }
 
-// The number to print: that of a call's answer or `other`, whichever comes first in the order. A memory text with another number
-// of lines than the sheet has locations isn't of its form, so that 8 stands for 7.
+// The number to print: the view's answer or `other`, whichever comes first in the order. A memory text with another
+// number of lines than the sheet has locations isn't of its form, so that 8 stands for 7.
 fn number(answer: u8, other: u8) -> u8
     ensures { λ r. ⌜ r ≡ earlierOf (asText answer) other ⌝ }
 {
@@ -148,12 +122,12 @@ fn read_given(memory: &[u8], group: &[u8]) -> Given
     }
 }
 
-// A number and the end of its line at `at`; the place after them.
-fn put_line(out: &mut [u8], at: usize, n: u32) -> usize
-    requires { ⌜ at + 11 ≤ length (now out) ⌝ }
-    ensures { λ r. ⌜ Puts (numberEnd n) 11 (now (out .entry)) at (now (out .exit)) r ⌝ }
+// A number and the end of its line, at the start of a buffer; their length.
+fn put_line(out: &mut [u8], n: u32) -> usize
+    requires { ⌜ 11 ≤ length (now out) ⌝ }
+    ensures { λ r. ⌜ PutAll (now (out .entry)) (numberLine n) (now (out .exit)) r ⌝ }
 {
-    let p = text::write::put_number(out, at, n);
+    let p = text::write::put_number(out, 0, n);
     text::write::put_byte(out, p, b'\n')
 }
 
@@ -170,7 +144,7 @@ fn show_given(sheet: &[u8], given: Given, out: &mut [u8]) -> usize
     if k == 0 {
         return memory_text::write::write_memory(&view[..n], out);
     }
-    put_line(out, 0, k as u32)
+    put_line(out, k as u32)
 }
 
 // What show prints, at the start of a buffer; its length. Nothing is written, and the answer is 0, where the buffer has fewer

@@ -63,7 +63,7 @@ rows-good (suc j) ws n h =
     )
 
 -- a text of j locations has at most 176 bytes for each
-pub length-lines : (j : ℕ) (ws : List ℕ) → length ws ≡ cell-words * j → Words ws → length (lines j ws) ≤ lineRoom * j
+length-lines : (j : ℕ) (ws : List ℕ) → length ws ≡ cell-words * j → Words ws → length (lines j ws) ≤ lineRoom * j
 unfolding printLines rows
 length-lines zero ws n h = omega arith
 length-lines (suc j) ws n h =

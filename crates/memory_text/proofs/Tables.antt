@@ -5,9 +5,9 @@ use mathlib.Core.Path.{_≡_, refl, ap}
 use mathlib.Core.Bool.{true, false}
 use mathlib.Core.List.{List}
 use mathlib.Core.Option.{Option, none, some}
-use lib.ListN.{length, drop, replicate}
+use lib.ListN.{length, drop, replicate, length-replicate}
 use lib.Seq.{sets}
-use Rattle.text.specs.Reading.{fits}
+use Rattle.text.specs.Reading.{Read, fits}
 use Rattle.text.specs.Reading.Read.{got, bad}
 use Rattle.text.specs.Lines.{front, linesUpTo}
 use Rattle.text.proofs.Places.{placed-split}
@@ -20,10 +20,11 @@ use Rattle.memory_text.specs.declared.Memory.{Memory}
 use Rattle.memory_text.specs.declared.Answer.the-variants as answer
 use Rattle.memory_text.specs.declared.Reached.{Reached}
 use Rattle.sheet.specs.Padding.{padded}
+use Rattle.sheet.proofs.Words.{length-padded}
 use Rattle.memory_text.specs.Reading.{location, allWords, wordsOfRows, locations, memory}
 use Rattle.memory_text.specs.Internal.Answers.{locationAt, table, memoryAnswer}
 use Rattle.memory_text.proofs.Lines.{memory-lines}
-use Rattle.memory_text.proofs.Memories.{rows-sound}
+use Rattle.memory_text.proofs.Memories.{rows-sound, memory-sound}
 
 -- a table of n locations with those that are still read after them
 unfoldable pub tabled : ℕ → List ℕ → Option (List (List ℕ)) → Memory
@@ -99,3 +100,20 @@ module _ (t : List ℕ) where
   pub memory-long : fits t ≡ false → memoryAnswer t ≡ table bad
   unfolding memoryAnswer memory
   memory-long e = rw e
+
+-- what is read: at most 64 locations, and the words of so many
+pub memory-few : (t : List ℕ) (m : Memory) → m ≡ memoryAnswer t → m .count * cell-words ≤ memoryWords
+unfolding memoryAnswer table
+memory-few t m e = rw e (go (memory t) refl)
+  where
+    go : (want : Read (List ℕ)) → memory t ≡ want → table want .count * cell-words ≤ memoryWords
+    go (got ws r) q = omega (arith, memory-sound ws t r q .1 .most-locations)
+    go bad q = omega arith
+
+pub memory-full : (t : List ℕ) (m : Memory) → m ≡ memoryAnswer t → length (m .words) ≡ memoryWords
+unfolding memoryAnswer table
+memory-full t m e = rw e (go (memory t) refl)
+  where
+    go : (want : Read (List ℕ)) → memory t ≡ want → length (table want .words) ≡ memoryWords
+    go (got ws r) q = length-padded memoryWords ws (memory-sound ws t r q .1 .most-locations)
+    go bad q = length-replicate {A = ℕ} memoryWords 0

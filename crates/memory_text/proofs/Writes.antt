@@ -62,7 +62,7 @@ module _ (whole rest : List ℕ → List ℕ) (out : List ℕ) (at : ℕ) (now :
   }
 
   -- a form at the front of what is left is written
-  pub goes-form : (left form : List ℕ → List ℕ) (room : ℕ) (now′ : List ℕ) (place′ : ℕ) → ((t : List ℕ) → rest t ≡ form (left t))
+  goes-form : (left form : List ℕ → List ℕ) (room : ℕ) (now′ : List ℕ) (place′ : ℕ) → ((t : List ℕ) → rest t ≡ form (left t))
       → Puts form room now place now′ place′ → Goes whole left out at now′ place′
   goes-form left form room now′ place′ e p = record {
     bytes = λ t. g .bytes t ∙ ap (sets now place) (e t) ∙ p .bytes (left t);

@@ -23,10 +23,9 @@ use Rattle.simp.proofs.CasesHold.{cases-hold}
 use Rattle.parts.proofs.Apart.{joined-apart, missing-empty}
 use Rattle.parts.proofs.Steps.{chunks}
 use Rattle.parts.proofs.Keeping.{holds-parts}
-use Rattle.desk.proofs.Exact.{group-exact, budget-exact}
+use Rattle.desk.proofs.Exact.{group-exact}
 use Rattle.desk.proofs.Orders.{same-order, show-in-order}
-use Rattle.desk.proofs.Runs.{runs-plain}
-use Rattle.desk.proofs.Kept.{kept-enough, shows-input, runs-input}
+use Rattle.desk.proofs.Kept.{kept-enough, shows-input}
 
 pub promises : Promises
 promises = record {
@@ -69,11 +68,8 @@ promises = record {
   chunks = chunks;
   holds-parts = holds-parts;
   group-exact = group-exact;
-  budget-exact = budget-exact;
   same-order = same-order;
   show-in-order = show-in-order;
-  runs-plain = runs-plain;
   kept-enough = kept-enough;
   shows-input = shows-input;
-  runs-input = runs-input;
 }

@@ -18,7 +18,7 @@ use Rattle.numbers.specs.Theorems.{EveryTable}
 use Rattle.simp.specs.Demands.{Demand1, Demand2, Demand3}
 use Rattle.simp.specs.Cases.{CasesHold}
 use Rattle.parts.specs.Theorems.{JoinedApart, MissingEmpty, Chunks, HoldsParts}
-use Rattle.desk.specs.Theorems.{GroupExact, BudgetExact, SameOrder, ShowInOrder, RunsPlain, KeptEnough, ShowsInput, RunsInput}
+use Rattle.desk.specs.Theorems.{GroupExact, SameOrder, ShowInOrder, KeptEnough, ShowsInput}
 
 pub record Promises : Type 1 where
   -- ---- The three calls
@@ -117,17 +117,11 @@ pub record Promises : Type 1 where
   pub holds-parts : HoldsParts
   -- A group is four digits and byte 10.
   pub group-exact : GroupExact
-  -- A budget is a number of 32 bits and byte 10.
-  pub budget-exact : BudgetExact
-  -- The list by which the programs order the refusals is the order of a run's table.
+  -- The list by which show orders the refusals is the order of a view's table.
   pub same-order : SameOrder
   -- Show prints the first number that applies, in the order 1 2 3 8, or the view.
   pub show-in-order : ShowInOrder
-  -- Where memory, authority and budget are of their forms, run prints the run, 8 standing for 7.
-  pub runs-plain : RunsPlain
-  -- The first 16,385 bytes of each text settle the output.
+  -- The first 16,385 bytes of each text settle what show prints.
   pub kept-enough : KeptEnough
   -- What show's buffer holds of an input gives what the input gives.
   pub shows-input : ShowsInput
-  -- What run's buffer holds of an input gives what the input gives.
-  pub runs-input : RunsInput

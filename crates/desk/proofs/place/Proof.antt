@@ -13,16 +13,10 @@ place-spec = tie.close (tie.spec
     (λ c. ap (placeOf order) (sym (c .match .keys3)))  -- returns-3
     (λ c. ap (placeOf order) (sym (c .match .keys4)))  -- returns-4
     (λ c. ap (placeOf order) (sym (c .match .keys5)))  -- returns-5
-    (λ c. ap (placeOf order) (sym (c .match .keys6)))  -- returns-6
-    (λ c. ap (placeOf order) (sym (c .match .keys7)))  -- returns-7
-    (λ c. ap (placeOf order) (sym (c .match .keys8)))  -- returns-8
     (λ c. rw (
-      ne-eqb _ 1 (c .match .rest .0 .0 .0 .0 .0 .0 .0 .1),
-      ne-eqb _ 2 (c .match .rest .0 .0 .0 .0 .0 .0 .1),
-      ne-eqb _ 3 (c .match .rest .0 .0 .0 .0 .0 .1),
-      ne-eqb _ 4 (c .match .rest .0 .0 .0 .0 .1),
-      ne-eqb _ 5 (c .match .rest .0 .0 .0 .1),
-      ne-eqb _ 6 (c .match .rest .0 .0 .1),
+      ne-eqb _ 1 (c .match .rest .0 .0 .0 .0 .1),
+      ne-eqb _ 2 (c .match .rest .0 .0 .0 .1),
+      ne-eqb _ 3 (c .match .rest .0 .0 .1),
       ne-eqb _ 7 (c .match .rest .0 .1),
       ne-eqb _ 8 (c .match .rest .1),
-    )))  -- returns-9
+    )))  -- returns-6

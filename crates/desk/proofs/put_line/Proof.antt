@@ -10,8 +10,9 @@ returns c =
     let b = c .before .before in
     let n = b .before .before .before .before in
     let s = n .before .before .before in
-    line-puts (s .args .out .now) (s .args .at) (s .args .n) _ _ _ _ (n .put-number .ensures .0) (n .put-number .ensures .1) (b .put-byte .ensures .0) (b .put-byte .ensures .1)
-    (n .put-number .kept .0) (omega (arith, s .fits .n .fits)) (s .pre)
+    line-puts (s .args .out .now) (s .args .n) _ _ _ _ (n .put-number .ensures .0) (n .put-number .ensures .1)
+    (b .put-byte .ensures .0) (b .put-byte .ensures .1) (n .put-number .kept .0)
+    (omega (arith, s .fits .n .fits)) (s .pre)
 
 pub put-line-spec : {M : Type 1} → statement M
 put-line-spec = tie.close (tie.spec

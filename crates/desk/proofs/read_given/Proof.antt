@@ -3,9 +3,10 @@ use borrow.Author.Needs.{needs}
 use native.Mathlib.Omega.{arith}
 use mathlib.Core.Path.{refl}
 use mathlib.Core.Option.{none, some}
+use Rattle.memory_text.proofs.Tables.{memory-few}
 use Rattle.desk.specs.Given.{givenOf}
 use Rattle.desk.proofs.Fields.{group-read, group-refused}
-use Rattle.desk.proofs.Givens.{memory-few, numberBy, given-is}
+use Rattle.desk.proofs.Givens.{numberBy, given-is}
 use Rattle.desk.proofs.read_given.Statement.{statement}
 use Rattle.desk.proofs.read_given.Tie as tie
 

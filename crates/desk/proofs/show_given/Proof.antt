@@ -7,7 +7,7 @@ use lib.ListN.{replicate}
 use lib.Seq.{length-take-le}
 use Rattle.memory_text.specs.Sizes.{memoryWords}
 use Rattle.language.specs.World.{cell-words}
-use Rattle.desk.proofs.Outputs.{put-same, part-length, part-is, part-fits, part-count, puts-all, memory-puts}
+use Rattle.desk.proofs.Outputs.{put-same, part-length, part-is, part-fits, part-count, memory-puts}
 use Rattle.desk.proofs.Givens.{words-length}
 use Rattle.desk.proofs.Shows.{view-shown, view-number}
 use Rattle.desk.proofs.show_given.Statement.{statement}
@@ -55,7 +55,7 @@ returns-2 c =
     let t = v .before .before .before .before .before .before in
     put-same _ _ _ _ _
     (view-number (t .args .sheet .now) (t .args .given) _ _ (t .pre .0) (v .simp-view .ensures) _ (k .before .number .ensures) (k .if1 .left))
-    (puts-all _ _ _ _ _ (p .put-line .ensures))
+    (p .put-line .ensures)
 
 pub show-given-spec : {M : Type 1} → statement M
 show-given-spec = tie.close (tie.spec

@@ -10,15 +10,10 @@ use Rattle.memory_text.specs.Sizes.{memoryWords}
 use Rattle.desk.specs.declared.Given.{Given}
 use Rattle.desk.specs.declared.Group.{Group}
 use Rattle.desk.specs.declared.Group.the-variants as group
-use Rattle.desk.specs.declared.Budget.{Budget}
-use Rattle.desk.specs.declared.Budget.the-variants as budget
 
--- what a group's text and a budget's are answered with
+-- what a group's text is answered with
 abbrev pub groupAnswer : Option ℕ → Group
 groupAnswer o = Option·elim o group.Refused (λ m. group.Read m)
-
-abbrev pub budgetAnswer : Option ℕ → Budget
-budgetAnswer o = Option·elim o budget.Refused (λ n. budget.Read n)
 
 -- whole locations, at most 64
 pub record Whole (g : Given) : Type 0 where

@@ -52,6 +52,12 @@ pub enum Origin {
     Opened(LabelId),
 }
 
+impl Source {
+    fn is_at(&self, other: &Source) -> bool {
+        (self.line, self.bound_in) == (other.line, other.bound_in)
+    }
+}
+
 /// The least label of an expression, and where it comes from.
 #[derive(Clone, Debug)]
 struct Least {
@@ -69,8 +75,13 @@ impl Least {
         Least { label, sources: vec![source] }
     }
 
+    /// Each source once, so that there are no more of them than places in the script.
     fn join(mut self, other: Least) -> Least {
-        self.sources.extend(other.sources);
+        for source in other.sources {
+            if !self.sources.iter().any(|known| known.is_at(&source)) {
+                self.sources.push(source);
+            }
+        }
         Least { label: self.label.join(&other.label), sources: self.sources }
     }
 
@@ -87,24 +98,41 @@ impl Least {
     }
 }
 
-/// What surrounds a command: the labels of the guards that it stands in, each with its line.
-#[derive(Clone)]
-struct Surrounding {
+/// What surrounds a command: the join of the guards that it stands in, and each with its line.
+struct Surrounding<'a> {
     label: Label,
-    guards: Vec<(usize, Least)>,
+    /// The innermost guard, and what surrounds that.
+    guard: Option<Guard<'a>>,
 }
 
-impl Surrounding {
-    fn within(&self, line: usize, guard: &Least) -> Surrounding {
-        let mut guards = self.guards.clone();
-        guards.push((line, guard.clone()));
-        Surrounding { label: self.label.join(&guard.label), guards }
+struct Guard<'a> {
+    line: usize,
+    least: &'a Least,
+    outside: &'a Surrounding<'a>,
+}
+
+impl<'a> Surrounding<'a> {
+    fn within(&'a self, line: usize, least: &'a Least) -> Surrounding<'a> {
+        let guard = Guard { line, least, outside: self };
+        Surrounding { label: self.label.join(&least.label), guard: Some(guard) }
+    }
+
+    /// The outermost guard whose label fails the condition that the join fails.
+    fn culprit(&self, passes: impl Fn(&Label) -> bool) -> &Guard<'a> {
+        let mut guard = self.guard.as_ref().expect("bottom is at or below every label");
+        let fails = |guard: &Guard| !passes(&guard.least.label);
+        let mut found = fails(guard).then_some(guard);
+        while let Some(outer) = &guard.outside.guard {
+            guard = outer;
+            found = if fails(guard) { Some(guard) } else { found };
+        }
+        found.expect("the surrounding label is the join of the guards'")
     }
 }
 
 /// Whether the least labels of a script pass.
 pub fn check(sheet: &Sheet, script: &Command) -> Result<(), NoFlow> {
-    let surrounding = Surrounding { label: Label::bottom(sheet.principals), guards: Vec::new() };
+    let surrounding = Surrounding { label: Label::bottom(sheet.principals), guard: None };
     command(sheet, &mut Vec::new(), &surrounding, script)
 }
 
@@ -132,7 +160,7 @@ fn command(
         Phrase::Case(e, on_left, on_right) => {
             let least = expression(sheet, bound, e)?;
             let inside = surrounding.within(c.line, &least);
-            bound.push(least.bound_in(c.line));
+            bound.push(least.clone().bound_in(c.line));
             let both = command(sheet, bound, &inside, on_left)
                 .and_then(|()| command(sheet, bound, &inside, on_right));
             bound.pop();
@@ -158,10 +186,9 @@ fn assign(
     if passes(&surrounding.label) {
         return Ok(());
     }
-    let guard = surrounding.guards.iter().find(|(_, guard)| !passes(&guard.label));
-    let (guard_line, guard) = guard.expect("the surrounding label is the join of the guards'");
-    let source = guard.culprit(passes);
-    Err(NoFlow { line, into, source, through: Through::Guard(*guard_line) })
+    let guard = surrounding.culprit(passes);
+    let source = guard.least.culprit(passes);
+    Err(NoFlow { line, into, source, through: Through::Guard(guard.line) })
 }
 
 /// The least label of an expression.

@@ -143,7 +143,7 @@ pub fn line_of_type(ty: TypeId) -> usize {
 /// The line that a label of a sheet starts with.
 pub fn line_of_label(text: &[u8], label: LabelId) -> usize {
     let lines = text.split(|&byte| byte == b'\n').enumerate();
-    let labels = lines.filter(|(_, line)| *line == b"L");
-    let (before, _) = labels.skip(label).next().expect("the label is on the sheet");
+    let mut labels = lines.filter(|(_, line)| *line == b"L");
+    let (before, _) = labels.nth(label).expect("the label is on the sheet");
     before + 1
 }

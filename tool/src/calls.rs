@@ -1,0 +1,196 @@
+//! The proved library, whose verdicts count, and the reference beside it, which says why.
+
+use reference::calls::read_sheet;
+use reference::memory_text;
+use reference::sheet::Sheet;
+use reference::value::MOST_WORDS;
+use reference::Reason;
+
+pub use bindings::Outcome;
+
+/// The most steps of a run that the reference takes too. It rebuilds the command at each step: so
+/// many steps of a long script take it ten seconds, a hundred times as long as the library.
+pub const MOST_RETRACED: u32 = 1_000_000;
+
+/// A script that every sheet of its form accepts.
+const SKIP: &[u8] = b"s\n";
+
+/// A sheet and a script.
+type CheckCall<A> = fn(&[u8], &[u8]) -> A;
+/// A sheet, a script, a memory, an authority and a budget.
+type RunCall<A> = fn(&[u8], &[u8], &mut [u32], u16, u32) -> A;
+/// A sheet, a memory, a group and a view.
+type ViewCall<A> = fn(&[u8], &[u32], u16, &mut [u32]) -> A;
+
+/// The calls of the library.
+#[derive(Clone, Copy)]
+pub struct Library {
+    pub check: CheckCall<u8>,
+    pub run: RunCall<Outcome>,
+    pub view: ViewCall<u8>,
+}
+
+/// The same calls of the reference, which give the reason of a refusal.
+#[derive(Clone, Copy)]
+pub struct Reference {
+    pub check: CheckCall<Result<(), Reason>>,
+    /// The steps of a run that is done.
+    pub run: RunCall<Result<u32, Reason>>,
+    pub view: ViewCall<Result<(), Reason>>,
+}
+
+#[derive(Clone, Copy)]
+pub struct Calls {
+    pub library: Library,
+    pub reference: Reference,
+}
+
+/// The calls that the tool is made of.
+pub const CALLS: Calls = Calls {
+    library: Library { check: bindings::check, run: bindings::run, view: bindings::view },
+    reference: Reference {
+        check: |sheet, script| reference::try_check(sheet, script).map(|_| ()),
+        run: reference::try_run,
+        view: reference::try_view,
+    },
+};
+
+/// That the two disagree, and what each says.
+#[derive(Clone, Debug, PartialEq, Eq)]
+pub struct Disagreement {
+    /// The library's answer.
+    pub answer: u8,
+    pub library: String,
+    pub reference: String,
+}
+
+/// How a run ended.
+#[derive(Clone, Debug, PartialEq, Eq)]
+pub enum Ran {
+    Done {
+        steps: u32,
+    },
+    Refused(Reason),
+    /// Stopped by 9 or 10 after more steps than the reference retraces.
+    Late(Outcome),
+}
+
+/// What a run is asked for, beside its memory.
+#[derive(Clone, Copy)]
+pub struct Asked<'a> {
+    pub sheet: &'a [u8],
+    pub script: &'a [u8],
+    pub authority: u16,
+    pub budget: u32,
+}
+
+impl Calls {
+    /// The verdict on a script, with why it is refused.
+    pub fn check(&self, sheet: &[u8], script: &[u8]) -> Result<Result<(), Reason>, Disagreement> {
+        let answer = (self.library.check)(sheet, script);
+        let told = (self.reference.check)(sheet, script);
+        agreed(answer, &told).map(|()| told)
+    }
+
+    /// The verdict on a sheet: the check of a script that has no refusal of its own.
+    pub fn sheet(&self, text: &[u8]) -> Result<Result<Sheet, Reason>, Disagreement> {
+        if let Err(reason) = self.check(text, SKIP)? {
+            return Ok(Err(reason));
+        }
+        let told = read_sheet(text);
+        agreed(0, &told).map(|()| told)
+    }
+
+    /// Runs a script and leaves the memory after it.
+    pub fn run(&self, asked: Asked, memory: &mut [u32]) -> Result<Ran, Disagreement> {
+        let Asked { sheet, script, authority, budget } = asked;
+        let mut second = memory.to_vec();
+        let outcome = (self.library.run)(sheet, script, memory, authority, budget);
+        if outcome.steps > MOST_RETRACED {
+            return self.late(asked, outcome, &mut second);
+        }
+        // a run that stops after so many steps needs one more to meet 10
+        let budget = budget.min(MOST_RETRACED + 1);
+        let told = (self.reference.run)(sheet, script, &mut second, authority, budget);
+        let found = match &told {
+            Ok(steps) => Outcome { answer: 0, steps: *steps },
+            Err(reason) => Outcome { answer: reason.number(), steps: reason.steps() },
+        };
+        if outcome != found {
+            return Err(disagreement(outcome.answer, ended(outcome), ended(found)));
+        }
+        same_words(outcome.answer, memory, &second)?;
+        Ok(told.map_or_else(Ran::Refused, |steps| Ran::Done { steps }))
+    }
+
+    /// A long run, of which the reference says only that nothing refuses it before its first step.
+    fn late(
+        &self,
+        asked: Asked,
+        outcome: Outcome,
+        memory: &mut [u32],
+    ) -> Result<Ran, Disagreement> {
+        let Asked { sheet, script, authority, .. } = asked;
+        let told = (self.reference.run)(sheet, script, memory, authority, 0);
+        let reference = match &told {
+            Ok(steps) => Some(ended(Outcome { answer: 0, steps: *steps })),
+            Err(Reason::Stopped(_)) => None,
+            Err(reason) => Some(ended(Outcome { answer: reason.number(), steps: 0 })),
+        };
+        match (reference, outcome.answer) {
+            (Some(reference), answer) => Err(disagreement(answer, ended(outcome), reference)),
+            (None, 0) => Ok(Ran::Done { steps: outcome.steps }),
+            (None, _) => Ok(Ran::Late(outcome)),
+        }
+    }
+
+    /// The words that a group is shown of a memory, or why none are.
+    pub fn view(
+        &self,
+        sheet: &[u8],
+        memory: &[u32],
+        group: u16,
+    ) -> Result<Result<Vec<u32>, Reason>, Disagreement> {
+        let (mut view, mut second) = (vec![0; memory.len()], vec![0; memory.len()]);
+        let answer = (self.library.view)(sheet, memory, group, &mut view);
+        let told = (self.reference.view)(sheet, memory, group, &mut second);
+        agreed(answer, &told)?;
+        same_words(answer, &view, &second)?;
+        Ok(told.map(|()| view))
+    }
+}
+
+/// That the library's answer is the number that the reference comes to.
+fn agreed<T>(answer: u8, told: &Result<T, Reason>) -> Result<(), Disagreement> {
+    let found = told.as_ref().err().map_or(0, Reason::number);
+    if answer == found {
+        Ok(())
+    } else {
+        Err(disagreement(answer, answered(answer), answered(found)))
+    }
+}
+
+fn same_words(answer: u8, library: &[u32], reference: &[u32]) -> Result<(), Disagreement> {
+    let mut pairs = library.chunks(MOST_WORDS).zip(reference.chunks(MOST_WORDS));
+    let Some(location) = pairs.position(|(mine, theirs)| mine != theirs) else {
+        return Ok(());
+    };
+    let words = |words: &[u32]| {
+        let text = memory_text::print(&words[location * MOST_WORDS..][..MOST_WORDS]);
+        let words = String::from_utf8_lossy(&text).trim_end().replace('\t', " ");
+        format!("{}, location {location} is `{words}`", answered(answer))
+    };
+    Err(disagreement(answer, words(library), words(reference)))
+}
+
+fn disagreement(answer: u8, library: String, reference: String) -> Disagreement {
+    Disagreement { answer, library, reference }
+}
+
+fn answered(answer: u8) -> String {
+    format!("answer {answer}")
+}
+
+fn ended(outcome: Outcome) -> String {
+    format!("answer {}, steps {}", outcome.answer, outcome.steps)
+}

@@ -1,0 +1,131 @@
+//! What `--help` and `--version` print.
+
+use crate::args::Command;
+
+const GENERAL: &str = "\
+simp checks, runs, shows and explains SImp scripts, by a library that is proved.
+
+usage: simp check SHEET SCRIPT..        which scripts are accepted on a sheet, and why not
+       simp run SHEET SCRIPT MEMORY ..  a run: how it ends, and the memory after it
+       simp show SHEET MEMORY ..        what a group may see of a memory
+       simp explain SHEET               who and what is on a sheet, and who may read and write it
+       simp help COMMAND                all that a command takes
+       simp --version                   which tool, which logic, which library
+
+A file named - is standard input, for one of the files. Options stand anywhere; -- ends them.
+
+exit status: 0 accepted, done or shown    3 a file or a stream can't be read or written
+             1 refused                    4 the library and the reference disagree: report it
+             2 wrong arguments or names   the greatest is given where several apply
+";
+
+const NAMES: &str = r"
+  --names FILE   names for principals, labels and locations, for what is printed and for the
+                 arguments; its lines are P, L or X, a number and a name, parted by tabs, such as
+                 `P 0 farm`; empty lines and lines that start with # are skipped
+";
+
+const JSON: &str = "  --json         one JSON document instead of words:";
+
+const USAGES: [(&str, &str); 4] = [
+    ("check", "usage: simp check SHEET SCRIPT.. [--names FILE] [--json]\n"),
+    (
+        "run",
+        "usage: simp run SHEET SCRIPT MEMORY --as LIST --budget N [--write] [--names FILE]
+                [--plain | --json]\n",
+    ),
+    ("show", "usage: simp show SHEET MEMORY --to LIST [--names FILE] [--plain | --json]\n"),
+    ("explain", "usage: simp explain SHEET [--names FILE] [--json]\n"),
+];
+
+const CHECK: &str = "
+Says of each script on a line of its own that it is accepted, or in which line what is wrong, by
+which rule and what to do. Then come the sums. If the sheet itself is refused, no script is checked.
+";
+
+const CHECK_JSON: &str = r#"
+                   {"sheet": {"name", "answer", "accepted"},
+                    "scripts": [{"name", "answer", "accepted"}],
+                    "accepted": 0, "refused": 0, "unread": 0}
+                 what is refused has "blamed", "line", "fact", "advice" and "rule" too; what can't
+                 be read has "answer" null and an "error"
+"#;
+
+const RUN: &str = "
+Checks the script and runs it on the memory. Prints how it ended and each location with its words
+and its value; * marks what the run changed. A refused run changes nothing.
+
+  --as LIST      the authority: numbers or names of principals, parted by commas; '' is nobody
+  --budget N     the most steps, 0 to 4294967295; a large one can take hours
+  --write        replace the MEMORY file by the memory after the run, if that is done: whole or not
+                 at all, and only after the rest is printed
+  --plain        the answer, a tab and the steps, then the memory text; why it is refused goes to
+                 standard error";
+
+const RUN_JSON: &str = r#"
+                   {"answer": 0, "done": true, "steps": 1, "memory": [[1, 30], [4, 2, 1]],
+                    "changed": [0], "written": false}
+                 "memory" has the words of each location without the zeros at the end, or is null
+                 if its text isn't of its form; what is refused has "blamed", "name", "line",
+                 "fact", "advice" and "rule" too
+"#;
+
+const SHOW: &str = "
+Prints each location as a group of principals may see it. What it can't read is hidden: whole
+locations, and the contents of packages.
+
+  --to LIST      the group: numbers or names of principals, parted by commas; '' is nobody
+  --plain        the view as a memory text";
+
+const SHOW_JSON: &str = r#"
+                   {"answer": 0, "shown": true, "group": [2], "locations":
+                    [{"location": 0, "name", "hidden": false, "content_hidden": false,
+                      "words": [1, 30], "value": "30"}]}
+                 what is refused has "blamed", "name", "line", "fact", "advice" and "rule"
+"#;
+
+const EXPLAIN: &str = "
+Prints the principals, types, labels and locations of a sheet, and who may read and write what.
+";
+
+const EXPLAIN_JSON: &str = r#"
+                   {"sheet": {"name", "answer", "accepted"},
+                    "principals": [{"principal": 0, "name"}],
+                    "types": [{"type": 5, "parts": [0, 1], "words": "int+error"}],
+                    "labels": [{"label": 0, "name", "read", "write",
+                                "owners": [{"owner": 0, "readers": [0], "writers": [0, 1]}]}],
+                    "locations": [{"location": 0, "name", "type": 0, "label": 0, "read", "write"}]}
+                 a sheet that is refused has "blamed", "line", "fact", "advice" and "rule", and
+                 nothing stands beside it
+"#;
+
+/// All that is said of a command, or of the tool.
+pub fn help(command: Option<&Command>) -> String {
+    let Some(command) = command else {
+        return GENERAL.to_string();
+    };
+    let (about, json) = match command.name {
+        "check" => (CHECK, CHECK_JSON),
+        "run" => (RUN, RUN_JSON),
+        "show" => (SHOW, SHOW_JSON),
+        _ => (EXPLAIN, EXPLAIN_JSON),
+    };
+    [usage(Some(command)), about, NAMES, JSON, json].concat()
+}
+
+/// How a command is called, or how the tool is.
+pub fn usage(command: Option<&Command>) -> &'static str {
+    let of = |command: &Command| USAGES.iter().find(|(name, _)| *name == command.name);
+    command.and_then(of).map_or(GENERAL, |(_, usage)| usage)
+}
+
+/// The tool, the logic and the library, each by what tells it from others.
+pub fn version() -> String {
+    format!(
+        "simp {} (this tool)\nlogic {} (the sum of the logic that the library is proved in)\n\
+         libsimp.a {} (the SHA-256 of the library that is linked in)\n",
+        env!("CARGO_PKG_VERSION"),
+        bindings::LOGIC,
+        bindings::ARCHIVE
+    )
+}

@@ -1,0 +1,128 @@
+//! What is told of a refusal: what is wrong, by which rule, and what to do.
+
+mod flow;
+mod run;
+mod text;
+mod types;
+
+use crate::names::Names;
+use crate::words::Words;
+use reference::sheet::{Repeat, Sheet};
+use reference::text::Fault;
+use reference::Reason;
+use std::fmt;
+
+/// The text that a message blames.
+#[derive(Clone, Copy, Debug, PartialEq, Eq)]
+pub enum Blamed {
+    Sheet,
+    Script,
+    Memory,
+    /// The authority or the group.
+    Argument,
+}
+
+/// What is told of a refusal.
+#[derive(Clone, Debug, PartialEq, Eq)]
+pub struct Message {
+    pub number: u8,
+    pub blamed: Blamed,
+    pub line: Option<usize>,
+    pub fact: String,
+    pub advice: String,
+    pub rule: String,
+}
+
+/// On one line.
+impl fmt::Display for Message {
+    fn fmt(&self, f: &mut fmt::Formatter) -> fmt::Result {
+        let Message { fact, advice, rule, number, .. } = self;
+        write!(f, "{fact}: {advice} [{number}: {rule}]")
+    }
+}
+
+/// What is wrong, what to do, and the rule.
+struct Told {
+    fact: String,
+    advice: String,
+    rule: String,
+}
+
+fn told(
+    fact: impl std::convert::Into<String>,
+    advice: impl std::convert::Into<String>,
+    rule: impl std::convert::Into<String>,
+) -> Told {
+    Told { fact: fact.into(), advice: advice.into(), rule: rule.into() }
+}
+
+/// What is told of why a call is refused. `sheet` is there where it isn't the sheet that is refused.
+pub fn message(reason: &Reason, sheet: Option<&Sheet>, names: &Names) -> Message {
+    let words = || Words { sheet: sheet.expect("the sheet isn't what is refused"), names };
+    let (blamed, line, told) = match reason {
+        Reason::Sheet(fault) => (Blamed::Sheet, fault.line, text::form(text::Text::Sheet, fault)),
+        Reason::Repeats { line, repeat } => (Blamed::Sheet, *line, repeats(*repeat)),
+        Reason::Principal { principal, count } => {
+            (Blamed::Argument, 0, stranger(*principal, *count))
+        }
+        Reason::Script(fault) => {
+            (Blamed::Script, fault.line, text::form(text::Text::Script, fault))
+        }
+        Reason::Types(fault) => (Blamed::Script, fault.line, types::told_of(&words(), fault)),
+        Reason::Labels(fault) => (Blamed::Script, fault.line, flow::told_of(&words(), fault)),
+        Reason::SliceLength { found, wanted } => (Blamed::Memory, 0, length(*found, *wanted)),
+        Reason::Memory(fault) => (Blamed::Memory, fault.location + 1, run::memory(&words(), fault)),
+        Reason::Stopped(stopped) => {
+            let (line, told) = run::stopped(stopped);
+            (Blamed::Script, line, told)
+        }
+    };
+    finished(reason.number(), blamed, line, told)
+}
+
+/// What is told of a memory text that isn't of its form.
+pub fn memory_fault(fault: &Fault, _sheet: &Sheet, _names: &Names) -> Message {
+    finished(8, Blamed::Memory, fault.line, text::form(text::Text::Memory, fault))
+}
+
+/// What is told of a run whose budget was used up, where no line is known.
+pub fn spent(budget: u32) -> Message {
+    finished(9, Blamed::Script, 0, run::spent(budget))
+}
+
+/// Lines count from 1, so 0 is none.
+fn finished(number: u8, blamed: Blamed, line: usize, told: Told) -> Message {
+    let line = (line > 0).then_some(line);
+    Message { number, blamed, line, fact: told.fact, rule: told.rule, advice: told.advice }
+}
+
+fn repeats(repeat: Repeat) -> Told {
+    match repeat {
+        Repeat::Type { first, again } => told(
+            format!("type {again} has the parts of type {first}"),
+            format!("take this line out, use type {first}, and count the later types down"),
+            "a sheet has each type once (types 3 and 4 are int+int and pkg+error)",
+        ),
+        Repeat::Label { first, again } => told(
+            format!("label {again} lets the same principals read and write as label {first}"),
+            format!("take this label out, use label {first}, and count the later labels down"),
+            "a sheet has each label once, and an owner always reads and writes",
+        ),
+    }
+}
+
+fn stranger(principal: usize, count: usize) -> Told {
+    told(
+        format!("principal {principal} isn't on the sheet ({})", text::counted(count, "principal")),
+        "name only principals of the sheet",
+        format!("principals are 0 to {}", count - 1),
+    )
+}
+
+fn length(found: usize, wanted: usize) -> Told {
+    told(
+        format!("the memory has {found} words, and the sheet's locations take {wanted}"),
+        "take the memory that belongs to this sheet",
+        "a memory has 16 words for each location",
+    )
+}

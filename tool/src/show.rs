@@ -1,0 +1,166 @@
+//! `simp show`.
+
+use crate::args::{self, Form, Show};
+use crate::calls::Calls;
+use crate::files::{self, shown};
+use crate::json::{Fields, Json};
+use crate::lent::Lent;
+use crate::message::{Blamed, Message};
+use crate::opening::{self, Named};
+use crate::refusal::{disagreed, Refusal};
+use crate::status::{Status, Stop};
+use crate::streams::{Paint, Streams};
+use crate::values::{self, Row};
+use crate::words::Words;
+use reference::principals::Principals;
+
+pub fn show(request: &Show, calls: &Calls, streams: &mut Streams) -> Result<Status, Stop> {
+    let names_file = opening::read_names(request.names.as_deref(), streams)?;
+    let [sheet, memory] = files::read_all([&*request.sheet, &*request.memory], streams)?;
+    let names = opening::names(names_file.as_ref())?;
+    let group = opening::group("--to", &request.group, &names, args::command("show"))?;
+    let file = Named { name: &request.sheet, text: sheet };
+    let sheet = match opening::sheet(&file, &names, names_file.as_ref(), calls)? {
+        Ok(sheet) => sheet,
+        Err(refusal) => return refused(request, &refusal, streams),
+    };
+    let lent = Lent::new(&memory, &sheet);
+    let view = calls.view(&file.text.bytes, &lent.words, group);
+    match view.map_err(|found| disagreed(&asked(request), &found))? {
+        Ok(view) => {
+            let group = Principals::from_bits(group);
+            let desk = Desk { words: Words { sheet: &sheet, names: &names }, group };
+            let text = desk.view(request, &view, streams.paint());
+            streams.finish(&text, Status::Done)
+        }
+        Err(reason) => {
+            let message = lent.told(&reason, &sheet, &names);
+            refused(request, &Refusal { name: blamed(request, &message), message }, streams)
+        }
+    }
+}
+
+fn asked(request: &Show) -> String {
+    let Show { sheet, memory, group, .. } = request;
+    let (sheet, memory, group) = (shown(sheet), shown(memory), files::printable(group));
+    format!("show {memory} on {sheet}, --to '{group}'")
+}
+
+fn blamed(request: &Show, message: &Message) -> String {
+    match message.blamed {
+        Blamed::Argument => "--to".to_string(),
+        Blamed::Memory => files::name(&request.memory),
+        _ => files::name(&request.sheet),
+    }
+}
+
+fn refused(request: &Show, refusal: &Refusal, streams: &mut Streams) -> Result<Status, Stop> {
+    let text = match request.form {
+        Form::Words => refusal.line(streams.paint()) + "\n",
+        Form::Plain => {
+            streams.say(&refusal.line(Paint::OFF));
+            String::new()
+        }
+        Form::Json => {
+            let answer = Json::number(refusal.message.number.into());
+            let mut fields = vec![("answer", answer), ("shown", Json::Bool(false))];
+            fields.extend(refusal.named_fields());
+            format!("{}\n", Json::Object(fields))
+        }
+    };
+    streams.finish(&text, Status::Refused)
+}
+
+/// What a view is told by.
+struct Desk<'a> {
+    words: Words<'a>,
+    group: Principals,
+}
+
+/// What a group sees of a location.
+struct Seen<'a> {
+    /// Its words in the view.
+    words: &'a [u32],
+    /// Its value, if it isn't hidden.
+    value: Option<String>,
+    /// Whether the content of a package in it is hidden.
+    content_hidden: bool,
+}
+
+impl<'a> Seen<'a> {
+    fn row(&self) -> Row<'a> {
+        let value = self.value.clone().unwrap_or_else(|| "hidden".to_string());
+        Row { mark: "", words: self.words, value }
+    }
+}
+
+impl Desk<'_> {
+    /// All that is printed comes from the view's words; the sheet says what is hidden in them.
+    fn view(&self, request: &Show, view: &[u32], paint: Paint) -> String {
+        let places = values::locations(view).enumerate();
+        let seen: Vec<Seen> = places.map(|(place, words)| self.seen(place, words)).collect();
+        match request.form {
+            Form::Plain => values::text(view),
+            Form::Words => self.in_words(&seen, paint),
+            Form::Json => format!("{}\n", Json::Object(self.fields(&seen))),
+        }
+    }
+
+    fn seen<'a>(&self, location: usize, words: &'a [u32]) -> Seen<'a> {
+        let mut content_hidden = false;
+        let readable = self.words.sheet.label_at(location).read_by(self.group);
+        let value = readable.then(|| self.value(words, &mut content_hidden));
+        Seen { words, value, content_hidden }
+    }
+
+    /// The value that a view's words show, up to a content that the group can't read.
+    fn value(&self, words: &[u32], hidden: &mut bool) -> String {
+        match *words {
+            [3, ref rest @ ..] => format!("left {}", self.value(rest, hidden)),
+            [4, ref rest @ ..] => format!("right {}", self.value(rest, hidden)),
+            [5, label, ref content @ ..] => {
+                let label = label as usize;
+                let package = format!("a package of {}", self.words.label(label));
+                if self.words.sheet.labels.get(label).is_some_and(|l| l.read_by(self.group)) {
+                    return format!("{package} with {}", self.value(content, hidden));
+                }
+                *hidden = true;
+                format!("{package}, content hidden")
+            }
+            _ => values::in_words(words, &self.words),
+        }
+    }
+
+    fn in_words(&self, seen: &[Seen], paint: Paint) -> String {
+        let rows: Vec<Row> = seen.iter().map(Seen::row).collect();
+        let hidden = seen.iter().filter(|seen| seen.value.is_none()).count();
+        let group = self.words.principals(self.group);
+        format!(
+            "what {} may see\n{}{} of {} locations hidden\n",
+            paint.bold(&group),
+            values::lines(&rows, self.words.names, paint),
+            hidden,
+            seen.len()
+        )
+    }
+
+    fn fields(&self, seen: &[Seen]) -> Fields {
+        vec![
+            ("answer", Json::number(0)),
+            ("shown", Json::Bool(true)),
+            ("group", Json::list(self.group.members(), Json::number)),
+            ("locations", Json::list(seen.iter().enumerate(), |seen| self.location(seen))),
+        ]
+    }
+
+    fn location(&self, (location, seen): (usize, &Seen)) -> Json {
+        Json::Object(vec![
+            ("location", Json::number(location)),
+            ("name", Json::name(self.words.names.location(location))),
+            ("hidden", Json::Bool(seen.value.is_none())),
+            ("content_hidden", Json::Bool(seen.content_hidden)),
+            ("words", values::json(seen.words)),
+            ("value", Json::name(seen.value.as_deref())),
+        ])
+    }
+}

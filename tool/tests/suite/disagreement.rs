@@ -1,0 +1,286 @@
+//! A library that lies: the tool notices, says so and writes nothing. And streams that fail.
+
+use crate::desk::{desk, tabbed, MEMORY};
+use crate::folder::Folder;
+use simp::calls::{Calls, Library, Outcome, Reference, CALLS};
+use simp::main_with;
+use simp::streams::Streams;
+use std::ffi::OsString;
+use std::fs;
+use std::io::{self, Write};
+
+/// The status, standard output and standard error of the tool on calls of our own. Arguments with a
+/// dot in them are files of the folder.
+fn told(folder: &Folder, calls: &Calls, arguments: &str) -> (i32, String, String) {
+    let mut out = Vec::new();
+    let (status, err) = told_onto(folder, calls, arguments, &mut out);
+    (status, String::from_utf8(out).expect("UTF-8"), err)
+}
+
+fn told_onto(
+    folder: &Folder,
+    calls: &Calls,
+    arguments: &str,
+    out: &mut dyn Write,
+) -> (i32, String) {
+    let place = |argument: &str| match argument.contains('.') {
+        true => folder.as_ref().join(argument).into_os_string(),
+        false => OsString::from(argument),
+    };
+    let args = arguments.split(' ').map(place).collect();
+    let mut err = Vec::new();
+    let input = &mut io::empty();
+    let mut streams = Streams { input, out, err: &mut err, colour: false, progress: false };
+    let status = main_with(args, calls, &mut streams);
+    (status, String::from_utf8(err).expect("UTF-8"))
+}
+
+fn lying(library: Library) -> Calls {
+    Calls { library, ..CALLS }
+}
+
+/// That standard error says loudly that the two disagree, and how.
+fn is_loud(err: &str, library: &str, reference: &str) {
+    assert!(err.contains("simp: THE PROVED LIBRARY AND THE REFERENCE DISAGREE\n"), "{err}");
+    assert!(err.contains(&format!("library:   {library}\n")), "{err}");
+    assert!(err.contains(&format!("reference: {reference}\n")), "{err}");
+    assert!(err.contains("The library's verdict counts. Nothing was written"), "{err}");
+    assert!(err.contains("report it"), "{err}");
+}
+
+const RUN: &str = "run a.sheet pack.simp a.memory --as=1 --budget=9 --write";
+
+/// A run that lies: nothing is printed, and the memory file is as it was.
+fn refused_run(test: &str, calls: &Calls, library: &str, reference: &str) {
+    let folder = desk(test);
+    let (status, out, err) = told(&folder, calls, RUN);
+    assert_eq!((status, out.as_str()), (4, ""));
+    is_loud(&err, library, reference);
+    let memory = fs::read(folder.as_ref().join("a.memory")).expect("the memory is there");
+    assert_eq!(memory, tabbed(MEMORY));
+}
+
+#[test]
+fn the_calls_as_they_are_agree() {
+    let folder = desk("agree");
+    let (status, out, err) = told(&folder, &CALLS, RUN);
+    assert_eq!((status, err.as_str()), (0, ""), "{out}");
+}
+
+#[test]
+fn a_check_that_accepts_everything() {
+    let folder = desk("lying-check");
+    let calls = lying(Library { check: |_, _| 0, ..CALLS.library });
+    let arguments = "check a.sheet copy.simp leak.simp missing.simp mistyped.simp";
+    let (status, out, err) = told(&folder, &calls, arguments);
+    assert_eq!(status, 4);
+    is_loud(&err, "answer 0", "answer 6");
+    is_loud(&err, "answer 0", "answer 5");
+    assert!(out.contains("leak.simp: accepted by the library alone\n"), "{out}");
+    assert!(out.ends_with("4 scripts: 3 accepted, 0 refused, 1 can't be read\n"), "{out}");
+    let (status, out, _) = told(&folder, &calls, &format!("{arguments} --json"));
+    assert!(status == 4 && out.contains("\"disagreement\":true"), "{out}");
+}
+
+#[test]
+fn a_check_that_refuses_a_script() {
+    let folder = desk("lying-refusal");
+    let check = |sheet: &[u8], script: &[u8]| match script {
+        b"s\n" => bindings::check(sheet, script),
+        _ => 5,
+    };
+    let calls = lying(Library { check, ..CALLS.library });
+    let (status, out, err) = told(&folder, &calls, "check a.sheet copy.simp");
+    assert_eq!(status, 4);
+    is_loud(&err, "answer 5", "answer 0");
+    assert!(out.starts_with(&format!("{}/copy.simp: refused", folder.as_ref().display())), "{out}");
+}
+
+#[test]
+fn a_verdict_on_a_sheet() {
+    let folder = desk("lying-sheet");
+    let calls = lying(Library { check: |_, _| 1, ..CALLS.library });
+    for arguments in [
+        "check a.sheet copy.simp",
+        RUN,
+        "show a.sheet a.memory --to=0",
+        "explain a.sheet",
+        "explain a.sheet --json",
+    ] {
+        let (status, out, err) = told(&folder, &calls, arguments);
+        assert_eq!((status, out.as_str()), (4, ""), "{arguments}");
+        is_loud(&err, "answer 1", "answer 0");
+    }
+}
+
+#[test]
+fn a_run_that_does_nothing() {
+    let run = |_: &[u8], _: &[u8], _: &mut [u32], _, _| Outcome { answer: 0, steps: 1 };
+    let calls = lying(Library { run, ..CALLS.library });
+    let words = ["answer 0, location 2 is `4 2 1`", "answer 0, location 2 is `3 5 2 1 62`"];
+    refused_run("lying-nothing", &calls, words[0], words[1]);
+}
+
+#[test]
+fn a_run_with_other_steps() {
+    let run = |sheet: &[u8], script: &[u8], memory: &mut [u32], authority, budget| {
+        let outcome = bindings::run(sheet, script, memory, authority, budget);
+        Outcome { steps: outcome.steps + 1, ..outcome }
+    };
+    let calls = lying(Library { run, ..CALLS.library });
+    refused_run("lying-steps", &calls, "answer 0, steps 2", "answer 0, steps 1");
+}
+
+#[test]
+fn a_run_that_changes_more() {
+    let run = |sheet: &[u8], script: &[u8], memory: &mut [u32], authority, budget| {
+        let outcome = bindings::run(sheet, script, memory, authority, budget);
+        memory[1] += 1;
+        outcome
+    };
+    let calls = lying(Library { run, ..CALLS.library });
+    let words = ["answer 0, location 0 is `1 6`", "answer 0, location 0 is `1 5`"];
+    refused_run("lying-more", &calls, words[0], words[1]);
+}
+
+#[test]
+fn a_refused_run_that_changes_something() {
+    let folder = desk("lying-refused-run");
+    let run = |sheet: &[u8], script: &[u8], memory: &mut [u32], authority, budget| {
+        memory[1] = 0;
+        bindings::run(sheet, script, memory, authority, budget)
+    };
+    let calls = lying(Library { run, ..CALLS.library });
+    let arguments = "run a.sheet leak.simp a.memory --as=1 --budget=9";
+    let (status, out, err) = told(&folder, &calls, arguments);
+    assert_eq!((status, out.as_str()), (4, ""));
+    is_loud(&err, "answer 6, location 0 is `1`", "answer 6, location 0 is `1 5`");
+}
+
+#[test]
+fn a_memory_that_is_not_of_its_form_is_no_excuse() {
+    let folder = desk("lying-memory");
+    folder.write("a.memory", b"no memory");
+    let run = |_: &[u8], _: &[u8], _: &mut [u32], _, _| Outcome { answer: 0, steps: 0 };
+    let (status, _, err) = told(&folder, &lying(Library { run, ..CALLS.library }), RUN);
+    assert_eq!(status, 4);
+    is_loud(&err, "answer 0, steps 0", "answer 8, steps 0");
+}
+
+/// Of a long run the reference says only whether it may start.
+#[test]
+fn a_long_run() {
+    let folder = desk("lying-late");
+    let run = |_: &[u8], _: &[u8], memory: &mut [u32], _, _| {
+        memory[1] = 7;
+        Outcome { answer: 0, steps: 1_000_001 }
+    };
+    let calls = lying(Library { run, ..CALLS.library });
+    let (status, out, _) =
+        told(&folder, &calls, "run a.sheet loop.simp a.memory --as=1 --budget=9");
+    assert_eq!((status, out.lines().next()), (0, Some("done, 1000001 steps")));
+    let (status, out, err) =
+        told(&folder, &calls, "run a.sheet leak.simp a.memory --as=1 --budget=9");
+    assert_eq!((status, out.as_str()), (4, ""));
+    is_loud(&err, "answer 0, steps 1000001", "answer 6, steps 0");
+}
+
+/// It is told without a line.
+#[test]
+fn a_long_run_that_stops() {
+    let folder = desk("late");
+    let spent = Library { run: |_, _, _, _, _| stopped(9), ..CALLS.library };
+    let too_long = Library { run: |_, _, _, _, _| stopped(10), ..CALLS.library };
+    for (library, answer) in [(spent, 9), (too_long, 10)] {
+        let arguments = "run a.sheet loop.simp a.memory --as=1 --budget=9 --json";
+        let (status, out, _) = told(&folder, &lying(library), arguments);
+        assert_eq!(status, 1);
+        assert!(out.starts_with(&format!("{{\"answer\":{answer},")), "{out}");
+        assert!(out.contains("\"steps\":1000001,") && out.contains("\"line\":null"), "{out}");
+    }
+}
+
+fn stopped(answer: u8) -> Outcome {
+    Outcome { answer, steps: 1_000_001 }
+}
+
+#[test]
+fn a_view_of_other_words() {
+    let folder = desk("lying-view");
+    let view = |sheet: &[u8], memory: &[u32], group, view: &mut [u32]| {
+        let answer = bindings::view(sheet, memory, group, view);
+        view.copy_from_slice(memory);
+        answer
+    };
+    let calls = lying(Library { view, ..CALLS.library });
+    for more in ["", " --plain", " --json"] {
+        let arguments = format!("show a.sheet a.memory --to=1{more}");
+        let (status, out, err) = told(&folder, &calls, &arguments);
+        assert_eq!((status, out.as_str()), (4, ""));
+        is_loud(&err, "answer 0, location 1 is `1 62`", "answer 0, location 1 is ``");
+    }
+}
+
+#[test]
+fn a_reference_that_lies() {
+    let folder = desk("lying-reference");
+    let reference = Reference { view: |_, _, _, _| Ok(()), ..CALLS.reference };
+    let calls = Calls { reference, ..CALLS };
+    let (status, _, err) = told(&folder, &calls, "show a.sheet a.memory --to=5");
+    assert_eq!(status, 4);
+    is_loud(&err, "answer 3", "answer 0");
+}
+
+/// A stream that takes so many bytes and then fails.
+struct Short(usize);
+
+impl Write for Short {
+    fn write(&mut self, bytes: &[u8]) -> io::Result<usize> {
+        match self.0.min(bytes.len()) {
+            0 => Err(io::Error::other("no room")),
+            taken => {
+                self.0 -= taken;
+                Ok(taken)
+            }
+        }
+    }
+
+    fn flush(&mut self) -> io::Result<()> {
+        Ok(())
+    }
+}
+
+/// Where several statuses apply, the greatest is given.
+#[test]
+fn an_output_that_fails_beside_other_ends() {
+    let folder = desk("failing-output");
+    let calls = lying(Library { check: |_, _| 0, ..CALLS.library });
+    for (calls, arguments, status) in [
+        (&CALLS, "check a.sheet copy.simp", 3),
+        (&CALLS, "check a.sheet leak.simp", 3),
+        (&calls, "check a.sheet leak.simp", 4),
+    ] {
+        for room in [0, 5] {
+            let ended = told_onto(&folder, calls, arguments, &mut Short(room));
+            assert_eq!(ended.0, status, "{arguments}");
+            assert!(ended.1.ends_with("simp: standard output: no room\n"), "{}", ended.1);
+        }
+    }
+}
+
+/// The last line is printed after the memory is replaced: if that fails, it is said.
+#[test]
+fn an_output_that_fails_after_the_memory_is_replaced() {
+    let folder = desk("failing-end");
+    let arguments = format!("{RUN} --plain");
+    let (_, plain, _) = told(&folder, &CALLS, &arguments);
+    folder.write("a.memory", &tabbed(MEMORY));
+    // the plain form has no last line
+    assert_eq!(told_onto(&folder, &CALLS, &arguments, &mut Short(plain.len())).0, 0);
+    folder.write("a.memory", &tabbed(MEMORY));
+    let (_, json, _) = told(&folder, &CALLS, &format!("{RUN} --json"));
+    folder.write("a.memory", &tabbed(MEMORY));
+    let mut short = Short(json.len() - 3);
+    let (status, err) = told_onto(&folder, &CALLS, &format!("{RUN} --json"), &mut short);
+    assert!(status == 3 && err.ends_with("a.memory is replaced\n"), "{err}");
+}

@@ -1,0 +1,15 @@
+//! The tool as a program, and in this process where a library that lies stands in.
+
+mod desk;
+mod disagreement;
+mod folder;
+mod generated;
+mod json;
+mod messages;
+mod names;
+mod output;
+mod readme;
+mod samples;
+mod statuses;
+mod tool;
+mod writing;

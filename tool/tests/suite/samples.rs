@@ -1,0 +1,104 @@
+//! The samples: the good ones are accepted and do what they say, and each bad one gets its message.
+
+use crate::folder::repository;
+use crate::tool::{simp, Ran};
+use std::collections::BTreeMap;
+use std::fs;
+use std::path::PathBuf;
+
+fn samples() -> PathBuf {
+    repository().join("samples")
+}
+
+/// The names of the files of a folder of samples that end in this.
+fn files(folder: &str, ending: &str) -> Vec<String> {
+    let entries = fs::read_dir(samples().join(folder)).expect("a folder of samples");
+    let names =
+        entries.map(|entry| entry.expect("a file").file_name().into_string().expect("text"));
+    let mut names: Vec<String> = names.filter(|name| name.ends_with(ending)).collect();
+    names.sort();
+    names
+}
+
+fn at_samples(folder: &str, arguments: &[&str]) -> Ran {
+    simp(samples().join(folder), arguments)
+}
+
+/// What the tool says of a bad sample: the line that starts with its name.
+fn said(name: &str) -> String {
+    let (sheet, memory) = ("../line.sheet", "../morning.memory");
+    let run = |script, memory| {
+        at_samples("bad", &["run", sheet, script, memory, "--as", "1", "--budget", "1000"])
+    };
+    let ran = if name.ends_with(".sheet") {
+        at_samples("bad", &["check", name, "../tally.simp"])
+    } else if name.ends_with(".memory") {
+        run("../tally.simp", name)
+    } else {
+        let checked = at_samples("bad", &["check", sheet, name]);
+        if checked.status == 0 {
+            run(name, memory)
+        } else {
+            checked
+        }
+    };
+    assert_eq!(ran.status, 1, "{name}: {}{}", ran.out, ran.err);
+    let mut lines = ran.out.lines().filter(|line| line.starts_with(&format!("{name}:")));
+    let line = lines.next().unwrap_or_else(|| panic!("{name} is not blamed: {}", ran.out));
+    assert_eq!(lines.next(), None, "{name} is blamed once");
+    line.to_string()
+}
+
+/// `samples/bad/messages.txt` has a line for each bad file.
+#[test]
+fn each_bad_one_gets_its_message() {
+    let path = samples().join("bad/messages.txt");
+    let expected = fs::read_to_string(path).expect("the messages are there");
+    let names = [".simp", ".sheet", ".memory"].map(|ending| files("bad", ending)).concat();
+    let said: Vec<String> = names.iter().map(|name| said(name)).collect();
+    for (said, expected) in said.iter().zip(expected.lines()) {
+        assert_eq!(said, expected);
+    }
+    assert_eq!(said.len(), expected.lines().count());
+    let mut numbers = BTreeMap::new();
+    for line in &said {
+        let (_, number) = line.rsplit_once(" [").expect("a number");
+        *numbers.entry(number.split(':').next().expect("a number").to_string()).or_insert(0) += 1;
+    }
+    let numbers: Vec<String> = numbers.into_keys().collect();
+    assert_eq!(numbers, ["1", "10", "2", "4", "5", "6", "8", "9"]);
+}
+
+#[test]
+fn good_ones_are_accepted() {
+    let scripts = files(".", ".simp");
+    let mut arguments = vec!["check", "line.sheet"];
+    arguments.extend(scripts.iter().map(String::as_str));
+    let ran = at_samples(".", &arguments);
+    assert_eq!((ran.status, ran.err.as_str()), (0, ""));
+    let accepted = scripts.iter().map(|name| format!("{name}: accepted\n")).collect::<String>();
+    let sum = format!("{} scripts: {} accepted, 0 refused\n", scripts.len(), scripts.len());
+    assert_eq!(ran.out, accepted + &sum);
+}
+
+#[test]
+fn a_morning_leaves_noon() {
+    let scratch = crate::folder::Folder::new("noon");
+    scratch.write("memory", &fs::read(samples().join("morning.memory")).expect("a memory"));
+    let path = scratch.as_ref().join("memory");
+    let memory = path.to_str().expect("a path in ASCII");
+    let names = ["--names", "line.names", "--as", "station", "--budget", "54", "--write"];
+    let ran =
+        at_samples(".", &[&["run", "line.sheet", "morning.simp", memory][..], &names].concat());
+    assert_eq!(ran.status, 0, "{}{}", ran.out, ran.err);
+    let noon = fs::read(samples().join("noon.memory")).expect("a memory");
+    assert_eq!(fs::read(path).expect("the memory"), noon);
+}
+
+#[test]
+fn names_stand_in_messages() {
+    let ran = at_samples(".", &["check", "line.sheet", "bad/leak.simp", "--names", "line.names"]);
+    let fact = "bad/leak.simp:1: location 0 (last tray) may be read by everyone, but the value \
+                comes from location 10 (farm total, line 2), which only farm may read: ";
+    assert!(ran.out.starts_with(fact), "{}", ran.out);
+}

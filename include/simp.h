@@ -2,7 +2,8 @@
  * SImp scripts on a sheet: checking, running, viewing.
  *
  * Link with libsimp.a, which is x86-64 code (System V ABI: a stack aligned to 16 bytes, SSE2 enabled, the red zone in
- * use, so run interrupt handlers on another stack) and calls memcpy and memset, nothing else. The calls keep no state,
+ * use, so run interrupt handlers on another stack). It needs two symbols from outside, memcpy and memset of the C
+ * library, and nothing else; it has no static data that is written, and no constructors. The calls keep no state,
  * allocate nothing and read and write only what they are lent. They settle every input: bad input gets one of the
  * numbers below, the first that applies in the order 1 2 3 4 5 6 7 8, then 9 or 10 by the run, and a refused call
  * writes to no lent slice. Each call ends, given the stack that SIMP_STACK_CHECK, SIMP_STACK_RUN and SIMP_STACK_VIEW
@@ -10,9 +11,10 @@
  * sheets, scripts and memories. An answer of 9 or 10, and the steps, may depend on what a group cannot read: don't
  * show them to everyone.
  *
- * A slice is a pointer and the number of its elements. A pointer is not null and suitably aligned, also where the
- * number is 0, and no other slice of the call overlaps one that the call may write (a memory of simp_run, a view of
- * simp_view). Calls are reentrant: two may go on at once if neither may write what the other is lent.
+ * A slice is a pointer and the number of its elements. A pointer is suitably aligned; it may be null where the number
+ * is 0 (memcpy and memset may then be handed it, with 0 bytes). No other slice of the call overlaps one that the call
+ * may write (a memory of simp_run, a view of simp_view). Calls are reentrant: two may go on at once if neither may
+ * write what the other is lent.
  */
 #ifndef SIMP_H
 #define SIMP_H
@@ -24,12 +26,18 @@
 extern "C" {
 #endif
 
+/* The version of this header and of the archive that it belongs to. `simp --version` has the archive's SHA-256. */
+#define SIMP_VERSION "1.0.0"
+
 /* Words of 32 bits that a location takes in a memory or a view. */
 #define SIMP_CELL 16
 
 /* The most locations that a sheet has, and the most bytes of a text. A longer text is refused. */
 #define SIMP_MOST_LOCATIONS 64
 #define SIMP_MOST_TEXT 16384
+
+/* The most bytes of code and constants that the archive adds to a program, as the project's gate holds. */
+#define SIMP_CODE_BYTES 20480
 
 /* The most bytes of stack that a call of this archive takes, its return address included, for every input: no less than
  * what is computed from its code, as the project's gate holds (docs/PERFORMANCE.md). Not in it are the 16 bytes of

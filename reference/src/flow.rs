@@ -41,7 +41,7 @@ pub struct Source {
     pub line: usize,
     pub origin: Origin,
     pub label: Label,
-    /// The line of the `c` that bound the value, if it comes by a binding: the innermost.
+    /// The line of the `c` in whose expression it stands, if the value comes by a binding.
     pub bound_in: Option<usize>,
 }
 
@@ -87,7 +87,9 @@ impl Least {
 
     /// The same as the value that the `c` in this line binds.
     fn bound_in(mut self, line: usize) -> Least {
-        self.sources.iter_mut().for_each(|source| source.bound_in = Some(line));
+        for source in &mut self.sources {
+            source.bound_in.get_or_insert(line);
+        }
         self
     }
 

@@ -21,10 +21,11 @@ pub fn parse(sheet: &Sheet, text: &[u8]) -> Result<Command, Fault> {
     }
     let mut reader = Reader { sheet, lines: &lines, read: 0 };
     let command = reader.command(0, None)?;
-    if reader.read == lines.len() {
-        Ok(command)
-    } else {
-        Err(Cause::LeftOver.at(reader.read + 1))
+    let read = reader.read;
+    match lines.get(read) {
+        None => Ok(command),
+        Some(line) if line.is_empty() => Err(Cause::EmptyLine.at(read + 1)),
+        Some(_) => Err(Cause::LeftOver.at(read + 1)),
     }
 }
 
@@ -79,6 +80,9 @@ impl<'a> Reader<'a> {
             return Err(Cause::Ends(role).at(role.line));
         };
         self.read += 1;
+        if line.is_empty() {
+            return Err(Cause::EmptyLine.at(self.read));
+        }
         let mut names = fields(line);
         let kind = names.remove(0);
         Ok(Head { line: self.read, kind, names })
@@ -137,7 +141,10 @@ impl<'a> Reader<'a> {
         let line = head.line;
         let (types, labels) = (self.sheet.types.len(), self.sheet.labels.len());
         let term = match (head.kind, head.names.as_slice()) {
-            (b"i", [n]) => Term::Integer(number(n).map_err(|cause| head.fault(cause))?),
+            (b"i", [n]) => {
+                let wrong = |_| head.fault(Cause::Integer(n.to_vec()));
+                Term::Integer(number(n).map_err(wrong)?)
+            }
             (b"x", [location]) => {
                 Term::Location(head.name(location, self.sheet.locations.len(), Thing::Location)?)
             }

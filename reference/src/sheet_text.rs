@@ -40,6 +40,7 @@ impl<'a> Rest<'a> {
         self.read += 1;
         match next {
             None => Cause::NoLines,
+            Some(found) if found.is_empty() => Cause::EmptyLine,
             Some(found) => Cause::LineKind { found, expected: Expected::Sheet(kinds) },
         }
     }

@@ -20,6 +20,8 @@ pub enum Cause {
     ByteOrderMark,
     /// The line ends in byte 13.
     CarriageReturn,
+    /// The line has a byte 0.
+    ZeroByte,
     /// The line is a comment.
     Comment,
     /// A blank stands where only a tab parts fields.
@@ -28,12 +30,16 @@ pub enum Cause {
     LooseTab,
     /// The last line doesn't end in byte 10.
     UnendedLine,
+    /// The line is empty, in a sheet or a script.
+    EmptyLine,
     /// The first field, given here, can't stand here.
     LineKind { found: Vec<u8>, expected: Expected },
     /// A line has too few or too many fields after its first.
     FieldCount { kind: Vec<u8>, wanted: usize, found: usize },
     /// A field isn't a number, has a needless zero, or is above 4294967295.
     Number(Vec<u8>),
+    /// The same of the integer of an `i` line.
+    Integer(Vec<u8>),
     /// A field isn't exactly four lowercase hexadecimal digits.
     Set(Vec<u8>),
     /// The number of principals isn't 1 to 16.
@@ -148,6 +154,8 @@ fn stray(line: &[u8]) -> Option<Cause> {
     let comments: [&[u8]; 3] = [b"#", b"//", b"--"];
     if line.ends_with(b"\r") {
         Some(Cause::CarriageReturn)
+    } else if line.contains(&0) {
+        Some(Cause::ZeroByte)
     } else if comments.iter().any(|comment| line.starts_with(comment)) {
         Some(Cause::Comment)
     } else if line.contains(&b' ') {
@@ -236,6 +244,7 @@ mod tests {
         }
         assert_eq!(lines(b"\xef\xbb\xbfs\r\n"), Err(Cause::ByteOrderMark.at(1)));
         assert_eq!(lines(b"\xff\xfes\0\n\0"), Err(Cause::ByteOrderMark.at(1)));
+        assert_eq!(lines(b"s\0\n\0"), Err(Cause::ZeroByte.at(1)));
     }
 
     #[test]

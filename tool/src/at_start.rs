@@ -1,4 +1,4 @@
-//! Whether standard output was open when the process started.
+//! Whether standard input and output were open when the process started.
 //!
 //! The runtime opens `/dev/null` in the place of a standard stream that is closed, before `main`.
 //! Then what is printed would be lost without an error, so this looks earlier, where the loader
@@ -8,8 +8,10 @@
 mod look {
     use std::sync::atomic::{AtomicBool, Ordering};
 
-    static CLOSED: AtomicBool = AtomicBool::new(false);
+    static INPUT_CLOSED: AtomicBool = AtomicBool::new(false);
+    static OUTPUT_CLOSED: AtomicBool = AtomicBool::new(false);
 
+    const STANDARD_INPUT: i32 = 0;
     const STANDARD_OUTPUT: i32 = 1;
     const GET_FLAGS: i32 = 1;
 
@@ -17,29 +19,38 @@ mod look {
         fn fcntl(file: i32, command: i32, ...) -> i32;
     }
 
-    extern "C" fn look() {
+    fn is_closed(file: i32) -> bool {
         // SAFETY: asking for a descriptor's flags changes nothing, and one that isn't open is -1.
-        let flags = unsafe { fcntl(STANDARD_OUTPUT, GET_FLAGS) };
-        CLOSED.store(flags == -1, Ordering::Relaxed);
+        unsafe { fcntl(file, GET_FLAGS) == -1 }
+    }
+
+    extern "C" fn look() {
+        INPUT_CLOSED.store(is_closed(STANDARD_INPUT), Ordering::Relaxed);
+        OUTPUT_CLOSED.store(is_closed(STANDARD_OUTPUT), Ordering::Relaxed);
     }
 
     #[used]
     #[link_section = ".init_array"]
     static LOOK: extern "C" fn() = look;
 
-    pub fn closed() -> bool {
-        CLOSED.load(Ordering::Relaxed)
+    pub fn input_closed() -> bool {
+        INPUT_CLOSED.load(Ordering::Relaxed)
+    }
+
+    pub fn output_closed() -> bool {
+        OUTPUT_CLOSED.load(Ordering::Relaxed)
     }
 }
 
 #[cfg(not(target_os = "linux"))]
 mod look {
-    pub fn closed() -> bool {
+    pub fn input_closed() -> bool {
+        false
+    }
+
+    pub fn output_closed() -> bool {
         false
     }
 }
 
-/// Whether standard output was closed.
-pub fn output_closed() -> bool {
-    look::closed()
-}
+pub use look::{input_closed, output_closed};

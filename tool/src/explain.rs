@@ -52,6 +52,11 @@ fn verdict(sheet: &OsStr, answer: u8) -> Fields {
     ]
 }
 
+const MEANING: &str = "
+read: who may be shown it. write: whose data may have gone into it, and who may pack with its
+label; not who may run a script, for a number in a script may be stored anywhere
+";
+
 /// What is told of a sheet.
 struct About<'a> {
     words: Words<'a>,
@@ -74,6 +79,7 @@ impl About<'_> {
             self.labels(),
             title(about.locations.len(), "location"),
             printed("  ", &self.locations()),
+            MEANING.to_string(),
         ]
         .concat()
     }

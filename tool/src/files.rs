@@ -6,6 +6,7 @@ use std::ffi::OsStr;
 use std::fs::{self, File};
 use std::io::{self, Read};
 use std::os::unix::fs::FileTypeExt;
+use std::path::Path;
 
 /// The most bytes that are read of a file. A text of more than 16,384 is refused, so the rest of a
 /// longer one changes nothing.
@@ -64,7 +65,9 @@ pub fn read(name: &OsStr, streams: &mut Streams) -> io::Result<Text> {
         return read_start(&mut streams.input, 0);
     }
     let kind = fs::metadata(name)?.file_type();
-    if kind.is_fifo() {
+    // those that the system names have a writer: a shell's `<(..)`, standard input
+    let of_system = ["/dev/", "/proc/"].iter().any(|start| Path::new(name).starts_with(start));
+    if kind.is_fifo() && !of_system {
         // opening it would wait for a writer
         return Err(io::Error::other("it is a pipe: name it `-` and give it on standard input"));
     }

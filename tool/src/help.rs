@@ -12,7 +12,8 @@ usage: simp check SHEET SCRIPT..        which scripts are accepted on a sheet, a
        simp help COMMAND                all that a command takes
        simp --version                   which tool, which logic, which library
 
-A file named - is standard input, for one of the files. Options stand anywhere; -- ends them.
+A file named - is standard input, for one of the files. Options stand after the command,
+anywhere; -- ends them.
 
 exit status: 0 accepted, done or shown    3 a file or a stream can't be read or written
              1 refused                    4 the library and the reference disagree: report it
@@ -25,7 +26,9 @@ const NAMES: &str = r"
                  `P 0 farm`; empty lines and lines that start with # are skipped
 ";
 
-const JSON: &str = "  --json         one JSON document instead of words:";
+const JSON: &str =
+    "  --json         one JSON document instead of words; where the command can't go on it is
+                 {\"answer\": null, \"error\"}:";
 
 const USAGES: [(&str, &str); 4] = [
     ("check", "usage: simp check SHEET SCRIPT.. [--names FILE] [--json]\n"),
@@ -64,10 +67,11 @@ and its value; * marks what the run changed. A refused run changes nothing.
 
 const RUN_JSON: &str = r#"
                    {"answer": 0, "done": true, "steps": 1, "memory": [[1, 30], [4, 2, 1]],
-                    "changed": [0], "written": false}
+                    "compared": true, "changed": [0], "written": false}
                  "memory" has the words of each location without the zeros at the end, or is null
                  if its text isn't of its form; what is refused has "blamed", "name", "line",
-                 "fact", "advice" and "rule" too
+                 "fact", "advice" and "rule" too; "compared" is whether the reference took the run
+                 too; a memory that can't be written has an "error"
 "#;
 
 const SHOW: &str = "

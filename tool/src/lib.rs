@@ -24,21 +24,24 @@ mod table;
 mod values;
 pub mod words;
 
-use args::Request;
+use args::{Form, Request};
 use calls::{Calls, CALLS};
+use json::Json;
 use status::{Status, Stop};
 use std::ffi::OsString;
-use std::io::{self, IsTerminal, Write};
+use std::io::{self, IsTerminal, Read, Write};
 use streams::{Closed, Streams};
 
 /// The tool on the process's arguments and streams; the exit status.
 pub fn standard() -> i32 {
     let args = std::env::args_os().skip(1).collect();
-    let (mut open, mut closed) = (io::stdout(), Closed);
-    let out: &mut dyn Write = if at_start::output_closed() { &mut closed } else { &mut open };
+    let mut input: Box<dyn Read> =
+        if at_start::input_closed() { Box::new(Closed) } else { Box::new(io::stdin()) };
+    let mut out: Box<dyn Write> =
+        if at_start::output_closed() { Box::new(Closed) } else { Box::new(io::stdout()) };
     let mut streams = Streams {
-        input: &mut io::stdin(),
-        out,
+        input: &mut input,
+        out: &mut out,
         err: &mut io::stderr(),
         colour: streams::wants_colour(),
         progress: io::stderr().is_terminal(),
@@ -62,9 +65,38 @@ fn answer(args: Vec<OsString>, calls: &Calls, streams: &mut Streams) -> Result<S
         Err(misuse) => Err(opening::misused(&misuse.what, misuse.command)),
         Ok(Request::Help(command)) => streams.finish(&help::help(command), Status::Done),
         Ok(Request::Version) => streams.finish(&help::version(), Status::Done),
-        Ok(Request::Check(request)) => check::check(&request, calls, streams),
-        Ok(Request::Run(request)) => run::run(&request, calls, streams),
-        Ok(Request::Show(request)) => show::show(&request, calls, streams),
-        Ok(Request::Explain(request)) => explain::explain(&request, calls, streams),
+        Ok(Request::Check(request)) => {
+            let ended = check::check(&request, calls, streams);
+            documented(request.form, ended, streams)
+        }
+        Ok(Request::Run(request)) => {
+            let ended = run::run(&request, calls, streams);
+            documented(request.form, ended, streams)
+        }
+        Ok(Request::Show(request)) => {
+            let ended = show::show(&request, calls, streams);
+            documented(request.form, ended, streams)
+        }
+        Ok(Request::Explain(request)) => {
+            let ended = explain::explain(&request, calls, streams);
+            documented(request.form, ended, streams)
+        }
+    }
+}
+
+/// With `--json`, a command that ends before it has printed anything has a document too.
+fn documented(
+    form: Form,
+    ended: Result<Status, Stop>,
+    streams: &mut Streams,
+) -> Result<Status, Stop> {
+    match ended {
+        Err(stop) if form == Form::Json && !stop.late => {
+            let fields = vec![("answer", Json::Null), ("error", Json::text(&stop.text))];
+            // that standard output fails too is told by the status of what is told first
+            let _ = streams.print(&format!("{}\n", Json::Object(fields)));
+            Err(stop)
+        }
+        other => other,
     }
 }

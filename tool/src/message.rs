@@ -6,7 +6,7 @@ mod text;
 mod types;
 
 use crate::names::Names;
-use crate::words::Words;
+use crate::words::{named, Words};
 use reference::sheet::{Repeat, Sheet};
 use reference::text::Fault;
 use reference::Reason;
@@ -61,7 +61,7 @@ pub fn message(reason: &Reason, sheet: Option<&Sheet>, names: &Names) -> Message
     let words = || Words { sheet: sheet.expect("the sheet isn't what is refused"), names };
     let (blamed, line, told) = match reason {
         Reason::Sheet(fault) => (Blamed::Sheet, fault.line, text::form(text::Text::Sheet, fault)),
-        Reason::Repeats { line, repeat } => (Blamed::Sheet, *line, repeats(*repeat)),
+        Reason::Repeats { line, repeat } => (Blamed::Sheet, *line, repeats(*repeat, names)),
         Reason::Principal { principal, count } => {
             (Blamed::Argument, 0, stranger(*principal, *count))
         }
@@ -96,7 +96,8 @@ fn finished(number: u8, blamed: Blamed, line: usize, told: Told) -> Message {
     Message { number, blamed, line, fact: told.fact, rule: told.rule, advice: told.advice }
 }
 
-fn repeats(repeat: Repeat) -> Told {
+fn repeats(repeat: Repeat, names: &Names) -> Told {
+    let label = |label: usize| named("label", label, names.label(label));
     match repeat {
         Repeat::Type { first, again } => told(
             format!("type {again} has the parts of type {first}"),
@@ -104,8 +105,8 @@ fn repeats(repeat: Repeat) -> Told {
             "a sheet has each type once (types 3 and 4 are int+int and pkg+error)",
         ),
         Repeat::Label { first, again } => told(
-            format!("label {again} lets the same principals read and write as label {first}"),
-            format!("take this label out, use label {first}, and count the later labels down"),
+            format!("{} lets the same principals read and write as {}", label(again), label(first)),
+            format!("take this label out, use {}, and count the later labels down", label(first)),
             "a sheet has each label once, and an owner always reads and writes",
         ),
     }

@@ -114,6 +114,9 @@ impl Names {
                 Err(format!("there can't be a principal {principal}: 15 is the last"))
             }
             None if given.is_empty() => Err("a principal is missing beside a comma".to_string()),
+            None if self.principals.is_empty() => {
+                Err(format!("`{given}` is no number, and no names are given (--names FILE)"))
+            }
             None => Err(format!("`{given}` is no principal's name or number")),
         }
     }
@@ -137,7 +140,7 @@ fn add(names: &mut Kind, thing: &str, number: usize, named: Named) -> Result<(),
 }
 
 /// A name has 1 to 40 bytes of letters, digits, blanks, `-`, `_`, `.` and `'`. It can't be taken
-/// for a number, and no blank stands at its ends.
+/// for a number or for the tool's own words, and no blank stands at its ends.
 fn require_form(name: &str) -> Result<(), &'static str> {
     let fits = |c: char| c.is_alphabetic() || c.is_ascii_digit() || " -_.'".contains(c);
     if name.is_empty() {
@@ -150,6 +153,8 @@ fn require_form(name: &str) -> Result<(), &'static str> {
         Err("a name isn't a number")
     } else if name.trim() != name {
         Err("a name has no blank at its ends")
+    } else if name == "everyone" || name == "nobody" || name.contains(" and ") {
+        Err("`everyone`, `nobody` and ` and ` have a meaning of their own")
     } else {
         Ok(())
     }

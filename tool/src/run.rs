@@ -1,7 +1,7 @@
 //! `simp run`.
 
 use crate::args::{self, Form, Run};
-use crate::calls::{Asked, Calls, Outcome, Ran};
+use crate::calls::{Asked, Calls, Outcome, Ran, MOST_RETRACED};
 use crate::files::{self, shown};
 use crate::json::{closing, opened, Fields, Json};
 use crate::lent::Lent;
@@ -114,17 +114,18 @@ impl Desk<'_> {
         let counted = if steps == 1 { "1 step".to_string() } else { format!("{steps} steps") };
         let changed = changes.iter().filter(|change| change.is_one()).count();
         format!(
-            "{}, {counted}\n{}{changed} of {} locations changed\n",
+            "{}, {counted}\n{}{changed} of {} locations changed\n{}",
             paint.good("done"),
             values::lines(&rows, self.names, paint),
-            changes.len()
+            changes.len(),
+            uncompared(steps)
         )
     }
 
     /// The run is printed first, so that a memory whose run couldn't be shown is as it was.
     fn write(&self, text: &str, after: &[u32], streams: &mut Streams) -> Result<Status, Stop> {
         let memory = shown(&self.request.memory);
-        let failed = |what: String| Err(Stop::new(Status::Files, what));
+        let failed = |what: String| Err(Stop::late(Status::Files, what));
         if let Err(error) = streams.print(text) {
             return failed(format!("{}; {memory} is as it was", output_failed(&error)));
         }
@@ -185,7 +186,11 @@ fn refused(
     let End { refusal, steps } = end;
     let answer = refusal.message.number;
     let text = match request.form {
-        Form::Words => format!("{}\nthe memory is as it was\n", refusal.line(streams.paint())),
+        Form::Words => format!(
+            "{}\nthe memory is as it was\n{}",
+            refusal.line(streams.paint()),
+            uncompared(*steps)
+        ),
         Form::Plain => {
             streams.say(&refusal.line(Paint::OFF));
             format!("{answer}\t{steps}\n{}", memory.map_or_else(String::new, values::text))
@@ -206,9 +211,18 @@ fn fields(answer: u8, steps: u32, memory: Option<&[u32]>, changes: &[Change]) ->
         ("answer", Json::number(answer.into())),
         ("done", Json::Bool(answer == 0)),
         ("steps", Json::Number(steps.into())),
+        ("compared", Json::Bool(steps <= MOST_RETRACED)),
         ("memory", memory.map_or(Json::Null, |m| Json::list(values::locations(m), values::json))),
         ("changed", Json::list(places, |(location, _)| Json::number(location))),
     ]
+}
+
+/// That the reference didn't follow a long run.
+fn uncompared(steps: u32) -> String {
+    if steps <= MOST_RETRACED {
+        return String::new();
+    }
+    format!("not compared with the reference: more than {MOST_RETRACED} steps\n")
 }
 
 /// What is told of a run that stopped where the reference didn't follow: no line.

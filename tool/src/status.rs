@@ -26,10 +26,17 @@ pub struct Stop {
     pub status: Status,
     /// Lines without the last one's end. Nothing is said if it is empty.
     pub text: String,
+    /// Whether something was printed, or tried, before.
+    pub late: bool,
 }
 
 impl Stop {
     pub fn new(status: Status, text: impl Into<String>) -> Stop {
-        Stop { status, text: text.into() }
+        Stop { status, text: text.into(), late: false }
+    }
+
+    /// The same, after something was printed.
+    pub fn late(status: Status, text: impl Into<String>) -> Stop {
+        Stop { late: true, ..Stop::new(status, text) }
     }
 }

@@ -27,7 +27,7 @@ impl Streams<'_> {
     pub fn finish(&mut self, text: &str, status: Status) -> Result<Status, Stop> {
         match self.print(text) {
             Ok(()) => Ok(status),
-            Err(error) => Err(Stop::new(status.max(Status::Files), unprinted(&error))),
+            Err(error) => Err(Stop::late(status.max(Status::Files), unprinted(&error))),
         }
     }
 
@@ -101,12 +101,22 @@ pub fn wants_colour() -> bool {
     io::stdout().is_terminal() && set("NO_COLOR").is_none() && set("TERM").is_some_and(able)
 }
 
-/// A standard output that was closed before the program started.
+/// A standard stream that was closed before the program started.
 pub struct Closed;
+
+fn closed() -> io::Error {
+    io::Error::other("it is closed")
+}
+
+impl Read for Closed {
+    fn read(&mut self, _: &mut [u8]) -> io::Result<usize> {
+        Err(closed())
+    }
+}
 
 impl Write for Closed {
     fn write(&mut self, _: &[u8]) -> io::Result<usize> {
-        Err(io::Error::other("it is closed"))
+        Err(closed())
     }
 
     fn flush(&mut self) -> io::Result<()> {

@@ -133,7 +133,8 @@ impl Words<'_> {
     }
 }
 
-fn named(kind: &str, number: usize, name: Option<&str>) -> String {
+/// A kind of thing, its number, and its name if it has one.
+pub fn named(kind: &str, number: usize, name: Option<&str>) -> String {
     match name {
         None => format!("{kind} {number}"),
         Some(name) => format!("{kind} {number} ({name})"),

@@ -1,7 +1,7 @@
 //! Labels that don't fit: both in words, and what flowed where.
 
 use super::{told, Told};
-use crate::words::{needed, Right, Words};
+use crate::words::{Right, Words};
 use reference::flow::{Into, NoFlow, Origin, Source, Through};
 use reference::label::Label;
 
@@ -11,109 +11,176 @@ pub fn told_of(words: &Words, fault: &NoFlow) -> Told {
         Into::Package(label) | Into::Opened(label) => &words.sheet.labels[label],
     };
     let (right, owner) = broken(fault.into, &fault.source.label, target);
-    let what = match fault.into {
-        Into::Location(location) => words.location(location),
-        Into::Package(label) => format!("a package of {}", words.label(label)),
-        Into::Opened(label) => format!("what is opened as {}", words.label(label)),
-    };
-    let fact = Sides { words, right, owner, target, source: &fault.source }.fact(
-        &what,
-        fault.through,
-        fault.into,
-    );
-    told(fact, advice(fault.into, fault.through, right), rule(fault.into, right))
+    let flow = Flow { words, fault, right, target, source: &fault.source.label };
+    if flow.shows() {
+        told(flow.fact(), flow.advice(None), flow.rule(""))
+    } else {
+        let owner_name = words.principal(owner);
+        told(flow.fact_of(owner), flow.advice(Some(&owner_name)), flow.rule("for each owner: "))
+    }
 }
 
 /// What breaks the order, and an owner for whom it does: readers of the target that the source
 /// doesn't have, else writers of the source that the target doesn't have. Opening asks for readers
 /// alone.
 fn broken(into: Into, source: &Label, target: &Label) -> (Right, usize) {
-    let owners = 0..source.principals();
+    let mut owners = 0..source.principals();
     let reads = |&owner: &usize| !source.readers(owner).contains(target.readers(owner));
     if let Some(owner) = owners.clone().find(reads) {
         return (Right::Read, owner);
     }
     assert!(!matches!(into, Into::Opened(_)), "opening asks for readers alone");
     let writes = |&owner: &usize| !target.writers(owner).contains(source.writers(owner));
-    (Right::Write, owners.clone().find(writes).expect("some condition is broken"))
+    (Right::Write, owners.find(writes).expect("some condition is broken"))
 }
 
-/// The two labels of a flow.
-struct Sides<'a> {
+/// A flow from the source's label to the target's, and the right by which it is refused.
+struct Flow<'a> {
     words: &'a Words<'a>,
+    fault: &'a NoFlow,
     right: Right,
-    owner: usize,
     target: &'a Label,
-    source: &'a Source,
+    source: &'a Label,
 }
 
-impl Sides<'_> {
-    /// Who may do it to the target, what flows there from where, and who may do it to that.
-    fn fact(&self, what: &str, through: Through, into: Into) -> String {
-        let (of_target, of_source) = self.whole().unwrap_or_else(|| self.by_owner());
-        let may = match self.right {
-            Right::Read => "may be read by",
-            Right::Write => "may have been written by",
+impl Flow<'_> {
+    /// Whether the labels as a whole show what is broken: some group may read the target and not the
+    /// source, or may have written the source and not the target. It is the one outside of a set
+    /// that all others reach beyond.
+    fn shows(&self) -> bool {
+        let (within, beyond) = match self.right {
+            Right::Read => (self.source, self.target),
+            Right::Write => (self.target, self.source),
         };
-        let source = self.origin();
-        let comes = match (through, into) {
-            (Through::Guard(line), _) => {
-                format!("whether this line is reached depends (line {line}) on {source}")
-            }
-            (_, Into::Location(_)) => format!("the value comes from {source}"),
-            (_, Into::Package(_)) => format!("what is packed comes from {source}"),
-            (_, Into::Opened(_)) => format!("the package comes from {source}"),
+        let beyond = self.right.sets(beyond);
+        let sets = self.right.sets(within);
+        sets.iter().any(|set| beyond.iter().all(|other| !set.contains(*other)))
+    }
+
+    /// By the labels as a whole.
+    fn fact(&self) -> String {
+        let (may, done) = match self.right {
+            Right::Read => ("may be read by", "may read"),
+            Right::Write => ("may have been written by", "may have written"),
         };
+        let who = |label| self.words.who(self.right, label);
+        format!(
+            "{} {may} {}, but {}, which {} {done}",
+            self.what(),
+            who(self.target),
+            self.comes(),
+            who(self.source)
+        )
+    }
+
+    /// By the policies of an owner.
+    fn fact_of(&self, owner: usize) -> String {
         let done = match self.right {
-            Right::Read => "may read",
-            Right::Write => "may have written",
+            Right::Read => "read",
+            Right::Write => "have written",
         };
-        format!("{}{what} {may} {of_target}, but {comes}, which {of_source} {done}", self.policy())
+        let name = self.words.principal(owner);
+        let whom = |label| self.words.only(self.right.set(label, owner));
+        format!(
+            "owner {name} lets {} {done} {}, but {}, which owner {name} lets {} {done}",
+            whom(self.target),
+            self.what(),
+            self.comes(),
+            whom(self.source)
+        )
     }
 
-    /// Both sides in words, where the words themselves show what is broken.
-    fn whole(&self) -> Option<(String, String)> {
-        let n = self.words.sheet.principals;
-        let side = |label: &Label| match needed(self.right.sets(label), n).as_slice() {
-            [] => Some(reference::principals::Principals::first(n)),
-            [one] => Some(*one),
-            _ => None,
-        };
-        let (target, source) = (side(self.target)?, side(&self.source.label)?);
-        let broken = match self.right {
-            Right::Read => !source.contains(target),
-            Right::Write => !target.contains(source),
-        };
-        let who = |label: &Label| self.words.who(self.right, label);
-        broken.then(|| (who(self.target), who(&self.source.label)))
-    }
-
-    /// Both sides for the owner whose policy is broken.
-    fn by_owner(&self) -> (String, String) {
-        let set = |label: &Label| self.words.only(self.right.set(label, self.owner));
-        (set(self.target), set(&self.source.label))
-    }
-
-    /// That the sides are an owner's, where the whole doesn't show what is broken.
-    fn policy(&self) -> String {
-        if self.whole().is_some() {
-            return String::new();
+    /// What the flow goes into.
+    fn what(&self) -> String {
+        match self.fault.into {
+            Into::Location(location) => self.words.location(location),
+            Into::Package(label) => format!("a package of {}", self.words.label(label)),
+            Into::Opened(label) => format!("what is opened as {}", self.words.label(label)),
         }
-        format!("for owner {}, ", self.words.principal(self.owner))
+    }
+
+    /// What flows there, and from where.
+    fn comes(&self) -> String {
+        let origin = self.origin();
+        match (self.fault.through, self.fault.into) {
+            (Through::Guard(line), _) => {
+                format!("whether this line is reached is decided in line {line} by {origin}")
+            }
+            (_, Into::Location(_)) => format!("the value comes from {origin}"),
+            (_, Into::Package(_)) => format!("what is packed comes from {origin}"),
+            (_, Into::Opened(_)) => format!("the package comes from {origin}"),
+        }
     }
 
     /// Where the source stands.
     fn origin(&self) -> String {
-        let Source { line, origin, bound_in, .. } = self.source;
-        let what = match origin {
-            Origin::Location(location) => self.words.location(*location),
-            Origin::Packed(label) => format!("packing as {}", self.words.label(*label)),
-            Origin::Opened(label) => format!("opening as {}", self.words.label(*label)),
+        let Source { line, origin, bound_in, .. } = &self.fault.source;
+        let bound = bound_in.map(|case| format!("bound by the `c` in line {case}"));
+        let made = match origin {
+            Origin::Location(location) => {
+                let note = bound.map_or(String::new(), |bound| format!(", {bound}"));
+                return noted(self.words.location(*location), &format!("line {line}{note}"));
+            }
+            Origin::Packed(label) => {
+                format!("the package of {} made in line {line}", self.words.label(*label))
+            }
+            Origin::Opened(label) => {
+                format!("what is opened as {} in line {line}", self.words.label(*label))
+            }
         };
-        match bound_in {
-            None => noted(what, &format!("line {line}")),
-            Some(case) => noted(what, &format!("line {line}, bound by the `c` in line {case}")),
+        bound.map_or(made.clone(), |bound| format!("{made} ({bound})"))
+    }
+
+    fn advice(&self, owner: Option<&str>) -> String {
+        if let Through::Guard(_) = self.fault.through {
+            let with = "assign to a location with the label of what decides";
+            return format!("move the assignment out of the `c` or `w`, or {with}");
         }
+        let location = match (self.right, owner) {
+            (Right::Read, None) => "that no one else may read".to_string(),
+            (Right::Write, None) => "that they may have written too".to_string(),
+            (Right::Read, Some(owner)) => {
+                format!("on whose label owner {owner} lets no one else read")
+            }
+            (Right::Write, Some(owner)) => {
+                format!("on whose label owner {owner} lets them have written too")
+            }
+        };
+        let label = match (self.right, owner) {
+            (Right::Read, None) => "that lets no one else read".to_string(),
+            (Right::Write, None) => "whose writers include them".to_string(),
+            (Right::Read, Some(owner)) => format!("on which owner {owner} lets no one else read"),
+            (Right::Write, Some(owner)) => {
+                format!("on which owner {owner} lets them have written too")
+            }
+        };
+        match (self.fault.into, self.right) {
+            (Into::Location(_), Right::Read) => {
+                format!("assign to a location {location}, or pack the value by `k` first")
+            }
+            (Into::Location(_), Right::Write) => format!("assign to a location {location}"),
+            (Into::Package(_), _) => format!("pack with a label {label}"),
+            (Into::Opened(_), _) => format!("open with a label {label}"),
+        }
+    }
+
+    fn rule(&self, each: &str) -> String {
+        let rule = match (self.fault.into, self.right) {
+            (Into::Location(_), Right::Read) => {
+                "who may read a location may read all that is assigned to it or decides whether"
+            }
+            (Into::Location(_), Right::Write) => {
+                "who may have written what is assigned, or decides whether, may have written the location"
+            }
+            (Into::Package(_), Right::Read) => "who may read a package may read what is packed",
+            (Into::Package(_), Right::Write) => {
+                "who may have written what is packed may have written the package"
+            }
+            (Into::Opened(_), _) => {
+                "who may read what is opened may read what the package comes from"
+            }
+        };
+        format!("{each}{rule}")
     }
 }
 
@@ -125,37 +192,112 @@ fn noted(what: String, note: &str) -> String {
     }
 }
 
-fn advice(into: Into, through: Through, right: Right) -> &'static str {
-    match (into, through, right) {
-        (Into::Location(_), Through::Guard(_), _) => {
-            "move the assignment out of the `c` or `w`, or assign to a location with the label of what decides"
-        }
-        (Into::Location(_), _, Right::Read) => {
-            "assign to a location that no one else may read, or pack the value by `k` first"
-        }
-        (Into::Location(_), _, Right::Write) => {
-            "assign to a location that they may have written too"
-        }
-        (Into::Package(_), _, Right::Read) => "pack with a label that lets no one else read",
-        (Into::Package(_), _, Right::Write) => "pack with a label that lets them have written",
-        (Into::Opened(_), _, _) => "open with a label that lets no one else read",
-    }
-}
+#[cfg(test)]
+mod tests {
+    use super::{broken, told_of, Flow};
+    use crate::names::Names;
+    use crate::words::{Right, Words};
+    use reference::calls::read_sheet;
+    use reference::flow::{Into, NoFlow, Origin, Source, Through};
+    use reference::principals::Principals;
+    use reference::sheet::Sheet;
 
-fn rule(into: Into, right: Right) -> &'static str {
-    match (into, right) {
-        (Into::Location(_), Right::Read) => {
-            "who may read a location may read all that is assigned to it or decides whether"
+    /// A sheet of three principals with two labels, each owner's sets taken from the bits of a seed.
+    fn sheet(seed: u32) -> Option<Sheet> {
+        let label = |seed: u32| -> String {
+            let policy = |owner: u32| {
+                let bits = seed >> (6 * owner);
+                format!("O\t{owner}\t{:04x}\t{:04x}\n", bits & 7, bits >> 3 & 7)
+            };
+            format!("L\n{}", (0..3).map(policy).collect::<String>())
+        };
+        let (first, second) = (label(seed), label(seed.wrapping_mul(0x9e37_79b1) >> 7));
+        read_sheet(format!("P\t3\n{first}{second}X\t0\t0\nX\t0\t1\n").as_bytes()).ok()
+    }
+
+    fn flow_of(sheet: &Sheet, into: Into) -> NoFlow {
+        let source = Source {
+            line: 2,
+            origin: Origin::Location(0),
+            label: sheet.labels[0].clone(),
+            bound_in: None,
+        };
+        NoFlow { line: 1, into, source, through: Through::Value }
+    }
+
+    /// Whether some group may read the second label and not the first; or, of writing, the other way
+    /// round.
+    fn some_group_shows(sheet: &Sheet, right: Right) -> bool {
+        let may = |label: usize, group: Principals| match right {
+            Right::Read => sheet.labels[label].read_by(group),
+            Right::Write => sheet.labels[label].written_by(group),
+        };
+        let (more, less) = if right == Right::Read { (1, 0) } else { (0, 1) };
+        (0..8).map(Principals::from_bits).any(|group| may(more, group) && !may(less, group))
+    }
+
+    /// The labels as a whole are told where a group shows what is broken, else an owner's policies,
+    /// and what is told is so.
+    #[test]
+    fn what_is_told_of_two_labels_is_so() {
+        let names = Names::default();
+        let (mut whole, mut by_owner) = (0, 0);
+        for seed in (0..60_000_000).step_by(997) {
+            let Some(sheet) = sheet(seed) else {
+                continue;
+            };
+            let [source, target] = &sheet.labels[..] else { unreachable!("two labels") };
+            if source.at_or_below(target) {
+                continue;
+            }
+            let into = Into::Location(1);
+            let words = Words { sheet: &sheet, names: &names };
+            let fault = flow_of(&sheet, into);
+            let (right, owner) = broken(into, source, target);
+            let flow = Flow { words: &words, fault: &fault, right, target, source };
+            assert_eq!(flow.shows(), some_group_shows(&sheet, right), "{seed}");
+            let fact = told_of(&words, &fault).fact;
+            let (start, end) = if flow.shows() {
+                whole += 1;
+                (
+                    format!("location 1 {} {}, but", may(right), words.who(right, target)),
+                    format!(", which {} {}", words.who(right, source), done(right)),
+                )
+            } else {
+                by_owner += 1;
+                let whom = |label| words.only(right.set(label, owner));
+                assert_ne!(whom(source), whom(target), "{fact}");
+                (
+                    format!("owner {owner} lets {} ", whom(target)),
+                    format!(", which owner {owner} lets {} {}", whom(source), plain(right)),
+                )
+            };
+            assert!(fact.starts_with(&start) && fact.ends_with(&end), "{fact}");
         }
-        (Into::Location(_), Right::Write) => {
-            "who may have written what is assigned, or decides whether, may have written the location"
+        assert!(whole > 1000 && by_owner > 1000, "{whole} whole, {by_owner} by an owner");
+    }
+
+    fn may(right: Right) -> &'static str {
+        if right == Right::Read {
+            "may be read by"
+        } else {
+            "may have been written by"
         }
-        (Into::Package(_), Right::Read) => "who may read a package may read what is packed",
-        (Into::Package(_), Right::Write) => {
-            "who may have written what is packed may have written the package"
+    }
+
+    fn done(right: Right) -> &'static str {
+        if right == Right::Read {
+            "may read"
+        } else {
+            "may have written"
         }
-        (Into::Opened(_), _) => {
-            "who may read what is opened may read the expression that the package comes from"
+    }
+
+    fn plain(right: Right) -> &'static str {
+        if right == Right::Read {
+            "read"
+        } else {
+            "have written"
         }
     }
 }

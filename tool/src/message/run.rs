@@ -31,7 +31,8 @@ pub fn memory(words: &Words, fault: &BadMemory) -> Told {
 fn bad_words(words: &Words, bad: BadWords) -> (String, &'static str) {
     match bad {
         BadWords::Start(0) => {
-            ("its value is missing or ends too early".to_string(), "give the whole value")
+            let fact = "a 0, or the end of the line, stands where a value should start";
+            (fact.to_string(), "give the whole value")
         }
         BadWords::Start(word) => {
             (format!("no value starts with word {word}"), "start a value with 1, 2, 3, 4 or 5")

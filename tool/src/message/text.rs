@@ -32,7 +32,7 @@ const PREFIX: &str = "a script is one command, the operands of each line followi
 
 pub fn form(text: Text, fault: &Fault) -> Told {
     bytes(text, &fault.cause)
-        .or_else(|| fields(&fault.cause))
+        .or_else(|| fields(text, &fault.cause))
         .or_else(|| limits(text, &fault.cause))
         .or_else(|| missing(&fault.cause))
         .unwrap_or_else(|| order(fault))
@@ -48,7 +48,7 @@ fn bytes(text: Text, cause: &Cause) -> Option<Told> {
         ),
         Cause::ByteOrderMark => told(
             "the text starts with a byte order mark",
-            "save it as plain text without one",
+            "save it as plain text, UTF-8 without a mark",
             "a text has no bytes but its lines'",
         ),
         Cause::CarriageReturn => {
@@ -58,6 +58,16 @@ fn bytes(text: Text, cause: &Cause) -> Option<Told> {
             "fields are parted by a tab, found a blank",
             "put one tab between fields, and nothing after the last",
             "no text has blanks",
+        ),
+        Cause::ZeroByte => told(
+            "the line has a byte 0",
+            "save the text with one byte a letter, as ASCII or UTF-8",
+            "a text has no bytes but its lines'",
+        ),
+        Cause::EmptyLine => told(
+            "the line is empty",
+            "take it out",
+            if text == Text::Sheet { ORDER } else { PREFIX },
         ),
         Cause::Comment => told(
             "the line is a comment",
@@ -79,17 +89,18 @@ fn bytes(text: Text, cause: &Cause) -> Option<Told> {
 }
 
 /// Fields that aren't what they should be.
-fn fields(cause: &Cause) -> Option<Told> {
+fn fields(text: Text, cause: &Cause) -> Option<Told> {
     Some(match cause {
         Cause::FieldCount { kind, wanted, found } => {
             let kind = shown(kind);
             told(
                 format!("{kind} has {} after it, not {wanted}", counted(*found, "field")),
                 format!("write it as {}", form_of(&kind)),
-                "each kind of line has its own fields, one tab before each",
+                "each kind of line has its own fields, and its operands follow on lines of their own",
             )
         }
-        Cause::Number(field) => number(field),
+        Cause::Number(field) => number(field, text),
+        Cause::Integer(field) => integer(field),
         Cause::Set(field) => told(
             format!("{} isn't a set", shown(field)),
             "write four digits of 0 to 9 and a to f: `0005` is principals 0 and 2",
@@ -109,23 +120,62 @@ fn fields(cause: &Cause) -> Option<Told> {
     })
 }
 
+const NUMBERS: &str = "numbers are decimal, 0 to 4294967295, without needless zeros";
+
 /// What was written where a number is due.
-fn number(field: &[u8]) -> Told {
-    let digits = field.strip_prefix(b"-").unwrap_or(field);
-    let decimal = !digits.is_empty() && digits.iter().all(u8::is_ascii_digit);
-    let plain = &digits[digits.iter().take_while(|&&digit| digit == b'0').count()..];
-    let (fact, advice) = if decimal && digits.len() < field.len() {
-        ("is negative", "add 4294967295 to take 1 away, since sums are modulo 2^32".to_string())
-    } else if decimal && plain.len() < digits.len() {
-        let plain = if plain.is_empty() { b"0" } else { plain };
-        ("has a needless zero", format!("write {}", shown(plain)))
-    } else if decimal {
-        ("is too large", "write a number up to 4294967295".to_string())
-    } else {
-        ("isn't a number", "write the number in decimal digits".to_string())
+fn number(field: &[u8], text: Text) -> Told {
+    let (fact, advice) = match Written::of(field) {
+        Written::Negative => ("is negative", "write a number from 0 on".to_string()),
+        Written::Padded(plain) => ("has a needless zero", format!("write {}", shown(plain))),
+        Written::Large if text == Text::Memory => {
+            ("is too large", "write a number up to 4294967295".to_string())
+        }
+        Written::Large => ("is too large", "write the number of what is on the sheet".to_string()),
+        Written::Other => ("isn't a number", "write the number in decimal digits".to_string()),
     };
-    let rule = "numbers are decimal, 0 to 4294967295, without needless zeros";
-    told(format!("{} {fact}", shown(field)), advice, rule)
+    told(format!("{} {fact}", shown(field)), advice, NUMBERS)
+}
+
+/// What was written as the integer of an `i` line.
+fn integer(field: &[u8]) -> Told {
+    let digits = || std::str::from_utf8(&field[1..]).ok().and_then(|digits| digits.parse().ok());
+    let less = match Written::of(field) {
+        Written::Negative => digits().map(|less: u32| less.wrapping_neg()),
+        _ => None,
+    };
+    match less {
+        None => number(field, Text::Memory),
+        Some(word) => told(
+            format!("{} is negative", shown(field)),
+            format!("write {word}, which takes as much away: sums are modulo 4294967296"),
+            NUMBERS,
+        ),
+    }
+}
+
+/// What a field that isn't a number looks like.
+enum Written<'a> {
+    Negative,
+    /// With zeros in front, which the rest has none of.
+    Padded(&'a [u8]),
+    Large,
+    Other,
+}
+
+impl Written<'_> {
+    fn of(field: &[u8]) -> Written<'_> {
+        let digits = field.strip_prefix(b"-").unwrap_or(field);
+        let zeros = digits.iter().take_while(|&&digit| digit == b'0').count();
+        if digits.is_empty() || !digits.iter().all(u8::is_ascii_digit) {
+            Written::Other
+        } else if digits.len() < field.len() {
+            Written::Negative
+        } else if zeros > 0 {
+            Written::Padded(&digits[zeros.min(digits.len() - 1)..])
+        } else {
+            Written::Large
+        }
+    }
 }
 
 /// More than there may be, or less.
@@ -220,10 +270,6 @@ fn enclosing(count: usize) -> String {
 /// Lines in the wrong place.
 fn order(fault: &Fault) -> Told {
     match &fault.cause {
-        Cause::LineKind { found, expected } if found.is_empty() => {
-            let rule = if matches!(expected, Expected::Sheet(_)) { ORDER } else { PREFIX };
-            told("the line is empty", "take it out", rule)
-        }
         Cause::LineKind { found, expected: Expected::Sheet(kinds) } => {
             let kinds: Vec<String> =
                 kinds.iter().map(|kind| form_of(&format!("`{kind}`"))).collect();

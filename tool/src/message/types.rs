@@ -5,6 +5,9 @@ use crate::words::Words;
 use reference::shape::{Misfit, NoShape, Rule};
 use reference::types::{TypeId, PACKED};
 
+const WITH_ERROR: &str =
+    "name the type with the wanted type on its left and error on its right (`T wanted 1`)";
+
 pub fn told_of(words: &Words, fault: &NoShape) -> Told {
     match fault.misfit {
         Misfit::Operand { operand, found, wanted } => {
@@ -18,6 +21,11 @@ pub fn told_of(words: &Words, fault: &NoShape) -> Told {
             "give it an expression of a sum type",
             "the expression of `c` has a sum type",
         ),
+        Misfit::NoSum(ty) if matches!(fault.rule, Rule::Unpack(_)) => told(
+            format!("`u` may fail, so it makes a sum, and {} isn't one", words.ty(ty)),
+            WITH_ERROR,
+            "`u t label` makes the sum t of the wanted type and error",
+        ),
         Misfit::NoSum(ty) => told(
             format!("{} makes a value of a sum, and {} isn't one", kind(fault.rule), words.ty(ty)),
             "name 3, 4 or a type that a `T` line makes",
@@ -29,7 +37,7 @@ pub fn told_of(words: &Words, fault: &NoShape) -> Told {
                 kind(fault.rule),
                 words.ty(ty)
             ),
-            "name the type with the wanted type on its left and error on its right (`T wanted 1`)",
+            WITH_ERROR,
             "`u t label` makes the sum t of the wanted type and error",
         ),
     }
@@ -45,7 +53,7 @@ fn mismatch(words: &Words, rule: Rule, operand: usize, found: TypeId, wanted: Ty
                 "{} takes {due}, but the value (line {operand}) is {there}",
                 words.location(location)
             ),
-            into_location(wanted),
+            into_location(words, wanted, found),
             "a value has the type that the location is declared with",
         ),
         Rule::While => told(
@@ -81,11 +89,19 @@ fn mismatch(words: &Words, rule: Rule, operand: usize, found: TypeId, wanted: Ty
     }
 }
 
-fn into_location(wanted: TypeId) -> &'static str {
-    if wanted == PACKED {
-        "pack the value by `k label`, or assign to a location of the value's type"
-    } else {
-        "assign to a location of the value's type, or give a value of the location's"
+fn into_location(words: &Words, wanted: TypeId, found: TypeId) -> String {
+    match words.sheet.parts(wanted) {
+        Some((left, _)) if left == found => {
+            format!("make it left of the sum, by `l {wanted}` in the line before it")
+        }
+        Some((_, right)) if right == found => {
+            format!("make it right of the sum, by `r {wanted}` in the line before it")
+        }
+        _ if wanted == PACKED => {
+            "pack the value by `k label`, or assign to a location of the value's type".to_string()
+        }
+        _ => "assign to a location of the value's type, or give a value of the location's"
+            .to_string(),
     }
 }
 

@@ -60,6 +60,13 @@ fn refused_run(test: &str, calls: &Calls, library: &str, reference: &str) {
     assert_eq!(memory, tabbed(MEMORY));
 }
 
+/// Standard output has no answer: nothing, or a document that says why.
+fn says_nothing_else(arguments: &str, out: &str) {
+    let start =
+        if arguments.contains("--json") { "{\"answer\":null,\"error\":\"simp: THE" } else { "" };
+    assert!(out.starts_with(start) && out.is_empty() == start.is_empty(), "{arguments}: {out}");
+}
+
 #[test]
 fn the_calls_as_they_are_agree() {
     let folder = desk("agree");
@@ -108,7 +115,8 @@ fn a_verdict_on_a_sheet() {
         "explain a.sheet --json",
     ] {
         let (status, out, err) = told(&folder, &calls, arguments);
-        assert_eq!((status, out.as_str()), (4, ""), "{arguments}");
+        assert_eq!(status, 4, "{arguments}");
+        says_nothing_else(arguments, &out);
         is_loud(&err, "answer 1", "answer 0");
     }
 }
@@ -216,7 +224,8 @@ fn a_view_of_other_words() {
     for more in ["", " --plain", " --json"] {
         let arguments = format!("show a.sheet a.memory --to=1{more}");
         let (status, out, err) = told(&folder, &calls, &arguments);
-        assert_eq!((status, out.as_str()), (4, ""));
+        assert_eq!(status, 4);
+        says_nothing_else(&arguments, &out);
         is_loud(&err, "answer 0, location 1 is `1 62`", "answer 0, location 1 is ``");
     }
 }

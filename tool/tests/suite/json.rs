@@ -270,6 +270,25 @@ fn explanations() {
     told(json.at("sheet"), "sheet", Some(3));
 }
 
+/// A command that can't go on has a document too.
+#[test]
+fn what_cannot_be_read() {
+    let folder = desk("json-unread");
+    let calls: [&[&str]; 4] = [
+        &["run", "a.sheet", "no.simp", "a.memory", "--as=0", "--budget=1", "--json"],
+        &["show", "no.sheet", "a.memory", "--to=0", "--json"],
+        &["explain", "no.sheet", "--json"],
+        &["check", "a.sheet", "copy.simp", "--names=no.names", "--json"],
+    ];
+    for arguments in calls {
+        let ran = simp(&folder, arguments);
+        let json = document(&ran, 3);
+        assert_eq!(json.at("answer"), &Json::Null, "{arguments:?}");
+        let Json::Text(error) = json.at("error") else { panic!("{arguments:?}") };
+        assert_eq!(format!("{error}\n"), ran.err);
+    }
+}
+
 #[test]
 fn names_of_files_are_escaped() {
     let folder = desk("json-bytes");

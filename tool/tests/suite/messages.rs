@@ -85,8 +85,8 @@ fn one_wrong_label_among_many_lines_is_found() {
 fn what_decides_is_named_with_its_line() {
     starts(
         &said("c\nx 4\n= 2\ni 1\ns\n"),
-        "a.simp:3: location 2 may be read by everyone, but whether this line is reached depends \
-         (line 1) on location 4 (line 2), which only 0 may read",
+        "a.simp:3: location 2 may be read by everyone, but whether this line is reached is \
+         decided in line 1 by location 4 (line 2), which only 0 may read",
     );
     starts(
         &said("c\nx 4\n= 2\nv 0\ns\n"),
@@ -106,7 +106,7 @@ fn labels_that_are_joined_over_and_over() {
     starts(
         &said(&script),
         "a.simp:393: location 2 may be read by everyone, but the value comes from location 1 \
-         (line 26, bound by the `c` in line 344), which only 0 may read",
+         (line 26, bound by the `c` in line 1), which only 0 may read",
     );
 }
 

@@ -91,6 +91,17 @@ fn a_pipe_is_not_opened() {
     let ran = simp(&folder, &["check", "a.sheet", "pipe"]);
     assert_eq!(ran.status, 3);
     assert!(ran.err.starts_with("simp: pipe: it is a pipe"), "{}", ran.err);
+    // one that the system gives a name has a writer
+    let ran = shell(&folder, "cat copy.simp | \"$SIMP\" check a.sheet /dev/stdin");
+    assert_eq!((ran.status, ran.err.as_str()), (0, ""), "{}", ran.out);
+}
+
+#[test]
+fn a_closed_standard_input() {
+    let folder = desk("closed-input");
+    let ran = shell(&folder, "\"$SIMP\" explain - <&-");
+    let err = "simp: standard input: it is closed\n";
+    assert_eq!((ran.status, ran.err.as_str()), (3, err), "{}", ran.out);
 }
 
 #[test]
@@ -304,6 +315,8 @@ fn a_long_run_is_told_without_a_line() {
     assert!(ran.status == 1 && ran.out.starts_with("loop.simp:1: "), "{}", ran.out);
     let ran = simp(&folder, &[&arguments[..], &["1000001"]].concat());
     assert!(ran.status == 1 && ran.out.starts_with("loop.simp: "), "{}", ran.out);
+    let note = "not compared with the reference: more than 1000000 steps";
+    assert_eq!(ran.out.lines().last(), Some(note));
 }
 
 #[test]

@@ -12,6 +12,7 @@ mod sha256;
 fn main() {
     println!("cargo:rerun-if-env-changed=SIMP_LIB_DIR");
     let folder = env::var("SIMP_LIB_DIR").map_or_else(|_| default_folder(), PathBuf::from);
+    assert!(folder.is_absolute(), "SIMP_LIB_DIR is an absolute path");
     let archive = folder.join("libsimp.a");
     println!("cargo:rerun-if-changed={}", archive.display());
     let bytes = fs::read(&archive).unwrap_or_else(|error| {
@@ -32,5 +33,5 @@ fn logic(archive: &[u8]) -> Option<String> {
     let mark = b"rattle logic=";
     let start = archive.windows(mark.len()).position(|window| window == mark)? + mark.len();
     let sum = archive[start..].iter().take_while(|byte| byte.is_ascii_hexdigit());
-    String::from_utf8(sum.copied().collect()).ok()
+    String::from_utf8(sum.copied().collect()).ok().filter(|sum| !sum.is_empty())
 }

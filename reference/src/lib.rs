@@ -1,7 +1,7 @@
-//! A second implementation of SImp, written from the scope and the paper alone.
+//! A second implementation of SImp, after the scope and the paper, that says why it refuses.
 //!
-//! Values, types, expressions and commands are trees, labels are tables of truth values, and a run
-//! is a sequence of the transitions of figure 3. Nothing here is made for speed.
+//! Values, types, expressions and commands are trees, sets of principals are tables of truth values,
+//! and a run is a sequence of the transitions of figure 3. Nothing here is made for speed.
 
 pub mod answer;
 pub mod calls;

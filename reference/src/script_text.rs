@@ -24,7 +24,7 @@ pub fn parse(sheet: &Sheet, text: &[u8]) -> Result<Command, Fault> {
     let read = reader.read;
     match lines.get(read) {
         None => Ok(command),
-        Some(line) if line.is_empty() => Err(Cause::EmptyLine.at(read + 1)),
+        Some([]) => Err(Cause::EmptyLine.at(read + 1)),
         Some(_) => Err(Cause::LeftOver.at(read + 1)),
     }
 }

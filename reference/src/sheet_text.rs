@@ -13,7 +13,7 @@ pub const MOST_LOCATIONS: usize = 64;
 
 type Line<'a> = Vec<&'a [u8]>;
 
-/// The lines not yet read.
+/// The lines, and how many of them are read.
 struct Rest<'a> {
     lines: Vec<Line<'a>>,
     read: usize,

@@ -154,6 +154,9 @@ fn help(mut args: VecDeque<OsString>) -> Result<Request, String> {
     let Some(topic) = args.pop_front().filter(|topic| topic != "--help") else {
         return Ok(Request::Help(None));
     };
+    if let Some(extra) = args.front() {
+        return Err(format!("{} is one argument too many", quoted(extra)));
+    }
     let known = find(&topic).map(|command| Request::Help(Some(command)));
     known.ok_or_else(|| format!("{} is no command", quoted(&topic)))
 }

@@ -107,7 +107,7 @@ impl Calls {
         let mut second = memory.to_vec();
         let outcome = (self.library.run)(sheet, script, memory, authority, budget);
         if outcome.steps > MOST_RETRACED {
-            return self.late(asked, outcome, &mut second);
+            return self.late(asked, outcome, memory, &mut second);
         }
         // a run that stops after so many steps needs one more to meet 10
         let budget = budget.min(MOST_RETRACED + 1);
@@ -124,23 +124,33 @@ impl Calls {
     }
 
     /// A long run, of which the reference says only that nothing refuses it before its first step.
+    /// Its steps must fit its answer and the budget, and one that stopped leaves the memory.
     fn late(
         &self,
         asked: Asked,
         outcome: Outcome,
+        left: &[u32],
         memory: &mut [u32],
     ) -> Result<Ran, Disagreement> {
-        let Asked { sheet, script, authority, .. } = asked;
+        let Asked { sheet, script, authority, budget } = asked;
+        let Outcome { answer, steps } = outcome;
         let told = (self.reference.run)(sheet, script, memory, authority, 0);
         let reference = match &told {
             Ok(steps) => Some(ended(Outcome { answer: 0, steps: *steps })),
             Err(Reason::Stopped(_)) => None,
             Err(reason) => Some(ended(Outcome { answer: reason.number(), steps: 0 })),
         };
-        match (reference, outcome.answer) {
-            (Some(reference), answer) => Err(disagreement(answer, ended(outcome), reference)),
-            (None, 0) => Ok(Ran::Done { steps: outcome.steps }),
-            (None, _) => Ok(Ran::Late(outcome)),
+        if let Some(reference) = reference {
+            return Err(disagreement(answer, ended(outcome), reference));
+        }
+        match answer {
+            0 if steps <= budget => Ok(Ran::Done { steps }),
+            9 if steps == budget => same_words(answer, left, memory).map(|()| Ran::Late(outcome)),
+            10 if steps < budget => same_words(answer, left, memory).map(|()| Ran::Late(outcome)),
+            _ => {
+                let reference = format!("no such answer with a budget of {budget}");
+                Err(disagreement(answer, ended(outcome), reference))
+            }
         }
     }
 

@@ -26,9 +26,9 @@ const NAMES: &str = r"
                  `P 0 farm`; empty lines and lines that start with # are skipped
 ";
 
-const JSON: &str =
-    "  --json         one JSON document instead of words; where the command can't go on it is
-                 {\"answer\": null, \"error\"}:";
+const JSON: &str = r#"  --json         one JSON document instead of words, as below; where the command can't go on
+                 it is {"answer": null, "error": ".."}
+"#;
 
 const USAGES: [(&str, &str); 4] = [
     ("check", "usage: simp check SHEET SCRIPT.. [--names FILE] [--json]\n"),
@@ -51,7 +51,8 @@ const CHECK_JSON: &str = r#"
                     "scripts": [{"name", "answer", "accepted"}],
                     "accepted": 0, "refused": 0, "unread": 0}
                  what is refused has "blamed", "line", "fact", "advice" and "rule" too; what can't
-                 be read has "answer" null and an "error"
+                 be read has "answer" null and an "error"; where the library
+                 and the reference disagree, "disagreement" is true
 "#;
 
 const RUN: &str = "
@@ -79,7 +80,7 @@ Prints each location as a group of principals may see it. What it can't read is 
 locations, and the contents of packages.
 
   --to LIST      the group: numbers or names of principals, parted by commas; '' is nobody
-  --plain        the view as a memory text";
+  --plain        the view as a memory text; why it is refused goes to standard error";
 
 const SHOW_JSON: &str = r#"
                    {"answer": 0, "shown": true, "group": [2], "locations":

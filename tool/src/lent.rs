@@ -37,7 +37,7 @@ impl Lent {
     /// What is told of a refusal: for 7 and 8 it is the text's fault, if that has one.
     pub fn told(&self, reason: &Reason, sheet: &Sheet, names: &Names) -> Message {
         match (&self.fault, reason.number()) {
-            (Some(fault), 7 | 8) => memory_fault(fault, sheet, names),
+            (Some(fault), 7 | 8) => memory_fault(fault),
             _ => message(reason, Some(sheet), names),
         }
     }

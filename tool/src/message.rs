@@ -81,7 +81,7 @@ pub fn message(reason: &Reason, sheet: Option<&Sheet>, names: &Names) -> Message
 }
 
 /// What is told of a memory text that isn't of its form.
-pub fn memory_fault(fault: &Fault, _sheet: &Sheet, _names: &Names) -> Message {
+pub fn memory_fault(fault: &Fault) -> Message {
     finished(8, Blamed::Memory, fault.line, text::form(text::Text::Memory, fault))
 }
 
@@ -101,12 +101,17 @@ fn repeats(repeat: Repeat, names: &Names) -> Told {
     match repeat {
         Repeat::Type { first, again } => told(
             format!("type {again} has the parts of type {first}"),
-            format!("take this line out, use type {first}, and count the later types down"),
+            format!(
+                "take this line out, use type {first}, and lower the number of each later type"
+            ),
             "a sheet has each type once (types 3 and 4 are int+int and pkg+error)",
         ),
         Repeat::Label { first, again } => told(
             format!("{} lets the same principals read and write as {}", label(again), label(first)),
-            format!("take this label out, use {}, and count the later labels down", label(first)),
+            format!(
+                "take this label out, use {}, and lower the number of each later label",
+                label(first)
+            ),
             "a sheet has each label once, and an owner always reads and writes",
         ),
     }

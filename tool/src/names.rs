@@ -113,7 +113,7 @@ impl Names {
             Some(principal) => {
                 Err(format!("there can't be a principal {principal}: 15 is the last"))
             }
-            None if given.is_empty() => Err("a principal is missing beside a comma".to_string()),
+            None if given.is_empty() => Err("a principal is missing in the list".to_string()),
             None if self.principals.is_empty() => {
                 Err(format!("`{given}` is no number, and no names are given (--names FILE)"))
             }

@@ -38,7 +38,7 @@ pub fn names(file: Option<&Named>) -> Result<Names, Stop> {
         return Ok(Names::default());
     };
     if text.is_cut() {
-        let what = format!("{}: a names file isn't so long", shown(name));
+        let what = format!("{}: a names file has less than 1 MiB", shown(name));
         return Err(Stop::new(Status::Usage, what));
     }
     Names::parse(&text.bytes).map_err(|bad| bad_names(name, &bad))

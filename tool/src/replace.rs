@@ -66,9 +66,13 @@ fn folder(target: &Path) -> io::Result<&Path> {
 fn fill(mut file: File, old: &Metadata, text: &[u8]) -> io::Result<()> {
     file.write_all(text)?;
     let new = file.metadata()?;
-    if (new.uid(), new.gid()) != (old.uid(), old.gid()) {
+    if new.gid() != old.gid() {
+        // under another group the old permissions would let others read it
+        fchown(&file, None, Some(old.gid()))?;
+    }
+    if new.uid() != old.uid() {
         // only root may give a file away; for others the new file is their own
-        let _ = fchown(&file, Some(old.uid()), Some(old.gid()));
+        let _ = fchown(&file, Some(old.uid()), None);
     }
     file.set_permissions(old.permissions())?;
     file.sync_all()

@@ -136,7 +136,7 @@ impl Desk<'_> {
         let hidden = seen.iter().filter(|seen| seen.value.is_none()).count();
         let group = self.words.principals(self.group);
         format!(
-            "what {} may see\n{}{} of {} locations hidden\n",
+            "what a group of {} may see\n{}{} of {} locations hidden\n",
             paint.bold(&group),
             values::lines(&rows, self.words.names, paint),
             hidden,

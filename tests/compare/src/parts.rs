@@ -23,7 +23,7 @@ fn part(input: &[u8]) -> (&[u8], &[u8]) {
     }
 }
 
-/// A group or an authority: four digits and byte 10.
+/// A group: four digits and byte 10.
 pub fn set(text: &[u8]) -> Option<u16> {
     text::set_bits(text.strip_suffix(b"\n")?).ok()
 }

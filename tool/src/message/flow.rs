@@ -60,17 +60,16 @@ impl Flow<'_> {
     /// By the labels as a whole.
     fn fact(&self) -> String {
         let (may, done) = match self.right {
-            Right::Read => ("may be read by", "may read"),
-            Right::Write => ("may have been written by", "may have written"),
+            Right::Read => ("may be read", "may read"),
+            Right::Write => ("may have been written", "may have written"),
         };
-        let who = |label| self.words.who(self.right, label);
-        format!(
-            "{} {may} {}, but {}, which {} {done}",
-            self.what(),
-            who(self.target),
-            self.comes(),
-            who(self.source)
-        )
+        let [target, source] =
+            [self.target, self.source].map(|label| self.words.who(self.right, label));
+        let by = match target.strip_prefix("only ") {
+            None => format!("by {target}"),
+            Some(few) => format!("only by {few}"),
+        };
+        format!("{} {may} {by}, but {}, which {source} {done}", self.what(), self.comes())
     }
 
     /// By the policies of an owner.
@@ -133,8 +132,11 @@ impl Flow<'_> {
 
     fn advice(&self, owner: Option<&str>) -> String {
         if let Through::Guard(_) = self.fault.through {
-            let with = "assign to a location with the label of what decides";
-            return format!("move the assignment out of the `c` or `w`, or {with}");
+            let to = match self.right {
+                Right::Read => "whose readers may all read what decides",
+                Right::Write => "that whoever may have written what decides may have written",
+            };
+            return format!("move it out of the `c` or `w`, or assign to a location {to}");
         }
         let location = match (self.right, owner) {
             (Right::Read, None) => "that no one else may read".to_string(),
@@ -156,7 +158,7 @@ impl Flow<'_> {
         };
         match (self.fault.into, self.right) {
             (Into::Location(_), Right::Read) => {
-                format!("assign to a location {location}, or pack the value by `k` first")
+                format!("assign to a location {location}, or pack it by `k` into one of type 4")
             }
             (Into::Location(_), Right::Write) => format!("assign to a location {location}"),
             (Into::Package(_), _) => format!("pack with a label {label}"),
@@ -260,7 +262,7 @@ mod tests {
             let (start, end) = if flow.shows() {
                 whole += 1;
                 (
-                    format!("location 1 {} {}, but", may(right), words.who(right, target)),
+                    format!("location 1 {} {}, but", may(right), by(&words.who(right, target))),
                     format!(", which {} {}", words.who(right, source), done(right)),
                 )
             } else {
@@ -279,9 +281,16 @@ mod tests {
 
     fn may(right: Right) -> &'static str {
         if right == Right::Read {
-            "may be read by"
+            "may be read"
         } else {
-            "may have been written by"
+            "may have been written"
+        }
+    }
+
+    fn by(who: &str) -> String {
+        match who {
+            "everyone" => "by everyone".to_string(),
+            few => few.replacen("only ", "only by ", 1),
         }
     }
 

@@ -62,7 +62,7 @@ pub fn stopped(stopped: &Stopped) -> (usize, Told) {
     match stopped {
         Stopped::Spent { line, steps } => {
             let mut told = spent(*steps);
-            told.fact = format!("{}; this line comes next", told.fact);
+            told.fact = format!("{}; the run had come to this line", told.fact);
             (*line, told)
         }
         Stopped::TooLong { at, steps } => (

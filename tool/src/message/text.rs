@@ -26,26 +26,47 @@ const SHEET: &[&str] = &["P n", "T a b", "L", "O owner readers writers", "X type
 const COMMANDS: &[&str] = &["s", ";", "= loc", "w", "c"];
 const EXPRESSIONS: &[&str] = &["i n", "x loc", "v d", "+", "l t", "r t", "k label", "u t label"];
 
+const SHEET_FIELDS: &str = "each kind of line has its own fields";
+const SCRIPT_FIELDS: &str =
+    "each kind of line has its own fields, and its operands follow on lines of their own";
 const ORDER: &str =
     "a sheet is `P n`, then `T` lines, labels (`L` and its `O` lines) and `X` lines";
 const PREFIX: &str = "a script is one command, the operands of each line following it";
 
 pub fn form(text: Text, fault: &Fault) -> Told {
-    bytes(text, &fault.cause)
+    lines(text, &fault.cause)
+        .or_else(|| strays(&fault.cause))
         .or_else(|| fields(text, &fault.cause))
         .or_else(|| limits(text, &fault.cause))
         .or_else(|| missing(&fault.cause))
         .unwrap_or_else(|| order(fault))
 }
 
-/// Bytes and lengths that no text has.
-fn bytes(text: Text, cause: &Cause) -> Option<Told> {
+/// Lengths and lines that no text has.
+fn lines(text: Text, cause: &Cause) -> Option<Told> {
     Some(match cause {
         Cause::TextLength(bytes) => told(
             format!("the {} has {bytes} bytes, and byte 16385 is in this line", text.name()),
             "make it shorter",
             "a text has at most 16384 bytes",
         ),
+        Cause::EmptyLine => told(
+            "the line is empty",
+            "take it out",
+            if text == Text::Sheet { ORDER } else { PREFIX },
+        ),
+        Cause::UnendedLine => told(
+            "the last line has no end",
+            "end it with a line feed, as the others",
+            "every line ends in byte 10",
+        ),
+        _ => return None,
+    })
+}
+
+/// What editors put into a text, and no text has.
+fn strays(cause: &Cause) -> Option<Told> {
+    Some(match cause {
         Cause::ByteOrderMark => told(
             "the text starts with a byte order mark",
             "save it as plain text, UTF-8 without a mark",
@@ -64,11 +85,6 @@ fn bytes(text: Text, cause: &Cause) -> Option<Told> {
             "save the text with one byte a letter, as ASCII or UTF-8",
             "a text has no bytes but its lines'",
         ),
-        Cause::EmptyLine => told(
-            "the line is empty",
-            "take it out",
-            if text == Text::Sheet { ORDER } else { PREFIX },
-        ),
         Cause::Comment => told(
             "the line is a comment",
             "take it out, and keep notes in another file",
@@ -78,11 +94,6 @@ fn bytes(text: Text, cause: &Cause) -> Option<Told> {
             "there is a tab too many",
             "put one tab between two fields, none at either end of the line",
             "fields are parted by one tab",
-        ),
-        Cause::UnendedLine => told(
-            "the last line has no end",
-            "end it with a line feed, as the others",
-            "every line ends in byte 10",
         ),
         _ => return None,
     })
@@ -96,14 +107,14 @@ fn fields(text: Text, cause: &Cause) -> Option<Told> {
             told(
                 format!("{kind} has {} after it, not {wanted}", counted(*found, "field")),
                 format!("write it as {}", form_of(&kind)),
-                "each kind of line has its own fields, and its operands follow on lines of their own",
+                if text == Text::Sheet { SHEET_FIELDS } else { SCRIPT_FIELDS },
             )
         }
         Cause::Number(field) => number(field, text),
         Cause::Integer(field) => integer(field),
         Cause::Set(field) => told(
             format!("{} isn't a set", shown(field)),
-            "write four digits of 0 to 9 and a to f: `0005` is principals 0 and 2",
+            "write exactly four digits, 0 to 9 or a to f in lower case: `0005` is principals 0 and 2",
             "bit p of a set is principal p",
         ),
         Cause::PrincipalCount(count) => told(
@@ -130,8 +141,11 @@ fn number(field: &[u8], text: Text) -> Told {
         Written::Large if text == Text::Memory => {
             ("is too large", "write a number up to 4294967295".to_string())
         }
-        Written::Large => ("is too large", "write the number of what is on the sheet".to_string()),
-        Written::Other => ("isn't a number", "write the number in decimal digits".to_string()),
+        Written::Large => ("is too large", "write a smaller number".to_string()),
+        Written::Other => (
+            "isn't a number",
+            "write its number in digits: names stand in a names file".to_string(),
+        ),
     };
     told(format!("{} {fact}", shown(field)), advice, NUMBERS)
 }
@@ -185,7 +199,9 @@ fn limits(text: Text, cause: &Cause) -> Option<Told> {
         Cause::NoLines if text == Text::Sheet => {
             told("the sheet is empty", "start it with `P n`, n the number of principals", ORDER)
         }
-        Cause::NoLines => told("the script is empty", "write a command: `s` does nothing", PREFIX),
+        Cause::NoLines => {
+            told("the script is empty", "write a command, such as `s`, which does nothing", PREFIX)
+        }
         Cause::CaseDepth => told(
             "this `c` stands inside 8 others",
             "store a value in a location and take the rest apart after this case",
@@ -233,9 +249,13 @@ fn missing(cause: &Cause) -> Option<Told> {
     let Cause::Missing { thing, number, count } = cause else {
         return None;
     };
-    let known = match count {
-        0 => "there is none to name".to_string(),
-        1 => "name 0, the only one".to_string(),
+    let known = match (thing, count) {
+        (Thing::Binding, 0) => {
+            "use `v` only in the two commands of a `c`, not in its expression".to_string()
+        }
+        (Thing::Label, 0) => "put an `L` line into the sheet, before the `X` lines".to_string(),
+        (_, 0) => "put a line for it into the sheet".to_string(),
+        (_, 1) => "name 0, the only one".to_string(),
         _ => format!("name 0 to {}", count - 1),
     };
     let (name, rule) = match thing {
@@ -273,7 +293,8 @@ fn order(fault: &Fault) -> Told {
         Cause::LineKind { found, expected: Expected::Sheet(kinds) } => {
             let kinds: Vec<String> =
                 kinds.iter().map(|kind| form_of(&format!("`{kind}`"))).collect();
-            told(stands(found, SHEET), format!("put {} here", either(&kinds)), ORDER)
+            let advice = move_it(found).unwrap_or_else(|| format!("put {} here", either(&kinds)));
+            told(stands(found, SHEET), advice, ORDER)
         }
         Cause::LineKind { found, expected: Expected::Script } => told(
             format!("{}, and a script starts with a command", stands(found, &[])),
@@ -292,11 +313,21 @@ fn order(fault: &Fault) -> Told {
         ),
         Cause::LeftOver => told(
             format!("the command ends in line {}, and this line is left over", fault.line - 1),
-            "take it out, or join two commands by a `;` in the line before the first",
+            "take it out, or put a line `;` before the first of two commands",
             PREFIX,
         ),
         other => unreachable!("{other:?} is told elsewhere"),
     }
+}
+
+/// For a line of a sheet that stands too late.
+fn move_it(found: &[u8]) -> Option<String> {
+    Some(match found {
+        b"T" => "move it up, before the first `L` and `X`".to_string(),
+        b"L" => "move it up, before the first `X`".to_string(),
+        b"O" => "put it after the `L` of its label".to_string(),
+        _ => return None,
+    })
 }
 
 /// What stands where something else is due.

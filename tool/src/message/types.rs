@@ -8,6 +8,8 @@ use reference::types::{TypeId, PACKED};
 const WITH_ERROR: &str =
     "name the type with the wanted type on its left and error on its right (`T wanted 1`)";
 
+const OUT_FIRST: &str = "take the package out by `c` first, and open `v 0` in the command for left";
+
 pub fn told_of(words: &Words, fault: &NoShape) -> Told {
     match fault.misfit {
         Misfit::Operand { operand, found, wanted } => {
@@ -53,7 +55,7 @@ fn mismatch(words: &Words, rule: Rule, operand: usize, found: TypeId, wanted: Ty
                 "{} takes {due}, but the value (line {operand}) is {there}",
                 words.location(location)
             ),
-            into_location(words, wanted, found),
+            into_location(words, operand, wanted, found),
             "a value has the type that the location is declared with",
         ),
         Rule::While => told(
@@ -66,14 +68,9 @@ fn mismatch(words: &Words, rule: Rule, operand: usize, found: TypeId, wanted: Ty
             "add integers; take a sum apart by `c` first",
             "`+` adds two integers",
         ),
-        Rule::Unpack(_) if found == PACKED => told(
-            format!("`u` opens {due}, but its operand (line {operand}) is {there}"),
-            "take the package out by `c` first, and open `v 0` in the command for left",
-            "the operand of `u` is a package",
-        ),
         Rule::Unpack(_) => told(
             format!("`u` opens {due}, but its operand (line {operand}) is {there}"),
-            "give it a package",
+            if found == PACKED { OUT_FIRST } else { "give it a package" },
             "the operand of `u` is a package",
         ),
         Rule::Left(ty) | Rule::Right(ty) => told(
@@ -89,13 +86,16 @@ fn mismatch(words: &Words, rule: Rule, operand: usize, found: TypeId, wanted: Ty
     }
 }
 
-fn into_location(words: &Words, wanted: TypeId, found: TypeId) -> String {
+fn into_location(words: &Words, operand: usize, wanted: TypeId, found: TypeId) -> String {
+    if words.sheet.parts(found).is_some_and(|(left, right)| left == wanted || right == wanted) {
+        return "take it apart by `c` first, and assign `v 0` in one of its commands".to_string();
+    }
     match words.sheet.parts(wanted) {
         Some((left, _)) if left == found => {
-            format!("make it left of the sum, by `l {wanted}` in the line before it")
+            format!("make it left of the sum, by a line `l {wanted}` before line {operand}")
         }
         Some((_, right)) if right == found => {
-            format!("make it right of the sum, by `r {wanted}` in the line before it")
+            format!("make it right of the sum, by a line `r {wanted}` before line {operand}")
         }
         _ if wanted == PACKED => {
             "pack the value by `k label`, or assign to a location of the value's type".to_string()

@@ -175,7 +175,8 @@ fn a_memory_that_is_not_of_its_form_is_no_excuse() {
     is_loud(&err, "answer 0, steps 0", "answer 8, steps 0");
 }
 
-/// Of a long run the reference says only whether it may start.
+/// Of a long run the reference says only whether it may start, and its steps are held against the
+/// budget.
 #[test]
 fn a_long_run() {
     let folder = desk("lying-late");
@@ -185,8 +186,12 @@ fn a_long_run() {
     };
     let calls = lying(Library { run, ..CALLS.library });
     let (status, out, _) =
-        told(&folder, &calls, "run a.sheet loop.simp a.memory --as=1 --budget=9");
+        told(&folder, &calls, "run a.sheet loop.simp a.memory --as=1 --budget=1000001");
     assert_eq!((status, out.lines().next()), (0, Some("done, 1000001 steps")));
+    let (status, _, err) =
+        told(&folder, &calls, "run a.sheet loop.simp a.memory --as=1 --budget=1000000");
+    assert_eq!(status, 4);
+    is_loud(&err, "answer 0, steps 1000001", "no such answer with a budget of 1000000");
     let (status, out, err) =
         told(&folder, &calls, "run a.sheet leak.simp a.memory --as=1 --budget=9");
     assert_eq!((status, out.as_str()), (4, ""));
@@ -199,13 +204,31 @@ fn a_long_run_that_stops() {
     let folder = desk("late");
     let spent = Library { run: |_, _, _, _, _| stopped(9), ..CALLS.library };
     let too_long = Library { run: |_, _, _, _, _| stopped(10), ..CALLS.library };
-    for (library, answer) in [(spent, 9), (too_long, 10)] {
-        let arguments = "run a.sheet loop.simp a.memory --as=1 --budget=9 --json";
-        let (status, out, _) = told(&folder, &lying(library), arguments);
+    let arguments =
+        |budget: u32| format!("run a.sheet loop.simp a.memory --as=1 --budget={budget} --json");
+    let cases = [(spent, 9, 1_000_001, 1_000_002), (too_long, 10, 1_000_002, 1_000_001)];
+    for (library, answer, budget, wrong) in cases {
+        let (status, _, err) = told(&folder, &lying(library), &arguments(wrong));
+        assert!(status == 4 && err.contains("no such answer with a budget of"), "{err}");
+        let (status, out, _) = told(&folder, &lying(library), &arguments(budget));
         assert_eq!(status, 1);
         assert!(out.starts_with(&format!("{{\"answer\":{answer},")), "{out}");
         assert!(out.contains("\"steps\":1000001,") && out.contains("\"line\":null"), "{out}");
     }
+}
+
+/// A long run that stopped leaves the memory.
+#[test]
+fn a_long_run_that_stops_and_writes() {
+    let folder = desk("late-write");
+    let run = |_: &[u8], _: &[u8], memory: &mut [u32], _, _| {
+        memory[1] = 7;
+        stopped(9)
+    };
+    let arguments = "run a.sheet loop.simp a.memory --as=1 --budget=1000001";
+    let (status, _, err) = told(&folder, &lying(Library { run, ..CALLS.library }), arguments);
+    assert_eq!(status, 4);
+    is_loud(&err, "answer 9, location 0 is `1 7`", "answer 9, location 0 is `1 5`");
 }
 
 fn stopped(answer: u8) -> Outcome {

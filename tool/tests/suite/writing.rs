@@ -4,7 +4,7 @@ use crate::desk::{desk, tabbed, MEMORY, PACKED};
 use crate::folder::Folder;
 use crate::tool::{command, full, shell, simp, simp_onto};
 use std::fs::{self, Permissions};
-use std::os::unix::fs::{symlink, MetadataExt, PermissionsExt};
+use std::os::unix::fs::{chown, symlink, MetadataExt, PermissionsExt};
 use std::path::Path;
 use std::process::Stdio;
 
@@ -83,6 +83,7 @@ fn a_run_that_cannot_be_printed_is_not_written() {
     assert!(strangers(&folder).is_empty());
 }
 
+/// Owner and group too, which only root can set to begin with.
 #[test]
 fn permissions_are_kept() {
     let folder = desk("permissions");
@@ -90,9 +91,12 @@ fn permissions_are_kept() {
     for mode in [0o600, 0o640, 0o666, 0o604] {
         folder.write("a.memory", &tabbed(MEMORY));
         fs::set_permissions(&path, Permissions::from_mode(mode)).expect("the mode is set");
+        let _ = chown(&path, Some(1001), Some(2000));
+        let old = fs::metadata(&path).expect("the file is there");
         assert_eq!(simp(&folder, &PACK).status, 0);
         let about = fs::metadata(&path).expect("the file is there");
         assert_eq!(about.permissions().mode() & 0o7777, mode);
+        assert_eq!((about.uid(), about.gid()), (old.uid(), old.gid()));
         assert_eq!(read(&folder, "a.memory"), tabbed(PACKED));
     }
 }

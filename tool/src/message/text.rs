@@ -266,7 +266,7 @@ fn missing(cause: &Cause) -> Option<Told> {
         Thing::Location => ("location", "each `X` line of the sheet makes a location, from 0 on"),
         Thing::Binding => (
             "value",
-            "`v d` is the value bound by the d-th `c` around it, innermost 0, in whose two commands it stands",
+            "`v d` stands in the commands of a `c`: what the d-th around it has bound, innermost 0",
         ),
     };
     let fact = match thing {

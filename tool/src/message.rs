@@ -1,6 +1,8 @@
 //! What is told of a refusal: what is wrong, by which rule, and what to do.
 
 mod flow;
+mod lines;
+mod number;
 mod run;
 mod text;
 mod types;

@@ -9,25 +9,29 @@ use lib.Dec.{leb}
 use lib.ListN.{length, take, length-drop, drop-of-length-le, length-replicate}
 use lib.Seq.{take-at}
 use borrow.Author.Tests.{leb-true, le-leb}
+use Rattle.text.specs.Reading.{fits}
+use Rattle.text.specs.Lines.{linesUpTo}
+use Rattle.text.proofs.Lines.{lines-exact}
 use Rattle.language.specs.Syntax.{Cmd}
 use Rattle.script.specs.Lines.{Line, Source, cmdLines}
 use Rattle.script.specs.Internal.Code.{code}
 use Rattle.script.specs.Internal.Balance.{closes}
 use Rattle.script.proofs.Balance.{cmd-closes}
-use Rattle.script.specs.Names.{Counts, named}
+use Rattle.script.specs.Names.{Counts, maxLines, named}
 use Rattle.sheet.specs.Padding.{padded}
 use Rattle.sheet.proofs.Words.{length-padded}
 use Rattle.script_text.specs.Internal.Decoded.{Decoded, codeWords, noCode, coded, codedLines, decodedScript}
 use Rattle.script_text.specs.declared.Answer.the-variants as answer
 use Rattle.script_text.specs.declared.Scanned.{Scanned}
-use Rattle.script_text.specs.Reading.{linesOf}
+use Rattle.script_text.specs.Reading.{lineOf, linesOf}
 use Rattle.script_text.specs.Internal.Parse.{stackOf, onlyCommand, parse}
 use Rattle.script_text.specs.Script.{namedOnly, commandOf, commandRead, scriptOf}
 use Rattle.script_text.specs.Internal.Scan.{ScansCmd, isSome, Balanced, Whole}
+use Rattle.script_text.proofs.LineLaws.{script-lines}
 use Rattle.script_text.proofs.CodeLaws.{code-empty, code-length}
 use Rattle.script_text.proofs.ScanLaws.{false-true}
 use Rattle.script_text.proofs.ScriptLaws.{command-sound, command-lines, script-sound}
-use Rattle.logic.proofs.BooleanLaws.{bool-ext}
+use Rattle.logic.proofs.BooleanLaws.{bool-ext, cases}
 
 -- ---- whether there is a command
 
@@ -87,6 +91,19 @@ coded-code : (ls : List Line) → take (length ls * 3) (padded codeWords (code l
 unfolding padded
 coded-code ls = take-at (code ls) _ (length ls * 3) (code-length ls)
 
+-- the lines of a command are all of its code
+coded-command : (k : Counts) (o : Option (List Line)) → isSome (commandRead k o) ≡ true → codedLines o ≡ decodedScript (commandRead k o)
+unfolding commandRead codedLines decodedScript isSome
+coded-command k none x = false-true false refl x
+coded-command k (some ls) x =
+    let y = some-of (commandOf k ls) x in
+    let z = command-sound k ls (y .0) (y .1) .0 in
+    ap coded z ∙ ap decodedScript (sym (y .1))
+
+pub script-coded : (k : Counts) (t : List ℕ) (c : Cmd) → scriptOf k t ≡ some c → codedLines (linesOf t) ≡ decodedScript (scriptOf k t)
+unfolding scriptOf
+script-coded k t c e = coded-command k (linesOf t) (is-some _ c e)
+
 -- ---- the answer
 
 module _ (k : Counts) (t : List ℕ) (s : Decoded) (e : s ≡ codedLines (linesOf t))
@@ -102,15 +119,7 @@ module _ (k : Counts) (t : List ℕ) (s : Decoded) (e : s ≡ codedLines (linesO
 
   pub read-yes : b ≡ true → s ≡ decodedScript (scriptOf k t)
   unfolding scriptOf
-  read-yes h = e ∙ go (linesOf t) (sym tested ∙ h)
-    where
-      go : (o : Option (List Line)) → isSome (commandRead k o) ≡ true → codedLines o ≡ decodedScript (commandRead k o)
-      go none x = unfold commandRead isSome in false-true false refl x
-      go (some ls) x =
-          unfold commandRead codedLines decodedScript in
-          (let y = some-of (commandOf k ls) x in
-          let z = command-sound k ls (y .0) (y .1) .0 in
-          ap coded z ∙ ap decodedScript (sym (y .1)))
+  read-yes h = e ∙ coded-command k (linesOf t) (sym tested ∙ h)
 
   pub read-no : b ≡ false → noCode ≡ decodedScript (scriptOf k t)
   unfolding decodedScript
@@ -141,3 +150,12 @@ read-whole k t r e = ap (λ (d : Decoded). length (d .code)) e ∙ go (scriptOf 
     go : (o : Option Cmd) → scriptOf k t ≡ o → length (decodedScript o .code) ≡ codeWords
     go none x = length-replicate {A = ℕ} codeWords 0
     go (some c) x = length-padded codeWords (code (cmdLines c [])) (omega (arith, code-length (cmdLines c []), script-sound k t c x .few))
+
+-- also where the lines are no script's
+pub decoded-whole : (t : List ℕ) (r : Decoded) → r ≡ codedLines (linesOf t) → length (r .code) ≡ codeWords
+unfolding codedLines coded noCode linesOf
+decoded-whole t r e = ap (λ (d : Decoded). length (d .code)) e ∙ cases (fits t) (λ f. rw f (go (linesUpTo lineOf maxLines t) refl)) (λ f. rw f (length-replicate {A = ℕ} codeWords 0))
+  where
+    go : (o : Option (List Line)) → linesUpTo lineOf maxLines t ≡ o → length (codedLines o .code) ≡ codeWords
+    go none x = length-replicate {A = ℕ} codeWords 0
+    go (some ls) x = length-padded codeWords (code ls) (omega (arith, code-length ls, lines-exact script-lines maxLines t ls .0 x .2))

@@ -202,8 +202,8 @@ fn refused(code: &mut [u32; WORDS]) -> Script
     }
 }
 
-// Fills the lent words with the code of a text's lines, whatever they say.
-fn decode(s: &[u8], code: &mut [u32; WORDS]) -> Script
+// Fills the lent words with the code of a text's lines, whatever they say: the code of a script, if the text is that of one.
+pub fn decode(s: &[u8], code: &mut [u32; WORDS]) -> Script
     ensures { λ r. ⌜ record { answer = r .answer; count = r .count; code = now (code .exit) } ≡ codedLines (linesOf (now (s .entry))) ⌝ }
 {
     if !fits(s) {

@@ -3,7 +3,6 @@ pub mod Numbers
 pub mod Judged
 pub mod SecondDemand
 pub mod Readers
-pub mod Runs
 pub mod ThirdDemand
 pub mod SheetLaws
 mod Computing

@@ -16,14 +16,14 @@ use Rattle.memory.proofs.Exactness.{memories-exactly, views-exactly}
 use Rattle.memory.proofs.MemoryLaws.{unrefused-length, unrefused-formed}
 use Rattle.stages.specs.Answers.{Ran, Viewed}
 use Rattle.stages.specs.Calls.{ended, runOf, viewOf}
+use Rattle.stages.proofs.Kept.{left-declared}
 use Rattle.simp.specs.Judgements.{OnSheet, Principals, Sized, Started}
 use Rattle.simp.specs.Demands.{Demand3}
-use Rattle.simp.proofs.Numbers.{sized-0}
+use Rattle.simp.proofs.Numbers.{sized-0, typable-shape}
 use Rattle.simp.proofs.Judged.{one-command}
 use Rattle.simp.proofs.SecondDemand.{declared, started-run, Shows, shown-view}
 use Rattle.simp.proofs.FirstDemand.{starts, shows}
 use Rattle.simp.proofs.Readers.{shown-kept}
-use Rattle.simp.proofs.Runs.{left-declared}
 
 refused : {k : ℕ} {A : Type 0} → suc k ≡ 0 → A
 refused h = absurd (omega arith)
@@ -102,8 +102,8 @@ demand-3 sheet script k authority b b′ group m m′ v v′ same r r′ =
     let on : OnSheet sheet s = one .on-sheet in
     let ran = done-run b one r in
     let ran′ = done-run b′ two r′ in
-    let d = left-declared s c script (one .of-script) (one .typable) authority b (ran .rest) (memoryOf m) (ran .reached) (declared one) (ran .run) in
-    let d′ = left-declared s c script (two .of-script) (two .typable) authority b′ (ran′ .rest) (memoryOf m′) (ran′ .reached) (declared two) (ran′ .run) in
+    let d = left-declared s c (one .of-script .source) (one .of-script .named-there) (typable-shape s c (one .typable)) authority b (ran .rest) (memoryOf m) (ran .reached) (declared one) (ran .run) in
+    let d′ = left-declared s c (two .of-script .source) (two .of-script .named-there) (typable-shape s c (two .typable)) authority b′ (ran′ .rest) (memoryOf m′) (ran′ .reached) (declared two) (ran′ .run) in
     let shown = shown-on group m v on (same .shown) in
     let shown′ = shown-on group m′ v′ on (same .shown′) in
     let before = views-exactly s group .same-view m m′ (started one) (started two) .0 (sym (shown .words) ∙ same .same ∙ shown′ .words) in

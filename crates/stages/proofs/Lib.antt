@@ -1,1 +1,2 @@
 pub mod StageLaws
+pub mod Kept

@@ -52,6 +52,16 @@ code-of t script ws p e w s T =
     (λ n a. rw (n, a) no-code)
     (λ c i src nm a tk. rw (i, a) (its-code src nm (w ∙ tk)))
 
+-- where its number is 0, it is the code of an accepted script
+pub accepted-code : (t script ws : List ℕ) (p : Decoded) → p ≡ decodedScript (scriptOf (countsIn t) script) → ws ≡ take (p .count * 3) (p .code)
+    → (s : Sheet) → TableOf t s → numberOf s script ≡ 0 → AcceptedCode s script ws
+unfolding numberOf onScript
+accepted-code t script ws p e w s T z = go (code-of t script ws p e w s T) refl z
+  where
+    go : {a : Answer} {o : Option Cmd} → CodeOf s ws a o → scriptOf (countsOf s) script ≡ o → onScript (λ k. k) o (untyped s) ≡ 0 → AcceptedCode s script ws
+    go no-code i n = absurd (omega arith)
+    go (its-code {c = c} src nm l) i n = record { command = c; is-its = i; source = src; names = nm; typed = n; lines = l }
+
 -- ---- judging
 
 pub judge-refused : (ws t : List ℕ) (a : Answer) → a ≡ Refused → Judges a ws t 4
@@ -71,18 +81,15 @@ judge-read ws t a v u i x e = rw i (record { judged = λ s T o C. ap verdictNumb
 -- what the judgement of a script's code says of the script
 pub numbers-script : (t script ws : List ℕ) (p : Decoded) (r : ℕ) → p ≡ decodedScript (scriptOf (countsIn t) script) → ws ≡ take (p .count * 3) (p .code)
     → Judges (p .answer) ws t r → NumbersScript script t r (p .count) (p .code)
-unfolding numberOf onScript
-numbers-script t script ws p r e w j = record {
-  count-is = ap (λ (d : Decoded). d .count) e;
-  words-are = ap (λ (d : Decoded). d .code) e;
-  numbered = λ s T. j .judged s T _ (code-of t script ws p e w s T);
-  accepted = λ s T z. go s (code-of t script ws p e w s T) refl (sym z ∙ j .judged s T _ (code-of t script ws p e w s T));
-}
-  where
-    go : (s : Sheet) {a : Answer} {o : Option Cmd} → CodeOf s ws a o → scriptOf (countsOf s) script ≡ o → 0 ≡ onScript (λ k. k) o (untyped s)
-        → AcceptedCode s script (take (p .count * 3) (p .code))
-    go s no-code i z = absurd (omega arith)
-    go s (its-code {c = c} src nm l) i z = record { command = c; is-its = i; source = src; names = nm; typed = sym z; lines = sym w ∙ l }
+unfolding numberOf
+numbers-script t script ws p r e w j =
+    let numbered : (s : Sheet) → TableOf t s → r ≡ numberOf s script = λ s T. j .judged s T _ (code-of t script ws p e w s T) in
+    record {
+      count-is = ap (λ (d : Decoded). d .count) e;
+      words-are = ap (λ (d : Decoded). d .code) e;
+      numbered = numbered;
+      accepted = λ s T z. accepted-code t script (take (p .count * 3) (p .code)) p e refl s T (sym (numbered s T) ∙ z);
+    }
 
 -- the table's refusal of a memory is the sheet's
 pub refusal-in : (t memory : List ℕ) (a : ℕ) → a ≡ refusalIn t memory → (s : Sheet) → TableOf t s → a ≡ memoryRefusal s memory
@@ -95,18 +102,18 @@ code-whole {script} {t} n = ap length (n .words-are) ∙ read-whole (countsIn t)
 -- ---- running
 
 -- a number that is not 0 refuses
-stops : {A : Type 0} (refuse : ℕ → A) (k : ℕ) (go : A) → (k ≡ 0 → ⊥) → unless refuse k go ≡ refuse k
+pub stops : {A : Type 0} (refuse : ℕ → A) (k : ℕ) (go : A) → (k ≡ 0 → ⊥) → unless refuse k go ≡ refuse k
 unfolding unless
 stops refuse zero go n = absurd (n refl)
 stops refuse (suc k) go n = refl
 
 -- 0 goes on
-goes : {A : Type 0} (refuse : ℕ → A) (k : ℕ) (go : A) → k ≡ 0 → unless refuse k go ≡ go
+pub goes : {A : Type 0} (refuse : ℕ → A) (k : ℕ) (go : A) → k ≡ 0 → unless refuse k go ≡ go
 unfolding unless
 goes refuse k go e = rw e refl
 
 -- an accepted script passes the test on types
-accepted-shape : (s : Sheet) (c : Cmd) → untyped s c ≡ 0 → shape (shapesOf s) [] c ≡ true
+pub accepted-shape : (s : Sheet) (c : Cmd) → untyped s c ≡ 0 → shape (shapesOf s) [] c ≡ true
 unfolding untyped
 accepted-shape s c u =
     let laws = least-label-laws (s .principals) in
@@ -139,7 +146,7 @@ runs-accepted ws t memory authority budget state steps left r = record {
 -- ---- principals
 
 -- the test on the table's set of all principals
-strangers-in : (t : List ℕ) (s : Sheet) (g : ℕ) (b : Bool) → TableOf t s → within g (everyoneIn t) ≡ b → strangers s g ≡ cond b 0 3
+pub strangers-in : (t : List ℕ) (s : Sheet) (g : ℕ) (b : Bool) → TableOf t s → within g (everyoneIn t) ≡ b → strangers s g ≡ cond b 0 3
 unfolding strangers
 strangers-in t s g b T h =
     let e : everyoneIn t ≡ everyone (s .principals) = ap (λ (u : List ℕ). everyoneIn u) (T .words) ∙ everyone-in s (T .form) in

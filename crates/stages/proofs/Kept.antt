@@ -7,21 +7,23 @@ use borrow.Author.Tests.{ltb-true}
 use Rattle.logic.proofs.BooleanLaws.{both-left, both-right}
 use Rattle.language.specs.Syntax.{Value, int, Expr, Cmd}
 use Rattle.language.specs.World.{Mem}
-use Rattle.language.specs.Transition.{done, iterate}
+use Rattle.language.specs.Transition.{Out, done, spent, over, wrong, iterate}
+use Rattle.language.specs.Typing.{shape}
 use Rattle.language.proofs.Invariants.{UsesE, u-val, u-loc, u-var, u-plus, u-left, u-right, u-pack, u-unpack, Uses, u-skip, u-seq, u-assign, u-while, u-case, keeps, Fits, Anywhere, fits-kept}
 use Rattle.language.proofs.Outcome.{fits-cmd}
 use Rattle.language.proofs.TypeSoundness.{type-soundness}
 use Rattle.script.specs.Lines.{SourceE, s-int, s-loc, s-var, s-plus, s-left, s-right, s-pack, s-unpack, Source, s-skip, s-seq, s-assign, s-while, s-case}
 use Rattle.script.specs.Names.{Counts, namedE, named}
-use Rattle.sheet.specs.Sheet.{Sheet, labelCount}
+use Rattle.sheet.specs.Sheet.{Sheet, locationCount, labelCount}
 use Rattle.sheet.specs.Meaning.{shapesOf, worldOf}
 use Rattle.script_text.specs.Counts.{countsOf}
-use Rattle.script_text.specs.Theorems.{IsScript}
-use Rattle.memory.specs.Memory.{proper}
+use Rattle.memory.specs.Memory.{memoryOf, proper, memoryRefusal}
 use Rattle.memory.specs.Theorems.{Declared}
+use Rattle.memory.proofs.Exactness.{memories-exactly}
 use Rattle.memory.proofs.ProperLaws.{proper-kept}
-use Rattle.simp.specs.Judgements.{Typable}
-use Rattle.simp.proofs.Numbers.{typable-shape}
+use Rattle.stages.specs.Calls.{untyped, ended}
+use Rattle.stages.specs.Internal.Stages.{acceptedRun}
+use Rattle.stages.proofs.StageLaws.{accepted-shape}
 
 -- A script uses integers alone, and packs at labels of the sheet.
 module _ (P : Value → Type 0) (of-int : (n : ℕ) → P (int n)) (k : Counts) where
@@ -54,14 +56,27 @@ unfolding proper
 int-proper labels n = refl
 
 -- What a done run leaves is as the sheet declares it.
-pub left-declared : (s : Sheet) (c : Cmd) (script : List ℕ) → IsScript (countsOf s) script c → Typable s c → (authority b l : ℕ) (M M′ : Mem) → Declared s M
+pub left-declared : (s : Sheet) (c : Cmd) → Source c → named (countsOf s) 0 c ≡ true → shape (shapesOf s) [] c ≡ true → (authority b l : ℕ) (M M′ : Mem) → Declared s M
     → iterate (worldOf s authority) b M c ≡ done M′ l → Declared s M′
-left-declared s c script i t authority b l M M′ d h =
+left-declared s c src names t authority b l M M′ d h =
     let W = worldOf s authority in
     let k = countsOf s in
     record {
-      typed = type-soundness (shapesOf s) W (λ n. refl) .done-typed c (typable-shape s c t) M (d .typed) b l M′ h;
-      fitting = keeps Fits Anywhere fits-kept W b l M M′ c (fits-cmd (shapesOf s) [] c (typable-shape s c t)) (d .fitting) h;
+      typed = type-soundness (shapesOf s) W (λ n. refl) .done-typed c t M (d .typed) b l M′ h;
+      fitting = keeps Fits Anywhere fits-kept W b l M M′ c (fits-cmd (shapesOf s) [] c t) (d .fitting) h;
       named = keeps (λ v. proper (labelCount s) v ≡ true) (λ n. n < labelCount s) (proper-kept (labelCount s)) W b l M M′ c
-          (uses (λ v. proper (labelCount s) v ≡ true) (int-proper (labelCount s)) k 0 (i .source) (i .named-there)) (d .named) h;
+          (uses (λ v. proper (labelCount s) v ≡ true) (int-proper (labelCount s)) k 0 src names) (d .named) h;
     }
+
+-- So a memory that isn't refused is left so, however the run ends.
+pub left-unrefused : (s : Sheet) (c : Cmd) → Source c → named (countsOf s) 0 c ≡ true → untyped s c ≡ 0 → (memory : List ℕ) (authority budget : ℕ)
+    → memoryRefusal s memory ≡ 0 → memoryRefusal s (acceptedRun s memory authority budget c .memory) ≡ 0
+unfolding ended
+left-unrefused s c src names t memory authority budget m = go (iterate (worldOf s authority) budget (memoryOf memory) c) refl
+  where
+    go : (o : Out) → iterate (worldOf s authority) budget (memoryOf memory) c ≡ o → memoryRefusal s (ended (locationCount s) budget memory o .memory) ≡ 0
+    go (done M l) e =
+        memories-exactly s .accepted M (left-declared s c src names (accepted-shape s c t) authority budget l (memoryOf memory) M (memories-exactly s .values memory m) e)
+    go spent e = m
+    go (over l) e = m
+    go wrong e = m

@@ -1,20 +1,20 @@
 /*
- * SImp scripts on a sheet: checking, running, viewing.
+ * SImp scripts on a sheet: checking, running, viewing, and rounds of several scripts.
  *
  * Link with libsimp.a, which is x86-64 code (System V ABI: a stack aligned to 16 bytes, SSE2 enabled, the red zone in
  * use, so run interrupt handlers on another stack). It needs two symbols from outside, memcpy and memset of the C
  * library, and nothing else; it has no static data that is written, and no constructors. The calls keep no state,
  * allocate nothing and read and write only what they are lent. They settle every input: bad input gets one of the
- * numbers below, the first that applies in the order 1 2 3 4 5 6 7 8, then 9 or 10 by the run, and a refused call
- * writes to no lent slice. Each call ends, given the stack that SIMP_STACK_CHECK, SIMP_STACK_RUN and SIMP_STACK_VIEW
- * state; a large budget can take hours, so choose it for the time that you have. docs/TEXTS.md has the forms of
- * sheets, scripts and memories. An answer of 9 or 10, and the steps, may depend on what a group cannot read: don't
- * show them to everyone.
+ * numbers below, the first that applies in the order 1 2 3 11 4 5 6 7 8, then 9 or 10 by the run, and a refused call
+ * writes to no lent slice. Each call ends, given the stack that SIMP_STACK_CHECK and its like state; a large budget can
+ * take hours, so choose it for the time that you have (a round has it anew for each script). docs/TEXTS.md has the
+ * forms of sheets, scripts, rounds and memories. An answer of 9 or 10, and the steps, may depend on what a group cannot
+ * read: don't show them to everyone.
  *
  * A slice is a pointer and the number of its elements. A pointer is suitably aligned; it may be null where the number
  * is 0 (memcpy and memset may then be handed it, with 0 bytes). No other slice of the call overlaps one that the call
- * may write (a memory of simp_run, a view of simp_view). Calls are reentrant: two may go on at once if neither may
- * write what the other is lent.
+ * may write (a memory of simp_run and simp_round, a view of simp_view). Calls are reentrant: two may go on at once if
+ * neither may write what the other is lent.
  */
 #ifndef SIMP_H
 #define SIMP_H
@@ -27,24 +27,28 @@ extern "C" {
 #endif
 
 /* The version of this header and of the archive that it belongs to. `simp --version` has the archive's SHA-256. */
-#define SIMP_VERSION "1.0.0"
+#define SIMP_VERSION "1.1.0"
 
 /* Words of 32 bits that a location takes in a memory or a view. */
 #define SIMP_CELL 16
 
-/* The most locations that a sheet has, and the most bytes of a text. A longer text is refused. */
+/* The most locations that a sheet has, the most bytes of a text (a longer one is refused; of a round, each script has
+ * this limit for itself, and the whole text none), and the most scripts of a round. */
 #define SIMP_MOST_LOCATIONS 64
 #define SIMP_MOST_TEXT 16384
+#define SIMP_MOST_SCRIPTS 32
 
 /* The most bytes of code and constants that the archive adds to a program, as the project's gate holds. */
 #define SIMP_CODE_BYTES 20480
 
 /* The most bytes of stack that a call of this archive takes, its return address included, for every input: no less than
- * what is computed from its code, as the project's gate holds (docs/PERFORMANCE.md). Not in it are the 16 bytes of
- * simp_run's arguments on the stack; memcpy and memset are called where most of it is free (3.5 KB in a view). */
+ * what is computed from its code, as the project's gate holds (docs/PERFORMANCE.md). Not in it are the arguments on the
+ * stack, 16 bytes of simp_run and 24 of simp_round, and the caller's place for what a round hands back, 164 bytes;
+ * memcpy and memset are called where most of it is free (3.5 KB in a view). */
 #define SIMP_STACK_CHECK 86016
-#define SIMP_STACK_RUN 90112
+#define SIMP_STACK_RUN 86016
 #define SIMP_STACK_VIEW 7168
+#define SIMP_STACK_ROUND 86016
 
 /* Answers. */
 enum {
@@ -58,7 +62,8 @@ enum {
     SIMP_SLICE_SIZE = 7,         /* a lent memory or view isn't SIMP_CELL words for each location */
     SIMP_MEMORY_ILL_FORMED = 8,  /* a location's words aren't a value of its type and zeros, or name no label */
     SIMP_SPENT = 9,              /* the budget was used up before the script ended */
-    SIMP_TOO_LONG = 10           /* in a step within the budget a value took more than SIMP_CELL words */
+    SIMP_TOO_LONG = 10,          /* in a step within the budget a value took more than SIMP_CELL words */
+    SIMP_TOO_MANY_SCRIPTS = 11   /* a round has more than SIMP_MOST_SCRIPTS scripts; judged between 3 and 4 */
 };
 
 /* How a run ended. Steps are the transitions taken: 0 for 1 to 8, the budget for SIMP_SPENT, those before the
@@ -67,6 +72,15 @@ typedef struct {
     uint8_t answer;
     uint32_t steps;
 } simp_outcome;
+
+/* How a round ended: its own answer, and in the place of each script, counted from 0, that script's answer (SIMP_DONE,
+ * SIMP_SPENT or SIMP_TOO_LONG) and steps. Places past the last script are 0; beside an answer other than SIMP_DONE all
+ * places are. The answer is SIMP_DONE also where a script was stopped. Compare the members: there is padding. */
+typedef struct {
+    uint8_t answer;
+    uint8_t answers[SIMP_MOST_SCRIPTS];
+    uint32_t steps[SIMP_MOST_SCRIPTS];
+} simp_round_outcome;
 
 /* Whether a script is accepted on a sheet: 0, 1, 2, 4, 5 or 6. */
 uint8_t simp_check(const uint8_t *sheet, size_t sheet_len, const uint8_t *script, size_t script_len);
@@ -80,6 +94,13 @@ simp_outcome simp_run(const uint8_t *sheet, size_t sheet_len, const uint8_t *scr
  * is SIMP_DONE. */
 uint8_t simp_view(const uint8_t *sheet, size_t sheet_len, const uint32_t *memory, size_t memory_len,
                   uint16_t group, uint32_t *view, size_t view_len);
+
+/* A round: checks every script of a text, then runs them in order on a memory under an authority, each for at most
+ * `budget` steps: 0 to 8 or 11. Every line without a byte parts two scripts, so k of them make k + 1 scripts, and an
+ * empty script is SIMP_SCRIPT_MALFORMED; of 4, 5 and 6 the lowest over all scripts is given. A script that is stopped
+ * leaves the memory as the one before it did, and the round goes on. A refused round leaves the memory as it was. */
+simp_round_outcome simp_round(const uint8_t *sheet, size_t sheet_len, const uint8_t *scripts, size_t scripts_len,
+                              uint32_t *memory, size_t memory_len, uint16_t authority, uint32_t budget);
 
 #ifdef __cplusplus
 }

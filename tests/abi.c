@@ -20,6 +20,7 @@ int main(void) {
     uint32_t memory[SIMP_CELL] = {1, 7}, view[SIMP_CELL] = {9, 9};
     const uint32_t kept[SIMP_CELL] = {9, 9};
     simp_outcome o;
+    simp_round_outcome r;
 
     expect("a check without a sheet", simp_check(NULL, 0, bytes(script), strlen(script)), SIMP_SHEET_MALFORMED);
     expect("a check without a script", simp_check(bytes(sheet), strlen(sheet), NULL, 0), SIMP_SCRIPT_MALFORMED);
@@ -36,6 +37,19 @@ int main(void) {
     o = simp_run(bytes(with_location), strlen(with_location), bytes(script), strlen(script), NULL, 0, 1, 5);
     expect("a run without a memory", o.answer, SIMP_SLICE_SIZE);
 
+    r = simp_round(NULL, 0, NULL, 0, NULL, 0, 0, 5);
+    expect("a round without anything", r.answer, SIMP_SHEET_MALFORMED);
+    r = simp_round(bytes(sheet), strlen(sheet), NULL, 0, NULL, 0, 1, 5);
+    expect("a round without a script", r.answer, SIMP_SCRIPT_MALFORMED);
+    r = simp_round(bytes(sheet), strlen(sheet), bytes(";\ns\ns\n\ns\n"), 9, NULL, 0, 1, 5);
+    expect("a round without locations", r.answer, SIMP_DONE);
+    expect("its first script's answer", r.answers[0], SIMP_DONE);
+    expect("its first script's steps", r.steps[0], 1);
+    expect("its second script's steps", r.steps[1], 0);
+    r = simp_round(bytes(with_location), strlen(with_location), bytes(script), strlen(script), NULL, 0, 1, 5);
+    expect("a round without a memory", r.answer, SIMP_SLICE_SIZE);
+    expect("its last place", r.answers[SIMP_MOST_SCRIPTS - 1] + r.steps[SIMP_MOST_SCRIPTS - 1], 0);
+
     expect("a view without anything", simp_view(NULL, 0, NULL, 0, 0, NULL, 0), SIMP_SHEET_MALFORMED);
     expect("a view without locations", simp_view(bytes(sheet), strlen(sheet), NULL, 0, 1, NULL, 0), SIMP_DONE);
     expect("a view of no memory",
@@ -44,6 +58,7 @@ int main(void) {
            simp_view(bytes(with_location), strlen(with_location), memory, SIMP_CELL, 1, NULL, 0), SIMP_SLICE_SIZE);
     expect("what they left", memcmp(view, kept, sizeof view) != 0, 0);
     expect("the size of an outcome", sizeof(simp_outcome), 8);
+    expect("the size of a round's outcome", sizeof(simp_round_outcome), 164);
     expect("the version's length", strlen(SIMP_VERSION) >= 5, 1);
     return wrong;
 }

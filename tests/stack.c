@@ -17,9 +17,9 @@
 
 static const char sheet[] = "P\t2\nL\nL\nO\t0\t0000\t0003\nX\t0\t1\nX\t4\t1\nX\t3\t0\n";
 
-enum call { NOTHING, CHECK, RUN, VIEW };
+enum call { NOTHING, CHECK, RUN, VIEW, ROUND };
 
-static char script[SIMP_MOST_TEXT];
+static char script[SIMP_MOST_TEXT], twice[2 * SIMP_MOST_TEXT];
 static enum call chosen;
 static int answer;
 
@@ -50,6 +50,8 @@ static void *make(void *unused)
         answer = simp_run(bytes(sheet), strlen(sheet), bytes(script), strlen(script), memory, LOCATIONS * SIMP_CELL, 3, 1000).answer;
     if (chosen == VIEW)
         answer = simp_view(bytes(sheet), strlen(sheet), memory, LOCATIONS * SIMP_CELL, 3, view, LOCATIONS * SIMP_CELL);
+    if (chosen == ROUND)
+        answer = simp_round(bytes(sheet), strlen(sheet), bytes(twice), strlen(twice), memory, LOCATIONS * SIMP_CELL, 3, 1000).answer;
     return NULL;
 }
 
@@ -73,7 +75,8 @@ static size_t used(enum call call)
     return STACK - untouched;
 }
 
-/* A script: a first part, one part so many times, another so many times; and its answers to a check and a run. */
+/* A script, and a round of it twice: a first part, one part so many times, another so many times; and its answers to a
+ * check and a run. */
 struct shape {
     const char *name, *first, *part;
     int times;
@@ -103,6 +106,7 @@ static void write_script(const struct shape *shape)
         strcat(script, shape->part);
     for (int i = 0; i < shape->last_times; i++)
         strcat(script, shape->last);
+    strcat(strcat(strcpy(twice, script), "\n"), script);
 }
 
 /* The bytes that a call took beyond what the thread itself takes. Its answer must be the wanted one. */
@@ -118,15 +122,18 @@ static size_t measured(enum call call, int wanted)
 
 int main(void)
 {
-    size_t most_check = 0, most_run = 0;
+    size_t most_check = 0, most_run = 0, most_round = 0;
     for (size_t i = 0; i < sizeof shapes / sizeof *shapes; i++) {
         write_script(&shapes[i]);
         size_t check = measured(CHECK, shapes[i].checked), run = measured(RUN, shapes[i].ran);
-        printf("%-36s check %7zu bytes (answer %2d), run %7zu bytes (answer %2d)\n", shapes[i].name, check, shapes[i].checked, run,
-               shapes[i].ran);
+        size_t round = measured(ROUND, shapes[i].checked);
+        printf("%-36s check %7zu bytes (answer %2d), run %7zu bytes (answer %2d), round %7zu bytes\n",
+               shapes[i].name, check, shapes[i].checked, run, shapes[i].ran, round);
+        most_round = round > most_round ? round : most_round;
         most_check = check > most_check ? check : most_check;
         most_run = run > most_run ? run : most_run;
     }
-    printf("peak check %zu\npeak run %zu\npeak view %zu\n", most_check, most_run, measured(VIEW, 0));
+    printf("peak check %zu\npeak run %zu\npeak view %zu\npeak round %zu\n", most_check, most_run, measured(VIEW, 0),
+           most_round);
     return 0;
 }

@@ -1,5 +1,5 @@
 /*
- * Packs a tally on a grading line and shows it to two groups: the smallest program over libsimp.a.
+ * Packs a tally on a grading line, shows it to two groups, and runs a round: the smallest program over libsimp.a.
  * Exits with 0 if every call answered as it should.
  */
 #include <stdio.h>
@@ -25,6 +25,14 @@ static const char pack[] = "=\t2\nk\t1\nx\t1\n";
 
 /* Copies the tally to location 0, where everyone would read it: refused. */
 static const char leak[] = "=\t0\nx\t1\n";
+
+/* A round: counts, loops without end, packs. An empty line parts two scripts. */
+static const char morning[] =
+    "=\t1\n+\nx\t1\nx\t0\n"
+    "\n"
+    "w\nl\t3\ni\t0\ns\n"
+    "\n"
+    "=\t2\nk\t1\nx\t1\n";
 
 static const uint8_t *bytes(const char *text) { return (const uint8_t *)text; }
 
@@ -73,5 +81,13 @@ int main(void)
         || memcmp(view + 2 * SIMP_CELL, hidden, sizeof hidden) != 0)
         return 4;
     print("principal 2 is shown", view + 2 * SIMP_CELL);
+
+    /* The second script uses its budget up and changes nothing; the third goes on from what the first left. */
+    simp_round_outcome round = simp_round(bytes(sheet), strlen(sheet), bytes(morning), strlen(morning), memory,
+                                          3 * SIMP_CELL, 1u << 1, 100);
+    if (round.answer != SIMP_DONE || round.answers[0] != SIMP_DONE || round.answers[1] != SIMP_SPENT
+        || round.answers[2] != SIMP_DONE || round.steps[1] != 100)
+        return 5;
+    print("package after the round", memory + 2 * SIMP_CELL);
     return 0;
 }

@@ -20,7 +20,7 @@ use Rattle.stages.specs.Answers.{Viewed, refusedView}
 use Rattle.stages.specs.Calls.{viewOf}
 use Rattle.simp.specs.Judgements.{OfSheet, Strangers, OtherSize, IllFormed, View}
 use Rattle.simp.proofs.Judged.{its}
-use Rattle.simp.proofs.SecondDemand.{demand-2}
+use Rattle.simp.proofs.SecondDemand.{view-exactly}
 use Rattle.desk.specs.Fields.{groupOf}
 use Rattle.desk.specs.Numbers.{placeOf, earlier, unread, asText}
 use Rattle.desk.specs.Given.{wordsRead, givenFrom, givenOf}
@@ -87,7 +87,7 @@ module _ (sheet text group ws : List ℕ) (g : ℕ) where
   on-sheet : (o : Option ℕ) (m : Read (List ℕ)) → (Seen past-2 → Said (group-rows sheet text group) (unread o m))
       → Said (showRows sheet text group) (unread o m)
   unfolding First
-  on-sheet o m k = go (demand-2 .view sheet ws g zeros view .0 refl)
+  on-sheet o m k = go (view-exactly sheet ws g zeros view .0 refl)
     where
       go : View sheet ws g zeros view → Said (showRows sheet text group) (unread o m)
       go (inl (a, e)) = inl (a, ap (said (unread o m)) e ∙ sheet-first o m .0)

@@ -16,10 +16,11 @@ use Rattle.memory.proofs.Exactness.{words-exactly, cell-exactly, memories-exact
 use Rattle.memory_text.proofs.Memories.{memory-exact}
 use Rattle.checker.proofs.Verdicts.{checker-exact}
 use Rattle.numbers.proofs.RowLaws.{every-table}
-use Rattle.simp.proofs.FirstDemand.{demand-1}
-use Rattle.simp.proofs.SecondDemand.{demand-2}
+use Rattle.simp.proofs.EveryCall.{demand-1, demand-2}
 use Rattle.simp.proofs.ThirdDemand.{demand-3}
+use Rattle.simp.proofs.RoundViews.{round-view}
 use Rattle.simp.proofs.CasesHold.{cases-hold}
+use Rattle.scripts.proofs.Joined.{parts-exact}
 use Rattle.parts.proofs.Apart.{joined-apart, missing-empty}
 use Rattle.parts.proofs.Steps.{chunks}
 use Rattle.parts.proofs.Keeping.{holds-parts}
@@ -32,6 +33,7 @@ promises = record {
   demand-1 = demand-1;
   demand-2 = demand-2;
   demand-3 = demand-3;
+  round-view = round-view;
   cases-hold = cases-hold;
   every-table = every-table;
   theorems = theorems;
@@ -58,6 +60,7 @@ promises = record {
   malformed-exact = malformed-exact;
   one-sheet = one-sheet;
   script-exact = script-exact;
+  parts-exact = parts-exact;
   memory-exact = memory-exact;
   words-exactly = words-exactly;
   cell-exactly = cell-exactly;

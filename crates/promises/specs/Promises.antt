@@ -16,12 +16,14 @@ use Rattle.memory_text.specs.Theorems.{MemoryExact}
 use Rattle.checker.specs.Theorems.{CheckerExact}
 use Rattle.numbers.specs.Theorems.{EveryTable}
 use Rattle.simp.specs.Demands.{Demand1, Demand2, Demand3}
+use Rattle.simp.specs.RoundView.{RoundView}
 use Rattle.simp.specs.Cases.{CasesHold}
+use Rattle.scripts.specs.Theorems.{PartsExact}
 use Rattle.parts.specs.Theorems.{JoinedApart, MissingEmpty, Chunks, HoldsParts}
 use Rattle.desk.specs.Theorems.{GroupExact, SameOrder, ShowInOrder, KeptEnough, ShowsInput}
 
 pub record Promises : Type 1 where
-  -- ---- The three calls
+  -- ---- The calls
 
   -- Each call gives the first number that applies, in their order; after any call the lent memory holds a finished run's
   -- values or what it held before, and a refused call writes to no lent slice.
@@ -31,7 +33,10 @@ pub record Promises : Type 1 where
   -- Noninterference: two done runs of an accepted script under one authority, from memories that give a group the same view, leave memories
   -- that do.
   pub demand-3 : Demand3
-  -- The scope's starred cases, and its two of long values, in one table.
+  -- Two rounds of the same scripts under one authority, from memories that give a group the same view, leave memories that do, where each script
+  -- is done in both.
+  pub round-view : RoundView
+  -- The scope's starred cases, its two of long values, and rounds, in one table.
   pub cases-hold : CasesHold
   -- Of any table of refusal numbers: the first that applies is given, and it settles the whole answer; there is exactly one answer where it is
   -- settled which row applies first, and there is exactly one where none applies.
@@ -93,6 +98,8 @@ pub record Promises : Type 1 where
   -- On a sheet of the form, a script is read exactly where the text is the printed form of a command within the bounds that names only what
   -- is there.
   pub script-exact : ScriptExact
+  -- The scripts of a text are these exactly where no line of them is empty and the text is these, joined by empty lines.
+  pub parts-exact : PartsExact
   -- A memory text is read exactly where it is the printed form of a memory.
   pub memory-exact : MemoryExact
   -- ---- Memories and views

@@ -30,6 +30,9 @@ use Rattle.script_text.specs.Script as script
 use Rattle.memory.specs.Memory as memory
 use Rattle.memory.specs.Words as words
 use Rattle.stages.specs.Calls as calls
+use Rattle.scripts.specs.Parting as parting
+use Rattle.rounds.specs.Answers as round-answers
+use Rattle.rounds.specs.Calls as round-calls
 use Rattle.simp.specs.Texts as texts
 
 unfoldable pub text-used : Unit {0}
@@ -105,6 +108,12 @@ unfolding calls.onSheet calls.unless calls.strangers calls.onScript calls.untype
     texts.bytes
 simp-used = tt
 
+unfoldable pub rounds-used : Unit {0}
+unfolding parting.toFirst parting.partsFrom parting.partsOf
+    round-answers.leftBy round-answers.allOpen
+    round-calls.tooMany round-calls.lower round-calls.lowest round-calls.runEach round-calls.turnOf round-calls.playedOf round-calls.roundBy
+rounds-used = tt
+
 unfoldable pub all-used : Unit {0}
-unfolding logic-used text-used sets-used labels-used language-used script-used sheet-used sheet-text-used script-text-used memory-used simp-used
+unfolding logic-used text-used sets-used labels-used language-used script-used sheet-used sheet-text-used script-text-used memory-used simp-used rounds-used
 all-used = tt

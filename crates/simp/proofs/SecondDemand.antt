@@ -1,4 +1,4 @@
--- Demand 2: each call answers what the papers say. Assumes nothing.
+-- Demand 2 of the calls on one script: each answers what the papers say. Assumes nothing.
 use mathlib.Core.Logic.{_↔_}
 use mathlib.Core.Path.{_≡_, refl, sym, ap, _∙_, subst}
 use mathlib.Core.Bool.{true}
@@ -18,8 +18,7 @@ use Rattle.memory.proofs.Exactness.{memories-exactly}
 use Rattle.stages.specs.Answers.{Ran, refusedRun, Viewed, refusedView}
 use Rattle.stages.specs.Calls.{onSheet, unless, onScript, untyped, numberOf, checkOf, ended, runOf, viewOf}
 use Rattle.numbers.specs.Rows.{First}
-use Rattle.simp.specs.Judgements.{OnSheet, Principals, Sized, checkRows, Checked, Started, Ends, ends-0, ends-9, ends-10, runRows, Run, viewRows, View}
-use Rattle.simp.specs.Demands.{Demand2}
+use Rattle.simp.specs.Judgements.{OnSheet, Principals, Sized, Checked, Started, Ends, ends-0, ends-9, ends-10, runRows, Run, viewRows, View}
 use Rattle.simp.proofs.Numbers.{no-strangers, typable-0, typable-shape, sized-0, view-sized}
 use Rattle.numbers.proofs.RowLaws.{exactly}
 use Rattle.simp.proofs.Judged.{read, parsed, its, their, past-all, past-2, past-3, past-4, past-6, past-8, past-view-8}
@@ -157,10 +156,3 @@ view-exactly sheet memory group view =
       λ o. shown-view h ∙ sym (its (λ s. v ≡ record { answer = 0; view = viewWords s group memory }) (h .on-sheet .form) o),
     ))
     (view-shows sheet memory group view)
-
-pub demand-2 : Demand2
-demand-2 = record {
-  check = λ sheet script. exactly (λ k. k) _ _ (checkOf sheet script) (checkRows sheet script) (λ n z r. (λ e. sym e ∙ z, λ y. z ∙ sym y)) (checked sheet script);
-  run = run-exactly;
-  view = view-exactly;
-}

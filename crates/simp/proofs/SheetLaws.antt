@@ -26,9 +26,9 @@ module _ {A : Type 0} (refuse : ℕ → A) (go : Sheet → A) where
         ap refuse p ∙ refused-by (sheetOf sheet) (λ z. n (p ∙ z))
 
     -- a sheet that isn't refused: the call goes on with its table
-    pub sheet-read : (r : A) → number ≡ 0 → ((s : Sheet) → TableOf (d .table) s → r ≡ go s) → r ≡ onSheet refuse (sheetOf sheet) go
+    pub sheet-read-of : (r : A) → number ≡ 0 → ((s : Sheet) → sheetOf sheet ≡ accepted s → TableOf (d .table) s → r ≡ go s) → r ≡ onSheet refuse (sheetOf sheet) go
     unfolding onSheet decodedSheet refusedBy sheetNumber
-    sheet-read r z k = on (sheetOf sheet) refl
+    sheet-read-of r z k = on (sheetOf sheet) refl
       where
         zero-of : (a : Answer) → sheetOf sheet ≡ a → sheetNumber (decodedSheet a .verdict) ≡ 0
         zero-of a p = sym (ap (λ (x : Decoded). sheetNumber (x .verdict)) (e ∙ ap decodedSheet p)) ∙ sym is ∙ z
@@ -38,4 +38,7 @@ module _ {A : Type 0} (refuse : ℕ → A) (go : Sheet → A) where
         on repeating p = absurd (omega (arith, zero-of repeating p))
         on (accepted s) p =
             let h = accepted-exact sheet s .0 p in
-            k s (record { form = h .0 .is-formed; once = h .1; words = ap (λ (x : Decoded). x .table) (e ∙ ap decodedSheet p) })
+            k s p (record { form = h .0 .is-formed; once = h .1; words = ap (λ (x : Decoded). x .table) (e ∙ ap decodedSheet p) })
+
+    pub sheet-read : (r : A) → number ≡ 0 → ((s : Sheet) → TableOf (d .table) s → r ≡ go s) → r ≡ onSheet refuse (sheetOf sheet) go
+    sheet-read r z k = sheet-read-of r z (λ s p. k s)

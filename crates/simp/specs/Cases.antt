@@ -1,12 +1,16 @@
--- The scope's starred cases ("Cases"), and its two of long values, as one table. `cases-hold` in proofs/CasesHold.antt shows all of them.
+-- The scope's starred cases ("Cases"), its two of long values, and rounds (request (a)), as one table. `cases-hold` in proofs/CasesHold.antt shows
+-- all of them.
 use mathlib.Core.Path.{_≡_}
 use mathlib.Core.Bool.{Bool, true, false}
 use mathlib.Core.List.{List, [], _∷_, _++_}
 use Prim.Native.Nat.{ℕ}
 use Prim.Native.String.{String}
+use lib.ListN.{replicate}
 use Rattle.labels.specs.Labels.{Policy, policy, labelOf, readsOf, writesOf}
 use Rattle.sheet.specs.Padding.{padded}
 use Rattle.stages.specs.Calls.{checkOf, runOf}
+use Rattle.scripts.specs.Parting.{mostScripts}
+use Rattle.rounds.specs.Calls.{roundOf}
 use Rattle.simp.specs.Texts.{bytes}
 
 -- {0: readers 1, writers 2; 1: readers 0, writers 2 and 3}
@@ -39,6 +43,16 @@ afterPack = fourLocations (1 ∷ 5 ∷ []) (1 ∷ 62 ∷ []) (3 ∷ 5 ∷ 2 ∷ 
 unfoldable pub afterUnpack : List ℕ → List ℕ
 afterUnpack words = fourLocations (1 ∷ 5 ∷ []) (1 ∷ 62 ∷ []) (3 ∷ 5 ∷ 2 ∷ 1 ∷ 62 ∷ []) words
 
+-- the same, with other words in location 0
+unfoldable pub beforeWith : ℕ → List ℕ
+beforeWith n = fourLocations (1 ∷ n ∷ []) (1 ∷ 62 ∷ []) (4 ∷ 2 ∷ 1 ∷ []) (4 ∷ 2 ∷ 1 ∷ [])
+
+-- scripts in one text, parted by empty lines
+unfoldable pub parted : List String → List ℕ
+parted [] = []
+parted (t ∷ []) = bytes t
+parted (t ∷ u ∷ ts) = bytes t ++ (10 ∷ parted (u ∷ ts))
+
 pub data Case : Type 0 where
   -- of four principals, whether a group reads or writes the label with these policies
   reads writes : List Policy → ℕ → Bool → Case
@@ -50,6 +64,9 @@ pub data Case : Type 0 where
   spends : String → List ℕ → ℕ → Case
   -- on the sheet `nested`, a script, what its run answers, and the steps
   answers : String → ℕ → ℕ → Case
+  -- a sheet, scripts, a memory and a budget, without authority: what the round answers, what each script answers and its steps, and the memory
+  -- that the round leaves
+  rounds : String → List String → List ℕ → ℕ → ℕ → List ℕ → List ℕ → List ℕ → Case
 
 -- the largest budget
 abbrev pub largest : ℕ
@@ -64,6 +81,8 @@ Holds (runs script m authority steps left) =
 Holds (spends script m authority) =
     (budget : ℕ) → runOf (bytes sheet) (bytes script) m authority budget ≡ record { answer = 9; steps = budget; memory = m }
 Holds (answers script answer steps) = runOf (bytes nested) (bytes script) [] 0 largest ≡ record { answer = answer; steps = steps; memory = [] }
+Holds (rounds on scripts m budget answer each steps left) =
+    roundOf (bytes on) (parted scripts) m 0 budget ≡ record { answer = answer; answers = padded mostScripts each; steps = padded mostScripts steps; memory = left }
 
 unfoldable pub cases : List Case
 cases =
@@ -86,6 +105,16 @@ cases =
     -- not starred: fourteen lefts over an integer fit, fifteen give 10
     ∷ answers "c\nl 17\nl 16\nl 15\nl 14\nl 13\nl 12\nl 11\nl 10\nl 9\nl 8\nl 7\nl 6\nl 5\nl 3\ni 1\ns\ns\n" 0 1
     ∷ answers "c\nl 18\nl 17\nl 16\nl 15\nl 14\nl 13\nl 12\nl 11\nl 10\nl 9\nl 8\nl 7\nl 6\nl 5\nl 3\ni 1\ns\ns\n" 10 0
+    -- rounds: 32 scripts, each adding 1 to location 0, one after another; 33 are refused
+    ∷ rounds sheet (replicate 32 "= 0\n+\nx 0\ni 1\n") before 1 0 [] (replicate 32 1) (beforeWith 37)
+    ∷ rounds sheet (replicate 33 "= 0\n+\nx 0\ni 1\n") before 1 11 [] [] before
+    -- a 4 behind a 6 refuses the round by 4, and an empty line at the end is an empty script
+    ∷ rounds sheet ("= 0\ni 6\n" ∷ "= 0\nx 1\n" ∷ "= 0\n" ∷ []) before 1 4 [] [] before
+    ∷ rounds sheet ("= 0\ni 6\n" ∷ "= 0\nx 1\n" ∷ []) before 1 6 [] [] before
+    ∷ rounds sheet ("= 0\ni 6\n" ∷ "" ∷ []) before 1 4 [] [] before
+    -- a script that stops leaves the memory as the one before it did, and the round goes on with the whole budget
+    ∷ rounds sheet ("= 0\ni 6\n" ∷ ";\n= 0\ni 70\nw\nl 3\ni 1\ns\n" ∷ "= 0\n+\nx 0\ni 1\n" ∷ []) before 3 0 (0 ∷ 9 ∷ 0 ∷ []) (1 ∷ 3 ∷ 1 ∷ []) (beforeWith 7)
+    ∷ rounds nested ("s\n" ∷ "c\nl 18\nl 17\nl 16\nl 15\nl 14\nl 13\nl 12\nl 11\nl 10\nl 9\nl 8\nl 7\nl 6\nl 5\nl 3\ni 1\ns\ns\n" ∷ ";\ns\ns\n" ∷ []) [] 2 0 (0 ∷ 10 ∷ 0 ∷ []) (0 ∷ 0 ∷ 1 ∷ []) []
     ∷ []
 
 -- every case of a table holds

@@ -1,18 +1,23 @@
--- The three demands, stated of the definitions that the contracts equate the three calls with.
+-- The three demands, stated of the definitions that the contracts equate the calls with.
 use mathlib.Core.Logic.{_↔_}
 use mathlib.Core.Path.{_≡_}
 use mathlib.Core.List.{List, [], _∷_}
 use Prim.Native.Nat.{ℕ, _≤_, _<_}
+use lib.ListN.{length, getD}
 use Rattle.language.specs.Syntax.{Cmd, skip}
 use Rattle.language.specs.World.{Mem}
 use Rattle.language.specs.Figures.{Steps}
 use Rattle.sheet.specs.Sheet.{Sheet, locationCount}
 use Rattle.sheet.specs.Meaning.{worldOf}
 use Rattle.memory.specs.Memory.{memoryOf, wordsOf}
-use Rattle.stages.specs.Answers.{Ran, Viewed}
+use Rattle.stages.specs.Answers.{Ran, refusedRun, Viewed}
 use Rattle.stages.specs.Calls.{checkOf, runOf, viewOf}
+use Rattle.scripts.specs.Parting.{partsOf}
+use Rattle.rounds.specs.Answers.{RanRound, Gate, allOpen}
+use Rattle.rounds.specs.Calls.{roundBy}
 use Rattle.numbers.specs.Rows.{Among, GivenInOrder}
 use Rattle.simp.specs.Judgements.{checkRows, Checked, runRows, Started, Run, viewRows, View}
+use Rattle.simp.specs.Rounds.{roundRows, Places, Played, Open, Round}
 
 -- The run was started and reached skip within the budget, and these are the words of the memory that it reached, after so many steps.
 pub record Finished (sheet script memory : List ℕ) (authority budget steps : ℕ) (left : List ℕ) : Type 0 where
@@ -37,6 +42,36 @@ pub record ViewAnswers (view : List ℕ) (v : Viewed) : Type 0 where
   pub number : Among (0 ∷ 1 ∷ 2 ∷ 3 ∷ 7 ∷ 8 ∷ []) (v .answer)
   pub kept : ¬ (v .answer ≡ 0) → v .view ≡ view
 
+-- What a round answers and leaves, whatever it is given: one of its numbers; beside a refusal the memory as it was and zeros in every place; and
+-- zeros in the places past the last script.
+pub record RoundAnswers (scripts memory : List ℕ) (r : RanRound) : Type 0 where
+  pub number : Among (0 ∷ 1 ∷ 2 ∷ 3 ∷ 11 ∷ 4 ∷ 5 ∷ 6 ∷ 7 ∷ 8 ∷ []) (r .answer)
+  pub kept : ¬ (r .answer ≡ 0) → r .memory ≡ memory
+  pub zeros : ¬ (r .answer ≡ 0) → (i : ℕ) → (getD (r .answers) i 0 ≡ 0) × (getD (r .steps) i 0 ≡ 0)
+  pub places : Places (length (partsOf scripts)) r
+
+-- How a script goes in its turn, in a round that isn't refused. Open, it answers 0, 9 or 10: done, it is a finished run from the memory before it to
+-- the one after it; stopped, it leaves the memory as it was (RunAnswers). Not open, it has its gate's number, no steps, and leaves the memory.
+pub record ScriptAnswers (gate : Gate) (sheet : List ℕ) (authority budget i : ℕ) (script memory : List ℕ) (r : Ran) : Type 0 where
+  pub its-number : Open gate i → Among (0 ∷ 9 ∷ 10 ∷ []) (r .answer)
+  pub as-run : Open gate i → RunAnswers memory budget r
+  pub finished : Open gate i → r .answer ≡ 0 → Finished sheet script memory authority budget (r .steps) (r .memory)
+  pub closed : ¬ Open gate i → r ≡ refusedRun memory (gate i)
+
+-- Demand 1 of a round, by any gate: the number given applies, and none that comes before it in the order does; the whole answer is as the table
+-- has it; where the round isn't refused, each script went so in its turn. A round's finished run is its done scripts, one after another.
+pub record RoundDemand1 : Type 1 where
+  pub order : (gate : Gate) (sheet scripts memory : List ℕ) (authority budget : ℕ)
+      → GivenInOrder (roundRows sheet scripts memory authority) (roundBy gate sheet scripts memory authority budget .answer)
+  pub number : (gate : Gate) (sheet scripts memory : List ℕ) (authority budget : ℕ)
+      → Round gate sheet scripts memory authority budget (roundBy gate sheet scripts memory authority budget)
+  pub played : (gate : Gate) (sheet scripts memory : List ℕ) (authority budget : ℕ) → roundBy gate sheet scripts memory authority budget .answer ≡ 0
+      → Played (ScriptAnswers gate sheet authority budget) scripts memory (roundBy gate sheet scripts memory authority budget)
+  pub answers : (gate : Gate) (sheet scripts memory : List ℕ) (authority budget : ℕ)
+      → RoundAnswers scripts memory (roundBy gate sheet scripts memory authority budget)
+  -- simp_round shuts no script out
+  pub all-open : (i : ℕ) → Open allOpen i
+
 -- Demand 1. Each call gives the first number that applies, in their fixed order; each answer is 0 or one of the call's numbers. After any call
 -- the lent memory holds the finished run's values or exactly what it held before; a refused call writes to no lent slice.
 -- That a call ends is proved with each function; simp_check is lent nothing to write, and simp_view is lent its memory for reading.
@@ -56,6 +91,8 @@ pub record Demand1 : Type 1 where
   pub check-answers : (sheet script : List ℕ) → Among (0 ∷ 1 ∷ 2 ∷ 4 ∷ 5 ∷ 6 ∷ []) (checkOf sheet script)
   pub run-answers : (sheet script memory : List ℕ) (authority budget : ℕ) → RunAnswers memory budget (runOf sheet script memory authority budget)
   pub view-answers : (sheet memory : List ℕ) (group : ℕ) (view : List ℕ) → ViewAnswers view (viewOf sheet memory group view)
+  -- all of it of a round
+  pub round : RoundDemand1
 
 -- Demand 2. Each call answers exactly what the papers say: the numbers in their order, acceptance by the typing rules, and the
 -- memory and the step count of the evaluation rules. So there is exactly one answer by each table: the call's.
@@ -64,6 +101,8 @@ pub record Demand2 : Type 0 where
   pub run : (sheet script memory : List ℕ) (authority budget : ℕ) (r : Ran)
       → (runOf sheet script memory authority budget ≡ r) ↔ Run sheet script memory authority budget r
   pub view : (sheet memory : List ℕ) (group : ℕ) (words : List ℕ) (v : Viewed) → (viewOf sheet memory group words ≡ v) ↔ View sheet memory group words v
+  pub round : (gate : Gate) (sheet scripts memory : List ℕ) (authority budget : ℕ) (r : RanRound)
+      → (roundBy gate sheet scripts memory authority budget ≡ r) ↔ Round gate sheet scripts memory authority budget r
 
 -- Two memories give a group the same view: the view of each is handed out into a lent slice, and these agree in every word.
 -- `shown` holds exactly if the sheet is of its form and repeats nothing, the group is on it, the slices have their size and the memory is

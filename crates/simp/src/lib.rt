@@ -1,8 +1,11 @@
-// SImp scripts on a sheet: the three calls that firmware and the desk programs make.
-// Each settles every input; what they answer is defined in crate stages, specs/Calls.antt.
+// SImp scripts on a sheet: the calls that firmware and the desk programs make.
+// Each settles every input; what they answer is defined in crates stages and rounds, specs/Calls.antt.
 ghost use mathlib.Core.Path.{_≡_};
 ghost use Rattle.stages.specs.Answers.{Ran, Viewed};
 ghost use Rattle.stages.specs.Calls.{checkOf, runOf, viewOf};
+ghost use Rattle.rounds.specs.Answers.{RanRound};
+ghost use Rattle.rounds.specs.Calls.{roundOf};
+use rounds::Round;
 use sets::Set;
 use stages::Outcome;
 
@@ -52,4 +55,25 @@ pub extern "C" fn simp_view(sheet: &[u8], memory: &[u32], group: Set, view: &mut
         return answer;
     }
     stages::view_on(&table, memory, group, view)
+}
+
+// Runs the scripts of a text one after another on a memory under an authority, each for at most `budget` steps. The memory changes only by the
+// scripts that are done, and by none if the round is refused.
+#[no_mangle]
+pub extern "C" fn simp_round(
+    sheet: &[u8],
+    scripts: &[u8],
+    memory: &mut [u32],
+    authority: Set,
+    budget: u32,
+) -> Round
+    ensures { λ r. ⌜ record { answer = r .answer; answers = r .answers; steps = r .steps; memory = now (memory .exit) } ≡ roundOf (now (sheet .entry)) (now (scripts .entry)) (now (memory .entry)) authority budget ⌝ }
+{
+    let mut table: [sheet::Word; sheet::WORDS] = [0; sheet::WORDS];
+    let verdict = sheet_text::read(sheet, &mut table);
+    let answer = stages::sheet_number(verdict);
+    if answer != stages::DONE {
+        return rounds::refused(answer);
+    }
+    rounds::round_on(scripts, &table, memory, authority, budget)
 }

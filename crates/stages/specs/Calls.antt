@@ -1,4 +1,4 @@
--- The three calls, as functions of what they are given: the answer, the steps, and what every lent slice then holds.
+-- The calls on one script, and views, as functions of what they are given: the answer, the steps, and what every lent slice then holds.
 -- The numbers are the scope's ("From the input", "From the state"); the first that applies, in the order judged, is given (simp, Judgements.antt).
 use mathlib.Core.Bool.{cond}
 use mathlib.Core.List.{List}

@@ -1,0 +1,123 @@
+-- One script of a round after another. Assumes nothing.
+use mathlib.Core.Path.{_≡_, refl, sym, ap, _∙_, subst}
+use mathlib.Core.List.{List, [], _∷_}
+use mathlib.Core.Option.{Option, none, some}
+use Prim.Native.Nat.{ℕ, _+_, _-_, _*_, _≤_, _<_}
+use native.Mathlib.Omega.{arith}
+use lib.ListN.{length, take, drop, getD, set, replicate}
+use Rattle.language.specs.Syntax.{Cmd}
+use Rattle.script.specs.Names.{Counts}
+use Rattle.sheet.specs.Sheet.{Sheet}
+use Rattle.script_text.specs.Counts.{countsOf}
+use Rattle.script_text.specs.Script.{scriptOf}
+use Rattle.script_text.specs.Reading.{linesOf}
+use Rattle.script_text.specs.Internal.Decoded.{Decoded, countsIn, codedLines, decodedScript}
+use Rattle.script_text.proofs.ScriptLaws.{counts-table}
+use Rattle.script_text.proofs.ReadLaws.{script-coded}
+use Rattle.memory.specs.Memory.{memoryRefusal}
+use Rattle.stages.specs.Answers.{Ran, refusedRun}
+use Rattle.stages.specs.Calls.{unless, strangers, onScript, untyped, numberOf}
+use Rattle.stages.specs.Internal.Stages.{TableOf, AcceptedCode, acceptedRun, RunsAccepted}
+use Rattle.stages.proofs.StageLaws.{goes, accepted-code}
+use Rattle.stages.proofs.Kept.{left-unrefused}
+use Rattle.scripts.specs.Parting.{partsOf, mostScripts}
+use Rattle.scripts.specs.Internal.Places.{partsAfter}
+use Rattle.scripts.proofs.Places.{PartAt, part-at, parts-all, StartsAt, has-place, kept-end, none-left}
+use Rattle.rounds.specs.Answers.{RanRound}
+use Rattle.rounds.specs.Calls.{lowest}
+use Rattle.rounds.specs.Internal.Stages.{Parted, runOn, ranOn, RunsScript, RunsEach}
+use Rattle.rounds.proofs.LowerLaws.{lower-none, lowest-more}
+use Rattle.rounds.proofs.PlaceLaws.{rest, rest-more, rest-over, rest-all}
+
+-- ---- one script
+
+-- an accepted script on a memory that isn't refused: no number refuses its run
+run-on-accepted : (s : Sheet) (authority budget : ℕ) (script memory ws : List ℕ) (a : AcceptedCode s script ws) → strangers s authority ≡ 0 → memoryRefusal s memory ≡ 0
+    → runOn s authority budget script memory ≡ acceptedRun s memory authority budget (a .command)
+unfolding onScript
+run-on-accepted s authority budget script memory ws a g m =
+    goes (refusedRun memory) (strangers s authority) _ g
+    ∙ rw (a .is-its) (goes (refusedRun memory) (untyped s (a .command)) _ (a .typed) ∙ goes (refusedRun memory) (memoryRefusal s memory) _ m)
+
+-- the lines of an accepted script are its code
+decoded-accepted : (t script : List ℕ) (p : Decoded) → p ≡ codedLines (linesOf script) → (s : Sheet) → TableOf t s → numberOf s script ≡ 0
+    → p ≡ decodedScript (scriptOf (countsIn t) script)
+unfolding numberOf onScript
+decoded-accepted t script p e s T n = go (scriptOf (countsOf s) script) refl n
+  where
+    k : countsIn t ≡ countsOf s
+    k = ap countsIn (T .words) ∙ counts-table s
+
+    go : (o : Option Cmd) → scriptOf (countsOf s) script ≡ o → onScript (λ j. j) o (λ c. untyped s c) ≡ 0 → p ≡ decodedScript (scriptOf (countsIn t) script)
+    go none x z = absurd (omega arith)
+    go (some c) x z = e ∙ script-coded (countsIn t) script c (ap (λ (j : Counts). scriptOf j script) k ∙ x)
+
+pub runs-script : (script t memory ws : List ℕ) (authority budget : ℕ) (p : Decoded) (r : Ran) → p ≡ codedLines (linesOf script)
+    → ws ≡ take (p .count * 3) (p .code) → RunsAccepted ws t memory authority budget r → RunsScript script t memory authority budget r
+runs-script script t memory ws authority budget p r e w ran = record {
+  spares = ran .spares;
+  ran = λ s T g n m.
+      let a = accepted-code t script ws p (decoded-accepted t script p e s T n) w s T n in
+      let q = ran .ran s T script a m in (
+        q ∙ sym (run-on-accepted s authority budget script memory ws a g m),
+        rw q (left-unrefused s (a .command) (a .source) (a .names) (a .typed) memory authority budget m),
+      );
+}
+
+-- ---- all of them
+
+-- The script that starts at a place: where its end is kept, and that it has a place itself.
+pub script-at : (scripts ends : List ℕ) (i at end : ℕ) → Parted scripts ends → StartsAt scripts i at → at ≤ length scripts → end ≡ getD ends i 0 → PartAt scripts at end
+script-at scripts ends i at end h s l e =
+    part-at scripts at end l (e ∙ ap (λ (es : List ℕ). getD es i 0) (h .kept) ∙ kept-end scripts i at s (h .few) l)
+
+pub place-at : (scripts ends : List ℕ) (i at : ℕ) → Parted scripts ends → StartsAt scripts i at → at ≤ length scripts → i < mostScripts
+place-at scripts ends i at h s l = omega (arith, has-place s (script-at scripts ends i at _ h s l refl), h .few)
+
+module _ (scripts t memory₀ : List ℕ) (authority budget : ℕ) where
+  -- Where no number refuses the round: at place i, with the scripts from `at` on left, the rest of the round is the whole.
+  pub record Going (s : Sheet) (i at : ℕ) (answers steps memory : List ℕ) : Type 0 where
+    pub accepted : lowest (numberOf s) (partsAfter scripts at) ≡ 0
+    pub unrefused : memoryRefusal s memory ≡ 0
+    pub whole : rest (runOn s authority budget) i answers steps memory (partsAfter scripts at) ≡ ranOn s authority budget (partsOf scripts) memory₀
+
+  -- on every sheet of the table on which no number refuses it
+  abbrev pub Goes : ℕ → ℕ → List ℕ → List ℕ → List ℕ → Type 0
+  Goes i at answers steps memory =
+      (s : Sheet) → TableOf t s → strangers s authority ≡ 0 → lowest (numberOf s) (partsOf scripts) ≡ 0 → memoryRefusal s memory₀ ≡ 0
+      → Going s i at answers steps memory
+
+  pub goes-first : length (partsOf scripts) ≤ mostScripts → Goes 0 0 (replicate mostScripts 0) (replicate mostScripts 0) memory₀
+  goes-first l s T g n m = record {
+    accepted = rw (parts-all scripts) n;
+    unrefused = m;
+    whole = rw (parts-all scripts) (rest-all (runOn s authority budget) memory₀ (partsOf scripts) l);
+  }
+
+  pub goes-on : (i at end : ℕ) (answers steps memory : List ℕ) (r : Ran) → Goes i at answers steps memory → PartAt scripts at end
+      → RunsScript (take (end - at) (drop at scripts)) t memory authority budget r
+      → Goes (i + 1) (end + 1) (set answers i (r .answer)) (set steps i (r .steps)) (r .memory)
+  goes-on i at end answers steps memory r k p ran s T g n m =
+      let h = k s T g n m in
+      let script : List ℕ = take (end - at) (drop at scripts) in
+      let left = partsAfter scripts (end + 1) in
+      let z = lower-none (numberOf s script) (lowest (numberOf s) left)
+      (sym (lowest-more (numberOf s) script left) ∙ ap (lowest (numberOf s)) (sym (p .parts)) ∙ h .accepted) in
+      let q = ran .ran s T g (z .0) (h .unrefused) in
+      record {
+        accepted = z .1;
+        unrefused = q .1;
+        whole = rw (q .0)
+            (sym (rest-more (runOn s authority budget) i answers steps memory script left)
+            ∙ ap (rest (runOn s authority budget) i answers steps memory) (sym (p .parts)) ∙ h .whole);
+      }
+
+  pub goes-over : (i at : ℕ) (answers steps memory : List ℕ) → Goes i at answers steps memory → partsAfter scripts at ≡ []
+      → RunsEach scripts t memory₀ authority budget (record { answer = 0; answers = answers; steps = steps; memory = memory })
+  goes-over i at answers steps memory k l = record {
+    done = refl;
+    ran = λ s T g n m.
+        let h = k s T g n m in
+        sym (rest-over (runOn s authority budget) i answers steps memory)
+        ∙ ap (rest (runOn s authority budget) i answers steps memory) (sym l) ∙ h .whole;
+  }

@@ -1,0 +1,96 @@
+-- The stages of a round: what each leaves, from what it calls. Assumes nothing.
+use mathlib.Core.Path.{_≡_, refl, sym, ap, _∙_}
+use mathlib.Core.Bool.{true, false}
+use mathlib.Core.List.{List, [], _∷_}
+use Prim.Native.Nat.{ℕ, suc, _≤_, _<_}
+use lib.ListN.{length}
+use borrow.Author.Tests.{lt-ltb, le-ltb}
+use Rattle.sets.specs.Sets.{within}
+use Rattle.sheet.specs.Sheet.{Sheet}
+use Rattle.sheet.specs.Internal.Tables.{everyoneIn}
+use Rattle.sheet_text.specs.Sheets.{accepted, sheetOf}
+use Rattle.memory.specs.Memory.{memoryRefusal}
+use Rattle.stages.specs.Answers.{Ran}
+use Rattle.stages.specs.Calls.{onSheet, unless, strangers, numberOf, runOf}
+use Rattle.stages.specs.Internal.Stages.{TableOf}
+use Rattle.stages.proofs.StageLaws.{stops, goes, strangers-in, unless-3, not-3}
+use Rattle.scripts.specs.Parting.{partsOf, mostScripts}
+use Rattle.rounds.specs.Answers.{RanRound, refusedRound, allOpen}
+use Rattle.rounds.specs.Calls.{tooMany, lowest, runEach, turnOf, playedOf}
+use Rattle.rounds.specs.Internal.Stages.{runOn, ranOn, playedOn, NumbersAll, RunsEach, Plays, RoundsOn}
+
+module _ (scripts t memory : List ℕ) (authority budget : ℕ) where
+  abbrev R : ℕ → RanRound
+  R = refusedRound memory
+
+  -- ---- past 3 and 11
+
+  module _ {number : ℕ} (n : NumbersAll scripts t number) where
+    -- 4, 5 and 6
+    pub play-numbered : (number ≡ 0 → ⊥) → Plays scripts t memory authority budget (R number)
+    play-numbered z = record {
+      refused = λ v. refl;
+      played = λ s T g. ap R (n .numbered s T) ∙ sym (stops R (lowest (numberOf s) (partsOf scripts)) _ (λ w. z (n .numbered s T ∙ w)));
+    }
+
+    module _ (z : number ≡ 0) where
+      all-accepted : (s : Sheet) → TableOf t s → lowest (numberOf s) (partsOf scripts) ≡ 0
+      all-accepted s T = sym (n .numbered s T) ∙ z
+
+      by-memory : (s : Sheet) → TableOf t s
+          → playedOn s authority budget (partsOf scripts) memory ≡ unless R (memoryRefusal s memory) (ranOn s authority budget (partsOf scripts) memory)
+      by-memory s T = goes R (lowest (numberOf s) (partsOf scripts)) _ (all-accepted s T)
+
+      -- 7 and 8
+      pub play-refused : (k : ℕ) → ((s : Sheet) → TableOf t s → k ≡ memoryRefusal s memory) → (k ≡ 0 → ⊥) → Plays scripts t memory authority budget (R k)
+      play-refused k m w = record {
+        refused = λ v. refl;
+        played = λ s T g. ap R (m s T) ∙ sym (by-memory s T ∙ stops R (memoryRefusal s memory) _ (λ v. w (m s T ∙ v)));
+      }
+
+      pub play-runs : (r : RanRound) → ((s : Sheet) → TableOf t s → 0 ≡ memoryRefusal s memory) → RunsEach scripts t memory authority budget r
+          → Plays scripts t memory authority budget r
+      play-runs r m ran = record {
+        refused = λ v. absurd (v (ran .done));
+        played = λ s T g. ran .ran s T g (all-accepted s T) (sym (m s T)) ∙ sym (by-memory s T ∙ goes R (memoryRefusal s memory) _ (sym (m s T)));
+      }
+
+  -- ---- 3 and 11
+
+  pub round-stranger : within authority (everyoneIn t) ≡ false → RoundsOn scripts t memory authority budget (R 3)
+  round-stranger h = record { refused = λ v. refl; played = λ s T. sym (unless-3 R t s authority _ T h) }
+
+  module _ (h : within authority (everyoneIn t) ≡ true) where
+    pub round-many : mostScripts < length (partsOf scripts) → RoundsOn scripts t memory authority budget (R 11)
+    unfolding tooMany unless
+    round-many l = record { refused = λ v. refl; played = λ s T. sym (not-3 R t s authority _ T h ∙ rw (lt-ltb _ _ l) refl) }
+
+    pub round-played : length (partsOf scripts) ≤ mostScripts → (r : RanRound) → Plays scripts t memory authority budget r → RoundsOn scripts t memory authority budget r
+    unfolding tooMany unless
+    round-played l r p = record {
+      refused = p .refused;
+      played = λ s T. p .played s T (strangers-in t s authority true T h) ∙ sym (not-3 R t s authority _ T h ∙ rw (le-ltb _ _ l) refl);
+    }
+
+-- ---- the sheet of a text
+
+module _ (sheet : List ℕ) (s : Sheet) (e : sheetOf sheet ≡ accepted s) (authority budget : ℕ) where
+  -- where every script is open, its turn is its run on the sheet
+  turn-on : (i : ℕ) (script memory : List ℕ) → turnOf allOpen sheet authority budget i script memory ≡ runOn s authority budget script memory
+  unfolding turnOf allOpen unless runOf onSheet
+  turn-on i script memory = rw e refl
+
+  each-on : (i : ℕ) (memory : List ℕ) (ts : List (List ℕ))
+      → runEach (turnOf allOpen sheet authority budget) i memory ts ≡ runEach (λ j. runOn s authority budget) i memory ts
+  unfolding runEach
+  each-on i memory [] = refl
+  each-on i memory (t ∷ ts) = rw (turn-on i t memory) (ap (λ (rs : List Ran). runOn s authority budget t memory ∷ rs) (each-on (suc i) (runOn s authority budget t memory .memory) ts))
+
+  played-on : (ts : List (List ℕ)) (memory : List ℕ) → playedOn s authority budget ts memory ≡ playedOf allOpen sheet s ts memory authority budget
+  unfolding playedOf
+  played-on ts memory = rw (each-on 0 memory ts) refl
+
+  pub round-of : (scripts t memory : List ℕ) (r : RanRound) → RoundsOn scripts t memory authority budget r → TableOf t s
+      → r ≡ unless (refusedRound memory) (strangers s authority) (unless (refusedRound memory) (tooMany (partsOf scripts)) (
+      playedOf allOpen sheet s (partsOf scripts) memory authority budget))
+  round-of scripts t memory r h T = h .played s T ∙ rw (played-on (partsOf scripts) memory) refl

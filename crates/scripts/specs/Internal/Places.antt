@@ -1,0 +1,35 @@
+-- Where the parts of a text stand in it.
+use Prim.Native.Nat.{ℕ, suc, _+_, min}
+use mathlib.Core.Bool.{Bool, true, cond}
+use mathlib.Core.List.{List, [], _∷_}
+use lib.Dec.{eqb, leb}
+use lib.ListN.{length, drop, replicate}
+use lib.Seq.{sets}
+use Rattle.logic.specs.Booleans.{both}
+use Rattle.scripts.specs.Parting.{partsOf, mostScripts}
+
+-- how many bytes there are up to the next empty line, or to the end; `start`: a line starts here
+unfoldable pub partLength : Bool → List ℕ → ℕ
+partLength start [] = 0
+partLength start (b ∷ t) = cond (both start (eqb b 10)) 0 (suc (partLength (eqb b 10) t))
+
+-- where the part that starts at `from` ends
+unfoldable pub partEnd : List ℕ → ℕ → ℕ
+partEnd text from = from + partLength true (drop from text)
+
+-- the parts that start at `from` and later: none past the end of the text
+unfoldable pub partsAfter : List ℕ → ℕ → List (List ℕ)
+partsAfter text from = cond (leb from (length text)) (partsOf (drop from text)) []
+
+-- where parts end that follow one another from a place on, with one byte between two
+unfoldable pub endsFrom : ℕ → List (List ℕ) → List ℕ
+endsFrom at [] = []
+endsFrom at (p ∷ ps) = (at + length p) ∷ endsFrom (at + length p + 1) ps
+
+-- the ends of a text's parts, those that have a place; zeros in the places past the last
+unfoldable pub keptEnds : List ℕ → List ℕ
+keptEnds text = sets (replicate mostScripts 0) 0 (endsFrom 0 (partsOf text))
+
+-- how many parts a text has, counted up to one more than have a place
+unfoldable pub partsCounted : List ℕ → ℕ
+partsCounted text = min (suc mostScripts) (length (partsOf text))

@@ -1,0 +1,3 @@
+pub mod Parting
+pub mod Theorems
+pub mod Internal

@@ -1,0 +1,24 @@
+-- Several scripts in one text, parted by its empty lines (request (a), rounds). It takes no sheet.
+use Prim.Native.Nat.{ℕ}
+use mathlib.Core.Bool.{Bool, true, cond}
+use mathlib.Core.List.{List, [], _∷_}
+use lib.Dec.{eqb}
+use Rattle.logic.specs.Booleans.{both}
+
+-- the byte in front of the first part
+unfoldable pub toFirst : ℕ → List (List ℕ) → List (List ℕ)
+toFirst b [] = (b ∷ []) ∷ []
+toFirst b (p ∷ ps) = (b ∷ p) ∷ ps
+
+-- The parts of what is left of a text; `start`: a line starts here. Every line without a byte parts, and its end belongs to no part.
+unfoldable pub partsFrom : Bool → List ℕ → List (List ℕ)
+partsFrom start [] = [] ∷ []
+partsFrom start (b ∷ t) = cond (both start (eqb b 10)) ([] ∷ partsFrom true t) (toFirst b (partsFrom (eqb b 10) t))
+
+-- the scripts of a text: one more than it has empty lines
+unfoldable pub partsOf : List ℕ → List (List ℕ)
+partsOf text = partsFrom true text
+
+-- the most scripts of a round
+abbrev pub mostScripts : ℕ
+mostScripts = 32

@@ -1,0 +1,212 @@
+-- Demands 1 and 2 of a round. Assumes nothing.
+use mathlib.Core.Logic.{_↔_, inl, inr, ⊎-elim}
+use mathlib.Core.Path.{_≡_, refl, sym, ap, _∙_, subst}
+use mathlib.Core.List.{List, [], _∷_}
+use mathlib.Core.Option.{Option, none, some}
+use Prim.Native.Nat.{ℕ, zero, suc, _≤_}
+use native.Mathlib.Omega.{arith}
+use lib.ListN.{length, getD, replicate, length-replicate}
+use Rattle.language.specs.Syntax.{Cmd}
+use Rattle.sheet.specs.Sheet.{Sheet, locationCount}
+use Rattle.script_text.specs.Counts.{countsOf}
+use Rattle.script_text.specs.Script.{scriptOf}
+use Rattle.script_text.specs.Theorems.{IsScript}
+use Rattle.script_text.proofs.ScriptLaws.{script-exact}
+use Rattle.memory.specs.Memory.{wellFormed, memoryRefusal}
+use Rattle.memory.proofs.MemoryLaws.{unrefused-length, unrefused-formed}
+use Rattle.stages.specs.Answers.{Ran, refusedRun}
+use Rattle.stages.specs.Calls.{unless, onScript, untyped, numberOf, runOf}
+use Rattle.stages.proofs.StageLaws.{stops}
+use Rattle.stages.proofs.Kept.{left-unrefused}
+use Rattle.scripts.specs.Parting.{partsOf, mostScripts}
+use Rattle.rounds.specs.Answers.{RanRound, refusedRound, leftBy, roundFrom, Gate, allOpen}
+use Rattle.rounds.specs.Calls.{lowest, runEach, turnOf, roundBy}
+use Rattle.rounds.proofs.LowerLaws.{lower-none, lowest-more}
+use Rattle.numbers.specs.Rows.{numbers, Among, here, later}
+use Rattle.numbers.proofs.RowLaws.{by-rows, not-one, exactly, every-table}
+use Rattle.simp.specs.Judgements.{OnSheet, Principals, Typable, Started, Ends, ends-0, ends-9, ends-10, Run}
+use Rattle.simp.specs.Rounds.{roundRows, InTurn, no-turn, a-turn, Places, InPlace, Played, Open, TurnGoes, Round}
+use Rattle.simp.specs.Demands.{RoundAnswers, ScriptAnswers, RoundDemand1}
+use Rattle.simp.proofs.Numbers.{typable-0, 0-typable}
+use Rattle.simp.proofs.SecondDemand.{started-run, run-ends, run-exactly}
+use Rattle.simp.proofs.FirstDemand.{finished, run-answers}
+use Rattle.simp.proofs.RoundRows.{RoundStarts, round-starts, round-started, started-round}
+use Rattle.simp.proofs.Turns.{zeros-at, turns-map, each-length, turns-placed, placed-turns, round-placed, round-places, round-is}
+
+-- ---- a turn, by its gate
+
+module _ (gate : Gate) (sheet : List ℕ) (authority budget i : ℕ) (script memory : List ℕ) where
+  pub turn-open : Open gate i → turnOf gate sheet authority budget i script memory ≡ runOf sheet script memory authority budget
+  unfolding turnOf unless
+  turn-open o = rw o refl
+
+  pub turn-closed : ¬ Open gate i → turnOf gate sheet authority budget i script memory ≡ refusedRun memory (gate i)
+  unfolding turnOf
+  turn-closed n = stops (refusedRun memory) (gate i) (runOf sheet script memory authority budget) n
+
+  -- the gate is open or not
+  pub by-gate : {P : Type 0} → (Open gate i → P) → ((¬ Open gate i) → P) → P
+  by-gate {P} f g = go (gate i) refl
+    where
+      go : (k : ℕ) → gate i ≡ k → P
+      go zero e = f e
+      go (suc k) e = g (λ z. absurd (omega arith))
+
+  turn-goes : (r : Ran) → (turnOf gate sheet authority budget i script memory ≡ r) ↔ TurnGoes gate sheet authority budget i script memory r
+  turn-goes r = (
+    λ e. by-gate (λ o. inr (o, run-exactly sheet script memory authority budget r .0 (sym (turn-open o) ∙ e))) (λ n. inl (n, sym e ∙ turn-closed n)),
+    ⊎-elim (λ c. turn-closed (c .0) ∙ sym (c .1)) (λ c. turn-open (c .0) ∙ run-exactly sheet script memory authority budget r .1 (c .1)),
+  )
+
+-- ---- the scripts of a round that has started
+
+-- an accepted script has a command, with a derivation
+accepted-command : {sheet : List ℕ} {s : Sheet} (script : List ℕ) → OnSheet sheet s → numberOf s script ≡ 0 → (c : Cmd) × IsScript (countsOf s) script c × Typable s c
+unfolding numberOf onScript
+accepted-command {s = s} script h n = go (scriptOf (countsOf s) script) refl n
+  where
+    go : (o : Option Cmd) → scriptOf (countsOf s) script ≡ o → onScript (λ k. k) o (λ c. untyped s c) ≡ 0 → (c : Cmd) × IsScript (countsOf s) script c × Typable s c
+    go none e z = absurd (omega arith)
+    go (some c) e z = (c, script-exact s (h .form .is-formed) script c .0 e, 0-typable s c z)
+
+-- a run that started answers 0, 9 or 10
+past-refusals : {s : Sheet} {c : Cmd} {memory : List ℕ} {authority budget : ℕ} {r : Ran} → Ends s c memory authority budget r → Among (0 ∷ 9 ∷ 10 ∷ []) (r .answer)
+past-refusals (ends-0 k t n) = here
+past-refusals (ends-9 t n l) = later here
+past-refusals (ends-10 k t n l) = later (later here)
+
+module _ (gate : Gate) {sheet : List ℕ} {s : Sheet} (authority budget : ℕ) (h : OnSheet sheet s) (a : Principals s authority) where
+  abbrev turn : ℕ → List ℕ → List ℕ → Ran
+  turn = turnOf gate sheet authority budget
+
+  module _ (i : ℕ) (script memory : List ℕ) (n : numberOf s script ≡ 0) (m : memoryRefusal s memory ≡ 0) where
+    its-command : (c : Cmd) × IsScript (countsOf s) script c × Typable s c
+    its-command = accepted-command script h n
+
+    its-start : Started sheet script memory authority s (its-command .0)
+    unfolding memoryRefusal
+    its-start = record {
+      on-sheet = h;
+      principals = a;
+      of-script = its-command .1;
+      typable = its-command .2;
+      sized = unrefused-length (locationCount s) (wellFormed s memory) memory m;
+      well-formed = unrefused-formed (locationCount s) (wellFormed s memory) memory m;
+    }
+
+    its-turn : ScriptAnswers gate sheet authority budget i script memory (turn i script memory)
+    its-turn = record {
+      its-number = λ o. rw (turn-open gate sheet authority budget i script memory o) (past-refusals (run-ends its-start budget));
+      as-run = λ o. rw (turn-open gate sheet authority budget i script memory o) (run-answers sheet script memory authority budget);
+      finished = λ o. rw (turn-open gate sheet authority budget i script memory o) (finished its-start (run-ends its-start budget));
+      closed = turn-closed gate sheet authority budget i script memory;
+    }
+
+    -- it leaves a memory that isn't refused
+    turn-kept : memoryRefusal s (turn i script memory .memory) ≡ 0
+    turn-kept =
+        by-gate gate sheet authority budget i script memory
+        (λ o.
+        let c = its-command in
+        rw (turn-open gate sheet authority budget i script memory o ∙ started-run its-start budget)
+        (left-unrefused s (c .0) (c .1 .source) (c .1 .named-there) (typable-0 s (c .0) (c .2)) memory authority budget m))
+        (λ z. rw (turn-closed gate sheet authority budget i script memory z) m)
+
+  turns : (i : ℕ) (memory : List ℕ) (ts : List (List ℕ)) → lowest (numberOf s) ts ≡ 0 → memoryRefusal s memory ≡ 0
+      → InTurn (λ j t m r. (r ≡ turn j t m) × ScriptAnswers gate sheet authority budget j t m r) i memory ts (leftBy memory (runEach turn i memory ts))
+  unfolding runEach leftBy
+  turns i memory [] n m = no-turn
+  turns i memory (t ∷ ts) n m =
+      let z = lower-none (numberOf s t) (lowest (numberOf s) ts) (sym (lowest-more (numberOf s) t ts) ∙ n) in
+      a-turn (turn i t memory) (refl, its-turn i t memory (z .0) m) (turns (suc i) (turn i t memory .memory) ts (z .1) (turn-kept i t memory (z .0) m))
+
+-- ---- the demands
+
+module _ (gate : Gate) (sheet scripts memory : List ℕ) (authority budget : ℕ) where
+  abbrev R : RanRound
+  R = roundBy gate sheet scripts memory authority budget
+
+  abbrev runs : List Ran
+  runs = runEach (turnOf gate sheet authority budget) 0 memory (partsOf scripts)
+
+  module _ (st : RoundStarts sheet scripts memory authority) where
+    as-many : length runs ≡ length (partsOf scripts)
+    as-many = each-length (turnOf gate sheet authority budget) 0 memory (partsOf scripts)
+
+    few-runs : length runs ≤ mostScripts
+    few-runs = omega (arith, as-many, st .few)
+
+    -- its scripts went so, if each of their turns did
+    played-so : (P : ℕ → List ℕ → List ℕ → Ran → Type 0)
+        → ((j : ℕ) (t m : List ℕ) (r : Ran) → (r ≡ turnOf gate sheet authority budget j t m) × ScriptAnswers gate sheet authority budget j t m r → P j t m r)
+        → Played P scripts memory R
+    played-so P f =
+        rw (started-round gate sheet scripts memory authority budget st) (record {
+          not-refused = refl;
+          places = rw (← as-many) (round-places memory runs few-runs);
+          in-turn = turns-placed (turnOf gate sheet authority budget) (roundFrom memory runs) P
+              (turns-map (λ j t m r g. (g .0, f j t m r g))
+              (turns gate authority budget (st .on-sheet) (st .principals) 0 memory (partsOf scripts) (st .accepted) (st .unrefused)))
+              (round-placed memory runs few-runs);
+        })
+
+    -- and there is no other such round
+    so-played : (r : RanRound) → Played (TurnGoes gate sheet authority budget) scripts memory r → R ≡ r
+    so-played r p =
+        let q = placed-turns (turnOf gate sheet authority budget) r
+        (turns-map (λ j t m x g. (g .0, sym (turn-goes gate sheet authority budget j t m x .1 (g .1)))) (p .in-turn)) in
+        started-round gate sheet scripts memory authority budget st
+        ∙ sym (round-is memory runs few-runs r (p .not-refused) (subst (λ (n : ℕ). Places n r) (sym as-many) (p .places)) (q .0) (q .1))
+
+  round-goes : (r : RanRound) → (R ≡ r) ↔ Round gate sheet scripts memory authority budget r
+  round-goes =
+      exactly (refusedRound memory) _ _ R (roundRows sheet scripts memory authority)
+      (λ n st r. (
+        λ e. subst (Played (TurnGoes gate sheet authority budget) scripts memory) e
+            (played-so st (TurnGoes gate sheet authority budget) (λ j t m x g. turn-goes gate sheet authority budget j t m x .0 (sym (g .0)))),
+        so-played st r,
+      ))
+      (round-starts gate sheet scripts memory authority budget)
+
+  zero-places : (i : ℕ) → getD (replicate {A = ℕ} mostScripts 0) i 0 ≡ 0
+  zero-places i = zeros-at mostScripts i
+
+  -- a refused round
+  refused-answers : (k : ℕ) → Among (1 ∷ 2 ∷ 3 ∷ 11 ∷ 4 ∷ 5 ∷ 6 ∷ 7 ∷ 8 ∷ []) k → RoundAnswers scripts memory (refusedRound memory k)
+  refused-answers k i = record {
+    number = later i;
+    kept = λ n. refl;
+    zeros = λ n j. (zero-places j, zero-places j);
+    places = record { answer-places = refl; step-places = refl; past-last = λ j l. (zero-places j, zero-places j) };
+  }
+
+  round-answers : RoundAnswers scripts memory R
+  unfolding numbers
+  round-answers =
+      by-rows (refusedRound memory) _ (RoundAnswers scripts memory) (roundRows sheet scripts memory authority)
+      (λ k i g. refused-answers k i)
+      (λ r n p. record {
+        number = rw (p .not-refused) here;
+        kept = λ z. absurd (z (p .not-refused));
+        zeros = λ z. absurd (z (p .not-refused));
+        places = p .places;
+      })
+      _ (round-goes _ .0 refl)
+
+pub round-exactly : (gate : Gate) (sheet scripts memory : List ℕ) (authority budget : ℕ) (r : RanRound)
+    → (roundBy gate sheet scripts memory authority budget ≡ r) ↔ Round gate sheet scripts memory authority budget r
+round-exactly = round-goes
+
+pub round-demand-1 : RoundDemand1
+unfolding numbers allOpen
+round-demand-1 = record {
+  order = λ gate sheet scripts memory authority budget.
+      every-table .first-that-applies RanRound (refusedRound memory) (λ r. r .answer) _ (roundRows sheet scripts memory authority)
+      (record { of-refusal = λ k. refl; of-others = λ r p i. not-one 0 i refl (p .not-refused) }) _ (round-exactly gate sheet scripts memory authority budget _ .0 refl);
+  number = λ gate sheet scripts memory authority budget. round-exactly gate sheet scripts memory authority budget _ .0 refl;
+  played = λ gate sheet scripts memory authority budget h.
+      played-so gate sheet scripts memory authority budget (round-started gate sheet scripts memory authority budget h)
+      (ScriptAnswers gate sheet authority budget) (λ j t m r g. g .1);
+  answers = round-answers;
+  all-open = λ i. refl;
+}

@@ -10,6 +10,18 @@ pub struct Outcome {
     pub steps: u32,
 }
 
+/// The most scripts of a round.
+pub const SCRIPTS: usize = 32;
+
+/// How a round ended, as the library hands it back: each script's answer and steps in its place.
+#[repr(C)]
+#[derive(Clone, Copy, Debug, PartialEq, Eq)]
+pub struct Round {
+    pub answer: u8,
+    pub answers: [u8; SCRIPTS],
+    pub steps: [u32; SCRIPTS],
+}
+
 /// The sum of the logic in which the library is proved.
 pub const LOGIC: &str = env!("SIMP_LOGIC");
 
@@ -17,7 +29,7 @@ pub const LOGIC: &str = env!("SIMP_LOGIC");
 pub const ARCHIVE: &str = env!("SIMP_ARCHIVE");
 
 mod c {
-    use super::Outcome;
+    use super::{Outcome, Round};
 
     extern "C" {
         pub fn simp_check(
@@ -37,6 +49,17 @@ mod c {
             authority: u16,
             budget: u32,
         ) -> Outcome;
+
+        pub fn simp_round(
+            sheet: *const u8,
+            sheet_len: usize,
+            scripts: *const u8,
+            scripts_len: usize,
+            memory: *mut u32,
+            memory_len: usize,
+            authority: u16,
+            budget: u32,
+        ) -> Round;
 
         pub fn simp_view(
             sheet: *const u8,
@@ -69,6 +92,28 @@ pub fn run(
             sheet.len(),
             script.as_ptr(),
             script.len(),
+            memory.as_mut_ptr(),
+            memory.len(),
+            authority,
+            budget,
+        )
+    }
+}
+
+pub fn round(
+    sheet: &[u8],
+    scripts: &[u8],
+    memory: &mut [u32],
+    authority: u16,
+    budget: u32,
+) -> Round {
+    // SAFETY: as above, and `memory` is lent for writing.
+    unsafe {
+        c::simp_round(
+            sheet.as_ptr(),
+            sheet.len(),
+            scripts.as_ptr(),
+            scripts.len(),
             memory.as_mut_ptr(),
             memory.len(),
             authority,

@@ -16,6 +16,7 @@ pub enum Refusal {
     MemoryForm = 8,
     Spent = 9,
     ValueTooLong = 10,
+    TooManyScripts = 11,
 }
 
 impl Refusal {
@@ -38,5 +39,24 @@ impl Outcome {
 
     pub fn refused(refusal: Refusal, steps: u32) -> Outcome {
         Outcome { answer: refusal.number(), steps }
+    }
+}
+
+/// The most scripts of a round.
+pub const SCRIPTS: usize = 32;
+
+/// The answer of a round, and each script's answer and number of steps in its place. Places past the
+/// last script are 0, and every place of a round that is refused.
+#[derive(Clone, Copy, Debug, PartialEq, Eq)]
+pub struct Round {
+    pub answer: u8,
+    pub answers: [u8; SCRIPTS],
+    pub steps: [u32; SCRIPTS],
+}
+
+impl Round {
+    /// A round with zeros in every place.
+    pub fn empty(answer: u8) -> Round {
+        Round { answer, answers: [0; SCRIPTS], steps: [0; SCRIPTS] }
     }
 }

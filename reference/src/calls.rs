@@ -1,4 +1,4 @@
-//! The three calls, each with its refusals in their order.
+//! The calls on one script or on none, each with its refusals in their order.
 
 use crate::answer::{Outcome, DONE};
 use crate::evaluate::Context;
@@ -43,7 +43,7 @@ pub fn accepted_script(sheet: &Sheet, text: &[u8]) -> Result<Command, Reason> {
 }
 
 /// 7.
-fn require_length(sheet: &Sheet, words: &[u32]) -> Result<(), Reason> {
+pub fn require_length(sheet: &Sheet, words: &[u32]) -> Result<(), Reason> {
     let (found, wanted) = (words.len(), memory::length(sheet));
     if found == wanted {
         Ok(())
@@ -78,9 +78,14 @@ pub fn run(
     authority: u16,
     budget: u32,
 ) -> Outcome {
-    match try_run(sheet, script, memory, authority, budget) {
-        Ok(steps) => Outcome { answer: DONE, steps },
-        Err(reason) => Outcome { answer: reason.number(), steps: reason.steps() },
+    outcome(try_run(sheet, script, memory, authority, budget))
+}
+
+/// The outcome of a run: its steps, or why it isn't done.
+pub fn outcome(run: Result<u32, Reason>) -> Outcome {
+    match run {
+        Ok(steps) => Outcome::done(steps),
+        Err(reason) => Outcome::refused(reason.refusal(), reason.steps()),
     }
 }
 

@@ -13,6 +13,8 @@ pub mod memory;
 pub mod memory_text;
 pub mod principals;
 pub mod reason;
+pub mod round;
+pub mod round_text;
 pub mod script;
 pub mod script_text;
 pub mod shape;
@@ -23,6 +25,8 @@ pub mod types;
 pub mod value;
 pub mod view;
 
-pub use answer::{Outcome, Refusal, DONE};
+pub use answer::{Outcome, Refusal, Round, DONE, SCRIPTS};
 pub use calls::{check, run, try_check, try_run, try_view, view};
 pub use reason::Reason;
+pub use round::{round, try_round};
+pub use round_text::parts;

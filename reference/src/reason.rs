@@ -28,6 +28,8 @@ pub enum Reason {
     Memory(BadMemory),
     /// 9 and 10.
     Stopped(Stopped),
+    /// 11: a round of more scripts than it may have.
+    Scripts { found: usize, most: usize },
 }
 
 impl Reason {
@@ -43,6 +45,7 @@ impl Reason {
             Reason::Memory(_) => Refusal::MemoryForm,
             Reason::Stopped(Stopped::Spent { .. }) => Refusal::Spent,
             Reason::Stopped(Stopped::TooLong { .. }) => Refusal::ValueTooLong,
+            Reason::Scripts { .. } => Refusal::TooManyScripts,
         }
     }
 

@@ -13,6 +13,7 @@ pub enum Request {
     Version,
     Check(Check),
     Run(Run),
+    Round(Run),
     Show(Show),
     Explain(Explain),
 }
@@ -30,7 +31,7 @@ pub struct Command {
     flags: &'static [&'static str],
 }
 
-static COMMANDS: [Command; 4] = [
+static COMMANDS: [Command; 5] = [
     Command {
         name: "check",
         files: &["SHEET", "SCRIPT"],
@@ -41,6 +42,13 @@ static COMMANDS: [Command; 4] = [
     Command {
         name: "run",
         files: &["SHEET", "SCRIPT", "MEMORY"],
+        several: false,
+        options: &["--as", "--budget", "--names"],
+        flags: &["--write", "--plain", "--json"],
+    },
+    Command {
+        name: "round",
+        files: &["SHEET", "SCRIPTS", "MEMORY"],
         several: false,
         options: &["--as", "--budget", "--names"],
         flags: &["--write", "--plain", "--json"],
@@ -79,9 +87,13 @@ pub struct Check {
     pub form: Form,
 }
 
+/// A run, or a round.
 #[derive(Clone, Debug, PartialEq, Eq)]
 pub struct Run {
+    /// Which of the two.
+    pub command: &'static Command,
     pub sheet: OsString,
+    /// The script, or the scripts of a round.
     pub script: OsString,
     pub memory: OsString,
     /// The authority as a list of names and numbers.
@@ -174,7 +186,8 @@ fn request(command: &'static Command, args: VecDeque<OsString>) -> Result<Reques
     let sheet = given.file();
     Ok(match command.name {
         "check" => Request::Check(Check { sheet, scripts: given.files.into(), names, form }),
-        "run" => Request::Run(run(given, sheet, names, form)?),
+        "run" => Request::Run(run(command, given, sheet, names, form)?),
+        "round" => Request::Round(run(command, given, sheet, names, form)?),
         "show" => Request::Show(Show {
             sheet,
             memory: given.file(),
@@ -187,6 +200,7 @@ fn request(command: &'static Command, args: VecDeque<OsString>) -> Result<Reques
 }
 
 fn run(
+    command: &'static Command,
     mut given: Given,
     sheet: OsString,
     names: Option<OsString>,
@@ -201,7 +215,7 @@ fn run(
     if write && is_input(&memory) {
         return Err("--write replaces a file, and MEMORY is `-`".to_string());
     }
-    Ok(Run { sheet, script, memory, authority, budget, write, names, form })
+    Ok(Run { command, sheet, script, memory, authority, budget, write, names, form })
 }
 
 /// The arguments of a command by their kind.
@@ -353,6 +367,17 @@ mod tests {
     }
 
     #[test]
+    fn a_round_takes_what_a_run_takes() {
+        let options = "a b c --as 0 --budget 7 --write --plain --names n";
+        let run = run_of(&format!("run {options}"));
+        let Ok(Request::Round(round)) = parsed(&format!("round {options}")) else {
+            panic!("a round");
+        };
+        assert_eq!((run.command.name, round.command.name), ("run", "round"));
+        assert_eq!(Run { command: run.command, ..round }, run);
+    }
+
+    #[test]
     fn nobody_is_an_empty_list() {
         assert_eq!(run_of("run --as= --budget=0 a b c").authority, "");
         let args = ["show", "a", "b", "--to", ""].map(OsString::from).to_vec();
@@ -403,6 +428,9 @@ mod tests {
             ("check", "SHEET is missing"),
             ("check a", "SCRIPT is missing"),
             ("run a b --as 0 --budget 1", "MEMORY is missing"),
+            ("round a", "SCRIPTS is missing"),
+            ("round a b c --as 0", "--budget is missing"),
+            ("round a b c d --as 0 --budget 1", "`d`"),
             ("run a b c d --as 0 --budget 1", "`d`"),
             ("run a b c --budget 1", "--as is missing"),
             ("run a b c --as 0", "--budget is missing"),

@@ -1,15 +1,20 @@
 //! The proved library, whose verdicts count, and the reference beside it, which says why.
 
+mod round;
+
 use reference::calls::read_sheet;
+use reference::machine::Stopped;
 use reference::memory_text;
+use reference::round::Refused;
 use reference::sheet::Sheet;
 use reference::value::MOST_WORDS;
 use reference::Reason;
 
-pub use bindings::Outcome;
+pub use bindings::{Outcome, Round};
 
-/// The most steps of a run that the reference takes too. It rebuilds the command at each step: so
-/// many steps of a long script take it ten seconds, a hundred times as long as the library.
+/// The most steps of a run, or of all scripts of a round, that the reference takes too. It rebuilds
+/// the command at each step: so many steps of a long script take it ten seconds, a hundred times as
+/// long as the library.
 pub const MOST_RETRACED: u32 = 1_000_000;
 
 /// A script that every sheet of its form accepts.
@@ -17,7 +22,7 @@ const SKIP: &[u8] = b"s\n";
 
 /// A sheet and a script.
 type CheckCall<A> = fn(&[u8], &[u8]) -> A;
-/// A sheet, a script, a memory, an authority and a budget.
+/// A sheet, a script or scripts, a memory, an authority and a budget.
 type RunCall<A> = fn(&[u8], &[u8], &mut [u32], u16, u32) -> A;
 /// A sheet, a memory, a group and a view.
 type ViewCall<A> = fn(&[u8], &[u32], u16, &mut [u32]) -> A;
@@ -27,6 +32,7 @@ type ViewCall<A> = fn(&[u8], &[u32], u16, &mut [u32]) -> A;
 pub struct Library {
     pub check: CheckCall<u8>,
     pub run: RunCall<Outcome>,
+    pub round: RunCall<Round>,
     pub view: ViewCall<u8>,
 }
 
@@ -36,6 +42,8 @@ pub struct Reference {
     pub check: CheckCall<Result<(), Reason>>,
     /// The steps of a run that is done.
     pub run: RunCall<Result<u32, Reason>>,
+    /// The same of each script of a round.
+    pub round: RunCall<Result<Vec<Result<u32, Stopped>>, Refused>>,
     pub view: ViewCall<Result<(), Reason>>,
 }
 
@@ -47,10 +55,16 @@ pub struct Calls {
 
 /// The calls that the tool is made of.
 pub const CALLS: Calls = Calls {
-    library: Library { check: bindings::check, run: bindings::run, view: bindings::view },
+    library: Library {
+        check: bindings::check,
+        run: bindings::run,
+        round: bindings::round,
+        view: bindings::view,
+    },
     reference: Reference {
         check: |sheet, script| reference::try_check(sheet, script).map(|_| ()),
         run: reference::try_run,
+        round: reference::try_round,
         view: reference::try_view,
     },
 };
@@ -64,7 +78,7 @@ pub struct Disagreement {
     pub reference: String,
 }
 
-/// How a run ended.
+/// How a run ended, or a script of a round.
 #[derive(Clone, Debug, PartialEq, Eq)]
 pub enum Ran {
     Done {
@@ -75,10 +89,11 @@ pub enum Ran {
     Late(Outcome),
 }
 
-/// What a run is asked for, beside its memory.
+/// What a run or a round is asked for, beside its memory.
 #[derive(Clone, Copy)]
 pub struct Asked<'a> {
     pub sheet: &'a [u8],
+    /// The script, or the scripts of a round.
     pub script: &'a [u8],
     pub authority: u16,
     pub budget: u32,
@@ -143,14 +158,12 @@ impl Calls {
         if let Some(reference) = reference {
             return Err(disagreement(answer, ended(outcome), reference));
         }
+        if !fits(outcome, budget) {
+            return Err(disagreement(answer, ended(outcome), unfit(budget)));
+        }
         match answer {
-            0 if steps <= budget => Ok(Ran::Done { steps }),
-            9 if steps == budget => same_words(answer, left, memory).map(|()| Ran::Late(outcome)),
-            10 if steps < budget => same_words(answer, left, memory).map(|()| Ran::Late(outcome)),
-            _ => {
-                let reference = format!("no such answer with a budget of {budget}");
-                Err(disagreement(answer, ended(outcome), reference))
-            }
+            0 => Ok(Ran::Done { steps }),
+            _ => same_words(answer, left, memory).map(|()| Ran::Late(outcome)),
         }
     }
 
@@ -191,6 +204,20 @@ fn same_words(answer: u8, library: &[u32], reference: &[u32]) -> Result<(), Disa
         format!("{}, location {location} is `{words}`", answered(answer))
     };
     Err(disagreement(answer, words(library), words(reference)))
+}
+
+/// Whether a run that starts can end so.
+fn fits(outcome: Outcome, budget: u32) -> bool {
+    match outcome.answer {
+        0 => outcome.steps <= budget,
+        9 => outcome.steps == budget,
+        10 => outcome.steps < budget,
+        _ => false,
+    }
+}
+
+fn unfit(budget: u32) -> String {
+    format!("no such answer with a budget of {budget}")
 }
 
 fn disagreement(answer: u8, library: String, reference: String) -> Disagreement {

@@ -9,7 +9,7 @@ use std::os::unix::fs::FileTypeExt;
 use std::path::Path;
 
 /// The most bytes that are read of a file. A text of more than 16,384 is refused, so the rest of a
-/// longer one changes nothing.
+/// longer one changes nothing; 32 scripts of a round have fewer together.
 const MOST_READ: u64 = 1 << 20;
 
 /// A text, or the start of a long one.

@@ -5,18 +5,19 @@ use crate::args::Command;
 const GENERAL: &str = "\
 simp checks, runs, shows and explains SImp scripts, by a library that is proved.
 
-usage: simp check SHEET SCRIPT..        which scripts are accepted on a sheet, and why not
-       simp run SHEET SCRIPT MEMORY ..  a run: how it ends, and the memory after it
-       simp show SHEET MEMORY ..        what a group may see of a memory
-       simp explain SHEET               who and what is on a sheet, and who may read and write it
-       simp help COMMAND                all that a command takes
-       simp --version                   which tool, which logic, which library
+usage: simp check SHEET SCRIPT..           which scripts are accepted on a sheet, and why not
+       simp run SHEET SCRIPT MEMORY ..     a run: how it ends, and the memory after it
+       simp round SHEET SCRIPTS MEMORY ..  several scripts of a file, run in order on one memory
+       simp show SHEET MEMORY ..           what a group may see of a memory
+       simp explain SHEET                  who and what is on a sheet, and who may read and write it
+       simp help COMMAND                   all that a command takes
+       simp --version                      which tool, which logic, which library
 
 A file named - is standard input, for one of the files. Options stand after the command,
 anywhere; -- ends them.
 
 exit status: 0 accepted, done or shown    3 a file or a stream can't be read or written
-             1 refused                    4 the library and the reference disagree: report it
+             1 refused or stopped         4 the library and the reference disagree: report it
              2 wrong arguments or names   the greatest is given where several apply
 ";
 
@@ -30,12 +31,17 @@ const JSON: &str = r#"  --json         one JSON document instead of words, as be
                  it is {"answer": null, "error": ".."}
 "#;
 
-const USAGES: [(&str, &str); 4] = [
+const USAGES: [(&str, &str); 5] = [
     ("check", "usage: simp check SHEET SCRIPT.. [--names FILE] [--json]\n"),
     (
         "run",
         "usage: simp run SHEET SCRIPT MEMORY --as LIST --budget N [--write] [--names FILE]
                 [--plain | --json]\n",
+    ),
+    (
+        "round",
+        "usage: simp round SHEET SCRIPTS MEMORY --as LIST --budget N [--write] [--names FILE]
+                  [--plain | --json]\n",
     ),
     ("show", "usage: simp show SHEET MEMORY --to LIST [--names FILE] [--plain | --json]\n"),
     ("explain", "usage: simp explain SHEET [--names FILE] [--json]\n"),
@@ -75,6 +81,32 @@ const RUN_JSON: &str = r#"
                  too; a memory that can't be written has an "error"
 "#;
 
+const ROUND: &str = "
+SCRIPTS has 1 to 32 scripts, and every empty line parts two: none stands at the start or the end.
+Checks them all, then runs them in order, each on the memory that the one before left. Prints of
+each where it starts and that it is done, or where and why it stopped; then each location, and *
+marks what the round changed. A script that stops (9 or 10) changes nothing, and the round goes on.
+If one is refused, none is run. Scripts are counted from 1, and lines from the file's first.
+
+  --as LIST      the authority: numbers or names of principals, parted by commas; '' is nobody
+  --budget N     the most steps of each script, 0 to 4294967295; a large one can take hours
+  --write        replace the MEMORY file by the memory after the round, if that isn't refused: whole
+                 or not at all, and only after the rest is printed. A round with a script that
+                 stopped is written too, and exits with 1
+  --plain        the answer, a tab and the number of scripts run; for each its answer, a tab and its
+                 steps; then the memory text; why one stopped or is refused goes to standard error";
+
+const ROUND_JSON: &str = r#"
+                   {"answer": 0, "done": true, "scripts":
+                    [{"script": 1, "first_line": 1, "answer": 0, "done": true, "steps": 1}],
+                    "compared": true, "memory": [[1, 30], [4, 2, 1]], "changed": [0],
+                    "written": false}
+                 "script" counts from 1, as in words; "done" is whether every script is; a script
+                 that stopped has "blamed", "line", "fact", "advice" and "rule" too. A refused round
+                 has no scripts in its list, and "blamed", "name", "script" (null where no script
+                 is at fault), "line", "fact", "advice" and "rule"; the rest is as in simp run
+"#;
+
 const SHOW: &str = "
 Prints each location as a group of principals may see it. What it can't read is hidden: whole
 locations, and the contents of packages.
@@ -112,6 +144,7 @@ pub fn help(command: Option<&Command>) -> String {
     let (about, json) = match command.name {
         "check" => (CHECK, CHECK_JSON),
         "run" => (RUN, RUN_JSON),
+        "round" => (ROUND, ROUND_JSON),
         "show" => (SHOW, SHOW_JSON),
         _ => (EXPLAIN, EXPLAIN_JSON),
     };

@@ -8,7 +8,9 @@ mod check;
 mod explain;
 mod files;
 mod help;
+mod inputs;
 mod json;
+mod left;
 mod lent;
 pub mod message;
 pub mod names;
@@ -16,6 +18,7 @@ mod opening;
 mod progress;
 mod refusal;
 mod replace;
+mod round;
 mod run;
 mod show;
 pub mod status;
@@ -71,6 +74,10 @@ fn answer(args: Vec<OsString>, calls: &Calls, streams: &mut Streams) -> Result<S
         }
         Ok(Request::Run(request)) => {
             let ended = run::run(&request, calls, streams);
+            documented(request.form, ended, streams)
+        }
+        Ok(Request::Round(request)) => {
+            let ended = round::round(&request, calls, streams);
             documented(request.form, ended, streams)
         }
         Ok(Request::Show(request)) => {

@@ -4,8 +4,13 @@ mod flow;
 mod lines;
 mod number;
 mod run;
+mod scripts;
+mod shift;
 mod text;
 mod types;
+
+pub use scripts::{Scripts, Which};
+pub use text::counted;
 
 use crate::names::Names;
 use crate::words::{named, Words};
@@ -29,6 +34,8 @@ pub enum Blamed {
 pub struct Message {
     pub number: u8,
     pub blamed: Blamed,
+    /// The script of a round that it is about.
+    pub script: Option<Which>,
     pub line: Option<usize>,
     pub fact: String,
     pub advice: String,
@@ -38,7 +45,10 @@ pub struct Message {
 /// On one line.
 impl fmt::Display for Message {
     fn fmt(&self, f: &mut fmt::Formatter) -> fmt::Result {
-        let Message { fact, advice, rule, number, .. } = self;
+        let Message { script, fact, advice, rule, number, .. } = self;
+        if let Some(script) = script {
+            write!(f, "{script}: ")?;
+        }
         write!(f, "{fact}: {advice} [{number}: {rule}]")
     }
 }
@@ -78,6 +88,7 @@ pub fn message(reason: &Reason, sheet: Option<&Sheet>, names: &Names) -> Message
             let (line, told) = run::stopped(stopped);
             (Blamed::Script, line, told)
         }
+        Reason::Scripts { found, most } => (Blamed::Script, 0, scripts::too_many(*found, *most)),
     };
     finished(reason.number(), blamed, line, told)
 }
@@ -95,7 +106,8 @@ pub fn spent(budget: u32) -> Message {
 /// Lines count from 1, so 0 is none.
 fn finished(number: u8, blamed: Blamed, line: usize, told: Told) -> Message {
     let line = (line > 0).then_some(line);
-    Message { number, blamed, line, fact: told.fact, rule: told.rule, advice: told.advice }
+    let Told { fact, advice, rule } = told;
+    Message { number, blamed, script: None, line, fact, advice, rule }
 }
 
 fn repeats(repeat: Repeat, names: &Names) -> Told {
@@ -121,7 +133,7 @@ fn repeats(repeat: Repeat, names: &Names) -> Told {
 
 fn stranger(principal: usize, count: usize) -> Told {
     told(
-        format!("principal {principal} isn't on the sheet ({})", text::counted(count, "principal")),
+        format!("principal {principal} isn't on the sheet ({})", counted(count, "principal")),
         "name only principals of the sheet",
         format!("principals are 0 to {}", count - 1),
     )

@@ -5,6 +5,7 @@
 pub enum Status {
     /// Accepted, done, shown.
     Done = 0,
+    /// Refused, or a script of a round stopped.
     Refused = 1,
     /// The arguments or the names file aren't of their form.
     Usage = 2,

@@ -1,18 +1,20 @@
 //! The implementations that tests go through: the reference, the lean one, and the library where it
 //! is linked.
 
-use reference::Outcome;
+use reference::{Outcome, Round};
 
 pub type Check = fn(&[u8], &[u8]) -> u8;
 pub type Run = fn(&[u8], &[u8], &mut [u32], u16, u32) -> Outcome;
+pub type RunRound = fn(&[u8], &[u8], &mut [u32], u16, u32) -> Round;
 pub type View = fn(&[u8], &[u32], u16, &mut [u32]) -> u8;
 
-/// The three calls of one implementation.
+/// The calls of one implementation.
 #[derive(Clone, Copy)]
 pub struct Implementation {
     pub name: &'static str,
     pub check: Check,
     pub run: Run,
+    pub round: RunRound,
     pub view: View,
 }
 
@@ -20,6 +22,7 @@ pub const REFERENCE: Implementation = Implementation {
     name: "reference",
     check: reference::check,
     run: reference::run,
+    round: reference::round,
     view: reference::view,
 };
 
@@ -27,6 +30,7 @@ pub const LEAN: Implementation = Implementation {
     name: "lean",
     check: crate::lean::check,
     run: crate::lean::run,
+    round: crate::lean::round,
     view: crate::lean::view,
 };
 
@@ -37,6 +41,10 @@ pub const LIBRARY: Implementation = Implementation {
     run: |sheet, script, memory, authority, budget| {
         let outcome = bindings::run(sheet, script, memory, authority, budget);
         Outcome { answer: outcome.answer, steps: outcome.steps }
+    },
+    round: |sheet, scripts, memory, authority, budget| {
+        let round = bindings::round(sheet, scripts, memory, authority, budget);
+        Round { answer: round.answer, answers: round.answers, steps: round.steps }
     },
     view: bindings::view,
 };

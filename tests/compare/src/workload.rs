@@ -1,7 +1,7 @@
 //! The named workloads of the benchmark.
 
 use crate::implementation::Implementation;
-use reference::answer::{Outcome, Refusal, DONE};
+use reference::answer::{Outcome, Refusal, Round, DONE, SCRIPTS};
 
 /// The arguments of a run and of the view of the memory it leaves, and the outcome of the run.
 pub struct Workload {
@@ -13,6 +13,8 @@ pub struct Workload {
     budget: u32,
     group: u16,
     outcome: Outcome,
+    /// The outcome of a run in a memory that one has left already.
+    again: Outcome,
 }
 
 pub fn all() -> Vec<Workload> {
@@ -21,6 +23,7 @@ pub fn all() -> Vec<Workload> {
         lines(25),
         lines(51),
         lines(102),
+        long_numbers(),
         long_loop(4, 300),
         long_loop(6, 1468),
         long_loop(8, 6908),
@@ -54,6 +57,33 @@ impl Workload {
         memory.copy_from_slice(&self.memory);
         let outcome = (implementation.run)(sheet, script, memory, self.authority, self.budget);
         assert_eq!(outcome, self.outcome, "the run of {}", self.name);
+    }
+
+    /// The scripts of a round: the script 32 times.
+    pub fn scripts(&self) -> String {
+        vec![self.script.as_str(); SCRIPTS].join("\n")
+    }
+
+    /// Leaves the memory of the round of these scripts in `memory`.
+    pub fn round(&self, implementation: &Implementation, scripts: &str, memory: &mut [u32]) {
+        let (sheet, scripts) = (self.sheet.as_bytes(), scripts.as_bytes());
+        memory.copy_from_slice(&self.memory);
+        let round = (implementation.round)(sheet, scripts, memory, self.authority, self.budget);
+        let mut expected = Round::empty(DONE);
+        expected.steps = [self.again.steps; SCRIPTS];
+        expected.steps[0] = self.outcome.steps;
+        assert_eq!(round, expected, "the round of {}", self.name);
+    }
+
+    /// The same scripts, each by a run.
+    pub fn runs(&self, implementation: &Implementation, memory: &mut [u32]) {
+        let (sheet, script) = (self.sheet.as_bytes(), self.script.as_bytes());
+        memory.copy_from_slice(&self.memory);
+        for place in 0..SCRIPTS {
+            let outcome = (implementation.run)(sheet, script, memory, self.authority, self.budget);
+            let expected = if place == 0 { self.outcome } else { self.again };
+            assert_eq!(outcome, expected, "run {place} of {}", self.name);
+        }
     }
 
     pub fn view(&self, implementation: &Implementation, memory: &[u32], view: &mut [u32]) {
@@ -117,6 +147,7 @@ fn small() -> Workload {
         budget: 100,
         group: 1,
         outcome: Outcome::done(4),
+        again: Outcome::done(4),
     }
 }
 
@@ -134,6 +165,26 @@ fn lines(sums: usize) -> Workload {
         budget: 1000,
         group: 2,
         outcome: Outcome::done(2 * sums as u32 + 1),
+        again: Outcome::done(2 * sums as u32 + 1),
+    }
+}
+
+/// A sum of 256 numbers of ten digits: 512 lines, as long to read as they come.
+fn long_numbers() -> Workload {
+    let numbers = 256;
+    let mut script = listed(&["= 0"]);
+    script.extend(vec!["+".to_string(); numbers - 1]);
+    script.extend(vec!["i 4294967295".to_string(); numbers]);
+    Workload {
+        name: "long-numbers".to_string(),
+        sheet: text(&listed(&["P 4", "L", "O 1 0004 000f", "X 0 0"])),
+        script: text(&script),
+        memory: location(&[1, 5]),
+        authority: 1,
+        budget: 1000,
+        group: 2,
+        outcome: Outcome::done(1),
+        again: Outcome::done(1),
     }
 }
 
@@ -164,6 +215,7 @@ fn long_loop(bits: usize, steps: u32) -> Workload {
         budget: 100_000,
         group: 3,
         outcome: Outcome::done(steps),
+        again: Outcome::done(1),
     }
 }
 
@@ -188,5 +240,6 @@ fn locations_64() -> Workload {
         budget: 1000,
         group: 0x0101,
         outcome: Outcome::done(127),
+        again: Outcome::done(127),
     }
 }

@@ -32,11 +32,18 @@ pub fn misplaced(found: &[u8], expected: &Expected) -> Told {
 
 /// A script that ends before an operand.
 pub fn missing_operand(operand: Operand) -> Told {
-    told(
-        format!("the script ends before {}", role(operand)),
-        format!("add it at the end: {}", of_sort(operand.sort)),
-        PREFIX,
-    )
+    told(format!("the script ends before {}", role(operand)), added("at the end", operand), PREFIX)
+}
+
+/// What is to be added there.
+pub fn added(there: &str, operand: Operand) -> String {
+    format!("add it {there}: {}", of_sort(operand.sort))
+}
+
+/// Whether the line starts an expression, and so no script.
+pub fn starts_expression(line: &[u8]) -> bool {
+    let found = line.split(|&byte| byte == b'\t').next().unwrap_or_default();
+    EXPRESSIONS.iter().any(|kind| first_field(kind).as_bytes() == found)
 }
 
 /// A line after the end of the command.

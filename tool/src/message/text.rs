@@ -116,8 +116,14 @@ fn too_long(text: Text, bytes: usize) -> Told {
 }
 
 fn empty_line(text: Text) -> Told {
-    let rule = if text == Text::Sheet { ORDER } else { PREFIX };
-    told("the line is empty", "take it out", rule)
+    match text {
+        Text::Sheet => told("the line is empty", "take it out", ORDER),
+        _ => told(
+            "the line is empty",
+            "take it out, or give the file to `simp round` if it parts two scripts",
+            PREFIX,
+        ),
+    }
 }
 
 fn field_count(text: Text, kind: &[u8], wanted: usize, found: usize) -> Told {

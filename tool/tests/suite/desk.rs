@@ -20,6 +20,9 @@ const SCRIPTS: &[(&str, &str)] = &[
     ("leak.simp", "= 0\nx 1\n"),
     ("loop.simp", "w\nl 3\ni 1\ns\n"),
     ("grow.simp", "w\nl 3\ni 1\n= 2\nk 0\nx 2\n"),
+    // what they leave is what `pack.simp` does
+    ("pack.round", "s\n\n= 2\nk 2\nx 1\n"),
+    ("stops.round", "w\nl 3\ni 1\ns\n\n= 2\nk 2\nx 1\n\nw\nl 3\ni 1\n= 2\nk 0\nx 2\n"),
 ];
 
 /// The texts of the scope have tabs where these have blanks.

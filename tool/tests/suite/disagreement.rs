@@ -2,7 +2,10 @@
 
 use crate::desk::{desk, tabbed, MEMORY};
 use crate::folder::Folder;
-use simp::calls::{Calls, Library, Outcome, Reference, CALLS};
+use reference::evaluate::ValueTooLong;
+use reference::machine::Stopped;
+use reference::Reason;
+use simp::calls::{Calls, Library, Outcome, Reference, Round, CALLS};
 use simp::main_with;
 use simp::streams::Streams;
 use std::ffi::OsString;
@@ -49,11 +52,21 @@ fn is_loud(err: &str, library: &str, reference: &str) {
 }
 
 const RUN: &str = "run a.sheet pack.simp a.memory --as=1 --budget=9 --write";
+const ROUND: &str = "round a.sheet pack.round a.memory --as=1 --budget=9 --write";
 
 /// A run that lies: nothing is printed, and the memory file is as it was.
 fn refused_run(test: &str, calls: &Calls, library: &str, reference: &str) {
+    refused(test, RUN, calls, library, reference);
+}
+
+/// The same of a round.
+fn refused_round(test: &str, library: Library, says: &str, reference: &str) {
+    refused(test, ROUND, &lying(library), says, reference);
+}
+
+fn refused(test: &str, arguments: &str, calls: &Calls, library: &str, reference: &str) {
     let folder = desk(test);
-    let (status, out, err) = told(&folder, calls, RUN);
+    let (status, out, err) = told(&folder, calls, arguments);
     assert_eq!((status, out.as_str()), (4, ""));
     is_loud(&err, library, reference);
     let memory = fs::read(folder.as_ref().join("a.memory")).expect("the memory is there");
@@ -70,8 +83,10 @@ fn says_nothing_else(arguments: &str, out: &str) {
 #[test]
 fn the_calls_as_they_are_agree() {
     let folder = desk("agree");
-    let (status, out, err) = told(&folder, &CALLS, RUN);
-    assert_eq!((status, err.as_str()), (0, ""), "{out}");
+    for arguments in [ROUND, RUN] {
+        let (status, out, err) = told(&folder, &CALLS, arguments);
+        assert_eq!((status, err.as_str()), (0, ""), "{out}");
+    }
 }
 
 #[test]
@@ -110,6 +125,7 @@ fn a_verdict_on_a_sheet() {
     for arguments in [
         "check a.sheet copy.simp",
         RUN,
+        ROUND,
         "show a.sheet a.memory --to=0",
         "explain a.sheet",
         "explain a.sheet --json",
@@ -233,6 +249,180 @@ fn a_long_run_that_stops_and_writes() {
 
 fn stopped(answer: u8) -> Outcome {
     Outcome { answer, steps: 1_000_001 }
+}
+
+/// A round whose scripts end so, in the places from the first.
+fn ended(answer: u8, ends: &[(u8, u32)]) -> Round {
+    let mut round = Round { answer, answers: [0; 32], steps: [0; 32] };
+    for (place, (answer, steps)) in ends.iter().enumerate() {
+        (round.answers[place], round.steps[place]) = (*answer, *steps);
+    }
+    round
+}
+
+#[test]
+fn a_round_that_does_nothing() {
+    let library = Library { round: |_, _, _, _, _| ended(0, &[(0, 0), (0, 1)]), ..CALLS.library };
+    let words = ["answer 0, location 2 is `4 2 1`", "answer 0, location 2 is `3 5 2 1 62`"];
+    refused_round("round-nothing", library, words[0], words[1]);
+}
+
+/// The script is named as people count.
+#[test]
+fn a_round_with_other_answers() {
+    let steps = Library { round: |_, _, _, _, _| ended(0, &[(0, 0), (0, 2)]), ..CALLS.library };
+    let script = "answer 0, script 2: answer 0, steps 1";
+    refused_round("round-steps", steps, "answer 0, script 2: answer 0, steps 2", script);
+    let stops = Library { round: |_, _, _, _, _| ended(0, &[(10, 0), (0, 1)]), ..CALLS.library };
+    let first = "answer 0, script 1: answer 0, steps 0";
+    refused_round("round-stops", stops, "answer 0, script 1: answer 10, steps 0", first);
+    let refused = Library { round: |_, _, _, _, _| ended(6, &[]), ..CALLS.library };
+    refused_round("round-refused", refused, "answer 6", "answer 0");
+}
+
+/// Past the last script all places are zero, and beside a refusal every place is.
+#[test]
+fn a_round_with_answers_where_none_are() {
+    let more = |sheet: &[u8], scripts: &[u8], memory: &mut [u32], authority, budget| {
+        let mut round = bindings::round(sheet, scripts, memory, authority, budget);
+        round.steps[31] = 1;
+        round
+    };
+    let library = Library { round: more, ..CALLS.library };
+    let words =
+        ["answer 0, script 32: answer 0, steps 1", "answer 0, script 32: answer 0, steps 0"];
+    refused_round("round-more", library, words[0], words[1]);
+    let folder = desk("round-more-refused");
+    let arguments = "round a.sheet leak.simp a.memory --as=1 --budget=9";
+    let (status, out, err) = told(&folder, &lying(library), arguments);
+    assert_eq!((status, out.as_str()), (4, ""));
+    is_loud(
+        &err,
+        "answer 6, script 32: answer 0, steps 1",
+        "answer 6, script 32: answer 0, steps 0",
+    );
+}
+
+#[test]
+fn a_refused_round_that_changes_something() {
+    let folder = desk("round-refused-write");
+    let round = |sheet: &[u8], scripts: &[u8], memory: &mut [u32], authority, budget| {
+        memory[1] = 0;
+        bindings::round(sheet, scripts, memory, authority, budget)
+    };
+    let calls = lying(Library { round, ..CALLS.library });
+    let arguments = "round a.sheet leak.simp a.memory --as=1 --budget=9 --json";
+    let (status, out, err) = told(&folder, &calls, arguments);
+    assert_eq!(status, 4);
+    says_nothing_else(arguments, &out);
+    is_loud(&err, "answer 6, location 0 is `1`", "answer 6, location 0 is `1 5`");
+}
+
+#[test]
+fn a_reference_that_accepts_every_round() {
+    let folder = desk("round-reference");
+    let reference = Reference { round: |_, _, _, _, _| Ok(Vec::new()), ..CALLS.reference };
+    let calls = Calls { reference, ..CALLS };
+    let (status, _, err) = told(&folder, &calls, &ROUND.replace("pack.round", "leak.simp"));
+    assert_eq!(status, 4);
+    is_loud(&err, "answer 6", "answer 0");
+}
+
+const LONG: &str = "round a.sheet stops.round a.memory --as=1 --budget=";
+
+/// Of a round of many steps the reference says only whether it may start, and its steps are held
+/// against the budget. A script that stopped is told with its first line.
+#[test]
+fn a_long_round() {
+    let folder = desk("round-late");
+    let ends: fn(&[u8], &[u8], &mut [u32], u16, u32) -> Round =
+        |_, _, _, _, _| ended(0, &[(9, 600_000), (0, 1), (10, 599_999)]);
+    let calls = lying(Library { round: ends, ..CALLS.library });
+    let (status, out, err) = told(&folder, &calls, &format!("{LONG}600000"));
+    assert_eq!((status, err.as_str()), (1, ""));
+    let lines: Vec<&str> = out.lines().collect();
+    for (line, start) in lines.iter().zip([
+        "1: script 1 of 3: the budget of 600000 steps was used up",
+        "6: script 2 of 3: done, 1 step",
+        "10: script 3 of 3: in step 600000 a value takes more than 16 words",
+        "",
+    ]) {
+        assert!(line.contains(&format!("stops.round:{start}")) || start.is_empty(), "{line}");
+    }
+    assert_eq!(lines[3], "3 scripts: 1 done, 2 stopped and changed nothing");
+    let note = "not compared with the reference: more than 1000000 steps";
+    assert_eq!(lines.last(), Some(&note));
+    let (_, json, _) = told(&folder, &calls, &format!("{LONG}600000 --json"));
+    assert!(json.contains("\"compared\":false,") && json.contains("\"steps\":599999,"), "{json}");
+    let (status, out, err) = told(&folder, &calls, &format!("{LONG}600001"));
+    assert_eq!((status, out.as_str()), (4, ""));
+    let unfit = "no such answer with a budget of 600001";
+    is_loud(&err, "answer 0, script 1: answer 9, steps 600000", unfit);
+}
+
+#[test]
+fn a_long_round_that_lies() {
+    let folder = desk("round-late-lies");
+    let long: fn(&[u8], &[u8], &mut [u32], u16, u32) -> Round = |_, _, memory, _, _| {
+        memory[1] = 7;
+        ended(0, &[(9, 1_000_001), (9, 1_000_001), (9, 1_000_001)])
+    };
+    let calls = lying(Library { round: long, ..CALLS.library });
+    let budget = "--as=1 --budget=1000001";
+    for (arguments, says, reference) in [
+        (
+            format!("{LONG}1000001"),
+            "answer 0, location 0 is `1 7`",
+            "answer 0, location 0 is `1 5`",
+        ),
+        (format!("round a.sheet leak.simp a.memory {budget}"), "answer 0", "answer 6"),
+        (
+            format!("round a.sheet pack.round a.memory {budget}"),
+            "answer 0, script 3: answer 9, steps 1000001",
+            "no such answer with a budget of 1000001",
+        ),
+    ] {
+        let (status, out, err) = told(&folder, &calls, &arguments);
+        assert_eq!((status, out.as_str()), (4, ""), "{arguments}");
+        is_loud(&err, says, reference);
+    }
+}
+
+/// What a script with a value that is too long comes to after so many steps as are retraced.
+fn just_retraced(budget: u32) -> Stopped {
+    let steps = 1_000_000;
+    match budget > steps {
+        true => Stopped::TooLong { at: ValueTooLong { line: 4, words: 17 }, steps },
+        false => Stopped::Spent { line: 1, steps: budget },
+    }
+}
+
+/// The longest run and round that are retraced are so to their end, and what the reference says of
+/// it is told.
+#[test]
+fn a_value_that_is_too_long_after_a_million_steps() {
+    let folder = desk("just-retraced");
+    let library = Library {
+        run: |_, _, _, _, _| Outcome { answer: 10, steps: 1_000_000 },
+        round: |_, _, _, _, _| ended(0, &[(10, 1_000_000), (0, 0), (0, 0)]),
+        ..CALLS.library
+    };
+    let reference = Reference {
+        run: |_, _, _, _, budget| Err(Reason::Stopped(just_retraced(budget))),
+        round: |_, _, _, _, budget| Ok(vec![Err(just_retraced(budget)), Ok(0), Ok(0)]),
+        ..CALLS.reference
+    };
+    let calls = Calls { library, reference };
+    let told_of = |arguments: &str| {
+        let (status, out, err) = told(&folder, &calls, &format!("{arguments} --as=1 --json"));
+        assert_eq!((status, err.as_str()), (1, ""), "{out}");
+        assert!(out.contains("\"compared\":true,") && out.contains("\"line\":4,"), "{out}");
+        assert!(out.contains("in step 1000001 a value takes 17 words"), "{out}");
+    };
+    for budget in [1_000_001, 4_000_000_000_u32] {
+        told_of(&format!("run a.sheet grow.simp a.memory --budget={budget}"));
+        told_of(&format!("round a.sheet stops.round a.memory --budget={budget}"));
+    }
 }
 
 #[test]

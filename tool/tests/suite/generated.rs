@@ -4,9 +4,12 @@
 use crate::folder::Folder;
 use crate::tool::simp;
 use compare::generate::program_input::sheet_and_scripts;
-use simp::message::message;
+use compare::generate::round::round_case;
+use reference::memory_text;
+use reference::round::Refused;
+use simp::message::{message, Message, Scripts};
 use simp::names::Names;
-use std::collections::BTreeSet;
+use std::collections::{BTreeMap, BTreeSet};
 
 /// Each reason that the reference gives has the library's number, and can be told.
 #[test]
@@ -30,6 +33,175 @@ fn every_reason_has_the_library_s_number_and_is_told() {
         }
     }
     assert_eq!(numbers.into_iter().collect::<Vec<u8>>(), [0, 1, 2, 4, 5, 6]);
+}
+
+/// A text whose lines, where it names them, are this many further down.
+fn moved(text: &str, by: usize) -> String {
+    let mut parts = text.split("line ");
+    let mut moved = parts.next().unwrap_or_default().to_string();
+    for part in parts {
+        let digits = part.find(|c: char| !c.is_ascii_digit()).unwrap_or(part.len());
+        let (number, rest) = part.split_at(digits);
+        let number = number.parse().map_or(String::new(), |line: usize| (line + by).to_string());
+        moved += &format!("line {number}{rest}");
+    }
+    moved
+}
+
+/// How what is told of a script in a round differs from what is told of it alone.
+#[derive(Clone, Copy, Debug, PartialEq, Eq, PartialOrd, Ord)]
+enum Differs {
+    /// Only the lines do, which are the file's.
+    Lines,
+    /// The line, or all of the script, has nothing but blanks and tabs.
+    Empty,
+    /// A line after its end may start another, where an empty line is missing.
+    LeftOver,
+}
+
+/// By the script, and what is told of it alone.
+fn differs(script: &[u8], alone: &Message) -> Differs {
+    let mut lines = script.split(|&byte| byte == b'\n');
+    let line = alone.line.and_then(|line| lines.nth(line - 1)).expect("a line of the script");
+    if line.iter().all(|byte| b" \t".contains(byte)) {
+        Differs::Empty
+    } else if alone.fact.ends_with("left over") && !b"ixv+lrku".contains(&line[0]) {
+        Differs::LeftOver
+    } else {
+        Differs::Lines
+    }
+}
+
+/// What is told of a script in a round is what is told of it alone, but for the lines, which are
+/// the file's, and where an empty line is the matter.
+#[test]
+fn lines_of_a_script_in_a_round_are_the_file_s() {
+    let (before, by) = (b"s\n\n;\ns\ns\n\n", 6);
+    let names = Names::default();
+    let (mut numbers, mut counts) = (BTreeSet::new(), BTreeMap::new());
+    for seed in 10_000..13_000 {
+        let (text, scripts) = sheet_and_scripts(seed);
+        let Ok(sheet) = reference::calls::read_sheet(&text) else {
+            continue;
+        };
+        for script in scripts.iter().filter(|script| reference::parts(script).len() == 1) {
+            let Err(reason) = reference::try_check(&text, script) else {
+                continue;
+            };
+            let alone = message(&reason, Some(&sheet), &names);
+            let file = [&before[..], script].concat();
+            let told = Scripts::new(&file).message(2, reason, &sheet, &names);
+            assert_eq!(told.script.map(|which| (which.script, which.of)), Some((3, 3)));
+            numbers.insert(alone.number);
+            let differs = differs(script, &alone);
+            *counts.entry(differs).or_insert(0) += 1;
+            is_the_same_but_for(differs, told, alone, by);
+        }
+    }
+    assert_eq!(numbers.into_iter().collect::<Vec<u8>>(), [4, 5, 6]);
+    let enough = [(Differs::Lines, 4000), (Differs::Empty, 40), (Differs::LeftOver, 70)];
+    assert!(enough.iter().all(|(differs, least)| counts.get(differs) >= Some(least)), "{counts:?}");
+}
+
+fn is_the_same_but_for(differs: Differs, told: Message, alone: Message, by: usize) {
+    assert_eq!(told.rule == alone.rule, differs != Differs::Empty, "{alone}\n{told}");
+    let line = alone.line.map(|line| line + by);
+    let (fact, advice) = (moved(&alone.fact, by), moved(&alone.advice, by));
+    assert_eq!(told.fact == fact, differs != Differs::Empty, "{alone}\n{told}");
+    match differs {
+        Differs::Lines => assert_eq!((told.line, told.advice), (line, advice)),
+        Differs::LeftOver => {
+            let parting = "put an empty line before it if another script starts there; or ";
+            assert_eq!((told.line, told.advice), (line, format!("{parting}{advice}")));
+        }
+        Differs::Empty => {}
+    }
+}
+
+/// Each refusal of a round has the library's number and is told with a line of the file.
+#[test]
+fn every_refusal_of_a_round_is_told() {
+    let mut numbers = BTreeSet::new();
+    for seed in 0..4000 {
+        let case = round_case(seed);
+        let (mut first, mut second) = (case.memory.clone(), case.memory.clone());
+        let arguments = (case.authority, case.budget.min(1000));
+        let answer =
+            bindings::round(&case.sheet, &case.scripts, &mut first, arguments.0, arguments.1)
+                .answer;
+        let told =
+            reference::try_round(&case.sheet, &case.scripts, &mut second, arguments.0, arguments.1);
+        numbers.insert(answer);
+        let Err(Refused { script, reason }) = told else {
+            assert_eq!(answer, 0, "seed {seed}");
+            continue;
+        };
+        let (sheet, names) = (reference::calls::read_sheet(&case.sheet).ok(), Names::default());
+        let scripts = Scripts::new(&case.scripts);
+        let message = match (script, answer) {
+            (Some(place), _) => {
+                let sheet = sheet.as_ref().expect("a sheet");
+                scripts.message(place.number, reason, sheet, &names)
+            }
+            (None, 11) => scripts.too_many(&reason),
+            (None, _) => message(&reason, sheet.as_ref(), &names),
+        };
+        assert_eq!(message.number, answer, "seed {seed}");
+        let parts = [&message.fact, &message.advice, &message.rule];
+        assert!(parts.iter().all(|part| !part.is_empty() && !part.contains('\n')), "{message}");
+        if [4, 5, 6, 11].contains(&answer) {
+            let lines = case.scripts.split_inclusive(|&byte| byte == b'\n').count().max(1);
+            let line = message.line.expect("a line");
+            assert!((1..=lines).contains(&line), "seed {seed}: {line} of {lines}: {message}");
+        }
+    }
+    assert_eq!(numbers.into_iter().collect::<Vec<u8>>(), [0, 1, 2, 3, 4, 5, 6, 7, 8, 11]);
+}
+
+/// What `--plain` prints where the library answers so.
+fn plain(round: &bindings::Round, scripts: usize, memory: &[u32]) -> String {
+    let ran = if round.answer == 0 { scripts } else { 0 };
+    let mut text = format!("{}\t{ran}\n", round.answer);
+    for place in 0..ran {
+        text += &format!("{}\t{}\n", round.answers[place], round.steps[place]);
+    }
+    // how many locations there are is unknown where the sheet is refused
+    if ![1, 2].contains(&round.answer) {
+        text += &String::from_utf8_lossy(&memory_text::print(memory));
+    }
+    text
+}
+
+#[test]
+fn the_tool_s_rounds_are_the_library_s() {
+    let folder = Folder::new("generated-rounds");
+    let mut numbers = BTreeSet::new();
+    for seed in 20_000..20_400 {
+        let case = round_case(seed);
+        let locations = reference::calls::read_sheet(&case.sheet).map(|s| s.locations.len());
+        // a memory of another length has no text
+        if locations.is_ok_and(|locations| locations * 16 != case.memory.len()) {
+            continue;
+        }
+        let (mut memory, budget) = (case.memory.clone(), case.budget.min(1000));
+        let round =
+            bindings::round(&case.sheet, &case.scripts, &mut memory, case.authority, budget);
+        folder.write("sheet", &case.sheet);
+        folder.write("scripts", &case.scripts);
+        folder.write("memory", &memory_text::print(&case.memory));
+        let members = (0..16).filter(|p| case.authority >> p & 1 == 1).map(|p| p.to_string());
+        let authority = format!("--as={}", members.collect::<Vec<_>>().join(","));
+        let budget = format!("--budget={budget}");
+        let ran =
+            simp(&folder, &["round", "sheet", "scripts", "memory", &authority, &budget, "--plain"]);
+        let scripts = reference::parts(&case.scripts).len();
+        assert_eq!(ran.out, plain(&round, scripts, &memory), "seed {seed}: {}", ran.err);
+        let done = round.answer == 0 && round.answers == [0; 32];
+        assert_eq!(ran.status, i32::from(!done), "seed {seed}");
+        assert_eq!(ran.err.is_empty(), done, "seed {seed}");
+        numbers.extend(round.answers.iter().chain([&round.answer]).copied());
+    }
+    assert_eq!(numbers.into_iter().collect::<Vec<u8>>(), [0, 1, 2, 3, 4, 5, 6, 8, 9, 10, 11]);
 }
 
 /// The answers of a list of scripts in the tool's JSON, in order.

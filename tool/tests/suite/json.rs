@@ -217,15 +217,85 @@ fn runs() {
     told(&json, "memory", Some(1));
 }
 
+/// The scripts of a round, each with its number from 1 and its first line in the file.
+#[test]
+fn rounds() {
+    let folder = desk("json-rounds");
+    let round = |scripts: &str, status, more: &[&str]| {
+        let arguments =
+            ["round", "a.sheet", scripts, "a.memory", "--as=1", "--budget=20", "--json"];
+        document(&simp(&folder, &[&arguments[..], more].concat()), status)
+    };
+    for (more, written) in [(&[][..], false), (&["--write"], true)] {
+        let json = round("pack.round", 0, more);
+        assert_eq!((json.at("answer"), json.at("done")), (&Json::Number(0), &Json::Bool(true)));
+        let ends = json.at("scripts").items();
+        let fields = ["script", "first_line", "answer", "steps"];
+        let ends: Vec<_> =
+            ends.iter().map(|end| fields.map(|field| end.at(field).clone())).collect();
+        assert_eq!(ends, [[1, 1, 0, 0], [2, 3, 0, 1]].map(|end| end.map(Json::Number)));
+        assert_eq!((json.at("changed"), json.at("compared")), (&numbers(&[2]), &Json::Bool(true)));
+        assert_eq!(json.at("memory").items()[2], numbers(&[3, 5, 2, 1, 62]));
+        assert_eq!(json.at("written"), &Json::Bool(written));
+        folder.write("a.memory", &tabbed(crate::desk::MEMORY));
+    }
+    let json = round("stops.round", 1, &["--write"]);
+    assert_eq!((json.at("answer"), json.at("done")), (&Json::Number(0), &Json::Bool(false)));
+    assert_eq!((json.at("changed"), json.at("written")), (&numbers(&[2]), &Json::Bool(true)));
+    let [spent, packed, grown] = json.at("scripts").items() else {
+        panic!("three scripts");
+    };
+    assert_eq!((spent.at("answer"), spent.at("steps")), (&Json::Number(9), &Json::Number(20)));
+    told(spent, "script", Some(1));
+    assert_eq!((packed.at("answer"), packed.at("done")), (&Json::Number(0), &Json::Bool(true)));
+    assert_eq!((grown.at("answer"), grown.at("done")), (&Json::Number(10), &Json::Bool(false)));
+    assert_eq!(grown.at("first_line"), &Json::Number(10));
+    told(grown, "script", Some(14));
+}
+
+#[test]
+fn refused_rounds() {
+    let folder = desk("json-refused-rounds");
+    folder.write("leak.round", &tabbed("s\n\n= 0\nx 1\n"));
+    folder.write("many.round", &tabbed(&vec!["s\n"; 33].join("\n")));
+    let round = |scripts: &str, authority: &str| {
+        let arguments = ["round", "a.sheet", scripts, "a.memory", "--budget=9", "--json"];
+        let more = ["--write", "--as", authority];
+        document(&simp(&folder, &[&arguments[..], &more].concat()), 1)
+    };
+    for (scripts, authority, answer, blamed, script, line) in [
+        ("leak.round", "1", 6, "script", Some(2), Some(3)),
+        ("many.round", "1", 11, "script", None, Some(65)),
+        ("leak.round", "3", 3, "argument", None, None),
+    ] {
+        let json = round(scripts, authority);
+        assert_eq!(
+            (json.at("answer"), json.at("done")),
+            (&Json::Number(answer), &Json::Bool(false))
+        );
+        assert_eq!((json.at("scripts").items(), json.at("changed")), (&[][..], &numbers(&[])));
+        assert_eq!(json.at("script"), &script.map_or(Json::Null, Json::Number));
+        assert_eq!(json.at("written"), &Json::Bool(false));
+        assert!(json.at("name").is_text() && json.at("memory").items().len() == 4);
+        told(&json, blamed, line);
+    }
+    folder.write("a.memory", b"1\n");
+    let json = round("pack.round", "1");
+    assert_eq!((json.at("answer"), json.at("memory")), (&Json::Number(8), &Json::Null));
+    told(&json, "memory", Some(1));
+}
+
 #[test]
 fn a_memory_that_cannot_be_written() {
     let folder = desk("json-unwritten");
     let name = "m".repeat(255);
     folder.write(&name, &tabbed(crate::desk::MEMORY));
-    let arguments = ["run", "a.sheet", "pack.simp", &name, "--as=1", "--budget=9", "--json"];
-    let json = document(&simp(&folder, &[&arguments[..], &["--write"]].concat()), 3);
-    assert_eq!((json.at("done"), json.at("written")), (&Json::Bool(true), &Json::Bool(false)));
-    assert!(json.at("error").is_text());
+    for (command, script) in [("run", "pack.simp"), ("round", "pack.round")] {
+        let arguments = [command, "a.sheet", script, &name, "--as=1", "--budget=9", "--json"];
+        let json = document(&simp(&folder, &[&arguments[..], &["--write"]].concat()), 3);
+        assert_eq!((json.at("done"), json.at("written")), (&Json::Bool(true), &Json::Bool(false)));
+        assert!(json.at("error").is_text());
+    }
 }
 
 #[test]
@@ -274,8 +344,9 @@ fn explanations() {
 #[test]
 fn what_cannot_be_read() {
     let folder = desk("json-unread");
-    let calls: [&[&str]; 4] = [
+    let calls: [&[&str]; 5] = [
         &["run", "a.sheet", "no.simp", "a.memory", "--as=0", "--budget=1", "--json"],
+        &["round", "a.sheet", "no.round", "a.memory", "--as=0", "--budget=1", "--json"],
         &["show", "no.sheet", "a.memory", "--to=0", "--json"],
         &["explain", "no.sheet", "--json"],
         &["check", "a.sheet", "copy.simp", "--names=no.names", "--json"],

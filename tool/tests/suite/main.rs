@@ -9,6 +9,7 @@ mod messages;
 mod names;
 mod output;
 mod readme;
+mod round;
 mod samples;
 mod statuses;
 mod tool;

@@ -46,6 +46,7 @@ fn names_that_are_not_of_their_form() {
         for arguments in [
             &["check", "a.sheet", "copy.simp"][..],
             &["run", "a.sheet", "copy.simp", "a.memory", "--as=0", "--budget=1"],
+            &["round", "a.sheet", "pack.round", "a.memory", "--as=0", "--budget=1"],
             &["show", "a.sheet", "a.memory", "--to=0"],
             &["explain", "a.sheet"],
         ] {

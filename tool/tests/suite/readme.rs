@@ -79,9 +79,15 @@ fn the_technician_s_commands_print_what_stands_below_them() {
         assert_eq!(String::from_utf8_lossy(&printed.stdout), *output, "{command}: {errors}");
     }
     let said: String = steps.iter().map(|step| step.command.as_str()).collect();
-    for command in
-        ["simp check ", "simp run ", "simp show ", "simp explain ", "--write", "--names "]
-    {
+    for command in [
+        "simp check ",
+        "simp run ",
+        "simp round ",
+        "simp show ",
+        "simp explain ",
+        "--write",
+        "--names ",
+    ] {
         assert!(said.contains(command), "the walk has no {command}");
     }
 }

@@ -27,23 +27,26 @@ fn at_samples(folder: &str, arguments: &[&str]) -> Ran {
 /// What the tool says of a bad sample: the line that starts with its name.
 fn said(name: &str) -> String {
     let (sheet, memory) = ("../line.sheet", "../morning.memory");
-    let run = |script, memory| {
-        at_samples("bad", &["run", sheet, script, memory, "--as", "1", "--budget", "1000"])
+    let run = |command, script, memory| {
+        at_samples("bad", &[command, sheet, script, memory, "--as", "1", "--budget", "1000"])
     };
     let ran = if name.ends_with(".sheet") {
         at_samples("bad", &["check", name, "../tally.simp"])
     } else if name.ends_with(".memory") {
-        run("../tally.simp", name)
+        run("run", "../tally.simp", name)
+    } else if name.ends_with(".round") {
+        run("round", name, memory)
     } else {
         let checked = at_samples("bad", &["check", sheet, name]);
         if checked.status == 0 {
-            run(name, memory)
+            run("run", name, memory)
         } else {
             checked
         }
     };
     assert_eq!(ran.status, 1, "{name}: {}{}", ran.out, ran.err);
-    let mut lines = ran.out.lines().filter(|line| line.starts_with(&format!("{name}:")));
+    let blames = |line: &&str| line.starts_with(&format!("{name}:")) && !line.contains(": done, ");
+    let mut lines = ran.out.lines().filter(blames);
     let line = lines.next().unwrap_or_else(|| panic!("{name} is not blamed: {}", ran.out));
     assert_eq!(lines.next(), None, "{name} is blamed once");
     line.to_string()
@@ -54,7 +57,8 @@ fn said(name: &str) -> String {
 fn each_bad_one_gets_its_message() {
     let path = samples().join("bad/messages.txt");
     let expected = fs::read_to_string(path).expect("the messages are there");
-    let names = [".simp", ".sheet", ".memory"].map(|ending| files("bad", ending)).concat();
+    let names =
+        [".simp", ".sheet", ".memory", ".round"].map(|ending| files("bad", ending)).concat();
     let said: Vec<String> = names.iter().map(|name| said(name)).collect();
     for (said, expected) in said.iter().zip(expected.lines()) {
         assert_eq!(said, expected);
@@ -66,7 +70,7 @@ fn each_bad_one_gets_its_message() {
         *numbers.entry(number.split(':').next().expect("a number").to_string()).or_insert(0) += 1;
     }
     let numbers: Vec<String> = numbers.into_keys().collect();
-    assert_eq!(numbers, ["1", "10", "2", "4", "5", "6", "8", "9"]);
+    assert_eq!(numbers, ["1", "10", "11", "2", "4", "5", "6", "8", "9"]);
 }
 
 #[test]
@@ -81,18 +85,32 @@ fn good_ones_are_accepted() {
     assert_eq!(ran.out, accepted + &sum);
 }
 
+/// As one script, and as a round of several.
 #[test]
 fn a_morning_leaves_noon() {
     let scratch = crate::folder::Folder::new("noon");
-    scratch.write("memory", &fs::read(samples().join("morning.memory")).expect("a memory"));
-    let path = scratch.as_ref().join("memory");
-    let memory = path.to_str().expect("a path in ASCII");
-    let names = ["--names", "line.names", "--as", "station", "--budget", "54", "--write"];
-    let ran =
-        at_samples(".", &[&["run", "line.sheet", "morning.simp", memory][..], &names].concat());
-    assert_eq!(ran.status, 0, "{}{}", ran.out, ran.err);
-    let noon = fs::read(samples().join("noon.memory")).expect("a memory");
-    assert_eq!(fs::read(path).expect("the memory"), noon);
+    let read = |name: &str| fs::read(samples().join(name)).expect("a sample");
+    for (command, script, budget) in
+        [("run", "morning.simp", "54"), ("round", "morning.round", "21")]
+    {
+        scratch.write("memory", &read("morning.memory"));
+        let path = scratch.as_ref().join("memory");
+        let memory = path.to_str().expect("a path in ASCII");
+        let names = ["--names", "line.names", "--as", "station", "--budget", budget, "--write"];
+        let ran = at_samples(".", &[&[command, "line.sheet", script, memory][..], &names].concat());
+        assert_eq!(ran.status, 0, "{}{}", ran.out, ran.err);
+        assert_eq!(fs::read(path).expect("the memory"), read("noon.memory"), "{script}");
+    }
+}
+
+#[test]
+fn a_round_is_made_of_the_samples() {
+    let read = |name: &str| fs::read(samples().join(name)).expect("a sample");
+    let round = read("morning.round");
+    let parts: Vec<&[u8]> = reference::parts(&round).iter().map(|part| part.text).collect();
+    for name in ["cracks", "cracks-three", "tally", "queue", "bills", "open-station", "pack"] {
+        assert!(parts.contains(&&read(&format!("{name}.simp"))[..]), "{name}");
+    }
 }
 
 #[test]

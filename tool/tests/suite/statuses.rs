@@ -47,6 +47,7 @@ fn a_refused_sheet_is_blamed_once() {
         assert_eq!(lines[1..], ["no script was checked: the sheet is refused"]);
         let others = [
             run(&folder, "copy.simp", &[]),
+            simp(&folder, &["round", "a.sheet", "pack.round", "a.memory", "--as=1", "--budget=1"]),
             simp(&folder, &["show", "a.sheet", "a.memory", "--to", "0"]),
             simp(&folder, &["explain", "a.sheet"]),
         ];
@@ -71,6 +72,7 @@ fn files_that_cannot_be_read() {
     assert!(ran.out.starts_with("no.sheet: can't be read\n"), "{}", ran.out);
     for arguments in [
         &["run", "a.sheet", "copy.simp", "no.memory", "--as", "0", "--budget", "1"][..],
+        &["round", "a.sheet", "no.round", "a.memory", "--as", "0", "--budget", "1"],
         &["show", "no.sheet", "a.memory", "--to", "0"],
         &["explain", "no.sheet"],
         &["explain", "a.sheet", "--names", "no.names"],
@@ -249,7 +251,7 @@ fn help_and_version() {
     let general = simp(&folder, &["--help"]);
     assert!(general.status == 0 && general.out.contains("exit status"), "{}", general.out);
     assert_eq!(simp(&folder, &["help"]), general);
-    for name in ["check", "run", "show", "explain"] {
+    for name in ["check", "run", "round", "show", "explain"] {
         let ran = simp(&folder, &[name, "--help"]);
         let usage = format!("usage: simp {name} ");
         assert!(ran.status == 0 && ran.out.starts_with(&usage), "{}", ran.out);

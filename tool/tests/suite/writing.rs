@@ -11,6 +11,10 @@ use std::process::Stdio;
 const PACK: [&str; 7] =
     ["run", "a.sheet", "pack.simp", "a.memory", "--as=1", "--budget=9", "--write"];
 
+/// The same as a run and as a round.
+const PACKS: [[&str; 7]; 2] =
+    [PACK, ["round", "a.sheet", "pack.round", "a.memory", "--as=1", "--budget=9", "--write"]];
+
 fn read(folder: &Folder, name: &str) -> Vec<u8> {
     fs::read(folder.as_ref().join(name)).expect("the file is there")
 }
@@ -26,14 +30,32 @@ fn strangers(folder: impl AsRef<Path>) -> Vec<String> {
 #[test]
 fn a_done_run_replaces_the_memory() {
     let folder = desk("replaced");
-    let ran = simp(&folder, &PACK);
-    assert_eq!((ran.status, ran.err.as_str()), (0, ""));
+    for pack in PACKS {
+        let ran = simp(&folder, &pack);
+        assert_eq!((ran.status, ran.err.as_str()), (0, ""));
+        assert_eq!(ran.out.lines().last(), Some("a.memory is replaced"));
+        assert_eq!(read(&folder, "a.memory"), tabbed(PACKED));
+        assert!(strangers(&folder).is_empty());
+        // and without --write it stays
+        folder.write("a.memory", &tabbed(MEMORY));
+        assert_eq!(simp(&folder, &pack[..6]).status, 0);
+        assert_eq!(read(&folder, "a.memory"), tabbed(MEMORY));
+    }
+}
+
+/// A round isn't refused because a script of it stops: the memory is what the others left.
+#[test]
+fn a_round_with_scripts_that_stop_replaces_the_memory() {
+    let folder = desk("replaced-stopped");
+    let mut arguments = PACKS[1];
+    arguments[2] = "stops.round";
+    let ran = simp(&folder, &arguments);
+    assert_eq!((ran.status, ran.err.as_str()), (1, ""));
     assert_eq!(ran.out.lines().last(), Some("a.memory is replaced"));
     assert_eq!(read(&folder, "a.memory"), tabbed(PACKED));
-    assert!(strangers(&folder).is_empty());
-    // and without --write it stays
     folder.write("a.memory", &tabbed(MEMORY));
-    assert_eq!(simp(&folder, &PACK[..6]).status, 0);
+    let ran = simp_onto(&folder, &arguments, full());
+    assert!(ran.status == 3 && ran.err.ends_with("; a.memory is as it was\n"), "{}", ran.err);
     assert_eq!(read(&folder, "a.memory"), tabbed(MEMORY));
 }
 
@@ -46,19 +68,23 @@ fn a_refused_run_leaves_the_file_alone() {
         (about.modified().expect("a time"), about.ino(), read(&folder, "a.memory"))
     };
     let before = state();
-    for script in ["malformed.simp", "mistyped.simp", "leak.simp", "loop.simp", "grow.simp"] {
-        let mut arguments = PACK;
-        arguments[2] = script;
-        assert_eq!(simp(&folder, &arguments).status, 1, "{script}");
+    folder.write("leak.round", &tabbed("= 2\nk 2\nx 1\n\n= 0\nx 1\n"));
+    let refused = ["malformed.simp", "mistyped.simp", "leak.simp"];
+    for (pack, more) in PACKS.into_iter().zip([&["loop.simp", "grow.simp"][..], &["leak.round"]]) {
+        for script in refused.iter().chain(more) {
+            let mut arguments = pack;
+            arguments[2] = script;
+            assert_eq!(simp(&folder, &arguments).status, 1, "{script}");
+        }
+        for authority in ["--as=3", "--as=15"] {
+            let mut arguments = pack;
+            arguments[4] = authority;
+            assert_eq!(simp(&folder, &arguments).status, 1, "{authority}");
+        }
+        let mut arguments = pack;
+        arguments[2] = "no.simp";
+        assert_eq!(simp(&folder, &arguments).status, 3);
     }
-    for authority in ["--as=3", "--as=15"] {
-        let mut arguments = PACK;
-        arguments[4] = authority;
-        assert_eq!(simp(&folder, &arguments).status, 1, "{authority}");
-    }
-    let mut arguments = PACK;
-    arguments[2] = "no.simp";
-    assert_eq!(simp(&folder, &arguments).status, 3);
     assert_eq!(state(), before);
     assert!(strangers(&folder).is_empty());
 }
@@ -72,8 +98,9 @@ fn a_run_that_cannot_be_printed_is_not_written() {
         assert!(ran.err.ends_with("; a.memory is as it was\n"), "{}", ran.err);
         assert_eq!(read(&folder, "a.memory"), tabbed(MEMORY));
     };
-    for more in [&[][..], &["--json"], &["--plain"]] {
-        let arguments = [&PACK[..], more].concat();
+    let forms = [&[][..], &["--json"], &["--plain"]];
+    for (pack, more) in PACKS.iter().flat_map(|pack| forms.map(|form| (pack, form))) {
+        let arguments = [&pack[..], more].concat();
         said(&simp_onto(&folder, &arguments, full()));
         let (reader, writer) = std::io::pipe().expect("a pipe");
         drop(reader);
@@ -124,9 +151,10 @@ fn a_file_that_cannot_be_made_beside_the_old_one() {
     let folder = desk("long-name");
     let name = "m".repeat(255);
     folder.write(&name, &tabbed(MEMORY));
-    let mut arguments = PACK;
-    arguments[3] = &name;
-    for more in [&[][..], &["--json"]] {
+    let forms = [&[][..], &["--json"]];
+    for (pack, more) in PACKS.into_iter().flat_map(|pack| forms.map(|form| (pack, form))) {
+        let mut arguments = pack;
+        arguments[3] = &name;
         let ran = simp(&folder, &[&arguments[..], more].concat());
         assert_eq!(ran.status, 3);
         assert!(ran.err.contains("File name too long; it is as it was"), "{}", ran.err);
@@ -145,6 +173,7 @@ fn large(folder: &Folder) -> (Vec<u8>, Vec<u8>) {
     folder.write("a.sheet", &tabbed(&sheet));
     folder.write("a.memory", &tabbed(&memory));
     folder.write("pack.simp", &tabbed("= 0\ni 2\n"));
+    folder.write("pack.round", &tabbed("s\n\n= 0\ni 2\n"));
     let after = memory.replacen("1 1\n", "1 2\n", 1);
     (tabbed(&memory), tabbed(&after))
 }
@@ -154,18 +183,22 @@ fn large(folder: &Folder) -> (Vec<u8>, Vec<u8>) {
 fn a_disk_that_gets_full() {
     let folder = desk("full-disk");
     let (before, after) = large(&folder);
-    let arguments = PACK.join(" ").replace("--as=1", "--as=0");
-    for blocks in [0, 1] {
-        // with the signal ignored, the write fails
-        let limit = format!("trap '' XFSZ; ulimit -f {blocks}; exec \"$SIMP\" {arguments}");
-        let ran = shell(&folder, &limit);
-        assert_eq!(ran.status, 3, "{}", ran.err);
-        assert!(ran.err.contains("simp: a.memory: ") && ran.err.ends_with("; it is as it was\n"));
-        assert_eq!(read(&folder, "a.memory"), before);
-        assert!(strangers(&folder).is_empty());
+    for pack in PACKS {
+        folder.write("a.memory", &before);
+        let arguments = pack.join(" ").replace("--as=1", "--as=0");
+        for blocks in [0, 1] {
+            // with the signal ignored, the write fails
+            let limit = format!("trap '' XFSZ; ulimit -f {blocks}; exec \"$SIMP\" {arguments}");
+            let ran = shell(&folder, &limit);
+            assert_eq!(ran.status, 3, "{}", ran.err);
+            let said = ran.err.contains("simp: a.memory: ");
+            assert!(said && ran.err.ends_with("; it is as it was\n"), "{}", ran.err);
+            assert_eq!(read(&folder, "a.memory"), before);
+            assert!(strangers(&folder).is_empty());
+        }
+        assert_eq!(shell(&folder, &format!("exec \"$SIMP\" {arguments}")).status, 0);
+        assert_eq!(read(&folder, "a.memory"), after);
     }
-    assert_eq!(shell(&folder, &format!("exec \"$SIMP\" {arguments}")).status, 0);
-    assert_eq!(read(&folder, "a.memory"), after);
 }
 
 /// The same with the signal, which ends the tool while it writes.
@@ -173,15 +206,15 @@ fn a_disk_that_gets_full() {
 fn a_signal_while_it_writes() {
     let folder = desk("signal");
     let (before, _) = large(&folder);
-    let arguments = PACK.join(" ").replace("--as=1", "--as=0");
-    for blocks in [0, 1] {
+    for (pack, blocks) in PACKS.iter().flat_map(|pack| [(pack, 0), (pack, 1)]) {
+        let arguments = pack.join(" ").replace("--as=1", "--as=0");
         let limit = format!("ulimit -c 0; ulimit -f {blocks}; exec \"$SIMP\" {arguments}");
         assert_eq!(shell(&folder, &limit).status, -1);
         assert_eq!(read(&folder, "a.memory"), before);
     }
     // what is left lies beside it under a name of its own
     let left = strangers(&folder);
-    assert_eq!(left.len(), 2);
+    assert_eq!(left.len(), 4);
     assert!(left.iter().all(|name| name.starts_with(".a.memory.simp-")), "{left:?}");
 }
 
@@ -199,13 +232,13 @@ fn random(state: &mut u64) -> u64 {
 fn a_kill_at_any_moment() {
     let folder = desk("killed");
     let (before, after) = large(&folder);
-    let mut arguments = PACK;
-    arguments[4] = "--as=0";
     let mut state = 0x9e37_79b9_7f4a_7c15;
     let mut most = 100_000;
     let mut replaced = 0;
-    for _ in 0..300 {
+    for turn in 0..400 {
         folder.write("a.memory", &before);
+        let mut arguments = PACKS[turn % 2];
+        arguments[4] = "--as=0";
         let mut tool = command(&folder, &arguments);
         let mut child = tool.stdout(Stdio::null()).spawn().expect("the tool starts");
         for _ in 0..most / 2 + random(&mut state) % most {
@@ -219,5 +252,5 @@ fn a_kill_at_any_moment() {
         most = if found == after { most * 9 / 10 + 1 } else { most * 10 / 9 + 1 };
     }
     let left = strangers(&folder).len();
-    println!("replaced {replaced} times of 300, killed {left} times with a file beside it");
+    println!("replaced {replaced} times of 400, killed {left} times with a file beside it");
 }

@@ -1,18 +1,20 @@
 //! Carries out one call of a workload again and again, to be measured from outside:
 //!
 //! ```text
-//! bench reference|lean|library WORKLOAD sheet|check|run|view REPEATS
+//! bench reference|lean|library WORKLOAD sheet|check|run|view|round|runs REPEATS
 //! ```
 //!
-//! The workloads are those of `workload.rs`. Answers are checked. `library` is there where the
-//! package was built with the feature of that name.
+//! The workloads are those of `workload.rs`; `round` is 32 times the script of one in one round, and
+//! `runs` the same in 32 runs. Answers are checked. `library` is there where the package was built
+//! with the feature of that name.
 
 use compare::implementation::ALL;
 use compare::workload;
 use std::hint::black_box;
 use std::process::ExitCode;
 
-const USAGE: &str = "usage: bench reference|lean|library WORKLOAD sheet|check|run|view REPEATS";
+const USAGE: &str =
+    "usage: bench reference|lean|library WORKLOAD sheet|check|run|view|round|runs REPEATS";
 
 fn main() -> ExitCode {
     let arguments: Vec<String> = std::env::args().skip(1).collect();
@@ -38,6 +40,7 @@ fn carry_out(arguments: &[String]) -> Result<(), String> {
         .find(|w| w.name == *workload)
         .ok_or(format!("no workload {workload}"))?;
     let repeats: u32 = repeats.parse().map_err(|_| format!("{repeats} is no number"))?;
+    let scripts = workload.scripts();
     let (mut memory, mut view) = (vec![0; workload.words()], vec![0; workload.words()]);
     workload.run(implementation, &mut memory);
     for _ in 0..repeats {
@@ -47,6 +50,8 @@ fn carry_out(arguments: &[String]) -> Result<(), String> {
             "check" => workload.check(implementation),
             "run" => workload.run(implementation, &mut memory),
             "view" => workload.view(implementation, &memory, &mut view),
+            "round" => workload.round(implementation, &scripts, &mut memory),
+            "runs" => workload.runs(implementation, &mut memory),
             _ => return Err(format!("no call {call}")),
         }
         black_box((&mut memory, &mut view));

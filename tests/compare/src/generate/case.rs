@@ -82,7 +82,7 @@ fn nest(prng: &mut Prng, lines: &mut Vec<String>) {
 }
 
 /// A group of some of the first n principals.
-fn group(prng: &mut Prng, n: usize) -> u16 {
+pub(super) fn group(prng: &mut Prng, n: usize) -> u16 {
     let everyone = u16::MAX >> (16 - n);
     match prng.below(5) {
         0 => everyone,
@@ -92,7 +92,7 @@ fn group(prng: &mut Prng, n: usize) -> u16 {
 }
 
 /// A budget that ends every run soon: only a script without a loop gets a large one.
-fn budget(prng: &mut Prng, script: &[u8]) -> u32 {
+pub(super) fn budget(prng: &mut Prng, script: &[u8]) -> u32 {
     let loops = script.split(|&b| b == b'\n').any(|line| line.starts_with(b"w"));
     match prng.below(8) {
         0 => 0,
@@ -123,7 +123,7 @@ fn damage_some(prng: &mut Prng, case: &mut Case, n: usize) {
 }
 
 /// A set with a principal that isn't among the first n, where there is one.
-fn beyond(prng: &mut Prng, n: usize) -> u16 {
+pub(super) fn beyond(prng: &mut Prng, n: usize) -> u16 {
     if n == 16 {
         0
     } else {
@@ -141,7 +141,7 @@ fn other_length(prng: &mut Prng, length: usize) -> usize {
     }
 }
 
-fn resize(prng: &mut Prng, memory: &mut Vec<u32>) {
+pub(super) fn resize(prng: &mut Prng, memory: &mut Vec<u32>) {
     let length = other_length(prng, memory.len());
     memory.resize(length, prng.integer());
 }

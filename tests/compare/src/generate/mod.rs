@@ -10,5 +10,6 @@ pub mod memory;
 pub mod pair;
 pub mod prng;
 pub mod program_input;
+pub mod round;
 pub mod script;
 pub mod sheet;

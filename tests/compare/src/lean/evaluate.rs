@@ -22,7 +22,7 @@ impl Machine<'_> {
             }
             Row::Pack { label } => {
                 self.evaluate(at + 1, value)?;
-                if self.written >> label & 1 == 1 {
+                if self.rights.written >> label & 1 == 1 {
                     value.prefix([LEFT, PACKAGE, label.into()])?;
                 } else {
                     *value = Value::failed(Failure::InsufficientAuth);
@@ -59,7 +59,7 @@ impl Machine<'_> {
         let labels = &self.sheet.labels;
         let (packed, wanted) = (&labels[package.words[1] as usize], &labels[usize::from(label)]);
         let (wanted_type, _) = self.sheet.parts(ty)?;
-        if self.read >> label & 1 == 0 {
+        if self.rights.read >> label & 1 == 0 {
             Some(Failure::InsufficientAuth)
         } else if !packed.at_or_below(wanted) {
             Some(Failure::IllegalFlow)

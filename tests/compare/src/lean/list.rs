@@ -19,6 +19,10 @@ impl<T: Copy, const MOST: usize> List<T, MOST> {
         self.count += 1;
         Some(())
     }
+
+    pub fn clear(&mut self) {
+        self.count = 0;
+    }
 }
 
 impl<T, const MOST: usize> Deref for List<T, MOST> {

@@ -1,7 +1,7 @@
 //! Running a script: figure 3 as recursion over the rows.
 
 use super::script::{Row, Script, MOST_CASES};
-use super::sheet::Sheet;
+use super::sheet::{Rights, Sheet};
 use super::value::{Value, LEFT};
 use reference::answer::{Outcome, Refusal};
 
@@ -9,9 +9,7 @@ use reference::answer::{Outcome, Refusal};
 pub struct Machine<'a> {
     pub sheet: &'a Sheet,
     pub rows: &'a [Row],
-    /// The labels that the authority reads and writes.
-    pub read: u32,
-    pub written: u32,
+    pub rights: Rights,
     /// The values of the locations.
     pub cells: &'a mut [Value],
     /// By depth: what the cases around a row have bound.
@@ -25,14 +23,13 @@ impl<'a> Machine<'a> {
         sheet: &'a Sheet,
         script: &'a Script,
         cells: &'a mut [Value],
-        authority: u16,
+        rights: Rights,
         budget: u32,
     ) -> Machine<'a> {
         Machine {
             sheet,
             rows: script,
-            read: sheet.read_by(authority),
-            written: sheet.written_by(authority),
+            rights,
             cells,
             bound: [Value::default(); MOST_CASES],
             budget,

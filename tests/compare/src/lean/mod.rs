@@ -1,4 +1,4 @@
-//! The three calls as one would ship them without proofs: tables of fixed size, scripts as rows, sets
+//! The calls as one would ship them without proofs: tables of fixed size, scripts as rows, sets
 //! and least labels as masks, values of 16 words, and nothing allocated.
 
 mod check;
@@ -7,6 +7,7 @@ mod label;
 mod list;
 mod machine;
 mod memory;
+mod round;
 mod script;
 mod script_text;
 mod sheet;
@@ -19,6 +20,8 @@ use reference::answer::{Outcome, Refusal, DONE};
 use script::{Row, Script};
 use sheet::{Sheet, MOST_LOCATIONS};
 use value::Value;
+
+pub use round::round;
 
 fn number(result: Result<(), Refusal>) -> u8 {
     result.err().map_or(DONE, Refusal::number)
@@ -69,7 +72,8 @@ fn try_run(
     sheet.require_length(memory)?;
     let mut cells = [Value::default(); MOST_LOCATIONS];
     memory::load(&sheet, memory, &mut cells)?;
-    let outcome = Machine::new(&sheet, &script, &mut cells, authority, budget).run();
+    let rights = sheet.rights(authority);
+    let outcome = Machine::new(&sheet, &script, &mut cells, rights, budget).run();
     if outcome.answer == DONE {
         memory::store(&cells, memory);
     }

@@ -31,6 +31,13 @@ pub struct Location {
     pub label: u8,
 }
 
+/// The labels that an authority reads and writes, bit a for label a.
+#[derive(Clone, Copy)]
+pub struct Rights {
+    pub read: u32,
+    pub written: u32,
+}
+
 pub struct Sheet {
     /// The set of all principals.
     pub everyone: u16,
@@ -63,9 +70,9 @@ impl Sheet {
         self.mask(|label| label.read_by(group))
     }
 
-    /// The labels that a group writes.
-    pub fn written_by(&self, group: u16) -> u32 {
-        self.mask(|label| label.written_by(group))
+    pub fn rights(&self, authority: u16) -> Rights {
+        let written = self.mask(|label| label.written_by(authority));
+        Rights { read: self.read_by(authority), written }
     }
 
     fn mask(&self, test: impl Fn(&Label) -> bool) -> u32 {

@@ -80,3 +80,8 @@ pub fn case_count() -> u64 {
     assert!(count >= 2000, "fewer than 2000 cases don't reach every answer");
     count
 }
+
+/// The number of generated rounds, each of which takes the time of several cases.
+pub fn round_count() -> u64 {
+    case_count() / 2
+}

@@ -1,9 +1,12 @@
 //! The generator reaches every answer of every call that can give it.
 
-use crate::common::case_count;
+use crate::common::{case_count, round_count};
 use compare::generate::case::case;
-use reference::{check, run, view};
-use std::collections::BTreeMap;
+use compare::generate::round::{round_case, RoundCase};
+use reference::calls::{accepted_script, known_group, read_memory, require_length};
+use reference::text::MOST_BYTES;
+use reference::{check, parts, round, run, sheet_text, view, Reason, DONE, SCRIPTS};
+use std::collections::{BTreeMap, BTreeSet};
 
 type Counts = BTreeMap<u8, u64>;
 
@@ -59,4 +62,89 @@ fn generated_cases_reach_every_answer() {
     let rare = |kind| values.get(kind).is_none_or(|&count: &u64| count * 200 < cases);
     let kinds = ["integer", "package", "error 1", "error 2", "error 3", "left", "right"];
     assert!(!kinds.into_iter().any(rare), "{values:?}");
+}
+
+/// The order in which the numbers that refuse a round are judged.
+const ORDER: [u8; 9] = [1, 2, 3, 11, 4, 5, 6, 7, 8];
+
+/// Every number that applies to a round, in their order; where the sheet is unformed, 1 and 11 alone
+/// can be told.
+fn applying(case: &RoundCase) -> Vec<u8> {
+    let scripts = parts(&case.scripts);
+    let mut numbers = BTreeSet::new();
+    numbers.extend((scripts.len() > SCRIPTS).then_some(11));
+    match sheet_text::parse(&case.sheet) {
+        Err(_) => numbers.extend([1]),
+        Ok(sheet) => {
+            numbers.extend(sheet.repeat().map(|_| 2));
+            let memory = require_length(&sheet, &case.memory)
+                .and_then(|()| read_memory(&sheet, &case.memory).map(|_| ()));
+            let known = known_group(&sheet, case.authority).map(|_| ());
+            let checks = scripts.iter().map(|script| accepted_script(&sheet, script.text));
+            let results = checks.map(|check| check.map(|_| ())).chain([memory, known]);
+            numbers.extend(results.filter_map(Result::err).map(|reason: Reason| reason.number()));
+        }
+    }
+    ORDER.into_iter().filter(|number| numbers.contains(number)).collect()
+}
+
+/// What a generated round that isn't refused has to show.
+#[derive(Debug, Default)]
+struct Shown {
+    /// By number of scripts.
+    sizes: BTreeMap<usize, u64>,
+    /// By answer, the rounds in which a script has it.
+    places: Counts,
+    /// A script is done, and steps, after one that stopped.
+    goes_on: u64,
+    /// The whole text is longer than a script may be.
+    long: u64,
+    written: u64,
+}
+
+impl Shown {
+    fn count(&mut self, case: &RoundCase, answers: &[u8], steps: &[u32], written: bool) {
+        *self.sizes.entry(answers.len()).or_default() += 1;
+        for answer in answers.iter().copied().collect::<BTreeSet<u8>>() {
+            *self.places.entry(answer).or_default() += 1;
+        }
+        let after = answers.iter().zip(steps).skip_while(|(&answer, _)| answer == DONE);
+        let goes_on = after.into_iter().any(|(&answer, &steps)| answer == DONE && steps > 0);
+        self.goes_on += u64::from(goes_on);
+        self.long += u64::from(case.scripts.len() > MOST_BYTES);
+        self.written += u64::from(written);
+    }
+}
+
+#[test]
+fn generated_rounds_reach_every_answer() {
+    let rounds = round_count().min(10_000);
+    let (mut answers, mut among_others, mut shown) =
+        (Counts::new(), Counts::new(), Shown::default());
+    for seed in 0..rounds {
+        let case = round_case(seed);
+        let mut memory = case.memory.clone();
+        let round = round(&case.sheet, &case.scripts, &mut memory, case.authority, case.budget);
+        *answers.entry(round.answer).or_default() += 1;
+        let applying = applying(&case);
+        assert_eq!(round.answer, applying.first().copied().unwrap_or(DONE), "seed {seed}");
+        if applying.len() > 1 {
+            *among_others.entry(round.answer).or_default() += 1;
+        }
+        if round.answer == DONE {
+            let count = parts(&case.scripts).len();
+            let written = memory != case.memory;
+            shown.count(&case, &round.answers[..count], &round.steps[..count], written);
+        }
+    }
+    assert_reached("round", &answers, &[0, 1, 2, 3, 4, 5, 6, 7, 8, 11], rounds, 200);
+    // 7 and 8 never apply together
+    assert_reached("round, among others", &among_others, &[1, 2, 3, 4, 5, 6, 11], rounds, 800);
+    assert_reached("scripts of a round", &shown.places, &[0, 9, 10], rounds, 50);
+    println!("{shown:?}");
+    let sizes = [1, 2, 3, 4, 5, 31, 32];
+    assert!(sizes.iter().all(|size| shown.sizes.contains_key(size)), "{shown:?}");
+    assert!(shown.sizes.keys().all(|size| (1..=SCRIPTS).contains(size)), "{shown:?}");
+    assert!(shown.goes_on * 20 > rounds && shown.written * 5 > rounds, "{shown:?}");
+    assert!(shown.long * 1000 > rounds, "{shown:?}");
 }

@@ -3,11 +3,12 @@
 //!
 //! They must agree in answer, steps and every word of every slice, refused calls included.
 
-use crate::common::case_count;
+use crate::common::{case_count, round_count};
 use crate::fenced::Fenced;
 use compare::generate::case::{case, Case};
+use compare::generate::round::{round_case, RoundCase};
 use compare::implementation::{Implementation, REFERENCE};
-use reference::Outcome;
+use reference::{Outcome, Round};
 
 /// Everything that the three calls of a case hand back.
 #[derive(Debug, PartialEq, Eq)]
@@ -88,6 +89,33 @@ fn agrees_on_the_memory_that_a_run_leaves(tested: &Implementation) {
     assert!(done * 10 > case_count() / 4, "{done} runs were done");
 }
 
+/// What a round hands back, the memory it leaves, and whether the bytes beside that are as before.
+fn round_results(i: &Implementation, case: &RoundCase) -> (Round, Vec<u32>, bool) {
+    let mut lent = Fenced::new(&case.memory);
+    let (sheet, scripts) = (&case.sheet, &case.scripts);
+    let round = (i.round)(sheet, scripts, lent.words_mut(), case.authority, case.budget);
+    (round, lent.words().to_vec(), lent.is_intact())
+}
+
+fn agrees_on_rounds(tested: &Implementation) {
+    for seed in 0..round_count() {
+        let case = round_case(seed);
+        let (got, expected) = (round_results(tested, &case), round_results(&REFERENCE, &case));
+        assert!(got.2, "seed {seed}: written beside the memory");
+        assert_eq!(
+            got,
+            expected,
+            "seed {seed} ({}, then reference)\nauthority {:04x}, budget {}\n{}---\n{}---\n{:?}",
+            tested.name,
+            case.authority,
+            case.budget,
+            String::from_utf8_lossy(&case.sheet),
+            String::from_utf8_lossy(&case.scripts),
+            case.memory.chunks(16).collect::<Vec<&[u32]>>(),
+        );
+    }
+}
+
 mod lean {
     use compare::implementation::LEAN;
 
@@ -99,6 +127,11 @@ mod lean {
     #[test]
     fn agrees_on_the_memory_that_a_run_leaves() {
         super::agrees_on_the_memory_that_a_run_leaves(&LEAN);
+    }
+
+    #[test]
+    fn agrees_on_rounds() {
+        super::agrees_on_rounds(&LEAN);
     }
 }
 
@@ -114,5 +147,10 @@ mod library {
     #[test]
     fn agrees_on_the_memory_that_a_run_leaves() {
         super::agrees_on_the_memory_that_a_run_leaves(&LIBRARY);
+    }
+
+    #[test]
+    fn agrees_on_rounds() {
+        super::agrees_on_rounds(&LIBRARY);
     }
 }

@@ -11,6 +11,7 @@ mod noninterference;
 #[cfg(feature = "programs")]
 mod program;
 mod refusals;
+mod rounds;
 mod show;
 mod steps;
 mod views;

@@ -1,10 +1,12 @@
 //! Demand 3 on generated cases: two done runs of an accepted script from memories that give a group
-//! the same view leave memories that give it the same view.
+//! the same view leave memories that give it the same view. So do two rounds whose scripts are all
+//! done.
 
-use crate::common::case_count;
+use crate::common::{case_count, round_count};
 use compare::generate::case::{undamaged, Case};
 use compare::generate::pair::same_view;
 use compare::generate::prng::Prng;
+use compare::generate::round::{self, RoundCase};
 use compare::generate::script::Wrong;
 use compare::implementation::TESTED;
 use reference::evaluate::Context;
@@ -12,7 +14,7 @@ use reference::machine::{self, Configuration};
 use reference::memory::{decode, encode, Memory};
 use reference::principals::Principals;
 use reference::sheet::Sheet;
-use reference::{flow, script_text, shape, view, DONE};
+use reference::{flow, parts, script_text, shape, view, Round, DONE};
 use std::rc::Rc;
 
 /// A case and a second memory with the same view, or nothing where a location's type has no value
@@ -37,9 +39,9 @@ fn pair(seed: u64, wrong: Wrong) -> Option<Pair> {
 }
 
 /// The view of a memory by the implementation tested.
-fn seen(case: &Case, memory: &[u32]) -> Vec<u32> {
+fn seen(sheet: &[u8], group: u16, memory: &[u32]) -> Vec<u32> {
     let mut view = vec![7; memory.len()];
-    assert_eq!((TESTED.view)(&case.sheet, memory, case.group, &mut view), DONE);
+    assert_eq!((TESTED.view)(sheet, memory, group, &mut view), DONE);
     view
 }
 
@@ -63,16 +65,17 @@ fn what_a_group_sees_follows_from_what_it_saw() {
             continue;
         }
         assert_eq!(check, DONE, "seed {seed}: a script without damage is accepted or too long");
-        let before = seen(&case, &encode(&first));
-        assert_eq!(before, seen(&case, &encode(&other)), "seed {seed}: the views before");
+        let seen = |memory: &[u32]| seen(&case.sheet, case.group, memory);
+        let before = seen(&encode(&first));
+        assert_eq!(before, seen(&encode(&other)), "seed {seed}: the views before");
         pairs += 1;
         let budget = case.budget / 2 + 1 + (seed % 997) as u32; // another budget for the second run
         let runs = (left(&case, &first, case.budget), left(&case, &other, budget));
         let (Some((after_first, steps)), Some((after_other, other_steps))) = runs else {
             continue;
         };
-        let after = seen(&case, &after_first);
-        assert_eq!(after, seen(&case, &after_other), "seed {seed}: the views after");
+        let after = seen(&after_first);
+        assert_eq!(after, seen(&after_other), "seed {seed}: the views after");
         compared += 1;
         let differ = encode(&first) != encode(&other);
         hidden += u64::from(differ && after_first != encode(&first));
@@ -83,6 +86,63 @@ fn what_a_group_sees_follows_from_what_it_saw() {
     assert!(pairs * 2 > case_count() && compared * 2 > pairs, "{pairs} pairs, {compared} compared");
     assert!(hidden * 20 > compared && shown * 40 > compared, "{hidden} hidden, {shown} shown");
     assert!(stepped * 100 > compared, "{stepped} differ in steps");
+}
+
+/// A round in which nothing is damaged, its memory, and another with the same view.
+fn round_pair(seed: u64) -> Option<(RoundCase, Vec<u32>, Vec<u32>)> {
+    let prng = &mut Prng::new(seed);
+    let (mut case, sheet) = round::undamaged(prng);
+    if prng.chance(50) {
+        case.group = 1 << prng.below(sheet.principals);
+    }
+    case.budget = case.budget.max(200);
+    let first = decode(&sheet, &case.memory).ok()?;
+    let other = same_view(prng, &sheet, &first, Principals::from_bits(case.group));
+    Some((case, encode(&first), encode(&other)))
+}
+
+/// The round and the memory it leaves, where every script is done.
+fn round_left(case: &RoundCase, memory: &[u32], budget: u32) -> Option<(Round, Vec<u32>)> {
+    let mut words = memory.to_vec();
+    let round = (TESTED.round)(&case.sheet, &case.scripts, &mut words, case.authority, budget);
+    assert_eq!(round.answer, DONE, "a round without damage isn't refused");
+    (round.answers.iter().all(|&answer| answer == DONE)).then_some((round, words))
+}
+
+#[test]
+fn what_a_group_sees_after_a_round_follows_from_what_it_saw() {
+    let (mut pairs, mut compared, mut several) = (0, 0, 0);
+    let (mut hidden, mut shown, mut stepped) = (0, 0, 0);
+    for seed in 0..round_count() {
+        let Some((case, first, other)) = round_pair(seed) else {
+            continue;
+        };
+        let seen = |memory: &[u32]| seen(&case.sheet, case.group, memory);
+        let before = seen(&first);
+        assert_eq!(before, seen(&other), "seed {seed}: the views before");
+        pairs += 1;
+        let budget = case.budget / 2 + 1 + (seed % 997) as u32; // another budget for the second round
+        let rounds = (round_left(&case, &first, case.budget), round_left(&case, &other, budget));
+        let (Some((round, after_first)), Some((other_round, after_other))) = rounds else {
+            continue;
+        };
+        let after = seen(&after_first);
+        assert_eq!(after, seen(&after_other), "seed {seed}: the views after");
+        compared += 1;
+        several += u64::from(parts(&case.scripts).len() > 1);
+        hidden += u64::from(first != other && after_first != first);
+        shown += u64::from(first != other && after != before);
+        stepped += u64::from(round.steps != other_round.steps);
+    }
+    println!("{pairs} pairs of rounds, {compared} with every script done, {several} of several");
+    println!("{hidden} differ and write, {shown} write what is seen, {stepped} differ in steps");
+    assert!(
+        pairs * 2 > round_count() && compared * 3 > pairs,
+        "{pairs} pairs, {compared} compared"
+    );
+    assert!(several * 2 > compared, "{several} of {compared} with more than one script");
+    assert!(hidden * 10 > compared && shown * 20 > compared, "{hidden} hidden, {shown} shown");
+    assert!(stepped * 50 > compared, "{stepped} differ in steps");
 }
 
 /// The memory that the reference leaves, label conditions passed over.

@@ -1,10 +1,11 @@
 //! Demand 1 on generated cases: a refused call leaves every lent slice as it was.
 
-use crate::common::case_count;
+use crate::common::{case_count, round_count};
 use crate::fenced::Fenced;
 use compare::generate::case::case;
+use compare::generate::round::round_case;
 use compare::implementation::TESTED;
-use reference::DONE;
+use reference::{parts, Round, DONE};
 use std::collections::BTreeSet;
 
 #[test]
@@ -45,4 +46,44 @@ fn a_refused_call_leaves_its_slices_untouched() {
     }
     assert_eq!(runs.into_iter().collect::<Vec<u8>>(), [1, 2, 3, 4, 5, 6, 7, 8, 9, 10]);
     assert_eq!(views.into_iter().collect::<Vec<u8>>(), [1, 2, 3, 7, 8]);
+}
+
+/// The places of a round that isn't refused, by its number of scripts and its budget.
+fn assert_places(round: &Round, count: usize, budget: u32, seed: u64) {
+    for (place, (&answer, &steps)) in round.answers.iter().zip(&round.steps).enumerate() {
+        let said = match answer {
+            _ if place >= count => (answer, steps) == (0, 0),
+            DONE => steps <= budget,
+            9 => steps == budget,
+            10 => steps < budget,
+            _ => false,
+        };
+        assert!(said, "seed {seed}, script {place} of {count}: {answer}, {steps} of {budget}");
+    }
+}
+
+#[test]
+fn a_refused_round_leaves_its_memory_and_has_zeros_in_every_place() {
+    let (mut refused, mut stopped) = (BTreeSet::new(), 0);
+    for seed in 0..round_count() {
+        let case = round_case(seed);
+        let mut memory = Fenced::new(&case.memory);
+        let (sheet, scripts) = (&case.sheet, &case.scripts);
+        let round = (TESTED.round)(sheet, scripts, memory.words_mut(), case.authority, case.budget);
+        assert!(memory.is_intact(), "seed {seed}");
+        let count = parts(scripts).len();
+        if round.answer != DONE {
+            refused.insert(round.answer);
+            assert_eq!(round, Round::empty(round.answer), "seed {seed}");
+            assert_eq!(memory.words(), case.memory, "seed {seed}");
+        } else {
+            assert_places(&round, count, case.budget, seed);
+            if !round.answers[..count].contains(&DONE) {
+                stopped += 1;
+                assert_eq!(memory.words(), case.memory, "seed {seed}: no script was done");
+            }
+        }
+    }
+    assert_eq!(refused.into_iter().collect::<Vec<u8>>(), [1, 2, 3, 4, 5, 6, 7, 8, 11]);
+    assert!(stopped * 100 > round_count(), "{stopped} rounds without a script that was done");
 }

@@ -19,3 +19,15 @@ fn every_workload_has_its_outcome_and_one_view() {
         assert!(views.iter().all(|view| *view == views[0]), "{}", workload.name);
     }
 }
+
+#[test]
+fn every_workload_leaves_the_same_by_a_round_and_by_its_runs() {
+    for workload in workload::all() {
+        for i in ALL {
+            let (mut round, mut runs) = (vec![0; workload.words()], vec![0; workload.words()]);
+            workload.round(i, &workload.scripts(), &mut round);
+            workload.runs(i, &mut runs);
+            assert_eq!(round, runs, "{}: {}", i.name, workload.name);
+        }
+    }
+}

@@ -22,6 +22,7 @@ use Rattle.scripts.specs.Parting.{partsOf, mostScripts}
 use Rattle.rounds.specs.Answers.{RanRound, refusedRound, leftBy, roundFrom, Gate, allOpen}
 use Rattle.rounds.specs.Calls.{lowest, runEach, turnOf, roundBy}
 use Rattle.rounds.proofs.LowerLaws.{lower-none, lowest-more}
+use Rattle.rounds.proofs.PlaceLaws.{each-length}
 use Rattle.numbers.specs.Rows.{numbers, Among, here, later}
 use Rattle.numbers.proofs.RowLaws.{by-rows, not-one, exactly, every-table}
 use Rattle.simp.specs.Judgements.{OnSheet, Principals, Typable, Started, Ends, ends-0, ends-9, ends-10, Run}
@@ -31,7 +32,7 @@ use Rattle.simp.proofs.Numbers.{typable-0, 0-typable}
 use Rattle.simp.proofs.SecondDemand.{started-run, run-ends, run-exactly}
 use Rattle.simp.proofs.FirstDemand.{finished, run-answers}
 use Rattle.simp.proofs.RoundRows.{RoundStarts, round-starts, round-started, started-round}
-use Rattle.simp.proofs.Turns.{zeros-at, turns-map, each-length, turns-placed, placed-turns, round-placed, round-places, round-is}
+use Rattle.simp.proofs.Turns.{zeros-at, turns-map, turns-placed, placed-turns, round-placed, round-places, round-is}
 
 -- ---- a turn, by its gate
 

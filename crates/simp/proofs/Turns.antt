@@ -4,11 +4,12 @@ use mathlib.Core.List.{List, [], _∷_, _++_, map}
 use Prim.Native.Nat.{ℕ, zero, suc, _+_, _-_, _≤_, _<_}
 use native.Mathlib.Omega.{arith}
 use lib.Dec.{ltb}
-use lib.ListN.{length, getD, replicate, length-map, length-append, length-replicate, getD-replicate, List·getD-map, List·getD-append, List·getD-eq-default}
+use lib.ListN.{length, getD, replicate, length-map, length-replicate, getD-replicate, List·getD-map, List·getD-append, List·getD-eq-default}
 use lib.Seq.{ext-getD, getD-append-add}
 use borrow.Author.Tests.{ltb-true, ltb-false}
 use Rattle.logic.proofs.BooleanLaws.{cases}
 use Rattle.sheet.specs.Padding.{padded}
+use Rattle.sheet.proofs.Words.{length-padded}
 use Rattle.stages.specs.Answers.{Ran, refusedRun}
 use Rattle.scripts.specs.Parting.{mostScripts}
 use Rattle.rounds.specs.Answers.{RanRound, leftBy, roundFrom}
@@ -38,13 +39,9 @@ module _ (n : ℕ) (xs : List ℕ) where
           ∙ getD-append-add xs (replicate (n - length xs) 0) (i - length xs) 0
           ∙ zeros-at (n - length xs) (i - length xs)
 
-  pub padded-length : length xs ≤ n → length (padded n xs) ≡ n
-  unfolding padded
-  padded-length l = omega (arith, length-append xs (replicate (n - length xs) 0), length-replicate {A = ℕ} (n - length xs) 0)
-
 -- words with so many places, that are these in the first of them and zero past them
 padded-is : (n : ℕ) (xs ws : List ℕ) → length xs ≤ n → length ws ≡ n → ((i : ℕ) → getD ws i 0 ≡ getD xs i 0) → ws ≡ padded n xs
-padded-is n xs ws l e h = ext-getD 0 ws (padded n xs) (e ∙ sym (padded-length n xs l)) (λ i _. h i ∙ sym (padded-place n xs i))
+padded-is n xs ws l e h = ext-getD 0 ws (padded n xs) (e ∙ sym (length-padded n xs l)) (λ i _. h i ∙ sym (padded-place n xs i))
 
 -- ---- turns
 
@@ -73,11 +70,6 @@ module _ (R : RanRound) (i : ℕ) (r : Ran) (rs : List Ran) where
   placed-more q p (suc j) l = let e : suc i + j ≡ i + suc j = omega arith in subst (λ (k : ℕ). InPlace R k (getD rs j nothing)) e (p j (omega arith))
 
 module _ (run : ℕ → List ℕ → List ℕ → Ran) where
-  pub each-length : (i : ℕ) (memory : List ℕ) (ts : List (List ℕ)) → length (runEach run i memory ts) ≡ length ts
-  unfolding runEach
-  each-length i memory [] = refl
-  each-length i memory (t ∷ ts) = ap suc (each-length (suc i) (run i t memory .memory) ts)
-
   module _ (R : RanRound) where
     -- turns whose runs stand in their places
     pub turns-placed : (P : ℕ → List ℕ → List ℕ → Ran → Type 0) {i : ℕ} {memory : List ℕ} {ts : List (List ℕ)} {left : List ℕ}
@@ -116,8 +108,8 @@ module _ (memory : List ℕ) (rs : List Ran) (few : length rs ≤ mostScripts) w
       let past : (f : Ran → ℕ) → f nothing ≡ 0 → (i : ℕ) → length rs ≤ i → getD (padded mostScripts (map f rs)) i 0 ≡ 0 =
       λ f z i l. its-place f z i ∙ ap f (List·getD-eq-default rs nothing l) ∙ z in
       record {
-        answer-places = padded-length mostScripts (map (λ r. r .answer) rs) (omega (arith, length-map rs (λ r. r .answer)));
-        step-places = padded-length mostScripts (map (λ r. r .steps) rs) (omega (arith, length-map rs (λ r. r .steps)));
+        answer-places = length-padded mostScripts (map (λ r. r .answer) rs) (omega (arith, length-map rs (λ r. r .answer)));
+        step-places = length-padded mostScripts (map (λ r. r .steps) rs) (omega (arith, length-map rs (λ r. r .steps)));
         past-last = λ i l. (past (λ r. r .answer) refl i l, past (λ r. r .steps) refl i l);
       }
 

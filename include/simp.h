@@ -1,20 +1,20 @@
 /*
- * SImp scripts on a sheet: checking, running, viewing, and rounds of several scripts.
+ * SImp scripts on a sheet: checking, running, viewing, rounds of several scripts, and who together reads a label.
  *
  * Link with libsimp.a, which is x86-64 code (System V ABI: a stack aligned to 16 bytes, SSE2 enabled, the red zone in
  * use, so run interrupt handlers on another stack). It needs two symbols from outside, memcpy and memset of the C
  * library, and nothing else; it has no static data that is written, and no constructors. The calls keep no state,
  * allocate nothing and read and write only what they are lent. They settle every input: bad input gets one of the
- * numbers below, the first that applies in the order 1 2 3 11 4 5 6 7 8, then 9 or 10 by the run, and a refused call
- * writes to no lent slice. Each call ends, given the stack that SIMP_STACK_CHECK and its like state; a large budget can
- * take hours, so choose it for the time that you have (a round has it anew for each script). docs/TEXTS.md has the
- * forms of sheets, scripts, rounds and memories. An answer of 9 or 10, and the steps, may depend on what a group cannot
- * read: don't show them to everyone.
+ * numbers below, the first that applies in the order 1 2 3 11 4 5 6 7 8 (of simp_groups 1 2 12), then 9 or 10 by the
+ * run, and a refused call writes to no lent slice. Each call ends, given the stack that SIMP_STACK_CHECK and its like
+ * state; a large budget can take hours, so choose it for the time that you have (a round has it anew for each script).
+ * docs/TEXTS.md has the forms of sheets, scripts, rounds and memories. An answer of 9 or 10, and the steps, may depend
+ * on what a group cannot read: don't show them to everyone.
  *
  * A slice is a pointer and the number of its elements. A pointer is suitably aligned; it may be null where the number
  * is 0 (memcpy and memset may then be handed it, with 0 bytes). No other slice of the call overlaps one that the call
- * may write (a memory of simp_run and simp_round, a view of simp_view). Calls are reentrant: two may go on at once if
- * neither may write what the other is lent.
+ * may write (a memory of simp_run and simp_round, a view of simp_view, groups of simp_groups). Calls are reentrant: two
+ * may go on at once if neither may write what the other is lent.
  */
 #ifndef SIMP_H
 #define SIMP_H
@@ -27,7 +27,7 @@ extern "C" {
 #endif
 
 /* The version of this header and of the archive that it belongs to. `simp --version` has the archive's SHA-256. */
-#define SIMP_VERSION "1.1.0"
+#define SIMP_VERSION "1.2.0"
 
 /* Words of 32 bits that a location takes in a memory or a view. */
 #define SIMP_CELL 16
@@ -38,17 +38,22 @@ extern "C" {
 #define SIMP_MOST_TEXT 16384
 #define SIMP_MOST_SCRIPTS 32
 
+/* Places that are enough for the smallest groups of every label: no more sets of 16 principals can be such that none
+ * holds another (Sperner's theorem). */
+#define SIMP_MOST_GROUPS 12870
+
 /* The most bytes of code and constants that the archive adds to a program, as the project's gate holds. */
-#define SIMP_CODE_BYTES 20480
+#define SIMP_CODE_BYTES 22528
 
 /* The most bytes of stack that a call of this archive takes, its return address included, for every input: no less than
  * what is computed from its code, as the project's gate holds (docs/PERFORMANCE.md). Not in it are the arguments on the
  * stack, 16 bytes of simp_run and 24 of simp_round, and the caller's place for what a round hands back, 164 bytes;
- * memcpy and memset are called where most of it is free (3.5 KB in a view). */
+ * memcpy and memset are called where much of it is free (1.2 KB in simp_groups, 3.5 KB in a view). */
 #define SIMP_STACK_CHECK 86016
 #define SIMP_STACK_RUN 86016
 #define SIMP_STACK_VIEW 7168
 #define SIMP_STACK_ROUND 86016
+#define SIMP_STACK_GROUPS 4096
 
 /* Answers. */
 enum {
@@ -63,7 +68,8 @@ enum {
     SIMP_MEMORY_ILL_FORMED = 8,  /* a location's words aren't a value of its type and zeros, or name no label */
     SIMP_SPENT = 9,              /* the budget was used up before the script ended */
     SIMP_TOO_LONG = 10,          /* in a step within the budget a value took more than SIMP_CELL words */
-    SIMP_TOO_MANY_SCRIPTS = 11   /* a round has more than SIMP_MOST_SCRIPTS scripts; judged between 3 and 4 */
+    SIMP_TOO_MANY_SCRIPTS = 11,  /* a round has more than SIMP_MOST_SCRIPTS scripts; judged between 3 and 4 */
+    SIMP_NOT_LISTED = 12         /* the label isn't on the sheet, or has more smallest groups than there are places */
 };
 
 /* How a run ended. Steps are the transitions taken: 0 for 1 to 8, the budget for SIMP_SPENT, those before the
@@ -81,6 +87,13 @@ typedef struct {
     uint8_t answers[SIMP_MOST_SCRIPTS];
     uint32_t steps[SIMP_MOST_SCRIPTS];
 } simp_round_outcome;
+
+/* The answer of simp_groups, and how many groups it lists: 0 beside an answer other than SIMP_DONE. Compare the
+ * members: there is padding between them. */
+typedef struct {
+    uint8_t answer;
+    uint32_t count;
+} simp_groups_outcome;
 
 /* Whether a script is accepted on a sheet: 0, 1, 2, 4, 5 or 6. */
 uint8_t simp_check(const uint8_t *sheet, size_t sheet_len, const uint8_t *script, size_t script_len);
@@ -101,6 +114,13 @@ uint8_t simp_view(const uint8_t *sheet, size_t sheet_len, const uint32_t *memory
  * leaves the memory as the one before it did, and the round goes on. A refused round leaves the memory as it was. */
 simp_round_outcome simp_round(const uint8_t *sheet, size_t sheet_len, const uint8_t *scripts, size_t scripts_len,
                               uint32_t *memory, size_t memory_len, uint16_t authority, uint32_t budget);
+
+/* Who together can read a label: every smallest group, that is one which reads it while none of its proper subsets
+ * does, into the first places of `groups`, rising as numbers: 0, 1, 2 or 12. Labels count from 0; bit p of a group is
+ * principal p. A group of the sheet's principals reads the label exactly if it holds one that is listed. Places after
+ * the count keep their content, and beside an answer other than SIMP_DONE all places do. */
+simp_groups_outcome simp_groups(const uint8_t *sheet, size_t sheet_len, uint32_t label, uint16_t *groups,
+                                size_t groups_len);
 
 #ifdef __cplusplus
 }

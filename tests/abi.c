@@ -21,6 +21,8 @@ int main(void) {
     const uint32_t kept[SIMP_CELL] = {9, 9};
     simp_outcome o;
     simp_round_outcome r;
+    simp_groups_outcome g;
+    uint16_t groups[2] = {9, 9};
 
     expect("a check without a sheet", simp_check(NULL, 0, bytes(script), strlen(script)), SIMP_SHEET_MALFORMED);
     expect("a check without a script", simp_check(bytes(sheet), strlen(sheet), NULL, 0), SIMP_SCRIPT_MALFORMED);
@@ -57,8 +59,22 @@ int main(void) {
     expect("a view into nothing",
            simp_view(bytes(with_location), strlen(with_location), memory, SIMP_CELL, 1, NULL, 0), SIMP_SLICE_SIZE);
     expect("what they left", memcmp(view, kept, sizeof view) != 0, 0);
+
+    g = simp_groups(NULL, 0, 0, NULL, 0);
+    expect("groups without anything", g.answer, SIMP_SHEET_MALFORMED);
+    g = simp_groups(bytes(sheet), strlen(sheet), 0, NULL, 0);
+    expect("groups of a label that isn't there", g.answer, SIMP_NOT_LISTED);
+    g = simp_groups(bytes(with_location), strlen(with_location), 0, NULL, 0);
+    expect("groups into nothing", g.answer, SIMP_NOT_LISTED);
+    expect("their count", g.count, 0);
+    g = simp_groups(bytes(with_location), strlen(with_location), 0, groups, 2);
+    expect("groups", g.answer, SIMP_DONE);
+    expect("the count of one", g.count, 1);
+    expect("the first place", groups[0], 1);
+    expect("the place after it", groups[1], 9);
     expect("the size of an outcome", sizeof(simp_outcome), 8);
     expect("the size of a round's outcome", sizeof(simp_round_outcome), 164);
+    expect("the size of a groups' outcome", sizeof(simp_groups_outcome), 8);
     expect("the version's length", strlen(SIMP_VERSION) >= 5, 1);
     return wrong;
 }

@@ -17,7 +17,7 @@
 
 static const char sheet[] = "P\t2\nL\nL\nO\t0\t0000\t0003\nX\t0\t1\nX\t4\t1\nX\t3\t0\n";
 
-enum call { NOTHING, CHECK, RUN, VIEW, ROUND };
+enum call { NOTHING, CHECK, RUN, VIEW, ROUND, GROUPS };
 
 static char script[SIMP_MOST_TEXT], twice[2 * SIMP_MOST_TEXT];
 static enum call chosen;
@@ -46,6 +46,7 @@ static int (*volatile empty)(void) = nothing;
 static void *make(void *unused)
 {
     static uint32_t memory[LOCATIONS * SIMP_CELL], view[LOCATIONS * SIMP_CELL];
+    static uint16_t groups[2];
     (void)unused;
     write_memory(memory);
     if (chosen == NOTHING)
@@ -58,6 +59,8 @@ static void *make(void *unused)
         answer = simp_view(bytes(sheet), strlen(sheet), memory, LOCATIONS * SIMP_CELL, 3, view, LOCATIONS * SIMP_CELL);
     if (chosen == ROUND)
         answer = simp_round(bytes(sheet), strlen(sheet), bytes(twice), strlen(twice), memory, LOCATIONS * SIMP_CELL, 3, 1000).answer;
+    if (chosen == GROUPS)
+        answer = simp_groups(bytes(sheet), strlen(sheet), 1, groups, 2).answer;
     return NULL;
 }
 
@@ -139,7 +142,7 @@ int main(void)
         most_check = check > most_check ? check : most_check;
         most_run = run > most_run ? run : most_run;
     }
-    printf("peak check %zu\npeak run %zu\npeak view %zu\npeak round %zu\n", most_check, most_run, measured(VIEW, 0),
-           most_round);
+    printf("peak check %zu\npeak run %zu\npeak view %zu\npeak round %zu\npeak groups %zu\n", most_check, most_run,
+           measured(VIEW, 0), most_round, measured(GROUPS, 0));
     return 0;
 }

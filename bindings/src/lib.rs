@@ -22,6 +22,14 @@ pub struct Round {
     pub steps: [u32; SCRIPTS],
 }
 
+/// The answer of a call for groups, as the library hands it back, and how many were listed.
+#[repr(C)]
+#[derive(Clone, Copy, Debug, PartialEq, Eq)]
+pub struct Groups {
+    pub answer: u8,
+    pub count: u32,
+}
+
 /// The sum of the logic in which the library is proved.
 pub const LOGIC: &str = env!("SIMP_LOGIC");
 
@@ -29,7 +37,7 @@ pub const LOGIC: &str = env!("SIMP_LOGIC");
 pub const ARCHIVE: &str = env!("SIMP_ARCHIVE");
 
 mod c {
-    use super::{Outcome, Round};
+    use super::{Groups, Outcome, Round};
 
     extern "C" {
         pub fn simp_check(
@@ -70,6 +78,14 @@ mod c {
             view: *mut u32,
             view_len: usize,
         ) -> u8;
+
+        pub fn simp_groups(
+            sheet: *const u8,
+            sheet_len: usize,
+            label: u32,
+            groups: *mut u16,
+            groups_len: usize,
+        ) -> Groups;
     }
 }
 
@@ -135,4 +151,9 @@ pub fn view(sheet: &[u8], memory: &[u32], group: u16, view: &mut [u32]) -> u8 {
             view.len(),
         )
     }
+}
+
+pub fn groups(sheet: &[u8], label: u32, groups: &mut [u16]) -> Groups {
+    // SAFETY: as above, and `groups` is lent for writing.
+    unsafe { c::simp_groups(sheet.as_ptr(), sheet.len(), label, groups.as_mut_ptr(), groups.len()) }
 }

@@ -1,6 +1,6 @@
 /*
- * Packs a tally on a grading line, shows it to two groups, and runs a round: the smallest program over libsimp.a.
- * Exits with 0 if every call answered as it should.
+ * Packs a tally on a grading line, shows it to two groups, runs a round, and lists who together reads a label: the
+ * smallest program over libsimp.a. Exits with 0 if every call answered as it should.
  */
 #include <stdio.h>
 #include <string.h>
@@ -89,5 +89,15 @@ int main(void)
         || round.answers[2] != SIMP_DONE || round.steps[1] != 100)
         return 5;
     print("package after the round", memory + 2 * SIMP_CELL);
+
+    /* Who together reads the package's content, of label 1? With three principals, three places are always enough. */
+    uint16_t groups[3];
+    simp_groups_outcome readers = simp_groups(bytes(sheet), strlen(sheet), 1, groups, 3);
+    if (readers.answer != SIMP_DONE || readers.count != 1 || groups[0] != 1u << 0)
+        return 6;
+    printf("smallest groups that read label 1:");
+    for (uint32_t i = 0; i < readers.count; i++)
+        printf(" %04x", (unsigned)groups[i]);
+    printf("\n");
     return 0;
 }

@@ -54,6 +54,10 @@ pub closed-principal : (n o : ℕ) → o < n → closedAt n o ≡ single o
 unfolding closedAt
 closed-principal n o l = rw (lt-ltb o n l)
 
+pub closed-other : (n o : ℕ) → n ≤ o → closedAt n o ≡ everyone n
+unfolding closedAt
+closed-other n o l = rw (le-ltb o n l)
+
 pub closed-within : (n o : ℕ) → within (closedAt n o) (everyone n) ≡ true
 unfolding closedAt
 closed-within n o =

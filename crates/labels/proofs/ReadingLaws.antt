@@ -5,9 +5,9 @@ use mathlib.Core.Bool.{true}
 use Prim.Native.Nat.{ℕ, zero, suc, _≤_}
 use native.Mathlib.Nat.{lt-of-lt-of-le, not-suc-le-zero}
 use Rattle.logic.specs.Booleans.{both}
-use Rattle.sets.specs.Sets.{meets, every}
+use Rattle.sets.specs.Sets.{within, meets, every}
 use Rattle.sets.proofs.Walks.{every-true, every-at}
-use Rattle.sets.proofs.SetLaws.{meets-mono}
+use Rattle.sets.proofs.SetLaws.{meets-mono, meets-grows}
 use Rattle.labels.specs.declared.Label.{Label}
 use Rattle.labels.specs.Labels.{owners, readersOf, writersOf, belowOf, confidentialityOf, integrityOf, readsOf, writesOf}
 use Rattle.labels.specs.Lattice.{EmptyGroups}
@@ -31,6 +31,11 @@ pub writes-up-I : (n : ℕ) → n ≤ owners → (g all : ℕ) (a b : Label)
 unfolding writesOf integrityOf
 writes-up-I n e g all a b h w =
     every-true n _ (λ o l. meets-mono g (writersOf a o) (writersOf b o) (below-at _ _ h o (lt-of-lt-of-le l e) .1) (every-at n _ w o l))
+
+-- a group that reads still reads with more members
+pub reads-grow : (n : ℕ) (a : Label) (g h : ℕ) → within g h ≡ true → readsOf n g a ≡ true → readsOf n h a ≡ true
+unfolding readsOf
+reads-grow n a g h w r = every-true n _ (λ o l. meets-grows g h (readersOf a o) w (every-at n _ r o l))
 
 -- the empty group reads nothing and writes nothing
 pub empty-groups : EmptyGroups

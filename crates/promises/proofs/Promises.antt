@@ -19,8 +19,11 @@ use Rattle.numbers.proofs.RowLaws.{every-table}
 use Rattle.simp.proofs.EveryCall.{demand-1, demand-2}
 use Rattle.simp.proofs.ThirdDemand.{demand-3}
 use Rattle.simp.proofs.RoundViews.{round-view}
+use Rattle.simp.proofs.GroupDemands.{smallest-groups}
 use Rattle.simp.proofs.CasesHold.{cases-hold}
 use Rattle.scripts.proofs.Joined.{parts-exact}
+use Rattle.groups.proofs.ListLaws.{groups-exact, readers-hold-one}
+use Rattle.groups.proofs.RuleLaws.{reading-grows}
 use Rattle.parts.proofs.Apart.{joined-apart, missing-empty}
 use Rattle.parts.proofs.Steps.{chunks}
 use Rattle.parts.proofs.Keeping.{holds-parts}
@@ -34,6 +37,7 @@ promises = record {
   demand-2 = demand-2;
   demand-3 = demand-3;
   round-view = round-view;
+  smallest-groups = smallest-groups;
   cases-hold = cases-hold;
   every-table = every-table;
   theorems = theorems;
@@ -44,6 +48,9 @@ promises = record {
   one-label = one-label;
   empty-groups = empty-groups;
   policies-effective = policies-effective;
+  groups-exact = groups-exact;
+  readers-hold-one = readers-hold-one;
+  reading-grows = reading-grows;
   least-label-laws = least-label-laws;
   same-labels-on-sheets = same-labels-on-sheets;
   numbers-agree-on-sheets = numbers-agree-on-sheets;

@@ -17,8 +17,10 @@ use Rattle.checker.specs.Theorems.{CheckerExact}
 use Rattle.numbers.specs.Theorems.{EveryTable}
 use Rattle.simp.specs.Demands.{Demand1, Demand2, Demand3}
 use Rattle.simp.specs.RoundView.{RoundView}
+use Rattle.simp.specs.SmallestGroups.{SmallestGroups}
 use Rattle.simp.specs.Cases.{CasesHold}
 use Rattle.scripts.specs.Theorems.{PartsExact}
+use Rattle.groups.specs.Theorems.{GroupsExact, ReadersHoldOne, ReadingGrows}
 use Rattle.parts.specs.Theorems.{JoinedApart, MissingEmpty, Chunks, HoldsParts}
 use Rattle.desk.specs.Theorems.{GroupExact, SameOrder, ShowInOrder, KeptEnough, ShowsInput}
 
@@ -28,7 +30,8 @@ pub record Promises : Type 1 where
   -- Each call gives the first number that applies, in their order; after any call the lent memory holds a finished run's
   -- values or what it held before, and a refused call writes to no lent slice.
   pub demand-1 : Demand1
-  -- Each call answers exactly what the papers say: the numbers, the typing rules, the memory and the step count of the evaluation rules.
+  -- Each call answers exactly what the papers say: the numbers, the typing rules, the memory and the step count of
+  -- the evaluation rules, the smallest groups.
   pub demand-2 : Demand2
   -- Noninterference: two done runs of an accepted script under one authority, from memories that give a group the same view, leave memories
   -- that do.
@@ -36,7 +39,10 @@ pub record Promises : Type 1 where
   -- Two rounds of the same scripts under one authority, from memories that give a group the same view, leave memories that do, where each script
   -- is done in both.
   pub round-view : RoundView
-  -- The scope's starred cases, its two of long values, and rounds, in one table.
+  -- simp_groups lists a group exactly if it is a set of the sheet's principals that reads the label while none of its
+  -- proper subsets does; the list rises, its length is the count, and the places after it are kept.
+  pub smallest-groups : SmallestGroups
+  -- The scope's starred cases, its two of long values, rounds and smallest groups, in one table.
   pub cases-hold : CasesHold
   -- Of any table of refusal numbers: the first that applies is given, and it settles the whole answer; there is exactly one answer where it is
   -- settled which row applies first, and there is exactly one where none applies.
@@ -63,6 +69,12 @@ pub record Promises : Type 1 where
   pub empty-groups : EmptyGroups
   -- The label of policies that name only the n principals is effective.
   pub policies-effective : PoliciesEffective
+  -- By any rule of reading, the smallest groups are those of one list.
+  pub groups-exact : GroupsExact
+  -- By a rule that grows with the group, a group reads exactly if it holds a listed one.
+  pub readers-hold-one : ReadersHoldOne
+  -- The sheet's rule of reading grows with the group.
+  pub reading-grows : ReadingGrows
   -- The labels that a sheet's scripts are typed over obey the laws that exact typing asks for.
   pub least-label-laws : LeastLabelLawsHold
   -- Typing and running go by the same labels of a sheet.

@@ -2,13 +2,13 @@
 -- No law names a width.
 -- Assumes nothing.
 use mathlib.Core.Path.{_≡_, refl, sym, ap, ap₂, _∙_, subst}
-use mathlib.Core.Bool.{Bool, true, false, not}
+use mathlib.Core.Bool.{Bool, true, false, not, cond}
 use Prim.Native.Nat.{ℕ, zero, suc, _+_, _*_, _/_, _%_, _^_, _<_, _≤_, _-_, min, max}
 use native.Mathlib.Nat.{div-eq-of-lt, one-mul, zero-div, mod-lt, mod-eq-of-lt, zero-lt-suc, div-add-mod', div-one, lt-of-lt-of-le, le-of-suc-le-suc, not-suc-le-zero}
 use native.Mathlib.Omega.{arith}
 use native.Mathlib.Numerals.{one-add, add-one}
 use lib.Arith.{bin-ind, half-le, digits-mod}
-use lib.Bits.{bitAnd, bitOr, and-step, or-step, and-shr, or-shr, and-mask, block-odd, block-half}
+use lib.Bits.{bitAnd, bitOr, bitXor, differ, and-step, or-step, xor-step, and-shr, or-shr, xor-shr, and-mask, and-le-r, and-comm, xor-add-and, block-odd, block-half}
 use lib.Pow.{shr-shr, shl-exact, high, split, ones-split, ones-lt, pow-lt, pow-mono, pow-pos}
 use lib.Dec.{eqb, ltb, lit<}
 use borrow.Author.Tests.{eqb-true, eqb-false, eq-eqb, ne-eqb, not-true, lt-ltb, le-ltb, ltb-true}
@@ -172,6 +172,9 @@ meets-elim x y e =
 pub meets-mono : (g x y : ℕ) → within x y ≡ true → meets g x ≡ true → meets g y ≡ true
 meets-mono g x y h e = let r = meets-elim g x e in meets-intro g y (r .0) (r .1) (within-elim x y h (r .0) (r .2))
 
+pub meets-grows : (g h x : ℕ) → within g h ≡ true → meets g x ≡ true → meets h x ≡ true
+meets-grows g h x w e = let (p, m, k) = meets-elim g x e in meets-intro h x p (within-elim g h w p m) k
+
 pub meets-empty : (g : ℕ) → meets g 0 ≡ false
 meets-empty g = not-so (meets g 0) (λ e. let r = meets-elim g 0 e in absurd-false (sym (member-empty (r .0)) ∙ r .2))
 
@@ -195,6 +198,13 @@ single-within p m =
     bool-ext (within (single p) m) (member p m)
     (λ e. within-elim (single p) m e p (member-single-self p))
     (λ e. within-intro (single p) m (λ q h. rw (member-single q p h) e))
+
+-- and what meets it is a set that has p
+pub meets-single : (g p : ℕ) → meets g (single p) ≡ member p g
+meets-single g p =
+    bool-ext (meets g (single p)) (member p g)
+    (λ e. let (q, m, k) = meets-elim g (single p) e in rw (← member-single q p k) m)
+    (λ m. meets-intro g (single p) p m (member-single-self p))
 
 -- ---- the first n principals: those below n
 ones-odd : (k : ℕ) → (2 ^ suc k - 1) % 2 ≡ 1
@@ -267,3 +277,44 @@ shl-one k p l = shl-exact 1 p k (lit< tt) (subst (λ (m : ℕ). m ≤ k) (sym (o
 pub union-of-within : (x y : ℕ) → within x y ≡ true → union x y ≡ y
 union-of-within x y h =
     within-antisym (union x y) y (union-within x y y h (within-refl y)) (within-union-right x y)
+
+-- ---- what is taken out of a set
+pub within-le : (x y : ℕ) → within x y ≡ true → x ≤ y
+unfolding within
+within-le x y h = subst (λ (z : ℕ). z ≤ y) (eqb-true (bitAnd x y) x h) (and-le-r x y)
+
+abbrev exclusive : Bool → Bool → Bool
+exclusive x y = cond x (not y) y
+
+member-exclusive : (p x y : ℕ) → member p (bitXor x y) ≡ exclusive (member p x) (member p y)
+member-exclusive = member-op bitXor differ exclusive xor-shr xor-step small refl refl refl refl
+  where
+    small : (a b : ℕ) → differ (a % 2) (b % 2) < 2
+    small a b =
+        by-digit (λ (x : ℕ). differ x (b % 2) < 2) (by-digit (λ (y : ℕ). differ 0 y < 2) (lit< tt) (lit< tt) b)
+        (by-digit (λ (y : ℕ). differ 1 y < 2) (lit< tt) (lit< tt) b) a
+
+-- a set without those of its members that are in y: where y lies within it, the difference of the numbers
+pub member-difference : (p x y : ℕ) → within y x ≡ true → member p (x - y) ≡ both (member p x) (not (member p y))
+unfolding within both
+member-difference p x y h = ap (member p) is ∙ member-exclusive p x y ∙ on (member p x) (member p y) (within-elim y x h p)
+  where
+    is : x - y ≡ bitXor x y
+    is =
+        let a : bitAnd x y ≡ y = and-comm x y ∙ eqb-true (bitAnd y x) y h in
+        let b : bitXor x y + bitAnd x y * 2 ≡ x + y = xor-add-and x y in
+        omega arith
+
+    on : (a b : Bool) → (b ≡ true → a ≡ true) → exclusive a b ≡ both a (not b)
+    on true b i = refl
+    on false true i = absurd (absurd-false (i refl))
+    on false false i = refl
+
+-- a part of a set that isn't the whole lacks a member
+pub lacks-member : (x y : ℕ) → within x y ≡ true → ¬ (x ≡ y) → (p : ℕ) × (member p y ≡ true) × (member p x ≡ false)
+lacks-member x y h n = of (some-member (y - x) (λ z. n (omega (arith, within-le x y h))))
+  where
+    of : ((p : ℕ) × (member p (y - x) ≡ true)) → (p : ℕ) × (member p y ≡ true) × (member p x ≡ false)
+    of (p, m) =
+        let e : both (member p y) (not (member p x)) ≡ true = sym (member-difference p y x h) ∙ m in
+        (p, both-left (member p y) (not (member p x)) e, not-true (member p x) (both-right (member p y) (not (member p x)) e))

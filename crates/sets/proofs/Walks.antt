@@ -12,7 +12,7 @@ use lib.Seq.{set-getD}
 use lib.Dec.{ltb}
 use borrow.Author.Tests.{ltb-true, ltb-false}
 use Rattle.logic.specs.Booleans.{both}
-use Rattle.logic.proofs.BooleanLaws.{bool-ext, both-left, both-no-left, both-no-right, both-right, both-true, cases}
+use Rattle.logic.proofs.BooleanLaws.{absurd-false, bool-ext, both-left, both-no-left, both-no-right, both-right, both-true, both-yes-left, cases}
 use Rattle.sets.specs.Sets.{every, tab}
 
 -- by whether m is below n
@@ -37,6 +37,15 @@ unfolding every
 every-false zero f i l e = absurd (not-suc-le-zero l)
 every-false (suc n) f zero l e = both-no-left (f 0) _ e
 every-false (suc n) f (suc i) l e = both-no-right (f 0) _ (every-false n (λ (k : ℕ). f (suc k)) i (le-of-suc-le-suc l) e)
+
+-- a test that doesn't pass everywhere fails somewhere
+pub every-fails : (n : ℕ) (f : ℕ → Bool) → every n f ≡ false → (i : ℕ) × (i < n) × (f i ≡ false)
+unfolding every
+every-fails zero f e = absurd (absurd-false (sym e))
+every-fails (suc n) f e =
+    cases (f 0)
+    (λ t. let (i, l, z) = every-fails n (λ (i : ℕ). f (suc i)) (sym (both-yes-left (f 0) _ t) ∙ e) in (suc i, suc-le-suc l, z))
+    (λ z. (0, zero-lt-suc n, z))
 
 -- one place more
 pub every-last : (n : ℕ) (f : ℕ → Bool) → every (suc n) f ≡ both (every n f) (f n)

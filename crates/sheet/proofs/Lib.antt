@@ -6,6 +6,7 @@ pub mod Words
 pub mod TableLaws
 pub mod LabelLaws
 pub mod MeaningLaws
+pub mod ReaderLaws
 pub mod NumberLaws
 pub mod PowerLaws
 pub mod GrowthLaws

@@ -4,3 +4,4 @@ pub mod Growth
 pub mod Writers
 pub mod TypeTest
 pub mod Powers
+pub mod Readers

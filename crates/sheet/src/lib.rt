@@ -1,5 +1,6 @@
 // The decoded sheet: a table of words, and what it says of types, locations and labels.
 pub mod powers; // powers.rt: what a group may do to the labels
+pub mod readers; // readers.rt: who reads a label
 pub mod write; // write.rt: what is stored where the sheet grows
 
 ghost use mathlib.Core.Path.{_≡_};

@@ -33,6 +33,8 @@ use Rattle.stages.specs.Calls as calls
 use Rattle.scripts.specs.Parting as parting
 use Rattle.rounds.specs.Answers as round-answers
 use Rattle.rounds.specs.Calls as round-calls
+use Rattle.groups.specs.Listing as listing
+use Rattle.groups.specs.Calls as group-calls
 use Rattle.simp.specs.Texts as texts
 
 unfoldable pub text-used : Unit {0}
@@ -114,6 +116,12 @@ unfolding parting.toFirst parting.partsFrom parting.partsOf
     round-calls.tooMany round-calls.lower round-calls.lowest round-calls.runEach round-calls.turnOf round-calls.playedOf round-calls.roundBy
 rounds-used = tt
 
+unfoldable pub groups-used : Unit {0}
+unfolding listing.isSmallest listing.smallestFrom listing.smallestOf
+    group-calls.groupsFor group-calls.groupsRefusal group-calls.groupsOn group-calls.groupsOf
+groups-used = tt
+
 unfoldable pub all-used : Unit {0}
 unfolding logic-used text-used sets-used labels-used language-used script-used sheet-used sheet-text-used script-text-used memory-used simp-used rounds-used
+    groups-used
 all-used = tt

@@ -10,6 +10,7 @@ use Rattle.simp.specs.Demands.{Demand1, Demand2}
 use Rattle.simp.proofs.SecondDemand.{checked, run-ends, run-exactly, view-exactly}
 use Rattle.simp.proofs.FirstDemand.{finished, starts, run-answers, check-answers, view-answers, past-8}
 use Rattle.simp.proofs.RoundDemands.{round-demand-1, round-exactly}
+use Rattle.simp.proofs.GroupDemands.{groups-demand-1, groups-exactly}
 
 pub demand-1 : Demand1
 unfolding numbers
@@ -34,6 +35,7 @@ demand-1 = record {
   run-answers = run-answers;
   view-answers = view-answers;
   round = round-demand-1;
+  groups = groups-demand-1;
 }
 
 pub demand-2 : Demand2
@@ -42,4 +44,5 @@ demand-2 = record {
   run = run-exactly;
   view = view-exactly;
   round = round-exactly;
+  groups = groups-exactly;
 }

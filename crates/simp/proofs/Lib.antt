@@ -6,6 +6,7 @@ pub mod Lowest
 pub mod RoundRows
 pub mod Turns
 pub mod RoundDemands
+pub mod GroupDemands
 pub mod EveryCall
 pub mod Readers
 pub mod ThirdDemand

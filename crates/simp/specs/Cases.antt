@@ -1,5 +1,5 @@
--- The scope's starred cases ("Cases"), its two of long values, and rounds (request (a)), as one table. `cases-hold` in proofs/CasesHold.antt shows
--- all of them.
+-- The scope's starred cases ("Cases"), its two of long values, rounds (request (a)) and smallest groups (request
+-- (b)), as one table. `cases-hold` in proofs/CasesHold.antt shows all of them.
 use mathlib.Core.Path.{_≡_}
 use mathlib.Core.Bool.{Bool, true, false}
 use mathlib.Core.List.{List, [], _∷_, _++_}
@@ -11,6 +11,7 @@ use Rattle.sheet.specs.Padding.{padded}
 use Rattle.stages.specs.Calls.{checkOf, runOf}
 use Rattle.scripts.specs.Parting.{mostScripts}
 use Rattle.rounds.specs.Calls.{roundOf}
+use Rattle.groups.specs.Calls.{groupsOf}
 use Rattle.simp.specs.Texts.{bytes}
 
 -- {0: readers 1, writers 2; 1: readers 0, writers 2 and 3}
@@ -23,6 +24,10 @@ readersOnly = policy 0 0b0100 0 ∷ policy 1 0b1000 0 ∷ []
 
 unfoldable pub sheet : String
 sheet = "P 3\nT 0 1\nL\nL\nO 0 0000 0000\nL\nO 0 0000 0007\nX 0 0\nX 0 2\nX 4 0\nX 5 2\n"
+
+-- a label without policies, and the one of `readersOnly`
+unfoldable pub twoLabels : String
+twoLabels = "P 4\nL\nL\nO 0 0004 0000\nO 1 0008 0000\n"
 
 -- no location, and fourteen sums from type 5 on, each with the one before it on its left, the first with int+int
 unfoldable pub nested : String
@@ -67,6 +72,8 @@ pub data Case : Type 0 where
   -- a sheet, scripts, a memory and a budget, without authority: what the round answers, what each script answers and its steps, and the memory
   -- that the round leaves
   rounds : String → List String → List ℕ → ℕ → ℕ → List ℕ → List ℕ → List ℕ → Case
+  -- a sheet, a label and places: what simp_groups answers, how many groups, and what the places then hold
+  groups : String → ℕ → List ℕ → ℕ → ℕ → List ℕ → Case
 
 -- the largest budget
 abbrev pub largest : ℕ
@@ -83,6 +90,7 @@ Holds (spends script m authority) =
 Holds (answers script answer steps) = runOf (bytes nested) (bytes script) [] 0 largest ≡ record { answer = answer; steps = steps; memory = [] }
 Holds (rounds on scripts m budget answer each steps left) =
     roundOf (bytes on) (parted scripts) m 0 budget ≡ record { answer = answer; answers = padded mostScripts each; steps = padded mostScripts steps; memory = left }
+Holds (groups on l places answer count after) = groupsOf (bytes on) l places ≡ record { answer = answer; count = count; places = after }
 
 unfoldable pub cases : List Case
 cases =
@@ -115,6 +123,16 @@ cases =
     -- a script that stops leaves the memory as the one before it did, and the round goes on with the whole budget
     ∷ rounds sheet ("= 0\ni 6\n" ∷ ";\n= 0\ni 70\nw\nl 3\ni 1\ns\n" ∷ "= 0\n+\nx 0\ni 1\n" ∷ []) before 3 0 (0 ∷ 9 ∷ 0 ∷ []) (1 ∷ 3 ∷ 1 ∷ []) (beforeWith 7)
     ∷ rounds nested ("s\n" ∷ "c\nl 18\nl 17\nl 16\nl 15\nl 14\nl 13\nl 12\nl 11\nl 10\nl 9\nl 8\nl 7\nl 6\nl 5\nl 3\ni 1\ns\ns\n" ∷ ";\ns\ns\n" ∷ []) [] 2 0 (0 ∷ 10 ∷ 0 ∷ []) (0 ∷ 0 ∷ 1 ∷ []) []
+    -- smallest groups: of {0: 2; 1: 3} those of one of 0 and 2 and one of 1 and 3, rising, and the place after them
+    -- is kept; of a label without policies each principal by itself, into as many places
+    ∷ groups twoLabels 1 (7 ∷ 7 ∷ 7 ∷ 7 ∷ 7 ∷ []) 0 4 (0b0011 ∷ 0b0110 ∷ 0b1001 ∷ 0b1100 ∷ 7 ∷ [])
+    ∷ groups twoLabels 0 (7 ∷ 7 ∷ 7 ∷ 7 ∷ []) 0 4 (0b0001 ∷ 0b0010 ∷ 0b0100 ∷ 0b1000 ∷ [])
+    -- a place too few, a label too many, a sheet without labels
+    ∷ groups twoLabels 1 (7 ∷ 7 ∷ 7 ∷ []) 12 0 (7 ∷ 7 ∷ 7 ∷ [])
+    ∷ groups twoLabels 2 (7 ∷ 7 ∷ 7 ∷ 7 ∷ []) 12 0 (7 ∷ 7 ∷ 7 ∷ 7 ∷ [])
+    ∷ groups "P 1\n" 0 [] 12 0 []
+    -- 2 comes before 12
+    ∷ groups "P 1\nL\nL\n" 2 [] 2 0 []
     ∷ []
 
 -- every case of a table holds

@@ -15,9 +15,12 @@ use Rattle.stages.specs.Calls.{checkOf, runOf, viewOf}
 use Rattle.scripts.specs.Parting.{partsOf}
 use Rattle.rounds.specs.Answers.{RanRound, Gate, allOpen}
 use Rattle.rounds.specs.Calls.{roundBy}
+use Rattle.groups.specs.Answers.{Grouped}
+use Rattle.groups.specs.Calls.{groupsOf}
 use Rattle.numbers.specs.Rows.{Among, GivenInOrder}
 use Rattle.simp.specs.Judgements.{checkRows, Checked, runRows, Started, Run, viewRows, View}
 use Rattle.simp.specs.Rounds.{roundRows, Places, Played, Open, Round}
+use Rattle.simp.specs.Groups.{groupRows, Groups}
 
 -- The run was started and reached skip within the budget, and these are the words of the memory that it reached, after so many steps.
 pub record Finished (sheet script memory : List ℕ) (authority budget steps : ℕ) (left : List ℕ) : Type 0 where
@@ -72,6 +75,20 @@ pub record RoundDemand1 : Type 1 where
   -- simp_round shuts no script out
   pub all-open : (i : ℕ) → Open allOpen i
 
+-- What simp_groups answers and leaves, whatever it is given: one of its numbers, and beside a refusal a count of 0
+-- and the places as they were.
+pub record GroupAnswers (places : List ℕ) (r : Grouped) : Type 0 where
+  pub number : Among (0 ∷ 1 ∷ 2 ∷ 12 ∷ []) (r .answer)
+  pub kept : ¬ (r .answer ≡ 0) → r .places ≡ places
+  pub no-count : ¬ (r .answer ≡ 0) → r .count ≡ 0
+
+-- Demand 1 of simp_groups: the number given applies, and none that comes before it in the order does; the whole
+-- answer is as the table has it.
+pub record GroupsDemand1 : Type 1 where
+  pub order : (sheet : List ℕ) (l : ℕ) (places : List ℕ) → GivenInOrder (groupRows sheet l places) (groupsOf sheet l places .answer)
+  pub number : (sheet : List ℕ) (l : ℕ) (places : List ℕ) → Groups sheet l places (groupsOf sheet l places)
+  pub answers : (sheet : List ℕ) (l : ℕ) (places : List ℕ) → GroupAnswers places (groupsOf sheet l places)
+
 -- Demand 1. Each call gives the first number that applies, in their fixed order; each answer is 0 or one of the call's numbers. After any call
 -- the lent memory holds the finished run's values or exactly what it held before; a refused call writes to no lent slice.
 -- That a call ends is proved with each function; simp_check is lent nothing to write, and simp_view is lent its memory for reading.
@@ -93,9 +110,12 @@ pub record Demand1 : Type 1 where
   pub view-answers : (sheet memory : List ℕ) (group : ℕ) (view : List ℕ) → ViewAnswers view (viewOf sheet memory group view)
   -- all of it of a round
   pub round : RoundDemand1
+  -- and of simp_groups
+  pub groups : GroupsDemand1
 
--- Demand 2. Each call answers exactly what the papers say: the numbers in their order, acceptance by the typing rules, and the
--- memory and the step count of the evaluation rules. So there is exactly one answer by each table: the call's.
+-- Demand 2. Each call answers exactly what the papers say: the numbers in their order, acceptance by the typing
+-- rules, the memory and the step count of the evaluation rules, and the smallest groups. So there is exactly one
+-- answer by each table: the call's.
 pub record Demand2 : Type 0 where
   pub check : (sheet script : List ℕ) (k : ℕ) → (checkOf sheet script ≡ k) ↔ Checked sheet script k
   pub run : (sheet script memory : List ℕ) (authority budget : ℕ) (r : Ran)
@@ -103,6 +123,7 @@ pub record Demand2 : Type 0 where
   pub view : (sheet memory : List ℕ) (group : ℕ) (words : List ℕ) (v : Viewed) → (viewOf sheet memory group words ≡ v) ↔ View sheet memory group words v
   pub round : (gate : Gate) (sheet scripts memory : List ℕ) (authority budget : ℕ) (r : RanRound)
       → (roundBy gate sheet scripts memory authority budget ≡ r) ↔ Round gate sheet scripts memory authority budget r
+  pub groups : (sheet : List ℕ) (l : ℕ) (places : List ℕ) (r : Grouped) → (groupsOf sheet l places ≡ r) ↔ Groups sheet l places r
 
 -- Two memories give a group the same view: the view of each is handed out into a lent slice, and these agree in every word.
 -- `shown` holds exactly if the sheet is of its form and repeats nothing, the group is on it, the slices have their size and the memory is

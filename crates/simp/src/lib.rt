@@ -1,10 +1,13 @@
 // SImp scripts on a sheet: the calls that firmware and the desk programs make.
-// Each settles every input; what they answer is defined in crates stages and rounds, specs/Calls.antt.
+// Each settles every input; what they answer is defined in crates stages, rounds and groups, specs/Calls.antt.
 ghost use mathlib.Core.Path.{_≡_};
 ghost use Rattle.stages.specs.Answers.{Ran, Viewed};
 ghost use Rattle.stages.specs.Calls.{checkOf, runOf, viewOf};
 ghost use Rattle.rounds.specs.Answers.{RanRound};
 ghost use Rattle.rounds.specs.Calls.{roundOf};
+ghost use Rattle.groups.specs.Answers.{Grouped};
+ghost use Rattle.groups.specs.Calls.{groupsOf};
+use groups::Groups;
 use rounds::Round;
 use sets::Set;
 use stages::Outcome;
@@ -76,4 +79,19 @@ pub extern "C" fn simp_round(
         return rounds::refused(answer);
     }
     rounds::round_on(scripts, &table, memory, authority, budget)
+}
+
+// Lists the smallest groups that read a label, rising as numbers, in the first places of a slice. The slice changes
+// only if the answer is 0, and there only in as many places as there are groups.
+#[no_mangle]
+pub extern "C" fn simp_groups(sheet: &[u8], label: u32, groups: &mut [Set]) -> Groups
+    ensures { λ r. ⌜ record { answer = r .answer; count = r .count; places = now (groups .exit) } ≡ groupsOf (now (sheet .entry)) label (now (groups .entry)) ⌝ }
+{
+    let mut table: [sheet::Word; sheet::WORDS] = [0; sheet::WORDS];
+    let verdict = sheet_text::read(sheet, &mut table);
+    let answer = stages::sheet_number(verdict);
+    if answer != stages::DONE {
+        return groups::refused(answer);
+    }
+    groups::list_on(&table, label, groups)
 }

@@ -1,0 +1,6 @@
+-- The sheet's rule of reading. Assumes nothing.
+use Rattle.sheet.proofs.ReaderLaws.{reads-more}
+use Rattle.groups.specs.Theorems.{ReadingGrows}
+
+pub reading-grows : ReadingGrows
+reading-grows = reads-more

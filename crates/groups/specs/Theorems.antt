@@ -1,0 +1,28 @@
+-- What is claimed of smallest groups. The proofs are `groups-exact` and `readers-hold-one` (proofs/ListLaws.antt) and
+-- `reading-grows` (proofs/RuleLaws.antt).
+use mathlib.Core.Logic.{_↔_}
+use mathlib.Core.Path.{_≡_}
+use mathlib.Core.Bool.{true}
+use mathlib.Core.List.{List}
+use Prim.Native.Nat.{ℕ}
+use Rattle.sets.specs.Sets.{within, everyone}
+use Rattle.sheet.specs.Sheet.{Sheet}
+use Rattle.sheet.specs.Meaning.{readsNo}
+use Rattle.groups.specs.Smallest.{ReadingRule, Listed, ListsSmallest, Grows}
+use Rattle.groups.specs.Listing.{smallestOf}
+
+-- The function lists the smallest groups, of any number of principals and by any rule at all; and there is no other
+-- such list.
+pub record GroupsExact : Type 0 where
+  pub lists : (n : ℕ) (reads : ReadingRule) → ListsSmallest n reads (smallestOf n reads)
+  pub no-other : (n : ℕ) (reads : ReadingRule) (gs : List ℕ) → ListsSmallest n reads gs → gs ≡ smallestOf n reads
+
+-- By a rule that grows with the group, the list says who reads: a group of the n principals reads exactly if it holds
+-- a listed one.
+abbrev pub ReadersHoldOne : Type 0
+ReadersHoldOne = (n : ℕ) (reads : ReadingRule) → Grows reads → (gs : List ℕ) → ListsSmallest n reads gs → (g : ℕ) → within g (everyone n) ≡ true
+    → (reads g ≡ true) ↔ ((h : ℕ) × Listed h gs × (within h g ≡ true))
+
+-- The sheet's rule of reading grows with the group.
+abbrev pub ReadingGrows : Type 0
+ReadingGrows = (s : Sheet) (l : ℕ) → Grows (λ (g : ℕ). readsNo s g l)

@@ -1,0 +1,35 @@
+// Who reads a label, by the sheet's rule of reading: fetched once, for a call that asks it of many groups.
+ghost use mathlib.Core.Path.{_≡_};
+ghost use Rattle.sheet.specs.Internal.Readers.{readsBy, readersIn};
+use crate::Word;
+use labels::OWNERS;
+use sets::Set;
+
+// The readers of each owner. A place that has no principal holds everyone, whom each group meets that reads.
+pub struct Readers {
+    pub sets: [Set; OWNERS],
+}
+
+impl Readers {
+    // Whether a group holds a reader for each owner. All places are tested, since a loop that always goes to its end
+    // takes fewer instructions than one that may stop.
+    pub fn reads(self, group: Set) -> bool
+        ensures { λ r. ⌜ r ≡ readsBy self group ⌝ }
+    {
+        let sets = self.sets;
+        let mut all = true;
+        for o in 0..OWNERS {
+            all = all & sets::meets(group, sets[o]);
+        }
+        all
+    }
+}
+
+// Who reads label l.
+pub fn readers_of(table: &[Word], l: u32) -> Readers
+    ensures { λ r. ⌜ r ≡ readersIn (now (table .entry)) l ⌝ }
+{
+    let label = crate::label_of(table, l);
+    let sets = label.readers;
+    Readers { sets }
+}

@@ -17,6 +17,7 @@ pub enum Refusal {
     Spent = 9,
     ValueTooLong = 10,
     TooManyScripts = 11,
+    Unlisted = 12,
 }
 
 impl Refusal {
@@ -58,5 +59,27 @@ impl Round {
     /// A round with zeros in every place.
     pub fn empty(answer: u8) -> Round {
         Round { answer, answers: [0; SCRIPTS], steps: [0; SCRIPTS] }
+    }
+}
+
+/// The most sets of 16 principals of which none contains another: those of 8. No label has more
+/// smallest groups.
+pub const MOST_GROUPS: usize = 12_870;
+
+/// The answer of a call for the smallest groups of a label, and how many were listed: 0 beside a
+/// refusal.
+#[derive(Clone, Copy, Debug, PartialEq, Eq)]
+pub struct Groups {
+    pub answer: u8,
+    pub count: u32,
+}
+
+impl Groups {
+    pub fn listed(count: u32) -> Groups {
+        Groups { answer: DONE, count }
+    }
+
+    pub fn refused(refusal: Refusal) -> Groups {
+        Groups { answer: refusal.number(), count: 0 }
     }
 }

@@ -7,7 +7,7 @@ use crate::memory::{self, Memory};
 use crate::principals::Principals;
 use crate::reason::Reason;
 use crate::script::Command;
-use crate::sheet::{Repeat, Sheet};
+use crate::sheet::{LabelId, Repeat, Sheet};
 use crate::{flow, script_text, shape, sheet_text, view as views};
 use std::rc::Rc;
 
@@ -32,6 +32,13 @@ pub fn known_group(sheet: &Sheet, bits: u16) -> Result<Principals, Reason> {
         None => Ok(group),
         Some(principal) => Err(Reason::Principal { principal, count }),
     }
+}
+
+/// The label of a number: 12.
+pub fn known_label(sheet: &Sheet, label: u32) -> Result<LabelId, Reason> {
+    let count = sheet.labels.len();
+    let named = usize::try_from(label).ok().filter(|&named| named < count);
+    named.ok_or(Reason::UnknownLabel { label, count })
 }
 
 /// Reads and checks a script: 4, 5 and 6.

@@ -7,6 +7,7 @@ pub mod answer;
 pub mod calls;
 pub mod evaluate;
 pub mod flow;
+pub mod groups;
 pub mod label;
 pub mod machine;
 pub mod memory;
@@ -25,8 +26,9 @@ pub mod types;
 pub mod value;
 pub mod view;
 
-pub use answer::{Outcome, Refusal, Round, DONE, SCRIPTS};
+pub use answer::{Groups, Outcome, Refusal, Round, DONE, MOST_GROUPS, SCRIPTS};
 pub use calls::{check, run, try_check, try_run, try_view, view};
+pub use groups::{groups, smallest_groups, try_groups};
 pub use reason::Reason;
 pub use round::{round, try_round};
 pub use round_text::parts;

@@ -22,6 +22,11 @@ impl Principals {
         Principals(std::array::from_fn(|p| (bits >> p) & 1 == 1))
     }
 
+    /// The set as a number: bit p is principal p.
+    pub fn bits(self) -> u16 {
+        self.members().fold(0, |bits, p| bits | 1 << p)
+    }
+
     /// The principals in this set, rising.
     pub fn members(self) -> impl Iterator<Item = usize> {
         (0..MOST).filter(move |&p| self.0[p])
@@ -56,6 +61,7 @@ mod tests {
         assert_eq!(Principals::from_bits(0x0007), Principals::first(3));
         assert_eq!(Principals::from_bits(0xffff), Principals::first(16));
         assert_eq!(Principals::from_bits(0x8005).members().collect::<Vec<_>>(), [0, 2, 15]);
+        assert!((0..=u16::MAX).all(|bits| Principals::from_bits(bits).bits() == bits));
     }
 
     #[test]

@@ -30,6 +30,10 @@ pub enum Reason {
     Stopped(Stopped),
     /// 11: a round of more scripts than it may have.
     Scripts { found: usize, most: usize },
+    /// 12: a label that isn't one of the sheet's `count`.
+    UnknownLabel { label: u32, count: usize },
+    /// 12: a slice of fewer places than a label has smallest groups.
+    Places { found: usize, wanted: usize },
 }
 
 impl Reason {
@@ -46,6 +50,7 @@ impl Reason {
             Reason::Stopped(Stopped::Spent { .. }) => Refusal::Spent,
             Reason::Stopped(Stopped::TooLong { .. }) => Refusal::ValueTooLong,
             Reason::Scripts { .. } => Refusal::TooManyScripts,
+            Reason::UnknownLabel { .. } | Reason::Places { .. } => Refusal::Unlisted,
         }
     }
 

@@ -15,6 +15,7 @@ pub enum Request {
     Run(Run),
     Round(Run),
     Show(Show),
+    Readers(Readers),
     Explain(Explain),
 }
 
@@ -24,46 +25,62 @@ pub struct Command {
     pub name: &'static str,
     /// The names of its files.
     files: &'static [&'static str],
-    /// Whether the last of them may be several.
-    several: bool,
+    after: After,
     /// Options with a value, and flags, which have none.
     options: &'static [&'static str],
     flags: &'static [&'static str],
 }
 
-static COMMANDS: [Command; 5] = [
+/// What may stand after a command's files.
+#[derive(Debug, PartialEq, Eq)]
+enum After {
+    Nothing,
+    /// More of the last.
+    Files,
+    /// One argument that is no file.
+    Argument,
+}
+
+static COMMANDS: [Command; 6] = [
     Command {
         name: "check",
         files: &["SHEET", "SCRIPT"],
-        several: true,
+        after: After::Files,
         options: &["--names"],
         flags: &["--json"],
     },
     Command {
         name: "run",
         files: &["SHEET", "SCRIPT", "MEMORY"],
-        several: false,
+        after: After::Nothing,
         options: &["--as", "--budget", "--names"],
         flags: &["--write", "--plain", "--json"],
     },
     Command {
         name: "round",
         files: &["SHEET", "SCRIPTS", "MEMORY"],
-        several: false,
+        after: After::Nothing,
         options: &["--as", "--budget", "--names"],
         flags: &["--write", "--plain", "--json"],
     },
     Command {
         name: "show",
         files: &["SHEET", "MEMORY"],
-        several: false,
+        after: After::Nothing,
         options: &["--to", "--names"],
         flags: &["--plain", "--json"],
     },
     Command {
+        name: "readers",
+        files: &["SHEET"],
+        after: After::Argument,
+        options: &["--names"],
+        flags: &["--json"],
+    },
+    Command {
         name: "explain",
         files: &["SHEET"],
-        several: false,
+        after: After::Nothing,
         options: &["--names"],
         flags: &["--json"],
     },
@@ -110,6 +127,15 @@ pub struct Show {
     pub memory: OsString,
     /// The group as a list of names and numbers.
     pub group: String,
+    pub names: Option<OsString>,
+    pub form: Form,
+}
+
+#[derive(Clone, Debug, PartialEq, Eq)]
+pub struct Readers {
+    pub sheet: OsString,
+    /// The label by its number or name; without it every label is asked about.
+    pub label: Option<String>,
     pub names: Option<OsString>,
     pub form: Form,
 }
@@ -195,6 +221,7 @@ fn request(command: &'static Command, args: VecDeque<OsString>) -> Result<Reques
             names,
             form,
         }),
+        "readers" => Request::Readers(Readers { sheet, label: given.label()?, names, form }),
         _ => Request::Explain(Explain { sheet, names, form }),
     })
 }
@@ -222,6 +249,8 @@ fn run(
 #[derive(Default)]
 struct Given {
     files: VecDeque<OsString>,
+    /// What stands after the files and is none.
+    argument: Option<OsString>,
     options: Vec<(&'static str, OsString)>,
     flags: Vec<&'static str>,
 }
@@ -240,10 +269,17 @@ fn collect(command: &Command, mut args: VecDeque<OsString>) -> Result<Option<Giv
     if let Some(missing) = command.files.get(given.files.len()) {
         return Err(format!("{missing} is missing"));
     }
-    match given.files.get(command.files.len()) {
-        Some(extra) if !command.several => Err(format!("{} is one file too many", quoted(extra))),
-        _ => Ok(Some(given)),
+    let files = command.files.len();
+    let (most, what) = match command.after {
+        After::Files => return Ok(Some(given)),
+        After::Nothing => (files, "file"),
+        After::Argument => (files + 1, "argument"),
+    };
+    if let Some(extra) = given.files.get(most) {
+        return Err(format!("{} is one {what} too many", quoted(extra)));
     }
+    given.argument = given.files.split_off(files).pop_front();
+    Ok(Some(given))
 }
 
 impl Given {
@@ -317,6 +353,12 @@ impl Given {
     fn list(&mut self, option: &str) -> Result<String, String> {
         let wrong = |list: OsString| format!("{option} {} isn't a list", quoted(&list));
         self.required(option)?.into_string().map_err(wrong)
+    }
+
+    /// A label, which is looked up when the names are known.
+    fn label(&mut self) -> Result<Option<String>, String> {
+        let wrong = |label: OsString| format!("LABEL {} isn't a name or a number", quoted(&label));
+        self.argument.take().map(|label| label.into_string().map_err(wrong)).transpose()
     }
 
     fn form(&self) -> Result<Form, String> {
@@ -393,6 +435,24 @@ mod tests {
         assert_eq!(check.scripts, ["--names", "--", "-x"]);
     }
 
+    fn readers_of(line: &str) -> Readers {
+        match parsed(line) {
+            Ok(Request::Readers(readers)) => readers,
+            other => panic!("{other:?}"),
+        }
+    }
+
+    #[test]
+    fn a_label_may_stand_after_the_sheet() {
+        assert_eq!(readers_of("readers a").label, None);
+        let readers = readers_of("readers a --json 7 --names n");
+        assert_eq!((readers.sheet, readers.label), ("a".into(), Some("7".into())));
+        assert_eq!((readers.names, readers.form), (Some("n".into()), Form::Json));
+        assert_eq!(readers_of("readers a -- --json").label, Some("--json".into()));
+        // it is no file
+        assert_eq!(readers_of("readers - -").label, Some("-".into()));
+    }
+
     #[test]
     fn one_file_may_be_standard_input() {
         assert!(parsed("check - a b").is_ok());
@@ -447,6 +507,9 @@ mod tests {
             ("check a b -x", "`-x`"),
             ("explain a --plain", "`--plain`"),
             ("show a b", "--to is missing"),
+            ("readers", "SHEET is missing"),
+            ("readers a 0 1", "`1` is one argument too many"),
+            ("readers a --plain", "`--plain`"),
         ] {
             assert!(what(line).contains(says), "{line}: {}", what(line));
         }
@@ -463,5 +526,7 @@ mod tests {
         assert!(with(bytes(b"--\xff")).is_err());
         let list = vec!["show".into(), "a".into(), "b".into(), bytes(b"--to=\xff")];
         assert!(parse(list).unwrap_err().what.contains("isn't a list"));
+        let label = vec!["readers".into(), "a".into(), bytes(b"\xff")];
+        assert!(parse(label).unwrap_err().what.contains("isn't a name or a number"));
     }
 }

@@ -1,5 +1,6 @@
 //! The proved library, whose verdicts count, and the reference beside it, which says why.
 
+mod groups;
 mod round;
 
 use reference::calls::read_sheet;
@@ -10,7 +11,7 @@ use reference::sheet::Sheet;
 use reference::value::MOST_WORDS;
 use reference::Reason;
 
-pub use bindings::{Outcome, Round};
+pub use bindings::{Groups, Outcome, Round};
 
 /// The most steps of a run, or of all scripts of a round, that the reference takes too. It rebuilds
 /// the command at each step: so many steps of a long script take it ten seconds, a hundred times as
@@ -26,6 +27,8 @@ type CheckCall<A> = fn(&[u8], &[u8]) -> A;
 type RunCall<A> = fn(&[u8], &[u8], &mut [u32], u16, u32) -> A;
 /// A sheet, a memory, a group and a view.
 type ViewCall<A> = fn(&[u8], &[u32], u16, &mut [u32]) -> A;
+/// A sheet, a label and places for groups.
+type GroupsCall<A> = fn(&[u8], u32, &mut [u16]) -> A;
 
 /// The calls of the library.
 #[derive(Clone, Copy)]
@@ -34,6 +37,7 @@ pub struct Library {
     pub run: RunCall<Outcome>,
     pub round: RunCall<Round>,
     pub view: ViewCall<u8>,
+    pub groups: GroupsCall<Groups>,
 }
 
 /// The same calls of the reference, which give the reason of a refusal.
@@ -45,6 +49,8 @@ pub struct Reference {
     /// The same of each script of a round.
     pub round: RunCall<Result<Vec<Result<u32, Stopped>>, Refused>>,
     pub view: ViewCall<Result<(), Reason>>,
+    /// How many groups are listed.
+    pub groups: GroupsCall<Result<u32, Reason>>,
 }
 
 #[derive(Clone, Copy)]
@@ -60,12 +66,14 @@ pub const CALLS: Calls = Calls {
         run: bindings::run,
         round: bindings::round,
         view: bindings::view,
+        groups: bindings::groups,
     },
     reference: Reference {
         check: |sheet, script| reference::try_check(sheet, script).map(|_| ()),
         run: reference::try_run,
         round: reference::try_round,
         view: reference::try_view,
+        groups: reference::try_groups,
     },
 };
 

@@ -9,6 +9,7 @@ usage: simp check SHEET SCRIPT..           which scripts are accepted on a sheet
        simp run SHEET SCRIPT MEMORY ..     a run: how it ends, and the memory after it
        simp round SHEET SCRIPTS MEMORY ..  several scripts of a file, run in order on one memory
        simp show SHEET MEMORY ..           what a group may see of a memory
+       simp readers SHEET [LABEL]          the smallest groups that together read a label
        simp explain SHEET                  who and what is on a sheet, and who may read and write it
        simp help COMMAND                   all that a command takes
        simp --version                      which tool, which logic, which library
@@ -16,9 +17,9 @@ usage: simp check SHEET SCRIPT..           which scripts are accepted on a sheet
 A file named - is standard input, for one of the files. Options stand after the command,
 anywhere; -- ends them.
 
-exit status: 0 accepted, done or shown    3 a file or a stream can't be read or written
-             1 refused or stopped         4 the library and the reference disagree: report it
-             2 wrong arguments or names   the greatest is given where several apply
+exit status: 0 accepted, done, shown or listed  3 a file or a stream can't be read or written
+             1 refused or stopped               4 the library and the reference disagree: report it
+             2 wrong arguments or names         the greatest is given where several apply
 ";
 
 const NAMES: &str = r"
@@ -31,7 +32,7 @@ const JSON: &str = r#"  --json         one JSON document instead of words, as be
                  it is {"answer": null, "error": ".."}
 "#;
 
-const USAGES: [(&str, &str); 5] = [
+const USAGES: [(&str, &str); 6] = [
     ("check", "usage: simp check SHEET SCRIPT.. [--names FILE] [--json]\n"),
     (
         "run",
@@ -44,6 +45,7 @@ const USAGES: [(&str, &str); 5] = [
                   [--plain | --json]\n",
     ),
     ("show", "usage: simp show SHEET MEMORY --to LIST [--names FILE] [--plain | --json]\n"),
+    ("readers", "usage: simp readers SHEET [LABEL] [--names FILE] [--json]\n"),
     ("explain", "usage: simp explain SHEET [--names FILE] [--json]\n"),
 ];
 
@@ -121,6 +123,20 @@ const SHOW_JSON: &str = r#"
                  what is refused has "blamed", "name", "line", "fact", "advice" and "rule"
 "#;
 
+const READERS: &str = "
+Prints every smallest group that reads a label: one that reads it while none of its proper subsets
+does. A group reads the label exactly if it has all members of one of these. LABEL is a number or a
+name; without it every label of the sheet is told of in turn. Groups rise as numbers, in which
+principal p counts 2 to the power of p.
+";
+
+const READERS_JSON: &str = r#"
+                   {"answer": 0, "listed": true, "labels":
+                    [{"label": 0, "name", "count": 2, "groups": [[0], [1, 2]]}]}
+                 a group is the numbers of its members; what is refused has "blamed", "name",
+                 "line", "fact", "advice" and "rule"
+"#;
+
 const EXPLAIN: &str = "
 Prints the principals, types, labels and locations of a sheet, and who may read and write what.
 ";
@@ -146,6 +162,7 @@ pub fn help(command: Option<&Command>) -> String {
         "run" => (RUN, RUN_JSON),
         "round" => (ROUND, ROUND_JSON),
         "show" => (SHOW, SHOW_JSON),
+        "readers" => (READERS, READERS_JSON),
         _ => (EXPLAIN, EXPLAIN_JSON),
     };
     [usage(Some(command)), about, NAMES, JSON, json].concat()

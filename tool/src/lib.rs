@@ -1,5 +1,5 @@
-//! The desk tool `simp`: checks, runs, shows and explains. Every verdict, run and view is the
-//! proved library's; what is told of it comes from the reference.
+//! The desk tool `simp`: checks, runs, shows and explains. Every verdict, run, view and list of
+//! groups is the proved library's; what is told of it comes from the reference.
 
 mod args;
 mod at_start;
@@ -16,6 +16,7 @@ pub mod message;
 pub mod names;
 mod opening;
 mod progress;
+mod readers;
 mod refusal;
 mod replace;
 mod round;
@@ -82,6 +83,10 @@ fn answer(args: Vec<OsString>, calls: &Calls, streams: &mut Streams) -> Result<S
         }
         Ok(Request::Show(request)) => {
             let ended = show::show(&request, calls, streams);
+            documented(request.form, ended, streams)
+        }
+        Ok(Request::Readers(request)) => {
+            let ended = readers::readers(&request, calls, streams);
             documented(request.form, ended, streams)
         }
         Ok(Request::Explain(request)) => {

@@ -10,12 +10,12 @@ mod text;
 mod types;
 
 pub use scripts::{Scripts, Which};
-pub use text::counted;
+pub use text::{counted, groups_read};
 
 use crate::names::Names;
 use crate::words::{named, Words};
 use reference::sheet::{Repeat, Sheet};
-use reference::text::Fault;
+use reference::text::{Fault, Thing};
 use reference::Reason;
 use std::fmt;
 
@@ -25,7 +25,7 @@ pub enum Blamed {
     Sheet,
     Script,
     Memory,
-    /// The authority or the group.
+    /// The authority, the group or the label.
     Argument,
 }
 
@@ -89,6 +89,12 @@ pub fn message(reason: &Reason, sheet: Option<&Sheet>, names: &Names) -> Message
             (Blamed::Script, line, told)
         }
         Reason::Scripts { found, most } => (Blamed::Script, 0, scripts::too_many(*found, *most)),
+        Reason::UnknownLabel { label, count } => {
+            // where the sheet has no labels, no argument would do
+            let blamed = if *count == 0 { Blamed::Sheet } else { Blamed::Argument };
+            (blamed, 0, text::missing(Thing::Label, *label as usize, *count))
+        }
+        Reason::Places { found, wanted } => (Blamed::Argument, 0, places(*found, *wanted)),
     };
     finished(reason.number(), blamed, line, told)
 }
@@ -136,6 +142,14 @@ fn stranger(principal: usize, count: usize) -> Told {
         format!("principal {principal} isn't on the sheet ({})", counted(count, "principal")),
         "name only principals of the sheet",
         format!("principals are 0 to {}", count - 1),
+    )
+}
+
+fn places(found: usize, wanted: usize) -> Told {
+    told(
+        format!("the slice has {}, and {} the label", counted(found, "place"), groups_read(wanted)),
+        format!("lend at least {wanted}"),
+        "the groups are listed all or not at all, each in a place of its own",
     )
 }
 

@@ -106,20 +106,40 @@ impl Names {
 
     /// The principal that a name or a number gives. It may be one that isn't on the sheet.
     fn principal_of(&self, given: &str) -> Result<usize, String> {
-        let numbered = number(given.as_bytes()).ok().map(|number| number as usize);
-        let named = || self.principals.iter().find(|(_, named)| named.name == given);
-        match numbered.or_else(|| named().map(|(principal, _)| *principal)) {
+        match numbered(&self.principals, given) {
             Some(principal) if principal < principals::MOST => Ok(principal),
             Some(principal) => {
                 Err(format!("there can't be a principal {principal}: 15 is the last"))
             }
             None if given.is_empty() => Err("a principal is missing in the list".to_string()),
-            None if self.principals.is_empty() => {
-                Err(format!("`{given}` is no number, and no names are given (--names FILE)"))
-            }
+            None if self.principals.is_empty() => Err(unnamed("principal", "P", given)),
             None => Err(format!("`{given}` is no principal's name or number")),
         }
     }
+
+    /// The label that a name or a number gives. It may be one that isn't on the sheet.
+    pub fn label_of(&self, given: &str) -> Result<usize, String> {
+        match numbered(&self.labels, given) {
+            Some(label) => Ok(label),
+            None if given.is_empty() => Err("it is empty: give a number or a name".to_string()),
+            None if self.labels.is_empty() => Err(unnamed("label", "L", given)),
+            None => Err(format!("`{given}` is no label's name or number")),
+        }
+    }
+}
+
+/// The number that a name or a number gives.
+fn numbered(names: &Kind, given: &str) -> Option<usize> {
+    let named = || names.iter().find(|(_, named)| named.name == given).map(|(number, _)| *number);
+    number(given.as_bytes()).ok().map(|number| number as usize).or_else(named)
+}
+
+/// That what is given is no number, and nothing of its kind has a name, which a `line` would give.
+fn unnamed(thing: &str, line: &str, given: &str) -> String {
+    format!(
+        "`{given}` is no {thing}'s number, and no names of {thing}s are given (`{line}` lines of \
+         --names FILE)"
+    )
 }
 
 fn name(names: &Kind, number: usize) -> Option<&str> {
@@ -237,6 +257,34 @@ mod tests {
         assert_eq!(names.group("15"), Ok(0x8000));
         for wrong in ["16", "4294967296", "01", "+1", "buyer", "0,", ",", "0,,1", " ", "Farm"] {
             assert!(names.group(wrong).is_err(), "{wrong}");
+        }
+    }
+
+    #[test]
+    fn a_label_is_a_name_or_a_number() {
+        let names = names("P 0 farm\nL 1 farm~only\nL 3 -\n");
+        for (given, label) in
+            [("0", 0), ("farm only", 1), ("-", 3), ("32", 32), ("4294967295", 0xffff_ffff)]
+        {
+            assert_eq!(names.label_of(given), Ok(label));
+        }
+        for wrong in ["", "farm", "Farm only", "01", "+1", "4294967296", "0,1"] {
+            assert!(names.label_of(wrong).is_err(), "{wrong}");
+        }
+    }
+
+    /// The file may have names of another kind, or there may be none.
+    #[test]
+    fn a_kind_without_names() {
+        let label = "`farm only` is no label's number, and no names of labels are given (`L` \
+                     lines of --names FILE)";
+        for text in ["", "P 0 farm~only\n", "X 0 farm~only\n"] {
+            assert_eq!(names(text).label_of("farm only"), Err(label.to_string()), "{text}");
+        }
+        let principal = "`farm` is no principal's number, and no names of principals are given \
+                         (`P` lines of --names FILE)";
+        for text in ["", "L 0 farm\n", "X 0 farm\n"] {
+            assert_eq!(names(text).group("0,farm"), Err(principal.to_string()), "{text}");
         }
     }
 }

@@ -84,6 +84,11 @@ impl Words<'_> {
         if set == Principals::first(self.sheet.principals) {
             return "everyone".to_string();
         }
+        self.members(set)
+    }
+
+    /// The same by its members, all of them too.
+    pub fn members(&self, set: Principals) -> String {
         listed(&set.members().map(|p| self.principal(p)).collect::<Vec<_>>(), "nobody")
     }
 

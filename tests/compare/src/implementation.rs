@@ -1,12 +1,13 @@
 //! The implementations that tests go through: the reference, the lean one, and the library where it
 //! is linked.
 
-use reference::{Outcome, Round};
+use reference::{Groups, Outcome, Round};
 
 pub type Check = fn(&[u8], &[u8]) -> u8;
 pub type Run = fn(&[u8], &[u8], &mut [u32], u16, u32) -> Outcome;
 pub type RunRound = fn(&[u8], &[u8], &mut [u32], u16, u32) -> Round;
 pub type View = fn(&[u8], &[u32], u16, &mut [u32]) -> u8;
+pub type ListGroups = fn(&[u8], u32, &mut [u16]) -> Groups;
 
 /// The calls of one implementation.
 #[derive(Clone, Copy)]
@@ -16,6 +17,7 @@ pub struct Implementation {
     pub run: Run,
     pub round: RunRound,
     pub view: View,
+    pub groups: ListGroups,
 }
 
 pub const REFERENCE: Implementation = Implementation {
@@ -24,6 +26,7 @@ pub const REFERENCE: Implementation = Implementation {
     run: reference::run,
     round: reference::round,
     view: reference::view,
+    groups: reference::groups,
 };
 
 pub const LEAN: Implementation = Implementation {
@@ -32,6 +35,7 @@ pub const LEAN: Implementation = Implementation {
     run: crate::lean::run,
     round: crate::lean::round,
     view: crate::lean::view,
+    groups: crate::lean::groups,
 };
 
 #[cfg(feature = "library")]
@@ -47,6 +51,10 @@ pub const LIBRARY: Implementation = Implementation {
         Round { answer: round.answer, answers: round.answers, steps: round.steps }
     },
     view: bindings::view,
+    groups: |sheet, label, groups| {
+        let listed = bindings::groups(sheet, label, groups);
+        Groups { answer: listed.answer, count: listed.count }
+    },
 };
 
 /// Every implementation that is there.

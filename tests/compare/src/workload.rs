@@ -1,4 +1,6 @@
-//! The named workloads of the benchmark.
+//! The named workloads of the benchmark: those of a script here, those of a label in `groups`.
+
+pub mod groups;
 
 use crate::implementation::Implementation;
 use reference::answer::{Outcome, Refusal, Round, DONE, SCRIPTS};
@@ -40,10 +42,8 @@ impl Workload {
         self.memory.len()
     }
 
-    /// A check that ends where the sheet is read.
     pub fn sheet(&self, implementation: &Implementation) {
-        let answer = (implementation.check)(self.sheet.as_bytes(), UNFORMED);
-        assert_eq!(answer, Refusal::ScriptForm.number(), "the sheet of {}", self.name);
+        read_sheet(implementation, &self.name, &self.sheet);
     }
 
     pub fn check(&self, implementation: &Implementation) {
@@ -90,6 +90,12 @@ impl Workload {
         let answer = (implementation.view)(self.sheet.as_bytes(), memory, self.group, view);
         assert_eq!(answer, DONE, "the view of {}", self.name);
     }
+}
+
+/// A check that ends where the sheet is read.
+fn read_sheet(implementation: &Implementation, name: &str, sheet: &str) {
+    let answer = (implementation.check)(sheet.as_bytes(), UNFORMED);
+    assert_eq!(answer, Refusal::ScriptForm.number(), "the sheet of {name}");
 }
 
 /// The text of lines whose fields are parted by blanks.

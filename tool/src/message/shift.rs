@@ -26,7 +26,9 @@ pub fn shifted(reason: Reason, before: usize) -> Reason {
         | Reason::Principal { .. }
         | Reason::SliceLength { .. }
         | Reason::Memory(_)
-        | Reason::Scripts { .. }) => other,
+        | Reason::Scripts { .. }
+        | Reason::UnknownLabel { .. }
+        | Reason::Places { .. }) => other,
     }
 }
 

@@ -189,7 +189,7 @@ fn too_many(what: Counted, most: usize) -> Told {
 }
 
 /// Numbers that name nothing.
-fn missing(thing: Thing, number: usize, count: usize) -> Told {
+pub fn missing(thing: Thing, number: usize, count: usize) -> Told {
     let known = match (thing, count) {
         (Thing::Binding, 0) => {
             "use `v` only in the two commands of a `c`, not in its expression".to_string()
@@ -242,4 +242,10 @@ pub fn counted(count: usize, thing: &str) -> String {
     } else {
         format!("{count} {thing}s")
     }
+}
+
+/// `1 smallest group reads`, `2 smallest groups read`.
+pub fn groups_read(count: usize) -> String {
+    let read = if count == 1 { "reads" } else { "read" };
+    format!("{} {read}", counted(count, "smallest group"))
 }

@@ -4,8 +4,8 @@ use crate::desk::{desk, tabbed, MEMORY};
 use crate::folder::Folder;
 use reference::evaluate::ValueTooLong;
 use reference::machine::Stopped;
-use reference::Reason;
-use simp::calls::{Calls, Library, Outcome, Reference, Round, CALLS};
+use reference::{Reason, MOST_GROUPS};
+use simp::calls::{Calls, Groups, Library, Outcome, Reference, Round, CALLS};
 use simp::main_with;
 use simp::streams::Streams;
 use std::ffi::OsString;
@@ -37,6 +37,9 @@ fn told_onto(
     let status = main_with(args, calls, &mut streams);
     (status, String::from_utf8(err).expect("UTF-8"))
 }
+
+type RoundCall = fn(&[u8], &[u8], &mut [u32], u16, u32) -> Round;
+type GroupsCall = fn(&[u8], u32, &mut [u16]) -> Groups;
 
 fn lying(library: Library) -> Calls {
     Calls { library, ..CALLS }
@@ -127,6 +130,8 @@ fn a_verdict_on_a_sheet() {
         RUN,
         ROUND,
         "show a.sheet a.memory --to=0",
+        "readers a.sheet",
+        "readers a.sheet 0 --json",
         "explain a.sheet",
         "explain a.sheet --json",
     ] {
@@ -335,8 +340,7 @@ const LONG: &str = "round a.sheet stops.round a.memory --as=1 --budget=";
 #[test]
 fn a_long_round() {
     let folder = desk("round-late");
-    let ends: fn(&[u8], &[u8], &mut [u32], u16, u32) -> Round =
-        |_, _, _, _, _| ended(0, &[(9, 600_000), (0, 1), (10, 599_999)]);
+    let ends: RoundCall = |_, _, _, _, _| ended(0, &[(9, 600_000), (0, 1), (10, 599_999)]);
     let calls = lying(Library { round: ends, ..CALLS.library });
     let (status, out, err) = told(&folder, &calls, &format!("{LONG}600000"));
     assert_eq!((status, err.as_str()), (1, ""));
@@ -363,7 +367,7 @@ fn a_long_round() {
 #[test]
 fn a_long_round_that_lies() {
     let folder = desk("round-late-lies");
-    let long: fn(&[u8], &[u8], &mut [u32], u16, u32) -> Round = |_, _, memory, _, _| {
+    let long: RoundCall = |_, _, memory, _, _| {
         memory[1] = 7;
         ended(0, &[(9, 1_000_001), (9, 1_000_001), (9, 1_000_001)])
     };
@@ -441,6 +445,88 @@ fn a_view_of_other_words() {
         says_nothing_else(&arguments, &out);
         is_loud(&err, "answer 0, location 1 is `1 62`", "answer 0, location 1 is ``");
     }
+}
+
+/// Readers by a library that lies: nothing else is printed. Label 0 is read by each of 3 alone.
+fn refused_list(test: &str, groups: GroupsCall, library: &str, reference: &str) {
+    let folder = desk(test);
+    let calls = lying(Library { groups, ..CALLS.library });
+    for arguments in ["readers a.sheet 0", "readers a.sheet", "readers a.sheet 0 --json"] {
+        let (status, out, err) = told(&folder, &calls, arguments);
+        assert_eq!(status, 4, "{arguments}");
+        says_nothing_else(arguments, &out);
+        is_loud(&err, library, reference);
+        assert!(err.contains("asked:     readers of label 0 on "), "{err}");
+    }
+}
+
+#[test]
+fn a_list_of_other_groups() {
+    const MANY: u32 = MOST_GROUPS as u32 + 1;
+    let counts = [2, 3, MANY].map(|count| format!("answer 0, count {count}"));
+    refused_list("few", |_, _, _| Groups { answer: 0, count: 2 }, &counts[0], &counts[1]);
+    refused_list("many", |_, _, _| Groups { answer: 0, count: MANY }, &counts[2], &counts[1]);
+    let place = |place: usize, group: &str| format!("{}, place {place} is `{group}`", counts[1]);
+    let swapped = |sheet: &[u8], label, places: &mut [u16]| {
+        let listed = bindings::groups(sheet, label, places);
+        places.swap(1, 2);
+        listed
+    };
+    refused_list("swapped", swapped, &place(1, "0004"), &place(1, "0002"));
+    let unlisted = |_: &[u8], _, _: &mut [u16]| Groups { answer: 0, count: 3 };
+    refused_list("unlisted", unlisted, &place(0, "ffff"), &place(0, "0001"));
+}
+
+/// Places after the count keep their content, whatever is written there.
+#[test]
+fn a_list_with_more_places_written() {
+    const LAST: usize = MOST_GROUPS - 1;
+    let counted = "answer 0, count 3";
+    let cleared = |sheet: &[u8], label, places: &mut [u16]| {
+        places.fill(0);
+        bindings::groups(sheet, label, places)
+    };
+    let [mine, theirs] = ["0000", "ffff"].map(|group| format!("{counted}, place 3 is `{group}`"));
+    refused_list("cleared", cleared, &mine, &theirs);
+    let last = |sheet: &[u8], label, places: &mut [u16]| {
+        places[LAST] = 7;
+        bindings::groups(sheet, label, places)
+    };
+    let [mine, theirs] =
+        ["0007", "ffff"].map(|group| format!("{counted}, place {LAST} is `{group}`"));
+    refused_list("last-place", last, &mine, &theirs);
+}
+
+#[test]
+fn a_list_that_is_refused() {
+    let answers = ["answer 12, count 0", "answer 0, count 3"];
+    let refused = |_: &[u8], _, _: &mut [u16]| Groups { answer: 12, count: 0 };
+    refused_list("refused-list", refused, answers[0], answers[1]);
+    let folder = desk("refused-lists");
+    let needed = |_: &[u8], _, _: &mut [u16]| Groups { answer: 12, count: 3 };
+    let written = |sheet: &[u8], label, places: &mut [u16]| {
+        places[0] = 1;
+        bindings::groups(sheet, label, places)
+    };
+    let place = |group: &str| format!("answer 12, count 0, place 0 is `{group}`");
+    for (groups, library, reference) in [
+        (needed as GroupsCall, "answer 12, count 3", "answer 12, count 0"),
+        (written, &place("0001"), &place("ffff")),
+    ] {
+        let calls = lying(Library { groups, ..CALLS.library });
+        let (status, out, err) = told(&folder, &calls, "readers a.sheet 3");
+        assert_eq!((status, out.as_str()), (4, ""));
+        is_loud(&err, library, reference);
+    }
+}
+
+#[test]
+fn a_reference_that_lists_nothing() {
+    let folder = desk("reference-list");
+    let reference = Reference { groups: |_, _, _| Ok(0), ..CALLS.reference };
+    let (status, out, err) = told(&folder, &Calls { reference, ..CALLS }, "readers a.sheet 0");
+    assert_eq!((status, out.as_str()), (4, ""));
+    is_loud(&err, "answer 0, count 3", "answer 0, count 0");
 }
 
 #[test]

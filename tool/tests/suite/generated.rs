@@ -3,10 +3,13 @@
 
 use crate::folder::Folder;
 use crate::tool::simp;
+use compare::generate::groups::groups_case;
 use compare::generate::program_input::sheet_and_scripts;
 use compare::generate::round::round_case;
 use reference::memory_text;
+use reference::principals::Principals;
 use reference::round::Refused;
+use reference::MOST_GROUPS;
 use simp::message::{message, Message, Scripts};
 use simp::names::Names;
 use std::collections::{BTreeMap, BTreeSet};
@@ -237,4 +240,56 @@ fn the_tool_s_verdicts_are_the_library_s() {
             assert_eq!(answers(&ran.out), expected, "seed {seed}");
         }
     }
+}
+
+/// The library's answer, and its groups.
+fn listed(sheet: &[u8], label: u32) -> (u8, Vec<Principals>) {
+    let mut places = vec![0; MOST_GROUPS];
+    let listed = bindings::groups(sheet, label, &mut places);
+    places.truncate(listed.count as usize);
+    (listed.answer, places.into_iter().map(Principals::from_bits).collect())
+}
+
+/// The groups of a label as `--json` prints them.
+fn list(label: usize, groups: &[Principals]) -> String {
+    let group = |group: &Principals| {
+        let members: Vec<String> = group.members().map(|p| p.to_string()).collect();
+        format!("[{}]", members.join(","))
+    };
+    let count = groups.len();
+    let groups = groups.iter().map(group).collect::<Vec<_>>().join(",");
+    format!(r#"{{"label":{label},"name":null,"count":{count},"groups":[{groups}]}}"#)
+}
+
+/// One label is held against the library, all labels of the sheet against the reference.
+#[test]
+fn the_tool_s_groups_are_the_library_s() {
+    let folder = Folder::new("generated-groups");
+    let (mut numbers, mut most) = (BTreeSet::new(), 0);
+    for seed in 30_000..30_400 {
+        let case = groups_case(seed);
+        folder.write("sheet", &case.sheet);
+        let (answer, groups) = listed(&case.sheet, case.label);
+        let ran = simp(&folder, &["readers", "sheet", &case.label.to_string(), "--json"]);
+        let start = match answer {
+            0 => {
+                let list = list(case.label as usize, &groups);
+                format!("{{\"answer\":0,\"listed\":true,\"labels\":[{list}]}}\n")
+            }
+            _ => format!("{{\"answer\":{answer},\"listed\":false,\"blamed\":"),
+        };
+        assert!(ran.out.starts_with(&start), "seed {seed}: {}", ran.out);
+        assert_eq!((ran.status, ran.err.as_str()), (i32::from(answer != 0), ""), "seed {seed}");
+        numbers.insert(answer);
+        most = most.max(groups.len());
+        if let Ok(sheet) = reference::calls::read_sheet(&case.sheet) {
+            let each = |label| list(label, &reference::smallest_groups(&sheet, label));
+            let lists: Vec<String> = (0..sheet.labels.len()).map(each).collect();
+            let all = simp(&folder, &["readers", "sheet", "--json"]);
+            let end = format!("\"labels\":[{}]}}\n", lists.join(","));
+            assert!(all.status == 0 && all.out.ends_with(&end), "seed {seed}: {}", all.out);
+        }
+    }
+    assert_eq!(numbers.into_iter().collect::<Vec<u8>>(), [0, 1, 2, 12]);
+    assert!(most > 100, "{most}");
 }

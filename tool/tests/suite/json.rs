@@ -322,6 +322,44 @@ fn views() {
 }
 
 #[test]
+fn readers() {
+    let folder = desk("json-readers");
+    folder.write("a.names", b"L\t2\tfarm only\n");
+    let readers = |status, more: &[&str]| {
+        let arguments = ["readers", "a.sheet", "--json", "--names", "a.names"];
+        document(&simp(&folder, &[&arguments[..], more].concat()), status)
+    };
+    let list = |label: u64, name: Json, groups: &[&[u64]]| {
+        let groups: Vec<Json> = groups.iter().copied().map(numbers).collect();
+        let count = Json::Number(groups.len() as u64);
+        let values = [Json::Number(label), name, count, Json::List(groups)];
+        let fields = ["label", "name", "count", "groups"].map(str::to_string);
+        Json::Object(fields.into_iter().zip(values).collect())
+    };
+    let last = list(2, Json::Text("farm only".to_string()), &[&[0]]);
+    let open = list(0, Json::Null, &[&[0], &[1], &[2]]);
+    let all = [open, list(1, Json::Null, &[&[0]]), last.clone()];
+    for (more, lists) in [(&[][..], &all[..]), (&["farm only"], &[last])] {
+        let json = readers(0, more);
+        assert_eq!((json.at("answer"), json.at("listed")), (&Json::Number(0), &Json::Bool(true)));
+        assert_eq!(json.at("labels").items(), lists);
+    }
+    let json = readers(1, &["3"]);
+    assert_eq!((json.at("answer"), json.at("listed")), (&Json::Number(12), &Json::Bool(false)));
+    assert_eq!(json.at("name"), &Json::Text("LABEL".to_string()));
+    told(&json, "argument", None);
+    folder.write("a.names", b"");
+    folder.write("a.sheet", b"P\t1\n");
+    assert_eq!(readers(0, &[]).at("labels").items(), []);
+    told(&readers(1, &["0"]), "sheet", None);
+    folder.write("a.sheet", b"P\t1\nL\nL\n");
+    let json = readers(1, &["9"]);
+    assert_eq!((json.at("answer"), json.at("listed")), (&Json::Number(2), &Json::Bool(false)));
+    assert_eq!(json.at("name"), &Json::Text("a.sheet".to_string()));
+    told(&json, "sheet", Some(3));
+}
+
+#[test]
 fn explanations() {
     let folder = desk("json-explanations");
     let json = document(&simp(&folder, &["explain", "a.sheet", "--json"]), 0);
@@ -344,10 +382,11 @@ fn explanations() {
 #[test]
 fn what_cannot_be_read() {
     let folder = desk("json-unread");
-    let calls: [&[&str]; 5] = [
+    let calls: [&[&str]; 6] = [
         &["run", "a.sheet", "no.simp", "a.memory", "--as=0", "--budget=1", "--json"],
         &["round", "a.sheet", "no.round", "a.memory", "--as=0", "--budget=1", "--json"],
         &["show", "no.sheet", "a.memory", "--to=0", "--json"],
+        &["readers", "no.sheet", "0", "--json"],
         &["explain", "no.sheet", "--json"],
         &["check", "a.sheet", "copy.simp", "--names=no.names", "--json"],
     ];

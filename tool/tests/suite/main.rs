@@ -8,6 +8,7 @@ mod json;
 mod messages;
 mod names;
 mod output;
+mod readers;
 mod readme;
 mod round;
 mod samples;

@@ -26,6 +26,19 @@ fn names_stand_in_what_is_printed_and_in_arguments() {
 }
 
 #[test]
+fn names_of_another_kind_are_no_principals() {
+    let folder = desk("names-of-labels");
+    folder.write("a.names", b"L\t2\tfarm\n");
+    for names in [&[][..], &["--names", "a.names"]] {
+        let ran = simp(&folder, &[&["show", "a.sheet", "a.memory", "--to=farm"], names].concat());
+        assert_eq!((ran.status, ran.out.as_str()), (2, ""));
+        let says = "simp: --to: `farm` is no principal's number, and no names of principals are \
+                    given (`P` lines of --names FILE)\n";
+        assert!(ran.err.starts_with(says), "{}", ran.err);
+    }
+}
+
+#[test]
 fn names_that_are_not_of_their_form() {
     let folder = desk("bad-names");
     for (text, line) in [
@@ -48,6 +61,7 @@ fn names_that_are_not_of_their_form() {
             &["run", "a.sheet", "copy.simp", "a.memory", "--as=0", "--budget=1"],
             &["round", "a.sheet", "pack.round", "a.memory", "--as=0", "--budget=1"],
             &["show", "a.sheet", "a.memory", "--to=0"],
+            &["readers", "a.sheet", "0"],
             &["explain", "a.sheet"],
         ] {
             let ran = simp(&folder, &[arguments, &["--names", "a.names"]].concat());

@@ -84,6 +84,7 @@ fn the_technician_s_commands_print_what_stands_below_them() {
         "simp run ",
         "simp round ",
         "simp show ",
+        "simp readers ",
         "simp explain ",
         "--write",
         "--names ",

@@ -31,7 +31,12 @@ fn said(name: &str) -> String {
         at_samples("bad", &[command, sheet, script, memory, "--as", "1", "--budget", "1000"])
     };
     let ran = if name.ends_with(".sheet") {
-        at_samples("bad", &["check", name, "../tally.simp"])
+        let checked = at_samples("bad", &["check", name, "../tally.simp"]);
+        if checked.out.starts_with(name) {
+            checked
+        } else {
+            at_samples("bad", &["readers", name, "0"])
+        }
     } else if name.ends_with(".memory") {
         run("run", "../tally.simp", name)
     } else if name.ends_with(".round") {
@@ -70,7 +75,7 @@ fn each_bad_one_gets_its_message() {
         *numbers.entry(number.split(':').next().expect("a number").to_string()).or_insert(0) += 1;
     }
     let numbers: Vec<String> = numbers.into_keys().collect();
-    assert_eq!(numbers, ["1", "10", "11", "2", "4", "5", "6", "8", "9"]);
+    assert_eq!(numbers, ["1", "10", "11", "12", "2", "4", "5", "6", "8", "9"]);
 }
 
 #[test]

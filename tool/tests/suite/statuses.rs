@@ -49,6 +49,8 @@ fn a_refused_sheet_is_blamed_once() {
             run(&folder, "copy.simp", &[]),
             simp(&folder, &["round", "a.sheet", "pack.round", "a.memory", "--as=1", "--budget=1"]),
             simp(&folder, &["show", "a.sheet", "a.memory", "--to", "0"]),
+            simp(&folder, &["readers", "a.sheet"]),
+            simp(&folder, &["readers", "a.sheet", "9"]),
             simp(&folder, &["explain", "a.sheet"]),
         ];
         for ran in others {
@@ -74,6 +76,8 @@ fn files_that_cannot_be_read() {
         &["run", "a.sheet", "copy.simp", "no.memory", "--as", "0", "--budget", "1"][..],
         &["round", "a.sheet", "no.round", "a.memory", "--as", "0", "--budget", "1"],
         &["show", "no.sheet", "a.memory", "--to", "0"],
+        &["readers", "no.sheet"],
+        &["readers", "a.sheet", "0", "--names", "no.names"],
         &["explain", "no.sheet"],
         &["explain", "a.sheet", "--names", "no.names"],
         &["explain", "a.sheet/"],
@@ -237,6 +241,7 @@ fn misuse() {
         (&["run", "a.sheet", "copy.simp", "a.memory", "--as", "0"], "--budget is missing"),
         (&["run", "a.sheet", "copy.simp", "-", "--as=", "--budget=1", "--write"], "--write"),
         (&["show", "a.sheet", "a.memory"], "--to is missing"),
+        (&["readers", "a.sheet", "0", "1"], "`1`"),
         (&["explain", "a.sheet", "b.sheet"], "`b.sheet`"),
     ] {
         misused(&simp(&folder, arguments), says);
@@ -249,9 +254,11 @@ fn misuse() {
 fn help_and_version() {
     let folder = desk("help");
     let general = simp(&folder, &["--help"]);
-    assert!(general.status == 0 && general.out.contains("exit status"), "{}", general.out);
+    let statuses = "exit status: 0 accepted, done, shown or listed ";
+    assert!(general.status == 0 && general.out.contains(statuses), "{}", general.out);
+    assert!(general.out.lines().all(|line| line.len() <= 100), "{}", general.out);
     assert_eq!(simp(&folder, &["help"]), general);
-    for name in ["check", "run", "round", "show", "explain"] {
+    for name in ["check", "run", "round", "show", "readers", "explain"] {
         let ran = simp(&folder, &[name, "--help"]);
         let usage = format!("usage: simp {name} ");
         assert!(ran.status == 0 && ran.out.starts_with(&usage), "{}", ran.out);

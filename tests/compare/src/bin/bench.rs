@@ -2,19 +2,22 @@
 //!
 //! ```text
 //! bench reference|lean|library WORKLOAD sheet|check|run|view|round|runs REPEATS
+//! bench reference|lean|library LABEL-WORKLOAD sheet|groups REPEATS
 //! ```
 //!
 //! The workloads are those of `workload.rs`; `round` is 32 times the script of one in one round, and
-//! `runs` the same in 32 runs. Answers are checked. `library` is there where the package was built
-//! with the feature of that name.
+//! `runs` the same in 32 runs. Those of a label are in `workload/groups.rs`. Answers are checked.
+//! `library` is there where the package was built with the feature of that name.
 
-use compare::implementation::ALL;
-use compare::workload;
+use compare::implementation::{Implementation, ALL};
+use compare::workload::groups::LabelWorkload;
+use compare::workload::{self, Workload};
 use std::hint::black_box;
 use std::process::ExitCode;
 
 const USAGE: &str =
-    "usage: bench reference|lean|library WORKLOAD sheet|check|run|view|round|runs REPEATS";
+    "usage: bench reference|lean|library WORKLOAD sheet|check|run|view|round|runs REPEATS
+       bench reference|lean|library LABEL-WORKLOAD sheet|groups REPEATS";
 
 fn main() -> ExitCode {
     let arguments: Vec<String> = std::env::args().skip(1).collect();
@@ -35,17 +38,28 @@ fn carry_out(arguments: &[String]) -> Result<(), String> {
         .iter()
         .find(|i| i.name == implementation)
         .ok_or(format!("no implementation {implementation} is linked"))?;
-    let workload = workload::all()
-        .into_iter()
-        .find(|w| w.name == *workload)
-        .ok_or(format!("no workload {workload}"))?;
     let repeats: u32 = repeats.parse().map_err(|_| format!("{repeats} is no number"))?;
+    let of_a_script = workload::all().into_iter().find(|w| w.name == *workload);
+    let of_a_label = workload::groups::all().into_iter().find(|w| w.name == workload);
+    match (of_a_script, of_a_label) {
+        (Some(workload), _) => carry_out_script(implementation, &workload, call, repeats),
+        (_, Some(workload)) => carry_out_label(implementation, &workload, call, repeats),
+        (None, None) => Err(format!("no workload {workload}")),
+    }
+}
+
+fn carry_out_script(
+    implementation: &Implementation,
+    workload: &Workload,
+    call: &str,
+    repeats: u32,
+) -> Result<(), String> {
     let scripts = workload.scripts();
     let (mut memory, mut view) = (vec![0; workload.words()], vec![0; workload.words()]);
     workload.run(implementation, &mut memory);
     for _ in 0..repeats {
         let implementation = black_box(implementation);
-        match call.as_str() {
+        match call {
             "sheet" => workload.sheet(implementation),
             "check" => workload.check(implementation),
             "run" => workload.run(implementation, &mut memory),
@@ -55,6 +69,25 @@ fn carry_out(arguments: &[String]) -> Result<(), String> {
             _ => return Err(format!("no call {call}")),
         }
         black_box((&mut memory, &mut view));
+    }
+    Ok(())
+}
+
+fn carry_out_label(
+    implementation: &Implementation,
+    workload: &LabelWorkload,
+    call: &str,
+    repeats: u32,
+) -> Result<(), String> {
+    let mut places = vec![0; workload.places()];
+    for _ in 0..repeats {
+        let implementation = black_box(implementation);
+        match call {
+            "sheet" => workload.sheet(implementation),
+            "groups" => workload.groups(implementation, &mut places),
+            _ => return Err(format!("no call {call}")),
+        }
+        black_box(&mut places);
     }
     Ok(())
 }

@@ -6,6 +6,7 @@
 pub mod case;
 pub mod damage;
 pub mod expression;
+pub mod groups;
 pub mod memory;
 pub mod pair;
 pub mod prng;

@@ -7,10 +7,10 @@ use reference::types::{ERROR, INT, PACKED};
 
 /// A policy with its sets as bits.
 #[derive(Clone, Copy, Debug)]
-struct Listed {
-    owner: usize,
-    readers: u16,
-    writers: u16,
+pub(super) struct Listed {
+    pub owner: usize,
+    pub readers: u16,
+    pub writers: u16,
 }
 
 /// What the lines of a sheet say.
@@ -59,8 +59,17 @@ pub fn plan(prng: &mut Prng) -> Plan {
         1 => prng.between(5, 15),
         _ => prng.between(2, 4),
     };
+    plan_of(prng, principals, policies)
+}
+
+/// The same of so many principals, with labels of the policies that are drawn.
+pub(super) fn plan_of(
+    prng: &mut Prng,
+    principals: usize,
+    policies: fn(&mut Prng, usize) -> Vec<Listed>,
+) -> Plan {
     let sums = sums(prng);
-    let labels = labels(prng, principals);
+    let labels = labels(prng, principals, policies);
     let locations = locations(prng, &sums, labels.len());
     Plan { principals, sums, labels, locations }
 }
@@ -82,7 +91,11 @@ fn sums(prng: &mut Prng) -> Vec<(usize, usize)> {
 }
 
 /// Labels of different effective sets.
-fn labels(prng: &mut Prng, n: usize) -> Vec<Vec<Listed>> {
+fn labels(
+    prng: &mut Prng,
+    n: usize,
+    policies: fn(&mut Prng, usize) -> Vec<Listed>,
+) -> Vec<Vec<Listed>> {
     let wanted = count(prng, 6, 32);
     let mut labels = Vec::new();
     let mut effective = Vec::new();

@@ -3,6 +3,7 @@
 
 mod check;
 mod evaluate;
+mod groups;
 mod label;
 mod list;
 mod machine;
@@ -21,6 +22,7 @@ use script::{Row, Script};
 use sheet::{Sheet, MOST_LOCATIONS};
 use value::Value;
 
+pub use groups::groups;
 pub use round::round;
 
 fn number(result: Result<(), Refusal>) -> u8 {

@@ -1,8 +1,8 @@
 //! Every bound of the texts and slices, on every implementation.
 
 use crate::common::{lines, memory, sheet, start, text, text_of};
-use compare::implementation::ALL;
-use reference::Outcome;
+use compare::implementation::{Implementation, ALL};
+use reference::{Groups, Outcome, MOST_GROUPS};
 
 /// The check of a script on a sheet, the same from every implementation.
 fn check(sheet: &[u8], script: &[u8]) -> u8 {
@@ -255,6 +255,71 @@ fn memories() {
                 let shown = if answer == 0 { before.clone() } else { vec![9; 32] };
                 assert_eq!(view, shown, "{}: {value:?}", i.name);
             }
+        }
+    }
+}
+
+/// A call for groups on a slice of so many places, every one of which is 7.
+fn groups(sheet: &[u8], label: u32, length: usize) -> Vec<(Groups, Vec<u16>)> {
+    let call = |i: &Implementation| {
+        let mut lent = vec![7; length];
+        ((i.groups)(sheet, label, &mut lent), lent)
+    };
+    ALL.iter().map(call).collect()
+}
+
+fn assert_groups_refused(sheet: &[u8], label: u32, length: usize) {
+    for (i, got) in ALL.iter().zip(groups(sheet, label, length)) {
+        let refused = (Groups { answer: 12, count: 0 }, vec![7; length]);
+        assert_eq!(got, refused, "{}: label {label}, {length} places", i.name);
+    }
+}
+
+/// A sheet of so many labels: the bits of a label's number, from bit 8 on, are the readers that its
+/// owner 0 lists.
+fn labels_by_number(count: usize) -> Vec<u8> {
+    let mut sheet = lines(&["P 16"]);
+    for label in 0..count {
+        sheet.extend(["L".to_string(), format!("O 0 {:04x} ffff", label << 8)]);
+    }
+    text_of(&[&sheet])
+}
+
+#[test]
+fn labels_that_have_groups() {
+    for count in [0, 1, 2, 31, 32] {
+        let sheet = labels_by_number(count);
+        for off in [count, count + 1, 32, 255, 256, 65_535, 65_536, 1 << 31, u32::MAX as usize] {
+            assert_groups_refused(&sheet, off as u32, 16);
+            assert_groups_refused(&sheet, off as u32, 0);
+        }
+        for label in 0..count {
+            for wrapped in [label + 32, label + 256, label + 65_536, label + (1 << 31)] {
+                assert_groups_refused(&sheet, wrapped as u32, 16);
+            }
+            // each reader of owner 0 alone, since the other owners let everyone read
+            let readers = (0..16).filter(|p| (label << 8 | 1) >> p & 1 == 1);
+            let mut expected: Vec<u16> = readers.map(|p| 1 << p).collect();
+            let listed = Groups::listed(expected.len() as u32);
+            expected.resize(16, 7);
+            for (i, got) in ALL.iter().zip(groups(&sheet, label as u32, 16)) {
+                assert_eq!(got, (listed, expected.clone()), "{}: label {label}", i.name);
+            }
+        }
+    }
+}
+
+#[test]
+fn places_for_groups() {
+    let sheet = text(&["P 4", "L"]);
+    for length in 0..4 {
+        assert_groups_refused(&sheet, 0, length);
+    }
+    for length in [4, 5, 16, 255, 256, 257, MOST_GROUPS, 65_535, 65_536, 65_537, 1 << 20] {
+        let mut expected = vec![7; length];
+        expected[..4].copy_from_slice(&[1, 2, 4, 8]);
+        for (i, got) in ALL.iter().zip(groups(&sheet, 0, length)) {
+            assert_eq!(got, (Groups::listed(4), expected.clone()), "{}: {length}", i.name);
         }
     }
 }

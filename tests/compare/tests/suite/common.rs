@@ -85,3 +85,8 @@ pub fn case_count() -> u64 {
 pub fn round_count() -> u64 {
     case_count() / 2
 }
+
+/// The number of generated calls for groups, of which those of many principals take their time.
+pub fn groups_count() -> u64 {
+    case_count() / 2
+}

@@ -1,11 +1,15 @@
 //! The generator reaches every answer of every call that can give it.
 
-use crate::common::{case_count, round_count};
+use crate::common::{case_count, groups_count, round_count};
 use compare::generate::case::case;
+use compare::generate::groups::{groups_case, GroupsCase};
 use compare::generate::round::{round_case, RoundCase};
-use reference::calls::{accepted_script, known_group, read_memory, require_length};
+use reference::calls::{accepted_script, known_group, known_label, read_memory, require_length};
+use reference::sheet::Sheet;
 use reference::text::MOST_BYTES;
-use reference::{check, parts, round, run, sheet_text, view, Reason, DONE, SCRIPTS};
+use reference::{
+    check, parts, round, run, sheet_text, smallest_groups, try_groups, view, Reason, DONE, SCRIPTS,
+};
 use std::collections::{BTreeMap, BTreeSet};
 
 type Counts = BTreeMap<u8, u64>;
@@ -147,4 +151,111 @@ fn generated_rounds_reach_every_answer() {
     assert!(shown.sizes.keys().all(|size| (1..=SCRIPTS).contains(size)), "{shown:?}");
     assert!(shown.goes_on * 20 > rounds && shown.written * 5 > rounds, "{shown:?}");
     assert!(shown.long * 1000 > rounds, "{shown:?}");
+}
+
+/// The number of policies of a label: of the `O` lines between its `L` line and the next.
+fn policies(sheet: &[u8], label: usize) -> usize {
+    let mut labels = sheet.split(|&byte| byte == b'L').skip(1);
+    let lines = labels.nth(label).expect("a label of the sheet");
+    lines.iter().filter(|&&byte| byte == b'O').count()
+}
+
+/// What generated calls for groups have to show.
+#[derive(Debug, Default)]
+struct Asked {
+    /// By number of principals, the calls that are done.
+    principals: BTreeMap<usize, u64>,
+    /// By number of owners that the label lists, the calls that are done.
+    policies: BTreeMap<usize, u64>,
+    /// By number of groups, the calls that are done.
+    groups: BTreeMap<usize, u64>,
+    /// By how many places are lent beside the groups that there are.
+    places: BTreeMap<&'static str, u64>,
+    /// By what label is asked for that isn't on the sheet.
+    labels: BTreeMap<&'static str, u64>,
+}
+
+impl Asked {
+    fn count(&mut self, case: &GroupsCase, sheet: &Sheet) {
+        let (label, count) = (case.label as usize, sheet.labels.len());
+        if label >= count {
+            let chosen = match label {
+                _ if count == 0 => "none on the sheet",
+                _ if label == count => "the count",
+                _ if case.label == u32::MAX => "the largest",
+                _ if label % (1 << 8) < count => "one of more bits",
+                _ => "another",
+            };
+            *self.labels.entry(chosen).or_default() += 1;
+            return;
+        }
+        let (found, wanted) = (case.places.len(), smallest_groups(sheet, label).len());
+        let length = match found {
+            0 => "empty",
+            _ if found + 1 == wanted => "one short",
+            _ if found < wanted => "short",
+            _ if found == wanted => "exact",
+            _ if found < wanted + 100 => "longer",
+            _ => "far longer",
+        };
+        *self.places.entry(length).or_default() += 1;
+        if found >= wanted {
+            *self.principals.entry(sheet.principals).or_default() += 1;
+            *self.policies.entry(policies(&case.sheet, label)).or_default() += 1;
+            *self.groups.entry(wanted).or_default() += 1;
+        }
+    }
+}
+
+/// Every number that applies to a call for groups, in their order; where the sheet is unformed, 12
+/// can be told of a label that no sheet has and of no places.
+fn applying_to_groups(case: &GroupsCase) -> Vec<u8> {
+    let length = case.places.len();
+    let (refused, unlisted) = match sheet_text::parse(&case.sheet) {
+        Err(_) => (Some(1), case.label >= 32 || length == 0),
+        Ok(sheet) => {
+            let label = known_label(&sheet, case.label).ok();
+            let wanted = label.map(|label| smallest_groups(&sheet, label).len());
+            (sheet.repeat().map(|_| 2), wanted.is_none_or(|wanted| length < wanted))
+        }
+    };
+    refused.into_iter().chain(unlisted.then_some(12)).collect()
+}
+
+#[test]
+fn generated_calls_for_groups_reach_every_answer() {
+    let calls = groups_count().min(10_000);
+    let (mut answers, mut among_others) = (Counts::new(), Counts::new());
+    let (mut twelve, mut asked) = (BTreeMap::new(), Asked::default());
+    for seed in 0..calls {
+        let case = groups_case(seed);
+        let refused = try_groups(&case.sheet, case.label, &mut case.places.clone()).err();
+        let answer = refused.as_ref().map_or(DONE, Reason::number);
+        *answers.entry(answer).or_default() += 1;
+        let applying = applying_to_groups(&case);
+        assert_eq!(answer, applying.first().copied().unwrap_or(DONE), "seed {seed}");
+        if applying.len() > 1 {
+            *among_others.entry(answer).or_default() += 1;
+        }
+        match refused {
+            Some(Reason::UnknownLabel { .. }) => *twelve.entry("label").or_default() += 1,
+            Some(Reason::Places { .. }) => *twelve.entry("places").or_default() += 1,
+            _ => (),
+        }
+        if let (DONE | 12, Ok(sheet)) = (answer, sheet_text::parse(&case.sheet)) {
+            asked.count(&case, &sheet);
+        }
+    }
+    assert_reached("groups", &answers, &[0, 1, 2, 12], calls, 50);
+    assert_reached("groups, among others", &among_others, &[1, 2], calls, 200);
+    println!("{twelve:?} {asked:?}");
+    let often = |count: Option<&u64>, rare| count.is_some_and(|&count| count * rare >= calls);
+    assert!(["label", "places"].iter().all(|case| often(twelve.get(case), 50)), "{twelve:?}");
+    assert!((1..=16).all(|n| often(asked.principals.get(&n), 500)), "{asked:?}");
+    assert!((0..=16).all(|n| often(asked.policies.get(&n), 1000)), "{asked:?}");
+    assert!(asked.groups.keys().any(|&count| count >= 200), "{asked:?}");
+    let lengths = ["empty", "one short", "short", "exact", "longer", "far longer"];
+    assert!(lengths.iter().all(|length| often(asked.places.get(length), 200)), "{asked:?}");
+    let labels = ["none on the sheet", "the count", "the largest", "one of more bits"];
+    assert!(labels.iter().all(|label| often(asked.labels.get(label), 2000)), "{asked:?}");
 }

@@ -1,14 +1,15 @@
 //! The lean version, and the library where it is linked, against the reference, on
 //! generated cases.
 //!
-//! They must agree in answer, steps and every word of every slice, refused calls included.
+//! They must agree in answer, steps, count and every word of every slice, refused calls included.
 
-use crate::common::{case_count, round_count};
+use crate::common::{case_count, groups_count, round_count};
 use crate::fenced::Fenced;
 use compare::generate::case::{case, Case};
+use compare::generate::groups::{groups_case, GroupsCase};
 use compare::generate::round::{round_case, RoundCase};
 use compare::implementation::{Implementation, REFERENCE};
-use reference::{Outcome, Round};
+use reference::{Groups, Outcome, Round};
 
 /// Everything that the three calls of a case hand back.
 #[derive(Debug, PartialEq, Eq)]
@@ -116,6 +117,31 @@ fn agrees_on_rounds(tested: &Implementation) {
     }
 }
 
+/// What a call for groups hands back, the slice it leaves, and whether the bytes beside that are as
+/// before.
+fn groups_results(i: &Implementation, case: &GroupsCase) -> (Groups, Vec<u16>, bool) {
+    let mut lent = Fenced::new(&case.places);
+    let groups = (i.groups)(&case.sheet, case.label, lent.words_mut());
+    (groups, lent.words().to_vec(), lent.is_intact())
+}
+
+fn agrees_on_groups(tested: &Implementation) {
+    for seed in 0..groups_count() {
+        let case = groups_case(seed);
+        let (got, expected) = (groups_results(tested, &case), groups_results(&REFERENCE, &case));
+        assert!(got.2, "seed {seed}: written beside the places");
+        assert_eq!(
+            got,
+            expected,
+            "seed {seed} ({}, then reference)\nlabel {}, {} places\n{}",
+            tested.name,
+            case.label,
+            case.places.len(),
+            String::from_utf8_lossy(&case.sheet),
+        );
+    }
+}
+
 mod lean {
     use compare::implementation::LEAN;
 
@@ -132,6 +158,11 @@ mod lean {
     #[test]
     fn agrees_on_rounds() {
         super::agrees_on_rounds(&LEAN);
+    }
+
+    #[test]
+    fn agrees_on_groups() {
+        super::agrees_on_groups(&LEAN);
     }
 }
 
@@ -152,5 +183,10 @@ mod library {
     #[test]
     fn agrees_on_rounds() {
         super::agrees_on_rounds(&LIBRARY);
+    }
+
+    #[test]
+    fn agrees_on_groups() {
+        super::agrees_on_groups(&LIBRARY);
     }
 }

@@ -3,7 +3,7 @@
 use crate::common::{memory, sheet, start, text};
 use compare::implementation::ALL;
 use reference::text::{Cause, Fault};
-use reference::{script_text, sheet_text, Outcome};
+use reference::{script_text, sheet_text, Groups, Outcome};
 
 /// The line of a fault and its cause, without the particulars but for the thing that is missing.
 fn told(fault: Option<Fault>) -> String {
@@ -66,6 +66,8 @@ fn sheets_and_why_they_are_refused() {
         assert_eq!(told(sheet_text::parse(sheet).err()), format!("{line}: {cause}"), "{shown}");
         for i in ALL {
             assert_eq!((i.check)(sheet, b"s\n"), 1, "{}: {shown}", i.name);
+            let groups = (i.groups)(sheet, 0, &mut [7; 16]);
+            assert_eq!(groups, Groups { answer: 1, count: 0 }, "{}: {shown}", i.name);
         }
     }
 }
@@ -140,6 +142,7 @@ fn long_texts() {
                 assert_eq!((i.check)(&long, b"s\n"), 1, "{}", i.name);
                 assert_eq!((i.check)(&after_sheet, b"s\n"), 1, "{}", i.name);
                 assert_eq!((i.check)(&number, b"s\n"), 1, "{}", i.name);
+                assert_eq!((i.groups)(&after_sheet, 0, &mut [7; 16]).answer, 1, "{}", i.name);
                 assert_eq!((i.check)(&sheet(), &long), 4, "{}", i.name);
                 assert_eq!((i.check)(&sheet(), &after_script), 4, "{}", i.name);
             }
@@ -245,5 +248,35 @@ fn the_first_number_is_given_by_a_view() {
             );
             assert_eq!(view, vec![7; *length], "{}", i.name);
         }
+    }
+}
+
+#[test]
+fn the_first_number_is_given_by_a_call_for_groups() {
+    let (good, form, repeats) = (sheet(), text(&["P 3", "T 0 9"]), text(&["P 3", "L", "L"]));
+    let (form_and_repeats, no_label) = (text(&["P 3", "L", "L", "X 9 0"]), text(&["P 3"]));
+    let table: &[(&[u8], u32, usize, u8)] = &[
+        (&form, 9, 0, 1),
+        (&form, 0, 9, 1),
+        (&form_and_repeats, 0, 9, 1),
+        (&repeats, 9, 0, 2),
+        (&repeats, 0, 0, 2),
+        (&repeats, 0, 9, 2),
+        (&no_label, 0, 9, 12),
+        (&good, 3, 9, 12),
+        (&good, 3, 0, 12),
+        (&good, 0, 2, 12),
+        (&good, 0, 0, 12),
+    ];
+    for i in ALL {
+        for (sheet, label, length, answer) in table {
+            let mut places = vec![7; *length];
+            let groups = (i.groups)(sheet, *label, &mut places);
+            assert_eq!(groups, Groups { answer: *answer, count: 0 }, "{}", i.name);
+            assert_eq!(places, vec![7; *length], "{}", i.name);
+        }
+        let mut places = [7; 4];
+        assert_eq!((i.groups)(&good, 0, &mut places), Groups::listed(3), "{}", i.name);
+        assert_eq!(places, [1, 2, 4, 7], "{}", i.name);
     }
 }

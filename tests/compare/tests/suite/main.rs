@@ -6,6 +6,7 @@ mod common;
 mod coverage;
 mod differential;
 mod fenced;
+mod groups;
 mod hostile;
 mod noninterference;
 #[cfg(feature = "programs")]

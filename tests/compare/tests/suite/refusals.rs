@@ -1,11 +1,12 @@
 //! Demand 1 on generated cases: a refused call leaves every lent slice as it was.
 
-use crate::common::{case_count, round_count};
+use crate::common::{case_count, groups_count, round_count};
 use crate::fenced::Fenced;
 use compare::generate::case::case;
+use compare::generate::groups::groups_case;
 use compare::generate::round::round_case;
 use compare::implementation::TESTED;
-use reference::{parts, Round, DONE};
+use reference::{parts, Groups, Round, DONE};
 use std::collections::BTreeSet;
 
 #[test]
@@ -86,4 +87,24 @@ fn a_refused_round_leaves_its_memory_and_has_zeros_in_every_place() {
     }
     assert_eq!(refused.into_iter().collect::<Vec<u8>>(), [1, 2, 3, 4, 5, 6, 7, 8, 11]);
     assert!(stopped * 100 > round_count(), "{stopped} rounds without a script that was done");
+}
+
+#[test]
+fn a_refused_call_for_groups_leaves_its_places_and_counts_none() {
+    let mut refused = BTreeSet::new();
+    for seed in 0..groups_count() {
+        let case = groups_case(seed);
+        let mut places = Fenced::new(&case.places);
+        let Groups { answer, count } = (TESTED.groups)(&case.sheet, case.label, places.words_mut());
+        assert!(places.is_intact(), "seed {seed}");
+        if answer != DONE {
+            refused.insert(answer);
+            assert_eq!(count, 0, "seed {seed}");
+            assert_eq!(places.words(), case.places, "seed {seed}");
+        } else {
+            let kept = places.words().get(count as usize..).expect("no more groups than places");
+            assert_eq!(kept, &case.places[count as usize..], "seed {seed}");
+        }
+    }
+    assert_eq!(refused.into_iter().collect::<Vec<u8>>(), [1, 2, 12]);
 }

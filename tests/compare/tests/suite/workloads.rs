@@ -1,7 +1,7 @@
 //! The workloads of the benchmark, on every implementation.
 
 use compare::implementation::ALL;
-use compare::workload;
+use compare::workload::{self, groups};
 
 #[test]
 fn every_workload_has_its_outcome_and_one_view() {
@@ -29,5 +29,19 @@ fn every_workload_leaves_the_same_by_a_round_and_by_its_runs() {
             workload.runs(i, &mut runs);
             assert_eq!(round, runs, "{}: {}", i.name, workload.name);
         }
+    }
+}
+
+#[test]
+fn every_workload_of_a_label_has_the_same_groups() {
+    for workload in groups::all() {
+        let listed = ALL.iter().map(|i| {
+            let mut places = vec![0; workload.places()];
+            workload.sheet(i);
+            workload.groups(i, &mut places);
+            places
+        });
+        let listed: Vec<Vec<u16>> = listed.collect();
+        assert!(listed.iter().all(|groups| *groups == listed[0]), "{}", workload.name);
     }
 }

@@ -22,17 +22,17 @@ module _ (reads : ReadingRule) (end : ℕ) where
   unfolding smallestUpTo
   left-over g l = let z : end - g ≡ 0 = omega arith in rw z (from-over reads g)
 
-  one-more : (g : ℕ) → g < end → end - g ≡ suc (end - suc g)
-  one-more g l = omega arith
+  up-to-next : (g : ℕ) → g < end → end - g ≡ suc (end - suc g)
+  up-to-next g l = omega arith
 
   left-found : (g : ℕ) → g < end → isSmallest reads g ≡ true → left g ≡ g ∷ left (suc g)
   unfolding smallestUpTo
-  left-found g l t = rw (one-more g l) (from-on reads (end - suc g) g t)
+  left-found g l t = rw (up-to-next g l) (from-on reads (end - suc g) g t)
 
   pub left-step : (g : ℕ) → isSmallest reads g ≡ false → left g ≡ left (suc g)
   unfolding smallestUpTo
   left-step g f =
-      by-below g end (λ l. rw (one-more g l) (from-off reads (end - suc g) g f))
+      by-below g end (λ l. rw (up-to-next g l) (from-off reads (end - suc g) g f))
       (λ l. left-over g l ∙ sym (left-over (suc g) (omega arith)))
 
   left-steps : (k g : ℕ) → ((h : ℕ) → g ≤ h → h < g + k → isSmallest reads h ≡ false) → left g ≡ left (g + k)

@@ -54,6 +54,10 @@ every-last n f =
     (λ h. both-true (every-true n f (λ i l. every-at (suc n) f h i (omega arith))) (every-at (suc n) f h n (omega arith)))
     (λ h. every-true (suc n) f (λ i l. by-below i n (every-at n f (both-left _ (f n) h) i) (λ k. let e : n ≡ i = omega arith in rw e at (both-right (every n f) _ h))))
 
+-- one turn more of a loop that joins its tests
+pub every-more : (n : ℕ) (f : ℕ → Bool) {a b : Bool} → a ≡ every n f → b ≡ f n → both a b ≡ every (n + 1) f
+every-more n f p q = ap₂ both p q ∙ sym (every-last n f) ∙ ap (λ (k : ℕ). every k f) (sym (add-one n))
+
 -- two tests at each place are two walks of one test
 pub every-both : (n : ℕ) (f g : ℕ → Bool) → every n (λ (i : ℕ). both (f i) (g i)) ≡ both (every n f) (every n g)
 every-both n f g =

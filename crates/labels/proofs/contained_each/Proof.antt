@@ -1,15 +1,14 @@
 -- The loop: whether each set of x below o is contained in that of y.
 -- Assumes nothing.
-use mathlib.Core.Path.{_≡_, refl, sym, ap, ap₂, _∙_}
+use mathlib.Core.Path.{_≡_, refl, ap, _∙_}
 use mathlib.Core.Bool.{Bool}
 use mathlib.Core.List.{List}
-use Prim.Native.Nat.{ℕ, suc, _≤_, _-_}
-use native.Mathlib.Numerals.{add-one}
+use Prim.Native.Nat.{ℕ, _≤_, _-_}
 use native.Mathlib.Omega.{arith}
 use lib.ListN.{getD}
 use Rattle.logic.specs.Booleans.{both}
 use Rattle.sets.specs.Sets.{within, every}
-use Rattle.sets.proofs.Walks.{every-last}
+use Rattle.sets.proofs.Walks.{every-more}
 use Rattle.labels.specs.Labels.{owners}
 use borrow.Author.Needs.{needs}
 use Rattle.labels.proofs.contained_each.Statement.{statement}
@@ -33,8 +32,7 @@ unfolding both
 loop-again c =
     let l = c .before .before .loop in
     let a = c .before .before .before .args in
-    let f = Test (a .t1) (a .t2) in
-    (search needs, ap₂ both (l .inv .1) (c .contained .ensures) ∙ sym (every-last (l .o) f) ∙ ap (λ (n : ℕ). every n f) (sym (add-one (l .o))))
+    (search needs, every-more (l .o) (Test (a .t1) (a .t2)) (l .inv .1) (c .contained .ensures))
 
 pub contained-each-spec : {M : Type 1} → statement M
 contained-each-spec = tie.close (tie.spec

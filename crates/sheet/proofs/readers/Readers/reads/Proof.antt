@@ -1,14 +1,13 @@
 -- The loop: whether the group meets the readers of each owner below o. Assumes nothing.
-use mathlib.Core.Path.{_≡_, refl, sym, ap, ap₂, _∙_}
+use mathlib.Core.Path.{_≡_, refl, ap, _∙_}
 use mathlib.Core.Bool.{Bool}
 use mathlib.Core.List.{List}
 use Prim.Native.Nat.{ℕ, _≤_, _-_}
-use native.Mathlib.Numerals.{add-one}
 use native.Mathlib.Omega.{arith}
 use lib.ListN.{getD}
 use Rattle.logic.specs.Booleans.{both}
 use Rattle.sets.specs.Sets.{meets, every}
-use Rattle.sets.proofs.Walks.{every-last}
+use Rattle.sets.proofs.Walks.{every-more}
 use Rattle.labels.specs.Labels.{owners}
 use Rattle.sheet.specs.Internal.Readers.{readsBy}
 use borrow.Author.Needs.{needs}
@@ -33,8 +32,7 @@ unfolding both
 loop-again c =
     let l = c .before .before .loop in
     let a = c .before .before .before .before .args in
-    let f = Test (a .group) (a .self .sets) in
-    (search needs, ap₂ both (l .inv .1) (c .meets .ensures) ∙ sym (every-last (l .o) f) ∙ ap (λ (n : ℕ). every n f) (sym (add-one (l .o))))
+    (search needs, every-more (l .o) (Test (a .group) (a .self .sets)) (l .inv .1) (c .meets .ensures))
 
 pub reads-spec : {M : Type 1} → statement M
 unfolding readsBy

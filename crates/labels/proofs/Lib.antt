@@ -1,3 +1,4 @@
+pub mod OwnerTests
 pub mod OrderLaws
 pub mod PartLaws
 pub mod ReadingLaws

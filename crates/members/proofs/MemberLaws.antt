@@ -141,6 +141,9 @@ module _ (t : List ℕ) where
 abbrev pub Rest : ℕ → ℕ → ℕ → Type 0
 Rest m p rest = (q : ℕ) → member q rest ≡ member (p + q) m
 
+pub rest-all : (m : ℕ) → Rest m 0 m
+rest-all m q = let z : 0 + q ≡ q = omega arith in ap (λ (k : ℕ). member k m) (sym z)
+
 pub rest-first : (m p rest : ℕ) → Rest m p rest → member p m ≡ eqb (rest % 2) 1
 rest-first m p rest h = let z : p + 0 ≡ p = omega arith in ap (λ (q : ℕ). member q m) (sym z) ∙ sym (h 0) ∙ member-low rest
 

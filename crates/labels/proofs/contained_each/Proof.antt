@@ -1,15 +1,13 @@
 -- The loop: whether each set of x below o is contained in that of y.
 -- Assumes nothing.
-use mathlib.Core.Path.{_≡_, refl, ap, _∙_}
 use mathlib.Core.Bool.{Bool}
 use mathlib.Core.List.{List}
-use Prim.Native.Nat.{ℕ, _≤_, _-_}
-use native.Mathlib.Omega.{arith}
+use Prim.Native.Nat.{ℕ, _-_}
 use lib.ListN.{getD}
 use Rattle.logic.specs.Booleans.{both}
-use Rattle.sets.specs.Sets.{within, every}
-use Rattle.sets.proofs.Walks.{every-more}
+use Rattle.sets.specs.Sets.{within}
 use Rattle.labels.specs.Labels.{owners}
+use Rattle.labels.proofs.OwnerTests.{Tested, tested-none, tested-more, tested-all}
 use borrow.Author.Needs.{needs}
 use Rattle.labels.proofs.contained_each.Statement.{statement}
 use Rattle.labels.proofs.contained_each.Tie as tie
@@ -18,27 +16,23 @@ abbrev Test : List ℕ → List ℕ → ℕ → Bool
 Test x y k = within (getD x k 0) (getD y k 0)
 
 abbrev Inv-loop : tie.InvT-loop
-Inv-loop x y all₀ o₀ all o = (o ≤ owners) × (all ≡ every o (Test x y))
+Inv-loop x y all₀ o₀ all o = Tested (Test x y) o all
 
 abbrev μ-loop : tie.MeasureT-loop
 μ-loop x y all₀ o₀ all o = owners - o
-
-loop-holds : tie.Need-loop-holds Inv-loop μ-loop
-unfolding every
-loop-holds c = (search needs, refl)
 
 loop-again : tie.Need-loop-again Inv-loop μ-loop
 unfolding both
 loop-again c =
     let l = c .before .before .loop in
     let a = c .before .before .before .args in
-    (search needs, every-more (l .o) (Test (a .t1) (a .t2)) (l .inv .1) (c .contained .ensures))
+    tested-more (Test (a .t1) (a .t2)) (l .o) (l .inv) (search needs) (c .contained .ensures)
 
 pub contained-each-spec : {M : Type 1} → statement M
 contained-each-spec = tie.close (tie.spec
     Inv-loop
     μ-loop
-    loop-holds
+    (λ c. tested-none _)  -- loop-holds
     (λ c. search needs)  -- mul-contained
     (λ c. search needs)  -- array-read-contained
     (λ c. search needs)  -- mul-contained-2
@@ -47,4 +41,4 @@ contained-each-spec = tie.close (tie.spec
     (λ c. search needs)  -- add-o
     (λ c. search needs)  -- loop-less
     loop-again
-    (λ c. let e : c .before .loop .o ≡ owners = omega arith in let a = c .before .before .args in c .before .loop .inv .1 ∙ ap (λ (n : ℕ). every n (Test (a .t1) (a .t2))) e))  -- returns
+    (λ c. tested-all _ _ (c .before .loop .inv) (c .loop-test .left)))  -- returns

@@ -1,13 +1,12 @@
 -- The loop: `out` is the join of the members below p, and `rest` has those from p on.
-use mathlib.Core.Path.{_≡_, refl, sym, ap, ap₂, _∙_}
+use mathlib.Core.Path.{_≡_, sym, ap₂, _∙_}
 use mathlib.Core.Logic.{⊎-elim}
-use Prim.Native.Nat.{ℕ, _+_, _≤_, _<_, _-_}
+use Prim.Native.Nat.{_≤_, _<_, _-_}
 use native.Mathlib.Omega.{arith}
 use borrow.Author.Tests.{eq-eqb, ne-eqb}
 use Rattle.labels.specs.Labels.{joinOf}
-use Rattle.sets.specs.Sets.{member}
 use Rattle.members.specs.Internal.Members.{joinUpTo, maxMembers, joinIn}
-use Rattle.members.proofs.MemberLaws.{Rest, rest-first, rest-more, rest-below, rest-none, up-to-with, up-to-without, up-to-end}
+use Rattle.members.proofs.MemberLaws.{Rest, rest-all, rest-first, rest-more, rest-below, rest-none, up-to-with, up-to-without, up-to-end}
 use borrow.Author.Needs.{needs}
 use Rattle.members.proofs.joined.Statement.{statement}
 use Rattle.members.proofs.joined.Tie as tie
@@ -20,7 +19,7 @@ abbrev μ-loop : tie.MeasureT-loop
 
 loop-holds : tie.Need-loop-holds Inv-loop μ-loop
 unfolding joinUpTo
-loop-holds c = (search needs, cc, λ q. let z : 0 + q ≡ q = omega arith in ap (λ (k : ℕ). member k _) (sym z))
+loop-holds c = (search needs, cc, rest-all _)
 
 loop-again : tie.Need-loop-again Inv-loop μ-loop
 loop-again c =

@@ -115,13 +115,27 @@ impl Label {
         }
     }
 
-    // Whether the confidentiality part of one label is at or below that of another.
+    // Whether C of this label is at or below C of the other: for each owner its readers contain the other's. Both are
+    // read owner by owner, and neither C is built.
     pub fn confidentiality_at_or_below(self, other: Label) -> bool
         ensures { λ r. ⌜ r ≡ belowOf (confidentialityOf self) (confidentialityOf other) ⌝ }
     {
-        let lower = self.confidentiality();
-        let upper = other.confidentiality();
-        lower.at_or_below(upper)
+        let mut all = true;
+        for o in 0..OWNERS {
+            all = all & sets::contained(other.readers[o], self.readers[o]);
+        }
+        all
+    }
+
+    // Whether C of bottom, `all` being the principals, is at or below C of this label: its readers are among them.
+    pub fn readers_within(self, all: Set) -> bool
+        ensures { λ r. ⌜ r ≡ belowOf (confidentialityOf (bottomOf all)) (confidentialityOf self) ⌝ }
+    {
+        let mut within = true;
+        for o in 0..OWNERS {
+            within = within & sets::contained(self.readers[o], all);
+        }
+        within
     }
 
     // Whether a group holds a reader for each owner below n.

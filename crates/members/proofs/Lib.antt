@@ -1,1 +1,2 @@
 pub mod MemberLaws
+pub mod ConfidentialityLaws

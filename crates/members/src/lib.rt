@@ -1,6 +1,7 @@
 // A least label as the set of the labels that it is the join of: bit l is label l of the table, bit 32 + l is I of label l, and the
-// empty set is bottom. Labels are joined where they are compared, so that no frame of the recursion holds one.
+// empty set is bottom. Labels are fetched where they are compared, so that no frame of the recursion holds one.
 ghost use mathlib.Core.Path.{_≡_};
+ghost use mathlib.Core.Bool.{false};
 ghost use Rattle.sets.specs.Sets.{union};
 ghost use Rattle.members.specs.Internal.Members.{labelMember, integrityMember, memberIn, joinIn, flowsIn};
 use labels::Label;
@@ -12,6 +13,9 @@ pub const BOTTOM: Members = 0;
 
 // The most labels of a table.
 const LABELS: u32 = sheet::MOST_LABELS;
+
+// Sets of labels alone are the numbers below this one.
+const PAST_LABELS: Members = 1 << LABELS;
 
 // {label l}; empty for a number that names no label.
 pub fn label(l: u32) -> Members
@@ -68,15 +72,35 @@ fn joined(table: &[sheet::Word], members: Members) -> Label
     out
 }
 
+// Whether C of the join of the members is at or below C of label l. Each label is tested by itself, so nothing is
+// joined; C of I of a label is bottom, which is tested first.
+fn confidentiality_flows(table: &[sheet::Word], members: Members, l: u32) -> bool
+    ensures { λ r. ⌜ r ≡ flowsIn (now (table .entry)) members l false ⌝ }
+{
+    let upper = sheet::label_of(table, l);
+    let mut all = upper.readers_within(sheet::everyone(table));
+    let mut rest = members % PAST_LABELS;
+    let mut p: u32 = 0;
+    while rest != 0 {
+        if rest % 2 == 1 {
+            let lower = sheet::label_of(table, p);
+            all = all & lower.confidentiality_at_or_below(upper);
+        }
+        rest = rest / 2;
+        p += 1;
+    }
+    all
+}
+
 // Whether the join of the members is at or below label l; or otherwise whether C of the one is at or below C of the other.
 pub fn flows(table: &[sheet::Word], members: Members, l: u32, whole: bool) -> bool
     ensures { λ r. ⌜ r ≡ flowsIn (now (table .entry)) members l whole ⌝ }
 {
-    let lower = joined(table, members);
-    let upper = sheet::label_of(table, l);
     if whole {
+        let lower = joined(table, members);
+        let upper = sheet::label_of(table, l);
         lower.at_or_below(upper)
     } else {
-        lower.confidentiality_at_or_below(upper)
+        confidentiality_flows(table, members, l)
     }
 }

@@ -30,6 +30,7 @@ pub fn all() -> Vec<Workload> {
         long_loop(6, 1468),
         long_loop(8, 6908),
         locations_64(),
+        unpacks(),
     ]
 }
 
@@ -247,5 +248,22 @@ fn locations_64() -> Workload {
         group: 0x0101,
         outcome: Outcome::done(127),
         again: Outcome::done(127),
+    }
+}
+
+/// 54 unpacks, each the guard of a case: of a stored package, and of one packed just before. 512 lines.
+fn unpacks() -> Workload {
+    let stored = listed(&["c", "x 0", "c", "u 5 1", "v 0", "s", "s", "s"]);
+    let packed = listed(&["c", "k 0", "i 1", "c", "u 5 1", "v 0", "s", "s", "s"]);
+    Workload {
+        name: "unpacks".to_string(),
+        sheet: text(&listed(&["P 4", "T 0 1", "L", "L", "O 1 0004 000f", "X 4 0"])),
+        script: text(&in_order(vec![[stored, packed]; 27].concat())),
+        memory: location(&[3, 5, 0, 1, 62]),
+        authority: 1,
+        budget: 1000,
+        group: 2,
+        outcome: Outcome::done(161),
+        again: Outcome::done(161),
     }
 }

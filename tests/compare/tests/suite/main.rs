@@ -15,5 +15,6 @@ mod refusals;
 mod rounds;
 mod show;
 mod steps;
+mod unpacks;
 mod views;
 mod workloads;

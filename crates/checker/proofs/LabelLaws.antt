@@ -2,6 +2,7 @@
 use mathlib.Core.Path.{_≡_, refl, sym, ap, ap₂, _∙_}
 use mathlib.Core.Bool.{true}
 use mathlib.Core.List.{List, []}
+use mathlib.Core.Option.{Option, none, some}
 use Prim.Native.Nat.{ℕ, _≤_}
 use native.Mathlib.Omega.{arith}
 use Rattle.sets.specs.Sets.{everyone}
@@ -9,12 +10,14 @@ use Rattle.labels.specs.declared.Label.{Label}
 use Rattle.labels.specs.Labels.{belowOf, confidentialityOf, integrityOf, bottomOf, effective}
 use Rattle.labels.proofs.EffectiveLaws.{effective-whole, bottom-least, I-effective}
 use Rattle.labels.proofs.PartLaws.{I-bottom}
-use Rattle.language.specs.Syntax.{Cmd}
+use Rattle.language.specs.Syntax.{Script}
+use Rattle.language.specs.Declarations.{startOf}
 use Rattle.language.specs.Typing.{conditions, flow}
 use Rattle.language.proofs.Images.{Image, flow-image}
 use Rattle.sheet.specs.Sheet.{Sheet, formed, labelCount, maxLabels}
 use Rattle.sheet.specs.Internal.Tables.{tableOf, everyoneIn, homeIn, labelIn}
-use Rattle.sheet.specs.Meaning.{labelsOver, declarationsOf}
+use Rattle.sheet.specs.Internal.Starts.{startNo}
+use Rattle.sheet.specs.Meaning.{labelsOver, declarationsOf, startLabel}
 use Rattle.sheet.proofs.FormLaws.{formed-facts}
 use Rattle.sheet.proofs.Entries.{label-past}
 use Rattle.sheet.proofs.TableLaws.{everyone-in, home-in, labels-in}
@@ -65,6 +68,9 @@ module _ (s : Sheet) (fm : formed s ≡ true) where
   past : (l : ℕ) → maxLabels ≤ l → labelIn T l ≡ bottomOf (everyoneIn T)
   past l h = let few : labelCount s ≤ maxLabels = few-of s fm in label-past T l (sym (labels-in s fm)) refl (omega arith)
 
+  label-joined : (l : ℕ) → joinIn T (labelMember l) ≡ labelIn T l
+  label-joined l = join-label T past l (effective-whole _ _ (effective-in l)) (bottom-under (labelIn T l) (effective-in l))
+
   -- the conditions over sets of members, and those over the labels that they stand for
   members-image : Image (conditionsOn T) (conditionsIn T) (joinIn T)
   members-image =
@@ -79,17 +85,22 @@ module _ (s : Sheet) (fm : formed s ≡ true) where
         mayUnpack-is = λ l a. refl;
       }
     where
-      label-joined : (l : ℕ) → joinIn T (labelMember l) ≡ labelIn T l
-      label-joined l = join-label T past l (effective-whole _ _ (effective-in l)) (bottom-under (labelIn T l) (effective-in l))
-
       integrity-joined : (l : ℕ) → joinIn T (integrityMember l) ≡ integrityOf (everyoneIn T) (labelIn T l)
       integrity-joined l =
           let ok = rw all-is at (I-effective (s .principals) (labelIn T l) (effective-in l)) in
           join-integrity T past l (I-bottom _) (effective-whole _ _ ok) (bottom-under _ ok)
 
-  pub flow-table : (c : Cmd) → flow (conditions (labelsOver (s .principals)) (declarationsOf s)) (labelsOver (s .principals) .bot) [] c
-      ≡ flow (conditionsOn T) 0 [] c
-  flow-table c =
-      flow-image _ _ (λ a. a .raw) table-image (labelsOver (s .principals) .bot) [] c
-      ∙ ap (λ (n : ℕ). flow (conditionsIn T) (bottomOf n) [] c) all-is
-      ∙ sym (flow-image _ _ (joinIn T) members-image 0 [] c ∙ ap (λ (a : Label). flow (conditionsIn T) a [] c) (join-none T))
+  -- the label that a script starts at
+  start-is : (x : Option ℕ) → startOf (labelsOver (s .principals)) (declarationsOf s) x .raw ≡ labelIn T (startNo x)
+  unfolding startOf startNo
+  start-is none = ap bottomOf all-is ∙ sym (past maxLabels (omega arith))
+  start-is (some l) = label-is l
+
+  pub flow-table : (p : Script) → flow (conditions (labelsOver (s .principals)) (declarationsOf s)) (startLabel s p) [] (p .command)
+      ≡ flow (conditionsOn T) (labelMember (startNo (p .opening .start))) [] (p .command)
+  flow-table p =
+      let c = p .command in
+      let start = startNo (p .opening .start) in
+      flow-image _ _ (λ a. a .raw) table-image (startLabel s p) [] c
+      ∙ ap (λ (a : Label). flow (conditionsIn T) a [] c) (start-is (p .opening .start) ∙ sym (label-joined start))
+      ∙ sym (flow-image _ _ (joinIn T) members-image (labelMember start) [] c)

@@ -5,14 +5,16 @@ use mathlib.Core.List.{List, []}
 use Prim.Native.Nat.{ℕ, _≤_}
 use native.Mathlib.Omega.{arith}
 use lib.ListN.{length}
-use Rattle.language.specs.Syntax.{Cmd}
+use Rattle.language.specs.Syntax.{Script}
 use Rattle.language.specs.Typing.{flow, refusal}
 use Rattle.language.proofs.Exactness.{exactness}
 use Rattle.script.specs.Lines.{Source}
 use Rattle.sheet.specs.Sheet.{Sheet, formed, repeats}
 use Rattle.sheet.specs.Internal.Tables.{tableOf}
+use Rattle.sheet.specs.Internal.Starts.{startNo}
 use Rattle.sheet.specs.Meaning.{labelsOver, declarationsOf}
 use Rattle.sheet.proofs.MeaningLaws.{least-label-laws}
+use Rattle.members.specs.Internal.Members.{labelMember}
 use Rattle.checker.specs.declared.Passed.{Passed}
 use Rattle.checker.specs.Internal.Numbers.{shapeNo, conditionsOn}
 use Rattle.checker.specs.Internal.Bindings.{upTo, bindingsSize}
@@ -30,23 +32,23 @@ verdict-number true false = refl
 verdict-number false flow = refl
 
 -- the number that the table gives
-number : (s : Sheet) → formed s ≡ true → repeats s ≡ false → {c : Cmd} → Source c
-    → cond (shapeNo (tableOf s) [] c) (cond (flow (conditionsOn (tableOf s)) 0 [] c) 0 6) 5
-    ≡ refusal (labelsOver (s .principals)) (declarationsOf s) c
+number : (s : Sheet) → formed s ≡ true → repeats s ≡ false → (p : Script) → Source (p .command)
+    → cond (shapeNo (tableOf s) [] (p .command)) (cond (flow (conditionsOn (tableOf s)) (labelMember (startNo (p .opening .start))) [] (p .command)) 0 6) 5
+    ≡ refusal (labelsOver (s .principals)) (declarationsOf s) p
 unfolding refusal
-number s fm once {c} src = rw (shape-agree s fm once src (no-bound), ← flow-table s fm c)
+number s fm once p src = rw (shape-agree s fm once src (no-bound), ← flow-table s fm p)
 
-pub check-answers : (ws t : List ℕ) {bound bound′ : List ℕ} {x : Passed} {r : Verdict} → ChecksCmd ws 0 t bound 0 0 x bound′
-    → r ≡ verdictOf (x .typed) (x .flow) → bindingsSize ≤ length bound → ChecksCode ws t (verdictNumber r)
+pub check-answers : (ws t : List ℕ) (start : ℕ) {bound bound′ : List ℕ} {x : Passed} {r : Verdict} {pc : ℕ} → pc ≡ labelMember start → ChecksCmd ws 0 t bound 0 pc x bound′
+    → r ≡ verdictOf (x .typed) (x .flow) → bindingsSize ≤ length bound → ChecksCode ws t start (verdictNumber r)
 unfolding upTo
-check-answers ws t {x = x} cx e room =
+check-answers ws t start {x = x} m cx e room =
     record {
-      exact = λ s fm once table k c src names w.
-          let p = cx .means k c [] src w names (omega arith, room) .0 in
-          ap verdictNumber (e ∙ ap₂ verdictOf (p .typed-is) (p .flow-is)) ∙ verdict-number _ _ ∙ rw table (number s fm once src);
+      exact = λ s fm once table k p src names w i.
+          let y = cx .means k (p .command) [] src w names (omega arith, room) .0 in
+          ap verdictNumber (e ∙ ap₂ verdictOf (y .typed-is) (y .flow-is)) ∙ verdict-number _ _ ∙ rw (m, i, table) (number s fm once p src);
     }
 
 pub checker-exact : CheckerExact
-checker-exact s c =
+checker-exact s p =
     let x = exactness (labelsOver (s .principals)) (least-label-laws (s .principals)) (declarationsOf s) in
-    record { accepted = x .accepted c; refused-5 = x .refused-5 c; refused-6 = x .refused-6 c }
+    record { accepted = x .accepted p; refused-5 = x .refused-5 p; refused-6 = x .refused-6 p }

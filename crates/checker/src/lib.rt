@@ -32,12 +32,13 @@ pub enum Verdict {
     IllLabelled,
 }
 
-// Checks a script's code against a sheet's table.
-pub fn check(code: &[u32], table: &[sheet::Word]) -> Verdict
-    ensures { λ r. ⌜ ChecksCode (now (code .entry)) (now (table .entry)) (verdictNumber r) ⌝ }
+// Checks a script's code against a sheet's table. `start`: the number of the label that it starts at; one that names
+// none is bottom's.
+pub fn check(code: &[u32], table: &[sheet::Word], start: u32) -> Verdict
+    ensures { λ r. ⌜ ChecksCode (now (code .entry)) (now (table .entry)) start (verdictNumber r) ⌝ }
 {
     let mut bound: [u64; bindings::BINDINGS] = [0; bindings::BINDINGS];
-    let x = commands::check_cmd(code, 0, table, &mut bound, 0, members::BOTTOM);
+    let x = commands::check_cmd(code, 0, table, &mut bound, 0, members::label(start));
     answer(x.typed, x.flow)
 }
 

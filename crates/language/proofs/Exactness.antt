@@ -7,9 +7,9 @@ use mathlib.Core.List.{List, [], _∷_}
 use Prim.Native.Nat.{ℕ, zero, suc}
 use native.Mathlib.Omega.{arith}
 use Rattle.logic.proofs.BooleanLaws.{both-left, both-right, both-true, not-so}
-use Rattle.language.specs.Syntax.{Ty, t-int, t-pkg, Expr, val, loc, var, plus, left, right, pack, unpack, Cmd, skip, seq, assign, while, case}
+use Rattle.language.specs.Syntax.{Ty, t-int, t-pkg, Expr, val, loc, var, plus, left, right, pack, unpack, Cmd, skip, seq, assign, while, case, Script}
 use Rattle.language.specs.Labels.{Labels, LeastLabelLaws, struck}
-use Rattle.language.specs.Declarations.{Declarations, unlabelled, nth}
+use Rattle.language.specs.Declarations.{Declarations, unlabelled, startOf, nth}
 use Rattle.language.specs.Rules.{LabelledType, Typed, te-int, te-loc, te-var, te-plus, te-suml, te-sumr, te-pack, te-unpack, te-sub, Safe, tc-skip, tc-assign, tc-seq, tc-while, tc-case, tc-subs, Derivable}
 use Rattle.language.specs.Typing.{orElse, typeOfValue, typeOf, shape, least, flowE, flow, conditions, refusal}
 use Rattle.language.specs.Theorems.{Exactness}
@@ -217,12 +217,12 @@ struck-flow D (assign x e) pc ls = both-true (struck-flowE D e ls) (both-true re
 struck-flow D (while e c) pc ls = both-true (struck-flowE D e ls) (struck-flow D c _ ls)
 struck-flow D (case e c₁ c₂) pc ls = both-true (struck-flowE D e ls) (both-true (struck-flow D c₁ _ _) (struck-flow D c₂ _ _))
 
--- A command has a derivation with every label condition struck out exactly if it passes `shape`.
-pub shape-iff : {L : Type 0} (D : Declarations L) (c : Cmd) → (shape (D .shapes) [] c ≡ true) ↔ Derivable struck (unlabelled D) c
+-- A script has a derivation with every label condition struck out exactly if its command passes `shape`.
+pub shape-iff : {L : Type 0} (D : Declarations L) (p : Script) → (shape (D .shapes) [] (p .command) ≡ true) ↔ Derivable struck (unlabelled D) p
 unfolding types labels
-shape-iff D c = (
-  (λ h. safe-iff struck struck-laws (unlabelled D) tt [] c .1 (record { shaped = h; flows = struck-flow (unlabelled D) c tt [] })),
-  (λ d. (safe-iff struck struck-laws (unlabelled D) tt [] c .0 d) .shaped),
+shape-iff D p = (
+  (λ h. safe-iff struck struck-laws (unlabelled D) _ [] (p .command) .1 (record { shaped = h; flows = struck-flow (unlabelled D) (p .command) _ [] })),
+  (λ d. (safe-iff struck struck-laws (unlabelled D) _ [] (p .command) .0 d) .shaped),
 )
 
 -- The number that the two tests give.
@@ -247,20 +247,31 @@ module _ {L : Type 0} (𝓛 : Labels L) (law : LeastLabelLaws 𝓛) (D : Declara
     (λ d. let a = safe-iff 𝓛 law D pc [] c .0 d in (a .shaped, a .flows)),
   )
 
+  -- what the two tests say of a script
+  abbrev test-5 : Script → Bool
+  test-5 p = shape (D .shapes) [] (p .command)
+
+  abbrev test-6 : Script → Bool
+  test-6 p = flow (conditions 𝓛 D) (startOf 𝓛 D (p .opening .start)) [] (p .command)
+
+  -- A script has a derivation exactly if it passes both.
+  pub script-iff : (p : Script) → ((test-5 p ≡ true) × (test-6 p ≡ true)) ↔ Derivable 𝓛 D p
+  script-iff p = flow-iff (startOf 𝓛 D (p .opening .start)) (p .command)
+
   pub exactness : Exactness 𝓛 D
   unfolding refusal
   exactness = record {
-    accepted = λ c. (
-      (λ h. flow-iff (𝓛 .bot) c .0 (numbers (shape (D .shapes) [] c) _ .0 h)),
-      (λ d. let a = flow-iff (𝓛 .bot) c .1 d in number (a .0) (a .1)),
+    accepted = λ p. (
+      (λ h. script-iff p .0 (numbers (test-5 p) _ .0 h)),
+      (λ d. let a = script-iff p .1 d in number (a .0) (a .1)),
     );
-    refused-5 = λ c. (
-      (λ h d. true≢false (sym (shape-iff D c .1 d) ∙ numbers (shape (D .shapes) [] c) (flow (conditions 𝓛 D) (𝓛 .bot) [] c) .1 h)),
-      (λ n. number {f = flow (conditions 𝓛 D) (𝓛 .bot) [] c} (not-so (shape (D .shapes) [] c) (λ h. n (shape-iff D c .0 h))) refl),
+    refused-5 = λ p. (
+      (λ h d. true≢false (sym (shape-iff D p .1 d) ∙ numbers (test-5 p) (test-6 p) .1 h)),
+      (λ n. number {f = test-6 p} (not-so (test-5 p) (λ h. n (shape-iff D p .0 h))) refl),
     );
-    refused-6 = λ c. (
-      (λ h. let n = numbers (shape (D .shapes) [] c) (flow (conditions 𝓛 D) (𝓛 .bot) [] c) .2 h in
-          (shape-iff D c .0 (n .0), λ d. true≢false (sym (flow-iff (𝓛 .bot) c .1 d .1) ∙ n .1))),
-      (λ n. number (shape-iff D c .1 (n .0)) (not-so (flow (conditions 𝓛 D) (𝓛 .bot) [] c) (λ f. n .1 (flow-iff (𝓛 .bot) c .0 (shape-iff D c .1 (n .0), f))))),
+    refused-6 = λ p. (
+      (λ h. let n = numbers (test-5 p) (test-6 p) .2 h in
+          (shape-iff D p .0 (n .0), λ d. true≢false (sym (script-iff p .1 d .1) ∙ n .1))),
+      (λ n. number (shape-iff D p .1 (n .0)) (not-so (test-6 p) (λ f. n .1 (script-iff p .0 (shape-iff D p .1 (n .0), f))))),
     );
   }

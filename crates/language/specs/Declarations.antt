@@ -1,4 +1,5 @@
--- What a sheet declares, over any labels; memories as declared; and the element of a list at a place.
+-- What a sheet declares, over any labels; memories as declared; where a script starts; and the element of a list at a
+-- place.
 use mathlib.Core.Path.{_≡_}
 use mathlib.Core.Bool.{true}
 use mathlib.Core.Option.{Option, none, some}
@@ -6,6 +7,7 @@ use mathlib.Core.List.{List, [], _∷_}
 use Prim.Native.Nat.{ℕ, zero, suc, _≤_}
 use Rattle.language.specs.Syntax.{Ty, size, has}
 use Rattle.language.specs.World.{Mem, cell-words}
+use Rattle.language.specs.Labels.{Labels}
 
 -- What a sheet says of types: the type that a type number names, and a location's type.
 pub record Shapes : Type 0 where
@@ -29,6 +31,11 @@ pub record Declarations (L : Type 0) : Type 0 where
 -- the same types, every label struck out
 abbrev pub unlabelled : {L : Type 0} → Declarations L → Declarations Unit
 unlabelled D = record { shapes = D .shapes; label = λ l. tt; home = λ x. tt }
+
+-- The label that surrounds a script whole: the one that it opens with, else bottom (request (d)).
+unfoldable pub startOf : {L : Type 0} → Labels L → Declarations L → Option ℕ → L
+startOf 𝓛 D none = 𝓛 .bot
+startOf 𝓛 D (some l) = D .label l
 
 -- the d-th element, if there is one
 unfoldable pub nth {ℓ} : {A : Type ℓ} → List A → ℕ → Option A

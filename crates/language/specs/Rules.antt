@@ -3,16 +3,18 @@
 -- * error is a type of its own, not int; a guard of `while` is int+int, the paper's bool;
 -- * `left t`, `right t` and `unpack t` name the sum type t that they make, so its parts are not free;
 -- * a script holds no package literal, so there is no TE-PACKAGE; its only literals are integers;
--- * variables are counted by depth, so Γ is a list, innermost first.
+-- * variables are counted by depth, so Γ is a list, innermost first;
+-- * a script's command is typed with its starting label for pc, bottom where it opens with none (request (d)); the paper
+--   leaves pc free.
 -- TE-SUB and TC-SUBS stand as in the figures; that the scope's least labels pass exactly where there is a derivation is a theorem.
 use mathlib.Core.Path.{_≡_}
 use mathlib.Core.Bool.{true}
 use mathlib.Core.Option.{some}
 use mathlib.Core.List.{List, [], _∷_}
 use Prim.Native.Nat.{ℕ}
-use Rattle.language.specs.Syntax.{Ty, t-int, t-err, t-pkg, t-sum, int, Expr, val, loc, var, plus, left, right, pack, unpack, Cmd, skip, seq, assign, while, case}
+use Rattle.language.specs.Syntax.{Ty, t-int, t-err, t-pkg, t-sum, int, Expr, val, loc, var, plus, left, right, pack, unpack, Cmd, skip, seq, assign, while, case, Script}
 use Rattle.language.specs.Labels.{Labels}
-use Rattle.language.specs.Declarations.{Declarations, nth}
+use Rattle.language.specs.Declarations.{Declarations, startOf, nth}
 
 -- A labelled type τ{ℓ}.
 pub record LabelledType (L : Type 0) : Type 0 where
@@ -47,6 +49,6 @@ module _ {L : Type 0} (𝓛 : Labels L) (D : Declarations L) where
         → Safe pc Γ (case e c₁ c₂)
     tc-subs : {pc pc′ : L} {Γ : List (LabelledType L)} {c : Cmd} → Safe pc′ Γ c → 𝓛 .leq pc pc′ ≡ true → Safe pc Γ c
 
--- A script has a derivation: bottom surrounds it, and no variable is bound.
-abbrev pub Derivable : {L : Type 0} → Labels L → Declarations L → Cmd → Type 0
-Derivable 𝓛 D c = Safe 𝓛 D (𝓛 .bot) [] c
+-- A script has a derivation: its command has one with its starting label for pc, and no variable bound.
+abbrev pub Derivable : {L : Type 0} → Labels L → Declarations L → Script → Type 0
+Derivable 𝓛 D p = Safe 𝓛 D (startOf 𝓛 D (p .opening .start)) [] (p .command)

@@ -1,6 +1,7 @@
--- SImp's syntax (the paper, section 2): types, values, expressions, commands.
+-- SImp's syntax (the paper, section 2): types, values, expressions, commands; and scripts.
 -- Locations, types and labels are named by their numbers on the sheet.
 use mathlib.Core.Bool.{Bool, true, false}
+use mathlib.Core.Option.{Option}
 use Prim.Native.Nat.{ℕ, suc, _+_}
 
 -- int, error, pkg, and the sum of two types.
@@ -48,6 +49,15 @@ pub data Cmd : Type 0 where
   assign : ℕ → Expr → Cmd
   while : Expr → Cmd → Cmd
   case : Expr → Cmd → Cmd → Cmd
+
+-- What a script says ahead of its command: the label that it starts at, by number, or none (request (d)).
+pub record Opening : Type 0 where
+  pub start : Option ℕ
+
+-- A script is an opening and one command.
+pub record Script : Type 0 where
+  pub opening : Opening
+  pub command : Cmd
 
 -- The words that a value takes in memory.
 unfoldable pub size : Value → ℕ

@@ -4,7 +4,7 @@ use mathlib.Core.Path.{_≡_}
 use mathlib.Core.Bool.{Bool, true}
 use mathlib.Core.List.{[]}
 use Prim.Native.Nat.{ℕ, suc, _+_}
-use Rattle.language.specs.Syntax.{Value, Expr, val, Cmd, skip}
+use Rattle.language.specs.Syntax.{Value, Expr, val, Cmd, skip, Script}
 use Rattle.language.specs.World.{World, Mem}
 use Rattle.language.specs.Transition.{final, to, too-long, no-rule, step, Out, done, spent, over, wrong, iterate}
 use Rattle.language.specs.Figures.{EStar, Step, Steps, LongExpr, LongStep, NoneLong}
@@ -62,9 +62,9 @@ pub record TypeSoundness (S : Shapes) (W : World) : Type 0 where
 
 -- The checker accepts exactly what has a derivation, and refuses by the scope's numbers.
 pub record Exactness {L : Type 0} (𝓛 : Labels L) (D : Declarations L) : Type 0 where
-  pub accepted : (c : Cmd) → (refusal 𝓛 D c ≡ 0) ↔ Derivable 𝓛 D c
-  pub refused-5 : (c : Cmd) → (refusal 𝓛 D c ≡ 5) ↔ (¬ Derivable struck (unlabelled D) c)
-  pub refused-6 : (c : Cmd) → (refusal 𝓛 D c ≡ 6) ↔ (Derivable struck (unlabelled D) c × ¬ Derivable 𝓛 D c)
+  pub accepted : (p : Script) → (refusal 𝓛 D p ≡ 0) ↔ Derivable 𝓛 D p
+  pub refused-5 : (p : Script) → (refusal 𝓛 D p ≡ 5) ↔ (¬ Derivable struck (unlabelled D) p)
+  pub refused-6 : (p : Script) → (refusal 𝓛 D p ≡ 6) ↔ (Derivable struck (unlabelled D) p × ¬ Derivable 𝓛 D p)
 
 -- Figure 6 and definition 1 against masks: two values have the same mask exactly if they are equivalent, and so have two memories.
 pub record Masking : Type 0 where
@@ -94,8 +94,8 @@ ExpressionNoninterference K W vis shows = (e : Expr) → flowE K [] e ≡ true �
 
 -- Theorem 2 (command noninterference): two done runs of a command that passes `flow`, in one world, from memories that look the
 -- same, leave memories that look the same, whatever the budgets and the steps. It differs from the paper's in this:
--- * both runs are of one command, the paper's of two that are equivalent, that is alike but for equivalent values in them. A script is
---   one command whose values are integers, so equivalent scripts are the same;
+-- * both runs are of one command, the paper's of two that are equivalent, that is alike but for equivalent values in them. A script's
+--   only values are integers, so equivalent scripts are the same;
 -- * a run is done by `iterate`, so no step of it makes a value that is too long; the paper has no such limit;
 -- * the observer is any that meets `Observer`, instead of a label ℓ. Who goes by C alone, and sees with a label all that have a C at or
 --   below its own, meets it, as a group of readers does; who goes by writers too need not, since an unpack compares C alone;

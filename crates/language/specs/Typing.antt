@@ -4,9 +4,9 @@ use mathlib.Core.Option.{Option, none, some}
 use mathlib.Core.List.{List, [], _∷_}
 use Prim.Native.Nat.{ℕ}
 use Rattle.logic.specs.Booleans.{both}
-use Rattle.language.specs.Syntax.{Ty, t-int, t-err, t-pkg, t-sum, Ty-discrete, Value, int, err, inl, inr, pkg, blank, Expr, val, loc, var, plus, left, right, pack, unpack, Cmd, skip, seq, assign, while, case}
+use Rattle.language.specs.Syntax.{Ty, t-int, t-err, t-pkg, t-sum, Ty-discrete, Value, int, err, inl, inr, pkg, blank, Expr, val, loc, var, plus, left, right, pack, unpack, Cmd, skip, seq, assign, while, case, Script}
 use Rattle.language.specs.Labels.{Labels}
-use Rattle.language.specs.Declarations.{Shapes, Declarations, nth}
+use Rattle.language.specs.Declarations.{Shapes, Declarations, startOf, nth}
 
 unfoldable pub orElse : {L : Type 0} → L → Option L → L
 orElse b none = b
@@ -147,6 +147,8 @@ conditions 𝓛 D = record {
   mayUnpack = λ A a. 𝓛 .leq (𝓛 .conf a) (𝓛 .conf (D .label A));
 }
 
--- The scope's number for a script whose form is right, with bottom for the surrounding label: 0, 5 or 6.
-unfoldable pub refusal : {L : Type 0} → Labels L → Declarations L → Cmd → ℕ
-refusal 𝓛 D c = cond (shape (D .shapes) [] c) (cond (flow (conditions 𝓛 D) (𝓛 .bot) [] c) 0 6) 5
+-- The scope's number for a script whose form is right, with its starting label for the surrounding one: 0, 5 or 6.
+unfoldable pub refusal : {L : Type 0} → Labels L → Declarations L → Script → ℕ
+refusal 𝓛 D p =
+    let c = p .command in
+    cond (shape (D .shapes) [] c) (cond (flow (conditions 𝓛 D) (startOf 𝓛 D (p .opening .start)) [] c) 0 6) 5

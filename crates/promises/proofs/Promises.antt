@@ -20,6 +20,7 @@ use Rattle.simp.proofs.EveryCall.{demand-1, demand-2}
 use Rattle.simp.proofs.ThirdDemand.{demand-3}
 use Rattle.simp.proofs.RoundViews.{round-view}
 use Rattle.simp.proofs.GroupDemands.{smallest-groups}
+use Rattle.simp.proofs.Unseen.{start-unseen}
 use Rattle.simp.proofs.CasesHold.{cases-hold}
 use Rattle.scripts.proofs.Joined.{parts-exact}
 use Rattle.groups.proofs.ListLaws.{groups-exact, readers-hold-one}
@@ -38,6 +39,7 @@ promises = record {
   demand-3 = demand-3;
   round-view = round-view;
   smallest-groups = smallest-groups;
+  start-unseen = start-unseen;
   cases-hold = cases-hold;
   every-table = every-table;
   theorems = theorems;

@@ -18,6 +18,7 @@ use Rattle.numbers.specs.Theorems.{EveryTable}
 use Rattle.simp.specs.Demands.{Demand1, Demand2, Demand3}
 use Rattle.simp.specs.RoundView.{RoundView}
 use Rattle.simp.specs.SmallestGroups.{SmallestGroups}
+use Rattle.simp.specs.StartUnseen.{StartUnseen}
 use Rattle.simp.specs.Cases.{CasesHold}
 use Rattle.scripts.specs.Theorems.{PartsExact}
 use Rattle.groups.specs.Theorems.{GroupsExact, ReadersHoldOne, ReadingGrows}
@@ -42,7 +43,10 @@ pub record Promises : Type 1 where
   -- simp_groups lists a group exactly if it is a set of the sheet's principals that reads the label while none of its
   -- proper subsets does; the list rises, its length is the count, and the places after it are kept.
   pub smallest-groups : SmallestGroups
-  -- The scope's starred cases, its two of long values, rounds and smallest groups, in one table.
+  -- A group that can't read a script's starting label is shown the same before and after every run of it, and of a
+  -- round of such scripts, done, stopped or refused.
+  pub start-unseen : StartUnseen
+  -- The scope's starred cases, its two of long values, rounds, smallest groups and starting labels, in one table.
   pub cases-hold : CasesHold
   -- Of any table of refusal numbers: the first that applies is given, and it settles the whole answer; there is exactly one answer where it is
   -- settled which row applies first, and there is exactly one where none applies.
@@ -52,8 +56,8 @@ pub record Promises : Type 1 where
   -- The functions agree with the figures; runs are determinate, sound and end as the figures have it; typing is exact; the paper's
   -- theorems 1 and 2, noninterference, of one expression and of one command; confinement.
   pub theorems : Theorems
-  -- For every sheet and command the number that the checker's contract gives on a sheet that isn't refused says which derivations there are:
-  -- 0 if there is one, 5 if there is none even with the labels struck out, 6 otherwise.
+  -- For every sheet and script the number that the checker's contract gives on a sheet that isn't refused says which
+  -- derivations there are: 0 if there is one, 5 if there is none even with the labels struck out, 6 otherwise.
   pub checker-exact : CheckerExact
   -- ---- Principals and labels
 
@@ -107,8 +111,8 @@ pub record Promises : Type 1 where
   pub malformed-exact : MalformedExact
   -- A text is that of one sheet at most.
   pub one-sheet : OneSheet
-  -- On a sheet of the form, a script is read exactly where the text is the printed form of a command within the bounds that names only what
-  -- is there.
+  -- On a sheet of the form, a script is read exactly where the text is the printed form of an opening and a command
+  -- within the bounds that name only what is there.
   pub script-exact : ScriptExact
   -- The scripts of a text are these exactly where no line of them is empty and the text is these, joined by empty lines.
   pub parts-exact : PartsExact

@@ -5,13 +5,13 @@ use mathlib.Core.Option.{Option, none, some}
 use Prim.Native.Nat.{ℕ, _+_, _-_, _*_, _≤_, _<_}
 use native.Mathlib.Omega.{arith}
 use lib.ListN.{length, take, drop, getD, set, replicate}
-use Rattle.language.specs.Syntax.{Cmd}
+use Rattle.language.specs.Syntax.{Script}
 use Rattle.script.specs.Names.{Counts}
 use Rattle.sheet.specs.Sheet.{Sheet}
 use Rattle.script_text.specs.Counts.{countsOf}
 use Rattle.script_text.specs.Script.{scriptOf}
-use Rattle.script_text.specs.Reading.{linesOf}
-use Rattle.script_text.specs.Internal.Decoded.{Decoded, countsIn, codedLines, decodedScript}
+use Rattle.script_text.specs.Reading.{writtenOf}
+use Rattle.script_text.specs.Internal.Decoded.{Decoded, countsIn, codedText, decodedScript}
 use Rattle.script_text.proofs.ScriptLaws.{counts-table}
 use Rattle.script_text.proofs.ReadLaws.{script-coded}
 use Rattle.memory.specs.Memory.{memoryRefusal}
@@ -33,14 +33,14 @@ use Rattle.rounds.proofs.PlaceLaws.{rest, rest-more, rest-over, rest-al
 
 -- an accepted script on a memory that isn't refused: no number refuses its run
 run-on-accepted : (s : Sheet) (authority budget : ℕ) (script memory ws : List ℕ) (a : AcceptedCode s script ws) → strangers s authority ≡ 0 → memoryRefusal s memory ≡ 0
-    → runOn s authority budget script memory ≡ acceptedRun s memory authority budget (a .command)
+    → runOn s authority budget script memory ≡ acceptedRun s memory authority budget (a .parsed)
 unfolding onScript
 run-on-accepted s authority budget script memory ws a g m =
     goes (refusedRun memory) (strangers s authority) _ g
-    ∙ rw (a .is-its) (goes (refusedRun memory) (untyped s (a .command)) _ (a .typed) ∙ goes (refusedRun memory) (memoryRefusal s memory) _ m)
+    ∙ rw (a .is-its) (goes (refusedRun memory) (untyped s (a .parsed)) _ (a .typed) ∙ goes (refusedRun memory) (memoryRefusal s memory) _ m)
 
 -- the lines of an accepted script are its code
-decoded-accepted : (t script : List ℕ) (p : Decoded) → p ≡ codedLines (linesOf script) → (s : Sheet) → TableOf t s → numberOf s script ≡ 0
+decoded-accepted : (t script : List ℕ) (p : Decoded) → p ≡ codedText (writtenOf script) → (s : Sheet) → TableOf t s → numberOf s script ≡ 0
     → p ≡ decodedScript (scriptOf (countsIn t) script)
 unfolding numberOf onScript
 decoded-accepted t script p e s T n = go (scriptOf (countsOf s) script) refl n
@@ -48,11 +48,11 @@ decoded-accepted t script p e s T n = go (scriptOf (countsOf s) script) refl n
     k : countsIn t ≡ countsOf s
     k = ap countsIn (T .words) ∙ counts-table s
 
-    go : (o : Option Cmd) → scriptOf (countsOf s) script ≡ o → onScript (λ j. j) o (λ c. untyped s c) ≡ 0 → p ≡ decodedScript (scriptOf (countsIn t) script)
+    go : (o : Option Script) → scriptOf (countsOf s) script ≡ o → onScript (λ j. j) o (λ c. untyped s c) ≡ 0 → p ≡ decodedScript (scriptOf (countsIn t) script)
     go none x z = absurd (omega arith)
     go (some c) x z = e ∙ script-coded (countsIn t) script c (ap (λ (j : Counts). scriptOf j script) k ∙ x)
 
-pub runs-script : (script t memory ws : List ℕ) (authority budget : ℕ) (p : Decoded) (r : Ran) → p ≡ codedLines (linesOf script)
+pub runs-script : (script t memory ws : List ℕ) (authority budget : ℕ) (p : Decoded) (r : Ran) → p ≡ codedText (writtenOf script)
     → ws ≡ take (p .count * 3) (p .code) → RunsAccepted ws t memory authority budget r → RunsScript script t memory authority budget r
 runs-script script t memory ws authority budget p r e w ran = record {
   spares = ran .spares;
@@ -60,7 +60,7 @@ runs-script script t memory ws authority budget p r e w ran = record {
       let a = accepted-code t script ws p (decoded-accepted t script p e s T n) w s T n in
       let q = ran .ran s T script a m in (
         q ∙ sym (run-on-accepted s authority budget script memory ws a g m),
-        rw q (left-unrefused s (a .command) (a .source) (a .names) (a .typed) memory authority budget m),
+        rw q (left-unrefused s (a .parsed) (a .source) (a .names) (a .typed) memory authority budget m),
       );
 }
 

@@ -1,7 +1,9 @@
--- A script's lines (the scope, "The three texts"): the thirteen kinds, and a command's lines in prefix order.
+-- A script's lines (the scope, "The three texts"): the thirteen kinds, and a command's lines in prefix order; and how
+-- many an opening takes.
 use mathlib.Core.List.{List, _∷_}
+use mathlib.Core.Option.{Option, none, some}
 use Prim.Native.Nat.{ℕ}
-use Rattle.language.specs.Syntax.{Value, int, err, inl, inr, pkg, blank, Expr, val, loc, var, plus, left, right, pack, unpack, Cmd, skip, seq, assign, while, case}
+use Rattle.language.specs.Syntax.{Value, int, err, inl, inr, pkg, blank, Expr, val, loc, var, plus, left, right, pack, unpack, Cmd, skip, seq, assign, while, case, Opening}
 
 -- One line of each kind, with its operands' numbers.
 pub data Line : Type 0 where
@@ -59,3 +61,11 @@ cmdLines (seq a b) rest = l-seq ∷ cmdLines a (cmdLines b rest)
 cmdLines (assign x e) rest = l-assign x ∷ exprLines e rest
 cmdLines (while e c) rest = l-while ∷ exprLines e (cmdLines c rest)
 cmdLines (case e a b) rest = l-case ∷ exprLines e (cmdLines a (cmdLines b rest))
+
+-- How many lines a start takes, and an opening with it: `b label`, or none (request (d)).
+unfoldable pub startLines : Option ℕ → ℕ
+startLines none = 0
+startLines (some l) = 1
+
+abbrev pub openingLines : Opening → ℕ
+openingLines o = startLines (o .start)

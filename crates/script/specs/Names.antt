@@ -1,10 +1,11 @@
 -- What a script may name (the scope, "The three texts"): what is on the sheet, variables that a case binds; how many lines it has, and how
 -- deep its cases nest.
 use mathlib.Core.Bool.{Bool, true}
+use mathlib.Core.Option.{Option, none, some}
 use Prim.Native.Nat.{ℕ, suc, _^_}
 use lib.Dec.{ltb}
 use Rattle.logic.specs.Booleans.{both}
-use Rattle.language.specs.Syntax.{Expr, val, loc, var, plus, left, right, pack, unpack, Cmd, skip, seq, assign, while, case}
+use Rattle.language.specs.Syntax.{Expr, val, loc, var, plus, left, right, pack, unpack, Cmd, skip, seq, assign, while, case, Opening}
 use Rattle.script.specs.Lines.{integerOf}
 
 -- How many types, labels and locations a sheet has.
@@ -39,3 +40,11 @@ named k d (seq a b) = both (named k d a) (named k d b)
 named k d (assign x e) = both (ltb x (k .locations)) (namedE k d e)
 named k d (while e c) = both (namedE k d e) (named k d c)
 named k d (case e a b) = both (namedE k d e) (both (ltb d maxDepth) (both (named k (suc d) a) (named k (suc d) b)))
+
+-- A start names a label that is there, if it names one, and so does an opening (request (d)).
+unfoldable pub namedStart : Counts → Option ℕ → Bool
+namedStart k none = true
+namedStart k (some l) = ltb l (k .labels)
+
+abbrev pub namedOpening : Counts → Opening → Bool
+namedOpening k o = namedStart k (o .start)

@@ -10,12 +10,19 @@ use Rattle.text.specs.Field.{numberField, lastNumber}
 use Rattle.text.specs.Lines.{front, onward, linesUpTo, printLines}
 use Rattle.logic.specs.Booleans.{both}
 use Rattle.language.specs.Syntax.{loc, var, unpack, Cmd, skip, assign, case}
-use Rattle.script.specs.Lines.{cmdLines, exprLines}
-use Rattle.script.specs.Names.{Counts, named, namedE}
-use Rattle.script_text.specs.Bytes.{lineBytes, scriptBytes}
-use Rattle.script_text.specs.Reading.{formOf, operandsOf, lineOf, linesOf}
+use Rattle.script.specs.Lines.{cmdLines, exprLines, startLines}
+use Rattle.script.specs.Names.{Counts, named, namedE, namedStart}
+use Rattle.script_text.specs.Bytes.{lineBytes, startBytes, scriptBytes}
+use Rattle.script_text.specs.Reading.{formOf, operandsOf, lineOf, startRead, openingOf, writtenWith, linesAfter, writtenOf}
 use Rattle.script_text.specs.Internal.Parse.{popE, popC, onStack, pushOn, stackOf, onlyCommand, parse}
-use Rattle.script_text.specs.Script.{namedOnly, commandOf, commandRead, scriptOf}
+use Rattle.script_text.specs.Script.{namedOnly, commandOf, scriptWith, scriptRead, scriptOf}
+
+-- what reading a script computes with: to unfold it is to unfold all that its line names
+unfoldable reading-used : Unit {0}
+unfolding andThen byte fits digit digits opensDigit number both named namedE namedStart startLines numberField lastNumber formOf operandsOf lineOf front onward
+    linesUpTo startRead openingOf writtenWith linesAfter writtenOf popE popC onStack pushOn stackOf onlyCommand parse namedOnly commandOf scriptWith scriptRead
+    scriptOf
+reading-used = tt
 
 -- six types, three labels and four locations
 abbrev counts : Counts
@@ -25,22 +32,42 @@ counts = record { types = 6; labels = 3; locations = 4 }
 abbrev opened : List ℕ
 opened = 99 ∷ 10 ∷ 120 ∷ 9 ∷ 50 ∷ 10 ∷ 61 ∷ 9 ∷ 51 ∷ 10 ∷ 117 ∷ 9 ∷ 53 ∷ 9 ∷ 50 ∷ 10 ∷ 118 ∷ 9 ∷ 48 ∷ 10 ∷ 115 ∷ 10 ∷ []
 
-opened-read : scriptOf counts opened ≡ some (case (loc 2) (assign 3 (unpack 5 2 (var 0))) skip)
-unfolding andThen byte fits digit digits opensDigit number both named namedE numberField lastNumber formOf operandsOf lineOf front onward linesUpTo linesOf popE popC onStack pushOn
-    stackOf onlyCommand parse namedOnly commandOf commandRead scriptOf
+opened-read : scriptOf counts opened ≡ some (record { opening = record { start = none }; command = case (loc 2) (assign 3 (unpack 5 2 (var 0))) skip })
+unfolding reading-used
 opened-read = refl
 
-opened-printed : scriptBytes (cmdLines (case (loc 2) (assign 3 (unpack 5 2 (var 0))) skip) []) ≡ opened
-unfolding decimal decimalOn lineBytes printLines cmdLines exprLines
+opened-printed : scriptBytes (record { opening = record { start = none }; command = case (loc 2) (assign 3 (unpack 5 2 (var 0))) skip }) ≡ opened
+unfolding decimal decimalOn lineBytes printLines cmdLines exprLines startBytes
 opened-printed = refl
+
+-- `b 2`, `s`
+abbrev started : List ℕ
+started = 98 ∷ 9 ∷ 50 ∷ 10 ∷ 115 ∷ 10 ∷ []
+
+started-read : scriptOf counts started ≡ some (record { opening = record { start = some 2 }; command = skip })
+unfolding reading-used
+started-read = refl
+
+started-printed : scriptBytes (record { opening = record { start = some 2 }; command = skip }) ≡ started
+unfolding decimal decimalOn lineBytes printLines cmdLines startBytes
+started-printed = refl
+
+-- `b 3`, a label that is not there, before a command; `b 2` alone; twice; after the command; inside a sequence; no
+-- label
+refused-starts : (scriptOf counts (98 ∷ 9 ∷ 51 ∷ 10 ∷ 115 ∷ 10 ∷ []) ≡ none) × (scriptOf counts (98 ∷ 9 ∷ 50 ∷ 10 ∷ []) ≡ none)
+    × (scriptOf counts (98 ∷ 9 ∷ 50 ∷ 10 ∷ 98 ∷ 9 ∷ 50 ∷ 10 ∷ 115 ∷ 10 ∷ []) ≡ none)
+    × (scriptOf counts (115 ∷ 10 ∷ 98 ∷ 9 ∷ 50 ∷ 10 ∷ []) ≡ none)
+    × (scriptOf counts (59 ∷ 10 ∷ 98 ∷ 9 ∷ 50 ∷ 10 ∷ 115 ∷ 10 ∷ 115 ∷ 10 ∷ []) ≡ none)
+    × (scriptOf counts (98 ∷ 10 ∷ 115 ∷ 10 ∷ []) ≡ none)
+unfolding reading-used
+refused-starts = (refl, refl, refl, refl, refl, refl)
 
 -- no text; two commands; a variable outside its binding; a location that is not there; no byte 10 at the end; a byte 13
 refused : (scriptOf counts [] ≡ none) × (scriptOf counts (115 ∷ 10 ∷ 115 ∷ 10 ∷ []) ≡ none)
     × (scriptOf counts (99 ∷ 10 ∷ 118 ∷ 9 ∷ 48 ∷ 10 ∷ 115 ∷ 10 ∷ 115 ∷ 10 ∷ []) ≡ none)
     × (scriptOf counts (61 ∷ 9 ∷ 48 ∷ 10 ∷ 120 ∷ 9 ∷ 52 ∷ 10 ∷ []) ≡ none)
     × (scriptOf counts (115 ∷ []) ≡ none) × (scriptOf counts (115 ∷ 13 ∷ 10 ∷ []) ≡ none)
-unfolding andThen byte fits digit digits opensDigit number both named namedE numberField lastNumber formOf operandsOf lineOf front onward linesUpTo linesOf popE popC onStack pushOn
-    stackOf onlyCommand parse namedOnly commandOf commandRead scriptOf
+unfolding reading-used
 refused = (refl, refl, refl, refl, refl, refl)
 
 -- n cases, each in the left branch of the one before

@@ -1,6 +1,7 @@
 pub mod LineLaws
 pub mod ParseLaws
 pub mod ScriptLaws
+pub mod OpeningLaws
 pub mod FoundLaws
 mod Readers
 pub mod CodeLaws

@@ -1,35 +1,38 @@
--- The script is read exactly if the text is the printed form of a command within the bounds. Assumes nothing.
-use mathlib.Core.Path.{_≡_, refl, ap, _∙_}
+-- The script is read exactly if the text is the printed form of an opening and a command within the bounds. Assumes
+-- nothing.
+use mathlib.Core.Path.{_≡_, refl, sym, ap, _∙_}
 use mathlib.Core.Bool.{true}
 use mathlib.Core.List.{List, [], _∷_}
 use mathlib.Core.Option.{Option, none, some}
-use Prim.Native.Nat.{ℕ, suc, _+_, _^_, _≤_}
+use Prim.Native.Nat.{ℕ, suc, _+_, _-_, _^_, _≤_}
 use native.Mathlib.Omega.{arith}
 use lib.Dec.{ltb, leb}
 use lib.ListN.{length}
 use borrow.Author.Tests.{ltb-true, leb-true, le-leb}
-use Rattle.text.specs.Reading.{fits, limit}
+use Rattle.text.specs.Reading.{Read, fits, limit}
+use Rattle.text.specs.Reading.Read.{got, bad}
 use Rattle.text.specs.Number.{most}
-use Rattle.text.specs.Lines.{none-left, and-then}
+use Rattle.text.specs.Lines.{none-left, and-then, linesUpTo}
 use Rattle.logic.proofs.OptionLaws.{none-some, some-path}
 use Rattle.text.proofs.Lines.{lines-exact}
-use Rattle.language.specs.Syntax.{Expr, Cmd}
+use Rattle.language.specs.Syntax.{Expr, Cmd, Opening, Script}
 use Rattle.logic.proofs.BooleanLaws.{both-left, both-right, cond-split}
-use Rattle.script.specs.Lines.{Line, l-skip, l-seq, l-assign, l-while, l-case, l-int, l-loc, l-var, l-plus, l-left, l-right, l-pack, l-unpack, SourceE, s-int, s-loc, s-var, s-plus, s-left, s-right, s-pack, s-unpack, Source, s-skip, s-seq, s-assign, s-while, s-case, integerOf, exprLines, cmdLines}
+use Rattle.script.specs.Lines.{Line, l-skip, l-seq, l-assign, l-while, l-case, l-int, l-loc, l-var, l-plus, l-left, l-right, l-pack, l-unpack, SourceE, s-int, s-loc, s-var, s-plus, s-left, s-right, s-pack, s-unpack, Source, s-skip, s-seq, s-assign, s-while, s-case, integerOf, exprLines, cmdLines, openingLines}
 use Rattle.script.specs.Internal.Code.{rowOf}
-use Rattle.script.specs.Names.{Counts, maxDepth, namedE, named, maxLines}
-use Rattle.sheet.specs.Sheet.{Sheet, labelCount, locationCount, formed}
+use Rattle.script.specs.Names.{Counts, maxDepth, namedE, named, namedStart, namedOpening, maxLines}
+use Rattle.sheet.specs.Sheet.{Sheet, labelCount, locationCount, formed, maxLabels}
 use Rattle.sheet.specs.Internal.Tables.{tableOf}
 use Rattle.sheet.proofs.FormLaws.{formed-facts, type-count}
-use Rattle.script_text.specs.Bytes.{scriptBytes}
-use Rattle.script_text.specs.Reading.{linesOf}
+use Rattle.script_text.specs.Bytes.{linesBytes, openingBytes, scriptBytes}
+use Rattle.script_text.specs.Reading.{lineOf, openingOf, Written, writtenWith, linesAfter, writtenOf}
 use Rattle.script_text.specs.Internal.Parse.{stackOf, onlyCommand, parse}
 use Rattle.script_text.specs.Counts.{countsOf}
-use Rattle.script_text.specs.Script.{namedOnly, commandOf, commandRead, scriptOf}
+use Rattle.script_text.specs.Script.{namedOnly, commandOf, scriptWith, scriptRead, scriptOf}
 use Rattle.script_text.specs.Internal.Decoded.{countsIn}
 use Rattle.script_text.specs.Theorems.{IsScript, ScriptExact}
 use Rattle.script_text.proofs.LineLaws.{AllFit, script-lines}
 use Rattle.script_text.proofs.ParseLaws.{parse-sound, parse-lines}
+use Rattle.script_text.proofs.OpeningLaws.{Low, opening-few, opening-sound, opening-print}
 
 -- ---- the operands of a command that names what is there are of 32 bits
 
@@ -99,48 +102,92 @@ unfolding commandOf parse onlyCommand stackOf
 command-some k [] c e = unfold namedOnly in none-some e
 command-some k (l ∷ ls) c e = omega arith
 
--- ---- the command of a text
+-- ---- the script of a text
 
-command-split : {P : Type 0} (k : Counts) (o : Option (List Line)) (c : Cmd)
-    → ((ls : List Line) → o ≡ some ls → commandOf k ls ≡ some c → P) → commandRead k o ≡ some c → P
-unfolding commandRead
-command-split k none c g e = none-some e
-command-split k (some ls) c g e = g ls refl e
+-- a script that is read names only what is there
+pub script-split : {P : Type 0} (k : Counts) (w : Option Written) (p : Script)
+    → ((ls : List Line) → w ≡ some (record { opening = p .opening; lines = ls }) → commandOf k ls ≡ some (p .command) → namedOpening k (p .opening) ≡ true → P)
+    → scriptRead k w ≡ some p → P
+unfolding scriptRead scriptWith
+script-split k none p g e = none-some e
+script-split {P} k (some w) p g e = with-command (commandOf k (w .lines)) refl e
+  where
+    with-command : (o : Option Cmd) → commandOf k (w .lines) ≡ o → scriptWith k (w .opening) o ≡ some p → P
+    with-command none x h = none-some h
+    with-command (some c) x h =
+        cond-split (namedOpening k (w .opening)) _ _ _
+        (λ n y.
+        let z : record { opening = w .opening; command = c } ≡ p = some-path y in
+        g (w .lines) (ap (λ (q : Script). some (record { opening = q .opening; lines = w .lines })) z)
+        (x ∙ ap (λ (q : Script). some (q .command)) z) (sym (ap (λ (q : Script). namedOpening k (q .opening)) z) ∙ n))
+        (λ n y. none-some y) h
 
-pub linesOf-sound : (t : List ℕ) (ls : List Line) → linesOf t ≡ some ls → (t ≡ scriptBytes ls) × (length ls ≤ maxLines) × (length t ≤ limit)
-unfolding linesOf fits
-linesOf-sound t ls e =
-    cond-split (leb (length t) limit) _ _ _
-    (λ f x. let r = lines-exact script-lines maxLines t ls .0 x in (r .0, r .2, leb-true _ _ f))
-    (λ f x. none-some x) e
+-- what is written in a text
+pub record IsWritten (t : List ℕ) (w : Written) : Type 0 where
+  pub printed : t ≡ openingBytes (w .opening) (linesBytes (w .lines))
+  pub few : openingLines (w .opening) + length (w .lines) ≤ maxLines
+  pub short : length t ≤ limit
+  pub low : Low (w .opening .start)
 
-pub linesOf-print : (ls : List Line) → AllFit ls → length ls ≤ maxLines → length (scriptBytes ls) ≤ limit → linesOf (scriptBytes ls) ≡ some ls
-unfolding linesOf fits
-linesOf-print ls f h l = rw (le-leb _ _ l) (lines-exact script-lines maxLines _ ls .1 (refl, f, h))
+pub written-sound : (t : List ℕ) (w : Written) → writtenOf t ≡ some w → IsWritten t w
+unfolding writtenOf fits linesAfter writtenWith
+written-sound t w e = cond-split (leb (length t) limit) _ _ _ (λ f x. after (openingOf t) refl (leb-true _ _ f) x) (λ f x. none-some x) e
+  where
+    lines : (o : Opening) (u : List ℕ) → openingOf t ≡ got o u → length t ≤ limit → (ls : Option (List Line))
+        → linesUpTo lineOf (maxLines - openingLines o) u ≡ ls → writtenWith o ls ≡ some w → IsWritten t w
+    lines o u z l none y h = none-some h
+    lines o u z l (some ls) y h =
+        let s = opening-sound t o u z in
+        let r = lines-exact script-lines (maxLines - openingLines o) u ls .0 y in
+        rw (← some-path h)
+        (record { printed = s .0 ∙ ap (openingBytes o) (r .0); few = omega (arith, r .2, opening-few o); short = l; low = s .1 })
+
+    after : (r : Read Opening) → openingOf t ≡ r → length t ≤ limit → linesAfter r ≡ some w → IsWritten t w
+    after bad z l h = none-some h
+    after (got o u) z l h = lines o u z l (linesUpTo lineOf (maxLines - openingLines o) u) refl h
+
+written-print : (o : Opening) → Low (o .start) → (c : Cmd) → AllFit (cmdLines c []) → openingLines o + length (cmdLines c []) ≤ maxLines
+    → length (openingBytes o (linesBytes (cmdLines c []))) ≤ limit
+    → writtenOf (openingBytes o (linesBytes (cmdLines c []))) ≡ some (record { opening = o; lines = cmdLines c [] })
+unfolding writtenOf linesAfter writtenWith fits
+written-print o w c f h l =
+    rw (le-leb _ _ l, opening-print o w c, lines-exact script-lines (maxLines - openingLines o) _ (cmdLines c []) .1 (refl, f, omega arith))
 
 -- what a text that is read is
-pub script-sound : (k : Counts) (t : List ℕ) (c : Cmd) → scriptOf k t ≡ some c → IsScript k t c
+pub script-sound : (k : Counts) (t : List ℕ) (p : Script) → scriptOf k t ≡ some p → IsScript k t p
 unfolding scriptOf
-script-sound k t c e =
-    command-split k (linesOf t) c (λ ls x y.
-    let r = linesOf-sound t ls x in
-    let q = command-sound k ls c y in
-    let n = command-some k ls c y in
+script-sound k t p e =
+    script-split k (writtenOf t) p (λ ls x y n.
+    let r = written-sound t _ x in
+    let q = command-sound k ls (p .command) y in
+    let m = command-some k ls (p .command) y in
     record {
-      printed = r .0 ∙ ap scriptBytes (q .0);
+      printed = r .printed ∙ ap (λ (z : List Line). openingBytes (p .opening) (linesBytes z)) (q .0);
       source = q .1;
+      opened-there = n;
       named-there = q .2;
-      not-empty = rw (q .0) at n;
-      few = rw (q .0) at (r .1);
-      short = r .2;
+      not-empty = rw (q .0) at m;
+      few = rw (q .0) at (r .few);
+      short = r .short;
     }) e
 
-pub script-print : (k : Counts) → Narrow k → (t : List ℕ) (c : Cmd) → IsScript k t c → scriptOf k t ≡ some c
-unfolding scriptOf commandRead
-script-print k w t c s =
+-- a start that is there is one that some sheet has
+start-low : (k : Counts) → k .labels ≤ maxLabels → (x : Option ℕ) → namedStart k x ≡ true → Low x
+unfolding namedStart
+start-low k l none h = tt
+start-low k l (some x) h = omega (arith, ltb-true x (k .labels) h)
+
+pub script-print : (k : Counts) → Narrow k → k .labels ≤ maxLabels → (t : List ℕ) (p : Script) → IsScript k t p → scriptOf k t ≡ some p
+unfolding scriptOf scriptRead scriptWith
+script-print k w m t p s =
     let f = fit-cmd k w 0 (s .source) (omega arith) (s .named-there) none-left in
-    let l : length (scriptBytes (cmdLines c [])) ≤ limit = rw (s .printed) at (s .short) in
-    rw (s .printed, linesOf-print (cmdLines c []) f (s .few) l) (command-lines k c (s .source) (s .named-there))
+    let l : length (scriptBytes p) ≤ limit = rw (s .printed) at (s .short) in
+    rw (
+      s .printed,
+      written-print (p .opening) (start-low k m (p .opening .start) (s .opened-there)) (p .command) f (s .few) l,
+      command-lines k (p .command) (s .source) (s .named-there),
+      s .opened-there,
+    ) refl
 
 -- a sheet of the form has few of each
 pub sheet-narrow : (s : Sheet) → formed s ≡ true → Narrow (countsOf s)
@@ -151,7 +198,8 @@ sheet-narrow s h =
     { types = omega (arith, type-count s, f .few-sums); labels = omega (arith, f .few-labels); locations = omega (arith, f .few-locations) }
 
 pub script-exact : ScriptExact
-script-exact s h t c = (λ e. script-sound (countsOf s) t c e, λ x. script-print (countsOf s) (sheet-narrow s h) t c x)
+unfolding labelCount
+script-exact s h t p = (λ e. script-sound (countsOf s) t p e, λ x. script-print (countsOf s) (sheet-narrow s h) (formed-facts s h .few-labels) t p x)
 
 -- the counts in a sheet's table are the sheet's
 pub counts-table : (s : Sheet) → countsIn (tableOf s) ≡ countsOf s

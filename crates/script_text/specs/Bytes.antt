@@ -1,9 +1,12 @@
--- The printed form of a script: on each line the byte of its kind, then its operands, each after a tab, then byte 10.
-use mathlib.Core.List.{List, _∷_}
+-- The printed form of a script: on each line the byte of its kind, then its operands, each after a tab, then byte 10;
+-- the opening first.
+use mathlib.Core.List.{List, [], _∷_}
+use mathlib.Core.Option.{Option, none, some}
 use Prim.Native.Nat.{ℕ}
 use Rattle.text.specs.Field.{printNumberField, printLineEnd}
 use Rattle.text.specs.Lines.{printLines}
-use Rattle.script.specs.Lines.{Line, l-skip, l-seq, l-assign, l-while, l-case, l-int, l-loc, l-var, l-plus, l-left, l-right, l-pack, l-unpack}
+use Rattle.language.specs.Syntax.{Opening, Script}
+use Rattle.script.specs.Lines.{Line, cmdLines, l-skip, l-seq, l-assign, l-while, l-case, l-int, l-loc, l-var, l-plus, l-left, l-right, l-pack, l-unpack}
 
 -- The bytes of a line, then rest. The kinds are s ; = w c i x v + l r k u.
 unfoldable pub lineBytes : Line → List ℕ → List ℕ
@@ -21,6 +24,18 @@ lineBytes (l-right t) rest = 114 ∷ printNumberField t (printLineEnd rest)
 lineBytes (l-pack l) rest = 107 ∷ printNumberField l (printLineEnd rest)
 lineBytes (l-unpack t l) rest = 117 ∷ printNumberField t (printNumberField l (printLineEnd rest))
 
--- the bytes of a script's lines
-abbrev pub scriptBytes : List Line → List ℕ
-scriptBytes ls = printLines lineBytes ls
+-- the bytes of a command's lines
+abbrev pub linesBytes : List Line → List ℕ
+linesBytes ls = printLines lineBytes ls
+
+-- The bytes of a start, and of an opening with it, then rest (request (d)). Its line begins with byte 98, b.
+unfoldable pub startBytes : Option ℕ → List ℕ → List ℕ
+startBytes none rest = rest
+startBytes (some l) rest = 98 ∷ printNumberField l (printLineEnd rest)
+
+abbrev pub openingBytes : Opening → List ℕ → List ℕ
+openingBytes o rest = startBytes (o .start) rest
+
+-- the bytes of a script
+abbrev pub scriptBytes : Script → List ℕ
+scriptBytes p = openingBytes (p .opening) (linesBytes (cmdLines (p .command) []))

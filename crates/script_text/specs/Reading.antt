@@ -1,16 +1,19 @@
--- How a script's text is read into lines: "The first field decides among thirteen kinds of line."
+-- How a script's text is read into lines: "The first field decides among thirteen kinds of line." Ahead of them there
+-- may be an opening, `b label`, one of a script's lines (request (d)).
 use mathlib.Core.Bool.{cond}
 use mathlib.Core.List.{List, [], _∷_}
-use mathlib.Core.Option.{Option, none}
-use Prim.Native.Nat.{ℕ}
+use mathlib.Core.Option.{Option, none, some}
+use Prim.Native.Nat.{ℕ, _-_}
 use lib.Dec.{eqb}
 use Rattle.text.specs.Reading.{Read, andThen, fits}
 use Rattle.text.specs.Reading.Read.{got, bad}
 use Rattle.text.specs.Number.{most}
 use Rattle.text.specs.Field.{numberField, lineEnd, lastNumber}
 use Rattle.text.specs.Lines.{linesUpTo}
-use Rattle.script.specs.Lines.{Line, l-skip, l-seq, l-assign, l-while, l-case, l-int, l-loc, l-var, l-plus, l-left, l-right, l-pack, l-unpack}
+use Rattle.language.specs.Syntax.{Opening}
+use Rattle.script.specs.Lines.{Line, openingLines, l-skip, l-seq, l-assign, l-while, l-case, l-int, l-loc, l-var, l-plus, l-left, l-right, l-pack, l-unpack}
 use Rattle.script.specs.Names.{maxLines}
+use Rattle.sheet.specs.Sheet.{maxLabels}
 
 -- The form of a kind of line: no operand, one or two numbers; or there is no such kind.
 pub data Form : Type 0 where
@@ -48,6 +51,34 @@ unfoldable pub lineOf : List ℕ → Read Line
 lineOf [] = bad
 lineOf (b ∷ t) = operandsOf (formOf b) t
 
--- the lines of a text that is not too long
-unfoldable pub linesOf : List ℕ → Option (List Line)
-linesOf t = cond (fits t) (linesUpTo lineOf maxLines t) none
+-- the highest number that names a label on some sheet
+abbrev pub lastLabel : ℕ
+lastLabel = maxLabels - 1
+
+-- the start at the front of a text: a line `b label`, or none. A number above the last label's names none on any sheet,
+-- and is refused here
+unfoldable pub startRead : List ℕ → Read (Option ℕ)
+startRead [] = got none []
+startRead (b ∷ t) = cond (eqb b 98) (andThen (lastNumber lastLabel t) (λ l u. got (some l) u)) (got none (b ∷ t))
+
+-- the opening at the front of a text
+unfoldable pub openingOf : List ℕ → Read Opening
+openingOf t = andThen (startRead t) (λ x u. got (record { start = x }) u)
+
+-- What is written in a script: its opening, and its command's lines, whatever they say.
+pub record Written : Type 0 where
+  pub opening : Opening
+  pub lines : List Line
+
+unfoldable pub writtenWith : Opening → Option (List Line) → Option Written
+writtenWith o none = none
+writtenWith o (some ls) = some (record { opening = o; lines = ls })
+
+-- the lines after an opening, which with those of the opening are at most `maxLines`
+unfoldable pub linesAfter : Read Opening → Option Written
+linesAfter (got o t) = writtenWith o (linesUpTo lineOf (maxLines - openingLines o) t)
+linesAfter bad = none
+
+-- what is written in a text that is not too long
+unfoldable pub writtenOf : List ℕ → Option Written
+writtenOf t = cond (fits t) (linesAfter (openingOf t)) none

@@ -1,16 +1,19 @@
 // From a script's bytes to its code, three words a line; everything that is no script is refused.
 ghost use mathlib.Core.Path.{_≡_};
-ghost use Prim.Native.Nat.{ℕ, _*_};
-ghost use lib.Dec.{ltb};
-ghost use lib.ListN.{take, drop};
-ghost use Rattle.logic.specs.Booleans.{both};
+ghost use Prim.Native.Nat.{ℕ, _*_, _≤_};
+ghost use lib.Dec.{eqb, ltb};
+ghost use lib.ListN.{take, drop, replicate};
+ghost use Rattle.logic.specs.Booleans.{both, either};
+ghost use Rattle.text.specs.Lines.{linesUpTo};
 ghost use Rattle.script.specs.Lines.{Line};
+ghost use Rattle.script.specs.Names.{maxLines};
 ghost use Rattle.script.specs.Internal.Code.{rowOf};
+ghost use Rattle.sheet.specs.Sheet.{maxLabels};
 ghost use Rattle.sheet.specs.Internal.Tables.{typesIn, labelsIn, locationsIn};
-ghost use Rattle.script_text.specs.Reading.{bare, one, two, operandsOf, lineOf, linesOf};
+ghost use Rattle.script_text.specs.Reading.{bare, one, two, operandsOf, lineOf, openingOf, writtenOf};
 ghost use Rattle.script_text.specs.Script.{scriptOf};
-ghost use Rattle.script_text.specs.Internal.Decoded.{countsIn, noCode, codedLines, decodedScript};
-ghost use Rattle.script_text.specs.Internal.Placed.{placedLine, lineAt};
+ghost use Rattle.script_text.specs.Internal.Decoded.{codeWords, countsIn, noCode, codedLines, codedText, decodedScript};
+ghost use Rattle.script_text.specs.Internal.Placed.{placedLine, lineAt, placedOpening};
 ghost use Rattle.script_text.specs.Internal.Scan.{ScansExpr, ScansCmd, Balanced, Whole};
 use reader::Reader;
 use script::ASSIGN;
@@ -45,16 +48,30 @@ use text::number_field;
 // The words of a script's code in all.
 pub const WORDS: usize = ROW * ROWS;
 
+// The start of a script that opens with none: one past any label.
+const NO_START: u32 = sheet::MOST_LABELS;
+
+// The highest number that names a label on some sheet.
+const LAST_LABEL: u32 = sheet::MOST_LABELS - 1;
+
 // Whether a text was read as a script, or refused.
 pub enum Answer {
     Read,
     Refused,
 }
 
-// The answer to a text, and how many lines its script has: none where the text was refused.
-pub struct Script {
+// The answer to a text, how many lines its command has, and the number of the label that it starts at: 0 and NO_START
+// where it was refused.
+pub struct ReadScript {
     pub answer: Answer,
     pub count: usize,
+    pub start: u32,
+}
+
+// The label that a text opens with, the lines that the opening takes and the place after it, or a refusal.
+enum Opened {
+    At(u32, usize, usize),
+    Refused,
 }
 
 // The words of a line and the place after it, or a refusal.
@@ -192,28 +209,49 @@ fn line_from(text: &[u8], at: usize) -> Reached
 }
 
 // The answer to a text that is refused, with zeros for its code.
-fn refused(code: &mut [u32; WORDS]) -> Script
-    ensures { λ r. ⌜ record { answer = r .answer; count = r .count; code = now (code .exit) } ≡ noCode ⌝ }
+fn refused(code: &mut [u32; WORDS]) -> ReadScript
+    ensures { λ r. ⌜ record { answer = r .answer; count = r .count; start = r .start; code = now (code .exit) } ≡ noCode ⌝ }
 {
     *code = [0u32; WORDS];
-    Script {
+    ReadScript {
         answer: Answer::Refused,
         count: 0,
+        start: NO_START,
     }
 }
 
-// Fills the lent words with the code of a text's lines, whatever they say: the code of a script, if the text is that of one.
-pub fn decode(s: &[u8], code: &mut [u32; WORDS]) -> Script
-    ensures { λ r. ⌜ record { answer = r .answer; count = r .count; code = now (code .exit) } ≡ codedLines (linesOf (now (s .entry))) ⌝ }
+// The opening of a text: a first line `b label`, or none.
+fn opening(s: &[u8]) -> Opened
+    ensures { λ r. ⌜ r ≡ placedOpening (now (s .entry)) (openingOf (now (s .entry))) ⌝ }
 {
-    if !fits(s) {
-        return refused(code);
+    if s.len() == 0 {
+        return Opened::At(NO_START, 0, 0);
     }
-    *code = [0u32; WORDS];
+    if s[0] != b'b' {
+        return Opened::At(NO_START, 0, 0);
+    }
+    match last_number(s, 1, LAST_LABEL) {
+        Decimal::At(l, p) => Opened::At(l, 1, p),
+        Decimal::Refused => Opened::Refused,
+    }
+}
+
+// Fills the lent words, which are zeros, with the code of the lines from a byte on, whatever they say, if they are at
+// most so many.
+fn decode_lines(
+    s: &[u8],
+    from: usize,
+    most: usize,
+    start: u32,
+    code: &mut [u32; WORDS],
+) -> ReadScript
+    requires { ⌜ (most ≤ maxLines) × (now code ≡ replicate codeWords 0) ⌝ }
+    ensures { λ r. ⌜ record { answer = r .answer; count = r .count; start = r .start; code = now (code .exit) } ≡ codedLines start (linesUpTo lineOf most (drop from (now (s .entry)))) ⌝ }
+{
     let mut n: usize = 0;
-    let mut at: usize = 0;
+    let mut at = from;
     while at < s.len() {
-        if ROWS <= n {
+        if most <= n {
             return refused(code);
         }
         let next = line_from(s, at);
@@ -231,9 +269,25 @@ pub fn decode(s: &[u8], code: &mut [u32; WORDS]) -> Script
             }
         }
     }
-    Script {
+    ReadScript {
         answer: Answer::Read,
         count: n,
+        start,
+    }
+}
+
+// Fills the lent words with the code of the lines after a text's opening, whatever they say: the code of a script, if
+// the text is that of one. The opening's line is one of the lines that a script may have.
+pub fn decode(s: &[u8], code: &mut [u32; WORDS]) -> ReadScript
+    ensures { λ r. ⌜ record { answer = r .answer; count = r .count; start = r .start; code = now (code .exit) } ≡ codedText (writtenOf (now (s .entry))) ⌝ }
+{
+    if !fits(s) {
+        return refused(code);
+    }
+    *code = [0u32; WORDS];
+    match opening(s) {
+        Opened::At(start, lines, at) => decode_lines(s, at, ROWS - lines, start, code),
+        Opened::Refused => refused(code),
     }
 }
 
@@ -256,6 +310,16 @@ fn is_location(table: &[sheet::Word], x: u32) -> bool
     ensures { λ r. ⌜ r ≡ ltb x (locationsIn (now (table .entry))) ⌝ }
 {
     x < locations(table)
+}
+
+// Whether a start is a label's, if it is any.
+fn is_start(table: &[sheet::Word], start: u32) -> bool
+    ensures { λ r. ⌜ r ≡ either (eqb start maxLabels) (ltb start (labelsIn (now (table .entry)))) ⌝ }
+{
+    if start == NO_START {
+        return true;
+    }
+    is_label(table, start)
 }
 
 // What was scanned, if a test passed too.
@@ -407,12 +471,16 @@ fn whole(code: &[u32], table: &[sheet::Word]) -> bool
 }
 
 // Fills the lent words with the code of a script on a sheet's table; refused, and zeros, where 4 applies.
-pub fn read(text: &[u8], table: &[sheet::Word], code: &mut [u32; WORDS]) -> Script
-    ensures { λ r. ⌜ record { answer = r .answer; count = r .count; code = now (code .exit) } ≡ decodedScript (scriptOf (countsIn (now (table .entry))) (now (text .entry))) ⌝ }
+pub fn read(text: &[u8], table: &[sheet::Word], code: &mut [u32; WORDS]) -> ReadScript
+    ensures { λ r. ⌜ record { answer = r .answer; count = r .count; start = r .start; code = now (code .exit) } ≡ decodedScript (scriptOf (countsIn (now (table .entry))) (now (text .entry))) ⌝ }
 {
     let s = decode(text, code);
     let count = s.count;
+    let start = s.start;
     if !whole(rows(code, count), table) {
+        return refused(code);
+    }
+    if !is_start(table, start) {
         return refused(code);
     }
     s

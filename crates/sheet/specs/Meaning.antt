@@ -1,5 +1,5 @@
--- What a sheet means to the language: its types, its labels as a security lattice, what it declares, and which labels an authority reads
--- and writes.
+-- What a sheet means to the language: its types, its labels as a security lattice, what it declares, where a script
+-- starts, and which labels an authority reads and writes.
 use mathlib.Core.Path.{_≡_, refl}
 use mathlib.Core.Bool.{Bool, true, false}
 use Prim.Native.Nat.{ℕ}
@@ -7,9 +7,10 @@ use Rattle.sets.specs.Sets.{everyone}
 use Rattle.labels.specs.Labels.{belowOf, joinOf, confidentialityOf, integrityOf, bottomOf, readsOf, writesOf, effective, EffectiveLabel}
 use Rattle.labels.specs.declared.Label.{Label}
 use Rattle.labels.proofs.EffectiveLaws.{bottom-effective, join-effective, C-effective, I-effective}
+use Rattle.language.specs.Syntax.{Script}
 use Rattle.language.specs.World.{World}
 use Rattle.language.specs.Labels.{Labels}
-use Rattle.language.specs.Declarations.{Shapes, Declarations}
+use Rattle.language.specs.Declarations.{Shapes, Declarations, startOf}
 use Rattle.sheet.specs.Sheet.{Sheet, tyOf, labelNo, locationNo}
 
 -- the types that type numbers name, and the locations' types
@@ -45,6 +46,10 @@ declarationsOf s =
       home = λ x. effectively (s .principals) (labelNo s (locationNo s x .label));
     }
 
+-- the label that a script starts at: the one that it opens with, else bottom
+abbrev pub startLabel : (s : Sheet) → Script → EffectiveLabel (s .principals)
+startLabel s p = startOf (labelsOver (s .principals)) (declarationsOf s) (p .opening .start)
+
 -- whether a label is at or below another, by the labels' numbers
 abbrev pub belowNo : Sheet → ℕ → ℕ → Bool
 belowNo s l m = belowOf (labelNo s l) (labelNo s m)
@@ -56,6 +61,10 @@ readsNo s g l = readsOf (s .principals) g (labelNo s l)
 abbrev pub writesNo : Sheet → ℕ → ℕ → Bool
 writesNo s g l = writesOf (s .principals) g (labelNo s l)
 
+-- whether a group reads the label that a script starts at
+abbrev pub readsStart : Sheet → ℕ → Script → Bool
+readsStart s g p = readsOf (s .principals) g (startLabel s p .raw)
+
 -- what a run under an authority rests on
 abbrev pub worldOf : Sheet → ℕ → World
 worldOf s authority =
@@ -65,3 +74,7 @@ worldOf s authority =
       reads = readsNo s authority;
       writes = writesNo s authority;
     }
+
+-- what a run of a script under an authority rests on; the script itself adds nothing to it
+abbrev pub worldFor : Sheet → ℕ → Script → World
+worldFor s authority p = worldOf s authority

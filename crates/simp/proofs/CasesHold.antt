@@ -6,7 +6,7 @@ use Rattle.language.specs.World.{World, Mem}
 use Rattle.language.specs.Evaluation.{bind, fit, fitIf, eval}
 use Rattle.language.specs.Transition.{spent, done, run, iterate, step, after, branch, branchV, at-seq}
 use Rattle.stages.specs.Calls.{ended}
-use Rattle.simp.specs.Cases.{Holds, spends, Each, cases, CasesHold, sheet, nested, fourLocations, before, afterPack, afterUnpack, beforeWith, parted, twoPolicies, readersOnly, twoLabels}
+use Rattle.simp.specs.Cases.{Holds, spends, Each, cases, CasesHold, sheet, nested, fourLocations, before, afterPack, afterUnpack, beforeWith, afterStart, parted, times, twoPolicies, readersOnly, twoLabels, twoStarts}
 use Rattle.simp.proofs.Computing.{all-used}
 
 -- `w`, `l 3`, `i 1`, `s`
@@ -34,7 +34,10 @@ abbrev _&_ : {A B : Type 0} → A → B → A × B
 a & b = (a, b)
 
 pub cases-hold : CasesHold
-unfolding Each cases Holds sheet nested fourLocations before afterPack afterUnpack beforeWith parted twoPolicies readersOnly twoLabels all-used
+unfolding Each cases Holds sheet nested fourLocations before afterPack afterUnpack beforeWith afterStart parted times twoPolicies readersOnly twoLabels
+    twoStarts all-used
 cases-hold =
     refl & refl & refl & refl & refl & refl & refl & refl & refl & refl & refl & refl & refl & refl & refl & spent-always & refl & refl
+    & refl & refl & refl & refl & refl & refl & refl & refl & refl & refl & refl & refl & refl & refl & refl & refl & refl & refl & refl & refl & refl
+    & refl & refl & refl & refl
     & refl & refl & refl & refl & refl & refl & refl & refl & refl & refl & refl & refl & refl & tt

@@ -66,13 +66,13 @@ unfolding evaluation.bind evaluation.fitIf evaluation.fit evaluation.addTo evalu
     syntax.size syntax.has
     substitution.lift substitution.close-var substitution.closeE substitution.close substitution.inst substitution.update transition.at-seq
     transition.at-assign transition.branchV transition.branch transition.step transition.after transition.run transition.iterate
-    declarations.nth typing.orElse typing.isYes typing.sameTy typing.isTy typing.hasTy typing.leftIs typing.rightIs typing.onSum typing.given
+    declarations.startOf declarations.nth typing.orElse typing.isYes typing.sameTy typing.isTy typing.hasTy typing.leftIs typing.rightIs typing.onSum typing.given
     typing.typeOfValue typing.typeOf typing.shape typing.least typing.flowE typing.flow typing.refusal
 language-used = tt
 
 unfoldable pub script-used : Unit {0}
-unfolding lines.integerOf lines.exprLines lines.cmdLines
-    names.namedE names.named
+unfolding lines.integerOf lines.exprLines lines.cmdLines lines.startLines
+    names.namedE names.named names.namedStart
 script-used = tt
 
 unfoldable pub sheet-used : Unit {0}
@@ -95,8 +95,9 @@ sheet-text-used = tt
 
 unfoldable pub script-text-used : Unit {0}
 unfolding parse.popE parse.popC parse.onStack parse.pushOn parse.stackOf parse.onlyCommand parse.parse
-    script-lines.formOf script-lines.operandsOf script-lines.lineOf script-lines.linesOf
-    script.namedOnly script.commandOf script.commandRead script.scriptOf
+    script-lines.formOf script-lines.operandsOf script-lines.lineOf script-lines.startRead script-lines.openingOf script-lines.writtenWith
+    script-lines.linesAfter script-lines.writtenOf
+    script.namedOnly script.commandOf script.scriptWith script.scriptRead script.scriptOf
 script-text-used = tt
 
 unfoldable pub memory-used : Unit {0}

@@ -4,7 +4,7 @@ use mathlib.Core.List.{List, [], _∷_}
 use Prim.Native.Nat.{ℕ}
 use native.Mathlib.Omega.{arith}
 use Rattle.sheet.specs.Sheet.{Sheet}
-use Rattle.language.specs.Syntax.{Cmd}
+use Rattle.language.specs.Syntax.{Script}
 use Rattle.stages.specs.Answers.{Ran, refusedRun, Viewed, refusedView}
 use Rattle.stages.specs.Calls.{checkOf, runOf, viewOf}
 use Rattle.numbers.specs.Rows.{numbers, Among, here, later}
@@ -14,13 +14,13 @@ use Rattle.numbers.proofs.RowLaws.{by-rows, not-one, among-more}
 use Rattle.simp.proofs.SecondDemand.{checked, Starts, run-starts, run-exactly, Shows, view-shows, view-exactly}
 
 module _ {memory : List ℕ} {budget : ℕ} where
-  pub finished : {sheet script : List ℕ} {authority : ℕ} {s : Sheet} {c : Cmd} {r : Ran} → Started sheet script memory authority s c → Ends s c memory authority budget r → r .answer ≡ 0
+  pub finished : {sheet script : List ℕ} {authority : ℕ} {s : Sheet} {p : Script} {r : Ran} → Started sheet script memory authority s p → Ends s p memory authority budget r → r .answer ≡ 0
       → Finished sheet script memory authority budget (r .steps) (r .memory)
   finished st (ends-9 t n l) h = absurd (omega arith)
   finished st (ends-10 k t n l) h = absurd (omega arith)
-  finished {s = s} {c = c} st (ends-0 {M′} k t n) h = record { its-sheet = s; its-command = c; reached = M′; started = st; run = t; words = refl; in-budget = k }
+  finished {s = s} {p = p} st (ends-0 {M′} k t n) h = record { its-sheet = s; its-script = p; reached = M′; started = st; run = t; words = refl; in-budget = k }
 
-  pub ended : {authority : ℕ} {s : Sheet} {c : Cmd} {r : Ran} → Ends s c memory authority budget r → RunAnswers memory budget r
+  pub ended : {authority : ℕ} {s : Sheet} {p : Script} {r : Ran} → Ends s p memory authority budget r → RunAnswers memory budget r
   ended (ends-0 k t n) = record {
     number = here;
     kept = λ h. absurd (h refl);
@@ -84,7 +84,7 @@ view-answers sheet memory group view =
     _ (view-exactly sheet memory group view _ .0 refl)
 
 -- the numbers past the table of a run
-pub past-8 : {s : Sheet} {c : Cmd} {memory : List ℕ} {authority budget : ℕ} {r : Ran} → Ends s c memory authority budget r
+pub past-8 : {s : Sheet} {p : Script} {memory : List ℕ} {authority budget : ℕ} {r : Ran} → Ends s p memory authority budget r
     → ¬ Among (1 ∷ 2 ∷ 3 ∷ 4 ∷ 5 ∷ 6 ∷ 7 ∷ 8 ∷ []) (r .answer)
 past-8 (ends-0 k t n) i = not-one 0 i refl refl
 past-8 (ends-9 t n l) i = not-one 9 i refl refl

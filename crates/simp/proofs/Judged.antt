@@ -8,9 +8,9 @@ use mathlib.Core.Option.{Option, none, some}
 use Prim.Native.Nat.{ℕ}
 use lib.ListN.{length}
 use borrow.Author.Tests.{eqb-true, eqb-false}
-use Rattle.language.specs.Syntax.{Cmd}
+use Rattle.language.specs.Syntax.{Script}
 use Rattle.language.specs.Typing.{refusal}
-use Rattle.language.proofs.Exactness.{shape-iff, flow-iff}
+use Rattle.language.proofs.Exactness.{shape-iff, script-iff}
 use Rattle.sheet.specs.Sheet.{Sheet, repeats}
 use Rattle.sheet.specs.Meaning.{labelsOver, declarationsOf}
 use Rattle.sheet.proofs.MeaningLaws.{least-label-laws}
@@ -29,27 +29,27 @@ use Rattle.simp.specs.Judgements.{OnSheet, OfSheet, OfScript, NoSheet, R
 use Rattle.logic.proofs.OptionLaws.{none-some}
 use Rattle.logic.proofs.BooleanLaws.{fails}
 
--- ---- a text is that of one sheet, and a script of one command
+-- ---- a text is that of one sheet, and on it of one script
 
 pub read : {sheet : List ℕ} {s : Sheet} → OnSheet sheet s → sheetOf sheet ≡ accepted s
 read {sheet} {s} h = accepted-exact sheet s .1 (h .form, h .once)
 
-pub parsed : {sheet : List ℕ} {s : Sheet} (script : List ℕ) {c : Cmd} → OnSheet sheet s → IsScript (countsOf s) script c → scriptOf (countsOf s) script ≡ some c
-parsed {s = s} script {c} h i = script-exact s (h .form .is-formed) script c .1 i
+pub parsed : {sheet : List ℕ} {s : Sheet} (script : List ℕ) {p : Script} → OnSheet sheet s → IsScript (countsOf s) script p → scriptOf (countsOf s) script ≡ some p
+parsed {s = s} script {p} h i = script-exact s (h .form .is-formed) script p .1 i
 
 -- what holds of the text's sheet holds of this one
 pub its : {sheet : List ℕ} {s : Sheet} (P : Sheet → Type 0) → IsSheet sheet s → OfSheet sheet P → P s
 its {sheet} {s} P i h = subst P (one-sheet sheet (h .0) s (h .1) i) (h .2)
 
-pub one-command : {sheet : List ℕ} {s : Sheet} (script : List ℕ) {c c′ : Cmd} → OnSheet sheet s → IsScript (countsOf s) script c → IsScript (countsOf s) script c′
-    → c′ ≡ c
-one-command script h i i′ = let p = parsed script h i in let q = parsed script h i′ in cc
+pub one-script : {sheet : List ℕ} {s : Sheet} (script : List ℕ) {p p′ : Script} → OnSheet sheet s → IsScript (countsOf s) script p → IsScript (countsOf s) script p′
+    → p′ ≡ p
+one-script script h i i′ = let x = parsed script h i in let y = parsed script h i′ in cc
 
-pub their : {sheet script : List ℕ} {s : Sheet} {c : Cmd} (P : Sheet → Cmd → Type 0) → OnSheet sheet s → IsScript (countsOf s) script c
-    → OfScript sheet script P → P s c
+pub their : {sheet script : List ℕ} {s : Sheet} {p : Script} (P : Sheet → Script → Type 0) → OnSheet sheet s → IsScript (countsOf s) script p
+    → OfScript sheet script P → P s p
 their {sheet} {script} {s} P h i o =
-    let d = its (λ (z : Sheet). (c : Cmd) × IsScript (countsOf z) script c × P z c) (h .form) o in
-    subst (P s) (one-command script h i (d .1)) (d .2)
+    let d = its (λ (z : Sheet). (p : Script) × IsScript (countsOf z) script p × P z p) (h .form) o in
+    subst (P s) (one-script script h i (d .1)) (d .2)
 
 -- ---- the stages
 
@@ -91,24 +91,24 @@ module _ {A : Type 0} (refuse : ℕ → A) (Else : A → Type 0) where
     unfolding unless strangers
     past-3 g go k = tests _ 3 0 go rows refl (λ f. (s, h .form, fails f)) (λ t. row 3 rows go (no (λ z. Principals z g) t) (k t))
 
-    pub past-4 : (script : List ℕ) (go : Cmd → A) → ((c : Cmd) → IsScript (countsOf s) script c → First refuse Else rows (go c))
+    pub past-4 : (script : List ℕ) (go : Script → A) → ((p : Script) → IsScript (countsOf s) script p → First refuse Else rows (go p))
         → First refuse Else (4 when NoScript sheet script ∷ rows) (onScript refuse (scriptOf (countsOf s) script) go)
     unfolding First onScript
     past-4 script go k = on (scriptOf (countsOf s) script) refl
       where
-        on : (o : Option Cmd) → scriptOf (countsOf s) script ≡ o → First refuse Else (4 when NoScript sheet script ∷ rows) (onScript refuse o go)
-        on none e = inl ((s, h .form, λ c i. none-some (sym e ∙ parsed script h i)), refl)
-        on (some c) e = let i = script-exact s (h .form .is-formed) script c .0 e in inr (λ o. its _ (h .form) o c i, k c i)
+        on : (o : Option Script) → scriptOf (countsOf s) script ≡ o → First refuse Else (4 when NoScript sheet script ∷ rows) (onScript refuse o go)
+        on none e = inl ((s, h .form, λ p i. none-some (sym e ∙ parsed script h i)), refl)
+        on (some p) e = let i = script-exact s (h .form .is-formed) script p .0 e in inr (λ o. its _ (h .form) o p i, k p i)
 
-    pub past-6 : (script : List ℕ) (c : Cmd) (go : A) → IsScript (countsOf s) script c → (Typable s c → First refuse Else rows go)
-        → First refuse Else (5 when IllTyped sheet script ∷ 6 when IllLabelled sheet script ∷ rows) (unless refuse (untyped s c) go)
+    pub past-6 : (script : List ℕ) (p : Script) (go : A) → IsScript (countsOf s) script p → (Typable s p → First refuse Else rows go)
+        → First refuse Else (5 when IllTyped sheet script ∷ 6 when IllLabelled sheet script ∷ rows) (unless refuse (untyped s p) go)
     unfolding unless untyped refusal
-    past-6 script c go i k =
+    past-6 script p go i k =
         let D = declarationsOf s in
-        let typed = flow-iff (labelsOver (s .principals)) (least-label-laws (s .principals)) D (labelsOver (s .principals) .bot) c in
-        tests _ 5 _ go _ refl (λ f. (s, h .form, (c, i, λ d. fails f (shape-iff D c .1 d)))) λ t.
-        row 5 _ _ (λ o. their (λ z d. ¬ TypableUnlabelled z d) h i o (shape-iff D c .0 t))
-        (tests _ 6 0 go rows refl (λ f. (s, h .form, (c, i, λ d. fails f (typed .1 d .1)))) λ u.
+        let typed = script-iff (labelsOver (s .principals)) (least-label-laws (s .principals)) D p in
+        tests _ 5 _ go _ refl (λ f. (s, h .form, (p, i, λ d. fails f (shape-iff D p .1 d)))) λ t.
+        row 5 _ _ (λ o. their (λ z d. ¬ TypableUnlabelled z d) h i o (shape-iff D p .0 t))
+        (tests _ 6 0 go rows refl (λ f. (s, h .form, (p, i, λ d. fails f (typed .1 d .1)))) λ u.
         row 6 rows go (λ o. their (λ z d. ¬ Typable z d) h i o (typed .0 (t, u))) (k (typed .0 (t, u))))
 
     pub past-8 : (memory : List ℕ) (go : A) → (Sized s memory → wellFormed s memory ≡ true → First refuse Else rows go)

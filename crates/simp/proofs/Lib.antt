@@ -11,6 +11,7 @@ pub mod EveryCall
 pub mod Readers
 pub mod ThirdDemand
 pub mod RoundViews
+pub mod Unseen
 pub mod SheetLaws
 mod Computing
 pub mod CasesHold

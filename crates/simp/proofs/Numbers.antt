@@ -5,9 +5,9 @@ use mathlib.Core.List.{List, []}
 use Prim.Native.Nat.{ℕ}
 use borrow.Author.Tests.{eq-eqb}
 use lib.ListN.{length}
-use Rattle.language.specs.Syntax.{Cmd}
+use Rattle.language.specs.Syntax.{Script}
 use Rattle.language.specs.Typing.{shape}
-use Rattle.language.proofs.Exactness.{flow-iff, exactness}
+use Rattle.language.proofs.Exactness.{script-iff, exactness}
 use Rattle.sheet.specs.Sheet.{Sheet}
 use Rattle.sheet.specs.Meaning.{labelsOver, declarationsOf, shapesOf}
 use Rattle.sheet.proofs.MeaningLaws.{least-label-laws}
@@ -23,17 +23,17 @@ module _ (s : Sheet) where
   no-strangers g h = rw h
 
   -- 5 and 6
-  pub typable-0 : (c : Cmd) → Typable s c → untyped s c ≡ 0
+  pub typable-0 : (p : Script) → Typable s p → untyped s p ≡ 0
   unfolding untyped
-  typable-0 c = exactness (labelsOver (s .principals)) (least-label-laws (s .principals)) (declarationsOf s) .accepted c .1
+  typable-0 p = exactness (labelsOver (s .principals)) (least-label-laws (s .principals)) (declarationsOf s) .accepted p .1
 
-  pub 0-typable : (c : Cmd) → untyped s c ≡ 0 → Typable s c
+  pub 0-typable : (p : Script) → untyped s p ≡ 0 → Typable s p
   unfolding untyped
-  0-typable c = exactness (labelsOver (s .principals)) (least-label-laws (s .principals)) (declarationsOf s) .accepted c .0
+  0-typable p = exactness (labelsOver (s .principals)) (least-label-laws (s .principals)) (declarationsOf s) .accepted p .0
 
   -- an accepted script passes the test on types
-  pub typable-shape : (c : Cmd) → Typable s c → shape (shapesOf s) [] c ≡ true
-  typable-shape c h = flow-iff (labelsOver (s .principals)) (least-label-laws (s .principals)) (declarationsOf s) (labelsOver (s .principals) .bot) c .1 h .0
+  pub typable-shape : (p : Script) → Typable s p → shape (shapesOf s) [] (p .command) ≡ true
+  typable-shape p h = script-iff (labelsOver (s .principals)) (least-label-laws (s .principals)) (declarationsOf s) p .1 h .0
 
   -- 7 and 8
   pub sized-0 : (ws : List ℕ) → Sized s ws → wellFormed s ws ≡ true → memoryRefusal s ws ≡ 0

@@ -1,24 +1,33 @@
--- A group that reads by the scope's rule is an observer of a sheet's labels: noninterference for it. Assumes nothing.
-use mathlib.Core.Path.{_≡_, refl, sym, ap, subst₂, fun-ext}
-use mathlib.Core.Bool.{Bool, true}
+-- A group that reads by the scope's rule is an observer of a sheet's labels: noninterference and confinement for it.
+-- Assumes nothing.
+use mathlib.Core.Path.{_≡_, refl, sym, ap, _∙_, subst₂, fun-ext}
+use mathlib.Core.Bool.{Bool, true, false}
 use Prim.Native.Nat.{ℕ, _≤_}
 use Rattle.labels.specs.Labels.{owners, readsOf, EffectiveLabel}
 use Rattle.labels.proofs.ReadingLaws.{reads-down, reads-down-C}
-use Rattle.language.specs.Syntax.{Cmd}
+use Rattle.language.specs.Syntax.{Value, Cmd, Script}
 use Rattle.language.specs.World.{Mem}
-use Rattle.language.specs.View.{maskMem}
+use Rattle.language.specs.View.{seen, mask, maskMem}
+use Rattle.language.specs.Figures.{Steps}
 use Rattle.language.specs.Transition.{done, iterate}
 use Rattle.language.specs.Typing.{conditions}
 use Rattle.language.specs.Theorems.{Observer}
-use Rattle.language.proofs.Exactness.{flow-iff}
+use Rattle.language.proofs.Exactness.{script-iff}
 use Rattle.language.proofs.Noninterference.{noninterference}
+use Rattle.language.proofs.Confinement.{confinement}
 use Rattle.language.proofs.Observers.{law-joins, reader}
 use Rattle.sheet.specs.Sheet.{Sheet, formed}
-use Rattle.sheet.specs.Meaning.{labelsOver, declarationsOf, worldOf, readsNo}
+use Rattle.sheet.specs.Meaning.{labelsOver, declarationsOf, startLabel, worldOf, worldFor, readsNo}
 use Rattle.sheet.proofs.FormLaws.{formed-facts}
 use Rattle.sheet.proofs.MeaningLaws.{least-label-laws, declared-label, declared-home}
 use Rattle.memory.specs.View.{seesNo}
 use Rattle.simp.specs.Judgements.{Typable}
+
+-- values that are the same where they are seen
+same-seen : (b : Bool) (shows : ℕ → Bool) (v w : Value) → (b ≡ true → v ≡ w) → seen b (mask shows v) ≡ seen b (mask shows w)
+unfolding seen
+same-seen true shows v w h = ap (mask shows) (h refl)
+same-seen false shows v w h = refl
 
 module _ (s : Sheet) (fm : formed s ≡ true) (group : ℕ) where
   -- the labels that the group reads
@@ -49,14 +58,27 @@ module _ (s : Sheet) (fm : formed s ≡ true) (group : ℕ) where
   Alike M N sees shows = (x : ℕ) → maskMem sees shows M x ≡ maskMem sees shows N x
 
   -- Two done runs of an accepted script, under one authority, from memories that show the group the same, leave such memories.
-  pub shown-kept : (c : Cmd) → Typable s c → (authority b b′ l l′ : ℕ) (M N M′ N′ : Mem)
+  pub shown-kept : (p : Script) → Typable s p → (authority b b′ l l′ : ℕ) (M N M′ N′ : Mem)
       → ((x : ℕ) → maskMem (seesNo s group) (readsNo s group) M x ≡ maskMem (seesNo s group) (readsNo s group) N x)
-      → iterate (worldOf s authority) b M c ≡ done M′ l → iterate (worldOf s authority) b′ N c ≡ done N′ l′
+      → iterate (worldFor s authority p) b M (p .command) ≡ done M′ l → iterate (worldFor s authority p) b′ N (p .command) ≡ done N′ l′
       → (x : ℕ) → maskMem (seesNo s group) (readsNo s group) M′ x ≡ maskMem (seesNo s group) (readsNo s group) N′ x
   unfolding Alike
-  shown-kept c t authority b b′ l l′ M N M′ N′ h p q =
+  shown-kept p t authority b b′ l l′ M N M′ N′ h e e′ =
       let 𝓛 = labelsOver (s .principals) in
       let D = declarationsOf s in
       subst₂ (Alike M′ N′) sees-is shows-is
-      (noninterference (conditions 𝓛 D) (worldOf s authority) vis (λ k. vis (D .label k)) (observer authority) (𝓛 .bot) c
-      (flow-iff 𝓛 (least-label-laws (s .principals)) D (𝓛 .bot) c .1 t .1) b b′ l l′ M N M′ N′ (subst₂ (Alike M N) (sym sees-is) (sym shows-is) h) p q)
+      (noninterference (conditions 𝓛 D) (worldFor s authority p) vis (λ k. vis (D .label k)) (observer authority) (startLabel s p) (p .command)
+      (script-iff 𝓛 (least-label-laws (s .principals)) D p .1 t .1) b b′ l l′ M N M′ N′ (subst₂ (Alike M N) (sym sees-is) (sym shows-is) h) e e′)
+
+  -- A script whose starting label the group doesn't read: however far a run of it goes, the memory shows the group the
+  -- same.
+  pub shown-confined : (p : Script) → Typable s p → ¬ (vis (startLabel s p) ≡ true) → (authority k : ℕ) (M M′ : Mem) (c′ : Cmd)
+      → Steps (worldFor s authority p) k M (p .command) M′ c′
+      → (x : ℕ) → maskMem (seesNo s group) (readsNo s group) M′ x ≡ maskMem (seesNo s group) (readsNo s group) M x
+  unfolding maskMem
+  shown-confined p t h authority k M M′ c′ run x =
+      let 𝓛 = labelsOver (s .principals) in
+      let D = declarationsOf s in
+      same-seen (seesNo s group x) (readsNo s group) (M′ x) (M x) (λ v.
+      confinement (conditions 𝓛 D) (worldFor s authority p) vis (λ k. vis (D .label k)) (observer authority) (startLabel s p) (p .command)
+      (script-iff 𝓛 (least-label-laws (s .principals)) D p .1 t .1) h k M M′ c′ run x (ap (λ (f : ℕ → Bool). f x) sees-is ∙ v))

@@ -6,7 +6,7 @@ use mathlib.Core.Option.{Option, none, some}
 use Prim.Native.Nat.{ℕ, zero, suc, _≤_}
 use native.Mathlib.Omega.{arith}
 use lib.ListN.{length, getD, replicate, length-replicate}
-use Rattle.language.specs.Syntax.{Cmd}
+use Rattle.language.specs.Syntax.{Script}
 use Rattle.sheet.specs.Sheet.{Sheet, locationCount}
 use Rattle.script_text.specs.Counts.{countsOf}
 use Rattle.script_text.specs.Script.{scriptOf}
@@ -36,6 +36,11 @@ use Rattle.simp.proofs.Turns.{zeros-at, turns-map, turns-placed, placed
 
 -- ---- a turn, by its gate
 
+-- 0, or another number
+pub by-zero : {P : Type 0} (k : ℕ) → (k ≡ 0 → P) → (¬ (k ≡ 0) → P) → P
+by-zero zero f g = f refl
+by-zero (suc k) f g = g (λ e. absurd (omega arith))
+
 module _ (gate : Gate) (sheet : List ℕ) (authority budget i : ℕ) (script memory : List ℕ) where
   pub turn-open : Open gate i → turnOf gate sheet authority budget i script memory ≡ runOf sheet script memory authority budget
   unfolding turnOf unless
@@ -47,11 +52,7 @@ module _ (gate : Gate) (sheet : List ℕ) (authority budget i : ℕ) (script mem
 
   -- the gate is open or not
   pub by-gate : {P : Type 0} → (Open gate i → P) → ((¬ Open gate i) → P) → P
-  by-gate {P} f g = go (gate i) refl
-    where
-      go : (k : ℕ) → gate i ≡ k → P
-      go zero e = f e
-      go (suc k) e = g (λ z. absurd (omega arith))
+  by-gate f g = by-zero (gate i) f g
 
   turn-goes : (r : Ran) → (turnOf gate sheet authority budget i script memory ≡ r) ↔ TurnGoes gate sheet authority budget i script memory r
   turn-goes r = (
@@ -61,17 +62,17 @@ module _ (gate : Gate) (sheet : List ℕ) (authority budget i : ℕ) (script mem
 
 -- ---- the scripts of a round that has started
 
--- an accepted script has a command, with a derivation
-accepted-command : {sheet : List ℕ} {s : Sheet} (script : List ℕ) → OnSheet sheet s → numberOf s script ≡ 0 → (c : Cmd) × IsScript (countsOf s) script c × Typable s c
+-- an accepted text is that of a script with a derivation
+accepted-script : {sheet : List ℕ} {s : Sheet} (script : List ℕ) → OnSheet sheet s → numberOf s script ≡ 0 → (p : Script) × IsScript (countsOf s) script p × Typable s p
 unfolding numberOf onScript
-accepted-command {s = s} script h n = go (scriptOf (countsOf s) script) refl n
+accepted-script {s = s} script h n = go (scriptOf (countsOf s) script) refl n
   where
-    go : (o : Option Cmd) → scriptOf (countsOf s) script ≡ o → onScript (λ k. k) o (λ c. untyped s c) ≡ 0 → (c : Cmd) × IsScript (countsOf s) script c × Typable s c
+    go : (o : Option Script) → scriptOf (countsOf s) script ≡ o → onScript (λ k. k) o (λ p. untyped s p) ≡ 0 → (p : Script) × IsScript (countsOf s) script p × Typable s p
     go none e z = absurd (omega arith)
-    go (some c) e z = (c, script-exact s (h .form .is-formed) script c .0 e, 0-typable s c z)
+    go (some p) e z = (p, script-exact s (h .form .is-formed) script p .0 e, 0-typable s p z)
 
 -- a run that started answers 0, 9 or 10
-past-refusals : {s : Sheet} {c : Cmd} {memory : List ℕ} {authority budget : ℕ} {r : Ran} → Ends s c memory authority budget r → Among (0 ∷ 9 ∷ 10 ∷ []) (r .answer)
+past-refusals : {s : Sheet} {p : Script} {memory : List ℕ} {authority budget : ℕ} {r : Ran} → Ends s p memory authority budget r → Among (0 ∷ 9 ∷ 10 ∷ []) (r .answer)
 past-refusals (ends-0 k t n) = here
 past-refusals (ends-9 t n l) = later here
 past-refusals (ends-10 k t n l) = later (later here)
@@ -81,16 +82,16 @@ module _ (gate : Gate) {sheet : List ℕ} {s : Sheet} (authority budget : ℕ) (
   turn = turnOf gate sheet authority budget
 
   module _ (i : ℕ) (script memory : List ℕ) (n : numberOf s script ≡ 0) (m : memoryRefusal s memory ≡ 0) where
-    its-command : (c : Cmd) × IsScript (countsOf s) script c × Typable s c
-    its-command = accepted-command script h n
+    its-script : (p : Script) × IsScript (countsOf s) script p × Typable s p
+    its-script = accepted-script script h n
 
-    its-start : Started sheet script memory authority s (its-command .0)
+    its-start : Started sheet script memory authority s (its-script .0)
     unfolding memoryRefusal
     its-start = record {
       on-sheet = h;
       principals = a;
-      of-script = its-command .1;
-      typable = its-command .2;
+      of-script = its-script .1;
+      typable = its-script .2;
       sized = unrefused-length (locationCount s) (wellFormed s memory) memory m;
       well-formed = unrefused-formed (locationCount s) (wellFormed s memory) memory m;
     }
@@ -108,7 +109,7 @@ module _ (gate : Gate) {sheet : List ℕ} {s : Sheet} (authority budget : ℕ) (
     turn-kept =
         by-gate gate sheet authority budget i script memory
         (λ o.
-        let c = its-command in
+        let c = its-script in
         rw (turn-open gate sheet authority budget i script memory o ∙ started-run its-start budget)
         (left-unrefused s (c .0) (c .1 .source) (c .1 .named-there) (typable-0 s (c .0) (c .2)) memory authority budget m))
         (λ z. rw (turn-closed gate sheet authority budget i script memory z) m)

@@ -5,12 +5,12 @@ use mathlib.Core.Bool.{true}
 use mathlib.Core.List.{List}
 use Prim.Native.Nat.{ℕ, zero, suc, _+_, _-_}
 use native.Mathlib.Omega.{arith}
-use Rattle.language.specs.Syntax.{Cmd}
+use Rattle.language.specs.Syntax.{Script}
 use Rattle.language.specs.Transition.{Out, done, spent, over, iterate}
 use Rattle.language.specs.Theorems.{ends-done, ends-spent, ends-over, RunEnds}
 use Rattle.language.proofs.Outcome.{outcome}
 use Rattle.sheet.specs.Sheet.{Sheet, locationCount}
-use Rattle.sheet.specs.Meaning.{shapesOf, worldOf}
+use Rattle.sheet.specs.Meaning.{shapesOf, worldFor}
 use Rattle.memory.specs.Memory.{memoryOf, wordsOf, wellFormed}
 use Rattle.memory.specs.View.{viewWords}
 use Rattle.memory.specs.Theorems.{Declared}
@@ -34,15 +34,15 @@ pub checked : (sheet script : List ℕ) → Checked sheet script (checkOf sheet 
 unfolding checkOf numberOf
 checked sheet script =
     past-2 (λ k. k) (λ r. r ≡ 0) sheet _ _ λ s h.
-    past-4 (λ k. k) (λ r. r ≡ 0) h _ script _ λ c i.
-    subst (First (λ k. k) (λ r. r ≡ 0) _) (unless-0 (untyped s c))
-    (past-6 (λ k. k) (λ r. r ≡ 0) h _ script c 0 i λ t. past-all (λ k. k) (λ r. r ≡ 0) refl)
+    past-4 (λ k. k) (λ r. r ≡ 0) h _ script _ λ p i.
+    subst (First (λ k. k) (λ r. r ≡ 0) _) (unless-0 (untyped s p))
+    (past-6 (λ k. k) (λ r. r ≡ 0) h _ script p 0 i λ t. past-all (λ k. k) (λ r. r ≡ 0) refl)
 
 -- ---- run
 
 -- none of 1 to 8 applies
 abbrev pub Starts : List ℕ → List ℕ → List ℕ → ℕ → Type 0
-Starts sheet script memory authority = (s : Sheet) × (c : Cmd) × Started sheet script memory authority s c
+Starts sheet script memory authority = (s : Sheet) × (p : Script) × Started sheet script memory authority s p
 
 pub run-starts : (sheet script memory : List ℕ) (authority budget : ℕ)
     → First (refusedRun memory) (λ _. Starts sheet script memory authority) (runRows sheet script memory authority) (runOf sheet script memory authority budget)
@@ -52,51 +52,51 @@ run-starts sheet script memory authority budget =
     let E : Ran → Type 0 = λ _. Starts sheet script memory authority in
     past-2 R E sheet _ _ λ s h.
     past-3 R E h _ authority _ λ a.
-    past-4 R E h _ script _ λ c i.
-    past-6 R E h _ script c _ i λ t.
+    past-4 R E h _ script _ λ p i.
+    past-6 R E h _ script p _ i λ t.
     past-8 R E h _ memory _ λ z w.
-    past-all R E (s, c, record { on-sheet = h; principals = a; of-script = i; typable = t; sized = z; well-formed = w })
+    past-all R E (s, p, record { on-sheet = h; principals = a; of-script = i; typable = t; sized = z; well-formed = w })
 
-module _ {sheet script memory : List ℕ} {authority : ℕ} {s : Sheet} {c : Cmd} (st : Started sheet script memory authority s c) where
+module _ {sheet script memory : List ℕ} {authority : ℕ} {s : Sheet} {p : Script} (st : Started sheet script memory authority s p) where
   pub declared : Declared s (memoryOf memory)
   declared = memories-exactly s .values memory (sized-0 s memory (st .sized) (st .well-formed))
 
-module _ {sheet script memory : List ℕ} {authority : ℕ} {s : Sheet} {c : Cmd} (st : Started sheet script memory authority s c) (budget : ℕ) where
-  by-figures : (o : Out) → (iterate (worldOf s authority) budget (memoryOf memory) c ≡ o) ↔ RunEnds (worldOf s authority) budget (memoryOf memory) c o
-  by-figures o = outcome (shapesOf s) (worldOf s authority) (λ t. refl) c (typable-shape s c (st .typable)) (memoryOf memory)
+module _ {sheet script memory : List ℕ} {authority : ℕ} {s : Sheet} {p : Script} (st : Started sheet script memory authority s p) (budget : ℕ) where
+  pub by-figures : (o : Out) → (iterate (worldFor s authority p) budget (memoryOf memory) (p .command) ≡ o) ↔ RunEnds (worldFor s authority p) budget (memoryOf memory) (p .command) o
+  by-figures o = outcome (shapesOf s) (worldFor s authority p) (λ t. refl) (p .command) (typable-shape s p (st .typable)) (memoryOf memory)
       (declared st .typed) (declared st .fitting) budget o
 
   -- a run that starts is refused by none of 1 to 8
-  pub started-run : runOf sheet script memory authority budget ≡ ended (locationCount s) budget memory (iterate (worldOf s authority) budget (memoryOf memory) c)
+  pub started-run : runOf sheet script memory authority budget ≡ ended (locationCount s) budget memory (iterate (worldFor s authority p) budget (memoryOf memory) (p .command))
   unfolding runOf onSheet onScript unless
   started-run =
       rw (
         read (st .on-sheet),
         no-strangers s authority (st .principals),
         parsed script (st .on-sheet) (st .of-script),
-        typable-0 s c (st .typable),
+        typable-0 s p (st .typable),
         sized-0 s memory (st .sized) (st .well-formed),
       ) refl
 
   -- it ends as the figures have it
-  so-ends : (o : Out) → RunEnds (worldOf s authority) budget (memoryOf memory) c o → Ends s c memory authority budget (ended (locationCount s) budget memory o)
+  so-ends : (o : Out) → RunEnds (worldFor s authority p) budget (memoryOf memory) (p .command) o → Ends s p memory authority budget (ended (locationCount s) budget memory o)
   unfolding ended
   so-ends o (ends-done {k} {l} {M′} e t n) =
       let z : k ≡ budget - l = omega arith in
-      subst (λ (j : ℕ). Ends s c memory authority budget (record { answer = 0; steps = j; memory = wordsOf (locationCount s) M′ })) z (ends-0 (omega arith) t n)
+      subst (λ (j : ℕ). Ends s p memory authority budget (record { answer = 0; steps = j; memory = wordsOf (locationCount s) M′ })) z (ends-0 (omega arith) t n)
   so-ends o (ends-spent t h n) = ends-9 t h n
   so-ends o (ends-over {k} {l} e t h n) =
       let z : k ≡ budget - suc l = omega arith in
-      subst (λ (j : ℕ). Ends s c memory authority budget (record { answer = 10; steps = j; memory = memory })) z (ends-10 (omega arith) t h n)
+      subst (λ (j : ℕ). Ends s p memory authority budget (record { answer = 10; steps = j; memory = memory })) z (ends-10 (omega arith) t h n)
 
-  pub run-ends : Ends s c memory authority budget (runOf sheet script memory authority budget)
-  run-ends = subst (Ends s c memory authority budget) (sym started-run) (so-ends _ (by-figures _ .0 refl))
+  pub run-ends : Ends s p memory authority budget (runOf sheet script memory authority budget)
+  run-ends = subst (Ends s p memory authority budget) (sym started-run) (so-ends _ (by-figures _ .0 refl))
 
-  ran : (o : Out) → RunEnds (worldOf s authority) budget (memoryOf memory) c o → runOf sheet script memory authority budget ≡ ended (locationCount s) budget memory o
+  ran : (o : Out) → RunEnds (worldFor s authority p) budget (memoryOf memory) (p .command) o → runOf sheet script memory authority budget ≡ ended (locationCount s) budget memory o
   ran o e = started-run ∙ ap (ended (locationCount s) budget memory) (by-figures o .1 e)
 
   -- and in one way
-  ran-so : {r : Ran} → Ends s c memory authority budget r → runOf sheet script memory authority budget ≡ r
+  ran-so : {r : Ran} → Ends s p memory authority budget r → runOf sheet script memory authority budget ≡ r
   unfolding ended
   ran-so (ends-9 t h n) = ran spent (ends-spent t h n)
   ran-so (ends-10 {k = k} l t h n) =
@@ -113,8 +113,8 @@ pub run-exactly : (sheet script memory : List ℕ) (authority budget : ℕ) (r :
     → (runOf sheet script memory authority budget ≡ r) ↔ Run sheet script memory authority budget r
 run-exactly sheet script memory authority budget =
     exactly (refusedRun memory) _ _ (runOf sheet script memory authority budget) (runRows sheet script memory authority)
-    (λ n (s, c, st) r. (
-      λ e. (s, st .on-sheet .form, (c, st .of-script, subst (Ends s c memory authority budget) e (run-ends st budget))),
+    (λ n (s, p, st) r. (
+      λ e. (s, st .on-sheet .form, (p, st .of-script, subst (Ends s p memory authority budget) e (run-ends st budget))),
       λ o. ran-so st budget (their (λ z d. Ends z d memory authority budget r) (st .on-sheet) (st .of-script) o),
     ))
     (run-starts sheet script memory authority budget)

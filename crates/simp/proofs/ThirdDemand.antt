@@ -3,11 +3,11 @@ use mathlib.Core.Path.{_≡_, refl, sym, ap, _∙_, subst}
 use mathlib.Core.List.{List}
 use Prim.Native.Nat.{ℕ, suc}
 use native.Mathlib.Omega.{arith}
-use Rattle.language.specs.Syntax.{Cmd}
+use Rattle.language.specs.Syntax.{Script}
 use Rattle.language.specs.World.{Mem}
 use Rattle.language.specs.Transition.{Out, done, spent, over, wrong, iterate}
 use Rattle.sheet.specs.Sheet.{Sheet, locationCount}
-use Rattle.sheet.specs.Meaning.{worldOf}
+use Rattle.sheet.specs.Meaning.{worldFor}
 use Rattle.sheet_text.proofs.Theorems.{one-sheet}
 use Rattle.memory.specs.Memory.{memoryOf, wordsOf, wellFormed, memoryRefusal}
 use Rattle.memory.specs.View.{viewWords}
@@ -20,7 +20,7 @@ use Rattle.stages.proofs.Kept.{left-declared}
 use Rattle.simp.specs.Judgements.{OnSheet, Principals, Sized, Started}
 use Rattle.simp.specs.Demands.{Demand3}
 use Rattle.simp.proofs.Numbers.{sized-0, typable-shape}
-use Rattle.simp.proofs.Judged.{one-command}
+use Rattle.simp.proofs.Judged.{one-script}
 use Rattle.simp.proofs.SecondDemand.{declared, started-run, Shows, shown-view}
 use Rattle.simp.proofs.FirstDemand.{starts, shows}
 use Rattle.simp.proofs.Readers.{shown-kept}
@@ -28,39 +28,46 @@ use Rattle.simp.proofs.Readers.{shown-kept}
 refused : {k : ℕ} {A : Type 0} → suc k ≡ 0 → A
 refused h = absurd (omega arith)
 
--- how a run of c on s from a well-formed memory ended, if it is done
-record Done (s : Sheet) (c : Cmd) (memory : List ℕ) (authority budget : ℕ) (left : List ℕ) : Type 0 where
-  reached : Mem
-  rest : ℕ
-  run : iterate (worldOf s authority) budget (memoryOf memory) c ≡ done reached rest
-  words : left ≡ wordsOf (locationCount s) reached
+-- how a run of p on s from a well-formed memory ended, if it is done
+pub record Done (s : Sheet) (p : Script) (memory : List ℕ) (authority budget : ℕ) (left : List ℕ) : Type 0 where
+  pub reached : Mem
+  pub rest : ℕ
+  pub run : iterate (worldFor s authority p) budget (memoryOf memory) (p .command) ≡ done reached rest
+  pub words : left ≡ wordsOf (locationCount s) reached
 
-ended-done : (s : Sheet) (c : Cmd) (memory : List ℕ) (authority budget : ℕ) (o : Out) → iterate (worldOf s authority) budget (memoryOf memory) c ≡ o
-    → ended (locationCount s) budget memory o .answer ≡ 0 → Done s c memory authority budget (ended (locationCount s) budget memory o .memory)
+ended-done : (s : Sheet) (p : Script) (memory : List ℕ) (authority budget : ℕ) (o : Out) → iterate (worldFor s authority p) budget (memoryOf memory) (p .command) ≡ o
+    → ended (locationCount s) budget memory o .answer ≡ 0 → Done s p memory authority budget (ended (locationCount s) budget memory o .memory)
 unfolding ended
-ended-done s c memory authority budget (done M l) e h = record { reached = M; rest = l; run = e; words = refl }
-ended-done s c memory authority budget spent e h = refused h
-ended-done s c memory authority budget (over l) e h = refused h
-ended-done s c memory authority budget wrong e h = refused h
+ended-done s p memory authority budget (done M l) e h = record { reached = M; rest = l; run = e; words = refl }
+ended-done s p memory authority budget spent e h = refused h
+ended-done s p memory authority budget (over l) e h = refused h
+ended-done s p memory authority budget wrong e h = refused h
 
 -- the memory that a run starts from
-started : {sheet script memory : List ℕ} {authority : ℕ} {s : Sheet} {c : Cmd} → Started sheet script memory authority s c → memoryRefusal s memory ≡ 0
+pub started : {sheet script memory : List ℕ} {authority : ℕ} {s : Sheet} {p : Script} → Started sheet script memory authority s p → memoryRefusal s memory ≡ 0
 started {memory = memory} {s = s} st = sized-0 s memory (st .sized) (st .well-formed)
 
--- a text is that of one sheet, and a script of one command
-same-start : {sheet script memory memory′ : List ℕ} {authority : ℕ} {s s′ : Sheet} {c c′ : Cmd} → Started sheet script memory authority s c
-    → Started sheet script memory′ authority s′ c′ → Started sheet script memory′ authority s c
-same-start {sheet} {script} {memory} {memory′} {authority} {s} {s′} {c} {c′} st st′ =
-    let moved : Started sheet script memory′ authority s c′ =
-    subst (λ (z : Sheet). Started sheet script memory′ authority z c′) (one-sheet sheet s′ s (st′ .on-sheet .form) (st .on-sheet .form)) st′ in
-    subst (λ (d : Cmd). Started sheet script memory′ authority s d) (one-command script (st .on-sheet) (st .of-script) (moved .of-script)) moved
+-- a text is that of one sheet, and on it of one script
+same-start : {sheet script memory memory′ : List ℕ} {authority : ℕ} {s s′ : Sheet} {p p′ : Script} → Started sheet script memory authority s p
+    → Started sheet script memory′ authority s′ p′ → Started sheet script memory′ authority s p
+same-start {sheet} {script} {memory} {memory′} {authority} {s} {s′} {p} {p′} st st′ =
+    let moved : Started sheet script memory′ authority s p′ =
+    subst (λ (z : Sheet). Started sheet script memory′ authority z p′) (one-sheet sheet s′ s (st′ .on-sheet .form) (st .on-sheet .form)) st′ in
+    subst (λ (d : Script). Started sheet script memory′ authority s d) (one-script script (st .on-sheet) (st .of-script) (moved .of-script)) moved
 
-done-run : {sheet script memory : List ℕ} {authority : ℕ} {s : Sheet} {c : Cmd} (budget : ℕ) → Started sheet script memory authority s c
-    → runOf sheet script memory authority budget .answer ≡ 0 → Done s c memory authority budget (runOf sheet script memory authority budget .memory)
-done-run {sheet} {script} {memory} {authority} {s} {c} budget st h =
+pub done-run : {sheet script memory : List ℕ} {authority : ℕ} {s : Sheet} {p : Script} (budget : ℕ) → Started sheet script memory authority s p
+    → runOf sheet script memory authority budget .answer ≡ 0 → Done s p memory authority budget (runOf sheet script memory authority budget .memory)
+done-run {sheet} {script} {memory} {authority} {s} {p} budget st h =
     let e = started-run st budget in
-    subst (λ (r : Ran). Done s c memory authority budget (r .memory)) (sym e)
-    (ended-done s c memory authority budget (iterate (worldOf s authority) budget (memoryOf memory) c) refl (sym (ap (λ (r : Ran). r .answer) e) ∙ h))
+    subst (λ (r : Ran). Done s p memory authority budget (r .memory)) (sym e)
+    (ended-done s p memory authority budget (iterate (worldFor s authority p) budget (memoryOf memory) (p .command)) refl (sym (ap (λ (r : Ran). r .answer) e) ∙ h))
+
+-- it leaves values as the sheet declares them
+pub done-declared : {sheet script memory : List ℕ} {authority : ℕ} {s : Sheet} {p : Script} {budget : ℕ} {left : List ℕ} → Started sheet script memory authority s p
+    → (ran : Done s p memory authority budget left) → Declared s (ran .reached)
+done-declared {memory = memory} {authority = authority} {s = s} {p = p} {budget = budget} st ran =
+    left-declared s (p .command) (st .of-script .source) (st .of-script .named-there) (typable-shape s p (st .typable)) authority budget (ran .rest)
+    (memoryOf memory) (ran .reached) (declared st) (ran .run)
 
 -- a view that was handed out, on the sheet of a run
 record Shown (sheet memory : List ℕ) (group : ℕ) (view : List ℕ) (s : Sheet) : Type 0 where
@@ -96,18 +103,18 @@ pub demand-3 : Demand3
 demand-3 sheet script k authority b b′ group m m′ v v′ same r r′ =
     let st = starts sheet script m authority b r in
     let s : Sheet = st .0 in
-    let c : Cmd = st .1 in
-    let one : Started sheet script m authority s c = st .2 in
-    let two : Started sheet script m′ authority s c = same-start one (starts sheet script m′ authority b′ r′ .2) in
+    let p : Script = st .1 in
+    let one : Started sheet script m authority s p = st .2 in
+    let two : Started sheet script m′ authority s p = same-start one (starts sheet script m′ authority b′ r′ .2) in
     let on : OnSheet sheet s = one .on-sheet in
     let ran = done-run b one r in
     let ran′ = done-run b′ two r′ in
-    let d = left-declared s c (one .of-script .source) (one .of-script .named-there) (typable-shape s c (one .typable)) authority b (ran .rest) (memoryOf m) (ran .reached) (declared one) (ran .run) in
-    let d′ = left-declared s c (two .of-script .source) (two .of-script .named-there) (typable-shape s c (two .typable)) authority b′ (ran′ .rest) (memoryOf m′) (ran′ .reached) (declared two) (ran′ .run) in
+    let d = done-declared one ran in
+    let d′ = done-declared two ran′ in
     let shown = shown-on group m v on (same .shown) in
     let shown′ = shown-on group m′ v′ on (same .shown′) in
     let before = views-exactly s group .same-view m m′ (started one) (started two) .0 (sym (shown .words) ∙ same .same ∙ shown′ .words) in
-    let after = shown-kept s (on .form .is-formed) group c (one .typable) authority b b′ (ran .rest) (ran′ .rest) (memoryOf m) (memoryOf m′) (ran .reached) (ran′ .reached)
+    let after = shown-kept s (on .form .is-formed) group p (one .typable) authority b b′ (ran .rest) (ran′ .rest) (memoryOf m) (memoryOf m′) (ran .reached) (ran′ .reached)
     before (ran .run) (ran′ .run) in
     let e = left-view group (runOf sheet script m authority b .memory) v (ran .reached) on (shown .known) (shown .room) d (ran .words) in
     let e′ = left-view group (runOf sheet script m′ authority b′ .memory) v′ (ran′ .reached) on (shown .known) (shown′ .room) d′ (ran′ .words) in

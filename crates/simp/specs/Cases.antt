@@ -1,9 +1,9 @@
--- The scope's starred cases ("Cases"), its two of long values, rounds (request (a)) and smallest groups (request
--- (b)), as one table. `cases-hold` in proofs/CasesHold.antt shows all of them.
+-- The scope's starred cases ("Cases"), its two of long values, rounds (request (a)), smallest groups (request (b))
+-- and starting labels (request (d)), as one table. `cases-hold` in proofs/CasesHold.antt shows all of them.
 use mathlib.Core.Path.{_≡_}
 use mathlib.Core.Bool.{Bool, true, false}
 use mathlib.Core.List.{List, [], _∷_, _++_}
-use Prim.Native.Nat.{ℕ}
+use Prim.Native.Nat.{ℕ, zero, suc}
 use Prim.Native.String.{String}
 use lib.ListN.{replicate}
 use Rattle.labels.specs.Labels.{Policy, policy, labelOf, readsOf, writesOf}
@@ -29,6 +29,11 @@ sheet = "P 3\nT 0 1\nL\nL\nO 0 0000 0000\nL\nO 0 0000 0007\nX 0 0\nX 0 2\nX 4 0\
 unfoldable pub twoLabels : String
 twoLabels = "P 4\nL\nL\nO 0 0004 0000\nO 1 0008 0000\n"
 
+-- two principals; bottom, with both for readers and each owner for its writer, and a label that both may write too; a
+-- location of each
+unfoldable pub twoStarts : String
+twoStarts = "P 2\nL\nO 0 0003 0000\nO 1 0003 0000\nL\nX 0 0\nX 0 1\n"
+
 -- no location, and fourteen sums from type 5 on, each with the one before it on its left, the first with int+int
 unfoldable pub nested : String
 nested = "P 1\nT 3 0\nT 5 0\nT 6 0\nT 7 0\nT 8 0\nT 9 0\nT 10 0\nT 11 0\nT 12 0\nT 13 0\nT 14 0\nT 15 0\nT 16 0\nT 17 0\n"
@@ -52,17 +57,30 @@ afterUnpack words = fourLocations (1 ∷ 5 ∷ []) (1 ∷ 62 ∷ []) (3 ∷ 5 �
 unfoldable pub beforeWith : ℕ → List ℕ
 beforeWith n = fourLocations (1 ∷ n ∷ []) (1 ∷ 62 ∷ []) (4 ∷ 2 ∷ 1 ∷ []) (4 ∷ 2 ∷ 1 ∷ [])
 
+-- after a script that starts at the label of location 1 and puts 7 there
+unfoldable pub afterStart : List ℕ
+afterStart = fourLocations (1 ∷ 5 ∷ []) (1 ∷ 7 ∷ []) (4 ∷ 2 ∷ 1 ∷ []) (4 ∷ 2 ∷ 1 ∷ [])
+
 -- scripts in one text, parted by empty lines
 unfoldable pub parted : List String → List ℕ
 parted [] = []
 parted (t ∷ []) = bytes t
 parted (t ∷ u ∷ ts) = bytes t ++ (10 ∷ parted (u ∷ ts))
 
+-- a text so many times over
+unfoldable pub times : ℕ → String → List ℕ
+times zero t = []
+times (suc n) t = bytes t ++ times n t
+
 pub data Case : Type 0 where
   -- of four principals, whether a group reads or writes the label with these policies
   reads writes : List Policy → ℕ → Bool → Case
   -- a script, and what checking it answers
   checks : String → ℕ → Case
+  -- a sheet, a script, and what checking it answers
+  checksOn : String → String → ℕ → Case
+  -- a text, then so many sequences and as many skips, then a last command, and what checking this script answers
+  checksLong : String → ℕ → String → ℕ → Case
   -- a script, a memory and an authority; the steps of the run, which is done, and the memory that it leaves
   runs : String → List ℕ → ℕ → ℕ → List ℕ → Case
   -- a script, a memory and an authority: a run that is spent, whatever the budget
@@ -83,6 +101,9 @@ unfoldable pub Holds : Case → Type 0
 Holds (reads ps g b) = readsOf 4 g (labelOf 4 ps) ≡ b
 Holds (writes ps g b) = writesOf 4 g (labelOf 4 ps) ≡ b
 Holds (checks script answer) = checkOf (bytes sheet) (bytes script) ≡ answer
+Holds (checksOn on script answer) = checkOf (bytes on) (bytes script) ≡ answer
+Holds (checksLong opening n last answer) =
+    checkOf (bytes sheet) (bytes opening ++ (times n ";\n" ++ (times n "s\n" ++ bytes last))) ≡ answer
 Holds (runs script m authority steps left) =
     runOf (bytes sheet) (bytes script) m authority largest ≡ record { answer = 0; steps = steps; memory = left }
 Holds (spends script m authority) =
@@ -113,6 +134,37 @@ cases =
     -- not starred: fourteen lefts over an integer fit, fifteen give 10
     ∷ answers "c\nl 17\nl 16\nl 15\nl 14\nl 13\nl 12\nl 11\nl 10\nl 9\nl 8\nl 7\nl 6\nl 5\nl 3\ni 1\ns\ns\n" 0 1
     ∷ answers "c\nl 18\nl 17\nl 16\nl 15\nl 14\nl 13\nl 12\nl 11\nl 10\nl 9\nl 8\nl 7\nl 6\nl 5\nl 3\ni 1\ns\ns\n" 10 0
+    -- starting labels: what is assigned lies at or above the start, after a `;` and in a loop too
+    ∷ checks "b 2\n= 0\ni 1\n" 6
+    ∷ checks "b 2\n= 1\ni 1\n" 0
+    ∷ checks "b 1\n= 0\ni 1\n" 6
+    ∷ checks "b 1\n= 1\ni 1\n" 0
+    ∷ checks "b 2\n;\n= 1\ni 1\n= 0\ni 1\n" 6
+    ∷ checks "b 2\n;\n;\ns\ns\nw\nl 3\ni 1\n= 0\ni 1\n" 6
+    -- a start above the location by writers alone; a start that is bottom asks what none does
+    ∷ checksOn twoStarts "b 1\n= 0\ni 1\n" 6
+    ∷ checksOn twoStarts "b 0\n= 0\ni 1\n" 0
+    ∷ checksOn twoStarts "= 0\ni 1\n" 0
+    ∷ checksOn twoStarts "b 0\n= 0\nx 1\n" 6
+    ∷ checksOn twoStarts "= 0\nx 1\n" 6
+    -- it takes no step
+    ∷ runs "b 2\n= 1\ni 7\n" before 0b000 1 afterStart
+    -- a label that isn't on the sheet, the last of any sheet's or past it; no command after it; twice; not first; no
+    -- label
+    ∷ checks "b 3\n= 1\ni 1\n" 4
+    ∷ checks "b 31\n= 1\ni 1\n" 4
+    ∷ checks "b 32\n= 1\ni 1\n" 4
+    ∷ checks "b 3\n= 0\nx 2\n" 4
+    ∷ checks "b 3\n= 0\nx 1\n" 4
+    ∷ checks "b 2\n" 4
+    ∷ checks "b 2\nb 2\n= 1\ni 1\n" 4
+    ∷ checks "= 1\ni 1\nb 2\n" 4
+    ∷ checks ";\nb 2\n= 1\ni 1\ns\n" 4
+    ∷ checks "b\n= 1\ni 1\n" 4
+    -- it is one of 512 lines: 511 and it are accepted, 512 without it, and not 512 with it
+    ∷ checksLong "b 2\n" 255 "s\n" 0
+    ∷ checksLong "" 255 "= 1\ni 1\n" 0
+    ∷ checksLong "b 2\n" 255 "= 1\ni 1\n" 4
     -- rounds: 32 scripts, each adding 1 to location 0, one after another; 33 are refused
     ∷ rounds sheet (replicate 32 "= 0\n+\nx 0\ni 1\n") before 1 0 [] (replicate 32 1) (beforeWith 37)
     ∷ rounds sheet (replicate 33 "= 0\n+\nx 0\ni 1\n") before 1 11 [] [] before

@@ -4,11 +4,11 @@ use mathlib.Core.Path.{_≡_}
 use mathlib.Core.List.{List, [], _∷_}
 use Prim.Native.Nat.{ℕ, _≤_, _<_}
 use lib.ListN.{length, getD}
-use Rattle.language.specs.Syntax.{Cmd, skip}
+use Rattle.language.specs.Syntax.{skip, Script}
 use Rattle.language.specs.World.{Mem}
 use Rattle.language.specs.Figures.{Steps}
 use Rattle.sheet.specs.Sheet.{Sheet, locationCount}
-use Rattle.sheet.specs.Meaning.{worldOf}
+use Rattle.sheet.specs.Meaning.{worldFor}
 use Rattle.memory.specs.Memory.{memoryOf, wordsOf}
 use Rattle.stages.specs.Answers.{Ran, refusedRun, Viewed}
 use Rattle.stages.specs.Calls.{checkOf, runOf, viewOf}
@@ -25,10 +25,10 @@ use Rattle.simp.specs.Groups.{groupRows, Groups}
 -- The run was started and reached skip within the budget, and these are the words of the memory that it reached, after so many steps.
 pub record Finished (sheet script memory : List ℕ) (authority budget steps : ℕ) (left : List ℕ) : Type 0 where
   pub its-sheet : Sheet
-  pub its-command : Cmd
+  pub its-script : Script
   pub reached : Mem
-  pub started : Started sheet script memory authority its-sheet its-command
-  pub run : Steps (worldOf its-sheet authority) steps (memoryOf memory) its-command reached skip
+  pub started : Started sheet script memory authority its-sheet its-script
+  pub run : Steps (worldFor its-sheet authority its-script) steps (memoryOf memory) (its-script .command) reached skip
   pub words : left ≡ wordsOf (locationCount its-sheet) reached
   pub in-budget : steps ≤ budget
 

@@ -10,14 +10,14 @@ use mathlib.Core.List.{List, [], _∷_}
 use Prim.Native.Nat.{ℕ, _*_, _<_, _≤_}
 use lib.ListN.{length}
 use Rattle.sets.specs.Sets.{within, everyone}
-use Rattle.language.specs.Syntax.{Cmd, skip}
+use Rattle.language.specs.Syntax.{Cmd, skip, Script}
 use Rattle.language.specs.World.{Mem, cell-words}
 use Rattle.language.specs.Figures.{Steps, LongStep, NoneLong}
 use Rattle.language.specs.Labels.{struck}
 use Rattle.language.specs.Declarations.{unlabelled}
 use Rattle.language.specs.Rules.{Derivable}
 use Rattle.sheet.specs.Sheet.{Sheet, repeats, locationCount}
-use Rattle.sheet.specs.Meaning.{labelsOver, declarationsOf, worldOf}
+use Rattle.sheet.specs.Meaning.{labelsOver, declarationsOf, worldFor}
 use Rattle.sheet_text.specs.Theorems.{IsSheet}
 use Rattle.script_text.specs.Counts.{countsOf}
 use Rattle.script_text.specs.Theorems.{IsScript}
@@ -26,14 +26,14 @@ use Rattle.memory.specs.View.{viewWords}
 use Rattle.stages.specs.Answers.{Ran, refusedRun, Viewed, refusedView}
 use Rattle.numbers.specs.Rows.{Row, _when_, First}
 
--- ---- of a sheet s and a command c
+-- ---- of a sheet s and a script p
 
--- Figures 4 and 5 give the script's command a derivation; and one with every label condition struck out.
-abbrev pub Typable : Sheet → Cmd → Type 0
-Typable s c = Derivable (labelsOver (s .principals)) (declarationsOf s) c
+-- Figures 4 and 5 give the script a derivation; and one with every label condition struck out.
+abbrev pub Typable : Sheet → Script → Type 0
+Typable s p = Derivable (labelsOver (s .principals)) (declarationsOf s) p
 
-abbrev pub TypableUnlabelled : Sheet → Cmd → Type 0
-TypableUnlabelled s c = Derivable struck (unlabelled (declarationsOf s)) c
+abbrev pub TypableUnlabelled : Sheet → Script → Type 0
+TypableUnlabelled s p = Derivable struck (unlabelled (declarationsOf s)) p
 
 -- Every member is a principal of the sheet.
 abbrev pub Principals : Sheet → ℕ → Type 0
@@ -43,16 +43,16 @@ Principals s group = within group (everyone (s .principals)) ≡ true
 abbrev pub Sized : Sheet → List ℕ → Type 0
 Sized s words = length words ≡ cell-words * locationCount s
 
--- ---- of the texts: a text is that of one sheet at most (crate sheet_text's OneSheet), and on a sheet that of one command at most
--- (crate script_text's ScriptExact)
+-- ---- of the texts: a text is that of one sheet at most (crate sheet_text's OneSheet), and on a sheet that of one
+-- script at most (crate script_text's ScriptExact)
 
 -- The text is that of a sheet, and P holds of that sheet.
 abbrev pub OfSheet : List ℕ → (Sheet → Type 0) → Type 0
 OfSheet sheet P = (s : Sheet) × IsSheet sheet s × P s
 
--- The texts are those of a sheet and of a script on it, and P holds of that sheet and the script's command.
-abbrev pub OfScript : List ℕ → List ℕ → (Sheet → Cmd → Type 0) → Type 0
-OfScript sheet script P = OfSheet sheet (λ s. (c : Cmd) × IsScript (countsOf s) script c × P s c)
+-- The texts are those of a sheet and of a script on it, and P holds of that sheet and the script.
+abbrev pub OfScript : List ℕ → List ℕ → (Sheet → Script → Type 0) → Type 0
+OfScript sheet script P = OfSheet sheet (λ s. (p : Script) × IsScript (countsOf s) script p × P s p)
 
 -- ---- when each number applies
 
@@ -70,15 +70,15 @@ Strangers sheet group = OfSheet sheet (λ s. ¬ Principals s group)
 
 -- 4
 abbrev pub NoScript : List ℕ → List ℕ → Type 0
-NoScript sheet script = OfSheet sheet (λ s. (c : Cmd) → ¬ IsScript (countsOf s) script c)
+NoScript sheet script = OfSheet sheet (λ s. (p : Script) → ¬ IsScript (countsOf s) script p)
 
 -- 5
 abbrev pub IllTyped : List ℕ → List ℕ → Type 0
-IllTyped sheet script = OfScript sheet script (λ s c. ¬ TypableUnlabelled s c)
+IllTyped sheet script = OfScript sheet script (λ s p. ¬ TypableUnlabelled s p)
 
 -- 6
 abbrev pub IllLabelled : List ℕ → List ℕ → Type 0
-IllLabelled sheet script = OfScript sheet script (λ s c. ¬ Typable s c)
+IllLabelled sheet script = OfScript sheet script (λ s p. ¬ Typable s p)
 
 -- 7
 abbrev pub OtherSize : List ℕ → List ℕ → Type 0
@@ -116,24 +116,25 @@ runRows sheet script memory authority =
     ∷ 8 when IllFormed sheet memory
     ∷ []
 
--- How a run of c on s goes, by figure 3 under the authority: what is answered, and what the lent memory then holds. It is the language's
--- RunEnds, in numbers and words.
-pub data Ends (s : Sheet) (c : Cmd) (memory : List ℕ) (authority budget : ℕ) : Ran → Type 0 where
+-- How a run of p on s goes, by figure 3 under the authority: what is answered, and what the lent memory then holds. It
+-- is the language's RunEnds, in numbers and words.
+pub data Ends (s : Sheet) (p : Script) (memory : List ℕ) (authority budget : ℕ) : Ran → Type 0 where
   -- done: skip after k transitions
-  ends-0 : {M′ : Mem} {k : ℕ} → k ≤ budget → Steps (worldOf s authority) k (memoryOf memory) c M′ skip → NoneLong (worldOf s authority) k (memoryOf memory) c
-      → Ends s c memory authority budget (record { answer = 0; steps = k; memory = wordsOf (locationCount s) M′ })
+  ends-0 : {M′ : Mem} {k : ℕ} → k ≤ budget → Steps (worldFor s authority p) k (memoryOf memory) (p .command) M′ skip
+      → NoneLong (worldFor s authority p) k (memoryOf memory) (p .command)
+      → Ends s p memory authority budget (record { answer = 0; steps = k; memory = wordsOf (locationCount s) M′ })
   -- spent: after as many transitions as the budget has, the command is not skip, and no step within it met 10
-  ends-9 : {c′ : Cmd} {M′ : Mem} → Steps (worldOf s authority) budget (memoryOf memory) c M′ c′ → ¬ (c′ ≡ skip)
-      → NoneLong (worldOf s authority) budget (memoryOf memory) c
-      → Ends s c memory authority budget (record { answer = 9; steps = budget; memory = memory })
+  ends-9 : {c′ : Cmd} {M′ : Mem} → Steps (worldFor s authority p) budget (memoryOf memory) (p .command) M′ c′ → ¬ (c′ ≡ skip)
+      → NoneLong (worldFor s authority p) budget (memoryOf memory) (p .command)
+      → Ends s p memory authority budget (record { answer = 9; steps = budget; memory = memory })
   -- too long: after k transitions, fewer than the budget, the next step meets a value of more than 16 words
-  ends-10 : {c′ : Cmd} {M′ : Mem} {k : ℕ} → k < budget → Steps (worldOf s authority) k (memoryOf memory) c M′ c′ → LongStep (worldOf s authority) M′ c′
-      → NoneLong (worldOf s authority) k (memoryOf memory) c
-      → Ends s c memory authority budget (record { answer = 10; steps = k; memory = memory })
+  ends-10 : {c′ : Cmd} {M′ : Mem} {k : ℕ} → k < budget → Steps (worldFor s authority p) k (memoryOf memory) (p .command) M′ c′
+      → LongStep (worldFor s authority p) M′ c′ → NoneLong (worldFor s authority p) k (memoryOf memory) (p .command)
+      → Ends s p memory authority budget (record { answer = 10; steps = k; memory = memory })
 
 abbrev pub Run : List ℕ → List ℕ → List ℕ → ℕ → ℕ → Ran → Type 0
 Run sheet script memory authority budget =
-    First (refusedRun memory) (λ r. OfScript sheet script (λ s c. Ends s c memory authority budget r)) (runRows sheet script memory authority)
+    First (refusedRun memory) (λ r. OfScript sheet script (λ s p. Ends s p memory authority budget r)) (runRows sheet script memory authority)
 
 -- ---- simp_view
 
@@ -150,7 +151,7 @@ abbrev pub View : List ℕ → List ℕ → ℕ → List ℕ → Viewed → Type
 View sheet memory group view =
     First (refusedView view) (λ v. OfSheet sheet (λ s. v ≡ record { answer = 0; view = viewWords s group memory })) (viewRows sheet memory group view)
 
--- ---- no number applies, said of the sheet and the command
+-- ---- no number applies, said of the sheet and the script
 
 -- neither 1 nor 2
 pub record OnSheet (sheet : List ℕ) (s : Sheet) : Type 0 where
@@ -158,10 +159,10 @@ pub record OnSheet (sheet : List ℕ) (s : Sheet) : Type 0 where
   pub once : repeats s ≡ false
 
 -- none of 1 to 8: a run may start
-pub record Started (sheet script memory : List ℕ) (authority : ℕ) (s : Sheet) (c : Cmd) : Type 0 where
+pub record Started (sheet script memory : List ℕ) (authority : ℕ) (s : Sheet) (p : Script) : Type 0 where
   pub on-sheet : OnSheet sheet s
   pub principals : Principals s authority
-  pub of-script : IsScript (countsOf s) script c
-  pub typable : Typable s c
+  pub of-script : IsScript (countsOf s) script p
+  pub typable : Typable s p
   pub sized : Sized s memory
   pub well-formed : wellFormed s memory ≡ true

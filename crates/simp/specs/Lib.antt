@@ -5,4 +5,5 @@ pub mod Rounds
 pub mod Groups
 pub mod Demands
 pub mod RoundView
+pub mod StartUnseen
 pub mod SmallestGroups

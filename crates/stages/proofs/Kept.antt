@@ -5,7 +5,7 @@ use mathlib.Core.List.{List, []}
 use Prim.Native.Nat.{ℕ, suc, _<_}
 use borrow.Author.Tests.{ltb-true}
 use Rattle.logic.proofs.BooleanLaws.{both-left, both-right}
-use Rattle.language.specs.Syntax.{Value, int, Expr, Cmd}
+use Rattle.language.specs.Syntax.{Value, int, Expr, Cmd, Script}
 use Rattle.language.specs.World.{Mem}
 use Rattle.language.specs.Transition.{Out, done, spent, over, wrong, iterate}
 use Rattle.language.specs.Typing.{shape}
@@ -15,7 +15,7 @@ use Rattle.language.proofs.TypeSoundness.{type-soundness}
 use Rattle.script.specs.Lines.{SourceE, s-int, s-loc, s-var, s-plus, s-left, s-right, s-pack, s-unpack, Source, s-skip, s-seq, s-assign, s-while, s-case}
 use Rattle.script.specs.Names.{Counts, namedE, named}
 use Rattle.sheet.specs.Sheet.{Sheet, locationCount, labelCount}
-use Rattle.sheet.specs.Meaning.{shapesOf, worldOf}
+use Rattle.sheet.specs.Meaning.{shapesOf, worldOf, worldFor}
 use Rattle.script_text.specs.Counts.{countsOf}
 use Rattle.memory.specs.Memory.{memoryOf, proper, memoryRefusal}
 use Rattle.memory.specs.Theorems.{Declared}
@@ -69,14 +69,14 @@ left-declared s c src names t authority b l M M′ d h =
     }
 
 -- So a memory that isn't refused is left so, however the run ends.
-pub left-unrefused : (s : Sheet) (c : Cmd) → Source c → named (countsOf s) 0 c ≡ true → untyped s c ≡ 0 → (memory : List ℕ) (authority budget : ℕ)
-    → memoryRefusal s memory ≡ 0 → memoryRefusal s (acceptedRun s memory authority budget c .memory) ≡ 0
+pub left-unrefused : (s : Sheet) (p : Script) → Source (p .command) → named (countsOf s) 0 (p .command) ≡ true → untyped s p ≡ 0
+    → (memory : List ℕ) (authority budget : ℕ) → memoryRefusal s memory ≡ 0 → memoryRefusal s (acceptedRun s memory authority budget p .memory) ≡ 0
 unfolding ended
-left-unrefused s c src names t memory authority budget m = go (iterate (worldOf s authority) budget (memoryOf memory) c) refl
+left-unrefused s p src names t memory authority budget m = go (iterate (worldFor s authority p) budget (memoryOf memory) (p .command)) refl
   where
-    go : (o : Out) → iterate (worldOf s authority) budget (memoryOf memory) c ≡ o → memoryRefusal s (ended (locationCount s) budget memory o .memory) ≡ 0
+    go : (o : Out) → iterate (worldFor s authority p) budget (memoryOf memory) (p .command) ≡ o → memoryRefusal s (ended (locationCount s) budget memory o .memory) ≡ 0
     go (done M l) e =
-        memories-exactly s .accepted M (left-declared s c src names (accepted-shape s c t) authority budget l (memoryOf memory) M (memories-exactly s .values memory m) e)
+        memories-exactly s .accepted M (left-declared s (p .command) src names (accepted-shape s p t) authority budget l (memoryOf memory) M (memories-exactly s .values memory m) e)
     go spent e = m
     go (over l) e = m
     go wrong e = m

@@ -7,10 +7,10 @@ use Prim.Native.Nat.{ℕ, zero, suc, _*_}
 use native.Mathlib.Omega.{arith}
 use borrow.Author.Tests.{ne-eqb}
 use lib.ListN.{length, take}
-use Rattle.language.specs.Syntax.{Cmd}
+use Rattle.language.specs.Syntax.{Script}
 use Rattle.language.specs.Transition.{Out, done, spent, over, wrong, iterate}
 use Rattle.language.specs.Typing.{shape}
-use Rattle.language.proofs.Exactness.{flow-iff, exactness}
+use Rattle.language.proofs.Exactness.{script-iff, exactness}
 use Rattle.language.proofs.TypeSoundness.{type-soundness}
 use Rattle.script.specs.Lines.{Source, cmdLines}
 use Rattle.script.specs.Internal.Code.{code}
@@ -19,7 +19,7 @@ use Rattle.sheet.specs.Sheet.{Sheet, locationCount}
 use Rattle.sets.specs.Sets.{within, everyone}
 use Rattle.sheet.specs.Internal.Tables.{everyoneIn}
 use Rattle.sheet.proofs.TableLaws.{everyone-in}
-use Rattle.sheet.specs.Meaning.{labelsOver, declarationsOf, shapesOf, worldOf}
+use Rattle.sheet.specs.Meaning.{labelsOver, declarationsOf, shapesOf, worldFor}
 use Rattle.sheet.proofs.MeaningLaws.{least-label-laws}
 use Rattle.script_text.specs.declared.Answer.{Answer}
 use Rattle.script_text.specs.declared.Answer.the-variants.{Read, Refused}
@@ -44,13 +44,13 @@ use Rattle.stages.specs.Internal.Stages.{TableOf, CodeOf, no-code, its-c
 -- ---- the code of a script
 
 pub code-of : (t script ws : List ℕ) (p : Decoded) → p ≡ decodedScript (scriptOf (countsIn t) script) → ws ≡ take (p .count * 3) (p .code)
-    → (s : Sheet) → TableOf t s → CodeOf s ws (p .answer) (scriptOf (countsOf s) script)
+    → (s : Sheet) → TableOf t s → CodeOf s ws (p .start) (p .answer) (scriptOf (countsOf s) script)
 code-of t script ws p e w s T =
     let k : countsIn t ≡ countsOf s = ap countsIn (T .words) ∙ counts-table s in
     let e′ : p ≡ decodedScript (scriptOf (countsOf s) script) = e ∙ ap (λ (j : _). decodedScript (scriptOf j script)) k in
     read-split (countsOf s) script p e′
     (λ n a. rw (n, a) no-code)
-    (λ c i src nm a tk. rw (i, a) (its-code src nm (w ∙ tk)))
+    (λ c i src nm a tk st. rw (i, a) (its-code src nm (w ∙ tk) st))
 
 -- where its number is 0, it is the code of an accepted script
 pub accepted-code : (t script ws : List ℕ) (p : Decoded) → p ≡ decodedScript (scriptOf (countsIn t) script) → ws ≡ take (p .count * 3) (p .code)
@@ -58,29 +58,31 @@ pub accepted-code : (t script ws : List ℕ) (p : Decoded) → p ≡ decodedScri
 unfolding numberOf onScript
 accepted-code t script ws p e w s T z = go (code-of t script ws p e w s T) refl z
   where
-    go : {a : Answer} {o : Option Cmd} → CodeOf s ws a o → scriptOf (countsOf s) script ≡ o → onScript (λ k. k) o (untyped s) ≡ 0 → AcceptedCode s script ws
+    go : {a : Answer} {o : Option Script} → CodeOf s ws (p .start) a o → scriptOf (countsOf s) script ≡ o → onScript (λ k. k) o (untyped s) ≡ 0
+        → AcceptedCode s script ws
     go no-code i n = absurd (omega arith)
-    go (its-code {c = c} src nm l) i n = record { command = c; is-its = i; source = src; names = nm; typed = n; lines = l }
+    go (its-code {p = q} src nm l st) i n = record { parsed = q; is-its = i; source = src; names = nm; typed = n; lines = l }
 
 -- ---- judging
 
-pub judge-refused : (ws t : List ℕ) (a : Answer) → a ≡ Refused → Judges a ws t 4
+pub judge-refused : (ws t : List ℕ) (start : ℕ) (a : Answer) → a ≡ Refused → Judges a ws t start 4
 unfolding onScript
-judge-refused ws t a e = rw e (record { judged = λ s T o C. go s C })
+judge-refused ws t start a e = rw e (record { judged = λ s T o C. go s C })
   where
-    go : (s : Sheet) {o : Option Cmd} → CodeOf s ws Refused o → 4 ≡ onScript (λ k. k) o (untyped s)
+    go : (s : Sheet) {o : Option Script} → CodeOf s ws start Refused o → 4 ≡ onScript (λ k. k) o (untyped s)
     go s no-code = refl
 
-pub judge-read : (ws t : List ℕ) (a : Answer) (v u : Verdict) → a ≡ Read → ChecksCode ws t (verdictNumber v) → v ≡ u → Judges a ws t (verdictNumber u)
+pub judge-read : (ws t : List ℕ) (start : ℕ) (a : Answer) (v u : Verdict) → a ≡ Read → ChecksCode ws t start (verdictNumber v) → v ≡ u
+    → Judges a ws t start (verdictNumber u)
 unfolding onScript untyped
-judge-read ws t a v u i x e = rw i (record { judged = λ s T o C. ap verdictNumber (sym e) ∙ go s T C })
+judge-read ws t start a v u i x e = rw i (record { judged = λ s T o C. ap verdictNumber (sym e) ∙ go s T C })
   where
-    go : (s : Sheet) → TableOf t s → {o : Option Cmd} → CodeOf s ws Read o → verdictNumber v ≡ onScript (λ k. k) o (untyped s)
-    go s T (its-code {c = c} src nm w) = x .exact s (T .form) (T .once) (T .words) (countsOf s) c src nm w
+    go : (s : Sheet) → TableOf t s → {o : Option Script} → CodeOf s ws start Read o → verdictNumber v ≡ onScript (λ k. k) o (untyped s)
+    go s T (its-code {p = p} src nm w st) = x .exact s (T .form) (T .once) (T .words) (countsOf s) p src nm w st
 
 -- what the judgement of a script's code says of the script
 pub numbers-script : (t script ws : List ℕ) (p : Decoded) (r : ℕ) → p ≡ decodedScript (scriptOf (countsIn t) script) → ws ≡ take (p .count * 3) (p .code)
-    → Judges (p .answer) ws t r → NumbersScript script t r (p .count) (p .code)
+    → Judges (p .answer) ws t (p .start) r → NumbersScript script t r (p .count) (p .code)
 unfolding numberOf
 numbers-script t script ws p r e w j =
     let numbered : (s : Sheet) → TableOf t s → r ≡ numberOf s script = λ s T. j .judged s T _ (code-of t script ws p e w s T) in
@@ -113,23 +115,23 @@ unfolding unless
 goes refuse k go e = rw e refl
 
 -- an accepted script passes the test on types
-pub accepted-shape : (s : Sheet) (c : Cmd) → untyped s c ≡ 0 → shape (shapesOf s) [] c ≡ true
+pub accepted-shape : (s : Sheet) (p : Script) → untyped s p ≡ 0 → shape (shapesOf s) [] (p .command) ≡ true
 unfolding untyped
-accepted-shape s c u =
+accepted-shape s p u =
     let laws = least-label-laws (s .principals) in
-    let derived = exactness (labelsOver (s .principals)) laws (declarationsOf s) .accepted c .0 u in
-    flow-iff (labelsOver (s .principals)) laws (declarationsOf s) (labelsOver (s .principals) .bot) c .1 derived .0
+    let derived = exactness (labelsOver (s .principals)) laws (declarationsOf s) .accepted p .0 u in
+    script-iff (labelsOver (s .principals)) laws (declarationsOf s) p .1 derived .0
 
 -- an accepted script from a well-formed memory is never stuck, so that its outcome is the answer
-ends : (s : Sheet) (memory : List ℕ) (authority budget : ℕ) (c : Cmd) → untyped s c ≡ 0 → memoryRefusal s memory ≡ 0 → (state steps : ℕ) (left : List ℕ) (o : Out)
-    → iterate (worldOf s authority) budget (memoryOf memory) c ≡ o → RunLeaves (locationCount s) budget memory o state steps left
+ends : (s : Sheet) (memory : List ℕ) (authority budget : ℕ) (p : Script) → untyped s p ≡ 0 → memoryRefusal s memory ≡ 0 → (state steps : ℕ) (left : List ℕ) (o : Out)
+    → iterate (worldFor s authority p) budget (memoryOf memory) (p .command) ≡ o → RunLeaves (locationCount s) budget memory o state steps left
     → record { answer = state; steps = steps; memory = left } ≡ ended (locationCount s) budget memory o
 unfolding RunLeaves ended
-ends s memory authority budget c u m state steps left (done M l) e (p, q, r) = rw (p, q, r) refl
-ends s memory authority budget c u m state steps left spent e (p, q, r) = rw (p, q, r) refl
-ends s memory authority budget c u m state steps left (over l) e (p, q, r) = rw (p, q, r) refl
-ends s memory authority budget c u m state steps left wrong e h =
-    absurd (type-soundness (shapesOf s) (worldOf s authority) (λ _. refl) .never-wrong c (accepted-shape s c u) (memoryOf memory)
+ends s memory authority budget p u m state steps left (done M l) e (i, j, k) = rw (i, j, k) refl
+ends s memory authority budget p u m state steps left spent e (i, j, k) = rw (i, j, k) refl
+ends s memory authority budget p u m state steps left (over l) e (i, j, k) = rw (i, j, k) refl
+ends s memory authority budget p u m state steps left wrong e h =
+    absurd (type-soundness (shapesOf s) (worldFor s authority p) (λ _. refl) .never-wrong (p .command) (accepted-shape s p u) (memoryOf memory)
     (memories-exactly s .values memory m .typed) budget e)
 
 pub runs-accepted : (ws t memory : List ℕ) (authority budget state steps : ℕ) (left : List ℕ) → Runs ws t memory authority budget state steps left
@@ -138,8 +140,8 @@ unfolding memoryRefusal
 runs-accepted ws t memory authority budget state steps left r = record {
   spares = record { untouched = r .untouched; within = r .within };
   ran = λ s T script a z.
-      ends s memory authority budget (a .command) (a .typed) z state steps left _ refl
-      (r .means s (countsOf s) (a .command) (T .form) (T .words) refl refl (a .source) (a .names) (a .lines)
+      ends s memory authority budget (a .parsed) (a .typed) z state steps left _ refl
+      (r .means s (countsOf s) (a .parsed .command) (T .form) (T .words) refl refl (a .source) (a .names) (a .lines)
       (unrefused-length (locationCount s) (wellFormed s memory) memory z) (unrefused-formed (locationCount s) (wellFormed s memory) memory z));
 }
 
@@ -188,7 +190,7 @@ module _ (script t memory : List ℕ) (authority budget : ℕ) where
       unfolding onward numberOf onScript
       run-numbered z = by-onward _ (refusal-spares number) (λ s T. go s (scriptOf (countsOf s) script) (n .numbered s T))
         where
-          go : (s : Sheet) (o : Option Cmd) → number ≡ onScript (λ k. k) o (untyped s)
+          go : (s : Sheet) (o : Option Script) → number ≡ onScript (λ k. k) o (untyped s)
               → refusedRun memory number ≡ onScript (refusedRun memory) o (λ c. unless (refusedRun memory) (untyped s c) (
               unless (refusedRun memory) (memoryRefusal s memory) (acceptedRun s memory authority budget c)))
           go s none e = ap (refusedRun memory) e
@@ -197,9 +199,9 @@ module _ (script t memory : List ℕ) (authority budget : ℕ) where
       module _ (z : number ≡ 0) where
         -- an accepted script: what is left to do is by the memory alone
         by-memory : (s : Sheet) (T : TableOf t s)
-            → onward s ≡ unless (refusedRun memory) (memoryRefusal s memory) (acceptedRun s memory authority budget (n .accepted s T z .command))
+            → onward s ≡ unless (refusedRun memory) (memoryRefusal s memory) (acceptedRun s memory authority budget (n .accepted s T z .parsed))
         unfolding onward onScript
-        by-memory s T = let a = n .accepted s T z in rw (a .is-its) (goes (refusedRun memory) (untyped s (a .command)) _ (a .typed))
+        by-memory s T = let a = n .accepted s T z in rw (a .is-its) (goes (refusedRun memory) (untyped s (a .parsed)) _ (a .typed))
 
         -- 7 and 8
         pub run-refused : (k : ℕ) → ((s : Sheet) → TableOf t s → k ≡ memoryRefusal s memory) → (k ≡ 0 → ⊥)

@@ -6,11 +6,11 @@ use mathlib.Core.Option.{Option, none, some}
 use Prim.Native.Nat.{ℕ, zero, suc, _-_}
 use lib.ListN.{length}
 use Rattle.sets.specs.Sets.{within, everyone}
-use Rattle.language.specs.Syntax.{Cmd}
+use Rattle.language.specs.Syntax.{Script}
 use Rattle.language.specs.Transition.{Out, done, spent, over, wrong, iterate}
 use Rattle.language.specs.Typing.{refusal}
 use Rattle.sheet.specs.Sheet.{Sheet, locationCount}
-use Rattle.sheet.specs.Meaning.{labelsOver, declarationsOf, worldOf}
+use Rattle.sheet.specs.Meaning.{labelsOver, declarationsOf, worldFor}
 use Rattle.sheet_text.specs.Sheets.{Answer, malformed, repeating, accepted, sheetOf}
 use Rattle.script_text.specs.Counts.{countsOf}
 use Rattle.script_text.specs.Script.{scriptOf}
@@ -36,17 +36,17 @@ unfoldable pub strangers : Sheet → ℕ → ℕ
 strangers s group = cond (within group (everyone (s .principals))) 0 3
 
 -- 4
-unfoldable pub onScript : {A : Type 0} → (ℕ → A) → Option Cmd → (Cmd → A) → A
+unfoldable pub onScript : {A : Type 0} → (ℕ → A) → Option Script → (Script → A) → A
 onScript refuse none go = refuse 4
-onScript refuse (some c) go = go c
+onScript refuse (some p) go = go p
 
 -- 5, 6: no derivation by figures 4 and 5, over the labels of the sheet's principals
-unfoldable pub untyped : Sheet → Cmd → ℕ
-untyped s c = refusal (labelsOver (s .principals)) (declarationsOf s) c
+unfoldable pub untyped : Sheet → Script → ℕ
+untyped s p = refusal (labelsOver (s .principals)) (declarationsOf s) p
 
 -- The number of a script on a sheet: 4, 5 or 6, or 0 where it is accepted.
 unfoldable pub numberOf : Sheet → List ℕ → ℕ
-numberOf s script = onScript (λ k. k) (scriptOf (countsOf s) script) (λ c. untyped s c)
+numberOf s script = onScript (λ k. k) (scriptOf (countsOf s) script) (λ p. untyped s p)
 
 -- ---- the calls
 
@@ -67,10 +67,10 @@ unfoldable pub runOf : List ℕ → List ℕ → List ℕ → ℕ → ℕ → Ra
 runOf sheet script memory authority budget =
     onSheet (refusedRun memory) (sheetOf sheet) (λ s.
     unless (refusedRun memory) (strangers s authority) (
-    onScript (refusedRun memory) (scriptOf (countsOf s) script) (λ c.
-    unless (refusedRun memory) (untyped s c) (
+    onScript (refusedRun memory) (scriptOf (countsOf s) script) (λ p.
+    unless (refusedRun memory) (untyped s p) (
     unless (refusedRun memory) (memoryRefusal s memory) (
-    ended (locationCount s) budget memory (iterate (worldOf s authority) budget (memoryOf memory) c))))))
+    ended (locationCount s) budget memory (iterate (worldFor s authority p) budget (memoryOf memory) (p .command)))))))
 
 -- simp_view
 unfoldable pub viewOf : List ℕ → List ℕ → ℕ → List ℕ → Viewed

@@ -88,13 +88,13 @@ fn number(state: State) -> u8
 }
 
 // 4 where there is no script, 5 or 6 where it has no derivation, else 0.
-fn judge(script: Answer, code: &[u32], table: &[sheet::Word]) -> u8
-    ensures { λ r. ⌜ Judges script (now (code .entry)) (now (table .entry)) r ⌝ }
+fn judge(script: Answer, code: &[u32], table: &[sheet::Word], start: u32) -> u8
+    ensures { λ r. ⌜ Judges script (now (code .entry)) (now (table .entry)) start r ⌝ }
 {
     let Answer::Read = script else {
         return SCRIPT_MALFORMED;
     };
-    match checker::check(code, table) {
+    match checker::check(code, table, start) {
         Verdict::Accepted => DONE,
         Verdict::IllTyped => ILL_TYPED,
         Verdict::IllLabelled => ILL_LABELLED,
@@ -112,8 +112,9 @@ pub fn number_of(
     let read = script_text::read(script, table, code);
     let answer = read.answer;
     let count = read.count;
+    let start = read.start;
     Numbered {
-        number: judge(answer, script_text::rows(code, count), table),
+        number: judge(answer, script_text::rows(code, count), table, start),
         count,
     }
 }

@@ -1,13 +1,19 @@
+-- `checker::check` meets its contract. Assumes nothing.
 use native.Mathlib.Omega.{arith}
 use Rattle.checker.proofs.Verdicts.{check-answers}
 use borrow.Author.Needs.{needs}
 use Rattle.checker.proofs.check.Statement.{statement}
 use Rattle.checker.proofs.check.Tie as tie
 
+returns : tie.Need-returns
+returns c =
+    let x = c .before in
+    let a = x .before .before .before .before .before .args in
+    check-answers (a .code .now) (a .table .now) (a .start) (x .before .label .ensures) (x .check-cmd .ensures) (c .answer .ensures) (omega arith)
+
 pub check-spec : {M : Type 1} → statement M
 check-spec = tie.close (tie.spec
+    (λ c κs. search needs)  -- label-requires
     (λ c κs. search needs)  -- check-cmd-requires
     (λ c κs. search needs)  -- answer-requires
-    (λ c.
-    let a = c .before .before .before .before .before .args in
-    check-answers (a .code .now) (a .table .now) (c .before .check-cmd .ensures) (c .answer .ensures) (omega arith)))  -- returns
+    returns)

@@ -4,13 +4,14 @@ use mathlib.Core.Bool.{Bool, true, false, cond}
 use mathlib.Core.List.{List, []}
 use Prim.Native.Nat.{ℕ, _≤_}
 use lib.ListN.{length, drop}
-use Rattle.language.specs.Syntax.{Expr, Cmd}
+use Rattle.language.specs.Syntax.{Expr, Cmd, Script}
 use Rattle.language.specs.Typing.{least, flowE, flow, refusal}
 use Rattle.script.specs.Lines.{Line, SourceE, exprLines, Source, cmdLines}
 use Rattle.script.specs.Internal.Code.{code}
 use Rattle.script.specs.Names.{Counts, maxDepth, named}
 use Rattle.sheet.specs.Sheet.{Sheet, formed, repeats}
 use Rattle.sheet.specs.Internal.Tables.{tableOf}
+use Rattle.sheet.specs.Internal.Starts.{startNo}
 use Rattle.sheet.specs.Meaning.{labelsOver, declarationsOf}
 use Rattle.checker.specs.declared.Verdict.{Verdict}
 use Rattle.checker.specs.declared.Verdict.the-variants.{Accepted, IllTyped, IllLabelled}
@@ -51,11 +52,12 @@ pub record ChecksCmd (ws : List ℕ) (at : ℕ) (t s : List ℕ) (d pc : ℕ) (x
   pub means : (k : Counts) (c : Cmd) (rest : List Line) → Source c → drop at ws ≡ code (cmdLines c rest) → named k d c ≡ true → Room s d
       → Passes t (boundTypes s d) pc (boundLabels s d) c x × (drop (x .next) ws ≡ code rest)
 
--- r is the number of the verdict (`verdictNumber`: 0, 5 or 6). For the code of a script that names what is there, with the table of a
--- sheet of the right form that repeats nothing, it is the scope's number.
-pub record ChecksCode (ws t : List ℕ) (r : ℕ) : Type 0 where
-  pub exact : (s : Sheet) → formed s ≡ true → repeats s ≡ false → t ≡ tableOf s → (k : Counts) (c : Cmd) → Source c → named k 0 c ≡ true
-      → ws ≡ code (cmdLines c []) → r ≡ refusal (labelsOver (s .principals)) (declarationsOf s) c
+-- r is the number of the verdict (`verdictNumber`: 0, 5 or 6). For the code and the start of a script whose command
+-- names what is there, with the table of a sheet of the right form that repeats nothing, it is the scope's number.
+pub record ChecksCode (ws t : List ℕ) (start r : ℕ) : Type 0 where
+  pub exact : (s : Sheet) → formed s ≡ true → repeats s ≡ false → t ≡ tableOf s → (k : Counts) (p : Script) → Source (p .command)
+      → named k 0 (p .command) ≡ true → ws ≡ code (cmdLines (p .command) []) → start ≡ startNo (p .opening .start)
+      → r ≡ refusal (labelsOver (s .principals)) (declarationsOf s) p
 
 -- what is found of a script, by whether its types fit and whether its label conditions hold
 unfoldable pub verdictOf : Bool → Bool → Verdict

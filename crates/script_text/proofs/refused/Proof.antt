@@ -1,11 +1,12 @@
 -- `script_text::refused` meets its contract. Assumes nothing.
 use mathlib.Core.Path.{refl}
+use Rattle.sheet.specs.Internal.Starts.{startNo}
 use Rattle.script_text.specs.Internal.Decoded.{noCode}
 use Rattle.script_text.proofs.refused.Statement.{statement}
 use Rattle.script_text.proofs.refused.Tie as tie
 
 returns : tie.Need-returns
-unfolding noCode
+unfolding noCode startNo
 returns c = refl
 
 pub refused-spec : {M : Type 1} → statement M

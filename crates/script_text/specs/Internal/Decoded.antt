@@ -1,14 +1,17 @@
--- What the code answers to a script's text: how many lines there are, and the words of their code.
+-- What the code answers to a script's text: how many lines its command has, where it starts, and the words of the
+-- lines' code.
 use mathlib.Core.List.{List, []}
 use mathlib.Core.Option.{Option, none, some}
 use Prim.Native.Nat.{ℕ, _*_}
 use lib.ListN.{length, replicate}
-use Rattle.language.specs.Syntax.{Cmd}
+use Rattle.language.specs.Syntax.{Script}
 use Rattle.script.specs.Lines.{Line, cmdLines}
 use Rattle.script.specs.Internal.Code.{code}
 use Rattle.script.specs.Names.{Counts, maxLines}
 use Rattle.sheet.specs.Padding.{padded}
+use Rattle.sheet.specs.Internal.Starts.{startNo}
 use Rattle.sheet.specs.Internal.Tables.{typesIn, labelsIn, locationsIn}
+use Rattle.script_text.specs.Reading.{Written}
 use Rattle.script_text.specs.declared.Answer.{Answer}
 use Rattle.script_text.specs.declared.Answer.the-variants as answer
 
@@ -20,25 +23,32 @@ countsIn t = record { types = typesIn t; labels = labelsIn t; locations = locati
 abbrev pub codeWords : ℕ
 codeWords = 3 * maxLines
 
--- The answer to a text, how many lines there are, and what the lent words then hold.
+-- The answer to a text, how many lines its command has, the number of the label that it starts at, and what the lent
+-- words then hold.
 pub record Decoded : Type 0 where
   pub answer : Answer
   pub count : ℕ
+  pub start : ℕ
   pub code : List ℕ
 
 -- the answer to a refused text
 unfoldable pub noCode : Decoded
-noCode = record { answer = answer.Refused; count = 0; code = replicate codeWords 0 }
+noCode = record { answer = answer.Refused; count = 0; start = startNo none; code = replicate codeWords 0 }
 
--- the answer to a text of lines: how many they are, and their code
-unfoldable pub coded : List Line → Decoded
-coded ls = record { answer = answer.Read; count = length ls; code = padded codeWords (code ls) }
+-- the answer to lines after a start: how many they are, and their code
+unfoldable pub coded : ℕ → List Line → Decoded
+coded start ls = record { answer = answer.Read; count = length ls; start = start; code = padded codeWords (code ls) }
 
-unfoldable pub codedLines : Option (List Line) → Decoded
-codedLines none = noCode
-codedLines (some ls) = coded ls
+unfoldable pub codedLines : ℕ → Option (List Line) → Decoded
+codedLines start none = noCode
+codedLines start (some ls) = coded start ls
+
+-- the answer to what is written in a text
+unfoldable pub codedText : Option Written → Decoded
+codedText none = noCode
+codedText (some w) = coded (startNo (w .opening .start)) (w .lines)
 
 -- The answer to a script.
-unfoldable pub decodedScript : Option Cmd → Decoded
+unfoldable pub decodedScript : Option Script → Decoded
 decodedScript none = noCode
-decodedScript (some c) = coded (cmdLines c [])
+decodedScript (some p) = coded (startNo (p .opening .start)) (cmdLines (p .command) [])

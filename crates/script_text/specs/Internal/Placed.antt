@@ -1,15 +1,19 @@
--- What the code answers to a line: its words and the place after it, or a refusal.
+-- What the code answers to a line: its words and the place after it, or a refusal; and to an opening.
 use mathlib.Core.List.{List}
 use Prim.Native.Nat.{ℕ}
 use lib.ListN.{drop}
 use Rattle.text.specs.Reading.{Read}
 use Rattle.text.specs.Internal.Place.{placed}
-use Rattle.script.specs.Lines.{Line}
+use Rattle.language.specs.Syntax.{Opening}
+use Rattle.script.specs.Lines.{Line, openingLines}
 use Rattle.script.specs.Internal.Code.{rowOf}
+use Rattle.sheet.specs.Internal.Starts.{startNo}
 use Rattle.script_text.specs.declared.Found.{Found}
 use Rattle.script_text.specs.declared.Found.the-variants as found
 use Rattle.script_text.specs.declared.LineRead.the-variants as read
 use Rattle.script_text.specs.declared.Reached.{Reached}
+use Rattle.script_text.specs.declared.Opened.{Opened}
+use Rattle.script_text.specs.declared.Opened.the-variants as opened
 use Rattle.script_text.specs.Reading.{lineOf}
 
 -- a line that is read in s, with its place
@@ -24,3 +28,7 @@ reached i found.Refused = record { read = read.Refused; at = i }
 -- the line at byte i of s
 abbrev pub lineAt : List ℕ → ℕ → Reached
 lineAt s i = reached i (placedLine s (lineOf (drop i s)))
+
+-- an opening that is read in s: where it starts, the lines that it takes, and the byte after them
+abbrev pub placedOpening : List ℕ → Read Opening → Opened
+placedOpening s want = placed (λ o p. opened.At (startNo (o .start)) (openingLines o) p) opened.Refused s want

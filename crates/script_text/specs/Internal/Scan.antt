@@ -5,7 +5,6 @@ use mathlib.Core.List.{List}
 use mathlib.Core.Option.{Option, none, some}
 use Prim.Native.Nat.{ℕ, _≤_}
 use lib.ListN.{drop}
-use Rattle.language.specs.Syntax.{Cmd}
 use Rattle.script.specs.Lines.{Line}
 use Rattle.script.specs.Internal.Code.{code}
 use Rattle.script.specs.Internal.Balance.{closes}
@@ -34,9 +33,9 @@ ScansCmd k d ws at r = Scans command (named k d) ws at r
 abbrev pub Balanced : List ℕ → Bool → Type 0
 Balanced ws r = (ls : List Line) → ws ≡ code ls → r ≡ closes 1 ls
 
-unfoldable pub isSome : Option Cmd → Bool
+unfoldable pub isSome : {A : Type 0} → Option A → Bool
 isSome none = false
-isSome (some c) = true
+isSome (some x) = true
 
 -- whether the code is that of one command whose names are there
 abbrev pub Whole : Counts → List ℕ → Bool → Type 0

@@ -5,14 +5,15 @@ use mathlib.Core.List.{List, []}
 use mathlib.Core.Option.{Option, none, some}
 use Prim.Native.Nat.{ℕ, _*_, _≤_}
 use lib.ListN.{length, take}
-use Rattle.language.specs.Syntax.{Cmd}
+use Rattle.language.specs.Syntax.{Script}
 use Rattle.language.specs.Transition.{iterate}
 use Rattle.script.specs.Lines.{Source, cmdLines}
 use Rattle.script.specs.Internal.Code.{code}
 use Rattle.script.specs.Names.{named}
 use Rattle.sheet.specs.Sheet.{Sheet, formed, repeats, locationCount}
 use Rattle.sheet.specs.Internal.Tables.{tableOf}
-use Rattle.sheet.specs.Meaning.{worldOf}
+use Rattle.sheet.specs.Internal.Starts.{startNo}
+use Rattle.sheet.specs.Meaning.{worldFor}
 use Rattle.script_text.specs.Counts.{countsOf}
 use Rattle.script_text.specs.Script.{scriptOf}
 use Rattle.script_text.specs.Internal.Decoded.{countsIn, decodedScript}
@@ -29,22 +30,23 @@ pub record TableOf (t : List ℕ) (s : Sheet) : Type 0 where
   pub once : repeats s ≡ false
   pub words : t ≡ tableOf s
 
--- The text of the script was refused, or read, and ws is its code.
-pub data CodeOf (s : Sheet) (ws : List ℕ) : Answer → Option Cmd → Type 0 where
-  no-code : CodeOf s ws Refused none
-  its-code : {c : Cmd} → Source c → named (countsOf s) 0 c ≡ true → ws ≡ code (cmdLines c []) → CodeOf s ws Read (some c)
+-- The text of the script was refused, or read, ws is its code, and start says where it starts.
+pub data CodeOf (s : Sheet) (ws : List ℕ) (start : ℕ) : Answer → Option Script → Type 0 where
+  no-code : CodeOf s ws start Refused none
+  its-code : {p : Script} → Source (p .command) → named (countsOf s) 0 (p .command) ≡ true → ws ≡ code (cmdLines (p .command) [])
+      → start ≡ startNo (p .opening .start) → CodeOf s ws start Read (some p)
 
-pub record Judges (a : Answer) (ws t : List ℕ) (r : ℕ) : Type 0 where
-  pub judged : (s : Sheet) → TableOf t s → (o : Option Cmd) → CodeOf s ws a o → r ≡ onScript (λ k. k) o (untyped s)
+pub record Judges (a : Answer) (ws t : List ℕ) (start r : ℕ) : Type 0 where
+  pub judged : (s : Sheet) → TableOf t s → (o : Option Script) → CodeOf s ws start a o → r ≡ onScript (λ k. k) o (untyped s)
 
 -- ws is the code of a script that is accepted on a sheet
 pub record AcceptedCode (s : Sheet) (script ws : List ℕ) : Type 0 where
-  pub command : Cmd
-  pub is-its : scriptOf (countsOf s) script ≡ some command
-  pub source : Source command
-  pub names : named (countsOf s) 0 command ≡ true
-  pub typed : untyped s command ≡ 0
-  pub lines : ws ≡ code (cmdLines command [])
+  pub parsed : Script
+  pub is-its : scriptOf (countsOf s) script ≡ some parsed
+  pub source : Source (parsed .command)
+  pub names : named (countsOf s) 0 (parsed .command) ≡ true
+  pub typed : untyped s parsed ≡ 0
+  pub lines : ws ≡ code (cmdLines (parsed .command) [])
 
 -- r is the script's number, and count and words are what its reader leaves; where r is 0, that is the code of an accepted script.
 pub record NumbersScript (script t : List ℕ) (r count : ℕ) (words : List ℕ) : Type 0 where
@@ -54,8 +56,8 @@ pub record NumbersScript (script t : List ℕ) (r count : ℕ) (words : List ℕ
   pub accepted : (s : Sheet) → TableOf t s → r ≡ 0 → AcceptedCode s script (take (count * 3) words)
 
 -- the run of an accepted script from a memory that isn't refused
-abbrev pub acceptedRun : Sheet → List ℕ → ℕ → ℕ → Cmd → Ran
-acceptedRun s memory authority budget c = ended (locationCount s) budget memory (iterate (worldOf s authority) budget (memoryOf memory) c)
+abbrev pub acceptedRun : Sheet → List ℕ → ℕ → ℕ → Script → Ran
+acceptedRun s memory authority budget p = ended (locationCount s) budget memory (iterate (worldFor s authority p) budget (memoryOf memory) (p .command))
 
 -- Whatever the table and the code are: the memory is untouched unless the answer is 0, and no more steps are taken than the budget has.
 pub record Spares (memory : List ℕ) (budget : ℕ) (r : Ran) : Type 0 where
@@ -65,7 +67,7 @@ pub record Spares (memory : List ℕ) (budget : ℕ) (r : Ran) : Type 0 where
 pub record RunsAccepted (ws t memory : List ℕ) (authority budget : ℕ) (r : Ran) : Type 0 where
   pub spares : Spares memory budget r
   pub ran : (s : Sheet) → TableOf t s → (script : List ℕ) (a : AcceptedCode s script ws) → memoryRefusal s memory ≡ 0
-      → r ≡ acceptedRun s memory authority budget (a .command)
+      → r ≡ acceptedRun s memory authority budget (a .parsed)
 
 pub record ChecksOn (script t : List ℕ) (r : ℕ) : Type 0 where
   pub checked : (s : Sheet) → TableOf t s → r ≡ numberOf s script
@@ -74,10 +76,10 @@ pub record RunsOn (script t memory : List ℕ) (authority budget : ℕ) (r : Ran
   pub spares : Spares memory budget r
   pub ran : (s : Sheet) → TableOf t s
       → r ≡ unless (refusedRun memory) (strangers s authority) (
-      onScript (refusedRun memory) (scriptOf (countsOf s) script) (λ c.
-      unless (refusedRun memory) (untyped s c) (
+      onScript (refusedRun memory) (scriptOf (countsOf s) script) (λ p.
+      unless (refusedRun memory) (untyped s p) (
       unless (refusedRun memory) (memoryRefusal s memory) (
-      acceptedRun s memory authority budget c))))
+      acceptedRun s memory authority budget p))))
 
 pub record ViewsOn (t memory : List ℕ) (group : ℕ) (view : List ℕ) (answer : ℕ) (left : List ℕ) : Type 0 where
   pub untouched : (answer ≡ 0 → ⊥) → left ≡ view

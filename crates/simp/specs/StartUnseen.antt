@@ -1,0 +1,40 @@
+-- A group that can't read a script's starting label is shown the same before and after it is run (request (d), buttons).
+use mathlib.Core.Path.{_≡_}
+use mathlib.Core.Bool.{true}
+use mathlib.Core.List.{List, [], _∷_}
+use Prim.Native.Nat.{ℕ, suc}
+use Rattle.language.specs.Syntax.{Script}
+use Rattle.sheet.specs.Sheet.{Sheet}
+use Rattle.sheet.specs.Meaning.{readsStart}
+use Rattle.sheet_text.specs.Theorems.{IsSheet}
+use Rattle.script_text.specs.Counts.{countsOf}
+use Rattle.script_text.specs.Theorems.{IsScript}
+use Rattle.stages.specs.Calls.{runOf, viewOf}
+use Rattle.scripts.specs.Parting.{partsOf}
+use Rattle.rounds.specs.Answers.{Gate}
+use Rattle.rounds.specs.Calls.{roundBy}
+use Rattle.simp.specs.Rounds.{Open}
+
+-- The group can't read the starting label of the script that the text is that of. (It is that of one at most, and of
+-- one if it is accepted.)
+abbrev pub StartHidden : List ℕ → ℕ → List ℕ → Type 0
+StartHidden sheet group script = (s : Sheet) (p : Script) → IsSheet sheet s → IsScript (countsOf s) script p → ¬ (readsStart s group p ≡ true)
+
+-- so of each script that is open, the first of these being in place i
+unfoldable pub HiddenFrom : List ℕ → ℕ → Gate → ℕ → List (List ℕ) → Type 0
+HiddenFrom sheet group gate i [] = Unit {0}
+HiddenFrom sheet group gate i (t ∷ ts) = (Open gate i → StartHidden sheet group t) × HiddenFrom sheet group gate (suc i) ts
+
+-- Any sheet, group, authority, budget and memory, and any slice for the view: simp_view answers and hands out the same
+-- before and after, word for word, whatever the call in between answers. Of a memory that gives no view it gives the
+-- same number both times, and the slice as it was.
+pub record StartUnseen : Type 0 where
+  -- a run of a script whose starting label the group can't read: done, stopped or refused. (A script that isn't accepted
+  -- is refused, so nothing is asked of that.)
+  pub run : (sheet script : List ℕ) (group : ℕ) → StartHidden sheet group script
+      → (authority budget : ℕ) (memory view : List ℕ)
+      → viewOf sheet (runOf sheet script memory authority budget .memory) group view ≡ viewOf sheet memory group view
+  -- a round whose open scripts are such: each done or stopped, or the round refused
+  pub round : (sheet scripts : List ℕ) (group : ℕ) (gate : Gate) → HiddenFrom sheet group gate 0 (partsOf scripts)
+      → (authority budget : ℕ) (memory view : List ℕ)
+      → viewOf sheet (roundBy gate sheet scripts memory authority budget .memory) group view ≡ viewOf sheet memory group view

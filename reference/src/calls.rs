@@ -6,7 +6,7 @@ use crate::machine::{self, Configuration};
 use crate::memory::{self, Memory};
 use crate::principals::Principals;
 use crate::reason::Reason;
-use crate::script::Command;
+use crate::script::Script;
 use crate::sheet::{LabelId, Repeat, Sheet};
 use crate::{flow, script_text, shape, sheet_text, view as views};
 use std::rc::Rc;
@@ -42,9 +42,9 @@ pub fn known_label(sheet: &Sheet, label: u32) -> Result<LabelId, Reason> {
 }
 
 /// Reads and checks a script: 4, 5 and 6.
-pub fn accepted_script(sheet: &Sheet, text: &[u8]) -> Result<Command, Reason> {
+pub fn accepted_script(sheet: &Sheet, text: &[u8]) -> Result<Script, Reason> {
     let script = script_text::parse(sheet, text).map_err(Reason::Script)?;
-    shape::check(sheet, &script).map_err(Reason::Types)?;
+    shape::check(sheet, &script.command).map_err(Reason::Types)?;
     flow::check(sheet, &script).map_err(Reason::Labels)?;
     Ok(script)
 }
@@ -73,7 +73,7 @@ pub fn check(sheet: &[u8], script: &[u8]) -> u8 {
     number(try_check(sheet, script))
 }
 
-pub fn try_check(sheet: &[u8], script: &[u8]) -> Result<Command, Reason> {
+pub fn try_check(sheet: &[u8], script: &[u8]) -> Result<Script, Reason> {
     accepted_script(&read_sheet(sheet)?, script)
 }
 
@@ -106,7 +106,7 @@ pub fn try_run(
 ) -> Result<u32, Reason> {
     let sheet = read_sheet(sheet)?;
     let authority = known_group(&sheet, authority)?;
-    let command = Rc::new(accepted_script(&sheet, script)?);
+    let command = Rc::new(accepted_script(&sheet, script)?.command);
     require_length(&sheet, memory)?;
     let mut configuration = Configuration { memory: read_memory(&sheet, memory)?, command };
     let context = Context { sheet: &sheet, authority };

@@ -1,7 +1,7 @@
 //! The label conditions, by the least label of each expression, after "Typing".
 
 use crate::label::Label;
-use crate::script::{Command, Expression, Phrase, Term};
+use crate::script::{Command, Expression, Phrase, Script, Start, Term};
 use crate::sheet::{LabelId, LocationId, Sheet};
 
 /// Why a label condition fails: the line, what the flow goes into, and a part of what flows there
@@ -32,10 +32,13 @@ pub enum Through {
     Value,
     /// The `w` or `c` in this line decides whether the line is reached.
     Guard(usize),
+    /// By the run itself: the script starts at the source, which is its `b` line's label.
+    Start,
 }
 
-/// A part of an expression that has a label of its own: the least label of the whole is the join of
-/// its sources' labels. An integer's is bottom, which every label is above.
+/// What has a label of its own: a part of an expression, or the start of a script. The least label
+/// of an expression is the join of its sources' labels. An integer's is bottom, which every label
+/// is above.
 #[derive(Clone, Debug, PartialEq, Eq)]
 pub struct Source {
     pub line: usize,
@@ -50,6 +53,8 @@ pub enum Origin {
     Location(LocationId),
     Packed(LabelId),
     Opened(LabelId),
+    /// The `b` line of the script.
+    Start(LabelId),
 }
 
 impl Source {
@@ -100,9 +105,11 @@ impl Least {
     }
 }
 
-/// What surrounds a command: the join of the guards that it stands in, and each with its line.
+/// What surrounds a command: the join of the starting label and the guards that it stands in, and
+/// each with its line.
 struct Surrounding<'a> {
     label: Label,
+    start: Option<Start>,
     /// The innermost guard, and what surrounds that.
     guard: Option<Guard<'a>>,
 }
@@ -116,26 +123,36 @@ struct Guard<'a> {
 impl<'a> Surrounding<'a> {
     fn within(&'a self, line: usize, least: &'a Least) -> Surrounding<'a> {
         let guard = Guard { line, least, outside: self };
-        Surrounding { label: self.label.join(&least.label), guard: Some(guard) }
+        let label = self.label.join(&least.label);
+        Surrounding { label, start: self.start, guard: Some(guard) }
     }
 
-    /// The outermost guard whose label fails the condition that the join fails.
-    fn culprit(&self, passes: impl Fn(&Label) -> bool) -> &Guard<'a> {
-        let mut guard = self.guard.as_ref().expect("bottom is at or below every label");
-        let fails = |guard: &Guard| !passes(&guard.least.label);
-        let mut found = fails(guard).then_some(guard);
-        while let Some(outer) = &guard.outside.guard {
-            guard = outer;
-            found = if fails(guard) { Some(guard) } else { found };
+    /// The outermost guard whose label fails the condition that the join fails. Where none does,
+    /// the starting label fails it.
+    fn culprit(&self, passes: impl Fn(&Label) -> bool) -> Option<&Guard<'a>> {
+        let mut found = None;
+        let mut next = self.guard.as_ref();
+        while let Some(guard) = next {
+            found = if passes(&guard.least.label) { found } else { Some(guard) };
+            next = guard.outside.guard.as_ref();
         }
-        found.expect("the surrounding label is the join of the guards'")
+        found
+    }
+
+    /// The `b` line as what flows.
+    fn started(&self, sheet: &Sheet) -> Source {
+        let Start { line, label } = self.start.expect("bottom is at or below every label");
+        let origin = Origin::Start(label);
+        Source { line, origin, label: sheet.labels[label].clone(), bound_in: None }
     }
 }
 
 /// Whether the least labels of a script pass.
-pub fn check(sheet: &Sheet, script: &Command) -> Result<(), NoFlow> {
-    let surrounding = Surrounding { label: Label::bottom(sheet.principals), guard: None };
-    command(sheet, &mut Vec::new(), &surrounding, script)
+pub fn check(sheet: &Sheet, script: &Script) -> Result<(), NoFlow> {
+    let Script { opening, command: c } = script;
+    let label = opening.starting_label(sheet);
+    let surrounding = Surrounding { label, start: opening.start, guard: None };
+    command(sheet, &mut Vec::new(), &surrounding, c)
 }
 
 /// `bound` holds the labels of the bound values, the innermost last.
@@ -188,9 +205,11 @@ fn assign(
     if passes(&surrounding.label) {
         return Ok(());
     }
-    let guard = surrounding.culprit(passes);
-    let source = guard.least.culprit(passes);
-    Err(NoFlow { line, into, source, through: Through::Guard(guard.line) })
+    let (source, through) = match surrounding.culprit(passes) {
+        Some(guard) => (guard.least.culprit(passes), Through::Guard(guard.line)),
+        None => (surrounding.started(sheet), Through::Start),
+    };
+    Err(NoFlow { line, into, source, through })
 }
 
 /// The least label of an expression.
@@ -235,4 +254,45 @@ fn require(
         return Ok(());
     }
     Err(NoFlow { line, into, source: least.culprit(passes), through: Through::Value })
+}
+
+#[cfg(test)]
+mod tests {
+    use super::{check, Into, NoFlow, Origin, Source, Through};
+    use crate::{script_text, sheet_text};
+
+    /// Location 0 has label 0, locations 1 and 2 label 1, which is above it and alike but for one
+    /// reader. Location 1 is an integer and location 2 a choice.
+    const SHEET: &[u8] = b"P\t2\nL\nL\nO\t0\t0000\t0003\nX\t0\t0\nX\t0\t1\nX\t3\t1\n";
+
+    fn refused(script: &str) -> Option<NoFlow> {
+        let sheet = sheet_text::parse(SHEET).expect("a sheet");
+        let text = script.replace(' ', "\t").replace(',', "\n") + "\n";
+        check(&sheet, &script_text::parse(&sheet, text.as_bytes()).expect("a script")).err()
+    }
+
+    #[test]
+    fn a_start_is_blamed_with_its_line_and_label() {
+        let label = sheet_text::parse(SHEET).expect("a sheet").labels[1].clone();
+        let source = Source { line: 1, origin: Origin::Start(1), label, bound_in: None };
+        let (into, through) = (Into::Location(0), Through::Start);
+        let expected = |line| Some(NoFlow { line, into, source: source.clone(), through });
+        assert_eq!(refused("b 1,= 0,i 1"), expected(2));
+        assert_eq!(refused("b 1,;,s,;,= 0,i 1,s"), expected(5));
+        assert_eq!(refused("b 1,;,= 1,x 1,w,l 3,x 0,= 0,i 1"), expected(8));
+        for accepted in ["b 1,= 1,i 1", "b 0,= 0,i 1", "= 0,i 1", "b 1,w,x 2,s"] {
+            assert_eq!(refused(accepted), None, "{accepted}");
+        }
+    }
+
+    #[test]
+    fn values_are_blamed_before_guards_and_guards_before_the_start() {
+        let blamed = |script| refused(script).map(|fault| (fault.line, fault.through));
+        assert_eq!(blamed("b 1,w,x 2,= 0,x 1"), Some((4, Through::Value)));
+        assert_eq!(blamed("b 1,w,x 2,= 0,x 0"), Some((4, Through::Guard(2))));
+        assert_eq!(blamed("b 1,w,l 3,x 0,w,x 2,= 0,i 1"), Some((7, Through::Guard(5))));
+        assert_eq!(blamed("b 1,c,x 2,s,w,x 2,= 0,i 1"), Some((7, Through::Guard(2))));
+        assert_eq!(blamed("b 0,w,x 2,= 0,i 1"), Some((4, Through::Guard(2))));
+        assert_eq!(blamed("b 1,w,l 3,x 0,= 0,i 1"), Some((5, Through::Start)));
+    }
 }

@@ -9,7 +9,7 @@ use crate::machine::{self, Configuration, Stopped};
 use crate::memory;
 use crate::reason::Reason;
 use crate::round_text::{parts, Part};
-use crate::script::Command;
+use crate::script::Script;
 use crate::sheet::Sheet;
 use std::num::NonZeroUsize;
 use std::rc::Rc;
@@ -69,12 +69,12 @@ pub fn try_round(
 ) -> Result<Vec<Result<u32, Stopped>>, Refused> {
     let sheet = read_sheet(sheet)?;
     let authority = known_group(&sheet, authority)?;
-    let commands = accepted_scripts(&sheet, scripts)?;
+    let scripts = accepted_scripts(&sheet, scripts)?;
     require_length(&sheet, memory)?;
     let mut values = read_memory(&sheet, memory)?;
     let context = Context { sheet: &sheet, authority };
     let mut runs = Vec::new();
-    for command in commands {
+    for Script { command, .. } in scripts {
         let mut configuration = Configuration { memory: values.clone(), command: Rc::new(command) };
         let run = machine::run(&context, &mut configuration, budget);
         if run.is_ok() {
@@ -87,7 +87,7 @@ pub fn try_round(
 }
 
 /// Parts, reads and checks the scripts of a round: 11, then the lowest of all their numbers.
-pub fn accepted_scripts(sheet: &Sheet, text: &[u8]) -> Result<Vec<Command>, Refused> {
+pub fn accepted_scripts(sheet: &Sheet, text: &[u8]) -> Result<Vec<Script>, Refused> {
     let parts = parts(text);
     let found = parts.len();
     if found > SCRIPTS {
@@ -97,7 +97,7 @@ pub fn accepted_scripts(sheet: &Sheet, text: &[u8]) -> Result<Vec<Command>, Refu
     for (number, Part { first_line, text }) in parts.into_iter().enumerate() {
         let script = NonZeroUsize::new(first_line).map(|first_line| Place { number, first_line });
         match accepted_script(sheet, text) {
-            Ok(command) => accepted.push(command),
+            Ok(script) => accepted.push(script),
             Err(reason) => refused.push(Refused { script, reason }),
         }
     }

@@ -1,9 +1,40 @@
-//! Commands and expressions, after the grammar of the paper's section 2.3, each with its line.
+//! Scripts: what one opens with, then commands and expressions after the grammar of the paper's
+//! section 2.3, each with its line.
 
-use crate::sheet::{LabelId, LocationId};
+use crate::label::Label;
+use crate::sheet::{LabelId, LocationId, Sheet};
 use crate::types::TypeId;
 use crate::value::Value;
 use std::rc::Rc;
+
+#[derive(Clone, Debug, PartialEq, Eq)]
+pub struct Script {
+    pub opening: Opening,
+    pub command: Command,
+}
+
+/// What stands before the command. It is no part of it and takes no step.
+#[derive(Clone, Copy, Debug, Default, PartialEq, Eq)]
+pub struct Opening {
+    pub start: Option<Start>,
+}
+
+/// The label that a `b` line names, and that line.
+#[derive(Clone, Copy, Debug, PartialEq, Eq)]
+pub struct Start {
+    pub line: usize,
+    pub label: LabelId,
+}
+
+impl Opening {
+    /// The label that the surrounding label starts at: that of `b`, else bottom.
+    pub fn starting_label(&self, sheet: &Sheet) -> Label {
+        match self.start {
+            Some(start) => sheet.labels[start.label].clone(),
+            None => Label::bottom(sheet.principals),
+        }
+    }
+}
 
 #[derive(Clone, Debug, PartialEq, Eq)]
 pub struct Command {

@@ -1,6 +1,6 @@
-//! The reader of a script: one command in prefix order.
+//! The reader of a script: what it opens with, and one command in prefix order.
 
-use crate::script::{Command, Expression, Phrase, Term};
+use crate::script::{Command, Expression, Opening, Phrase, Script, Start, Term};
 use crate::sheet::Sheet;
 use crate::text::{
     fields, lines, name, number, Cause, Counted, Expected, Fault, Operand, Sort, Thing,
@@ -10,7 +10,7 @@ use std::rc::Rc;
 const MOST_LINES: usize = 512;
 const MOST_CASES: usize = 8;
 
-pub fn parse(sheet: &Sheet, text: &[u8]) -> Result<Command, Fault> {
+pub fn parse(sheet: &Sheet, text: &[u8]) -> Result<Script, Fault> {
     let lines = lines(text)?;
     if lines.is_empty() {
         return Err(Cause::NoLines.at(1));
@@ -19,24 +19,23 @@ pub fn parse(sheet: &Sheet, text: &[u8]) -> Result<Command, Fault> {
         let cause = Cause::TooMany { what: Counted::ScriptLines, most: MOST_LINES };
         return Err(cause.at(MOST_LINES + 1));
     }
-    let mut reader = Reader { sheet, lines: &lines, read: 0 };
+    let mut reader = Reader { sheet, lines: &lines, read: 0, started: false };
+    let opening = reader.opening()?;
     let command = reader.command(0, None)?;
-    let read = reader.read;
-    match lines.get(read) {
-        None => Ok(command),
-        Some([]) => Err(Cause::EmptyLine.at(read + 1)),
-        Some(_) => Err(Cause::LeftOver.at(read + 1)),
-    }
+    reader.end()?;
+    Ok(Script { opening, command })
 }
 
-/// The sheet that names are looked up on, the lines, and how many of them are read.
+/// The sheet that names are looked up on, the lines, how many of them are read, and whether the
+/// script opens with a `b` line.
 struct Reader<'a> {
     sheet: &'a Sheet,
     lines: &'a [&'a [u8]],
     read: usize,
+    started: bool,
 }
 
-/// A line that a command or an expression starts with.
+/// An opening line, or one that a command or an expression starts with.
 struct Head<'a> {
     line: usize,
     kind: &'a [u8],
@@ -68,16 +67,24 @@ impl Head<'_> {
 }
 
 /// The kinds of line, each with the number of fields after the first.
+const OPENINGS: &[(&str, usize)] = &[("b", 1)];
 const COMMANDS: &[(&str, usize)] = &[("s", 0), (";", 0), ("=", 1), ("w", 0), ("c", 0)];
 const EXPRESSIONS: &[(&str, usize)] =
     &[("i", 1), ("x", 1), ("v", 1), ("+", 0), ("l", 1), ("r", 1), ("k", 1), ("u", 2)];
+
+/// Whether a line names the label that a script starts at.
+fn is_start(line: &[u8]) -> bool {
+    fields(line)[0] == b"b"
+}
 
 impl<'a> Reader<'a> {
     /// The next line, which starts the operand `role` of an earlier one, or the script.
     fn line(&mut self, role: Option<Operand>) -> Result<Head<'a>, Fault> {
         let Some(line) = self.lines.get(self.read) else {
-            let role = role.expect("a script has a first line");
-            return Err(Cause::Ends(role).at(role.line));
+            return Err(match role {
+                Some(role) => Cause::Ends(role).at(role.line),
+                None => Cause::NoCommand.at(self.read),
+            });
         };
         self.read += 1;
         if line.is_empty() {
@@ -86,6 +93,40 @@ impl<'a> Reader<'a> {
         let mut names = fields(line);
         let kind = names.remove(0);
         Ok(Head { line: self.read, kind, names })
+    }
+
+    /// What the script opens with.
+    fn opening(&mut self) -> Result<Opening, Fault> {
+        if !self.lines.first().is_some_and(|line| is_start(line)) {
+            return Ok(Opening::default());
+        }
+        let head = self.line(None)?;
+        let &[label] = head.names.as_slice() else {
+            return Err(head.wrong(OPENINGS, None));
+        };
+        let label = head.name(label, self.sheet.labels.len(), Thing::Label)?;
+        self.started = true;
+        Ok(Opening { start: Some(Start { line: head.line, label }) })
+    }
+
+    /// That no line is left.
+    fn end(&self) -> Result<(), Fault> {
+        let cause = match self.lines.get(self.read) {
+            None => return Ok(()),
+            Some([]) => Cause::EmptyLine,
+            Some(line) if is_start(line) => Cause::LateStart { again: self.started, ended: true },
+            Some(_) => Cause::LeftOver,
+        };
+        Err(cause.at(self.read + 1))
+    }
+
+    /// That a line can't be what a command or an expression, the operand `role`, starts with.
+    fn wrong(&self, head: &Head, counts: &[(&str, usize)], role: Option<Operand>) -> Fault {
+        if is_start(head.kind) {
+            head.fault(Cause::LateStart { again: self.started, ended: false })
+        } else {
+            head.wrong(counts, role)
+        }
     }
 
     /// A command inside `cases` cases.
@@ -111,7 +152,7 @@ impl<'a> Reader<'a> {
                 let left = self.part(cases + 1, line, "c", 1)?;
                 Phrase::Case(expression, left, self.part(cases + 1, line, "c", 2)?)
             }
-            _ => return Err(head.wrong(COMMANDS, role)),
+            _ => return Err(self.wrong(&head, COMMANDS, role)),
         };
         Ok(Command { line, phrase })
     }
@@ -169,7 +210,7 @@ impl<'a> Reader<'a> {
                 let label = head.name(label, labels, Thing::Label)?;
                 Term::Unpack(ty, label, self.boxed(cases, line, "u", 0)?)
             }
-            _ => return Err(head.wrong(EXPRESSIONS, Some(role))),
+            _ => return Err(self.wrong(&head, EXPRESSIONS, Some(role))),
         };
         Ok(Expression { line, term })
     }

@@ -36,9 +36,9 @@ pub enum Misfit {
     NoError(TypeId),
 }
 
-/// Whether a script has a derivation.
-pub fn check(sheet: &Sheet, script: &Command) -> Result<(), NoShape> {
-    command(sheet, &mut Vec::new(), script)
+/// Whether the command of a script has a derivation.
+pub fn check(sheet: &Sheet, c: &Command) -> Result<(), NoShape> {
+    command(sheet, &mut Vec::new(), c)
 }
 
 /// `bound` holds the types of the bound values, the innermost last.

@@ -56,6 +56,11 @@ pub enum Cause {
     Ends(Operand),
     /// The command has ended, in the line before this one.
     LeftOver,
+    /// The script has an opening and no command after it.
+    NoCommand,
+    /// A `b` line isn't where a script opens: the script has one already (`again`) or not, and its
+    /// command has ended in the line before this one (`ended`) or not.
+    LateStart { again: bool, ended: bool },
     /// Cases nest more than 8 deep.
     CaseDepth,
     /// A memory line ends in a zero word.

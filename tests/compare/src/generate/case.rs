@@ -1,7 +1,7 @@
 //! Whole calls: a sheet, a script, a memory and the other arguments.
 
 use super::prng::Prng;
-use super::script::Wrong;
+use super::script::{Script, Wrong};
 use super::{damage, memory, script, sheet};
 use reference::sheet::Sheet;
 use reference::sheet_text;
@@ -28,7 +28,7 @@ pub fn case(seed: u64) -> Case {
     };
     let (mut case, sheet) = undamaged(prng, wrong);
     if prng.chance(35) {
-        damage_some(prng, &mut case, sheet.principals);
+        damage_some(prng, &mut case, &sheet);
     }
     case.budget = budget(prng, &case.script);
     case
@@ -44,13 +44,13 @@ pub fn undamaged(prng: &mut Prng, wrong: Wrong) -> (Case, Sheet) {
         1..=5 => prng.between(40, 100),
         _ => prng.between(1, 40),
     };
-    let mut lines = script::lines(prng, &sheet, size, wrong);
+    let mut script = script::script(prng, &sheet, size, wrong, 40);
     match prng.below(50) {
-        0 => lengthen(prng, &mut lines),
-        1 => nest(prng, &mut lines),
+        0 => lengthen(prng, &mut script),
+        1 => nest(prng, &mut script.command),
         _ => (),
     }
-    let script = script::text(&lines);
+    let script = script.text();
     let memory = memory::memory(prng, &sheet);
     let case = Case {
         view_length: memory.len(),
@@ -64,15 +64,15 @@ pub fn undamaged(prng: &mut Prng, wrong: Wrong) -> (Case, Sheet) {
     (case, sheet)
 }
 
-/// Puts `;` and `s` around a script until it has 511 to 514 lines.
-fn lengthen(prng: &mut Prng, lines: &mut Vec<String>) {
+/// Puts `;` and `s` around the command of a script, which then has 511 to 514 lines.
+fn lengthen(prng: &mut Prng, script: &mut Script) {
     let least = prng.between(510, 513);
-    let pairs = least.saturating_sub(lines.len()).div_ceil(2);
-    lines.splice(0..0, vec![";".to_string(); pairs]);
-    lines.extend(vec!["s".to_string(); pairs]);
+    let pairs = least.saturating_sub(script.length()).div_ceil(2);
+    script.command.splice(0..0, vec![";".to_string(); pairs]);
+    script.command.extend(vec!["s".to_string(); pairs]);
 }
 
-/// Puts cases around a script, 9 at most.
+/// Puts cases around a command, 9 at most.
 fn nest(prng: &mut Prng, lines: &mut Vec<String>) {
     let most = 9usize.saturating_sub(lines.iter().filter(|line| *line == "c").count());
     for _ in 0..prng.between(most.min(5), most) {
@@ -104,7 +104,8 @@ pub(super) fn budget(prng: &mut Prng, script: &[u8]) -> u32 {
 }
 
 /// Damages at least one part of a case, and each of the others at times.
-fn damage_some(prng: &mut Prng, case: &mut Case, n: usize) {
+fn damage_some(prng: &mut Prng, case: &mut Case, sheet: &Sheet) {
+    let n = sheet.principals;
     let sure = prng.below(7);
     for part in 0..7 {
         if part != sure && !prng.chance(12) {
@@ -112,6 +113,9 @@ fn damage_some(prng: &mut Prng, case: &mut Case, n: usize) {
         }
         match part {
             0 => case.sheet = damage::sheet(prng, &case.sheet),
+            1 if prng.chance(10) => {
+                case.script = damage::start_past_last(&case.script, sheet.labels.len());
+            }
             1 => case.script = damage::script(prng, &case.script),
             2 => case.memory = damage::memory(prng, &case.memory),
             3 => case.authority |= beyond(prng, n),
@@ -123,7 +127,7 @@ fn damage_some(prng: &mut Prng, case: &mut Case, n: usize) {
 }
 
 /// A set with a principal that isn't among the first n, where there is one.
-pub(super) fn beyond(prng: &mut Prng, n: usize) -> u16 {
+pub fn beyond(prng: &mut Prng, n: usize) -> u16 {
     if n == 16 {
         0
     } else {
@@ -141,7 +145,7 @@ fn other_length(prng: &mut Prng, length: usize) -> usize {
     }
 }
 
-pub(super) fn resize(prng: &mut Prng, memory: &mut Vec<u32>) {
+pub fn resize(prng: &mut Prng, memory: &mut Vec<u32>) {
     let length = other_length(prng, memory.len());
     memory.resize(length, prng.integer());
 }

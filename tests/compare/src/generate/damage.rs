@@ -83,6 +83,30 @@ const SCRIPT_LINES: &[&str] = &[
     "ss",
     "v\t99999999999999999999",
     "i\t-1",
+    "b\t0",
+    "b\t1",
+    "b\t32",
+    "b",
+];
+
+/// Lines that can stand where a script opens: mostly wrong.
+const START_LINES: &[&str] = &[
+    "b",
+    "b\t",
+    "b\t0\t0",
+    "b\t00",
+    "b\t-1",
+    "b\t3",
+    "b\t4",
+    "b\t5",
+    "b\t6",
+    "b\t32",
+    "b\t256",
+    "b\t4294967295",
+    "b\t4294967296",
+    "b0",
+    "bb\t0",
+    "B\t0",
 ];
 
 /// Texts that can replace one of an input: sets, numbers and what is nearly one.
@@ -144,7 +168,63 @@ fn repeated(prng: &mut Prng, text: &[u8]) -> Vec<u8> {
 }
 
 pub fn script(prng: &mut Prng, text: &[u8]) -> Vec<u8> {
+    if prng.chance(35) {
+        opening(prng, text)
+    } else {
+        script_lines(prng, text)
+    }
+}
+
+/// A script with some of its lines or bytes changed.
+pub fn script_lines(prng: &mut Prng, text: &[u8]) -> Vec<u8> {
     damaged(prng, text, SCRIPT_LINES)
+}
+
+/// A script with a `b` line that is alone, there twice, further down, last, one line too many, or
+/// wrong.
+pub fn opening(prng: &mut Prng, text: &[u8]) -> Vec<u8> {
+    let mut lines = lines_of(text);
+    let starts = lines.first().is_some_and(|line| line.starts_with(b"b\t"));
+    let start = if starts { lines.remove(0) } else { format!("b\t{}\n", prng.below(4)).into() };
+    let at = prng.between(0, lines.len());
+    let before = match prng.below(10) {
+        0 => return start,
+        1 => vec![start.clone(), start],
+        2 => {
+            lines.insert(at, start.clone());
+            vec![start]
+        }
+        3 => {
+            lines.insert(at, start);
+            vec![]
+        }
+        4 => {
+            lines.push(start);
+            vec![]
+        }
+        5 | 6 => {
+            let pairs = 512usize.saturating_sub(lines.len()) / 2;
+            lines.splice(0..0, [&b";\n"[..], b"s\n"].repeat(pairs).iter().map(|l| l.to_vec()));
+            vec![start]
+        }
+        _ => vec![format!("{}\n", prng.pick(START_LINES)).into()],
+    };
+    [before, lines].concat().concat()
+}
+
+/// A script that starts at the label after the last of `labels`.
+pub fn start_past_last(text: &[u8], labels: usize) -> Vec<u8> {
+    let mut lines = lines_of(text);
+    if lines.first().is_some_and(|line| line.starts_with(b"b\t")) {
+        lines.remove(0);
+    }
+    lines.insert(0, format!("b\t{labels}\n").into());
+    lines.concat()
+}
+
+/// The lines of a text, each with its end.
+fn lines_of(text: &[u8]) -> Vec<Vec<u8>> {
+    text.split_inclusive(|&b| b == b'\n').map(<[u8]>::to_vec).collect()
 }
 
 /// A text with a line or a byte changed, more than once at times.
@@ -161,8 +241,7 @@ fn damaged(prng: &mut Prng, text: &[u8], replacements: &[&str]) -> Vec<u8> {
 }
 
 fn change_line(prng: &mut Prng, text: &[u8], replacements: &[&str]) -> Vec<u8> {
-    let mut lines: Vec<Vec<u8>> =
-        text.split_inclusive(|&b| b == b'\n').map(<[u8]>::to_vec).collect();
+    let mut lines = lines_of(text);
     let new = format!("{}\n", prng.pick(replacements)).into_bytes();
     if lines.is_empty() {
         return new;
@@ -182,7 +261,7 @@ fn change_line(prng: &mut Prng, text: &[u8], replacements: &[&str]) -> Vec<u8> {
 }
 
 fn change_byte(prng: &mut Prng, mut text: Vec<u8>) -> Vec<u8> {
-    const BYTES: &[u8] = b"0123456789\t\n\r -+;=swcixvlrkuPTLOXafF\x00\xff";
+    const BYTES: &[u8] = b"0123456789\t\n\r -+;=swcixvlrkubPTLOXafF\x00\xff";
     let byte = prng.pick(BYTES);
     if text.is_empty() {
         return vec![byte];

@@ -31,9 +31,12 @@ pub fn sheet_and_scripts(seed: u64) -> (Vec<u8>, Vec<Vec<u8>>) {
     let mut scripts = Vec::new();
     for wrong in [Wrong::Nothing, Wrong::Types, Wrong::Labels, Wrong::Nothing] {
         let size = prng.between(1, 60);
-        scripts.push(script::text(&script::lines(prng, &parsed, size, wrong)));
+        scripts.push(script::script(prng, &parsed, size, wrong, 40).text());
     }
-    scripts[3] = damage::script(prng, &scripts[3]);
+    scripts[3] = damage::script_lines(prng, &scripts[3]);
+    if prng.chance(25) {
+        scripts[0] = damage::opening(prng, &scripts[0]);
+    }
     let text = if prng.chance(20) { damage::sheet(prng, &text) } else { text };
     (text, scripts)
 }

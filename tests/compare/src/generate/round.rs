@@ -2,7 +2,7 @@
 
 use super::case::{beyond, budget, group, resize};
 use super::prng::Prng;
-use super::script::Wrong;
+use super::script::{Script, Wrong};
 use super::{damage, memory, script, sheet};
 use reference::calls::accepted_script;
 use reference::sheet::Sheet;
@@ -66,8 +66,8 @@ fn parted(prng: &mut Prng) -> (RoundCase, Sheet, Vec<Vec<u8>>) {
     (case, sheet, scripts)
 }
 
-/// 1 to 32 scripts, the shorter the more there are; in some rounds some of them stop, and in a few
-/// all have as many lines as a script may have.
+/// 1 to 32 scripts, the shorter the more there are; in some rounds some of them stop, in some all
+/// name a starting label, and in a few all have as many lines as a script may have.
 fn scripts(prng: &mut Prng, sheet: &Sheet) -> Vec<Vec<u8>> {
     let (count, most_lines) = match prng.below(20) {
         0 => (32, 8),
@@ -77,23 +77,24 @@ fn scripts(prng: &mut Prng, sheet: &Sheet) -> Vec<Vec<u8>> {
         _ => (prng.between(2, 5), 24),
     };
     let stopping = if prng.chance(40) { 30 } else { 0 };
+    let starting = prng.pick(&[0, 40, 100]);
     let long = prng.chance(if count > 16 { 10 } else { 1 });
     let mut scripts = Vec::new();
     for _ in 0..count {
         let size = prng.between(1, most_lines);
-        let mut lines = script::lines(prng, sheet, size, Wrong::Nothing);
+        let mut script = script::script(prng, sheet, size, Wrong::Nothing, starting);
         if prng.chance(stopping) {
-            stop(prng, sheet, &mut lines);
+            stop(prng, sheet, &mut script.command);
         }
         if long {
-            fill(&mut lines);
+            fill(&mut script);
         }
-        scripts.push(script::text(&lines));
+        scripts.push(script.text());
     }
     scripts
 }
 
-/// Puts a command behind a script that doesn't end, or whose value is too long where the authority
+/// Puts behind a command one that doesn't end, or one whose value is too long where the authority
 /// writes the label it is packed with.
 fn stop(prng: &mut Prng, sheet: &Sheet, lines: &mut Vec<String>) {
     lines.insert(0, ";".to_string());
@@ -107,11 +108,11 @@ fn stop(prng: &mut Prng, sheet: &Sheet, lines: &mut Vec<String>) {
     lines.extend(last);
 }
 
-/// Puts `;` and `s` before a script until it has 511 or 512 lines.
-fn fill(lines: &mut Vec<String>) {
-    let pairs = 512usize.saturating_sub(lines.len()) / 2;
+/// Puts `;` and `s` before the command of a script, which then has 511 or 512 lines.
+fn fill(script: &mut Script) {
+    let pairs = 512usize.saturating_sub(script.length()) / 2;
     let before = [";", "s"].repeat(pairs);
-    lines.splice(0..0, before.into_iter().map(String::from));
+    script.command.splice(0..0, before.into_iter().map(String::from));
 }
 
 /// Puts scripts that are mostly refused in the place of one to five.
@@ -123,13 +124,14 @@ fn spoil_some(prng: &mut Prng, sheet: &Sheet, scripts: &mut [Vec<u8>]) {
 }
 
 fn spoilt(prng: &mut Prng, sheet: &Sheet, text: &[u8]) -> Vec<u8> {
-    match prng.below(20) {
+    match prng.below(24) {
         0 => Vec::new(),
         1 => prng.pick(&[&b"\t\n"[..], b" \n", b"\r\n", b"\0\n"]).to_vec(),
         2 => b"s\n".repeat(prng.pick(&[8192, 8193, 20_000])),
         3 => text.strip_suffix(b"\n").unwrap_or(text).to_vec(),
         4 | 5 => damage::script(prng, text),
-        6..=11 => refused(prng, sheet, Wrong::Types),
+        6..=9 => damage::opening(prng, text),
+        10..=15 => refused(prng, sheet, Wrong::Types),
         _ => refused(prng, sheet, Wrong::Labels),
     }
 }
@@ -139,7 +141,7 @@ fn refused(prng: &mut Prng, sheet: &Sheet, wrong: Wrong) -> Vec<u8> {
     let mut text = Vec::new();
     for _ in 0..8 {
         let size = prng.between(2, 24);
-        text = script::text(&script::lines(prng, sheet, size, wrong));
+        text = script::script(prng, sheet, size, wrong, 40).text();
         if accepted_script(sheet, &text).is_err() {
             break;
         }

@@ -3,7 +3,7 @@
 use super::expression::Writer;
 use super::prng::Prng;
 use reference::label::Label;
-use reference::sheet::Sheet;
+use reference::sheet::{LabelId, Sheet};
 use reference::types::{TypeId, CHOICE, PACKED};
 
 /// What may go wrong in a script that is otherwise built to be accepted.
@@ -17,9 +17,42 @@ pub enum Wrong {
 const MOST_CASES: usize = 8;
 const TRIES: usize = 60;
 
-/// The lines of a script of about `size` lines.
-pub fn lines(prng: &mut Prng, sheet: &Sheet, size: usize, wrong: Wrong) -> Vec<String> {
-    let wrong_labels = if wrong == Wrong::Labels { prng.pick(&[5, 10, 20, 100]) } else { 0 };
+/// The label that a script starts at, where it names one, and the lines of its command.
+pub struct Script {
+    pub start: Option<LabelId>,
+    pub command: Vec<String>,
+}
+
+impl Script {
+    /// The number of lines.
+    pub fn length(&self) -> usize {
+        self.command.len() + usize::from(self.start.is_some())
+    }
+
+    pub fn text(&self) -> Vec<u8> {
+        let start = self.start.map(|label| format!("b\t{label}"));
+        let lines = start.iter().chain(&self.command);
+        lines.flat_map(|line| format!("{line}\n").into_bytes()).collect()
+    }
+}
+
+/// A script whose command has about `size` lines. `starting` of a hundred name a starting label.
+pub fn script(
+    prng: &mut Prng,
+    sheet: &Sheet,
+    size: usize,
+    wrong: Wrong,
+    starting: usize,
+) -> Script {
+    let start = start(prng, sheet, starting);
+    // so that often the start alone is wrong
+    let unheeded = wrong == Wrong::Labels && start.is_some() && prng.chance(60);
+    let surrounding = match start {
+        Some(label) if !unheeded => sheet.labels[label].clone(),
+        _ => Label::bottom(sheet.principals),
+    };
+    let wrong_labels = wrong == Wrong::Labels && !unheeded;
+    let wrong_labels = if wrong_labels { prng.pick(&[5, 10, 20, 100]) } else { 0 };
     let mut writer = Writer {
         prng,
         sheet,
@@ -30,13 +63,25 @@ pub fn lines(prng: &mut Prng, sheet: &Sheet, size: usize, wrong: Wrong) -> Vec<S
         wrong_labels,
         tries: 0,
     };
-    writer.command(&Label::bottom(sheet.principals), size);
-    writer.lines
+    writer.command(&surrounding, size);
+    Script { start, command: writer.lines }
 }
 
-/// The text of lines.
-pub fn text(lines: &[String]) -> Vec<u8> {
-    lines.iter().flat_map(|line| format!("{line}\n").into_bytes()).collect()
+/// A starting label: mostly one under which some location may be written.
+fn start(prng: &mut Prng, sheet: &Sheet, starting: usize) -> Option<LabelId> {
+    if sheet.labels.is_empty() || !prng.chance(starting) {
+        return None;
+    }
+    let opens = |&label: &LabelId| {
+        let label = &sheet.labels[label];
+        (0..sheet.locations.len()).any(|x| label.at_or_below(sheet.label_at(x)))
+    };
+    let open: Vec<LabelId> = (0..sheet.labels.len()).filter(opens).collect();
+    if open.is_empty() || prng.chance(15) {
+        Some(prng.below(sheet.labels.len()))
+    } else {
+        Some(prng.pick(&open))
+    }
 }
 
 impl Writer<'_> {

@@ -2,7 +2,7 @@
 //! the pass goes on.
 
 use super::label::Join;
-use super::script::{Row, Script, MOST_CASES};
+use super::script::{opening, Row, Script, MOST_CASES};
 use super::sheet::{Sheet, CHOICE, ERROR, INT, PACKAGE, PACKED};
 use reference::answer::Refusal;
 
@@ -25,7 +25,9 @@ struct Checker<'a> {
 pub fn check(sheet: &Sheet, script: &Script) -> Result<(), Refusal> {
     let mut checker =
         Checker { sheet, rows: script, bound: [Typed::default(); MOST_CASES], flows: true };
-    checker.command(0, Join::default()).ok_or(Refusal::NoShape)?;
+    let (start, at) = opening(script);
+    let surrounding = start.map_or(Join::default(), Join::label);
+    checker.command(at, surrounding).ok_or(Refusal::NoShape)?;
     if checker.flows {
         Ok(())
     } else {

@@ -1,6 +1,6 @@
 //! Running a script: figure 3 as recursion over the rows.
 
-use super::script::{Row, Script, MOST_CASES};
+use super::script::{opening, Row, Script, MOST_CASES};
 use super::sheet::{Rights, Sheet};
 use super::value::{Value, LEFT};
 use reference::answer::{Outcome, Refusal};
@@ -38,7 +38,8 @@ impl<'a> Machine<'a> {
     }
 
     pub fn run(&mut self) -> Outcome {
-        let result = self.command(0);
+        let (_, at) = opening(self.rows);
+        let result = self.command(at);
         let steps = self.budget - self.steps_left;
         match result {
             Ok(()) => Outcome::done(steps),

@@ -7,9 +7,21 @@ pub const MOST_CASES: usize = 8;
 
 pub type Script = List<Row, MOST_LINES>;
 
+/// The label that a script starts at, where it names one, and the row that its command starts at.
+pub fn opening(rows: &[Row]) -> (Option<u8>, usize) {
+    match rows[0] {
+        Row::Start { label } => (Some(label), 1),
+        _ => (None, 0),
+    }
+}
+
 /// A line. The first operand follows it; where it has another, the row says where that starts.
 #[derive(Clone, Copy)]
 pub enum Row {
+    /// The first row of some scripts.
+    Start {
+        label: u8,
+    },
     Skip,
     Seq {
         second: u16,

@@ -7,6 +7,7 @@ use super::text::Reader;
 /// Reads a text that is of the form, and names what is there, into an empty script.
 pub fn read(sheet: &Sheet, text: &[u8], script: &mut Script) -> Option<()> {
     let mut parser = Parser { sheet, reader: Reader::new(text)?, script };
+    parser.opening()?;
     parser.command(0)?;
     parser.reader.is_at_end().then_some(())
 }
@@ -29,6 +30,15 @@ impl Parser<'_> {
     /// The number of the next row.
     fn next(&self) -> u16 {
         self.script.len() as u16
+    }
+
+    /// The line before the command, where there is one.
+    fn opening(&mut self) -> Option<()> {
+        if self.reader.take(b'b') {
+            let label = self.reader.name(self.sheet.labels.len())?;
+            self.line(Row::Start { label })?;
+        }
+        Some(())
     }
 
     /// A command inside `depth` cases. A row with a link is written once its first operand is read.

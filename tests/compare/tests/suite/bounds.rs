@@ -1,15 +1,8 @@
 //! Every bound of the texts and slices, on every implementation.
 
-use crate::common::{lines, memory, sheet, start, text, text_of};
+use crate::common::{check, lines, long, memory, repeated, sheet, start, text, text_of};
 use compare::implementation::{Implementation, ALL};
 use reference::{Groups, Outcome, MOST_GROUPS};
-
-/// The check of a script on a sheet, the same from every implementation.
-fn check(sheet: &[u8], script: &[u8]) -> u8 {
-    let answers: Vec<u8> = ALL.iter().map(|i| (i.check)(sheet, script)).collect();
-    assert!(answers.iter().all(|&answer| answer == answers[0]), "{answers:?}");
-    answers[0]
-}
 
 /// The check of `s` on a sheet.
 fn check_sheet(lines: &[String]) -> u8 {
@@ -19,10 +12,6 @@ fn check_sheet(lines: &[String]) -> u8 {
 /// The check of a script on the sheet of the scope's cases.
 fn check_script(lines: &[String]) -> u8 {
     check(&sheet(), &text_of(&[lines]))
-}
-
-fn repeated(line: &str, count: usize) -> Vec<String> {
-    vec![line.to_string(); count]
 }
 
 #[test]
@@ -101,13 +90,6 @@ fn repeats() {
     for (sheet, answer) in table {
         assert_eq!(check_sheet(&lines(sheet)), *answer, "{sheet:?}");
     }
-}
-
-/// A script of `count` lines, 1 or at least 3, that is accepted where its length is.
-fn long(count: usize) -> Vec<String> {
-    let (pairs, last) =
-        if count % 2 == 1 { (count / 2, vec!["s"]) } else { (count / 2 - 1, vec!["= 0", "i 1"]) };
-    [repeated(";", pairs), repeated("s", pairs), lines(&last)].concat()
 }
 
 #[test]

@@ -1,5 +1,7 @@
 //! Texts and memories written as in the scope: blanks for tabs, values without their zeros.
 
+use compare::implementation::ALL;
+
 /// The text of lines whose fields are parted by blanks here.
 pub fn text(lines: &[&str]) -> Vec<u8> {
     lines.iter().flat_map(|line| format!("{line}\n").replace(' ', "\t").into_bytes()).collect()
@@ -69,6 +71,31 @@ pub fn text_of(parts: &[&[String]]) -> Vec<u8> {
 /// Lines as strings.
 pub fn lines(lines: &[&str]) -> Vec<String> {
     lines.iter().map(|line| line.to_string()).collect()
+}
+
+pub fn repeated(line: &str, count: usize) -> Vec<String> {
+    vec![line.to_string(); count]
+}
+
+/// A command of `count` lines, which the sheet of the scope's cases accepts where its length is.
+pub fn long(count: usize) -> Vec<String> {
+    let (pairs, last) =
+        if count % 2 == 1 { (count / 2, vec!["s"]) } else { (count / 2 - 1, vec!["= 0", "i 1"]) };
+    [repeated(";", pairs), repeated("s", pairs), lines(&last)].concat()
+}
+
+/// A script without the `b` line that it opens with.
+pub fn without_start(script: &[u8]) -> Option<&[u8]> {
+    let rest = script.strip_prefix(b"b\t")?;
+    let end = rest.iter().position(|&byte| byte == b'\n')?;
+    Some(&rest[end + 1..])
+}
+
+/// The check of a script on a sheet, the same from every implementation.
+pub fn check(sheet: &[u8], script: &[u8]) -> u8 {
+    let answers: Vec<u8> = ALL.iter().map(|i| (i.check)(sheet, script)).collect();
+    assert!(answers.iter().all(|&answer| answer == answers[0]), "{answers:?}");
+    answers[0]
 }
 
 /// The number of generated cases: `SIMP_CASES`, or what the gate takes.

@@ -1,14 +1,18 @@
 //! The generator reaches every answer of every call that can give it.
 
-use crate::common::{case_count, groups_count, round_count};
+use crate::common::{case_count, groups_count, round_count, without_start};
 use compare::generate::case::case;
 use compare::generate::groups::{groups_case, GroupsCase};
+use compare::generate::program_input::sheet_and_scripts;
 use compare::generate::round::{round_case, RoundCase};
-use reference::calls::{accepted_script, known_group, known_label, read_memory, require_length};
+use reference::calls::{
+    accepted_script, known_group, known_label, read_memory, read_sheet, require_length,
+};
 use reference::sheet::Sheet;
-use reference::text::MOST_BYTES;
+use reference::text::{Cause, Counted, Thing, MOST_BYTES};
 use reference::{
-    check, parts, round, run, sheet_text, smallest_groups, try_groups, view, Reason, DONE, SCRIPTS,
+    check, parts, round, run, sheet_text, smallest_groups, try_groups, try_round, view, Reason,
+    DONE, SCRIPTS,
 };
 use std::collections::{BTreeMap, BTreeSet};
 
@@ -66,6 +70,89 @@ fn generated_cases_reach_every_answer() {
     let rare = |kind| values.get(kind).is_none_or(|&count: &u64| count * 200 < cases);
     let kinds = ["integer", "package", "error 1", "error 2", "error 3", "left", "right"];
     assert!(!kinds.into_iter().any(rare), "{values:?}");
+}
+
+/// What becomes of a script by a `b` line, or of one that opens with `b` by what follows; nothing
+/// of other scripts.
+fn by_its_start(sheet: &Sheet, script: &[u8]) -> Option<&'static str> {
+    let bare = without_start(script);
+    let opens = bare.is_some();
+    let alone = || bare.is_some_and(|bare| accepted_script(sheet, bare).is_ok());
+    match accepted_script(sheet, script) {
+        Ok(_) => opens.then_some("accepted"),
+        Err(Reason::Script(fault)) => match fault.cause {
+            Cause::NoCommand => Some("4, nothing after it"),
+            Cause::LateStart { ended: true, .. } => Some("4, after the command"),
+            Cause::LateStart { again: true, .. } => Some("4, again"),
+            Cause::LateStart { .. } => Some("4, further down"),
+            Cause::FieldCount { kind, .. } if kind == b"b" => Some("4, its fields"),
+            Cause::Number(_) if opens && fault.line == 1 => Some("4, its fields"),
+            Cause::Missing { thing: Thing::Label, .. } if opens && fault.line == 1 => {
+                Some("4, not on the sheet")
+            }
+            Cause::TooMany { what: Counted::ScriptLines, .. } if alone() => {
+                Some("4, a line too many")
+            }
+            _ => None,
+        },
+        Err(Reason::Types(_)) => opens.then_some("5"),
+        Err(_) if alone() => Some("6, for the start alone"),
+        Err(_) => opens.then_some("6"),
+    }
+}
+
+/// Every end comes at least once in `rare` scripts, each with its sheet.
+fn assert_starts(what: &str, scripts: &[(Vec<u8>, Vec<u8>)], rare: usize) {
+    let mut counts: BTreeMap<&str, usize> = BTreeMap::new();
+    for (sheet, script) in scripts {
+        let end = read_sheet(sheet).ok().and_then(|sheet| by_its_start(&sheet, script));
+        *counts.entry(end.unwrap_or("another")).or_default() += 1;
+    }
+    println!("{what}: {counts:?}");
+    let ends = [
+        "accepted",
+        "4, nothing after it",
+        "4, after the command",
+        "4, again",
+        "4, further down",
+        "4, its fields",
+        "4, not on the sheet",
+        "4, a line too many",
+        "5",
+        "6, for the start alone",
+        "6",
+    ];
+    let often = |end: &str, rare| counts.get(end).is_some_and(|n| n * rare >= scripts.len());
+    let missing: Vec<&str> = ends.into_iter().filter(|end| !often(end, rare)).collect();
+    assert!(missing.is_empty(), "{what}: {missing:?} of {counts:?}");
+    assert!(often("accepted", 8) && often("6, for the start alone", 200), "{what}: {counts:?}");
+}
+
+/// The sheet of a round, and the script that it is refused for, or else the first that opens with
+/// `b`.
+fn deciding(case: RoundCase) -> Option<(Vec<u8>, Vec<u8>)> {
+    let RoundCase { sheet, scripts, mut memory, authority, budget, .. } = case;
+    let parts = parts(&scripts);
+    let script = match try_round(&sheet, &scripts, &mut memory, authority, budget) {
+        Ok(_) => parts.iter().find(|part| without_start(part.text).is_some())?,
+        Err(refused) => &parts[refused.script?.number],
+    };
+    let script = script.text.to_vec();
+    Some((sheet, script))
+}
+
+#[test]
+fn generated_scripts_reach_every_end_of_a_start() {
+    let cases = case_count().min(20_000);
+    let single = (0..cases).map(case).map(|case| (case.sheet, case.script));
+    assert_starts("cases", &single.collect::<Vec<_>>(), 2000);
+    let inputs = (0..cases / 4).map(sheet_and_scripts);
+    let apart = inputs.flat_map(|(sheet, scripts)| {
+        scripts.into_iter().map(move |script| (sheet.clone(), script))
+    });
+    assert_starts("inputs of the tool", &apart.collect::<Vec<_>>(), 1000);
+    let in_rounds = (0..cases / 2).map(round_case).filter_map(deciding);
+    assert_starts("rounds", &in_rounds.collect::<Vec<_>>(), 1000);
 }
 
 /// The order in which the numbers that refuse a round are judged.

@@ -5,13 +5,18 @@ use compare::implementation::ALL;
 use reference::text::{Cause, Fault};
 use reference::{script_text, sheet_text, Groups, Outcome};
 
-/// The line of a fault and its cause, without the particulars but for the thing that is missing.
+/// The line of a fault and its cause, without the particulars but for the thing that is missing and
+/// where a `b` line is late.
 fn told(fault: Option<Fault>) -> String {
     let Some(Fault { line, cause }) = fault else {
         return "no fault".to_string();
     };
     let cause = match cause {
         Cause::Missing { thing, .. } => format!("Missing {thing:?}"),
+        Cause::LateStart { again, ended } => {
+            let word = |is, word| if is { word } else { "" };
+            format!("LateStart{}{}", word(again, " again"), word(ended, " ended"))
+        }
         other => format!("{other:?}"),
     };
     let end = |c: char| !c.is_alphanumeric() && c != ' ';
@@ -118,6 +123,40 @@ fn scripts_and_why_they_are_refused() {
         (b"w\ns\ns\n", 2, "LineKind"),
         (b"c\nx\t2\ns\n", 1, "Ends"),
         (b"c\nx\t2\ns\ns\ns\n", 5, "LeftOver"),
+        (b"b\t0\n", 1, "NoCommand"),
+        (b"b\t0\n\n", 2, "EmptyLine"),
+        (b"b\t0\n\ns\n", 2, "EmptyLine"),
+        (b"\nb\t0\ns\n", 1, "EmptyLine"),
+        (b"b\t0", 1, "UnendedLine"),
+        (b"b", 1, "UnendedLine"),
+        (b"b\t0\r\ns\n", 1, "CarriageReturn"),
+        (b"b\ns\n", 1, "FieldCount"),
+        (b"b\t0\t0\ns\n", 1, "FieldCount"),
+        (b"b\t\ns\n", 1, "LooseTab"),
+        (b"b 0\ns\n", 1, "Blank"),
+        (b"b\t00\ns\n", 1, "Number"),
+        (b"b\t-1\ns\n", 1, "Number"),
+        (b"b\t4294967296\ns\n", 1, "Number"),
+        (b"b\t3\ns\n", 1, "Missing Label"),
+        (b"b\t4294967295\ns\n", 1, "Missing Label"),
+        (b"b\t3\nq\n", 1, "Missing Label"),
+        (b"b\t0\nq\n", 2, "LineKind"),
+        (b"b\t0\ni\t1\n", 2, "LineKind"),
+        (b"b\t0\n;\ns\n", 2, "Ends"),
+        (b"b\t0\ns\ns\n", 3, "LeftOver"),
+        (b"b0\ns\n", 1, "LineKind"),
+        (b"bb\t0\ns\n", 1, "LineKind"),
+        (b"B\t0\ns\n", 1, "LineKind"),
+        (b"b\t0\nb\t0\ns\n", 2, "LateStart again"),
+        (b"b\t0\nb\n", 2, "LateStart again"),
+        (b"b\t0\n;\ns\nb\t0\ns\n", 4, "LateStart again"),
+        (b"b\t0\ns\nb\t0\n", 3, "LateStart again ended"),
+        (b";\nb\t0\ns\ns\n", 2, "LateStart"),
+        (b";\ns\nb\t0\ns\n", 3, "LateStart"),
+        (b"=\t0\nb\t0\n", 2, "LateStart"),
+        (b"=\t0\n+\ni\t1\nb\t9\t9\n", 4, "LateStart"),
+        (b"s\nb\t0\n", 2, "LateStart ended"),
+        (b"s\nb\t0\ns\n", 2, "LateStart ended"),
     ];
     let parsed = sheet_text::parse(&sheet()).unwrap();
     for (script, line, cause) in table {

@@ -1,6 +1,7 @@
 //! The tests of the reference, and of the lean version and the library against it, in one program.
 
 mod bounds;
+mod buttons;
 mod cases;
 mod common;
 mod coverage;
@@ -16,5 +17,6 @@ mod rounds;
 mod show;
 mod steps;
 mod unpacks;
+mod unseen;
 mod views;
 mod workloads;

@@ -13,6 +13,7 @@ use reference::evaluate::Context;
 use reference::machine::{self, Configuration};
 use reference::memory::{decode, encode, Memory};
 use reference::principals::Principals;
+use reference::script::Opening;
 use reference::sheet::Sheet;
 use reference::{flow, parts, script_text, shape, view, Round, DONE};
 use std::rc::Rc;
@@ -55,7 +56,8 @@ fn left(case: &Case, memory: &Memory, budget: u32) -> Option<(Vec<u32>, u32)> {
 
 #[test]
 fn what_a_group_sees_follows_from_what_it_saw() {
-    let (mut pairs, mut compared, mut hidden, mut shown, mut stepped) = (0, 0, 0, 0, 0);
+    let (mut pairs, mut compared, mut started) = (0, 0, 0);
+    let (mut hidden, mut shown, mut stepped) = (0, 0, 0);
     for seed in 0..case_count() {
         let Some(Pair { case, first, other, .. }) = pair(seed, Wrong::Nothing) else {
             continue;
@@ -78,14 +80,18 @@ fn what_a_group_sees_follows_from_what_it_saw() {
         assert_eq!(after, seen(&after_other), "seed {seed}: the views after");
         compared += 1;
         let differ = encode(&first) != encode(&other);
-        hidden += u64::from(differ && after_first != encode(&first));
+        let writes = differ && after_first != encode(&first);
+        hidden += u64::from(writes);
+        started += u64::from(writes && case.script.starts_with(b"b\t"));
         shown += u64::from(differ && after != before);
         stepped += u64::from(steps != other_steps);
     }
+    println!("{started} start and write");
     println!("{pairs} pairs, {compared} done twice; {hidden} differ and write, {shown} write what is seen, {stepped} differ in steps");
     assert!(pairs * 2 > case_count() && compared * 2 > pairs, "{pairs} pairs, {compared} compared");
     assert!(hidden * 20 > compared && shown * 40 > compared, "{hidden} hidden, {shown} shown");
     assert!(stepped * 100 > compared, "{stepped} differ in steps");
+    assert!(started * 20 > compared, "{started} of those that write name a starting label");
 }
 
 /// A round in which nothing is damaged, its memory, and another with the same view.
@@ -112,7 +118,7 @@ fn round_left(case: &RoundCase, memory: &[u32], budget: u32) -> Option<(Round, V
 #[test]
 fn what_a_group_sees_after_a_round_follows_from_what_it_saw() {
     let (mut pairs, mut compared, mut several) = (0, 0, 0);
-    let (mut hidden, mut shown, mut stepped) = (0, 0, 0);
+    let (mut hidden, mut shown, mut stepped, mut started) = (0, 0, 0, 0);
     for seed in 0..round_count() {
         let Some((case, first, other)) = round_pair(seed) else {
             continue;
@@ -130,12 +136,16 @@ fn what_a_group_sees_after_a_round_follows_from_what_it_saw() {
         assert_eq!(after, seen(&after_other), "seed {seed}: the views after");
         compared += 1;
         several += u64::from(parts(&case.scripts).len() > 1);
-        hidden += u64::from(first != other && after_first != first);
+        let writes = first != other && after_first != first;
+        hidden += u64::from(writes);
+        let starts = parts(&case.scripts).iter().any(|part| part.text.starts_with(b"b\t"));
+        started += u64::from(writes && starts);
         shown += u64::from(first != other && after != before);
         stepped += u64::from(round.steps != other_round.steps);
     }
     println!("{pairs} pairs of rounds, {compared} with every script done, {several} of several");
     println!("{hidden} differ and write, {shown} write what is seen, {stepped} differ in steps");
+    println!("{started} start and write");
     assert!(
         pairs * 2 > round_count() && compared * 3 > pairs,
         "{pairs} pairs, {compared} compared"
@@ -143,16 +153,20 @@ fn what_a_group_sees_after_a_round_follows_from_what_it_saw() {
     assert!(several * 2 > compared, "{several} of {compared} with more than one script");
     assert!(hidden * 10 > compared && shown * 20 > compared, "{hidden} hidden, {shown} shown");
     assert!(stepped * 50 > compared, "{stepped} differ in steps");
+    assert!(started * 10 > compared, "{started} of those that write name a starting label");
 }
 
-/// The memory that the reference leaves, label conditions passed over.
+/// The memory that the reference leaves, label conditions passed over. A script that is refused for
+/// its start alone has none: what it leaks is no secret of the memory.
 fn left_unchecked(pair: &Pair, memory: &Memory) -> Option<Memory> {
     let sheet = &pair.sheet;
-    let command = Rc::new(script_text::parse(sheet, &pair.case.script).ok()?);
-    shape::check(sheet, &command).ok()?;
-    if flow::check(sheet, &command).is_ok() {
+    let mut script = script_text::parse(sheet, &pair.case.script).ok()?;
+    shape::check(sheet, &script.command).ok()?;
+    script.opening = Opening::default();
+    if flow::check(sheet, &script).is_ok() {
         return None;
     }
+    let command = Rc::new(script.command);
     let context = Context { sheet, authority: Principals::from_bits(pair.case.authority) };
     let mut configuration = Configuration { memory: memory.clone(), command };
     machine::run(&context, &mut configuration, pair.case.budget).ok()?;

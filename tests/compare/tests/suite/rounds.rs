@@ -15,12 +15,12 @@ const SHAPELESS: &[&str] = &["= 0", "x 2"];
 const FLOWLESS: &[&str] = &["= 0", "x 1"];
 
 /// The text of scripts, an empty line between each two.
-fn joined(scripts: &[&[&str]]) -> Vec<u8> {
+pub fn joined(scripts: &[&[&str]]) -> Vec<u8> {
     scripts.iter().map(|lines| text(lines)).collect::<Vec<Vec<u8>>>().join(&b'\n')
 }
 
 /// A round on a sheet and the memory it leaves, the same from every implementation.
-fn played(
+pub fn played(
     sheet: &[u8],
     scripts: &[u8],
     memory: &[u32],
@@ -51,7 +51,7 @@ fn assert_refused(scripts: &[u8], answer: u8) {
 }
 
 /// A round that isn't refused.
-fn places(answers: &[u8], steps: &[u32]) -> Round {
+pub fn places(answers: &[u8], steps: &[u32]) -> Round {
     let mut round = Round::empty(DONE);
     round.answers[..answers.len()].copy_from_slice(answers);
     round.steps[..steps.len()].copy_from_slice(steps);

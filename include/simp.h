@@ -9,7 +9,8 @@
  * run, and a refused call writes to no lent slice. Each call ends, given the stack that SIMP_STACK_CHECK and its like
  * state; a large budget can take hours, so choose it for the time that you have (a round has it anew for each script).
  * docs/TEXTS.md has the forms of sheets, scripts, rounds and memories. An answer of 9 or 10, and the steps, may depend
- * on what a group cannot read: don't show them to everyone.
+ * on what a group cannot read: don't show them to everyone. A script may open with the label that it starts at
+ * (`b label`): whoever cannot read that label is shown the same before and after its run, whatever that answers.
  *
  * A slice is a pointer and the number of its elements. A pointer is suitably aligned; it may be null where the number
  * is 0 (memcpy and memset may then be handed it, with 0 bytes). No other slice of the call overlaps one that the call
@@ -27,7 +28,7 @@ extern "C" {
 #endif
 
 /* The version of this header and of the archive that it belongs to. `simp --version` has the archive's SHA-256. */
-#define SIMP_VERSION "1.2.0"
+#define SIMP_VERSION "1.3.0"
 
 /* Words of 32 bits that a location takes in a memory or a view. */
 #define SIMP_CELL 16

@@ -35,6 +35,8 @@ pub struct Command {
 #[derive(Debug, PartialEq, Eq)]
 enum After {
     Nothing,
+    /// One more file.
+    File,
     /// More of the last.
     Files,
     /// One argument that is no file.
@@ -80,7 +82,7 @@ static COMMANDS: [Command; 6] = [
     Command {
         name: "explain",
         files: &["SHEET"],
-        after: After::Nothing,
+        after: After::File,
         options: &["--names"],
         flags: &["--json"],
     },
@@ -143,6 +145,8 @@ pub struct Readers {
 #[derive(Clone, Debug, PartialEq, Eq)]
 pub struct Explain {
     pub sheet: OsString,
+    /// The scripts that are asked about; without them the sheet is.
+    pub scripts: Option<OsString>,
     pub names: Option<OsString>,
     pub form: Form,
 }
@@ -222,7 +226,10 @@ fn request(command: &'static Command, args: VecDeque<OsString>) -> Result<Reques
             form,
         }),
         "readers" => Request::Readers(Readers { sheet, label: given.label()?, names, form }),
-        _ => Request::Explain(Explain { sheet, names, form }),
+        _ => {
+            let scripts = given.files.pop_front();
+            Request::Explain(Explain { sheet, scripts, names, form })
+        }
     })
 }
 
@@ -273,12 +280,15 @@ fn collect(command: &Command, mut args: VecDeque<OsString>) -> Result<Option<Giv
     let (most, what) = match command.after {
         After::Files => return Ok(Some(given)),
         After::Nothing => (files, "file"),
+        After::File => (files + 1, "file"),
         After::Argument => (files + 1, "argument"),
     };
     if let Some(extra) = given.files.get(most) {
         return Err(format!("{} is one {what} too many", quoted(extra)));
     }
-    given.argument = given.files.split_off(files).pop_front();
+    if command.after == After::Argument {
+        given.argument = given.files.split_off(files).pop_front();
+    }
     Ok(Some(given))
 }
 
@@ -454,10 +464,26 @@ mod tests {
     }
 
     #[test]
+    fn scripts_may_stand_after_the_sheet() {
+        for (line, scripts) in [("explain a", None), ("explain a --json b", Some("b".into()))] {
+            let Ok(Request::Explain(explain)) = parsed(line) else {
+                panic!("{line}");
+            };
+            assert_eq!((explain.sheet, explain.scripts), ("a".into(), scripts));
+        }
+    }
+
+    #[test]
     fn one_file_may_be_standard_input() {
         assert!(parsed("check - a b").is_ok());
         assert!(parsed("check a - b --names c").is_ok());
-        for twice in ["check - -", "check a - - b", "check a - --names -", "explain - --names=-"] {
+        for twice in [
+            "check - -",
+            "check a - - b",
+            "check a - --names -",
+            "explain - --names=-",
+            "explain - -",
+        ] {
             assert!(what(twice).contains("one file only"), "{twice}");
         }
         assert!(what("run a b - --as 0 --budget 1 --write").contains("--write"));
@@ -506,6 +532,7 @@ mod tests {
             ("check a b --jsn", "`--jsn` is no option of check"),
             ("check a b -x", "`-x`"),
             ("explain a --plain", "`--plain`"),
+            ("explain a b c", "`c` is one file too many"),
             ("show a b", "--to is missing"),
             ("readers", "SHEET is missing"),
             ("readers a 0 1", "`1` is one argument too many"),

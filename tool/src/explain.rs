@@ -1,8 +1,11 @@
 //! `simp explain`.
 
+mod scripts;
+
 use crate::args::{Explain, Form};
 use crate::calls::Calls;
 use crate::files::{self, shown};
+use crate::inputs;
 use crate::json::{Fields, Json};
 use crate::opening::{self, Named};
 use crate::refusal::Refusal;
@@ -17,19 +20,38 @@ use std::ffi::OsStr;
 
 pub fn explain(request: &Explain, calls: &Calls, streams: &mut Streams) -> Result<Status, Stop> {
     let names_file = opening::read_names(request.names.as_deref(), streams)?;
-    let [text] = files::read_all([&*request.sheet], streams)?;
+    let (file, scripts) = read(request, streams)?;
     let names = opening::names(names_file.as_ref())?;
-    let file = Named { name: &request.sheet, text };
     let sheet = match opening::sheet(&file, &names, names_file.as_ref(), calls)? {
         Ok(sheet) => sheet,
         Err(refusal) => return refused(request, &refusal, streams),
     };
-    let about = About { words: Words { sheet: &sheet, names: &names } };
+    let words = Words { sheet: &sheet, names: &names };
+    if let Some(scripts) = scripts {
+        let desk = scripts::Desk { sheet: &file, scripts: &scripts, words };
+        return desk.explain(request.form, calls, streams);
+    }
+    let about = About { words };
     let text = match request.form {
         Form::Json => format!("{}\n", Json::Object(about.document(&request.sheet))),
         _ => about.in_words(&request.sheet, streams.paint()),
     };
     streams.finish(&text, Status::Done)
+}
+
+/// The sheet, and the scripts where they are asked about.
+fn read<'a>(
+    request: &'a Explain,
+    streams: &mut Streams,
+) -> Result<(Named<'a>, Option<Named<'a>>), Stop> {
+    let sheet = |text| Named { name: &request.sheet, text };
+    let Some(name) = &request.scripts else {
+        let [text] = files::read_all([&*request.sheet], streams)?;
+        return Ok((sheet(text), None));
+    };
+    let [first, text] = files::read_all([&*request.sheet, name], streams)?;
+    inputs::require_whole(name, &text)?;
+    Ok((sheet(first), Some(Named { name, text })))
 }
 
 fn refused(request: &Explain, refusal: &Refusal, streams: &mut Streams) -> Result<Status, Stop> {
@@ -44,9 +66,9 @@ fn refused(request: &Explain, refusal: &Refusal, streams: &mut Streams) -> Resul
     streams.finish(&text, Status::Refused)
 }
 
-fn verdict(sheet: &OsStr, answer: u8) -> Fields {
+fn verdict(file: &OsStr, answer: u8) -> Fields {
     vec![
-        ("name", Json::text(files::name(sheet))),
+        ("name", Json::text(files::name(file))),
         ("answer", Json::number(answer.into())),
         ("accepted", Json::Bool(answer == 0)),
     ]

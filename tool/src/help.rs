@@ -10,7 +10,8 @@ usage: simp check SHEET SCRIPT..           which scripts are accepted on a sheet
        simp round SHEET SCRIPTS MEMORY ..  several scripts of a file, run in order on one memory
        simp show SHEET MEMORY ..           what a group may see of a memory
        simp readers SHEET [LABEL]          the smallest groups that together read a label
-       simp explain SHEET                  who and what is on a sheet, and who may read and write it
+       simp explain SHEET [SCRIPTS]        who may read and write what is on a sheet; where scripts
+                                           start, and who may know that they are run
        simp help COMMAND                   all that a command takes
        simp --version                      which tool, which logic, which library
 
@@ -46,12 +47,15 @@ const USAGES: [(&str, &str); 6] = [
     ),
     ("show", "usage: simp show SHEET MEMORY --to LIST [--names FILE] [--plain | --json]\n"),
     ("readers", "usage: simp readers SHEET [LABEL] [--names FILE] [--json]\n"),
-    ("explain", "usage: simp explain SHEET [--names FILE] [--json]\n"),
+    ("explain", "usage: simp explain SHEET [SCRIPTS] [--names FILE] [--json]\n"),
 ];
 
 const CHECK: &str = "
 Says of each script on a line of its own that it is accepted, or in which line what is wrong, by
 which rule and what to do. Then come the sums. If the sheet itself is refused, no script is checked.
+
+A script may open with a line `b label`: it starts at that label, and assigns only to locations
+whose readers may read it and that its writers may have written. Without `b` it starts at bottom.
 ";
 
 const CHECK_JSON: &str = r#"
@@ -85,10 +89,11 @@ const RUN_JSON: &str = r#"
 
 const ROUND: &str = "
 SCRIPTS has 1 to 32 scripts, and every empty line parts two: none stands at the start or the end.
-Checks them all, then runs them in order, each on the memory that the one before left. Prints of
-each where it starts and that it is done, or where and why it stopped; then each location, and *
-marks what the round changed. A script that stops (9 or 10) changes nothing, and the round goes on.
-If one is refused, none is run. Scripts are counted from 1, and lines from the file's first.
+Each may open with a line `b label` of its own. Checks them all, then runs them in order, each on
+the memory that the one before left. Prints of each where it starts and that it is done, or where
+and why it stopped; then each location, and * marks what the round changed. A script that stops (9
+or 10) changes nothing, and the round goes on. If one is refused, none is run. Scripts are counted
+from 1, and lines from the file's first.
 
   --as LIST      the authority: numbers or names of principals, parted by commas; '' is nobody
   --budget N     the most steps of each script, 0 to 4294967295; a large one can take hours
@@ -139,6 +144,10 @@ const READERS_JSON: &str = r#"
 
 const EXPLAIN: &str = "
 Prints the principals, types, labels and locations of a sheet, and who may read and write what.
+
+With SCRIPTS, a file of one script or of a round, it prints of each script instead at which label it
+starts, and who reads that: the label that a line `b label` at its start names, else bottom, which
+everyone reads. A group that can't read it is shown no difference when the script is run.
 ";
 
 const EXPLAIN_JSON: &str = r#"
@@ -149,7 +158,13 @@ const EXPLAIN_JSON: &str = r#"
                                 "owners": [{"owner": 0, "readers": [0], "writers": [0, 1]}]}],
                     "locations": [{"location": 0, "name", "type": 0, "label": 0, "read", "write"}]}
                  a sheet that is refused has "blamed", "line", "fact", "advice" and "rule", and
-                 nothing stands beside it
+                 nothing stands beside it. With SCRIPTS it is
+                   {"sheet": {"name", "answer", "accepted"},
+                    "scripts": {"name", "answer", "accepted"},
+                    "starts": [{"script": 1, "first_line": 1, "label": 0, "name", "read", "write"}]}
+                 without `b` a script has "label" and "name" null; scripts that are refused have
+                 "script" (null where no script is at fault), "blamed", "line", "fact", "advice" and
+                 "rule" too, and no starts
 "#;
 
 /// All that is said of a command, or of the tool.

@@ -7,9 +7,10 @@ use crate::message::{Blamed, Message};
 use crate::names::Names;
 use crate::opening::{self, Named};
 use crate::refusal::Refusal;
-use crate::status::Stop;
+use crate::status::{Status, Stop};
 use crate::streams::Streams;
 use reference::sheet::Sheet;
+use std::ffi::OsStr;
 
 /// The files.
 pub struct Texts<'a> {
@@ -48,6 +49,16 @@ impl Texts<'_> {
         let (sheet, script) = (&self.sheet.text.bytes, &self.script.bytes);
         Asked { sheet, script, authority, budget }
     }
+}
+
+/// That the text of several scripts was read whole. A longer one isn't judged by its start, which
+/// may have another number: 4, where the whole has too many scripts.
+pub fn require_whole(name: &OsStr, scripts: &Text) -> Result<(), Stop> {
+    if !scripts.is_cut() {
+        return Ok(());
+    }
+    let what = "it has 1 MiB or more, and 32 scripts have less: name a file of scripts";
+    Err(Stop::new(Status::Files, format!("simp: {}: {what}", shown(name))))
 }
 
 /// What is asked, in words.

@@ -70,15 +70,22 @@ fn told(
 
 /// What is told of why a call is refused. `sheet` is there where it isn't the sheet that is refused.
 pub fn message(reason: &Reason, sheet: Option<&Sheet>, names: &Names) -> Message {
+    message_from(1, reason, sheet, names)
+}
+
+/// The same of a script whose first line is the line `first` of its file.
+fn message_from(first: usize, reason: &Reason, sheet: Option<&Sheet>, names: &Names) -> Message {
     let words = || Words { sheet: sheet.expect("the sheet isn't what is refused"), names };
     let (blamed, line, told) = match reason {
-        Reason::Sheet(fault) => (Blamed::Sheet, fault.line, text::form(text::Text::Sheet, fault)),
+        Reason::Sheet(fault) => {
+            (Blamed::Sheet, fault.line, text::form(text::Text::Sheet, fault, first))
+        }
         Reason::Repeats { line, repeat } => (Blamed::Sheet, *line, repeats(*repeat, names)),
         Reason::Principal { principal, count } => {
             (Blamed::Argument, 0, stranger(*principal, *count))
         }
         Reason::Script(fault) => {
-            (Blamed::Script, fault.line, text::form(text::Text::Script, fault))
+            (Blamed::Script, fault.line, text::form(text::Text::Script, fault, first))
         }
         Reason::Types(fault) => (Blamed::Script, fault.line, types::told_of(&words(), fault)),
         Reason::Labels(fault) => (Blamed::Script, fault.line, flow::told_of(&words(), fault)),
@@ -101,7 +108,7 @@ pub fn message(reason: &Reason, sheet: Option<&Sheet>, names: &Names) -> Message
 
 /// What is told of a memory text that isn't of its form.
 pub fn memory_fault(fault: &Fault) -> Message {
-    finished(8, Blamed::Memory, fault.line, text::form(text::Text::Memory, fault))
+    finished(8, Blamed::Memory, fault.line, text::form(text::Text::Memory, fault, 1))
 }
 
 /// What is told of a run whose budget was used up, where no line is known.

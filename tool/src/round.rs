@@ -2,7 +2,7 @@
 
 use crate::args::{Form, Run};
 use crate::calls::{Calls, Ran};
-use crate::files::{self, shown, Text};
+use crate::files::{self, shown};
 use crate::inputs::{self, blamed, Inputs};
 use crate::json::{opened, Fields, Json};
 use crate::left::{kept, Left};
@@ -19,7 +19,7 @@ use reference::Reason;
 
 pub fn round(request: &Run, calls: &Calls, streams: &mut Streams) -> Result<Status, Stop> {
     let texts = inputs::read(request, streams)?;
-    require_whole(request, &texts.script)?;
+    inputs::require_whole(&request.script, &texts.script)?;
     let Inputs { names, authority, sheet } = texts.open(request, calls)?;
     let sheet = match sheet {
         Ok(sheet) => sheet,
@@ -43,17 +43,6 @@ pub fn round(request: &Run, calls: &Calls, streams: &mut Streams) -> Result<Stat
             refused(request, &refusal, lent.memory(), streams)
         }
     }
-}
-
-/// A longer text isn't judged by its start, which may have another number: 4, where the whole has
-/// too many scripts.
-fn require_whole(request: &Run, scripts: &Text) -> Result<(), Stop> {
-    if !scripts.is_cut() {
-        return Ok(());
-    }
-    let name = shown(&request.script);
-    let what = "it has 1 MiB or more, and 32 scripts have less: name a file of scripts";
-    Err(Stop::new(Status::Files, format!("simp: {name}: {what}")))
 }
 
 /// What is asked, and what it is told by.

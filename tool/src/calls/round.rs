@@ -6,7 +6,9 @@ use super::{
 };
 use bindings::SCRIPTS;
 use reference::machine::Stopped;
-use reference::round::Refused;
+use reference::round::{accepted_scripts, Refused};
+use reference::script::Script;
+use reference::sheet::Sheet;
 use reference::Reason;
 
 /// How each script of a round ended, in order, or why the round is refused.
@@ -36,6 +38,26 @@ impl Calls {
             Err(stopped) => Ran::Refused(Reason::Stopped(stopped)),
         };
         Ok(told.map(|runs| runs.into_iter().map(ran).collect()))
+    }
+
+    /// The scripts of a round, or why they are refused: the round of them without a memory, which
+    /// is refused by its size only after all of them are accepted.
+    pub fn scripts(
+        &self,
+        sheet: (&[u8], &Sheet),
+        script: &[u8],
+    ) -> Result<Result<Vec<Script>, Refused>, Disagreement> {
+        let (text, sheet) = sheet;
+        let asked = Asked { sheet: text, script, authority: 0, budget: 0 };
+        match self.round(asked, &mut [])? {
+            Ok(_) | Err(Refused { reason: Reason::SliceLength { .. }, .. }) => {
+                let differs = |refused: Refused| {
+                    disagreement(0, answered(0), answered(refused.reason.number()))
+                };
+                accepted_scripts(sheet, script).map(Ok).map_err(differs)
+            }
+            Err(refused) => Ok(Err(refused)),
+        }
     }
 
     /// A long round, of which the reference says only that nothing refuses it and how many scripts

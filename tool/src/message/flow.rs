@@ -4,6 +4,7 @@ use super::{told, Told};
 use crate::words::{Right, Words};
 use reference::flow::{Into, NoFlow, Origin, Source, Through};
 use reference::label::Label;
+use reference::sheet::LocationId;
 
 pub fn told_of(words: &Words, fault: &NoFlow) -> Told {
     let target = match fault.into {
@@ -105,6 +106,13 @@ impl Flow<'_> {
             (Through::Guard(line), _) => {
                 format!("whether this line is reached is decided in line {line} by {origin}")
             }
+            (Through::Start, _) => {
+                let link = match self.right {
+                    Right::Read => "it would tell that the script was run",
+                    Right::Write => "whoever had the script run would have written it",
+                };
+                format!("{link}, and the script starts at {origin}")
+            }
             (_, Into::Location(_)) => format!("the value comes from {origin}"),
             (_, Into::Package(_)) => format!("what is packed comes from {origin}"),
             (_, Into::Opened(_)) => format!("the package comes from {origin}"),
@@ -126,6 +134,9 @@ impl Flow<'_> {
             Origin::Opened(label) => {
                 format!("what is opened as {} in line {line}", self.words.label(*label))
             }
+            Origin::Start(label) => {
+                return noted(self.words.label(*label), &format!("`b` in line {line}"));
+            }
         };
         bound.map_or(made.clone(), |bound| format!("{made} ({bound})"))
     }
@@ -138,16 +149,10 @@ impl Flow<'_> {
             };
             return format!("move it out of the `c` or `w`, or assign to a location {to}");
         }
-        let location = match (self.right, owner) {
-            (Right::Read, None) => "that no one else may read".to_string(),
-            (Right::Write, None) => "that they may have written too".to_string(),
-            (Right::Read, Some(owner)) => {
-                format!("on whose label owner {owner} lets no one else read")
-            }
-            (Right::Write, Some(owner)) => {
-                format!("on whose label owner {owner} lets them have written too")
-            }
-        };
+        if let (Through::Start, Into::Location(assigned)) = (self.fault.through, self.fault.into) {
+            return self.advice_on_start(assigned, owner);
+        }
+        let location = self.other_location(owner);
         let label = match (self.right, owner) {
             (Right::Read, None) => "that lets no one else read".to_string(),
             (Right::Write, None) => "whose writers include them".to_string(),
@@ -166,8 +171,41 @@ impl Flow<'_> {
         }
     }
 
+    /// The location's own label would do, where its readers may know of the run, or where its
+    /// writers alone have the script run.
+    fn advice_on_start(&self, assigned: LocationId, owner: Option<&str>) -> String {
+        let own = self.words.label(self.words.sheet.locations[assigned].label);
+        let may = match self.right {
+            Right::Read => "its readers may know that the script is run",
+            Right::Write => "no one but its writers has the script run",
+        };
+        let location = self.other_location(owner);
+        format!("assign to a location {location}, or start at the location's own {own} if {may}")
+    }
+
+    /// Which other location may be assigned to.
+    fn other_location(&self, owner: Option<&str>) -> String {
+        match (self.right, owner) {
+            (Right::Read, None) => "that no one else may read".to_string(),
+            (Right::Write, None) => "that they may have written too".to_string(),
+            (Right::Read, Some(owner)) => {
+                format!("on whose label owner {owner} lets no one else read")
+            }
+            (Right::Write, Some(owner)) => {
+                format!("on whose label owner {owner} lets them have written too")
+            }
+        }
+    }
+
     fn rule(&self, each: &str) -> String {
         let rule = match (self.fault.into, self.right) {
+            (Into::Location(_), Right::Read) if self.fault.through == Through::Start => {
+                "who may read a location may read the label that a script assigning to it starts at"
+            }
+            (Into::Location(_), Right::Write) if self.fault.through == Through::Start => {
+                "who may have written the label that a script starts at may have written each \
+                 location that it assigns to"
+            }
             (Into::Location(_), Right::Read) => {
                 "who may read a location may read all that is assigned to it or decides whether"
             }
@@ -217,14 +255,14 @@ mod tests {
         read_sheet(format!("P\t3\n{first}{second}X\t0\t0\nX\t0\t1\n").as_bytes()).ok()
     }
 
-    fn flow_of(sheet: &Sheet, into: Into) -> NoFlow {
-        let source = Source {
-            line: 2,
-            origin: Origin::Location(0),
-            label: sheet.labels[0].clone(),
-            bound_in: None,
+    /// From label 0, which a location has or the script starts at, to location 1.
+    fn flow_of(sheet: &Sheet, through: Through) -> NoFlow {
+        let origin = match through {
+            Through::Start => Origin::Start(0),
+            _ => Origin::Location(0),
         };
-        NoFlow { line: 1, into, source, through: Through::Value }
+        let source = Source { line: 2, origin, label: sheet.labels[0].clone(), bound_in: None };
+        NoFlow { line: 3, into: Into::Location(1), source, through }
     }
 
     /// Whether some group may read the second label and not the first; or, of writing, the other way
@@ -252,10 +290,10 @@ mod tests {
             if source.at_or_below(target) {
                 continue;
             }
-            let into = Into::Location(1);
             let words = Words { sheet: &sheet, names: &names };
-            let fault = flow_of(&sheet, into);
-            let (right, owner) = broken(into, source, target);
+            let through = [Through::Value, Through::Start][seed as usize % 2];
+            let fault = flow_of(&sheet, through);
+            let (right, owner) = broken(fault.into, source, target);
             let flow = Flow { words: &words, fault: &fault, right, target, source };
             assert_eq!(flow.shows(), some_group_shows(&sheet, right), "{seed}");
             let fact = told_of(&words, &fault).fact;

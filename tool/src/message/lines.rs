@@ -6,28 +6,46 @@ use reference::text::{Expected, Operand, Sort};
 
 /// Each kind of line with its fields.
 const SHEET: &[&str] = &["P n", "T a b", "L", "O owner readers writers", "X type label"];
+const OPENINGS: &[&str] = &["b label"];
 const COMMANDS: &[&str] = &["s", ";", "= loc", "w", "c"];
 const EXPRESSIONS: &[&str] = &["i n", "x loc", "v d", "+", "l t", "r t", "k label", "u t label"];
 
 pub const ORDER: &str =
     "a sheet is `P n`, then `T` lines, labels (`L` and its `O` lines) and `X` lines";
 pub const PREFIX: &str = "a script is one command, the operands of each line following it";
+pub const OPENED: &str = "a script is one command, which a line `b label` may open";
 
-/// A line whose first field can't stand there.
-pub fn misplaced(found: &[u8], expected: &Expected) -> Told {
+/// A line whose first field can't stand there. `opens` is whether it is the first of its text.
+pub fn misplaced(found: &[u8], expected: &Expected, opens: bool) -> Told {
     match expected {
         Expected::Sheet(kinds) => told(stands(found, SHEET), sheet_advice(found, kinds), ORDER),
+        Expected::Script if opens => told(
+            format!("{}, and a script starts with `b label` or a command", stands(found, &[])),
+            nearly(found, OPENINGS).unwrap_or_else(|| {
+                format!("start it with {}; `b label` may stand before it", kinds(COMMANDS))
+            }),
+            OPENED,
+        ),
         Expected::Script => told(
-            format!("{}, and a script starts with a command", stands(found, &[])),
-            nearly(found).unwrap_or_else(|| format!("start it with {}", kinds(COMMANDS))),
-            PREFIX,
+            format!("{}, and the command is due here, after `b`", stands(found, &[])),
+            due(found, Sort::Command),
+            OPENED,
         ),
         Expected::Operand(operand) => told(
             format!("{}, and {} is due here", stands(found, &[]), role(*operand)),
-            nearly(found).unwrap_or_else(|| format!("write {}", of_sort(operand.sort))),
+            due(found, operand.sort),
             PREFIX,
         ),
     }
+}
+
+/// What to write where a command or an expression is due.
+fn due(found: &[u8], sort: Sort) -> String {
+    let due = || format!("write {}", of_sort(sort));
+    if nearly(found, OPENINGS).is_some() && nearly(found, &[]).is_none() {
+        return format!("{}; `b label` can only be the first line of a script", due());
+    }
+    nearly(found, &[]).unwrap_or_else(due)
 }
 
 /// A script that ends before an operand.
@@ -55,6 +73,35 @@ pub fn left_over(line: usize) -> Told {
     )
 }
 
+/// A `b` line that isn't the first of its script.
+pub fn late_start(line: usize, first: usize, again: bool, ended: bool) -> Told {
+    let fact = match (ended, again) {
+        (true, _) => format!("the command ends in line {}, and `b` opens a script", line - 1),
+        (false, true) => format!("the script opens with `b` in line {first}, and here is another"),
+        (false, false) => {
+            format!("`b` stands inside the command, which starts in line {first}")
+        }
+    };
+    let moved = moved_start(line, first, again);
+    let advice = match ended {
+        true => format!(
+            "{moved}; or put an empty line before it and give the file to `simp round` if another \
+             script starts there"
+        ),
+        false => moved,
+    };
+    told(fact, advice, "only the first line of a script may be `b label`")
+}
+
+/// What to do with a `b` line that belongs to the script that it stands in.
+pub fn moved_start(line: usize, first: usize, again: bool) -> String {
+    match again {
+        true if line == first + 1 => "take one of the two out".to_string(),
+        true => format!("take it out: the `b` in line {first} says where the script starts"),
+        false => format!("move it up, before line {first}"),
+    }
+}
+
 /// What to do with a line of a sheet that can't stand where only these kinds may.
 fn sheet_advice(found: &[u8], kinds: &[&str]) -> String {
     match found {
@@ -63,7 +110,7 @@ fn sheet_advice(found: &[u8], kinds: &[&str]) -> String {
         b"L" => "move it up, before the first `X`".to_string(),
         b"O" => "put it after the `L` of its label".to_string(),
         _ => {
-            let forms = kinds.iter().map(|kind| form_of(&format!("`{kind}`")));
+            let forms = kinds.iter().map(|kind| form_of(kind.as_bytes()));
             format!("put {} here", either(&forms.collect::<Vec<_>>()))
         }
     }
@@ -85,9 +132,10 @@ fn stands(found: &[u8], sheet: &[&str]) -> String {
 }
 
 /// For a kind of line that was written in upper case, or without the tab after it.
-fn nearly(found: &[u8]) -> Option<String> {
+fn nearly(found: &[u8], openings: &[&str]) -> Option<String> {
     let known = |kind: &[u8]| {
-        COMMANDS.iter().chain(EXPRESSIONS).any(|form| first_field(form).as_bytes() == kind)
+        let mut forms = openings.iter().chain(COMMANDS).chain(EXPRESSIONS);
+        forms.any(|form| first_field(form).as_bytes() == kind)
     };
     let lower = found.to_ascii_lowercase();
     let (kind, rest) = found.split_at(found.len().min(1));
@@ -127,11 +175,10 @@ fn role(operand: Operand) -> String {
 }
 
 /// The kind of line with its fields, in quotes.
-pub fn form_of(kind: &str) -> String {
-    let bare = kind.trim_matches('`');
-    let all = SHEET.iter().chain(COMMANDS).chain(EXPRESSIONS);
-    let known = all.copied().find(|form| first_field(form) == bare);
-    format!("`{}`", known.unwrap_or(bare))
+pub fn form_of(kind: &[u8]) -> String {
+    let mut all = SHEET.iter().chain(OPENINGS).chain(COMMANDS).chain(EXPRESSIONS);
+    let known = all.find(|form| first_field(form).as_bytes() == kind);
+    known.map_or_else(|| shown(kind), |form| format!("`{form}`"))
 }
 
 fn first_field(form: &str) -> &str {

@@ -1,16 +1,17 @@
 //! What is told of a script among others in a file: which it is, by the file's lines.
 
-use super::lines::{added, starts_expression};
+use super::lines::{added, moved_start, starts_expression};
 use super::shift::shifted;
-use super::{message, told, Message, Told};
+use super::{message, message_from, told, Message, Told};
 use crate::names::Names;
 use reference::round_text::{parts, Part};
 use reference::sheet::Sheet;
-use reference::text::{Cause, Fault, Operand};
+use reference::text::{Cause, Fault};
 use reference::{Reason, SCRIPTS};
 use std::fmt;
 
 const PARTED: &str = "every empty line parts two scripts, and none of them is empty";
+const PARTING: &str = "put an empty line before it if another script starts there";
 
 /// Which script of how many, counted from 1.
 #[derive(Clone, Copy, Debug, PartialEq, Eq)]
@@ -47,8 +48,9 @@ impl<'a> Scripts<'a> {
 
     /// What is told of the script in a place. The reason's lines are counted from its first.
     pub fn message(&self, place: usize, reason: Reason, sheet: &Sheet, names: &Names) -> Message {
-        let reason = shifted(reason, self.first_line(place) - 1);
-        let mut message = message(&reason, Some(sheet), names);
+        let first = self.first_line(place);
+        let reason = shifted(reason, first - 1);
+        let mut message = message_from(first, &reason, Some(sheet), names);
         message.script = Some(self.which(place));
         if let Reason::Script(fault) = &reason {
             self.amend(&mut message, place, fault);
@@ -79,24 +81,31 @@ impl<'a> Scripts<'a> {
                 message.rule = PARTED.to_string();
             }
             Cause::LeftOver if !starts_expression(self.line(fault.line)) => {
-                let parting = "put an empty line before it if another script starts there";
-                message.advice = format!("{parting}; or {}", message.advice);
+                message.advice = format!("{PARTING}; or {}", message.advice);
+            }
+            Cause::LateStart { again, ended: true } => {
+                let moved = moved_start(fault.line, self.first_line(place), again);
+                message.advice = format!("{PARTING}; or {moved}");
             }
             Cause::Ends(operand) if place + 1 < self.parts.len() => {
-                message.advice = self.mended(place, operand);
+                let last = self.first_line(place + 1) - 2;
+                let advice = added(&format!("after line {last}"), operand);
+                message.advice = self.or_joined(place, advice);
+            }
+            Cause::NoCommand if place + 1 < self.parts.len() => {
+                message.advice = self.or_joined(place, message.advice.clone());
             }
             _ => {}
         }
     }
 
-    /// What to do where a script ends before an operand and another follows.
-    fn mended(&self, place: usize, operand: Operand) -> String {
+    /// What to do where a script ends too early and another follows, which may be the rest of it.
+    fn or_joined(&self, place: usize, advice: String) -> String {
         let next = self.parts[place + 1];
-        let parting = next.first_line - 1;
-        let advice = added(&format!("after line {}", parting - 1), operand);
         if next.text.is_empty() {
             return advice;
         }
+        let parting = next.first_line - 1;
         format!(
             "{advice}; or take out line {parting}, which is empty, if the script goes on after it"
         )

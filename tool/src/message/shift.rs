@@ -59,6 +59,8 @@ fn in_cause(cause: Cause, before: usize) -> Cause {
         | Cause::Missing { .. }
         | Cause::NoLines
         | Cause::LeftOver
+        | Cause::NoCommand
+        | Cause::LateStart { .. }
         | Cause::CaseDepth
         | Cause::EndingZero
         | Cause::Locations { .. }) => other,
@@ -86,7 +88,7 @@ fn in_flow(fault: NoFlow, before: usize) -> NoFlow {
     let bound_in = bound_in.map(|line| line + before);
     let through = match through {
         Through::Guard(line) => Through::Guard(line + before),
-        Through::Value => Through::Value,
+        through @ (Through::Value | Through::Start) => through,
     };
     let source = Source { line: source + before, origin, label, bound_in };
     NoFlow { line: line + before, into, source, through }

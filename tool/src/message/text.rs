@@ -1,6 +1,8 @@
 //! Texts that aren't of their form.
 
-use super::lines::{form_of, left_over, misplaced, missing_operand, ORDER, PREFIX};
+use super::lines::{
+    form_of, late_start, left_over, misplaced, missing_operand, OPENED, ORDER, PREFIX,
+};
 use super::number::{integer, number};
 use super::{told, Told};
 use reference::text::{Cause, Counted, Fault, Thing};
@@ -72,12 +74,15 @@ const NO_SHEET: Fixed =
     ["the sheet is empty", "start it with `P n`, n the number of principals", ORDER];
 const NO_SCRIPT: Fixed =
     ["the script is empty", "write a command, such as `s`, which does nothing", PREFIX];
+const NO_COMMAND: Fixed =
+    ["the script has no command after `b`", "write one, such as `s`, which does nothing", OPENED];
 
 fn fixed([fact, advice, rule]: Fixed) -> Told {
     told(fact, advice, rule)
 }
 
-pub fn form(text: Text, fault: &Fault) -> Told {
+/// `first` is the line of the file in which the text starts.
+pub fn form(text: Text, fault: &Fault, first: usize) -> Told {
     match &fault.cause {
         Cause::TextLength(bytes) => too_long(text, *bytes),
         Cause::ByteOrderMark => fixed(BYTE_ORDER_MARK),
@@ -90,7 +95,7 @@ pub fn form(text: Text, fault: &Fault) -> Told {
         Cause::EmptyLine => empty_line(text),
         Cause::NoLines if text == Text::Sheet => fixed(NO_SHEET),
         Cause::NoLines => fixed(NO_SCRIPT),
-        Cause::LineKind { found, expected } => misplaced(found, expected),
+        Cause::LineKind { found, expected } => misplaced(found, expected, fault.line == first),
         Cause::FieldCount { kind, wanted, found } => field_count(text, kind, *wanted, *found),
         Cause::Number(field) => number(field, text),
         Cause::Integer(field) => integer(field),
@@ -101,6 +106,8 @@ pub fn form(text: Text, fault: &Fault) -> Told {
         Cause::Missing { thing, number, count } => missing(*thing, *number, *count),
         Cause::Ends(operand) => missing_operand(*operand),
         Cause::LeftOver => left_over(fault.line),
+        Cause::NoCommand => fixed(NO_COMMAND),
+        Cause::LateStart { again, ended } => late_start(fault.line, first, *again, *ended),
         Cause::CaseDepth => fixed(CASE_DEPTH),
         Cause::EndingZero => fixed(ENDING_ZERO),
         Cause::Locations { found, wanted } => locations(*found, *wanted),
@@ -127,13 +134,21 @@ fn empty_line(text: Text) -> Told {
 }
 
 fn field_count(text: Text, kind: &[u8], wanted: usize, found: usize) -> Told {
-    let kind = shown(kind);
+    let advice = match (kind, found) {
+        (b"b", 0) => {
+            "write it as `b label`, or take it out: without it a script starts at bottom, which \
+             everyone reads"
+                .to_string()
+        }
+        (b"b", _) => "write it as `b label`: a script starts at one label".to_string(),
+        _ => format!("write it as {}", form_of(kind)),
+    };
     let rule = match text {
         Text::Sheet => "each kind of line has its own fields",
         _ => "each kind of line has its own fields, and its operands follow on lines of their own",
     };
-    let fact = format!("{kind} has {} after it, not {wanted}", counted(found, "field"));
-    told(fact, format!("write it as {}", form_of(&kind)), rule)
+    let fact = format!("{} has {} after it, not {wanted}", shown(kind), counted(found, "field"));
+    told(fact, advice, rule)
 }
 
 fn set(field: &[u8]) -> Told {
@@ -184,8 +199,9 @@ fn too_many(what: Counted, most: usize) -> Told {
         Counted::MemoryLines => "memory",
         Counted::Words => "line of a memory",
     };
+    let among = if what == Counted::ScriptLines { ", a `b` line among them" } else { "" };
     let fact = format!("this is more than {most} {things}");
-    told(fact, advice, format!("a {whole} has at most {most} {things}"))
+    told(fact, advice, format!("a {whole} has at most {most} {things}{among}"))
 }
 
 /// Numbers that name nothing.

@@ -333,6 +333,30 @@ fn a_reference_that_accepts_every_round() {
     is_loud(&err, "answer 6", "answer 0");
 }
 
+/// Scripts are explained by the verdict on a round of them.
+#[test]
+fn scripts_that_are_explained() {
+    let folder = desk("lying-scripts");
+    let library = Library { round: |_, _, _, _, _| ended(6, &[]), ..CALLS.library };
+    let accepts = Reference { round: |_, _, _, _, _| Ok(Vec::new()), ..CALLS.reference };
+    let both = Library { round: |_, _, _, _, _| ended(0, &[]), ..CALLS.library };
+    for (calls, script, says) in [
+        (lying(library), "pack.round", ["answer 6", "answer 7"]),
+        (Calls { reference: accepts, ..CALLS }, "leak.simp", ["answer 6", "answer 0"]),
+        (Calls { reference: accepts, library: both }, "leak.simp", ["answer 0", "answer 6"]),
+    ] {
+        for arguments in
+            [format!("explain a.sheet {script}"), format!("explain a.sheet {script} --json")]
+        {
+            let (status, out, err) = told(&folder, &calls, &arguments);
+            assert_eq!(status, 4, "{out}");
+            says_nothing_else(&arguments, &out);
+            is_loud(&err, says[0], says[1]);
+            assert!(err.contains("asked:     is every script of "), "{err}");
+        }
+    }
+}
+
 const LONG: &str = "round a.sheet stops.round a.memory --as=1 --budget=";
 
 /// Of a round of many steps the reference says only whether it may start, and its steps are held

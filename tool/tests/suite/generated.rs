@@ -6,12 +6,16 @@ use crate::tool::simp;
 use compare::generate::groups::groups_case;
 use compare::generate::program_input::sheet_and_scripts;
 use compare::generate::round::round_case;
+use reference::flow::{Into, Origin};
 use reference::memory_text;
 use reference::principals::Principals;
 use reference::round::Refused;
-use reference::MOST_GROUPS;
+use reference::round_text::Part;
+use reference::sheet::Sheet;
+use reference::{Reason, MOST_GROUPS};
 use simp::message::{message, Message, Scripts};
 use simp::names::Names;
+use simp::words::{Right, Words};
 use std::collections::{BTreeMap, BTreeSet};
 
 /// Each reason that the reference gives has the library's number, and can be told.
@@ -60,16 +64,22 @@ enum Differs {
     Empty,
     /// A line after its end may start another, where an empty line is missing.
     LeftOver,
+    /// The same of a `b` line. What is told of it alone says how the file becomes a round.
+    LateStart,
 }
 
 /// By the script, and what is told of it alone.
 fn differs(script: &[u8], alone: &Message) -> Differs {
     let mut lines = script.split(|&byte| byte == b'\n');
     let line = alone.line.and_then(|line| lines.nth(line - 1)).expect("a line of the script");
+    let kind = line.split(|&byte| byte == b'\t').next().unwrap_or_default();
+    let starts_expression = kind.len() == 1 && b"ixv+lrku".contains(&kind[0]);
     if line.iter().all(|byte| b" \t".contains(byte)) {
         Differs::Empty
-    } else if alone.fact.ends_with("left over") && !b"ixv+lrku".contains(&line[0]) {
+    } else if alone.fact.ends_with("left over") && !starts_expression {
         Differs::LeftOver
+    } else if alone.fact.ends_with("and `b` opens a script") {
+        Differs::LateStart
     } else {
         Differs::Lines
     }
@@ -102,7 +112,12 @@ fn lines_of_a_script_in_a_round_are_the_file_s() {
         }
     }
     assert_eq!(numbers.into_iter().collect::<Vec<u8>>(), [4, 5, 6]);
-    let enough = [(Differs::Lines, 4000), (Differs::Empty, 40), (Differs::LeftOver, 70)];
+    let enough = [
+        (Differs::Lines, 4000),
+        (Differs::Empty, 40),
+        (Differs::LeftOver, 70),
+        (Differs::LateStart, 70),
+    ];
     assert!(enough.iter().all(|(differs, least)| counts.get(differs) >= Some(least)), "{counts:?}");
 }
 
@@ -110,15 +125,114 @@ fn is_the_same_but_for(differs: Differs, told: Message, alone: Message, by: usiz
     assert_eq!(told.rule == alone.rule, differs != Differs::Empty, "{alone}\n{told}");
     let line = alone.line.map(|line| line + by);
     let (fact, advice) = (moved(&alone.fact, by), moved(&alone.advice, by));
+    let parting = "put an empty line before it if another script starts there; or ";
     assert_eq!(told.fact == fact, differs != Differs::Empty, "{alone}\n{told}");
     match differs {
         Differs::Lines => assert_eq!((told.line, told.advice), (line, advice)),
         Differs::LeftOver => {
-            let parting = "put an empty line before it if another script starts there; or ";
+            assert_eq!((told.line, told.advice), (line, format!("{parting}{advice}")));
+        }
+        Differs::LateStart => {
+            let end = "; or put an empty line before it and give the file to `simp round` if \
+                       another script starts there";
+            let advice = advice.strip_suffix(end).expect("how it becomes a round");
             assert_eq!((told.line, told.advice), (line, format!("{parting}{advice}")));
         }
         Differs::Empty => {}
     }
+}
+
+/// A script with another label in its `b` line, which is the first.
+fn started_at(script: &[u8], label: usize) -> Vec<u8> {
+    let end = script.iter().position(|&byte| byte == b'\n').expect("a first line");
+    [format!("b\t{label}").as_bytes(), &script[end..]].concat()
+}
+
+/// Where the start is the reason of a refusal, it is told with its label, and what is advised
+/// mends that line: with the location's own label the start isn't its fault.
+#[test]
+fn starts_are_told_and_can_be_mended() {
+    let (mut found, mut accepted) = (0, 0);
+    for seed in 40_000..43_000 {
+        let (text, scripts) = sheet_and_scripts(seed);
+        let Ok(sheet) = reference::calls::read_sheet(&text) else {
+            continue;
+        };
+        for script in &scripts {
+            let Err(reason @ Reason::Labels(fault)) = &reference::try_check(&text, script) else {
+                continue;
+            };
+            let (Origin::Start(start), Into::Location(location)) =
+                (fault.source.origin, fault.into)
+            else {
+                continue;
+            };
+            let told = message(reason, Some(&sheet), &Names::default());
+            let starts = format!("and the script starts at label {start} (`b` in line 1), which ");
+            assert!(told.fact.contains(&starts), "seed {seed}: {told}");
+            let own = sheet.locations[location].label;
+            let advised = format!(", or start at the location's own label {own} if ");
+            assert!(told.advice.contains(&advised), "seed {seed}: {told}");
+            let mended = started_at(script, own);
+            let again = reference::try_check(&text, &mended).err();
+            assert_eq!(bindings::check(&text, &mended), again.as_ref().map_or(0, Reason::number));
+            let line =
+                again.as_ref().map(|reason| message(reason, Some(&sheet), &Names::default()));
+            assert_ne!(line.and_then(|told| told.line), told.line, "seed {seed}: {told}");
+            found += 1;
+            accepted += usize::from(again.is_none());
+        }
+    }
+    assert!(found > 150 && accepted > 80, "{found} found, {accepted} accepted");
+}
+
+/// The starts that `--json` prints, by the scripts' first lines.
+fn starts(scripts: &[u8], sheet: &Sheet) -> Vec<String> {
+    let parts = reference::parts(scripts);
+    let words = Words { sheet, names: &Names::default() };
+    let start = |(place, part): (usize, &Part)| {
+        let first = part.text.split(|&byte| byte == b'\n').next().unwrap_or_default();
+        let label = first.strip_prefix(b"b\t").map(|label| String::from_utf8_lossy(label));
+        let number = label.and_then(|label| label.parse::<usize>().ok());
+        let label = number.map_or("null".to_string(), |label| label.to_string());
+        let read = number
+            .map_or("everyone".to_string(), |label| words.who(Right::Read, &sheet.labels[label]));
+        let (script, first_line) = (place + 1, part.first_line);
+        let at = format!(r#""first_line":{first_line},"label":{label},"name":null"#);
+        format!(r#"{{"script":{script},{at},"read":"{read}","write":"#)
+    };
+    parts.iter().enumerate().map(start).collect()
+}
+
+#[test]
+fn the_tool_s_starts_are_the_scripts() {
+    let folder = Folder::new("generated-starts");
+    let (mut numbers, mut started) = (BTreeSet::new(), 0);
+    for seed in 50_000..50_400 {
+        let case = round_case(seed);
+        folder.write("sheet", &case.sheet);
+        folder.write("scripts", &case.scripts);
+        let ran = simp(&folder, &["explain", "sheet", "scripts", "--json"]);
+        // without a memory what isn't refused for the scripts is 7
+        let answer = match bindings::round(&case.sheet, &case.scripts, &mut [], 0, 0).answer {
+            7 => 0,
+            answer => answer,
+        };
+        assert_eq!((ran.status, ran.err.as_str()), (i32::from(answer != 0), ""), "seed {seed}");
+        let blamed = if [1, 2].contains(&answer) { "sheet" } else { "scripts" };
+        let verdict = format!(r#""{blamed}":{{"name":"{blamed}","answer":{answer},"accepted":"#);
+        assert!(ran.out.contains(&verdict), "seed {seed}: {}", ran.out);
+        numbers.insert(answer);
+        if answer == 0 {
+            let sheet = reference::calls::read_sheet(&case.sheet).expect("a sheet");
+            let starts = starts(&case.scripts, &sheet);
+            assert_eq!(ran.out.matches(r#"{"script":"#).count(), starts.len(), "seed {seed}");
+            assert!(starts.iter().all(|start| ran.out.contains(start)), "{starts:?} {}", ran.out);
+            started += starts.iter().filter(|start| !start.contains("null,\"name\"")).count();
+        }
+    }
+    assert_eq!(numbers.into_iter().collect::<Vec<u8>>(), [0, 1, 2, 4, 5, 6, 11]);
+    assert!(started > 100, "{started}");
 }
 
 /// Each refusal of a round has the library's number and is told with a line of the file.

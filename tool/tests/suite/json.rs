@@ -382,12 +382,13 @@ fn explanations() {
 #[test]
 fn what_cannot_be_read() {
     let folder = desk("json-unread");
-    let calls: [&[&str]; 6] = [
+    let calls: [&[&str]; 7] = [
         &["run", "a.sheet", "no.simp", "a.memory", "--as=0", "--budget=1", "--json"],
         &["round", "a.sheet", "no.round", "a.memory", "--as=0", "--budget=1", "--json"],
         &["show", "no.sheet", "a.memory", "--to=0", "--json"],
         &["readers", "no.sheet", "0", "--json"],
         &["explain", "no.sheet", "--json"],
+        &["explain", "a.sheet", "no.simp", "--json"],
         &["check", "a.sheet", "copy.simp", "--names=no.names", "--json"],
     ];
     for arguments in calls {

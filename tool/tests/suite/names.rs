@@ -63,6 +63,7 @@ fn names_that_are_not_of_their_form() {
             &["show", "a.sheet", "a.memory", "--to=0"],
             &["readers", "a.sheet", "0"],
             &["explain", "a.sheet"],
+            &["explain", "a.sheet", "pack.round"],
         ] {
             let ran = simp(&folder, &[arguments, &["--names", "a.names"]].concat());
             assert_eq!((ran.status, ran.out.as_str()), (2, ""), "{text}");

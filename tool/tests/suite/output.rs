@@ -19,6 +19,8 @@ const CALLS: &[&[&str]] = &[
     &["readers", "a.sheet", "9"],
     &["readers", "a.sheet", "0", "--json"],
     &["explain", "a.sheet"],
+    &["explain", "a.sheet", "pack.round"],
+    &["explain", "a.sheet", "leak.simp", "--json"],
     &["--help"],
     &["help", "run"],
     &["--version"],

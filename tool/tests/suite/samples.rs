@@ -118,6 +118,47 @@ fn a_round_is_made_of_the_samples() {
     }
 }
 
+/// Each button's script is accepted in a round, and changes what its readers are shown alone.
+#[test]
+fn a_button_is_seen_by_who_reads_its_label() {
+    let scratch = crate::folder::Folder::new("buttons");
+    let path = scratch.as_ref().join("memory");
+    let memory = path.to_str().expect("a path in ASCII");
+    let read = |name: &str| fs::read(samples().join(name)).expect("a sample");
+    let round = read("buttons.round");
+    let parts: Vec<&[u8]> = reference::parts(&round).iter().map(|part| part.text).collect();
+    let shown = |party: &str| {
+        let view = ["show", "line.sheet", memory, "--names", "line.names", "--plain", "--to"];
+        at_samples(".", &[&view[..], &[party]].concat()).out
+    };
+    let parties = ["farm", "station", "feed", "maker", "service"];
+    for (script, authority, readers) in
+        [("keep.simp", "station", &["station"][..]), ("visit.simp", "", &["maker", "service"])]
+    {
+        assert!(parts.contains(&&read(script)[..]), "{script}");
+        scratch.write("memory", &read("morning.memory"));
+        let before = parties.map(shown);
+        let run = ["run", "line.sheet", script, memory, "--names", "line.names", "--write"];
+        let ran = at_samples(".", &[&run[..], &["--as", authority, "--budget", "1"]].concat());
+        assert_eq!(ran.status, 0, "{}{}", ran.out, ran.err);
+        for (party, before) in parties.iter().zip(before) {
+            assert_eq!(shown(party) != before, readers.contains(party), "{script}: {party}");
+        }
+    }
+}
+
+#[test]
+fn starts_are_explained() {
+    let ran = at_samples(".", &["explain", "line.sheet", "buttons.round", "--names", "line.names"]);
+    let rows = "   1  line 1  starts at label 3 (station only)  read: only station\n   \
+                2  line 5  starts at label 9 (service book)  read: only maker and service\n   \
+                3  line 9  starts at bottom, without `b`     read: everyone\n";
+    let meaning = "a group that can't read a script's starting label is shown no difference when \
+                   that script is run";
+    let out = format!("buttons.round: accepted\n\n3 scripts\n{rows}\n{meaning}\n");
+    assert_eq!((ran.status, ran.out, ran.err.as_str()), (0, out, ""));
+}
+
 #[test]
 fn names_stand_in_messages() {
     let ran = at_samples(".", &["check", "line.sheet", "bad/leak.simp", "--names", "line.names"]);

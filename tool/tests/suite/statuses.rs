@@ -242,7 +242,7 @@ fn misuse() {
         (&["run", "a.sheet", "copy.simp", "-", "--as=", "--budget=1", "--write"], "--write"),
         (&["show", "a.sheet", "a.memory"], "--to is missing"),
         (&["readers", "a.sheet", "0", "1"], "`1`"),
-        (&["explain", "a.sheet", "b.sheet"], "`b.sheet`"),
+        (&["explain", "a.sheet", "b.simp", "c.simp"], "`c.simp` is one file too many"),
     ] {
         misused(&simp(&folder, arguments), says);
     }

@@ -25,6 +25,7 @@ pub fn all() -> Vec<Workload> {
         lines(25),
         lines(51),
         lines(102),
+        started(51),
         long_numbers(),
         long_loop(4, 300),
         long_loop(6, 1468),
@@ -174,6 +175,13 @@ fn lines(sums: usize) -> Workload {
         outcome: Outcome::done(2 * sums as u32 + 1),
         again: Outcome::done(2 * sums as u32 + 1),
     }
+}
+
+/// The same behind a `b` line, with the label that every location has.
+fn started(sums: usize) -> Workload {
+    let plain = lines(sums);
+    let (name, script) = (format!("b-{}", plain.name), format!("b\t0\n{}", plain.script));
+    Workload { name, script, ..plain }
 }
 
 /// A sum of 256 numbers of ten digits: 512 lines, as long to read as they come.

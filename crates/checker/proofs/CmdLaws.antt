@@ -8,11 +8,12 @@ use native.Mathlib.Omega.{arith}
 use lib.Dec.{ltb}
 use borrow.Author.Tests.{ltb-true}
 use lib.ListN.{length, drop}
-use Rattle.sets.specs.Sets.{union}
+use Rattle.sets.specs.Sets.{union, member}
 use Rattle.logic.specs.Booleans.{both}
 use Rattle.logic.proofs.BooleanLaws.{both-left, both-right}
 use Rattle.language.specs.Syntax.{Expr, Cmd, skip, seq, assign, while, case}
-use Rattle.language.specs.Typing.{flow}
+use Rattle.language.specs.Typing.{least, flow}
+use Rattle.language.specs.Trust.{keeps}
 use Rattle.script.specs.declared.Row.{Row}
 use Rattle.script.specs.Lines.{Line, cmdLines}
 use Rattle.script.specs.Internal.Code.{code, rowAt}
@@ -24,12 +25,15 @@ use Rattle.sheet.specs.Internal.TypeTest.{isSum}
 use Rattle.sheet.specs.Internal.Tables.{leftIn, rightIn, homeIn, labelIn}
 use Rattle.checker.specs.declared.Typed.{Typed}
 use Rattle.checker.specs.declared.Passed.{Passed}
-use Rattle.checker.specs.Internal.Numbers.{onSumNo, givenNo, shapeNo}
+use Rattle.checker.specs.Internal.Numbers.{onSumNo, givenNo, shapeNo, conditionsOn}
 use Rattle.checker.specs.Internal.Bindings.{bindingsSize, boundTypes, boundLabels, bindOf}
 use Rattle.checker.specs.Internal.Nodes.{refused, skipPassed, seqPassed, assignPassed, whilePassed, casePassed}
 use Rattle.checker.specs.Internal.Post.{Finds, Room, ChecksExpr, Kept, Passes, ChecksCmd}
 use Rattle.checker.proofs.BindingLaws.{kept-same, kept-twice, kept-fewer, bind-kept, bind-type, bind-label}
+use Rattle.members.specs.Internal.Members.{wholeFlows}
 use Rattle.members.proofs.MemberLaws.{union-below}
+use Rattle.members.proofs.FlowLaws.{first-alone}
+use Rattle.checker.proofs.HoldLaws.{both-hold, first-held, second-kept}
 use Rattle.checker.proofs.ExprLaws.{is-type}
 
 -- ---- what a node finds, from what its operands' nodes found
@@ -41,33 +45,44 @@ on-sum t false n k = refl
 
 module _ (t Γ : List ℕ) (pc : ℕ) (Δ : List ℕ) where
   pass-skip : (next : ℕ) → Passes t Γ pc Δ skip (skipPassed next)
-  unfolding shapeNo flow
-  pass-skip next = record { typed-is = refl; flow-is = refl }
+  unfolding shapeNo flow keeps member
+  pass-skip next = record { typed-is = refl; flow-is = refl; keeping-is = refl }
 
   pass-seq : {c d : Cmd} {x y : Passed} → Passes t Γ pc Δ c x → Passes t Γ pc Δ d y → Passes t Γ pc Δ (seq c d) (seqPassed x y)
-  unfolding seqPassed shapeNo flow
-  pass-seq p q = record { typed-is = rw (p .typed-is, q .typed-is); flow-is = rw (p .flow-is, q .flow-is) }
+  unfolding seqPassed shapeNo flow keeps
+  pass-seq p q = record {
+    typed-is = rw (p .typed-is, q .typed-is);
+    flow-is = both-hold 0 _ _ (p .flow-is) (q .flow-is);
+    keeping-is = both-hold 1 _ _ (p .keeping-is) (q .keeping-is);
+  }
 
   module _ {e : Expr} {x : Typed} (p : Finds t Γ Δ e x) where
     pass-assign : (n : ℕ) → Passes t Γ pc Δ (assign n e) (assignPassed t n pc x)
-    unfolding assignPassed shapeNo flow
-    pass-assign n = record { typed-is = rw (← p .type-is, is-type x _); flow-is = rw (union-below t (x .label) pc (labelIn t (homeIn t n)), p .flow-is, p .label-is) }
+    unfolding assignPassed shapeNo flow keeps wholeFlows
+    pass-assign n = record {
+      typed-is = rw (← p .type-is, is-type x _);
+      flow-is = rw (← union-below t (least (conditionsOn t) Δ e) pc (labelIn t (homeIn t n)), ← p .label-is)
+          (first-held (x .holds) _ (p .flow-is) (first-alone t (union (x .label) pc) (homeIn t n)));
+      keeping-is = second-kept (x .holds) _ (p .keeping-is);
+    }
 
     pass-while : {c : Cmd} {y : Passed} → Passes t Γ (union pc (x .label)) Δ c y → Passes t Γ pc Δ (while e c) (whilePassed x y)
-    unfolding whilePassed shapeNo flow
+    unfolding whilePassed shapeNo flow keeps
     pass-while {c} {y} q = record {
       typed-is = rw (← p .type-is, is-type x 3, q .typed-is);
-      flow-is = rw (q .flow-is, p .flow-is, p .label-is);
+      flow-is = rw (← p .label-is) (both-hold 0 _ _ (p .flow-is) (q .flow-is));
+      keeping-is = both-hold 1 _ _ (p .keeping-is) (q .keeping-is);
     }
 
     pass-case : {c d : Cmd} {y z : Passed}
         → Passes t (leftIn t (x .ty) ∷ Γ) (union pc (x .label)) (x .label ∷ Δ) c y
         → Passes t (rightIn t (x .ty) ∷ Γ) (union pc (x .label)) (x .label ∷ Δ) d z
         → Passes t Γ pc Δ (case e c d) (casePassed t x y z)
-    unfolding casePassed shapeNo flow
+    unfolding casePassed shapeNo flow keeps
     pass-case q r = record {
       typed-is = rw (← p .type-is, on-sum t (x .typed) (x .ty) _, q .typed-is, r .typed-is);
-      flow-is = rw (q .flow-is, r .flow-is, p .flow-is, p .label-is);
+      flow-is = rw (← p .label-is) (both-hold 0 _ _ (p .flow-is) (both-hold 0 _ _ (q .flow-is) (r .flow-is)));
+      keeping-is = rw (← p .label-is) (both-hold 1 _ _ (p .keeping-is) (both-hold 1 _ _ (q .keeping-is) (r .keeping-is)));
     }
 
 -- ---- the arms: the row at `at`, what the operands' checks ensure, and what the node gives
@@ -87,7 +102,11 @@ case-names k d e f g h =
 -- what is found over words is found over words that bind the same
 pass-kept : {t s s′ : List ℕ} {d : ℕ} {pc : ℕ} {c : Cmd} {x : Passed} → Kept s s′ d
     → Passes t (boundTypes s′ d) pc (boundLabels s′ d) c x → Passes t (boundTypes s d) pc (boundLabels s d) c x
-pass-kept k p = record { typed-is = rw (← k .types) (p .typed-is); flow-is = rw (← k .labels) (p .flow-is) }
+pass-kept k p = record {
+  typed-is = rw (← k .types) (p .typed-is);
+  flow-is = rw (← k .labels) (p .flow-is);
+  keeping-is = rw (← k .labels) (p .keeping-is);
+}
 
 -- what is found over words that bind one case more, where the cases below it are those of s
 pass-bound : (t : List ℕ) {s s′ s″ : List ℕ} (d n a : ℕ) {pc pc′ : ℕ} {c : Cmd} {x : Passed} → s″ ≡ bindOf s′ d n a → Kept s s′ d
@@ -96,7 +115,11 @@ pass-bound : (t : List ℕ) {s s′ s″ : List ℕ} (d n a : ℕ) {pc pc′ : �
 pass-bound t {s} {s′} d n a e k small h l lab p =
     let types = ap (λ (z : List ℕ). boundTypes z (d + 1)) e ∙ bind-type s′ d n a h l small ∙ ap (λ (z : List ℕ). n ∷ z) (k .types) in
     let labels = ap (λ (z : List ℕ). boundLabels z (d + 1)) e ∙ bind-label s′ d n a h l ∙ ap (λ (z : List ℕ). a ∷ z) (k .labels) in
-    record { typed-is = rw (← types) (p .typed-is); flow-is = rw (← labels, ← lab) (p .flow-is) }
+    record {
+      typed-is = rw (← types) (p .typed-is);
+      flow-is = rw (← labels, ← lab) (p .flow-is);
+      keeping-is = rw (← labels) (p .keeping-is);
+    }
 
 -- x is what is found of c, if its names are there, and rest stands after it
 abbrev Done : List ℕ → List ℕ → List ℕ → ℕ → ℕ → Counts → List Line → Passed → Cmd → Type 0

@@ -8,8 +8,10 @@ use native.Mathlib.Decide.{decLt}
 use lib.Dec.{eqb}
 use lib.ListN.{drop}
 use Rattle.logic.specs.Booleans.{both}
+use Rattle.sets.specs.Sets.{member}
 use Rattle.language.specs.Syntax.{int, Expr, val, loc, var, plus, left, right, pack, unpack}
 use Rattle.language.specs.Typing.{orElse, least, flowE}
+use Rattle.language.specs.Trust.{keepsE}
 use Rattle.script.specs.declared.Row.{Row}
 use Rattle.script.specs.Lines.{Line, exprLines}
 use Rattle.script.specs.Internal.Code.{code, rowAt}
@@ -17,11 +19,14 @@ use Rattle.script.specs.Internal.Pieces.{Sort, expression}
 use Rattle.script.proofs.Rows.{row-of, KindOf, not-here}
 use Rattle.script.proofs.Nodes.{Makes, Node, n-int, n-loc, n-var, n-plus, n-left, n-right, n-pack, n-unpack, OfOperands, of-operands}
 use Rattle.sheet.specs.Internal.Tables.{leftIn, rightIn}
+use Rattle.members.specs.Internal.Members.{wholeFlows, confidentialityFlows}
+use Rattle.members.proofs.FlowLaws.{first-alone, first-tells, second-tells}
 use Rattle.checker.specs.declared.Typed.{Typed}
 use Rattle.checker.specs.Internal.Numbers.{isNo, someNo, leftIsNo, rightIsNo, givenNo, typeNo}
 use Rattle.checker.specs.Internal.Bindings.{boundType, boundLabel, boundTypes, boundLabels}
 use Rattle.checker.specs.Internal.Nodes.{isType, nothing, intTyped, locTyped, varTyped, plusTyped, sumTyped, packTyped, unpackTyped}
 use Rattle.checker.specs.Internal.Post.{Finds, Room, ChecksExpr}
+use Rattle.checker.proofs.HoldLaws.{both-hold, first-held, second-kept}
 use Rattle.checker.proofs.BindingLaws.{nth-upTo, nth-past, var-in, var-past, var-next}
 
 -- ---- what a node finds, from what its operands' nodes found
@@ -44,49 +49,80 @@ some-type x = on (x .typed)
 
 module _ (t Γ Δ : List ℕ) where
   find-int : (n next : ℕ) → Finds t Γ Δ (val (int n)) (intTyped next)
-  unfolding intTyped typeNo least flowE givenNo
-  find-int n next = record { type-is = refl; label-is = refl; flow-is = refl }
+  unfolding intTyped typeNo least flowE keepsE givenNo member
+  find-int n next = record { type-is = refl; label-is = refl; flow-is = refl; keeping-is = refl }
 
   find-loc : (x next : ℕ) → Finds t Γ Δ (loc x) (locTyped t x next)
-  unfolding locTyped typeNo least flowE givenNo
-  find-loc x next = record { type-is = refl; label-is = refl; flow-is = refl }
+  unfolding locTyped typeNo least flowE keepsE givenNo member
+  find-loc x next = record { type-is = refl; label-is = refl; flow-is = refl; keeping-is = refl }
 
   module _ {e : Expr} {x : Typed} (p : Finds t Γ Δ e x) where
     find-plus : {f : Expr} {y : Typed} → Finds t Γ Δ f y → Finds t Γ Δ (plus e f) (plusTyped x y)
-    unfolding plusTyped typeNo least flowE
+    unfolding plusTyped typeNo least flowE keepsE
     find-plus {f} {y} q = record {
       type-is = rw (← p .type-is, ← q .type-is, is-type x 0, is-type y 0);
       label-is = rw (p .label-is, q .label-is);
-      flow-is = rw (p .flow-is, q .flow-is);
+      flow-is = both-hold 0 (x .holds) (y .holds) (p .flow-is) (q .flow-is);
+      keeping-is = both-hold 1 (x .holds) (y .holds) (p .keeping-is) (q .keeping-is);
     }
 
     find-left : (n : ℕ) → Finds t Γ Δ (left n e) (sumTyped t n (leftIn t n) x)
-    unfolding sumTyped typeNo leftIsNo least flowE
-    find-left n = record { type-is = rw (← p .type-is, is-type x (leftIn t n)); label-is = p .label-is; flow-is = p .flow-is }
+    unfolding sumTyped typeNo leftIsNo least flowE keepsE
+    find-left n = record {
+      type-is = rw (← p .type-is, is-type x (leftIn t n));
+      label-is = p .label-is;
+      flow-is = p .flow-is;
+      keeping-is = p .keeping-is;
+    }
 
     find-right : (n : ℕ) → Finds t Γ Δ (right n e) (sumTyped t n (rightIn t n) x)
-    unfolding sumTyped typeNo rightIsNo least flowE
-    find-right n = record { type-is = rw (← p .type-is, is-type x (rightIn t n)); label-is = p .label-is; flow-is = p .flow-is }
+    unfolding sumTyped typeNo rightIsNo least flowE keepsE
+    find-right n = record {
+      type-is = rw (← p .type-is, is-type x (rightIn t n));
+      label-is = p .label-is;
+      flow-is = p .flow-is;
+      keeping-is = p .keeping-is;
+    }
 
     find-pack : (l : ℕ) → Finds t Γ Δ (pack l e) (packTyped t l x)
-    unfolding packTyped typeNo least flowE
-    find-pack l = record { type-is = rw (← p .type-is, some-type x); label-is = refl; flow-is = rw (p .flow-is, p .label-is) }
+    unfolding packTyped typeNo least flowE keepsE wholeFlows
+    find-pack l = record {
+      type-is = rw (← p .type-is, some-type x);
+      label-is = refl;
+      flow-is = rw (← p .label-is) (first-held (x .holds) _ (p .flow-is) (first-alone t (x .label) l));
+      keeping-is = second-kept (x .holds) _ (p .keeping-is);
+    }
 
     find-unpack : (n l : ℕ) → Finds t Γ Δ (unpack n l e) (unpackTyped t n l x)
-    unfolding unpackTyped typeNo rightIsNo isNo least flowE
-    find-unpack n l = record { type-is = rw (← p .type-is, is-type x 2); label-is = refl; flow-is = rw (p .flow-is, p .label-is) }
+    unfolding unpackTyped typeNo rightIsNo isNo least flowE keepsE confidentialityFlows
+    find-unpack n l = record {
+      type-is = rw (← p .type-is, is-type x 2);
+      label-is = refl;
+      flow-is = rw (← p .label-is) (both-hold 0 (x .holds) _ (p .flow-is) (first-tells t (x .label) l));
+      keeping-is = rw (← p .label-is) (both-hold 1 (x .holds) _ (p .keeping-is) (second-tells t (x .label) l));
+    }
 
 find-var : (t s : List ℕ) (d i next : ℕ) → Room s d → Finds t (boundTypes s d) (boundLabels s d) (var i) (varTyped s d i next)
-unfolding typeNo least flowE givenNo orElse nothing
+unfolding typeNo least flowE keepsE givenNo orElse nothing member
 find-var t s d i next room = on (decLt i d)
   where
     on : Dec (i < d) → Finds t (boundTypes s d) (boundLabels s d) (var i) (varTyped s d i next)
     on (yes h) =
         rw (var-in s d i next h (room .0))
-        (record { type-is = sym (nth-upTo (boundType s) d i h); label-is = rw (nth-upTo (boundLabel s) d i h); flow-is = refl })
+        (record {
+          type-is = sym (nth-upTo (boundType s) d i h);
+          label-is = rw (nth-upTo (boundLabel s) d i h);
+          flow-is = refl;
+          keeping-is = refl;
+        })
     on (no h) =
         rw (var-past s d i next (omega arith))
-        (record { type-is = sym (nth-past (boundType s) d i (omega arith)); label-is = rw (nth-past (boundLabel s) d i (omega arith)); flow-is = refl })
+        (record {
+          type-is = sym (nth-past (boundType s) d i (omega arith));
+          label-is = rw (nth-past (boundLabel s) d i (omega arith));
+          flow-is = refl;
+          keeping-is = refl;
+        })
 
 -- ---- the arms: the row at `at`, what the operands' checks ensure, and what the node gives
 

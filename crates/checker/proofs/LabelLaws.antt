@@ -13,7 +13,9 @@ use Rattle.labels.proofs.PartLaws.{I-bottom}
 use Rattle.language.specs.Syntax.{Script}
 use Rattle.language.specs.Declarations.{startOf}
 use Rattle.language.specs.Typing.{conditions, flow}
+use Rattle.language.specs.Trust.{keeps, trustKeeping}
 use Rattle.language.proofs.Images.{Image, flow-image}
+use Rattle.language.proofs.Trust.{keeps-image}
 use Rattle.sheet.specs.Sheet.{Sheet, formed, labelCount, maxLabels}
 use Rattle.sheet.specs.Internal.Tables.{tableOf, everyoneIn, homeIn, labelIn}
 use Rattle.sheet.specs.Internal.Starts.{startNo}
@@ -23,8 +25,8 @@ use Rattle.sheet.proofs.Entries.{label-past}
 use Rattle.sheet.proofs.TableLaws.{everyone-in, home-in, labels-in}
 use Rattle.sheet.proofs.LabelLaws.{label-in, label-no-effective}
 use Rattle.sheet.proofs.MeaningLaws.{declared-label, declared-home}
-use Rattle.members.specs.Internal.Members.{labelMember, integrityMember, joinIn}
-use Rattle.checker.specs.Internal.Numbers.{conditionsIn, conditionsOn}
+use Rattle.members.specs.Internal.Members.{labelMember, integrityMember, joinIn, wholeFlows}
+use Rattle.checker.specs.Internal.Numbers.{conditionsIn, conditionsOn, belowOn}
 use Rattle.members.proofs.MemberLaws.{join-none, join-union, join-label, join-integrity}
 
 few-of : (s : Sheet) → formed s ≡ true → labelCount s ≤ maxLabels
@@ -104,3 +106,10 @@ module _ (s : Sheet) (fm : formed s ≡ true) where
       flow-image _ _ (λ a. a .raw) table-image (startLabel s p) [] c
       ∙ ap (λ (a : Label). flow (conditionsIn T) a [] c) (start-is (p .opening .start) ∙ sym (label-joined start))
       ∙ sym (flow-image _ _ (joinIn T) members-image (labelMember start) [] c)
+
+  -- whether each unpack's operand is at or below the wanted label, over the table
+  pub keeps-table : (p : Script) → trustKeeping (labelsOver (s .principals)) (declarationsOf s) p ≡ keeps (conditionsOn T) (belowOn T) [] (p .command)
+  unfolding trustKeeping wholeFlows
+  keeps-table p =
+      keeps-image _ _ (λ a. a .raw) table-image _ (λ l a. belowOf a (labelIn T l)) (λ l a. ap (belowOf (a .raw)) (label-is l)) [] (p .command)
+      ∙ sym (keeps-image _ _ (joinIn T) members-image (belowOn T) _ (λ l a. refl) [] (p .command))

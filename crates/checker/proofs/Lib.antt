@@ -1,4 +1,5 @@
 pub mod BindingLaws
+pub mod HoldLaws
 pub mod ExprLaws
 pub mod CmdLaws
 pub mod TypeLaws

@@ -2,6 +2,8 @@
 ghost use mathlib.Core.Path.{_≡_};
 ghost use Rattle.checker.specs.Internal.Nodes.{refused, skipPassed, seqPassed, assignPassed, whilePassed, casePassed};
 ghost use Rattle.checker.specs.Internal.Post.{ChecksCmd};
+use crate::ALL;
+use crate::KEEPING;
 use crate::Passed;
 use crate::Typed;
 use crate::bindings;
@@ -16,7 +18,7 @@ fn not_passed(next: usize) -> Passed
 {
     Passed {
         typed: false,
-        flow: true,
+        holds: ALL,
         next,
     }
 }
@@ -26,7 +28,7 @@ fn of_skip(next: usize) -> Passed
 {
     Passed {
         typed: true,
-        flow: true,
+        holds: ALL,
         next,
     }
 }
@@ -36,7 +38,7 @@ fn of_seq(x: Passed, y: Passed) -> Passed
 {
     Passed {
         typed: x.typed & y.typed,
-        flow: x.flow & y.flow,
+        holds: x.holds & y.holds,
         next: y.next,
     }
 }
@@ -45,7 +47,7 @@ fn of_seq(x: Passed, y: Passed) -> Passed
 fn of_assign(table: &[sheet::Word], x: u32, pc: Members, e: Typed) -> Passed
     ensures { λ r. ⌜ r ≡ assignPassed (now (table .entry)) x pc e ⌝ }
 {
-    let flow = members::flows(
+    let flows = members::flows(
         table,
         members::join(e.label, pc),
         sheet::location_label(table, x),
@@ -53,18 +55,18 @@ fn of_assign(table: &[sheet::Word], x: u32, pc: Members, e: Typed) -> Passed
     );
     Passed {
         typed: is_type(e, sheet::location_type(table, x)),
-        flow: e.flow & flow,
+        holds: e.holds & (flows | KEEPING),
         next: e.next,
     }
 }
 
-fn of_while(x: Typed, y: Passed) -> Passed
-    ensures { λ r. ⌜ r ≡ whilePassed x y ⌝ }
+fn of_while(guard: Typed, body: Passed) -> Passed
+    ensures { λ r. ⌜ r ≡ whilePassed guard body ⌝ }
 {
     Passed {
-        typed: is_type(x, INT_OR_INT) & y.typed,
-        flow: x.flow & y.flow,
-        next: y.next,
+        typed: is_type(guard, INT_OR_INT) & body.typed,
+        holds: guard.holds & body.holds,
+        next: body.next,
     }
 }
 
@@ -74,7 +76,7 @@ fn of_case(table: &[sheet::Word], x: Typed, y: Passed, z: Passed) -> Passed
     let typed = is_sum(table, x.ty) & (y.typed & z.typed);
     Passed {
         typed: x.typed & typed,
-        flow: x.flow & (y.flow & z.flow),
+        holds: x.holds & (y.holds & z.holds),
         next: z.next,
     }
 }

@@ -2,6 +2,8 @@
 ghost use mathlib.Core.Path.{_≡_};
 ghost use Rattle.checker.specs.Internal.Nodes.{isType, nothing, intTyped, locTyped, varTyped, plusTyped, sumTyped, packTyped, unpackTyped};
 ghost use Rattle.checker.specs.Internal.Post.{ChecksExpr};
+use crate::ALL;
+use crate::KEEPING;
 use crate::Typed;
 use crate::bindings;
 use sheet::ERROR;
@@ -23,7 +25,7 @@ fn no_type(next: usize) -> Typed
     Typed {
         ty: INT,
         typed: false,
-        flow: true,
+        holds: ALL,
         label: members::BOTTOM,
         next,
     }
@@ -35,7 +37,7 @@ fn of_int(next: usize) -> Typed
     Typed {
         ty: INT,
         typed: true,
-        flow: true,
+        holds: ALL,
         label: members::BOTTOM,
         next,
     }
@@ -47,7 +49,7 @@ fn of_location(table: &[sheet::Word], x: u32, next: usize) -> Typed
     Typed {
         ty: sheet::location_type(table, x),
         typed: true,
-        flow: true,
+        holds: ALL,
         label: members::label(sheet::location_label(table, x)),
         next,
     }
@@ -67,7 +69,7 @@ fn of_variable(bound: &[u64; bindings::BINDINGS], depth: usize, d: u32, next: us
     Typed {
         ty: (bound[at] % 4294967296) as u32,
         typed: true,
-        flow: true,
+        holds: ALL,
         label: bound[at + 1],
         next,
     }
@@ -79,7 +81,7 @@ fn of_plus(x: Typed, y: Typed) -> Typed
     Typed {
         ty: INT,
         typed: is_type(x, INT) & is_type(y, INT),
-        flow: x.flow & y.flow,
+        holds: x.holds & y.holds,
         label: members::join(x.label, y.label),
         next: y.next,
     }
@@ -92,7 +94,7 @@ fn of_sum(table: &[sheet::Word], ty: u32, part: u32, x: Typed) -> Typed
     Typed {
         ty,
         typed: is_sum(table, ty) & is_type(x, part),
-        flow: x.flow,
+        holds: x.holds,
         label: x.label,
         next: x.next,
     }
@@ -104,7 +106,7 @@ fn of_pack(table: &[sheet::Word], l: u32, x: Typed) -> Typed
     Typed {
         ty: PKG_OR_ERROR,
         typed: x.typed,
-        flow: x.flow & members::flows(table, x.label, l, true),
+        holds: x.holds & (members::flows(table, x.label, l, true) | KEEPING),
         label: members::integrity(l),
         next: x.next,
     }
@@ -117,7 +119,7 @@ fn of_unpack(table: &[sheet::Word], ty: u32, l: u32, x: Typed) -> Typed
     Typed {
         ty,
         typed: is_type(x, PKG) & or_error,
-        flow: x.flow & members::flows(table, x.label, l, false),
+        holds: x.holds & members::flows(table, x.label, l, false),
         label: members::label(l),
         next: x.next,
     }

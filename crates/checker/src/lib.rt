@@ -5,23 +5,31 @@ mod commands; // commands.rt: commands
 
 ghost use mathlib.Core.Path.{_≡_};
 ghost use Rattle.checker.specs.Verdict.{verdictNumber};
-ghost use Rattle.checker.specs.Internal.Post.{ChecksCode, verdictOf};
+ghost use Rattle.checker.specs.Internal.Post.{ChecksCode, KeepsCode, verdictOf};
 use members::Members;
 
-// What is found of an expression: its type, if it has one; whether its label conditions hold; its least label; and the word after
+// What holds of all lines that were checked, as a set: their label conditions, and what trust-keeping asks of each
+// unpack, an operand at or below the wanted label. It is one byte, since with two a frame of the recursion is larger.
+pub(crate) const FLOW: u8 = 1;
+
+pub(crate) const KEEPING: u8 = 2;
+
+pub(crate) const ALL: u8 = 3;
+
+// What is found of an expression: its type, if it has one; what holds of its lines; its least label; and the word after
 // its lines.
 pub(crate) struct Typed {
     pub(crate) ty: u32,
     pub(crate) typed: bool,
-    pub(crate) flow: bool,
+    pub(crate) holds: u8,
     pub(crate) label: Members,
     pub(crate) next: usize,
 }
 
-// What is found of a command: whether its types fit and its label conditions hold, and the word after its lines.
+// What is found of a command: whether its types fit; what holds of its lines; and the word after them.
 pub(crate) struct Passed {
     pub(crate) typed: bool,
-    pub(crate) flow: bool,
+    pub(crate) holds: u8,
     pub(crate) next: usize,
 }
 
@@ -32,14 +40,23 @@ pub enum Verdict {
     IllLabelled,
 }
 
+// A verdict, and whether the script is trust-keeping: each unpack's operand is at or below the wanted label.
+pub struct Finding {
+    pub verdict: Verdict,
+    pub keeping: bool,
+}
+
 // Checks a script's code against a sheet's table. `start`: the number of the label that it starts at; one that names
 // none is bottom's.
-pub fn check(code: &[u32], table: &[sheet::Word], start: u32) -> Verdict
-    ensures { λ r. ⌜ ChecksCode (now (code .entry)) (now (table .entry)) start (verdictNumber r) ⌝ }
+pub fn check(code: &[u32], table: &[sheet::Word], start: u32) -> Finding
+    ensures { λ r. ⌜ ChecksCode (now (code .entry)) (now (table .entry)) start (verdictNumber (r .verdict)) × KeepsCode (now (code .entry)) (now (table .entry)) (r .keeping) ⌝ }
 {
     let mut bound: [u64; bindings::BINDINGS] = [0; bindings::BINDINGS];
     let x = commands::check_cmd(code, 0, table, &mut bound, 0, members::label(start));
-    answer(x.typed, x.flow)
+    Finding {
+        verdict: answer(x.typed, (x.holds & FLOW) != 0),
+        keeping: (x.holds & KEEPING) != 0,
+    }
 }
 
 // By whether the types fit, and whether the label conditions hold.

@@ -19,6 +19,12 @@ unfolding readsOf
 reads-down n e g a b h r =
     every-true n _ (λ o l. meets-mono g (readersOf b o) (readersOf a o) (below-at a b h o (lt-of-lt-of-le l e) .0) (every-at n _ r o l))
 
+-- who writes a label writes every label above it
+pub writes-up : (n : ℕ) → n ≤ owners → (g : ℕ) (a b : Label) → belowOf a b ≡ true → writesOf n g a ≡ true → writesOf n g b ≡ true
+unfolding writesOf
+writes-up n e g a b h w =
+    every-true n _ (λ o l. meets-mono g (writersOf a o) (writersOf b o) (below-at a b h o (lt-of-lt-of-le l e) .1) (every-at n _ w o l))
+
 -- reading depends on C alone, writing on I alone: who reads B reads A where C(A) ≤ C(B), and who writes A writes B where
 -- I(A) ≤ I(B)
 pub reads-down-C : (n : ℕ) → n ≤ owners → (g : ℕ) (a b : Label)
@@ -29,8 +35,7 @@ reads-down-C n e g a b h r = reads-down n e g (confidentialityOf a) (confidentia
 pub writes-up-I : (n : ℕ) → n ≤ owners → (g all : ℕ) (a b : Label)
     → belowOf (integrityOf all a) (integrityOf all b) ≡ true → writesOf n g a ≡ true → writesOf n g b ≡ true
 unfolding writesOf integrityOf
-writes-up-I n e g all a b h w =
-    every-true n _ (λ o l. meets-mono g (writersOf a o) (writersOf b o) (below-at _ _ h o (lt-of-lt-of-le l e) .1) (every-at n _ w o l))
+writes-up-I n e g all a b h w = writes-up n e g (integrityOf all a) (integrityOf all b) h w
 
 -- a group that reads still reads with more members
 pub reads-grow : (n : ℕ) (a : Label) (g h : ℕ) → within g h ≡ true → readsOf n g a ≡ true → readsOf n h a ≡ true

@@ -25,7 +25,7 @@ module _ {A B : Type 0} (K : Conditions A) (R : Conditions B) (f : A → B) (ima
   nth-image (a ∷ Γ) zero = refl
   nth-image (a ∷ Γ) (suc d) = nth-image Γ d
 
-  least-image : (Γ : List A) (e : Expr) → f (least K Γ e) ≡ least R (map f Γ) e
+  pub least-image : (Γ : List A) (e : Expr) → f (least K Γ e) ≡ least R (map f Γ) e
   unfolding least
   least-image Γ (val v) = image .bot-is
   least-image Γ (loc x) = image .home-is x

@@ -16,4 +16,5 @@ pub mod Confinement
 pub mod Derivations
 pub mod Noninterference
 pub mod Observers
+pub mod Trust
 pub mod Theorems

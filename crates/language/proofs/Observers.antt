@@ -4,7 +4,6 @@ use mathlib.Core.Path.{_≡_, refl, ap, sym, _∙_}
 use mathlib.Core.Bool.{Bool, true, true≢false}
 use mathlib.Core.List.{[]}
 use Prim.Native.Nat.{ℕ}
-use Rattle.logic.specs.Booleans.{both}
 use Rattle.logic.proofs.BooleanLaws.{both-right}
 use Rattle.language.specs.Syntax.{Value, inl, inr, pkg, Cmd}
 use Rattle.language.specs.World.{World, Mem}
@@ -13,6 +12,7 @@ use Rattle.language.specs.Declarations.{Declarations}
 use Rattle.language.specs.View.{Equiv, ve-int, ve-err, ve-inl, ve-inr, ve-pack-in, ve-pack-lab, ve-blank}
 use Rattle.language.specs.Transition.{done, iterate}
 use Rattle.language.specs.Typing.{Conditions, conditions, flow}
+use Rattle.language.specs.Trust.{trusting}
 use Rattle.language.specs.Theorems.{Observer}
 use Rattle.language.proofs.Masking.{equiv-refl, equiv-of-view, view-of-equiv}
 use Rattle.language.proofs.Noninterference.{noninterference}
@@ -60,24 +60,9 @@ module _ {L : Type 0} (𝓛 : Labels L) (D : Declarations L) (W : World) (vis : 
     content = λ l m a. below-shown l m;
   }
 
-  -- For a rule that a script is trust-keeping: conditions that also want an unpack's operand at or below the wanted label, writers
-  -- included. No call tests it; it is kept with `truster` for a test of trust-keeping scripts.
-  abbrev pub trusting : Conditions L
-  trusting =
-      let K = conditions 𝓛 D in
-      record {
-        home = K .home;
-        bot = K .bot;
-        join = K .join;
-        mayAssign = K .mayAssign;
-        packLabel = K .packLabel;
-        mayPack = K .mayPack;
-        unpackLabel = K .unpackLabel;
-        mayUnpack = λ A a. both (K .mayUnpack A a) (𝓛 .leq a (D .label A));
-      }
-
-  -- Under them any set that is closed downward will do, such as the labels that distrusted parties do not write.
-  pub truster : Observer trusting W vis (λ l. vis (D .label l))
+  -- Under the conditions of trust-keeping scripts any set that is closed downward will do, such as the labels that
+  -- distrusted parties do not write.
+  pub truster : Observer (trusting 𝓛 D) W vis (λ l. vis (D .label l))
   truster = record {
     at-assign = λ x a h. down _ _ h;
     join-left = λ a b. down _ _ (joins .left a b);

@@ -9,4 +9,5 @@ pub mod View
 pub mod Evaluation
 pub mod Transition
 pub mod Typing
+pub mod Trust
 pub mod Theorems

@@ -2,8 +2,9 @@
 use mathlib.Core.Logic.{_↔_}
 use mathlib.Core.Path.{_≡_}
 use mathlib.Core.Bool.{Bool, true}
-use mathlib.Core.List.{[]}
+use mathlib.Core.List.{List, []}
 use Prim.Native.Nat.{ℕ, suc, _+_}
+use Rattle.logic.specs.Booleans.{both}
 use Rattle.language.specs.Syntax.{Value, Expr, val, Cmd, skip, Script}
 use Rattle.language.specs.World.{World, Mem}
 use Rattle.language.specs.Transition.{final, to, too-long, no-rule, step, Out, done, spent, over, wrong, iterate}
@@ -11,6 +12,7 @@ use Rattle.language.specs.Figures.{EStar, Step, Steps, LongExpr, LongSte
 use Rattle.language.specs.Labels.{Labels, LeastLabelLaws, struck}
 use Rattle.language.specs.Declarations.{Shapes, WellTyped, Fitting, Declarations, unlabelled}
 use Rattle.language.specs.Typing.{shape, Conditions, least, flowE, flow, refusal}
+use Rattle.language.specs.Trust.{keeps, trustKeeping, wholeLabels, stricter}
 use Rattle.language.specs.Rules.{Derivable}
 use Rattle.language.specs.View.{mask, maskMem, Equiv, EquivMem}
 
@@ -123,3 +125,18 @@ pub record Theorems : Type 1 where
   pub noninterference : (L : Type 0) (K : Conditions L) (W : World) (vis : L → Bool) (shows : ℕ → Bool) → Observer K W vis shows
       → Noninterference K W vis shows
   pub confinement : (L : Type 0) (K : Conditions L) (W : World) (vis : L → Bool) (shows : ℕ → Bool) → Observer K W vis shows → Confinement K W vis
+
+-- Beside them, for request (e): a command passes the stricter conditions exactly if it passes the conditions and each
+-- of its unpacks passes the test besides. So noninterference holds of an accepted, trust-keeping script for every
+-- observer that meets `Observer` under the conditions `trusting`.
+abbrev pub StricterFlow : Type 1
+StricterFlow = (L : Type 0) (K : Conditions L) (test : ℕ → L → Bool) (pc : L) (Γ : List L) (c : Cmd)
+    → flow (stricter K test) pc Γ c ≡ both (flow K pc Γ c) (keeps K test Γ c)
+
+-- And against the figures: a script has a derivation and is trust-keeping exactly if figures 4 and 5 give it one where
+-- the rule of unpack compares whole labels instead of C alone.
+abbrev pub KeepingExact : {L : Type 0} → Labels L → Declarations L → Type 0
+KeepingExact 𝓛 D = (p : Script) → (Derivable 𝓛 D p × (trustKeeping 𝓛 D p ≡ true)) ↔ Derivable (wholeLabels 𝓛) D p
+
+abbrev pub TrustDerivable : Type 1
+TrustDerivable = (L : Type 0) (𝓛 : Labels L) → LeastLabelLaws 𝓛 → (D : Declarations L) → KeepingExact 𝓛 D

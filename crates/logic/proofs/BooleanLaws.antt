@@ -1,7 +1,7 @@
 -- Laws of the truth values: their cases, when two are equal, `both` and `either`.
 -- Assumes nothing.
-use mathlib.Core.Path.{_≡_, refl, sym, _∙_, subst}
-use mathlib.Core.Bool.{Bool, true, false, cond}
+use mathlib.Core.Path.{_≡_, refl, sym, ap, _∙_, subst}
+use mathlib.Core.Bool.{Bool, true, false, not, cond}
 use lib.Dec.{T}
 use Rattle.logic.specs.Booleans.{both, either}
 
@@ -21,6 +21,11 @@ bool-ext false false f g = refl
 pub not-so : (x : Bool) → (x ≡ true → ⊥) → x ≡ false
 not-so true h = absurd (h refl)
 not-so false h = refl
+
+-- where x implies y, what isn't y isn't x
+pub not-down : (x y : Bool) → (x ≡ true → y ≡ true) → not y ≡ true → not x ≡ true
+not-down true y h n = absurd (absurd-false (sym (ap not (h refl)) ∙ n))
+not-down false y h n = refl
 
 -- what is false is not true
 pub fails : {x : Bool} → x ≡ false → ¬ (x ≡ true)
@@ -84,6 +89,20 @@ pub both-assoc : (a b c : Bool) → both a (both b c) ≡ both (both a b) c
 unfolding both
 both-assoc true b c = refl
 both-assoc false b c = refl
+
+-- the second test and the third in the other order
+pub both-last : (a b c : Bool) → both (both a b) c ≡ both (both a c) b
+unfolding both
+both-last true true c = sym (both-implied c true (λ h. refl))
+both-last true false c = sym (both-false-right c)
+both-last false b c = refl
+
+-- two pairs of tests: the first of each, then the second of each
+pub both-exchange : (a b c d : Bool) → both (both a b) (both c d) ≡ both (both a c) (both b d)
+unfolding both
+both-exchange true true c d = refl
+both-exchange true false c d = sym (both-false-right c)
+both-exchange false b c d = refl
 
 -- ---- either
 pub either-left : (a b : Bool) → a ≡ true → either a b ≡ true

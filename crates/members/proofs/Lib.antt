@@ -1,2 +1,3 @@
 pub mod MemberLaws
+pub mod FlowLaws
 pub mod ConfidentialityLaws

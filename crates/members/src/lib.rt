@@ -1,9 +1,8 @@
 // A least label as the set of the labels that it is the join of: bit l is label l of the table, bit 32 + l is I of label l, and the
 // empty set is bottom. Labels are fetched where they are compared, so that no frame of the recursion holds one.
 ghost use mathlib.Core.Path.{_≡_};
-ghost use mathlib.Core.Bool.{false};
 ghost use Rattle.sets.specs.Sets.{union};
-ghost use Rattle.members.specs.Internal.Members.{labelMember, integrityMember, memberIn, joinIn, flowsIn};
+ghost use Rattle.members.specs.Internal.Members.{labelMember, integrityMember, memberIn, joinIn, wholeFlows, confidentialityFlows, flowsIn};
 use labels::Label;
 
 pub type Members = u64;
@@ -16,6 +15,14 @@ const LABELS: u32 = sheet::MOST_LABELS;
 
 // Sets of labels alone are the numbers below this one.
 const PAST_LABELS: Members = 1 << LABELS;
+
+// How much of a least label is at or below another: nothing, C of it alone, all of it. Bit 1 tells it of the whole, bit
+// 0 of C, or of the whole too where that is asked for alone.
+const NOTHING: u8 = 0;
+
+const CONFIDENTIALITY: u8 = 1;
+
+const WHOLE: u8 = 3;
 
 // {label l}; empty for a number that names no label.
 pub fn label(l: u32) -> Members
@@ -75,7 +82,7 @@ fn joined(table: &[sheet::Word], members: Members) -> Label
 // Whether C of the join of the members is at or below C of label l. Each label is tested by itself, so nothing is
 // joined; C of I of a label is bottom, which is tested first.
 fn confidentiality_flows(table: &[sheet::Word], members: Members, l: u32) -> bool
-    ensures { λ r. ⌜ r ≡ flowsIn (now (table .entry)) members l false ⌝ }
+    ensures { λ r. ⌜ r ≡ confidentialityFlows (now (table .entry)) members l ⌝ }
 {
     let upper = sheet::label_of(table, l);
     let mut all = upper.readers_within(sheet::everyone(table));
@@ -92,15 +99,30 @@ fn confidentiality_flows(table: &[sheet::Word], members: Members, l: u32) -> boo
     all
 }
 
-// Whether the join of the members is at or below label l; or otherwise whether C of the one is at or below C of the other.
-pub fn flows(table: &[sheet::Word], members: Members, l: u32, whole: bool) -> bool
-    ensures { λ r. ⌜ r ≡ flowsIn (now (table .entry)) members l whole ⌝ }
+// Whether the join of the members is at or below label l.
+fn whole_flows(table: &[sheet::Word], members: Members, l: u32) -> bool
+    ensures { λ r. ⌜ r ≡ wholeFlows (now (table .entry)) members l ⌝ }
 {
-    if whole {
-        let lower = joined(table, members);
-        let upper = sheet::label_of(table, l);
-        lower.at_or_below(upper)
-    } else {
-        confidentiality_flows(table, members, l)
+    let lower = joined(table, members);
+    let upper = sheet::label_of(table, l);
+    lower.at_or_below(upper)
+}
+
+// How much of the join of the members is at or below label l. Where the whole is asked for `alone`, C isn't tested.
+pub fn flows(table: &[sheet::Word], members: Members, l: u32, alone: bool) -> u8
+    ensures { λ r. ⌜ r ≡ flowsIn (now (table .entry)) members l alone ⌝ }
+{
+    if alone {
+        if whole_flows(table, members, l) {
+            return WHOLE;
+        }
+        return NOTHING;
     }
+    if !confidentiality_flows(table, members, l) {
+        return NOTHING;
+    }
+    if whole_flows(table, members, l) {
+        return WHOLE;
+    }
+    CONFIDENTIALITY
 }

@@ -1,20 +1,19 @@
 -- The stages of a call: what each leaves, from what it calls. Assumes nothing.
-use mathlib.Core.Path.{_≡_, refl, sym, ap, _∙_, subst}
+use mathlib.Core.Path.{_≡_, refl, sym, ap, _∙_}
 use mathlib.Core.Bool.{Bool, true, false, cond}
 use mathlib.Core.List.{List, []}
 use mathlib.Core.Option.{Option, none, some}
 use Prim.Native.Nat.{ℕ, zero, suc, _*_}
 use native.Mathlib.Omega.{arith}
 use borrow.Author.Tests.{ne-eqb}
+use mir.Val.{boolByte}
 use lib.ListN.{length, take}
 use Rattle.language.specs.Syntax.{Script}
 use Rattle.language.specs.Transition.{Out, done, spent, over, wrong, iterate}
 use Rattle.language.specs.Typing.{shape}
 use Rattle.language.proofs.Exactness.{script-iff, exactness}
 use Rattle.language.proofs.TypeSoundness.{type-soundness}
-use Rattle.script.specs.Lines.{Source, cmdLines}
 use Rattle.script.specs.Internal.Code.{code}
-use Rattle.script.specs.Names.{named}
 use Rattle.sheet.specs.Sheet.{Sheet, locationCount}
 use Rattle.sets.specs.Sets.{within, everyone}
 use Rattle.sheet.specs.Internal.Tables.{everyoneIn}
@@ -33,13 +32,11 @@ use Rattle.memory.specs.View.{viewWords, viewRefusal}
 use Rattle.memory.specs.Internal.InTable.{viewIn, leaves, viewLeaves, refusalIn, viewRefusalIn, viewLeavesIn}
 use Rattle.memory.proofs.Exactness.{memories-exactly, table-agrees}
 use Rattle.memory.proofs.MemoryLaws.{unrefused-length, unrefused-formed}
-use Rattle.checker.specs.Internal.Post.{ChecksCode}
-use Rattle.checker.specs.Verdict.{verdictNumber}
-use Rattle.checker.specs.declared.Verdict.{Verdict}
+use Rattle.checker.specs.Internal.Post.{ChecksCode, KeepsCode}
 use Rattle.interpreter.specs.Internal.Run.{RunLeaves, Runs}
-use Rattle.stages.specs.Answers.{Ran, refusedRun, refusedView}
-use Rattle.stages.specs.Calls.{unless, strangers, onScript, untyped, numberOf, ended}
-use Rattle.stages.specs.Internal.Stages.{TableOf, CodeOf, no-code, its-code, Judges, AcceptedCode, NumbersScript, acceptedRun, Spares, RunsAccepted, RunsOn, ViewsOn}
+use Rattle.stages.specs.Answers.{Ran, refusedRun, refusedView, refusedTrust}
+use Rattle.stages.specs.Calls.{unless, strangers, onScript, untyped, numberOf, ended, keepingBit, trustOn}
+use Rattle.stages.specs.Internal.Stages.{TableOf, CodeOf, no-code, its-code, Judges, keepingIn, JudgesTrust, KeepsScript, AcceptedCode, NumbersScript, acceptedRun, Spares, RunsAccepted, TrustsOn, RunsOn, ViewsOn}
 
 -- ---- the code of a script
 
@@ -72,13 +69,27 @@ judge-refused ws t start a e = rw e (record { judged = λ s T o C. go s C })
     go : (s : Sheet) {o : Option Script} → CodeOf s ws start Refused o → 4 ≡ onScript (λ k. k) o (untyped s)
     go s no-code = refl
 
-pub judge-read : (ws t : List ℕ) (start : ℕ) (a : Answer) (v u : Verdict) → a ≡ Read → ChecksCode ws t start (verdictNumber v) → v ≡ u
-    → Judges a ws t start (verdictNumber u)
+pub judge-read : (ws t : List ℕ) (start : ℕ) (a : Answer) (r : ℕ) → a ≡ Read → ChecksCode ws t start r → Judges a ws t start r
 unfolding onScript untyped
-judge-read ws t start a v u i x e = rw i (record { judged = λ s T o C. ap verdictNumber (sym e) ∙ go s T C })
+judge-read ws t start a r i x = rw i (record { judged = λ s T o C. go s T C })
   where
-    go : (s : Sheet) → TableOf t s → {o : Option Script} → CodeOf s ws start Read o → verdictNumber v ≡ onScript (λ k. k) o (untyped s)
+    go : (s : Sheet) → TableOf t s → {o : Option Script} → CodeOf s ws start Read o → r ≡ onScript (λ k. k) o (untyped s)
     go s T (its-code {p = p} src nm w st) = x .exact s (T .form) (T .once) (T .words) (countsOf s) p src nm w st
+
+-- no script is trust-keeping, or the one that was read
+pub trust-refused : (ws t : List ℕ) (start : ℕ) (a : Answer) → a ≡ Refused → JudgesTrust a ws t start false
+unfolding keepingIn onScript
+trust-refused ws t start a e = rw e (record { judged = λ s T o C. go s C })
+  where
+    go : (s : Sheet) {o : Option Script} → CodeOf s ws start Refused o → false ≡ keepingIn s o
+    go s no-code = refl
+
+pub trust-read : (ws t : List ℕ) (start : ℕ) (a : Answer) (r : Bool) → a ≡ Read → KeepsCode ws t r → JudgesTrust a ws t start r
+unfolding keepingIn onScript
+trust-read ws t start a r i x = rw i (record { judged = λ s T o C. go s T C })
+  where
+    go : (s : Sheet) → TableOf t s → {o : Option Script} → CodeOf s ws start Read o → r ≡ keepingIn s o
+    go s T (its-code {p = p} src nm w st) = x .says s (T .form) (T .words) (countsOf s) p src nm w
 
 -- what the judgement of a script's code says of the script
 pub numbers-script : (t script ws : List ℕ) (p : Decoded) (r : ℕ) → p ≡ decodedScript (scriptOf (countsIn t) script) → ws ≡ take (p .count * 3) (p .code)
@@ -92,6 +103,10 @@ numbers-script t script ws p r e w j =
       numbered = numbered;
       accepted = λ s T z. accepted-code t script (take (p .count * 3) (p .code)) p e refl s T (sym (numbered s T) ∙ z);
     }
+
+pub keeps-script : (t script ws : List ℕ) (p : Decoded) (r : Bool) → p ≡ decodedScript (scriptOf (countsIn t) script) → ws ≡ take (p .count * 3) (p .code)
+    → JudgesTrust (p .answer) ws t (p .start) r → KeepsScript script t r
+keeps-script t script ws p r e w j = record { says = λ s T. j .judged s T _ (code-of t script ws p e w s T) }
 
 -- the table's refusal of a memory is the sheet's
 pub refusal-in : (t memory : List ℕ) (a : ℕ) → a ≡ refusalIn t memory → (s : Sheet) → TableOf t s → a ≡ memoryRefusal s memory
@@ -113,6 +128,33 @@ stops refuse (suc k) go n = refl
 pub goes : {A : Type 0} (refuse : ℕ → A) (k : ℕ) (go : A) → k ≡ 0 → unless refuse k go ≡ go
 unfolding unless
 goes refuse k go e = rw e refl
+
+-- ---- trust
+
+byte-is : (b : Bool) → boolByte b ≡ cond b 1 0
+byte-is true = refl
+byte-is false = refl
+
+module _ (script t : List ℕ) {number count : ℕ} {words : List ℕ} (n : NumbersScript script t number count words) where
+  -- 4, 5 and 6
+  pub trust-numbered : (number ≡ 0 → ⊥) → TrustsOn script t (refusedTrust number)
+  unfolding trustOn numberOf onScript
+  trust-numbered z = record { no-keeping = λ m. refl; trusted = λ s T. go s (scriptOf (countsOf s) script) (n .numbered s T) }
+    where
+      go : (s : Sheet) (o : Option Script) → number ≡ onScript (λ k. k) o (untyped s)
+          → refusedTrust number ≡ onScript refusedTrust o (λ p. unless refusedTrust (untyped s p) (record { answer = 0; keeping = keepingBit s p }))
+      go s none e = ap refusedTrust e
+      go s (some p) e = ap refusedTrust e ∙ sym (stops refusedTrust (untyped s p) _ (λ w. z (e ∙ w)))
+
+  pub trust-accepted : (r : Bool) → number ≡ 0 → KeepsScript script t r → TrustsOn script t (record { answer = 0; keeping = boolByte r })
+  unfolding trustOn keepingBit keepingIn onScript
+  trust-accepted r z k = record {
+    no-keeping = λ m. absurd (m refl);
+    trusted = λ s T.
+        let a = n .accepted s T z in
+        let e = k .says s T in
+        rw (a .is-its, byte-is r) (rw (rw (a .is-its) at e) (sym (goes refusedTrust (untyped s (a .parsed)) _ (a .typed))));
+  }
 
 -- an accepted script passes the test on types
 pub accepted-shape : (s : Sheet) (p : Script) → untyped s p ≡ 0 → shape (shapesOf s) [] (p .command) ≡ true

@@ -9,6 +9,7 @@ use Rattle.sets.specs.Sets.{within, everyone}
 use Rattle.language.specs.Syntax.{Script}
 use Rattle.language.specs.Transition.{Out, done, spent, over, wrong, iterate}
 use Rattle.language.specs.Typing.{refusal}
+use Rattle.language.specs.Trust.{trustKeeping}
 use Rattle.sheet.specs.Sheet.{Sheet, locationCount}
 use Rattle.sheet.specs.Meaning.{labelsOver, declarationsOf, worldFor}
 use Rattle.sheet_text.specs.Sheets.{Answer, malformed, repeating, accepted, sheetOf}
@@ -16,7 +17,7 @@ use Rattle.script_text.specs.Counts.{countsOf}
 use Rattle.script_text.specs.Script.{scriptOf}
 use Rattle.memory.specs.Memory.{memoryOf, wordsOf, memoryRefusal}
 use Rattle.memory.specs.View.{viewWords, viewRefusal}
-use Rattle.stages.specs.Answers.{Ran, refusedRun, Viewed, refusedView}
+use Rattle.stages.specs.Answers.{Ran, refusedRun, Viewed, refusedView, TrustAnswer, refusedTrust}
 
 -- ---- in the order judged; `refuse` says what a number leads to. (7 and 8 are crate memory's: memoryRefusal, viewRefusal.)
 
@@ -79,3 +80,18 @@ viewOf sheet memory group view =
     unless (refusedView view) (strangers s group) (
     unless (refusedView view) (viewRefusal s memory (length view)) (
     record { answer = 0; view = viewWords s group memory })))
+
+-- 1 for a trust-keeping script, else 0
+unfoldable pub keepingBit : Sheet → Script → ℕ
+keepingBit s p = cond (trustKeeping (labelsOver (s .principals)) (declarationsOf s) p) 1 0
+
+-- What is answered of a script on a sheet.
+unfoldable pub trustOn : Sheet → List ℕ → TrustAnswer
+trustOn s script =
+    onScript refusedTrust (scriptOf (countsOf s) script) (λ p.
+    unless refusedTrust (untyped s p) (
+    record { answer = 0; keeping = keepingBit s p }))
+
+-- simp_trust
+unfoldable pub trustOf : List ℕ → List ℕ → TrustAnswer
+trustOf sheet script = onSheet refusedTrust (sheetOf sheet) (λ s. trustOn s script)

@@ -3,8 +3,9 @@
 ghost use mathlib.Core.Path.{_≡_};
 ghost use Rattle.sheet_text.specs.Verdict.{sheetNumber};
 ghost use Rattle.memory.specs.Verdict.{memoryNumber};
+ghost use Rattle.checker.specs.Verdict.{verdictNumber};
 ghost use Rattle.evaluator.specs.State.{stateNumber};
-ghost use Rattle.stages.specs.Internal.Stages.{Judges, NumbersScript, RunsAccepted, ChecksOn, RunsOn, ViewsOn};
+ghost use Rattle.stages.specs.Internal.Stages.{Judges, JudgesTrust, NumbersScript, KeepsScript, RunsAccepted, ChecksOn, TrustsOn, RunsOn, ViewsOn};
 use checker::Verdict;
 use evaluator::State;
 use script_text::Answer;
@@ -40,6 +41,26 @@ pub struct Outcome {
     pub steps: u32,
 }
 
+// The number of a script, and 1 for an accepted one that is trust-keeping, else 0.
+#[repr(C)]
+pub struct Trust {
+    pub answer: u8,
+    pub keeping: u8,
+}
+
+// The number of a script's code, and whether each unpack's operand in it is at or below the wanted label.
+pub(crate) struct Judged {
+    pub(crate) number: u8,
+    pub(crate) keeping: bool,
+}
+
+// The same of a script's text, and how many lines it has.
+pub(crate) struct Found {
+    pub(crate) number: u8,
+    pub(crate) keeping: bool,
+    pub(crate) count: usize,
+}
+
 // The number of a script on a sheet, and how many lines it has.
 pub struct Numbered {
     pub number: u8,
@@ -51,6 +72,13 @@ pub fn refused(answer: u8) -> Outcome
     ensures { λ r. ⌜ r ≡ record { answer = answer; steps = 0 } ⌝ }
 {
     Outcome { answer, steps: 0 }
+}
+
+// Beside a refusal keeping is 0, whatever the script.
+pub fn refused_trust(answer: u8) -> Trust
+    ensures { λ r. ⌜ r ≡ record { answer = answer; keeping = 0 } ⌝ }
+{
+    Trust { answer, keeping: 0 }
 }
 
 // The number of a verdict on a sheet.
@@ -87,17 +115,49 @@ fn number(state: State) -> u8
     }
 }
 
-// 4 where there is no script, 5 or 6 where it has no derivation, else 0.
-fn judge(script: Answer, code: &[u32], table: &[sheet::Word], start: u32) -> u8
-    ensures { λ r. ⌜ Judges script (now (code .entry)) (now (table .entry)) start r ⌝ }
+// The number of a verdict on a script's code.
+fn code_number(verdict: Verdict) -> u8
+    ensures { λ r. ⌜ r ≡ verdictNumber verdict ⌝ }
 {
-    let Answer::Read = script else {
-        return SCRIPT_MALFORMED;
-    };
-    match checker::check(code, table, start) {
+    match verdict {
         Verdict::Accepted => DONE,
         Verdict::IllTyped => ILL_TYPED,
         Verdict::IllLabelled => ILL_LABELLED,
+    }
+}
+
+// 4 where there is no script, 5 or 6 where it has no derivation, else 0; and whether there is one that is
+// trust-keeping.
+fn judge(script: Answer, code: &[u32], table: &[sheet::Word], start: u32) -> Judged
+    ensures { λ r. ⌜ Judges script (now (code .entry)) (now (table .entry)) start (r .number) × JudgesTrust script (now (code .entry)) (now (table .entry)) start (r .keeping) ⌝ }
+{
+    let Answer::Read = script else {
+        return Judged {
+            number: SCRIPT_MALFORMED,
+            keeping: false,
+        };
+    };
+    let checked = checker::check(code, table, start);
+    let verdict = checked.verdict;
+    Judged {
+        number: code_number(verdict),
+        keeping: checked.keeping,
+    }
+}
+
+// What is found of a script on the sheet of a table. The lent words hold its code where it is accepted.
+fn find(script: &[u8], table: &[sheet::Word], code: &mut [u32; script_text::WORDS]) -> Found
+    ensures { λ r. ⌜ NumbersScript (now (script .entry)) (now (table .entry)) (r .number) (r .count) (now (code .exit)) × KeepsScript (now (script .entry)) (now (table .entry)) (r .keeping) ⌝ }
+{
+    let read = script_text::read(script, table, code);
+    let answer = read.answer;
+    let count = read.count;
+    let start = read.start;
+    let judged = judge(answer, script_text::rows(code, count), table, start);
+    Found {
+        number: judged.number,
+        keeping: judged.keeping,
+        count,
     }
 }
 
@@ -109,13 +169,10 @@ pub fn number_of(
 ) -> Numbered
     ensures { λ r. ⌜ NumbersScript (now (script .entry)) (now (table .entry)) (r .number) (r .count) (now (code .exit)) ⌝ }
 {
-    let read = script_text::read(script, table, code);
-    let answer = read.answer;
-    let count = read.count;
-    let start = read.start;
+    let found = find(script, table, code);
     Numbered {
-        number: judge(answer, script_text::rows(code, count), table, start),
-        count,
+        number: found.number,
+        count: found.count,
     }
 }
 
@@ -143,6 +200,21 @@ pub fn check_on(script: &[u8], table: &[sheet::Word]) -> u8
 {
     let mut code = [0u32; script_text::WORDS];
     number_of(script, table, &mut code).number
+}
+
+// Checks a script on the sheet of a table, and says whether it is trust-keeping.
+pub fn trust_on(script: &[u8], table: &[sheet::Word]) -> Trust
+    ensures { λ r. ⌜ TrustsOn (now (script .entry)) (now (table .entry)) (record { answer = r .answer; keeping = r .keeping }) ⌝ }
+{
+    let mut code = [0u32; script_text::WORDS];
+    let found = find(script, table, &mut code);
+    if found.number != DONE {
+        return refused_trust(found.number);
+    }
+    Trust {
+        answer: DONE,
+        keeping: found.keeping as u8,
+    }
 }
 
 // Checks a script, and runs it on a memory, on the sheet of a table.

@@ -1,15 +1,21 @@
 -- `checker::check` meets its contract. Assumes nothing.
+use mathlib.Core.Path.{ap, _∙_}
 use native.Mathlib.Omega.{arith}
-use Rattle.checker.proofs.Verdicts.{check-answers}
+use Rattle.checker.specs.Internal.Post.{verdictOf}
+use Rattle.checker.proofs.HoldLaws.{first-holds, second-holds}
+use Rattle.checker.proofs.Verdicts.{check-answers, check-keeps}
 use borrow.Author.Needs.{needs}
 use Rattle.checker.proofs.check.Statement.{statement}
 use Rattle.checker.proofs.check.Tie as tie
 
 returns : tie.Need-returns
 returns c =
-    let x = c .before in
-    let a = x .before .before .before .before .before .args in
-    check-answers (a .code .now) (a .table .now) (a .start) (x .before .label .ensures) (x .check-cmd .ensures) (c .answer .ensures) (omega arith)
+    let x = c .before .before .before in
+    let a = x .before .before .before .before .before .args in (
+      check-answers (a .code .now) (a .table .now) (a .start) (x .before .label .ensures) (x .check-cmd .ensures)
+          (c .before .answer .ensures ∙ ap (verdictOf _) (first-holds _)) (omega arith),
+      check-keeps (a .code .now) (a .table .now) (x .check-cmd .ensures) (second-holds _) (omega arith),
+    )
 
 pub check-spec : {M : Type 1} → statement M
 check-spec = tie.close (tie.spec

@@ -3,16 +3,23 @@ use mathlib.Core.Bool.{Bool, true, false, cond}
 use mathlib.Core.List.{List}
 use Prim.Native.Nat.{ℕ, suc, _-_}
 use lib.Dec.{eqb, leb, ltb}
-use Rattle.sets.specs.Sets.{union}
-use Rattle.labels.specs.Labels.{belowOf, confidentialityOf}
+use Rattle.sets.specs.Sets.{union, intersection}
 use Rattle.logic.specs.Booleans.{both}
 use Rattle.script.specs.Names.{maxDepth}
-use Rattle.sheet.specs.Internal.Tables.{rightIn, typeIn, homeIn, labelIn}
+use Rattle.sheet.specs.Internal.Tables.{rightIn, typeIn, homeIn}
 use Rattle.checker.specs.declared.Typed.{Typed}
 use Rattle.checker.specs.declared.Passed.{Passed}
 use Rattle.sheet.specs.Internal.TypeTest.{isSum}
-use Rattle.members.specs.Internal.Members.{labelMember, integrityMember, joinIn}
+use Rattle.members.specs.Internal.Members.{labelMember, integrityMember, flowsIn}
 use Rattle.checker.specs.Internal.Bindings.{boundType, boundLabel}
+
+-- What holds of all lines that were checked, as a set: 0, their label conditions; 1, what trust-keeping asks of their
+-- unpacks. Both, and the second alone.
+abbrev pub allHold : ℕ
+allHold = 0b11
+
+abbrev pub keepingAlone : ℕ
+keepingAlone = 0b10
 
 -- the expression has the type number n
 unfoldable pub isType : Typed → ℕ → Bool
@@ -20,11 +27,11 @@ isType x n = both (x .typed) (eqb n (x .ty))
 
 -- an expression of type n and label a, in which nothing is to be tested
 abbrev pub plainTyped : ℕ → ℕ → ℕ → Typed
-plainTyped n a next = record { ty = n; typed = true; flow = true; label = a; next = next }
+plainTyped n a next = record { ty = n; typed = true; holds = allHold; label = a; next = next }
 
 -- no expression
 unfoldable pub nothing : ℕ → Typed
-nothing next = record { ty = 0; typed = false; flow = true; label = 0; next = next }
+nothing next = record { ty = 0; typed = false; holds = allHold; label = 0; next = next }
 
 unfoldable pub intTyped : ℕ → Typed
 intTyped next = plainTyped 0 0 next
@@ -44,7 +51,7 @@ plusTyped x y =
     record {
       ty = 0;
       typed = both (isType x 0) (isType y 0);
-      flow = both (x .flow) (y .flow);
+      holds = intersection (x .holds) (y .holds);
       label = union (x .label) (y .label);
       next = y .next;
     }
@@ -52,14 +59,20 @@ plusTyped x y =
 -- a sum of type n, whose part on the operand's side is type m
 unfoldable pub sumTyped : List ℕ → ℕ → ℕ → Typed → Typed
 sumTyped t n m x =
-    record { ty = n; typed = both (isSum t n) (isType x m); flow = x .flow; label = x .label; next = x .next }
+    record {
+      ty = n;
+      typed = both (isSum t n) (isType x m);
+      holds = x .holds;
+      label = x .label;
+      next = x .next;
+    }
 
 unfoldable pub packTyped : List ℕ → ℕ → Typed → Typed
 packTyped t l x =
     record {
       ty = 4;
       typed = x .typed;
-      flow = both (x .flow) (belowOf (joinIn t (x .label)) (labelIn t l));
+      holds = intersection (x .holds) (union (flowsIn t (x .label) l true) keepingAlone);
       label = integrityMember l;
       next = x .next;
     }
@@ -69,37 +82,47 @@ unpackTyped t n l x =
     record {
       ty = n;
       typed = both (isType x 2) (both (isSum t n) (eqb (rightIn t n) 1));
-      flow = both (x .flow) (belowOf (confidentialityOf (joinIn t (x .label))) (confidentialityOf (labelIn t l)));
+      holds = intersection (x .holds) (flowsIn t (x .label) l false);
       label = labelMember l;
       next = x .next;
     }
 
 -- no command
 abbrev pub refused : ℕ → Passed
-refused next = record { typed = false; flow = true; next = next }
+refused next = record { typed = false; holds = allHold; next = next }
 
 abbrev pub skipPassed : ℕ → Passed
-skipPassed next = record { typed = true; flow = true; next = next }
+skipPassed next = record { typed = true; holds = allHold; next = next }
 
 unfoldable pub seqPassed : Passed → Passed → Passed
-seqPassed x y = record { typed = both (x .typed) (y .typed); flow = both (x .flow) (y .flow); next = y .next }
+seqPassed x y =
+    record {
+      typed = both (x .typed) (y .typed);
+      holds = intersection (x .holds) (y .holds);
+      next = y .next;
+    }
 
 -- an assignment of x to location n below the surrounding label pc: both labels are at or below the location's
 unfoldable pub assignPassed : List ℕ → ℕ → ℕ → Typed → Passed
 assignPassed t n pc x =
     record {
       typed = isType x (typeIn t n);
-      flow = both (x .flow) (belowOf (joinIn t (union (x .label) pc)) (labelIn t (homeIn t n)));
+      holds = intersection (x .holds) (union (flowsIn t (union (x .label) pc) (homeIn t n) true) keepingAlone);
       next = x .next;
     }
 
 unfoldable pub whilePassed : Typed → Passed → Passed
-whilePassed x y = record { typed = both (isType x 3) (y .typed); flow = both (x .flow) (y .flow); next = y .next }
+whilePassed x y =
+    record {
+      typed = both (isType x 3) (y .typed);
+      holds = intersection (x .holds) (y .holds);
+      next = y .next;
+    }
 
 unfoldable pub casePassed : List ℕ → Typed → Passed → Passed → Passed
 casePassed t x y z =
     record {
       typed = both (x .typed) (both (isSum t (x .ty)) (both (y .typed) (z .typed)));
-      flow = both (x .flow) (both (y .flow) (z .flow));
+      holds = intersection (x .holds) (intersection (y .holds) (z .holds));
       next = z .next;
     }

@@ -13,7 +13,7 @@ use Rattle.language.specs.Typing.{Conditions}
 use Rattle.sheet.specs.Internal.TypeTest.{isSum}
 use Rattle.sheet.specs.Internal.Tables.{everyoneIn, leftIn, rightIn, typeIn, homeIn, labelIn}
 use Rattle.sets.specs.Sets.{union}
-use Rattle.members.specs.Internal.Members.{labelMember, integrityMember, joinIn}
+use Rattle.members.specs.Internal.Members.{labelMember, integrityMember, joinIn, wholeFlows}
 
 -- o is the type number n
 unfoldable pub isNo : ℕ → Option ℕ → Bool
@@ -88,3 +88,7 @@ conditionsOn t = record {
   unpackLabel = λ A a. labelMember A;
   mayUnpack = λ A a. belowOf (confidentialityOf (joinIn t a)) (confidentialityOf (labelIn t A));
 }
+
+-- The join of the members is at or below label l: what trust-keeping asks of an unpack.
+abbrev pub belowOn : List ℕ → ℕ → ℕ → Bool
+belowOn t l a = wholeFlows t a l

@@ -4,8 +4,10 @@ use mathlib.Core.Bool.{Bool, true, false, cond}
 use mathlib.Core.List.{List, []}
 use Prim.Native.Nat.{ℕ, _≤_}
 use lib.ListN.{length, drop}
+use Rattle.sets.specs.Sets.{member}
 use Rattle.language.specs.Syntax.{Expr, Cmd, Script}
 use Rattle.language.specs.Typing.{least, flowE, flow, refusal}
+use Rattle.language.specs.Trust.{keepsE, keeps, trustKeeping}
 use Rattle.script.specs.Lines.{Line, SourceE, exprLines, Source, cmdLines}
 use Rattle.script.specs.Internal.Code.{code}
 use Rattle.script.specs.Names.{Counts, maxDepth, named}
@@ -17,14 +19,15 @@ use Rattle.checker.specs.declared.Verdict.{Verdict}
 use Rattle.checker.specs.declared.Verdict.the-variants.{Accepted, IllTyped, IllLabelled}
 use Rattle.checker.specs.declared.Typed.{Typed}
 use Rattle.checker.specs.declared.Passed.{Passed}
-use Rattle.checker.specs.Internal.Numbers.{givenNo, typeNo, shapeNo, conditionsOn}
+use Rattle.checker.specs.Internal.Numbers.{givenNo, typeNo, shapeNo, conditionsOn, belowOn}
 use Rattle.checker.specs.Internal.Bindings.{bindingsSize, boundTypes, boundLabels}
 
 -- x is what typing finds of e
 pub record Finds (t Γ Δ : List ℕ) (e : Expr) (x : Typed) : Type 0 where
   pub type-is : givenNo (x .typed) (x .ty) ≡ typeNo t Γ e
   pub label-is : x .label ≡ least (conditionsOn t) Δ e
-  pub flow-is : x .flow ≡ flowE (conditionsOn t) Δ e
+  pub flow-is : member 0 (x .holds) ≡ flowE (conditionsOn t) Δ e
+  pub keeping-is : member 1 (x .holds) ≡ keepsE (conditionsOn t) (belowOn t) Δ e
 
 -- there are words for d cases
 abbrev pub Room : List ℕ → ℕ → Type 0
@@ -44,7 +47,8 @@ pub record Kept (s s′ : List ℕ) (d : ℕ) : Type 0 where
 -- x is what typing finds of c below the surrounding label pc
 pub record Passes (t Γ : List ℕ) (pc : ℕ) (Δ : List ℕ) (c : Cmd) (x : Passed) : Type 0 where
   pub typed-is : x .typed ≡ shapeNo t Γ c
-  pub flow-is : x .flow ≡ flow (conditionsOn t) pc Δ c
+  pub flow-is : member 0 (x .holds) ≡ flow (conditionsOn t) pc Δ c
+  pub keeping-is : member 1 (x .holds) ≡ keeps (conditionsOn t) (belowOn t) Δ c
 
 pub record ChecksCmd (ws : List ℕ) (at : ℕ) (t s : List ℕ) (d pc : ℕ) (x : Passed) (s′ : List ℕ) : Type 0 where
   pub onward : at ≤ x .next
@@ -58,6 +62,11 @@ pub record ChecksCode (ws t : List ℕ) (start r : ℕ) : Type 0 where
   pub exact : (s : Sheet) → formed s ≡ true → repeats s ≡ false → t ≡ tableOf s → (k : Counts) (p : Script) → Source (p .command)
       → named k 0 (p .command) ≡ true → ws ≡ code (cmdLines (p .command) []) → start ≡ startNo (p .opening .start)
       → r ≡ refusal (labelsOver (s .principals)) (declarationsOf s) p
+
+-- For such code and such a table r says whether the script is trust-keeping.
+pub record KeepsCode (ws t : List ℕ) (r : Bool) : Type 0 where
+  pub says : (s : Sheet) → formed s ≡ true → t ≡ tableOf s → (k : Counts) (p : Script) → Source (p .command) → named k 0 (p .command) ≡ true
+      → ws ≡ code (cmdLines (p .command) []) → r ≡ trustKeeping (labelsOver (s .principals)) (declarationsOf s) p
 
 -- what is found of a script, by whether its types fit and whether its label conditions hold
 unfoldable pub verdictOf : Bool → Bool → Verdict

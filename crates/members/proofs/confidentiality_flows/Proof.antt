@@ -9,7 +9,7 @@ use Rattle.sets.specs.Sets.{restrict}
 use Rattle.labels.specs.declared.Label.{Label}
 use Rattle.labels.specs.Labels.{bottomOf}
 use Rattle.sheet.specs.Sheet.{maxLabels}
-use Rattle.members.specs.Internal.Members.{joinIn, flowsIn}
+use Rattle.members.specs.Internal.Members.{joinIn, confidentialityFlows}
 use Rattle.members.proofs.MemberLaws.{Rest, rest-all, rest-first, rest-more}
 use Rattle.members.proofs.ConfidentialityLaws.{label-member, label-below, labels-end, Passes, Passed, passed-none, passed-with, passed-without, passed-all}
 use borrow.Author.Needs.{needs}
@@ -51,7 +51,7 @@ loop-again c =
     )
 
 returns : tie.Need-returns Inv-loop μ-loop
-unfolding flowsIn
+unfolding confidentialityFlows
 returns c =
     let l = c .before .loop in
     let a = c .before .before .before .before .before .before .args in

@@ -34,6 +34,17 @@ maxMembers = maxLabels + maxLabels
 unfoldable pub joinIn : List ℕ → ℕ → Label
 joinIn t m = joinUpTo t m maxMembers
 
--- that label is at or below label l; or otherwise its C is at or below that of label l
-unfoldable pub flowsIn : List ℕ → ℕ → ℕ → Bool → Bool
-flowsIn t m l whole = cond whole (belowOf (joinIn t m) (labelIn t l)) (belowOf (confidentialityOf (joinIn t m)) (confidentialityOf (labelIn t l)))
+-- that label is at or below label l; its C is at or below that of label l
+unfoldable pub wholeFlows : List ℕ → ℕ → ℕ → Bool
+wholeFlows t m l = belowOf (joinIn t m) (labelIn t l)
+
+unfoldable pub confidentialityFlows : List ℕ → ℕ → ℕ → Bool
+confidentialityFlows t m l = belowOf (confidentialityOf (joinIn t m)) (confidentialityOf (labelIn t l))
+
+-- two bits: bit 1 for the whole; bit 0 for C, or for the whole too where that is asked for alone
+unfoldable pub flowBits : Bool → Bool → Bool → ℕ
+flowBits alone C whole = cond whole 0b11 (cond alone 0b00 (cond C 0b01 0b00))
+
+-- how much of that label is at or below label l
+unfoldable pub flowsIn : List ℕ → ℕ → ℕ → Bool → ℕ
+flowsIn t m l alone = flowBits alone (confidentialityFlows t m l) (wholeFlows t m l)

@@ -1,19 +1,23 @@
-use Rattle.checker.specs.Verdict.{verdictNumber}
-use Rattle.stages.proofs.StageLaws.{judge-refused, judge-read}
+-- `stages::judge` meets its contract. Assumes nothing.
+use Rattle.stages.proofs.StageLaws.{judge-refused, judge-read, trust-refused, trust-read}
 use borrow.Author.Needs.{needs}
 use Rattle.stages.proofs.judge.Statement.{statement}
 use Rattle.stages.proofs.judge.Tie as tie
 
+returns : tie.Need-returns
+returns c = let e = c .enum-told2 .given .1 in (judge-refused _ _ _ _ e, trust-refused _ _ _ _ e)
+
+returns-2 : tie.Need-returns-2
+returns-2 c =
+    let found = c .before .check .ensures in
+    let e = c .before .before .enum-told .given .1 in
+    (rw (c .code-number .ensures) (judge-read _ _ _ _ _ e (found .0)), trust-read _ _ _ _ _ e (found .1))
+
 pub judge-spec : {M : Type 1} → statement M
-unfolding verdictNumber
 judge-spec = tie.close (tie.spec
     (λ c. search needs)  -- enum-told
     (λ c. search needs)  -- enum-told-2
-    (λ c. judge-refused _ _ _ _ (c .enum-told2 .given .1))  -- returns
+    returns
     (λ c κs. search needs)  -- check-requires
-    (λ c. search needs)  -- enum-told-3
-    (λ c. search needs)  -- enum-told-4
-    (λ c. search needs)  -- enum-told-5
-    (λ c. judge-read _ _ _ _ _ _ (c .before .before .before .enum-told .given .1) (c .before .before .check .ensures) (c .enum-told3 .given .1))  -- returns-2
-    (λ c. judge-read _ _ _ _ _ _ (c .before .before .before .enum-told .given .1) (c .before .before .check .ensures) (c .enum-told4 .given .1))  -- returns-3
-    (λ c. judge-read _ _ _ _ _ _ (c .before .before .before .enum-told .given .1) (c .before .before .check .ensures) (c .enum-told5 .given .1)))  -- returns-4
+    (λ c κs. search needs)  -- code-number-requires
+    returns-2)

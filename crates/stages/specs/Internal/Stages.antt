@@ -1,19 +1,20 @@
 -- What the stages of a call ensure, on a sheet that isn't refused and whose table is given.
 use mathlib.Core.Path.{_≡_}
-use mathlib.Core.Bool.{true, false}
+use mathlib.Core.Bool.{Bool, true, false}
 use mathlib.Core.List.{List, []}
 use mathlib.Core.Option.{Option, none, some}
 use Prim.Native.Nat.{ℕ, _*_, _≤_}
 use lib.ListN.{length, take}
 use Rattle.language.specs.Syntax.{Script}
 use Rattle.language.specs.Transition.{iterate}
+use Rattle.language.specs.Trust.{trustKeeping}
 use Rattle.script.specs.Lines.{Source, cmdLines}
 use Rattle.script.specs.Internal.Code.{code}
 use Rattle.script.specs.Names.{named}
 use Rattle.sheet.specs.Sheet.{Sheet, formed, repeats, locationCount}
 use Rattle.sheet.specs.Internal.Tables.{tableOf}
 use Rattle.sheet.specs.Internal.Starts.{startNo}
-use Rattle.sheet.specs.Meaning.{worldFor}
+use Rattle.sheet.specs.Meaning.{labelsOver, declarationsOf, worldFor}
 use Rattle.script_text.specs.Counts.{countsOf}
 use Rattle.script_text.specs.Script.{scriptOf}
 use Rattle.script_text.specs.Internal.Decoded.{countsIn, decodedScript}
@@ -21,8 +22,8 @@ use Rattle.script_text.specs.declared.Answer.{Answer}
 use Rattle.script_text.specs.declared.Answer.the-variants.{Read, Refused}
 use Rattle.memory.specs.Memory.{memoryOf, memoryRefusal}
 use Rattle.memory.specs.View.{viewWords, viewRefusal}
-use Rattle.stages.specs.Answers.{Ran, refusedRun, refusedView}
-use Rattle.stages.specs.Calls.{unless, strangers, onScript, untyped, numberOf, ended}
+use Rattle.stages.specs.Answers.{Ran, refusedRun, refusedView, TrustAnswer}
+use Rattle.stages.specs.Calls.{unless, strangers, onScript, untyped, numberOf, ended, trustOn}
 
 -- t is the table of the sheet s, which is of the form and repeats nothing
 pub record TableOf (t : List ℕ) (s : Sheet) : Type 0 where
@@ -38,6 +39,17 @@ pub data CodeOf (s : Sheet) (ws : List ℕ) (start : ℕ) : Answer → Option Sc
 
 pub record Judges (a : Answer) (ws t : List ℕ) (start r : ℕ) : Type 0 where
   pub judged : (s : Sheet) → TableOf t s → (o : Option Script) → CodeOf s ws start a o → r ≡ onScript (λ k. k) o (untyped s)
+
+-- whether there is a script, and it is trust-keeping
+unfoldable pub keepingIn : Sheet → Option Script → Bool
+keepingIn s o = onScript (λ k. false) o (λ p. trustKeeping (labelsOver (s .principals)) (declarationsOf s) p)
+
+pub record JudgesTrust (a : Answer) (ws t : List ℕ) (start : ℕ) (r : Bool) : Type 0 where
+  pub judged : (s : Sheet) → TableOf t s → (o : Option Script) → CodeOf s ws start a o → r ≡ keepingIn s o
+
+-- r says whether the text is that of a trust-keeping script
+pub record KeepsScript (script t : List ℕ) (r : Bool) : Type 0 where
+  pub says : (s : Sheet) → TableOf t s → r ≡ keepingIn s (scriptOf (countsOf s) script)
 
 -- ws is the code of a script that is accepted on a sheet
 pub record AcceptedCode (s : Sheet) (script ws : List ℕ) : Type 0 where
@@ -71,6 +83,10 @@ pub record RunsAccepted (ws t memory : List ℕ) (authority budget : ℕ) (r : R
 
 pub record ChecksOn (script t : List ℕ) (r : ℕ) : Type 0 where
   pub checked : (s : Sheet) → TableOf t s → r ≡ numberOf s script
+
+pub record TrustsOn (script t : List ℕ) (r : TrustAnswer) : Type 0 where
+  pub no-keeping : (r .answer ≡ 0 → ⊥) → r .keeping ≡ 0
+  pub trusted : (s : Sheet) → TableOf t s → r ≡ trustOn s script
 
 pub record RunsOn (script t memory : List ℕ) (authority budget : ℕ) (r : Ran) : Type 0 where
   pub spares : Spares memory budget r

@@ -1,12 +1,11 @@
-use Rattle.members.specs.Internal.Members.{flowsIn}
-use Rattle.logic.specs.Booleans.{both}
+use Rattle.sets.specs.Sets.{union, intersection}
 use Rattle.checker.specs.Internal.Nodes.{assignPassed}
 use borrow.Author.Needs.{needs}
 use Rattle.checker.proofs.commands.of_assign.Statement.{statement}
 use Rattle.checker.proofs.commands.of_assign.Tie as tie
 
 returns : tie.Need-returns
-unfolding assignPassed both flowsIn
+unfolding assignPassed union intersection
 returns c = cc
 
 pub of-assign-spec : {M : Type 1} → statement M

@@ -1,3 +1,4 @@
+use Rattle.sets.specs.Sets.{intersection}
 use borrow.Author.Needs.{needs}
 use Rattle.logic.specs.Booleans.{both}
 use Rattle.checker.specs.Internal.Nodes.{casePassed}
@@ -5,7 +6,7 @@ use Rattle.checker.proofs.commands.of_case.Statement.{statement}
 use Rattle.checker.proofs.commands.of_case.Tie as tie
 
 returns : tie.Need-returns
-unfolding casePassed both
+unfolding casePassed both intersection
 returns c = cc
 
 pub of-case-spec : {M : Type 1} → statement M

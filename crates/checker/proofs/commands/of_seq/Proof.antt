@@ -1,10 +1,11 @@
+use Rattle.sets.specs.Sets.{intersection}
 use Rattle.logic.specs.Booleans.{both}
 use Rattle.checker.specs.Internal.Nodes.{seqPassed}
 use Rattle.checker.proofs.commands.of_seq.Statement.{statement}
 use Rattle.checker.proofs.commands.of_seq.Tie as tie
 
 returns : tie.Need-returns
-unfolding seqPassed both
+unfolding seqPassed both intersection
 returns c = cc
 
 pub of-seq-spec : {M : Type 1} → statement M

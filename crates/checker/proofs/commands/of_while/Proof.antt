@@ -1,3 +1,4 @@
+use Rattle.sets.specs.Sets.{intersection}
 use borrow.Author.Needs.{needs}
 use Rattle.logic.specs.Booleans.{both}
 use Rattle.checker.specs.Internal.Nodes.{whilePassed}
@@ -5,7 +6,7 @@ use Rattle.checker.proofs.commands.of_while.Statement.{statement}
 use Rattle.checker.proofs.commands.of_while.Tie as tie
 
 returns : tie.Need-returns
-unfolding whilePassed both
+unfolding whilePassed both intersection
 returns c = cc
 
 pub of-while-spec : {M : Type 1} → statement M

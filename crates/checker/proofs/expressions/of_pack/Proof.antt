@@ -1,12 +1,11 @@
-use Rattle.members.specs.Internal.Members.{flowsIn}
-use Rattle.logic.specs.Booleans.{both}
+use Rattle.sets.specs.Sets.{union, intersection}
 use Rattle.checker.specs.Internal.Nodes.{packTyped}
 use borrow.Author.Needs.{needs}
 use Rattle.checker.proofs.expressions.of_pack.Statement.{statement}
 use Rattle.checker.proofs.expressions.of_pack.Tie as tie
 
 returns : tie.Need-returns
-unfolding packTyped both flowsIn
+unfolding packTyped union intersection
 returns c = cc
 
 pub of-pack-spec : {M : Type 1} → statement M

@@ -1,3 +1,4 @@
+use Rattle.sets.specs.Sets.{intersection}
 use Rattle.logic.specs.Booleans.{both}
 use Rattle.checker.specs.Internal.Nodes.{plusTyped}
 use borrow.Author.Needs.{needs}
@@ -5,7 +6,7 @@ use Rattle.checker.proofs.expressions.of_plus.Statement.{statement}
 use Rattle.checker.proofs.expressions.of_plus.Tie as tie
 
 returns : tie.Need-returns
-unfolding plusTyped both
+unfolding plusTyped both intersection
 returns c = cc
 
 pub of-plus-spec : {M : Type 1} → statement M

@@ -1,4 +1,4 @@
-use Rattle.members.specs.Internal.Members.{flowsIn}
+use Rattle.sets.specs.Sets.{intersection}
 use Rattle.logic.specs.Booleans.{both}
 use Rattle.checker.specs.Internal.Nodes.{unpackTyped}
 use borrow.Author.Needs.{needs}
@@ -6,7 +6,7 @@ use Rattle.checker.proofs.expressions.of_unpack.Statement.{statement}
 use Rattle.checker.proofs.expressions.of_unpack.Tie as tie
 
 returns : tie.Need-returns
-unfolding unpackTyped both flowsIn
+unfolding unpackTyped both intersection
 returns c = cc
 
 pub of-unpack-spec : {M : Type 1} → statement M

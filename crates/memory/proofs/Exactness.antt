@@ -23,7 +23,7 @@ use Rattle.memory.specs.Words.{cell, valueOf}
 use Rattle.memory.specs.Memory.{memoryOf, wordsOf, formedBy, sliceRefusal, refusalBy, asDeclared, wellFormed, memoryRefusal}
 use Rattle.memory.specs.View.{viewBy, seesNo, viewWords, viewRefusal}
 use Rattle.memory.specs.Internal.InTable.{viewLeaves, asDeclaredIn, wellFormedIn, refusalIn, seesIn, viewIn, viewRefusalIn, viewLeavesIn, TableAgrees}
-use Rattle.memory.specs.Theorems.{WordsExactly, CellExactly, Declared, MemoriesExactly, ViewsExactly}
+use Rattle.memory.specs.Theorems.{WordsExactly, CellExactly, Declared, MemoriesExactly, MasksExactly, ViewsExactly}
 use Rattle.memory.proofs.WordLaws.{read-enc, read-exact, cell-inj, length-cell}
 use Rattle.memory.proofs.CellsLaws.{cells-ext, cells-inj}
 use Rattle.memory.proofs.MemoryLaws.{exact-parts, cell-holds, value-past, value-passes, value-proper, value-fits, words-back, length-words, values-back, words-formed, unrefused-length, unrefused-formed}
@@ -116,9 +116,13 @@ module _ (n : ℕ) (sees shows : ℕ → Bool) where
   unfolding wordsOf
   view-of-masks M N e = view-words M ∙ cells-ext n _ _ (λ x l. ap cell (e x l)) ∙ sym (view-words N)
 
-module _ (s : Sheet) (g : ℕ) where
+module _ (s : Sheet) (sees shows : ℕ → Bool) where
   abbrev Masked : Mem → Mem
-  Masked M = maskMem (seesNo s g) (readsNo s g) M
+  Masked M = maskMem sees shows M
+
+  -- what is shown of a memory on the sheet
+  abbrev Shown : Mem → List ℕ
+  Shown M = viewBy (locationCount s) sees shows M
 
   module _ (ws us : List ℕ) (h : memoryRefusal s ws ≡ 0) (k : memoryRefusal s us ≡ 0) where
     -- past the last location both memories have the integer 0
@@ -126,26 +130,31 @@ module _ (s : Sheet) (g : ℕ) where
     unfolding maskMem
     all-masks e x =
         by-below x (locationCount s) (e x)
-        (λ m. ap (λ v. seen (seesNo s g x) (mask (readsNo s g) v))
+        (λ m. ap (λ v. seen (sees x) (mask shows v))
         (value-past ws x (omega (arith, whole s ws h)) ∙ sym (value-past us x (omega (arith, whole s us k)))))
 
-    pub same-view : (viewWords s g ws ≡ viewWords s g us) ↔ ((x : ℕ) → Masked (memoryOf ws) x ≡ Masked (memoryOf us) x)
-    unfolding viewWords
-    same-view = (
-      λ e. all-masks (masks-of-view (locationCount s) (seesNo s g) (readsNo s g) (memoryOf ws) (memoryOf us) (fitting-values s ws h) (fitting-values s us k) e),
-      λ e. view-of-masks (locationCount s) (seesNo s g) (readsNo s g) (memoryOf ws) (memoryOf us) (λ x l. e x),
+    same-words : (Shown (memoryOf ws) ≡ Shown (memoryOf us)) ↔ ((x : ℕ) → Masked (memoryOf ws) x ≡ Masked (memoryOf us) x)
+    same-words = (
+      λ e. all-masks (masks-of-view (locationCount s) sees shows (memoryOf ws) (memoryOf us) (fitting-values s ws h) (fitting-values s us k) e),
+      λ e. view-of-masks (locationCount s) sees shows (memoryOf ws) (memoryOf us) (λ x l. e x),
     )
 
-  pub same-left : (M N : Mem) → Declared s M → Declared s N → ((x : ℕ) → Masked M x ≡ Masked N x)
-      → viewWords s g (wordsOf (locationCount s) M) ≡ viewWords s g (wordsOf (locationCount s) N)
-  unfolding viewWords maskMem
-  same-left M N d e h =
-      view-of-masks (locationCount s) (seesNo s g) (readsNo s g) _ _
-      (λ x l. ap (λ v. seen (seesNo s g x) (mask (readsNo s g) v)) (declared-back s M d x l) ∙ h x ∙ ap (λ v. seen (seesNo s g x) (mask (readsNo s g) v))
+  words-left : (M N : Mem) → Declared s M → Declared s N → ((x : ℕ) → Masked M x ≡ Masked N x)
+      → Shown (memoryOf (wordsOf (locationCount s) M)) ≡ Shown (memoryOf (wordsOf (locationCount s) N))
+  unfolding maskMem
+  words-left M N d e h =
+      view-of-masks (locationCount s) sees shows _ _
+      (λ x l. ap (λ v. seen (sees x) (mask shows v)) (declared-back s M d x l) ∙ h x ∙ ap (λ v. seen (sees x) (mask shows v))
       (sym (declared-back s N e x l)))
 
+pub masks-exactly : MasksExactly
+masks-exactly s sees shows = record { same-words = same-words s sees shows; words-left = words-left s sees shows; no-longer = mask-size shows }
+
 pub views-exactly : ViewsExactly
-views-exactly s g = record { same-view = same-view s g; same-left = same-left s g; no-longer = mask-size (readsNo s g) }
+unfolding viewWords
+views-exactly s g =
+    let m = masks-exactly s (seesNo s g) (readsNo s g) in
+    record { same-view = m .same-words; same-left = m .words-left; no-longer = m .no-longer }
 
 -- ---- the table
 

@@ -1,5 +1,5 @@
--- What is claimed of words, memories and views, as types. The proofs are `words-exactly`, `cell-exactly`, `memories-exactly` and
--- `views-exactly` (proofs/Exactness.antt).
+-- What is claimed of words, memories and views, as types. The proofs are `words-exactly`, `cell-exactly`,
+-- `memories-exactly`, `views-exactly` and `masks-exactly` (proofs/Exactness.antt).
 use mathlib.Core.Logic.{_↔_}
 use mathlib.Core.Path.{_≡_}
 use mathlib.Core.Bool.{Bool, true}
@@ -13,7 +13,7 @@ use Rattle.sheet.specs.Sheet.{Sheet, labelCount, locationCount}
 use Rattle.sheet.specs.Meaning.{shapesOf, readsNo}
 use Rattle.memory.specs.Words.{enc, cell, readOf, valueOf}
 use Rattle.memory.specs.Memory.{memoryOf, wordsOf, proper, holdsBy, memoryRefusal}
-use Rattle.memory.specs.View.{seesNo, viewWords}
+use Rattle.memory.specs.View.{viewBy, seesNo, viewWords}
 
 -- Reading gives back the value whose words stand there, and what it gives that is proper stands there; a cell is that of one value.
 pub record WordsExactly : Type 0 where
@@ -53,3 +53,18 @@ pub record ViewExactly (s : Sheet) (g : ℕ) : Type 0 where
 
 abbrev pub ViewsExactly : Type 0
 ViewsExactly = (s : Sheet) (g : ℕ) → ViewExactly s g
+
+-- By any rule of who sees which label: the words that are shown of two well-formed memories are equal exactly if their
+-- masked values are, and what is shown of a value takes no more words than the value. It is so of views (`viewWords`),
+-- and of what is left where a group is distrusted (`trustedWords`).
+pub record MaskExactly (s : Sheet) (sees shows : ℕ → Bool) : Type 0 where
+  pub same-words : (ws us : List ℕ) → memoryRefusal s ws ≡ 0 → memoryRefusal s us ≡ 0
+      → (viewBy (locationCount s) sees shows (memoryOf ws) ≡ viewBy (locationCount s) sees shows (memoryOf us))
+      ↔ ((x : ℕ) → maskMem sees shows (memoryOf ws) x ≡ maskMem sees shows (memoryOf us) x)
+  pub words-left : (M N : Mem) → Declared s M → Declared s N → ((x : ℕ) → maskMem sees shows M x ≡ maskMem sees shows N x)
+      → viewBy (locationCount s) sees shows (memoryOf (wordsOf (locationCount s) M))
+      ≡ viewBy (locationCount s) sees shows (memoryOf (wordsOf (locationCount s) N))
+  pub no-longer : (v : Value) → size (mask shows v) ≤ size v
+
+abbrev pub MasksExactly : Type 0
+MasksExactly = (s : Sheet) (sees shows : ℕ → Bool) → MaskExactly s sees shows

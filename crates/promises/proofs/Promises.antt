@@ -5,6 +5,7 @@ use Rattle.labels.proofs.LatticeLaws.{security-lattices, non-trivial, one-label
 use Rattle.labels.proofs.ReadingLaws.{empty-groups}
 use Rattle.labels.proofs.PolicyLaws.{policies-effective}
 use Rattle.language.proofs.Theorems.{theorems}
+use Rattle.language.proofs.Trust.{stricter-flow, trust-derivable}
 use Rattle.sheet.proofs.MeaningLaws.{least-label-laws, same-labels-on-sheets, numbers-agree-on-sheets}
 use Rattle.text.proofs.Decimals.{number-exact}
 use Rattle.text.proofs.Sets.{set-exact}
@@ -12,7 +13,7 @@ use Rattle.text.proofs.Fields.{number-field-exact, set-field-exact, line-end-ex
 use Rattle.text.proofs.Lines.{lines-exact, all-lines-exact}
 use Rattle.sheet_text.proofs.Theorems.{accepted-exact, repeating-exact, malformed-exact, one-sheet}
 use Rattle.script_text.proofs.ScriptLaws.{script-exact}
-use Rattle.memory.proofs.Exactness.{words-exactly, cell-exactly, memories-exactly, views-exactly}
+use Rattle.memory.proofs.Exactness.{words-exactly, cell-exactly, memories-exactly, views-exactly, masks-exactly}
 use Rattle.memory_text.proofs.Memories.{memory-exact}
 use Rattle.checker.proofs.Verdicts.{checker-exact}
 use Rattle.numbers.proofs.RowLaws.{every-table}
@@ -21,6 +22,7 @@ use Rattle.simp.proofs.ThirdDemand.{demand-3}
 use Rattle.simp.proofs.RoundViews.{round-view}
 use Rattle.simp.proofs.GroupDemands.{smallest-groups}
 use Rattle.simp.proofs.Unseen.{start-unseen}
+use Rattle.simp.proofs.TrustKept.{trust-kept}
 use Rattle.simp.proofs.CasesHold.{cases-hold}
 use Rattle.scripts.proofs.Joined.{parts-exact}
 use Rattle.groups.proofs.ListLaws.{groups-exact, readers-hold-one}
@@ -40,9 +42,12 @@ promises = record {
   round-view = round-view;
   smallest-groups = smallest-groups;
   start-unseen = start-unseen;
+  trust-kept = trust-kept;
   cases-hold = cases-hold;
   every-table = every-table;
   theorems = theorems;
+  stricter-flow = stricter-flow;
+  trust-derivable = trust-derivable;
   checker-exact = checker-exact;
   masks-are-sets = masks-are-sets;
   security-lattices = security-lattices;
@@ -75,6 +80,7 @@ promises = record {
   cell-exactly = cell-exactly;
   memories-exactly = memories-exactly;
   views-exactly = views-exactly;
+  masks-exactly = masks-exactly;
   joined-apart = joined-apart;
   missing-empty = missing-empty;
   chunks = chunks;

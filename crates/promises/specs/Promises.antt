@@ -4,14 +4,14 @@ use mathlib.Core.List.{List}
 use Prim.Native.Nat.{ℕ}
 use Rattle.sets.specs.Meaning.{MasksAreSets}
 use Rattle.labels.specs.Lattice.{SecurityLattices, NonTrivial, OneLabel, EmptyGroups, PoliciesEffective}
-use Rattle.language.specs.Theorems.{Theorems}
+use Rattle.language.specs.Theorems.{Theorems, StricterFlow, TrustDerivable}
 use Rattle.sheet.specs.Theorems.{LeastLabelLawsHold, SameLabelsOnSheets, NumbersAgreeOnSheets}
 use Rattle.text.specs.Reading.{Read}
 use Rattle.text.specs.Lines.{LineForm}
 use Rattle.text.specs.Theorems.{NumberExact, SetExact, NumberFieldExact, SetFieldExact, LineEndExact, LastNumberExact, LinesExact, AllLinesExact}
 use Rattle.sheet_text.specs.Theorems.{AcceptedExact, RepeatingExact, MalformedExact, OneSheet}
 use Rattle.script_text.specs.Theorems.{ScriptExact}
-use Rattle.memory.specs.Theorems.{WordsExactly, CellExactly, MemoriesExactly, ViewsExactly}
+use Rattle.memory.specs.Theorems.{WordsExactly, CellExactly, MemoriesExactly, ViewsExactly, MasksExactly}
 use Rattle.memory_text.specs.Theorems.{MemoryExact}
 use Rattle.checker.specs.Theorems.{CheckerExact}
 use Rattle.numbers.specs.Theorems.{EveryTable}
@@ -19,6 +19,7 @@ use Rattle.simp.specs.Demands.{Demand1, Demand2, Demand3}
 use Rattle.simp.specs.RoundView.{RoundView}
 use Rattle.simp.specs.SmallestGroups.{SmallestGroups}
 use Rattle.simp.specs.StartUnseen.{StartUnseen}
+use Rattle.simp.specs.TrustKept.{TrustKept}
 use Rattle.simp.specs.Cases.{CasesHold}
 use Rattle.scripts.specs.Theorems.{PartsExact}
 use Rattle.groups.specs.Theorems.{GroupsExact, ReadersHoldOne, ReadingGrows}
@@ -32,7 +33,7 @@ pub record Promises : Type 1 where
   -- values or what it held before, and a refused call writes to no lent slice.
   pub demand-1 : Demand1
   -- Each call answers exactly what the papers say: the numbers, the typing rules, the memory and the step count of
-  -- the evaluation rules, the smallest groups.
+  -- the evaluation rules, the smallest groups, whether a script is trust-keeping.
   pub demand-2 : Demand2
   -- Noninterference: two done runs of an accepted script under one authority, from memories that give a group the same view, leave memories
   -- that do.
@@ -46,7 +47,12 @@ pub record Promises : Type 1 where
   -- A group that can't read a script's starting label is shown the same before and after every run of it, and of a
   -- round of such scripts, done, stopped or refused.
   pub start-unseen : StartUnseen
-  -- The scope's starred cases, its two of long values, rounds, smallest groups and starting labels, in one table.
+  -- Where a group is distrusted and what it writes is blanked out: two done runs of an accepted, trust-keeping script
+  -- under one authority, from memories that are alike in what is left, leave memories that are; and so do rounds of
+  -- such scripts.
+  pub trust-kept : TrustKept
+  -- The scope's starred cases, its two of long values, rounds, smallest groups, starting labels and trust-keeping
+  -- scripts, in one table.
   pub cases-hold : CasesHold
   -- Of any table of refusal numbers: the first that applies is given, and it settles the whole answer; there is exactly one answer where it is
   -- settled which row applies first, and there is exactly one where none applies.
@@ -56,6 +62,12 @@ pub record Promises : Type 1 where
   -- The functions agree with the figures; runs are determinate, sound and end as the figures have it; typing is exact; the paper's
   -- theorems 1 and 2, noninterference, of one expression and of one command; confinement.
   pub theorems : Theorems
+  -- A command passes stricter conditions on unpacks exactly if it passes the conditions and each of its unpacks the
+  -- test besides; so trust-keeping is what noninterference asks for where a group is distrusted.
+  pub stricter-flow : StricterFlow
+  -- A script has a derivation and is trust-keeping exactly if figures 4 and 5 give it one where the rule of unpack
+  -- compares whole labels, writers as well as readers, instead of C alone.
+  pub trust-derivable : TrustDerivable
   -- For every sheet and script the number that the checker's contract gives on a sheet that isn't refused says which
   -- derivations there are: 0 if there is one, 5 if there is none even with the labels struck out, 6 otherwise.
   pub checker-exact : CheckerExact
@@ -128,6 +140,9 @@ pub record Promises : Type 1 where
   pub memories-exactly : MemoriesExactly
   -- Two well-formed memories give a group the same view exactly if their masked values are equal.
   pub views-exactly : ViewsExactly
+  -- By any rule of who sees which label: what is shown of two well-formed memories is the same exactly if their masked
+  -- values are.
+  pub masks-exactly : MasksExactly
   -- ---- The programs
 
   -- Texts of whole lines, no line of them empty, and a last text, joined by empty lines, are the parts of the whole.

@@ -6,7 +6,7 @@ use Rattle.language.specs.World.{World, Mem}
 use Rattle.language.specs.Evaluation.{bind, fit, fitIf, eval}
 use Rattle.language.specs.Transition.{spent, done, run, iterate, step, after, branch, branchV, at-seq}
 use Rattle.stages.specs.Calls.{ended}
-use Rattle.simp.specs.Cases.{Holds, spends, Each, cases, CasesHold, sheet, nested, fourLocations, before, afterPack, afterUnpack, beforeWith, afterStart, parted, times, twoPolicies, readersOnly, twoLabels, twoStarts}
+use Rattle.simp.specs.Cases.{Holds, spends, Each, cases, CasesHold, sheet, nested, fourLocations, before, afterPack, afterUnpack, beforeWith, afterStart, parted, times, twoPolicies, readersOnly, twoLabels, twoStarts, twoPackages, filledRows, packages, packagesTrusted, trustedOn}
 use Rattle.simp.proofs.Computing.{all-used}
 
 -- `w`, `l 3`, `i 1`, `s`
@@ -25,7 +25,7 @@ module _ (W : World) (M : Mem) where
   endless-spent b = turns b .0
 
 spent-always : Holds (spends "w\nl 3\ni 1\ns\n" before 0b000)
-unfolding Holds sheet fourLocations before all-used
+unfolding Holds sheet filledRows fourLocations before all-used
 spent-always budget = ap (ended 4 budget before) (endless-spent _ _ budget)
 
 -- a case, and the cases after it
@@ -35,9 +35,14 @@ a & b = (a, b)
 
 pub cases-hold : CasesHold
 unfolding Each cases Holds sheet nested fourLocations before afterPack afterUnpack beforeWith afterStart parted times twoPolicies readersOnly twoLabels
-    twoStarts all-used
+    twoStarts twoPackages filledRows packages packagesTrusted trustedOn all-used
 cases-hold =
     refl & refl & refl & refl & refl & refl & refl & refl & refl & refl & refl & refl & refl & refl & refl & spent-always & refl & refl
     & refl & refl & refl & refl & refl & refl & refl & refl & refl & refl & refl & refl & refl & refl & refl & refl & refl & refl & refl & refl & refl
     & refl & refl & refl & refl
-    & refl & refl & refl & refl & refl & refl & refl & refl & refl & refl & refl & refl & refl & tt
+    & refl & refl & refl & refl & refl & refl & refl & refl & refl & refl & refl & refl & refl
+    & refl & refl & refl & refl & refl & refl & refl & refl & refl & refl & refl & refl & refl & refl & refl
+    & refl & refl & refl & refl & refl & refl & refl & refl & refl & refl & refl & refl & refl
+    & (refl, refl, refl) & (refl, refl, refl) & (refl, refl, refl) & (refl, refl, refl)
+    & (refl, refl, refl) & (refl, refl, refl) & (refl, refl, refl) & (refl, refl, refl)
+    & (refl, refl, refl) & (refl, refl, refl) & (refl, refl, refl) & (refl, refl, refl) & tt

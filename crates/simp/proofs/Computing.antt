@@ -13,6 +13,8 @@ use Rattle.language.specs.Syntax as syntax
 use Rattle.language.specs.Transition as transition
 use Rattle.language.specs.Substitution as substitution
 use Rattle.language.specs.Typing as typing
+use Rattle.language.specs.Trust as trust
+use Rattle.language.specs.View as masks
 use Rattle.language.specs.Declarations as declarations
 use Rattle.script.specs.Lines as lines
 use Rattle.script.specs.Names as names
@@ -29,6 +31,7 @@ use Rattle.script_text.specs.Reading as script-lines
 use Rattle.script_text.specs.Script as script
 use Rattle.memory.specs.Memory as memory
 use Rattle.memory.specs.Words as words
+use Rattle.memory.specs.View as view
 use Rattle.stages.specs.Calls as calls
 use Rattle.scripts.specs.Parting as parting
 use Rattle.rounds.specs.Answers as round-answers
@@ -68,6 +71,7 @@ unfolding evaluation.bind evaluation.fitIf evaluation.fit evaluation.addTo evalu
     transition.at-assign transition.branchV transition.branch transition.step transition.after transition.run transition.iterate
     declarations.startOf declarations.nth typing.orElse typing.isYes typing.sameTy typing.isTy typing.hasTy typing.leftIs typing.rightIs typing.onSum typing.given
     typing.typeOfValue typing.typeOf typing.shape typing.least typing.flowE typing.flow typing.refusal
+    trust.keepsE trust.keeps trust.trustKeeping masks.mask masks.seen
 language-used = tt
 
 unfoldable pub script-used : Unit {0}
@@ -104,10 +108,12 @@ unfoldable pub memory-used : Unit {0}
 unfolding memory.cellOf memory.memoryOf memory.cells memory.wordsOf memory.properHead memory.proper memory.equalWords memory.exactly memory.formedBy memory.sliceRefusal
     memory.refusalBy memory.asDeclared memory.wellFormed memory.memoryRefusal
     words.headWords words.enc words.cell words.wrap words.numbered words.headAt words.packaged words.tagged words.read words.readOf
+    view.viewCell view.viewBy view.trustedLabelNo view.trustedLocationNo view.trustedWords
 memory-used = tt
 
 unfoldable pub simp-used : Unit {0}
-unfolding calls.onSheet calls.unless calls.strangers calls.onScript calls.untyped calls.numberOf calls.checkOf calls.ended calls.runOf
+unfolding calls.onSheet calls.unless calls.strangers calls.onScript calls.untyped calls.numberOf calls.checkOf calls.ended calls.runOf calls.keepingBit
+    calls.trustOn calls.trustOf
     texts.bytes
 simp-used = tt
 

@@ -11,6 +11,7 @@ use Rattle.simp.proofs.SecondDemand.{checked, run-ends, run-exactly, vi
 use Rattle.simp.proofs.FirstDemand.{finished, starts, run-answers, check-answers, view-answers, past-8}
 use Rattle.simp.proofs.RoundDemands.{round-demand-1, round-exactly}
 use Rattle.simp.proofs.GroupDemands.{groups-demand-1, groups-exactly}
+use Rattle.simp.proofs.TrustDemands.{trust-demand-1, trust-exactly}
 
 pub demand-1 : Demand1
 unfolding numbers
@@ -36,6 +37,7 @@ demand-1 = record {
   view-answers = view-answers;
   round = round-demand-1;
   groups = groups-demand-1;
+  trust = trust-demand-1;
 }
 
 pub demand-2 : Demand2
@@ -45,4 +47,5 @@ demand-2 = record {
   view = view-exactly;
   round = round-exactly;
   groups = groups-exactly;
+  trust = trust-exactly;
 }

@@ -7,11 +7,15 @@ pub mod RoundRows
 pub mod Turns
 pub mod RoundDemands
 pub mod GroupDemands
+pub mod TrustDemands
 pub mod EveryCall
 pub mod Readers
+pub mod Trusters
 pub mod ThirdDemand
+pub mod RoundRuns
 pub mod RoundViews
 pub mod Unseen
+pub mod TrustKept
 pub mod SheetLaws
 mod Computing
 pub mod CasesHold

@@ -2,15 +2,16 @@
 -- Assumes nothing.
 use mathlib.Core.Path.{_≡_, refl, sym, ap, _∙_, subst₂, fun-ext}
 use mathlib.Core.Bool.{Bool, true, false}
+use mathlib.Core.List.{[]}
 use Prim.Native.Nat.{ℕ, _≤_}
 use Rattle.labels.specs.Labels.{owners, readsOf, EffectiveLabel}
 use Rattle.labels.proofs.ReadingLaws.{reads-down, reads-down-C}
 use Rattle.language.specs.Syntax.{Value, Cmd, Script}
-use Rattle.language.specs.World.{Mem}
+use Rattle.language.specs.World.{World, Mem}
 use Rattle.language.specs.View.{seen, mask, maskMem}
 use Rattle.language.specs.Figures.{Steps}
 use Rattle.language.specs.Transition.{done, iterate}
-use Rattle.language.specs.Typing.{conditions}
+use Rattle.language.specs.Typing.{Conditions, conditions, flow}
 use Rattle.language.specs.Theorems.{Observer}
 use Rattle.language.proofs.Exactness.{script-iff}
 use Rattle.language.proofs.Noninterference.{noninterference}
@@ -28,6 +29,22 @@ same-seen : (b : Bool) (shows : ℕ → Bool) (v w : Value) → (b ≡ true → 
 unfolding seen
 same-seen true shows v w h = ap (mask shows) (h refl)
 same-seen false shows v w h = refl
+
+-- Two memories look the same, where the locations `sees` are seen and the contents at the label numbers `shows`.
+Alike : Mem → Mem → (ℕ → Bool) → (ℕ → Bool) → Type 0
+Alike M N sees shows = (x : ℕ) → maskMem sees shows M x ≡ maskMem sees shows N x
+
+-- Noninterference, of an observer of whom numbers tell what it sees.
+module _ {L : Type 0} (K : Conditions L) (W : World) (vis : L → Bool) (label : ℕ → L) (observer : Observer K W vis (λ l. vis (label l)))
+    {sees shows : ℕ → Bool} (sees-is : (λ x. vis (K .home x)) ≡ sees) (shows-is : (λ l. vis (label l)) ≡ shows) where
+  pub looks-kept : (pc : L) (c : Cmd) → flow K pc [] c ≡ true → (b b′ l l′ : ℕ) (M N M′ N′ : Mem)
+      → ((x : ℕ) → maskMem sees shows M x ≡ maskMem sees shows N x)
+      → iterate W b M c ≡ done M′ l → iterate W b′ N c ≡ done N′ l′
+      → (x : ℕ) → maskMem sees shows M′ x ≡ maskMem sees shows N′ x
+  unfolding Alike
+  looks-kept pc c f b b′ l l′ M N M′ N′ h e e′ =
+      subst₂ (Alike M′ N′) sees-is shows-is
+      (noninterference K W vis (λ k. vis (label k)) observer pc c f b b′ l l′ M N M′ N′ (subst₂ (Alike M N) (sym sees-is) (sym shows-is) h) e e′)
 
 module _ (s : Sheet) (fm : formed s ≡ true) (group : ℕ) where
   -- the labels that the group reads
@@ -53,22 +70,16 @@ module _ (s : Sheet) (fm : formed s ≡ true) (group : ℕ) where
       (λ m l. rw (declared-label s fm m, declared-label s fm l) refl)
       (λ a b h. reads-down-C (s .principals) few group (a .raw) (b .raw) h)
 
-  -- Two memories show the group the same, where it sees the locations `sees` and the contents at the label numbers `shows`.
-  Alike : Mem → Mem → (ℕ → Bool) → (ℕ → Bool) → Type 0
-  Alike M N sees shows = (x : ℕ) → maskMem sees shows M x ≡ maskMem sees shows N x
-
   -- Two done runs of an accepted script, under one authority, from memories that show the group the same, leave such memories.
   pub shown-kept : (p : Script) → Typable s p → (authority b b′ l l′ : ℕ) (M N M′ N′ : Mem)
       → ((x : ℕ) → maskMem (seesNo s group) (readsNo s group) M x ≡ maskMem (seesNo s group) (readsNo s group) N x)
       → iterate (worldFor s authority p) b M (p .command) ≡ done M′ l → iterate (worldFor s authority p) b′ N (p .command) ≡ done N′ l′
       → (x : ℕ) → maskMem (seesNo s group) (readsNo s group) M′ x ≡ maskMem (seesNo s group) (readsNo s group) N′ x
-  unfolding Alike
-  shown-kept p t authority b b′ l l′ M N M′ N′ h e e′ =
+  shown-kept p t authority =
       let 𝓛 = labelsOver (s .principals) in
       let D = declarationsOf s in
-      subst₂ (Alike M′ N′) sees-is shows-is
-      (noninterference (conditions 𝓛 D) (worldFor s authority p) vis (λ k. vis (D .label k)) (observer authority) (startLabel s p) (p .command)
-      (script-iff 𝓛 (least-label-laws (s .principals)) D p .1 t .1) b b′ l l′ M N M′ N′ (subst₂ (Alike M N) (sym sees-is) (sym shows-is) h) e e′)
+      looks-kept (conditions 𝓛 D) (worldFor s authority p) vis (D .label) (observer authority) sees-is shows-is (startLabel s p) (p .command)
+      (script-iff 𝓛 (least-label-laws (s .principals)) D p .1 t .1)
 
   -- A script whose starting label the group doesn't read: however far a run of it goes, the memory shows the group the
   -- same.

@@ -69,6 +69,22 @@ done-declared {memory = memory} {authority = authority} {s = s} {p = p} {budget 
     left-declared s (p .command) (st .of-script .source) (st .of-script .named-there) (typable-shape s p (st .typable)) authority budget (ran .rest)
     (memoryOf memory) (ran .reached) (declared st) (ran .run)
 
+-- two done runs of one script, on its sheet
+pub record TwoRuns (sheet script memory memory′ : List ℕ) (authority budget budget′ : ℕ) : Type 0 where
+  pub its-sheet : Sheet
+  pub its-script : Script
+  pub one : Started sheet script memory authority its-sheet its-script
+  pub two : Started sheet script memory′ authority its-sheet its-script
+  pub ran : Done its-sheet its-script memory authority budget (runOf sheet script memory authority budget .memory)
+  pub ran′ : Done its-sheet its-script memory′ authority budget′ (runOf sheet script memory′ authority budget′ .memory)
+
+pub two-runs : (sheet script memory memory′ : List ℕ) (authority budget budget′ : ℕ) → runOf sheet script memory authority budget .answer ≡ 0
+    → runOf sheet script memory′ authority budget′ .answer ≡ 0 → TwoRuns sheet script memory memory′ authority budget budget′
+two-runs sheet script memory memory′ authority budget budget′ r r′ =
+    let st = starts sheet script memory authority budget r in
+    let two : Started sheet script memory′ authority (st .0) (st .1) = same-start (st .2) (starts sheet script memory′ authority budget′ r′ .2) in
+    record { its-sheet = st .0; its-script = st .1; one = st .2; two = two; ran = done-run budget (st .2) r; ran′ = done-run budget′ two r′ }
+
 -- a view that was handed out, on the sheet of a run
 record Shown (sheet memory : List ℕ) (group : ℕ) (view : List ℕ) (s : Sheet) : Type 0 where
   known : Principals s group
@@ -101,14 +117,14 @@ left-view {sheet} {s} group left view M i p y d e =
 
 pub demand-3 : Demand3
 demand-3 sheet script k authority b b′ group m m′ v v′ same r r′ =
-    let st = starts sheet script m authority b r in
-    let s : Sheet = st .0 in
-    let p : Script = st .1 in
-    let one : Started sheet script m authority s p = st .2 in
-    let two : Started sheet script m′ authority s p = same-start one (starts sheet script m′ authority b′ r′ .2) in
+    let runs = two-runs sheet script m m′ authority b b′ r r′ in
+    let s : Sheet = runs .its-sheet in
+    let p : Script = runs .its-script in
+    let one = runs .one in
+    let two = runs .two in
     let on : OnSheet sheet s = one .on-sheet in
-    let ran = done-run b one r in
-    let ran′ = done-run b′ two r′ in
+    let ran = runs .ran in
+    let ran′ = runs .ran′ in
     let d = done-declared one ran in
     let d′ = done-declared two ran′ in
     let shown = shown-on group m v on (same .shown) in

@@ -17,7 +17,7 @@ use Rattle.scripts.specs.Parting.{partsOf}
 use Rattle.rounds.specs.Answers.{RanRound, leftBy, Gate}
 use Rattle.rounds.specs.Calls.{runEach, turnOf, roundBy}
 use Rattle.simp.specs.Judgements.{OnSheet, Started}
-use Rattle.simp.specs.Rounds.{Open}
+use Rattle.simp.specs.Rounds.{Open, EachOpen}
 use Rattle.simp.specs.StartUnseen.{StartHidden, HiddenFrom, StartUnseen}
 use Rattle.simp.proofs.Judged.{read}
 use Rattle.simp.proofs.SecondDemand.{declared, by-figures}
@@ -73,7 +73,7 @@ module _ (sheet : List ℕ) (group : ℕ) (authority budget : ℕ) (view : List 
 
     each-alike : (i : ℕ) (memory : List ℕ) (ts : List (List ℕ)) → HiddenFrom sheet group gate i ts
         → Alike (leftBy memory (runEach (turnOf gate sheet authority budget) i memory ts)) memory
-    unfolding runEach leftBy HiddenFrom
+    unfolding runEach leftBy EachOpen
     each-alike i memory [] h = refl
     each-alike i memory (t ∷ ts) h = each-alike (suc i) (turnOf gate sheet authority budget i t memory .memory) ts (h .1) ∙ turn-alike i t memory (h .0)
 

@@ -1,5 +1,6 @@
--- The scope's starred cases ("Cases"), its two of long values, rounds (request (a)), smallest groups (request (b))
--- and starting labels (request (d)), as one table. `cases-hold` in proofs/CasesHold.antt shows all of them.
+-- The scope's starred cases ("Cases"), its two of long values, rounds (request (a)), smallest groups (request (b)),
+-- starting labels (request (d)) and trust-keeping scripts (request (e)), as one table. `cases-hold` in
+-- proofs/CasesHold.antt shows all of them.
 use mathlib.Core.Path.{_≡_}
 use mathlib.Core.Bool.{Bool, true, false}
 use mathlib.Core.List.{List, [], _∷_, _++_}
@@ -8,7 +9,9 @@ use Prim.Native.String.{String}
 use lib.ListN.{replicate}
 use Rattle.labels.specs.Labels.{Policy, policy, labelOf, readsOf, writesOf}
 use Rattle.sheet.specs.Padding.{padded}
-use Rattle.stages.specs.Calls.{checkOf, runOf}
+use Rattle.sheet_text.specs.Sheets.{sheetOf}
+use Rattle.memory.specs.View.{trustedWords}
+use Rattle.stages.specs.Calls.{onSheet, checkOf, runOf, trustOf}
 use Rattle.scripts.specs.Parting.{mostScripts}
 use Rattle.rounds.specs.Calls.{roundOf}
 use Rattle.groups.specs.Calls.{groupsOf}
@@ -34,13 +37,23 @@ twoLabels = "P 4\nL\nL\nO 0 0004 0000\nO 1 0008 0000\n"
 unfoldable pub twoStarts : String
 twoStarts = "P 2\nL\nO 0 0003 0000\nO 1 0003 0000\nL\nX 0 0\nX 0 1\n"
 
+-- two principals; a label that both may write, and one whose owner 0 lets nobody else read or write; a package at each,
+-- and an integer or error at the second; and sums with that one on the left and on the right
+unfoldable pub twoPackages : String
+twoPackages = "P 2\nT 0 1\nT 5 1\nT 0 5\nL\nL\nO 0 0000 0000\nX 2 0\nX 2 1\nX 5 1\n"
+
 -- no location, and fourteen sums from type 5 on, each with the one before it on its left, the first with int+int
 unfoldable pub nested : String
 nested = "P 1\nT 3 0\nT 5 0\nT 6 0\nT 7 0\nT 8 0\nT 9 0\nT 10 0\nT 11 0\nT 12 0\nT 13 0\nT 14 0\nT 15 0\nT 16 0\nT 17 0\n"
 
--- four locations; each row is filled up with zeros
+-- locations; each row is filled up with zeros
+unfoldable pub filledRows : List (List ℕ) → List ℕ
+filledRows [] = []
+filledRows (row ∷ rows) = padded 16 row ++ filledRows rows
+
+-- four of them
 unfoldable pub fourLocations : List ℕ → List ℕ → List ℕ → List ℕ → List ℕ
-fourLocations a b c d = padded 16 a ++ (padded 16 b ++ (padded 16 c ++ padded 16 d))
+fourLocations a b c d = filledRows (a ∷ b ∷ c ∷ d ∷ [])
 
 unfoldable pub before : List ℕ
 before = fourLocations (1 ∷ 5 ∷ []) (1 ∷ 62 ∷ []) (4 ∷ 2 ∷ 1 ∷ []) (4 ∷ 2 ∷ 1 ∷ [])
@@ -60,6 +73,18 @@ beforeWith n = fourLocations (1 ∷ n ∷ []) (1 ∷ 62 ∷ []) (4 ∷ 2 ∷ 1 �
 -- after a script that starts at the label of location 1 and puts 7 there
 unfoldable pub afterStart : List ℕ
 afterStart = fourLocations (1 ∷ 5 ∷ []) (1 ∷ 7 ∷ []) (4 ∷ 2 ∷ 1 ∷ []) (4 ∷ 2 ∷ 1 ∷ [])
+
+-- packages of label 1 with these integers, and other words in location 2
+unfoldable pub packages : ℕ → ℕ → List ℕ → List ℕ
+packages m n words = filledRows ((5 ∷ 1 ∷ 1 ∷ m ∷ []) ∷ (5 ∷ 1 ∷ 1 ∷ n ∷ []) ∷ words ∷ [])
+
+-- what is left of them where principal 1 is distrusted, who writes label 0
+unfoldable pub packagesTrusted : ℕ → List ℕ → List ℕ
+packagesTrusted n words = filledRows ([] ∷ (5 ∷ 1 ∷ 1 ∷ n ∷ []) ∷ words ∷ [])
+
+-- what is left of a memory where a group is distrusted; nothing on a sheet that is refused
+unfoldable pub trustedOn : String → ℕ → List ℕ → List ℕ
+trustedOn on group m = onSheet (λ k. []) (sheetOf (bytes on)) (λ s. trustedWords s group m)
 
 -- scripts in one text, parted by empty lines
 unfoldable pub parted : List String → List ℕ
@@ -90,6 +115,11 @@ pub data Case : Type 0 where
   -- a sheet, scripts, a memory and a budget, without authority: what the round answers, what each script answers and its steps, and the memory
   -- that the round leaves
   rounds : String → List String → List ℕ → ℕ → ℕ → List ℕ → List ℕ → List ℕ → Case
+  -- a sheet, a script, and what simp_trust answers: the number, and 1 if the script is accepted and trust-keeping
+  trusts : String → String → ℕ → ℕ → Case
+  -- a sheet, a script, an authority, a group of distrusted parties and a memory: what is left of the memory where the
+  -- group is distrusted, and what is left of it so after the run, which is done
+  distrusts : String → String → ℕ → ℕ → List ℕ → List ℕ → List ℕ → Case
   -- a sheet, a label and places: what simp_groups answers, how many groups, and what the places then hold
   groups : String → ℕ → List ℕ → ℕ → ℕ → List ℕ → Case
 
@@ -111,6 +141,10 @@ Holds (spends script m authority) =
 Holds (answers script answer steps) = runOf (bytes nested) (bytes script) [] 0 largest ≡ record { answer = answer; steps = steps; memory = [] }
 Holds (rounds on scripts m budget answer each steps left) =
     roundOf (bytes on) (parted scripts) m 0 budget ≡ record { answer = answer; answers = padded mostScripts each; steps = padded mostScripts steps; memory = left }
+Holds (trusts on script answer keeping) = trustOf (bytes on) (bytes script) ≡ record { answer = answer; keeping = keeping }
+Holds (distrusts on script authority group m left after) =
+    let r = runOf (bytes on) (bytes script) m authority largest in
+    (trustedOn on group m ≡ left) × (r .answer ≡ 0) × (trustedOn on group (r .memory) ≡ after)
 Holds (groups on l places answer count after) = groupsOf (bytes on) l places ≡ record { answer = answer; count = count; places = after }
 
 unfoldable pub cases : List Case
@@ -185,6 +219,63 @@ cases =
     ∷ groups "P 1\n" 0 [] 12 0 []
     -- 2 comes before 12
     ∷ groups "P 1\nL\nL\n" 2 [] 2 0 []
+    -- trust-keeping: an unpack whose operand lies at or below the wanted label; not by readers alone
+    ∷ trusts twoPackages "= 2\nu 5 1\nx 1\n" 0 1
+    ∷ trusts twoPackages "= 2\nu 5 1\nx 0\n" 0 0
+    -- writers strictly within those of the wanted label
+    ∷ trusts twoPackages "c\nk 1\nx 1\nc\nu 5 0\nv 0\ns\ns\ns\n" 0 1
+    -- each unpack counts: the first, the last, one in either branch, in a loop, in a case's expression, under a left, a
+    -- right and a pack, and one of a bound value. (By its type none stands in a guard of `w`, under `+` or under
+    -- another unpack.)
+    ∷ trusts twoPackages ";\n= 2\nu 5 1\nx 0\n= 2\nu 5 1\nx 1\n" 0 0
+    ∷ trusts twoPackages ";\n= 2\nu 5 1\nx 1\n= 2\nu 5 1\nx 0\n" 0 0
+    ∷ trusts twoPackages ";\n= 2\nu 5 1\nx 1\n= 2\nu 5 1\nx 1\n" 0 1
+    ∷ trusts twoPackages "c\nx 2\n= 2\nu 5 1\nx 0\ns\n" 0 0
+    ∷ trusts twoPackages "c\nx 2\ns\n= 2\nu 5 1\nx 0\n" 0 0
+    ∷ trusts twoPackages "c\nx 2\n= 2\nu 5 1\nx 1\n= 2\nu 5 1\nx 1\n" 0 1
+    ∷ trusts twoPackages "w\nl 3\ni 1\n= 2\nu 5 1\nx 0\n" 0 0
+    ∷ trusts twoPackages "c\nu 5 1\nx 0\ns\ns\n" 0 0
+    ∷ trusts twoPackages "c\nl 6\nu 5 1\nx 0\ns\ns\n" 0 0
+    ∷ trusts twoPackages "c\nr 7\nu 5 1\nx 0\ns\ns\n" 0 0
+    ∷ trusts twoPackages "c\nk 1\nu 5 1\nx 0\n= 2\nu 5 1\nv 0\ns\n" 0 0
+    ∷ trusts twoPackages "c\nk 0\nx 0\nc\nu 5 1\nv 0\ns\ns\ns\n" 0 0
+    ∷ trusts twoPackages "c\nk 1\nx 1\n= 2\nu 5 1\nv 0\ns\n" 0 1
+    -- of two bound values the outer and the inner one
+    ∷ trusts twoPackages "c\nk 0\nx 0\nc\nk 1\nx 1\nc\nu 5 1\nv 1\ns\ns\ns\ns\n" 0 0
+    ∷ trusts twoPackages "c\nk 0\nx 0\nc\nk 1\nx 1\nc\nu 5 1\nv 0\ns\ns\ns\ns\n" 0 1
+    -- none to count; a guard and a starting label ask nothing of unpacks; a script that is refused
+    ∷ trusts twoPackages "s\n" 0 1
+    ∷ trusts twoPackages "c\nk 0\nx 0\nc\nu 5 1\nx 1\ns\ns\ns\n" 0 1
+    ∷ trusts twoPackages "b 0\nc\nu 5 1\nx 1\ns\ns\n" 0 1
+    ∷ trusts twoPackages "b 1\n= 2\nu 5 1\nx 0\n" 0 0
+    ∷ trusts twoPackages "b 0\n= 2\nu 5 1\nx 1\n" 6 0
+    ∷ trusts twoPackages "= 1\nx 0\n" 6 0
+    ∷ trusts twoPackages "= 2\nx 1\n" 5 0
+    ∷ trusts twoPackages "" 4 0
+    ∷ trusts "P 1\nL\nL\n" "s\n" 2 0
+    ∷ trusts "" "s\n" 1 0
+    -- where principal 1, who writes location 0 alone, is distrusted: by an accepted script that isn't trust-keeping two
+    -- memories that are alike in what is left come to differ in it; by a trust-keeping one they stay alike
+    ∷ distrusts twoPackages "= 2\nu 5 1\nx 0\n" 0b01 0b10 (packages 5 9 (4 ∷ 2 ∷ 1 ∷ [])) (packagesTrusted 9 (4 ∷ 2 ∷ 1 ∷ [])) (packagesTrusted 9 (3 ∷ 1 ∷ 5 ∷ []))
+    ∷ distrusts twoPackages "= 2\nu 5 1\nx 0\n" 0b01 0b10 (packages 7 9 (4 ∷ 2 ∷ 1 ∷ [])) (packagesTrusted 9 (4 ∷ 2 ∷ 1 ∷ [])) (packagesTrusted 9 (3 ∷ 1 ∷ 7 ∷ []))
+    ∷ distrusts twoPackages "= 2\nu 5 1\nx 1\n" 0b01 0b10 (packages 5 9 (4 ∷ 2 ∷ 1 ∷ [])) (packagesTrusted 9 (4 ∷ 2 ∷ 1 ∷ [])) (packagesTrusted 9 (3 ∷ 1 ∷ 9 ∷ []))
+    ∷ distrusts twoPackages "= 2\nu 5 1\nx 1\n" 0b01 0b10 (packages 7 9 (4 ∷ 2 ∷ 1 ∷ [])) (packagesTrusted 9 (4 ∷ 2 ∷ 1 ∷ [])) (packagesTrusted 9 (3 ∷ 1 ∷ 9 ∷ []))
+    -- a package whose own label principal 1 writes, where it doesn't write the location's: the content is blanked, and
+    -- a run doesn't open the package at a label that principal 1 doesn't write
+    ∷ distrusts twoPackages "= 2\nu 5 1\nx 1\n" 0b01 0b10 (filledRows ((5 ∷ 1 ∷ 1 ∷ 5 ∷ []) ∷ (5 ∷ 0 ∷ 1 ∷ 9 ∷ []) ∷ (4 ∷ 2 ∷ 1 ∷ []) ∷ []))
+    (filledRows ([] ∷ (5 ∷ 0 ∷ 0 ∷ []) ∷ (4 ∷ 2 ∷ 1 ∷ []) ∷ [])) (filledRows ([] ∷ (5 ∷ 0 ∷ 0 ∷ []) ∷ (4 ∷ 2 ∷ 2 ∷ []) ∷ []))
+    ∷ distrusts twoPackages "= 2\nu 5 1\nx 1\n" 0b01 0b10 (filledRows ((5 ∷ 1 ∷ 1 ∷ 5 ∷ []) ∷ (5 ∷ 0 ∷ 1 ∷ 8 ∷ []) ∷ (4 ∷ 2 ∷ 1 ∷ []) ∷ []))
+    (filledRows ([] ∷ (5 ∷ 0 ∷ 0 ∷ []) ∷ (4 ∷ 2 ∷ 1 ∷ []) ∷ [])) (filledRows ([] ∷ (5 ∷ 0 ∷ 0 ∷ []) ∷ (4 ∷ 2 ∷ 2 ∷ []) ∷ []))
+    -- writing decides, not reading: principal 1 reads both of these and writes the second alone, both together write
+    -- both; and it writes every location of the scope's sheet, though it doesn't read label 2
+    ∷ distrusts twoStarts "s\n" 0 0b10 (filledRows ((1 ∷ 5 ∷ []) ∷ (1 ∷ 7 ∷ []) ∷ [])) (filledRows ((1 ∷ 5 ∷ []) ∷ [] ∷ [])) (filledRows ((1 ∷ 5 ∷ []) ∷ [] ∷ []))
+    ∷ distrusts twoStarts "s\n" 0 0b11 (filledRows ((1 ∷ 5 ∷ []) ∷ (1 ∷ 7 ∷ []) ∷ [])) (filledRows ([] ∷ [] ∷ [])) (filledRows ([] ∷ [] ∷ []))
+    ∷ distrusts sheet "s\n" 0 0b010 before (fourLocations [] [] [] []) (fourLocations [] [] [] [])
+    -- who writes all leaves nothing, nobody blanks nothing; a content inside one that is left is blanked
+    ∷ distrusts twoPackages "s\n" 0 0b01 (packages 5 9 (4 ∷ 2 ∷ 1 ∷ [])) (filledRows ([] ∷ [] ∷ [] ∷ [])) (filledRows ([] ∷ [] ∷ [] ∷ []))
+    ∷ distrusts twoPackages "s\n" 0 0b00 (packages 5 9 (4 ∷ 2 ∷ 1 ∷ [])) (packages 5 9 (4 ∷ 2 ∷ 1 ∷ [])) (packages 5 9 (4 ∷ 2 ∷ 1 ∷ []))
+    ∷ distrusts twoPackages "s\n" 0 0b10 (filledRows ((5 ∷ 1 ∷ 1 ∷ 5 ∷ []) ∷ (5 ∷ 1 ∷ 5 ∷ 0 ∷ 1 ∷ 9 ∷ []) ∷ (4 ∷ 2 ∷ 1 ∷ []) ∷ []))
+    (filledRows ([] ∷ (5 ∷ 1 ∷ 5 ∷ 0 ∷ 0 ∷ []) ∷ (4 ∷ 2 ∷ 1 ∷ []) ∷ [])) (filledRows ([] ∷ (5 ∷ 1 ∷ 5 ∷ 0 ∷ 0 ∷ []) ∷ (4 ∷ 2 ∷ 1 ∷ []) ∷ []))
     ∷ []
 
 -- every case of a table holds

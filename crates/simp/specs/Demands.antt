@@ -10,8 +10,8 @@ use Rattle.language.specs.Figures.{Steps}
 use Rattle.sheet.specs.Sheet.{Sheet, locationCount}
 use Rattle.sheet.specs.Meaning.{worldFor}
 use Rattle.memory.specs.Memory.{memoryOf, wordsOf}
-use Rattle.stages.specs.Answers.{Ran, refusedRun, Viewed}
-use Rattle.stages.specs.Calls.{checkOf, runOf, viewOf}
+use Rattle.stages.specs.Answers.{Ran, refusedRun, Viewed, TrustAnswer}
+use Rattle.stages.specs.Calls.{checkOf, runOf, viewOf, trustOf}
 use Rattle.scripts.specs.Parting.{partsOf}
 use Rattle.rounds.specs.Answers.{RanRound, Gate, allOpen}
 use Rattle.rounds.specs.Calls.{roundBy}
@@ -21,6 +21,7 @@ use Rattle.numbers.specs.Rows.{Among, GivenInOrder}
 use Rattle.simp.specs.Judgements.{checkRows, Checked, runRows, Started, Run, viewRows, View}
 use Rattle.simp.specs.Rounds.{roundRows, Places, Played, Open, Round}
 use Rattle.simp.specs.Groups.{groupRows, Groups}
+use Rattle.simp.specs.Trust.{Trust}
 
 -- The run was started and reached skip within the budget, and these are the words of the memory that it reached, after so many steps.
 pub record Finished (sheet script memory : List ℕ) (authority budget steps : ℕ) (left : List ℕ) : Type 0 where
@@ -89,9 +90,25 @@ pub record GroupsDemand1 : Type 1 where
   pub number : (sheet : List ℕ) (l : ℕ) (places : List ℕ) → Groups sheet l places (groupsOf sheet l places)
   pub answers : (sheet : List ℕ) (l : ℕ) (places : List ℕ) → GroupAnswers places (groupsOf sheet l places)
 
--- Demand 1. Each call gives the first number that applies, in their fixed order; each answer is 0 or one of the call's numbers. After any call
--- the lent memory holds the finished run's values or exactly what it held before; a refused call writes to no lent slice.
--- That a call ends is proved with each function; simp_check is lent nothing to write, and simp_view is lent its memory for reading.
+-- What simp_trust answers, whatever it is given: one of its numbers, that of simp_check; 0 or 1 beside it, and beside a
+-- refusal 0.
+pub record TrustAnswers (sheet script : List ℕ) (r : TrustAnswer) : Type 0 where
+  pub number : Among (0 ∷ 1 ∷ 2 ∷ 4 ∷ 5 ∷ 6 ∷ []) (r .answer)
+  pub as-check : r .answer ≡ checkOf sheet script
+  pub keeping-bit : Among (0 ∷ 1 ∷ []) (r .keeping)
+  pub no-keeping : ¬ (r .answer ≡ 0) → r .keeping ≡ 0
+
+-- Demand 1 of simp_trust: the number given applies, and none that comes before it in the order does; the whole answer
+-- is as the table has it.
+pub record TrustDemand1 : Type 1 where
+  pub order : (sheet script : List ℕ) → GivenInOrder (checkRows sheet script) (trustOf sheet script .answer)
+  pub number : (sheet script : List ℕ) → Trust sheet script (trustOf sheet script)
+  pub answers : (sheet script : List ℕ) → TrustAnswers sheet script (trustOf sheet script)
+
+-- Demand 1. Each call gives the first number that applies, in their fixed order; each answer is 0 or one of the call's
+-- numbers. After any call the lent memory holds the finished run's values or exactly what it held before; a refused
+-- call writes to no lent slice. That a call ends is proved with each function; simp_check and simp_trust are lent
+-- nothing to write, and simp_view is lent its memory for reading.
 pub record Demand1 : Type 1 where
   -- the number given applies, and none that comes before it in the order does (crate numbers' FirstThatAppliesIsGiven, of each table);
   -- when a run's 9 and 10 apply, and its steps beside 10, is in run-number
@@ -112,10 +129,12 @@ pub record Demand1 : Type 1 where
   pub round : RoundDemand1
   -- and of simp_groups
   pub groups : GroupsDemand1
+  -- and of simp_trust
+  pub trust : TrustDemand1
 
 -- Demand 2. Each call answers exactly what the papers say: the numbers in their order, acceptance by the typing
--- rules, the memory and the step count of the evaluation rules, and the smallest groups. So there is exactly one
--- answer by each table: the call's.
+-- rules, the memory and the step count of the evaluation rules, the smallest groups, and whether a script is
+-- trust-keeping. So there is exactly one answer by each table: the call's.
 pub record Demand2 : Type 0 where
   pub check : (sheet script : List ℕ) (k : ℕ) → (checkOf sheet script ≡ k) ↔ Checked sheet script k
   pub run : (sheet script memory : List ℕ) (authority budget : ℕ) (r : Ran)
@@ -124,6 +143,7 @@ pub record Demand2 : Type 0 where
   pub round : (gate : Gate) (sheet scripts memory : List ℕ) (authority budget : ℕ) (r : RanRound)
       → (roundBy gate sheet scripts memory authority budget ≡ r) ↔ Round gate sheet scripts memory authority budget r
   pub groups : (sheet : List ℕ) (l : ℕ) (places : List ℕ) (r : Grouped) → (groupsOf sheet l places ≡ r) ↔ Groups sheet l places r
+  pub trust : (sheet script : List ℕ) (r : TrustAnswer) → (trustOf sheet script ≡ r) ↔ Trust sheet script r
 
 -- Two memories give a group the same view: the view of each is handed out into a lent slice, and these agree in every word.
 -- `shown` holds exactly if the sheet is of its form and repeats nothing, the group is on it, the slices have their size and the memory is

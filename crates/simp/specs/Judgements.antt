@@ -1,5 +1,5 @@
 -- What each call must answer, by the papers: its numbers in the order judged, each with when it applies, and what holds where none does. (Of a
--- round Rounds.antt says it, of smallest groups Groups.antt.)
+-- round Rounds.antt says it, of smallest groups Groups.antt, of trust-keeping scripts Trust.antt.)
 -- The demands say that the calls answer so.
 -- `wellFormed`, `memoryOf`, `wordsOf` and `viewWords` are crate memory's: its theorems MemoryExactly and ViewExactly say that a
 -- memory is well-formed exactly if it is the words of values as declared, and that views are equal exactly if the masked values are.

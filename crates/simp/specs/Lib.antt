@@ -3,7 +3,9 @@ pub mod Cases
 pub mod Judgements
 pub mod Rounds
 pub mod Groups
+pub mod Trust
 pub mod Demands
 pub mod RoundView
 pub mod StartUnseen
+pub mod TrustKept
 pub mod SmallestGroups

@@ -70,6 +70,11 @@ pub record Played (Turn : ℕ → List ℕ → List ℕ → Ran → Type 0) (scr
 abbrev pub Open : Gate → ℕ → Type 0
 Open gate i = gate i ≡ 0
 
+-- P holds of each script that is open, the first of these being in place i.
+unfoldable pub EachOpen : (List ℕ → Type 0) → Gate → ℕ → List (List ℕ) → Type 0
+EachOpen P gate i [] = Unit {0}
+EachOpen P gate i (t ∷ ts) = (Open gate i → P t) × EachOpen P gate (suc i) ts
+
 -- A script that isn't open is refused with its gate's number; one that is open goes as simp_run with the whole budget must (Judgements.antt).
 abbrev pub TurnGoes : Gate → List ℕ → ℕ → ℕ → ℕ → List ℕ → List ℕ → Ran → Type 0
 TurnGoes gate sheet authority budget i script memory r =

@@ -1,8 +1,8 @@
 -- A group that can't read a script's starting label is shown the same before and after it is run (request (d), buttons).
 use mathlib.Core.Path.{_≡_}
 use mathlib.Core.Bool.{true}
-use mathlib.Core.List.{List, [], _∷_}
-use Prim.Native.Nat.{ℕ, suc}
+use mathlib.Core.List.{List}
+use Prim.Native.Nat.{ℕ}
 use Rattle.language.specs.Syntax.{Script}
 use Rattle.sheet.specs.Sheet.{Sheet}
 use Rattle.sheet.specs.Meaning.{readsStart}
@@ -13,7 +13,7 @@ use Rattle.stages.specs.Calls.{runOf, viewOf}
 use Rattle.scripts.specs.Parting.{partsOf}
 use Rattle.rounds.specs.Answers.{Gate}
 use Rattle.rounds.specs.Calls.{roundBy}
-use Rattle.simp.specs.Rounds.{Open}
+use Rattle.simp.specs.Rounds.{EachOpen}
 
 -- The group can't read the starting label of the script that the text is that of. (It is that of one at most, and of
 -- one if it is accepted.)
@@ -21,9 +21,8 @@ abbrev pub StartHidden : List ℕ → ℕ → List ℕ → Type 0
 StartHidden sheet group script = (s : Sheet) (p : Script) → IsSheet sheet s → IsScript (countsOf s) script p → ¬ (readsStart s group p ≡ true)
 
 -- so of each script that is open, the first of these being in place i
-unfoldable pub HiddenFrom : List ℕ → ℕ → Gate → ℕ → List (List ℕ) → Type 0
-HiddenFrom sheet group gate i [] = Unit {0}
-HiddenFrom sheet group gate i (t ∷ ts) = (Open gate i → StartHidden sheet group t) × HiddenFrom sheet group gate (suc i) ts
+abbrev pub HiddenFrom : List ℕ → ℕ → Gate → ℕ → List (List ℕ) → Type 0
+HiddenFrom sheet group gate i ts = EachOpen (StartHidden sheet group) gate i ts
 
 -- Any sheet, group, authority, budget and memory, and any slice for the view: simp_view answers and hands out the same
 -- before and after, word for word, whatever the call in between answers. Of a memory that gives no view it gives the

@@ -1,8 +1,8 @@
 // SImp scripts on a sheet: the calls that firmware and the desk programs make.
 // Each settles every input; what they answer is defined in crates stages, rounds and groups, specs/Calls.antt.
 ghost use mathlib.Core.Path.{_≡_};
-ghost use Rattle.stages.specs.Answers.{Ran, Viewed};
-ghost use Rattle.stages.specs.Calls.{checkOf, runOf, viewOf};
+ghost use Rattle.stages.specs.Answers.{Ran, Viewed, TrustAnswer};
+ghost use Rattle.stages.specs.Calls.{checkOf, runOf, viewOf, trustOf};
 ghost use Rattle.rounds.specs.Answers.{RanRound};
 ghost use Rattle.rounds.specs.Calls.{roundOf};
 ghost use Rattle.groups.specs.Answers.{Grouped};
@@ -11,6 +11,7 @@ use groups::Groups;
 use rounds::Round;
 use sets::Set;
 use stages::Outcome;
+use stages::Trust;
 
 // Whether a script is accepted on a sheet.
 #[no_mangle]
@@ -94,4 +95,18 @@ pub extern "C" fn simp_groups(sheet: &[u8], label: u32, groups: &mut [Set]) -> G
         return groups::refused(answer);
     }
     groups::list_on(&table, label, groups)
+}
+
+// Whether a script is accepted on a sheet, and whether it is trust-keeping too: 1 or 0.
+#[no_mangle]
+pub extern "C" fn simp_trust(sheet: &[u8], script: &[u8]) -> Trust
+    ensures { λ r. ⌜ record { answer = r .answer; keeping = r .keeping } ≡ trustOf (now (sheet .entry)) (now (script .entry)) ⌝ }
+{
+    let mut table: [sheet::Word; sheet::WORDS] = [0; sheet::WORDS];
+    let verdict = sheet_text::read(sheet, &mut table);
+    let answer = stages::sheet_number(verdict);
+    if answer != stages::DONE {
+        return stages::refused_trust(answer);
+    }
+    stages::trust_on(script, &table)
 }

@@ -1,5 +1,6 @@
 /*
- * SImp scripts on a sheet: checking, running, viewing, rounds of several scripts, and who together reads a label.
+ * SImp scripts on a sheet: checking, running, viewing, rounds of several scripts, who together reads a label, and which
+ * scripts are trust-keeping.
  *
  * Link with libsimp.a, which is x86-64 code (System V ABI: a stack aligned to 16 bytes, SSE2 enabled, the red zone in
  * use, so run interrupt handlers on another stack). It needs two symbols from outside, memcpy and memset of the C
@@ -28,7 +29,7 @@ extern "C" {
 #endif
 
 /* The version of this header and of the archive that it belongs to. `simp --version` has the archive's SHA-256. */
-#define SIMP_VERSION "1.3.0"
+#define SIMP_VERSION "1.4.0"
 
 /* Words of 32 bits that a location takes in a memory or a view. */
 #define SIMP_CELL 16
@@ -44,7 +45,7 @@ extern "C" {
 #define SIMP_MOST_GROUPS 12870
 
 /* The most bytes of code and constants that the archive adds to a program, as the project's gate holds. */
-#define SIMP_CODE_BYTES 22528
+#define SIMP_CODE_BYTES 23552
 
 /* The most bytes of stack that a call of this archive takes, its return address included, for every input: no less than
  * what is computed from its code, as the project's gate holds (docs/PERFORMANCE.md). Not in it are the arguments on the
@@ -55,6 +56,7 @@ extern "C" {
 #define SIMP_STACK_VIEW 7168
 #define SIMP_STACK_ROUND 86016
 #define SIMP_STACK_GROUPS 4096
+#define SIMP_STACK_TRUST 86016
 
 /* Answers. */
 enum {
@@ -96,6 +98,13 @@ typedef struct {
     uint32_t count;
 } simp_groups_outcome;
 
+/* The answer of simp_trust, and whether the script is trust-keeping: 1 or 0, and 0 beside an answer other than
+ * SIMP_DONE. */
+typedef struct {
+    uint8_t answer;
+    uint8_t keeping;
+} simp_trust_outcome;
+
 /* Whether a script is accepted on a sheet: 0, 1, 2, 4, 5 or 6. */
 uint8_t simp_check(const uint8_t *sheet, size_t sheet_len, const uint8_t *script, size_t script_len);
 
@@ -122,6 +131,13 @@ simp_round_outcome simp_round(const uint8_t *sheet, size_t sheet_len, const uint
  * the count keep their content, and beside an answer other than SIMP_DONE all places do. */
 simp_groups_outcome simp_groups(const uint8_t *sheet, size_t sheet_len, uint32_t label, uint16_t *groups,
                                 size_t groups_len);
+
+/* Whether a script is accepted on a sheet, as of simp_check: 0, 1, 2, 4, 5 or 6; and whether an accepted one is
+ * trust-keeping: whether the operand of each unpack has a least label at or below the label that it is opened as,
+ * writers as well as readers. Distrust any group, and leave out all locations and package contents whose labels it
+ * writes: two memories that are alike in the rest still are after done runs of a trust-keeping script under one
+ * authority. */
+simp_trust_outcome simp_trust(const uint8_t *sheet, size_t sheet_len, const uint8_t *script, size_t script_len);
 
 #ifdef __cplusplus
 }

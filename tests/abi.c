@@ -22,6 +22,7 @@ int main(void) {
     simp_outcome o;
     simp_round_outcome r;
     simp_groups_outcome g;
+    simp_trust_outcome t;
     uint16_t groups[2] = {9, 9};
 
     expect("a check without a sheet", simp_check(NULL, 0, bytes(script), strlen(script)), SIMP_SHEET_MALFORMED);
@@ -72,9 +73,22 @@ int main(void) {
     expect("the count of one", g.count, 1);
     expect("the first place", groups[0], 1);
     expect("the place after it", groups[1], 9);
+
+    t = simp_trust(NULL, 0, bytes(script), strlen(script));
+    expect("trust without a sheet", t.answer, SIMP_SHEET_MALFORMED);
+    expect("its keeping", t.keeping, 0);
+    t = simp_trust(bytes(sheet), strlen(sheet), NULL, 0);
+    expect("trust without a script", t.answer, SIMP_SCRIPT_MALFORMED);
+    expect("its keeping", t.keeping, 0);
+    t = simp_trust(NULL, 0, NULL, 0);
+    expect("trust without either", t.answer, SIMP_SHEET_MALFORMED);
+    t = simp_trust(bytes(sheet), strlen(sheet), bytes(script), strlen(script));
+    expect("trust", t.answer, SIMP_DONE);
+    expect("its keeping", t.keeping, 1);
     expect("the size of an outcome", sizeof(simp_outcome), 8);
     expect("the size of a round's outcome", sizeof(simp_round_outcome), 164);
     expect("the size of a groups' outcome", sizeof(simp_groups_outcome), 8);
+    expect("the size of a trust outcome", sizeof(simp_trust_outcome), 2);
     expect("the version's length", strlen(SIMP_VERSION) >= 5, 1);
     return wrong;
 }

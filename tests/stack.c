@@ -17,7 +17,7 @@
 
 static const char sheet[] = "P\t2\nL\nL\nO\t0\t0000\t0003\nX\t0\t1\nX\t4\t1\nX\t3\t0\n";
 
-enum call { NOTHING, CHECK, RUN, VIEW, ROUND, GROUPS };
+enum call { NOTHING, CHECK, RUN, VIEW, ROUND, GROUPS, TRUST };
 
 static char script[SIMP_MOST_TEXT], twice[2 * SIMP_MOST_TEXT];
 static enum call chosen;
@@ -61,6 +61,8 @@ static void *make(void *unused)
         answer = simp_round(bytes(sheet), strlen(sheet), bytes(twice), strlen(twice), memory, LOCATIONS * SIMP_CELL, 3, 1000).answer;
     if (chosen == GROUPS)
         answer = simp_groups(bytes(sheet), strlen(sheet), 1, groups, 2).answer;
+    if (chosen == TRUST)
+        answer = simp_trust(bytes(sheet), strlen(sheet), bytes(script), strlen(script)).answer;
     return NULL;
 }
 
@@ -131,18 +133,19 @@ static size_t measured(enum call call, int wanted)
 
 int main(void)
 {
-    size_t most_check = 0, most_run = 0, most_round = 0;
+    size_t most_check = 0, most_run = 0, most_round = 0, most_trust = 0;
     for (size_t i = 0; i < sizeof shapes / sizeof *shapes; i++) {
         write_script(&shapes[i]);
         size_t check = measured(CHECK, shapes[i].checked), run = measured(RUN, shapes[i].ran);
-        size_t round = measured(ROUND, shapes[i].checked);
-        printf("%-36s check %7zu bytes (answer %2d), run %7zu bytes (answer %2d), round %7zu bytes\n",
-               shapes[i].name, check, shapes[i].checked, run, shapes[i].ran, round);
+        size_t round = measured(ROUND, shapes[i].checked), trust = measured(TRUST, shapes[i].checked);
+        printf("%-36s check %7zu bytes (answer %2d), run %7zu bytes (answer %2d), round %7zu bytes, trust %7zu bytes\n",
+               shapes[i].name, check, shapes[i].checked, run, shapes[i].ran, round, trust);
+        most_trust = trust > most_trust ? trust : most_trust;
         most_round = round > most_round ? round : most_round;
         most_check = check > most_check ? check : most_check;
         most_run = run > most_run ? run : most_run;
     }
-    printf("peak check %zu\npeak run %zu\npeak view %zu\npeak round %zu\npeak groups %zu\n", most_check, most_run,
-           measured(VIEW, 0), most_round, measured(GROUPS, 0));
+    printf("peak check %zu\npeak run %zu\npeak view %zu\npeak round %zu\npeak groups %zu\npeak trust %zu\n", most_check,
+           most_run, measured(VIEW, 0), most_round, measured(GROUPS, 0), most_trust);
     return 0;
 }

@@ -30,6 +30,15 @@ pub struct Groups {
     pub count: u32,
 }
 
+/// The answer of a call for trust, as the library hands it back: whether the script is accepted, and
+/// whether it is trust-keeping.
+#[repr(C)]
+#[derive(Clone, Copy, Debug, PartialEq, Eq)]
+pub struct Trust {
+    pub answer: u8,
+    pub keeping: u8,
+}
+
 /// The sum of the logic in which the library is proved.
 pub const LOGIC: &str = env!("SIMP_LOGIC");
 
@@ -37,7 +46,7 @@ pub const LOGIC: &str = env!("SIMP_LOGIC");
 pub const ARCHIVE: &str = env!("SIMP_ARCHIVE");
 
 mod c {
-    use super::{Groups, Outcome, Round};
+    use super::{Groups, Outcome, Round, Trust};
 
     extern "C" {
         pub fn simp_check(
@@ -86,6 +95,13 @@ mod c {
             groups: *mut u16,
             groups_len: usize,
         ) -> Groups;
+
+        pub fn simp_trust(
+            sheet: *const u8,
+            sheet_len: usize,
+            script: *const u8,
+            script_len: usize,
+        ) -> Trust;
     }
 }
 
@@ -156,4 +172,9 @@ pub fn view(sheet: &[u8], memory: &[u32], group: u16, view: &mut [u32]) -> u8 {
 pub fn groups(sheet: &[u8], label: u32, groups: &mut [u16]) -> Groups {
     // SAFETY: as above, and `groups` is lent for writing.
     unsafe { c::simp_groups(sheet.as_ptr(), sheet.len(), label, groups.as_mut_ptr(), groups.len()) }
+}
+
+pub fn trust(sheet: &[u8], script: &[u8]) -> Trust {
+    // SAFETY: each pointer and length come from one slice, lent for the call.
+    unsafe { c::simp_trust(sheet.as_ptr(), sheet.len(), script.as_ptr(), script.len()) }
 }

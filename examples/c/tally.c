@@ -1,6 +1,7 @@
 /*
- * Packs a tally on a grading line, shows it to two groups, runs a round, and lists who together reads a label: the
- * smallest program over libsimp.a. Exits with 0 if every call answered as it should.
+ * Packs a tally on a grading line, shows it to two groups, runs a round, lists who together reads a label, and asks
+ * which scripts are trust-keeping: the smallest program over libsimp.a. Exits with 0 if every call answered as it
+ * should.
  */
 #include <stdio.h>
 #include <string.h>
@@ -8,11 +9,13 @@
 #include "simp.h"
 
 /* Three principals; location 0 may be read and written by everyone, location 1 is principal 0's alone, and
- * location 2 takes what a pack leaves. */
+ * location 2 takes what a pack leaves. Label 2 says that everyone reads and principal 0 alone writes. */
 static const char sheet[] =
     "P\t3\n"
+    "T\t0\t1\n"
     "L\n"
     "L\nO\t0\t0000\t0007\n"
+    "L\nO\t0\t0007\t0000\n"
     "X\t0\t0\n"
     "X\t0\t1\n"
     "X\t4\t0\n";
@@ -25,6 +28,11 @@ static const char pack[] = "=\t2\nk\t1\nx\t1\n";
 
 /* Copies the tally to location 0, where everyone would read it: refused. */
 static const char leak[] = "=\t0\nx\t1\n";
+
+/* Opens the package in location 2 as label 1, which everyone writes, and as label 2: everyone can put another package
+ * there, and it would pass for what principal 0 alone wrote. */
+static const char open_as_1[] = "c\nx\t2\nc\nu\t5\t1\nv\t0\n=\t1\nv\t0\ns\ns\n";
+static const char open_as_2[] = "c\nx\t2\nc\nu\t5\t2\nv\t0\n=\t1\nv\t0\ns\ns\n";
 
 /* A round: counts, loops without end, packs. An empty line parts two scripts. */
 static const char morning[] =
@@ -39,6 +47,11 @@ static const uint8_t *bytes(const char *text) { return (const uint8_t *)text; }
 static simp_outcome run(const char *script, uint32_t *memory, size_t words)
 {
     return simp_run(bytes(sheet), strlen(sheet), bytes(script), strlen(script), memory, words, 1u << 1, 100);
+}
+
+static simp_trust_outcome trust(const char *script)
+{
+    return simp_trust(bytes(sheet), strlen(sheet), bytes(script), strlen(script));
 }
 
 /* Prints the words of a location without the zeros at their end. A zero may stand between others: label 0. */
@@ -99,5 +112,11 @@ int main(void)
     for (uint32_t i = 0; i < readers.count; i++)
         printf(" %04x", (unsigned)groups[i]);
     printf("\n");
+
+    /* Which is trust-keeping? Both are accepted. */
+    simp_trust_outcome kept = trust(open_as_1), other = trust(open_as_2);
+    if (kept.answer != SIMP_DONE || kept.keeping != 1 || other.answer != SIMP_DONE || other.keeping != 0)
+        return 7;
+    printf("trust-keeping: %u as label 1, %u as label 2\n", (unsigned)kept.keeping, (unsigned)other.keeping);
     return 0;
 }

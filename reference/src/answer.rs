@@ -83,3 +83,21 @@ impl Groups {
         Groups { answer: refusal.number(), count: 0 }
     }
 }
+
+/// The answer of a call for trust, as of a check, and 1 beside `DONE` where the script is
+/// trust-keeping, else 0.
+#[derive(Clone, Copy, Debug, PartialEq, Eq)]
+pub struct Trust {
+    pub answer: u8,
+    pub keeping: u8,
+}
+
+impl Trust {
+    pub fn accepted(keeping: bool) -> Trust {
+        Trust { answer: DONE, keeping: keeping.into() }
+    }
+
+    pub fn refused(refusal: Refusal) -> Trust {
+        Trust { answer: refusal.number(), keeping: 0 }
+    }
+}

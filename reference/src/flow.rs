@@ -57,6 +57,16 @@ pub enum Origin {
     Start(LabelId),
 }
 
+/// An unpack by which a script isn't trust-keeping: it wants a label that its operand's least label
+/// isn't at or below. In an accepted script that is by the writers, since the readers pass.
+#[derive(Clone, Debug, PartialEq, Eq)]
+pub struct Endorsement {
+    pub line: usize,
+    pub wanted: LabelId,
+    /// A part of the operand whose label isn't at or below the wanted one.
+    pub source: Source,
+}
+
 impl Source {
     fn is_at(&self, other: &Source) -> bool {
         (self.line, self.bound_in) == (other.line, other.bound_in)
@@ -149,42 +159,97 @@ impl<'a> Surrounding<'a> {
 
 /// Whether the least labels of a script pass.
 pub fn check(sheet: &Sheet, script: &Script) -> Result<(), NoFlow> {
-    let Script { opening, command: c } = script;
-    let label = opening.starting_label(sheet);
-    let surrounding = Surrounding { label, start: opening.start, guard: None };
-    command(sheet, &mut Vec::new(), &surrounding, c)
+    endorsements(sheet, script).map(|_| ())
 }
 
-/// `bound` holds the labels of the bound values, the innermost last.
-fn command(
-    sheet: &Sheet,
-    bound: &mut Vec<Least>,
-    surrounding: &Surrounding,
-    c: &Command,
-) -> Result<(), NoFlow> {
-    match &c.phrase {
-        Phrase::Skip => Ok(()),
-        Phrase::Seq(first, second) => {
-            command(sheet, bound, surrounding, first)?;
-            command(sheet, bound, surrounding, second)
+/// Whether the least labels of a script pass, and then the unpacks by which it isn't trust-keeping,
+/// in the order of their lines.
+pub fn endorsements(sheet: &Sheet, script: &Script) -> Result<Vec<Endorsement>, NoFlow> {
+    let Script { opening, command } = script;
+    let label = opening.starting_label(sheet);
+    let surrounding = Surrounding { label, start: opening.start, guard: None };
+    let mut pass = Pass { sheet, bound: Vec::new(), endorsements: Vec::new() };
+    pass.command(&surrounding, command)?;
+    pass.endorsements.sort_by_key(|endorsement| endorsement.line);
+    Ok(pass.endorsements)
+}
+
+/// A pass over a script.
+struct Pass<'a> {
+    sheet: &'a Sheet,
+    /// The least labels of the bound values, the innermost last.
+    bound: Vec<Least>,
+    /// Those met so far.
+    endorsements: Vec<Endorsement>,
+}
+
+impl Pass<'_> {
+    fn command(&mut self, surrounding: &Surrounding, c: &Command) -> Result<(), NoFlow> {
+        match &c.phrase {
+            Phrase::Skip => Ok(()),
+            Phrase::Seq(first, second) => {
+                self.command(surrounding, first)?;
+                self.command(surrounding, second)
+            }
+            Phrase::Assign(location, e) => {
+                let least = self.expression(e)?;
+                assign(self.sheet, surrounding, c.line, *location, &least)
+            }
+            Phrase::While(guard, body) => {
+                let least = self.expression(guard)?;
+                self.command(&surrounding.within(c.line, &least), body)
+            }
+            Phrase::Case(e, on_left, on_right) => {
+                let least = self.expression(e)?;
+                let inside = surrounding.within(c.line, &least);
+                self.bound.push(least.clone().bound_in(c.line));
+                self.command(&inside, on_left)?;
+                self.command(&inside, on_right)?;
+                self.bound.pop();
+                Ok(())
+            }
         }
-        Phrase::Assign(location, e) => {
-            let least = expression(sheet, bound, e)?;
-            assign(sheet, surrounding, c.line, *location, &least)
+    }
+
+    /// The least label of an expression.
+    fn expression(&mut self, e: &Expression) -> Result<Least, NoFlow> {
+        match &e.term {
+            Term::Integer(_) => Ok(Least::bottom(self.sheet)),
+            Term::Location(location) => {
+                let label = self.sheet.label_at(*location).clone();
+                Ok(Least::of(e.line, Origin::Location(*location), label))
+            }
+            Term::Bound(d) => Ok(self.bound[self.bound.len() - 1 - d].clone()),
+            Term::Plus(e1, e2) => {
+                let least = self.expression(e1)?;
+                Ok(least.join(self.expression(e2)?))
+            }
+            Term::Left(_, e) | Term::Right(_, e) => self.expression(e),
+            Term::Pack(label, operand) => {
+                let packed = &self.sheet.labels[*label];
+                let least = self.expression(operand)?;
+                require(e.line, Into::Package(*label), &least, |label| label.at_or_below(packed))?;
+                Ok(Least::of(e.line, Origin::Packed(*label), packed.integrity()))
+            }
+            Term::Unpack(_, label, operand) => {
+                let least = self.expression(operand)?;
+                self.unpack(e.line, *label, &least)
+            }
+            Term::Value(_) => unreachable!("no script has a value"),
         }
-        Phrase::While(guard, body) => {
-            let least = expression(sheet, bound, guard)?;
-            command(sheet, bound, &surrounding.within(c.line, &least), body)
+    }
+
+    /// An unpack asks for the readers alone; where the writers don't pass, it endorses its operand.
+    fn unpack(&mut self, line: usize, wanted: LabelId, operand: &Least) -> Result<Least, NoFlow> {
+        let label = &self.sheet.labels[wanted];
+        let reads = |source: &Label| source.confidentiality().at_or_below(&label.confidentiality());
+        require(line, Into::Opened(wanted), operand, reads)?;
+        let keeps = |source: &Label| source.at_or_below(label);
+        if !keeps(&operand.label) {
+            let source = operand.culprit(keeps);
+            self.endorsements.push(Endorsement { line, wanted, source });
         }
-        Phrase::Case(e, on_left, on_right) => {
-            let least = expression(sheet, bound, e)?;
-            let inside = surrounding.within(c.line, &least);
-            bound.push(least.clone().bound_in(c.line));
-            let both = command(sheet, bound, &inside, on_left)
-                .and_then(|()| command(sheet, bound, &inside, on_right));
-            bound.pop();
-            both
-        }
+        Ok(Least::of(line, Origin::Opened(wanted), label.clone()))
     }
 }
 
@@ -212,38 +277,6 @@ fn assign(
     Err(NoFlow { line, into, source, through })
 }
 
-/// The least label of an expression.
-fn expression(sheet: &Sheet, bound: &[Least], e: &Expression) -> Result<Least, NoFlow> {
-    match &e.term {
-        Term::Integer(_) => Ok(Least::bottom(sheet)),
-        Term::Location(location) => {
-            let label = sheet.label_at(*location).clone();
-            Ok(Least::of(e.line, Origin::Location(*location), label))
-        }
-        Term::Bound(d) => Ok(bound[bound.len() - 1 - d].clone()),
-        Term::Plus(e1, e2) => {
-            let least = expression(sheet, bound, e1)?;
-            Ok(least.join(expression(sheet, bound, e2)?))
-        }
-        Term::Left(_, e) | Term::Right(_, e) => expression(sheet, bound, e),
-        Term::Pack(label, operand) => {
-            let packed = &sheet.labels[*label];
-            let least = expression(sheet, bound, operand)?;
-            require(e.line, Into::Package(*label), &least, |label| label.at_or_below(packed))?;
-            Ok(Least::of(e.line, Origin::Packed(*label), packed.integrity()))
-        }
-        Term::Unpack(_, label, operand) => {
-            let wanted = &sheet.labels[*label];
-            let least = expression(sheet, bound, operand)?;
-            let passes =
-                |label: &Label| label.confidentiality().at_or_below(&wanted.confidentiality());
-            require(e.line, Into::Opened(*label), &least, passes)?;
-            Ok(Least::of(e.line, Origin::Opened(*label), wanted.clone()))
-        }
-        Term::Value(_) => unreachable!("no script has a value"),
-    }
-}
-
 fn require(
     line: usize,
     into: Into,
@@ -258,17 +291,26 @@ fn require(
 
 #[cfg(test)]
 mod tests {
-    use super::{check, Into, NoFlow, Origin, Source, Through};
+    use super::{check, endorsements, Endorsement, Into, NoFlow, Origin, Source, Through};
+    use crate::script::Script;
+    use crate::sheet::Sheet;
     use crate::{script_text, sheet_text};
 
     /// Location 0 has label 0, locations 1 and 2 label 1, which is above it and alike but for one
     /// reader. Location 1 is an integer and location 2 a choice.
     const SHEET: &[u8] = b"P\t2\nL\nL\nO\t0\t0000\t0003\nX\t0\t0\nX\t0\t1\nX\t3\t1\n";
 
-    fn refused(script: &str) -> Option<NoFlow> {
-        let sheet = sheet_text::parse(SHEET).expect("a sheet");
+    /// The sheet of a text, and the script on it, written with blanks and commas.
+    fn read(sheet: &[u8], script: &str) -> (Sheet, Script) {
+        let sheet = sheet_text::parse(sheet).expect("a sheet");
         let text = script.replace(' ', "\t").replace(',', "\n") + "\n";
-        check(&sheet, &script_text::parse(&sheet, text.as_bytes()).expect("a script")).err()
+        let script = script_text::parse(&sheet, text.as_bytes()).expect("a script");
+        (sheet, script)
+    }
+
+    fn refused(script: &str) -> Option<NoFlow> {
+        let (sheet, script) = read(SHEET, script);
+        check(&sheet, &script).err()
     }
 
     #[test]
@@ -294,5 +336,48 @@ mod tests {
         assert_eq!(blamed("b 1,c,x 2,s,w,x 2,= 0,i 1"), Some((7, Through::Guard(2))));
         assert_eq!(blamed("b 0,w,x 2,= 0,i 1"), Some((4, Through::Guard(2))));
         assert_eq!(blamed("b 1,w,l 3,x 0,= 0,i 1"), Some((5, Through::Start)));
+    }
+
+    /// Label 0 lets all read and write, and nothing but readers sets 1 apart from it. Owner 0 lets
+    /// itself alone write label 2. Locations 0, 1 and 2 hold packages under these labels, 3 and 4
+    /// unpacked integers under 0 and 2, and 5 a pkg+error under 0.
+    const PACKAGES: &[u8] = b"P\t2\nT\t0\t1\n\
+        L\nL\nO\t0\t0000\t0003\nL\nO\t0\t0003\t0000\n\
+        X\t2\t0\nX\t2\t1\nX\t2\t2\nX\t5\t0\nX\t5\t2\nX\t4\t0\n";
+
+    /// The line of each endorsement with its wanted label, and where its source stands.
+    fn endorsed(script: &str) -> Vec<(usize, usize, Origin, usize, Option<usize>)> {
+        let (sheet, script) = read(PACKAGES, script);
+        let endorsements = endorsements(&sheet, &script).expect("accepted");
+        let places = endorsements.into_iter().map(|endorsement| {
+            let Endorsement { line, wanted, source } = endorsement;
+            (line, wanted, source.origin, source.line, source.bound_in)
+        });
+        places.collect()
+    }
+
+    #[test]
+    fn an_unpack_endorses_where_the_writers_of_its_operand_do_not_pass() {
+        let opened = [(2, 2, Origin::Location(0), 3, None)];
+        assert_eq!(endorsed("= 4,u 5 2,x 0"), opened);
+        for keeping in ["s", "= 3,u 5 0,x 0", "= 3,u 5 0,x 2", "= 4,u 5 2,x 2"] {
+            assert_eq!(endorsed(keeping), [], "{keeping}");
+        }
+        let (sheet, script) = read(PACKAGES, "= 4,u 5 2,x 1");
+        let refused = check(&sheet, &script).expect_err("readers don't pass");
+        assert_eq!((refused.line, refused.into), (2, Into::Opened(2)));
+    }
+
+    #[test]
+    fn every_endorsement_is_told_with_its_source_in_the_order_of_lines() {
+        let bad = |line| (line, 2, Origin::Location(0), line + 1, None);
+        let three = ";,= 4,u 5 2,x 0,;,= 4,u 5 2,x 2,c,u 5 2,x 0,s,= 4,u 5 2,x 0";
+        assert_eq!(endorsed(three), [bad(3), bad(10), bad(14)]);
+        let bound = (4, 2, Origin::Location(5), 2, Some(1));
+        assert_eq!(endorsed("c,x 5,= 3,u 5 2,v 0,s"), [bound]);
+        let packed = (5, 2, Origin::Packed(0), 2, Some(1));
+        assert_eq!(endorsed("c,k 0,i 7,= 3,u 5 2,v 0,s"), [packed]);
+        assert_eq!(endorsed("c,x 5,s,c,k 0,u 5 2,x 0,s,s"), [bad(6)]);
+        assert_eq!(endorsed("w,l 3,i 1,= 3,u 5 2,x 0"), [bad(5)]);
     }
 }

@@ -22,13 +22,15 @@ pub mod shape;
 pub mod sheet;
 pub mod sheet_text;
 pub mod text;
+pub mod trust;
 pub mod types;
 pub mod value;
 pub mod view;
 
-pub use answer::{Groups, Outcome, Refusal, Round, DONE, MOST_GROUPS, SCRIPTS};
+pub use answer::{Groups, Outcome, Refusal, Round, Trust, DONE, MOST_GROUPS, SCRIPTS};
 pub use calls::{check, run, try_check, try_run, try_view, view};
 pub use groups::{groups, smallest_groups, try_groups};
 pub use reason::Reason;
 pub use round::{round, try_round};
 pub use round_text::parts;
+pub use trust::{trust, try_trust};

@@ -1,11 +1,13 @@
-//! The view of a memory for a group.
+//! What is seen of a memory by the labels that are seen: a group's view has those that it reads, and
+//! where a group is distrusted those are left that it doesn't write.
 
+use crate::label::Label;
 use crate::memory::Memory;
 use crate::principals::Principals;
 use crate::sheet::{LabelId, Sheet};
 use crate::value::{padded, Error, Value};
 
-/// A value with the parts taken away that a group can't read.
+/// A value with the contents taken away whose labels aren't seen.
 #[derive(Clone, Debug, PartialEq, Eq)]
 enum Seen {
     Hidden,
@@ -17,14 +19,14 @@ enum Seen {
 }
 
 impl Seen {
-    fn of(sheet: &Sheet, group: Principals, value: &Value) -> Seen {
-        let inner = |value: &Value| Box::new(Seen::of(sheet, group, value));
+    fn of(sheet: &Sheet, sees: &dyn Fn(&Label) -> bool, value: &Value) -> Seen {
+        let inner = |value: &Value| Box::new(Seen::of(sheet, sees, value));
         match value {
             Value::Integer(n) => Seen::Integer(*n),
             Value::Error(error) => Seen::Error(*error),
             Value::Left(value) => Seen::Left(inner(value)),
             Value::Right(value) => Seen::Right(inner(value)),
-            Value::Package(label, content) if sheet.labels[*label].read_by(group) => {
+            Value::Package(label, content) if sees(&sheet.labels[*label]) => {
                 Seen::Package(*label, inner(content))
             }
             Value::Package(label, _) => Seen::Package(*label, Box::new(Seen::Hidden)),
@@ -45,14 +47,72 @@ impl Seen {
     }
 }
 
-/// The words of a memory's view, 16 for each location.
+/// The words of a memory's view for a group, 16 for each location.
 pub fn words(sheet: &Sheet, memory: &Memory, group: Principals) -> Vec<u32> {
+    seen(sheet, memory, |label| label.read_by(group))
+}
+
+/// The words that are left of a memory where a group is distrusted: without the locations and the
+/// contents of packages whose labels the group writes.
+pub fn left(sheet: &Sheet, memory: &Memory, distrusted: Principals) -> Vec<u32> {
+    seen(sheet, memory, |label| !label.written_by(distrusted))
+}
+
+/// The words of what is seen of a memory: a location whose label isn't seen is 16 zero words, and
+/// the content of a package whose label isn't seen is one.
+pub fn seen(sheet: &Sheet, memory: &Memory, sees: impl Fn(&Label) -> bool) -> Vec<u32> {
     let locations = memory.iter().enumerate().map(|(location, value)| {
-        if sheet.label_at(location).read_by(group) {
-            Seen::of(sheet, group, value)
+        if sees(sheet.label_at(location)) {
+            Seen::of(sheet, &sees, value)
         } else {
             Seen::Hidden
         }
     });
     locations.flat_map(|seen| padded(seen.words())).collect()
+}
+
+#[cfg(test)]
+mod tests {
+    use super::{left, words};
+    use crate::memory::Memory;
+    use crate::principals::Principals;
+    use crate::sheet_text;
+    use crate::value::{padded, Value};
+
+    /// Principal 0 alone reads and writes label 1, and every principal label 0; principal 1 reads
+    /// label 2 and writes label 3 by itself too.
+    const SHEET: &[u8] = b"P\t2\nL\nL\nO\t0\t0000\t0000\nL\nO\t0\t0003\t0000\n\
+        L\nO\t0\t0000\t0003\nX\t2\t0\nX\t2\t1\nX\t2\t2\nX\t2\t3\n";
+
+    fn package(label: usize, content: Value) -> Value {
+        Value::Package(label, Box::new(content))
+    }
+
+    fn blanked(words: &[&[u32]]) -> Vec<u32> {
+        words.iter().flat_map(|words| padded(words.to_vec())).collect()
+    }
+
+    /// Each location holds a package under its own label, of a package of label 1, 3, 2 and 3.
+    fn memory() -> Memory {
+        let nested = |(label, inside)| package(label, package(inside, Value::Integer(9)));
+        [(0, 1), (1, 3), (2, 2), (3, 3)].map(nested).to_vec()
+    }
+
+    #[test]
+    fn a_view_has_what_the_group_reads_and_what_is_left_what_it_does_not_write() {
+        let sheet = sheet_text::parse(SHEET).expect("a sheet");
+        let group = Principals::from_bits;
+        let all: [&[u32]; 4] =
+            [&[5, 0, 5, 1, 1, 9], &[5, 1, 5, 3, 1, 9], &[5, 2, 5, 2, 1, 9], &[5, 3, 5, 3, 1, 9]];
+        let one = group(0b10);
+        let seen: [&[u32]; 4] = [&[5, 0, 5, 1, 0], &[], all[2], &[]];
+        assert_eq!(words(&sheet, &memory(), one), blanked(&seen));
+        let trusted: [&[u32]; 4] = [&[], &[5, 1, 5, 3, 0], all[2], &[]];
+        assert_eq!(left(&sheet, &memory(), one), blanked(&trusted));
+
+        assert_eq!(left(&sheet, &memory(), group(0)), blanked(&all));
+        assert_eq!(words(&sheet, &memory(), group(0)), [0; 64]);
+        assert_eq!(left(&sheet, &memory(), group(0b01)), [0; 64]);
+        assert_eq!(words(&sheet, &memory(), group(0b01)), blanked(&all));
+    }
 }

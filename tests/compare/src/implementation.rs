@@ -1,13 +1,14 @@
 //! The implementations that tests go through: the reference, the lean one, and the library where it
 //! is linked.
 
-use reference::{Groups, Outcome, Round};
+use reference::{Groups, Outcome, Round, Trust};
 
 pub type Check = fn(&[u8], &[u8]) -> u8;
 pub type Run = fn(&[u8], &[u8], &mut [u32], u16, u32) -> Outcome;
 pub type RunRound = fn(&[u8], &[u8], &mut [u32], u16, u32) -> Round;
 pub type View = fn(&[u8], &[u32], u16, &mut [u32]) -> u8;
 pub type ListGroups = fn(&[u8], u32, &mut [u16]) -> Groups;
+pub type AskTrust = fn(&[u8], &[u8]) -> Trust;
 
 /// The calls of one implementation.
 #[derive(Clone, Copy)]
@@ -18,6 +19,7 @@ pub struct Implementation {
     pub round: RunRound,
     pub view: View,
     pub groups: ListGroups,
+    pub trust: AskTrust,
 }
 
 pub const REFERENCE: Implementation = Implementation {
@@ -27,6 +29,7 @@ pub const REFERENCE: Implementation = Implementation {
     round: reference::round,
     view: reference::view,
     groups: reference::groups,
+    trust: reference::trust,
 };
 
 pub const LEAN: Implementation = Implementation {
@@ -36,6 +39,7 @@ pub const LEAN: Implementation = Implementation {
     round: crate::lean::round,
     view: crate::lean::view,
     groups: crate::lean::groups,
+    trust: crate::lean::trust,
 };
 
 #[cfg(feature = "library")]
@@ -54,6 +58,10 @@ pub const LIBRARY: Implementation = Implementation {
     groups: |sheet, label, groups| {
         let listed = bindings::groups(sheet, label, groups);
         Groups { answer: listed.answer, count: listed.count }
+    },
+    trust: |sheet, script| {
+        let trust = bindings::trust(sheet, script);
+        Trust { answer: trust.answer, keeping: trust.keeping }
     },
 };
 

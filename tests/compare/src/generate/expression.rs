@@ -18,8 +18,19 @@ pub struct Writer<'a> {
     pub wrong_types: usize,
     /// How often in a hundred a label condition is passed over.
     pub wrong_labels: usize,
+    /// What an unpack may have for an operand.
+    pub operands: Operands,
     /// Expressions that may still be tried, which keeps the search for one short.
     pub tries: usize,
+}
+
+/// Operands that an unpack may have beside what the check asks: any, those by which it is
+/// trust-keeping, or those by which it isn't.
+#[derive(Clone, Copy, PartialEq, Eq)]
+pub enum Operands {
+    Any,
+    Kept,
+    Endorsed,
 }
 
 #[derive(Clone, Copy)]
@@ -32,6 +43,23 @@ enum Form {
     Right,
     Pack,
     Unpack,
+}
+
+impl<'a> Writer<'a> {
+    /// The writer of a script in which nothing is to be wrong.
+    pub fn new(prng: &'a mut Prng, sheet: &'a Sheet) -> Writer<'a> {
+        Writer {
+            prng,
+            sheet,
+            lines: Vec::new(),
+            bound: Vec::new(),
+            target: None,
+            wrong_types: 0,
+            wrong_labels: 0,
+            operands: Operands::Any,
+            tries: 0,
+        }
+    }
 }
 
 impl Writer<'_> {
@@ -143,7 +171,7 @@ impl Writer<'_> {
     }
 
     /// A label of the sheet that passes.
-    fn label(&mut self, passes: impl Fn(&Label) -> bool) -> Option<usize> {
+    pub fn label(&mut self, passes: impl Fn(&Label) -> bool) -> Option<usize> {
         let any_label = self.prng.chance(self.wrong_labels);
         let fits = |&a: &usize| any_label || passes(&self.sheet.labels[a]);
         let labels: Vec<usize> = (0..self.sheet.labels.len()).filter(fits).collect();
@@ -164,11 +192,19 @@ impl Writer<'_> {
         Some(packed.integrity())
     }
 
-    fn unpack(&mut self, ty: TypeId, limit: Option<&Label>) -> Option<Label> {
+    pub fn unpack(&mut self, ty: TypeId, limit: Option<&Label>) -> Option<Label> {
         let label = self.label(|label| passes(label, limit))?;
         let wanted = self.sheet.labels[label].clone();
-        let confidential = wanted.confidentiality();
-        let passes = |operand: &Label| operand.confidentiality().at_or_below(&confidential);
+        let (confidential, operands) = (wanted.confidentiality(), self.operands);
+        let passes = |operand: &Label| {
+            let kept = operand.at_or_below(&wanted);
+            let reads = operand.confidentiality().at_or_below(&confidential);
+            match operands {
+                Operands::Any => reads,
+                Operands::Kept => kept,
+                Operands::Endorsed => reads && !kept,
+            }
+        };
         self.lines.push(format!("u\t{ty}\t{label}"));
         let operand = if self.prng.chance(60) {
             self.bound(PACKAGE, passes).or_else(|| self.location(PACKAGE, passes))

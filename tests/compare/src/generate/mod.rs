@@ -14,3 +14,4 @@ pub mod program_input;
 pub mod round;
 pub mod script;
 pub mod sheet;
+pub mod trust;

@@ -1,6 +1,6 @@
 //! Whole rounds: a sheet, scripts in one text, a memory and the other arguments.
 
-use super::case::{beyond, budget, group, resize};
+use super::case::{beyond, budget, group, resize, Case};
 use super::prng::Prng;
 use super::script::{Script, Wrong};
 use super::{damage, memory, script, sheet};
@@ -17,6 +17,14 @@ pub struct RoundCase {
     pub authority: u16,
     pub budget: u32,
     pub group: u16,
+}
+
+/// The round of a single script.
+impl From<Case> for RoundCase {
+    fn from(case: Case) -> RoundCase {
+        let Case { sheet, script, memory, authority, budget, group, .. } = case;
+        RoundCase { sheet, scripts: script, memory, authority, budget, group }
+    }
 }
 
 /// The round of a seed: nothing in it is damaged in about 40 of a hundred seeds.

@@ -14,7 +14,7 @@ pub enum Wrong {
     Labels,
 }
 
-const MOST_CASES: usize = 8;
+pub(super) const MOST_CASES: usize = 8;
 const TRIES: usize = 60;
 
 /// The label that a script starts at, where it names one, and the lines of its command.
@@ -53,22 +53,14 @@ pub fn script(
     };
     let wrong_labels = wrong == Wrong::Labels && !unheeded;
     let wrong_labels = if wrong_labels { prng.pick(&[5, 10, 20, 100]) } else { 0 };
-    let mut writer = Writer {
-        prng,
-        sheet,
-        lines: Vec::new(),
-        bound: Vec::new(),
-        target: None,
-        wrong_types: if wrong == Wrong::Types { 10 } else { 0 },
-        wrong_labels,
-        tries: 0,
-    };
+    let wrong_types = if wrong == Wrong::Types { 10 } else { 0 };
+    let mut writer = Writer { wrong_types, wrong_labels, ..Writer::new(prng, sheet) };
     writer.command(&surrounding, size);
     Script { start, command: writer.lines }
 }
 
 /// A starting label: mostly one under which some location may be written.
-fn start(prng: &mut Prng, sheet: &Sheet, starting: usize) -> Option<LabelId> {
+pub(super) fn start(prng: &mut Prng, sheet: &Sheet, starting: usize) -> Option<LabelId> {
     if sheet.labels.is_empty() || !prng.chance(starting) {
         return None;
     }
@@ -85,12 +77,12 @@ fn start(prng: &mut Prng, sheet: &Sheet, starting: usize) -> Option<LabelId> {
 }
 
 impl Writer<'_> {
-    fn line(&mut self, line: &str) {
+    pub(super) fn line(&mut self, line: &str) {
         self.lines.push(line.to_string());
     }
 
     /// Writes a command under a surrounding label.
-    fn command(&mut self, surrounding: &Label, size: usize) {
+    pub(super) fn command(&mut self, surrounding: &Label, size: usize) {
         let start = self.lines.len();
         let sequences = if size > 12 { 60 } else { 20 };
         let written = if size < 2 {
@@ -125,13 +117,18 @@ impl Writer<'_> {
     }
 
     /// An expression, found within a number of tries.
-    fn found(&mut self, ty: TypeId, limit: Option<&Label>, fuel: usize) -> Option<Label> {
+    pub(super) fn found(
+        &mut self,
+        ty: TypeId,
+        limit: Option<&Label>,
+        fuel: usize,
+    ) -> Option<Label> {
         self.tries = TRIES;
         self.expression(ty, limit, fuel)
     }
 
     /// A location that may be written under a surrounding label.
-    fn open_location(
+    pub(super) fn open_location(
         &mut self,
         surrounding: &Label,
         fits: impl Fn(TypeId) -> bool,
@@ -171,14 +168,29 @@ impl Writer<'_> {
         let Some(label) = self.found(ty, None, size.min(24)) else {
             return false;
         };
-        let inside = surrounding.join(&label);
+        self.branches(surrounding, ty, &label, |writer, inside, _| {
+            writer.command(inside, size / 2);
+            true
+        })
+    }
+
+    /// The two branches of a case whose expression has this type and label, each with its number and
+    /// the label that surrounds it.
+    pub(super) fn branches(
+        &mut self,
+        surrounding: &Label,
+        ty: TypeId,
+        label: &Label,
+        mut branch: impl FnMut(&mut Self, &Label, usize) -> bool,
+    ) -> bool {
+        let inside = surrounding.join(label);
         let (left, right) = self.sheet.parts(ty).expect("a sum");
-        for part in [left, right] {
+        [left, right].into_iter().enumerate().all(|(number, part)| {
             self.bound.push((part, label.clone()));
-            self.command(&inside, size / 2);
+            let written = branch(self, &inside, number);
             self.bound.pop();
-        }
-        true
+            written
+        })
     }
 
     /// A loop with any guard.
@@ -191,8 +203,19 @@ impl Writer<'_> {
         true
     }
 
-    /// A loop whose body stops it.
     fn while_once(&mut self, surrounding: &Label, size: usize) -> bool {
+        self.while_once_of(surrounding, |writer, inside| {
+            writer.command(inside, size - 1);
+            true
+        })
+    }
+
+    /// A loop whose body stops it after another command.
+    pub(super) fn while_once_of(
+        &mut self,
+        surrounding: &Label,
+        body: impl FnOnce(&mut Self, &Label) -> bool,
+    ) -> bool {
         let Some(guard) = self.open_location(surrounding, |ty| ty == CHOICE) else {
             return false;
         };
@@ -200,7 +223,9 @@ impl Writer<'_> {
         self.line("w");
         self.line(&format!("x\t{guard}"));
         self.line(";");
-        self.command(&inside, size - 1);
+        if !body(self, &inside) {
+            return false;
+        }
         self.line(&format!("=\t{guard}"));
         self.line("r\t3");
         self.line("i\t0");

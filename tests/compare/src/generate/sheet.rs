@@ -3,7 +3,7 @@
 use super::prng::Prng;
 use reference::label::{Label, Policy};
 use reference::principals::Principals;
-use reference::types::{ERROR, INT, PACKED};
+use reference::types::{ERROR, INT, PACKAGE, PACKED};
 
 /// A policy with its sets as bits.
 #[derive(Clone, Copy, Debug)]
@@ -24,6 +24,8 @@ pub struct Plan {
 /// Types 0 to 4 are given.
 const GIVEN: usize = 5;
 
+const MOST_LOCATIONS: usize = 64;
+
 impl Plan {
     pub fn text(&self) -> String {
         let mut text = format!("P\t{}\n", self.principals);
@@ -40,6 +42,25 @@ impl Plan {
             text += &format!("X\t{ty}\t{label}\n");
         }
         text
+    }
+
+    /// The same with a place for a package, one for what is packed and one for what is opened at each
+    /// of the first labels, in any order, and no more locations than there may be.
+    pub(super) fn with_packages(mut self, prng: &mut Prng) -> Plan {
+        let opened: Vec<usize> = self
+            .sums
+            .iter()
+            .enumerate()
+            .filter(|(_, sum)| sum.1 == ERROR)
+            .map(|(i, _)| GIVEN + i)
+            .collect();
+        for label in 0..self.labels.len().min(6) {
+            let opened = if opened.is_empty() { PACKED } else { prng.pick(&opened) };
+            self.locations.extend([PACKAGE, PACKED, opened].map(|ty| (ty, label)));
+        }
+        prng.shuffle(&mut self.locations);
+        self.locations.truncate(MOST_LOCATIONS);
+        self
     }
 }
 
@@ -144,7 +165,7 @@ fn locations(prng: &mut Prng, sums: &[(usize, usize)], labels: usize) -> Vec<(us
     }
     let least = least_words(sums);
     let mut locations = Vec::new();
-    for _ in 0..count(prng, 8, 64) {
+    for _ in 0..count(prng, 8, MOST_LOCATIONS) {
         let ty = match prng.below(3) {
             0 => prng.below(GIVEN + sums.len()),
             1 => prng.between(INT, PACKED),

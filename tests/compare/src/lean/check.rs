@@ -19,17 +19,18 @@ struct Checker<'a> {
     /// By depth: what the cases around a row bind. Only the entries of these are looked at.
     bound: [Typed; MOST_CASES],
     flows: bool,
+    keeping: bool,
 }
 
-/// 5 and 6.
-pub fn check(sheet: &Sheet, script: &Script) -> Result<(), Refusal> {
-    let mut checker =
-        Checker { sheet, rows: script, bound: [Typed::default(); MOST_CASES], flows: true };
+/// 5 and 6, and then whether the script is trust-keeping.
+pub fn check(sheet: &Sheet, script: &Script) -> Result<bool, Refusal> {
+    let bound = [Typed::default(); MOST_CASES];
+    let mut checker = Checker { sheet, rows: script, bound, flows: true, keeping: true };
     let (start, at) = opening(script);
     let surrounding = start.map_or(Join::default(), Join::label);
     checker.command(at, surrounding).ok_or(Refusal::NoShape)?;
     if checker.flows {
-        Ok(())
+        Ok(checker.keeping)
     } else {
         Err(Refusal::NoFlow)
     }
@@ -39,6 +40,13 @@ impl Checker<'_> {
     /// Notes whether a join may flow to a label.
     fn flow(&mut self, from: Join, to: u8) {
         self.flows = self.flows && from.at_or_below(&self.sheet.labels, to);
+    }
+
+    /// Notes whether an unpack's operand may flow to the wanted label by its readers, and whether by
+    /// its writers too.
+    fn open(&mut self, operand: Join, wanted: u8) {
+        self.flow(operand.confidentiality(), wanted);
+        self.keeping = self.keeping && operand.at_or_below(&self.sheet.labels, wanted);
     }
 
     /// The command at a row, with the surrounding label. Nothing where it has no type.
@@ -102,7 +110,7 @@ impl Checker<'_> {
             Row::Unpack { ty, label } => {
                 let (_, on_right) = self.sheet.parts(ty)?;
                 let operand = self.expect(at + 1, PACKAGE)?;
-                self.flow(operand.confidentiality(), label);
+                self.open(operand, label);
                 if on_right != ERROR {
                     return None;
                 }

@@ -17,7 +17,7 @@ mod text;
 mod value;
 
 use machine::Machine;
-use reference::answer::{Outcome, Refusal, DONE};
+use reference::answer::{Outcome, Refusal, Trust, DONE};
 use script::{Row, Script};
 use sheet::{Sheet, MOST_LOCATIONS};
 use value::Value;
@@ -31,18 +31,24 @@ fn number(result: Result<(), Refusal>) -> u8 {
 
 /// Whether a script is accepted on a sheet.
 pub fn check(sheet: &[u8], script: &[u8]) -> u8 {
-    number(try_check(sheet, script))
+    number(try_check(sheet, script).map(|_| ()))
 }
 
-fn try_check(sheet_text: &[u8], script_text: &[u8]) -> Result<(), Refusal> {
+/// Whether a script is accepted on a sheet, and then whether it is trust-keeping.
+pub fn trust(sheet: &[u8], script: &[u8]) -> Trust {
+    try_check(sheet, script).map_or_else(Trust::refused, Trust::accepted)
+}
+
+/// Whether the script is trust-keeping, where it is accepted.
+fn try_check(sheet_text: &[u8], script_text: &[u8]) -> Result<bool, Refusal> {
     let mut sheet = Sheet::empty();
     sheet_text::read(sheet_text, &mut sheet)?;
     let mut script = Script::new(Row::Skip);
     accept(&sheet, script_text, &mut script)
 }
 
-/// Reads a script into an empty one and checks it: 4, 5 and 6.
-fn accept(sheet: &Sheet, text: &[u8], script: &mut Script) -> Result<(), Refusal> {
+/// Reads a script into an empty one and checks it: 4, 5 and 6, and then whether it is trust-keeping.
+fn accept(sheet: &Sheet, text: &[u8], script: &mut Script) -> Result<bool, Refusal> {
     script_text::read(sheet, text, script).ok_or(Refusal::ScriptForm)?;
     check::check(sheet, script)
 }

@@ -1,7 +1,7 @@
 //! Scripts that open with `b`, on every implementation.
 
 use crate::common::{
-    case_count, check, lines, long, memory, sheet, start, text, text_of, without_start,
+    case_count, check, contexts, lines, long, memory, sheet, start, text, text_of, without_start,
 };
 use crate::rounds::{joined, places, played};
 use compare::generate::case::undamaged;
@@ -39,35 +39,6 @@ fn answer(passes: bool) -> u8 {
     } else {
         6
     }
-}
-
-/// The lines before and after a command that stands in another.
-type Context = (Vec<&'static str>, Vec<&'static str>);
-
-/// Places of a command: in either part of `;`, in the body of `w`, in either branch of `c`, and
-/// after a `w` or `c`. Every guard has label bottom.
-const AROUND: [(&[&str], &[&str]); 7] = [
-    (&[";"], &["s"]),
-    (&[";", "s"], &[]),
-    (&["w", "l 3", "i 1"], &[]),
-    (&["c", "l 3", "i 1"], &["s"]),
-    (&["c", "l 3", "i 1", "s"], &[]),
-    (&[";", "w", "l 3", "i 1", "s"], &[]),
-    (&[";", "c", "l 3", "i 1", "s", "s"], &[]),
-];
-
-/// Every way to stand at most `depth` deep in commands.
-fn contexts(depth: usize) -> Vec<Context> {
-    let mut all: Vec<Context> = vec![(vec![], vec![])];
-    let mut last = all.clone();
-    for _ in 0..depth {
-        let within = |(before, after): &Context| {
-            AROUND.map(|(open, close)| ([before, open].concat(), [close, after].concat()))
-        };
-        last = last.iter().flat_map(within).collect();
-        all.extend(last.clone());
-    }
-    all
 }
 
 #[test]

@@ -1,6 +1,7 @@
 //! Texts and memories written as in the scope: blanks for tabs, values without their zeros.
 
 use compare::implementation::ALL;
+use reference::{Trust, DONE};
 
 /// The text of lines whose fields are parted by blanks here.
 pub fn text(lines: &[&str]) -> Vec<u8> {
@@ -91,11 +92,60 @@ pub fn without_start(script: &[u8]) -> Option<&[u8]> {
     Some(&rest[end + 1..])
 }
 
+/// The lines before and after a command that stands in another.
+pub type Context = (Vec<&'static str>, Vec<&'static str>);
+
+/// Places of a command: in either part of `;`, in the body of `w`, in either branch of `c`, and
+/// after a `w` or `c`. Every guard has label bottom.
+const AROUND: [(&[&str], &[&str]); 7] = [
+    (&[";"], &["s"]),
+    (&[";", "s"], &[]),
+    (&["w", "l 3", "i 1"], &[]),
+    (&["c", "l 3", "i 1"], &["s"]),
+    (&["c", "l 3", "i 1", "s"], &[]),
+    (&[";", "w", "l 3", "i 1", "s"], &[]),
+    (&[";", "c", "l 3", "i 1", "s", "s"], &[]),
+];
+
+/// Every way to stand at most `depth` deep in commands.
+pub fn contexts(depth: usize) -> Vec<Context> {
+    let mut all: Vec<Context> = vec![(vec![], vec![])];
+    let mut last = all.clone();
+    for _ in 0..depth {
+        let within = |(before, after): &Context| {
+            AROUND.map(|(open, close)| ([before, open].concat(), [close, after].concat()))
+        };
+        last = last.iter().flat_map(within).collect();
+        all.extend(last.clone());
+    }
+    all
+}
+
 /// The check of a script on a sheet, the same from every implementation.
 pub fn check(sheet: &[u8], script: &[u8]) -> u8 {
-    let answers: Vec<u8> = ALL.iter().map(|i| (i.check)(sheet, script)).collect();
-    assert!(answers.iter().all(|&answer| answer == answers[0]), "{answers:?}");
-    answers[0]
+    trust(sheet, script).answer
+}
+
+/// The trust of a script on a sheet, the same from every implementation, whose check answers the
+/// same.
+pub fn trust(sheet: &[u8], script: &[u8]) -> Trust {
+    let trusts = ALL.iter().map(|i| {
+        let trust = (i.trust)(sheet, script);
+        assert_eq!((i.check)(sheet, script), trust.answer, "{}", i.name);
+        trust
+    });
+    let trusts: Vec<Trust> = trusts.collect();
+    assert!(trusts.iter().all(|&trust| trust == trusts[0]), "{trusts:?}");
+    trusts[0]
+}
+
+/// What an accepted script answers that is trust-keeping, and one that isn't.
+pub const KEEPING: Trust = Trust { answer: DONE, keeping: 1 };
+pub const ENDORSING: Trust = Trust { answer: DONE, keeping: 0 };
+
+/// What a refused script answers.
+pub fn untrusted(answer: u8) -> Trust {
+    Trust { answer, keeping: 0 }
 }
 
 /// The number of generated cases: `SIMP_CASES`, or what the gate takes.
@@ -111,6 +161,11 @@ pub fn case_count() -> u64 {
 /// The number of generated rounds, each of which takes the time of several cases.
 pub fn round_count() -> u64 {
     case_count() / 2
+}
+
+/// The number of generated calls for trust.
+pub fn trust_count() -> u64 {
+    case_count()
 }
 
 /// The number of generated calls for groups, of which those of many principals take their time.

@@ -1,18 +1,20 @@
 //! The generator reaches every answer of every call that can give it.
 
-use crate::common::{case_count, groups_count, round_count, without_start};
+use crate::common::{case_count, groups_count, round_count, trust_count, without_start};
 use compare::generate::case::case;
 use compare::generate::groups::{groups_case, GroupsCase};
 use compare::generate::program_input::sheet_and_scripts;
 use compare::generate::round::{round_case, RoundCase};
+use compare::generate::trust::trust_case;
 use reference::calls::{
     accepted_script, known_group, known_label, read_memory, read_sheet, require_length,
 };
+use reference::script::{Command, Expression, Phrase, Term};
 use reference::sheet::Sheet;
 use reference::text::{Cause, Counted, Thing, MOST_BYTES};
 use reference::{
-    check, parts, round, run, sheet_text, smallest_groups, try_groups, try_round, view, Reason,
-    DONE, SCRIPTS,
+    check, parts, round, run, sheet_text, smallest_groups, try_check, try_groups, try_round,
+    try_trust, view, Reason, DONE, SCRIPTS,
 };
 use std::collections::{BTreeMap, BTreeSet};
 
@@ -345,4 +347,110 @@ fn generated_calls_for_groups_reach_every_answer() {
     assert!(lengths.iter().all(|length| often(asked.places.get(length), 200)), "{asked:?}");
     let labels = ["none on the sheet", "the count", "the largest", "one of more bits"];
     assert!(labels.iter().all(|label| often(asked.labels.get(label), 2000)), "{asked:?}");
+}
+
+/// The unpacks of a command, each with its line and what it stands in.
+#[derive(Default)]
+struct Unpacks {
+    found: Vec<(usize, Vec<&'static str>)>,
+    around: Vec<&'static str>,
+}
+
+impl Unpacks {
+    fn command(&mut self, c: &Command) {
+        match &c.phrase {
+            Phrase::Skip => (),
+            Phrase::Seq(first, second) => {
+                self.command(first);
+                self.command(second);
+            }
+            Phrase::Assign(_, e) => self.expression(e),
+            Phrase::While(guard, body) => {
+                self.expression(guard);
+                self.within("a loop", |unpacks| unpacks.command(body));
+            }
+            Phrase::Case(e, on_left, on_right) => {
+                self.within("a case's expression", |unpacks| unpacks.expression(e));
+                self.within("a left branch", |unpacks| unpacks.command(on_left));
+                self.within("a right branch", |unpacks| unpacks.command(on_right));
+            }
+        }
+    }
+
+    fn within(&mut self, what: &'static str, walk: impl FnOnce(&mut Self)) {
+        self.around.push(what);
+        walk(self);
+        self.around.pop();
+    }
+
+    fn expression(&mut self, e: &Expression) {
+        match &e.term {
+            Term::Integer(_) | Term::Location(_) | Term::Bound(_) | Term::Value(_) => (),
+            Term::Plus(e1, e2) => [e1, e2].into_iter().for_each(|e| self.expression(e)),
+            Term::Left(_, operand) | Term::Right(_, operand) => self.expression(operand),
+            Term::Pack(_, operand) => self.within("a pack", |unpacks| unpacks.expression(operand)),
+            Term::Unpack(_, _, operand) => {
+                let bound = matches!(operand.term, Term::Bound(_));
+                let of_bound = bound.then_some("of a bound value");
+                let around = self.around.iter().copied().chain(of_bound).collect();
+                self.found.push((e.line, around));
+            }
+        }
+    }
+}
+
+/// What becomes of an accepted script by its unpacks, in the lines `endorsing` of which it isn't
+/// trust-keeping; and where one of several is at fault, what that one stands in.
+fn by_its_unpacks(command: &Command, endorsing: &[usize]) -> Vec<&'static str> {
+    let mut unpacks = Unpacks::default();
+    unpacks.command(command);
+    let found = unpacks.found;
+    let [line] = endorsing else {
+        return vec![match (endorsing.len(), found.len()) {
+            (0, 0) => "keeping, no unpack",
+            (0, 1) => "keeping, one unpack",
+            (0, _) => "keeping, several unpacks",
+            _ => "not keeping by several",
+        }];
+    };
+    let place = found.iter().position(|(unpack, _)| unpack == line).expect("an unpack");
+    if found.len() == 1 {
+        return vec!["not keeping by the only one"];
+    }
+    let order = match place {
+        0 => "the first",
+        _ if place + 1 == found.len() => "the last",
+        _ => "one between",
+    };
+    let around: BTreeSet<&str> = found[place].1.iter().copied().chain([order]).collect();
+    around.into_iter().chain(["not keeping by one of several"]).collect()
+}
+
+#[test]
+fn generated_calls_for_trust_reach_every_answer() {
+    let calls = trust_count().min(20_000);
+    let (mut answers, mut ends) = (Counts::new(), BTreeMap::<&str, u64>::new());
+    for seed in 0..calls {
+        let case = trust_case(seed);
+        let trust = try_trust(&case.sheet, &case.script);
+        *answers.entry(trust.as_ref().err().map_or(DONE, Reason::number)).or_default() += 1;
+        let Ok(endorsements) = trust else {
+            continue;
+        };
+        let lines: Vec<usize> = endorsements.iter().map(|unpack| unpack.line).collect();
+        let script = try_check(&case.sheet, &case.script).expect("it is accepted");
+        for end in by_its_unpacks(&script.command, &lines) {
+            *ends.entry(end).or_default() += 1;
+        }
+    }
+    assert_reached("trust", &answers, &[0, 1, 2, 4, 5, 6], calls, 100);
+    println!("{ends:?}");
+    let often = |end: &str, rare| ends.get(end).is_some_and(|&count| count * rare >= calls);
+    let main = ["keeping, several unpacks", "not keeping by one of several"];
+    assert!(main.iter().all(|end| often(end, 8)), "{ends:?}");
+    let others = ["keeping, no unpack", "keeping, one unpack", "not keeping by several"];
+    let order = ["the first", "the last", "one between", "not keeping by the only one"];
+    let places = ["a case's expression", "a left branch", "a right branch", "a loop", "a pack"];
+    let all = others.iter().chain(&order).chain(&places).chain(&["of a bound value"]);
+    assert!(all.into_iter().all(|end| often(end, 80)), "{ends:?}");
 }

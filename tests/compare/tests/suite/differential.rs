@@ -3,18 +3,20 @@
 //!
 //! They must agree in answer, steps, count and every word of every slice, refused calls included.
 
-use crate::common::{case_count, groups_count, round_count};
+use crate::common::{case_count, groups_count, round_count, trust_count};
 use crate::fenced::Fenced;
 use compare::generate::case::{case, Case};
 use compare::generate::groups::{groups_case, GroupsCase};
 use compare::generate::round::{round_case, RoundCase};
+use compare::generate::trust::trust_case;
 use compare::implementation::{Implementation, REFERENCE};
-use reference::{Groups, Outcome, Round};
+use reference::{Groups, Outcome, Round, Trust};
 
-/// Everything that the three calls of a case hand back.
+/// Everything that the four calls of a case hand back.
 #[derive(Debug, PartialEq, Eq)]
 struct Results {
     check: u8,
+    trust: Trust,
     run: Outcome,
     memory: Vec<u32>,
     view_answer: u8,
@@ -25,6 +27,7 @@ struct Results {
 
 fn results(i: &Implementation, case: &Case) -> Results {
     let check = (i.check)(&case.sheet, &case.script);
+    let trust = (i.trust)(&case.sheet, &case.script);
     let mut ran = Fenced::new(&case.memory);
     let run = (i.run)(&case.sheet, &case.script, ran.words_mut(), case.authority, case.budget);
     let lent = Fenced::new(&case.memory);
@@ -34,6 +37,7 @@ fn results(i: &Implementation, case: &Case) -> Results {
         ran.is_intact() && view.is_intact() && lent.is_intact() && lent.words() == case.memory;
     Results {
         check,
+        trust,
         run,
         memory: ran.words().to_vec(),
         view_answer,
@@ -142,6 +146,20 @@ fn agrees_on_groups(tested: &Implementation) {
     }
 }
 
+/// The answer is that of a check too, and beside another than 0 no script is trust-keeping.
+fn agrees_on_trust(tested: &Implementation) {
+    for seed in 0..trust_count() {
+        let case = trust_case(seed);
+        let (sheet, script) = (&case.sheet, &case.script);
+        let [got, expected] = [tested, &REFERENCE].map(|i| (i.trust)(sheet, script));
+        let texts = [sheet, script].map(|text| String::from_utf8_lossy(text));
+        let shown = || format!("seed {seed} ({})\n{}---\n{}", tested.name, texts[0], texts[1]);
+        assert_eq!(got, expected, "{}", shown());
+        assert_eq!(got.answer, (tested.check)(sheet, script), "{}", shown());
+        assert!(got.keeping == 0 || (got.answer, got.keeping) == (0, 1), "{}", shown());
+    }
+}
+
 mod lean {
     use compare::implementation::LEAN;
 
@@ -163,6 +181,11 @@ mod lean {
     #[test]
     fn agrees_on_groups() {
         super::agrees_on_groups(&LEAN);
+    }
+
+    #[test]
+    fn agrees_on_trust() {
+        super::agrees_on_trust(&LEAN);
     }
 }
 
@@ -188,5 +211,10 @@ mod library {
     #[test]
     fn agrees_on_groups() {
         super::agrees_on_groups(&LIBRARY);
+    }
+
+    #[test]
+    fn agrees_on_trust() {
+        super::agrees_on_trust(&LIBRARY);
     }
 }

@@ -1,9 +1,9 @@
 //! Texts that mean to mislead a reader, on every implementation.
 
-use crate::common::{memory, sheet, start, text};
+use crate::common::{memory, sheet, start, text, untrusted};
 use compare::implementation::ALL;
 use reference::text::{Cause, Fault};
-use reference::{script_text, sheet_text, Groups, Outcome};
+use reference::{script_text, sheet_text, Groups, Outcome, Trust};
 
 /// The line of a fault and its cause, without the particulars but for the thing that is missing and
 /// where a `b` line is late.
@@ -71,6 +71,7 @@ fn sheets_and_why_they_are_refused() {
         assert_eq!(told(sheet_text::parse(sheet).err()), format!("{line}: {cause}"), "{shown}");
         for i in ALL {
             assert_eq!((i.check)(sheet, b"s\n"), 1, "{}: {shown}", i.name);
+            assert_eq!((i.trust)(sheet, b"s\n"), untrusted(1), "{}: {shown}", i.name);
             let groups = (i.groups)(sheet, 0, &mut [7; 16]);
             assert_eq!(groups, Groups { answer: 1, count: 0 }, "{}: {shown}", i.name);
         }
@@ -165,6 +166,7 @@ fn scripts_and_why_they_are_refused() {
         assert_eq!(told(fault), format!("{line}: {cause}"), "{shown}");
         for i in ALL {
             assert_eq!((i.check)(&sheet(), script), 4, "{}: {shown}", i.name);
+            assert_eq!((i.trust)(&sheet(), script), untrusted(4), "{}: {shown}", i.name);
         }
     }
 }
@@ -182,8 +184,10 @@ fn long_texts() {
                 assert_eq!((i.check)(&after_sheet, b"s\n"), 1, "{}", i.name);
                 assert_eq!((i.check)(&number, b"s\n"), 1, "{}", i.name);
                 assert_eq!((i.groups)(&after_sheet, 0, &mut [7; 16]).answer, 1, "{}", i.name);
+                assert_eq!((i.trust)(&after_sheet, b"s\n"), untrusted(1), "{}", i.name);
                 assert_eq!((i.check)(&sheet(), &long), 4, "{}", i.name);
                 assert_eq!((i.check)(&sheet(), &after_script), 4, "{}", i.name);
+                assert_eq!((i.trust)(&sheet(), &after_script), untrusted(4), "{}", i.name);
             }
         }
     }
@@ -220,6 +224,10 @@ fn the_deepest_scripts() {
         let shown = script[..40].escape_ascii();
         for i in ALL {
             assert_eq!((i.check)(&sheet(), script), check, "{}: {shown}", i.name);
+            // none of them has an unpack
+            let keeping = u8::from(check == 0);
+            let trust = Trust { answer: check, keeping };
+            assert_eq!((i.trust)(&sheet(), script), trust, "{}: {shown}", i.name);
             let mut words = start();
             let ran = (i.run)(&sheet(), script, &mut words, authority, budget);
             assert_eq!((ran, words), (outcome, after.clone()), "{}: {shown} {budget}", i.name);

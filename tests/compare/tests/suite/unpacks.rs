@@ -1,9 +1,8 @@
 //! The labels of an unpack's operand, on every implementation: C of each must be at or below C of
-//! the wanted label, so for every owner its readers contain the wanted label's.
+//! the wanted label, so for every owner its readers contain the wanted label's. The script is
+//! trust-keeping where for every owner its writers lie within the wanted label's too.
 
-use crate::common::{text, text_of};
-use compare::implementation::ALL;
-use reference::{Refusal, DONE};
+use crate::common::{text, text_of, trust, untrusted, ENDORSING, KEEPING};
 
 /// The effective readers and writers of a label, for each owner.
 type Label = Vec<(u16, u16)>;
@@ -25,35 +24,52 @@ fn sheet_of(labels: &[Label]) -> Vec<u8> {
 }
 
 /// Checks an unpack of the package that a case binds, in its first branch or its second.
-fn assert_unpack(sheet: &[u8], guard: &str, wanted: usize, bound_first: bool, passes: bool) {
+/// Of its operand, the readers pass or don't, and the writers do or don't. Gives the place of what it
+/// answers: keeping, not keeping, refused.
+fn assert_unpack(
+    sheet: &[u8],
+    guard: &str,
+    wanted: usize,
+    bound_first: bool,
+    (reads, writes): (bool, bool),
+) -> usize {
     let unpack = format!("c,u 6 {wanted},v 0,s,s");
     let branches = if bound_first { format!("{unpack},s") } else { format!("s,{unpack}") };
     let script = format!("c,{guard},{branches}");
     let script = text(&script.split(',').collect::<Vec<&str>>());
-    let answer = if passes { DONE } else { Refusal::NoFlow.number() };
-    for i in ALL {
-        assert_eq!((i.check)(sheet, &script), answer, "{}: {}", i.name, script.escape_ascii());
-    }
+    let (place, answer) = match (reads, writes) {
+        (true, true) => (0, KEEPING),
+        (true, false) => (1, ENDORSING),
+        (false, _) => (2, untrusted(6)),
+    };
+    assert_eq!(trust(sheet, &script), answer, "{}", script.escape_ascii());
+    place
 }
 
 /// Checks unpacks of operands with one label, with I of one, and with two: a guard that is a sum of
-/// two locations, though never a package. Gives how many of these last pass and how many don't.
-fn assert_unpacks(labels: &[Label]) -> [usize; 2] {
+/// two locations, though never a package. Gives how many of these last are trust-keeping, how many
+/// accepted and not, and how many refused.
+fn assert_unpacks(labels: &[Label]) -> [usize; 3] {
     let sheet = sheet_of(labels);
     let count = labels.len();
-    let passes = |a: usize, wanted: usize| {
+    let reads = |a: usize, wanted: usize| {
         let mut owners = labels[a].iter().zip(&labels[wanted]);
         owners.all(|((readers, _), (wanted, _))| wanted & !readers == 0)
     };
-    let mut told = [0; 2];
+    let writes = |a: usize, wanted: usize| {
+        let mut owners = labels[a].iter().zip(&labels[wanted]);
+        owners.all(|((_, writers), (_, wanted))| writers & !wanted == 0)
+    };
+    let mut told = [0; 3];
     for wanted in 0..count {
         for a in 0..count {
-            assert_unpack(&sheet, &format!("x {}", count + a), wanted, true, passes(a, wanted));
-            assert_unpack(&sheet, &format!("k {a},i 1"), wanted, true, true);
+            let one = (reads(a, wanted), writes(a, wanted));
+            assert_unpack(&sheet, &format!("x {}", count + a), wanted, true, one);
+            assert_unpack(&sheet, &format!("k {a},i 1"), wanted, true, (true, one.1));
             for b in 0..count {
-                let both = passes(a, wanted) && passes(b, wanted);
-                assert_unpack(&sheet, &format!("l 5,+,x {a},x {b}"), wanted, false, both);
-                told[usize::from(!both)] += 1;
+                let both = (one.0 && reads(b, wanted), one.1 && writes(b, wanted));
+                let guard = format!("l 5,+,x {a},x {b}");
+                told[assert_unpack(&sheet, &guard, wanted, false, both)] += 1;
             }
         }
     }
@@ -68,15 +84,18 @@ fn every_label_of_two_principals() {
     };
     let labels: Vec<Label> =
         (0..16).map(|bits| vec![owner(1, bits), owner(2, bits >> 2)]).collect();
-    assert_eq!(assert_unpacks(&labels), [1600, 2496]);
+    assert_eq!(assert_unpacks(&labels), [625, 975, 2496]);
 }
 
-/// An open label of 16 principals, and for each owner one that this owner alone reads.
+/// An open label of 16 principals, and for each owner one that this owner alone reads, or writes.
 #[test]
 fn every_owner_counts() {
-    let mut labels = vec![vec![(0xffff, 0xffff); 16]; 17];
-    for (owner, label) in labels.iter_mut().enumerate().take(16) {
-        label[owner].0 = 1 << owner;
+    let open = vec![vec![(0xffff, 0xffff); 16]; 17];
+    let (mut readers, mut writers) = (open.clone(), open);
+    for owner in 0..16 {
+        readers[owner][owner].0 = 1 << owner;
+        writers[owner][owner].1 = 1 << owner;
     }
-    assert_eq!(assert_unpacks(&labels), [65, 4848]);
+    assert_eq!(assert_unpacks(&readers), [65, 0, 4848]);
+    assert_eq!(assert_unpacks(&writers), [305, 4608, 0]);
 }

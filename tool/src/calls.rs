@@ -2,8 +2,10 @@
 
 mod groups;
 mod round;
+mod trust;
 
 use reference::calls::read_sheet;
+use reference::flow::Endorsement;
 use reference::machine::Stopped;
 use reference::memory_text;
 use reference::round::Refused;
@@ -11,7 +13,8 @@ use reference::sheet::Sheet;
 use reference::value::MOST_WORDS;
 use reference::Reason;
 
-pub use bindings::{Groups, Outcome, Round};
+pub use bindings::{Groups, Outcome, Round, Trust};
+pub use trust::Differing;
 
 /// The most steps of a run, or of all scripts of a round, that the reference takes too. It rebuilds
 /// the command at each step: so many steps of a long script take it ten seconds, a hundred times as
@@ -38,6 +41,7 @@ pub struct Library {
     pub round: RunCall<Round>,
     pub view: ViewCall<u8>,
     pub groups: GroupsCall<Groups>,
+    pub trust: CheckCall<Trust>,
 }
 
 /// The same calls of the reference, which give the reason of a refusal.
@@ -51,6 +55,8 @@ pub struct Reference {
     pub view: ViewCall<Result<(), Reason>>,
     /// How many groups are listed.
     pub groups: GroupsCall<Result<u32, Reason>>,
+    /// The unpacks by which an accepted script isn't trust-keeping.
+    pub trust: CheckCall<Result<Vec<Endorsement>, Reason>>,
 }
 
 #[derive(Clone, Copy)]
@@ -67,6 +73,7 @@ pub const CALLS: Calls = Calls {
         round: bindings::round,
         view: bindings::view,
         groups: bindings::groups,
+        trust: bindings::trust,
     },
     reference: Reference {
         check: |sheet, script| reference::try_check(sheet, script).map(|_| ()),
@@ -74,6 +81,7 @@ pub const CALLS: Calls = Calls {
         round: reference::try_round,
         view: reference::try_view,
         groups: reference::try_groups,
+        trust: reference::try_trust,
     },
 };
 
@@ -108,16 +116,11 @@ pub struct Asked<'a> {
 }
 
 impl Calls {
-    /// The verdict on a script, with why it is refused.
-    pub fn check(&self, sheet: &[u8], script: &[u8]) -> Result<Result<(), Reason>, Disagreement> {
-        let answer = (self.library.check)(sheet, script);
-        let told = (self.reference.check)(sheet, script);
-        agreed(answer, &told).map(|()| told)
-    }
-
     /// The verdict on a sheet: the check of a script that has no refusal of its own.
     pub fn sheet(&self, text: &[u8]) -> Result<Result<Sheet, Reason>, Disagreement> {
-        if let Err(reason) = self.check(text, SKIP)? {
+        let told = (self.reference.check)(text, SKIP);
+        agreed((self.library.check)(text, SKIP), &told)?;
+        if let Err(reason) = told {
             return Ok(Err(reason));
         }
         let told = read_sheet(text);

@@ -1,16 +1,18 @@
 //! `simp check`.
 
 use crate::args::{Check, Form};
-use crate::calls::{Calls, Disagreement};
+use crate::calls::{Calls, Differing, Trust};
 use crate::files::{self, shown};
 use crate::json::{Fields, Json};
-use crate::message::message;
+use crate::message::{counted, message, Unpack};
 use crate::names::Names;
 use crate::opening::{self, in_full, Named};
 use crate::progress::Progress;
 use crate::refusal::{disagreement, Refusal};
 use crate::status::{Status, Stop};
 use crate::streams::{cause, Paint, Streams};
+use crate::trust::{self, KEEPING};
+use crate::words::Words;
 use reference::sheet::Sheet;
 use std::ffi::OsStr;
 use std::io;
@@ -82,10 +84,11 @@ struct Entry<'a> {
 }
 
 enum Verdict {
-    Accepted,
+    /// With the unpacks by which it isn't trust-keeping.
+    Accepted(Vec<Unpack>),
     Refused(Refusal),
     /// The library and the reference disagree.
-    Disagreed(Disagreement),
+    Disagreed(Differing),
     /// Why it can't be read.
     Unread(io::Error),
 }
@@ -111,9 +114,13 @@ impl Desk<'_> {
             Ok(text) => text,
             Err(error) => return Verdict::Unread(error),
         };
-        match self.calls.check(&self.file.text.bytes, &text.bytes) {
+        match self.calls.trust(&self.file.text.bytes, &text.bytes) {
             Err(found) => Verdict::Disagreed(found),
-            Ok(Ok(())) => Verdict::Accepted,
+            Ok(Ok(unpacks)) => {
+                let words = Words { sheet: self.sheet, names: self.names };
+                let told = unpacks.iter().map(|unpack| Unpack::new(unpack, &words));
+                Verdict::Accepted(told.collect())
+            }
             Ok(Err(reason)) => {
                 let reason = in_full(reason, &self.file.text, &text);
                 let message = message(&reason, Some(self.sheet), self.names);
@@ -126,7 +133,7 @@ impl Desk<'_> {
 impl Entry<'_> {
     fn status(&self) -> Status {
         match self.verdict {
-            Verdict::Accepted => Status::Done,
+            Verdict::Accepted(_) => Status::Done,
             Verdict::Refused(_) => Status::Refused,
             Verdict::Unread(_) => Status::Files,
             Verdict::Disagreed(_) => Status::Disagree,
@@ -136,56 +143,86 @@ impl Entry<'_> {
     /// The library's answer, if there is one.
     fn answer(&self) -> Option<u8> {
         match &self.verdict {
-            Verdict::Accepted => Some(0),
+            Verdict::Accepted(_) => Some(0),
             Verdict::Refused(refusal) => Some(refusal.message.number),
-            Verdict::Disagreed(found) => Some(found.answer),
+            Verdict::Disagreed(found) => Some(found.library.answer),
             Verdict::Unread(_) => None,
+        }
+    }
+
+    /// Whether the library says that it is trust-keeping.
+    fn keeping(&self) -> bool {
+        match &self.verdict {
+            Verdict::Accepted(unpacks) => unpacks.is_empty(),
+            Verdict::Disagreed(found) => found.library == Trust { answer: 0, keeping: 1 },
+            Verdict::Refused(_) | Verdict::Unread(_) => false,
         }
     }
 
     /// What standard error says of it.
     fn error(&self, sheet: &str) -> Option<String> {
         match &self.verdict {
-            Verdict::Accepted | Verdict::Refused(_) => None,
+            Verdict::Accepted(_) | Verdict::Refused(_) => None,
             Verdict::Unread(error) => Some(files::unread(self.file, error)),
             Verdict::Disagreed(found) => {
-                let asked = format!("is {} accepted on {sheet}", shown(self.file));
-                Some(disagreement(&asked, found))
+                let asked = format!("is {} accepted on {sheet}, and {KEEPING}", shown(self.file));
+                Some(disagreement(&asked, &found.disagreement()))
             }
         }
     }
 
-    fn line(&self, paint: Paint) -> String {
-        let said = match &self.verdict {
-            Verdict::Refused(refusal) => return refusal.line(paint),
-            Verdict::Accepted => paint.good("accepted"),
-            Verdict::Unread(_) => paint.bad("can't be read"),
-            Verdict::Disagreed(found) if found.answer == 0 => {
-                "accepted by the library alone".into()
+    /// The verdict on a line, and below it the unpacks by which an accepted script isn't
+    /// trust-keeping, a line each.
+    fn lines(&self, paint: Paint) -> String {
+        let (said, more) = match &self.verdict {
+            Verdict::Refused(refusal) => return refusal.line(paint) + "\n",
+            Verdict::Accepted(unpacks) if unpacks.is_empty() => {
+                (paint.good(&format!("accepted, {KEEPING}")), String::new())
             }
-            Verdict::Disagreed(found) => format!("refused by the library alone [{}]", found.answer),
+            Verdict::Accepted(unpacks) => {
+                (paint.good("accepted"), trust::lines(self.file, unpacks, paint))
+            }
+            Verdict::Unread(_) => (paint.bad("can't be read"), String::new()),
+            Verdict::Disagreed(found) => (alone(found), String::new()),
         };
-        format!("{} {said}", paint.bold(&format!("{}:", shown(self.file))))
+        format!("{} {said}\n{more}", paint.bold(&format!("{}:", shown(self.file))))
     }
 
     fn json(&self) -> Json {
-        let fields = match &self.verdict {
-            Verdict::Refused(refusal) => refused_fields(refusal),
-            Verdict::Unread(error) => unread_fields(&cause(error)),
-            Verdict::Accepted => answered(0),
+        let (fields, trusted) = match &self.verdict {
+            Verdict::Accepted(unpacks) => (answered(0), trust::fields(unpacks)),
+            Verdict::Refused(refusal) => (refused_fields(refusal), self.kept()),
+            Verdict::Unread(error) => (unread_fields(&cause(error)), self.kept()),
             Verdict::Disagreed(found) => {
-                let mut fields = answered(found.answer);
-                fields.push(("disagreement", Json::Bool(true)));
-                fields
+                let disagreed = vec![("disagreement", Json::Bool(true))];
+                ([answered(found.library.answer), disagreed].concat(), self.kept())
             }
         };
-        named(self.file, fields)
+        named(self.file, [fields, trusted].concat())
+    }
+
+    /// Without unpacks, where none are known.
+    fn kept(&self) -> Fields {
+        vec![("keeping", Json::Bool(self.keeping()))]
     }
 }
 
-/// How many were accepted and refused, and how many couldn't be read.
+/// What one of the two says and the other doesn't.
+fn alone(found: &Differing) -> String {
+    let Differing { library, reference } = found;
+    match (library.answer, reference.answer) {
+        (0, 0) if library.keeping == 0 => format!("accepted, {KEEPING} by the reference alone"),
+        (0, 0) => format!("accepted, {KEEPING} by the library alone"),
+        (0, _) => "accepted by the library alone".to_string(),
+        (answer, _) => format!("refused by the library alone [{answer}]"),
+    }
+}
+
+/// How many were accepted, how many of these are trust-keeping, how many were refused, and how many
+/// couldn't be read.
 struct Counts {
     accepted: usize,
+    keeping: usize,
     refused: usize,
     unread: usize,
 }
@@ -196,16 +233,20 @@ fn counts(entries: &[Entry]) -> Counts {
     };
     Counts {
         accepted: count(|answer| answer == Some(0)),
+        keeping: entries.iter().filter(|entry| entry.keeping()).count(),
         refused: count(|answer| answer.is_some_and(|answer| answer != 0)),
         unread: count(|answer| answer.is_none()),
     }
 }
 
 fn words(entries: &[Entry], paint: Paint) -> String {
-    let mut text: String = entries.iter().map(|entry| entry.line(paint) + "\n").collect();
-    let Counts { accepted, refused, unread } = counts(entries);
-    let scripts = if entries.len() == 1 { "script" } else { "scripts" };
-    text += &format!("{} {scripts}: {accepted} accepted, {refused} refused", entries.len());
+    let mut text: String = entries.iter().map(|entry| entry.lines(paint)).collect();
+    let Counts { accepted, keeping, refused, unread } = counts(entries);
+    text += &format!("{}: {accepted} accepted", counted(entries.len(), "script"));
+    if accepted > 0 {
+        text += &format!(" ({keeping} {KEEPING})");
+    }
+    text += &format!(", {refused} refused");
     if unread > 0 {
         text += &format!(", {unread} can't be read");
     }
@@ -213,13 +254,14 @@ fn words(entries: &[Entry], paint: Paint) -> String {
 }
 
 fn document(sheet: &OsStr, about: Fields, entries: &[Entry]) -> String {
-    let Counts { accepted, refused, unread } = counts(entries);
+    let Counts { accepted, keeping, refused, unread } = counts(entries);
     let fields = vec![
         ("sheet", named(sheet, about)),
         ("scripts", Json::list(entries, Entry::json)),
         ("accepted", Json::number(accepted)),
         ("refused", Json::number(refused)),
         ("unread", Json::number(unread)),
+        ("keeping", Json::number(keeping)),
     ];
     format!("{}\n", Json::Object(fields))
 }

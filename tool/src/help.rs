@@ -5,13 +5,15 @@ use crate::args::Command;
 const GENERAL: &str = "\
 simp checks, runs, shows and explains SImp scripts, by a library that is proved.
 
-usage: simp check SHEET SCRIPT..           which scripts are accepted on a sheet, and why not
+usage: simp check SHEET SCRIPT..           which scripts are accepted on a sheet, and why not;
+                                           which of them are trust-keeping
        simp run SHEET SCRIPT MEMORY ..     a run: how it ends, and the memory after it
        simp round SHEET SCRIPTS MEMORY ..  several scripts of a file, run in order on one memory
        simp show SHEET MEMORY ..           what a group may see of a memory
        simp readers SHEET [LABEL]          the smallest groups that together read a label
        simp explain SHEET [SCRIPTS]        who may read and write what is on a sheet; where scripts
-                                           start, and who may know that they are run
+                                           start, who may know that they are run, and which
+                                           are trust-keeping
        simp help COMMAND                   all that a command takes
        simp --version                      which tool, which logic, which library
 
@@ -54,17 +56,24 @@ const CHECK: &str = "
 Says of each script on a line of its own that it is accepted, or in which line what is wrong, by
 which rule and what to do. Then come the sums. If the sheet itself is refused, no script is checked.
 
+An accepted script is trust-keeping if of each `u t label`, for each owner, whoever may have written
+what the package comes from may have written that label too. After such a script is done, what a
+group can write has made no difference to the rest. A script that isn't trust-keeping is accepted
+all the same, and a line for each `u` by which it isn't follows the verdict.
+
 A script may open with a line `b label`: it starts at that label, and assigns only to locations
 whose readers may read it and that its writers may have written. Without `b` it starts at bottom.
 ";
 
 const CHECK_JSON: &str = r#"
                    {"sheet": {"name", "answer", "accepted"},
-                    "scripts": [{"name", "answer", "accepted"}],
-                    "accepted": 0, "refused": 0, "unread": 0}
-                 what is refused has "blamed", "line", "fact", "advice" and "rule" too; what can't
-                 be read has "answer" null and an "error"; where the library
-                 and the reference disagree, "disagreement" is true
+                    "scripts": [{"name", "answer", "accepted", "keeping", "unpacks":
+                                 [{"line": 4, "label": 8, "fact", "advice", "rule"}]}],
+                    "accepted": 0, "refused": 0, "unread": 0, "keeping": 0}
+                 "keeping" is whether the script is trust-keeping, and "unpacks" has each `u` by
+                 which an accepted one isn't; what is refused has "blamed", "line", "fact", "advice"
+                 and "rule" instead of "unpacks"; what can't be read has "answer" null and an
+                 "error"; where the library and the reference disagree, "disagreement" is true
 "#;
 
 const RUN: &str = "
@@ -147,7 +156,8 @@ Prints the principals, types, labels and locations of a sheet, and who may read 
 
 With SCRIPTS, a file of one script or of a round, it prints of each script instead at which label it
 starts, and who reads that: the label that a line `b label` at its start names, else bottom, which
-everyone reads. A group that can't read it is shown no difference when the script is run.
+everyone reads. A group that can't read it is shown no difference when the script is run. It also
+prints whether the script is trust-keeping, and each `u` by which it isn't, as simp check does.
 ";
 
 const EXPLAIN_JSON: &str = r#"
@@ -161,10 +171,11 @@ const EXPLAIN_JSON: &str = r#"
                  nothing stands beside it. With SCRIPTS it is
                    {"sheet": {"name", "answer", "accepted"},
                     "scripts": {"name", "answer", "accepted"},
-                    "starts": [{"script": 1, "first_line": 1, "label": 0, "name", "read", "write"}]}
-                 without `b` a script has "label" and "name" null; scripts that are refused have
-                 "script" (null where no script is at fault), "blamed", "line", "fact", "advice" and
-                 "rule" too, and no starts
+                    "starts": [{"script": 1, "first_line": 1, "label": 0, "name", "read", "write",
+                                "keeping": true, "unpacks": []}]}
+                 without `b` a script has "label" and "name" null; "keeping" and "unpacks" are as in
+                 simp check; scripts that are refused have "script" (null where no script is at
+                 fault), "blamed", "line", "fact", "advice" and "rule" too, and no starts
 "#;
 
 /// All that is said of a command, or of the tool.

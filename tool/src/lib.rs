@@ -25,6 +25,7 @@ mod show;
 pub mod status;
 pub mod streams;
 mod table;
+mod trust;
 mod values;
 pub mod words;
 

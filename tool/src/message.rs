@@ -1,4 +1,5 @@
-//! What is told of a refusal: what is wrong, by which rule, and what to do.
+//! What is told of a refusal, and of an unpack by which an accepted script isn't trust-keeping: what
+//! is wrong, by which rule, and what to do.
 
 mod flow;
 mod lines;
@@ -8,9 +9,11 @@ mod scripts;
 mod shift;
 mod text;
 mod types;
+mod unpack;
 
 pub use scripts::{Scripts, Which};
 pub use text::{counted, groups_read};
+pub use unpack::Unpack;
 
 use crate::names::Names;
 use crate::words::{named, Words};

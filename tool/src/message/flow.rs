@@ -2,7 +2,7 @@
 
 use super::{told, Told};
 use crate::words::{Right, Words};
-use reference::flow::{Into, NoFlow, Origin, Source, Through};
+use reference::flow::{Endorsement, Into, NoFlow, Origin, Source, Through};
 use reference::label::Label;
 use reference::sheet::LocationId;
 
@@ -11,7 +11,7 @@ pub fn told_of(words: &Words, fault: &NoFlow) -> Told {
         Into::Location(location) => words.sheet.label_at(location),
         Into::Package(label) | Into::Opened(label) => &words.sheet.labels[label],
     };
-    let (right, owner) = broken(fault.into, &fault.source.label, target);
+    let (right, owner) = broken(&fault.source.label, target);
     let flow = Flow { words, fault, right, target, source: &fault.source.label };
     if flow.shows() {
         told(flow.fact(), flow.advice(None), flow.rule(""))
@@ -21,16 +21,22 @@ pub fn told_of(words: &Words, fault: &NoFlow) -> Told {
     }
 }
 
+/// Of an unpack by which an accepted script isn't trust-keeping: its operand's readers fit, and its
+/// writers don't.
+pub fn told_of_unpack(words: &Words, unpack: &Endorsement) -> Told {
+    let Endorsement { line, wanted, source } = unpack.clone();
+    let into = Into::Opened(wanted);
+    told_of(words, &NoFlow { line, into, source, through: Through::Value })
+}
+
 /// What breaks the order, and an owner for whom it does: readers of the target that the source
-/// doesn't have, else writers of the source that the target doesn't have. Opening asks for readers
-/// alone.
-fn broken(into: Into, source: &Label, target: &Label) -> (Right, usize) {
+/// doesn't have, else writers of the source that the target doesn't have.
+fn broken(source: &Label, target: &Label) -> (Right, usize) {
     let mut owners = 0..source.principals();
     let reads = |&owner: &usize| !source.readers(owner).contains(target.readers(owner));
     if let Some(owner) = owners.clone().find(reads) {
         return (Right::Read, owner);
     }
-    assert!(!matches!(into, Into::Opened(_)), "opening asks for readers alone");
     let writes = |&owner: &usize| !target.writers(owner).contains(source.writers(owner));
     (Right::Write, owners.find(writes).expect("some condition is broken"))
 }
@@ -167,7 +173,27 @@ impl Flow<'_> {
             }
             (Into::Location(_), Right::Write) => format!("assign to a location {location}"),
             (Into::Package(_), _) => format!("pack with a label {label}"),
-            (Into::Opened(_), _) => format!("open with a label {label}"),
+            (Into::Opened(_), Right::Read) => format!("open with a label {label}"),
+            (Into::Opened(_), Right::Write) => {
+                format!("open with a label {label}, or {}", self.other_package(owner))
+            }
+        }
+    }
+
+    /// Which other package may be opened as the same label.
+    fn other_package(&self, owner: Option<&str>) -> String {
+        let (taken, on) = match self.fault.source.origin {
+            Origin::Packed(_) => ("pack it with a label", "on which"),
+            Origin::Opened(_) => ("open what it comes from with a label", "on which"),
+            Origin::Location(_) | Origin::Start(_) => {
+                ("take the package from a location", "on whose label")
+            }
+        };
+        match owner {
+            None => {
+                format!("{taken} that {} may have written", self.words.who(self.right, self.target))
+            }
+            Some(name) => format!("{taken} {on} owner {name} lets no one else have written"),
         }
     }
 
@@ -216,8 +242,12 @@ impl Flow<'_> {
             (Into::Package(_), Right::Write) => {
                 "who may have written what is packed may have written the package"
             }
-            (Into::Opened(_), _) => {
+            (Into::Opened(_), Right::Read) => {
                 "who may read what is opened may read what the package comes from"
+            }
+            (Into::Opened(_), Right::Write) => {
+                "who may have written what a package comes from may have written what is opened, \
+                 or what they put there would pass for another's"
             }
         };
         format!("{each}{rule}")
@@ -234,11 +264,11 @@ fn noted(what: String, note: &str) -> String {
 
 #[cfg(test)]
 mod tests {
-    use super::{broken, told_of, Flow};
+    use super::{broken, told_of, told_of_unpack, Flow};
     use crate::names::Names;
     use crate::words::{Right, Words};
     use reference::calls::read_sheet;
-    use reference::flow::{Into, NoFlow, Origin, Source, Through};
+    use reference::flow::{Endorsement, Into, NoFlow, Origin, Source, Through};
     use reference::principals::Principals;
     use reference::sheet::Sheet;
 
@@ -293,7 +323,7 @@ mod tests {
             let words = Words { sheet: &sheet, names: &names };
             let through = [Through::Value, Through::Start][seed as usize % 2];
             let fault = flow_of(&sheet, through);
-            let (right, owner) = broken(fault.into, source, target);
+            let (right, owner) = broken(source, target);
             let flow = Flow { words: &words, fault: &fault, right, target, source };
             assert_eq!(flow.shows(), some_group_shows(&sheet, right), "{seed}");
             let fact = told_of(&words, &fault).fact;
@@ -315,6 +345,43 @@ mod tests {
             assert!(fact.starts_with(&start) && fact.ends_with(&end), "{fact}");
         }
         assert!(whole > 1000 && by_owner > 1000, "{whole} whole, {by_owner} by an owner");
+    }
+
+    /// The same of an unpack whose readers fit and whose writers don't.
+    #[test]
+    fn what_is_told_of_an_unpack_is_so() {
+        let names = Names::default();
+        let (mut whole, mut by_owner) = (0, 0);
+        for sheet in (0..60_000_000).step_by(997).filter_map(sheet) {
+            let [source, target] = &sheet.labels[..] else { unreachable!("two labels") };
+            let reads = source.confidentiality().at_or_below(&target.confidentiality());
+            if !reads || source.at_or_below(target) {
+                continue;
+            }
+            let words = Words { sheet: &sheet, names: &names };
+            let source = flow_of(&sheet, Through::Value).source;
+            let told = told_of_unpack(&words, &Endorsement { line: 3, wanted: 1, source });
+            assert!(told.fact.contains(", but the package comes from location 0 (line 2), which "));
+            let target = words.who(Right::Write, target);
+            let location = "or take the package from a location";
+            let (start, end) = if some_group_shows(&sheet, Right::Write) {
+                whole += 1;
+                let by = by(&target);
+                (
+                    format!("what is opened as label 1 may have been written {by}, but"),
+                    format!("{location} that {target} may have written"),
+                )
+            } else {
+                by_owner += 1;
+                let owner = &told.fact[..told.fact.find(" lets").expect("an owner")];
+                (
+                    format!("{owner} lets "),
+                    format!("{location} on whose label {owner} lets no one else have written"),
+                )
+            };
+            assert!(told.fact.starts_with(&start) && told.advice.ends_with(&end), "{}", told.fact);
+        }
+        assert!(whole > 100 && by_owner > 10, "{whole} whole, {by_owner} by an owner");
     }
 
     fn may(right: Right) -> &'static str {

@@ -1,9 +1,11 @@
 //! What is told of a script among others in a file: which it is, by the file's lines.
 
 use super::lines::{added, moved_start, starts_expression};
-use super::shift::shifted;
-use super::{message, message_from, told, Message, Told};
+use super::shift::{shifted, shifted_unpack};
+use super::{message, message_from, told, Message, Told, Unpack};
 use crate::names::Names;
+use crate::words::Words;
+use reference::flow::Endorsement;
 use reference::round_text::{parts, Part};
 use reference::sheet::Sheet;
 use reference::text::{Cause, Fault};
@@ -56,6 +58,13 @@ impl<'a> Scripts<'a> {
             self.amend(&mut message, place, fault);
         }
         message
+    }
+
+    /// What is told of an unpack by which the script in a place isn't trust-keeping. Its lines are
+    /// counted from the script's first.
+    pub fn unpack(&self, place: usize, unpack: Endorsement, words: &Words) -> Unpack {
+        let unpack = shifted_unpack(unpack, self.first_line(place) - 1);
+        Unpack { script: Some(self.which(place)), ..Unpack::new(&unpack, words) }
     }
 
     /// Tells what of a fault comes from the script's place among others.

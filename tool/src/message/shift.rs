@@ -2,7 +2,7 @@
 //! compiler asks about what is new.
 
 use reference::evaluate::ValueTooLong;
-use reference::flow::{NoFlow, Source, Through};
+use reference::flow::{Endorsement, NoFlow, Source, Through};
 use reference::machine::Stopped;
 use reference::shape::{Misfit, NoShape};
 use reference::text::{Cause, Expected, Fault, Operand};
@@ -83,15 +83,24 @@ fn in_misfit(misfit: Misfit, before: usize) -> Misfit {
 }
 
 fn in_flow(fault: NoFlow, before: usize) -> NoFlow {
-    let NoFlow { line, into, source: Source { line: source, origin, label, bound_in }, through } =
-        fault;
-    let bound_in = bound_in.map(|line| line + before);
+    let NoFlow { line, into, source, through } = fault;
     let through = match through {
         Through::Guard(line) => Through::Guard(line + before),
         through @ (Through::Value | Through::Start) => through,
     };
-    let source = Source { line: source + before, origin, label, bound_in };
-    NoFlow { line: line + before, into, source, through }
+    NoFlow { line: line + before, into, source: in_source(source, before), through }
+}
+
+fn in_source(source: Source, before: usize) -> Source {
+    let Source { line, origin, label, bound_in } = source;
+    let bound_in = bound_in.map(|line| line + before);
+    Source { line: line + before, origin, label, bound_in }
+}
+
+/// The same of an unpack by which an accepted script isn't trust-keeping.
+pub fn shifted_unpack(unpack: Endorsement, before: usize) -> Endorsement {
+    let Endorsement { line, wanted, source } = unpack;
+    Endorsement { line: line + before, wanted, source: in_source(source, before) }
 }
 
 fn in_stop(stopped: Stopped, before: usize) -> Stopped {

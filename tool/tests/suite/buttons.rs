@@ -114,7 +114,8 @@ fn starts_that_are_accepted() {
     for script in ["b 0\n= 0\ni 1\n", "b 2\n= 2\ni 1\n", "b 3\n= 3\ni 1\n", "b 1\n= 1\ni 1\n"] {
         folder.write("a.simp", &tabbed(script));
         let ran = simp(&folder, &["check", "a.sheet", "a.simp"]);
-        assert_eq!(ran.out, "a.simp: accepted\n1 script: 1 accepted, 0 refused\n", "{script}");
+        let sum = "1 script: 1 accepted (1 trust-keeping), 0 refused";
+        assert_eq!(ran.out, format!("a.simp: accepted, trust-keeping\n{sum}\n"), "{script}");
     }
 }
 
@@ -361,7 +362,8 @@ fn refusals_in_json() {
 
 const MEANING: &str =
     "a group that can't read a script's starting label is shown no difference when that script is \
-     run";
+     run\nwhat a group can write makes no difference to the rest after a trust-keeping script is \
+     done";
 
 fn explained(folder: &Folder, scripts: &str, more: &[&str]) -> Ran {
     folder.write("b.simp", &tabbed(scripts));
@@ -371,8 +373,9 @@ fn explained(folder: &Folder, scripts: &str, more: &[&str]) -> Ran {
 #[test]
 fn where_a_script_starts() {
     let folder = folder("button-explained");
-    let one =
-        |row: &str| format!("b.simp: accepted\n\n1 script\n   1  line 1  {row}\n\n{MEANING}\n");
+    let one = |row: &str| {
+        format!("b.simp: accepted\n\n1 script\n   1  line 1  {row}  trust-keeping\n\n{MEANING}\n")
+    };
     for (script, more, row) in [
         ("b 1\n= 1\ni 1\n", &[][..], "starts at label 1  read: only 0"),
         ("b 0\ns\n", &[], "starts at label 0  read: everyone"),
@@ -389,14 +392,17 @@ fn where_a_script_starts() {
 fn where_the_scripts_of_a_round_start() {
     let folder = folder("button-explained-round");
     let ran = explained(&folder, "b 1\ns\n\n= 0\ni 1\n\nb 4\ns\n", &["--names", "a.names"]);
-    let rows = "   1  line 1  starts at label 1 (farm only)  read: only farm\n   \
-                2  line 4  starts at bottom, without `b`  read: everyone\n   \
-                3  line 7  starts at label 4              read: only farm and station\n";
+    let rows = "   1  line 1  starts at label 1 (farm only)  read: only farm              \
+                trust-keeping\n   \
+                2  line 4  starts at bottom, without `b`  read: everyone               \
+                trust-keeping\n   \
+                3  line 7  starts at label 4              read: only farm and station  \
+                trust-keeping\n";
     let out = format!("b.simp: accepted\n\n3 scripts\n{rows}\n{MEANING}\n");
     assert_eq!((ran.status, ran.out, ran.err.as_str()), (0, out, ""));
     let most = vec!["b 1\ns\n"; 32].join("\n");
     let ran = explained(&folder, &most, &[]);
-    let last = "\n  32  line 94  starts at label 1  read: only 0\n";
+    let last = "\n  32  line 94  starts at label 1  read: only 0  trust-keeping\n";
     assert!(ran.status == 0 && ran.out.contains(last), "{}", ran.out);
 }
 
@@ -407,7 +413,7 @@ fn starts_on_a_sheet_without_locations() {
     folder.write("a.sheet", &tabbed("P 1\nL\n"));
     for (script, row) in [("b 0\ns\n", "label 0"), (";\ns\ns\n", "bottom, without `b`")] {
         let ran = explained(&folder, script, &[]);
-        let row = format!("   1  line 1  starts at {row}  read: everyone\n");
+        let row = format!("   1  line 1  starts at {row}  read: everyone  trust-keeping\n");
         assert!(ran.status == 0 && ran.out.contains(&row), "{}", ran.out);
     }
 }
@@ -439,9 +445,9 @@ fn starts_in_json() {
     let sheet = r#"{"sheet":{"name":"a.sheet","answer":0,"accepted":true}"#;
     let starts = [
         r#"{"script":1,"first_line":1,"label":1,"name":"farm only""#,
-        r#""read":"only farm","write":"everyone"},{"script":2,"first_line":4"#,
-        r#""label":null,"name":null,"read":"everyone""#,
-        r#""write":"only a group with farm, station and 2"}"#,
+        r#""read":"only farm","write":"everyone","keeping":true,"unpacks":[]}"#,
+        r#"{"script":2,"first_line":4,"label":null,"name":null,"read":"everyone""#,
+        r#""write":"only a group with farm, station and 2","keeping":true,"unpacks":[]}"#,
     ];
     let accepted = r#""scripts":{"name":"b.simp","answer":0,"accepted":true}"#;
     let out = format!("{sheet},{accepted},\"starts\":[{}]}}\n", starts.join(","));

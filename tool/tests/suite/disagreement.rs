@@ -5,7 +5,7 @@ use crate::folder::Folder;
 use reference::evaluate::ValueTooLong;
 use reference::machine::Stopped;
 use reference::{Reason, MOST_GROUPS};
-use simp::calls::{Calls, Groups, Library, Outcome, Reference, Round, CALLS};
+use simp::calls::{Calls, Groups, Library, Outcome, Reference, Round, Trust, CALLS};
 use simp::main_with;
 use simp::streams::Streams;
 use std::ffi::OsString;
@@ -92,17 +92,23 @@ fn the_calls_as_they_are_agree() {
     }
 }
 
+/// Accepts every script, and says of all that they are trust-keeping.
+fn accepting() -> Calls {
+    lying(Library { trust: |_, _| Trust { answer: 0, keeping: 1 }, ..CALLS.library })
+}
+
 #[test]
 fn a_check_that_accepts_everything() {
     let folder = desk("lying-check");
-    let calls = lying(Library { check: |_, _| 0, ..CALLS.library });
+    let calls = accepting();
     let arguments = "check a.sheet copy.simp leak.simp missing.simp mistyped.simp";
     let (status, out, err) = told(&folder, &calls, arguments);
     assert_eq!(status, 4);
-    is_loud(&err, "answer 0", "answer 6");
-    is_loud(&err, "answer 0", "answer 5");
+    is_loud(&err, "answer 0, keeping 1", "answer 6, keeping 0");
+    is_loud(&err, "answer 0, keeping 1", "answer 5, keeping 0");
     assert!(out.contains("leak.simp: accepted by the library alone\n"), "{out}");
-    assert!(out.ends_with("4 scripts: 3 accepted, 0 refused, 1 can't be read\n"), "{out}");
+    let sum = "4 scripts: 3 accepted (3 trust-keeping), 0 refused, 1 can't be read\n";
+    assert!(out.ends_with(sum), "{out}");
     let (status, out, _) = told(&folder, &calls, &format!("{arguments} --json"));
     assert!(status == 4 && out.contains("\"disagreement\":true"), "{out}");
 }
@@ -110,15 +116,87 @@ fn a_check_that_accepts_everything() {
 #[test]
 fn a_check_that_refuses_a_script() {
     let folder = desk("lying-refusal");
-    let check = |sheet: &[u8], script: &[u8]| match script {
-        b"s\n" => bindings::check(sheet, script),
-        _ => 5,
-    };
-    let calls = lying(Library { check, ..CALLS.library });
+    let calls = lying(Library { trust: |_, _| Trust { answer: 5, keeping: 0 }, ..CALLS.library });
     let (status, out, err) = told(&folder, &calls, "check a.sheet copy.simp");
     assert_eq!(status, 4);
-    is_loud(&err, "answer 5", "answer 0");
+    is_loud(&err, "answer 5, keeping 0", "answer 0, keeping 1");
     assert!(out.starts_with(&format!("{}/copy.simp: refused", folder.as_ref().display())), "{out}");
+}
+
+/// An unpack as a label that fewer may have written.
+const OPENS: &str = "c\nx 2\n= 3\nu 5 1\nv 0\ns\n";
+
+/// Both accept the script, and only one says that it is trust-keeping.
+#[test]
+fn a_check_that_lies_of_trust() {
+    let folder = desk("lying-trust");
+    folder.write("open.simp", &tabbed(OPENS));
+    let none = lying(Library { trust: |_, _| Trust { answer: 0, keeping: 0 }, ..CALLS.library });
+    let name = |name: &str| format!("{}/{name}: accepted", folder.as_ref().display());
+    for (calls, script, keeping, by) in [
+        (accepting(), "open.simp", [1, 0], "the library"),
+        (none, "copy.simp", [0, 1], "the reference"),
+    ] {
+        let (status, out, err) = told(&folder, &calls, &format!("check a.sheet {script}"));
+        let line = format!("{}, trust-keeping by {by} alone\n", name(script));
+        let sum = format!("1 script: 1 accepted ({} trust-keeping), 0 refused\n", keeping[0]);
+        assert_eq!((status, out), (4, line + &sum));
+        let [library, reference] = keeping.map(|keeping| format!("answer 0, keeping {keeping}"));
+        is_loud(&err, &library, &reference);
+        let asked = format!("{script} accepted on ");
+        assert!(err.contains(&asked) && err.contains("a.sheet, and trust-keeping\n"), "{err}");
+        let (status, out, _) = told(&folder, &calls, &format!("check a.sheet {script} --json"));
+        let kept = format!("\"disagreement\":true,\"keeping\":{}}}", keeping[0] == 1);
+        assert!(status == 4 && out.contains(&kept), "{out}");
+    }
+}
+
+/// Beside a refusal nothing is trust-keeping.
+#[test]
+fn a_refusal_that_keeps() {
+    let folder = desk("lying-refused-trust");
+    let trust =
+        |sheet: &[u8], script: &[u8]| Trust { keeping: 1, ..bindings::trust(sheet, script) };
+    let calls = lying(Library { trust, ..CALLS.library });
+    let (status, out, err) = told(&folder, &calls, "check a.sheet copy.simp leak.simp");
+    assert_eq!(status, 4);
+    is_loud(&err, "answer 6, keeping 1", "answer 6, keeping 0");
+    assert!(out.contains("copy.simp: accepted, trust-keeping\n"), "{out}");
+    let sum = "2 scripts: 1 accepted (1 trust-keeping), 1 refused\n";
+    assert!(out.ends_with(sum), "{out}");
+}
+
+/// Of the scripts of a round the one is named that they disagree on.
+#[test]
+fn an_explanation_that_lies_of_trust() {
+    let folder = desk("lying-trusts");
+    folder.write("open.round", &tabbed(&format!("s\n\n{OPENS}")));
+    let refusing = |_: &[u8], script: &[u8]| match script {
+        b"s\n" => Trust { answer: 0, keeping: 1 },
+        _ => Trust { answer: 6, keeping: 0 },
+    };
+    let refused = Reference {
+        trust: |_, script| reference::try_trust(b"P\t1\n", script).map(|_| vec![]),
+        ..CALLS.reference
+    };
+    let alone = Library { trust: |_, script| bindings::trust(b"P\t1\n", script), ..CALLS.library };
+    for (calls, says) in [
+        (accepting(), ["script 2: answer 0, keeping 1", "script 2: answer 0, keeping 0"]),
+        (
+            lying(Library { trust: refusing, ..CALLS.library }),
+            ["script 2: answer 6, keeping 0", "script 2: answer 0, keeping 0"],
+        ),
+        (Calls { library: alone, reference: refused }, ["answer 0", "script 2 alone: answer 4"]),
+    ] {
+        for arguments in ["explain a.sheet open.round", "explain a.sheet open.round --json"] {
+            let (status, out, err) = told(&folder, &calls, arguments);
+            assert_eq!(status, 4, "{out}");
+            says_nothing_else(arguments, &out);
+            is_loud(&err, says[0], says[1]);
+            assert!(err.contains("asked:     is every script of "), "{err}");
+            assert!(err.contains("open.round trust-keeping on "), "{err}");
+        }
+    }
 }
 
 #[test]
@@ -586,7 +664,7 @@ impl Write for Short {
 #[test]
 fn an_output_that_fails_beside_other_ends() {
     let folder = desk("failing-output");
-    let calls = lying(Library { check: |_, _| 0, ..CALLS.library });
+    let calls = accepting();
     for (calls, arguments, status) in [
         (&CALLS, "check a.sheet copy.simp", 3),
         (&CALLS, "check a.sheet leak.simp", 3),

@@ -13,7 +13,7 @@ use reference::round::Refused;
 use reference::round_text::Part;
 use reference::sheet::Sheet;
 use reference::{Reason, MOST_GROUPS};
-use simp::message::{message, Message, Scripts};
+use simp::message::{message, Message, Scripts, Unpack};
 use simp::names::Names;
 use simp::words::{Right, Words};
 use std::collections::{BTreeMap, BTreeSet};
@@ -354,6 +354,70 @@ fn the_tool_s_verdicts_are_the_library_s() {
             assert_eq!(answers(&ran.out), expected, "seed {seed}");
         }
     }
+}
+
+/// Whether each script of a list in the tool's JSON is trust-keeping, in order. The sum is no such.
+fn keepings(json: &str) -> Vec<bool> {
+    let kept = json.split("\"keeping\":").skip(1);
+    kept.filter_map(|rest| rest.split([',', '}']).next()?.parse().ok()).collect()
+}
+
+/// Of a script that isn't trust-keeping each unpack is told, with its line and label.
+#[test]
+fn the_tool_s_trust_is_the_library_s() {
+    let folder = Folder::new("generated-trust");
+    let mut found = BTreeMap::new();
+    for seed in 60_000..60_600 {
+        let (sheet, scripts) = sheet_and_scripts(seed);
+        if reference::calls::read_sheet(&sheet).is_err() {
+            continue;
+        }
+        folder.write("sheet", &sheet);
+        for (place, script) in scripts.iter().enumerate() {
+            folder.write(place.to_string(), script);
+        }
+        let ran = simp(folder.as_ref(), &["check", "--json", "sheet", "0", "1", "2", "3"]);
+        let expected: Vec<bindings::Trust> =
+            scripts.iter().map(|script| bindings::trust(&sheet, script)).collect();
+        let kept: Vec<bool> = expected.iter().map(|trust| trust.keeping == 1).collect();
+        assert_eq!((keepings(&ran.out), ran.err.as_str()), (kept, ""), "seed {seed}");
+        for (script, trust) in scripts.iter().zip(&expected) {
+            *found.entry((trust.answer, trust.keeping)).or_insert(0) += 1;
+            for unpack in reference::try_trust(&sheet, script).unwrap_or_default() {
+                let told = format!("{{\"line\":{},\"label\":{},", unpack.line, unpack.wanted);
+                let fact = format!("what is opened as label {}", unpack.wanted);
+                assert!(ran.out.contains(&told) && ran.out.contains(&fact), "seed {seed}");
+            }
+        }
+    }
+    assert!(found[&(0, 0)] > 20 && found[&(0, 1)] > 400, "{found:?}");
+}
+
+/// In a round the lines that are told of an unpack are the file's.
+#[test]
+fn unpacks_of_a_round_are_told_by_the_file_s_lines() {
+    let mut found = 0;
+    for seed in 61_000..63_000 {
+        let (text, scripts) = sheet_and_scripts(seed);
+        let Ok(sheet) = reference::calls::read_sheet(&text) else {
+            continue;
+        };
+        let words = Words { sheet: &sheet, names: &Names::default() };
+        for script in &scripts {
+            let joined = [b"s\n\n", &script[..]].concat();
+            for unpack in reference::try_trust(&text, script).unwrap_or_default() {
+                let alone = Unpack::new(&unpack, &words);
+                let told = Scripts::new(&joined).unpack(1, unpack, &words);
+                assert_eq!((told.line, &told.fact), (alone.line + 2, &moved(&alone.fact, 2)));
+                assert_eq!(
+                    told.to_string(),
+                    format!("script 2 of 2: {}", moved(&alone.to_string(), 2))
+                );
+                found += 1;
+            }
+        }
+    }
+    assert!(found > 80, "{found}");
 }
 
 /// The library's answer, and its groups.

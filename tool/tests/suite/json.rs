@@ -169,8 +169,8 @@ fn checks() {
     let arguments = ["check", "--json", "a.sheet", "copy.simp", "leak.simp", "no.simp"];
     let json = document(&simp(&folder, &arguments), 3);
     assert_eq!(json.at("sheet").at("accepted"), &Json::Bool(true));
-    let sums = ["accepted", "refused", "unread"].map(|sum| json.at(sum).clone());
-    assert_eq!(sums, [1, 1, 1].map(Json::Number));
+    let sums = ["accepted", "refused", "unread", "keeping"].map(|sum| json.at(sum).clone());
+    assert_eq!(sums, [1, 1, 1, 1].map(Json::Number));
     let [copy, leak, missing] = json.at("scripts").items() else {
         panic!("three scripts");
     };
@@ -179,6 +179,11 @@ fn checks() {
     assert_eq!((leak.at("answer"), leak.at("accepted")), (&Json::Number(6), &Json::Bool(false)));
     told(leak, "script", Some(1));
     assert_eq!((missing.at("answer"), missing.at("error").is_text()), (&Json::Null, true));
+    assert_eq!(
+        [copy, leak, missing].map(|script| script.at("keeping") == &Json::Bool(true)),
+        [true, false, false]
+    );
+    assert_eq!(copy.at("unpacks").items(), []);
     folder.write("a.sheet", b"P\t0\n");
     let json = document(&simp(&folder, &arguments), 1);
     assert_eq!(json.at("scripts").items(), []);

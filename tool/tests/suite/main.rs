@@ -15,4 +15,5 @@ mod round;
 mod samples;
 mod statuses;
 mod tool;
+mod trust;
 mod writing;

@@ -80,10 +80,10 @@ fn on_a_terminal(environment: &str) -> String {
 
 #[test]
 fn colours_are_for_terminals() {
-    let plain = "copy.simp: accepted";
+    let plain = "copy.simp: accepted, trust-keeping";
     assert_eq!(
         on_a_terminal("NO_COLOR= TERM=xterm"),
-        "\x1b[1mcopy.simp:\x1b[0m \x1b[32maccepted\x1b[0m"
+        "\x1b[1mcopy.simp:\x1b[0m \x1b[32maccepted, trust-keeping\x1b[0m"
     );
     assert_eq!(on_a_terminal("NO_COLOR=1 TERM=xterm"), plain);
     assert_eq!(on_a_terminal("NO_COLOR= TERM=dumb"), plain);

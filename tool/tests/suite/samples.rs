@@ -85,9 +85,17 @@ fn good_ones_are_accepted() {
     arguments.extend(scripts.iter().map(String::as_str));
     let ran = at_samples(".", &arguments);
     assert_eq!((ran.status, ran.err.as_str()), (0, ""));
-    let accepted = scripts.iter().map(|name| format!("{name}: accepted\n")).collect::<String>();
-    let sum = format!("{} scripts: {} accepted, 0 refused\n", scripts.len(), scripts.len());
-    assert_eq!(ran.out, accepted + &sum);
+    let other = "restock-as-farm.simp";
+    let (notes, said): (Vec<&str>, Vec<&str>) =
+        ran.out.lines().partition(|line| line.contains(":4: "));
+    let keeping = |name: &String| if name == other { "" } else { ", trust-keeping" };
+    let mut lines: Vec<String> =
+        scripts.iter().map(|name| format!("{name}: accepted{}", keeping(name))).collect();
+    let (all, most) = (scripts.len(), scripts.len() - 1);
+    lines.push(format!("{all} scripts: {all} accepted ({most} trust-keeping), 0 refused"));
+    assert_eq!(said, lines);
+    let note = format!("{other}:4: not trust-keeping: what is opened as label 8 may have been ");
+    assert!(notes.len() == 1 && notes[0].starts_with(&note), "{notes:?}");
 }
 
 /// As one script, and as a round of several.
@@ -150,13 +158,15 @@ fn a_button_is_seen_by_who_reads_its_label() {
 #[test]
 fn starts_are_explained() {
     let ran = at_samples(".", &["explain", "line.sheet", "buttons.round", "--names", "line.names"]);
-    let rows = "   1  line 1  starts at label 3 (station only)  read: only station\n   \
-                2  line 5  starts at label 9 (service book)  read: only maker and service\n   \
-                3  line 9  starts at bottom, without `b`     read: everyone\n";
-    let meaning = "a group that can't read a script's starting label is shown no difference when \
-                   that script is run";
-    let out = format!("buttons.round: accepted\n\n3 scripts\n{rows}\n{meaning}\n");
-    assert_eq!((ran.status, ran.out, ran.err.as_str()), (0, out, ""));
+    let rows = "   1  line 1  starts at label 3 (station only)  read: only station            \
+                trust-keeping\n   \
+                2  line 5  starts at label 9 (service book)  read: only maker and service  \
+                trust-keeping\n   \
+                3  line 9  starts at bottom, without `b`     read: everyone                \
+                trust-keeping\n";
+    let start = format!("buttons.round: accepted\n\n3 scripts\n{rows}\na group that can't read ");
+    assert_eq!((ran.status, ran.err.as_str()), (0, ""));
+    assert!(ran.out.starts_with(&start), "{}", ran.out);
 }
 
 #[test]

@@ -23,7 +23,8 @@ fn misused(ran: &Ran, says: &str) {
 fn checks() {
     let folder = desk("checks");
     let ran = simp(&folder, &["check", "a.sheet", "copy.simp", "./pack.simp"]);
-    let lines = "copy.simp: accepted\n./pack.simp: accepted\n2 scripts: 2 accepted, 0 refused\n";
+    let lines = "copy.simp: accepted, trust-keeping\n./pack.simp: accepted, trust-keeping\n\
+                 2 scripts: 2 accepted (2 trust-keeping), 0 refused\n";
     assert_eq!((ran.status, ran.out.as_str(), ran.err.as_str()), (0, lines, ""));
     let scripts = ["copy.simp", "leak.simp", "malformed.simp", "mistyped.simp"];
     let ran = simp(&folder, &[&["check", "a.sheet"][..], &scripts].concat());
@@ -32,7 +33,7 @@ fn checks() {
     for (line, start) in ran.out.lines().zip(starts) {
         assert!(line.starts_with(start), "{line}");
     }
-    assert_eq!(ran.out.lines().last(), Some("4 scripts: 1 accepted, 3 refused"));
+    assert_eq!(ran.out.lines().last(), Some("4 scripts: 1 accepted (1 trust-keeping), 3 refused"));
 }
 
 #[test]
@@ -67,7 +68,7 @@ fn files_that_cannot_be_read() {
     let errors = "simp: missing.simp: No such file or directory\nsimp: .: Is a directory\n";
     assert_eq!(ran.err, errors);
     assert!(ran.out.contains("missing.simp: can't be read\n"), "{}", ran.out);
-    let sum = "4 scripts: 1 accepted, 1 refused, 2 can't be read";
+    let sum = "4 scripts: 1 accepted (1 trust-keeping), 1 refused, 2 can't be read";
     assert_eq!(ran.out.lines().last(), Some(sum));
     let ran = simp(&folder, &["check", "no.sheet", "copy.simp"]);
     assert_eq!(ran.status, 3);
@@ -281,7 +282,11 @@ fn one_file_is_standard_input() {
     let folder = desk("input");
     let copy = tabbed("= 1\nx 0\n");
     let ran = simp_reading(&folder, &["check", "a.sheet", "-", "leak.simp"], &copy);
-    assert!(ran.status == 1 && ran.out.starts_with("standard input: accepted\n"), "{}", ran.out);
+    assert!(
+        ran.status == 1 && ran.out.starts_with("standard input: accepted, trust-keeping\n"),
+        "{}",
+        ran.out
+    );
     let leak = tabbed("= 0\nx 1\n");
     let ran = simp_reading(&folder, &["check", "a.sheet", "-"], &leak);
     assert!(ran.status == 1 && ran.out.starts_with("standard input:1: "), "{}", ran.out);
@@ -343,10 +348,14 @@ fn many_scripts_at_once() {
     };
     let ran = check(&names);
     assert_eq!((ran.status, ran.out.lines().count()), (1, 141));
-    assert!(ran.out.ends_with("\n140 scripts: 138 accepted, 2 refused\n"), "{}", ran.out);
+    assert!(
+        ran.out.ends_with("\n140 scripts: 138 accepted (138 trust-keeping), 2 refused\n"),
+        "{}",
+        ran.out
+    );
     names.push("140.simp".to_string());
     let ran = check(&names);
-    let sum = "\n141 scripts: 138 accepted, 2 refused, 1 can't be read\n";
+    let sum = "\n141 scripts: 138 accepted (138 trust-keeping), 2 refused, 1 can't be read\n";
     assert!(ran.status == 3 && ran.out.ends_with(sum), "{}", ran.out);
 }
 
@@ -359,6 +368,10 @@ fn names_of_files_may_be_any_bytes() {
     let mut tool = command(&folder, &["check", "a.sheet"]);
     let ran: Ran = tool.args([name, missing]).output().expect("the tool starts").into();
     assert_eq!(ran.status, 3);
-    assert!(ran.out.starts_with("\u{fffd}\\n\\u{1b}.simp: accepted\n"), "{}", ran.out);
+    assert!(
+        ran.out.starts_with("\u{fffd}\\n\\u{1b}.simp: accepted, trust-keeping\n"),
+        "{}",
+        ran.out
+    );
     assert_eq!(ran.err, "simp: \u{fffd}: No such file or directory\n");
 }

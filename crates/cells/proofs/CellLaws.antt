@@ -1,22 +1,22 @@
 -- Cells of words: what is loaded and stored, and what stays.
 -- Assumes nothing.
-use mathlib.Core.Path.{_≡_, refl, sym, ap, _∙_}
+use mathlib.Core.Path.{_≡_, refl, sym, ap, ap₂, _∙_}
 use mathlib.Core.Logic.{_⊎_, inl, inr, ⊎-elim}
 use mathlib.Core.Bool.{Bool, true, false}
-use mathlib.Core.List.{List, [], _∷_, _++_, append-assoc}
+use mathlib.Core.List.{List, [], _∷_, _++_, append-assoc, append-nil}
 use Prim.Native.Nat.{ℕ, zero, suc, _+_, _*_, _-_, _/_, _≤_, _<_}
 use native.Mathlib.Omega.{arith}
 use native.Mathlib.Nat.{le-div-iff-mul-le, zero-add}
 use native.Mathlib.Numerals.{add-one}
 use borrow.Author.Tests.{lt-ltb, le-ltb, ltb-true, ltb-false}
 use lib.Dec.{ltb}
-use lib.ListN.{length, take, drop, getD, set, length-append, length-take, length-drop, length-replicate, take-append-drop, getD-replicate, List·getD-append}
-use lib.Seq.{length-take-le, take-at, drop-at, drop-append-le, drop-append-add, take-append-le, drop-drop, take-take, take-all, paste, paste-suc, length-paste-head, getD-take, getD-drop, getD-at, getD-append-add}
+use lib.ListN.{length, take, drop, getD, set, length-append, length-take, length-drop, length-replicate, take-append-drop, drop-of-length-le, getD-replicate, List·getD-append}
+use lib.Seq.{length-take-le, drop-cons, take-at, drop-at, drop-append-le, drop-append-add, take-append-le, drop-drop, take-take, take-all, paste, paste-suc, length-paste-head, getD-take, getD-drop, getD-at, getD-append-add}
 use Rattle.language.specs.World.{cell-words}
 use Rattle.memory.specs.Words.{zeros}
 use Rattle.memory.specs.Memory.{cellOf}
 use Rattle.memory.proofs.CellsLaws.{length-cell-of}
-use Rattle.cells.specs.Internal.Cells.{cellCount, loadOf, storeOf, pushOf, popOf}
+use Rattle.cells.specs.Internal.Cells.{cellCount, loadOf, storeOf, pushOf, pushesOf, popOf, popsOf, cutOf}
 
 -- ---- which cells there are
 
@@ -164,6 +164,20 @@ pub length-pop : (ws : List ℕ) → length ws ≡ cell-words → length (popOf 
 unfolding popOf
 length-pop ws long = length-append (drop 1 ws) (0 ∷ []) ∙ omega (arith, length-drop 1 ws)
 
+pub length-pushes : (us ws : List ℕ) → length ws ≡ cell-words → length (pushesOf us ws) ≡ cell-words
+unfolding pushesOf
+length-pushes [] ws long = long
+length-pushes (w ∷ us) ws long = length-push w _ (length-pushes us ws long)
+
+pub length-pops : (n : ℕ) (ws : List ℕ) → length ws ≡ cell-words → length (popsOf n ws) ≡ cell-words
+unfolding popsOf
+length-pops zero ws long = long
+length-pops (suc n) ws long = length-pop _ (length-pops n ws long)
+
+pub length-cut : (n : ℕ) (ws : List ℕ) → length ws ≡ cell-words → length (cutOf n ws) ≡ cell-words
+unfolding cutOf
+length-cut n ws long = length-append (take n ws) (zeros (16 - n)) ∙ omega (arith, length-take n ws, length-replicate {A = ℕ} (16 - n) 0)
+
 -- ---- the loops that copy
 
 pub copy-turn : (d₀ s : List ℕ) (to from i : ℕ) (d : List ℕ) → d ≡ paste d₀ to (drop from s) i → to + i < length d₀ → from + i < length s
@@ -208,11 +222,11 @@ module _ (d₀ : List ℕ) (w i : ℕ) (d : List ℕ) (e : d ≡ paste d₀ 0 (w
       ap (λ (u : List ℕ). getD u i 0) e ∙ paste-outside d₀ 0 (w ∷ d₀) i i (omega arith) (omega arith) (inr (omega arith))
       ∙ ap (λ (j : ℕ). getD (w ∷ d₀) j 0) (sym (add-one i))
 
-pub clear-turn : (d₀ : List ℕ) (to i : ℕ) (d : List ℕ) → d ≡ paste d₀ to (zeros cell-words) i → i < cell-words → to + cell-words ≤ length d₀
-    → set d (to + i) 0 ≡ paste d₀ to (zeros cell-words) (i + 1)
-clear-turn d₀ to i d e h l =
-    ap (λ (u : List ℕ). set u (to + i) 0) e ∙ ap (set (paste d₀ to (zeros 16) i) (to + i)) (sym (getD-replicate 16 i 0 0 h))
-    ∙ paste-suc d₀ to (zeros 16) i 0 (omega arith) (omega (arith, length-replicate {A = ℕ} 16 0)) ∙ ap (λ (j : ℕ). paste d₀ to (zeros 16) j) (sym (add-one i))
+pub clear-turn : (d₀ : List ℕ) (to n i : ℕ) (d : List ℕ) → d ≡ paste d₀ to (zeros n) i → i < n → to + n ≤ length d₀
+    → set d (to + i) 0 ≡ paste d₀ to (zeros n) (i + 1)
+clear-turn d₀ to n i d e h l =
+    ap (λ (u : List ℕ). set u (to + i) 0) e ∙ ap (set (paste d₀ to (zeros n) i) (to + i)) (sym (getD-replicate n i 0 0 h))
+    ∙ paste-suc d₀ to (zeros n) i 0 (omega arith) (omega (arith, length-replicate {A = ℕ} n 0)) ∙ ap (λ (j : ℕ). paste d₀ to (zeros n) j) (sym (add-one i))
 
 -- what the functions over a cell leave
 
@@ -288,6 +302,75 @@ after ws ws′ a f n e g = g ∙ rw e (on (ltb 0 (cellCount ws)) refl)
     on false t =
         let u = store-past ws 0 a (ltb-false _ _ t) in
         rw u (store-past ws 0 (f (loadOf ws 0)) (ltb-false _ _ t) ∙ sym (store-past ws 0 (f a) (ltb-false _ _ t)))
+
+-- nothing is changed where what is loaded is stored
+pub store-load : (ws : List ℕ) → storeOf ws 0 (loadOf ws 0) ≡ ws
+store-load ws = on (ltb 0 (cellCount ws)) refl
+  where
+    on : (b : Bool) → ltb 0 (cellCount ws) ≡ b → storeOf ws 0 (loadOf ws 0) ≡ ws
+    on true t =
+        let h = ltb-true _ _ t in
+        store-there ws 0 (loadOf ws 0) h ∙ ap (λ (u : List ℕ). [] ++ (u ++ drop 16 ws)) (load-first ws h) ∙ take-append-drop 16 ws
+    on false t = store-past ws 0 (loadOf ws 0) (ltb-false _ _ t)
+
+-- a word more of the first cell is copied
+pub load-turn : (s : List ℕ) (i : ℕ) (d : List ℕ) → d ≡ paste (zeros cell-words) 0 s i → i < cell-words → i < length s
+    → set d i (getD s i 0) ≡ paste (zeros cell-words) 0 s (i + 1)
+load-turn s i d e h l =
+    ap (λ (j : ℕ). set d j (getD s j 0)) (sym (zero-add i)) ∙ copy-turn (zeros 16) s 0 0 i d e (omega (arith, length-replicate {A = ℕ} 16 0)) (omega arith)
+
+-- the first cell, copied
+pub load-done : (ws out : List ℕ) → out ≡ paste (zeros cell-words) 0 ws cell-words → 0 < cellCount ws → out ≡ loadOf ws 0
+load-done ws out e h = e ∙ append-nil (take 16 ws) ∙ sym (load-first ws h)
+
+-- zeros from n on
+pub cut-done : (ws : List ℕ) (n : ℕ) (out : List ℕ) → out ≡ paste ws n (zeros (cell-words - n)) (cell-words - n) → n < cell-words → 0 < cellCount ws
+    → out ≡ storeOf ws 0 (cutOf n (loadOf ws 0))
+unfolding cutOf
+cut-done ws n out e h l =
+    let z : n + (16 - n) ≡ 16 = omega arith in
+    e ∙ ap₂ (λ (u : List ℕ) (k : ℕ). (take n ws ++ u) ++ drop k ws) (take-all (16 - n) (zeros (16 - n)) (omega (arith, length-replicate {A = ℕ} (16 - n) 0))) z
+    ∙ ap (λ (u : List ℕ). (u ++ zeros (16 - n)) ++ drop 16 ws) (sym (take-take n 16 ws (omega arith)) ∙ ap (take n) (sym (load-first ws l)))
+    ∙ sym (store-there ws 0 (cutOf n (loadOf ws 0)) l)
+
+-- nothing is left to cut
+pub cut-none : (ws : List ℕ) (n : ℕ) → cell-words ≤ n → ws ≡ storeOf ws 0 (cutOf n (loadOf ws 0))
+unfolding cutOf
+cut-none ws n h =
+    let z : 16 - n ≡ 0 = omega arith in
+    sym (ap (storeOf ws 0) (ap₂ (λ (u : List ℕ) (k : ℕ). u ++ zeros k) (take-all n (loadOf ws 0) (omega (arith, length-load ws 0))) z ∙ append-nil (loadOf ws 0))
+    ∙ store-load ws)
+
+-- ---- words pushed and popped one by one
+
+-- the last of the words that are still to be pushed
+pub push-next : (d₀ words : List ℕ) (k : ℕ) (d : List ℕ) {d′ : List ℕ} → d ≡ storeOf d₀ 0 (pushesOf (drop k words) (loadOf d₀ 0))
+    → d′ ≡ storeOf d 0 (pushOf (getD words (k - 1) 0) (loadOf d 0)) → 0 < k → k ≤ length words
+    → d′ ≡ storeOf d₀ 0 (pushesOf (drop (k - 1) words) (loadOf d₀ 0))
+unfolding pushesOf
+push-next d₀ words k d e g h l =
+    let z : suc (k - 1) ≡ k = omega arith in
+    after d₀ d (pushesOf (drop k words) (loadOf d₀ 0)) (pushOf (getD words (k - 1) 0)) (length-pushes (drop k words) (loadOf d₀ 0) (length-load d₀ 0)) e g
+    ∙ ap (λ (us : List ℕ). storeOf d₀ 0 (pushesOf us (loadOf d₀ 0)))
+    (sym (drop-cons words (k - 1) 0 (omega arith) ∙ ap (λ (i : ℕ). getD words (k - 1) 0 ∷ drop i words) z))
+
+-- none is pushed yet
+pub push-none : (ws words : List ℕ) → ws ≡ storeOf ws 0 (pushesOf (drop (length words) words) (loadOf ws 0))
+unfolding pushesOf
+push-none ws words = sym (ap (λ (us : List ℕ). storeOf ws 0 (pushesOf us (loadOf ws 0))) (drop-of-length-le words {i = length words} (omega arith)) ∙ store-load ws)
+
+pub pop-next : (d₀ : List ℕ) (n left : ℕ) (d : List ℕ) {d′ : List ℕ} → d ≡ storeOf d₀ 0 (popsOf (n - left) (loadOf d₀ 0)) → d′ ≡ storeOf d 0 (popOf (loadOf d 0))
+    → 0 < left → left ≤ n → d′ ≡ storeOf d₀ 0 (popsOf (n - (left - 1)) (loadOf d₀ 0))
+unfolding popsOf
+pop-next d₀ n left d e g h l =
+    let z : suc (n - left) ≡ n - (left - 1) = omega arith in
+    after d₀ d (popsOf (n - left) (loadOf d₀ 0)) popOf (length-pops (n - left) (loadOf d₀ 0) (length-load d₀ 0)) e g
+    ∙ ap (λ (i : ℕ). storeOf d₀ 0 (popsOf i (loadOf d₀ 0))) z
+
+-- none is popped yet
+pub pop-none : (ws : List ℕ) (n : ℕ) → ws ≡ storeOf ws 0 (popsOf (n - n) (loadOf ws 0))
+unfolding popsOf
+pop-none ws n = let z : n - n ≡ 0 = omega arith in sym (ap (λ (i : ℕ). storeOf ws 0 (popsOf i (loadOf ws 0))) z ∙ store-load ws)
 
 -- two cells are one or do not meet
 pub cells-apart : (from to : ℕ) → (cell-words * to ≤ cell-words * from) ⊎ (cell-words * from + cell-words ≤ cell-words * to)

@@ -6,7 +6,7 @@ ghost use Rattle.language.specs.World.{cell-words};
 ghost use Rattle.memory.specs.Words.{zeros};
 ghost use lib.ListN.{length, drop, getD};
 ghost use lib.Seq.{paste};
-ghost use Rattle.cells.specs.Internal.Cells.{accumulator, loadOf, storeOf, pushOf, popOf};
+ghost use Rattle.cells.specs.Internal.Cells.{accumulator, loadOf, storeOf, pushOf, pushesOf, popOf, popsOf, cutOf};
 
 // The words of a cell.
 pub const CELL: usize = memory::CELL;
@@ -56,6 +56,17 @@ pub fn push(work: &mut [u32], w: u32)
     }
 }
 
+// Puts words in front of those in the accumulator, of which as many go at the end.
+pub fn push_words(work: &mut [u32], words: &[u32])
+    ensures { λ _. ⌜ now (work .exit) ≡ storeOf (now (work .entry)) accumulator (pushesOf (now (words .entry)) (loadOf (now (work .entry)) accumulator)) ⌝ }
+{
+    let mut k = words.len();
+    while 0 < k {
+        k -= 1;
+        push(work, words[k]);
+    }
+}
+
 // Stores the words of the accumulator without the first in cell k; a 0 comes at the end.
 pub fn pop_to(work: &mut [u32], k: usize)
     ensures { λ _. ⌜ now (work .exit) ≡ storeOf (now (work .entry)) k (popOf (loadOf (now (work .entry)) accumulator)) ⌝ }
@@ -66,6 +77,46 @@ pub fn pop_to(work: &mut [u32], k: usize)
     let start = CELL * k;
     slide(work, start, 1, CELL - 1);
     work[start + (CELL - 1)] = 0;
+}
+
+// Takes the first n words off the accumulator; zeros come at the end.
+pub fn pop_words(work: &mut [u32], n: usize)
+    ensures { λ _. ⌜ now (work .exit) ≡ storeOf (now (work .entry)) accumulator (popsOf n (loadOf (now (work .entry)) accumulator)) ⌝ }
+{
+    let mut left = n;
+    while 0 < left {
+        left -= 1;
+        pop_to(work, ACCUMULATOR);
+    }
+}
+
+// Makes the words of the accumulator after the first n zeros.
+pub fn cut(work: &mut [u32], n: usize)
+    ensures { λ _. ⌜ now (work .exit) ≡ storeOf (now (work .entry)) accumulator (cutOf n (loadOf (now (work .entry)) accumulator)) ⌝ }
+{
+    if work.len() / CELL == 0 {
+        return;
+    }
+    if CELL <= n {
+        return;
+    }
+    for i in 0..CELL - n {
+        work[n + i] = 0;
+    }
+}
+
+// The words of the accumulator; zeros where there is none.
+pub fn load(work: &[u32]) -> [u32; CELL]
+    ensures { λ r. ⌜ r ≡ loadOf (now (work .entry)) accumulator ⌝ }
+{
+    let mut words = [0u32; CELL];
+    if work.len() / CELL == 0 {
+        return words;
+    }
+    for i in 0..CELL {
+        words[i] = work[i];
+    }
+    words
 }
 
 // The word at `at`; 0 past the end.

@@ -9,7 +9,7 @@ use lib.Dec.{eqb}
 use lib.ListN.{drop}
 use Rattle.logic.specs.Booleans.{both}
 use Rattle.sets.specs.Sets.{member}
-use Rattle.language.specs.Syntax.{int, Expr, val, loc, var, plus, left, right, pack, unpack}
+use Rattle.language.specs.Syntax.{int, Part, first, second, pick, Expr, val, loc, var, plus, left, right, pack, unpack, pairing, proj}
 use Rattle.language.specs.Typing.{orElse, least, flowE}
 use Rattle.language.specs.Trust.{keepsE}
 use Rattle.script.specs.declared.Row.{Row}
@@ -17,14 +17,15 @@ use Rattle.script.specs.Lines.{Line, exprLines}
 use Rattle.script.specs.Internal.Code.{code, rowAt}
 use Rattle.script.specs.Internal.Pieces.{Sort, expression}
 use Rattle.script.proofs.Rows.{row-of, KindOf, not-here}
-use Rattle.script.proofs.Nodes.{Makes, Node, n-int, n-loc, n-var, n-plus, n-left, n-right, n-pack, n-unpack, OfOperands, of-operands}
+use Rattle.script.proofs.Nodes.{Makes, Node, n-int, n-loc, n-var, n-plus, n-left, n-right, n-pack, n-unpack, n-pair, n-proj, OfOperands, of-operands}
 use Rattle.sheet.specs.Internal.Tables.{leftIn, rightIn}
+use Rattle.sheet.specs.Internal.TypeTest.{isPair}
 use Rattle.members.specs.Internal.Members.{wholeFlows, confidentialityFlows}
 use Rattle.members.proofs.FlowLaws.{first-alone, first-tells, second-tells}
 use Rattle.checker.specs.declared.Typed.{Typed}
-use Rattle.checker.specs.Internal.Numbers.{isNo, someNo, leftIsNo, rightIsNo, givenNo, typeNo}
+use Rattle.checker.specs.Internal.Numbers.{isNo, someNo, leftIsNo, rightIsNo, pairIsNo, partNo, givenNo, typeNo}
 use Rattle.checker.specs.Internal.Bindings.{boundType, boundLabel, boundTypes, boundLabels}
-use Rattle.checker.specs.Internal.Nodes.{isType, nothing, intTyped, locTyped, varTyped, plusTyped, sumTyped, packTyped, unpackTyped}
+use Rattle.checker.specs.Internal.Nodes.{isType, nothing, intTyped, locTyped, varTyped, plusTyped, sumTyped, packTyped, unpackTyped, pairTyped, partTyped}
 use Rattle.checker.specs.Internal.Post.{Finds, Room, ChecksExpr}
 use Rattle.checker.proofs.HoldLaws.{both-hold, first-held, second-kept}
 use Rattle.checker.proofs.BindingLaws.{nth-upTo, nth-past, var-in, var-past, var-next}
@@ -44,6 +45,15 @@ unfolding someNo givenNo
 some-type x = on (x .typed)
   where
     on : (b : Bool) → someNo (givenNo b (x .ty)) ≡ b
+    on true = refl
+    on false = refl
+
+part-type : (t : List ℕ) (q : Part) (x : Typed)
+    → givenNo (both (x .typed) (isPair t (x .ty))) (pick q (leftIn t (x .ty)) (rightIn t (x .ty))) ≡ partNo t q (givenNo (x .typed) (x .ty))
+unfolding partNo givenNo both
+part-type t q x = on (x .typed)
+  where
+    on : (b : Bool) → givenNo (both b (isPair t (x .ty))) (pick q (leftIn t (x .ty)) (rightIn t (x .ty))) ≡ partNo t q (givenNo b (x .ty))
     on true = refl
     on false = refl
 
@@ -102,6 +112,24 @@ module _ (t Γ Δ : List ℕ) where
       keeping-is = rw (← p .label-is) (both-hold 1 (x .holds) _ (p .keeping-is) (second-tells t (x .label) l));
     }
 
+    find-pair : (n : ℕ) {f : Expr} {y : Typed} → Finds t Γ Δ f y → Finds t Γ Δ (pairing n e f) (pairTyped t n x y)
+    unfolding pairTyped typeNo pairIsNo least flowE keepsE
+    find-pair n {f} {y} q = record {
+      type-is = rw (← p .type-is, ← q .type-is, is-type x (leftIn t n), is-type y (rightIn t n));
+      label-is = rw (p .label-is, q .label-is);
+      flow-is = both-hold 0 (x .holds) (y .holds) (p .flow-is) (q .flow-is);
+      keeping-is = both-hold 1 (x .holds) (y .holds) (p .keeping-is) (q .keeping-is);
+    }
+
+    find-part : (q : Part) → Finds t Γ Δ (proj q e) (partTyped t (pick q (leftIn t (x .ty)) (rightIn t (x .ty))) x)
+    unfolding partTyped typeNo least flowE keepsE
+    find-part q = record {
+      type-is = rw (← p .type-is) (part-type t q x);
+      label-is = p .label-is;
+      flow-is = p .flow-is;
+      keeping-is = p .keeping-is;
+    }
+
 find-var : (t s : List ℕ) (d i next : ℕ) → Room s d → Finds t (boundTypes s d) (boundLabels s d) (var i) (varTyped s d i next)
 unfolding typeNo least flowE keepsE givenNo orElse nothing member
 find-var t s d i next room = on (decLt i d)
@@ -152,14 +180,27 @@ module _ {ws : List ℕ} {at : ℕ} {t s : List ℕ} {d : ℕ} {row : Row} (q : 
       rw e (by-node _ n-var h (omega arith) (λ room rest w. (find-var t s d (row .a) (at + 3) room, rw next w)))
 
   module _ {x : Typed} (cx : ChecksExpr ws (at + 3) t s d x) where
+    -- a line with two operands
+    arm-two : {k : ℕ} {f : Expr → Expr → Expr} {y r : Typed} → Node expression (expression ∷ expression ∷ []) k (row .a) (row .b) f → row .kind ≡ k
+        → ChecksExpr ws (x .next) t s d y → r .next ≡ y .next
+        → ((e g : Expr) → Finds t (boundTypes s d) (boundLabels s d) e x → Finds t (boundTypes s d) (boundLabels s d) g y
+        → Finds t (boundTypes s d) (boundLabels s d) (f e g) r)
+        → ChecksExpr ws at t s d r
+    arm-two n h cy i find =
+        by-node _ n h (omega (arith, cx .onward, cy .onward))
+        (λ room rest e p g q w.
+        let m = cx .means e (exprLines g rest) p w room in
+        let l = cy .means g rest q (m .1) room in
+        (find e g (m .0) (l .0), rw i (l .1)))
+
     pub arm-plus : row .kind ≡ 9 → {y : Typed} → ChecksExpr ws (x .next) t s d y → {r : Typed} → r ≡ plusTyped x y → ChecksExpr ws at t s d r
     unfolding plusTyped
-    arm-plus h cy e =
-        rw e (by-node _ n-plus h (omega (arith, cx .onward, cy .onward))
-        (λ room rest e p f r w.
-        let m = cx .means e (exprLines f rest) p w room in
-        let n = cy .means f rest r (m .1) room in
-        (find-plus t _ _ (m .0) (n .0), n .1)))
+    arm-plus h cy e = rw e (arm-two n-plus h cy refl (λ e g p q. find-plus t _ _ p q))
+
+    pub arm-pair : row .kind ≡ 14 → {y : Typed} → ChecksExpr ws (x .next) t s d y → {r : Typed} → r ≡ pairTyped t (row .a) x y
+        → ChecksExpr ws at t s d r
+    unfolding pairTyped
+    arm-pair h cy e = rw e (arm-two n-pair h cy refl (λ e g p q. find-pair t _ _ p (row .a) q))
 
     -- a line with one operand
     arm-one : {k : ℕ} {f : Expr → Expr} {r : Typed} → Node expression (expression ∷ []) k (row .a) (row .b) f → row .kind ≡ k → r .next ≡ x .next
@@ -182,6 +223,11 @@ module _ {ws : List ℕ} {at : ℕ} {t s : List ℕ} {d : ℕ} {row : Row} (q : 
     pub arm-unpack : row .kind ≡ 13 → {r : Typed} → r ≡ unpackTyped t (row .a) (row .b) x → ChecksExpr ws at t s d r
     unfolding unpackTyped
     arm-unpack h e = rw e (arm-one n-unpack h refl (λ e g. find-unpack t _ _ g (row .a) (row .b)))
+
+    pub arm-part : (q : Part) → row .kind ≡ pick q 15 16 → {m : ℕ} → m ≡ pick q (leftIn t (x .ty)) (rightIn t (x .ty)) → {r : Typed}
+        → r ≡ partTyped t m x → ChecksExpr ws at t s d r
+    unfolding partTyped
+    arm-part q h p e = rw (e, p) (arm-one (n-proj q) h refl (λ e g. find-part t _ _ g q))
 
   -- a row of another kind is no expression's
   pub arm-other : (KindOf expression (row .kind) → ⊥) → {x : Typed} → x ≡ nothing at → ChecksExpr ws at t s d x

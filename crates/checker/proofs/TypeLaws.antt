@@ -1,75 +1,32 @@
 -- Typing by number is typing: over the table of a sheet that repeats nothing, the number found is that of the type. Assumes nothing.
 use mathlib.Core.Path.{_≡_, refl, sym, ap, _∙_}
-use mathlib.Core.Bool.{Bool, true, false, false≢true}
+use mathlib.Core.Bool.{Bool, true, false, cond, false≢true}
 use mathlib.Core.Option.{Option, none, some}
 use mathlib.Core.List.{List, [], _∷_}
-use Prim.Native.Nat.{ℕ, zero, suc, _<_, _≤_}
-use native.Mathlib.Decide.{decLt, decLe}
+use Prim.Native.Nat.{ℕ, zero, suc, _<_}
 use native.Mathlib.Omega.{arith}
-use borrow.Author.Tests.{le-leb, lt-leb, lt-ltb, le-ltb}
+use borrow.Author.Tests.{ltb-true}
 use Rattle.logic.specs.Booleans.{both}
 use Rattle.logic.proofs.BooleanLaws.{both-left, both-right}
-use Rattle.language.specs.Syntax.{Ty, t-int, t-err, t-pkg, t-sum, Expr, Cmd}
+use Rattle.language.specs.Syntax.{Ty, t-err, Part, first, second, pick, Expr, Cmd}
 use Rattle.language.specs.Declarations.{nth}
-use Rattle.language.specs.Typing.{isTy, hasTy, leftIs, rightIs, onSum, given, typeOfValue, typeOf, shape}
-use Rattle.script.specs.Lines.{SourceE, s-int, s-loc, s-var, s-plus, s-left, s-right, s-pack, s-unpack, Source, s-skip, s-seq, s-assign, s-while, s-case}
-use Rattle.sheet.specs.Sheet.{Sheet, tyOf, formed, repeats}
+use Rattle.language.specs.Typing.{isTy, hasTy, leftIs, rightIs, onSum, pairIs, partTy, given, typeOfValue, typeOf, shape}
+use Rattle.script.specs.Lines.{SourceE, s-int, s-loc, s-var, s-plus, s-left, s-right, s-pack, s-unpack, s-pair, s-proj, Source, s-skip, s-seq, s-assign, s-while, s-case}
+use Rattle.sheet.specs.declared.Kind.{Kind}
+use Rattle.sheet.specs.declared.Kind.the-variants.{Sum, Pair}
+use Rattle.sheet.specs.Sheet.{Sheet, compoundOf, tyOf, formed, repeats}
 use Rattle.sheet.specs.Internal.Tables.{tableOf, typesIn, leftIn, rightIn, typeIn}
-use Rattle.sheet.specs.Internal.TypeTest.{isSum}
+use Rattle.sheet.specs.Internal.TypeTest.{isOf, isPair}
 use Rattle.sheet.specs.Meaning.{shapesOf}
-use Rattle.sheet.proofs.TypeLaws.{ty-0, ty-1, ty-2, ty-3, ty-4, ty-past}
+use Rattle.sheet.proofs.FormLaws.{type-count}
+use Rattle.sheet.proofs.TypeLaws.{ty-0, ty-1, ty-2, ty-3, ty-4}
 use Rattle.sheet.proofs.TableLaws.{types-in, type-in}
-use Rattle.sheet.proofs.NumberLaws.{sum-in, left-in-there, right-in-there, same-number-type, type-in-there, sum-in-there}
-use Rattle.checker.specs.Internal.Numbers.{isNo, someNo, leftIsNo, rightIsNo, onSumNo, givenNo, typeNo, shapeNo}
-
-sum-yes : (t : List ℕ) (n : ℕ) → 3 ≤ n → n < typesIn t → isSum t n ≡ true
-unfolding isSum both
-sum-yes t n h k = rw (le-leb 3 n h, lt-ltb n (typesIn t) k)
-
-sum-low : (t : List ℕ) (n : ℕ) → n < 3 → isSum t n ≡ false
-unfolding isSum both
-sum-low t n h = rw (lt-leb 3 n h)
-
-sum-past : (t : List ℕ) (n : ℕ) → 3 ≤ n → typesIn t ≤ n → isSum t n ≡ false
-unfolding isSum both
-sum-past t n h k = rw (le-leb 3 n h, le-ltb n (typesIn t) k)
-
--- a test that fails at once fails with what follows it
-none-both : {a : Bool} (b : Bool) → a ≡ false → both a b ≡ false
-unfolding both
-none-both b e = rw e
+use Rattle.sheet.proofs.NumberLaws.{other, left-in-there, right-in-there, same-number-type, type-in-there, by-kind, kind-test}
+use Rattle.checker.specs.Internal.Numbers.{isNo, someNo, leftIsNo, rightIsNo, onSumNo, pairIsNo, partNo, givenNo, typeNo, shapeNo}
 
 module _ (s : Sheet) (fm : formed s ≡ true) (once : repeats s ≡ false) where
   abbrev T : List ℕ
   T = tableOf s
-
-  -- the type of a number that is no sum
-  data Plain : ℕ → Type 0 where
-    is-int : {n : ℕ} → tyOf s n ≡ t-int → Plain n
-    is-err : {n : ℕ} → tyOf s n ≡ t-err → Plain n
-    is-pkg : {n : ℕ} → tyOf s n ≡ t-pkg → Plain n
-
-  plain : (n : ℕ) → n < 3 → Plain n
-  plain zero h = is-int (ty-0 s)
-  plain (suc zero) h = is-err (ty-1 s)
-  plain (suc (suc zero)) h = is-pkg (ty-2 s)
-  plain (suc (suc (suc n))) h = absurd (omega arith)
-
-  -- a test of types that only sums pass, where b is its answer at the parts
-  sum-test : (n : ℕ) (f : Ty → Bool) (b : Bool) → f t-int ≡ false → f t-err ≡ false → f t-pkg ≡ false
-      → b ≡ f (t-sum (tyOf s (leftIn T n)) (tyOf s (rightIn T n))) → both (isSum T n) b ≡ f (tyOf s n)
-  unfolding both
-  sum-test n f b i e p h = on (decLe 3 n) (decLt n (typesIn T))
-    where
-      low : Plain n → isSum T n ≡ false → both (isSum T n) b ≡ f (tyOf s n)
-      low (is-int q) z = none-both b z ∙ sym (ap f q ∙ i)
-      low (is-err q) z = none-both b z ∙ sym (ap f q ∙ e)
-      low (is-pkg q) z = none-both b z ∙ sym (ap f q ∙ p)
-
-      on : Dec (3 ≤ n) → Dec (n < typesIn T) → both (isSum T n) b ≡ f (tyOf s n)
-      on (yes l) (yes k) = rw (sum-yes T n l k, sum-in s fm n l k) h
-      on (yes l) (no k) = low (is-int (ty-past s n (rw (types-in s fm) at (let z : typesIn T ≤ n = omega arith in z)))) (sum-past T n l (omega arith))
-      on (no l) k = low (plain n (omega arith)) (sum-low T n (omega arith))
 
   -- The number of a type that there is, and no number where there is no type.
   data Agree : Option ℕ → Option Ty → Type 0 where
@@ -91,19 +48,19 @@ module _ (s : Sheet) (fm : formed s ≡ true) (once : repeats s ≡ false) where
   some-agree (each k) = refl
 
   left-agree : (n : ℕ) {o : Option ℕ} {p : Option Ty} → Agree o p → leftIsNo T n o ≡ leftIs (tyOf s n) p
-  unfolding leftIsNo leftIs
-  left-agree n {p = p} g = sum-test n (λ τ. leftIs τ p) _ refl refl refl (is-agree (leftIn T n) (left-in-there s fm n) g)
+  unfolding leftIsNo leftIs compoundOf other
+  left-agree n {p = p} g = kind-test s fm Sum n (λ τ. leftIs τ p) _ refl refl refl (λ a b. refl) (is-agree (leftIn T n) (left-in-there s fm n) g)
 
   right-agree : (n : ℕ) {o : Option ℕ} {p : Option Ty} → Agree o p → rightIsNo T n o ≡ rightIs (tyOf s n) p
-  unfolding rightIsNo rightIs
-  right-agree n {p = p} g = sum-test n (λ τ. rightIs τ p) _ refl refl refl (is-agree (rightIn T n) (right-in-there s fm n) g)
+  unfolding rightIsNo rightIs compoundOf other
+  right-agree n {p = p} g = kind-test s fm Sum n (λ τ. rightIs τ p) _ refl refl refl (λ a b. refl) (is-agree (rightIn T n) (right-in-there s fm n) g)
 
   on-agree : {o : Option ℕ} {p : Option Ty} → Agree o p → (k : ℕ → ℕ → Bool) (f : Ty → Ty → Bool)
       → ((m n : ℕ) → m < typesIn T → n < typesIn T → k m n ≡ f (tyOf s m) (tyOf s n)) → onSumNo T o k ≡ onSum p f
-  unfolding onSumNo onSum
+  unfolding onSumNo onSum compoundOf other
   on-agree neither k f h = refl
   on-agree (each {n} l) k f h =
-      sum-test n (λ τ. onSum (some τ) f) _ refl refl refl (h (leftIn T n) (rightIn T n) (left-in-there s fm n) (right-in-there s fm n))
+      kind-test s fm Sum n (λ τ. onSum (some τ) f) _ refl refl refl (λ a b. refl) (h (leftIn T n) (rightIn T n) (left-in-there s fm n) (right-in-there s fm n))
 
   given-agree : (a b : Bool) (n : ℕ) → a ≡ b → (a ≡ true → n < typesIn T) → Agree (givenNo a n) (given b (tyOf s n))
   unfolding givenNo given
@@ -112,20 +69,37 @@ module _ (s : Sheet) (fm : formed s ≡ true) (once : repeats s ≡ false) where
   given-agree false true n e h = absurd (false≢true e)
   given-agree false false n e h = neither
 
-  -- where a sum is made, its number is there
-  sum-there : (n : ℕ) → isSum T n ≡ true → n < typesIn T
-  sum-there n e = on (decLe 3 n) (decLt n (typesIn T))
+  pair-agree : (n : ℕ) {o₁ o₂ : Option ℕ} {p₁ p₂ : Option Ty} → Agree o₁ p₁ → Agree o₂ p₂ → pairIsNo T n o₁ o₂ ≡ pairIs (tyOf s n) p₁ p₂
+  unfolding pairIsNo pairIs compoundOf other
+  pair-agree n {p₁ = p₁} {p₂} g h =
+      kind-test s fm Pair n (λ τ. pairIs τ p₁ p₂) _ refl refl refl (λ a b. refl)
+      (rw (is-agree (leftIn T n) (left-in-there s fm n) g, is-agree (rightIn T n) (right-in-there s fm n) h))
+
+  -- a part of a type that is there, is
+  pick-agree : (q : Part) (n : ℕ) → Agree (some (pick q (leftIn T n) (rightIn T n))) (some (pick q (tyOf s (leftIn T n)) (tyOf s (rightIn T n))))
+  unfolding pick
+  pick-agree first n = each (left-in-there s fm n)
+  pick-agree second n = each (right-in-there s fm n)
+
+  part-agree : (q : Part) {o : Option ℕ} {p : Option Ty} → Agree o p → Agree (partNo T q o) (partTy q p)
+  unfolding partNo partTy givenNo compoundOf other
+  part-agree q neither = neither
+  part-agree q (each {n} l) = rw (by-kind s fm Pair n (λ τ. partTy q (some τ)) none refl refl refl (λ a b. refl)) (on (isPair T n))
     where
-      on : Dec (3 ≤ n) → Dec (n < typesIn T) → n < typesIn T
-      on (yes l) (yes k) = k
-      on (yes l) (no k) = absurd (false≢true (sym (sum-past T n l (omega arith)) ∙ e))
-      on (no l) k = absurd (false≢true (sym (sum-low T n (omega arith)) ∙ e))
+      on : (b : Bool) → Agree (givenNo b (pick q (leftIn T n) (rightIn T n))) (cond b (some (pick q (tyOf s (leftIn T n)) (tyOf s (rightIn T n)))) none)
+      on true = pick-agree q n
+      on false = neither
+
+  -- where a sum or a pair is made, its number is there
+  kind-there : (k : Kind) (n : ℕ) → isOf T k n ≡ true → n < typesIn T
+  unfolding isOf
+  kind-there k n e = ltb-true _ _ (both-left _ _ (both-right _ _ e))
 
   given-there : (n : ℕ) → n < typesIn T → {τ : Ty} → tyOf s n ≡ τ → (a b : Bool) → a ≡ b → Agree (givenNo a n) (given b τ)
   given-there n h q a b e = rw (← q) (given-agree a b n e (λ z. h))
 
   five : (n : ℕ) → n < 5 → n < typesIn T
-  five n h = let f = sum-in-there s fm 4 t-pkg t-err (ty-4 s) in omega arith
+  five n h = omega (arith, types-in s fm, type-count s)
 
   error : Agree (some 1) (some t-err)
   error = rw (← ty-1 s) (each (five 1 (omega arith)))
@@ -142,19 +116,21 @@ module _ (s : Sheet) (fm : formed s ≡ true) (once : repeats s ≡ false) where
   nth-agree (bound h b) (suc d) = nth-agree b d
 
   type-agree : {e : Expr} → SourceE e → {ns : List ℕ} {τs : List Ty} → Bound ns τs → Agree (typeNo T ns e) (typeOf (shapesOf s) τs e)
-  unfolding typeNo typeOf typeOfValue leftIsNo rightIsNo
+  unfolding typeNo typeOf typeOfValue leftIsNo rightIsNo pairIsNo
   type-agree s-int b = rw (← ty-0 s) (each (five 0 (omega arith)))
   type-agree (s-loc {x}) b = rw (← type-in s fm x) (each (type-in-there s fm x))
   type-agree (s-var {d}) b = nth-agree b d
   type-agree (s-plus p q) b =
       let there = five 0 (omega arith) in
       given-there 0 there (ty-0 s) _ _ (rw (is-type 0 there (ty-0 s) (type-agree p b), is-type 0 there (ty-0 s) (type-agree q b)))
-  type-agree (s-left {t = n} p) b = given-agree _ _ n (left-agree n (type-agree p b)) (λ e. sum-there n (both-left _ _ e))
-  type-agree (s-right {t = n} p) b = given-agree _ _ n (right-agree n (type-agree p b)) (λ e. sum-there n (both-left _ _ e))
+  type-agree (s-left {t = n} p) b = given-agree _ _ n (left-agree n (type-agree p b)) (λ e. kind-there Sum n (both-left _ _ e))
+  type-agree (s-right {t = n} p) b = given-agree _ _ n (right-agree n (type-agree p b)) (λ e. kind-there Sum n (both-left _ _ e))
   type-agree (s-pack p) b = given-there 4 (five 4 (omega arith)) (ty-4 s) _ _ (some-agree (type-agree p b))
   type-agree (s-unpack {t = n} p) b =
       given-agree _ _ n (rw (is-type 2 (five 2 (omega arith)) (ty-2 s) (type-agree p b), right-agree n error))
-      (λ e. sum-there n (both-left _ _ (both-right _ _ e)))
+      (λ e. kind-there Sum n (both-left _ _ (both-right _ _ e)))
+  type-agree (s-pair {t = n} p q) b = given-agree _ _ n (pair-agree n (type-agree p b) (type-agree q b)) (λ e. kind-there Pair n (both-left _ _ e))
+  type-agree (s-proj {p = q} p) b = part-agree q (type-agree p b)
 
   pub shape-agree : {c : Cmd} → Source c → {ns : List ℕ} {τs : List Ty} → Bound ns τs → shapeNo T ns c ≡ shape (shapesOf s) τs c
   unfolding shapeNo shape

@@ -1,7 +1,7 @@
 // Types and least labels of expressions over the lines (the scope, "Typing"; the paper, figure 4).
 ghost use mathlib.Core.Path.{_≡_};
-ghost use Rattle.checker.specs.Internal.Nodes.{isType, nothing, intTyped, locTyped, varTyped, plusTyped, sumTyped, packTyped, unpackTyped};
-ghost use Rattle.checker.specs.Internal.Post.{ChecksExpr};
+ghost use Rattle.checker.specs.Internal.Nodes.{isType, nothing, intTyped, locTyped, varTyped, plusTyped, sumTyped, packTyped, unpackTyped, pairTyped, partTyped};
+ghost use Rattle.checker.specs.Internal.Post.{ChecksExpr, ChecksSecond};
 use crate::ALL;
 use crate::KEEPING;
 use crate::Typed;
@@ -10,6 +10,7 @@ use sheet::ERROR;
 use sheet::INT;
 use sheet::PKG;
 use sheet::PKG_OR_ERROR;
+use sheet::is_pair;
 use sheet::is_sum;
 
 // Whether an expression has a type.
@@ -125,6 +126,34 @@ fn of_unpack(table: &[sheet::Word], ty: u32, l: u32, x: Typed) -> Typed
     }
 }
 
+// A pair of type `ty`.
+fn of_pair(table: &[sheet::Word], ty: u32, x: Typed, y: Typed) -> Typed
+    ensures { λ r. ⌜ r ≡ pairTyped (now (table .entry)) ty x y ⌝ }
+{
+    let first = is_type(x, sheet::left_part(table, ty));
+    let second = is_type(y, sheet::right_part(table, ty));
+    Typed {
+        ty,
+        typed: is_pair(table, ty) & (first & second),
+        holds: x.holds & y.holds,
+        label: members::join(x.label, y.label),
+        next: y.next,
+    }
+}
+
+// A part of a pair, of type `part`; it has the label of the whole.
+fn of_part(table: &[sheet::Word], part: u32, x: Typed) -> Typed
+    ensures { λ r. ⌜ r ≡ partTyped (now (table .entry)) part x ⌝ }
+{
+    Typed {
+        ty: part,
+        typed: x.typed & is_pair(table, x.ty),
+        holds: x.holds,
+        label: x.label,
+        next: x.next,
+    }
+}
+
 // Checks the expression whose lines start at the word `at`, below `depth` cases.
 pub(crate) fn check_expr(
     code: &[u32],
@@ -143,20 +172,48 @@ pub(crate) fn check_expr(
         script::LOC => of_location(table, a, at + script::ROW),
         script::VAR => of_variable(bound, depth, a, at + script::ROW),
         // One call for the operand that each of these starts with, since each local takes its own place in every frame.
-        script::PLUS | script::LEFT | script::RIGHT | script::PACK | script::UNPACK => {
+        script::PLUS
+        | script::LEFT
+        | script::RIGHT
+        | script::PACK
+        | script::UNPACK
+        | script::PAIR
+        | script::FIRST
+        | script::SECOND => {
             let x = check_expr(code, at + script::ROW, table, bound, depth);
             match kind {
-                script::PLUS => {
-                    let y = check_expr(code, x.next, table, bound, depth);
-                    of_plus(x, y)
-                }
+                script::PLUS => check_second(code, x, table, bound, depth, true, a),
+                script::PAIR => check_second(code, x, table, bound, depth, false, a),
                 script::LEFT => of_sum(table, a, sheet::left_part(table, a), x),
                 script::RIGHT => of_sum(table, a, sheet::right_part(table, a), x),
                 script::PACK => of_pack(table, a, x),
                 script::UNPACK => of_unpack(table, a, row.b, x),
+                script::FIRST => of_part(table, sheet::left_part(table, x.ty), x),
+                script::SECOND => of_part(table, sheet::right_part(table, x.ty), x),
                 _ => no_type(at),
             }
         }
         _ => no_type(at),
+    }
+}
+
+// Checks the second operand of a `+`, or of a pair of type `ty`, after the first, x. It is apart from `check_expr`, so
+// that no other line's frame has the room for a second operand; called in two places, it stays apart when compiled.
+fn check_second(
+    code: &[u32],
+    x: Typed,
+    table: &[sheet::Word],
+    bound: &[u64; bindings::BINDINGS],
+    depth: usize,
+    plus: bool,
+    ty: u32,
+) -> Typed
+    ensures { λ r. ⌜ ChecksSecond (now (code .entry)) (now (table .entry)) (now (bound .entry)) depth plus ty x r ⌝ }
+{
+    let y = check_expr(code, x.next, table, bound, depth);
+    if plus {
+        of_plus(x, y)
+    } else {
+        of_pair(table, ty, x, y)
     }
 }

@@ -8,19 +8,19 @@ use Prim.Native.Nat.{ℕ, _+_, _-_, _≤_, _<_}
 use native.Mathlib.Omega.{arith}
 use borrow.Author.Tests.{ltb-true}
 use lib.ListN.{length, drop, getD}
-use Rattle.language.specs.Syntax.{Value, int, Expr, inl, inr}
+use Rattle.language.specs.Syntax.{Value, int, inl, inr, pair, Part, first, second, pick, Expr}
 use Rattle.language.specs.World.{Mem, cell-words}
-use Rattle.language.specs.Evaluation.{Res, ok, long, stuck, bind, fit, add, packed, unpacked, eval}
+use Rattle.language.specs.Evaluation.{Res, ok, long, stuck, bind, fit, add, packed, unpacked, partOf, eval}
 use Rattle.logic.proofs.BooleanLaws.{both-left, both-right}
 use Rattle.sheet.specs.Internal.Tables.{labelsIn}
 use Rattle.sheet.specs.Internal.Powers.{mayWrite}
-use Rattle.script.specs.Lines.{Line, exprLines}
+use Rattle.script.specs.Lines.{Line, SourceE, exprLines}
 use Rattle.script.specs.Internal.Code.{rowAt}
 use Rattle.script.specs.Names.{Counts, namedE}
 use Rattle.script.specs.declared.Row.{Row}
 use Rattle.script.specs.Internal.Pieces.{expression}
 use Rattle.script.proofs.Rows as rows
-use Rattle.script.proofs.Rows.{ExprRow, at-int, at-loc, at-var, at-plus, at-left, at-right, at-pack, at-unpack, KindOf, not-here, one-between}
+use Rattle.script.proofs.Rows.{ExprRow, at-int, at-loc, at-var, at-plus, at-left, at-right, at-pack, at-unpack, at-pair, at-first, at-second, KindOf, not-here, one-between}
 use Rattle.memory.specs.Words.{cell}
 use Rattle.memory.specs.Memory.{cellOf}
 use Rattle.evaluator.specs.State.{stateNumber}
@@ -29,11 +29,11 @@ use Rattle.evaluator.specs.declared.State.the-variants.{Done, TooLong, N
 use Rattle.cells.specs.Internal.Cells.{accumulator, loadOf, storeOf}
 use Rattle.evaluator.specs.Internal.Cells.{firstLocation}
 use Rattle.evaluator.specs.Internal.Records.{Setting, Place, Result, endState, reached, Context}
-use Rattle.evaluator.specs.Internal.Nodes.{Yields, Gives, Turns, Applies, Sums, Applied}
+use Rattle.evaluator.specs.Internal.Nodes.{Yields, Gives, Turns, Applies, Sums, o-left, o-right, o-pack, o-unpack, o-part, opKind, Applied, Pairs}
 use Rattle.evaluator.specs.Internal.Post.{ExprAt, StandsFor, Answers, Evals}
 use Rattle.cells.proofs.CellLaws.{there, load-there, length-load, cell-stored, rest-kept}
 use Rattle.evaluator.proofs.ValueLaws.{tags-left, tags-right}
-use Rattle.evaluator.proofs.NodeLaws.{end-done, end-none, second-here, turns-past, length-int}
+use Rattle.evaluator.proofs.NodeLaws.{end-done, end-none, load-here, second-here, turns-past, length-int}
 use Rattle.evaluator.proofs.StateLaws.{cell-in, room-here, holds-kept, bound-answers}
 
 -- the row that was read is that of the expression
@@ -80,12 +80,13 @@ module _ {S : Setting} (p : Place) {C : Context} {M : Mem} (held : StandsFor S p
   var-case (at-var {d = d} h) w =
       (rw (w, end-done (p .at + 3) (omega arith)) (bound-answers (held .cells .bindings) (held .cells .whole) (held .cells .shallow) d), λ z. h)
 
-sum-answers : (v : Result) {n : ℕ} (r : Result) (x y : Res) → v .state ≡ 0 → Gives x v → n ≡ getD (v .cells) 1 0
-    → ((u : Value) → n ≡ getD (cell u) 1 0 → Gives (bind y (add u)) r) → Gives (bind x (λ u. bind y (λ w. add u w))) r
+-- what follows a value in the accumulator
+bind-answers : (v r : Result) (x : Res) (f : Value → Res) → v .state ≡ 0 → Gives x v
+    → ((u : Value) → cellOf (v .cells) accumulator ≡ cell u → Gives (f u) r) → Gives (bind x f) r
 unfolding Yields bind
-sum-answers v r (ok u) y z a n k = k u (n ∙ second-here (v .cells) u (a .1))
-sum-answers v r long y z a n k = absurd (omega arith)
-sum-answers v r stuck y z a n k = tt
+bind-answers v r (ok u) f z a k = k u (a .1)
+bind-answers v r long f z a k = absurd (omega arith)
+bind-answers v r stuck f z a k = tt
 
 -- an operand that stands after its line
 module _ {S : Setting} (p : Place) {v : Result} (x : Evals S (operand p) v) {C : Context} {M : Mem} (held : StandsFor S p C M) where
@@ -124,27 +125,55 @@ module _ {S : Setting} (p : Place) {v : Result} (x : Evals S (operand p) v) {C :
         let there : l < labelsIn (S .table) = rw (sym (held .labels)) (ltb-true _ _ (both-right _ _ (both-left _ _ n))) in
         one-operand (unpacked (C .world) t l) (record { source = s; names = both-right _ _ n; lines = h }) y (u there)
 
+    part-case : (q : Part) {a b : ℕ} {e : Expr} → ExprRow (p .code) (p .at) rest (pick q 15 16) a b e → namedE (C .counts) (p .depth) e ≡ true
+        → Turns (partOf q) v r → Means p C M e rest r
+    unfolding eval namedE pick
+    part-case first (at-first s h) n u = one-operand (partOf first) (record { source = s; names = n; lines = h }) y u
+    part-case second (at-second s h) n u = one-operand (partOf second) (record { source = s; names = n; lines = h }) y u
+
+  module _ (rest : List Line) {e : Expr} (f : Expr) (here : ExprAt (operand p) (C .counts) (exprLines f rest) e) where
+    -- two operands, the first of which has no value
+    two-end : (k : Value → Res) → (v .state ≡ 0 → ⊥) → Answers (bind (eval (C .world) (C .env) M e) k) (p .code) rest v
+    two-end k z = (turns-past k v z _ room-after (x .means C M e (exprLines f rest) operand-held here .0), λ q. absurd (z q))
+
+    -- two operands, the first of which has one
+    two-operands : {w r : Result} {Q : Type 0} (k : Value → Value → Res) → SourceE f → namedE (C .counts) (p .depth) f ≡ true → v .state ≡ 0
+        → Evals S (after p v) w → Applies w r Q → ((u : Value) → cellOf (v .cells) accumulator ≡ cell u → Turns (k u) w r)
+        → Answers (bind (eval (C .world) (C .env) M e) (λ a. bind (eval (C .world) (C .env) M f) (λ b. k a b))) (p .code) rest r
+    two-operands {w} {r} k source names z x′ y turns =
+        let m = x .means C M e (exprLines f rest) operand-held here in
+        let held′ : StandsFor S (after p v) C M = held-after held (x .kept) refl in
+        let m′ = x′ .means C M f rest held′ (record { source = source; names = names; lines = m .1 z }) in
+        let room = room-here (holds-kept (held′ .cells) (w .cells) (x′ .kept)) in (
+          bind-answers v r _ _ z (m .0) (λ u a. turns u a _ room (m′ .0)),
+          λ q. ap (λ (i : ℕ). drop i (p .code)) (y .same-place q) ∙ m′ .1 (y .through q),
+        )
+
   module _ {rest : List Line} where
-    -- plus, whose left operand has no value
     plus-end-case : {a b : ℕ} {e : Expr} → ExprRow (p .code) (p .at) rest 9 a b e → namedE (C .counts) (p .depth) e ≡ true → (v .state ≡ 0 → ⊥)
         → Means p C M e rest v
     unfolding eval namedE
-    plus-end-case (at-plus {e = e} {f = f} s r h) n z =
-        let m = x .means C M e (exprLines f rest) operand-held (record { source = s; names = both-left _ _ n; lines = h }) in
-        (turns-past _ v z _ room-after (m .0), λ q. absurd (z q))
+    plus-end-case (at-plus {f = f} s r h) n z = two-end rest f (record { source = s; names = both-left _ _ n; lines = h }) _ z
 
-    -- plus, whose left operand has a value
     plus-case : {a b n : ℕ} {e : Expr} {w r : Result} → ExprRow (p .code) (p .at) rest 9 a b e → namedE (C .counts) (p .depth) e ≡ true → v .state ≡ 0
         → n ≡ getD (v .cells) 1 0 → Evals S (after p v) w → Sums n w r → Means p C M e rest r
     unfolding eval namedE
-    plus-case {w = w} {r = r} (at-plus {e = e} {f = f} s s′ h) nm z n x′ y =
-        let m = x .means C M e (exprLines f rest) operand-held (record { source = s; names = both-left _ _ nm; lines = h }) in
-        let held′ : StandsFor S (after p v) C M = held-after held (x .kept) refl in
-        let m′ = x′ .means C M f rest held′ (record { source = s′; names = both-right _ _ nm; lines = m .1 z }) in
-        let room = room-here (holds-kept (held′ .cells) (w .cells) (x′ .kept)) in (
-          sum-answers v r _ _ z (m .0) n (λ u q. y .means u q _ room (m′ .0)),
-          λ q. ap (λ (i : ℕ). drop i (p .code)) (y .same-place q) ∙ m′ .1 (y .through q),
-        )
+    plus-case (at-plus {f = f} s s′ h) nm z n x′ y =
+        two-operands rest f (record { source = s; names = both-left _ _ nm; lines = h }) add s′ (both-right _ _ nm) z x′ y
+        (λ u a. y .means u (n ∙ second-here (v .cells) u a))
+
+    pair-end-case : {a b : ℕ} {e : Expr} → ExprRow (p .code) (p .at) rest 14 a b e → namedE (C .counts) (p .depth) e ≡ true → (v .state ≡ 0 → ⊥)
+        → Means p C M e rest v
+    unfolding eval namedE
+    pair-end-case (at-pair {f = f} s r h) n z = two-end rest f (record { source = s; names = both-left _ _ (both-right _ _ n); lines = h }) _ z
+
+    pair-case : {a b : ℕ} {words : List ℕ} {e : Expr} {w r : Result} → ExprRow (p .code) (p .at) rest 14 a b e → namedE (C .counts) (p .depth) e ≡ true
+        → v .state ≡ 0 → words ≡ loadOf (v .cells) accumulator → Evals S (after p v) w → Pairs words w r → Means p C M e rest r
+    unfolding eval namedE
+    pair-case (at-pair {f = f} s s′ h) nm z ld x′ y =
+        let n = both-right _ _ nm in
+        two-operands rest f (record { source = s; names = both-left _ _ n; lines = h }) (λ u w. fit (pair u w)) s′ (both-right _ _ n) z x′ y
+        (λ u a. y .means u (ld ∙ load-here (v .cells) u room-after a))
 
 -- a cell is copied to the accumulator
 copied : (work : List ℕ) {work′ : List ℕ} (j : ℕ) → work′ ≡ storeOf work accumulator (loadOf work j) → drop cell-words work′ ≡ drop cell-words work
@@ -185,21 +214,32 @@ module _ {S : Setting} {p : Place} {row : Row} (r : row ≡ rowAt (p .code) (p .
         }
 
   module _ {v : Result} (x : Evals S (operand p) v) where
-    pub eval-plus-end : row .kind ≡ 9 → (v .state ≡ 0 → ⊥) → Evals S p v
-    eval-plus-end q z =
-        record {
-          forward = λ q. absurd (z q);
-          kept = x .kept;
-          means = λ C M e rest held here. plus-end-case p x held (row-of 9 r q here) (here .names) z;
-        }
+    -- a line with two operands, the first of which has no value, and the first of which has one
+    eval-end : (v .state ≡ 0 → ⊥) → ((C : Context) (M : Mem) (e : Expr) (rest : List Line) → StandsFor S p C M → ExprAt p (C .counts) rest e
+        → Means p C M e rest v) → Evals S p v
+    eval-end z m = record { forward = λ q. absurd (z q); kept = x .kept; means = m }
 
-    pub eval-plus : {n : ℕ} {w u : Result} → row .kind ≡ 9 → v .state ≡ 0 → n ≡ getD (v .cells) 1 0 → Evals S (after p v) w → Sums n w u → Evals S p u
-    eval-plus q z n x′ y =
+    eval-two : {w u : Result} {Q : Type 0} → v .state ≡ 0 → Evals S (after p v) w → Applies w u Q → ((C : Context) (M : Mem) (e : Expr) (rest : List Line)
+        → StandsFor S p C M → ExprAt p (C .counts) rest e → Means p C M e rest u) → Evals S p u
+    eval-two z x′ y m =
         record {
           forward = λ q. omega (arith, x .forward z, x′ .forward (y .through q), y .same-place q);
           kept = y .kept ∙ x′ .kept ∙ x .kept;
-          means = λ C M e rest held here. plus-case p x held (row-of 9 r q here) (here .names) z n x′ y;
+          means = m;
         }
+
+    pub eval-plus-end : row .kind ≡ 9 → (v .state ≡ 0 → ⊥) → Evals S p v
+    eval-plus-end q z = eval-end z (λ C M e rest held here. plus-end-case p x held (row-of 9 r q here) (here .names) z)
+
+    pub eval-plus : {n : ℕ} {w u : Result} → row .kind ≡ 9 → v .state ≡ 0 → n ≡ getD (v .cells) 1 0 → Evals S (after p v) w → Sums n w u → Evals S p u
+    eval-plus q z n x′ y = eval-two z x′ y (λ C M e rest held here. plus-case p x held (row-of 9 r q here) (here .names) z n x′ y)
+
+    pub eval-pair-end : row .kind ≡ 14 → (v .state ≡ 0 → ⊥) → Evals S p v
+    eval-pair-end q z = eval-end z (λ C M e rest held here. pair-end-case p x held (row-of 14 r q here) (here .names) z)
+
+    pub eval-pair : {words : List ℕ} {w u : Result} → row .kind ≡ 14 → v .state ≡ 0 → words ≡ loadOf (v .cells) accumulator → Evals S (after p v) w
+        → Pairs words w u → Evals S p u
+    eval-pair q z ld x′ y = eval-two z x′ y (λ C M e rest held here. pair-case p x held (row-of 14 r q here) (here .names) z ld x′ y)
 
     module _ {u : Result} where
       -- a line with one operand
@@ -208,13 +248,20 @@ module _ {S : Setting} {p : Place} {row : Row} (r : row ≡ rowAt (p .code) (p .
       eval-by y m = record { forward = λ z. omega (arith, x .forward (y .through z), y .same-place z); kept = y .kept ∙ x .kept; means = m }
 
       -- the kinds with one operand
-      pub eval-one : 9 ≤ row .kind → row .kind ≤ 13 → (row .kind ≡ 9 → ⊥) → Applied S row v u → Evals S p u
-      eval-one h l n y =
-          ⊎-elim (λ q. eval-by (y .left q) (λ C M e rest held here. left-case p x held (y .left q) (row-of 10 r q here) (here .names) (y .left q .means inl tags-left)))
-          (⊎-elim (λ q. eval-by (y .right q) (λ C M e rest held here. right-case p x held (y .right q) (row-of 11 r q here) (here .names) (y .right q .means inr tags-right)))
-          (⊎-elim (λ q. eval-by (y .pack q) (λ C M e rest held here. pack-case p x held (y .pack q) (row-of 12 r q here) (here .names) (y .pack q .means)))
-          (λ q. eval-by (y .unpack q) (λ C M e rest held here. unpack-case p x held (y .unpack q) (row-of 13 r q here) (here .names) (y .unpack q .means (C .world) (held .tells))))))
-          (one-between 10 3 (omega arith) l)
+      eval-at : (q : Part) → row .kind ≡ pick q 15 16 → Applied S row v u → Evals S p u
+      unfolding opKind
+      eval-at q k y = eval-by (y (o-part q) k) (λ C M e rest held here. part-case p x held (y (o-part q) k) q (row-of _ r k here) (here .names) (y (o-part q) k .means))
+
+      pub eval-one : 9 ≤ row .kind → row .kind ≤ 16 → (row .kind ≡ 9 → ⊥) → (row .kind ≡ 14 → ⊥) → Applied S row v u → Evals S p u
+      unfolding opKind pick
+      eval-one h l n m y =
+          ⊎-elim (λ q. eval-by (y o-left q) (λ C M e rest held here. left-case p x held (y o-left q) (row-of 10 r q here) (here .names) (y o-left q .means inl tags-left)))
+          (⊎-elim (λ q. eval-by (y o-right q) (λ C M e rest held here. right-case p x held (y o-right q) (row-of 11 r q here) (here .names) (y o-right q .means inr tags-right)))
+          (⊎-elim (λ q. eval-by (y o-pack q) (λ C M e rest held here. pack-case p x held (y o-pack q) (row-of 12 r q here) (here .names) (y o-pack q .means)))
+          (⊎-elim (λ q. eval-by (y o-unpack q) (λ C M e rest held here. unpack-case p x held (y o-unpack q) (row-of 13 r q here) (here .names) (y o-unpack q .means (C .world) (held .tells))))
+          (⊎-elim (λ q. absurd (m q))
+          (⊎-elim (λ q. eval-at first q y) (λ q. eval-at second q y))))))
+          (one-between 10 6 (omega arith) l)
 
   pub eval-none : (KindOf expression (row .kind) → ⊥) → Evals S p (reached 0 (p .cells))
   eval-none f =

@@ -1,16 +1,17 @@
 -- One value made of another in the accumulator: a law for each way through each function.
 -- Assumes nothing.
-use mathlib.Core.Path.{_≡_, refl, sym, ap, _∙_}
-use mathlib.Core.Bool.{Bool, true, false}
-use mathlib.Core.List.{List, _++_}
+use mathlib.Core.Path.{_≡_, refl, sym, ap, ap₂, subst, _∙_}
+use mathlib.Core.Bool.{Bool, true, false, cond}
+use mathlib.Core.List.{List, [], _∷_, _++_}
 use Prim.Native.Nat.{ℕ, zero, suc, _+_, _-_, _%_, _^_, _≤_, _<_}
 use native.Mathlib.Omega.{arith}
 use borrow.Author.Tests.{le-leb, lt-leb}
-use lib.ListN.{length, drop, getD, take-append-drop}
+use lib.Dec.{eqb}
+use lib.ListN.{length, take, drop, getD, take-append-drop}
 use lib.Seq.{getD-take}
-use Rattle.language.specs.Syntax.{Head, headOf, headSize, Value, int, err, inl, inr, pkg, blank, size, has}
+use Rattle.language.specs.Syntax.{Head, headOf, headSize, Value, int, err, inl, inr, pkg, pair, blank, Part, first, second, pick, size, has}
 use Rattle.language.specs.World.{World, cell-words, wanted}
-use Rattle.language.specs.Evaluation.{Res, ok, long, stuck, bind, fitIf, fit, addTo, add, packed, opened, unpacked}
+use Rattle.language.specs.Evaluation.{Res, ok, long, stuck, bind, fitIf, fit, addTo, add, packed, opened, unpacked, partOf}
 use Rattle.sheet.specs.Internal.Tables.{labelsIn, leftIn, belowIn}
 use Rattle.sheet.specs.Internal.Powers.{mayWrite, mayRead}
 use Rattle.sheet.specs.Internal.TypeTest.{hasNo}
@@ -18,13 +19,13 @@ use Rattle.memory.specs.Words.{headWords, enc, zeros, cell, valueOf}
 use Rattle.memory.specs.Internal.Post.{endOf}
 use Rattle.memory.specs.Memory.{cellOf}
 use Rattle.memory.proofs.WordLaws.{length-cell, enc-append, value-enc, end-enc}
-use Rattle.cells.specs.Internal.Cells.{accumulator, loadOf, storeOf, pushOf, popOf}
+use Rattle.cells.specs.Internal.Cells.{accumulator, loadOf, storeOf, pushOf, pushesOf, popOf, popsOf, cutOf}
 use Rattle.script.specs.declared.Row.{Row}
 use Rattle.script.proofs.Rows.{NoneOf, none-between}
 use Rattle.evaluator.specs.Internal.Records.{Setting, Result, endState, reached}
-use Rattle.evaluator.specs.Internal.Nodes.{Yields, Gives, Turns, Applies, errorOf, errorIn, Tells, Sums, Tagged, Packs, Unpacks, Applied}
-use Rattle.cells.proofs.CellLaws.{there, load-there, length-load, length-push, length-pop, cell-stored, rest-kept}
-use Rattle.evaluator.proofs.ValueLaws.{cell-size, tags-left, push-tag, push-package, pop-package}
+use Rattle.evaluator.specs.Internal.Nodes.{Yields, Gives, Turns, Applies, errorOf, errorIn, Tells, Sums, Tagged, Packs, Unpacks, Projects, partBy, Op, o-plus, o-left, o-right, o-pack, o-unpack, o-part, opKind, MadeBy, Applied, Pairs}
+use Rattle.cells.proofs.CellLaws.{there, load-there, length-load, length-push, length-pushes, length-pop, length-pops, length-cut, store-there, cell-stored, rest-kept}
+use Rattle.evaluator.proofs.ValueLaws.{cell-size, tags-left, push-tag, push-package, pop-package, push-pair, pop-first, pop-second}
 
 -- ---- what is in the accumulator
 
@@ -138,11 +139,13 @@ add-answer (int a) (err b) n m s state words z e p q r = tt
 add-answer (int a) (inl w) n m s state words z e p q r = tt
 add-answer (int a) (inr w) n m s state words z e p q r = tt
 add-answer (int a) (pkg h w) n m s state words z e p q r = tt
+add-answer (int a) (pair w x) n m s state words z e p q r = tt
 add-answer (int a) blank n m s state words z e p q r = tt
 add-answer (err a) w n m s state words z e p q r = tt
 add-answer (inl u) w n m s state words z e p q r = tt
 add-answer (inr u) w n m s state words z e p q r = tt
 add-answer (pkg h u) w n m s state words z e p q r = tt
+add-answer (pair u x) w n m s state words z e p q r = tt
 add-answer blank w n m s state words z e p q r = tt
 
 module _ {v : Result} where
@@ -239,6 +242,7 @@ no-package W t l work (pkg h v) state ne e = absurd (ne (first-word work (pkg h 
   where
     first-word : (work : List ℕ) (v : Value) → cellOf work accumulator ≡ cell v → getD work 0 0 ≡ getD (enc v (zeros (16 - size v) ++ drop 16 work)) 0 0
     first-word work v e = ap (λ (l : List ℕ). getD l 0 0) (words-here work v e)
+no-package W t l work (pair v w) state ne e = tt
 no-package W t l work blank state ne e = tt
 
 module _ {S : Setting} (v : Result) (t l e : ℕ)
@@ -264,6 +268,7 @@ module _ {S : Setting} (v : Result) (t l e : ℕ)
     unpack-error-at W tells there (inr u) ne a = tt
     unpack-error-at W tells there (pkg h u) ne a =
         answers-ok _ (inr (err e)) (v .state) (cell (inr (err e))) (opened-error _ _ _ u e (tested W tells there h u a) ne) z refl
+    unpack-error-at W tells there (pair u w) ne a = tt
     unpack-error-at W tells there blank ne a = tt
 
     unpack-done-at : (W : World) → Tells S W → l < labelsIn (S .table) → (u : Value) (content : List ℕ) → e ≡ 0 → cellOf (v .cells) accumulator ≡ cell u
@@ -277,6 +282,7 @@ module _ {S : Setting} (v : Result) (t l e : ℕ)
         let n : suc (headSize + size u) ≤ 16 = cell-size (v .cells) 0 (pkg h u) a in
         answers-ok _ (inl u) (v .state) content (opened-fine _ _ _ u e (tested W tells there h u a) ne ∙ fits (inl u) (omega arith)) z
         (c ∙ ap (pushOf 3) (pop-package h u (omega arith)) ∙ push-tag tags-left u (omega arith))
+    unpack-done-at W tells there (pair u w) content ne a c = tt
     unpack-done-at W tells there blank content ne a c = tt
 
     pub unpack-error : {cells : List ℕ} → (e ≡ 0 → ⊥) → cells ≡ storeOf (v .cells) accumulator (cell (inr (err e))) → Unpacks S t l v (withCells v cells)
@@ -324,36 +330,149 @@ module _ (S : Setting) (l m : ℕ) (fits : Bool) {may : Bool} (r : may ≡ mayRe
     unfolding errorIn errorOf
     error-none f g = rw (sym r ∙ y, sym flow-is ∙ f, g) refl
 
+-- ---- the parts of a pair
+
+-- the first word tells a pair
+no-pair : (p : Part) (work : List ℕ) (v : Value) (state : ℕ) → (getD work 0 0 ≡ 6 → ⊥) → cellOf work accumulator ≡ cell v
+    → Yields (partOf p v) state (cellOf work accumulator)
+unfolding Yields partOf enc
+no-pair p work (int n) state ne e = tt
+no-pair p work (err n) state ne e = tt
+no-pair p work (inl v) state ne e = tt
+no-pair p work (inr v) state ne e = tt
+no-pair p work (pkg h v) state ne e = tt
+no-pair p work (pair v w) state ne e = absurd (ne (ap (λ (l : List ℕ). getD l 0 0) (words-here work (pair v w) e)))
+no-pair p work blank state ne e = tt
+
+-- what stands in the accumulator for a part that is taken of a value
+part-answer : (p : Part) (u : Value) (state : ℕ) (words : List ℕ) → state ≡ 0 → ((v w : Value) → u ≡ pair v w → words ≡ cell (pick p v w))
+    → Yields (partOf p u) state words
+unfolding Yields partOf
+part-answer p (int n) state words z k = tt
+part-answer p (err n) state words z k = tt
+part-answer p (inl u) state words z k = tt
+part-answer p (inr u) state words z k = tt
+part-answer p (pkg h u) state words z k = tt
+part-answer p (pair v w) state words z k = (z, k v w refl)
+part-answer p blank state words z k = tt
+
+-- where the first part ends once the pair's word is popped, and where the second starts before
+first-end : (work popped : List ℕ) (u w : Value) → cell-words ≤ length work → popped ≡ storeOf work accumulator (popOf (cell (pair u w)))
+    → endOf popped 0 ≡ size u
+unfolding popOf cell enc
+first-end work popped u w h p =
+    let rest : List ℕ = enc w (zeros (16 - size (pair u w))) in
+    let e : popped ≡ enc u ((rest ++ (0 ∷ [])) ++ drop 16 work) =
+    p ∙ store-there work 0 (popOf (cell (pair u w))) (there work 0 (omega arith))
+    ∙ ap (λ (l : List ℕ). l ++ drop 16 work) (enc-append u rest (0 ∷ [])) ∙ enc-append u (rest ++ (0 ∷ [])) (drop 16 work) in
+    omega (arith, end-enc popped 0 u _ e)
+
+second-start : (work : List ℕ) (u w : Value) → cellOf work accumulator ≡ cell (pair u w) → endOf work 1 ≡ suc (size u)
+unfolding enc
+second-start work u w a = omega (arith, end-enc work 1 u _ (ap (drop 1) (words-here work (pair u w) a)))
+
+module _ {v : Result} where
+  pub part-past : (b : Bool) → (v .state ≡ 0 → ⊥) → Projects (partBy b) v v
+  part-past b z = applies-past (turns-past (partOf (partBy b)) v z)
+
+  pub part-none : (b : Bool) {w : ℕ} → v .state ≡ 0 → w ≡ getD (v .cells) 0 0 → (w ≡ 6 → ⊥) → Projects (partBy b) v (reached 0 (v .cells))
+  part-none b z p ne = applies-keep 0 (omega arith) (turns-keep (partOf (partBy b)) v 0 z (λ u a. no-pair (partBy b) (v .cells) u _ (λ q. ne (p ∙ q)) a))
+
+  module _ (z : v .state ≡ 0) {words : List ℕ} (ld : words ≡ loadOf (v .cells) accumulator) where
+    -- a part is stored
+    part-put : (p : Part) {out cells : List ℕ} → length out ≡ cell-words → cells ≡ storeOf (v .cells) accumulator out
+        → ((u w : Value) → cell-words ≤ length (v .cells) → cellOf (v .cells) accumulator ≡ cell (pair u w) → words ≡ cell (pair u w) → out ≡ cell (pick p u w))
+        → Projects p v (withCells v cells)
+    part-put p {out} n e k =
+        applies-put out n e
+        (rw e (turns-put (partOf p) v out z n
+        (λ u h a. part-answer p u (v .state) out z
+        (λ x y q. k x y h (a ∙ ap cell q) (ld ∙ load-here (v .cells) u h a ∙ ap cell q)))))
+
+    pub part-first : {b : Bool} {popped cells : List ℕ} {end : ℕ} → b ≡ true → popped ≡ storeOf (v .cells) accumulator (popOf words) → end ≡ endOf popped 0
+        → cells ≡ storeOf (v .cells) accumulator (cutOf end (popOf words)) → Projects (partBy b) v (withCells v cells)
+    unfolding partBy pick size
+    part-first {popped = popped} {end = end} t p s e =
+        rw t (part-put first (length-cut end _ (length-pop words (loaded (v .cells) words ld))) e
+        (λ u w h a q.
+        ap₂ cutOf (s ∙ first-end (v .cells) popped u w h (p ∙ ap (λ (l : List ℕ). storeOf (v .cells) accumulator (popOf l)) q)) (ap popOf q)
+        ∙ pop-first u w (omega (arith, cell-size (v .cells) 0 (pair u w) a))))
+
+    pub part-second : {b : Bool} {cells : List ℕ} {end : ℕ} → b ≡ false → end ≡ endOf (v .cells) 1
+        → cells ≡ storeOf (v .cells) accumulator (popsOf end words) → Projects (partBy b) v (withCells v cells)
+    unfolding partBy pick size
+    part-second {end = end} t s e =
+        rw t (part-put second (length-pops end words (loaded (v .cells) words ld)) e
+        (λ u w h a q. ap₂ popsOf (s ∙ second-start (v .cells) u w a) q ∙ pop-second u w (omega (arith, cell-size (v .cells) 0 (pair u w) a))))
+
+-- ---- a pair
+
+-- the size of a value whose cell's words these are
+words-size : (words : List ℕ) (u : Value) (n : ℕ) → n ≡ endOf words 0 → words ≡ cell u → n ≡ size u
+unfolding cell
+words-size words u n s p = omega (arith, end-enc words 0 u (zeros (16 - size u)) p)
+
+module _ {v : Result} {words : List ℕ} where
+  pub pair-past : (v .state ≡ 0 → ⊥) → Pairs words v v
+  pair-past z = applies-past (λ u p. turns-past (λ w. fit (pair u w)) v z)
+
+  module _ (z : v .state ≡ 0) {n : ℕ} (s : n ≡ endOf words 0) where
+    pub pair-long : {m : ℕ} → m ≡ endOf (v .cells) 0 → cell-words ≤ n + m → Pairs words v (reached 1 (v .cells))
+    unfolding size
+    pair-long {m} t h =
+        applies-keep 1 (omega arith)
+        (λ u p. turns-keep (λ w. fit (pair u w)) v 1 z
+        (λ w a. answers-long (fit (pair u w)) (cellOf (v .cells) 0) (too-long (pair u w) (omega (arith, words-size words u n s p, size-here (v .cells) w m t a)))))
+
+    pub pair-done : {m k : ℕ} {held cells : List ℕ} → m ≡ endOf (v .cells) 0 → n + m < cell-words → held ≡ loadOf (v .cells) accumulator → k ≡ n
+        → cells ≡ storeOf (v .cells) accumulator (pushOf 6 (pushesOf (take k words) held)) → Pairs words v (withCells v cells)
+    unfolding size
+    pair-done {m} {k} {held} t h ld whole e =
+        let out : List ℕ = pushOf 6 (pushesOf (take k words) held) in
+        let long : length out ≡ 16 = length-push 6 _ (length-pushes (take k words) held (loaded (v .cells) held ld)) in
+        applies-put out long e
+        (λ u p. rw e (turns-put (λ w. fit (pair u w)) v out z long
+        (λ w g a.
+        let size-is = words-size words u n s p in
+        let l = size-here (v .cells) w m t a in
+        answers-ok (fit (pair u w)) (pair u w) (v .state) out (fits (pair u w) (omega arith)) z
+        (rw (whole, size-is, p, ld, load-here (v .cells) w g a) (push-pair u w (omega arith))))))
+
 -- ---- what a line makes, by its kind
 
-module _ {S : Setting} {row : Row} {v r : Result} where
-  pub applied-plus : row .kind ≡ 9 → Sums (row .a) v r → Applied S row v r
-  applied-plus k y =
-      record { plus = λ q. y; left = λ q. absurd (omega arith); right = λ q. absurd (omega arith); pack = λ q. absurd (omega arith); unpack = λ q. absurd (omega arith) }
+-- the line of a kind's number
+opOf : ℕ → Op
+opOf n =
+    cond (eqb n 9) o-plus (cond (eqb n 10) o-left (cond (eqb n 11) o-right (cond (eqb n 12) o-pack (cond (eqb n 13) o-unpack
+    (o-part (cond (eqb n 15) first second))))))
 
-  pub applied-left : row .kind ≡ 10 → Tagged 3 v r → Applied S row v r
-  applied-left k y =
-      record { plus = λ q. absurd (omega arith); left = λ q. y; right = λ q. absurd (omega arith); pack = λ q. absurd (omega arith); unpack = λ q. absurd (omega arith) }
+op-back : (o : Op) → opOf (opKind o) ≡ o
+unfolding opOf opKind pick
+op-back o-plus = refl
+op-back o-left = refl
+op-back o-right = refl
+op-back o-pack = refl
+op-back o-unpack = refl
+op-back (o-part first) = refl
+op-back (o-part second) = refl
 
-  pub applied-right : row .kind ≡ 11 → Tagged 4 v r → Applied S row v r
-  applied-right k y =
-      record { plus = λ q. absurd (omega arith); left = λ q. absurd (omega arith); right = λ q. y; pack = λ q. absurd (omega arith); unpack = λ q. absurd (omega arith) }
+module _ (S : Setting) (row : Row) (v r : Result) where
+  pub applied-by : (o : Op) → row .kind ≡ opKind o → MadeBy o S row v r → Applied S row v r
+  applied-by o k y = λ j q. subst (λ i. MadeBy i S row v r) (sym (op-back o) ∙ ap opOf (sym k ∙ q) ∙ op-back j) y
 
-  pub applied-pack : row .kind ≡ 12 → Packs (S .powers) (row .a) v r → Applied S row v r
-  applied-pack k y =
-      record { plus = λ q. absurd (omega arith); left = λ q. absurd (omega arith); right = λ q. absurd (omega arith); pack = λ q. y; unpack = λ q. absurd (omega arith) }
+  -- a row of another kind
+  pub applied-none : NoneOf (row .kind) 9 5 → (row .kind ≡ 15 → ⊥) → (row .kind ≡ 16 → ⊥) → Applied S row v r
+  unfolding opKind pick
+  applied-none f no-first no-second = other
+    where
+      low : 9 ≤ row .kind → row .kind < 14 → ⊥
+      low = none-between 9 5 f
 
-  pub applied-unpack : row .kind ≡ 13 → Unpacks S (row .a) (row .b) v r → Applied S row v r
-  applied-unpack k y =
-      record { plus = λ q. absurd (omega arith); left = λ q. absurd (omega arith); right = λ q. absurd (omega arith); pack = λ q. absurd (omega arith); unpack = λ q. y }
-
-  pub applied-none : NoneOf (row .kind) 9 5 → Applied S row v r
-  applied-none f =
-      let other : 9 ≤ row .kind → row .kind < 14 → ⊥ = none-between 9 5 f in
-      record {
-        plus = λ q. absurd (other (omega arith) (omega arith));
-        left = λ q. absurd (other (omega arith) (omega arith));
-        right = λ q. absurd (other (omega arith) (omega arith));
-        pack = λ q. absurd (other (omega arith) (omega arith));
-        unpack = λ q. absurd (other (omega arith) (omega arith));
-      }
+      other : Applied S row v r
+      other o-plus q = absurd (low (omega arith) (omega arith))
+      other o-left q = absurd (low (omega arith) (omega arith))
+      other o-right q = absurd (low (omega arith) (omega arith))
+      other o-pack q = absurd (low (omega arith) (omega arith))
+      other o-unpack q = absurd (low (omega arith) (omega arith))
+      other (o-part first) q = absurd (no-first q)
+      other (o-part second) q = absurd (no-second q)

@@ -1,6 +1,8 @@
 // Evaluation of expressions over the lines (the paper, figure 2), in cells of words.
-mod nodes; // nodes.rt: one value made of another, in the accumulator
+mod nodes; // nodes.rt: a value made of one or two others, in the accumulator
 
+ghost use mathlib.Core.Path.{_≡_};
+ghost use Rattle.script.specs.Internal.Code.{rowAt};
 ghost use Rattle.evaluator.specs.Internal.Records.{result, reached};
 ghost use Rattle.evaluator.specs.Internal.Post.{Evals};
 use cells::CELL;
@@ -97,8 +99,15 @@ fn reach(
             nodes::variable(work, depth, a);
             at + ROW
         }
+        script::PAIR => pair(code, at, table, powers, depth, work),
         // One call for the operand that each of these starts with, since each call takes its own place in every frame.
-        script::PLUS | script::LEFT | script::RIGHT | script::PACK | script::UNPACK => {
+        script::PLUS
+        | script::LEFT
+        | script::RIGHT
+        | script::PACK
+        | script::UNPACK
+        | script::FIRST
+        | script::SECOND => {
             let v = reach(code, at + ROW, table, powers, depth, work);
             if kind != script::PLUS {
                 return nodes::applied(work, table, powers, kind, a, b, v);
@@ -112,4 +121,33 @@ fn reach(
         }
         _ => NO_RULE,
     }
+}
+
+// Evaluates the pair at `at`. It is apart from `reach`, so that no other line's frame has the room for a first part's
+// words; that it calls itself for a pair that is its second part keeps it apart when compiled.
+fn pair(
+    code: &[u32],
+    at: usize,
+    table: &[sheet::Word],
+    powers: Powers,
+    depth: u32,
+    work: &mut [u32; WORK],
+) -> End
+    requires { ⌜ rowAt (now code) at .kind ≡ 14 ⌝ }
+    ensures { λ r. ⌜ Evals (record { table = now (table .entry); powers = powers })
+        (record { code = now (code .entry); at = at; depth = depth; cells = now (work .entry) })
+        (reached r (now (work .exit))) ⌝ }
+{
+    let v = reach(code, at + ROW, table, powers, depth, work);
+    if v <= TOO_LONG {
+        return v;
+    }
+    let first = cells::load(work);
+    let next = script::row_at(code, v);
+    if next.kind == script::PAIR {
+        let w = pair(code, v, table, powers, depth, work);
+        return nodes::pair(work, &first, w);
+    }
+    let w = reach(code, v, table, powers, depth, work);
+    nodes::pair(work, &first, w)
 }

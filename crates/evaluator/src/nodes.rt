@@ -1,4 +1,4 @@
-// One value made of another: what follows the evaluation of an operand, whose value is in the accumulator.
+// A value made of one or two others: what follows the evaluation of an operand, whose value is in the accumulator.
 ghost use mathlib.Core.Path.{_≡_};
 ghost use Prim.Native.Nat.{_+_, _-_};
 ghost use lib.ListN.{drop, getD};
@@ -9,7 +9,7 @@ ghost use Rattle.memory.specs.Words.{cell, valueOf};
 ghost use Rattle.cells.specs.Internal.Cells.{loadOf, storeOf, accumulator};
 ghost use Rattle.evaluator.specs.Internal.Cells.{firstLocation};
 ghost use Rattle.evaluator.specs.Internal.Records.{reached};
-ghost use Rattle.evaluator.specs.Internal.Nodes.{Sums, Tagged, Packs, Unpacks, Applied, errorIn};
+ghost use Rattle.evaluator.specs.Internal.Nodes.{Sums, Tagged, Packs, Unpacks, Projects, partBy, Pairs, Applied, errorIn};
 use crate::End;
 use crate::LOCATIONS;
 use crate::NO_RULE;
@@ -155,6 +155,47 @@ fn unpack(
     v
 }
 
+// The first part of the pair in the accumulator, or its second.
+fn part(work: &mut [u32; WORK], first: bool, v: End) -> End
+    ensures { λ r. ⌜ Projects (partBy first) (reached v (now (work .entry))) (reached r (now (work .exit))) ⌝ }
+{
+    if v <= TOO_LONG {
+        return v;
+    }
+    if cells::word(work, 0) != memory::PAIR {
+        return NO_RULE;
+    }
+    if first {
+        cells::pop_to(work, ACCUMULATOR);
+        let end = memory::value_end(work, 0);
+        cells::cut(work, end);
+        return v;
+    }
+    let end = memory::value_end(work, 1);
+    cells::pop_words(work, end);
+    v
+}
+
+// The pair of the value with these words and the value in the accumulator.
+pub(crate) fn pair(work: &mut [u32; WORK], first: &[u32; CELL], v: End) -> End
+    ensures { λ r. ⌜ Pairs (now (first .entry)) (reached v (now (work .entry))) (reached r (now (work .exit))) ⌝ }
+{
+    if v <= TOO_LONG {
+        return v;
+    }
+    let words = &first[..];
+    let n = memory::value_end(words, 0);
+    if CELL <= n {
+        return TOO_LONG;
+    }
+    if CELL - n <= memory::value_end(work, 0) {
+        return TOO_LONG;
+    }
+    cells::push_words(work, &words[0..n]);
+    cells::push(work, memory::PAIR);
+    v
+}
+
 // What a line of a kind, with the numbers a and b, makes of the value in the accumulator; of a plus, a is the integer on the left.
 pub(crate) fn applied(
     work: &mut [u32; WORK],
@@ -174,6 +215,8 @@ pub(crate) fn applied(
         script::RIGHT => tagged(work, memory::RIGHT, v),
         script::PACK => pack(work, powers, a, v),
         script::UNPACK => unpack(work, table, powers, a, b, v),
+        script::FIRST => part(work, true, v),
+        script::SECOND => part(work, false, v),
         _ => NO_RULE,
     }
 }

@@ -8,7 +8,7 @@ use native.Mathlib.Omega.{arith}
 use native.Mathlib.Numerals.{add-one}
 use borrow.Author.Tests.{ltb-true}
 use lib.ListN.{drop}
-use Rattle.language.specs.Syntax.{Value, int, err, inl, inr, pkg, blank, Expr, Cmd, seq, while, case}
+use Rattle.language.specs.Syntax.{Value, int, err, inl, inr, pkg, pair, blank, Expr, Cmd, seq, while, case}
 use Rattle.language.specs.World.{Mem}
 use Rattle.language.specs.Evaluation.{Res, ok, long, stuck, eval}
 use Rattle.language.specs.Transition.{branch, branchV, Out, done, spent, over, wrong}
@@ -80,6 +80,7 @@ chosen-is l r (suc b) (ok (err e)) = refl
 chosen-is l r (suc b) (ok (inl v)) = refl
 chosen-is l r (suc b) (ok (inr v)) = refl
 chosen-is l r (suc b) (ok (pkg h v)) = refl
+chosen-is l r (suc b) (ok (pair v w)) = refl
 chosen-is l r (suc b) (ok blank) = refl
 chosen-is l r (suc b) long = refl
 chosen-is l r (suc b) stuck = refl

@@ -30,7 +30,7 @@ use Rattle.interpreter.specs.declared.commands.Stepped.{Stepped}
 use Rattle.interpreter.specs.declared.commands.Decided.{Decided}
 use Rattle.interpreter.specs.Internal.Post.{Skips, Target, target, Finishes, finish-done, finish-spent, finish-over, finish-wrong, ticked, Ticks, Assigns, Choice, choiceV, choice, Chooses, goes-left, goes-right, has-none, is-long, is-stuck, Decides, Branching, Enters, enters-left, enters-right, enters-spent, enters-long, enters-stuck, Branches}
 use Rattle.cells.proofs.CellLaws.{length-load, length-pop}
-use Rattle.evaluator.proofs.ValueLaws.{cell-size, tags-left, tags-right, pop-tag, Kind, is-int, is-err, is-inl, is-inr, is-pkg, is-blank, kind-enc}
+use Rattle.evaluator.proofs.ValueLaws.{cell-size, tags-left, tags-right, pop-tag, Kind, is-int, is-err, is-inl, is-inr, is-pkg, is-pair, is-blank, kind-enc}
 use Rattle.evaluator.proofs.NodeLaws.{words-here, load-here}
 use Rattle.evaluator.proofs.StateLaws.{room-here, holds-kept, holds-put, holds-bind}
 
@@ -219,6 +219,7 @@ module _ {ws : List ℕ} {rest : List Line} {cells : List ℕ} where
   chooses-none b v is-inl n3 n4 = absurd (n3 refl)
   chooses-none b v is-inr n3 n4 = absurd (n4 refl)
   chooses-none b v is-pkg n3 n4 = is-stuck
+  chooses-none b v is-pair n3 n4 = is-stuck
   chooses-none b v is-blank n3 n4 = is-stuck
 
 -- a decision, by the value that was found

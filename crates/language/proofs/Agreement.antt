@@ -4,14 +4,14 @@ use mathlib.Core.Bool.{Bool, true, false}
 use mathlib.Core.List.{[]}
 use Prim.Native.Nat.{ℕ, _+_, _%_, _^_}
 use native.Mathlib.Omega.{arith}
-use Rattle.language.specs.Syntax.{Head, headOf, Value, int, inl, inr, pkg, has, Expr, val, loc, var, plus, left, right, pack, unpack, Cmd, skip, seq, assign, while, case}
+use Rattle.language.specs.Syntax.{Head, headOf, Value, int, inl, inr, pkg, pair, Part, has, Expr, val, loc, var, plus, left, right, pack, unpack, pairing, proj, Cmd, skip, seq, assign, while, case}
 use Rattle.language.specs.World.{World, Mem, wanted}
 use Rattle.language.specs.Substitution.{inst}
-use Rattle.language.specs.Figures.{EStep, ee-loc, ee-inl, ee-inr, ee-plus-struct1, ee-plus-struct2, ee-plus, ee-pack-struct, ee-pack-ok, ee-pack-fail, ee-unpack-struct, ee-unpack-fail1, ee-unpack-fail2, ee-unpack-fail3, ee-unpack-ok, inl-value, inr-value, EStar, e-none, e-more, Step, ec-assign, ec-seq-skip, ec-seq-struct, ec-while-false, ec-while-true, ec-casel, ec-caser, LongExpr, long-value, in-plus1, in-plus2, in-left, in-right, in-pack, in-unpack, LongStep, in-assign, in-seq, in-while, in-case}
-use Rattle.language.specs.Evaluation.{Res, ok, long, stuck, bind, fit, add, addTo, packed, opened, unpacked, lookup, eval}
+use Rattle.language.specs.Figures.{EStep, ee-loc, ee-inl, ee-inr, ee-plus-struct1, ee-plus-struct2, ee-plus, ee-pack-struct, ee-pack-ok, ee-pack-fail, ee-unpack-struct, ee-unpack-fail1, ee-unpack-fail2, ee-unpack-fail3, ee-unpack-ok, ee-pair-struct1, ee-pair-struct2, ee-proj-struct, ee-proj, inl-value, inr-value, pair-value, EStar, e-none, e-more, Step, ec-assign, ec-seq-skip, ec-seq-struct, ec-while-false, ec-while-true, ec-casel, ec-caser, LongExpr, long-value, in-plus1, in-plus2, in-left, in-right, in-pack, in-unpack, in-pair1, in-pair2, in-proj, LongStep, in-assign, in-seq, in-while, in-case}
+use Rattle.language.specs.Evaluation.{Res, ok, long, stuck, bind, fit, add, addTo, packed, opened, unpacked, partOf, lookup, eval}
 use Rattle.language.specs.Transition.{Next, final, to, too-long, no-rule, at-seq, at-assign, branch, branchV, step}
 use Rattle.language.specs.Theorems.{Agreement}
-use Rattle.language.proofs.Results.{by-fit, by-add, by-unpacked, by-branch}
+use Rattle.language.proofs.Results.{by-fit, by-add, by-unpacked, by-part, by-branch}
 
 -- From `eval` to figure 2.
 
@@ -65,6 +65,9 @@ module _ (W : World) (M : Mem) where
   gives-unpack e t l = by-unpacked (λ v r. EStar W M e (unpack t l (val v)) → Gives e r) W t l
       (λ h v p. gives-open e t l h v (W .reads l) (W .below (h .label) l) (has v (wanted (W .ty t))) refl refl refl p) (λ v q p. tt)
 
+  gives-part : (e : Expr) (p : Part) (v : Value) → EStar W M e (proj p (val v)) → Gives e (partOf p v)
+  gives-part e p = by-part (λ v r. EStar W M e (proj p (val v)) → Gives e r) p (λ v w s. star-end s ee-proj) (λ v q s. tt)
+
   pub eval-gives : (e : Expr) → Gives e (eval W [] M e)
   unfolding eval lookup
   eval-gives (val v) = e-none
@@ -82,6 +85,13 @@ module _ (W : World) (M : Mem) where
       gives-pack _ l v (W .writes l) refl (star-in (pack l) (λ _ _ s. ee-pack-struct s) p)
   eval-gives (unpack t l a) = gives-bind a _ (eval W [] M a) _ (eval-gives a) (λ h. in-unpack h) λ v p.
       gives-unpack _ t l v (star-in (unpack t l) (λ _ _ s. ee-unpack-struct s) p)
+  eval-gives (pairing t a b) =
+      gives-bind a _ (eval W [] M a) _ (eval-gives a) (λ h. in-pair1 h) λ v p.
+      gives-bind b _ (eval W [] M b) _ (eval-gives b) (λ h. in-pair2 h) λ w q.
+      gives-fit _ (pair v w) (star-end (star-trans (star-in (λ x. pairing t x b) (λ _ _ s. ee-pair-struct1 s) p)
+      (star-in (pairing t (val v)) (λ _ _ s. ee-pair-struct2 s) q)) pair-value)
+  eval-gives (proj p a) = gives-bind a _ (eval W [] M a) _ (eval-gives a) (λ h. in-proj h) λ v q.
+      gives-part _ p v (star-in (proj p) (λ _ _ s. ee-proj-struct s) q)
 
 -- From figure 2 to `eval`: a step changes the result at most from too long.
 
@@ -108,7 +118,7 @@ refines-fit v = by-fit (λ r. Refines long r (ok v)) v (λ s. same) (λ s. was-l
 
 module _ (W : World) (M : Mem) where
   step-refines : {a b : Expr} → EStep W M a b → Refines long (eval W [] M a) (eval W [] M b)
-  unfolding eval bind add addTo unpacked packed opened
+  unfolding eval bind add addTo unpacked packed opened partOf
   step-refines ee-loc = same
   step-refines (ee-inl s) = refines-bind _ (step-refines s)
   step-refines (ee-inr s) = refines-bind _ (step-refines s)
@@ -123,8 +133,13 @@ module _ (W : World) (M : Mem) where
   step-refines (ee-unpack-fail2 p q) = rw (p, q) same
   step-refines (ee-unpack-fail3 p q r) = rw (p, q, r) same
   step-refines (ee-unpack-ok {v₀ = v} p q r) = rw (p, q, r) (refines-fit (inl v))
+  step-refines (ee-pair-struct1 s) = refines-bind _ (step-refines s)
+  step-refines (ee-pair-struct2 s) = refines-bind _ (step-refines s)
+  step-refines (ee-proj-struct s) = refines-bind _ (step-refines s)
+  step-refines ee-proj = same
   step-refines (inl-value {v = v}) = refines-fit (inl v)
   step-refines (inr-value {v = v}) = refines-fit (inr v)
+  step-refines (pair-value {v = v} {w}) = refines-fit (pair v w)
 
   pub star-refines : {a b : Expr} → EStar W M a b → Refines long (eval W [] M a) (eval W [] M b)
   star-refines e-none = same

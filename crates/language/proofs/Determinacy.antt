@@ -3,10 +3,10 @@ use mathlib.Core.Path.{_≡_, refl, ap, sym, _∙_, subst}
 use mathlib.Core.Bool.{Bool, true, false, true≢false}
 use Prim.Native.Nat.{ℕ, suc}
 use native.Mathlib.Omega.{arith}
-use Rattle.language.specs.Syntax.{Value, inl, inr, Expr, val, plus, left, right, pack, unpack, Cmd, skip, seq}
+use Rattle.language.specs.Syntax.{Value, inl, inr, Expr, val, plus, left, right, pack, unpack, pairing, proj, Cmd, skip, seq}
 use Rattle.language.specs.World.{World, Mem}
 use Rattle.language.specs.Substitution.{update}
-use Rattle.language.specs.Figures.{EStep, ee-loc, ee-inl, ee-inr, ee-plus-struct1, ee-plus-struct2, ee-plus, ee-pack-struct, ee-pack-ok, ee-pack-fail, ee-unpack-struct, ee-unpack-fail1, ee-unpack-fail2, ee-unpack-fail3, ee-unpack-ok, inl-value, inr-value, EStar, e-none, e-more, Step, ec-assign, ec-seq-skip, ec-seq-struct, ec-while-false, ec-while-true, ec-casel, ec-caser, Steps, s-none, s-more}
+use Rattle.language.specs.Figures.{EStep, ee-loc, ee-inl, ee-inr, ee-plus-struct1, ee-plus-struct2, ee-plus, ee-pack-struct, ee-pack-ok, ee-pack-fail, ee-unpack-struct, ee-unpack-fail1, ee-unpack-fail2, ee-unpack-fail3, ee-unpack-ok, ee-pair-struct1, ee-pair-struct2, ee-proj-struct, ee-proj, inl-value, inr-value, pair-value, EStar, e-none, e-more, Step, ec-assign, ec-seq-skip, ec-seq-struct, ec-while-false, ec-while-true, ec-casel, ec-caser, Steps, s-none, s-more}
 use Rattle.language.specs.Theorems.{Determinacy}
 
 module _ (W : World) (M : Mem) where
@@ -69,6 +69,19 @@ module _ (W : World) (M : Mem) where
   step-once (ee-unpack-ok p q r) (ee-unpack-fail2 p′ q′) = apart q q′
   step-once (ee-unpack-ok p q r) (ee-unpack-fail3 p′ q′ r′) = apart r r′
   step-once (ee-unpack-ok p q r) (ee-unpack-ok p′ q′ r′) = refl
+  step-once (ee-pair-struct1 {t} {e₂ = c} s) (ee-pair-struct1 s′) = ap (λ x. pairing t x c) (step-once s s′)
+  step-once (ee-pair-struct1 s) (ee-pair-struct2 s′) = absurd (val-rests s)
+  step-once (ee-pair-struct1 s) pair-value = absurd (val-rests s)
+  step-once (ee-pair-struct2 s) (ee-pair-struct1 s′) = absurd (val-rests s′)
+  step-once (ee-pair-struct2 {t} {v} s) (ee-pair-struct2 s′) = ap (pairing t (val v)) (step-once s s′)
+  step-once (ee-pair-struct2 s) pair-value = absurd (val-rests s)
+  step-once pair-value (ee-pair-struct1 s) = absurd (val-rests s)
+  step-once pair-value (ee-pair-struct2 s) = absurd (val-rests s)
+  step-once pair-value pair-value = refl
+  step-once (ee-proj-struct {p} s) (ee-proj-struct s′) = ap (proj p) (step-once s s′)
+  step-once (ee-proj-struct s) ee-proj = absurd (val-rests s)
+  step-once ee-proj (ee-proj-struct s) = absurd (val-rests s)
+  step-once ee-proj ee-proj = refl
 
   -- an expression has at most one value
   star-once : {e : Expr} {v w : Value} → EStar W M e (val v) → EStar W M e (val w) → v ≡ w

@@ -7,13 +7,13 @@ use mathlib.Core.List.{List, [], _∷_}
 use Prim.Native.Nat.{ℕ, zero, suc}
 use native.Mathlib.Omega.{arith}
 use Rattle.logic.proofs.BooleanLaws.{both-left, both-right, both-true, not-so}
-use Rattle.language.specs.Syntax.{Ty, t-int, t-pkg, Expr, val, loc, var, plus, left, right, pack, unpack, Cmd, skip, seq, assign, while, case, Script}
+use Rattle.language.specs.Syntax.{Ty, t-int, t-pkg, Expr, val, loc, var, plus, left, right, pack, unpack, pairing, proj, Cmd, skip, seq, assign, while, case, Script}
 use Rattle.language.specs.Labels.{Labels, LeastLabelLaws, struck}
 use Rattle.language.specs.Declarations.{Declarations, unlabelled, startOf, nth}
-use Rattle.language.specs.Rules.{LabelledType, Typed, te-int, te-loc, te-var, te-plus, te-suml, te-sumr, te-pack, te-unpack, te-sub, Safe, tc-skip, tc-assign, tc-seq, tc-while, tc-case, tc-subs, Derivable}
+use Rattle.language.specs.Rules.{LabelledType, Typed, te-int, te-loc, te-var, te-plus, te-suml, te-sumr, te-pack, te-unpack, te-pair, te-proj, te-sub, Safe, tc-skip, tc-assign, tc-seq, tc-while, tc-case, tc-subs, Derivable}
 use Rattle.language.specs.Typing.{orElse, typeOfValue, typeOf, shape, least, flowE, flow, conditions, refusal}
 use Rattle.language.specs.Theorems.{Exactness}
-use Rattle.language.proofs.Types.{isTy-true, hasTy-true, given-true, leftIs-true, rightIs-true, onSum-true, onSum-path, HasType, h-int, h-loc, h-var, h-plus, h-left, h-right, h-pack, h-unpack, has-type, is-type}
+use Rattle.language.proofs.Types.{isTy-true, hasTy-true, given-true, leftIs-true, rightIs-true, pairIs-true, partTy-true, onSum-true, onSum-path, HasType, h-int, h-loc, h-var, h-plus, h-left, h-right, h-pack, h-unpack, h-pair, h-proj, has-type, is-type}
 use Rattle.logic.proofs.OptionLaws.{none-some, some-path}
 
 pub struck-laws : LeastLabelLaws struck
@@ -102,6 +102,17 @@ module _ {L : Type 0} (𝓛 : Labels L) (law : LeastLabelLaws 𝓛) (D : Declara
         flows = both-true (s′ .flows) (rw (l, ← q) (law .conf-mono _ _ (s′ .label-is)));
         label-is = rw l (law .leq-refl _);
       }
+  complete (te-pair p s t) b =
+      let s′ = complete s b in
+      let t′ = complete t b in
+      record {
+        type-is = given-true _ (pairIs-true _ _ p (s′ .type-is) (t′ .type-is)) ∙ ap some p;
+        flows = both-true (s′ .flows) (t′ .flows);
+        label-is = law .join-leq _ _ _ (s′ .label-is) (t′ .label-is);
+      }
+  complete (te-proj {p} s) b =
+      let s′ = complete s b in
+      record { type-is = partTy-true p _ _ (s′ .type-is); flows = s′ .flows; label-is = s′ .label-is }
   complete (te-sub s h) b =
       let s′ = complete s b in
       record { type-is = s′ .type-is; flows = s′ .flows; label-is = law .leq-trans _ _ _ (s′ .label-is) h }
@@ -129,6 +140,9 @@ module _ {L : Type 0} (𝓛 : Labels L) (law : LeastLabelLaws 𝓛) (D : Declara
   sound Γ (h-pack e) f = te-pack refl (te-sub (sound Γ e (both-left _ _ f)) (both-right _ _ f)) (sym (law .integ-idem _))
   sound Γ (h-unpack p e) f =
       te-unpack p refl (te-sub (sound Γ e (both-left _ _ f)) (law .leq-join-left _ _)) (conf-absorb _ _ (both-right _ _ f))
+  sound Γ (h-pair p a b) f =
+      te-pair p (te-sub (sound Γ a (both-left _ _ f)) (law .leq-join-left _ _)) (te-sub (sound Γ b (both-right _ _ f)) (law .leq-join-right _ _))
+  sound Γ (h-proj e) f = te-proj (sound Γ e f)
 
   below-same : (Γ : List (LabelledType L)) → Below (labels Γ) Γ
   unfolding labels
@@ -208,6 +222,8 @@ struck-flowE D (left t e) ls = struck-flowE D e ls
 struck-flowE D (right t e) ls = struck-flowE D e ls
 struck-flowE D (pack A e) ls = both-true (struck-flowE D e ls) refl
 struck-flowE D (unpack t A e) ls = both-true (struck-flowE D e ls) refl
+struck-flowE D (pairing t a b) ls = both-true (struck-flowE D a ls) (struck-flowE D b ls)
+struck-flowE D (proj p e) ls = struck-flowE D e ls
 
 struck-flow : (D : Declarations Unit) (c : Cmd) (pc : Unit) (ls : List Unit) → flow (conditions struck D) pc ls c ≡ true
 unfolding flow

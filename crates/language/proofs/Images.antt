@@ -3,7 +3,7 @@
 use mathlib.Core.Path.{_≡_, refl, ap, ap₂, _∙_}
 use mathlib.Core.List.{List, [], _∷_, map}
 use Prim.Native.Nat.{ℕ, zero, suc}
-use Rattle.language.specs.Syntax.{Expr, val, loc, var, plus, left, right, pack, unpack, Cmd, skip, seq, assign, while, case}
+use Rattle.language.specs.Syntax.{Expr, val, loc, var, plus, left, right, pack, unpack, pairing, proj, Cmd, skip, seq, assign, while, case}
 use Rattle.language.specs.Declarations.{nth}
 use Rattle.language.specs.Typing.{orElse, Conditions, least, flowE, flow}
 
@@ -35,6 +35,8 @@ module _ {A B : Type 0} (K : Conditions A) (R : Conditions B) (f : A → B) (ima
   least-image Γ (right t a) = least-image Γ a
   least-image Γ (pack l a) = image .packLabel-is l _ ∙ ap (R .packLabel l) (least-image Γ a)
   least-image Γ (unpack t l a) = image .unpackLabel-is l _ ∙ ap (R .unpackLabel l) (least-image Γ a)
+  least-image Γ (pairing t a b) = image .join-is _ _ ∙ ap₂ (R .join) (least-image Γ a) (least-image Γ b)
+  least-image Γ (proj p a) = least-image Γ a
 
   flowE-image : (Γ : List A) (e : Expr) → flowE K Γ e ≡ flowE R (map f Γ) e
   unfolding flowE
@@ -46,6 +48,8 @@ module _ {A B : Type 0} (K : Conditions A) (R : Conditions B) (f : A → B) (ima
   flowE-image Γ (right t a) = flowE-image Γ a
   flowE-image Γ (pack l a) = rw (flowE-image Γ a, image .mayPack-is l (least K Γ a), least-image Γ a)
   flowE-image Γ (unpack t l a) = rw (flowE-image Γ a, image .mayUnpack-is l (least K Γ a), least-image Γ a)
+  flowE-image Γ (pairing t a b) = rw (flowE-image Γ a, flowE-image Γ b)
+  flowE-image Γ (proj p a) = flowE-image Γ a
 
   pub flow-image : (pc : A) (Γ : List A) (c : Cmd) → flow K pc Γ c ≡ flow R (f pc) (map f Γ) c
   unfolding flow

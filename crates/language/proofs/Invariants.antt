@@ -5,12 +5,12 @@ use mathlib.Core.List.{[], _∷_}
 use Prim.Native.Nat.{ℕ, zero, suc, _+_, _%_, _^_, _≤_, _<_}
 use native.Mathlib.Nat.{mod-lt}
 use native.Mathlib.Omega.{arith}
-use Rattle.language.specs.Syntax.{Head, headOf, Value, int, err, inl, inr, pkg, size, has, Expr, val, loc, var, plus, left, right, pack, unpack, Cmd, skip, seq, assign, while, case}
+use Rattle.language.specs.Syntax.{Head, headOf, Value, int, err, inl, inr, pkg, pair, Part, first, second, pick, size, has, Expr, val, loc, var, plus, left, right, pack, unpack, pairing, proj, Cmd, skip, seq, assign, while, case}
 use Rattle.language.specs.World.{World, Mem, cell-words, wanted}
 use Rattle.language.specs.Substitution.{Env, lift, close-var, closeE, close, inst}
-use Rattle.language.specs.Evaluation.{Res, bind, fit, add, packed, opened, unpacked, lookup, eval}
+use Rattle.language.specs.Evaluation.{Res, bind, fit, add, packed, opened, unpacked, partOf, lookup, eval}
 use Rattle.language.specs.Transition.{Next, too-long, no-rule, branch, step, done, iterate}
-use Rattle.language.proofs.Results.{by-fit, ResultHolds, holds-bind, by-add, by-unpacked, by-branch}
+use Rattle.language.proofs.Results.{by-fit, ResultHolds, holds-bind, by-add, by-unpacked, by-part, by-branch}
 use Rattle.language.proofs.Configurations.{Config, ConfigNext, config-seq, config-assign, config-done}
 
 -- P holds of what evaluation makes of values that have it. A pack may name the labels `named`.
@@ -22,7 +22,9 @@ pub record Kept (P : Value → Type 0) (named : ℕ → Type 0) : Type 0 where
   pub to-package : (l : ℕ) (v : Value) → named l → P v → size (inl (pkg (headOf l) v)) ≤ cell-words → P (inl (pkg (headOf l) v))
   pub from-left : (v : Value) → P (inl v) → P v
   pub from-right : (v : Value) → P (inr v) → P v
+  pub to-pair : (v w : Value) → P v → P w → size (pair v w) ≤ cell-words → P (pair v w)
   pub from-package : (h : Head) (v : Value) → P (pkg h v) → P v
+  pub from-pair : (p : Part) (v w : Value) → P (pair v w) → P (pick p v w)
 
 -- P holds of the values in an expression, and its packs name such labels.
 pub data UsesE (P : Value → Type 0) (named : ℕ → Type 0) : Expr → Type 0 where
@@ -34,6 +36,8 @@ pub data UsesE (P : Value → Type 0) (named : ℕ → Type 0) : Expr → Type 0
   u-right : {t : ℕ} {a : Expr} → UsesE P named a → UsesE P named (right t a)
   u-pack : {l : ℕ} {a : Expr} → named l → UsesE P named a → UsesE P named (pack l a)
   u-unpack : {t l : ℕ} {a : Expr} → UsesE P named a → UsesE P named (unpack t l a)
+  u-pair : {t : ℕ} {a b : Expr} → UsesE P named a → UsesE P named b → UsesE P named (pairing t a b)
+  u-proj : {p : Part} {a : Expr} → UsesE P named a → UsesE P named (proj p a)
 
 pub data Uses (P : Value → Type 0) (named : ℕ → Type 0) : Cmd → Type 0 where
   u-skip : Uses P named skip
@@ -59,6 +63,8 @@ module _ (P : Value → Type 0) (named : ℕ → Type 0) where
   uses-lift (u-right a) = u-right (uses-lift a)
   uses-lift (u-pack n a) = u-pack n (uses-lift a)
   uses-lift (u-unpack a) = u-unpack (uses-lift a)
+  uses-lift (u-pair a b) = u-pair (uses-lift a) (uses-lift b)
+  uses-lift (u-proj a) = u-proj (uses-lift a)
 
   uses-close-var : (d : ℕ) {ρ : Env} → AllOf P ρ → (i : ℕ) → UsesE P named (close-var d ρ i)
   unfolding close-var
@@ -78,6 +84,8 @@ module _ (P : Value → Type 0) (named : ℕ → Type 0) where
   uses-closeE d r (u-right a) = u-right (uses-closeE d r a)
   uses-closeE d r (u-pack n a) = u-pack n (uses-closeE d r a)
   uses-closeE d r (u-unpack a) = u-unpack (uses-closeE d r a)
+  uses-closeE d r (u-pair a b) = u-pair (uses-closeE d r a) (uses-closeE d r b)
+  uses-closeE d r (u-proj a) = u-proj (uses-closeE d r a)
 
   uses-close : (d : ℕ) {ρ : Env} → AllOf P ρ → {c : Cmd} → Uses P named c → Uses P named (close d ρ c)
   unfolding close
@@ -127,6 +135,9 @@ module _ (P : Value → Type 0) (named : ℕ → Type 0) where
     has-unpack t l = by-unpacked (λ v r. P v → Has r) W t l
         (λ h v p. has-open (W .reads l) (W .below (h .label) l) (has v (wanted (W .ty t))) v (kept .from-package h v p)) (λ v e p. tt)
 
+    has-part : (p : Part) (v : Value) → P v → Has (partOf p v)
+    has-part p = by-part (λ v r. P v → Has r) p (λ v w h. kept .from-pair p v w h) (λ v e h. tt)
+
     has-lookup : {ρ : Env} → AllOf P ρ → (i : ℕ) → Has (lookup ρ i)
     unfolding lookup
     has-lookup all-none i = tt
@@ -144,6 +155,8 @@ module _ (P : Value → Type 0) (named : ℕ → Type 0) where
     keeps-eval r m (u-right a) = has-bind _ _ (keeps-eval r m a) λ v h. has-fit (inr v) (kept .to-right v h)
     keeps-eval r m (u-pack {l} n a) = has-bind _ _ (keeps-eval r m a) λ v h. has-pack (W .writes l) l v n h
     keeps-eval r m (u-unpack {t} {l} a) = has-bind _ _ (keeps-eval r m a) λ v h. has-unpack t l v h
+    keeps-eval r m (u-pair a b) = has-bind _ _ (keeps-eval r m a) λ v h. has-bind _ _ (keeps-eval r m b) λ w k. has-fit (pair v w) (kept .to-pair v w h k)
+    keeps-eval r m (u-proj {p} a) = has-bind _ _ (keeps-eval r m a) λ v h. has-part p v h
 
     -- Transitions.
 
@@ -181,6 +194,11 @@ Fits v = size v ≤ cell-words
 abbrev pub Anywhere : ℕ → Type 0
 Anywhere l = Unit {0}
 
+fits-part : (p : Part) (v w : Value) → Fits (pair v w) → Fits (pick p v w)
+unfolding size pick
+fits-part first v w h = omega arith
+fits-part second v w h = omega arith
+
 pub fits-kept : {named : ℕ → Type 0} → Kept Fits named
 unfolding size
 fits-kept = record {
@@ -191,5 +209,7 @@ fits-kept = record {
   to-package = λ l v n h s. s;
   from-left = λ v h. omega arith;
   from-right = λ v h. omega arith;
+  to-pair = λ v w h k s. s;
   from-package = λ h v p. omega arith;
+  from-pair = fits-part;
 }

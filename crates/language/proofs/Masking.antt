@@ -1,11 +1,12 @@
 -- Masks are equal exactly if the values are equivalent (figure 6), and the type test respects that.
 use mathlib.Core.Logic.{_↔_}
-use mathlib.Core.Path.{_≡_, refl, ap}
+use mathlib.Core.Path.{_≡_, refl, ap, ap₂}
 use mathlib.Core.Bool.{Bool, true, false}
 use Prim.Native.Nat.{ℕ}
-use Rattle.language.specs.Syntax.{Ty, t-int, t-err, t-pkg, t-sum, Head, Value, int, err, inl, inr, pkg, blank, has}
+use Rattle.logic.specs.Booleans.{both}
+use Rattle.language.specs.Syntax.{Ty, t-int, t-err, t-pkg, t-sum, t-pair, Head, Value, int, err, inl, inr, pkg, pair, blank, has}
 use Rattle.language.specs.World.{Mem}
-use Rattle.language.specs.View.{seen, mask, maskMem, Equiv, ve-int, ve-err, ve-inl, ve-inr, ve-pack-in, ve-pack-lab, ve-blank, EquivMem}
+use Rattle.language.specs.View.{seen, mask, maskMem, Equiv, ve-int, ve-err, ve-inl, ve-inr, ve-pack-in, ve-pack-lab, ve-pair, ve-blank, EquivMem}
 
 -- the graph of mask, to match two values by what they show
 data Masks (shows : ℕ → Bool) : Value → Value → Type 0 where
@@ -15,6 +16,7 @@ data Masks (shows : ℕ → Bool) : Value → Value → Type 0 where
   s-inr : {v u : Value} → Masks shows v u → Masks shows (inr v) (inr u)
   s-in : {h : Head} {v u : Value} → Masks shows v u → Masks shows (pkg h v) (pkg h u)
   s-hidden : {h : Head} {v : Value} → shows (h .label) ≡ false → Masks shows (pkg h v) (pkg h blank)
+  s-pair : {v w u z : Value} → Masks shows v u → Masks shows w z → Masks shows (pair v w) (pair u z)
   s-blank : Masks shows blank blank
 
 module _ (shows : ℕ → Bool) where
@@ -24,6 +26,7 @@ module _ (shows : ℕ → Bool) where
   equiv-refl (inl v) = ve-inl (equiv-refl v)
   equiv-refl (inr v) = ve-inr (equiv-refl v)
   equiv-refl (pkg h v) = ve-pack-in (equiv-refl v)
+  equiv-refl (pair v w) = ve-pair (equiv-refl v) (equiv-refl w)
   equiv-refl blank = ve-blank
 
   masks-pkg : (b : Bool) (h : Head) (v : Value) → shows (h .label) ≡ b → Masks shows v (mask shows v) → Masks shows (pkg h v) (pkg h (seen b (mask shows v)))
@@ -38,6 +41,7 @@ module _ (shows : ℕ → Bool) where
   masks (inl v) = s-inl (masks v)
   masks (inr v) = s-inr (masks v)
   masks (pkg h v) = masks-pkg (shows (h .label)) h v refl (masks v)
+  masks (pair v w) = s-pair (masks v) (masks w)
   masks blank = s-blank
 
   same-masks : {v w u : Value} → Masks shows v u → Masks shows w u → Equiv shows v w
@@ -49,6 +53,7 @@ module _ (shows : ℕ → Bool) where
   same-masks (s-in s-blank) (s-hidden h) = ve-pack-lab h
   same-masks (s-hidden h) (s-in s-blank) = ve-pack-lab h
   same-masks (s-hidden h) (s-hidden k) = ve-pack-lab h
+  same-masks (s-pair h i) (s-pair k j) = ve-pair (same-masks h k) (same-masks i j)
   same-masks s-blank s-blank = ve-blank
 
   pub equiv-of-mask : (v w : Value) → mask shows v ≡ mask shows w → Equiv shows v w
@@ -66,6 +71,7 @@ module _ (shows : ℕ → Bool) where
   mask-of-equiv (ve-inr e) = ap inr (mask-of-equiv e)
   mask-of-equiv (ve-pack-in {h} e) = ap (λ u. pkg h (seen (shows (h .label)) u)) (mask-of-equiv e)
   mask-of-equiv (ve-pack-lab {h} {v₁} {v₂} e) = ap (pkg h) (hidden (h .label) (mask shows v₁) (mask shows v₂) e)
+  mask-of-equiv (ve-pair e f) = ap₂ pair (mask-of-equiv e) (mask-of-equiv f)
   mask-of-equiv ve-blank = refl
 
   pub mask-iff : (v w : Value) → (mask shows v ≡ mask shows w) ↔ Equiv shows v w
@@ -81,18 +87,27 @@ module _ (shows : ℕ → Bool) where
   has-equiv (ve-inl h) t-err = refl
   has-equiv (ve-inl h) t-pkg = refl
   has-equiv (ve-inl h) (t-sum a b) = has-equiv h a
+  has-equiv (ve-inl h) (t-pair a b) = refl
   has-equiv (ve-inr h) t-int = refl
   has-equiv (ve-inr h) t-err = refl
   has-equiv (ve-inr h) t-pkg = refl
   has-equiv (ve-inr h) (t-sum a b) = has-equiv h b
+  has-equiv (ve-inr h) (t-pair a b) = refl
   has-equiv (ve-pack-in h) t-int = refl
   has-equiv (ve-pack-in h) t-err = refl
   has-equiv (ve-pack-in h) t-pkg = refl
   has-equiv (ve-pack-in h) (t-sum a b) = refl
+  has-equiv (ve-pack-in h) (t-pair a b) = refl
   has-equiv (ve-pack-lab h) t-int = refl
   has-equiv (ve-pack-lab h) t-err = refl
   has-equiv (ve-pack-lab h) t-pkg = refl
   has-equiv (ve-pack-lab h) (t-sum a b) = refl
+  has-equiv (ve-pack-lab h) (t-pair a b) = refl
+  has-equiv (ve-pair h k) t-int = refl
+  has-equiv (ve-pair h k) t-err = refl
+  has-equiv (ve-pair h k) t-pkg = refl
+  has-equiv (ve-pair h k) (t-sum a b) = refl
+  has-equiv (ve-pair h k) (t-pair a b) = ap₂ both (has-equiv h a) (has-equiv k b)
 
 -- Memories.
 

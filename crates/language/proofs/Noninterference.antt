@@ -5,12 +5,12 @@ use mathlib.Core.List.{List, [], _∷_}
 use Prim.Native.Nat.{ℕ, zero, suc, _+_, _%_, _^_}
 use native.Mathlib.Omega.{arith}
 use lib.Dec.{eqb, eqb→eq}
-use Rattle.language.specs.Syntax.{headOf, Value, int, err, inl, inr, pkg, has, Expr, val, loc, var, plus, left, right, pack, unpack, Cmd}
+use Rattle.language.specs.Syntax.{headOf, Value, int, err, inl, inr, pkg, pair, Part, first, second, pick, has, Expr, val, loc, var, plus, left, right, pack, unpack, pairing, proj, Cmd}
 use Rattle.language.specs.World.{World, Mem, wanted}
 use Rattle.language.specs.Substitution.{Env, update}
 use Rattle.language.specs.Declarations.{nth}
-use Rattle.language.specs.View.{Equiv, ve-int, ve-err, ve-inl, ve-inr, ve-pack-in, ve-pack-lab, ve-blank, EquivMem}
-use Rattle.language.specs.Evaluation.{Res, ok, stuck, bind, fit, add, packed, opened, unpacked, lookup, eval}
+use Rattle.language.specs.View.{Equiv, ve-int, ve-err, ve-inl, ve-inr, ve-pack-in, ve-pack-lab, ve-pair, ve-blank, EquivMem}
+use Rattle.language.specs.Evaluation.{Res, ok, stuck, bind, fit, add, packed, opened, unpacked, partOf, lookup, eval}
 use Rattle.language.specs.Typing.{Conditions, orElse, least, flowE, flow}
 use Rattle.language.specs.Theorems.{Observer, ExpressionNoninterference, Noninterference}
 use Rattle.logic.proofs.BooleanLaws.{T-of, both-left, both-right, cases, not-so}
@@ -94,7 +94,24 @@ module _ (shows : ℕ → Bool) where
   agree-unpack W t m s (ve-pack-lab {h} {v₁} {v₂} e) =
       rw (not-so (W .below (h .label) m) (λ b. false≢true (sym e ∙ s (h .label) b)))
       (agree-illegal (W .reads m) (has v₁ (wanted (W .ty t))) (has v₂ (wanted (W .ty t))) v₁ v₂)
+  agree-unpack W t m s (ve-pair h k) = λ a b p q. never p
   agree-unpack W t m s ve-blank = λ a b p q. never p
+
+  equiv-part : (p : Part) {v w v′ w′ : Value} → Equiv shows v w → Equiv shows v′ w′ → Equiv shows (pick p v v′) (pick p w w′)
+  unfolding pick
+  equiv-part first h k = h
+  equiv-part second h k = k
+
+  agree-part : (p : Part) {v w : Value} → Equiv shows v w → Agree shows (partOf p v) (partOf p w)
+  unfolding partOf
+  agree-part p ve-int = λ a b q r. never q
+  agree-part p ve-err = λ a b q r. never q
+  agree-part p (ve-inl h) = λ a b q r. never q
+  agree-part p (ve-inr h) = λ a b q r. never q
+  agree-part p (ve-pack-in h) = λ a b q r. never q
+  agree-part p (ve-pack-lab h) = λ a b q r. never q
+  agree-part p (ve-pair h k) = λ a b q r. rw (← ok-path q, ← ok-path r) (equiv-part p h k)
+  agree-part p ve-blank = λ a b q r. never q
 
   un-inl : {v w : Value} → Equiv shows (inl v) (inl w) → Equiv shows v w
   un-inl (ve-inl h) = h
@@ -159,6 +176,10 @@ module _ {L : Type 0} (K : Conditions L) (W : World) (vis : L → Bool) (shows :
     ni-expr (unpack t l a) f h =
         agree-bind shows _ _ _ _ λ v w p q.
         agree-unpack shows W t l (λ m b. O .content l m _ h b) (ni-expr a (both-left _ _ f) (O .at-unpack l _ (both-right _ _ f) h) v w p q)
+    ni-expr (pairing t a b) f h =
+        agree-bind shows _ _ _ _ λ v w p q. agree-bind shows _ _ _ _ λ v′ w′ p′ q′.
+        agree-fit shows (ve-pair (ni-expr a (both-left _ _ f) (O .join-left _ _ h) v w p q) (ni-expr b (both-right _ _ f) (O .join-right _ _ h) v′ w′ p′ q′))
+    ni-expr (proj p a) f h = agree-bind shows _ _ _ _ λ v w q r. agree-part shows p (ni-expr a f h v w q r)
 
   pub expression-noninterference : ExpressionNoninterference K W vis shows
   expression-noninterference e f t M N s v w p n q o =

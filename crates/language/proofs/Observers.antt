@@ -1,15 +1,15 @@
 -- Observers: who sees the labels of a set that is closed downward meets what noninterference asks, for the scope's label
 -- conditions and for others.
-use mathlib.Core.Path.{_≡_, refl, ap, sym, _∙_}
+use mathlib.Core.Path.{_≡_, refl, ap, ap₂, sym, _∙_}
 use mathlib.Core.Bool.{Bool, true, true≢false}
 use mathlib.Core.List.{[]}
 use Prim.Native.Nat.{ℕ}
 use Rattle.logic.proofs.BooleanLaws.{both-right}
-use Rattle.language.specs.Syntax.{Value, inl, inr, pkg, Cmd}
+use Rattle.language.specs.Syntax.{Value, inl, inr, pkg, pair, Cmd}
 use Rattle.language.specs.World.{World, Mem}
 use Rattle.language.specs.Labels.{Labels, LeastLabelLaws}
 use Rattle.language.specs.Declarations.{Declarations}
-use Rattle.language.specs.View.{Equiv, ve-int, ve-err, ve-inl, ve-inr, ve-pack-in, ve-pack-lab, ve-blank}
+use Rattle.language.specs.View.{Equiv, ve-int, ve-err, ve-inl, ve-inr, ve-pack-in, ve-pack-lab, ve-pair, ve-blank}
 use Rattle.language.specs.Transition.{done, iterate}
 use Rattle.language.specs.Typing.{Conditions, conditions, flow}
 use Rattle.language.specs.Trust.{trusting}
@@ -25,6 +25,7 @@ equal-shown (ve-inl e) = ap inl (equal-shown e)
 equal-shown (ve-inr e) = ap inr (equal-shown e)
 equal-shown (ve-pack-in {h} e) = ap (pkg h) (equal-shown e)
 equal-shown (ve-pack-lab e) = absurd (true≢false e)
+equal-shown (ve-pair e f) = ap₂ pair (equal-shown e) (equal-shown f)
 equal-shown ve-blank = refl
 
 -- The join of two labels is at or above both.

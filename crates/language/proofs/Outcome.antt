@@ -7,20 +7,20 @@ use Prim.Native.Nat.{ℕ, zero, suc, _≤_, _<_}
 use native.Mathlib.Omega.{arith}
 use Rattle.language.specs.Syntax.{Ty, Value, int, size, Expr, Cmd, skip, seq, assign, while, case}
 use Rattle.language.specs.World.{World, Mem}
-use Rattle.language.specs.Figures.{Steps, s-none, LongExpr, long-value, in-plus1, in-plus2, in-left, in-right, in-pack, in-unpack, LongStep, in-assign, in-seq, in-while, in-case, NoneLong}
+use Rattle.language.specs.Figures.{Steps, s-none, LongExpr, long-value, in-plus1, in-plus2, in-left, in-right, in-pack, in-unpack, in-pair1, in-pair2, in-proj, LongStep, in-assign, in-seq, in-while, in-case, NoneLong}
 use Rattle.language.specs.Declarations.{Shapes, Fitting}
 use Rattle.language.specs.Evaluation.{Res, ok, long, stuck, eval}
 use Rattle.language.specs.Transition.{Next, final, to, too-long, no-rule, at-seq, at-assign, branch, step, Out, done, spent, over, after, run, iterate}
 use Rattle.language.specs.Typing.{shape}
 use Rattle.language.specs.Theorems.{SameTypes, RunEnds, ends-done, ends-spent, ends-over, LongExact, Outcome}
 use Rattle.logic.proofs.BooleanLaws.{both-left, both-right}
-use Rattle.language.proofs.Types.{onSum-path, HasType, h-int, h-loc, h-var, h-plus, h-left, h-right, h-pack, h-unpack, has-type, is-type}
+use Rattle.language.proofs.Types.{onSum-path, HasType, h-int, h-loc, h-var, h-plus, h-left, h-right, h-pack, h-unpack, h-pair, h-proj, has-type, is-type}
 use Rattle.language.proofs.Agreement.{agreement, Refines, same, was-long, star-eval}
 use Rattle.language.proofs.Determinacy.{after-first}
 use Rattle.language.proofs.Results.{bind-ok}
 use Rattle.language.proofs.Interpreter.{run-skip}
 use Rattle.language.proofs.Traces.{Trace, t-none, t-more, Stops, stops-done, stops-spent, stops-over, stops-wrong, iterate-stops, trace-run, trace-steps, steps-trace}
-use Rattle.language.proofs.Invariants.{Fits, Anywhere, fits-kept, UsesE, u-val, u-loc, u-var, u-plus, u-left, u-right, u-pack, u-unpack, Uses, u-skip, u-seq, u-assign, u-while, u-case, all-none, Has, Through, keeps-eval, through}
+use Rattle.language.proofs.Invariants.{Fits, Anywhere, fits-kept, UsesE, u-val, u-loc, u-var, u-plus, u-left, u-right, u-pack, u-unpack, u-pair, u-proj, Uses, u-skip, u-seq, u-assign, u-while, u-case, all-none, Has, Through, keeps-eval, through}
 use Rattle.language.proofs.Configurations.{config-step, config-trace}
 use Rattle.language.proofs.TypeSoundness.{Fine, has-rule, trace-fine, start-fine}
 
@@ -36,6 +36,8 @@ fits-expr (h-left p e) = u-left (fits-expr e)
 fits-expr (h-right p e) = u-right (fits-expr e)
 fits-expr (h-pack e) = u-pack tt (fits-expr e)
 fits-expr (h-unpack p e) = u-unpack (fits-expr e)
+fits-expr (h-pair p a b) = u-pair (fits-expr a) (fits-expr b)
+fits-expr (h-proj e) = u-proj (fits-expr e)
 
 pub fits-cmd : (S : Shapes) (Γ : List Ty) (c : Cmd) → shape S Γ c ≡ true → Uses Fits Anywhere c
 unfolding shape
@@ -66,6 +68,9 @@ module _ (W : World) (M : Mem) (m : Fitting M) where
   not-long-expr (in-right l) (u-right a) h = not-long-expr l a (bind-ok _ _ _ h .1)
   not-long-expr (in-pack l) (u-pack n a) h = not-long-expr l a (bind-ok _ _ _ h .1)
   not-long-expr (in-unpack l) (u-unpack a) h = not-long-expr l a (bind-ok _ _ _ h .1)
+  not-long-expr (in-pair1 l) (u-pair a b) h = not-long-expr l a (bind-ok _ _ _ h .1)
+  not-long-expr (in-pair2 l) (u-pair a b) h = not-long-expr l b (bind-ok _ _ _ (bind-ok _ _ _ h .2) .1)
+  not-long-expr (in-proj l) (u-proj a) h = not-long-expr l a (bind-ok _ _ _ h .1)
 
   -- the step goes on to a configuration, or there is none
   abbrev Goes : Next → Type 0

@@ -1,13 +1,14 @@
--- The results of evaluation by cases: a value that is made is kept if it is not too long; sums, opened packages and branches.
+-- The results of evaluation by cases: a value that is made is kept if it is not too long; sums, opened packages, parts
+-- and branches.
 use mathlib.Core.Path.{_≡_, refl}
 use mathlib.Core.Bool.{Bool, true, false, not, false≢true}
 use Prim.Native.Nat.{ℕ, _+_, _%_, _^_, _≤_, _<_}
 use native.Mathlib.Omega.{arith}
 use lib.Dec.{leb, leb→le, nleb→lt, T}
 use Rattle.logic.specs.Booleans.{both}
-use Rattle.language.specs.Syntax.{Ty, t-int, t-pkg, t-sum, Head, Value, int, err, inl, inr, pkg, blank, size, has}
+use Rattle.language.specs.Syntax.{Ty, t-int, t-pkg, t-sum, t-pair, Head, Value, int, err, inl, inr, pkg, pair, blank, Part, pick, size, has}
 use Rattle.language.specs.World.{World, cell-words, wanted}
-use Rattle.language.specs.Evaluation.{Res, ok, long, stuck, bind, fitIf, fit, add, addTo, opened, unpacked}
+use Rattle.language.specs.Evaluation.{Res, ok, long, stuck, bind, fitIf, fit, add, addTo, opened, unpacked, partOf}
 use Rattle.language.specs.Transition.{branch, branchV}
 use Rattle.logic.proofs.BooleanLaws.{T-of}
 
@@ -56,11 +57,13 @@ by-add P f g (int m) (err n) = g _ _ refl
 by-add P f g (int m) (inl v) = g _ _ refl
 by-add P f g (int m) (inr v) = g _ _ refl
 by-add P f g (int m) (pkg h v) = g _ _ refl
+by-add P f g (int m) (pair v w) = g _ _ refl
 by-add P f g (int m) blank = g _ _ refl
 by-add P f g (err m) w = g _ _ refl
 by-add P f g (inl v) w = g _ _ refl
 by-add P f g (inr v) w = g _ _ refl
 by-add P f g (pkg h v) w = g _ _ refl
+by-add P f g (pair u v) w = g _ _ refl
 by-add P f g blank w = g _ _ refl
 
 -- packages are opened, other values are not
@@ -73,7 +76,20 @@ by-unpacked P W t l f g (err n) = g _ refl
 by-unpacked P W t l f g (inl v) = g _ refl
 by-unpacked P W t l f g (inr v) = g _ refl
 by-unpacked P W t l f g (pkg h v) = f h v
+by-unpacked P W t l f g (pair v w) = g _ refl
 by-unpacked P W t l f g blank = g _ refl
+
+-- pairs have parts, other values have none
+pub by-part : (P : Value → Res → Type 0) (p : Part) → ((v w : Value) → P (pair v w) (ok (pick p v w)))
+    → ((v : Value) → ((a b : Ty) → has v (t-pair a b) ≡ false) → P v stuck) → (v : Value) → P v (partOf p v)
+unfolding partOf has
+by-part P p f g (int n) = g _ (λ a b. refl)
+by-part P p f g (err n) = g _ (λ a b. refl)
+by-part P p f g (inl v) = g _ (λ a b. refl)
+by-part P p f g (inr v) = g _ (λ a b. refl)
+by-part P p f g (pkg h v) = g _ (λ a b. refl)
+by-part P p f g (pair v w) = f v w
+by-part P p f g blank = g _ (λ a b. refl)
 
 -- left and right go their ways, too long its own, and what is no value of a sum type the last
 pub by-branch : {A : Type 0} (P : Res → A → Type 0) {l r : Value → A} {o n : A} → ((v : Value) → P (ok (inl v)) (l v))
@@ -86,6 +102,7 @@ by-branch P f g h k (ok (err i)) = k _ (λ a b e. false≢true e) λ B f g p q. 
 by-branch P f g h k (ok (inl v)) = f v
 by-branch P f g h k (ok (inr v)) = g v
 by-branch P f g h k (ok (pkg i v)) = k _ (λ a b e. false≢true e) λ B f g p q. refl
+by-branch P f g h k (ok (pair v w)) = k _ (λ a b e. false≢true e) λ B f g p q. refl
 by-branch P f g h k (ok blank) = k _ (λ a b e. false≢true e) λ B f g p q. refl
 by-branch P f g h k long = h
 by-branch P f g h k stuck = k _ (λ a b e. e) λ B f g p q. refl

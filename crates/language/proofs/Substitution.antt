@@ -2,7 +2,7 @@
 use mathlib.Core.Path.{_≡_, refl, ap, ap₂, _∙_}
 use mathlib.Core.List.{[], _∷_}
 use Prim.Native.Nat.{ℕ, zero, suc}
-use Rattle.language.specs.Syntax.{Value, Expr, val, loc, var, plus, left, right, pack, unpack, Cmd, skip, seq, assign, while, case}
+use Rattle.language.specs.Syntax.{Value, Expr, val, loc, var, plus, left, right, pack, unpack, pairing, proj, Cmd, skip, seq, assign, while, case}
 use Rattle.language.specs.World.{World, Mem}
 use Rattle.language.specs.Substitution.{Env, lift, close-var, closeE, close, inst}
 use Rattle.language.specs.Evaluation.{lookup, eval}
@@ -17,6 +17,8 @@ lift-close d v (left t a) = ap (left t) (lift-close d v a)
 lift-close d v (right t a) = ap (right t) (lift-close d v a)
 lift-close d v (pack l a) = ap (pack l) (lift-close d v a)
 lift-close d v (unpack t l a) = ap (unpack t l) (lift-close d v a)
+lift-close d v (pairing t a b) = ap₂ (pairing t) (lift-close d v a) (lift-close d v b)
+lift-close d v (proj p a) = ap (proj p) (lift-close d v a)
 
 drop-lift : (v : Value) (ρ : Env) (i : ℕ) → closeE zero (v ∷ []) (lift (close-var zero ρ i)) ≡ close-var zero ρ i
 unfolding closeE lift close-var
@@ -41,6 +43,8 @@ inst-expr d v ρ (left t a) = ap (left t) (inst-expr d v ρ a)
 inst-expr d v ρ (right t a) = ap (right t) (inst-expr d v ρ a)
 inst-expr d v ρ (pack l a) = ap (pack l) (inst-expr d v ρ a)
 inst-expr d v ρ (unpack t l a) = ap (unpack t l) (inst-expr d v ρ a)
+inst-expr d v ρ (pairing t a b) = ap₂ (pairing t) (inst-expr d v ρ a) (inst-expr d v ρ b)
+inst-expr d v ρ (proj p a) = ap (proj p) (inst-expr d v ρ a)
 
 inst-cmd : (d : ℕ) (v : Value) (ρ : Env) (c : Cmd) → close d (v ∷ []) (close (suc d) ρ c) ≡ close d (v ∷ ρ) c
 unfolding close
@@ -72,6 +76,8 @@ closeE-none d (left t a) = ap (left t) (closeE-none d a)
 closeE-none d (right t a) = ap (right t) (closeE-none d a)
 closeE-none d (pack l a) = ap (pack l) (closeE-none d a)
 closeE-none d (unpack t l a) = ap (unpack t l) (closeE-none d a)
+closeE-none d (pairing t a b) = ap₂ (pairing t) (closeE-none d a) (closeE-none d b)
+closeE-none d (proj p a) = ap (proj p) (closeE-none d a)
 
 pub close-none : (d : ℕ) (c : Cmd) → close d [] c ≡ c
 unfolding close
@@ -98,3 +104,5 @@ eval-close W M ρ (left t a) = rw (eval-close W M ρ a)
 eval-close W M ρ (right t a) = rw (eval-close W M ρ a)
 eval-close W M ρ (pack l a) = rw (eval-close W M ρ a)
 eval-close W M ρ (unpack t l a) = rw (eval-close W M ρ a)
+eval-close W M ρ (pairing t a b) = rw (eval-close W M ρ a, eval-close W M ρ b)
+eval-close W M ρ (proj p a) = rw (eval-close W M ρ a)

@@ -7,7 +7,7 @@ use mathlib.Core.Option.{Option, none, some}
 use Prim.Native.Nat.{ℕ}
 use Rattle.logic.specs.Booleans.{both}
 use Rattle.logic.proofs.BooleanLaws.{bool-ext, both-true, both-left, both-right, both-last, both-exchange}
-use Rattle.language.specs.Syntax.{Expr, val, loc, var, plus, left, right, pack, unpack, Cmd, skip, seq, assign, while, case, Script}
+use Rattle.language.specs.Syntax.{Expr, val, loc, var, plus, left, right, pack, unpack, pairing, proj, Cmd, skip, seq, assign, while, case, Script}
 use Rattle.language.specs.Labels.{Labels, LeastLabelLaws}
 use Rattle.language.specs.Declarations.{Declarations, startOf}
 use Rattle.language.specs.Typing.{Conditions, least, flowE, flow, conditions}
@@ -28,6 +28,8 @@ module _ {L : Type 0} (K : Conditions L) (test : ℕ → L → Bool) where
   least-stricter Γ (right t a) = least-stricter Γ a
   least-stricter Γ (pack l a) = ap (K .packLabel l) (least-stricter Γ a)
   least-stricter Γ (unpack t l a) = ap (K .unpackLabel l) (least-stricter Γ a)
+  least-stricter Γ (pairing t a b) = ap₂ (K .join) (least-stricter Γ a) (least-stricter Γ b)
+  least-stricter Γ (proj p a) = least-stricter Γ a
 
   flowE-stricter : (Γ : List L) (e : Expr) → flowE (stricter K test) Γ e ≡ both (flowE K Γ e) (keepsE K test Γ e)
   unfolding flowE keepsE
@@ -39,6 +41,8 @@ module _ {L : Type 0} (K : Conditions L) (test : ℕ → L → Bool) where
   flowE-stricter Γ (right t a) = flowE-stricter Γ a
   flowE-stricter Γ (pack l a) = rw (flowE-stricter Γ a, least-stricter Γ a) (both-last _ _ _)
   flowE-stricter Γ (unpack t l a) = rw (flowE-stricter Γ a, least-stricter Γ a) (both-exchange _ _ _ _)
+  flowE-stricter Γ (pairing t a b) = rw (flowE-stricter Γ a, flowE-stricter Γ b) (both-exchange _ _ _ _)
+  flowE-stricter Γ (proj p a) = flowE-stricter Γ a
 
   flow-stricter : (pc : L) (Γ : List L) (c : Cmd) → flow (stricter K test) pc Γ c ≡ both (flow K pc Γ c) (keeps K test Γ c)
   unfolding flow keeps
@@ -133,6 +137,8 @@ module _ {A B : Type 0} (K : Conditions A) (R : Conditions B) (f : A → B) (ima
   keepsE-image Γ (right t a) = keepsE-image Γ a
   keepsE-image Γ (pack l a) = keepsE-image Γ a
   keepsE-image Γ (unpack t l a) = rw (keepsE-image Γ a, same l (least K Γ a), least-image K R f image Γ a)
+  keepsE-image Γ (pairing t a b) = rw (keepsE-image Γ a, keepsE-image Γ b)
+  keepsE-image Γ (proj p a) = keepsE-image Γ a
 
   pub keeps-image : (Γ : List A) (c : Cmd) → keeps K test Γ c ≡ keeps R other (map f Γ) c
   unfolding keeps

@@ -4,17 +4,17 @@ use mathlib.Core.Bool.{Bool, true, false}
 use mathlib.Core.Option.{some}
 use mathlib.Core.List.{List, [], _∷_}
 use Prim.Native.Nat.{ℕ, zero, suc}
-use Rattle.language.specs.Syntax.{Ty, t-int, t-err, t-pkg, t-sum, headOf, Value, int, inl, inr, pkg, has, Expr, Cmd, skip, seq, assign, while, case}
+use Rattle.language.specs.Syntax.{Ty, t-int, t-err, t-pkg, t-sum, t-pair, headOf, Value, int, inl, inr, pkg, pair, Part, first, second, pick, has, Expr, Cmd, skip, seq, assign, while, case}
 use Rattle.language.specs.World.{World, Mem, wanted}
 use Rattle.language.specs.Substitution.{Env, close}
 use Rattle.language.specs.Declarations.{Shapes, nth, WellTyped}
-use Rattle.language.specs.Evaluation.{Res, bind, fit, add, packed, opened, unpacked, lookup, eval}
+use Rattle.language.specs.Evaluation.{Res, bind, fit, add, packed, opened, unpacked, partOf, lookup, eval}
 use Rattle.language.specs.Transition.{Next, too-long, no-rule, at-seq, branch, step, wrong}
 use Rattle.language.specs.Typing.{shape}
 use Rattle.language.specs.Theorems.{SameTypes, TypeSoundness}
 use Rattle.logic.proofs.BooleanLaws.{both-left, both-right, both-true, fails}
-use Rattle.language.proofs.Results.{by-fit, holds-bind, Good, by-add, by-unpacked, by-branch}
-use Rattle.language.proofs.Types.{onSum-path, HasType, h-int, h-loc, h-var, h-plus, h-left, h-right, h-pack, h-unpack, has-type, is-type}
+use Rattle.language.proofs.Results.{by-fit, holds-bind, Good, by-add, by-unpacked, by-part, by-branch}
+use Rattle.language.proofs.Types.{onSum-path, HasType, h-int, h-loc, h-var, h-plus, h-left, h-right, h-pack, h-unpack, h-pair, h-proj, has-type, is-type}
 use Rattle.logic.proofs.OptionLaws.{none-some, some-path}
 use Rattle.language.proofs.Substitution.{inst-close, close-none, eval-close}
 use Rattle.language.proofs.Traces.{Trace, Stops, stops-wrong, iterate-stops, steps-trace}
@@ -53,6 +53,14 @@ good-unpack : (W : World) (t : Ty) (n l : ℕ) (v : Value) → wanted (W .ty n) 
 good-unpack W t n l v p q = by-unpacked (λ v r. has v t-pkg ≡ true → Good (t-sum t t-err) r) W n l
     (λ h v q. rw p (good-open t (W .reads l) (W .below (h .label) l) (has v t) v refl)) (λ v e q. fails e q) v q
 
+has-part : (p : Part) (a b : Ty) (v w : Value) → has (pair v w) (t-pair a b) ≡ true → has (pick p v w) (pick p a b) ≡ true
+unfolding has pick
+has-part first a b v w h = both-left _ _ h
+has-part second a b v w h = both-right _ _ h
+
+good-part : (p : Part) (a b : Ty) (v : Value) → has v (t-pair a b) ≡ true → Good (pick p a b) (partOf p v)
+good-part p a b = by-part (λ v r. has v (t-pair a b) ≡ true → Good (pick p a b) r) p (λ v w h. has-part p a b v w h) (λ v e h. fails (e a b) h)
+
 -- the values of an environment have the types that a context holds
 pub data EnvTyped : List Ty → Env → Type 0 where
   env-none : EnvTyped [] []
@@ -79,6 +87,9 @@ module _ (S : Shapes) (W : World) (agree : SameTypes S W) where
     good-eval (h-pack {l} {e} {t} h) = good-bind t _ (eval W ρ M e) _ (good-eval h) λ v k. good-pack (W .writes l) l v
     good-eval (h-unpack {n} {l} {e} {t} p h) = good-bind t-pkg _ (eval W ρ M e) _ (good-eval h) λ v k.
         good-unpack W t n l v (wanted-left (agree n ∙ p)) k
+    good-eval (h-pair {e = e} {f} {a} {b} p h k) = good-bind a _ (eval W ρ M e) _ (good-eval h) λ v i.
+        good-bind b _ (eval W ρ M f) _ (good-eval k) λ w j. good-fit (t-pair a b) (pair v w) (both-true i j)
+    good-eval (h-proj {p} {e} {a} {b} h) = good-bind (t-pair a b) _ (eval W ρ M e) _ (good-eval h) λ v k. good-part p a b v k
 
   -- Commands on the way: closed by an environment, or one after another.
   pub data OnWay : Cmd → Type 0 where

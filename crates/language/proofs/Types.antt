@@ -4,11 +4,11 @@ use mathlib.Core.Bool.{Bool, true, false, false≢true}
 use mathlib.Core.Option.{Option, none, some}
 use mathlib.Core.List.{List}
 use Prim.Native.Nat.{ℕ}
-use Rattle.logic.proofs.BooleanLaws.{both-left, both-right}
+use Rattle.logic.proofs.BooleanLaws.{both-left, both-right, both-true}
 use Rattle.logic.proofs.OptionLaws.{none-some, some-path}
-use Rattle.language.specs.Syntax.{Ty, t-int, t-err, t-pkg, t-sum, Ty-discrete, int, err, inl, inr, pkg, blank, Expr, val, loc, var, plus, left, right, pack, unpack}
+use Rattle.language.specs.Syntax.{Ty, t-int, t-err, t-pkg, t-sum, t-pair, Ty-discrete, int, err, inl, inr, pkg, pair, blank, Part, pick, Expr, val, loc, var, plus, left, right, pack, unpack, pairing, proj}
 use Rattle.language.specs.Declarations.{Shapes, nth}
-use Rattle.language.specs.Typing.{isYes, sameTy, isTy, hasTy, leftIs, rightIs, onSum, given, typeOfValue, typeOf}
+use Rattle.language.specs.Typing.{isYes, sameTy, isTy, hasTy, leftIs, rightIs, onSum, pairIs, partTy, given, typeOfValue, typeOf}
 
 sameTy-refl : (a : Ty) → sameTy a a ≡ true
 unfolding sameTy isYes
@@ -63,6 +63,7 @@ leftIs-path t-int o h = absurd (false≢true h)
 leftIs-path t-err o h = absurd (false≢true h)
 leftIs-path t-pkg o h = absurd (false≢true h)
 leftIs-path (t-sum a b) o h = (a, b, refl, isTy-path a o h)
+leftIs-path (t-pair a b) o h = absurd (false≢true h)
 
 pub rightIs-true : {t : Ty} {o : Option Ty} (a b : Ty) → t ≡ t-sum a b → o ≡ some b → rightIs t o ≡ true
 unfolding rightIs
@@ -74,6 +75,7 @@ rightIs-path t-int o h = absurd (false≢true h)
 rightIs-path t-err o h = absurd (false≢true h)
 rightIs-path t-pkg o h = absurd (false≢true h)
 rightIs-path (t-sum a b) o h = (a, b, refl, isTy-path b o h)
+rightIs-path (t-pair a b) o h = absurd (false≢true h)
 
 pub onSum-true : {o : Option Ty} (k : Ty → Ty → Bool) (a b : Ty) → o ≡ some (t-sum a b) → k a b ≡ true → onSum o k ≡ true
 unfolding onSum
@@ -86,6 +88,34 @@ onSum-path (some t-int) k h = absurd (false≢true h)
 onSum-path (some t-err) k h = absurd (false≢true h)
 onSum-path (some t-pkg) k h = absurd (false≢true h)
 onSum-path (some (t-sum a b)) k h = (a, b, refl, h)
+onSum-path (some (t-pair a b)) k h = absurd (false≢true h)
+
+pub pairIs-true : {t : Ty} {o₁ o₂ : Option Ty} (a b : Ty) → t ≡ t-pair a b → o₁ ≡ some a → o₂ ≡ some b → pairIs t o₁ o₂ ≡ true
+unfolding pairIs
+pairIs-true a b p e f = rw (p, pairIs) (both-true (isTy-true a e) (isTy-true b f))
+
+pub pairIs-path : (t : Ty) (o₁ o₂ : Option Ty) → pairIs t o₁ o₂ ≡ true
+    → (a : Ty) × (b : Ty) × (t ≡ t-pair a b) × (o₁ ≡ some a) × (o₂ ≡ some b)
+unfolding pairIs
+pairIs-path t-int o₁ o₂ h = absurd (false≢true h)
+pairIs-path t-err o₁ o₂ h = absurd (false≢true h)
+pairIs-path t-pkg o₁ o₂ h = absurd (false≢true h)
+pairIs-path (t-sum a b) o₁ o₂ h = absurd (false≢true h)
+pairIs-path (t-pair a b) o₁ o₂ h = (a, b, refl, isTy-path a o₁ (both-left _ _ h), isTy-path b o₂ (both-right _ _ h))
+
+pub partTy-true : (p : Part) {o : Option Ty} (a b : Ty) → o ≡ some (t-pair a b) → partTy p o ≡ some (pick p a b)
+unfolding partTy
+partTy-true p a b e = rw (e, partTy)
+
+pub partTy-path : (p : Part) (o : Option Ty) (t : Ty) → partTy p o ≡ some t
+    → (a : Ty) × (b : Ty) × (o ≡ some (t-pair a b)) × (pick p a b ≡ t)
+unfolding partTy
+partTy-path p none t h = none-some h
+partTy-path p (some t-int) t h = none-some h
+partTy-path p (some t-err) t h = none-some h
+partTy-path p (some t-pkg) t h = none-some h
+partTy-path p (some (t-sum a b)) t h = none-some h
+partTy-path p (some (t-pair a b)) t h = (a, b, refl, some-path h)
 
 -- The types of figure 4 alone, without its labels.
 pub data HasType (S : Shapes) (Γ : List Ty) : Expr → Ty → Type 0 where
@@ -97,6 +127,8 @@ pub data HasType (S : Shapes) (Γ : List Ty) : Expr → Ty → Type 0 where
   h-right : {n : ℕ} {e : Expr} {a b : Ty} → S .ty n ≡ t-sum a b → HasType S Γ e b → HasType S Γ (right n e) (t-sum a b)
   h-pack : {l : ℕ} {e : Expr} {t : Ty} → HasType S Γ e t → HasType S Γ (pack l e) (t-sum t-pkg t-err)
   h-unpack : {n l : ℕ} {e : Expr} {t : Ty} → S .ty n ≡ t-sum t t-err → HasType S Γ e t-pkg → HasType S Γ (unpack n l e) (t-sum t t-err)
+  h-pair : {n : ℕ} {e f : Expr} {a b : Ty} → S .ty n ≡ t-pair a b → HasType S Γ e a → HasType S Γ f b → HasType S Γ (pairing n e f) (t-pair a b)
+  h-proj : {p : Part} {e : Expr} {a b : Ty} → HasType S Γ e (t-pair a b) → HasType S Γ (proj p e) (pick p a b)
 
 module _ (S : Shapes) (Γ : List Ty) where
   -- an expression has the type that `typeOf` gives
@@ -107,6 +139,7 @@ module _ (S : Shapes) (Γ : List Ty) where
   has-type (val (inl v)) h = none-some h
   has-type (val (inr v)) h = none-some h
   has-type (val (pkg h v)) e = none-some e
+  has-type (val (pair v w)) h = none-some h
   has-type (val blank) h = none-some h
   has-type (loc x) h = subst (HasType S Γ (loc x)) (some-path h) h-loc
   has-type (var d) h = h-var h
@@ -129,6 +162,11 @@ module _ (S : Shapes) (Γ : List Ty) where
       let r = rightIs-path _ _ (both-right _ _ (g .0)) in
       let p : S .ty n ≡ t-sum (r .0) t-err = r .2 ∙ ap (t-sum (r .0)) (sym (some-path (r .3))) in
       rw (← g .1, p) (h-unpack p (has-type e (isTy-path t-pkg _ (both-left _ _ (g .0)))))
+  has-type (pairing n a b) h =
+      let g = given-path _ _ _ h in
+      let p = pairIs-path _ _ _ (g .0) in
+      rw (← g .1, p .2) (h-pair (p .2) (has-type a (p .3)) (has-type b (p .4)))
+  has-type (proj p e) h = let q = partTy-path p _ _ h in rw (← q .3) (h-proj (has-type e (q .2)))
 
   pub is-type : {e : Expr} {t : Ty} → isTy t (typeOf S Γ e) ≡ true → HasType S Γ e t
   is-type h = has-type _ (isTy-path _ _ h)

@@ -1,13 +1,14 @@
--- Figure 2 as a function, over an environment of the values that enclosing cases bind.
+-- Figure 2 and the rules of pairs (request (f)) as a function, over an environment of the values that enclosing cases
+-- bind.
 use mathlib.Core.Bool.{Bool, true, false}
 use mathlib.Core.List.{[], _∷_}
 use Prim.Native.Nat.{ℕ, zero, suc, _+_, _%_, _^_}
 use lib.Dec.{leb}
-use Rattle.language.specs.Syntax.{headOf, Value, int, err, inl, inr, pkg, blank, Expr, val, loc, var, plus, left, right, pack, unpack, size, has}
+use Rattle.language.specs.Syntax.{headOf, Value, int, err, inl, inr, pkg, pair, blank, Part, pick, Expr, val, loc, var, plus, left, right, pack, unpack, pairing, proj, size, has}
 use Rattle.language.specs.World.{World, Mem, cell-words, wanted}
 use Rattle.language.specs.Substitution.{Env}
 
--- A value; or a part of the expression has a value that is too long; or no rule of figure 2 applies.
+-- A value; or a part of the expression has a value that is too long; or no rule applies.
 pub data Res : Type 0 where
   ok : Value → Res
   long stuck : Res
@@ -32,6 +33,7 @@ addTo a (err e) = stuck
 addTo a (inl v) = stuck
 addTo a (inr v) = stuck
 addTo a (pkg h v) = stuck
+addTo a (pair v w) = stuck
 addTo a blank = stuck
 
 unfoldable pub add : Value → Value → Res
@@ -40,6 +42,7 @@ add (err e) w = stuck
 add (inl v) w = stuck
 add (inr v) w = stuck
 add (pkg h v) w = stuck
+add (pair u v) w = stuck
 add blank w = stuck
 
 -- EE-PACK-OK and EE-PACK-FAIL, by whether the authority writes the label
@@ -62,7 +65,18 @@ unpacked W t l (err e) = stuck
 unpacked W t l (inl v) = stuck
 unpacked W t l (inr v) = stuck
 unpacked W t l (pkg h v) = opened (W .reads l) (W .below (h .label) l) (has v (wanted (W .ty t))) v
+unpacked W t l (pair v w) = stuck
 unpacked W t l blank = stuck
+
+-- EE-PROJ: a part of a pair
+unfoldable pub partOf : Part → Value → Res
+partOf p (int n) = stuck
+partOf p (err e) = stuck
+partOf p (inl v) = stuck
+partOf p (inr v) = stuck
+partOf p (pkg h v) = stuck
+partOf p (pair v w) = ok (pick p v w)
+partOf p blank = stuck
 
 unfoldable pub lookup : Env → ℕ → Res
 lookup [] i = stuck
@@ -78,3 +92,5 @@ eval W ρ M (left t a) = bind (eval W ρ M a) (λ v. fit (inl v))
 eval W ρ M (right t a) = bind (eval W ρ M a) (λ v. fit (inr v))
 eval W ρ M (pack l a) = bind (eval W ρ M a) (λ v. packed (W .writes l) l v)
 eval W ρ M (unpack t l a) = bind (eval W ρ M a) (λ v. unpacked W t l v)
+eval W ρ M (pairing t a b) = bind (eval W ρ M a) (λ v. bind (eval W ρ M b) (λ w. fit (pair v w)))
+eval W ρ M (proj p a) = bind (eval W ρ M a) (λ v. partOf p v)

@@ -1,15 +1,18 @@
--- Figures 2 and 3 of the paper as relations, and the scope's limit on values, stated over them.
+-- Figures 2 and 3 of the paper as relations, with the rules of pairs (request (f)), and the scope's limit on values,
+-- stated over them.
 use mathlib.Core.Path.{_≡_}
 use mathlib.Core.Bool.{true, false}
 use Prim.Native.Nat.{ℕ, zero, suc, _+_, _%_, _^_, _<_}
-use Rattle.language.specs.Syntax.{Head, headOf, Value, int, err, inl, inr, pkg, size, has, Expr, val, loc, plus, left, right, pack, unpack, Cmd, skip, seq, assign, while, case}
+use Rattle.language.specs.Syntax.{Head, headOf, Value, int, err, inl, inr, pkg, pair, Part, pick, size, has, Expr, val, loc, plus, left, right, pack, unpack, pairing, proj, Cmd, skip, seq, assign, while, case}
 use Rattle.language.specs.World.{World, Mem, cell-words, wanted}
 use Rattle.language.specs.Substitution.{inst, update}
 
 -- Figure 2, p̄; M ⊢ e → e′. The world holds the authority p̄ with the sheet's types and order of labels.
--- Sums are taken modulo 2^32. A package has its label in its head. An unpack names the sum type t; the wanted type is its left part.
--- The errors have the scope's numbers.
--- The last two rules are not in the figure: a value is written `val v` here, so inl of a value has still to become one.
+-- A `plus` is taken modulo 2^32. A package has its label in its head. An unpack names the sum type t; the wanted type is
+-- its left part. The errors have the scope's numbers.
+-- The figure has no pairs: their rules are EE-PAIR-STRUCT1 and 2, after EE-PLUS-STRUCT1 and 2, EE-PROJ-STRUCT and
+-- EE-PROJ. The last three rules are not in the figure: a value is written `val v` here, so inl of a value and a pair of
+-- two values have still to become one.
 pub data EStep (W : World) (M : Mem) : Expr → Expr → Type 0 where
   ee-loc : {x : ℕ} → EStep W M (loc x) (val (M x))
   ee-inl : {t : ℕ} {e e′ : Expr} → EStep W M e e′ → EStep W M (left t e) (left t e′)
@@ -28,8 +31,13 @@ pub data EStep (W : World) (M : Mem) : Expr → Expr → Type 0 where
       → EStep W M (unpack t l (val (pkg h v₀))) (val (inr (err 3)))
   ee-unpack-ok : {t l : ℕ} {h : Head} {v₀ : Value} → W .reads l ≡ true → W .below (h .label) l ≡ true → has v₀ (wanted (W .ty t)) ≡ true
       → EStep W M (unpack t l (val (pkg h v₀))) (val (inl v₀))
+  ee-pair-struct1 : {t : ℕ} {e₁ e₁′ e₂ : Expr} → EStep W M e₁ e₁′ → EStep W M (pairing t e₁ e₂) (pairing t e₁′ e₂)
+  ee-pair-struct2 : {t : ℕ} {v : Value} {e e′ : Expr} → EStep W M e e′ → EStep W M (pairing t (val v) e) (pairing t (val v) e′)
+  ee-proj-struct : {p : Part} {e e′ : Expr} → EStep W M e e′ → EStep W M (proj p e) (proj p e′)
+  ee-proj : {p : Part} {v₁ v₂ : Value} → EStep W M (proj p (val (pair v₁ v₂))) (val (pick p v₁ v₂))
   inl-value : {t : ℕ} {v : Value} → EStep W M (left t (val v)) (val (inl v))
   inr-value : {t : ℕ} {v : Value} → EStep W M (right t (val v)) (val (inr v))
+  pair-value : {t : ℕ} {v w : Value} → EStep W M (pairing t (val v) (val w)) (val (pair v w))
 
 -- p̄; M ⊢ e →* e′
 pub data EStar (W : World) (M : Mem) : Expr → Expr → Type 0 where
@@ -53,9 +61,11 @@ pub data Steps (W : World) : ℕ → Mem → Cmd → Mem → Cmd → Type 0 wher
   s-more : {k : ℕ} {M M₁ M′ : Mem} {c c₁ c′ : Cmd} → Step W M c M₁ c₁ → Steps W k M₁ c₁ M′ c′ → Steps W (suc k) M c M′ c′
 
 -- The scope's number 10, which the figures do not have: an expression, or a part of one, has a value of more words than a
--- location takes. Every part of an expression that the step evaluates counts, also where the expression's own value is short again,
--- as that of a pack that fails is. Fourteen lefts over an integer are 16 words and fit; fifteen are 17.
--- A value that is held in memory has at most 16 words, so in a run a left, a right or a pack makes the first that is too long.
+-- location takes. Every part of an expression that the step evaluates counts, also where the expression's own value is
+-- short again, as that of a pack that fails is, or the first or second of a pair that is too long. Fourteen lefts over
+-- an integer are 16 words and fit; fifteen are 17.
+-- A value that is held in memory has at most 16 words, so in a run a left, a right, a pair or a pack makes the first
+-- that is too long.
 pub data LongExpr (W : World) (M : Mem) : Expr → Type 0 where
   long-value : {e : Expr} {v : Value} → EStar W M e (val v) → cell-words < size v → LongExpr W M e
   in-plus1 : {e₁ e₂ : Expr} → LongExpr W M e₁ → LongExpr W M (plus e₁ e₂)
@@ -64,6 +74,9 @@ pub data LongExpr (W : World) (M : Mem) : Expr → Type 0 where
   in-right : {t : ℕ} {e : Expr} → LongExpr W M e → LongExpr W M (right t e)
   in-pack : {l : ℕ} {e : Expr} → LongExpr W M e → LongExpr W M (pack l e)
   in-unpack : {t l : ℕ} {e : Expr} → LongExpr W M e → LongExpr W M (unpack t l e)
+  in-pair1 : {t : ℕ} {e₁ e₂ : Expr} → LongExpr W M e₁ → LongExpr W M (pairing t e₁ e₂)
+  in-pair2 : {t : ℕ} {e₁ e₂ : Expr} → LongExpr W M e₂ → LongExpr W M (pairing t e₁ e₂)
+  in-proj : {p : Part} {e : Expr} → LongExpr W M e → LongExpr W M (proj p e)
 
 -- the next step of a command meets such an expression
 pub data LongStep (W : World) (M : Mem) : Cmd → Type 0 where

@@ -3,6 +3,9 @@
 -- * error is a type of its own, not int; a guard of `while` is int+int, the paper's bool;
 -- * `left t`, `right t` and `unpack t` name the sum type t that they make, so its parts are not free;
 -- * a script holds no package literal, so there is no TE-PACKAGE; its only literals are integers;
+-- * there are pairs (request (f)), with the rules TE-PAIR and TE-PROJ: as in TE-PLUS, both operands have the label of
+--   the pair, so that TE-SUB makes its least label their join; a part has the label of the whole. `pairing t` names the
+--   pair type t;
 -- * variables are counted by depth, so Γ is a list, innermost first;
 -- * a script's command is typed with its starting label for pc, bottom where it opens with none (request (d)); the paper
 --   leaves pc free.
@@ -12,7 +15,7 @@ use mathlib.Core.Bool.{true}
 use mathlib.Core.Option.{some}
 use mathlib.Core.List.{List, [], _∷_}
 use Prim.Native.Nat.{ℕ}
-use Rattle.language.specs.Syntax.{Ty, t-int, t-err, t-pkg, t-sum, int, Expr, val, loc, var, plus, left, right, pack, unpack, Cmd, skip, seq, assign, while, case, Script}
+use Rattle.language.specs.Syntax.{Ty, t-int, t-err, t-pkg, t-sum, t-pair, int, Part, pick, Expr, val, loc, var, plus, left, right, pack, unpack, pairing, proj, Cmd, skip, seq, assign, while, case, Script}
 use Rattle.language.specs.Labels.{Labels}
 use Rattle.language.specs.Declarations.{Declarations, startOf, nth}
 
@@ -32,6 +35,9 @@ module _ {L : Type 0} (𝓛 : Labels L) (D : Declarations L) where
         → Typed Γ (pack A e) (t-sum t-pkg t-err) ℓ
     te-unpack : {t A : ℕ} {e : Expr} {τ : Ty} {ℓₑ ℓ : L} → D .shapes .ty t ≡ t-sum τ t-err → D .label A ≡ ℓ → Typed Γ e t-pkg ℓₑ
         → 𝓛 .conf ℓₑ ≡ 𝓛 .conf ℓ → Typed Γ (unpack t A e) (t-sum τ t-err) ℓ
+    te-pair : {t : ℕ} {e₁ e₂ : Expr} {τ₁ τ₂ : Ty} {ℓ : L} → D .shapes .ty t ≡ t-pair τ₁ τ₂ → Typed Γ e₁ τ₁ ℓ → Typed Γ e₂ τ₂ ℓ
+        → Typed Γ (pairing t e₁ e₂) (t-pair τ₁ τ₂) ℓ
+    te-proj : {p : Part} {e : Expr} {τ₁ τ₂ : Ty} {ℓ : L} → Typed Γ e (t-pair τ₁ τ₂) ℓ → Typed Γ (proj p e) (pick p τ₁ τ₂) ℓ
     te-var : {d : ℕ} {τ : Ty} {ℓ : L} → nth Γ d ≡ some (record { type = τ; label = ℓ }) → Typed Γ (var d) τ ℓ
     te-loc : {x : ℕ} {τ : Ty} {ℓ : L} → D .shapes .locTy x ≡ τ → D .home x ≡ ℓ → Typed Γ (loc x) τ ℓ
     te-sub : {e : Expr} {τ : Ty} {ℓ′ ℓ : L} → Typed Γ e τ ℓ′ → 𝓛 .leq ℓ′ ℓ ≡ true → Typed Γ e τ ℓ

@@ -3,7 +3,7 @@ use mathlib.Core.Bool.{cond}
 use mathlib.Core.List.{List, [], _∷_}
 use Prim.Native.Nat.{ℕ, zero, suc}
 use lib.Dec.{eqb}
-use Rattle.language.specs.Syntax.{Value, Expr, val, loc, var, plus, left, right, pack, unpack, Cmd, skip, seq, assign, while, case}
+use Rattle.language.specs.Syntax.{Value, Expr, val, loc, var, plus, left, right, pack, unpack, pairing, proj, Cmd, skip, seq, assign, while, case}
 use Rattle.language.specs.World.{Mem}
 
 -- The values that enclosing cases bind, innermost first.
@@ -20,6 +20,8 @@ lift (left t a) = left t (lift a)
 lift (right t a) = right t (lift a)
 lift (pack l a) = pack l (lift a)
 lift (unpack t l a) = unpack t l (lift a)
+lift (pairing t a b) = pairing t (lift a) (lift b)
+lift (proj p a) = proj p (lift a)
 
 -- variable i, below d binders, with the values ρ for the variables past these
 unfoldable pub close-var : ℕ → Env → ℕ → Expr
@@ -39,6 +41,8 @@ closeE d ρ (left t a) = left t (closeE d ρ a)
 closeE d ρ (right t a) = right t (closeE d ρ a)
 closeE d ρ (pack l a) = pack l (closeE d ρ a)
 closeE d ρ (unpack t l a) = unpack t l (closeE d ρ a)
+closeE d ρ (pairing t a b) = pairing t (closeE d ρ a) (closeE d ρ b)
+closeE d ρ (proj p a) = proj p (closeE d ρ a)
 
 unfoldable pub close : ℕ → Env → Cmd → Cmd
 close d ρ skip = skip

@@ -43,9 +43,10 @@ pub data RunEnds (W : World) (b : ℕ) (M : Mem) (c : Cmd) : Out → Type 0 wher
 abbrev pub SameTypes : Shapes → World → Type 0
 SameTypes S W = (t : ℕ) → W .ty t ≡ S .ty t
 
--- In every configuration that a command which passes `shape` reaches from a well-typed memory whose values fit, `step` is too long
--- exactly if the next step meets a value that is too long. In others it need not be: a sum of an unbound variable and of a part that is
--- too long has no rule, and a value that is too long already, in the memory or in the command, is copied.
+-- In every configuration that a command which passes `shape` reaches from a well-typed memory whose values fit, `step` is
+-- too long exactly if the next step meets a value that is too long. In others it need not be: a `plus` of an unbound
+-- variable and of a part that is too long has no rule, and a value that is too long already, in the memory or in the
+-- command, is copied.
 abbrev pub LongExact : Shapes → World → Type 0
 LongExact S W = (c : Cmd) → shape S [] c ≡ true → (M : Mem) → WellTyped S M → Fitting M → (k : ℕ) (M′ : Mem) (c′ : Cmd)
     → Steps W k M c M′ c′ → NoneLong W k M c → (step W M′ c′ ≡ too-long) ↔ LongStep W M′ c′

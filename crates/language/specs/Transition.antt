@@ -1,7 +1,7 @@
 -- Figure 3 as a function; runs within a budget.
 use mathlib.Core.List.{[]}
 use Prim.Native.Nat.{ℕ, zero, suc}
-use Rattle.language.specs.Syntax.{Value, int, err, inl, inr, pkg, blank, Cmd, skip, seq, assign, while, case}
+use Rattle.language.specs.Syntax.{Value, int, err, inl, inr, pkg, pair, blank, Cmd, skip, seq, assign, while, case}
 use Rattle.language.specs.World.{World, Mem}
 use Rattle.language.specs.Substitution.{inst, update}
 use Rattle.language.specs.Evaluation.{Res, ok, long, stuck, eval}
@@ -33,6 +33,7 @@ branchV l r n (err k) = n
 branchV l r n (inl v) = l v
 branchV l r n (inr v) = r v
 branchV l r n (pkg h v) = n
+branchV l r n (pair v w) = n
 branchV l r n blank = n
 
 unfoldable pub branch {ℓ} : {A : Type ℓ} → (Value → A) → (Value → A) → A → A → Res → A

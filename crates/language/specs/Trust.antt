@@ -3,7 +3,7 @@ use mathlib.Core.Bool.{Bool, true}
 use mathlib.Core.List.{List, [], _∷_}
 use Prim.Native.Nat.{ℕ}
 use Rattle.logic.specs.Booleans.{both}
-use Rattle.language.specs.Syntax.{Expr, val, loc, var, plus, left, right, pack, unpack, Cmd, skip, seq, assign, while, case, Script}
+use Rattle.language.specs.Syntax.{Expr, val, loc, var, plus, left, right, pack, unpack, pairing, proj, Cmd, skip, seq, assign, while, case, Script}
 use Rattle.language.specs.Labels.{Labels}
 use Rattle.language.specs.Declarations.{Declarations}
 use Rattle.language.specs.Typing.{Conditions, least, conditions}
@@ -19,6 +19,8 @@ keepsE K test Γ (left t a) = keepsE K test Γ a
 keepsE K test Γ (right t a) = keepsE K test Γ a
 keepsE K test Γ (pack l a) = keepsE K test Γ a
 keepsE K test Γ (unpack t l a) = both (keepsE K test Γ a) (test l (least K Γ a))
+keepsE K test Γ (pairing t a b) = both (keepsE K test Γ a) (keepsE K test Γ b)
+keepsE K test Γ (proj p a) = keepsE K test Γ a
 
 -- Whether each unpack in a command does.
 unfoldable pub keeps : {L : Type 0} → Conditions L → (ℕ → L → Bool) → List L → Cmd → Bool

@@ -1,10 +1,10 @@
--- The scope's section "Typing": types and least labels as functions.
+-- The scope's section "Typing", with pairs (request (f)): types and least labels as functions.
 use mathlib.Core.Bool.{Bool, true, false, cond}
 use mathlib.Core.Option.{Option, none, some}
 use mathlib.Core.List.{List, [], _∷_}
 use Prim.Native.Nat.{ℕ}
 use Rattle.logic.specs.Booleans.{both}
-use Rattle.language.specs.Syntax.{Ty, t-int, t-err, t-pkg, t-sum, Ty-discrete, Value, int, err, inl, inr, pkg, blank, Expr, val, loc, var, plus, left, right, pack, unpack, Cmd, skip, seq, assign, while, case, Script}
+use Rattle.language.specs.Syntax.{Ty, t-int, t-err, t-pkg, t-sum, t-pair, Ty-discrete, Value, int, err, inl, inr, pkg, pair, blank, Part, pick, Expr, val, loc, var, plus, left, right, pack, unpack, pairing, proj, Cmd, skip, seq, assign, while, case, Script}
 use Rattle.language.specs.Labels.{Labels}
 use Rattle.language.specs.Declarations.{Shapes, Declarations, startOf, nth}
 
@@ -37,6 +37,7 @@ leftIs t-int o = false
 leftIs t-err o = false
 leftIs t-pkg o = false
 leftIs (t-sum a b) o = isTy a o
+leftIs (t-pair a b) o = false
 
 -- t is a sum with the type o on its right
 unfoldable pub rightIs : Ty → Option Ty → Bool
@@ -44,6 +45,7 @@ rightIs t-int o = false
 rightIs t-err o = false
 rightIs t-pkg o = false
 rightIs (t-sum a b) o = isTy b o
+rightIs (t-pair a b) o = false
 
 -- o is a sum, and its parts pass the test k
 unfoldable pub onSum : Option Ty → (Ty → Ty → Bool) → Bool
@@ -52,6 +54,24 @@ onSum (some t-int) k = false
 onSum (some t-err) k = false
 onSum (some t-pkg) k = false
 onSum (some (t-sum a b)) k = k a b
+onSum (some (t-pair a b)) k = false
+
+-- t is the pair of the types o₁ and o₂
+unfoldable pub pairIs : Ty → Option Ty → Option Ty → Bool
+pairIs t-int o₁ o₂ = false
+pairIs t-err o₁ o₂ = false
+pairIs t-pkg o₁ o₂ = false
+pairIs (t-sum a b) o₁ o₂ = false
+pairIs (t-pair a b) o₁ o₂ = both (isTy a o₁) (isTy b o₂)
+
+-- the type of a part, if o is a pair
+unfoldable pub partTy : Part → Option Ty → Option Ty
+partTy p none = none
+partTy p (some t-int) = none
+partTy p (some t-err) = none
+partTy p (some t-pkg) = none
+partTy p (some (t-sum a b)) = none
+partTy p (some (t-pair a b)) = some (pick p a b)
 
 -- t, if the test passes
 unfoldable pub given : Bool → Ty → Option Ty
@@ -65,6 +85,7 @@ typeOfValue (err e) = none
 typeOfValue (inl v) = none
 typeOfValue (inr v) = none
 typeOfValue (pkg h v) = none
+typeOfValue (pair v w) = none
 typeOfValue blank = none
 
 -- The type of an expression, if it has one; Γ holds the types that enclosing cases bind, innermost first.
@@ -77,6 +98,8 @@ typeOf S Γ (left t a) = given (leftIs (S .ty t) (typeOf S Γ a)) (S .ty t)
 typeOf S Γ (right t a) = given (rightIs (S .ty t) (typeOf S Γ a)) (S .ty t)
 typeOf S Γ (pack l a) = given (hasTy (typeOf S Γ a)) (t-sum t-pkg t-err)
 typeOf S Γ (unpack t l a) = given (both (isTy t-pkg (typeOf S Γ a)) (rightIs (S .ty t) (some t-err))) (S .ty t)
+typeOf S Γ (pairing t a b) = given (pairIs (S .ty t) (typeOf S Γ a) (typeOf S Γ b)) (S .ty t)
+typeOf S Γ (proj p a) = partTy p (typeOf S Γ a)
 
 -- Whether a command passes with every label condition struck out: the scope's number 5 if not. A guard is int+int.
 unfoldable pub shape : Shapes → List Ty → Cmd → Bool
@@ -110,6 +133,8 @@ least K Γ (left t a) = least K Γ a
 least K Γ (right t a) = least K Γ a
 least K Γ (pack l a) = K .packLabel l (least K Γ a)
 least K Γ (unpack t l a) = K .unpackLabel l (least K Γ a)
+least K Γ (pairing t a b) = K .join (least K Γ a) (least K Γ b)
+least K Γ (proj p a) = least K Γ a
 
 -- Whether the label conditions in an expression hold.
 unfoldable pub flowE : {L : Type 0} → Conditions L → List L → Expr → Bool
@@ -121,6 +146,8 @@ flowE K Γ (left t a) = flowE K Γ a
 flowE K Γ (right t a) = flowE K Γ a
 flowE K Γ (pack l a) = both (flowE K Γ a) (K .mayPack l (least K Γ a))
 flowE K Γ (unpack t l a) = both (flowE K Γ a) (K .mayUnpack l (least K Γ a))
+flowE K Γ (pairing t a b) = both (flowE K Γ a) (flowE K Γ b)
+flowE K Γ (proj p a) = flowE K Γ a
 
 -- Whether the label conditions in a command hold below the surrounding label pc, which is joined with the guard's label in
 -- the body of a loop and in the branches of a case.

@@ -9,7 +9,7 @@ use borrow.Author.Tests.{eq-eqb, eqb-true, ne-eqb}
 use lib.Dec.{eqb}
 use lib.ListN.{length, getD, drop, length-drop}
 use Rattle.logic.proofs.BooleanLaws.{absurd-false, both-left, both-off, both-on, both-right, both-true}
-use Rattle.language.specs.Syntax.{Head, Value, int, err, inl, inr, pkg, blank, size}
+use Rattle.language.specs.Syntax.{Head, Value, int, err, inl, inr, pkg, pair, blank, size}
 use Rattle.language.specs.World.{cell-words}
 use Rattle.memory.specs.Words.{headWords, enc, zeros, cell, readOf, valueOf}
 use Rattle.memory.specs.Memory.{proper, equalWords, exactly, holdsBy}
@@ -46,6 +46,7 @@ equal-enc (err e) xs ys = equal-cons 2 _ _ ∙ equal-cons e xs ys
 equal-enc (inl v) xs ys = equal-cons 3 _ _ ∙ equal-enc v xs ys
 equal-enc (inr v) xs ys = equal-cons 4 _ _ ∙ equal-enc v xs ys
 equal-enc (pkg h v) xs ys = equal-cons 5 _ _ ∙ equal-head h _ _ ∙ equal-enc v xs ys
+equal-enc (pair v w) xs ys = equal-cons 6 _ _ ∙ equal-enc v _ _ ∙ equal-enc w xs ys
 equal-enc blank xs ys = equal-cons 0 xs ys
 
 -- ---- zeros from a place on

@@ -3,22 +3,35 @@
 use mathlib.Core.Path.{_≡_, refl, sym, ap, _∙_}
 use mathlib.Core.Bool.{Bool, true, false, false≢true}
 use mathlib.Core.List.{List, [], _∷_}
-use Prim.Native.Nat.{ℕ, _+_, _≤_, _<_}
+use Prim.Native.Nat.{ℕ, suc, _+_, _*_, _-_, _≤_, _<_}
 use native.Mathlib.Omega.{arith}
 use native.Mathlib.Numerals.{add-one}
-use lib.ListN.{length, getD, set, drop}
-use lib.Seq.{sets}
-use Rattle.language.specs.Syntax.{Head, headSize, Value, pkg, blank, size}
+use lib.ListN.{length, getD, set, drop, length-drop}
+use lib.Seq.{sets, length-sets}
+use Rattle.sets.proofs.Walks.{sets-append}
+use Rattle.language.specs.Syntax.{Head, headSize, Value, pkg, pair, blank, size}
 use Rattle.language.specs.View.{seen, mask}
-use Rattle.memory.specs.Words.{Got, headWords, enc, wrap, numbered, headAt, packaged, readOf}
+use Rattle.memory.specs.Words.{Got, headWords, enc, wrap, numbered, headAt, packaged, paired, readOf, valueOf}
+use Rattle.memory.specs.declared.masks.Places.{Places}
 use Rattle.memory.specs.Internal.Post.{Walks, Masks, Numeral, num-int, num-err, Opens}
 use Rattle.memory.proofs.HeadLaws.{head-sets}
-use Rattle.memory.proofs.WordLaws.{Side, to-left, to-right}
-use Rattle.memory.proofs.PlaceLaws.{here, past, at-past, at-numeral, at-side, at-package, at-none, headed, headless}
+use Rattle.memory.proofs.WordLaws.{size-pos, length-enc, enc-append, Side, to-left, to-right, Other, read-size}
+use Rattle.memory.proofs.PlaceLaws.{here, past, at-past, at-numeral, at-side, at-package, at-pair, at-none, headed, headless}
+use Rattle.memory.proofs.ViewLaws.{mask-size}
+
+-- a value's words stored, and others after them
+enc-sets : (v : Value) (out : List ℕ) (to : ℕ) (ws : List ℕ) → sets (sets out to (enc v [])) (to + size v) ws ≡ sets out to (enc v ws)
+enc-sets v out to ws =
+    let n : size v ≡ length (enc v []) = omega (arith, length-enc v []) in
+    rw n (sym (sets-append out to (enc v []) ws) ∙ ap (sets out to) (enc-append v [] ws))
 
 module _ (shows : ℕ → Bool) (ws out : List ℕ) (to : ℕ) {left : List ℕ} {next end : ℕ} where
   read-as : {g got : Got} → g ≡ got → Masks shows ws got out to left next end → Masks shows ws g out to left next end
   read-as e m = rw e m
+
+  -- what is stored leaves as many words
+  pub same-length : {g : Got} → Masks shows ws g out to left next end → length left ≡ length out
+  same-length {g} m = ap length (m .stored) ∙ length-sets out to (enc (mask shows (g .0)) [])
 
   -- ---- by what is read
 
@@ -56,6 +69,17 @@ module _ (shows : ℕ → Bool) (ws out : List ℕ) (to : ℕ) {left : List ℕ}
   unfolding mask enc size wrap seen
   hidden got h s e n d =
       record { stored = e ∙ rw s (head-sets h (set out to 5) (to + 1) (0 ∷ []) ∙ rw add-one refl); ends = rw s (omega arith); after = d }
+
+  -- a pair: its first word, its first part, and its second part after that
+  in-pair : {g k : Got} {mid half : List ℕ} {next′ end′ : ℕ} → mid ≡ set out to 6 → Masks shows ws g mid (to + 1) half next′ end′
+      → Masks shows ws k half end′ left next end → Masks shows ws (wrap (pair (g .0)) k) out to left next end
+  unfolding mask enc size wrap
+  in-pair {g} {k} s m n =
+      record {
+        stored = n .stored ∙ rw (m .stored, m .ends, s, add-one) (enc-sets (mask shows (g .0)) (set out to 6) (suc to) (enc (mask shows (k .0)) []));
+        ends = omega (arith, m .ends, n .ends);
+        after = n .after;
+      }
 
   -- ---- by the word at a place
 
@@ -103,6 +127,18 @@ module _ (shows : ℕ → Bool) (ws out : List ℕ) (to : ℕ) {left : List ℕ}
     unfolding headWords headAt
     opens-hidden h s e e′ k n w = closed (read-as (headed ws at h) (hidden _ (headAt ws at) s (k ∙ rw (e′, e) refl) n (w .after)))
 
+    -- how far both places move: no more is left to read, and for each word that was read two at most are stored, and one
+    -- more
+    module _ (m : Masks shows ws (readOf (drop at ws)) out to left next end) where
+      left-over : length ws - next ≡ length (readOf (drop at ws) .1)
+      left-over = sym (length-drop next ws) ∙ ap length (m .after)
+
+      reads-on : length ws - next ≤ length ws - at
+      reads-on = omega (arith, left-over, read-size (drop at ws), size-pos (valueOf (drop at ws)), length-drop at ws)
+
+      stores-on : end + 2 * (length ws - next) ≤ to + 2 * (length ws - at) + 1
+      stores-on = omega (arith, left-over, read-size (drop at ws), mask-size shows (valueOf (drop at ws)), m .ends, length-drop at ws)
+
     -- a value
     pub mask-past : length ws ≤ at → left ≡ set out to 0 → next ≡ at → end ≡ to + 1 → Masks shows ws (readOf (drop at ws)) out to left next end
     mask-past h s d n = none (at-past ws at h) (ap (λ (j : ℕ). drop j ws) d ∙ past ws at h) s n
@@ -118,9 +154,14 @@ module _ (shows : ℕ → Bool) (ws out : List ℕ) (to : ℕ) {left : List ℕ}
           → Masks shows ws (readOf (drop at ws)) out to left next end
       mask-side k e s m = read-as (at-side ws at h k e) (on-side k s m)
 
-      pub mask-none : (getD ws at 0 ≡ 1 → ⊥) → (getD ws at 0 ≡ 2 → ⊥) → (getD ws at 0 ≡ 3 → ⊥) → (getD ws at 0 ≡ 4 → ⊥) → (getD ws at 0 ≡ 5 → ⊥)
-          → left ≡ set out to 0 → next ≡ at + 1 → end ≡ to + 1 → Masks shows ws (readOf (drop at ws)) out to left next end
-      mask-none n1 n2 n3 n4 n5 s d n = none (at-none ws at h n1 n2 n3 n4 n5) (ap (λ (j : ℕ). drop j ws) d) s n
+      mask-pair : {mid half : List ℕ} {next′ end′ : ℕ} → getD ws at 0 ≡ 6 → mid ≡ set out to 6
+          → Masks shows ws (readOf (drop (at + 1) ws)) mid (to + 1) half next′ end′ → Masks shows ws (readOf (drop next′ ws)) half end′ left next end
+          → Masks shows ws (readOf (drop at ws)) out to left next end
+      unfolding paired
+      mask-pair e s m n = read-as (at-pair ws at h e) (in-pair s m (rw (m .after) at n))
+
+      pub mask-none : Other (getD ws at 0) → left ≡ set out to 0 → next ≡ at + 1 → end ≡ to + 1 → Masks shows ws (readOf (drop at ws)) out to left next end
+      mask-none o s d n = none (at-none ws at h o) (ap (λ (j : ℕ). drop j ws) d) s n
 
 -- a package, whose head's words were stored first
 module _ (shows : ℕ → Bool) (ws out : List ℕ) (to at : ℕ) (h : at < length ws) (k : getD ws at 0 ≡ 5) {is : Bool} {mid : List ℕ} {n e : ℕ}
@@ -131,3 +172,35 @@ module _ (shows : ℕ → Bool) (ws out : List ℕ) (to at : ℕ) (h : at < leng
 
   pub mask-closed : is ≡ false → Masks shows ws (readOf (drop at ws)) out to mid n e
   mask-closed s = read-as shows ws out to (at-package ws at h k) (o .whole s)
+
+-- ---- the last part of a value
+
+-- What is left of the value that starts at `at` is its last part, which starts at `next` and is to be stored in `mid`
+-- from `end` on.
+pub record Last (shows : ℕ → Bool) (ws : List ℕ) (at : ℕ) (out : List ℕ) (to : ℕ) (mid : List ℕ) (next end : ℕ) : Type 0 where
+  pub later : length ws - next < length ws - at
+  pub room : end + 2 * (length ws - next) ≤ to + 2 * (length ws - at)
+  pub whole : (left : List ℕ) (i j : ℕ) → Masks shows ws (readOf (drop next ws)) mid end left i j → Masks shows ws (readOf (drop at ws)) out to left i j
+
+pub last-as : {shows : ℕ → Bool} {ws out mid mid′ : List ℕ} {at to next end : ℕ} {p p′ : Places} → mid ≡ mid′ → p ≡ p′ → p′ .next ≡ next → p′ .end ≡ end
+    → Last shows ws at out to mid′ next end → Last shows ws at out to mid (p .next) (p .end)
+last-as s e n z l = rw (s, e, n, z) l
+
+module _ (shows : ℕ → Bool) (ws out : List ℕ) (to at : ℕ) (h : at < length ws) {mid : List ℕ} where
+  pub last-side : {w : ℕ} {f : Value → Value} → Side w f → getD ws at 0 ≡ w → mid ≡ set out to w → Last shows ws at out to mid (at + 1) (to + 1)
+  last-side k e s = record { later = omega arith; room = omega arith; whole = λ left i j m. mask-side shows ws out to at h k e s m }
+
+  -- the content of a package that is shown
+  pub last-content : {is : Bool} {n e : ℕ} → getD ws at 0 ≡ 5 → Opens shows ws (at + 1) out to is mid n e → is ≡ true
+      → Last shows ws at out to mid (at + 1 + headSize) (to + 1 + headSize)
+  last-content k o s = record { later = omega arith; room = omega arith; whole = λ left i j m. mask-open shows ws out to at h k o s m }
+
+  -- the second part of a pair
+  pub last-second : {half : List ℕ} {next end : ℕ} → getD ws at 0 ≡ 6 → half ≡ set out to 6
+      → Masks shows ws (readOf (drop (at + 1) ws)) half (to + 1) mid next end → Last shows ws at out to mid next end
+  last-second {half} k s m =
+      record {
+        later = omega (arith, reads-on shows ws half (to + 1) (at + 1) m);
+        room = omega (arith, stores-on shows ws half (to + 1) (at + 1) m);
+        whole = λ left i j n. mask-pair shows ws out to at h k s m n;
+      }

@@ -8,10 +8,10 @@ use native.Mathlib.Omega.{arith}
 use lib.ListN.{length, getD, drop, drop-of-length-le, length-drop}
 use lib.Seq.{drop-cons, drop-drop}
 use Rattle.language.specs.Syntax.{headSize, Value, pkg, blank}
-use Rattle.memory.specs.Words.{wrap, numbered, headAt, packaged, read, readOf}
+use Rattle.memory.specs.Words.{wrap, numbered, headAt, packaged, paired, read, readOf}
 use Rattle.memory.specs.Internal.Post.{Numeral}
 use Rattle.memory.proofs.HeadLaws.{head-from, package-none, package-some}
-use Rattle.memory.proofs.WordLaws.{Side, read-numeral, read-side, read-package, read-none}
+use Rattle.memory.proofs.WordLaws.{Side, Other, read-numeral, read-side, read-package, read-pair, read-none}
 
 module _ (ws : List ℕ) (at : ℕ) where
   -- the words from a place on: its word and those after it; nothing past the end
@@ -35,9 +35,11 @@ module _ (ws : List ℕ) (at : ℕ) where
     pub at-package : getD ws at 0 ≡ 5 → readOf (drop at ws) ≡ packaged readOf (drop (at + 1) ws)
     at-package e = ap readOf (here 5 h e) ∙ read-package (drop (at + 1) ws)
 
-    pub at-none : (getD ws at 0 ≡ 1 → ⊥) → (getD ws at 0 ≡ 2 → ⊥) → (getD ws at 0 ≡ 3 → ⊥) → (getD ws at 0 ≡ 4 → ⊥) → (getD ws at 0 ≡ 5 → ⊥)
-        → readOf (drop at ws) ≡ (blank, drop (at + 1) ws)
-    at-none n1 n2 n3 n4 n5 = ap readOf (here (getD ws at 0) h refl) ∙ read-none (drop (at + 1) ws) (getD ws at 0) n1 n2 n3 n4 n5
+    pub at-pair : getD ws at 0 ≡ 6 → readOf (drop at ws) ≡ paired readOf (drop (at + 1) ws)
+    at-pair e = ap readOf (here 6 h e) ∙ read-pair (drop (at + 1) ws)
+
+    pub at-none : Other (getD ws at 0) → readOf (drop at ws) ≡ (blank, drop (at + 1) ws)
+    at-none o = ap readOf (here (getD ws at 0) h refl) ∙ read-none (drop (at + 1) ws) (getD ws at 0) o
 
   -- the head of a package, and the content after it
   pub headed : at + headSize ≤ length ws → packaged readOf (drop at ws) ≡ wrap (pkg (headAt ws at)) (readOf (drop (at + headSize) ws))

@@ -13,11 +13,11 @@ use Rattle.logic.proofs.BooleanLaws.{both-no-left, both-yes-left}
 use Rattle.sets.proofs.Walks.{by-below}
 use Rattle.language.specs.Syntax.{Value, int, err, blank}
 use Rattle.sheet.specs.Internal.Tables.{leftIn, rightIn}
-use Rattle.sheet.specs.Internal.TypeTest.{isSum, hasNo}
-use Rattle.memory.specs.Words.{Got, wrap, numbered, readOf, valueOf}
+use Rattle.sheet.specs.Internal.TypeTest.{isSum, isPair, hasNo}
+use Rattle.memory.specs.Words.{Got, wrap, numbered, paired, readOf, valueOf}
 use Rattle.memory.specs.Internal.Post.{Numeral, num-int, num-err}
-use Rattle.memory.proofs.WordLaws.{to-left, to-right}
-use Rattle.memory.proofs.PlaceLaws.{here, past, at-past, at-numeral, at-side, at-package, at-none, headed, headless}
+use Rattle.memory.proofs.WordLaws.{to-left, to-right, Other}
+use Rattle.memory.proofs.PlaceLaws.{here, past, at-past, at-numeral, at-side, at-package, at-pair, at-none, headed, headless}
 
 module _ (t ws : List ℕ) (ty : ℕ) where
   -- a value that is known by one word more, and whose type doesn't depend on what follows
@@ -63,7 +63,13 @@ module _ (t ws : List ℕ) (ty : ℕ) where
       unfolding hasNo wrap
       type-inr e k = told (at-side ws at h to-right e) k
 
-      pub type-none : (getD ws at 0 ≡ 1 → ⊥) → (getD ws at 0 ≡ 2 → ⊥) → (getD ws at 0 ≡ 3 → ⊥) → (getD ws at 0 ≡ 4 → ⊥) → (getD ws at 0 ≡ 5 → ⊥)
-          → false ≡ hasNo t (valueOf (drop at ws)) ty
+      -- a pair: the tests of its parts
+      pub type-pair : {r : Bool} → getD ws at 0 ≡ 6
+          → r ≡ both (isPair t ty) (both (hasNo t (valueOf (drop (at + 1) ws)) (leftIn t ty)) (hasNo t (valueOf (readOf (drop (at + 1) ws) .1)) (rightIn t ty)))
+          → r ≡ hasNo t (valueOf (drop at ws)) ty
+      unfolding hasNo paired wrap
+      type-pair e k = told (at-pair ws at h e) k
+
+      pub type-none : Other (getD ws at 0) → false ≡ hasNo t (valueOf (drop at ws)) ty
       unfolding hasNo
-      type-none n1 n2 n3 n4 n5 = told (at-none ws at h n1 n2 n3 n4 n5) refl
+      type-none o = told (at-none ws at h o) refl

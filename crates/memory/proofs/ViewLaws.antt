@@ -8,7 +8,7 @@ use native.Mathlib.Omega.{arith}
 use native.Mathlib.Nat.{zero-add, add-zero}
 use lib.ListN.{length, take, drop}
 use lib.Seq.{sets, sets-eq}
-use Rattle.language.specs.Syntax.{Value, int, err, inl, inr, pkg, blank, size}
+use Rattle.language.specs.Syntax.{Value, int, err, inl, inr, pkg, pair, blank, size}
 use Rattle.language.specs.World.{cell-words}
 use Rattle.language.specs.View.{seen, mask}
 use Rattle.sheet.specs.Internal.Tables.{homeIn, readsIn}
@@ -35,6 +35,7 @@ mask-size shows (err e) = omega arith
 mask-size shows (inl v) = omega (arith, mask-size shows v)
 mask-size shows (inr v) = omega (arith, mask-size shows v)
 mask-size shows (pkg h v) = omega (arith, seen-size (shows (h .label)) (mask shows v) (size v) (mask-size shows v) (size-pos v))
+mask-size shows (pair v w) = omega (arith, mask-size shows v, mask-size shows w)
 mask-size shows blank = omega arith
 
 -- what a view has for a location: the cell of the masked value, 16 zero words being the cell of one that is hidden

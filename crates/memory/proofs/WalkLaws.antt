@@ -1,6 +1,6 @@
 -- Laws of the walk over a value's words, by the first word.
 -- Assumes nothing.
-use mathlib.Core.Path.{_≡_, refl, sym, ap, _∙_}
+use mathlib.Core.Path.{_≡_, refl, sym, ap, ap₂, _∙_}
 use mathlib.Core.Bool.{Bool, false}
 use mathlib.Core.List.{List, []}
 use Prim.Native.Nat.{ℕ, _+_, _≤_, _<_}
@@ -9,11 +9,11 @@ use lib.Dec.{ltb}
 use lib.ListN.{length, getD, drop, length-drop}
 use Rattle.logic.specs.Booleans.{both}
 use Rattle.language.specs.Syntax.{headSize, Value, blank}
-use Rattle.memory.specs.Words.{Got, wrap, numbered, headAt, packaged, readOf}
+use Rattle.memory.specs.Words.{Got, wrap, numbered, headAt, packaged, paired, readOf}
 use Rattle.memory.specs.Internal.Post.{endOf, Walks, Numeral}
 use Rattle.memory.specs.Memory.{properHead, proper}
-use Rattle.memory.proofs.WordLaws.{Side, to-left, to-right}
-use Rattle.memory.proofs.PlaceLaws.{here, past, at-past, at-numeral, at-side, at-package, at-none, headed, headless}
+use Rattle.memory.proofs.WordLaws.{Side, to-left, to-right, Other}
+use Rattle.memory.proofs.PlaceLaws.{here, past, at-past, at-numeral, at-side, at-package, at-pair, at-none, headed, headless}
 
 module _ (labels : ℕ) (ws : List ℕ) (at : ℕ) where
   -- nothing is left
@@ -75,10 +75,22 @@ module _ (labels : ℕ) (ws : List ℕ) (at : ℕ) where
     walk-side to-right e w =
         onward _ h (at-side ws at h to-right e) (record { forward = w .forward; bounded = w .bounded; told = w .told; after = w .after })
 
-  pub walk-none : at < length ws → (getD ws at 0 ≡ 1 → ⊥) → (getD ws at 0 ≡ 2 → ⊥) → (getD ws at 0 ≡ 3 → ⊥) → (getD ws at 0 ≡ 4 → ⊥) → (getD ws at 0 ≡ 5 → ⊥)
-      → Walks labels ws at (readOf (drop at ws)) false (at + 1)
+    -- a pair: its second part starts where the first ends
+    pub walk-pair : {ok′ : Bool} {mid : ℕ} → getD ws at 0 ≡ 6 → Walks labels ws (at + 1) (readOf (drop (at + 1) ws)) ok mid
+        → Walks labels ws mid (readOf (drop mid ws)) ok′ next → Walks labels ws at (readOf (drop at ws)) (both ok ok′) next
+    unfolding paired wrap proper
+    walk-pair e w k =
+        rw (at-pair ws at h e, ← w .after)
+        (record {
+          forward = omega (arith, w .forward, k .forward);
+          bounded = omega (arith, w .bounded, k .bounded);
+          told = ap₂ both (w .told) (k .told);
+          after = k .after;
+        })
+
+  pub walk-none : at < length ws → Other (getD ws at 0) → Walks labels ws at (readOf (drop at ws)) false (at + 1)
   unfolding proper
-  walk-none h n1 n2 n3 n4 n5 = onward _ h (at-none ws at h n1 n2 n3 n4 n5) (record { forward = omega arith; bounded = omega arith; told = refl; after = refl })
+  walk-none h o = onward _ h (at-none ws at h o) (record { forward = omega arith; bounded = omega arith; told = refl; after = refl })
 
   -- where the value ends
   pub walk-end : {ok : Bool} {next : ℕ} → Walks labels ws at (readOf (drop at ws)) ok next → next ≡ endOf ws at

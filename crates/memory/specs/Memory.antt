@@ -1,4 +1,4 @@
--- A memory: 16 words for each location (the scope, "The three texts", Memory; refusals 7 and 8).
+-- A memory: 16 words for each location (the scope, "The three texts", Memory; pairs, request (f); refusals 7 and 8).
 use mathlib.Core.Bool.{Bool, true, false, cond}
 use mathlib.Core.List.{List, [], _∷_, _++_}
 use Prim.Native.Nat.{ℕ, zero, suc, _*_}
@@ -6,7 +6,7 @@ use lib.Dec.{eqb, leb, ltb}
 use lib.ListN.{length, take, drop}
 use Rattle.logic.specs.Booleans.{both}
 use Rattle.sets.specs.Sets.{every}
-use Rattle.language.specs.Syntax.{Head, Value, int, err, inl, inr, pkg, blank, has}
+use Rattle.language.specs.Syntax.{Head, Value, int, err, inl, inr, pkg, pair, blank, has}
 use Rattle.language.specs.World.{Mem, cell-words}
 use Rattle.sheet.specs.Sheet.{Sheet, tyOf, labelCount, locationNo, locationCount}
 use Rattle.memory.specs.Words.{cell, valueOf}
@@ -34,13 +34,15 @@ wordsOf n M = cells n (λ (x : ℕ). cell (M x))
 unfoldable pub properHead : ℕ → Head → Bool
 properHead labels h = ltb (h .label) labels
 
--- Errors are 1 to 3, and the heads of packages are proper, also inside a content. Nothing is blank.
+-- Errors are 1 to 3, and the heads of packages are proper, also inside a content and in both parts of a
+-- pair. Nothing is blank.
 unfoldable pub proper : ℕ → Value → Bool
 proper labels (int n) = true
 proper labels (err e) = both (leb 1 e) (leb e 3)
 proper labels (inl v) = proper labels v
 proper labels (inr v) = proper labels v
 proper labels (pkg h v) = both (properHead labels h) (proper labels v)
+proper labels (pair v w) = both (proper labels v) (proper labels w)
 proper labels blank = false
 
 -- the lists are equal, word by word

@@ -1,24 +1,26 @@
--- Values as words (the scope, "The three texts", Memory).
+-- Values as words (the scope, "The three texts", Memory; pairs, request (f)).
 use mathlib.Core.Bool.{cond}
 use mathlib.Core.List.{List, [], _∷_}
 use Prim.Native.Nat.{ℕ, zero, suc, _-_}
 use lib.Dec.{eqb, leb}
 use lib.ListN.{length, drop, getD, replicate}
-use Rattle.language.specs.Syntax.{Head, headSize, Value, int, err, inl, inr, pkg, blank, size}
+use Rattle.language.specs.Syntax.{Head, headSize, Value, int, err, inl, inr, pkg, pair, blank, size}
 use Rattle.language.specs.World.{cell-words}
 
 -- The words of a package's head, its label, then the rest.
 unfoldable pub headWords : Head → List ℕ → List ℕ
 headWords h rest = h .label ∷ rest
 
--- The words of a value, then the rest: `1 n` integer, `2 e` error, `3` left or `4` right and a value, `5` package with its head and
--- a value. Content that a view hides is one zero word.
+-- The words of a value, then the rest: `1 n` integer, `2 e` error, `3` left or `4` right and a value, `5` package with
+-- its head and a value, `6` pair and two values, the second right after the first. Content that a view hides is one
+-- zero word, and what comes after it follows at once.
 unfoldable pub enc : Value → List ℕ → List ℕ
 enc (int n) rest = 1 ∷ n ∷ rest
 enc (err e) rest = 2 ∷ e ∷ rest
 enc (inl v) rest = 3 ∷ enc v rest
 enc (inr v) rest = 4 ∷ enc v rest
 enc (pkg h v) rest = 5 ∷ headWords h (enc v rest)
+enc (pair v w) rest = 6 ∷ enc v (enc w rest)
 enc blank rest = 0 ∷ rest
 
 abbrev pub zeros : ℕ → List ℕ
@@ -50,7 +52,11 @@ headAt ws at = record { label = getD ws at 0 }
 unfoldable pub packaged : (List ℕ → Got) → List ℕ → Got
 packaged r ws = cond (leb headSize (length ws)) (wrap (pkg (headAt ws 0)) (r (drop headSize ws))) (blank, [])
 
--- the value whose first word is w, with r reading its part; blank where no value starts with w
+-- a pair whose parts r reads, the second after the first
+unfoldable pub paired : (List ℕ → Got) → List ℕ → Got
+paired r ws = wrap (pair (r ws .0)) (r (r ws .1))
+
+-- the value whose first word is w, with r reading its parts; blank where no value starts with w
 unfoldable pub tagged : (List ℕ → Got) → ℕ → List ℕ → Got
 tagged r w ws =
     cond (eqb w 1) (numbered int ws)
@@ -58,7 +64,8 @@ tagged r w ws =
     (cond (eqb w 3) (wrap inl (r ws))
     (cond (eqb w 4) (wrap inr (r ws))
     (cond (eqb w 5) (packaged r ws)
-    (blank, ws)))))
+    (cond (eqb w 6) (paired r ws)
+    (blank, ws))))))
 
 -- reading within a number of words
 unfoldable pub read : ℕ → List ℕ → Got

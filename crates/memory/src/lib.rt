@@ -36,6 +36,8 @@ pub const RIGHT: u32 = 4;
 
 pub const PACKAGE: u32 = 5;
 
+pub const PAIR: u32 = 6;
+
 // The words of a package's head.
 const HEAD: usize = 1;
 
@@ -83,6 +85,16 @@ pub fn has_type(table: &[Word], words: &[u32], at: usize, ty: u32) -> bool
             has_type(table, words, at + 1, sheet::right_part(table, ty))
         }
         PACKAGE => one_more(words, at, ty, sheet::PKG),
+        PAIR => {
+            if !sheet::is_pair(table, ty) {
+                return false;
+            }
+            if !has_type(table, words, at + 1, sheet::left_part(table, ty)) {
+                return false;
+            }
+            let first = values::value_at(0, words, at + 1);
+            has_type(table, words, first.next, sheet::right_part(table, ty))
+        }
         _ => false,
     }
 }

@@ -35,6 +35,11 @@ pub(crate) fn value_at(labels: u32, words: &[u32], at: usize) -> Walked
             let content = value_at(labels, words, label + crate::HEAD);
             package_at(labels, words, label, content)
         }
+        crate::PAIR => {
+            let first = value_at(labels, words, at + 1);
+            let second = value_at(labels, words, first.next);
+            pair_of(first, second)
+        }
         _ => Walked {
             ok: false,
             next: at + 1,
@@ -101,6 +106,19 @@ fn package_at(labels: u32, words: &[u32], at: usize, content: Walked) -> Walked
     Walked {
         ok: false,
         next: content.next,
+    }
+}
+
+// A pair, by its parts, of which the second stands after the first.
+fn pair_of(first: Walked, second: Walked) -> Walked
+    ensures { λ r. ⌜ r ≡ record { ok = both (first .ok) (second .ok); next = second .next } ⌝ }
+{
+    if first.ok {
+        return second;
+    }
+    Walked {
+        ok: false,
+        next: second.next,
     }
 }
 

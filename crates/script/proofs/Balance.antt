@@ -7,8 +7,8 @@ use native.Mathlib.Omega.{arith}
 use borrow.Author.Tests.{eqb-true}
 use lib.ListN.{length}
 use Rattle.logic.proofs.BooleanLaws.{absurd-false}
-use Rattle.language.specs.Syntax.{Expr, val, loc, var, plus, left, right, pack, unpack, Cmd, skip, seq, assign, while, case}
-use Rattle.script.specs.Lines.{Line, exprLines, cmdLines}
+use Rattle.language.specs.Syntax.{Part, first, second, pick, Expr, val, loc, var, plus, left, right, pack, unpack, pairing, proj, Cmd, skip, seq, assign, while, case}
+use Rattle.script.specs.Lines.{Line, l-proj, exprLines, cmdLines}
 use Rattle.script.specs.Internal.Code.{rowOf}
 use Rattle.script.specs.Internal.Pieces.{operandCount}
 use Rattle.script.specs.Internal.Balance.{lineOperands, closes, allOperands}
@@ -16,6 +16,12 @@ use Rattle.script.specs.Internal.Balance.{lineOperands, closes, allOpera
 -- the trees after a line of so many operands: with a sum by which the walk goes on
 after : (n k m : ℕ) (ls : List Line) {b : Bool} → n + k ≡ m → closes m ls ≡ b → closes (n + k) ls ≡ b
 after n k m ls e h = ap (λ (i : ℕ). closes i ls) e ∙ h
+
+-- the line of each part has one operand
+proj-operands : (p : Part) → lineOperands (l-proj p) ≡ 1
+unfolding operandCount rowOf pick
+proj-operands first = refl
+proj-operands second = refl
 
 pub expr-closes : (e : Expr) (n : ℕ) (rest : List Line) → closes (suc n) (exprLines e rest) ≡ closes n rest
 unfolding exprLines closes operandCount rowOf
@@ -28,6 +34,10 @@ expr-closes (left t a) n rest = after n 1 (suc n) (exprLines a rest) (omega arit
 expr-closes (right t a) n rest = after n 1 (suc n) (exprLines a rest) (omega arith) (expr-closes a n rest)
 expr-closes (pack l a) n rest = after n 1 (suc n) (exprLines a rest) (omega arith) (expr-closes a n rest)
 expr-closes (unpack t l a) n rest = after n 1 (suc n) (exprLines a rest) (omega arith) (expr-closes a n rest)
+expr-closes (pairing t a b) n rest =
+    after n 2 (suc (suc n)) (exprLines a (exprLines b rest)) (omega arith) (expr-closes a (suc n) (exprLines b rest) ∙ expr-closes b n rest)
+expr-closes (proj p a) n rest =
+    after n (lineOperands (l-proj p)) (suc n) (exprLines a rest) (omega (arith, proj-operands p)) (expr-closes a n rest)
 
 pub cmd-closes : (c : Cmd) (n : ℕ) (rest : List Line) → closes (suc n) (cmdLines c rest) ≡ closes n rest
 unfolding cmdLines closes operandCount rowOf

@@ -3,7 +3,7 @@ use mathlib.Core.List.{List}
 use Prim.Native.Nat.{ℕ, _+_, _<_}
 use native.Mathlib.Omega.{arith}
 use lib.ListN.{length}
-use Rattle.language.specs.Syntax.{Expr, val, loc, var, plus, left, right, pack, unpack, Cmd, skip, seq, assign, while, case}
+use Rattle.language.specs.Syntax.{Expr, val, loc, var, plus, left, right, pack, unpack, pairing, proj, Cmd, skip, seq, assign, while, case}
 use Rattle.script.specs.Lines.{Line, exprLines, cmdLines}
 use Rattle.script.specs.Internal.Nesting.{exprNesting, cmdNesting}
 
@@ -17,6 +17,8 @@ expr-nesting (left t a) rest = omega (arith, expr-nesting a rest)
 expr-nesting (right t a) rest = omega (arith, expr-nesting a rest)
 expr-nesting (pack l a) rest = omega (arith, expr-nesting a rest)
 expr-nesting (unpack t l a) rest = omega (arith, expr-nesting a rest)
+expr-nesting (pairing t a b) rest = omega (arith, expr-nesting a (exprLines b rest), expr-nesting b rest)
+expr-nesting (proj p a) rest = omega (arith, expr-nesting a rest)
 
 pub cmd-nesting : (c : Cmd) (rest : List Line) → cmdNesting c + length rest < length (cmdLines c rest)
 unfolding cmdNesting cmdLines

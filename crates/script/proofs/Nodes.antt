@@ -5,12 +5,12 @@ use mathlib.Core.List.{List, [], _∷_}
 use Prim.Native.Nat.{ℕ, zero, suc, _+_, _≤_, _<_}
 use native.Mathlib.Omega.{arith}
 use lib.ListN.{length, drop, List·getD-eq-default}
-use Rattle.language.specs.Syntax.{int, Expr, val, loc, var, plus, left, right, pack, unpack, Cmd, skip, seq, assign, while, case}
+use Rattle.language.specs.Syntax.{int, Part, first, second, pick, Expr, val, loc, var, plus, left, right, pack, unpack, pairing, proj, Cmd, skip, seq, assign, while, case}
 use Rattle.script.specs.declared.Row.{Row}
-use Rattle.script.specs.Lines.{Line, l-skip, l-seq, l-assign, l-while, l-case, l-int, l-loc, l-var, l-plus, l-left, l-right, l-pack, l-unpack, s-int, s-loc, s-var, s-plus, s-left, s-right, s-pack, s-unpack, s-skip, s-seq, s-assign, s-while, s-case, integerOf, exprLines, cmdLines}
+use Rattle.script.specs.Lines.{Line, l-skip, l-seq, l-assign, l-while, l-case, l-int, l-loc, l-var, l-plus, l-left, l-right, l-pack, l-unpack, l-pair, l-proj, s-int, s-loc, s-var, s-plus, s-left, s-right, s-pack, s-unpack, s-pair, s-proj, s-skip, s-seq, s-assign, s-while, s-case, integerOf, exprLines, cmdLines}
 use Rattle.script.specs.Internal.Code.{rowOf, code, rowAt}
 use Rattle.script.specs.Internal.Pieces.{Sort, expression, command, Tree, SourceOf, linesOf, Piece, an-expression, a-command, operandCounts, operandCount}
-use Rattle.script.proofs.Rows.{RowOf, at-skip, at-seq, at-assign, at-while, at-case, at-int, at-loc, at-var, at-plus, at-left, at-right, at-pack, at-unpack, row-of, row-within}
+use Rattle.script.proofs.Rows.{RowOf, at-skip, at-seq, at-assign, at-while, at-case, at-int, at-loc, at-var, at-plus, at-left, at-right, at-pack, at-unpack, at-pair, at-first, at-second, row-of, row-within}
 
 -- ---- a line by the words of its row
 
@@ -28,9 +28,12 @@ pub data View : ℕ → ℕ → ℕ → Line → Type 0 where
   v-right : {t : ℕ} → View 11 t 0 (l-right t)
   v-pack : {l : ℕ} → View 12 l 0 (l-pack l)
   v-unpack : {t l : ℕ} → View 13 t l (l-unpack t l)
+  v-pair : {t : ℕ} → View 14 t 0 (l-pair t)
+  v-first : View 15 0 0 (l-proj first)
+  v-second : View 16 0 0 (l-proj second)
 
 pub view : (l : Line) → View (rowOf l .kind) (rowOf l .a) (rowOf l .b) l
-unfolding rowOf
+unfolding rowOf pick
 view l-skip = v-skip
 view l-seq = v-seq
 view (l-assign x) = v-assign
@@ -44,6 +47,9 @@ view (l-left t) = v-left
 view (l-right t) = v-right
 view (l-pack l) = v-pack
 view (l-unpack t l) = v-unpack
+view (l-pair t) = v-pair
+view (l-proj first) = v-first
+view (l-proj second) = v-second
 
 -- ---- what a line makes
 
@@ -67,6 +73,15 @@ pub data Node : (s : Sort) (ss : List Sort) → ℕ → ℕ → ℕ → Makes ss
   n-right : {t b : ℕ} → Node expression (expression ∷ []) 11 t b (right t)
   n-pack : {l b : ℕ} → Node expression (expression ∷ []) 12 l b (pack l)
   n-unpack : {t l : ℕ} → Node expression (expression ∷ []) 13 t l (unpack t l)
+  n-pair : {t b : ℕ} → Node expression (expression ∷ expression ∷ []) 14 t b (pairing t)
+  n-first : {a b : ℕ} → Node expression (expression ∷ []) 15 a b (proj first)
+  n-second : {a b : ℕ} → Node expression (expression ∷ []) 16 a b (proj second)
+
+-- the line of a part, whichever it is
+pub n-proj : (p : Part) {a b : ℕ} → Node expression (expression ∷ []) (pick p 15 16) a b (proj p)
+unfolding pick
+n-proj first = n-first
+n-proj second = n-second
 
 pub no-node : {s : Sort} {ss : List Sort} {a b : ℕ} {f : Makes ss (Tree s)} → Node s ss 0 a b f → ⊥
 no-node = elim [ ]
@@ -91,6 +106,9 @@ made n-left v-left = λ e u. (s-left u, λ rest. refl)
 made n-right v-right = λ e u. (s-right u, λ rest. refl)
 made n-pack v-pack = λ e u. (s-pack u, λ rest. refl)
 made n-unpack v-unpack = λ e u. (s-unpack u, λ rest. refl)
+made n-pair v-pair = λ e u f v. (s-pair u v, λ rest. refl)
+made n-first v-first = λ e u. (s-proj u, λ rest. refl)
+made n-second v-second = λ e u. (s-proj u, λ rest. refl)
 
 module _ (ws : List ℕ) (at : ℕ) (rest : List Line) where
   -- P holds of what is made of trees whose lines stand one after another behind the line
@@ -113,14 +131,17 @@ module _ (ws : List ℕ) (at : ℕ) (rest : List Line) where
   of-operands n-right (at-right u h) P p = p _ u h
   of-operands n-pack (at-pack u h) P p = p _ u h
   of-operands n-unpack (at-unpack u h) P p = p _ u h
+  of-operands n-pair (at-pair u v h) P p = p _ u _ v h
+  of-operands n-first (at-first u h) P p = p _ u h
+  of-operands n-second (at-second u h) P p = p _ u h
 
 -- ---- what follows a line, by the number of its operands
 
 -- a number that is no kind has no operands
-pub operands-none : (k : ℕ) → (1 ≤ k → k < 14 → ⊥) → 4 ≡ operandCount k
+pub operands-none : (k : ℕ) → (1 ≤ k → k < 17 → ⊥) → 4 ≡ operandCount k
 unfolding operandCount
 operands-none zero f = refl
-operands-none (suc k) f = let g : suc k < 14 → ⊥ = f (omega arith) in sym (List·getD-eq-default operandCounts 4 {n = suc k} (omega arith))
+operands-none (suc k) f = let g : suc k < 17 → ⊥ = f (omega arith) in sym (List·getD-eq-default operandCounts 4 {n = suc k} (omega arith))
 
 module _ (ws : List ℕ) (at : ℕ) where
   pub data Parts (rest : List Line) : ℕ → Type 0 where
@@ -144,6 +165,9 @@ module _ (ws : List ℕ) (at : ℕ) where
   row-parts (at-right s h) = one-part (an-expression s) h
   row-parts (at-pack s h) = one-part (an-expression s) h
   row-parts (at-unpack s h) = one-part (an-expression s) h
+  row-parts (at-pair s r h) = two-parts (an-expression s) (an-expression r) h
+  row-parts (at-first s h) = one-part (an-expression s) h
+  row-parts (at-second s h) = one-part (an-expression s) h
 
   -- what follows the row that was read, where a piece starts
   pub parts : {ls rest : List Line} {row : Row} → row ≡ rowAt ws at → Piece ls rest → drop at ws ≡ code ls → Parts rest (operandCount (row .kind))

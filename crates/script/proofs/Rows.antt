@@ -11,9 +11,9 @@ use borrow.Author.Tests.{le-leb, lt-leb, leb-true, leb-false}
 use lib.Dec.{leb}
 use lib.ListN.{length, getD, drop, length-drop}
 use lib.Seq.{getD-drop, drop-drop}
-use Rattle.language.specs.Syntax.{int, Expr, val, loc, var, plus, left, right, pack, unpack, Cmd, skip, seq, assign, while, case}
+use Rattle.language.specs.Syntax.{int, Part, pick, Expr, val, loc, var, plus, left, right, pack, unpack, pairing, proj, Cmd, skip, seq, assign, while, case}
 use Rattle.script.specs.declared.Row.{Row}
-use Rattle.script.specs.Lines.{Line, SourceE, s-int, s-loc, s-var, s-plus, s-left, s-right, s-pack, s-unpack, Source, s-skip, s-seq, s-assign, s-while, s-case, integerOf, exprLines, cmdLines}
+use Rattle.script.specs.Lines.{Line, SourceE, s-int, s-loc, s-var, s-plus, s-left, s-right, s-pack, s-unpack, s-pair, s-proj, Source, s-skip, s-seq, s-assign, s-while, s-case, integerOf, exprLines, cmdLines}
 use Rattle.script.specs.Internal.Code.{rowWith, rowOf, code, rowAt}
 use Rattle.script.specs.Internal.Pieces.{Sort, expression, command, Tree, SourceOf, linesOf}
 
@@ -54,6 +54,10 @@ module _ (ws : List ℕ) (at : ℕ) where
     at-right : {t : ℕ} {e : Expr} → SourceE e → drop (at + 3) ws ≡ code (exprLines e rest) → RowOf rest expression 11 t 0 (right t e)
     at-pack : {l : ℕ} {e : Expr} → SourceE e → drop (at + 3) ws ≡ code (exprLines e rest) → RowOf rest expression 12 l 0 (pack l e)
     at-unpack : {t l : ℕ} {e : Expr} → SourceE e → drop (at + 3) ws ≡ code (exprLines e rest) → RowOf rest expression 13 t l (unpack t l e)
+    at-pair : {t : ℕ} {e f : Expr} → SourceE e → SourceE f → drop (at + 3) ws ≡ code (exprLines e (exprLines f rest))
+        → RowOf rest expression 14 t 0 (pairing t e f)
+    at-first : {e : Expr} → SourceE e → drop (at + 3) ws ≡ code (exprLines e rest) → RowOf rest expression 15 0 0 (proj Part.first e)
+    at-second : {e : Expr} → SourceE e → drop (at + 3) ws ≡ code (exprLines e rest) → RowOf rest expression 16 0 0 (proj Part.second e)
 
   abbrev pub ExprRow : List Line → ℕ → ℕ → ℕ → Expr → Type 0
   ExprRow rest = RowOf rest expression
@@ -73,7 +77,7 @@ module _ (ws : List ℕ) (at : ℕ) where
 
   expr-row : {rest : List Line} {e : Expr} → SourceE e → drop at ws ≡ code (exprLines e rest)
       → ExprRow rest (rowAt ws at .kind) (rowAt ws at .a) (rowAt ws at .b) e
-  unfolding exprLines code rowOf integerOf
+  unfolding exprLines code rowOf integerOf pick
   expr-row {rest} s-int h = row-read (ExprRow rest) _ _ _ _ _ h at-int
   expr-row {rest} s-loc h = row-read (ExprRow rest) _ _ _ _ _ h at-loc
   expr-row {rest} s-var h = row-read (ExprRow rest) _ _ _ _ _ h at-var
@@ -82,6 +86,9 @@ module _ (ws : List ℕ) (at : ℕ) where
   expr-row {rest} (s-right s) h = row-read (ExprRow rest) _ _ _ _ _ h (at-right s)
   expr-row {rest} (s-pack s) h = row-read (ExprRow rest) _ _ _ _ _ h (at-pack s)
   expr-row {rest} (s-unpack s) h = row-read (ExprRow rest) _ _ _ _ _ h (at-unpack s)
+  expr-row {rest} (s-pair s r) h = row-read (ExprRow rest) _ _ _ _ _ h (at-pair s r)
+  expr-row {rest} (s-proj {p = Part.first} s) h = row-read (ExprRow rest) _ _ _ _ _ h (at-first s)
+  expr-row {rest} (s-proj {p = Part.second} s) h = row-read (ExprRow rest) _ _ _ _ _ h (at-second s)
 
   cmd-row : {rest : List Line} {c : Cmd} → Source c → drop at ws ≡ code (cmdLines c rest)
       → CmdRow rest (rowAt ws at .kind) (rowAt ws at .a) (rowAt ws at .b) c
@@ -121,7 +128,7 @@ module _ (ws : List ℕ) (at : ℕ) where
 -- the kinds of line with which a tree starts
 abbrev pub KindOf : Sort → ℕ → Type 0
 KindOf command k = (1 ≤ k) × (k < 6)
-KindOf expression k = (6 ≤ k) × (k < 14)
+KindOf expression k = (6 ≤ k) × (k < 17)
 
 row-kind : {ws : List ℕ} {at : ℕ} {rest : List Line} {s : Sort} {k a b : ℕ} {x : Tree s} → RowOf ws at rest s k a b x → KindOf s k
 row-kind (at-skip h) = (omega arith, omega arith)
@@ -137,6 +144,9 @@ row-kind (at-left s h) = (omega arith, omega arith)
 row-kind (at-right s h) = (omega arith, omega arith)
 row-kind (at-pack s h) = (omega arith, omega arith)
 row-kind (at-unpack s h) = (omega arith, omega arith)
+row-kind (at-pair s r h) = (omega arith, omega arith)
+row-kind (at-first s h) = (omega arith, omega arith)
+row-kind (at-second s h) = (omega arith, omega arith)
 
 -- no tree starts where the row's kind is none of its sort's
 pub not-here : (s : Sort) (x : Tree s) (rest : List Line) (ws : List ℕ) (at : ℕ) {row : Row} → row ≡ rowAt ws at → (KindOf s (row .kind) → ⊥)

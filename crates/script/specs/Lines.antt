@@ -1,11 +1,11 @@
--- A script's lines (the scope, "The three texts"): the thirteen kinds, and a command's lines in prefix order; and how
--- many an opening takes.
+-- A script's lines (the scope, "The three texts", and request (f)): the sixteen kinds, and a command's lines in prefix
+-- order; and how many an opening takes.
 use mathlib.Core.List.{List, _∷_}
 use mathlib.Core.Option.{Option, none, some}
 use Prim.Native.Nat.{ℕ}
-use Rattle.language.specs.Syntax.{Value, int, err, inl, inr, pkg, blank, Expr, val, loc, var, plus, left, right, pack, unpack, Cmd, skip, seq, assign, while, case, Opening}
+use Rattle.language.specs.Syntax.{Value, int, err, inl, inr, pkg, pair, blank, Part, Expr, val, loc, var, plus, left, right, pack, unpack, pairing, proj, Cmd, skip, seq, assign, while, case, Opening}
 
--- One line of each kind, with its operands' numbers.
+-- One line of each kind, with its operands' numbers; `l-proj` is the line of a first part and that of a second.
 pub data Line : Type 0 where
   l-skip l-seq : Line
   l-assign : ℕ → Line
@@ -14,6 +14,8 @@ pub data Line : Type 0 where
   l-plus : Line
   l-left l-right l-pack : ℕ → Line
   l-unpack : ℕ → ℕ → Line
+  l-pair : ℕ → Line
+  l-proj : Part → Line
 
 -- An expression as a script has it: its only values are integers.
 pub data SourceE : Expr → Type 0 where
@@ -25,6 +27,8 @@ pub data SourceE : Expr → Type 0 where
   s-right : {t : ℕ} {a : Expr} → SourceE a → SourceE (right t a)
   s-pack : {l : ℕ} {a : Expr} → SourceE a → SourceE (pack l a)
   s-unpack : {t l : ℕ} {a : Expr} → SourceE a → SourceE (unpack t l a)
+  s-pair : {t : ℕ} {a b : Expr} → SourceE a → SourceE b → SourceE (pairing t a b)
+  s-proj : {p : Part} {a : Expr} → SourceE a → SourceE (proj p a)
 
 -- A command as a script has it.
 pub data Source : Cmd → Type 0 where
@@ -41,6 +45,7 @@ integerOf (err e) = 0
 integerOf (inl v) = 0
 integerOf (inr v) = 0
 integerOf (pkg h v) = 0
+integerOf (pair v w) = 0
 integerOf blank = 0
 
 -- The lines of an expression in prefix order, then rest.
@@ -53,6 +58,8 @@ exprLines (left t a) rest = l-left t ∷ exprLines a rest
 exprLines (right t a) rest = l-right t ∷ exprLines a rest
 exprLines (pack l a) rest = l-pack l ∷ exprLines a rest
 exprLines (unpack t l a) rest = l-unpack t l ∷ exprLines a rest
+exprLines (pairing t a b) rest = l-pair t ∷ exprLines a (exprLines b rest)
+exprLines (proj p a) rest = l-proj p ∷ exprLines a rest
 
 -- The lines of a command in prefix order, then rest.
 unfoldable pub cmdLines : Cmd → List Line → List Line

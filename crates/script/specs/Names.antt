@@ -5,7 +5,7 @@ use mathlib.Core.Option.{Option, none, some}
 use Prim.Native.Nat.{ℕ, suc, _^_}
 use lib.Dec.{ltb}
 use Rattle.logic.specs.Booleans.{both}
-use Rattle.language.specs.Syntax.{Expr, val, loc, var, plus, left, right, pack, unpack, Cmd, skip, seq, assign, while, case, Opening}
+use Rattle.language.specs.Syntax.{Expr, val, loc, var, plus, left, right, pack, unpack, pairing, proj, Cmd, skip, seq, assign, while, case, Opening}
 use Rattle.script.specs.Lines.{integerOf}
 
 -- How many types, labels and locations a sheet has.
@@ -32,6 +32,8 @@ namedE k d (left t a) = both (ltb t (k .types)) (namedE k d a)
 namedE k d (right t a) = both (ltb t (k .types)) (namedE k d a)
 namedE k d (pack l a) = both (ltb l (k .labels)) (namedE k d a)
 namedE k d (unpack t l a) = both (both (ltb t (k .types)) (ltb l (k .labels))) (namedE k d a)
+namedE k d (pairing t a b) = both (ltb t (k .types)) (both (namedE k d a) (namedE k d b))
+namedE k d (proj p a) = namedE k d a
 
 -- A command likewise. The expression of a case is outside its own binding; the two branches are inside.
 unfoldable pub named : Counts → ℕ → Cmd → Bool

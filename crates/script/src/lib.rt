@@ -30,6 +30,12 @@ pub const PACK: u32 = 12;
 
 pub const UNPACK: u32 = 13;
 
+pub const PAIR: u32 = 14;
+
+pub const FIRST: u32 = 15;
+
+pub const SECOND: u32 = 16;
+
 // The words of a row, and the rows of a script.
 pub const ROW: usize = 3;
 
@@ -88,6 +94,9 @@ pub fn operands(kind: u32) -> u32
         RIGHT => 1,
         PACK => 1,
         UNPACK => 1,
+        PAIR => 2,
+        FIRST => 1,
+        SECOND => 1,
         _ => 4,
     }
 }

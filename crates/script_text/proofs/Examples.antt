@@ -9,7 +9,7 @@ use Rattle.text.specs.Number.{digit, digits, opensDigit, number, decimal, decim
 use Rattle.text.specs.Field.{numberField, lastNumber}
 use Rattle.text.specs.Lines.{front, onward, linesUpTo, printLines}
 use Rattle.logic.specs.Booleans.{both}
-use Rattle.language.specs.Syntax.{loc, var, unpack, Cmd, skip, assign, case}
+use Rattle.language.specs.Syntax.{first, second, pick, loc, var, unpack, pairing, proj, Cmd, skip, assign, case, Script}
 use Rattle.script.specs.Lines.{cmdLines, exprLines, startLines}
 use Rattle.script.specs.Names.{Counts, named, namedE, namedStart}
 use Rattle.script_text.specs.Bytes.{lineBytes, startBytes, scriptBytes}
@@ -69,6 +69,28 @@ refused : (scriptOf counts [] ≡ none) × (scriptOf counts (115 ∷ 10 ∷ 115 
     × (scriptOf counts (115 ∷ []) ≡ none) × (scriptOf counts (115 ∷ 13 ∷ 10 ∷ []) ≡ none)
 unfolding reading-used
 refused = (refl, refl, refl, refl, refl, refl)
+
+-- `= 3`, `p 5`, `f`, `x 2`, `g`, `x 2`
+abbrev paired : List ℕ
+paired = 61 ∷ 9 ∷ 51 ∷ 10 ∷ 112 ∷ 9 ∷ 53 ∷ 10 ∷ 102 ∷ 10 ∷ 120 ∷ 9 ∷ 50 ∷ 10 ∷ 103 ∷ 10 ∷ 120 ∷ 9 ∷ 50 ∷ 10 ∷ []
+
+abbrev pair-script : Script
+pair-script = record { opening = record { start = none }; command = assign 3 (pairing 5 (proj first (loc 2)) (proj second (loc 2))) }
+
+paired-read : scriptOf counts paired ≡ some pair-script
+unfolding reading-used
+paired-read = refl
+
+paired-printed : scriptBytes pair-script ≡ paired
+unfolding decimal decimalOn lineBytes printLines cmdLines exprLines startBytes pick
+paired-printed = refl
+
+-- after `= 3`: a pair of a type that is not there; a pair with one part; a first part with a number
+refused-pairs : (scriptOf counts (61 ∷ 9 ∷ 51 ∷ 10 ∷ 112 ∷ 9 ∷ 54 ∷ 10 ∷ 120 ∷ 9 ∷ 50 ∷ 10 ∷ 120 ∷ 9 ∷ 50 ∷ 10 ∷ []) ≡ none)
+    × (scriptOf counts (61 ∷ 9 ∷ 51 ∷ 10 ∷ 112 ∷ 9 ∷ 53 ∷ 10 ∷ 120 ∷ 9 ∷ 50 ∷ 10 ∷ []) ≡ none)
+    × (scriptOf counts (61 ∷ 9 ∷ 51 ∷ 10 ∷ 102 ∷ 9 ∷ 48 ∷ 10 ∷ 120 ∷ 9 ∷ 50 ∷ 10 ∷ []) ≡ none)
+unfolding reading-used
+refused-pairs = (refl, refl, refl)
 
 -- n cases, each in the left branch of the one before
 nested : ℕ → Cmd

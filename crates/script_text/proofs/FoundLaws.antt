@@ -88,9 +88,10 @@ module _ (s : List ℕ) (i k : ℕ) where
 -- ---- the first field decides
 
 pub other-form : (b : ℕ) → (b ≡ 115 → ⊥) → (b ≡ 59 → ⊥) → (b ≡ 61 → ⊥) → (b ≡ 119 → ⊥) → (b ≡ 99 → ⊥) → (b ≡ 105 → ⊥) → (b ≡ 120 → ⊥)
-    → (b ≡ 118 → ⊥) → (b ≡ 43 → ⊥) → (b ≡ 108 → ⊥) → (b ≡ 114 → ⊥) → (b ≡ 107 → ⊥) → (b ≡ 117 → ⊥) → formOf b ≡ other
+    → (b ≡ 118 → ⊥) → (b ≡ 43 → ⊥) → (b ≡ 108 → ⊥) → (b ≡ 114 → ⊥) → (b ≡ 107 → ⊥) → (b ≡ 117 → ⊥) → (b ≡ 112 → ⊥)
+    → (b ≡ 102 → ⊥) → (b ≡ 103 → ⊥) → formOf b ≡ other
 unfolding formOf
-other-form b n1 n2 n3 n4 n5 n6 n7 n8 n9 n10 n11 n12 n13 =
+other-form b n1 n2 n3 n4 n5 n6 n7 n8 n9 n10 n11 n12 n13 n14 n15 n16 =
     simp (
       ne-eqb b 115 n1,
       ne-eqb b 59 n2,
@@ -105,6 +106,9 @@ other-form b n1 n2 n3 n4 n5 n6 n7 n8 n9 n10 n11 n12 n13 =
       ne-eqb b 114 n11,
       ne-eqb b 107 n12,
       ne-eqb b 117 n13,
+      ne-eqb b 112 n14,
+      ne-eqb b 102 n15,
+      ne-eqb b 103 n16,
     )
 
 module _ (s : List ℕ) (i : ℕ) where

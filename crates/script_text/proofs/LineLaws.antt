@@ -12,7 +12,8 @@ use Rattle.text.specs.Field.{numberField, lineEnd, lastNumber, printNumberField
 use Rattle.text.specs.Lines.{AllGood, LineForm}
 use Rattle.text.proofs.Readings.{not-bad, got-same, andThen-got, andThen-split, byte-here, byte-sound}
 use Rattle.text.proofs.Fields.{number-field-sound, number-field-print, last-number-sound, last-number-print}
-use Rattle.script.specs.Lines.{Line, l-skip, l-seq, l-assign, l-while, l-case, l-int, l-loc, l-var, l-plus, l-left, l-right, l-pack, l-unpack}
+use Rattle.language.specs.Syntax.{Part, first, second, pick}
+use Rattle.script.specs.Lines.{Line, l-skip, l-seq, l-assign, l-while, l-case, l-int, l-loc, l-var, l-plus, l-left, l-right, l-pack, l-unpack, l-pair, l-proj}
 use Rattle.script.specs.Internal.Code.{rowOf}
 use Rattle.script_text.specs.Bytes.{lineBytes}
 use Rattle.script_text.specs.Reading.{Form, bare, one, two, other, formOf, operandsOf, lineOf}
@@ -33,6 +34,8 @@ data Formed : ℕ → Form → Type 0 where
   f-right : Formed 114 (one l-right)
   f-pack : Formed 107 (one l-pack)
   f-unpack : Formed 117 (two l-unpack)
+  f-pair : Formed 112 (one l-pair)
+  f-proj : {p : Part} → Formed (pick p 102 103) (bare (l-proj p))
   f-other : {b : ℕ} → Formed b other
 
 -- a byte is the one that is tested for, or the others are tested
@@ -44,12 +47,13 @@ chosen b k f g p q = go (eqb b k) refl
     go false e = q
 
 form-of : (b : ℕ) → Formed b (formOf b)
-unfolding formOf
+unfolding formOf pick
 form-of b =
     chosen b 115 _ _ f-skip (chosen b 59 _ _ f-seq (chosen b 61 _ _ f-assign (chosen b 119 _ _ f-while
     (chosen b 99 _ _ f-case (chosen b 105 _ _ f-int (chosen b 120 _ _ f-loc (chosen b 118 _ _ f-var
     (chosen b 43 _ _ f-plus (chosen b 108 _ _ f-left (chosen b 114 _ _ f-right (chosen b 107 _ _ f-pack
-    (chosen b 117 _ _ f-unpack f-other))))))))))))
+    (chosen b 117 _ _ f-unpack (chosen b 112 _ _ f-pair (chosen b 102 _ _ (f-proj {p = first}) (chosen b 103 _ _ (f-proj {p = second})
+    f-other)))))))))))))))
 
 -- both operands are numbers of 32 bits
 abbrev pub Fits : Line → Type 0
@@ -98,6 +102,7 @@ formed-sound l t u f-seq e = let r = bare-sound _ l t u e in rw (← r .1, r .0)
 formed-sound l t u f-while e = let r = bare-sound _ l t u e in rw (← r .1, r .0) (refl, (no-operand, no-operand))
 formed-sound l t u f-case e = let r = bare-sound _ l t u e in rw (← r .1, r .0) (refl, (no-operand, no-operand))
 formed-sound l t u f-plus e = let r = bare-sound _ l t u e in rw (← r .1, r .0) (refl, (no-operand, no-operand))
+formed-sound l t u f-proj e = let r = bare-sound _ l t u e in rw (← r .1, r .0) (refl, (no-operand, no-operand))
 formed-sound l t u f-assign e = one-sound l t u _ _ e (λ a x h y. rw (← y, x) (refl, (h, no-operand)))
 formed-sound l t u f-int e = one-sound l t u _ _ e (λ a x h y. rw (← y, x) (refl, (h, no-operand)))
 formed-sound l t u f-loc e = one-sound l t u _ _ e (λ a x h y. rw (← y, x) (refl, (h, no-operand)))
@@ -105,6 +110,7 @@ formed-sound l t u f-var e = one-sound l t u _ _ e (λ a x h y. rw (← y, x) (r
 formed-sound l t u f-left e = one-sound l t u _ _ e (λ a x h y. rw (← y, x) (refl, (h, no-operand)))
 formed-sound l t u f-right e = one-sound l t u _ _ e (λ a x h y. rw (← y, x) (refl, (h, no-operand)))
 formed-sound l t u f-pack e = one-sound l t u _ _ e (λ a x h y. rw (← y, x) (refl, (h, no-operand)))
+formed-sound l t u f-pair e = one-sound l t u _ _ e (λ a x h y. rw (← y, x) (refl, (h, no-operand)))
 formed-sound l t u f-unpack e = two-sound l t u _ _ e (λ a b x h k y. rw (← y, x) (refl, (h, k)))
 formed-sound l t u f-other e = unfold operandsOf in not-bad l u e
 
@@ -132,7 +138,7 @@ module _ (u : List ℕ) where
       ∙ andThen-got _ _ b u (last-number-print most b u k)
 
 line-print : (l : Line) (u : List ℕ) → Fits l → lineOf (lineBytes l u) ≡ got l u
-unfolding lineBytes lineOf formOf rowOf
+unfolding lineBytes lineOf formOf rowOf pick
 line-print l-skip u h = bare-print u l-skip
 line-print l-seq u h = bare-print u l-seq
 line-print (l-assign x) u h = one-print u l-assign x (h .0)
@@ -146,6 +152,9 @@ line-print (l-left t) u h = one-print u l-left t (h .0)
 line-print (l-right t) u h = one-print u l-right t (h .0)
 line-print (l-pack l) u h = one-print u l-pack l (h .0)
 line-print (l-unpack t l) u h = two-print u l-unpack t l (h .0) (h .1)
+line-print (l-pair t) u h = one-print u l-pair t (h .0)
+line-print (l-proj first) u h = bare-print u (l-proj first)
+line-print (l-proj second) u h = bare-print u (l-proj second)
 
 -- ---- the form of lines
 
@@ -165,6 +174,8 @@ line-before (l-left t) u = simp append-assoc
 line-before (l-right t) u = simp append-assoc
 line-before (l-pack l) u = simp append-assoc
 line-before (l-unpack t l) u = simp append-assoc
+line-before (l-pair t) u = simp append-assoc
+line-before (l-proj p) u = refl
 
 -- each line is read exactly where it stands printed
 pub script-lines : LineForm lineOf lineBytes Fits

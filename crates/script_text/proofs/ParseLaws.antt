@@ -4,8 +4,8 @@ use mathlib.Core.List.{List, [], _∷_}
 use mathlib.Core.Option.{Option, none, some}
 use Prim.Native.Nat.{ℕ}
 use Rattle.logic.proofs.OptionLaws.{none-some, some-path}
-use Rattle.language.specs.Syntax.{Expr, plus, left, right, pack, unpack, Cmd, seq, assign, while, case}
-use Rattle.script.specs.Lines.{Line, l-skip, l-seq, l-assign, l-while, l-case, l-int, l-loc, l-var, l-plus, l-left, l-right, l-pack, l-unpack, SourceE, s-int, s-loc, s-var, s-plus, s-left, s-right, s-pack, s-unpack, Source, s-skip, s-seq, s-assign, s-while, s-case, integerOf, exprLines, cmdLines}
+use Rattle.language.specs.Syntax.{Expr, plus, left, right, pack, unpack, pairing, proj, Cmd, seq, assign, while, case}
+use Rattle.script.specs.Lines.{Line, l-skip, l-seq, l-assign, l-while, l-case, l-int, l-loc, l-var, l-plus, l-left, l-right, l-pack, l-unpack, l-pair, l-proj, SourceE, s-int, s-loc, s-var, s-plus, s-left, s-right, s-pack, s-unpack, s-pair, s-proj, Source, s-skip, s-seq, s-assign, s-while, s-case, integerOf, exprLines, cmdLines}
 use Rattle.script_text.specs.Internal.Parse.{Tree, ex, cm, Stack, popE, popC, onStack, pushOn, stackOf, onlyCommand, parse}
 
 -- ---- the lines of a tree leave the tree on the stack
@@ -47,6 +47,8 @@ stack-expr rest (s-left s) = rw (stack-expr rest s) (push-1 _ _ _ _ (λ st. refl
 stack-expr rest (s-right s) = rw (stack-expr rest s) (push-1 _ _ _ _ (λ st. refl))
 stack-expr rest (s-pack s) = rw (stack-expr rest s) (push-1 _ _ _ _ (λ st. refl))
 stack-expr rest (s-unpack s) = rw (stack-expr rest s) (push-1 _ _ _ _ (λ st. refl))
+stack-expr rest (s-pair {b = b} s r) = rw (stack-expr (exprLines b rest) s, stack-expr rest r) (push-2 _ _ _ _ _ (λ st. refl))
+stack-expr rest (s-proj s) = rw (stack-expr rest s) (push-1 _ _ _ _ (λ st. refl))
 
 stack-cmd : {c : Cmd} (rest : List Line) → Source c → stackOf (cmdLines c rest) ≡ topped (cm c) (stackOf rest)
 unfolding stackOf cmdLines onStack popE popC
@@ -128,10 +130,13 @@ assign-c : {ls : List Line} {st : Stack} {e : Expr} {u : Stack} (x : ℕ) → ls
 unfolding stackLines cmdLines
 assign-c x h (has-e s q) = record { lines = ap (λ (r : List Line). l-assign x ∷ r) h; sources = on-cmd (s-assign s) q }
 
-plus-e : {ls : List Line} {st : Stack} {a b : Expr} {u w : Stack} → ls ≡ stackLines st → HasE st a u → HasE u b w
-    → StackHolds (l-plus ∷ ls) (ex (plus a b) ∷ w)
-unfolding stackLines exprLines
-plus-e h (has-e s p) (has-e r q) = record { lines = ap (λ (r : List Line). l-plus ∷ r) h; sources = on-expr (s-plus s r) q }
+-- two operands, expressions, make an expression
+two-e : {ls : List Line} {st : Stack} {l : Line} {a b : Expr} {u w : Stack} (f : Expr → Expr → Expr) → ls ≡ stackLines st → HasE st a u → HasE u b w
+    → ((a b : Expr) → SourceE a → SourceE b → SourceE (f a b))
+    → ((a b : Expr) (rest : List Line) → l ∷ exprLines a (exprLines b rest) ≡ exprLines (f a b) rest)
+    → StackHolds (l ∷ ls) (ex (f a b) ∷ w)
+unfolding stackLines
+two-e {l = l} f h (has-e s p) (has-e r q) g k = record { lines = ap (λ (r : List Line). l ∷ r) h ∙ k _ _ _; sources = on-expr (g _ _ s r) q }
 
 seq-c : {ls : List Line} {st : Stack} {a b : Cmd} {u w : Stack} → ls ≡ stackLines st → HasC st a u → HasC u b w
     → StackHolds (l-seq ∷ ls) (cm (seq a b) ∷ w)
@@ -159,11 +164,15 @@ push-sound l-case {r = r} h q e =
 push-sound (l-int n) h q e = onto e (leaf-e h s-int q (λ rest. refl))
 push-sound (l-loc x) h q e = onto e (leaf-e h s-loc q (λ rest. refl))
 push-sound (l-var d) h q e = onto e (leaf-e h s-var q (λ rest. refl))
-push-sound l-plus {r = r} h q e = popE-split r q _ e (λ a u x f. popE-split r (under-e x) _ f (λ b w y g. onto g (plus-e h x y)))
+push-sound l-plus {r = r} h q e =
+    popE-split r q _ e (λ a u x f. popE-split r (under-e x) _ f (λ b w y g. onto g (two-e plus h x y (λ c d. s-plus) (λ c d rest. refl))))
 push-sound (l-left t) {r = r} h q e = popE-split r q _ e (λ a u x f. onto f (one-e (left t) h x (λ b. s-left) (λ b rest. refl)))
 push-sound (l-right t) {r = r} h q e = popE-split r q _ e (λ a u x f. onto f (one-e (right t) h x (λ b. s-right) (λ b rest. refl)))
 push-sound (l-pack l) {r = r} h q e = popE-split r q _ e (λ a u x f. onto f (one-e (pack l) h x (λ b. s-pack) (λ b rest. refl)))
 push-sound (l-unpack t l) {r = r} h q e = popE-split r q _ e (λ a u x f. onto f (one-e (unpack t l) h x (λ b. s-unpack) (λ b rest. refl)))
+push-sound (l-pair t) {r = r} h q e =
+    popE-split r q _ e (λ a u x f. popE-split r (under-e x) _ f (λ b w y g. onto g (two-e (pairing t) h x y (λ c d. s-pair) (λ c d rest. refl))))
+push-sound (l-proj p) {r = r} h q e = popE-split r q _ e (λ a u x f. onto f (one-e (proj p) h x (λ b. s-proj) (λ b rest. refl)))
 
 pushOn-sound : (l : Line) (o : Option Stack) (ls : List Line) (r : Stack) → ((st : Stack) → o ≡ some st → StackHolds ls st)
     → pushOn l o ≡ some r → StackHolds (l ∷ ls) r

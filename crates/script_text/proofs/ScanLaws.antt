@@ -33,6 +33,16 @@ both-tests t l a g h = h ∙ rw (g, both-assoc t l (a .ok))
 lines-then : (s : Sort) (x : Tree s) {ls mid end : List Line} → ls ≡ linesOf s x mid → mid ≡ end → ls ≡ linesOf s x end
 lines-then s x p q = p ∙ ap (linesOf s x) q
 
+-- a tree that is found, with a test beside it
+tested : {s : Sort} {names : Tree s → Bool} {ws : List ℕ} {at : ℕ} {test want : Bool} {a : Scanned} → test ≡ want → Scans s names ws at a
+    → Scans s (λ x. both want (names x)) ws at (record { ok = both test (a .ok); next = a .next })
+tested p sa =
+    rw (← p) (record {
+      forward = sa .forward;
+      sound = λ ls h t. let g = sa .sound ls h (both-right _ _ t) in (g .0, g .1, g .2, both-true (both-left _ _ t) (g .3), g .4, g .5);
+      complete = λ x rest u m h. let g = sa .complete x rest u (both-right _ _ m) h in (both-true (both-left _ _ m) (g .0), g .1);
+    })
+
 -- ---- what is found at a row, from its operands
 
 module _ {s : Sort} {names : Tree s → Bool} {ws : List ℕ} {at : ℕ} {row : Row} (q : row ≡ rowAt ws at) where
@@ -79,6 +89,12 @@ module _ {s : Sort} {names : Tree s → Bool} {ws : List ℕ} {at : ℕ} {row : 
       let g = sa .complete x rest u (both-right _ _ m′) h in
       (both-true (both-left _ _ m′) (g .0), g .1)))
 
+  -- one operand, and no number of the line's own
+  pub scan-operand : {t : Sort} {namesT : Tree t → Bool} {k : ℕ} {f : Tree t → Tree s} {a : Scanned} → Node s (t ∷ []) k (row .a) (row .b) f
+      → row .kind ≡ k → Scans t namesT ws (at + 3) a → ((x : Tree t) → names (f x) ≡ namesT x) → Scans s names ws at a
+  unfolding both
+  scan-operand n k sa i = scan-one {test = true} n k refl sa refl i
+
   pub scan-two : {t v : Sort} {namesT : Tree t → Bool} {namesV : Tree v → Bool} {k : ℕ} {f : Tree t → Tree v → Tree s} {a b r : Scanned}
       → Node s (t ∷ v ∷ []) k (row .a) (row .b) f → row .kind ≡ k → Scans t namesT ws (at + 3) a
       → Scans v namesV ws (a .next) b → r ≡ record { ok = both (a .ok) (b .ok); next = b .next }
@@ -101,6 +117,13 @@ module _ {s : Sort} {names : Tree s → Bool} {ws : List ℕ} {at : ℕ} {row : 
       let g = sa .complete x (linesOf v y rest) u (both-left _ _ m′) h in
       let g′ = sb .complete y rest w (both-right _ _ m′) (g .1) in
       (both-true (g .0) (g′ .0), g′ .1)))
+
+  -- two operands, and a test of the line's own numbers
+  pub scan-two-tested : {t v : Sort} {namesT : Tree t → Bool} {namesV : Tree v → Bool} {k : ℕ} {f : Tree t → Tree v → Tree s} {test want : Bool}
+      {a b c r : Scanned} → Node s (t ∷ v ∷ []) k (row .a) (row .b) f → row .kind ≡ k → test ≡ want → Scans t namesT ws (at + 3) a
+      → Scans v namesV ws (a .next) b → c ≡ record { ok = both (a .ok) (b .ok); next = b .next } → r ≡ record { ok = both test (c .ok); next = c .next }
+      → ((x : Tree t) (y : Tree v) → names (f x y) ≡ both want (both (namesT x) (namesV y))) → Scans s names ws at r
+  scan-two-tested n k p sa sb d e i = scan-two n k (tested p sa) sb (both-tests _ _ _ d e) (λ x y. i x y ∙ both-assoc _ _ _)
 
   -- nothing is found where the row's kind is another
   pub scan-none : (KindOf s (row .kind) → ⊥) → Scans s names ws at (record { ok = false; next = at })

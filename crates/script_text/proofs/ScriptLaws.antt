@@ -17,7 +17,7 @@ use Rattle.logic.proofs.OptionLaws.{none-some, some-path}
 use Rattle.text.proofs.Lines.{lines-exact}
 use Rattle.language.specs.Syntax.{Expr, Cmd, Opening, Script}
 use Rattle.logic.proofs.BooleanLaws.{both-left, both-right, cond-split}
-use Rattle.script.specs.Lines.{Line, l-skip, l-seq, l-assign, l-while, l-case, l-int, l-loc, l-var, l-plus, l-left, l-right, l-pack, l-unpack, SourceE, s-int, s-loc, s-var, s-plus, s-left, s-right, s-pack, s-unpack, Source, s-skip, s-seq, s-assign, s-while, s-case, integerOf, exprLines, cmdLines, openingLines}
+use Rattle.script.specs.Lines.{Line, l-skip, l-seq, l-assign, l-while, l-case, l-int, l-loc, l-var, l-plus, l-left, l-right, l-pack, l-unpack, l-pair, l-proj, SourceE, s-int, s-loc, s-var, s-plus, s-left, s-right, s-pack, s-unpack, s-pair, s-proj, Source, s-skip, s-seq, s-assign, s-while, s-case, integerOf, exprLines, cmdLines, openingLines}
 use Rattle.script.specs.Internal.Code.{rowOf}
 use Rattle.script.specs.Names.{Counts, maxDepth, namedE, named, namedStart, namedOpening, maxLines}
 use Rattle.sheet.specs.Sheet.{Sheet, labelCount, locationCount, formed, maxLabels}
@@ -63,6 +63,11 @@ module _ (k : Counts) (narrow : Narrow k) where
       let t = both-left _ _ n in
       and-then {l = l-unpack x y} (small x (k .types) (both-left _ _ t) (omega (arith, narrow .types)), small y (k .labels) (both-right _ _ t) (omega (arith, narrow .labels)))
       (fit-expr d s h (both-right _ _ n) r)
+  fit-expr d (s-pair {t = x} s q) h n r =
+      let m = both-right _ _ n in
+      and-then {l = l-pair x} (small x (k .types) (both-left _ _ n) (omega (arith, narrow .types)), omega arith)
+      (fit-expr d s h (both-left _ _ m) (fit-expr d q h (both-right _ _ m) r))
+  fit-expr d (s-proj {p = p} s) h n r = and-then {l = l-proj p} (omega arith, omega arith) (fit-expr d s h n r)
 
   fit-cmd : {c : Cmd} {rest : List Line} (d : ℕ) → Source c → d ≤ maxDepth → named k d c ≡ true → AllFit rest → AllFit (cmdLines c rest)
   unfolding cmdLines named rowOf
@@ -195,7 +200,7 @@ unfolding labelCount locationCount
 sheet-narrow s h =
     let f = formed-facts s h in
     record
-    { types = omega (arith, type-count s, f .few-sums); labels = omega (arith, f .few-labels); locations = omega (arith, f .few-locations) }
+    { types = omega (arith, type-count s, f .few-compounds); labels = omega (arith, f .few-labels); locations = omega (arith, f .few-locations) }
 
 pub script-exact : ScriptExact
 unfolding labelCount

@@ -5,10 +5,10 @@ use mathlib.Core.Option.{Option, none, some}
 use Prim.Native.Nat.{ℕ}
 use Rattle.text.specs.Field.{printNumberField, printLineEnd}
 use Rattle.text.specs.Lines.{printLines}
-use Rattle.language.specs.Syntax.{Opening, Script}
-use Rattle.script.specs.Lines.{Line, cmdLines, l-skip, l-seq, l-assign, l-while, l-case, l-int, l-loc, l-var, l-plus, l-left, l-right, l-pack, l-unpack}
+use Rattle.language.specs.Syntax.{pick, Opening, Script}
+use Rattle.script.specs.Lines.{Line, cmdLines, l-skip, l-seq, l-assign, l-while, l-case, l-int, l-loc, l-var, l-plus, l-left, l-right, l-pack, l-unpack, l-pair, l-proj}
 
--- The bytes of a line, then rest. The kinds are s ; = w c i x v + l r k u.
+-- The bytes of a line, then rest. The kinds are s ; = w c i x v + l r k u p f g.
 unfoldable pub lineBytes : Line → List ℕ → List ℕ
 lineBytes l-skip rest = 115 ∷ printLineEnd rest
 lineBytes l-seq rest = 59 ∷ printLineEnd rest
@@ -23,6 +23,8 @@ lineBytes (l-left t) rest = 108 ∷ printNumberField t (printLineEnd rest)
 lineBytes (l-right t) rest = 114 ∷ printNumberField t (printLineEnd rest)
 lineBytes (l-pack l) rest = 107 ∷ printNumberField l (printLineEnd rest)
 lineBytes (l-unpack t l) rest = 117 ∷ printNumberField t (printNumberField l (printLineEnd rest))
+lineBytes (l-pair t) rest = 112 ∷ printNumberField t (printLineEnd rest)
+lineBytes (l-proj p) rest = pick p 102 103 ∷ printLineEnd rest
 
 -- the bytes of a command's lines
 abbrev pub linesBytes : List Line → List ℕ

@@ -1,4 +1,4 @@
--- How a script's text is read into lines: "The first field decides among thirteen kinds of line." Ahead of them there
+-- How a script's text is read into lines: "The first field decides among" sixteen "kinds of line." Ahead of them there
 -- may be an opening, `b label`, one of a script's lines (request (d)).
 use mathlib.Core.Bool.{cond}
 use mathlib.Core.List.{List, [], _∷_}
@@ -10,8 +10,8 @@ use Rattle.text.specs.Reading.Read.{got, bad}
 use Rattle.text.specs.Number.{most}
 use Rattle.text.specs.Field.{numberField, lineEnd, lastNumber}
 use Rattle.text.specs.Lines.{linesUpTo}
-use Rattle.language.specs.Syntax.{Opening}
-use Rattle.script.specs.Lines.{Line, openingLines, l-skip, l-seq, l-assign, l-while, l-case, l-int, l-loc, l-var, l-plus, l-left, l-right, l-pack, l-unpack}
+use Rattle.language.specs.Syntax.{first, second, Opening}
+use Rattle.script.specs.Lines.{Line, openingLines, l-skip, l-seq, l-assign, l-while, l-case, l-int, l-loc, l-var, l-plus, l-left, l-right, l-pack, l-unpack, l-pair, l-proj}
 use Rattle.script.specs.Names.{maxLines}
 use Rattle.sheet.specs.Sheet.{maxLabels}
 
@@ -37,7 +37,10 @@ formOf b =
     (cond (eqb b 108) (one l-left)
     (cond (eqb b 114) (one l-right)
     (cond (eqb b 107) (one l-pack)
-    (cond (eqb b 117) (two l-unpack) other))))))))))))
+    (cond (eqb b 117) (two l-unpack)
+    (cond (eqb b 112) (one l-pair)
+    (cond (eqb b 102) (bare (l-proj first))
+    (cond (eqb b 103) (bare (l-proj second)) other)))))))))))))))
 
 -- what is left of a line of a form: its operands and its end
 unfoldable pub operandsOf : Form → List ℕ → Read Line

@@ -19,14 +19,17 @@ use reader::Reader;
 use script::ASSIGN;
 use script::CASE;
 use script::DEPTH;
+use script::FIRST;
 use script::INT;
 use script::LEFT;
 use script::LOC;
 use script::PACK;
+use script::PAIR;
 use script::PLUS;
 use script::RIGHT;
 use script::ROW;
 use script::ROWS;
+use script::SECOND;
 use script::SEQ;
 use script::SKIP;
 use script::UNPACK;
@@ -162,6 +165,9 @@ fn line_at(s: &[u8], at: usize) -> Found
         b'r' => one_operand(s, at + 1, RIGHT),
         b'k' => one_operand(s, at + 1, PACK),
         b'u' => two_operands(s, at + 1, UNPACK),
+        b'p' => one_operand(s, at + 1, PAIR),
+        b'f' => bare_line(s, at + 1, FIRST),
+        b'g' => bare_line(s, at + 1, SECOND),
         _ => Found::Refused,
     }
 }
@@ -357,17 +363,25 @@ fn scan_expr(code: &[u32], at: usize, table: &[sheet::Word], depth: u32) -> Scan
             next: at + ROW,
         },
         // One call for the operand that each of these starts with, since each call takes its own place in every frame.
-        PLUS | LEFT | RIGHT | PACK | UNPACK => {
+        PLUS | LEFT | RIGHT | PACK | UNPACK | PAIR | FIRST | SECOND => {
             let e = scan_expr(code, at + ROW, table, depth);
             match kind {
-                PLUS => {
+                // And one for a second operand.
+                PLUS | PAIR => {
                     let mid = e.next;
-                    also(e.ok, scan_expr(code, mid, table, depth))
+                    let f = also(e.ok, scan_expr(code, mid, table, depth));
+                    if kind == PAIR {
+                        also(is_type(table, a), f)
+                    } else {
+                        f
+                    }
                 }
                 LEFT => also(is_type(table, a), e),
                 RIGHT => also(is_type(table, a), e),
                 PACK => also(is_label(table, a), e),
                 UNPACK => also(is_type(table, a), also(is_label(table, row.b), e)),
+                FIRST => e,
+                SECOND => e,
                 _ => Scanned {
                     ok: false,
                     next: at,

@@ -1,14 +1,14 @@
--- Laws of `every` and `tab`, for loops that test one place a turn or fill one.
+-- Laws of `every` and `tab`, for loops that test one place a turn or fill one; and of stores, one run after another.
 -- Assumes nothing.
 use mathlib.Core.Path.{_≡_, refl, sym, ap, ap₂, _∙_}
 use mathlib.Core.Bool.{Bool, true, false}
 use mathlib.Core.List.{List, [], _∷_, _++_}
 use Prim.Native.Nat.{ℕ, zero, suc, _+_, _<_, _≤_, suc-le-suc}
-use native.Mathlib.Nat.{not-suc-le-zero, le-of-suc-le-suc, zero-lt-suc}
+use native.Mathlib.Nat.{not-suc-le-zero, le-of-suc-le-suc, zero-lt-suc, add-suc, suc-add, add-zero}
 use native.Mathlib.Omega.{arith}
 use native.Mathlib.Numerals.{add-one}
 use lib.ListN.{length, getD, set, drop}
-use lib.Seq.{set-getD}
+use lib.Seq.{set-getD, sets}
 use lib.Dec.{ltb}
 use borrow.Author.Tests.{ltb-true, ltb-false}
 use Rattle.logic.specs.Booleans.{both}
@@ -135,3 +135,10 @@ module _ (f : ℕ → ℕ) (n : ℕ) (d xs : List ℕ) (inv : xs ≡ filled f n 
 
   pub fill-end : (m : ℕ) → n ≡ m → length d ≡ m → xs ≡ tab m f
   fill-end m e g = inv ∙ ap (λ (k : ℕ). filled f k d) e ∙ filled-all f m d g
+
+-- ---- one run of stores after another
+pub sets-append : (l : List ℕ) (i : ℕ) (xs ys : List ℕ) → sets l i (xs ++ ys) ≡ sets (sets l i xs) (i + length xs) ys
+sets-append l i [] ys = rw add-zero
+sets-append l i (x ∷ xs) ys =
+    sets-append (set l i x) (suc i) xs ys
+    ∙ ap (λ (k : ℕ). sets (sets (set l i x) (suc i) xs) k ys) (suc-add i (length xs) ∙ sym (add-suc i (length xs)))

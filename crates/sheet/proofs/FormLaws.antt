@@ -11,16 +11,16 @@ use borrow.Author.Tests.{ltb-true, leb-true}
 use Rattle.logic.proofs.BooleanLaws.{both-left, both-right}
 use Rattle.sets.proofs.Walks.{by-below}
 use Rattle.labels.specs.Labels.{Policy}
-use Rattle.sheet.specs.Internal.Tables.{givenParts, typeParts, partsNo}
-use Rattle.sheet.specs.Sheet.{Sum, Location, Sheet, typeCount, labelCount, locationNo, locationCount, earlierTypes, rising, eachRising, eachNamed, maxPrincipals, maxSums, maxLabels, maxLocations, formed}
+use Rattle.sheet.specs.Internal.Tables.{noParts, givenParts, typeParts, partsNo}
+use Rattle.sheet.specs.Sheet.{Compound, Location, Sheet, typeCount, labelCount, locationNo, locationCount, earlierTypes, rising, eachRising, eachNamed, maxPrincipals, maxCompounds, maxLabels, maxLocations, formed}
 
 -- ---- the form
 
 pub record Formed (s : Sheet) : Type 0 where
   pub some-principal : 1 ≤ s .principals
   pub few-principals : s .principals ≤ maxPrincipals
-  pub few-sums : length (s .sums) ≤ maxSums
-  pub sums-earlier : earlierTypes 5 (s .sums) ≡ true
+  pub few-compounds : length (s .compounds) ≤ maxCompounds
+  pub compounds-earlier : earlierTypes 5 (s .compounds) ≡ true
   pub few-labels : length (s .labels) ≤ maxLabels
   pub labels-rising : eachRising (s .principals) (s .labels) ≡ true
   pub few-locations : length (s .locations) ≤ maxLocations
@@ -38,8 +38,8 @@ formed-facts s h =
     record {
       some-principal = leb-true _ _ (both-left _ _ a);
       few-principals = leb-true _ _ (both-right _ _ a);
-      few-sums = leb-true _ _ (both-left _ _ b);
-      sums-earlier = both-right _ _ b;
+      few-compounds = leb-true _ _ (both-left _ _ b);
+      compounds-earlier = both-right _ _ b;
       few-labels = leb-true _ _ (both-left _ _ c);
       labels-rising = both-right _ _ c;
       few-locations = leb-true _ _ (both-left _ _ d);
@@ -48,7 +48,7 @@ formed-facts s h =
 
 -- ---- counts
 
-pub type-count : (s : Sheet) → typeCount s ≡ 5 + length (s .sums)
+pub type-count : (s : Sheet) → typeCount s ≡ 5 + length (s .compounds)
 unfolding typeCount
 type-count s = refl
 
@@ -61,13 +61,13 @@ pub locations-few : (s : Sheet) → formed s ≡ true → locationCount s ≤ ma
 unfolding locationCount
 locations-few s fm = formed-facts s fm .few-locations
 
-pub parts-past : (s : Sheet) (n : ℕ) → typeCount s ≤ n → partsNo s n ≡ record { left = 0; right = 0 }
+pub parts-past : (s : Sheet) (n : ℕ) → typeCount s ≤ n → partsNo s n ≡ noParts
 unfolding partsNo
 parts-past s n h = List·getD-eq-default (typeParts s) _ {n = n} (omega (arith, parts-count s))
 
 -- ---- names
 
-earlier-at : (k : ℕ) (ss : List Sum) → earlierTypes k ss ≡ true → (i : ℕ) (d : Sum) → i < length ss
+earlier-at : (k : ℕ) (ss : List Compound) → earlierTypes k ss ≡ true → (i : ℕ) (d : Compound) → i < length ss
     → (getD ss i d .left < k + i) × (getD ss i d .right < k + i)
 unfolding earlierTypes
 earlier-at k [] e i d h = absurd (omega arith)
@@ -97,7 +97,7 @@ module _ (s : Sheet) (fm : formed s ≡ true) where
   facts : Formed s
   facts = formed-facts s fm
 
-  -- the parts of a sum are earlier types
+  -- the parts of a sum and of a pair are earlier types
   pub parts-earlier : (n : ℕ) → 3 ≤ n → n < typeCount s → (partsNo s n .left < n) × (partsNo s n .right < n)
   unfolding partsNo typeParts givenParts
   parts-earlier zero h k = absurd (omega arith)
@@ -106,7 +106,7 @@ module _ (s : Sheet) (fm : formed s ≡ true) where
   parts-earlier (suc (suc (suc zero))) h k = (omega arith, omega arith)
   parts-earlier (suc (suc (suc (suc zero)))) h k = (omega arith, omega arith)
   parts-earlier (suc (suc (suc (suc (suc i))))) h k =
-      let (l, r) = earlier-at 5 (s .sums) (facts .sums-earlier) i (record { left = 0; right = 0 }) (omega (arith, type-count s)) in
+      let (l, r) = earlier-at 5 (s .compounds) (facts .compounds-earlier) i noParts (omega (arith, type-count s)) in
       (omega arith, omega arith)
 
   -- every number has parts that are there

@@ -13,8 +13,10 @@ use Rattle.sets.proofs.Walks.{by-below}
 use Rattle.sets.specs.Sets.{everyone}
 use Rattle.labels.specs.Labels.{labelOf, bottomOf, sameOf}
 use Rattle.labels.proofs.OrderLaws.{same-refl}
-use Rattle.sheet.specs.Internal.Tables.{givenParts, typeParts, partsNo}
-use Rattle.sheet.specs.Sheet.{Sum, Sheet, typeCount, labelsOf, labelNo, labelCount, among, repeated, sameParts, givenSums, repeats}
+use Rattle.sheet.specs.declared.Kind.{Kind}
+use Rattle.sheet.specs.declared.Kind.the-variants.{Sum, Pair}
+use Rattle.sheet.specs.Internal.Tables.{noParts, givenParts, typeParts, partsNo}
+use Rattle.sheet.specs.Sheet.{Compound, Sheet, typeCount, labelsOf, labelNo, labelCount, among, repeated, sameKind, sameCompound, givenSums, repeats}
 
 module _ {A : Type 0} (same : A → A → Bool) (d : A) where
   among-at : (x : A) (xs : List A) (j : ℕ) → j < length xs → same x (getD xs j d) ≡ true → among same x xs ≡ true
@@ -43,26 +45,30 @@ unfolding either
 neither true b e = absurd (absurd-false (sym e))
 neither false b e = (refl, e)
 
-parts-same : (a b : Sum) → a .left ≡ b .left → a .right ≡ b .right → sameParts a b ≡ true
-unfolding sameParts
-parts-same a b p q = both-true (eq-eqb _ _ p) (eq-eqb _ _ q)
+pub same-kind : (k : Kind) → sameKind k k ≡ true
+unfolding sameKind
+same-kind Sum = refl
+same-kind Pair = refl
 
--- two sums with the same parts have the same number
+compounds-same : (a b : Compound) → a .kind ≡ b .kind → a .left ≡ b .left → a .right ≡ b .right → sameCompound a b ≡ true
+unfolding sameCompound
+compounds-same a b k p q = both-true (rw k (same-kind (b .kind))) (both-true (eq-eqb _ _ p) (eq-eqb _ _ q))
+
+-- two types of one kind with the same parts have the same number
 pub parts-once : (s : Sheet) → repeats s ≡ false → (m n : ℕ) → 3 ≤ m → m < typeCount s → 3 ≤ n → n < typeCount s
-    → partsNo s m .left ≡ partsNo s n .left → partsNo s m .right ≡ partsNo s n .right → m ≡ n
+    → partsNo s m .kind ≡ partsNo s n .kind → partsNo s m .left ≡ partsNo s n .left → partsNo s m .right ≡ partsNo s n .right → m ≡ n
 unfolding repeats partsNo typeParts typeCount givenParts
-parts-once s once zero n h k h′ k′ p q = absurd (omega arith)
-parts-once s once (suc zero) n h k h′ k′ p q = absurd (omega arith)
-parts-once s once (suc (suc zero)) n h k h′ k′ p q = absurd (omega arith)
-parts-once s once (suc (suc (suc i))) zero h k h′ k′ p q = absurd (omega arith)
-parts-once s once (suc (suc (suc i))) (suc zero) h k h′ k′ p q = absurd (omega arith)
-parts-once s once (suc (suc (suc i))) (suc (suc zero)) h k h′ k′ p q = absurd (omega arith)
-parts-once s once (suc (suc (suc i))) (suc (suc (suc j))) h k h′ k′ p q =
-    let no-parts : Sum = record { left = 0; right = 0 } in
-    let e =
-    same-place sameParts no-parts (givenSums ++ s .sums) (neither _ _ once .0) i j (omega arith) (omega arith)
-    (parts-same _ _ p q) (parts-same _ _ (sym p) (sym q)) in
-    omega (arith, e)
+parts-once s once zero n h k h′ k′ e p q = absurd (omega arith)
+parts-once s once (suc zero) n h k h′ k′ e p q = absurd (omega arith)
+parts-once s once (suc (suc zero)) n h k h′ k′ e p q = absurd (omega arith)
+parts-once s once (suc (suc (suc i))) zero h k h′ k′ e p q = absurd (omega arith)
+parts-once s once (suc (suc (suc i))) (suc zero) h k h′ k′ e p q = absurd (omega arith)
+parts-once s once (suc (suc (suc i))) (suc (suc zero)) h k h′ k′ e p q = absurd (omega arith)
+parts-once s once (suc (suc (suc i))) (suc (suc (suc j))) h k h′ k′ e p q =
+    let i≡j =
+    same-place sameCompound noParts (givenSums ++ s .compounds) (neither _ _ once .0) i j (omega arith) (omega arith)
+    (compounds-same _ _ e p q) (compounds-same _ _ (sym e) (sym p) (sym q)) in
+    omega (arith, i≡j)
 
 -- two labels with the same sets have the same number
 pub label-once : (s : Sheet) → repeats s ≡ false → (l m : ℕ) → l < labelCount s → m < labelCount s → labelNo s l ≡ labelNo s m → l ≡ m

@@ -2,7 +2,7 @@
 use mathlib.Core.Path.{_≡_, refl, sym, ap, ap₂, _∙_}
 use mathlib.Core.Bool.{true}
 use mathlib.Core.List.{List, [], _∷_, _++_, append-assoc, append-nil, map, map-append}
-use Prim.Native.Nat.{ℕ, suc, _+_, _*_, _-_, _<_, _≤_}
+use Prim.Native.Nat.{ℕ, suc, _+_, _*_, _-_, _%_, _<_, _≤_}
 use native.Mathlib.Omega.{arith}
 use native.Mathlib.Nat.{mod-eq-of-lt}
 use lib.ListN.{length, getD, set, replicate, length-append, length-replicate, replicate-append-replicate, length-map}
@@ -17,13 +17,15 @@ use Rattle.labels.specs.declared.Label.{Label}
 use Rattle.labels.proofs.PolicyLaws.{policy-whole}
 use Rattle.labels.proofs.OrderLaws.{whole-intro}
 use Rattle.labels.proofs.TableLaws.{length-words, put-middle}
-use Rattle.sheet.specs.Sheet.{Sum, Location, Sheet, typeCount, labelsOf, labelNo, labelCount, locationCount, maxPrincipals, maxLabels, maxLocations, formed}
+use Rattle.sheet.specs.declared.Kind.{Kind}
+use Rattle.sheet.specs.declared.Kind.the-variants.{Sum, Pair}
+use Rattle.sheet.specs.Sheet.{Compound, Location, Sheet, typeCount, labelsOf, labelNo, labelCount, locationCount, maxPrincipals, maxLabels, maxLocations, formed}
 use Rattle.sheet.specs.Padding.{padded}
-use Rattle.sheet.specs.Internal.Tables.{maxTypes, partsRoom, locationsRoom, labelsRoom, partsBase, locationsBase, partsPlace, labelPlace, tableWords, typesAt, labelsAt, locationsAt, pairWords, partWords, locationWords, labelsWords, tableOf, labelIn, givenParts, typeParts}
-use Rattle.sheet.specs.Internal.Growth.{bareSheet, addSum, addLabel, toLast, addPolicy, addLocation}
-use Rattle.sheet.specs.Internal.Writers.{low, principalsPut, pairPut, sumPut, locationPut, labelSet, openPut, policyPut}
+use Rattle.sheet.specs.Internal.Tables.{maxTypes, partsRoom, locationsRoom, labelsRoom, partsBase, locationsBase, partsPlace, labelPlace, tableWords, typesAt, labelsAt, locationsAt, entryWords, partWords, locationWords, labelsWords, tableOf, labelIn, rightWord, givenParts, typeParts}
+use Rattle.sheet.specs.Internal.Growth.{bareSheet, addCompound, addLabel, toLast, addPolicy, addLocation}
+use Rattle.sheet.specs.Internal.Writers.{low, principalsPut, entryPut, compoundPut, locationPut, labelSet, openPut, policyPut}
 use Rattle.sheet.proofs.FormLaws.{formed-facts, type-count, parts-count}
-use Rattle.sheet.proofs.Words.{length-padded, length-pairs}
+use Rattle.sheet.proofs.Words.{length-padded, length-entries}
 use Rattle.sheet.proofs.TableLaws.{principals-in, everyone-in, types-in, labels-in, locations-in, heading, partBlock, locationBlock, labelBlock, toLocations, toLabels, from-locations, from-labels, locations-start, labels-start}
 use Rattle.sheet.proofs.LabelLaws.{label-in}
 use Rattle.sheet.proofs.GrowthLaws.{length-more, length-toLast, toLast-more, labels-split}
@@ -34,77 +36,84 @@ pub low-count : (n : ℕ) → n ≤ maxLocations → low n ≡ n
 unfolding low
 low-count n h = mod-eq-of-lt (omega arith)
 
--- ---- a pair more in a block that is filled up with zeros
+-- so does the word of a right part
+right-word-low : (k : Kind) (b : ℕ) → rightWord k b ≤ maxLocations
+unfolding rightWord
+right-word-low Sum b = omega arith
+right-word-low Pair b = omega arith
 
-set-pair : (xs ys : List ℕ) (y z a b i : ℕ) → length xs ≡ i → set (set (xs ++ (y ∷ z ∷ ys)) i a) (i + 1) b ≡ xs ++ (a ∷ b ∷ ys)
-set-pair xs ys y z a b i e =
+-- ---- an entry of two words more in a block that is filled up with zeros
+
+set-entry : (xs ys : List ℕ) (y z a b i : ℕ) → length xs ≡ i → set (set (xs ++ (y ∷ z ∷ ys)) i a) (i + 1) b ≡ xs ++ (a ∷ b ∷ ys)
+set-entry xs ys y z a b i e =
     ap (λ (t : List ℕ). set t (i + 1) b) (set-at xs y (z ∷ ys) a i e ∙ sym (append-assoc xs (a ∷ []) (z ∷ ys)))
     ∙ set-at (xs ++ (a ∷ [])) z ys b (i + 1) (length-more xs a ∙ ap (λ (k : ℕ). k + 1) e)
     ∙ append-assoc xs (a ∷ []) (b ∷ ys)
 
 module _ {A : Type 0} (first second : A → ℕ) where
-  pairs-more : (xs : List A) (x : A) → pairWords first second (xs ++ (x ∷ [])) ≡ pairWords first second xs ++ (first x ∷ second x ∷ [])
-  unfolding pairWords
-  pairs-more [] x = refl
-  pairs-more (y ∷ xs) x = ap (λ (t : List ℕ). first y ∷ second y ∷ t) (pairs-more xs x)
+  entries-more : (xs : List A) (x : A) → entryWords first second (xs ++ (x ∷ [])) ≡ entryWords first second xs ++ (first x ∷ second x ∷ [])
+  unfolding entryWords
+  entries-more [] x = refl
+  entries-more (y ∷ xs) x = ap (λ (t : List ℕ). first y ∷ second y ∷ t) (entries-more xs x)
 
   module _ (before after : List ℕ) (room : ℕ) (xs : List A) (fits : 2 * length xs + 2 ≤ room) where
     words : List ℕ
-    words = pairWords first second xs
+    words = entryWords first second xs
 
     left : ℕ
     left = room - (2 * length xs + 2)
 
-    pairs-before : before ++ (padded room words ++ after) ≡ (before ++ words) ++ (0 ∷ 0 ∷ (replicate left 0 ++ after))
+    entries-before : before ++ (padded room words ++ after) ≡ (before ++ words) ++ (0 ∷ 0 ∷ (replicate left 0 ++ after))
     unfolding padded words left
-    pairs-before =
-        let z : room - length words ≡ suc (suc left) = omega (arith, length-pairs first second xs) in
+    entries-before =
+        let z : room - length words ≡ suc (suc left) = omega (arith, length-entries first second xs) in
         rw z (simp append-assoc)
 
-    pairs-after : (x : A)
-        → before ++ (padded room (pairWords first second (xs ++ (x ∷ []))) ++ after)
+    entries-after : (x : A)
+        → before ++ (padded room (entryWords first second (xs ++ (x ∷ []))) ++ after)
         ≡ (before ++ words) ++ (first x ∷ second x ∷ (replicate left 0 ++ after))
     unfolding padded words left
-    pairs-after x =
-        let z : room - length (pairWords first second (xs ++ (x ∷ []))) ≡ left =
-        omega (arith, length-pairs first second (xs ++ (x ∷ [])), length-more xs x) in
-        rw (z, pairs-more xs x) (simp append-assoc)
+    entries-after x =
+        let z : room - length (entryWords first second (xs ++ (x ∷ []))) ≡ left =
+        omega (arith, length-entries first second (xs ++ (x ∷ [])), length-more xs x) in
+        rw (z, entries-more xs x) (simp append-assoc)
 
-    pub add-pair : (x : A) (i : ℕ) → length before + 2 * length xs ≡ i
-        → set (set (before ++ (padded room (pairWords first second xs) ++ after)) i (first x)) (i + 1) (second x)
-        ≡ before ++ (padded room (pairWords first second (xs ++ (x ∷ []))) ++ after)
+    pub add-entry : (x : A) (i : ℕ) → length before + 2 * length xs ≡ i
+        → set (set (before ++ (padded room (entryWords first second xs) ++ after)) i (first x)) (i + 1) (second x)
+        ≡ before ++ (padded room (entryWords first second (xs ++ (x ∷ []))) ++ after)
     unfolding words
-    add-pair x i e =
-        ap (λ (t : List ℕ). set (set t i (first x)) (i + 1) (second x)) pairs-before
-        ∙ set-pair (before ++ words) (replicate left 0 ++ after) 0 0 (first x) (second x) i
-        (length-append before words ∙ omega (arith, length-pairs first second xs))
-        ∙ sym (pairs-after x)
+    add-entry x i e =
+        ap (λ (t : List ℕ). set (set t i (first x)) (i + 1) (second x)) entries-before
+        ∙ set-entry (before ++ words) (replicate left 0 ++ after) 0 0 (first x) (second x) i
+        (length-append before words ∙ omega (arith, length-entries first second xs))
+        ∙ sym (entries-after x)
 
--- ---- sums and locations
+-- ---- types and locations
 
 -- the words of a heading, then others
 headed : Sheet → ℕ → ℕ → ℕ → List ℕ → List ℕ
 headed s types labels locations ws = s .principals ∷ everyone (s .principals) ∷ types ∷ labels ∷ locations ∷ 0 ∷ 0 ∷ 0 ∷ ws
 
--- a pair is stored where there is room
-pair-put : (base count most a b n : ℕ) (t : List ℕ) → getD t count 0 ≡ n → n < most → most ≤ maxLocations → a ≤ maxLocations → b ≤ maxLocations
-    → pairPut base count most a b t ≡ set (set (set t (base + 2 * n) a) (base + 2 * n + 1) b) count (n + 1)
-unfolding pairPut
-pair-put base count most a b n t e room few h k =
+-- an entry is stored where there is room
+entry-put : (base count most a b n : ℕ) (t : List ℕ) → getD t count 0 ≡ n → n < most → most ≤ maxLocations → a ≤ maxLocations → b ≤ maxLocations
+    → entryPut base count most a b t ≡ set (set (set t (base + 2 * n) a) (base + 2 * n + 1) b) count (n + 1)
+unfolding entryPut
+entry-put base count most a b n t e room few h k =
     rw (e, lt-ltb n most room, low-count a h, low-count b k, low-count (n + 1) (omega arith))
 
 module _ (s : Sheet) (fm : formed s ≡ true) where
-  pub sum-put : (x : Sum) → typeCount s < maxTypes → x .left < typeCount s → x .right < typeCount s
-      → sumPut (x .left) (x .right) (tableOf s) ≡ tableOf (addSum s x)
-  unfolding tableOf addSum typeCount labelCount locationCount labelsOf typeParts givenParts heading locationBlock labelBlock headed
-  sum-put x few left right =
+  pub compound-put : (x : Compound) → typeCount s < maxTypes → x .left < typeCount s
+      → compoundPut (x .kind) (x .left) (x .right) (tableOf s) ≡ tableOf (addCompound s x)
+  unfolding tableOf addCompound typeCount labelCount locationCount labelsOf typeParts givenParts heading locationBlock labelBlock headed
+  compound-put x few left =
       let n = typeCount s in
       let after = locationBlock s ++ labelBlock s in
       let parts = padded partsRoom (partWords (typeParts s ++ (x ∷ []))) ++ after in
-      let count : n + 1 ≡ typeCount (addSum s x) = omega (arith, length-more (s .sums) x) in
-      pair-put partsBase typesAt maxTypes (x .left) (x .right) n (tableOf s) (types-in s fm) few (omega arith) (omega arith) (omega arith)
+      let count : n + 1 ≡ typeCount (addCompound s x) = omega (arith, length-more (s .compounds) x) in
+      entry-put partsBase typesAt maxTypes (x .left) (rightWord (x .kind) (x .right)) n (tableOf s) (types-in s fm) few (omega arith) (omega arith)
+      (right-word-low (x .kind) (x .right))
       ∙ ap (λ (t : List ℕ). set t typesAt (n + 1))
-      (add-pair (λ (p : Sum). p .left) (λ (p : Sum). p .right) (heading s) after partsRoom (typeParts s) (omega (arith, parts-count s)) x
+      (add-entry (λ (p : Compound). p .left) (λ (p : Compound). rightWord (p .kind) (p .right)) (heading s) after partsRoom (typeParts s) (omega (arith, parts-count s)) x
       (partsPlace n) (omega (arith, parts-count s)))
       ∙ ap (λ (k : ℕ). headed s k (labelCount s) (locationCount s) parts) count
 
@@ -116,11 +125,11 @@ module _ (s : Sheet) (fm : formed s ≡ true) where
       let facts = formed-facts s fm in
       let block = padded locationsRoom (locationWords (s .locations ++ (x ∷ []))) in
       let count : n + 1 ≡ locationCount (addLocation s x) = sym (length-more (s .locations) x) in
-      pair-put locationsBase locationsAt maxLocations (x .type) (x .label) n (tableOf s) (locations-in s fm) few (omega arith)
-      (omega (arith, type-count s, facts .few-sums)) (omega (arith, facts .few-labels))
+      entry-put locationsBase locationsAt maxLocations (x .type) (x .label) n (tableOf s) (locations-in s fm) few (omega arith)
+      (omega (arith, type-count s, facts .few-compounds)) (omega (arith, facts .few-labels))
       ∙ ap (λ (t : List ℕ). set (set (set t (locationsBase + 2 * n) (x .type)) (locationsBase + 2 * n + 1) (x .label)) locationsAt (n + 1)) (from-locations s)
       ∙ ap (λ (t : List ℕ). set t locationsAt (n + 1))
-      (add-pair (λ (y : Location). y .type) (λ (y : Location). y .label) (toLocations s) (labelBlock s) locationsRoom (s .locations) (omega arith) x
+      (add-entry (λ (y : Location). y .type) (λ (y : Location). y .label) (toLocations s) (labelBlock s) locationsRoom (s .locations) (omega arith) x
       (locationsBase + 2 * n) (ap (λ (k : ℕ). k + 2 * n) (locations-start s fm)))
       ∙ ap (λ (k : ℕ). headed s (typeCount s) (labelCount s) k (partBlock s ++ (block ++ labelBlock s))) count
       ∙ sym (from-locations (addLocation s x))
@@ -279,5 +288,5 @@ module _ (s : Sheet) (fm : formed s ≡ true) where
 -- ---- a sheet with nothing but its principals
 
 pub principals-put : (n : ℕ) → n ≤ maxPrincipals → principalsPut n (replicate tableWords 0) ≡ tableOf (bareSheet n)
-unfolding tableOf bareSheet typeCount labelCount locationCount labelsOf typeParts givenParts padded pairWords labelsWords
+unfolding tableOf bareSheet typeCount labelCount locationCount labelsOf typeParts givenParts padded entryWords rightWord labelsWords
 principals-put n few = rw (low-count n (omega arith), restrict-everyone width n (omega arith))

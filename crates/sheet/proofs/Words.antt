@@ -8,7 +8,7 @@ use lib.ListN.{length, getD, length-append, length-replicate, List·getD-append,
 use lib.Seq.{getD-append-add}
 use Rattle.sets.proofs.Walks.{by-below}
 use Rattle.sheet.specs.Padding.{padded}
-use Rattle.sheet.specs.Internal.Tables.{pairWords, entryIn}
+use Rattle.sheet.specs.Internal.Tables.{entryWords, entryIn}
 use Rattle.sheet.proofs.Entries.{entry-there, entry-past}
 
 -- ---- filled up with zeros
@@ -29,21 +29,21 @@ block-at before ws after room k fits h =
 -- ---- two words for each element
 
 module _ {A : Type 0} (first second : A → ℕ) where
-  pub length-pairs : (xs : List A) → length (pairWords first second xs) ≡ 2 * length xs
-  unfolding pairWords
-  length-pairs [] = refl
-  length-pairs (x ∷ xs) = omega (arith, length-pairs xs)
+  pub length-entries : (xs : List A) → length (entryWords first second xs) ≡ 2 * length xs
+  unfolding entryWords
+  length-entries [] = refl
+  length-entries (x ∷ xs) = omega (arith, length-entries xs)
 
-  pub pair-at : (xs : List A) (d : A) (i : ℕ) → i < length xs
-      → (getD (pairWords first second xs) (0 + 2 * i) 0 ≡ first (getD xs i d))
-      × (getD (pairWords first second xs) (1 + 2 * i) 0 ≡ second (getD xs i d))
-  unfolding pairWords
-  pair-at [] d i h = absurd (omega arith)
-  pair-at (x ∷ xs) d zero h = (refl, refl)
-  pair-at (x ∷ xs) d (suc i) h =
+  pub entry-at : (xs : List A) (d : A) (i : ℕ) → i < length xs
+      → (getD (entryWords first second xs) (0 + 2 * i) 0 ≡ first (getD xs i d))
+      × (getD (entryWords first second xs) (1 + 2 * i) 0 ≡ second (getD xs i d))
+  unfolding entryWords
+  entry-at [] d i h = absurd (omega arith)
+  entry-at (x ∷ xs) d zero h = (refl, refl)
+  entry-at (x ∷ xs) d (suc i) h =
       let e : 0 + 2 * suc i ≡ suc (suc (0 + 2 * i)) = omega arith in
       let k : 1 + 2 * suc i ≡ suc (suc (1 + 2 * i)) = omega arith in
-      rw (e, k) (pair-at xs d i (omega arith))
+      rw (e, k) (entry-at xs d i (omega arith))
 
 -- ---- the entry of an element
 

@@ -1,4 +1,5 @@
--- A sheet (the scope, "The three texts"): its lines, what the numbers on it name, and what it must satisfy.
+-- A sheet (the scope, "The three texts", and request (f)): its lines, what the numbers on it name, and what it must
+-- satisfy.
 use mathlib.Core.Bool.{Bool, true, false}
 use mathlib.Core.List.{List, [], _∷_, _++_, map}
 use Prim.Native.Nat.{ℕ, suc, _+_, _^_}
@@ -8,10 +9,14 @@ use Rattle.logic.specs.Booleans.{both, either}
 use Rattle.sets.specs.Sets.{everyone}
 use Rattle.labels.specs.Labels.{Policy, policy, labelOf, bottomOf, sameOf}
 use Rattle.labels.specs.declared.Label.{Label}
-use Rattle.language.specs.Syntax.{Ty, t-int, t-err, t-pkg, t-sum}
+use Rattle.sheet.specs.declared.Kind.{Kind}
+use Rattle.sheet.specs.declared.Kind.the-variants.{Sum, Pair}
+use Rattle.language.specs.Syntax.{Ty, t-int, t-err, t-pkg, t-sum, t-pair}
 
--- A line `T a b`: the sum of the types a and b.
-pub record Sum : Type 0 where
+-- A compound type: a line `T a b`, the sum of the types a and b, or a line `Q a b`, the pair with a for its first part
+-- and b for its second. `kind` is `Sum` or `Pair`, of the enum `Kind` in src/lib.rt.
+pub record Compound : Type 0 where
+  pub kind : Kind
   pub left : ℕ
   pub right : ℕ
 
@@ -20,30 +25,36 @@ pub record Location : Type 0 where
   pub type : ℕ
   pub label : ℕ
 
--- `P n`, the `T` lines, the labels as `L` with the policies of its `O` lines, the `X` lines.
+-- `P n`, the `T` and `Q` lines, the labels as `L` with the policies of its `O` lines, the `X` lines.
 pub record Sheet : Type 0 where
   pub principals : ℕ
-  pub sums : List Sum
+  pub compounds : List Compound
   pub labels : List (List Policy)
   pub locations : List Location
 
--- ---- types: 0 to 4 are given, int, error, pkg, int+int, pkg+error; `T` makes the sum of two earlier types, numbered from 5
+-- ---- types: 0 to 4 are given, int, error, pkg, int+int, pkg+error; `T` and `Q` make the sum and the pair of two
+-- earlier types, numbered together from 5 on in the order of the lines
 
 unfoldable pub givenTypes : List Ty
 givenTypes = t-int ∷ t-err ∷ t-pkg ∷ t-sum t-int t-int ∷ t-sum t-pkg t-err ∷ []
 
--- the types after further sums, each of two earlier ones
-unfoldable pub typesFrom : List Ty → List Sum → List Ty
+-- the sum or the pair of two types
+unfoldable pub compoundOf : Kind → Ty → Ty → Ty
+compoundOf Sum a b = t-sum a b
+compoundOf Pair a b = t-pair a b
+
+-- the types after further sums and pairs, each of two earlier ones
+unfoldable pub typesFrom : List Ty → List Compound → List Ty
 typesFrom ts [] = ts
-typesFrom ts (s ∷ ss) = typesFrom (ts ++ (t-sum (getD ts (s .left) t-int) (getD ts (s .right) t-int) ∷ [])) ss
+typesFrom ts (c ∷ cs) = typesFrom (ts ++ (compoundOf (c .kind) (getD ts (c .left) t-int) (getD ts (c .right) t-int) ∷ [])) cs
 
 -- the type that a number names; int for a number that names none
 unfoldable pub tyOf : Sheet → ℕ → Ty
-tyOf s t = getD (typesFrom givenTypes (s .sums)) t t-int
+tyOf s t = getD (typesFrom givenTypes (s .compounds)) t t-int
 
--- the given types and the sums
+-- the given types, and the sums and pairs
 unfoldable pub typeCount : Sheet → ℕ
-typeCount s = 5 + length (s .sums)
+typeCount s = 5 + length (s .compounds)
 
 -- ---- labels and locations count from 0
 
@@ -66,10 +77,10 @@ locationCount s = length (s .locations)
 
 -- ---- the form (refusal 1): bounds, and names that are there
 
--- each sum is of types before it, the first being number k
-unfoldable pub earlierTypes : ℕ → List Sum → Bool
+-- each sum and each pair is of types before it, the first being number k
+unfoldable pub earlierTypes : ℕ → List Compound → Bool
 earlierTypes k [] = true
-earlierTypes k (s ∷ ss) = both (both (ltb (s .left) k) (ltb (s .right) k)) (earlierTypes (suc k) ss)
+earlierTypes k (c ∷ cs) = both (both (ltb (c .left) k) (ltb (c .right) k)) (earlierTypes (suc k) cs)
 
 -- owners rise from `from` and are among n principals, as the sets are
 unfoldable pub rising : ℕ → ℕ → List Policy → Bool
@@ -89,8 +100,9 @@ eachNamed types labels (x ∷ xs) = both (both (ltb (x .type) types) (ltb (x .la
 abbrev pub maxPrincipals : ℕ
 maxPrincipals = 16
 
-abbrev pub maxSums : ℕ
-maxSums = 27
+-- sums and pairs together
+abbrev pub maxCompounds : ℕ
+maxCompounds = 27
 
 abbrev pub maxLabels : ℕ
 maxLabels = 32
@@ -101,7 +113,7 @@ maxLocations = 64
 unfoldable pub formed : Sheet → Bool
 formed s =
     both (both (leb 1 (s .principals)) (leb (s .principals) maxPrincipals))
-    (both (both (leb (length (s .sums)) maxSums) (earlierTypes 5 (s .sums)))
+    (both (both (leb (length (s .compounds)) maxCompounds) (earlierTypes 5 (s .compounds)))
     (both (both (leb (length (s .labels)) maxLabels) (eachRising (s .principals) (s .labels)))
     (both (leb (length (s .locations)) maxLocations) (eachNamed (typeCount s) (labelCount s) (s .locations)))))
 
@@ -117,13 +129,20 @@ unfoldable pub repeated : {A : Type 0} → (A → A → Bool) → List A → Boo
 repeated same [] = false
 repeated same (x ∷ xs) = either (among same x xs) (repeated same xs)
 
-unfoldable pub sameParts : Sum → Sum → Bool
-sameParts a b = both (eqb (a .left) (b .left)) (eqb (a .right) (b .right))
+unfoldable pub sameKind : Kind → Kind → Bool
+sameKind Sum Sum = true
+sameKind Sum Pair = false
+sameKind Pair Sum = false
+sameKind Pair Pair = true
 
--- the given sums: types 3 and 4
-abbrev pub givenSums : List Sum
-givenSums = record { left = 0; right = 0 } ∷ record { left = 2; right = 1 } ∷ []
+-- of one kind, with the same parts
+unfoldable pub sameCompound : Compound → Compound → Bool
+sameCompound a b = both (sameKind (a .kind) (b .kind)) (both (eqb (a .left) (b .left)) (eqb (a .right) (b .right)))
 
--- two types with the same parts, or two labels with the same effective sets
+-- the given sums, types 3 and 4; no pair is given
+abbrev pub givenSums : List Compound
+givenSums = record { kind = Sum; left = 0; right = 0 } ∷ record { kind = Sum; left = 2; right = 1 } ∷ []
+
+-- two types of one kind with the same parts, or two labels with the same effective sets
 unfoldable pub repeats : Sheet → Bool
-repeats s = either (repeated sameParts (givenSums ++ s .sums)) (repeated sameOf (labelsOf s))
+repeats s = either (repeated sameCompound (givenSums ++ s .compounds)) (repeated sameOf (labelsOf s))

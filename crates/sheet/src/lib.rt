@@ -5,12 +5,18 @@ pub mod write; // write.rt: what is stored where the sheet grows
 
 ghost use mathlib.Core.Path.{_≡_};
 ghost use lib.ListN.{getD};
-ghost use Rattle.sheet.specs.Internal.Tables.{partsPlace, labelPlace, entryIn, principalsIn, everyoneIn, typesIn, labelsIn, locationsIn, leftIn, rightIn, typeIn, homeIn, labelIn, belowIn, readsIn, writesIn};
-ghost use Rattle.sheet.specs.Internal.TypeTest.{isSum};
+ghost use Rattle.sheet.specs.Internal.Tables.{partsPlace, labelPlace, entryIn, principalsIn, everyoneIn, typesIn, labelsIn, locationsIn, leftIn, rightIn, typeIn, rightWordIn, homeIn, labelIn, belowIn, readsIn, writesIn};
+ghost use Rattle.sheet.specs.Internal.TypeTest.{isOf, isSum, isPair};
 use labels::LABEL_SIZE;
 use labels::Label;
 use labels::OWNERS;
 use sets::Set;
+
+// The two kinds of types that a sheet makes of others.
+pub enum Kind {
+    Sum,
+    Pair,
+}
 
 // A word of a table: wide enough for a set, and for each count.
 pub type Word = Set;
@@ -60,7 +66,7 @@ fn number(table: &[Word], at: usize) -> u32
     word(table, at) as u32
 }
 
-// The word of entry i in a list of `count` pairs that starts at `base`, or 0 past the last entry.
+// The word of entry i in a list of `count` entries of two words that starts at `base`, or 0 past the last entry.
 fn entry(table: &[Word], count: u32, base: u32, i: u32) -> u32
     ensures { λ r. ⌜ r ≡ entryIn (now (table .entry)) count base i ⌝ }
 {
@@ -71,7 +77,7 @@ fn entry(table: &[Word], count: u32, base: u32, i: u32) -> u32
     }
 }
 
-// The numbers of the types that are given; the sums start with int+int.
+// The numbers of the types that are given; those with parts start with int+int.
 pub const INT: u32 = 0;
 
 pub const ERROR: u32 = 1;
@@ -82,7 +88,7 @@ pub const INT_OR_INT: u32 = 3;
 
 pub const PKG_OR_ERROR: u32 = 4;
 
-pub const SUMS: u32 = INT_OR_INT;
+pub const COMPOUNDS: u32 = INT_OR_INT;
 
 // The number of principals.
 pub fn principals(table: &[Word]) -> u32
@@ -119,14 +125,42 @@ pub fn locations(table: &[Word]) -> u32
     number(table, LOCATION_COUNT)
 }
 
+// The second word of a type: its right part; of a pair MOST_TYPES more. 0 for a number that names no type.
+fn right_word(table: &[Word], ty: u32) -> u32
+    ensures { λ r. ⌜ r ≡ rightWordIn (now (table .entry)) ty ⌝ }
+{
+    entry(table, types(table), PARTS + 1, ty)
+}
+
+// Whether a number names a type of a kind.
+fn is_of(table: &[Word], kind: Kind, ty: u32) -> bool
+    ensures { λ r. ⌜ r ≡ isOf (now (table .entry)) kind ty ⌝ }
+{
+    if ty < COMPOUNDS {
+        return false;
+    }
+    if types(table) <= ty {
+        return false;
+    }
+    let pair = MOST_TYPES <= right_word(table, ty);
+    match kind {
+        Kind::Sum => !pair,
+        Kind::Pair => pair,
+    }
+}
+
 // Whether a number names a sum type.
 pub fn is_sum(table: &[Word], ty: u32) -> bool
     ensures { λ r. ⌜ r ≡ isSum (now (table .entry)) ty ⌝ }
 {
-    if ty < SUMS {
-        return false;
-    }
-    ty < types(table)
+    is_of(table, Kind::Sum, ty)
+}
+
+// Whether a number names a pair type.
+pub fn is_pair(table: &[Word], ty: u32) -> bool
+    ensures { λ r. ⌜ r ≡ isPair (now (table .entry)) ty ⌝ }
+{
+    is_of(table, Kind::Pair, ty)
 }
 
 // The left part of a type; 0 for a number that names no type.
@@ -140,7 +174,7 @@ pub fn left_part(table: &[Word], ty: u32) -> u32
 pub fn right_part(table: &[Word], ty: u32) -> u32
     ensures { λ r. ⌜ r ≡ rightIn (now (table .entry)) ty ⌝ }
 {
-    entry(table, types(table), PARTS + 1, ty)
+    right_word(table, ty) % MOST_TYPES
 }
 
 // The type of a location; 0 for a number that names no location.

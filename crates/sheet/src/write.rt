@@ -2,11 +2,12 @@
 // for more is left as it is. That what a line names is there is for the caller to see.
 ghost use mathlib.Core.Path.{_≡_};
 ghost use Prim.Native.Nat.{_+_, _*_, _<_, _≤_};
-ghost use Rattle.sheet.specs.Internal.Tables.{tableWords};
-ghost use Rattle.sheet.specs.Internal.Writers.{low, principalsPut, pairPut, sumPut, locationPut, openPut, policyPut};
+ghost use Rattle.sheet.specs.Internal.Tables.{tableWords, rightWord};
+ghost use Rattle.sheet.specs.Internal.Writers.{low, principalsPut, entryPut, compoundPut, locationPut, openPut, policyPut};
 use super::ERROR;
 use super::EVERYONE;
 use super::GIVEN_TYPES;
+use super::Kind;
 use super::LABEL_COUNT;
 use super::LOCATION_COUNT;
 use super::LOCATIONS;
@@ -47,11 +48,11 @@ pub fn put_principals(table: &mut [Word; WORDS], n: u32)
     table[PKG_PLACE + 1] = ERROR as Word;
 }
 
-// A pair of words behind those from `base` on, of which there are at most `most` and as many as the word at `count`
-// says.
-fn add_pair(table: &mut [Word; WORDS], base: u32, count: usize, most: u32, a: u32, b: u32)
+// An entry of two words behind those from `base` on, of which there are at most `most` and as many as the word at
+// `count` says.
+fn add_entry(table: &mut [Word; WORDS], base: u32, count: usize, most: u32, a: u32, b: u32)
     requires { ⌜ (base + 2 * most ≤ tableWords) × (count < tableWords) ⌝ }
-    ensures { λ _. ⌜ now (table .exit) ≡ pairPut base count most a b (now (table .entry)) ⌝ }
+    ensures { λ _. ⌜ now (table .exit) ≡ entryPut base count most a b (now (table .entry)) ⌝ }
 {
     let n = super::number(table, count);
     if most <= n {
@@ -63,18 +64,28 @@ fn add_pair(table: &mut [Word; WORDS], base: u32, count: usize, most: u32, a: u3
     table[count] = low(n + 1);
 }
 
-// The sum of two types.
-pub fn add_sum(table: &mut [Word; WORDS], a: u32, b: u32)
-    ensures { λ _. ⌜ now (table .exit) ≡ sumPut a b (now (table .entry)) ⌝ }
+// The second word of a type of a kind with the right part b.
+fn right_word(kind: Kind, b: u32) -> u32
+    ensures { λ r. ⌜ r ≡ rightWord kind b ⌝ }
 {
-    add_pair(table, PARTS, TYPE_COUNT, MOST_TYPES, a, b);
+    match kind {
+        Kind::Sum => b % MOST_TYPES,
+        Kind::Pair => MOST_TYPES + b % MOST_TYPES,
+    }
+}
+
+// The sum or the pair of two types.
+pub fn add_compound(table: &mut [Word; WORDS], kind: Kind, a: u32, b: u32)
+    ensures { λ _. ⌜ now (table .exit) ≡ compoundPut kind a b (now (table .entry)) ⌝ }
+{
+    add_entry(table, PARTS, TYPE_COUNT, MOST_TYPES, a, right_word(kind, b));
 }
 
 // A location.
 pub fn add_location(table: &mut [Word; WORDS], ty: u32, label: u32)
     ensures { λ _. ⌜ now (table .exit) ≡ locationPut ty label (now (table .entry)) ⌝ }
 {
-    add_pair(table, LOCATIONS, LOCATION_COUNT, MOST_LOCATIONS, ty, label);
+    add_entry(table, LOCATIONS, LOCATION_COUNT, MOST_LOCATIONS, ty, label);
 }
 
 // A label without policies.

@@ -17,14 +17,16 @@ use Rattle.logic.proofs.OptionLaws.{none-some, some-path}
 use Rattle.sets.specs.Sets.{width}
 use Rattle.labels.specs.Labels.{policy}
 use Rattle.sheet.specs.Internal.Tables.{typeParts}
-use Rattle.sheet.specs.Sheet.{Sum, Location, Sheet, typeCount, labelCount, locationCount, earlierTypes, rising, eachRising, eachNamed, maxPrincipals, maxSums, maxLabels, maxLocations, formed}
+use Rattle.sheet.specs.declared.Kind.{Kind}
+use Rattle.sheet.specs.declared.Kind.the-variants.{Sum, Pair}
+use Rattle.sheet.specs.Sheet.{Compound, Location, Sheet, typeCount, labelCount, locationCount, earlierTypes, rising, eachRising, eachNamed, maxPrincipals, maxCompounds, maxLabels, maxLocations, formed}
 use Rattle.sheet.proofs.FormLaws.{Formed, formed-facts, type-count}
 use Rattle.sheet_text.specs.declared.line.Line.{Line}
-use Rattle.sheet_text.specs.declared.line.Line.the-variants.{P, T, L, O, X}
-use Rattle.sheet_text.specs.Lines.{sumLine, policyLine, locationLine, each, labelLines, linesThen, sheetLines}
-use Rattle.sheet.specs.Internal.Growth.{bareSheet, addSum, addLabel, addPolicy, addLocation}
-use Rattle.sheet_text.specs.Internal.Building.{leastOwner, sumFits, labelFits, policyFits, locationFits, begin, addLine, addLineOn, addLines, build}
-use Rattle.sheet_text.proofs.LineLaws.{Fits, AllFit}
+use Rattle.sheet_text.specs.declared.line.Line.the-variants.{P, T, Q, L, O, X}
+use Rattle.sheet_text.specs.Lines.{typeLine, compoundLine, policyLine, locationLine, each, labelLines, linesThen, sheetLines}
+use Rattle.sheet.specs.Internal.Growth.{bareSheet, addCompound, addLabel, addPolicy, addLocation}
+use Rattle.sheet_text.specs.Internal.Building.{leastOwner, compoundFits, labelFits, policyFits, locationFits, begin, addType, addLine, addLineOn, addLines, build}
+use Rattle.sheet_text.proofs.LineLaws.{Fits, AllFit, type-line-fits}
 use Rattle.sheet.proofs.GrowthLaws.{length-more, length-toLast}
 use Rattle.sheet_text.proofs.GrowthLaws.{no-entries, each-more, labels-more, policies-more, earlier-more, each-rising-more, each-rising-last, each-named-more}
 
@@ -32,7 +34,7 @@ pub formed-made : (s : Sheet) → Formed s → formed s ≡ true
 unfolding formed
 formed-made s f =
     both-true (both-true (le-leb _ _ (f .some-principal)) (le-leb _ _ (f .few-principals)))
-    (both-true (both-true (le-leb _ _ (f .few-sums)) (f .sums-earlier))
+    (both-true (both-true (le-leb _ _ (f .few-compounds)) (f .compounds-earlier))
     (both-true (both-true (le-leb _ _ (f .few-labels)) (f .labels-rising)) (both-true (le-leb _ _ (f .few-locations)) (f .locations-named))))
 
 -- ---- a line that is taken is the next one of the new sheet, which is of the right form
@@ -54,13 +56,13 @@ module _ (s : Sheet) (fm : formed s ≡ true) where
   facts : Formed s
   facts = formed-facts s fm
 
-  take-sum : (a b : ℕ) → sumFits s a b ≡ true → Taken s (T a b) (addSum s (record { left = a; right = b }))
-  unfolding sumFits addSum linesThen Fits
-  take-sum a b e =
-      let x : Sum = record { left = a; right = b } in
+  take-compound : (k : Kind) (a b : ℕ) → compoundFits s a b ≡ true → Taken s (typeLine k a b) (addCompound s (record { kind = k; left = a; right = b }))
+  unfolding compoundFits addCompound linesThen
+  take-compound k a b e =
+      let x : Compound = record { kind = k; left = a; right = b } in
       let order = both-left _ _ e in
       let rest = both-right _ _ e in
-      let few : length (s .sums) < maxSums = ltb-true _ _ (both-left _ _ rest) in
+      let few : length (s .compounds) < maxCompounds = ltb-true _ _ (both-left _ _ rest) in
       let parts = both-right _ _ rest in
       let left : a < typeCount s = ltb-true _ _ (both-left _ _ parts) in
       let right : b < typeCount s = ltb-true _ _ (both-right _ _ parts) in
@@ -68,20 +70,20 @@ module _ (s : Sheet) (fm : formed s ≡ true) where
       let x0 = no-locations s (both-right _ _ order) in
       let count = type-count s in
       record {
-        next = λ rest. unfold labelLines each sumLine in (rw (l, x0) (ap (_∷_ (P (s .principals))) (each-more sumLine (s .sums) x rest)));
+        next = λ rest. unfold labelLines each compoundLine in (rw (l, x0) (ap (_∷_ (P (s .principals))) (each-more compoundLine (s .compounds) x rest)));
         right =
-            formed-made (addSum s x)
+            formed-made (addCompound s x)
             (record {
               some-principal = facts .some-principal;
               few-principals = facts .few-principals;
-              few-sums = omega (arith, length-more (s .sums) x);
-              sums-earlier = earlier-more 5 (s .sums) x (facts .sums-earlier) (omega arith) (omega arith);
+              few-compounds = omega (arith, length-more (s .compounds) x);
+              compounds-earlier = earlier-more 5 (s .compounds) x (facts .compounds-earlier) (omega arith) (omega arith);
               few-labels = facts .few-labels;
               labels-rising = facts .labels-rising;
               few-locations = facts .few-locations;
               locations-named = unfold eachNamed in (rw x0);
             });
-        fits = (omega arith, omega arith);
+        fits = type-line-fits k a b (omega arith) (omega arith);
       }
 
   take-label : labelFits s ≡ true → Taken s L (addLabel s)
@@ -90,14 +92,14 @@ module _ (s : Sheet) (fm : formed s ≡ true) where
       let few : length (s .labels) < maxLabels = ltb-true _ _ (both-right _ _ e) in
       let x0 = no-locations s (both-left _ _ e) in
       record {
-        next = λ rest. unfold each in (rw x0 (ap (λ ls. P (s .principals) ∷ each sumLine (s .sums) ls) (labels-more (s .labels) rest)));
+        next = λ rest. unfold each in (rw x0 (ap (λ ls. P (s .principals) ∷ each compoundLine (s .compounds) ls) (labels-more (s .labels) rest)));
         right =
             formed-made (addLabel s)
             (record {
               some-principal = facts .some-principal;
               few-principals = facts .few-principals;
-              few-sums = facts .few-sums;
-              sums-earlier = facts .sums-earlier;
+              few-compounds = facts .few-compounds;
+              compounds-earlier = facts .compounds-earlier;
               few-labels = omega (arith, length-more (s .labels) []);
               labels-rising = each-rising-more (s .principals) (s .labels) (facts .labels-rising);
               few-locations = facts .few-locations;
@@ -123,14 +125,14 @@ module _ (s : Sheet) (fm : formed s ≡ true) where
       let low : o < s .principals = ltb-true _ _ (both-right _ _ rises) in
       record {
         next =
-            λ rest. rw x0 (ap (λ ls. P (s .principals) ∷ each sumLine (s .sums) ls) (policies-more p (s .labels) rest some-label));
+            λ rest. rw x0 (ap (λ ls. P (s .principals) ∷ each compoundLine (s .compounds) ls) (policies-more p (s .labels) rest some-label));
         right =
             formed-made (addPolicy s p)
             (record {
               some-principal = facts .some-principal;
               few-principals = facts .few-principals;
-              few-sums = facts .few-sums;
-              sums-earlier = facts .sums-earlier;
+              few-compounds = facts .few-compounds;
+              compounds-earlier = facts .compounds-earlier;
               few-labels = omega (arith, length-toLast p (s .labels), facts .few-labels);
               labels-rising =
                   each-rising-last (s .principals) p (s .labels) (facts .labels-rising)
@@ -154,30 +156,35 @@ module _ (s : Sheet) (fm : formed s ≡ true) where
       record {
         next =
             λ rest. unfold locationLine in
-            (ap (λ ls. P (s .principals) ∷ each sumLine (s .sums) (labelLines (s .labels) ls)) (each-more locationLine (s .locations) x rest));
+            (ap (λ ls. P (s .principals) ∷ each compoundLine (s .compounds) (labelLines (s .labels) ls)) (each-more locationLine (s .locations) x rest));
         right =
             formed-made (addLocation s x)
             (record {
               some-principal = facts .some-principal;
               few-principals = facts .few-principals;
-              few-sums = facts .few-sums;
-              sums-earlier = facts .sums-earlier;
+              few-compounds = facts .few-compounds;
+              compounds-earlier = facts .compounds-earlier;
               few-labels = facts .few-labels;
               labels-rising = facts .labels-rising;
               few-locations = omega (arith, length-more (s .locations) x);
               locations-named = each-named-more (typeCount s) (labelCount s) (s .locations) x (facts .locations-named) type label;
             });
-        fits = (omega (arith, facts .few-sums), omega (arith, facts .few-labels));
+        fits = (omega (arith, facts .few-compounds), omega (arith, facts .few-labels));
       }
 
 -- what a test lets through
 taken-if : {P : Type 0} (c : Bool) (x y : Sheet) → (c ≡ true → x ≡ y → P) → cond c (some x) none ≡ some y → P
 taken-if c x y f e = cond-split c _ _ _ (λ h k. f h (some-path k)) (λ h k. none-some k) e
 
+type-sound : (s : Sheet) (k : Kind) (a b : ℕ) (s′ : Sheet) → formed s ≡ true → addType s k a b ≡ some s′ → Taken s (typeLine k a b) s′
+unfolding addType
+type-sound s k a b s′ fm e = taken-if (compoundFits s a b) _ s′ (λ h q. rw (← q) (take-compound s fm k a b h)) e
+
 pub step-sound : (s : Sheet) (l : Line) (s′ : Sheet) → formed s ≡ true → addLine s l ≡ some s′ → Taken s l s′
-unfolding addLine
+unfolding addLine typeLine
 step-sound s (P n) s′ fm e = none-some e
-step-sound s (T a b) s′ fm e = taken-if (sumFits s a b) _ s′ (λ h k. rw (← k) (take-sum s fm a b h)) e
+step-sound s (T a b) s′ fm e = type-sound s Sum a b s′ fm e
+step-sound s (Q a b) s′ fm e = type-sound s Pair a b s′ fm e
 step-sound s L s′ fm e = taken-if (labelFits s) _ s′ (λ h k. rw (← k) (take-label s fm h)) e
 step-sound s (O o r w) s′ fm e = taken-if (policyFits s o r w) (addPolicy s (policy o r w)) s′ (λ h k. rw (← k) (take-policy s fm o r w h)) e
 step-sound s (X t l) s′ fm e = taken-if (locationFits s t l) _ s′ (λ h k. rw (← k) (take-location s fm t l h)) e
@@ -190,8 +197,8 @@ blank-formed n h k =
     (record {
       some-principal = h;
       few-principals = k;
-      few-sums = omega arith;
-      sums-earlier = refl;
+      few-compounds = omega arith;
+      compounds-earlier = refl;
       few-labels = omega arith;
       labels-rising = refl;
       few-locations = omega arith;
@@ -213,6 +220,7 @@ begin-sound (P n) s e =
     taken-if (both (leb 1 n) (leb n maxPrincipals)) (bareSheet n) s
     (λ h k. rw (← k) (blank-begun n (leb-true _ _ (both-left _ _ h)) (leb-true _ _ (both-right _ _ h)))) e
 begin-sound (T a b) s e = none-some e
+begin-sound (Q a b) s e = none-some e
 begin-sound L s e = none-some e
 begin-sound (O o r w) s e = none-some e
 begin-sound (X t l) s e = none-some e

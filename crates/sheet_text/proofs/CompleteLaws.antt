@@ -11,12 +11,14 @@ use borrow.Author.Tests.{lt-ltb, le-leb, ltb-true}
 use Rattle.logic.specs.Booleans.{both}
 use Rattle.logic.proofs.BooleanLaws.{both-left, both-right, both-true}
 use Rattle.labels.specs.Labels.{Policy, policy}
-use Rattle.sheet.specs.Sheet.{Sum, Location, Sheet, typeCount, labelCount, locationCount, earlierTypes, rising, eachRising, eachNamed, maxSums, maxLabels, maxLocations, formed}
+use Rattle.sheet.specs.declared.Kind.{Kind}
+use Rattle.sheet.specs.declared.Kind.the-variants.{Sum, Pair}
+use Rattle.sheet.specs.Sheet.{Compound, Location, Sheet, typeCount, labelCount, locationCount, earlierTypes, rising, eachRising, eachNamed, maxCompounds, maxLabels, maxLocations, formed}
 use Rattle.sheet.proofs.FormLaws.{formed-facts, type-count}
 use Rattle.sheet_text.specs.declared.line.Line.{Line}
-use Rattle.sheet_text.specs.Lines.{sumLine, policyLine, locationLine, each, labelLines, linesThen, sheetLines}
-use Rattle.sheet.specs.Internal.Growth.{bareSheet, addSum, addLabel, addPolicy, addLocation}
-use Rattle.sheet_text.specs.Internal.Building.{leastAfter, leastOwner, sumFits, labelFits, policyFits, locationFits, begin, addLine, addLineOn, addLines, build}
+use Rattle.sheet_text.specs.Lines.{typeLine, compoundLine, policyLine, locationLine, each, labelLines, linesThen, sheetLines}
+use Rattle.sheet.specs.Internal.Growth.{bareSheet, addCompound, addLabel, addPolicy, addLocation}
+use Rattle.sheet_text.specs.Internal.Building.{leastAfter, leastOwner, compoundFits, labelFits, policyFits, locationFits, begin, addType, addLine, addLineOn, addLines, build}
 use Rattle.sheet.proofs.GrowthLaws.{length-more, toLast-more}
 use Rattle.sheet_text.proofs.GrowthLaws.{last-more, least-more}
 
@@ -35,19 +37,26 @@ module _ {A : Type 0} (line : A → Line) (sheet : List A → Sheet) (Good : Lis
       ap (λ (o : Option Sheet). addLines o (each line ys rest)) e ∙ steps-each ys (xs ++ (y ∷ [])) rest h
       ∙ ap (λ (zs : List A). addLines (some (sheet zs)) rest) (append-assoc xs (y ∷ []) ys)
 
-abbrev sheetAt : ℕ → List Sum → List (List Policy) → List Location → Sheet
-sheetAt n ss pss xs = record { principals = n; sums = ss; labels = pss; locations = xs }
+abbrev sheetAt : ℕ → List Compound → List (List Policy) → List Location → Sheet
+sheetAt n ss pss xs = record { principals = n; compounds = ss; labels = pss; locations = xs }
 
--- ---- sums
+-- ---- types
 
-abbrev GoodSums : List Sum → List Sum → Type 0
-GoodSums xs ys = (length xs + length ys ≤ maxSums) × (earlierTypes (5 + length xs) ys ≡ true)
+abbrev GoodTypes : List Compound → List Compound → Type 0
+GoodTypes xs ys = (length xs + length ys ≤ maxCompounds) × (earlierTypes (5 + length xs) ys ≡ true)
 
-sum-built : (n : ℕ) (ys xs : List Sum) (y : Sum) → GoodSums xs (y ∷ ys)
-    → (addLine (sheetAt n xs [] []) (sumLine y) ≡ some (sheetAt n (xs ++ (y ∷ [])) [] [])) × GoodSums (xs ++ (y ∷ [])) ys
-unfolding earlierTypes addLine sumLine sumFits addSum labelCount locationCount
-sum-built n ys xs y g =
-    let few : length xs < maxSums = omega (arith, g .0) in
+-- a line of either kind adds its type
+add-type : (s : Sheet) (k : Kind) (a b : ℕ)
+    → addLine s (typeLine k a b) ≡ cond (compoundFits s a b) (some (addCompound s (record { kind = k; left = a; right = b }))) none
+unfolding addLine addType typeLine
+add-type s Sum a b = refl
+add-type s Pair a b = refl
+
+type-built : (n : ℕ) (ys xs : List Compound) (y : Compound) → GoodTypes xs (y ∷ ys)
+    → (addLine (sheetAt n xs [] []) (compoundLine y) ≡ some (sheetAt n (xs ++ (y ∷ [])) [] [])) × GoodTypes (xs ++ (y ∷ [])) ys
+unfolding earlierTypes compoundLine compoundFits addCompound labelCount locationCount
+type-built n ys xs y g =
+    let few : length xs < maxCompounds = omega (arith, g .0) in
     let count = type-count (sheetAt n xs [] []) in
     let parts = both-left _ _ (g .1) in
     let left : y .left < 5 + length xs = ltb-true _ _ (both-left _ _ parts) in
@@ -56,9 +65,9 @@ sum-built n ys xs y g =
     let next : suc (5 + length xs) ≡ 5 + length (xs ++ (y ∷ [])) = omega arith in
     let left-there : y .left < typeCount (sheetAt n xs [] []) = omega arith in
     let right-there : y .right < typeCount (sheetAt n xs [] []) = omega arith in
-    let test : sumFits (sheetAt n xs [] []) (y .left) (y .right) ≡ true =
+    let test : compoundFits (sheetAt n xs [] []) (y .left) (y .right) ≡ true =
     both-true (both-true refl refl) (both-true (lt-ltb _ _ few) (both-true (lt-ltb _ _ left-there) (lt-ltb _ _ right-there))) in (
-      passes _ _ _ test refl,
+      add-type (sheetAt n xs [] []) (y .kind) (y .left) (y .right) ∙ passes _ _ _ test refl,
       (omega (arith, g .0), ap (λ (k : ℕ). earlierTypes k ys) (sym next) ∙ both-right _ _ (g .1)),
     )
 
@@ -67,7 +76,7 @@ sum-built n ys xs y g =
 abbrev GoodPolicies : ℕ → List Policy → List Policy → Type 0
 GoodPolicies n qs ps = rising n (leastAfter 0 qs) ps ≡ true
 
-policy-built : (n : ℕ) (ss : List Sum) (done : List (List Policy)) (ps qs : List Policy) (p : Policy) → GoodPolicies n qs (p ∷ ps)
+policy-built : (n : ℕ) (ss : List Compound) (done : List (List Policy)) (ps qs : List Policy) (p : Policy) → GoodPolicies n qs (p ∷ ps)
     → (addLine (sheetAt n ss (done ++ (qs ∷ [])) []) (policyLine p) ≡ some (sheetAt n ss (done ++ ((qs ++ (p ∷ [])) ∷ [])) []))
     × GoodPolicies n (qs ++ (p ∷ [])) ps
 unfolding rising addLine policyLine policyFits addPolicy labelCount locationCount leastOwner
@@ -84,7 +93,7 @@ policy-built n ss done ps qs (policy o r w) g =
 
 -- ---- labels
 
-labels-built : (n : ℕ) (ss : List Sum) (pss done : List (List Policy)) (rest : List Line)
+labels-built : (n : ℕ) (ss : List Compound) (pss done : List (List Policy)) (rest : List Line)
     → length done + length pss ≤ maxLabels → eachRising n pss ≡ true
     → addLines (some (sheetAt n ss done [])) (labelLines pss rest) ≡ addLines (some (sheetAt n ss (done ++ pss) [])) rest
 unfolding labelLines eachRising addLines addLineOn addLine labelFits addLabel labelCount locationCount leastAfter
@@ -104,7 +113,7 @@ labels-built n ss (ps ∷ pss) done rest few e =
 abbrev GoodLocations : ℕ → ℕ → List Location → List Location → Type 0
 GoodLocations types labels xs ys = (length xs + length ys ≤ maxLocations) × (eachNamed types labels ys ≡ true)
 
-location-built : (n : ℕ) (ss : List Sum) (pss : List (List Policy)) (ys xs : List Location) (y : Location)
+location-built : (n : ℕ) (ss : List Compound) (pss : List (List Policy)) (ys xs : List Location) (y : Location)
     → GoodLocations (typeCount (sheetAt n ss pss [])) (length pss) xs (y ∷ ys)
     → (addLine (sheetAt n ss pss xs) (locationLine y) ≡ some (sheetAt n ss pss (xs ++ (y ∷ []))))
     × GoodLocations (typeCount (sheetAt n ss pss [])) (length pss) (xs ++ (y ∷ [])) ys
@@ -128,14 +137,14 @@ build-complete s fm =
     let n = s .principals in
     let f = formed-facts s fm in
     let count = type-count s in
-    let count′ = type-count (sheetAt n (s .sums) (s .labels) []) in
-    let types : typeCount s ≡ typeCount (sheetAt n (s .sums) (s .labels) []) = omega arith in
-    ap (λ (o : Option Sheet). addLines o (each sumLine (s .sums) (labelLines (s .labels) (each locationLine (s .locations) []))))
+    let count′ = type-count (sheetAt n (s .compounds) (s .labels) []) in
+    let types : typeCount s ≡ typeCount (sheetAt n (s .compounds) (s .labels) []) = omega arith in
+    ap (λ (o : Option Sheet). addLines o (each compoundLine (s .compounds) (labelLines (s .labels) (each locationLine (s .locations) []))))
     (passes _ _ _ (both-true (le-leb _ _ (f .some-principal)) (le-leb _ _ (f .few-principals))) refl)
-    ∙ steps-each sumLine (λ xs. sheetAt n xs [] []) GoodSums (sum-built n) (s .sums) []
-    (labelLines (s .labels) (each locationLine (s .locations) [])) (omega (arith, f .few-sums), f .sums-earlier)
-    ∙ labels-built n (s .sums) (s .labels) [] (each locationLine (s .locations) []) (omega (arith, f .few-labels)) (f .labels-rising)
-    ∙ steps-each locationLine (λ xs. sheetAt n (s .sums) (s .labels) xs)
-    (GoodLocations (typeCount (sheetAt n (s .sums) (s .labels) [])) (length (s .labels)))
-    (location-built n (s .sums) (s .labels)) (s .locations) [] []
+    ∙ steps-each compoundLine (λ xs. sheetAt n xs [] []) GoodTypes (type-built n) (s .compounds) []
+    (labelLines (s .labels) (each locationLine (s .locations) [])) (omega (arith, f .few-compounds), f .compounds-earlier)
+    ∙ labels-built n (s .compounds) (s .labels) [] (each locationLine (s .locations) []) (omega (arith, f .few-labels)) (f .labels-rising)
+    ∙ steps-each locationLine (λ xs. sheetAt n (s .compounds) (s .labels) xs)
+    (GoodLocations (typeCount (sheetAt n (s .compounds) (s .labels) [])) (length (s .labels)))
+    (location-built n (s .compounds) (s .labels)) (s .locations) [] []
     (omega (arith, f .few-locations), ap (λ (k : ℕ). eachNamed k (length (s .labels)) (s .locations)) (sym types) ∙ f .locations-named)

@@ -15,20 +15,21 @@ use Rattle.logic.specs.Booleans.{both}
 use Rattle.logic.proofs.BooleanLaws.{bool-ext, both-left, both-right}
 use Rattle.sets.specs.Sets.{everyone}
 use Rattle.labels.specs.Labels.{policy}
-use Rattle.sheet.specs.Sheet.{Sum, Sheet, typeCount, labelCount, maxPrincipals, maxSums, formed}
+use Rattle.sheet.specs.declared.Kind.{Kind}
+use Rattle.sheet.specs.Sheet.{Compound, Sheet, typeCount, labelCount, maxPrincipals, maxCompounds, formed}
 use Rattle.sheet.specs.Internal.Tables.{maxTypes, tableWords, tableOf}
-use Rattle.sheet.specs.Internal.Growth.{bareSheet, addSum, addLabel, toLast, addPolicy, addLocation}
-use Rattle.sheet.specs.Internal.Writers.{principalsPut, sumPut, openPut, policyPut, locationPut}
+use Rattle.sheet.specs.Internal.Growth.{bareSheet, addCompound, addLabel, toLast, addPolicy, addLocation}
+use Rattle.sheet.specs.Internal.Writers.{principalsPut, compoundPut, openPut, policyPut, locationPut}
 use Rattle.sheet.proofs.FormLaws.{formed-facts, type-count}
 use Rattle.sheet.proofs.TableLaws.{types-in, labels-in, locations-in, principals-in, everyone-in}
 use Rattle.sheet.proofs.GrowthLaws.{toLast-more, labels-split}
-use Rattle.sheet.proofs.TableGrowth.{sum-put, open-put, policy-put, location-put, principals-put}
+use Rattle.sheet.proofs.TableGrowth.{compound-put, open-put, policy-put, location-put, principals-put}
 use Rattle.sheet_text.specs.declared.line.Line.{Line}
-use Rattle.sheet_text.specs.declared.line.Line.the-variants.{P, T, L, O, X}
+use Rattle.sheet_text.specs.declared.line.Line.the-variants.{P, T, Q, L, O, X}
 use Rattle.sheet_text.specs.declared.draft.Draft.{Draft}
 use Rattle.sheet_text.specs.declared.draft.Draft.the-variants.{Formed, Refused}
-use Rattle.sheet_text.specs.Internal.Building.{lastOf, leastAfter, leastOwner, sumFits, labelFits, policyFits, locationFits, begin, addLine, addLineOn}
-use Rattle.sheet_text.specs.Internal.Drafts.{draftIf, DraftHolds, FormedIf, Stores, principalsFit, sumFitsIn, labelFitsIn, policyFitsIn, locationFitsIn}
+use Rattle.sheet_text.specs.Internal.Building.{lastOf, leastAfter, leastOwner, compoundFits, labelFits, policyFits, locationFits, begin, addType, addLine, addLineOn}
+use Rattle.sheet_text.specs.Internal.Drafts.{draftIf, DraftHolds, FormedIf, Stores, principalsFit, compoundFitsIn, labelFitsIn, policyFitsIn, locationFitsIn}
 use Rattle.logic.proofs.OptionLaws.{none-some}
 use Rattle.sheet_text.proofs.GrowthLaws.{last-more, least-more}
 use Rattle.sheet_text.proofs.BuildLaws.{no-labels, begin-sound, step-sound}
@@ -36,17 +37,17 @@ use Rattle.sheet_text.proofs.BuildLaws.{no-labels, begin-sound, step-so
 -- ---- the tests, over the table of a sheet
 
 module _ (s : Sheet) (fm : formed s ≡ true) where
-  -- there is room for a type more where there is for a sum
-  types-fit-in : ltb (typeCount s) maxTypes ≡ ltb (length (s .sums)) maxSums
+  -- there is room for a type more where there is for a line
+  types-fit-in : ltb (typeCount s) maxTypes ≡ ltb (length (s .compounds)) maxCompounds
   types-fit-in =
       let count = type-count s in
-      bool-ext (ltb (typeCount s) maxTypes) (ltb (length (s .sums)) maxSums)
-      (λ e. let h : typeCount s < maxTypes = ltb-true _ _ e in let k : length (s .sums) < maxSums = omega arith in lt-ltb _ _ k)
-      (λ e. let h : length (s .sums) < maxSums = ltb-true _ _ e in let k : typeCount s < maxTypes = omega arith in lt-ltb _ _ k)
+      bool-ext (ltb (typeCount s) maxTypes) (ltb (length (s .compounds)) maxCompounds)
+      (λ e. let h : typeCount s < maxTypes = ltb-true _ _ e in let k : length (s .compounds) < maxCompounds = omega arith in lt-ltb _ _ k)
+      (λ e. let h : length (s .compounds) < maxCompounds = ltb-true _ _ e in let k : typeCount s < maxTypes = omega arith in lt-ltb _ _ k)
 
-  sum-fits-in : (a b : ℕ) → sumFitsIn a b (tableOf s) ≡ sumFits s a b
-  unfolding sumFits
-  sum-fits-in a b = rw (labels-in s fm, locations-in s fm, types-in s fm, types-fit-in)
+  compound-fits-in : (a b : ℕ) → compoundFitsIn a b (tableOf s) ≡ compoundFits s a b
+  unfolding compoundFits
+  compound-fits-in a b = rw (labels-in s fm, locations-in s fm, types-in s fm, types-fit-in)
 
   label-fits-in : labelFitsIn (tableOf s) ≡ labelFits s
   unfolding labelFits
@@ -97,18 +98,17 @@ least-none s e = rw e
 -- ---- what a line that passes its test stores
 
 module _ (s : Sheet) (fm : formed s ≡ true) where
-  sum-stored : (a b : ℕ) → sumFits s a b ≡ true
-      → (0 ≡ leastOwner (addSum s (record { left = a; right = b })))
-      × (sumPut a b (tableOf s) ≡ tableOf (addSum s (record { left = a; right = b })))
-  unfolding sumFits
-  sum-stored a b f =
-      let x : Sum = record { left = a; right = b } in
+  compound-stored : (k : Kind) (a b : ℕ) → compoundFits s a b ≡ true
+      → (0 ≡ leastOwner (addCompound s (record { kind = k; left = a; right = b })))
+      × (compoundPut k a b (tableOf s) ≡ tableOf (addCompound s (record { kind = k; left = a; right = b })))
+  unfolding compoundFits
+  compound-stored k a b f =
+      let x : Compound = record { kind = k; left = a; right = b } in
       let rest = both-right _ _ f in
-      let few : length (s .sums) < maxSums = ltb-true _ _ (both-left _ _ rest) in
-      let left : a < typeCount s = ltb-true _ _ (both-left _ _ (both-right _ _ rest)) in
-      let right : b < typeCount s = ltb-true _ _ (both-right _ _ (both-right _ _ rest)) in (
-        least-none (addSum s x) (unfold addSum in (no-labels s (both-left _ _ (both-left _ _ f)))),
-        sum-put s fm x (omega (arith, type-count s)) left right,
+      let few : length (s .compounds) < maxCompounds = ltb-true _ _ (both-left _ _ rest) in
+      let left : a < typeCount s = ltb-true _ _ (both-left _ _ (both-right _ _ rest)) in (
+        least-none (addCompound s x) (unfold addCompound in (no-labels s (both-left _ _ (both-left _ _ f)))),
+        compound-put s fm x (omega (arith, type-count s)) left,
       )
 
   label-stored : labelFits s ≡ true → (0 ≡ leastOwner (addLabel s)) × (openPut (tableOf s) ≡ tableOf (addLabel s))
@@ -144,10 +144,12 @@ module _ (s : Sheet) (fm : formed s ≡ true) where
 
 -- what was stored in the table of a sheet
 module _ (s : Sheet) (fm : formed s ≡ true) (t : List ℕ) (e : t ≡ tableOf s) (ok : Bool) (u : List ℕ) where
-  pub sum-holds : (a b : ℕ) → Stores (sumFitsIn a b) (sumPut a b) t ok u → DraftHolds (addLine s (T a b)) (draftIf ok 0) u
-  unfolding addLine
-  sum-holds a b made =
-      holds-if (sumFits s a b) _ (sumFitsIn a b) (sumPut a b) (tableOf s) u ok 0 (rw e at made) (sum-fits-in s fm a b) (λ f. sum-stored s fm a b f)
+  pub compound-holds : (k : Kind) (a b : ℕ) → Stores (compoundFitsIn a b) (compoundPut k a b) t ok u
+      → DraftHolds (addType s k a b) (draftIf ok 0) u
+  unfolding addType
+  compound-holds k a b made =
+      holds-if (compoundFits s a b) _ (compoundFitsIn a b) (compoundPut k a b) (tableOf s) u ok 0 (rw e at made) (compound-fits-in s fm a b)
+      (λ f. compound-stored s fm k a b f)
 
   pub label-holds : Stores labelFitsIn openPut t ok u → DraftHolds (addLine s L) (draftIf ok 0) u
   unfolding addLine

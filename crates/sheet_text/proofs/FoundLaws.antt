@@ -12,10 +12,11 @@ use Rattle.text.proofs.Readings.{drop-step}
 use Rattle.text.proofs.Places.{placed-got, placed-bad, placed-split}
 use Rattle.text.proofs.Lines.{line-within, line-shorter}
 use Rattle.sheet_text.specs.declared.line.Line.{Line}
+use Rattle.sheet_text.specs.declared.line.Line.the-variants.{T, Q, X}
 use Rattle.sheet_text.specs.declared.line.LineRead.the-variants as read
 use Rattle.sheet_text.specs.declared.line.Reached.{Reached}
 use Rattle.sheet_text.specs.declared.line.Found.the-variants as found
-use Rattle.sheet_text.specs.Reading.{principalsRest, pairRest, labelRest, policyRest, lineOf}
+use Rattle.sheet_text.specs.Reading.{principalsRest, numbersRest, labelRest, policyRest, lineOf}
 use Rattle.sheet_text.specs.Internal.Placed.{placedLine, reached, lineAt}
 use Rattle.sheet_text.proofs.LineLaws.{sheet-lines}
 
@@ -64,9 +65,13 @@ module _ (s : List ℕ) (i : ℕ) where
     unfolding lineOf
     line-principals e = line-at-first 80 e
 
-    pub line-sum : getD s i 0 ≡ 84 → lineOf (drop i s) ≡ pairRest true (drop (i + 1) s)
+    pub line-sum : getD s i 0 ≡ 84 → lineOf (drop i s) ≡ numbersRest T (drop (i + 1) s)
     unfolding lineOf
     line-sum e = line-at-first 84 e
+
+    pub line-pair : getD s i 0 ≡ 81 → lineOf (drop i s) ≡ numbersRest Q (drop (i + 1) s)
+    unfolding lineOf
+    line-pair e = line-at-first 81 e
 
     pub line-label : getD s i 0 ≡ 76 → lineOf (drop i s) ≡ labelRest (drop (i + 1) s)
     unfolding lineOf
@@ -76,13 +81,13 @@ module _ (s : List ℕ) (i : ℕ) where
     unfolding lineOf
     line-policy e = line-at-first 79 e
 
-    pub line-location : getD s i 0 ≡ 88 → lineOf (drop i s) ≡ pairRest false (drop (i + 1) s)
+    pub line-location : getD s i 0 ≡ 88 → lineOf (drop i s) ≡ numbersRest X (drop (i + 1) s)
     unfolding lineOf
     line-location e = line-at-first 88 e
 
-    pub line-other : (getD s i 0 ≡ 80 → ⊥) → (getD s i 0 ≡ 84 → ⊥) → (getD s i 0 ≡ 76 → ⊥) → (getD s i 0 ≡ 79 → ⊥) → (getD s i 0 ≡ 88 → ⊥)
-        → lineOf (drop i s) ≡ bad
+    pub line-other : (getD s i 0 ≡ 80 → ⊥) → (getD s i 0 ≡ 84 → ⊥) → (getD s i 0 ≡ 81 → ⊥) → (getD s i 0 ≡ 76 → ⊥) → (getD s i 0 ≡ 79 → ⊥)
+        → (getD s i 0 ≡ 88 → ⊥) → lineOf (drop i s) ≡ bad
     unfolding lineOf
-    line-other p t l o x =
+    line-other p t q l o x =
         ap lineOf (drop-step s i h)
-        ∙ simp (ne-eqb (getD s i 0) 80 p, ne-eqb (getD s i 0) 84 t, ne-eqb (getD s i 0) 76 l, ne-eqb (getD s i 0) 79 o, ne-eqb (getD s i 0) 88 x)
+        ∙ simp (ne-eqb (getD s i 0) 80 p, ne-eqb (getD s i 0) 84 t, ne-eqb (getD s i 0) 81 q, ne-eqb (getD s i 0) 76 l, ne-eqb (getD s i 0) 79 o, ne-eqb (getD s i 0) 88 x)

@@ -9,7 +9,7 @@ use lib.ListN.{length}
 use borrow.Author.Tests.{lt-ltb}
 use Rattle.logic.proofs.BooleanLaws.{both-left, both-right, both-true}
 use Rattle.labels.specs.Labels.{Policy, policy}
-use Rattle.sheet.specs.Sheet.{Sum, Location, earlierTypes, rising, eachRising, eachNamed}
+use Rattle.sheet.specs.Sheet.{Compound, Location, earlierTypes, rising, eachRising, eachNamed}
 use Rattle.sheet_text.specs.declared.line.Line.{Line}
 use Rattle.sheet_text.specs.declared.line.Line.the-variants.{L}
 use Rattle.sheet_text.specs.Lines.{policyLine, each, labelLines}
@@ -54,7 +54,7 @@ least-more from (policy o′ r′ w′ ∷ ps) o r w = least-more (suc o′) ps 
 
 -- ---- the form
 
-pub earlier-more : (k : ℕ) (ss : List Sum) (x : Sum) → earlierTypes k ss ≡ true → x .left < k + length ss → x .right < k + length ss
+pub earlier-more : (k : ℕ) (ss : List Compound) (x : Compound) → earlierTypes k ss ≡ true → x .left < k + length ss → x .right < k + length ss
     → earlierTypes k (ss ++ (x ∷ [])) ≡ true
 unfolding earlierTypes
 earlier-more k [] x e h i = both-true (both-true (lt-ltb _ _ (rw (add-zero k) at h)) (lt-ltb _ _ (rw (add-zero k) at i))) refl

@@ -1,6 +1,6 @@
 -- A line is read exactly where its printed form stands. Assumes nothing.
 use mathlib.Core.Path.{_≡_, refl, sym, ap, _∙_}
-use mathlib.Core.Bool.{Bool, true, false}
+use mathlib.Core.Bool.{true}
 use mathlib.Core.List.{List, [], _∷_, _++_, append-assoc}
 use Prim.Native.Nat.{ℕ, _^_, _≤_, _<_}
 use lib.Dec.{eqb}
@@ -14,15 +14,18 @@ use Rattle.logic.proofs.BooleanLaws.{cond-split}
 use Rattle.text.proofs.Readings.{not-bad, got-same, andThen-got, andThen-split, byte-here, byte-sound}
 use Rattle.text.proofs.Fields.{number-field-sound, number-field-print, last-number-sound, last-number-print, set-field-sound, set-field-print}
 use Rattle.sheet_text.specs.declared.line.Line.{Line}
-use Rattle.sheet_text.specs.declared.line.Line.the-variants.{P, T, L, O, X}
-use Rattle.sheet_text.specs.Lines.{lineBytes}
-use Rattle.sheet_text.specs.Reading.{principalsRest, pairLine, pairRest, labelRest, policyRest, lineOf}
+use Rattle.sheet_text.specs.declared.line.Line.the-variants.{P, T, Q, L, O, X}
+use Rattle.sheet.specs.declared.Kind.{Kind}
+use Rattle.sheet.specs.declared.Kind.the-variants.{Sum, Pair}
+use Rattle.sheet_text.specs.Lines.{typeLine, lineBytes}
+use Rattle.sheet_text.specs.Reading.{principalsRest, numbersRest, labelRest, policyRest, lineOf}
 use Rattle.logic.specs.Booleans.{both}
 
 -- the numbers of a line are of 32 bits, and its sets have room in a set
 unfoldable pub Fits : Line → Type 0
 Fits (P n) = n ≤ most
 Fits (T a b) = (a ≤ most) × (b ≤ most)
+Fits (Q a b) = (a ≤ most) × (b ≤ most)
 Fits L = Unit
 Fits (O o r w) = (o ≤ most) × (r < 2 ^ width) × (w < 2 ^ width)
 Fits (X t l) = (t ≤ most) × (l ≤ most)
@@ -38,31 +41,34 @@ principals-sound t l u e =
     let x = last-number-sound most t n v f in
     rw (← s .0, ← s .1) (ap (_∷_ 80) (x .0), x .1)) e
 
--- the letter of a line of two numbers
-letter : Bool → ℕ
-letter true = 84
-letter false = 88
+-- The lines of two numbers that begin with a letter: how they are printed, and that they fit where their numbers do.
+record Numbers (letter : ℕ) (f : ℕ → ℕ → Line) : Type 0 where
+  bytes : (a b : ℕ) (u : List ℕ) → lineBytes (f a b) u ≡ letter ∷ printNumberField a (printNumberField b (printLineEnd u))
+  fit : (a b : ℕ) → a ≤ most → b ≤ most → Fits (f a b)
 
-pair-bytes : (sum : Bool) (a b : ℕ) (u : List ℕ) → lineBytes (pairLine sum a b) u ≡ letter sum ∷ printNumberField a (printNumberField b (printLineEnd u))
-unfolding lineBytes pairLine letter
-pair-bytes true a b u = refl
-pair-bytes false a b u = refl
+sums : Numbers 84 T
+unfolding lineBytes Fits
+sums = record { bytes = λ a b u. refl; fit = λ a b h k. (h, k) }
 
-pair-fits : (sum : Bool) (a b : ℕ) → a ≤ most → b ≤ most → Fits (pairLine sum a b)
-unfolding Fits pairLine
-pair-fits true a b h k = (h, k)
-pair-fits false a b h k = (h, k)
+pairs : Numbers 81 Q
+unfolding lineBytes Fits
+pairs = record { bytes = λ a b u. refl; fit = λ a b h k. (h, k) }
 
-pair-sound : (sum : Bool) (t : List ℕ) (l : Line) (u : List ℕ) → pairRest sum t ≡ got l u → (letter sum ∷ t ≡ lineBytes l u) × Fits l
-unfolding pairRest
-pair-sound sum t l u e =
+locations : Numbers 88 X
+unfolding lineBytes Fits
+locations = record { bytes = λ a b u. refl; fit = λ a b h k. (h, k) }
+
+numbers-sound : {letter : ℕ} {f : ℕ → ℕ → Line} → Numbers letter f → (t : List ℕ) (l : Line) (u : List ℕ) → numbersRest f t ≡ got l u
+    → (letter ∷ t ≡ lineBytes l u) × Fits l
+unfolding numbersRest
+numbers-sound {letter} {f} n t l u e =
     andThen-split (numberField most t) _ l u
-    (λ a v f. andThen-split (lastNumber most v) _ l u
-    (λ b w g h.
-    let s = got-same (pairLine sum a b) l w u h in
-    let x = number-field-sound most t a v f in
-    let y = last-number-sound most v b w g in
-    rw (← s .0, ← s .1) (ap (_∷_ (letter sum)) (x .0 ∙ ap (printNumberField a) (y .0)) ∙ sym (pair-bytes sum a b w), pair-fits sum a b (x .1) (y .1)))) e
+    (λ a v g. andThen-split (lastNumber most v) _ l u
+    (λ b w h k.
+    let s = got-same (f a b) l w u k in
+    let x = number-field-sound most t a v g in
+    let y = last-number-sound most v b w h in
+    rw (← s .0, ← s .1) (ap (_∷_ letter) (x .0 ∙ ap (printNumberField a) (y .0)) ∙ sym (n .bytes a b w), n .fit a b (x .1) (y .1)))) e
 
 label-sound : (t : List ℕ) (l : Line) (u : List ℕ) → labelRest t ≡ got l u → (76 ∷ t ≡ lineBytes l u) × Fits l
 unfolding labelRest lineBytes Fits
@@ -87,38 +93,46 @@ policy-sound t l u e =
     (ap (_∷_ 79) (a .0 ∙ ap (printNumberField o) (b .0 ∙ ap (printSetField r) (c .0 ∙ ap (printSetField q) d))), (a .1, b .1, c .1)))))) e
 
 line-sound : (t : List ℕ) (l : Line) (u : List ℕ) → lineOf t ≡ got l u → (t ≡ lineBytes l u) × Fits l
-unfolding lineOf letter
+unfolding lineOf
 line-sound [] l u e = not-bad l u e
 line-sound (b ∷ t) l u e =
     cond-split (eqb b 80) _ _ _ (λ h x. first 80 h (principals-sound t l u x))
-    (λ _. cond-split (eqb b 84) _ _ _ (λ h x. first 84 h (pair-sound true t l u x))
+    (λ _. cond-split (eqb b 84) _ _ _ (λ h x. first 84 h (numbers-sound sums t l u x))
+    (λ _. cond-split (eqb b 81) _ _ _ (λ h x. first 81 h (numbers-sound pairs t l u x))
     (λ _. cond-split (eqb b 76) _ _ _ (λ h x. first 76 h (label-sound t l u x))
     (λ _. cond-split (eqb b 79) _ _ _ (λ h x. first 79 h (policy-sound t l u x))
-    (λ _. cond-split (eqb b 88) _ _ _ (λ h x. first 88 h (pair-sound false t l u x)) (λ _ x. not-bad l u x))))) e
+    (λ _. cond-split (eqb b 88) _ _ _ (λ h x. first 88 h (numbers-sound locations t l u x)) (λ _ x. not-bad l u x)))))) e
   where
     first : (k : ℕ) → eqb b k ≡ true → (k ∷ t ≡ lineBytes l u) × Fits l → (b ∷ t ≡ lineBytes l u) × Fits l
     first k h r = (ap (λ (x : ℕ). x ∷ t) (eqb-true b k h) ∙ r .0, r .1)
 
 -- ---- what is printed is read
 
-pair-print : (sum : Bool) (a b : ℕ) (u : List ℕ) → a ≤ most → b ≤ most
-    → pairRest sum (printNumberField a (printNumberField b (printLineEnd u))) ≡ got (pairLine sum a b) u
-unfolding pairRest opensDigit digit both
-pair-print sum a b u h k =
+numbers-print : (f : ℕ → ℕ → Line) (a b : ℕ) (u : List ℕ) → a ≤ most → b ≤ most
+    → numbersRest f (printNumberField a (printNumberField b (printLineEnd u))) ≡ got (f a b) u
+unfolding numbersRest opensDigit digit both
+numbers-print f a b u h k =
     andThen-got _ _ a _ (number-field-print most a (printNumberField b (printLineEnd u)) h refl)
     ∙ andThen-got _ _ b u (last-number-print most b u k)
 
 line-print : (l : Line) (u : List ℕ) → Fits l → lineOf (lineBytes l u) ≡ got l u
-unfolding lineBytes lineOf Fits pairLine principalsRest labelRest policyRest opensDigit digit both
+unfolding lineBytes lineOf Fits principalsRest labelRest policyRest opensDigit digit both
 line-print (P n) u h = andThen-got _ _ n u (last-number-print most n u h)
-line-print (T a b) u h = pair-print true a b u (h .0) (h .1)
+line-print (T a b) u h = numbers-print T a b u (h .0) (h .1)
+line-print (Q a b) u h = numbers-print Q a b u (h .0) (h .1)
 line-print L u h = andThen-got _ _ tt u (byte-here 10 10 u refl)
 line-print (O o r w) u h =
     andThen-got _ _ o _ (number-field-print most o (printSetField r (printSetField w (printLineEnd u))) (h .0) refl)
     ∙ andThen-got _ _ r _ (set-field-print r (printSetField w (printLineEnd u)) (h .1))
     ∙ andThen-got _ _ w _ (set-field-print w (printLineEnd u) (h .2))
     ∙ andThen-got _ _ tt u (byte-here 10 10 u refl)
-line-print (X t l) u h = pair-print false t l u (h .0) (h .1)
+line-print (X t l) u h = numbers-print X t l u (h .0) (h .1)
+
+-- a line of a type fits
+pub type-line-fits : (k : Kind) (a b : ℕ) → a ≤ most → b ≤ most → Fits (typeLine k a b)
+unfolding typeLine
+type-line-fits Sum = sums .fit
+type-line-fits Pair = pairs .fit
 
 -- ---- the form of lines
 
@@ -130,6 +144,7 @@ bytes-front : (l : Line) (u : List ℕ) → lineBytes l u ≡ lineBytes l [] ++ 
 unfolding lineBytes
 bytes-front (P n) u = simp append-assoc
 bytes-front (T a b) u = simp append-assoc
+bytes-front (Q a b) u = simp append-assoc
 bytes-front L u = refl
 bytes-front (O o r w) u = simp append-assoc
 bytes-front (X t l) u = simp append-assoc

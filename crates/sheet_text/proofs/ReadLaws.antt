@@ -95,7 +95,7 @@ module _ (d : Draft) (t : List ℕ) where
     counts-few none f e = refused-formed d k e h
     counts-few (some s) f e =
         let facts = formed-facts s f in
-        let types : typeCount s ≤ maxTypes = omega (arith, type-count s, facts .few-sums) in
+        let types : typeCount s ≤ maxTypes = omega (arith, type-count s, facts .few-compounds) in
         let labels : labelCount s ≤ maxLabels = unfold labelCount in (facts .few-labels) in
         rw (e .1, types-in s f, labels-in s f) (types, labels)
 

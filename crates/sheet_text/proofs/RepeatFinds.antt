@@ -8,17 +8,17 @@ use native.Mathlib.Decide.{decLe}
 use lib.Dec.{eqb}
 use lib.ListN.{length, getD, length-map}
 use Rattle.logic.specs.Booleans.{both, either}
-use Rattle.logic.proofs.BooleanLaws.{bool-ext, both-left, both-right, both-true}
+use Rattle.logic.proofs.BooleanLaws.{bool-ext, both-left, both-right, both-true, both-exchange}
 use Rattle.sets.specs.Sets.{every, everyone}
 use Rattle.sets.proofs.Walks.{every-true, every-at, getD-tab}
 use Rattle.labels.specs.Labels.{owners, labelOf, bottomOf, readersOf, writersOf, sameAt, sameOf}
 use Rattle.labels.specs.Internal.Tables.{labelSize, setsAt, labelAt}
 use Rattle.labels.specs.declared.Label.{Label}
-use Rattle.sheet.specs.Sheet.{Sum, Sheet, labelsOf, labelNo, labelCount, maxLabels, formed, among, repeated, sameParts, givenSums, repeats}
-use Rattle.sheet.specs.Internal.Tables.{maxTypes, partsBase, partsPlace, labelPlace, tableOf, typesIn, labelsIn, leftIn, rightIn, givenParts, typeParts, partsNo}
+use Rattle.sheet.specs.Sheet.{Sheet, labelsOf, labelNo, labelCount, maxLabels, formed, among, repeated, sameKind, sameCompound, givenSums, repeats}
+use Rattle.sheet.specs.Internal.Tables.{maxTypes, partsBase, partsPlace, labelPlace, tableOf, typesIn, labelsIn, leftIn, rightWordIn, rightWord, noParts, givenParts, typeParts, partsNo}
 use Rattle.sheet.proofs.Entries.{entry-there, label-there}
 use Rattle.sheet.proofs.FormLaws.{type-count}
-use Rattle.sheet.proofs.TableLaws.{types-in, labels-in, left-in, right-in}
+use Rattle.sheet.proofs.TableLaws.{types-in, labels-in, left-in, right-word-same, right-below, right-word-in}
 use Rattle.sheet.proofs.LabelLaws.{label-in}
 use Rattle.sheet_text.specs.Internal.Repeats.{mostOf, sameWords, sameIn, anyFrom, againIn, repeatsIn}
 
@@ -144,13 +144,10 @@ module _ (t : List ℕ) (a b : ℕ) where
 -- ---- types and labels
 
 module _ (s : Sheet) (fm : formed s ≡ true) where
-  noParts : Sum
-  noParts = record { left = 0; right = 0 }
-
-  -- the sums are the types from 3 on
-  sum-at : (j : ℕ) → partsNo s (3 + j) ≡ getD (givenSums ++ s .sums) j noParts
-  unfolding partsNo typeParts givenParts noParts
-  sum-at j = let z : 3 + j ≡ suc (suc (suc j)) = omega arith in rw z
+  -- the types with parts are those from 3 on
+  compound-at : (j : ℕ) → partsNo s (3 + j) ≡ getD (givenSums ++ s .compounds) j noParts
+  unfolding partsNo typeParts givenParts
+  compound-at j = let z : 3 + j ≡ suc (suc (suc j)) = omega arith in rw z
 
   -- a part of a type that is there
   left-at : (i : ℕ) → i < typesIn (tableOf s) → getD (tableOf s) (partsBase + 2 * i + 0) 0 ≡ partsNo s i .left
@@ -158,24 +155,33 @@ module _ (s : Sheet) (fm : formed s ≡ true) where
       let z : partsBase + 2 * i + 0 ≡ partsBase + 2 * i = omega arith in
       rw z (sym (entry-there (tableOf s) (typesIn (tableOf s)) partsBase i h) ∙ unfold leftIn in (left-in s fm i))
 
-  right-at : (i : ℕ) → i < typesIn (tableOf s) → getD (tableOf s) (partsBase + 2 * i + 1) 0 ≡ partsNo s i .right
+  right-at : (i : ℕ) → i < typesIn (tableOf s) → getD (tableOf s) (partsBase + 2 * i + 1) 0 ≡ rightWord (partsNo s i .kind) (partsNo s i .right)
   right-at i h =
       let z : partsBase + 2 * i + 1 ≡ partsBase + 1 + 2 * i = omega arith in
-      rw z (sym (entry-there (tableOf s) (typesIn (tableOf s)) (partsBase + 1) i h) ∙ unfold rightIn in (right-in s fm i))
+      rw z (sym (entry-there (tableOf s) (typesIn (tableOf s)) (partsBase + 1) i h) ∙ unfold rightWordIn in (right-word-in s fm i))
 
-  same-sums : (j k : ℕ) → 3 + j < typesIn (tableOf s) → 3 + k < typesIn (tableOf s)
-      → sameIn (tableOf s) false (3 + j) (3 + k) ≡ sameParts (getD (givenSums ++ s .sums) j noParts) (getD (givenSums ++ s .sums) k noParts)
-  unfolding sameIn sameWords sameParts every
-  same-sums j k h i =
-      rw (left-at (3 + j) h, left-at (3 + k) i, right-at (3 + j) h, right-at (3 + k) i, sum-at j, sum-at k) (ap (both _) (both-yes-right _))
+  same-types : (i j : ℕ) → i < typesIn (tableOf s) → j < typesIn (tableOf s) → sameIn (tableOf s) false i j ≡ sameCompound (partsNo s i) (partsNo s j)
+  unfolding sameIn sameWords sameCompound every both
+  same-types i j h l =
+      let a = partsNo s i in
+      let b = partsNo s j in
+      rw (
+        left-at i h,
+        left-at j l,
+        right-at i h,
+        right-at j l,
+        right-word-same (a .kind) (b .kind) (a .right) (b .right) (right-below s fm i) (right-below s fm j),
+        both-yes-right (both (sameKind (a .kind) (b .kind)) (eqb (a .right) (b .right))),
+      )
+      (both-exchange true (eqb (a .left) (b .left)) (sameKind (a .kind) (b .kind)) (eqb (a .right) (b .right)))
 
-  types-repeated : anyFrom (againIn (tableOf s) false (typesIn (tableOf s))) 3 (typesIn (tableOf s) - 3) ≡ repeated sameParts (givenSums ++ s .sums)
+  types-repeated : anyFrom (againIn (tableOf s) false (typesIn (tableOf s))) 3 (typesIn (tableOf s) - 3) ≡ repeated sameCompound (givenSums ++ s .compounds)
   types-repeated =
-      let xs = givenSums ++ s .sums in
+      let xs = givenSums ++ s .compounds in
       let long : 3 + length xs ≡ typesIn (tableOf s) = omega (arith, type-count s, types-in s fm) in
       let left : typesIn (tableOf s) - 3 ≡ length xs = omega arith in
       ap (λ (k : ℕ). anyFrom (againIn (tableOf s) false (typesIn (tableOf s))) 3 k) left
-      ∙ any-repeated sameParts noParts (tableOf s) false (typesIn (tableOf s)) xs 3 long (λ j k l m. same-sums j k (omega arith) (omega arith))
+      ∙ any-repeated sameCompound noParts (tableOf s) false (typesIn (tableOf s)) xs 3 long (λ j k l m. same-types (3 + j) (3 + k) (omega arith) (omega arith) ∙ ap₂ sameCompound (compound-at j) (compound-at k))
 
   noLabel : Label
   noLabel = bottomOf (everyone (s .principals))

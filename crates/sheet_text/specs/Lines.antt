@@ -4,12 +4,19 @@ use Prim.Native.Nat.{ℕ}
 use Rattle.text.specs.Field.{printNumberField, printSetField, printLineEnd}
 use Rattle.text.specs.Lines.{printLines}
 use Rattle.labels.specs.Labels.{Policy, policy}
-use Rattle.sheet.specs.Sheet.{Sum, Location, Sheet}
+use Rattle.sheet.specs.declared.Kind.{Kind}
+use Rattle.sheet.specs.declared.Kind.the-variants.{Sum, Pair}
+use Rattle.sheet.specs.Sheet.{Compound, Location, Sheet}
 use Rattle.sheet_text.specs.declared.line.Line.{Line}
-use Rattle.sheet_text.specs.declared.line.Line.the-variants.{P, T, L, O, X}
+use Rattle.sheet_text.specs.declared.line.Line.the-variants.{P, T, Q, L, O, X}
 
-unfoldable pub sumLine : Sum → Line
-sumLine x = T (x .left) (x .right)
+-- a line `T` or `Q`
+unfoldable pub typeLine : Kind → ℕ → ℕ → Line
+typeLine Sum a b = T a b
+typeLine Pair a b = Q a b
+
+unfoldable pub compoundLine : Compound → Line
+compoundLine x = typeLine (x .kind) (x .left) (x .right)
 
 unfoldable pub policyLine : Policy → Line
 policyLine (policy o r w) = O o r w
@@ -29,7 +36,7 @@ labelLines (ps ∷ pss) rest = L ∷ each policyLine ps (labelLines pss rest)
 
 -- the lines of a sheet, then rest
 unfoldable pub linesThen : Sheet → List Line → List Line
-linesThen s rest = P (s .principals) ∷ each sumLine (s .sums) (labelLines (s .labels) (each locationLine (s .locations) rest))
+linesThen s rest = P (s .principals) ∷ each compoundLine (s .compounds) (labelLines (s .labels) (each locationLine (s .locations) rest))
 
 unfoldable pub sheetLines : Sheet → List Line
 sheetLines s = linesThen s []
@@ -38,6 +45,7 @@ sheetLines s = linesThen s []
 unfoldable pub lineBytes : Line → List ℕ → List ℕ
 lineBytes (P n) rest = 80 ∷ printNumberField n (printLineEnd rest)
 lineBytes (T a b) rest = 84 ∷ printNumberField a (printNumberField b (printLineEnd rest))
+lineBytes (Q a b) rest = 81 ∷ printNumberField a (printNumberField b (printLineEnd rest))
 lineBytes L rest = 76 ∷ printLineEnd rest
 lineBytes (O o r w) rest = 79 ∷ printNumberField o (printSetField r (printSetField w (printLineEnd rest)))
 lineBytes (X t l) rest = 88 ∷ printNumberField t (printNumberField l (printLineEnd rest))

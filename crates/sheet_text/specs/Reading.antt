@@ -1,5 +1,5 @@
 -- How a sheet's text is read into lines: the first byte of a line says what it is.
-use mathlib.Core.Bool.{Bool, true, false, cond}
+use mathlib.Core.Bool.{cond}
 use mathlib.Core.List.{List, [], _∷_}
 use mathlib.Core.Option.{Option}
 use Prim.Native.Nat.{ℕ}
@@ -10,20 +10,16 @@ use Rattle.text.specs.Number.{most}
 use Rattle.text.specs.Field.{numberField, setField, lineEnd, lastNumber}
 use Rattle.text.specs.Lines.{allLines}
 use Rattle.sheet_text.specs.declared.line.Line.{Line}
-use Rattle.sheet_text.specs.declared.line.Line.the-variants.{P, T, L, O, X}
+use Rattle.sheet_text.specs.declared.line.Line.the-variants.{P, T, Q, L, O, X}
 
 -- what follows the letter of each line
 
 unfoldable pub principalsRest : List ℕ → Read Line
 principalsRest t = andThen (lastNumber most t) (λ n u. got (P n) u)
 
-unfoldable pub pairLine : Bool → ℕ → ℕ → Line
-pairLine true a b = T a b
-pairLine false a b = X a b
-
--- two numbers: a sum, or otherwise a location
-unfoldable pub pairRest : Bool → List ℕ → Read Line
-pairRest sum t = andThen (numberField most t) (λ a u. andThen (lastNumber most u) (λ b v. got (pairLine sum a b) v))
+-- two numbers, which make a line by f
+unfoldable pub numbersRest : (ℕ → ℕ → Line) → List ℕ → Read Line
+numbersRest f t = andThen (numberField most t) (λ a u. andThen (lastNumber most u) (λ b v. got (f a b) v))
 
 unfoldable pub labelRest : List ℕ → Read Line
 labelRest t = andThen (lineEnd t) (λ _ u. got L u)
@@ -37,10 +33,11 @@ unfoldable pub lineOf : List ℕ → Read Line
 lineOf [] = bad
 lineOf (b ∷ t) =
     cond (eqb b 80) (principalsRest t)
-    (cond (eqb b 84) (pairRest true t)
+    (cond (eqb b 84) (numbersRest T t)
+    (cond (eqb b 81) (numbersRest Q t)
     (cond (eqb b 76) (labelRest t)
     (cond (eqb b 79) (policyRest t)
-    (cond (eqb b 88) (pairRest false t) bad))))
+    (cond (eqb b 88) (numbersRest X t) bad)))))
 
 -- the lines of a text
 abbrev pub linesOf : List ℕ → Option (List Line)

@@ -4,15 +4,16 @@ ghost use mathlib.Core.Option.{Option};
 ghost use lib.ListN.{drop, replicate};
 ghost use Rattle.sheet.specs.Sheet.{Sheet};
 ghost use Rattle.sheet.specs.Internal.Tables.{tableWords};
-ghost use Rattle.sheet.specs.Internal.Writers.{principalsPut, sumPut, openPut, policyPut, locationPut};
+ghost use Rattle.sheet.specs.Internal.Writers.{principalsPut, compoundPut, openPut, policyPut, locationPut};
 ghost use Rattle.sheet_text.specs.Internal.Building.{begin, addLineOn};
 ghost use Rattle.sheet_text.specs.Sheets.{sheetRead};
 ghost use Rattle.sheet_text.specs.Reading.{linesOf};
-ghost use Rattle.sheet_text.specs.Internal.Drafts.{draftIf, DraftHolds, FormedIf, stepsRead, Stores, principalsFit, sumFitsIn, labelFitsIn, policyFitsIn, locationFitsIn};
+ghost use Rattle.sheet_text.specs.Internal.Drafts.{draftIf, DraftHolds, FormedIf, stepsRead, Stores, principalsFit, compoundFitsIn, labelFitsIn, policyFitsIn, locationFitsIn};
 use super::line::Line;
 use super::line::LineRead;
 use super::line::line_from;
 use sets::Set;
+use sheet::Kind;
 use sheet::MOST_LABELS;
 use sheet::MOST_LOCATIONS;
 use sheet::MOST_PRINCIPALS;
@@ -38,9 +39,9 @@ fn drafted(fits: bool, least: u32) -> Draft
     }
 }
 
-// Whether a sum may come next: of types that are there, before any label or location.
-fn sum_fits(table: &[Word], a: u32, b: u32) -> bool
-    ensures { λ r. ⌜ r ≡ sumFitsIn a b (now (table .entry)) ⌝ }
+// Whether a sum or a pair may come next: of types that are there, before any label or location.
+fn compound_fits(table: &[Word], a: u32, b: u32) -> bool
+    ensures { λ r. ⌜ r ≡ compoundFitsIn a b (now (table .entry)) ⌝ }
 {
     let n = sheet::types(table);
     let first = (sheet::labels(table) == 0) & (sheet::locations(table) == 0);
@@ -87,14 +88,14 @@ fn set_principals(table: &mut [Word; WORDS], n: u32) -> bool
     true
 }
 
-// A sum of two types.
-fn add_sum(table: &mut [Word; WORDS], a: u32, b: u32) -> bool
-    ensures { λ r. ⌜ Stores (sumFitsIn a b) (sumPut a b) (now (table .entry)) r (now (table .exit)) ⌝ }
+// The sum or the pair of two types.
+fn add_compound(table: &mut [Word; WORDS], kind: Kind, a: u32, b: u32) -> bool
+    ensures { λ r. ⌜ Stores (compoundFitsIn a b) (compoundPut kind a b) (now (table .entry)) r (now (table .exit)) ⌝ }
 {
-    if !sum_fits(table, a, b) {
+    if !compound_fits(table, a, b) {
         return false;
     }
-    sheet::write::add_sum(table, a, b);
+    sheet::write::add_compound(table, kind, a, b);
     true
 }
 
@@ -151,7 +152,8 @@ fn step(d: Draft, table: &mut [Word; WORDS], line: Line) -> Draft
     };
     match line {
         Line::P(_) => Draft::Refused,
-        Line::T(a, b) => drafted(add_sum(table, a, b), 0),
+        Line::T(a, b) => drafted(add_compound(table, Kind::Sum, a, b), 0),
+        Line::Q(a, b) => drafted(add_compound(table, Kind::Pair, a, b), 0),
         Line::L => drafted(add_label(table), 0),
         Line::O(owner, readers, writers) => {
             let fits = add_policy(table, least, owner, readers, writers);

@@ -1,8 +1,8 @@
 // From a sheet's bytes to its lines.
 ghost use mathlib.Core.Path.{_≡_};
 ghost use lib.ListN.{drop};
-ghost use Rattle.sheet_text.specs.Reading.{principalsRest, pairLine, pairRest, labelRest, policyRest, lineOf};
-ghost use Rattle.sheet_text.specs.Internal.Placed.{placedLine, lineAt};
+ghost use Rattle.sheet_text.specs.Reading.{principalsRest, numbersRest, labelRest, policyRest, lineOf};
+ghost use Rattle.sheet_text.specs.Internal.Placed.{placedLine, lineAt, lineBy};
 use reader::Reader;
 use sets::Set;
 use text::Decimal;
@@ -14,10 +14,11 @@ use text::line_end;
 use text::number_field;
 use text::set_field;
 
-// A line of a sheet, by its first byte: `P n`, `T a b`, `L`, `O owner readers writers`, `X type label`.
+// A line of a sheet, by its first byte: `P n`, `T a b`, `Q a b`, `L`, `O owner readers writers`, `X type label`.
 pub enum Line {
     P(u32),
     T(u32, u32),
+    Q(u32, u32),
     L,
     O(u32, Set, Set),
     X(u32, u32),
@@ -57,22 +58,26 @@ fn principals_rest(s: &[u8], at: usize) -> Found
     }
 }
 
-// The line of two numbers: a sum, or otherwise a location.
-fn pair_line(sum: bool, a: u32, b: u32) -> Line
-    ensures { λ r. ⌜ r ≡ pairLine sum a b ⌝ }
+// The line of two numbers by its letter: a sum, a pair, or otherwise a location.
+fn line_by(letter: u8, a: u32, b: u32) -> Line
+    ensures { λ r. ⌜ r ≡ lineBy letter a b ⌝ }
 {
-    if sum { Line::T(a, b) } else { Line::X(a, b) }
+    match letter {
+        b'T' => Line::T(a, b),
+        b'Q' => Line::Q(a, b),
+        _ => Line::X(a, b),
+    }
 }
 
-// What follows the letter of a line `T` or `X`.
-fn pair_rest(s: &[u8], at: usize, sum: bool) -> Found
-    ensures { λ r. ⌜ r ≡ placedLine (now (s .entry)) (pairRest sum (drop at (now (s .entry)))) ⌝ }
+// What follows the letter of a line of two numbers.
+fn numbers_rest(s: &[u8], at: usize, letter: u8) -> Found
+    ensures { λ r. ⌜ r ≡ placedLine (now (s .entry)) (numbersRest (lineBy letter) (drop at (now (s .entry)))) ⌝ }
 {
     let Decimal::At(a, p) = number_field(s, at, MOST) else {
         return Found::Refused;
     };
     match last_number(s, p, MOST) {
-        Decimal::At(b, q) => Found::At(pair_line(sum, a, b), q),
+        Decimal::At(b, q) => Found::At(line_by(letter, a, b), q),
         Decimal::Refused => Found::Refused,
     }
 }
@@ -116,10 +121,11 @@ fn line_at(s: &[u8], at: usize) -> Found
     let first = s[at];
     match first {
         b'P' => principals_rest(s, at + 1),
-        b'T' => pair_rest(s, at + 1, true),
+        b'T' => numbers_rest(s, at + 1, b'T'),
+        b'Q' => numbers_rest(s, at + 1, b'Q'),
         b'L' => label_rest(s, at + 1),
         b'O' => policy_rest(s, at + 1),
-        b'X' => pair_rest(s, at + 1, false),
+        b'X' => numbers_rest(s, at + 1, b'X'),
         _ => Found::Refused,
     }
 }

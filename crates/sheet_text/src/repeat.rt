@@ -5,7 +5,7 @@ ghost use Rattle.sheet.specs.Internal.Tables.{maxTypes, tableWords, typesIn, la
 ghost use Rattle.sheet.specs.Sheet.{maxLabels};
 ghost use Rattle.sheet_text.specs.Internal.Repeats.{mostOf, sameWords, sameIn, anyFrom, againIn, repeatsIn};
 use labels::LABEL_SIZE;
-use sheet::SUMS;
+use sheet::COMPOUNDS;
 use sheet::WORDS;
 use sheet::Word;
 use sheet::label_place;
@@ -24,7 +24,7 @@ fn same_words(table: &[Word; WORDS], a: usize, b: usize, n: usize) -> bool
     true
 }
 
-// Whether two types have the same parts, or two labels the same sets.
+// Whether two types have the same kind and parts, or two labels the same sets.
 fn same(table: &[Word; WORDS], labels: bool, i: u32, j: u32) -> bool
     requires { ⌜ (i < mostOf labels) × (j < mostOf labels) ⌝ }
     ensures { λ r. ⌜ r ≡ sameIn (now (table .entry)) labels i j ⌝ }
@@ -66,7 +66,7 @@ pub(crate) fn repeats(table: &[Word; WORDS]) -> bool
     requires { ⌜ (typesIn (now table) ≤ maxTypes) × (labelsIn (now table) ≤ maxLabels) ⌝ }
     ensures { λ r. ⌜ r ≡ repeatsIn (now (table .entry)) ⌝ }
 {
-    if repeated(table, false, SUMS, sheet::types(table)) {
+    if repeated(table, false, COMPOUNDS, sheet::types(table)) {
         return true;
     }
     repeated(table, true, 0, sheet::labels(table))

@@ -65,11 +65,11 @@ labels-used = tt
 
 unfoldable pub language-used : Unit {0}
 unfolding evaluation.bind evaluation.fitIf evaluation.fit evaluation.addTo evaluation.add evaluation.packed evaluation.opened world.wanted
-    evaluation.unpacked evaluation.lookup evaluation.eval
-    syntax.size syntax.has
+    evaluation.unpacked evaluation.partOf evaluation.lookup evaluation.eval
+    syntax.pick syntax.size syntax.has
     substitution.lift substitution.close-var substitution.closeE substitution.close substitution.inst substitution.update transition.at-seq
     transition.at-assign transition.branchV transition.branch transition.step transition.after transition.run transition.iterate
-    declarations.startOf declarations.nth typing.orElse typing.isYes typing.sameTy typing.isTy typing.hasTy typing.leftIs typing.rightIs typing.onSum typing.given
+    declarations.startOf declarations.nth typing.orElse typing.isYes typing.sameTy typing.isTy typing.hasTy typing.leftIs typing.rightIs typing.onSum typing.pairIs typing.partTy typing.given
     typing.typeOfValue typing.typeOf typing.shape typing.least typing.flowE typing.flow typing.refusal
     trust.keepsE trust.keeps trust.trustKeeping masks.mask masks.seen
 language-used = tt
@@ -83,16 +83,17 @@ unfoldable pub sheet-used : Unit {0}
 unfolding meaning.effectiveIf meaning.effectively
     sheet.givenTypes sheet.typesFrom sheet.tyOf sheet.typeCount sheet.labelsOf sheet.labelNo sheet.labelCount
     sheet.locationNo sheet.locationCount sheet.earlierTypes sheet.rising sheet.eachRising sheet.eachNamed sheet.formed sheet.among sheet.repeated
-    sheet.sameParts sheet.repeats
+    sheet.sameKind sheet.sameCompound sheet.compoundOf sheet.repeats
     padding.padded
-    growth.bareSheet growth.addSum growth.addLabel growth.toLast growth.addPolicy growth.addLocation
+    growth.bareSheet growth.addCompound growth.addLabel growth.toLast growth.addPolicy growth.addLocation
 sheet-used = tt
 
 unfoldable pub sheet-text-used : Unit {0}
 unfolding building.lastOf building.leastAfter
-    building.leastOwner building.sumFits building.labelFits building.policyFits building.locationFits building.begin building.addLine
+    building.leastOwner building.compoundFits building.labelFits building.policyFits building.locationFits building.begin building.addType
+    building.addLine
     building.addLineOn building.addLines building.build
-    sheet-lines.principalsRest sheet-lines.pairLine sheet-lines.pairRest sheet-lines.labelRest sheet-lines.policyRest sheet-lines.lineOf
+    sheet-lines.principalsRest sheet-lines.numbersRest sheet-lines.labelRest sheet-lines.policyRest sheet-lines.lineOf
     repeats.anyFrom
     sheets.buildRead sheets.sheetRead sheets.judged sheets.sheetOf
 sheet-text-used = tt
@@ -107,12 +108,12 @@ script-text-used = tt
 unfoldable pub memory-used : Unit {0}
 unfolding memory.cellOf memory.memoryOf memory.cells memory.wordsOf memory.properHead memory.proper memory.equalWords memory.exactly memory.formedBy memory.sliceRefusal
     memory.refusalBy memory.asDeclared memory.wellFormed memory.memoryRefusal
-    words.headWords words.enc words.cell words.wrap words.numbered words.headAt words.packaged words.tagged words.read words.readOf
-    view.viewCell view.viewBy view.trustedLabelNo view.trustedLocationNo view.trustedWords
+    words.headWords words.enc words.cell words.wrap words.numbered words.headAt words.packaged words.paired words.tagged words.read words.readOf
+    view.viewCell view.viewBy view.seesNo view.viewWords view.viewRefusal view.trustedLabelNo view.trustedLocationNo view.trustedWords
 memory-used = tt
 
 unfoldable pub simp-used : Unit {0}
-unfolding calls.onSheet calls.unless calls.strangers calls.onScript calls.untyped calls.numberOf calls.checkOf calls.ended calls.runOf calls.keepingBit
+unfolding calls.onSheet calls.unless calls.strangers calls.onScript calls.untyped calls.numberOf calls.checkOf calls.ended calls.runOf calls.viewOf calls.keepingBit
     calls.trustOn calls.trustOf
     texts.bytes
 simp-used = tt

@@ -9,10 +9,10 @@ use Rattle.language.specs.Syntax.{Value, int, Expr, Cmd, Script}
 use Rattle.language.specs.World.{Mem}
 use Rattle.language.specs.Transition.{Out, done, spent, over, wrong, iterate}
 use Rattle.language.specs.Typing.{shape}
-use Rattle.language.proofs.Invariants.{UsesE, u-val, u-loc, u-var, u-plus, u-left, u-right, u-pack, u-unpack, Uses, u-skip, u-seq, u-assign, u-while, u-case, keeps, Fits, Anywhere, fits-kept}
+use Rattle.language.proofs.Invariants.{UsesE, u-val, u-loc, u-var, u-plus, u-left, u-right, u-pack, u-unpack, u-pair, u-proj, Uses, u-skip, u-seq, u-assign, u-while, u-case, keeps, Fits, Anywhere, fits-kept}
 use Rattle.language.proofs.Outcome.{fits-cmd}
 use Rattle.language.proofs.TypeSoundness.{type-soundness}
-use Rattle.script.specs.Lines.{SourceE, s-int, s-loc, s-var, s-plus, s-left, s-right, s-pack, s-unpack, Source, s-skip, s-seq, s-assign, s-while, s-case}
+use Rattle.script.specs.Lines.{SourceE, s-int, s-loc, s-var, s-plus, s-left, s-right, s-pack, s-unpack, s-pair, s-proj, Source, s-skip, s-seq, s-assign, s-while, s-case}
 use Rattle.script.specs.Names.{Counts, namedE, named}
 use Rattle.sheet.specs.Sheet.{Sheet, locationCount, labelCount}
 use Rattle.sheet.specs.Meaning.{shapesOf, worldOf, worldFor}
@@ -40,6 +40,10 @@ module _ (P : Value → Type 0) (of-int : (n : ℕ) → P (int n)) (k : Counts) 
   uses-expr d (s-right a) h = u-right (uses-expr d a (both-right _ _ h))
   uses-expr d (s-pack {l} a) h = u-pack (ltb-true l (k .labels) (both-left _ _ h)) (uses-expr d a (both-right _ _ h))
   uses-expr d (s-unpack a) h = u-unpack (uses-expr d a (both-right _ _ h))
+  uses-expr d (s-pair a b) h =
+      let r = both-right _ _ h in
+      u-pair (uses-expr d a (both-left _ _ r)) (uses-expr d b (both-right _ _ r))
+  uses-expr d (s-proj a) h = u-proj (uses-expr d a h)
 
   uses : (d : ℕ) {c : Cmd} → Source c → named k d c ≡ true → Uses P Named c
   unfolding named

@@ -1,7 +1,6 @@
 -- Bytes in a buffer: one run after another, how long a number is, and where the bytes fit. Assumes nothing.
 use Prim.Native.Nat.{ℕ, zero, suc, _+_, _-_, _/_, _%_, _^_, _≤_, _<_}
 use native.Mathlib.Omega.{arith}
-use native.Mathlib.Nat.{add-suc, suc-add, add-zero}
 use mathlib.Core.Path.{_≡_, refl, sym, ap, _∙_}
 use mathlib.Core.List.{List, [], _∷_, _++_}
 use lib.ListN.{length, set, drop, replicate, length-append, length-replicate}
@@ -11,14 +10,8 @@ use borrow.Author.Tests.{le-leb, lt-leb, ltb-true, ltb-false}
 use Rattle.text.specs.Number.{decimal, most}
 use Rattle.text.specs.Internal.Writing.{written, reached}
 use Rattle.logic.proofs.BooleanLaws.{cases}
+pub use Rattle.sets.proofs.Walks.{sets-append}
 use Rattle.text.proofs.Decimals.{decimal-low, decimal-more}
-
--- one run of stores after another
-pub sets-append : (l : List ℕ) (i : ℕ) (xs ys : List ℕ) → sets l i (xs ++ ys) ≡ sets (sets l i xs) (i + length xs) ys
-sets-append l i [] ys = rw add-zero
-sets-append l i (x ∷ xs) ys =
-    sets-append (set l i x) (suc i) xs ys
-    ∙ ap (λ (k : ℕ). sets (sets (set l i x) (suc i) xs) k ys) (suc-add i (length xs) ∙ sym (add-suc i (length xs)))
 
 -- words stored over zeros
 drop-zeros : (k n : ℕ) → drop k (replicate {A = ℕ} n 0) ≡ replicate (n - k) 0

@@ -33,7 +33,7 @@ clear-spec = tie.close (tie.spec
     (λ c. search needs)  -- loop-less
     (λ c. (
       search needs,
-      clear-turn (c .before .before .before .args .work .now) (16 * c .before .before .before .args .k) (c .before .loop .i) (c .before .loop .work) (c .before .loop .inv .1)
+      clear-turn (c .before .before .before .args .work .now) (16 * c .before .before .before .args .k) 16 (c .before .loop .i) (c .before .loop .work) (c .before .loop .inv .1)
           (omega arith) (room-left (c .before .before .before .args .work .now) (c .before .before .before .args .k) (c .before .before .if1 .left)),
       simp
           length-set (omega arith),

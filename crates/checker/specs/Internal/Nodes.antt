@@ -6,10 +6,10 @@ use lib.Dec.{eqb, leb, ltb}
 use Rattle.sets.specs.Sets.{union, intersection}
 use Rattle.logic.specs.Booleans.{both}
 use Rattle.script.specs.Names.{maxDepth}
-use Rattle.sheet.specs.Internal.Tables.{rightIn, typeIn, homeIn}
+use Rattle.sheet.specs.Internal.Tables.{leftIn, rightIn, typeIn, homeIn}
 use Rattle.checker.specs.declared.Typed.{Typed}
 use Rattle.checker.specs.declared.Passed.{Passed}
-use Rattle.sheet.specs.Internal.TypeTest.{isSum}
+use Rattle.sheet.specs.Internal.TypeTest.{isSum, isPair}
 use Rattle.members.specs.Internal.Members.{labelMember, integrityMember, flowsIn}
 use Rattle.checker.specs.Internal.Bindings.{boundType, boundLabel}
 
@@ -84,6 +84,28 @@ unpackTyped t n l x =
       typed = both (isType x 2) (both (isSum t n) (eqb (rightIn t n) 1));
       holds = intersection (x .holds) (flowsIn t (x .label) l false);
       label = labelMember l;
+      next = x .next;
+    }
+
+-- a pair of type n
+unfoldable pub pairTyped : List ℕ → ℕ → Typed → Typed → Typed
+pairTyped t n x y =
+    record {
+      ty = n;
+      typed = both (isPair t n) (both (isType x (leftIn t n)) (isType y (rightIn t n)));
+      holds = intersection (x .holds) (y .holds);
+      label = union (x .label) (y .label);
+      next = y .next;
+    }
+
+-- a part of a pair: the part is type m
+unfoldable pub partTyped : List ℕ → ℕ → Typed → Typed
+partTyped t m x =
+    record {
+      ty = m;
+      typed = both (x .typed) (isPair t (x .ty));
+      holds = x .holds;
+      label = x .label;
       next = x .next;
     }
 

@@ -7,10 +7,10 @@ use lib.Dec.{eqb}
 use Rattle.labels.specs.declared.Label.{Label}
 use Rattle.labels.specs.Labels.{belowOf, joinOf, confidentialityOf, integrityOf, bottomOf}
 use Rattle.logic.specs.Booleans.{both}
-use Rattle.language.specs.Syntax.{Expr, val, loc, var, plus, left, right, pack, unpack, Cmd, skip, seq, assign, while, case}
+use Rattle.language.specs.Syntax.{Part, pick, Expr, val, loc, var, plus, left, right, pack, unpack, pairing, proj, Cmd, skip, seq, assign, while, case}
 use Rattle.language.specs.Declarations.{nth}
 use Rattle.language.specs.Typing.{Conditions}
-use Rattle.sheet.specs.Internal.TypeTest.{isSum}
+use Rattle.sheet.specs.Internal.TypeTest.{isSum, isPair}
 use Rattle.sheet.specs.Internal.Tables.{everyoneIn, leftIn, rightIn, typeIn, homeIn, labelIn}
 use Rattle.sets.specs.Sets.{union}
 use Rattle.members.specs.Internal.Members.{labelMember, integrityMember, joinIn, wholeFlows}
@@ -43,6 +43,15 @@ unfoldable pub givenNo : Bool → ℕ → Option ℕ
 givenNo true n = some n
 givenNo false n = none
 
+-- n is the pair of the types o₁ and o₂
+unfoldable pub pairIsNo : List ℕ → ℕ → Option ℕ → Option ℕ → Bool
+pairIsNo t n o₁ o₂ = both (isPair t n) (both (isNo (leftIn t n) o₁) (isNo (rightIn t n) o₂))
+
+-- the type of a part, if o is a pair
+unfoldable pub partNo : List ℕ → Part → Option ℕ → Option ℕ
+partNo t p none = none
+partNo t p (some n) = givenNo (isPair t n) (pick p (leftIn t n) (rightIn t n))
+
 -- The number of an expression's type, if it has one; Γ holds the numbers of the types that enclosing cases bind, innermost
 -- first. A script's only literals are integers.
 unfoldable pub typeNo : List ℕ → List ℕ → Expr → Option ℕ
@@ -54,6 +63,8 @@ typeNo t Γ (left n a) = givenNo (leftIsNo t n (typeNo t Γ a)) n
 typeNo t Γ (right n a) = givenNo (rightIsNo t n (typeNo t Γ a)) n
 typeNo t Γ (pack l a) = givenNo (someNo (typeNo t Γ a)) 4
 typeNo t Γ (unpack n l a) = givenNo (both (isNo 2 (typeNo t Γ a)) (rightIsNo t n (some 1))) n
+typeNo t Γ (pairing n a b) = givenNo (pairIsNo t n (typeNo t Γ a) (typeNo t Γ b)) n
+typeNo t Γ (proj p a) = partNo t p (typeNo t Γ a)
 
 -- Whether a command passes with every label condition struck out.
 unfoldable pub shapeNo : List ℕ → List ℕ → Cmd → Bool

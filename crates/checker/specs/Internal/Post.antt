@@ -20,6 +20,7 @@ use Rattle.checker.specs.declared.Verdict.the-variants.{Accepted, IllTyp
 use Rattle.checker.specs.declared.Typed.{Typed}
 use Rattle.checker.specs.declared.Passed.{Passed}
 use Rattle.checker.specs.Internal.Numbers.{givenNo, typeNo, shapeNo, conditionsOn, belowOn}
+use Rattle.checker.specs.Internal.Nodes.{plusTyped, pairTyped}
 use Rattle.checker.specs.Internal.Bindings.{bindingsSize, boundTypes, boundLabels}
 
 -- x is what typing finds of e
@@ -37,6 +38,10 @@ pub record ChecksExpr (ws : List ℕ) (at : ℕ) (t s : List ℕ) (d : ℕ) (x :
   pub onward : at ≤ x .next
   pub means : (e : Expr) (rest : List Line) → SourceE e → drop at ws ≡ code (exprLines e rest) → Room s d
       → Finds t (boundTypes s d) (boundLabels s d) e x × (drop (x .next) ws ≡ code rest)
+
+-- r is what a plus, or otherwise a pair of type n, makes of its first operand x and of its second, which stands after it
+abbrev pub ChecksSecond : List ℕ → List ℕ → List ℕ → ℕ → Bool → ℕ → Typed → Typed → Type 0
+ChecksSecond ws t s d plus n x r = (y : Typed) × ChecksExpr ws (x .next) t s d y × (r ≡ cond plus (plusTyped x y) (pairTyped t n x y))
 
 -- s′ has as many words as s, and binds what s binds for d cases
 pub record Kept (s s′ : List ℕ) (d : ℕ) : Type 0 where

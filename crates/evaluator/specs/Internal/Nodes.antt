@@ -1,12 +1,12 @@
--- What the functions ensure that make one value of another.
+-- What the functions ensure that make a value of one or two others.
 use mathlib.Core.Path.{_≡_}
 use mathlib.Core.Bool.{Bool, true, false}
 use mathlib.Core.List.{List, _∷_}
 use Prim.Native.Nat.{ℕ, suc, _≤_, _<_}
 use lib.ListN.{length, drop, getD}
-use Rattle.language.specs.Syntax.{Value, size, has}
+use Rattle.language.specs.Syntax.{Value, pair, Part, first, second, pick, size, has}
 use Rattle.language.specs.World.{World, cell-words, wanted}
-use Rattle.language.specs.Evaluation.{Res, ok, long, stuck, bind, fit, add, packed, unpacked}
+use Rattle.language.specs.Evaluation.{Res, ok, long, stuck, bind, fit, add, packed, unpacked, partOf}
 use Rattle.sheet.specs.Internal.Tables.{labelsIn, leftIn, belowIn}
 use Rattle.sheet.specs.Internal.Powers.{mayWrite, mayRead}
 use Rattle.sheet.specs.Internal.TypeTest.{hasNo}
@@ -78,10 +78,42 @@ Packs powers l v r = Applies v r (Turns (packed (mayWrite powers l) l) v r)
 abbrev pub Unpacks : Setting → ℕ → ℕ → Result → Result → Type 0
 Unpacks S t l v r = Applies v r ((W : World) → Tells S W → l < labelsIn (S .table) → Turns (unpacked W t l) v r)
 
--- What a line makes of the value in the accumulator; of plus, a is the integer on the left.
-pub record Applied (S : Setting) (row : Row) (v r : Result) : Type 0 where
-  pub plus : row .kind ≡ 9 → Sums (row .a) v r
-  pub left : row .kind ≡ 10 → Tagged 3 v r
-  pub right : row .kind ≡ 11 → Tagged 4 v r
-  pub pack : row .kind ≡ 12 → Packs (S .powers) (row .a) v r
-  pub unpack : row .kind ≡ 13 → Unpacks S (row .a) (row .b) v r
+-- the first part, or otherwise the second
+unfoldable pub partBy : Bool → Part
+partBy true = first
+partBy false = second
+
+abbrev pub Projects : Part → Result → Result → Type 0
+Projects p v r = Applies v r (Turns (partOf p) v r)
+
+-- The lines that are applied to the value in the accumulator, and the numbers of their kinds.
+pub data Op : Type 0 where
+  o-plus o-left o-right o-pack o-unpack : Op
+  o-part : Part → Op
+
+unfoldable pub opKind : Op → ℕ
+opKind o-plus = 9
+opKind o-left = 10
+opKind o-right = 11
+opKind o-pack = 12
+opKind o-unpack = 13
+opKind (o-part p) = pick p 15 16
+
+-- what each makes of it; of plus, a is the integer on the left
+abbrev pub MadeBy : Op → Setting → Row → Result → Result → Type 0
+MadeBy o-plus S row = Sums (row .a)
+MadeBy o-left S row = Tagged 3
+MadeBy o-right S row = Tagged 4
+MadeBy o-pack S row = Packs (S .powers) (row .a)
+MadeBy o-unpack S row = Unpacks S (row .a) (row .b)
+MadeBy (o-part p) S row = Projects p
+
+-- What a line makes of the value in the accumulator.
+abbrev pub Applied : Setting → Row → Result → Result → Type 0
+Applied S row v r = (o : Op) → row .kind ≡ opKind o → MadeBy o S row v r
+
+-- ---- a pair
+
+-- Its first part has these words, and its second is in the accumulator.
+abbrev pub Pairs : List ℕ → Result → Result → Type 0
+Pairs words v r = Applies v r ((u : Value) → words ≡ cell u → Turns (λ w. fit (pair u w)) v r)

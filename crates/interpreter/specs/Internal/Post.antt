@@ -4,7 +4,7 @@ use mathlib.Core.Bool.{true, false}
 use mathlib.Core.List.{List, _∷_}
 use Prim.Native.Nat.{ℕ, zero, suc, _≤_, _<_}
 use lib.ListN.{drop}
-use Rattle.language.specs.Syntax.{Value, int, err, inl, inr, pkg, blank, Expr, Cmd, assign}
+use Rattle.language.specs.Syntax.{Value, int, err, inl, inr, pkg, pair, blank, Expr, Cmd, assign}
 use Rattle.language.specs.World.{Mem, cell-words}
 use Rattle.language.specs.Substitution.{Env, close}
 use Rattle.language.specs.Evaluation.{Res, ok, long, stuck, eval}
@@ -101,6 +101,7 @@ choiceV b (err e) = choice-stuck
 choiceV b (inl v) = to-left v b
 choiceV b (inr v) = to-right v b
 choiceV b (pkg h v) = choice-stuck
+choiceV b (pair v w) = choice-stuck
 choiceV b blank = choice-stuck
 
 unfoldable pub choice : ℕ → Res → Choice

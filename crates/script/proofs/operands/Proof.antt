@@ -22,4 +22,7 @@ operands-spec = tie.close (tie.spec
     (λ c. ap operandCount (sym (c .match .keys11)))  -- returns-11
     (λ c. ap operandCount (sym (c .match .keys12)))  -- returns-12
     (λ c. ap operandCount (sym (c .match .keys13)))  -- returns-13
-    (λ c. operands-none _ (none-between 1 13 (c .match .rest))))  -- returns-14
+    (λ c. ap operandCount (sym (c .match .keys14)))  -- returns-14
+    (λ c. ap operandCount (sym (c .match .keys15)))  -- returns-15
+    (λ c. ap operandCount (sym (c .match .keys16)))  -- returns-16
+    (λ c. operands-none _ (none-between 1 16 (c .match .rest))))  -- returns-17

@@ -4,8 +4,9 @@ use mathlib.Core.List.{List, [], _∷_}
 use Prim.Native.Nat.{ℕ, _+_, _-_, _/_}
 use lib.Dec.{leb}
 use lib.ListN.{length, getD}
+use Rattle.language.specs.Syntax.{pick}
 use Rattle.script.specs.declared.Row.{Row}
-use Rattle.script.specs.Lines.{Line, l-skip, l-seq, l-assign, l-while, l-case, l-int, l-loc, l-var, l-plus, l-left, l-right, l-pack, l-unpack}
+use Rattle.script.specs.Lines.{Line, l-skip, l-seq, l-assign, l-while, l-case, l-int, l-loc, l-var, l-plus, l-left, l-right, l-pack, l-unpack, l-pair, l-proj}
 
 -- a row by its words
 abbrev pub rowWith : ℕ → ℕ → ℕ → Row
@@ -26,6 +27,8 @@ rowOf (l-left t) = rowWith 10 t 0
 rowOf (l-right t) = rowWith 11 t 0
 rowOf (l-pack l) = rowWith 12 l 0
 rowOf (l-unpack t l) = rowWith 13 t l
+rowOf (l-pair t) = rowWith 14 t 0
+rowOf (l-proj p) = rowWith (pick p 15 16) 0 0
 
 -- the code of lines
 unfoldable pub code : List Line → List ℕ

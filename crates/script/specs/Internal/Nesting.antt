@@ -1,17 +1,22 @@
--- How deep the innermost tree stands, counted in lines. A walk over the code makes a call for each tree around it, so this bounds the stack.
+-- How deep the innermost tree stands, counted in lines. A walk over the code makes at most a call for each line that is
+-- counted around it, so this bounds the stack.
 use Prim.Native.Nat.{ℕ, _+_, max}
-use Rattle.language.specs.Syntax.{Expr, val, loc, var, plus, left, right, pack, unpack, Cmd, skip, seq, assign, while, case}
+use Rattle.language.specs.Syntax.{Expr, val, loc, var, plus, left, right, pack, unpack, pairing, proj, Cmd, skip, seq, assign, while, case}
 
--- each expression around another counts its line
+-- Each expression around another counts its line. Two are counted around either part of a pair, as an evaluator makes
+-- two calls for a pair, and around the second operand of a plus, as a checker does: the other operand has a line as
+-- well.
 unfoldable pub exprNesting : Expr → ℕ
 exprNesting (val v) = 0
 exprNesting (loc x) = 0
 exprNesting (var d) = 0
-exprNesting (plus a b) = 1 + max (exprNesting a) (exprNesting b)
+exprNesting (plus a b) = max (1 + exprNesting a) (2 + exprNesting b)
 exprNesting (left t a) = 1 + exprNesting a
 exprNesting (right t a) = 1 + exprNesting a
 exprNesting (pack l a) = 1 + exprNesting a
 exprNesting (unpack t l a) = 1 + exprNesting a
+exprNesting (pairing t a b) = 2 + max (exprNesting a) (exprNesting b)
+exprNesting (proj p a) = 1 + exprNesting a
 
 -- each command around an expression counts its line, and each around a command two: there is another operand beside the inner command
 unfoldable pub cmdNesting : Cmd → ℕ

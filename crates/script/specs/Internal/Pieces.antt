@@ -27,7 +27,7 @@ pub data Piece : List Line → List Line → Type 0 where
 
 -- how many operands follow a line of each kind, by its number; 4 for a number that is no kind
 abbrev pub operandCounts : List ℕ
-operandCounts = 4 ∷ 0 ∷ 2 ∷ 1 ∷ 2 ∷ 3 ∷ 0 ∷ 0 ∷ 0 ∷ 2 ∷ 1 ∷ 1 ∷ 1 ∷ 1 ∷ []
+operandCounts = 4 ∷ 0 ∷ 2 ∷ 1 ∷ 2 ∷ 3 ∷ 0 ∷ 0 ∷ 0 ∷ 2 ∷ 1 ∷ 1 ∷ 1 ∷ 1 ∷ 2 ∷ 1 ∷ 1 ∷ []
 
 unfoldable pub operandCount : ℕ → ℕ
 operandCount kind = getD operandCounts kind 4

@@ -1,7 +1,8 @@
 -- `script_text::line_at` meets its contract. Assumes nothing.
 use mathlib.Core.Path.{refl, ap}
 use borrow.Author.Needs.{needs}
-use Rattle.script.specs.Lines.{l-skip, l-seq, l-assign, l-while, l-case, l-int, l-loc, l-var, l-plus, l-left, l-right, l-pack, l-unpack}
+use Rattle.language.specs.Syntax.{first, second, pick}
+use Rattle.script.specs.Lines.{l-skip, l-seq, l-assign, l-while, l-case, l-int, l-loc, l-var, l-plus, l-left, l-right, l-pack, l-unpack, l-pair, l-proj}
 use Rattle.script.specs.Internal.Code.{rowOf}
 use Rattle.script_text.specs.Reading.{bare, one, two, formOf}
 use Rattle.script_text.proofs.FoundLaws.{line-none, line-kind, line-other, other-form}
@@ -98,11 +99,34 @@ returns-14 c =
     (c .two-operands .ensures l-unpack (λ a b. refl))
 
 returns-15 : tie.Need-returns-15
+unfolding formOf rowOf
 returns-15 c =
+    let key = c .before in
+    line-kind _ (key .before .before .before .before .args .at) (one l-pair) _ (key .before .before .if1 .left) (ap formOf (key .match .keys14))
+    (c .one-operand8 .ensures l-pair (λ a. refl))
+
+returns-16 : tie.Need-returns-16
+unfolding formOf rowOf pick
+returns-16 c =
+    let key = c .before in
+    line-kind _ (key .before .before .before .before .args .at) (bare (l-proj first)) _ (key .before .before .if1 .left) (ap formOf (key .match .keys15))
+    (c .bare-line6 .ensures (l-proj first) refl)
+
+returns-17 : tie.Need-returns-17
+unfolding formOf rowOf pick
+returns-17 c =
+    let key = c .before in
+    line-kind _ (key .before .before .before .before .args .at) (bare (l-proj second)) _ (key .before .before .if1 .left) (ap formOf (key .match .keys16))
+    (c .bare-line7 .ensures (l-proj second) refl)
+
+returns-18 : tie.Need-returns-18
+returns-18 c =
     let r = c .match .rest in
+    let s = r .0 .0 .0 in
     line-other _ (c .before .before .before .before .args .at) (c .before .before .if1 .left)
-    (other-form _ (r .0 .0 .0 .0 .0 .0 .0 .0 .0 .0 .0 .0 .1) (r .0 .0 .0 .0 .0 .0 .0 .0 .0 .0 .0 .1) (r .0 .0 .0 .0 .0 .0 .0 .0 .0 .0 .1) (r .0 .0 .0 .0 .0 .0 .0 .0 .0 .1)
-    (r .0 .0 .0 .0 .0 .0 .0 .0 .1) (r .0 .0 .0 .0 .0 .0 .0 .1) (r .0 .0 .0 .0 .0 .0 .1) (r .0 .0 .0 .0 .0 .1) (r .0 .0 .0 .0 .1) (r .0 .0 .0 .1) (r .0 .0 .1) (r .0 .1) (r .1))
+    (other-form _ (s .0 .0 .0 .0 .0 .0 .0 .0 .0 .0 .0 .0 .1) (s .0 .0 .0 .0 .0 .0 .0 .0 .0 .0 .0 .1) (s .0 .0 .0 .0 .0 .0 .0 .0 .0 .0 .1) (s .0 .0 .0 .0 .0 .0 .0 .0 .0 .1)
+    (s .0 .0 .0 .0 .0 .0 .0 .0 .1) (s .0 .0 .0 .0 .0 .0 .0 .1) (s .0 .0 .0 .0 .0 .0 .1) (s .0 .0 .0 .0 .0 .1) (s .0 .0 .0 .0 .1) (s .0 .0 .0 .1) (s .0 .0 .1) (s .0 .1) (s .1)
+    (r .0 .0 .1) (r .0 .1) (r .1))
 
 pub line-at-spec : {M : Type 1} → statement M
 line-at-spec = tie.close (tie.spec
@@ -134,6 +158,12 @@ line-at-spec = tie.close (tie.spec
     (λ c κs. search needs)  -- one-operand-requires-7
     (λ c. search needs)  -- add-two-operands
     (λ c κs. search needs)  -- two-operands-requires
+    (λ c. search needs)  -- add-one-operand-8
+    (λ c κs. search needs)  -- one-operand-requires-8
+    (λ c. search needs)  -- add-bare-line-6
+    (λ c κs. search needs)  -- bare-line-requires-6
+    (λ c. search needs)  -- add-bare-line-7
+    (λ c κs. search needs)  -- bare-line-requires-7
     returns-2
     returns-3
     returns-4
@@ -147,4 +177,7 @@ line-at-spec = tie.close (tie.spec
     returns-12
     returns-13
     returns-14
-    returns-15)
+    returns-15
+    returns-16
+    returns-17
+    returns-18)

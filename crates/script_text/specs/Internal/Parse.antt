@@ -2,8 +2,8 @@
 -- The lines are taken from the last to the first, over a stack of what stands complete.
 use mathlib.Core.List.{List, [], _∷_}
 use mathlib.Core.Option.{Option, none, some}
-use Rattle.language.specs.Syntax.{int, Expr, val, loc, var, plus, left, right, pack, unpack, Cmd, skip, seq, assign, while, case}
-use Rattle.script.specs.Lines.{Line, l-skip, l-seq, l-assign, l-while, l-case, l-int, l-loc, l-var, l-plus, l-left, l-right, l-pack, l-unpack}
+use Rattle.language.specs.Syntax.{int, Expr, val, loc, var, plus, left, right, pack, unpack, pairing, proj, Cmd, skip, seq, assign, while, case}
+use Rattle.script.specs.Lines.{Line, l-skip, l-seq, l-assign, l-while, l-case, l-int, l-loc, l-var, l-plus, l-left, l-right, l-pack, l-unpack, l-pair, l-proj}
 
 pub data Tree : Type 0 where
   ex : Expr → Tree
@@ -39,6 +39,8 @@ onStack (l-left t) st = popE st (λ a u. some (ex (left t a) ∷ u))
 onStack (l-right t) st = popE st (λ a u. some (ex (right t a) ∷ u))
 onStack (l-pack l) st = popE st (λ a u. some (ex (pack l a) ∷ u))
 onStack (l-unpack t l) st = popE st (λ a u. some (ex (unpack t l a) ∷ u))
+onStack (l-pair t) st = popE st (λ a u. popE u (λ b w. some (ex (pairing t a b) ∷ w)))
+onStack (l-proj p) st = popE st (λ a u. some (ex (proj p a) ∷ u))
 
 unfoldable pub pushOn : Line → Option Stack → Option Stack
 pushOn l none = none

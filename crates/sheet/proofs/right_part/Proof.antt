@@ -6,7 +6,5 @@ use Rattle.sheet.proofs.right_part.Tie as tie
 pub right-part-spec : {M : Type 1} → statement M
 unfolding rightIn
 right-part-spec = tie.close (tie.spec
-    (λ c κs. search needs)  -- types-requires
-    (λ c. search needs)  -- add-entry
-    (λ c κs. search needs)  -- entry-requires
+    (λ c κs. search needs)  -- right-word-requires
     (λ c. cc))  -- returns

@@ -1,20 +1,22 @@
 -- The decoded sheet: one table of words, from which the checker, the interpreter and the view read.
 use mathlib.Core.Bool.{Bool, cond}
 use mathlib.Core.List.{List, [], _∷_, _++_}
-use Prim.Native.Nat.{ℕ, _+_, _*_}
-use lib.Dec.{ltb}
+use Prim.Native.Nat.{ℕ, _+_, _*_, _%_}
+use lib.Dec.{ltb, leb}
 use lib.ListN.{getD}
 use Rattle.sets.specs.Sets.{everyone}
 use Rattle.labels.specs.Labels.{bottomOf, belowOf, readsOf, writesOf}
 use Rattle.labels.specs.Internal.Tables.{labelSize, labelWords, labelAt}
 use Rattle.labels.specs.declared.Label.{Label}
+use Rattle.sheet.specs.declared.Kind.{Kind}
+use Rattle.sheet.specs.declared.Kind.the-variants.{Sum, Pair}
 use Rattle.sheet.specs.Padding.{padded}
-use Rattle.sheet.specs.Sheet.{Sum, Location, Sheet, typeCount, labelsOf, labelCount, locationCount, maxSums, maxLabels, maxLocations, givenSums}
+use Rattle.sheet.specs.Sheet.{Compound, Location, Sheet, typeCount, labelsOf, labelCount, locationCount, maxCompounds, maxLabels, maxLocations, givenSums}
 
 -- The table has words of counts, two words for each type and for each location, and the words of each label. These are the words
 -- that the types, the locations and the labels have room in, where they start, and the number of words in all.
 abbrev pub maxTypes : ℕ
-maxTypes = 5 + maxSums
+maxTypes = 5 + maxCompounds
 
 abbrev pub partsRoom : ℕ
 partsRoom = 2 * maxTypes
@@ -61,32 +63,41 @@ abbrev pub labelPlace : ℕ → ℕ
 labelPlace l = labelsBase + labelSize * l
 
 -- two words for each element
-unfoldable pub pairWords : {A : Type 0} → (A → ℕ) → (A → ℕ) → List A → List ℕ
-pairWords first second [] = []
-pairWords first second (x ∷ xs) = first x ∷ second x ∷ pairWords first second xs
+unfoldable pub entryWords : {A : Type 0} → (A → ℕ) → (A → ℕ) → List A → List ℕ
+entryWords first second [] = []
+entryWords first second (x ∷ xs) = first x ∷ second x ∷ entryWords first second xs
 
-abbrev pub partWords : List Sum → List ℕ
-partWords ss = pairWords (λ (s : Sum). s .left) (λ (s : Sum). s .right) ss
+-- The second word of a type of a kind with the right part b. That of a pair is more than the number of any type.
+unfoldable pub rightWord : Kind → ℕ → ℕ
+rightWord Sum b = b % maxTypes
+rightWord Pair b = maxTypes + b % maxTypes
+
+abbrev pub partWords : List Compound → List ℕ
+partWords cs = entryWords (λ (c : Compound). c .left) (λ (c : Compound). rightWord (c .kind) (c .right)) cs
 
 abbrev pub locationWords : List Location → List ℕ
-locationWords xs = pairWords (λ (x : Location). x .type) (λ (x : Location). x .label) xs
+locationWords xs = entryWords (λ (x : Location). x .type) (λ (x : Location). x .label) xs
 
 unfoldable pub labelsWords : List Label → List ℕ
 labelsWords [] = []
 labelsWords (a ∷ rest) = labelWords a ++ labelsWords rest
 
--- the parts of the given types by number; a type without parts has the parts 0 0
-unfoldable pub givenParts : List Sum
-givenParts = record { left = 0; right = 0 } ∷ record { left = 0; right = 0 } ∷ record { left = 0; right = 0 } ∷ givenSums
+-- what stands for a type without parts, and for a number that names no type
+abbrev pub noParts : Compound
+noParts = record { kind = Sum; left = 0; right = 0 }
 
-unfoldable pub typeParts : Sheet → List Sum
-typeParts s = givenParts ++ s .sums
+-- the kinds and the parts of the given types by number
+unfoldable pub givenParts : List Compound
+givenParts = noParts ∷ noParts ∷ noParts ∷ givenSums
 
--- the parts of a type by its number; 0 0 for a number that names none
-unfoldable pub partsNo : Sheet → ℕ → Sum
-partsNo s t = getD (typeParts s) t (record { left = 0; right = 0 })
+unfoldable pub typeParts : Sheet → List Compound
+typeParts s = givenParts ++ s .compounds
 
--- The table of a sheet: eight words of counts, then the parts of its types, its locations and its labels.
+-- the kind and the parts of a type by its number
+unfoldable pub partsNo : Sheet → ℕ → Compound
+partsNo s t = getD (typeParts s) t noParts
+
+-- The table of a sheet: eight words of counts, then the kinds and parts of its types, its locations and its labels.
 unfoldable pub tableOf : Sheet → List ℕ
 tableOf s =
     (s .principals ∷ everyone (s .principals) ∷ typeCount s ∷ labelCount s ∷ locationCount s ∷ 0 ∷ 0 ∷ 0 ∷ [])
@@ -109,16 +120,24 @@ labelsIn t = getD t labelsAt 0
 abbrev pub locationsIn : List ℕ → ℕ
 locationsIn t = getD t locationsAt 0
 
--- the word of entry i in a list of count pairs of words that starts at base; 0 past its last entry
+-- the word of entry i in a list of count entries of two words that starts at base; 0 past its last entry
 unfoldable pub entryIn : List ℕ → ℕ → ℕ → ℕ → ℕ
 entryIn t count base i = cond (ltb i count) (getD t (base + 2 * i) 0) 0
 
--- the left and the right part of type i
+-- the left, or first, part of type i
 unfoldable pub leftIn : List ℕ → ℕ → ℕ
 leftIn t i = entryIn t (typesIn t) partsBase i
 
+-- the second word of type i, and the right, or second, part that it names
+unfoldable pub rightWordIn : List ℕ → ℕ → ℕ
+rightWordIn t i = entryIn t (typesIn t) (partsBase + 1) i
+
 unfoldable pub rightIn : List ℕ → ℕ → ℕ
-rightIn t i = entryIn t (typesIn t) (partsBase + 1) i
+rightIn t i = rightWordIn t i % maxTypes
+
+-- the kind of type i
+unfoldable pub kindIn : List ℕ → ℕ → Kind
+kindIn t i = cond (leb maxTypes (rightWordIn t i)) Pair Sum
 
 -- the type and the label of location x
 unfoldable pub typeIn : List ℕ → ℕ → ℕ

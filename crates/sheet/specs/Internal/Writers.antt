@@ -8,10 +8,12 @@ use Rattle.sets.specs.Sets.{width, everyone, restrict}
 use Rattle.labels.specs.Labels.{openOf, policyOf}
 use Rattle.labels.specs.Internal.Tables.{labelPut}
 use Rattle.labels.specs.declared.Label.{Label}
+use Rattle.sheet.specs.declared.Kind.{Kind}
 use Rattle.sheet.specs.Sheet.{maxLabels, maxLocations}
-use Rattle.sheet.specs.Internal.Tables.{maxTypes, partsBase, locationsBase, partsPlace, labelPlace, principalsAt, everyoneAt, typesAt, labelsAt, locationsAt, principalsIn, everyoneIn, labelsIn, labelIn}
+use Rattle.sheet.specs.Internal.Tables.{maxTypes, partsBase, locationsBase, partsPlace, rightWord, labelPlace, principalsAt, everyoneAt, typesAt, labelsAt, locationsAt, principalsIn, everyoneIn, labelsIn, labelIn}
 
--- a number up to the most of anything that is counted, locations, so that it fits a word, however wide
+-- A number up to the most of anything that is counted, locations, so that it fits a word, however wide. The second word
+-- of a type is lower still.
 unfoldable pub low : ℕ → ℕ
 low n = n % (maxLocations + 1)
 
@@ -20,19 +22,19 @@ abbrev pub principalsPut : ℕ → List ℕ → List ℕ
 principalsPut n t =
     set (set (set (set (set t principalsAt (low n)) everyoneAt (restrict width (everyone n))) typesAt 5) (partsPlace 4) 2) (partsPlace 4 + 1) 1
 
--- the pair a b behind the pairs from base on, of which there are at most `most` and as many as the word at `count` says
-unfoldable pub pairPut : ℕ → ℕ → ℕ → ℕ → ℕ → List ℕ → List ℕ
-pairPut base count most a b t =
+-- the entry a b behind those from base on, of which there are at most `most` and as many as the word at `count` says
+unfoldable pub entryPut : ℕ → ℕ → ℕ → ℕ → ℕ → List ℕ → List ℕ
+entryPut base count most a b t =
     let n = getD t count 0 in
     cond (ltb n most) (set (set (set t (base + 2 * n) (low a)) (base + 2 * n + 1) (low b)) count (low (n + 1))) t
 
--- a sum of the types a and b
-abbrev pub sumPut : ℕ → ℕ → List ℕ → List ℕ
-sumPut a b t = pairPut partsBase typesAt maxTypes a b t
+-- a type of a kind, of the types a and b
+abbrev pub compoundPut : Kind → ℕ → ℕ → List ℕ → List ℕ
+compoundPut k a b t = entryPut partsBase typesAt maxTypes a (rightWord k b) t
 
 -- a location
 abbrev pub locationPut : ℕ → ℕ → List ℕ → List ℕ
-locationPut ty l t = pairPut locationsBase locationsAt maxLocations ty l t
+locationPut ty l t = entryPut locationsBase locationsAt maxLocations ty l t
 
 -- label l
 abbrev pub labelSet : ℕ → Label → List ℕ → List ℕ

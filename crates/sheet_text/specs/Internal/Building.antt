@@ -7,10 +7,12 @@ use lib.Dec.{eqb, leb, ltb}
 use lib.ListN.{length}
 use Rattle.logic.specs.Booleans.{both}
 use Rattle.labels.specs.Labels.{Policy, policy}
-use Rattle.sheet.specs.Sheet.{Sheet, typeCount, labelCount, locationCount, maxPrincipals, maxSums, maxLabels, maxLocations}
-use Rattle.sheet.specs.Internal.Growth.{bareSheet, addSum, addLabel, addPolicy, addLocation}
+use Rattle.sheet.specs.declared.Kind.{Kind}
+use Rattle.sheet.specs.declared.Kind.the-variants.{Sum, Pair}
+use Rattle.sheet.specs.Sheet.{Sheet, typeCount, labelCount, locationCount, maxPrincipals, maxCompounds, maxLabels, maxLocations}
+use Rattle.sheet.specs.Internal.Growth.{bareSheet, addCompound, addLabel, addPolicy, addLocation}
 use Rattle.sheet_text.specs.declared.line.Line.{Line}
-use Rattle.sheet_text.specs.declared.line.Line.the-variants.{P, T, L, O, X}
+use Rattle.sheet_text.specs.declared.line.Line.the-variants.{P, T, Q, L, O, X}
 
 -- ---- which line may come next
 
@@ -28,11 +30,11 @@ leastAfter from (policy o r w ∷ ps) = leastAfter (suc o) ps
 unfoldable pub leastOwner : Sheet → ℕ
 leastOwner s = leastAfter 0 (lastOf (s .labels))
 
--- `T` before any `L` or `X`, of earlier types
-unfoldable pub sumFits : Sheet → ℕ → ℕ → Bool
-sumFits s a b =
+-- `T` and `Q` before any `L` or `X`, of earlier types
+unfoldable pub compoundFits : Sheet → ℕ → ℕ → Bool
+compoundFits s a b =
     both (both (eqb (labelCount s) 0) (eqb (locationCount s) 0))
-    (both (ltb (length (s .sums)) maxSums) (both (ltb a (typeCount s)) (ltb b (typeCount s))))
+    (both (ltb (length (s .compounds)) maxCompounds) (both (ltb a (typeCount s)) (ltb b (typeCount s))))
 
 -- `L` before any `X`
 unfoldable pub labelFits : Sheet → Bool
@@ -54,14 +56,20 @@ locationFits s t l = both (ltb (locationCount s) maxLocations) (both (ltb t (typ
 unfoldable pub begin : Line → Option Sheet
 begin (P n) = cond (both (leb 1 n) (leb n maxPrincipals)) (some (bareSheet n)) none
 begin (T a b) = none
+begin (Q a b) = none
 begin L = none
 begin (O o r w) = none
 begin (X t l) = none
 
+-- the sheet after a line `T` or `Q`
+unfoldable pub addType : Sheet → Kind → ℕ → ℕ → Option Sheet
+addType s k a b = cond (compoundFits s a b) (some (addCompound s (record { kind = k; left = a; right = b }))) none
+
 -- the sheet after a further line
 unfoldable pub addLine : Sheet → Line → Option Sheet
 addLine s (P n) = none
-addLine s (T a b) = cond (sumFits s a b) (some (addSum s (record { left = a; right = b }))) none
+addLine s (T a b) = addType s Sum a b
+addLine s (Q a b) = addType s Pair a b
 addLine s L = cond (labelFits s) (some (addLabel s)) none
 addLine s (O o r w) = cond (policyFits s o r w) (some (addPolicy s (policy o r w))) none
 addLine s (X t l) = cond (locationFits s t l) (some (addLocation s (record { type = t; label = l }))) none

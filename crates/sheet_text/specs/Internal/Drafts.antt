@@ -38,13 +38,13 @@ pub record Stores (fits : List ℕ → Bool) (stored : List ℕ → List ℕ) (t
   pub answer : ok ≡ fits t
   pub table : u ≡ cond (fits t) (stored t) t
 
--- ---- the tests of `begin`, `sumFits`, `labelFits`, `policyFits` and `locationFits`
+-- ---- the tests of `begin`, `compoundFits`, `labelFits`, `policyFits` and `locationFits`
 
 abbrev pub principalsFit : ℕ → List ℕ → Bool
 principalsFit n t = both (leb 1 n) (leb n maxPrincipals)
 
-abbrev pub sumFitsIn : ℕ → ℕ → List ℕ → Bool
-sumFitsIn a b t =
+abbrev pub compoundFitsIn : ℕ → ℕ → List ℕ → Bool
+compoundFitsIn a b t =
     both (both (eqb (labelsIn t) 0) (eqb (locationsIn t) 0))
     (both (ltb (typesIn t) maxTypes) (both (ltb a (typesIn t)) (ltb b (typesIn t))))
 

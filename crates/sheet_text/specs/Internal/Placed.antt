@@ -1,15 +1,22 @@
 -- What the code answers to a line: the line and the place after it, or a refusal.
+use mathlib.Core.Bool.{cond}
 use mathlib.Core.List.{List}
 use Prim.Native.Nat.{ℕ}
+use lib.Dec.{eqb}
 use lib.ListN.{drop}
 use Rattle.text.specs.Reading.{Read}
 use Rattle.text.specs.Internal.Place.{placed}
 use Rattle.sheet_text.specs.declared.line.Line.{Line}
+use Rattle.sheet_text.specs.declared.line.Line.the-variants.{T, Q, X}
 use Rattle.sheet_text.specs.declared.line.Found.{Found}
 use Rattle.sheet_text.specs.declared.line.Found.the-variants as found
 use Rattle.sheet_text.specs.declared.line.LineRead.the-variants as read
 use Rattle.sheet_text.specs.declared.line.Reached.{Reached}
 use Rattle.sheet_text.specs.Reading.{lineOf}
+
+-- the line of two numbers by its letter
+unfoldable pub lineBy : ℕ → ℕ → ℕ → Line
+lineBy letter a b = cond (eqb letter 84) (T a b) (cond (eqb letter 81) (Q a b) (X a b))
 
 -- a line that is read in s, with its place
 abbrev pub placedLine : List ℕ → Read Line → Found

@@ -18,7 +18,7 @@ mostOf labels = cond labels maxLabels maxTypes
 unfoldable pub sameWords : List ℕ → ℕ → ℕ → ℕ → Bool
 sameWords t a b n = every n (λ (k : ℕ). eqb (getD t (a + k) 0) (getD t (b + k) 0))
 
--- two labels have the same sets, or otherwise two types the same parts
+-- two labels have the same sets, or otherwise two types the same kind and parts
 unfoldable pub sameIn : List ℕ → Bool → ℕ → ℕ → Bool
 sameIn t true i j = sameWords t (labelPlace i) (labelPlace j) labelSize
 sameIn t false i j = sameWords t (partsPlace i) (partsPlace j) 2
@@ -32,6 +32,6 @@ anyFrom test i (suc k) = either (test i) (anyFrom test (i + 1) k)
 unfoldable pub againIn : List ℕ → Bool → ℕ → ℕ → Bool
 againIn t labels n i = anyFrom (sameIn t labels i) (i + 1) (n - (i + 1))
 
--- a sum, the first of which is type 3, or a label comes again
+-- a sum or a pair, the first of which is type 3, or a label comes again
 unfoldable pub repeatsIn : List ℕ → Bool
 repeatsIn t = either (anyFrom (againIn t false (typesIn t)) 3 (typesIn t - 3)) (anyFrom (againIn t true (labelsIn t)) 0 (labelsIn t - 0))

@@ -14,6 +14,7 @@ use Rattle.memory.proofs.values.+value_at.Lts-value_at as value-at-lts
 use Rattle.memory.proofs.values.error_at.Reads as error-at-reads
 use Rattle.memory.proofs.values.integer_at.Reads as integer-at-reads
 use Rattle.memory.proofs.values.package_at.Reads as package-at-reads
+use Rattle.memory.proofs.values.pair_of.Reads as pair-of-reads
 use Rattle.memory.proofs.values.+value_at.{statement}
 use Rattle.memory.proofs.values.+value_at.Tie.{close}
 
@@ -37,6 +38,8 @@ pub +value-at-spec : {M : Type 1} → statement M
   value-at.Post,
   package-at-reads.Asked,
   package-at-reads.Learnt,
+  pair-of-reads.Asked,
+  pair-of-reads.Learnt,
 )
     (value-at-at t)
     value-at.Post
@@ -55,10 +58,16 @@ pub +value-at-spec : {M : Type 1} → statement M
     (λ c. search needs)
     (λ c κs. (omega arith, tt))
     (λ c κs. search needs)  -- package-at-requires
-    (λ c. search needs)  -- add-t16
+    (λ c. search needs)  -- add-value-at-4
+    (λ c κs. (omega arith, tt))  -- value-at-requires-4
+    (λ c κs. (omega (arith, c .value-at4 .ensures .forward), tt))  -- value-at-requires-5
+    (λ c κs. search needs)  -- pair-of-requires
+    (λ c. search needs)  -- add-t20
     (λ c. laws.walk-numeral _ _ _ (omega arith) num-int (c .before .match .keys1) (c .integer-at .ensures _))  -- returns-2
     (λ c. laws.walk-numeral _ _ _ (omega arith) num-err (c .before .match .keys2) (c .error-at .ensures _))
     (λ c. laws.walk-side _ _ _ (omega arith) to-left (c .before .match .keys3) (c .value-at .ensures))
     (λ c. laws.walk-side _ _ _ (omega arith) to-right (c .before .match .keys4) (c .value-at2 .ensures))
     (λ c. laws.walk-pkg _ _ _ (omega arith) (c .before .before .match .keys5) (c .package-at .ensures (c .before .value-at3 .ensures)))
-    (λ c. laws.walk-none _ _ _ (omega arith) (c .match .rest .0 .0 .0 .0 .1) (c .match .rest .0 .0 .0 .1) (c .match .rest .0 .0 .1) (c .match .rest .0 .1) (c .match .rest .1))
+    (λ c. rw (c .pair-of .ensures)
+    (laws.walk-pair _ _ _ (omega arith) (c .before .before .before .match .keys6) (c .before .before .value-at4 .ensures) (c .before .value-at5 .ensures)))
+    (λ c. laws.walk-none _ _ _ (omega arith) (c .match .rest))

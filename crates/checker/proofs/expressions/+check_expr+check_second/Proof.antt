@@ -1,0 +1,155 @@
+-- The proof of the cycle of calls {check_expr, check_second}. The measure is the rows left, twice; `check_second` lies
+-- between its caller and the operand that it checks. Each return is a law of `ExprLaws`. Assumes nothing.
+use borrow.Author.Needs.{needs}
+use Prim.Native.Nat.{ℕ, _+_, _*_, _<_}
+use native.Mathlib.Omega.{arith}
+use mathlib.Core.Logic.{⊎-elim}
+use Rattle.language.specs.Syntax.{first, second, pick}
+use Rattle.script.specs.Internal.Code.{rowsLeft}
+use Rattle.script.proofs.Rows.{row-within, none-past, none-between}
+use Rattle.checker.proofs.ExprLaws.{arm-int, arm-loc, arm-var, arm-plus, arm-left, arm-right, arm-pack, arm-unpack, arm-pair, arm-part, arm-other}
+use borrow.Fn.Kinds.{In}
+use borrow.Fn.PlainCycle.{Measures, is, falls, and}
+use Rattle.checker.proofs.expressions.check_expr.Reads as check-expr
+use Rattle.checker.proofs.expressions.check_expr.Kinds as check-expr-kinds
+use Rattle.checker.proofs.expressions.+check_expr+check_second.Lts-check_expr as check-expr-lts
+use Rattle.checker.proofs.expressions.check_second.Reads as check-second
+use Rattle.checker.proofs.expressions.check_second.Kinds as check-second-kinds
+use Rattle.checker.proofs.expressions.+check_expr+check_second.Lts-check_second as check-second-lts
+use Rattle.checker.proofs.expressions.no_type.Reads as no-type-reads
+use Rattle.checker.proofs.expressions.of_int.Reads as of-int-reads
+use Rattle.checker.proofs.expressions.of_location.Reads as of-location-reads
+use Rattle.checker.proofs.expressions.of_pack.Reads as of-pack-reads
+use Rattle.checker.proofs.expressions.of_pair.Reads as of-pair-reads
+use Rattle.checker.proofs.expressions.of_part.Reads as of-part-reads
+use Rattle.checker.proofs.expressions.of_plus.Reads as of-plus-reads
+use Rattle.checker.proofs.expressions.of_sum.Reads as of-sum-reads
+use Rattle.checker.proofs.expressions.of_unpack.Reads as of-unpack-reads
+use Rattle.checker.proofs.expressions.of_variable.Reads as of-variable-reads
+use Rattle.script.proofs.row_at.Reads as row-at-reads
+use Rattle.sheet.proofs.left_part.Reads as left-part-reads
+use Rattle.sheet.proofs.right_part.Reads as right-part-reads
+use Rattle.checker.proofs.expressions.+check_expr+check_second.{statement}
+use Rattle.checker.proofs.expressions.+check_expr+check_second.Tie.{close}
+
+abbrev μ-check-expr : Measures 3 check-expr-kinds.ps ℕ
+μ-check-expr κs a = 2 * rowsLeft (a .0 .now) (a .1 .0)
+
+abbrev μ-check-second : Measures 3 check-second-kinds.ps ℕ
+μ-check-second κs a = 2 * rowsLeft (a .0 .now) (a .1 .0 .next) + 1
+
+abbrev check-expr-at : ℕ → In 3 check-expr-kinds.ps
+check-expr-at t =
+    and 3 check-expr-kinds.ps (is 3 check-expr-kinds.ps μ-check-expr t) check-expr.Pre
+
+abbrev check-expr-below : ℕ → In 3 check-expr-kinds.ps
+check-expr-below t =
+    and 3 check-expr-kinds.ps (falls 3 check-expr-kinds.ps _<_ μ-check-expr t) check-expr.Pre
+
+abbrev check-second-at : ℕ → In 3 check-second-kinds.ps
+check-second-at t =
+    and 3 check-second-kinds.ps (is 3 check-second-kinds.ps μ-check-second t) check-second.Pre
+
+abbrev check-second-below : ℕ → In 3 check-second-kinds.ps
+check-second-below t =
+    and 3 check-second-kinds.ps (falls 3 check-second-kinds.ps _<_ μ-check-second t) check-second.Pre
+
+pub +check-expr+check-second-spec : {M : Type 1} → statement M
+unfolding pick
++check-expr+check-second-spec = close μ-check-expr μ-check-second (λ t. check-expr-lts.spec (
+  row-at-reads.Asked,
+  row-at-reads.Learnt,
+  of-int-reads.Asked,
+  of-int-reads.Learnt,
+  of-location-reads.Asked,
+  of-location-reads.Learnt,
+  of-variable-reads.Asked,
+  of-variable-reads.Learnt,
+  check-expr-below t,
+  check-expr.Post,
+  check-second-below t,
+  check-second.Post,
+  left-part-reads.Asked,
+  left-part-reads.Learnt,
+  of-sum-reads.Asked,
+  of-sum-reads.Learnt,
+  right-part-reads.Asked,
+  right-part-reads.Learnt,
+  of-pack-reads.Asked,
+  of-pack-reads.Learnt,
+  of-unpack-reads.Asked,
+  of-unpack-reads.Learnt,
+  of-part-reads.Asked,
+  of-part-reads.Learnt,
+  no-type-reads.Asked,
+  no-type-reads.Learnt,
+)
+    (check-expr-at t)
+    check-expr.Post
+    (λ c κs. search needs)  -- row-at-requires
+    (λ c. omega (arith, row-within _ _ (c .before .row-at .ensures) (omega (arith, c .match .keys1))))  -- add-of-int
+    (λ c κs. search needs)  -- of-int-requires
+    (λ c. omega (arith, row-within _ _ (c .before .row-at .ensures) (omega (arith, c .match .keys2))))  -- add-of-location
+    (λ c κs. search needs)  -- of-location-requires
+    (λ c. omega (arith, row-within _ _ (c .before .row-at .ensures) (omega (arith, c .match .keys3))))  -- add-of-variable
+    (λ c κs. search needs)  -- of-variable-requires
+    (λ c. omega (arith, row-within _ _ (c .before .before .before .row-at .ensures) (omega (arith, c .before .if1 .left))))  -- add-check-expr
+    (λ c κs. (omega (arith, row-within _ _ (c .before .before .before .row-at .ensures) (omega (arith, c .before .if1 .left))), tt))  -- check-expr-requires
+    (λ c κs. (omega (arith, row-within _ _ (c .before .before .before .before .before .row-at .ensures) (omega (arith, c .before .before .before .if1 .left)), c .before .check-expr .ensures .onward), tt))  -- check-second-requires
+    (λ c κs. (omega (arith, row-within _ _ (c .before .before .before .before .before .row-at .ensures) (omega (arith, c .before .before .before .if1 .left)), c .before .check-expr .ensures .onward), tt))  -- check-second-requires-2
+    (λ c κs. search needs)  -- left-part-requires
+    (λ c κs. search needs)  -- of-sum-requires
+    (λ c κs. search needs)  -- right-part-requires
+    (λ c κs. search needs)  -- of-sum-requires-2
+    (λ c κs. search needs)  -- of-pack-requires
+    (λ c κs. search needs)  -- of-unpack-requires
+    (λ c κs. search needs)  -- left-part-requires-2
+    (λ c κs. search needs)  -- of-part-requires
+    (λ c κs. search needs)  -- right-part-requires-2
+    (λ c κs. search needs)  -- of-part-requires-2
+    (λ c κs. search needs)  -- no-type-requires
+    (λ c κs. search needs)  -- no-type-requires-2
+    (λ c. arm-int (c .before .before .row-at .ensures) (c .before .match .keys1) (c .of-int .ensures))  -- returns
+    (λ c. arm-loc (c .before .before .row-at .ensures) (c .before .match .keys2) (c .of-location .ensures))  -- returns-2
+    (λ c. arm-var (c .before .before .row-at .ensures) (c .before .match .keys3) (c .of-variable .ensures))  -- returns-3
+    (λ c.
+    let two = c .check-second .ensures in
+    arm-plus (c .before .before .before .before .before .before .row-at .ensures) (c .before .before .check-expr .ensures) (c .before .match2 .keys1) (two .1) (two .2))  -- returns-4
+    (λ c.
+    let two = c .check-second2 .ensures in
+    arm-pair (c .before .before .before .before .before .before .row-at .ensures) (c .before .before .check-expr .ensures) (c .before .match2 .keys2) (two .1) (two .2))  -- returns-5
+    (λ c. arm-left (c .before .before .before .before .before .before .before .row-at .ensures) (c .before .before .before .check-expr .ensures)
+    (c .before .before .match2 .keys3) (c .before .left-part .ensures) (c .of-sum .ensures))  -- returns-6
+    (λ c. arm-right (c .before .before .before .before .before .before .before .row-at .ensures) (c .before .before .before .check-expr .ensures)
+    (c .before .before .match2 .keys4) (c .before .right-part .ensures) (c .of-sum2 .ensures))  -- returns-7
+    (λ c. arm-pack (c .before .before .before .before .before .before .row-at .ensures) (c .before .before .check-expr .ensures) (c .before .match2 .keys5)
+    (c .of-pack .ensures))  -- returns-8
+    (λ c. arm-unpack (c .before .before .before .before .before .before .row-at .ensures) (c .before .before .check-expr .ensures) (c .before .match2 .keys6)
+    (c .of-unpack .ensures))  -- returns-9
+    (λ c. arm-part (c .before .before .before .before .before .before .before .row-at .ensures) (c .before .before .before .check-expr .ensures)
+    first (c .before .before .match2 .keys7) (c .before .left-part2 .ensures) (c .of-part .ensures))  -- returns-10
+    (λ c. arm-part (c .before .before .before .before .before .before .before .row-at .ensures) (c .before .before .before .check-expr .ensures)
+    second (c .before .before .match2 .keys8) (c .before .right-part2 .ensures) (c .of-part2 .ensures))  -- returns-11
+    (λ c. arm-other (c .before .before .before .before .before .before .row-at .ensures)
+    (λ h.
+    let r = c .before .match2 .rest in
+    none-between 9 8
+    ((((((((tt, r .0 .0 .0 .0 .0 .0 .0 .1), r .0 .0 .0 .0 .0 .1), r .0 .0 .0 .0 .1), r .0 .0 .0 .1), r .0 .0 .1), r .0 .0 .0 .0 .0 .0 .1), r .0 .1), r .1)
+    (none-past 6 3 (c .before .before .before .before .before .match .rest) (h .0)) (h .1)) (c .no-type .ensures))  -- returns-12
+    (λ c. arm-other (c .before .before .before .row-at .ensures)
+    (λ h. ⊎-elim (λ w. omega (arith, h .0, w .taken)) (λ w. omega (arith, h .1, w .1 .left)) (c .before .if1 .came)) (c .no-type2 .ensures)))  -- returns-13
+    λ t. check-second-lts.spec (
+      check-expr-below t,
+      check-expr.Post,
+      of-plus-reads.Asked,
+      of-plus-reads.Learnt,
+      of-pair-reads.Asked,
+      of-pair-reads.Learnt,
+    )
+    (check-second-at t)
+    check-second.Post
+    (λ c κs. (omega arith, tt))  -- check-expr-requires
+    (λ c κs. search needs)  -- of-plus-requires
+    (λ c κs. search needs)  -- of-pair-requires
+    (λ c. (c .before .before .check-expr .result, c .before .before .check-expr .ensures, rw (c .before .if1 .taken) (c .of-plus .ensures)))  -- returns
+    (λ c. (c .before .before .check-expr .result, c .before .before .check-expr .ensures, rw (c .before .if1 .left) (c .of-pair .ensures)))  -- returns-2

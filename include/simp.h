@@ -13,6 +13,10 @@
  * on what a group cannot read: don't show them to everyone. A script may open with the label that it starts at
  * (`b label`): whoever cannot read that label is shown the same before and after its run, whatever that answers.
  *
+ * A value in a memory is 1 and an integer, 2 and an error, 3 or 4 (left or right) and a value, 5, a label and a value
+ * (a package), or 6 and two values (a pair). Pairs have the types that the lines `Q a b` of a sheet make; a script
+ * makes a pair by `p`, and takes its parts by `f` and `g`.
+ *
  * A slice is a pointer and the number of its elements. A pointer is suitably aligned; it may be null where the number
  * is 0 (memcpy and memset may then be handed it, with 0 bytes). No other slice of the call overlaps one that the call
  * may write (a memory of simp_run and simp_round, a view of simp_view, groups of simp_groups). Calls are reentrant: two
@@ -29,9 +33,10 @@ extern "C" {
 #endif
 
 /* The version of this header and of the archive that it belongs to. `simp --version` has the archive's SHA-256. */
-#define SIMP_VERSION "1.4.0"
+#define SIMP_VERSION "1.5.0"
 
-/* Words of 32 bits that a location takes in a memory or a view. */
+/* Words of 32 bits that a location takes in a memory or a view: at most so many of a value, the rest 0. A pair takes
+ * one more than both of its parts together. */
 #define SIMP_CELL 16
 
 /* The most locations that a sheet has, the most bytes of a text (a longer one is refused; of a round, each script has
@@ -45,7 +50,7 @@ extern "C" {
 #define SIMP_MOST_GROUPS 12870
 
 /* The most bytes of code and constants that the archive adds to a program, as the project's gate holds. */
-#define SIMP_CODE_BYTES 23552
+#define SIMP_CODE_BYTES 26624
 
 /* The most bytes of stack that a call of this archive takes, its return address included, for every input: no less than
  * what is computed from its code, as the project's gate holds (docs/PERFORMANCE.md). Not in it are the arguments on the
@@ -62,15 +67,17 @@ extern "C" {
 enum {
     SIMP_DONE = 0,               /* done; accepted; shown */
     SIMP_SHEET_MALFORMED = 1,    /* the sheet isn't of the form, or names what isn't there */
-    SIMP_SHEET_REPEATS = 2,      /* the sheet repeats a type or a label */
+    SIMP_SHEET_REPEATS = 2,      /* the sheet repeats a sum, a pair or a label; a sum and a pair are never the same */
     SIMP_PRINCIPAL_UNKNOWN = 3,  /* the authority or group holds a principal not on the sheet */
     SIMP_SCRIPT_MALFORMED = 4,   /* the script isn't of the form, or names what isn't there */
-    SIMP_ILL_TYPED = 5,          /* the script has no derivation, even with every label condition struck out */
+    SIMP_ILL_TYPED = 5,          /* the script has no derivation, even with every label condition struck out; so too
+                                  * where it names a type of the wrong kind, such as a sum for a pair */
     SIMP_ILL_LABELLED = 6,       /* the script has a derivation only with the label conditions struck out */
     SIMP_SLICE_SIZE = 7,         /* a lent memory or view isn't SIMP_CELL words for each location */
     SIMP_MEMORY_ILL_FORMED = 8,  /* a location's words aren't a value of its type and zeros, or name no label */
     SIMP_SPENT = 9,              /* the budget was used up before the script ended */
-    SIMP_TOO_LONG = 10,          /* in a step within the budget a value took more than SIMP_CELL words */
+    SIMP_TOO_LONG = 10,          /* in a step within the budget a value took more than SIMP_CELL words, be it a
+                                  * pair of which only a part is taken */
     SIMP_TOO_MANY_SCRIPTS = 11,  /* a round has more than SIMP_MOST_SCRIPTS scripts; judged between 3 and 4 */
     SIMP_NOT_LISTED = 12         /* the label isn't on the sheet, or has more smallest groups than there are places */
 };
@@ -114,7 +121,8 @@ simp_outcome simp_run(const uint8_t *sheet, size_t sheet_len, const uint8_t *scr
                       uint32_t *memory, size_t memory_len, uint16_t authority, uint32_t budget);
 
 /* Writes into `view` what a group is shown of a memory: 0, 1, 2, 3, 7 or 8. The view changes only if the answer
- * is SIMP_DONE. */
+ * is SIMP_DONE. A location that the group cannot read is 0 in all words. The content of a package that it cannot read
+ * is one word 0, and in a pair the next part follows that word at once. */
 uint8_t simp_view(const uint8_t *sheet, size_t sheet_len, const uint32_t *memory, size_t memory_len,
                   uint16_t group, uint32_t *view, size_t view_len);
 

@@ -22,15 +22,20 @@ pub struct ValueTooLong {
 
 /// The value of a well-typed expression whose bound values have been put in.
 pub fn evaluate(context: &Context, memory: &Memory, e: &Expression) -> Result<Value, ValueTooLong> {
+    let of = |operand: &Expression| evaluate(context, memory, operand);
+    let boxed = |operand: &Expression| of(operand).map(Box::new);
     let value = match &e.term {
         Term::Integer(n) => Value::Integer(*n),
         Term::Location(location) => memory[*location].clone(),
         Term::Value(value) => value.clone(),
-        Term::Plus(e1, e2) => plus(evaluate(context, memory, e1)?, evaluate(context, memory, e2)?),
-        Term::Left(_, e) => Value::Left(Box::new(evaluate(context, memory, e)?)),
-        Term::Right(_, e) => Value::Right(Box::new(evaluate(context, memory, e)?)),
-        Term::Pack(label, e) => pack(context, *label, evaluate(context, memory, e)?),
-        Term::Unpack(ty, label, e) => unpack(context, *ty, *label, evaluate(context, memory, e)?),
+        Term::Plus(e1, e2) => plus(of(e1)?, of(e2)?),
+        Term::Left(_, e) => Value::Left(boxed(e)?),
+        Term::Right(_, e) => Value::Right(boxed(e)?),
+        Term::Pack(label, e) => pack(context, *label, of(e)?),
+        Term::Unpack(ty, label, e) => unpack(context, *ty, *label, of(e)?),
+        Term::Pair(_, e1, e2) => Value::Pair(boxed(e1)?, boxed(e2)?),
+        Term::First(e) => parts(of(e)?).0,
+        Term::Second(e) => parts(of(e)?).1,
         Term::Bound(_) => unreachable!("bound values have been put in"),
     };
     let words = value.length();
@@ -46,6 +51,14 @@ fn plus(v1: Value, v2: Value) -> Value {
     match (v1, v2) {
         (Value::Integer(n1), Value::Integer(n2)) => Value::Integer(n1.wrapping_add(n2)),
         _ => unreachable!("operands of a sum are integers"),
+    }
+}
+
+/// The first and the second part of a pair.
+fn parts(pair: Value) -> (Value, Value) {
+    match pair {
+        Value::Pair(first, second) => (*first, *second),
+        _ => unreachable!("only a pair has a first and a second part"),
     }
 }
 

@@ -220,11 +220,13 @@ impl Pass<'_> {
                 Ok(Least::of(e.line, Origin::Location(*location), label))
             }
             Term::Bound(d) => Ok(self.bound[self.bound.len() - 1 - d].clone()),
-            Term::Plus(e1, e2) => {
+            Term::Plus(e1, e2) | Term::Pair(_, e1, e2) => {
                 let least = self.expression(e1)?;
                 Ok(least.join(self.expression(e2)?))
             }
             Term::Left(_, e) | Term::Right(_, e) => self.expression(e),
+            // a part has the label of the whole pair
+            Term::First(e) | Term::Second(e) => self.expression(e),
             Term::Pack(label, operand) => {
                 let packed = &self.sheet.labels[*label];
                 let least = self.expression(operand)?;
@@ -338,10 +340,21 @@ mod tests {
         assert_eq!(blamed("b 1,w,l 3,x 0,= 0,i 1"), Some((5, Through::Start)));
     }
 
+    #[test]
+    fn a_part_of_a_pair_is_blamed_for_the_whole() {
+        let sheet = b"P\t2\nQ\t0\t0\nL\nL\nO\t0\t0000\t0003\nX\t0\t0\nX\t0\t1\n";
+        for (script, line) in [("= 0,f,p 5,x 0,x 1", 5), ("= 0,g,p 5,x 1,x 0", 4)] {
+            let (sheet, script) = read(sheet, script);
+            let fault = check(&sheet, &script).expect_err("a secret part");
+            assert_eq!((fault.line, fault.into), (1, Into::Location(0)));
+            assert_eq!((fault.source.line, fault.source.origin), (line, Origin::Location(1)));
+        }
+    }
+
     /// Label 0 lets all read and write, and nothing but readers sets 1 apart from it. Owner 0 lets
     /// itself alone write label 2. Locations 0, 1 and 2 hold packages under these labels, 3 and 4
-    /// unpacked integers under 0 and 2, and 5 a pkg+error under 0.
-    const PACKAGES: &[u8] = b"P\t2\nT\t0\t1\n\
+    /// unpacked integers under 0 and 2, and 5 a pkg+error under 0. Type 6 is a pair of type 5 twice.
+    const PACKAGES: &[u8] = b"P\t2\nT\t0\t1\nQ\t5\t5\n\
         L\nL\nO\t0\t0000\t0003\nL\nO\t0\t0003\t0000\n\
         X\t2\t0\nX\t2\t1\nX\t2\t2\nX\t5\t0\nX\t5\t2\nX\t4\t0\n";
 
@@ -379,5 +392,7 @@ mod tests {
         assert_eq!(endorsed("c,k 0,i 7,= 3,u 5 2,v 0,s"), [packed]);
         assert_eq!(endorsed("c,x 5,s,c,k 0,u 5 2,x 0,s,s"), [bad(6)]);
         assert_eq!(endorsed("w,l 3,i 1,= 3,u 5 2,x 0"), [bad(5)]);
+        let paired = "= 3,f,p 6,u 5 0,x 2,g,p 6,u 5 2,x 0,u 5 2,x 0";
+        assert_eq!(endorsed(paired), [bad(8), bad(10)]);
     }
 }

@@ -73,6 +73,15 @@ mod tests {
     }
 
     #[test]
+    fn a_zero_inside_a_pair_stays_and_one_at_its_end_is_dropped() {
+        let text = b"6\t1\t0\t1\n6\t5\t1\t0\t1\t9\n";
+        let words = parse(text, 2).unwrap();
+        assert_eq!(words[..5], [6, 1, 0, 1, 0]);
+        assert_eq!(words[16..22], [6, 5, 1, 0, 1, 9]);
+        assert_eq!(print(&words), text);
+    }
+
+    #[test]
     fn what_is_no_memory_text() {
         let cause = |text: &[u8], locations| parse(text, locations).unwrap_err().cause;
         let many = |what, most| Cause::TooMany { what, most };

@@ -71,6 +71,11 @@ pub enum Term {
     Pack(LabelId, Box<Expression>),
     /// The sum type made, the wanted label, and the operand.
     Unpack(TypeId, LabelId, Box<Expression>),
+    /// The pair type made, and both operands.
+    Pair(TypeId, Box<Expression>, Box<Expression>),
+    /// A part of the pair that the operand is.
+    First(Box<Expression>),
+    Second(Box<Expression>),
     /// A value put in the place of a bound one. No script has it.
     Value(Value),
 }
@@ -113,6 +118,9 @@ impl Expression {
             Term::Right(ty, e) => Term::Right(*ty, inner(e)),
             Term::Pack(label, e) => Term::Pack(*label, inner(e)),
             Term::Unpack(ty, label, e) => Term::Unpack(*ty, *label, inner(e)),
+            Term::Pair(ty, e1, e2) => Term::Pair(*ty, inner(e1), inner(e2)),
+            Term::First(e) => Term::First(inner(e)),
+            Term::Second(e) => Term::Second(inner(e)),
         };
         Expression { line: self.line, term }
     }

@@ -69,8 +69,19 @@ impl Head<'_> {
 /// The kinds of line, each with the number of fields after the first.
 const OPENINGS: &[(&str, usize)] = &[("b", 1)];
 const COMMANDS: &[(&str, usize)] = &[("s", 0), (";", 0), ("=", 1), ("w", 0), ("c", 0)];
-const EXPRESSIONS: &[(&str, usize)] =
-    &[("i", 1), ("x", 1), ("v", 1), ("+", 0), ("l", 1), ("r", 1), ("k", 1), ("u", 2)];
+const EXPRESSIONS: &[(&str, usize)] = &[
+    ("i", 1),
+    ("x", 1),
+    ("v", 1),
+    ("+", 0),
+    ("l", 1),
+    ("r", 1),
+    ("k", 1),
+    ("u", 2),
+    ("p", 1),
+    ("f", 0),
+    ("g", 0),
+];
 
 /// Whether a line names the label that a script starts at.
 fn is_start(line: &[u8]) -> bool {
@@ -210,6 +221,13 @@ impl<'a> Reader<'a> {
                 let label = head.name(label, labels, Thing::Label)?;
                 Term::Unpack(ty, label, self.boxed(cases, line, "u", 0)?)
             }
+            (b"p", [ty]) => {
+                let ty = head.name(ty, types, Thing::Type)?;
+                let first = self.boxed(cases, line, "p", 0)?;
+                Term::Pair(ty, first, self.boxed(cases, line, "p", 1)?)
+            }
+            (b"f", []) => Term::First(self.boxed(cases, line, "f", 0)?),
+            (b"g", []) => Term::Second(self.boxed(cases, line, "g", 0)?),
             _ => return Err(self.wrong(&head, EXPRESSIONS, Some(role))),
         };
         Ok(Expression { line, term })

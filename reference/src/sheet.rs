@@ -17,7 +17,7 @@ pub struct Location {
 pub struct Sheet {
     /// The number n of principals.
     pub principals: usize,
-    /// The given types, then those made by `T`.
+    /// The given types, then those made by `T` and `Q`, in the order of their lines.
     pub types: Vec<Type>,
     pub labels: Vec<Label>,
     pub locations: Vec<Location>,
@@ -37,7 +37,16 @@ impl Sheet {
         }
     }
 
-    /// Two types with the same parts, else two labels with the same effective sets.
+    /// The two parts of a pair, or nothing for another type.
+    pub fn pair_parts(&self, ty: TypeId) -> Option<(TypeId, TypeId)> {
+        match self.types[ty] {
+            Type::Pair(first, second) => Some((first, second)),
+            _ => None,
+        }
+    }
+
+    /// Two sums or two pairs with the same parts, else two labels with the same effective sets. A
+    /// sum and a pair are different types whatever their parts.
     pub fn repeat(&self) -> Option<Repeat> {
         let types = equal_pair(&self.types).map(|(first, again)| Repeat::Type { first, again });
         let labels = || equal_pair(&self.labels);

@@ -6,8 +6,8 @@ use crate::sheet::{LabelId, Location, Sheet};
 use crate::text::{fields, lines, name, number, set, Cause, Counted, Expected, Fault, Thing};
 use crate::types::{given, Type, TypeId};
 
-/// The most lines of each kind.
-const MOST_SUMS: usize = 27;
+/// The most lines that make types, `T` and `Q` together, and of each other kind.
+const MOST_TYPES: usize = 27;
 const MOST_LABELS: usize = 32;
 pub const MOST_LOCATIONS: usize = 64;
 
@@ -46,7 +46,7 @@ impl<'a> Rest<'a> {
     }
 }
 
-/// A sheet is one `P`, then `T` lines, labels and `X` lines, in this order.
+/// A sheet is one `P`, then `T` and `Q` lines, labels and `X` lines, in this order.
 pub fn parse(text: &[u8]) -> Result<Sheet, Fault> {
     let lines = lines(text)?.into_iter().map(fields).collect();
     let mut rest = Rest { lines, read: 0 };
@@ -65,7 +65,7 @@ fn parse_lines(rest: &mut Rest) -> Result<Sheet, Cause> {
     Err(rest.expected(match (labels.is_empty(), locations.is_empty()) {
         (_, false) => &["X"],
         (false, true) => &["O", "L", "X"],
-        (true, true) => &["T", "L", "X"],
+        (true, true) => &["T", "Q", "L", "X"],
     }))
 }
 
@@ -81,17 +81,27 @@ fn parse_principals(rest: &mut Rest) -> Result<usize, Cause> {
     }
 }
 
-/// `T` makes the sum of two earlier types.
+/// `T` makes the sum of two earlier types and `Q` the pair, in any order.
 fn parse_types(rest: &mut Rest) -> Result<Vec<Type>, Cause> {
     let mut types = given();
     let given = types.len();
-    while let Some([left, right]) = rest.take(b"T")? {
-        let left = name(left, types.len(), Thing::EarlierType)?;
-        let right = name(right, types.len(), Thing::EarlierType)?;
-        types.push(Type::Sum(left, right));
-        within(types.len() - given, Counted::SumLines, MOST_SUMS)?;
+    while let Some(made) = parse_type(rest, types.len())? {
+        types.push(made);
+        within(types.len() - given, Counted::TypeLines, MOST_TYPES)?;
     }
     Ok(types)
+}
+
+/// The type that the next line makes of two of the `earlier` ones, if it makes one.
+fn parse_type(rest: &mut Rest, earlier: usize) -> Result<Option<Type>, Cause> {
+    let part = |field| name(field, earlier, Thing::EarlierType);
+    if let Some([left, right]) = rest.take(b"T")? {
+        Ok(Some(Type::Sum(part(left)?, part(right)?)))
+    } else if let Some([first, second]) = rest.take(b"Q")? {
+        Ok(Some(Type::Pair(part(first)?, part(second)?)))
+    } else {
+        Ok(None)
+    }
 }
 
 fn parse_labels(rest: &mut Rest, n: usize) -> Result<Vec<Label>, Cause> {
@@ -136,7 +146,7 @@ fn within(count: usize, what: Counted, most: usize) -> Result<(), Cause> {
     }
 }
 
-/// The line of a type that `T` makes.
+/// The line of a type that `T` or `Q` makes.
 pub fn line_of_type(ty: TypeId) -> usize {
     2 + ty - given().len()
 }
@@ -147,4 +157,53 @@ pub fn line_of_label(text: &[u8], label: LabelId) -> usize {
     let mut labels = lines.filter(|(_, line)| *line == b"L");
     let (before, _) = labels.nth(label).expect("the label is on the sheet");
     before + 1
+}
+
+#[cfg(test)]
+mod tests {
+    use super::parse;
+    use crate::calls::read_sheet;
+    use crate::reason::Reason;
+    use crate::sheet::Repeat;
+    use crate::text::{Cause, Counted, Expected, Thing};
+    use crate::types::Type;
+
+    /// A sheet of one principal and these lines, written with blanks and commas.
+    fn sheet(lines: &str) -> Vec<u8> {
+        ("P 1,".to_string() + lines).replace(' ', "\t").replace(',', "\n").into_bytes()
+    }
+
+    #[test]
+    fn sums_and_pairs_are_numbered_together() {
+        let types = parse(&sheet("Q 0 1,T 5 2,Q 6 5,T 7 7,")).expect("a sheet").types;
+        assert_eq!(
+            types[5..],
+            [Type::Pair(0, 1), Type::Sum(5, 2), Type::Pair(6, 5), Type::Sum(7, 7)]
+        );
+        let later = Cause::Missing { thing: Thing::EarlierType, number: 6, count: 6 };
+        assert_eq!(parse(&sheet("T 0 1,Q 6 0,")), Err(later.at(3)));
+        let many = Cause::TooMany { what: Counted::TypeLines, most: 27 };
+        let chain = |count: usize| {
+            let kind = |t: usize| if t % 2 == 0 { 'T' } else { 'Q' };
+            (5..5 + count).map(|t| format!("{} {} 0,", kind(t), t - 1)).collect::<String>()
+        };
+        assert_eq!(parse(&sheet(&chain(27))).map(|sheet| sheet.types.len()), Ok(32));
+        assert_eq!(parse(&sheet(&chain(28))), Err(many.at(29)));
+        let expected = Expected::Sheet(&["O", "L", "X"]);
+        let late = Cause::LineKind { found: b"Q".to_vec(), expected };
+        assert_eq!(parse(&sheet("L,Q 0 1,")), Err(late.at(3)));
+    }
+
+    #[test]
+    fn a_type_repeats_one_of_its_own_kind() {
+        for good in ["Q 0 0,", "Q 2 1,", "T 0 1,Q 0 1,", "Q 0 1,T 0 1,Q 1 0,T 1 0,"] {
+            assert!(read_sheet(&sheet(good)).is_ok(), "{good}");
+        }
+        let type_at = |line, first, again| {
+            Err(Reason::Repeats { line, repeat: Repeat::Type { first, again } })
+        };
+        assert_eq!(read_sheet(&sheet("Q 0 1,T 0 1,Q 0 1,")), type_at(4, 5, 7));
+        assert_eq!(read_sheet(&sheet("T 0 1,Q 0 1,T 0 1,")), type_at(4, 5, 7));
+        assert_eq!(read_sheet(&sheet("Q 0 0,T 0 0,")), type_at(3, 3, 6));
+    }
 }

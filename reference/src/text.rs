@@ -100,7 +100,8 @@ pub enum Sort {
 /// What a text has a limited number of.
 #[derive(Clone, Copy, Debug, PartialEq, Eq)]
 pub enum Counted {
-    SumLines,
+    /// Lines that make types, `T` and `Q` together.
+    TypeLines,
     Labels,
     Locations,
     ScriptLines,
@@ -113,7 +114,7 @@ pub enum Counted {
 pub enum Thing {
     Principal,
     Type,
-    /// A type before the one that a `T` line makes.
+    /// A type before the one that a `T` or `Q` line makes.
     EarlierType,
     Label,
     Location,

@@ -16,6 +16,7 @@ pub enum Type {
     Error,
     Package,
     Sum(TypeId, TypeId),
+    Pair(TypeId, TypeId),
 }
 
 /// The types 0 to 4, which every sheet has.

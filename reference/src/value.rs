@@ -20,6 +20,7 @@ pub enum Value {
     Left(Box<Value>),
     Right(Box<Value>),
     Package(LabelId, Box<Value>),
+    Pair(Box<Value>, Box<Value>),
 }
 
 /// Why words aren't those of a value and zeros.
@@ -69,6 +70,11 @@ impl Value {
                 let (value, rest) = Value::decode_start(rest, labels)?;
                 Ok((Value::Package(label as usize, Box::new(value)), rest))
             }
+            [6, ref rest @ ..] => {
+                let (first, rest) = Value::decode_start(rest, labels)?;
+                let (second, rest) = Value::decode_start(rest, labels)?;
+                Ok((Value::Pair(Box::new(first), Box::new(second)), rest))
+            }
             [] | [1 | 2 | 5] => Err(BadWords::Cut),
             [word, ..] => Err(BadWords::Start(word)),
         }
@@ -83,6 +89,7 @@ impl Value {
             Value::Left(value) => after(&[3], value),
             Value::Right(value) => after(&[4], value),
             Value::Package(label, value) => after(&[5, *label as u32], value),
+            Value::Pair(first, second) => [&[6], &first.words()[..], &second.words()].concat(),
         }
     }
 
@@ -92,10 +99,12 @@ impl Value {
             Value::Integer(_) | Value::Error(_) => 2,
             Value::Left(value) | Value::Right(value) => 1 + value.length(),
             Value::Package(_, value) => 2 + value.length(),
+            Value::Pair(first, second) => 1 + first.length() + second.length(),
         }
     }
 
-    /// Whether the value has the type. A package's content may be any value.
+    /// Whether the value has the type, both parts of a pair too. A package's content may be any
+    /// value.
     pub fn has_type(&self, sheet: &Sheet, ty: TypeId) -> bool {
         match (self, sheet.types[ty]) {
             (Value::Integer(_), Type::Int) => true,
@@ -103,6 +112,9 @@ impl Value {
             (Value::Package(..), Type::Package) => true,
             (Value::Left(value), Type::Sum(left, _)) => value.has_type(sheet, left),
             (Value::Right(value), Type::Sum(_, right)) => value.has_type(sheet, right),
+            (Value::Pair(v1, v2), Type::Pair(first, second)) => {
+                v1.has_type(sheet, first) && v2.has_type(sheet, second)
+            }
             _ => false,
         }
     }
@@ -118,6 +130,7 @@ pub fn padded(mut words: Vec<u32>) -> Vec<u32> {
 #[cfg(test)]
 mod tests {
     use super::{padded, BadWords, Error, Value};
+    use crate::sheet_text;
 
     #[test]
     fn words_come_back() {
@@ -130,17 +143,50 @@ mod tests {
         assert_eq!(Value::decode(&padded(value.words()), 2), Err(BadWords::Label(2)));
     }
 
+    fn pair(first: Value, second: Value) -> Value {
+        Value::Pair(Box::new(first), Box::new(second))
+    }
+
+    #[test]
+    fn the_second_part_of_a_pair_follows_the_first() {
+        let inner = pair(Value::Package(1, Box::new(Value::Integer(7))), Value::Integer(0));
+        let value = pair(inner, Value::Left(Box::new(Value::Integer(9))));
+        assert_eq!(value.words(), [6, 6, 5, 1, 1, 7, 1, 0, 3, 1, 9]);
+        assert_eq!(value.length(), 11);
+        assert_eq!(Value::decode(&padded(value.words()), 2), Ok(value.clone()));
+        assert_eq!(Value::decode(&padded(value.words()), 1), Err(BadWords::Label(1)));
+    }
+
+    #[test]
+    fn both_parts_of_a_pair_have_their_types() {
+        let sheet = sheet_text::parse(b"P\t1\nQ\t0\t2\nQ\t5\t1\nL\n").expect("a sheet");
+        let package = Value::Package(0, Box::new(pair(Value::Integer(1), Value::Integer(2))));
+        let error = || Value::Error(Error::IllegalFlow);
+        let inner = |second| pair(Value::Integer(3), second);
+        assert!(pair(inner(package.clone()), error()).has_type(&sheet, 6));
+        assert!(!pair(inner(package.clone()), Value::Integer(2)).has_type(&sheet, 6));
+        assert!(!pair(inner(Value::Integer(2)), error()).has_type(&sheet, 6));
+        assert!(!inner(package.clone()).has_type(&sheet, 6));
+        assert!(!inner(package).has_type(&sheet, 3));
+        assert!(!Value::Left(Box::new(Value::Integer(3))).has_type(&sheet, 5));
+    }
+
     #[test]
     fn what_is_no_value() {
-        let wrong: [(&[u32], BadWords); 8] = [
+        let wrong: [(&[u32], BadWords); 13] = [
             (&[], BadWords::Start(0)),
             (&[2, 0], BadWords::ErrorCode(0)),
             (&[2, 4], BadWords::ErrorCode(4)),
-            (&[6, 1], BadWords::Start(6)),
+            (&[7, 1], BadWords::Start(7)),
             (&[3], BadWords::Start(0)),
             (&[5, 0], BadWords::Start(0)),
             (&[5, 1, 1, 7], BadWords::Label(1)),
             (&[1, 0, 1], BadWords::After(1)),
+            (&[6], BadWords::Start(0)),
+            (&[6, 1, 7], BadWords::Start(0)),
+            (&[6, 1, 7, 2, 4], BadWords::ErrorCode(4)),
+            (&[6, 1, 7, 5, 1, 1, 7], BadWords::Label(1)),
+            (&[6, 1, 7, 1, 8, 1, 9], BadWords::After(1)),
         ];
         for (start, why) in wrong {
             assert_eq!(Value::decode(&padded(start.to_vec()), 1), Err(why), "{start:?}");
@@ -152,5 +198,10 @@ mod tests {
         assert_eq!(Value::decode(&full, 1), Err(BadWords::Cut));
         full[14..].copy_from_slice(&[1, 9]);
         assert!(Value::decode(&full, 1).is_ok());
+        // four pairs of five integers, the last of them under two lefts; with three it is cut
+        let pairs = [6, 6, 6, 6, 1, 1, 1, 2, 1, 3, 1, 4, 3, 3, 1, 5];
+        assert_eq!(Value::decode(&pairs, 1).map(|value| value.length()), Ok(16));
+        let cut = [6, 6, 6, 6, 1, 1, 1, 2, 1, 3, 1, 4, 3, 3, 3, 1];
+        assert_eq!(Value::decode(&cut, 1), Err(BadWords::Cut));
     }
 }

@@ -16,6 +16,7 @@ enum Seen {
     Left(Box<Seen>),
     Right(Box<Seen>),
     Package(LabelId, Box<Seen>),
+    Pair(Box<Seen>, Box<Seen>),
 }
 
 impl Seen {
@@ -30,10 +31,11 @@ impl Seen {
                 Seen::Package(*label, inner(content))
             }
             Value::Package(label, _) => Seen::Package(*label, Box::new(Seen::Hidden)),
+            Value::Pair(first, second) => Seen::Pair(inner(first), inner(second)),
         }
     }
 
-    /// What is hidden is one zero word.
+    /// What is hidden is one zero word, and what comes next follows it.
     fn words(&self) -> Vec<u32> {
         let after = |start: &[u32], seen: &Seen| [start, &seen.words()].concat();
         match self {
@@ -43,6 +45,7 @@ impl Seen {
             Seen::Left(seen) => after(&[3], seen),
             Seen::Right(seen) => after(&[4], seen),
             Seen::Package(label, seen) => after(&[5, *label as u32], seen),
+            Seen::Pair(first, second) => [&[6], &first.words()[..], &second.words()].concat(),
         }
     }
 }
@@ -114,5 +117,23 @@ mod tests {
         assert_eq!(words(&sheet, &memory(), group(0)), [0; 64]);
         assert_eq!(left(&sheet, &memory(), group(0b01)), [0; 64]);
         assert_eq!(words(&sheet, &memory(), group(0b01)), blanked(&all));
+    }
+
+    /// Principal 0 alone reads label 1, and it alone writes label 2. The locations hold a package
+    /// beside an integer.
+    const PAIRS: &[u8] = b"P\t2\nQ\t2\t0\nL\nL\nO\t0\t0000\t0003\nL\nO\t0\t0003\t0000\n\
+        X\t5\t0\nX\t5\t2\nX\t5\t2\n";
+
+    #[test]
+    fn the_second_part_follows_a_hidden_content() {
+        let sheet = sheet_text::parse(PAIRS).expect("a sheet");
+        let pair = |first, second| Value::Pair(Box::new(first), Box::new(second));
+        let content = || pair(Value::Integer(7), Value::Integer(8));
+        let held = |label| pair(package(label, content()), Value::Integer(9));
+        let memory = [1, 1, 2].map(held).to_vec();
+        let (hidden, shown) = ([6, 5, 1, 0, 1, 9], [6, 5, 2, 6, 1, 7, 1, 8, 1, 9]);
+        let one = Principals::from_bits(0b10);
+        assert_eq!(words(&sheet, &memory, one), blanked(&[&hidden, &hidden, &shown]));
+        assert_eq!(left(&sheet, &memory, one), blanked(&[&[], &hidden, &shown]));
     }
 }

@@ -32,6 +32,9 @@ pub fn all() -> Vec<Workload> {
         long_loop(8, 6908),
         locations_64(),
         unpacks(),
+        pairs(),
+        pairs_64(),
+        unpacked_pairs(),
     ]
 }
 
@@ -234,9 +237,9 @@ fn long_loop(bits: usize, steps: u32) -> Workload {
     }
 }
 
-/// 16 principals, 32 labels and 64 locations of packages, each packed anew.
-fn locations_64() -> Workload {
-    let mut sheet = listed(&["P 16"]);
+/// A sheet of 16 principals, these types, 32 labels and 64 locations of a type.
+fn sheet_64(types: &[&str], ty: usize) -> Vec<String> {
+    let mut sheet = [listed(&["P 16"]), listed(types)].concat();
     for label in 0..32 {
         sheet.push("L".to_string());
         for owner in 0..16 {
@@ -244,11 +247,16 @@ fn locations_64() -> Workload {
             sheet.push(format!("O {owner} {:04x} {writers:04x}", 1 << (label % 16)));
         }
     }
-    sheet.extend((0..64).map(|x| format!("X 4 {}", x / 2)));
+    sheet.extend((0..64).map(|x| format!("X {ty} {}", x / 2)));
+    sheet
+}
+
+/// 16 principals, 32 labels and 64 locations of packages, each packed anew.
+fn locations_64() -> Workload {
     let packs = (0..64).map(|x| listed(&[&format!("= {x}"), &format!("k {}", x / 2), "i 1"]));
     Workload {
         name: "64-locations".to_string(),
-        sheet: text(&sheet),
+        sheet: text(&sheet_64(&[], 4)),
         script: text(&in_order(packs.collect())),
         memory: location(&[3, 5, 3, 3, 5, 7, 1, 8]).repeat(64),
         authority: 0xffff,
@@ -273,5 +281,59 @@ fn unpacks() -> Workload {
         group: 2,
         outcome: Outcome::done(161),
         again: Outcome::done(161),
+    }
+}
+
+/// A tally beside its number, counted up 57 times: 512 lines.
+fn pairs() -> Workload {
+    let count = listed(&["= 0", "p 5", "+", "f", "x 0", "i 1", "g", "x 0"]);
+    Workload {
+        name: "pairs".to_string(),
+        sheet: text(&listed(&["P 4", "Q 0 0", "L", "O 1 0004 000f", "X 5 0"])),
+        script: text(&in_order(vec![count; 57])),
+        memory: location(&[6, 1, 5, 1, 62]),
+        authority: 1,
+        budget: 1000,
+        group: 2,
+        outcome: Outcome::done(113),
+        again: Outcome::done(113),
+    }
+}
+
+/// 16 principals, 32 labels and 64 locations of a package beside an integer, each made anew of its
+/// parts. The group reads all but four, and in these the package but not the one inside it.
+fn pairs_64() -> Workload {
+    let remade = |x: usize| {
+        let read = format!("x {x}");
+        listed(&[&format!("= {x}"), "p 5", "f", &read, "g", &read])
+    };
+    Workload {
+        name: "64-pairs".to_string(),
+        sheet: text(&sheet_64(&["Q 2 0"], 5)),
+        script: text(&in_order((0..64).map(remade).collect())),
+        memory: location(&[6, 5, 3, 6, 5, 7, 3, 1, 8, 2, 3, 1, 62]).repeat(64),
+        authority: 0xffff,
+        budget: 1000,
+        group: 0xff7f,
+        outcome: Outcome::done(127),
+        again: Outcome::done(127),
+    }
+}
+
+/// 57 unpacks to a pair of pairs, each the guard of a case: 512 lines.
+fn unpacked_pairs() -> Workload {
+    let stored = listed(&["c", "x 0", "c", "u 7 1", "v 0", "s", "s", "s"]);
+    let types = ["P 4", "Q 0 3", "Q 5 5", "T 6 1"];
+    let rest = ["L", "L", "O 1 0004 000f", "X 4 0"];
+    Workload {
+        name: "unpacked-pairs".to_string(),
+        sheet: text(&listed(&[&types[..], &rest].concat())),
+        script: text(&in_order(vec![stored; 57])),
+        memory: location(&[3, 5, 0, 6, 6, 1, 8, 3, 1, 9, 6, 1, 8, 4, 1, 9]),
+        authority: 1,
+        budget: 1000,
+        group: 2,
+        outcome: Outcome::done(170),
+        again: Outcome::done(170),
     }
 }

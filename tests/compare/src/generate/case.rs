@@ -5,6 +5,7 @@ use super::script::{Script, Wrong};
 use super::{damage, memory, script, sheet};
 use reference::sheet::Sheet;
 use reference::sheet_text;
+use reference::types::{Type, INT};
 
 /// The arguments of a check, a run and a view.
 #[derive(Clone, Debug)]
@@ -48,6 +49,7 @@ pub fn undamaged(prng: &mut Prng, wrong: Wrong) -> (Case, Sheet) {
     match prng.below(50) {
         0 => lengthen(prng, &mut script),
         1 => nest(prng, &mut script.command),
+        2 => pair_up(prng, &sheet, &mut script),
         _ => (),
     }
     let script = script.text();
@@ -81,6 +83,26 @@ fn nest(prng: &mut Prng, lines: &mut Vec<String>) {
     }
 }
 
+/// Puts an integer of a script into pairs inside one another, a part of each of which is taken: as
+/// deep as the lines allow, where the sheet has a pair of integers.
+fn pair_up(prng: &mut Prng, sheet: &Sheet, script: &mut Script) {
+    let pair = sheet.types.iter().position(|ty| *ty == Type::Pair(INT, INT));
+    let integer = script.command.iter().position(|line| line.starts_with("i\t"));
+    let (Some(pair), Some(at)) = (pair, integer) else {
+        return;
+    };
+    let (mut before, mut after) = (Vec::new(), Vec::new());
+    let in_first = prng.pick(&[0, 50, 100]);
+    for _ in 0..512usize.saturating_sub(script.length()) / 3 {
+        let first = prng.chance(in_first);
+        let integer = format!("i\t{}", prng.integer());
+        before.extend([if first { "f" } else { "g" }.to_string(), format!("p\t{pair}")]);
+        if first { &mut after } else { &mut before }.push(integer);
+    }
+    script.command.splice(at + 1..at + 1, after);
+    script.command.splice(at..at, before);
+}
+
 /// A group of some of the first n principals.
 pub(super) fn group(prng: &mut Prng, n: usize) -> u16 {
     let everyone = u16::MAX >> (16 - n);
@@ -106,7 +128,7 @@ pub(super) fn budget(prng: &mut Prng, script: &[u8]) -> u32 {
 /// Damages at least one part of a case, and each of the others at times.
 fn damage_some(prng: &mut Prng, case: &mut Case, sheet: &Sheet) {
     let n = sheet.principals;
-    let sure = prng.below(7);
+    let sure = prng.pick(&[0, 1, 1, 2, 2, 3, 4, 5, 6]);
     for part in 0..7 {
         if part != sure && !prng.chance(12) {
             continue;

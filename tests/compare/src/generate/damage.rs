@@ -1,5 +1,6 @@
 //! Damage to texts, memories and the inputs of programs.
 
+use super::damage_pairs;
 use super::prng::Prng;
 use reference::value::MOST_WORDS;
 
@@ -17,6 +18,14 @@ const SHEET_LINES: &[&str] = &[
     "T\t4\t40",
     "T\t0",
     "T\t5\t5",
+    "Q\t0\t0",
+    "Q\t0\t1",
+    "Q\t2\t1",
+    "Q\t5\t5",
+    "Q\t4\t40",
+    "Q\t0",
+    "Q\t0\t1\t2",
+    "q\t0\t1",
     "L",
     "L\t",
     "O\t0\t0000\t0000",
@@ -76,6 +85,10 @@ const SCRIPT_LINES: &[&str] = &[
     "u\t4\t32",
     "u\t32\t0",
     "u\t4",
+    "p\t5",
+    "p\t32",
+    "f",
+    "g",
     "s\t",
     "S",
     "",
@@ -142,14 +155,16 @@ const FIELDS: &[&str] = &[
 ];
 
 pub fn sheet(prng: &mut Prng, text: &[u8]) -> Vec<u8> {
-    if prng.chance(25) {
-        repeated(prng, text)
-    } else {
-        damaged(prng, text, SHEET_LINES)
+    match prng.below(20) {
+        0..=4 => repeated(prng, text),
+        5 => damage_pairs::too_many_types(prng, text),
+        6..=8 => damage_pairs::type_line_changed(prng, text)
+            .unwrap_or_else(|| damaged(prng, text, SHEET_LINES)),
+        _ => damaged(prng, text, SHEET_LINES),
     }
 }
 
-/// A sheet with a sum or a label put in twice.
+/// A sheet with a type or a label put in twice.
 fn repeated(prng: &mut Prng, text: &[u8]) -> Vec<u8> {
     let mut blocks: Vec<Vec<u8>> = Vec::new();
     for line in text.split_inclusive(|&b| b == b'\n') {
@@ -158,8 +173,11 @@ fn repeated(prng: &mut Prng, text: &[u8]) -> Vec<u8> {
             _ => blocks.push(line.to_vec()),
         }
     }
-    let repeatable = |&i: &usize| matches!(blocks[i][0], b'T' | b'L');
-    let places: Vec<usize> = (0..blocks.len()).filter(repeatable).collect();
+    let repeatable = |&i: &usize| matches!(blocks[i][0], b'T' | b'Q' | b'L');
+    let mut places: Vec<usize> = (0..blocks.len()).filter(repeatable).collect();
+    if prng.chance(50) && places.iter().any(|&i| blocks[i][0] != b'L') {
+        places.retain(|&i| blocks[i][0] != b'L');
+    }
     if !places.is_empty() {
         let at = prng.pick(&places);
         blocks.insert(at, blocks[at].clone());
@@ -168,10 +186,11 @@ fn repeated(prng: &mut Prng, text: &[u8]) -> Vec<u8> {
 }
 
 pub fn script(prng: &mut Prng, text: &[u8]) -> Vec<u8> {
-    if prng.chance(35) {
-        opening(prng, text)
-    } else {
-        script_lines(prng, text)
+    match prng.below(20) {
+        0..=6 => opening(prng, text),
+        7..=13 => damage_pairs::script_line_changed(prng, text)
+            .unwrap_or_else(|| script_lines(prng, text)),
+        _ => script_lines(prng, text),
     }
 }
 
@@ -223,7 +242,7 @@ pub fn start_past_last(text: &[u8], labels: usize) -> Vec<u8> {
 }
 
 /// The lines of a text, each with its end.
-fn lines_of(text: &[u8]) -> Vec<Vec<u8>> {
+pub(super) fn lines_of(text: &[u8]) -> Vec<Vec<u8>> {
     text.split_inclusive(|&b| b == b'\n').map(<[u8]>::to_vec).collect()
 }
 
@@ -261,7 +280,7 @@ fn change_line(prng: &mut Prng, text: &[u8], replacements: &[&str]) -> Vec<u8> {
 }
 
 fn change_byte(prng: &mut Prng, mut text: Vec<u8>) -> Vec<u8> {
-    const BYTES: &[u8] = b"0123456789\t\n\r -+;=swcixvlrkubPTLOXafF\x00\xff";
+    const BYTES: &[u8] = b"0123456789\t\n\r -+;=swcixvlrkubpfgPTQLOXaF\x00\xff";
     let byte = prng.pick(BYTES);
     if text.is_empty() {
         return vec![byte];
@@ -278,11 +297,11 @@ fn change_byte(prng: &mut Prng, mut text: Vec<u8>) -> Vec<u8> {
     text
 }
 
-/// A memory with one location's words put at another, or a word or two changed, mostly near the
-/// start of a location.
+/// A memory with a pair damaged, one location's words put at another, or a word or two changed,
+/// mostly near the start of a location.
 pub fn memory(prng: &mut Prng, words: &[u32]) -> Vec<u32> {
     let mut words = words.to_vec();
-    if words.is_empty() {
+    if words.is_empty() || (prng.chance(60) && damage_pairs::memory(prng, &mut words)) {
         return words;
     }
     let locations = words.len() / MOST_WORDS;
@@ -295,7 +314,8 @@ pub fn memory(prng: &mut Prng, words: &[u32]) -> Vec<u32> {
     for _ in 0..prng.pick(&[1, 1, 2]) {
         let location = prng.below(locations);
         let place = if prng.chance(70) { prng.below(5) } else { prng.below(MOST_WORDS) };
-        words[location * MOST_WORDS + place] = prng.pick(&[0, 1, 2, 3, 4, 5, 6, 31, 32, u32::MAX]);
+        words[location * MOST_WORDS + place] =
+            prng.pick(&[0, 1, 2, 3, 4, 5, 6, 7, 31, 32, u32::MAX]);
     }
     words
 }

@@ -43,6 +43,9 @@ enum Form {
     Right,
     Pack,
     Unpack,
+    Pair,
+    First,
+    Second,
 }
 
 impl<'a> Writer<'a> {
@@ -68,7 +71,7 @@ impl Writer<'_> {
     pub fn expression(&mut self, ty: TypeId, limit: Option<&Label>, fuel: usize) -> Option<Label> {
         self.tries = self.tries.checked_sub(1)?;
         let wrong = self.prng.chance(self.wrong_types);
-        let ty = if wrong { self.prng.below(self.sheet.types.len()) } else { ty };
+        let ty = if wrong { self.other_type() } else { ty };
         let mut forms = self.forms(ty, fuel);
         self.prng.shuffle(&mut forms);
         let start = self.lines.len();
@@ -79,6 +82,16 @@ impl Writer<'_> {
             self.lines.truncate(start);
         }
         None
+    }
+
+    /// A type to be wrong with.
+    fn other_type(&mut self) -> TypeId {
+        let any = self.prng.below(self.sheet.types.len());
+        if self.prng.chance(50) {
+            self.pair_with(|_| true).unwrap_or(any)
+        } else {
+            any
+        }
     }
 
     /// The forms that can have a type, and where types may be wrong others too.
@@ -100,6 +113,12 @@ impl Writer<'_> {
         }
         if ty == PACKED {
             forms.extend([Form::Pack, Form::Pack, Form::Pack]);
+        }
+        if fuel > 1 && (wrong || self.sheet.pair_parts(ty).is_some()) {
+            forms.extend([Form::Pair, Form::Pair, Form::Pair]);
+        }
+        if fuel > 1 {
+            forms.extend([Form::First, Form::Second]);
         }
         forms
     }
@@ -137,7 +156,39 @@ impl Writer<'_> {
             }
             Form::Pack => self.pack(limit, fuel),
             Form::Unpack => self.unpack(ty, limit),
+            Form::Pair => {
+                let (first, second) = self.sheet.pair_parts(ty).unwrap_or((INT, INT));
+                self.target = None;
+                self.lines.push(format!("p\t{ty}"));
+                let label = self.expression(first, limit, fuel / 2)?;
+                Some(label.join(&self.expression(second, limit, fuel / 2)?))
+            }
+            Form::First => self.part("f", |(first, _)| first == ty, limit, fuel),
+            Form::Second => self.part("g", |(_, second)| second == ty, limit, fuel),
         }
+    }
+
+    /// A part of a pair with such parts; or of another type, where types may be wrong.
+    fn part(
+        &mut self,
+        line: &str,
+        fits: impl Fn((TypeId, TypeId)) -> bool,
+        limit: Option<&Label>,
+        fuel: usize,
+    ) -> Option<Label> {
+        let wrong = self.prng.chance(self.wrong_types);
+        let whole = if wrong { self.sum() } else { self.pair_with(fits)? };
+        self.target = None;
+        self.lines.push(line.to_string());
+        self.expression(whole, limit, fuel)
+    }
+
+    /// A pair type with such parts.
+    pub fn pair_with(&mut self, fits: impl Fn((TypeId, TypeId)) -> bool) -> Option<TypeId> {
+        let sheet = self.sheet;
+        let fits = |&ty: &TypeId| sheet.pair_parts(ty).is_some_and(&fits);
+        let pairs: Vec<TypeId> = (0..sheet.types.len()).filter(fits).collect();
+        self.choose(&pairs)
     }
 
     fn location(&mut self, ty: TypeId, passes: impl Fn(&Label) -> bool) -> Option<Label> {
@@ -181,9 +232,10 @@ impl Writer<'_> {
     fn pack(&mut self, limit: Option<&Label>, fuel: usize) -> Option<Label> {
         let label = self.label(|label| passes(&label.integrity(), limit))?;
         let packed = self.sheet.labels[label].clone();
-        let ty = match self.prng.below(4) {
+        let ty = match self.prng.below(5) {
             0 => PACKED,
             1 => self.prng.below(self.sheet.types.len()),
+            2 => self.pair_with(|_| true).unwrap_or(INT),
             _ => INT,
         };
         self.target = None;

@@ -7,9 +7,10 @@ use reference::value::{Error, Value, MOST_WORDS};
 
 /// Words for each location; a type without a value of 16 words gets zeros.
 pub fn memory(prng: &mut Prng, sheet: &Sheet) -> Vec<u32> {
+    let values = Values::of(sheet);
     let mut words = Vec::new();
     for location in &sheet.locations {
-        let value = typed(prng, sheet, location.ty, MOST_WORDS);
+        let value = values.typed(prng, location.ty, MOST_WORDS);
         let mut place = value.map_or(Vec::new(), |value| value.words());
         place.resize(MOST_WORDS, 0);
         words.extend(place);
@@ -17,26 +18,107 @@ pub fn memory(prng: &mut Prng, sheet: &Sheet) -> Vec<u32> {
     words
 }
 
-/// A value of a type in at most `room` words.
-pub fn typed(prng: &mut Prng, sheet: &Sheet, ty: TypeId, room: usize) -> Option<Value> {
-    if room < 2 {
-        return None;
+/// The fewest words of a value of each type.
+pub(super) fn least_words(types: &[Type]) -> Vec<usize> {
+    let mut least: Vec<usize> = Vec::new();
+    for ty in types {
+        least.push(match *ty {
+            Type::Int | Type::Error => 2,
+            Type::Package => 4,
+            Type::Sum(left, right) => 1 + least[left].min(least[right]),
+            Type::Pair(first, second) => 1 + least[first] + least[second],
+        });
     }
-    match sheet.types[ty] {
-        Type::Int => Some(Value::Integer(prng.integer())),
-        Type::Error => Some(Value::Error(error(prng))),
-        Type::Package => package(prng, sheet, room),
-        Type::Sum(left, right) => {
-            let left_first = prng.chance(50);
-            let on_left =
-                |prng: &mut Prng| Some(Value::Left(Box::new(typed(prng, sheet, left, room - 1)?)));
-            let on_right = |prng: &mut Prng| {
-                Some(Value::Right(Box::new(typed(prng, sheet, right, room - 1)?)))
-            };
-            if left_first {
-                on_left(prng).or_else(|| on_right(prng))
-            } else {
-                on_right(prng).or_else(|| on_left(prng))
+    least
+}
+
+/// The values of a sheet.
+pub struct Values<'a> {
+    sheet: &'a Sheet,
+    least: Vec<usize>,
+}
+
+impl Values<'_> {
+    pub fn of(sheet: &Sheet) -> Values<'_> {
+        Values { sheet, least: least_words(&sheet.types) }
+    }
+
+    /// A value of a type in at most `room` words.
+    pub fn typed(&self, prng: &mut Prng, ty: TypeId, room: usize) -> Option<Value> {
+        if self.least[ty] > room {
+            return None;
+        }
+        match self.sheet.types[ty] {
+            Type::Int => Some(Value::Integer(prng.integer())),
+            Type::Error => Some(Value::Error(error(prng))),
+            Type::Package => self.package(prng, room),
+            Type::Sum(left, right) => {
+                let fits = |part: TypeId| self.least[part] < room;
+                if fits(left) && (prng.chance(50) || !fits(right)) {
+                    Some(Value::Left(Box::new(self.typed(prng, left, room - 1)?)))
+                } else {
+                    Some(Value::Right(Box::new(self.typed(prng, right, room - 1)?)))
+                }
+            }
+            Type::Pair(first, second) => self.typed_pair(prng, [first, second], room - 1),
+        }
+    }
+
+    /// A pair whose parts have these types and at most `room` words together. Either part may be the
+    /// one that takes its room first.
+    fn typed_pair(&self, prng: &mut Prng, parts: [TypeId; 2], room: usize) -> Option<Value> {
+        let [mut one, mut other] = parts;
+        let swapped = prng.chance(50);
+        if swapped {
+            (one, other) = (other, one);
+        }
+        let one = self.typed(prng, one, room - self.least[other])?;
+        let other = self.typed(prng, other, room - one.length())?;
+        let (first, second) = if swapped { (other, one) } else { (one, other) };
+        Some(Value::Pair(Box::new(first), Box::new(second)))
+    }
+
+    fn package(&self, prng: &mut Prng, room: usize) -> Option<Value> {
+        if room < 4 || self.sheet.labels.is_empty() {
+            return None;
+        }
+        let label = prng.below(self.sheet.labels.len());
+        Some(Value::Package(label, Box::new(self.content(prng, room - 2))))
+    }
+
+    /// A package's content: a value of some type of the sheet, or any value at all.
+    pub fn content(&self, prng: &mut Prng, room: usize) -> Value {
+        let of_type = match prng.below(3) {
+            0 => None,
+            1 => {
+                let ty = prng.pick(&[0, 2, 3, 4]);
+                self.typed(prng, ty, room)
+            }
+            _ => {
+                let ty = prng.below(self.sheet.types.len());
+                self.typed(prng, ty, room)
+            }
+        };
+        of_type.unwrap_or_else(|| self.any(prng, room))
+    }
+
+    /// Any value in at most `room` words, at least 2.
+    fn any(&self, prng: &mut Prng, room: usize) -> Value {
+        let forms = match room {
+            2 => 2,
+            3 | 4 => 6,
+            _ => 8,
+        };
+        match prng.below(forms) {
+            0 => Value::Integer(prng.integer()),
+            1 => Value::Error(error(prng)),
+            2 | 3 => Value::Left(Box::new(self.any(prng, room - 1))),
+            4 => Value::Right(Box::new(self.any(prng, room - 1))),
+            5 => self.package(prng, room).unwrap_or(Value::Integer(room as u32)),
+            _ => {
+                let first = self.any(prng, room - 3);
+                let second = self.any(prng, room - 1 - first.length());
+                Value::Pair(Box::new(first), Box::new(second))
             }
         }
     }
@@ -44,39 +126,4 @@ pub fn typed(prng: &mut Prng, sheet: &Sheet, ty: TypeId, room: usize) -> Option<
 
 fn error(prng: &mut Prng) -> Error {
     prng.pick(&[Error::InsufficientAuth, Error::IllegalFlow, Error::TypeMismatch])
-}
-
-fn package(prng: &mut Prng, sheet: &Sheet, room: usize) -> Option<Value> {
-    if room < 4 || sheet.labels.is_empty() {
-        return None;
-    }
-    let label = prng.below(sheet.labels.len());
-    Some(Value::Package(label, Box::new(content(prng, sheet, room - 2))))
-}
-
-/// A package's content: a value of some type of the sheet, or any value at all.
-pub fn content(prng: &mut Prng, sheet: &Sheet, room: usize) -> Value {
-    let of_type = match prng.below(3) {
-        0 => None,
-        1 => {
-            let ty = prng.pick(&[0, 2, 3, 4]);
-            typed(prng, sheet, ty, room)
-        }
-        _ => {
-            let ty = prng.below(sheet.types.len());
-            typed(prng, sheet, ty, room)
-        }
-    };
-    of_type.unwrap_or_else(|| any(prng, sheet, room))
-}
-
-/// Any value in at most `room` words, at least 2.
-fn any(prng: &mut Prng, sheet: &Sheet, room: usize) -> Value {
-    match prng.below(if room > 2 { 6 } else { 2 }) {
-        0 => Value::Integer(prng.integer()),
-        1 => Value::Error(error(prng)),
-        2 | 3 => Value::Left(Box::new(any(prng, sheet, room - 1))),
-        4 => Value::Right(Box::new(any(prng, sheet, room - 1))),
-        _ => package(prng, sheet, room).unwrap_or(Value::Integer(room as u32)),
-    }
 }

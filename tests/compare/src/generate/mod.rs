@@ -3,12 +3,13 @@
 //! Where a sheet, script or memory is to be valid it is built along its meaning, so that acceptance
 //! is common; damage comes after.
 
+pub mod alike;
 pub mod case;
 pub mod damage;
+pub mod damage_pairs;
 pub mod expression;
 pub mod groups;
 pub mod memory;
-pub mod pair;
 pub mod prng;
 pub mod program_input;
 pub mod round;

@@ -162,16 +162,32 @@ impl Writer<'_> {
         if self.bound.len() == MOST_CASES {
             return false;
         }
-        let sums = (CHOICE..self.sheet.types.len()).collect::<Vec<TypeId>>();
-        let ty = if self.prng.chance(40) { PACKED } else { self.prng.pick(&sums) };
+        let ty = if self.prng.chance(40) { PACKED } else { self.sum() };
         self.line("c");
-        let Some(label) = self.found(ty, None, size.min(24)) else {
+        let guard = self.or_pair(ty);
+        let Some(label) = self.found(guard, None, size.min(24)) else {
             return false;
         };
         self.branches(surrounding, ty, &label, |writer, inside, _| {
             writer.command(inside, size / 2);
             true
         })
+    }
+
+    /// A type, or a pair in its place where types may be wrong.
+    fn or_pair(&mut self, ty: TypeId) -> TypeId {
+        if self.prng.chance(self.wrong_types) {
+            self.pair_with(|_| true).unwrap_or(ty)
+        } else {
+            ty
+        }
+    }
+
+    /// A sum of the sheet.
+    pub(super) fn sum(&mut self) -> TypeId {
+        let is_sum = |&ty: &TypeId| self.sheet.parts(ty).is_some();
+        let sums: Vec<TypeId> = (CHOICE..self.sheet.types.len()).filter(is_sum).collect();
+        self.prng.pick(&sums)
     }
 
     /// The two branches of a case whose expression has this type and label, each with its number and
@@ -196,7 +212,8 @@ impl Writer<'_> {
     /// A loop with any guard.
     fn while_any(&mut self, surrounding: &Label, size: usize) -> bool {
         self.line("w");
-        let Some(label) = self.found(CHOICE, None, 3) else {
+        let guard = self.or_pair(CHOICE);
+        let Some(label) = self.found(guard, None, 3) else {
             return false;
         };
         self.command(&surrounding.join(&label), size - 1);

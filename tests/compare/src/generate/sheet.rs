@@ -1,9 +1,11 @@
 //! Sheets without damage.
 
+use super::memory::least_words;
 use super::prng::Prng;
 use reference::label::{Label, Policy};
 use reference::principals::Principals;
-use reference::types::{ERROR, INT, PACKAGE, PACKED};
+use reference::types::{given, Type, CHOICE, ERROR, INT, PACKAGE, PACKED};
+use reference::value::MOST_WORDS;
 
 /// A policy with its sets as bits.
 #[derive(Clone, Copy, Debug)]
@@ -16,21 +18,19 @@ pub(super) struct Listed {
 /// What the lines of a sheet say.
 pub struct Plan {
     principals: usize,
-    sums: Vec<(usize, usize)>,
+    /// The given types and those of the lines.
+    types: Vec<Type>,
     labels: Vec<Vec<Listed>>,
     locations: Vec<(usize, usize)>,
 }
-
-/// Types 0 to 4 are given.
-const GIVEN: usize = 5;
 
 const MOST_LOCATIONS: usize = 64;
 
 impl Plan {
     pub fn text(&self) -> String {
         let mut text = format!("P\t{}\n", self.principals);
-        for (left, right) in &self.sums {
-            text += &format!("T\t{left}\t{right}\n");
+        for ty in &self.types[given().len()..] {
+            text += &type_line(*ty);
         }
         for policies in &self.labels {
             text += "L\n";
@@ -47,13 +47,8 @@ impl Plan {
     /// The same with a place for a package, one for what is packed and one for what is opened at each
     /// of the first labels, in any order, and no more locations than there may be.
     pub(super) fn with_packages(mut self, prng: &mut Prng) -> Plan {
-        let opened: Vec<usize> = self
-            .sums
-            .iter()
-            .enumerate()
-            .filter(|(_, sum)| sum.1 == ERROR)
-            .map(|(i, _)| GIVEN + i)
-            .collect();
+        let opens = |&ty: &usize| matches!(self.types[ty], Type::Sum(_, ERROR));
+        let opened: Vec<usize> = (given().len()..self.types.len()).filter(opens).collect();
         for label in 0..self.labels.len().min(6) {
             let opened = if opened.is_empty() { PACKED } else { prng.pick(&opened) };
             self.locations.extend([PACKAGE, PACKED, opened].map(|ty| (ty, label)));
@@ -61,6 +56,15 @@ impl Plan {
         prng.shuffle(&mut self.locations);
         self.locations.truncate(MOST_LOCATIONS);
         self
+    }
+}
+
+/// The line that makes a type.
+pub(super) fn type_line(ty: Type) -> String {
+    match ty {
+        Type::Sum(left, right) => format!("T\t{left}\t{right}\n"),
+        Type::Pair(first, second) => format!("Q\t{first}\t{second}\n"),
+        Type::Int | Type::Error | Type::Package => unreachable!("no line makes it"),
     }
 }
 
@@ -89,26 +93,66 @@ pub(super) fn plan_of(
     principals: usize,
     policies: fn(&mut Prng, usize) -> Vec<Listed>,
 ) -> Plan {
-    let sums = sums(prng);
+    let types = types(prng);
     let labels = labels(prng, principals, policies);
-    let locations = locations(prng, &sums, labels.len());
-    Plan { principals, sums, labels, locations }
+    let locations = locations(prng, &types, labels.len());
+    Plan { principals, types, labels, locations }
 }
 
-/// Different sums of earlier types, sometimes in one long chain.
-fn sums(prng: &mut Prng) -> Vec<(usize, usize)> {
+/// The given types, and different sums and pairs of earlier ones; sometimes one long chain, and
+/// sometimes without a pair.
+fn types(prng: &mut Prng) -> Vec<Type> {
+    let mut types = given();
     let chain = prng.chance(12);
-    let wanted = if chain { prng.between(13, 27) } else { count(prng, 5, 27) };
-    let mut sums = vec![(0, 0), (2, 1)];
-    for _ in 0..wanted * 4 {
-        let types = sums.len() + GIVEN - 2;
-        let left = if chain { types - 1 } else { prng.below(types) };
-        let right = if prng.chance(50) { ERROR } else { prng.below(types) };
-        if types < GIVEN + wanted && !sums.contains(&(left, right)) {
-            sums.push((left, right));
+    let lines = if chain { prng.between(13, 27) } else { count(prng, 7, 27) };
+    let wanted = types.len() + lines;
+    let pairs = prng.pick(if chain { &[0, 5, 20][..] } else { &[0, 30, 50, 70] });
+    for _ in 0..lines * 4 {
+        let ty = if chain {
+            let right = if prng.chance(50) { ERROR } else { prng.below(types.len()) };
+            made(prng, pairs, types.len() - 1, right)
+        } else {
+            next_type(prng, &types, pairs)
+        };
+        if types.len() < wanted && !types.contains(&ty) {
+            types.push(ty);
         }
     }
-    sums.split_off(2)
+    types
+}
+
+/// A pair in `pairs` of a hundred cases, else a sum.
+fn made(prng: &mut Prng, pairs: usize, a: usize, b: usize) -> Type {
+    if prng.chance(pairs) {
+        Type::Pair(a, b)
+    } else {
+        Type::Sum(a, b)
+    }
+}
+
+/// A type of earlier ones: a sum or pair with the parts of a pair or sum, what is unpacked to a pair,
+/// or any, of which pairs mostly have small parts.
+fn next_type(prng: &mut Prng, types: &[Type], pairs: usize) -> Type {
+    let newest = types.len() - 1;
+    if pairs > 0 && prng.chance(15) {
+        match types[prng.between(CHOICE, newest)] {
+            Type::Sum(a, b) => return Type::Pair(a, b),
+            Type::Pair(a, b) => return Type::Sum(a, b),
+            Type::Int | Type::Error | Type::Package => unreachable!("types 0 to 2 have no parts"),
+        }
+    }
+    if matches!(types[newest], Type::Pair(..)) && prng.chance(40) {
+        return Type::Sum(newest, ERROR);
+    }
+    let any = prng.below(types.len());
+    let (small, other) = (prng.pick(&[INT, INT, PACKAGE, CHOICE, PACKED]), prng.below(types.len()));
+    let error = prng.chance(50);
+    match made(prng, pairs, any, other) {
+        Type::Sum(left, _) if error => Type::Sum(left, ERROR),
+        Type::Pair(first, _) if error => Type::Pair(first, small),
+        Type::Pair(_, second) if prng.chance(50) => Type::Pair(small, second),
+        ty => ty,
+    }
 }
 
 /// Labels of different effective sets.
@@ -159,30 +203,29 @@ fn policies(prng: &mut Prng, n: usize) -> Vec<Listed> {
 }
 
 /// Locations, mostly of types that have a value of 16 words.
-fn locations(prng: &mut Prng, sums: &[(usize, usize)], labels: usize) -> Vec<(usize, usize)> {
+fn locations(prng: &mut Prng, types: &[Type], labels: usize) -> Vec<(usize, usize)> {
     if labels == 0 {
         return Vec::new();
     }
-    let least = least_words(sums);
+    let least = least_words(types);
+    let fits = |ty: &usize| least[*ty] <= MOST_WORDS;
+    let paired = |ty: &usize| match types[*ty] {
+        Type::Pair(..) => true,
+        Type::Sum(left, _) => matches!(types[left], Type::Pair(..)),
+        Type::Int | Type::Error | Type::Package => false,
+    };
+    let pairs: Vec<usize> = (0..types.len()).filter(fits).filter(paired).collect();
     let mut locations = Vec::new();
     for _ in 0..count(prng, 8, MOST_LOCATIONS) {
-        let ty = match prng.below(3) {
-            0 => prng.below(GIVEN + sums.len()),
+        let ty = match prng.below(4) {
+            0 => prng.below(types.len()),
             1 => prng.between(INT, PACKED),
+            2 if !pairs.is_empty() => prng.pick(&pairs),
             _ => prng.pick(&[0, 0, 2, 3, 3, 4, 4, 4]),
         };
-        if least[ty] <= 16 || prng.chance(2) {
+        if fits(&ty) || prng.chance(2) {
             locations.push((ty, prng.below(labels)));
         }
     }
     locations
-}
-
-/// The fewest words of a value of each type.
-fn least_words(sums: &[(usize, usize)]) -> Vec<usize> {
-    let mut least = vec![2, 2, 4, 3, 3];
-    for &(left, right) in sums {
-        least.push(1 + least[left].min(least[right]));
-    }
-    least
 }

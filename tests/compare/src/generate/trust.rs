@@ -10,7 +10,7 @@ use super::{damage, memory, script};
 use reference::label::Label;
 use reference::sheet::Sheet;
 use reference::sheet_text;
-use reference::types::{TypeId, CHOICE, ERROR, PACKED};
+use reference::types::{TypeId, ERROR, PACKED};
 
 /// Which unpacks of a script have operands by which it isn't trust-keeping.
 #[derive(Clone, Copy, PartialEq, Eq)]
@@ -131,6 +131,11 @@ fn unpacks(prng: &mut Prng, sheet: &Sheet, endorsed: Endorsed) -> Script {
     Script { start, command: writer.lines }
 }
 
+/// Whether a type is a sum with error on its right.
+fn opens(sheet: &Sheet, ty: TypeId) -> bool {
+    sheet.parts(ty).is_some_and(|(_, right)| right == ERROR)
+}
+
 /// Where an unpack stands.
 #[derive(Clone, Copy)]
 enum Place {
@@ -191,8 +196,7 @@ impl Writer<'_> {
                 self.case_of(surrounding, PACKED, inner, |writer| writer.found(PACKED, None, 4))
             }
             Place::Branch(number) => {
-                let sums: Vec<TypeId> = (CHOICE..self.sheet.types.len()).collect();
-                let ty = self.prng.pick(&sums);
+                let ty = self.sum();
                 let inner = Some((number, simple, operands));
                 self.case_of(surrounding, ty, inner, |writer| writer.found(ty, None, 4))
             }
@@ -200,29 +204,70 @@ impl Writer<'_> {
         }
     }
 
-    /// An unpack to a type, found within some tries.
+    /// An unpack to a type, found within some tries; at times inside a pair of which a part is taken.
     fn opened(&mut self, ty: TypeId, limit: Option<&Label>, operands: Operands) -> Option<Label> {
-        let (others, start) = (self.operands, self.lines.len());
-        self.operands = operands;
-        let opened = (0..6).find_map(|_| {
+        let start = self.lines.len();
+        (0..6).find_map(|_| {
             self.lines.truncate(start);
-            self.unpack(ty, limit)
-        });
+            if self.prng.chance(25) {
+                self.opened_in_pair(ty, limit, operands)
+            } else {
+                self.unpack_of(operands, ty, limit)
+            }
+        })
+    }
+
+    /// An unpack to a type whose operand is such.
+    fn unpack_of(
+        &mut self,
+        operands: Operands,
+        ty: TypeId,
+        limit: Option<&Label>,
+    ) -> Option<Label> {
+        let others = std::mem::replace(&mut self.operands, operands);
+        let label = self.unpack(ty, limit);
         self.operands = others;
-        opened
+        label
+    }
+
+    /// A part of a pair, with the unpack in the operand that is taken or, where that can be one, in
+    /// the other.
+    fn opened_in_pair(
+        &mut self,
+        ty: TypeId,
+        limit: Option<&Label>,
+        operands: Operands,
+    ) -> Option<Label> {
+        let second = self.prng.chance(50);
+        let taken = |(a, b): (TypeId, TypeId)| if second { b } else { a };
+        let whole = self.pair_with(|parts| taken(parts) == ty)?;
+        let (a, b) = self.sheet.pair_parts(whole)?;
+        let dropped = if second { a } else { b };
+        let in_dropped = opens(self.sheet, dropped) && self.prng.chance(50);
+        self.line(if second { "g" } else { "f" });
+        self.line(&format!("p\t{whole}"));
+        let mut label = Label::bottom(self.sheet.principals);
+        for (part, is_taken) in [(a, !second), (b, second)] {
+            let least = if is_taken != in_dropped {
+                self.unpack_of(operands, part, limit)?
+            } else {
+                self.found(part, limit, 3)?
+            };
+            label = label.join(&least);
+        }
+        Some(label)
     }
 
     /// A sum with error on its right.
     fn error_sum(&mut self) -> TypeId {
-        let fits = |&ty: &TypeId| self.sheet.parts(ty).is_some_and(|(_, right)| right == ERROR);
-        let sums: Vec<TypeId> = (PACKED..self.sheet.types.len()).filter(fits).collect();
+        let sums: Vec<TypeId> =
+            (PACKED..self.sheet.types.len()).filter(|&ty| opens(self.sheet, ty)).collect();
         self.prng.pick(&sums)
     }
 
     fn unpack_assigned(&mut self, surrounding: &Label, operands: Operands) -> bool {
         let sheet = self.sheet;
-        let opened = |ty| sheet.parts(ty).is_some_and(|(_, right)| right == ERROR);
-        let Some(target) = self.open_location(surrounding, opened) else {
+        let Some(target) = self.open_location(surrounding, |ty| opens(sheet, ty)) else {
             return false;
         };
         self.line(&format!("=\t{target}"));

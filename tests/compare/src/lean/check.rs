@@ -116,6 +116,19 @@ impl Checker<'_> {
                 }
                 (ty, Join::label(label))
             }
+            Row::Pair { ty, second } => {
+                let (on_first, on_second) = self.sheet.pair_parts(ty)?;
+                let label = self.expect(at + 1, on_first)?;
+                (ty, label.join(self.expect(second.into(), on_second)?))
+            }
+            Row::First => {
+                let Typed { ty, label } = self.expression(at + 1)?;
+                (self.sheet.pair_parts(ty)?.0, label)
+            }
+            Row::Second => {
+                let Typed { ty, label } = self.expression(at + 1)?;
+                (self.sheet.pair_parts(ty)?.1, label)
+            }
             _ => unreachable!("a command stands in no expression's place"),
         };
         Some(Typed { ty, label })

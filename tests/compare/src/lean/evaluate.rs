@@ -2,14 +2,19 @@
 
 use super::machine::Machine;
 use super::script::Row;
-use super::value::{has_type, Failure, Value, LEFT, PACKAGE, RIGHT};
+use super::value::{has_type, Failure, Value, LEFT, PACKAGE, PAIR, RIGHT};
 use reference::answer::Refusal;
 
 impl Machine<'_> {
     /// The value of the expression at a row.
     pub fn evaluate(&self, at: usize, value: &mut Value) -> Result<(), Refusal> {
         match self.rows[at] {
-            Row::Integer(_) | Row::Plus { .. } => *value = Value::integer(self.integer(at)),
+            Row::Integer(n) => *value = Value::integer(n),
+            Row::Plus { .. } => {
+                let mut sum = 0;
+                self.add(at, &mut sum)?;
+                *value = Value::integer(sum);
+            }
             Row::Location(location) => *value = self.cells[usize::from(location)],
             Row::Bound { depth } => *value = self.bound[usize::from(depth)],
             Row::Left { .. } => {
@@ -38,20 +43,46 @@ impl Machine<'_> {
                     }
                 }
             }
+            Row::Pair { second, .. } => {
+                self.evaluate(at + 1, value)?;
+                value.prefix([PAIR])?;
+                value.append(&self.apart(second.into())?)?;
+            }
+            Row::First => {
+                self.evaluate(at + 1, value)?;
+                value.keep_first();
+            }
+            Row::Second => {
+                self.evaluate(at + 1, value)?;
+                value.keep_second();
+            }
             _ => unreachable!("a command stands in no expression's place"),
         }
         Ok(())
     }
 
-    /// The integer that an expression of type int is.
-    fn integer(&self, at: usize) -> u32 {
-        match self.rows[at] {
+    /// Adds the integer that an expression of type int is.
+    fn add(&self, mut at: usize, sum: &mut u32) -> Result<(), Refusal> {
+        while let Row::Plus { second } = self.rows[at] {
+            self.add(at + 1, sum)?;
+            at = second.into();
+        }
+        let integer = match self.rows[at] {
             Row::Integer(n) => n,
             Row::Location(location) => self.cells[usize::from(location)].words[1],
             Row::Bound { depth } => self.bound[usize::from(depth)].words[1],
-            Row::Plus { second } => self.integer(at + 1).wrapping_add(self.integer(second.into())),
-            _ => unreachable!("no other expression is an integer"),
-        }
+            // a part of a pair, which may be too long
+            _ => self.apart(at)?.words[1],
+        };
+        *sum = sum.wrapping_add(integer);
+        Ok(())
+    }
+
+    /// The value of the expression at a row, apart from what is evaluated so far.
+    fn apart(&self, at: usize) -> Result<Value, Refusal> {
+        let mut value = Value::default();
+        self.evaluate(at, &mut value)?;
+        Ok(value)
     }
 
     /// Why a package can't be unpacked to the left of a type, at a label.

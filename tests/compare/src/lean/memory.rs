@@ -1,7 +1,7 @@
 //! Memories and views: 16 words for each location.
 
 use super::sheet::{Location, Sheet};
-use super::value::{has_type, shown_length, Value};
+use super::value::{has_type, hide, Value};
 use reference::answer::Refusal;
 
 /// The words of a location.
@@ -43,8 +43,11 @@ pub fn require_well_formed(sheet: &Sheet, memory: &[u32]) -> Result<(), Refusal>
 pub fn view(sheet: &Sheet, memory: &[u32], read: u32, view: &mut [u32]) {
     let cells = memory.chunks_exact(CELL).zip(view.chunks_exact_mut(CELL));
     for ((words, shown), location) in cells.zip(sheet.locations.iter()) {
-        let length = if read >> location.label & 1 == 1 { shown_length(words, read) } else { 0 };
-        shown[..length].copy_from_slice(&words[..length]);
-        shown[length..].fill(0);
+        if read >> location.label & 1 == 1 {
+            shown.copy_from_slice(words);
+            hide(shown, read);
+        } else {
+            shown.fill(0);
+        }
     }
 }

@@ -60,4 +60,10 @@ pub enum Row {
         ty: u8,
         label: u8,
     },
+    Pair {
+        ty: u8,
+        second: u16,
+    },
+    First,
+    Second,
 }

@@ -95,6 +95,9 @@ impl Parser<'_> {
                 let ty = self.reader.name(types)?;
                 Row::Unpack { ty, label: self.reader.name(labels)? }
             }
+            b'p' => Row::Pair { ty: self.reader.name(types)?, second: 0 },
+            b'f' => Row::First,
+            b'g' => Row::Second,
             _ => return None,
         };
         let at = self.line(row)?;
@@ -103,6 +106,11 @@ impl Parser<'_> {
             Row::Plus { .. } => {
                 self.expression(depth)?;
                 self.script[at] = Row::Plus { second: self.next() };
+                self.expression(depth)
+            }
+            Row::Pair { ty, .. } => {
+                self.expression(depth)?;
+                self.script[at] = Row::Pair { ty, second: self.next() };
                 self.expression(depth)
             }
             _ => self.expression(depth),

@@ -23,6 +23,7 @@ pub enum Type {
     Error,
     Package,
     Sum(u8, u8),
+    Pair(u8, u8),
 }
 
 #[derive(Clone, Copy)]
@@ -61,6 +62,14 @@ impl Sheet {
     pub fn parts(&self, ty: u8) -> Option<(u8, u8)> {
         match self.types[usize::from(ty)] {
             Type::Sum(left, right) => Some((left, right)),
+            _ => None,
+        }
+    }
+
+    /// The parts of a pair.
+    pub fn pair_parts(&self, ty: u8) -> Option<(u8, u8)> {
+        match self.types[usize::from(ty)] {
+            Type::Pair(first, second) => Some((first, second)),
             _ => None,
         }
     }

@@ -43,27 +43,44 @@ fn read_principals(reader: &mut Reader) -> Option<usize> {
     (principals > 0).then_some(principals)
 }
 
-/// Adds the given types and the sums, and tells whether two sums have the same parts.
+/// Adds the given types, the sums and the pairs, and tells whether two sums or two pairs have the
+/// same parts.
 fn read_types(reader: &mut Reader, sheet: &mut Sheet) -> Option<bool> {
     let given =
         [Type::Int, Type::Error, Type::Package, Type::Sum(INT, INT), Type::Sum(PACKAGE, ERROR)];
-    // Bit b for each sum of the type and b.
-    let mut made = [0u32; MOST_TYPES];
-    made[usize::from(INT)] = 1 << INT;
-    made[usize::from(PACKAGE)] = 1 << ERROR;
     for ty in given {
         sheet.types.push(ty)?;
     }
+    // Bit b for each sum, and for each pair, of the type and b.
+    let (mut sums, mut pairs) = ([0; MOST_TYPES], [0; MOST_TYPES]);
+    sums[usize::from(INT)] = 1 << INT;
+    sums[usize::from(PACKAGE)] = 1 << ERROR;
     let mut repeats = false;
-    while reader.take(b'T') {
-        let left = reader.name(sheet.types.len())?;
-        let right = reader.name(sheet.types.len())?;
-        reader.end_of_line()?;
-        sheet.types.push(Type::Sum(left, right))?;
-        let made = &mut made[usize::from(left)];
-        repeats |= *made >> right & 1 == 1;
-        *made |= 1 << right;
+    loop {
+        repeats |= if reader.take(b'T') {
+            read_type(reader, sheet, Type::Sum, &mut sums)?
+        } else if reader.take(b'Q') {
+            read_type(reader, sheet, Type::Pair, &mut pairs)?
+        } else {
+            return Some(repeats);
+        };
     }
+}
+
+/// Adds the type that a line makes of two, and tells whether its kind has made it before.
+fn read_type(
+    reader: &mut Reader,
+    sheet: &mut Sheet,
+    make: fn(u8, u8) -> Type,
+    made: &mut [u32; MOST_TYPES],
+) -> Option<bool> {
+    let a = reader.name(sheet.types.len())?;
+    let b = reader.name(sheet.types.len())?;
+    reader.end_of_line()?;
+    sheet.types.push(make(a, b))?;
+    let made = &mut made[usize::from(a)];
+    let repeats = *made >> b & 1 == 1;
+    *made |= 1 << b;
     Some(repeats)
 }
 

@@ -92,6 +92,12 @@ pub fn without_start(script: &[u8]) -> Option<&[u8]> {
     Some(&rest[end + 1..])
 }
 
+/// Whether a script makes a pair or takes a part of one.
+pub fn has_pairs(script: &[u8]) -> bool {
+    let of_pairs = |line: &[u8]| matches!(line, [b'p', b'\t', ..] | [b'f'] | [b'g']);
+    script.split(|&byte| byte == b'\n').any(of_pairs)
+}
+
 /// The lines before and after a command that stands in another.
 pub type Context = (Vec<&'static str>, Vec<&'static str>);
 

@@ -1,6 +1,6 @@
 //! The generator reaches every answer of every call that can give it.
 
-use crate::common::{case_count, groups_count, round_count, trust_count, without_start};
+use crate::common::{case_count, groups_count, has_pairs, round_count, trust_count, without_start};
 use compare::generate::case::case;
 use compare::generate::groups::{groups_case, GroupsCase};
 use compare::generate::program_input::sheet_and_scripts;
@@ -37,6 +37,7 @@ fn kind(words: &[u32]) -> &'static str {
         [4, 2, 3, ..] => "error 3",
         [3, ..] => "left",
         [4, ..] => "right",
+        [6, ..] => "pair",
         _ => "other",
     }
 }
@@ -70,7 +71,7 @@ fn generated_cases_reach_every_answer() {
     assert!(steps > cases && written * 5 > cases, "{steps} steps, {written} written");
     println!("values written: {values:?}");
     let rare = |kind| values.get(kind).is_none_or(|&count: &u64| count * 200 < cases);
-    let kinds = ["integer", "package", "error 1", "error 2", "error 3", "left", "right"];
+    let kinds = ["integer", "package", "error 1", "error 2", "error 3", "left", "right", "pair"];
     assert!(!kinds.into_iter().any(rare), "{values:?}");
 }
 
@@ -387,7 +388,12 @@ impl Unpacks {
         match &e.term {
             Term::Integer(_) | Term::Location(_) | Term::Bound(_) | Term::Value(_) => (),
             Term::Plus(e1, e2) => [e1, e2].into_iter().for_each(|e| self.expression(e)),
+            Term::Pair(_, e1, e2) => {
+                self.within("a first operand", |unpacks| unpacks.expression(e1));
+                self.within("a second operand", |unpacks| unpacks.expression(e2));
+            }
             Term::Left(_, operand) | Term::Right(_, operand) => self.expression(operand),
+            Term::First(operand) | Term::Second(operand) => self.expression(operand),
             Term::Pack(_, operand) => self.within("a pack", |unpacks| unpacks.expression(operand)),
             Term::Unpack(_, _, operand) => {
                 let bound = matches!(operand.term, Term::Bound(_));
@@ -429,11 +435,14 @@ fn by_its_unpacks(command: &Command, endorsing: &[usize]) -> Vec<&'static str> {
 #[test]
 fn generated_calls_for_trust_reach_every_answer() {
     let calls = trust_count().min(20_000);
-    let (mut answers, mut ends) = (Counts::new(), BTreeMap::<&str, u64>::new());
+    let (mut answers, mut paired) = (Counts::new(), Counts::new());
+    let mut ends = BTreeMap::<&str, u64>::new();
     for seed in 0..calls {
         let case = trust_case(seed);
         let trust = try_trust(&case.sheet, &case.script);
-        *answers.entry(trust.as_ref().err().map_or(DONE, Reason::number)).or_default() += 1;
+        let answer = trust.as_ref().err().map_or(DONE, Reason::number);
+        *answers.entry(answer).or_default() += 1;
+        *paired.entry(answer).or_default() += u64::from(has_pairs(&case.script));
         let Ok(endorsements) = trust else {
             continue;
         };
@@ -444,6 +453,7 @@ fn generated_calls_for_trust_reach_every_answer() {
         }
     }
     assert_reached("trust", &answers, &[0, 1, 2, 4, 5, 6], calls, 100);
+    assert_reached("trust, with pairs", &paired, &[0, 1, 2, 4, 5, 6], calls, 400);
     println!("{ends:?}");
     let often = |end: &str, rare| ends.get(end).is_some_and(|&count| count * rare >= calls);
     let main = ["keeping, several unpacks", "not keeping by one of several"];
@@ -453,4 +463,6 @@ fn generated_calls_for_trust_reach_every_answer() {
     let places = ["a case's expression", "a left branch", "a right branch", "a loop", "a pack"];
     let all = others.iter().chain(&order).chain(&places).chain(&["of a bound value"]);
     assert!(all.into_iter().all(|end| often(end, 80)), "{ends:?}");
+    let in_pairs = ["a first operand", "a second operand"];
+    assert!(in_pairs.iter().all(|end| often(end, 500)), "{ends:?}");
 }

@@ -1,6 +1,6 @@
 //! Texts that mean to mislead a reader, on every implementation.
 
-use crate::common::{memory, sheet, start, text, untrusted};
+use crate::common::{lines, memory, repeated, sheet, start, text, text_of, untrusted};
 use compare::implementation::ALL;
 use reference::text::{Cause, Fault};
 use reference::{script_text, sheet_text, Groups, Outcome, Trust};
@@ -49,6 +49,15 @@ fn sheets_and_why_they_are_refused() {
         (b"P\t3\nT\t0\n", 2, "FieldCount"),
         (b"P\t3\nT\t0\t1\t2\n", 2, "FieldCount"),
         (b"P\t3\nT\t5\t0\n", 2, "Missing EarlierType"),
+        (b"P\t3\nQ\t0\n", 2, "FieldCount"),
+        (b"P\t3\nQ\t0\t1\t2\n", 2, "FieldCount"),
+        (b"P\t3\nQ\t5\t0\n", 2, "Missing EarlierType"),
+        (b"P\t3\nT\t0\t1\nQ\t0\t6\n", 3, "Missing EarlierType"),
+        (b"P\t3\nQ\t0\t1\nT\t6\t0\n", 3, "Missing EarlierType"),
+        (b"P\t3\nQ\t0\t01\n", 2, "Number"),
+        (b"P\t3\nq\t0\t1\n", 2, "LineKind"),
+        (b"P\t3\nL\nQ\t0\t1\n", 3, "LineKind"),
+        (b"P\t3\nL\nX\t0\t0\nQ\t0\t1\n", 4, "LineKind"),
         (b"P\t3\nL\nT\t0\t1\n", 3, "LineKind"),
         (b"P\t3\nO\t0\t0000\t0000\n", 2, "LineKind"),
         (b"P\t3\nL\nX\t0\t0\nO\t0\t0000\t0000\n", 4, "LineKind"),
@@ -120,6 +129,18 @@ fn scripts_and_why_they_are_refused() {
         (b"=\t3\nu\t5\nx\t0\n", 2, "FieldCount"),
         (b"=\t3\nu\t6\t0\nx\t0\n", 2, "Missing Type"),
         (b"=\t3\nu\t5\t3\nx\t0\n", 2, "Missing Label"),
+        (b"=\t3\np\nx\t0\nx\t0\n", 2, "FieldCount"),
+        (b"=\t3\np\t5\t0\nx\t0\nx\t0\n", 2, "FieldCount"),
+        (b"=\t3\np\t6\nx\t0\nx\t0\n", 2, "Missing Type"),
+        (b"=\t3\np\t4294967296\nx\t0\nx\t0\n", 2, "Number"),
+        (b"=\t3\np\t5\nx\t0\n", 2, "Ends"),
+        (b"=\t3\np\t5\nx\t0\ns\n", 4, "LineKind"),
+        (b"=\t3\np\t5\nx\t0\nx\t0\nx\t0\n", 5, "LeftOver"),
+        (b"=\t0\nf\n", 2, "Ends"),
+        (b"=\t0\nf\t5\nx\t0\n", 2, "FieldCount"),
+        (b"=\t0\ng\t5\nx\t0\n", 2, "FieldCount"),
+        (b"=\t0\nF\nx\t0\n", 2, "LineKind"),
+        (b"p\t5\nx\t0\nx\t0\n", 1, "LineKind"),
         (b"w\ni\t1\n", 1, "Ends"),
         (b"w\ns\ns\n", 2, "LineKind"),
         (b"c\nx\t2\ns\n", 1, "Ends"),
@@ -231,6 +252,84 @@ fn the_deepest_scripts() {
             let mut words = start();
             let ran = (i.run)(&sheet(), script, &mut words, authority, budget);
             assert_eq!((ran, words), (outcome, after.clone()), "{}: {shown} {budget}", i.name);
+        }
+    }
+}
+
+#[test]
+fn the_deepest_pairs() {
+    let sheet = text(&["P 1", "Q 0 0", "L", "X 0 0", "X 5 0"]);
+    let deep = |lines: &str, count: usize| {
+        let lines: String = lines.split(',').map(|line| format!("{line}\n")).collect();
+        lines.replace(' ', "\t").repeat(count)
+    };
+    let script = |parts: &[(&str, usize)]| -> String {
+        parts.iter().map(|(lines, count)| deep(lines, *count)).collect()
+    };
+    let in_first = script(&[("= 0", 1), ("f,p 5", 170), ("i 8", 1), ("i 2", 170)]);
+    let in_second = script(&[("= 0", 1), ("g,p 5,i 2", 170), ("i 8", 1)]);
+    let in_both = script(&[("= 0", 1), ("f,p 5,g,p 5,i 2", 85), ("i 8", 1), ("i 2", 85)]);
+    let added = script(&[("= 0", 1), ("f,p 5,+", 101), ("i 0", 1), ("i 1,i 2", 101)]);
+    // a script, the answer of its check, and the integer that it leaves at location 0
+    let table = [
+        (in_first.clone(), 0, 8),
+        (in_second.clone(), 0, 8),
+        (in_both, 0, 8),
+        (added, 0, 101),
+        (deep("b 0", 1) + &in_first, 4, 7),
+        (deep("b 0", 1) + &in_second, 4, 7),
+        (script(&[("= 1", 1), ("p 5", 255), ("i 1", 256)]), 5, 7),
+        (script(&[("= 1", 1), ("p 5,i 1", 255), ("i 1", 1)]), 5, 7),
+        (script(&[("= 0", 1), ("f", 510), ("x 1", 1)]), 5, 7),
+        (script(&[("= 0", 1), ("g", 510), ("x 1", 1)]), 5, 7),
+        (script(&[("= 0", 1), ("f", 511), ("x 1", 1)]), 4, 7),
+        (script(&[("= 1", 1), ("p 5", 511)]), 4, 7),
+        (script(&[("= 1", 1), ("p 5,i 1", 255), ("p 5", 1)]), 4, 7),
+        (script(&[("= 0", 1), ("f", 511)]), 4, 7),
+        (deep("p 5", 512), 4, 7),
+    ];
+    for (script, answer, left) in table {
+        let (script, shown) = (script.as_bytes(), script[..20].escape_debug().to_string());
+        for i in ALL {
+            let trust = Trust { answer, keeping: u8::from(answer == 0) };
+            assert_eq!((i.trust)(&sheet, script), trust, "{}: {shown}", i.name);
+            let mut words = memory(&[&[1, 7], &[6, 1, 3, 1, 4]]);
+            let ran = (i.run)(&sheet, script, &mut words, 1, 1);
+            let outcome = Outcome { answer, steps: u32::from(answer == 0) };
+            let after = memory(&[&[1, left], &[6, 1, 3, 1, 4]]);
+            assert_eq!((ran, words), (outcome, after), "{}: {shown}", i.name);
+        }
+    }
+}
+
+/// Pairs inside one another, as deep as types can be: those of more than four levels are too long.
+#[test]
+fn the_deepest_types() {
+    for in_first in [true, false] {
+        let made = |ty: usize| match (ty, in_first) {
+            (5, _) => "Q 0 0".to_string(),
+            (_, true) => format!("Q {} 0", ty - 1),
+            (_, false) => format!("Q 0 {}", ty - 1),
+        };
+        let types: Vec<String> = (5..32).map(made).collect();
+        let sheet = text_of(&[&lines(&["P 1"]), &types, &lines(&["L", "X 4 0"])]);
+        for depth in 1..=27 {
+            let pairs = (5..5 + depth).rev().map(|ty| format!("p {ty}"));
+            let pair: Vec<String> = if in_first {
+                pairs.chain(repeated("i 1", depth + 1)).collect()
+            } else {
+                pairs.flat_map(|line| [line, "i 1".to_string()]).chain(lines(&["i 1"])).collect()
+            };
+            let script = text_of(&[&lines(&["= 0", "k 0"]), &pair]);
+            // the pack fails for nobody, so that the pair alone can be too long
+            let (answer, steps, left) = if depth <= 4 { (0, 1, 1) } else { (10, 0, 3) };
+            for i in ALL {
+                let mut words = memory(&[&[4, 2, 3]]);
+                assert_eq!((i.check)(&sheet, &script), 0, "{}: {depth}", i.name);
+                let ran = (i.run)(&sheet, &script, &mut words, 0, 9);
+                let expected = (Outcome { answer, steps }, memory(&[&[4, 2, left]]));
+                assert_eq!((ran, words), expected, "{}: {depth}", i.name);
+            }
         }
     }
 }

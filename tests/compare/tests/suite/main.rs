@@ -10,6 +10,9 @@ mod fenced;
 mod groups;
 mod hostile;
 mod noninterference;
+mod pair_values;
+mod paired;
+mod pairs;
 #[cfg(feature = "programs")]
 mod program;
 mod refusals;

@@ -1,6 +1,6 @@
 //! Demand 1 on generated cases: a refused call leaves every lent slice as it was.
 
-use crate::common::{case_count, groups_count, round_count};
+use crate::common::{case_count, groups_count, has_pairs, round_count};
 use crate::fenced::Fenced;
 use compare::generate::case::case;
 use compare::generate::groups::groups_case;
@@ -11,7 +11,7 @@ use std::collections::BTreeSet;
 
 #[test]
 fn a_refused_call_leaves_its_slices_untouched() {
-    let (mut runs, mut views) = (BTreeSet::new(), BTreeSet::new());
+    let (mut runs, mut paired, mut views) = (BTreeSet::new(), BTreeSet::new(), BTreeSet::new());
     for seed in 0..case_count() {
         let case = case(seed);
         let mut memory = Fenced::new(&case.memory);
@@ -25,6 +25,7 @@ fn a_refused_call_leaves_its_slices_untouched() {
         assert!(memory.is_intact(), "seed {seed}");
         if outcome.answer != DONE {
             runs.insert(outcome.answer);
+            paired.extend(has_pairs(&case.script).then_some(outcome.answer));
             assert_eq!(memory.words(), case.memory, "seed {seed}");
         }
         match outcome.answer {
@@ -45,6 +46,7 @@ fn a_refused_call_leaves_its_slices_untouched() {
             assert_eq!(view.words(), before, "seed {seed}");
         }
     }
+    assert_eq!(runs, paired, "every number comes with pairs too");
     assert_eq!(runs.into_iter().collect::<Vec<u8>>(), [1, 2, 3, 4, 5, 6, 7, 8, 9, 10]);
     assert_eq!(views.into_iter().collect::<Vec<u8>>(), [1, 2, 3, 7, 8]);
 }
@@ -65,7 +67,7 @@ fn assert_places(round: &Round, count: usize, budget: u32, seed: u64) {
 
 #[test]
 fn a_refused_round_leaves_its_memory_and_has_zeros_in_every_place() {
-    let (mut refused, mut stopped) = (BTreeSet::new(), 0);
+    let (mut refused, mut paired, mut stopped) = (BTreeSet::new(), BTreeSet::new(), 0);
     for seed in 0..round_count() {
         let case = round_case(seed);
         let mut memory = Fenced::new(&case.memory);
@@ -75,6 +77,7 @@ fn a_refused_round_leaves_its_memory_and_has_zeros_in_every_place() {
         let count = parts(scripts).len();
         if round.answer != DONE {
             refused.insert(round.answer);
+            paired.extend(has_pairs(scripts).then_some(round.answer));
             assert_eq!(round, Round::empty(round.answer), "seed {seed}");
             assert_eq!(memory.words(), case.memory, "seed {seed}");
         } else {
@@ -85,6 +88,7 @@ fn a_refused_round_leaves_its_memory_and_has_zeros_in_every_place() {
             }
         }
     }
+    assert_eq!(refused, paired, "every number comes with pairs too");
     assert_eq!(refused.into_iter().collect::<Vec<u8>>(), [1, 2, 3, 4, 5, 6, 7, 8, 11]);
     assert!(stopped * 100 > round_count(), "{stopped} rounds without a script that was done");
 }

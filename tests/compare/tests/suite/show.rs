@@ -13,6 +13,18 @@ fn input(sheet: &[u8], memory: &[&str], group: &str) -> Vec<u8> {
 
 const PACKED: &[&str] = &["1 5", "1 62", "3 5 2 1 62", "4 2 1"];
 
+/// An input of show whose locations are a pkg*int and two int*pkg. Principal 0 alone reads label 1.
+fn paired(memory: &[&str], group: &str) -> Vec<u8> {
+    let locations = ["X 5 0", "X 6 0", "X 6 0"];
+    let lines = [&["P 2", "Q 2 0", "Q 0 2", "L", "L", "O 0 0000 0003"], &locations[..]].concat();
+    input(&text(&lines), memory, group)
+}
+
+/// The last ends in integer 0 inside a package of label 0.
+const PAIRS: &[&str] = &["6 5 1 1 62 1 7", "6 1 7 5 1 1 62", "6 1 0 5 0 1"];
+const SIXTEEN: &str = "6 5 1 3 3 3 3 3 3 3 3 3 1 62 1 7";
+const SEVENTEEN: &str = "6 5 1 3 3 3 3 3 3 3 3 3 3 1 62 1 7";
+
 /// Inputs and what show prints for them.
 fn table() -> Vec<(Vec<u8>, Vec<u8>)> {
     let good = |memory: &[&str], group: &str| input(&sheet(), memory, group);
@@ -51,6 +63,22 @@ fn table() -> Vec<(Vec<u8>, Vec<u8>)> {
         prints(good(&["1 5"; 5000], &"0".repeat(20_000)), &["3"]),
         prints(good(PACKED, &"0001\n".repeat(5000)), &["3"]),
         prints(b"P\t1\n\n\n0003\n".to_vec(), &["3"]),
+        prints(paired(PAIRS, "0001\n"), PAIRS),
+        prints(paired(PAIRS, "0002\n"), &["6 5 1 0 1 7", "6 1 7 5 1", PAIRS[2]]),
+        prints(paired(PAIRS, "0000\n"), &["", "", ""]),
+        prints(paired(&["6 5 1 1", PAIRS[1], PAIRS[2]], "0001\n"), &["8"]),
+        prints(paired(&["6 5 1 1 62", PAIRS[1], PAIRS[2]], "0001\n"), &["8"]),
+        prints(paired(&["6 5 1 1 62 2 7", PAIRS[1], PAIRS[2]], "0001\n"), &["8"]),
+        prints(paired(&[PAIRS[0], "6 1 7 5 2 1 62", PAIRS[2]], "0001\n"), &["8"]),
+        prints(paired(&[PAIRS[0], PAIRS[1], "6 1 0 5 0 1 0"], "0001\n"), &["8"]),
+        prints(
+            paired(&[SIXTEEN, PAIRS[1], PAIRS[2]], "0002\n"),
+            &["6 5 1 0 1 7", "6 1 7 5 1", PAIRS[2]],
+        ),
+        prints(paired(&[&format!("{SIXTEEN} 1"), PAIRS[1], PAIRS[2]], "0002\n"), &["8"]),
+        prints(paired(&[SEVENTEEN, PAIRS[1], PAIRS[2]], "0002\n"), &["8"]),
+        prints(input(b"P\t1\nQ\t0\t0\nQ\t0\t0\n", &[], "0001\n"), &["2"]),
+        prints(input(b"P\t1\nQ\t0\t5\n", &[], "0001\n"), &["1"]),
     ]
 }
 
@@ -71,12 +99,15 @@ const SEEDS: std::ops::Range<u64> = 0..1000;
 
 #[test]
 fn generated_inputs_reach_every_answer() {
-    let mut counts = BTreeMap::new();
+    let (mut counts, mut pairs) = (BTreeMap::new(), 0);
     for seed in SEEDS {
-        let answer = answer(&show_input(seed)).err().map_or(DONE, Refusal::number);
-        *counts.entry(answer).or_insert(0) += 1;
+        let shown = answer(&show_input(seed));
+        let paired = |words: &[u32]| words.chunks(16).any(|location| location[0] == 6);
+        pairs += usize::from(shown.as_deref().is_ok_and(paired));
+        *counts.entry(shown.err().map_or(DONE, Refusal::number)).or_insert(0) += 1;
     }
-    println!("show: {counts:?}");
+    println!("show: {counts:?}, {pairs} with pairs");
+    assert!(pairs >= 100, "{pairs}");
     assert_eq!(counts.keys().copied().collect::<Vec<u8>>(), [0, 1, 2, 3, 8]);
     assert!(counts.values().all(|&count| count >= 10), "{counts:?}");
 }

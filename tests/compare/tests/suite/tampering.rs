@@ -5,7 +5,7 @@
 
 use crate::common::{case_count, memory, round_count, text, ENDORSING, KEEPING};
 use crate::twice::{Shown, Twice};
-use compare::generate::pair::tampered;
+use compare::generate::alike::tampered;
 use compare::generate::prng::Prng;
 use compare::generate::round::RoundCase;
 use compare::generate::trust::{self, Endorsed};
@@ -70,6 +70,8 @@ fn assert_shown(i: &Implementation, shown: &Shown, calls: u64) {
     assert!(shown.changed * 10 > compared, "{}: {shown:?}", i.name);
     assert!(shown.stepped * 100 > compared, "{}: {shown:?}", i.name);
     assert!(shown.started * 40 > compared, "{}: {shown:?}", i.name);
+    assert!(shown.paired * 10 > compared, "{}: {shown:?}", i.name);
+    assert!(shown.changed_by_pairs * 30 > compared, "{}: {shown:?}", i.name);
 }
 
 #[test]

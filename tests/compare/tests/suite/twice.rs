@@ -1,6 +1,7 @@
 //! One call from two memories that are alike in what is seen of them, each with a budget of its own:
 //! where both are done, the memories that they leave are alike in it too.
 
+use crate::common::has_pairs;
 use compare::generate::prng::Prng;
 use compare::generate::round::RoundCase;
 use compare::implementation::Implementation;
@@ -84,11 +85,13 @@ pub struct Shown {
     pub several: u64,
     /// those from different memories,
     pub differ: u64,
-    /// and of these those that write, those that write and have a script with a `b` line, those that
-    /// change what is seen, and those that take other steps.
+    /// and of these those that write, those that write and have a script with a `b` line or with
+    /// pairs, those that change what is seen, with pairs too, and those that take other steps.
     pub written: u64,
     pub started: u64,
+    pub paired: u64,
     pub changed: u64,
+    pub changed_by_pairs: u64,
     pub stepped: u64,
 }
 
@@ -112,13 +115,16 @@ impl Shown {
         self.compared += 1;
         let scripts = parts(&twice.case.scripts);
         let starts = scripts.iter().any(|script| script.text.starts_with(b"b\t"));
+        let paired = has_pairs(&twice.case.scripts);
         let differ = first != other;
         let writes = differ && (after_first != first || after_other != other);
         self.several += u64::from(scripts.len() > 1);
         self.differ += u64::from(differ);
         self.written += u64::from(writes);
         self.started += u64::from(writes && starts);
+        self.paired += u64::from(writes && paired);
         self.changed += u64::from(differ && after != before);
+        self.changed_by_pairs += u64::from(differ && paired && after != before);
         self.stepped += u64::from(differ && steps != other_steps);
     }
 }

@@ -3,7 +3,7 @@
 //! scripts, before and after the round. On generated cases, for the groups of their sheets, on
 //! every implementation.
 
-use crate::common::{case_count, round_count, without_start};
+use crate::common::{case_count, has_pairs, round_count, without_start};
 use compare::generate::case::{undamaged, Case};
 use compare::generate::prng::Prng;
 use compare::generate::round::{self, RoundCase};
@@ -84,6 +84,8 @@ struct Shown {
     /// Runs of these that change the memory, and the groups that look on.
     written: u64,
     looks: u64,
+    /// Those of them whose script has pairs.
+    paired: u64,
     /// Runs that change what some other group sees.
     seen: u64,
 }
@@ -104,6 +106,7 @@ impl Shown {
             if memory != case.memory {
                 self.written += 1;
                 self.looks += members(blind);
+                self.paired += u64::from(has_pairs(&case.script));
                 let group = [case.group];
                 let seen = tell(i, &case.sheet, &group, &case.memory, &memory);
                 self.seen += seen.len() as u64;
@@ -133,7 +136,7 @@ fn who_cannot_read_the_start_sees_no_run() {
     let answers: Vec<u8> = shown.answers.keys().copied().collect();
     assert_eq!(answers, [0, 3, 7, 8, 9, 10]);
     assert!(shown.written * 6 > cases && shown.looks > cases, "{shown:?}");
-    assert!(shown.seen * 20 > cases, "{shown:?}");
+    assert!(shown.paired * 20 > cases && shown.seen * 20 > cases, "{shown:?}");
 }
 
 /// The groups can tell: scripts that are refused for their start alone, and run without it, show
@@ -187,7 +190,7 @@ fn starts(sheet: &Sheet, scripts: &[u8]) -> Option<Vec<Label>> {
 #[test]
 fn who_can_read_none_of_the_starts_sees_no_round() {
     let rounds = round_count() / 2;
-    let (mut blinded, mut written, mut several, mut stopped) = (0, 0, 0, 0);
+    let (mut blinded, mut written, mut paired, mut several, mut stopped) = (0, 0, 0, 0, 0);
     for seed in 0..rounds {
         let prng = &mut Prng::new(seed);
         let Some((case, sheet)) = round_and_sheet(seed) else {
@@ -208,12 +211,13 @@ fn who_can_read_none_of_the_starts_sees_no_round() {
                 let writes = memory != case.memory;
                 blinded += 1;
                 written += u64::from(writes);
+                paired += u64::from(writes && has_pairs(&case.scripts));
                 several += u64::from(writes && starts.len() > 1);
                 stopped += u64::from(writes && round.answers.iter().any(|&a| a != DONE));
             }
         }
     }
-    println!("{blinded} rounds, {written} write, {several} of several, {stopped} with a stop");
+    println!("{blinded} rounds, {written} write, {paired} with pairs, {several} of several, {stopped} with a stop");
     assert!(written * 20 > rounds && several * 40 > rounds, "{written}, {several} of {rounds}");
-    assert!(stopped * 100 > rounds, "{stopped} of {rounds}");
+    assert!(stopped * 100 > rounds && paired * 40 > rounds, "{stopped}, {paired} of {rounds}");
 }

@@ -1,11 +1,11 @@
 //! Pairs of memories that are alike in what is seen of them.
 
-use super::memory::{content, typed};
+use super::memory::Values;
 use super::prng::Prng;
 use reference::label::Label;
 use reference::memory::Memory;
 use reference::principals::Principals;
-use reference::sheet::Sheet;
+use reference::sheet::{LabelId, Sheet};
 use reference::value::{Value, MOST_WORDS};
 
 /// A memory that gives a group the same view, and is random elsewhere.
@@ -20,38 +20,46 @@ pub fn tampered(prng: &mut Prng, sheet: &Sheet, memory: &Memory, group: Principa
 
 /// A memory that is equal in what is seen by the labels that are seen, and random elsewhere.
 fn alike(prng: &mut Prng, sheet: &Sheet, memory: &Memory, sees: impl Fn(&Label) -> bool) -> Memory {
+    let values = Values::of(sheet);
+    let sees_package = |label: LabelId| sees(&sheet.labels[label]);
     let mut other = Vec::new();
     for (location, value) in memory.iter().enumerate() {
         let ty = sheet.locations[location].ty;
         let new = if sees(sheet.label_at(location)) {
-            Some(rehidden(prng, sheet, value, &sees, MOST_WORDS))
+            Some(rehidden(prng, &values, value, &sees_package, MOST_WORDS))
         } else {
-            typed(prng, sheet, ty, MOST_WORDS)
+            values.typed(prng, ty, MOST_WORDS)
         };
         other.push(new.expect("a type with a value has a value"));
     }
     other
 }
 
-/// The same value with other contents in the packages whose labels aren't seen.
+/// The same value, in at most `room` words, with other contents in the packages whose labels aren't
+/// seen.
 fn rehidden(
     prng: &mut Prng,
-    sheet: &Sheet,
+    values: &Values,
     value: &Value,
-    sees: &dyn Fn(&Label) -> bool,
+    sees: &dyn Fn(LabelId) -> bool,
     room: usize,
 ) -> Value {
+    let mut inner =
+        |value: &Value, room: usize| Box::new(rehidden(prng, values, value, sees, room));
     match value {
         Value::Integer(_) | Value::Error(_) => value.clone(),
-        Value::Left(value) => Value::Left(Box::new(rehidden(prng, sheet, value, sees, room - 1))),
-        Value::Right(value) => Value::Right(Box::new(rehidden(prng, sheet, value, sees, room - 1))),
-        Value::Package(label, inside) => {
-            let inside = if sees(&sheet.labels[*label]) {
-                rehidden(prng, sheet, inside, sees, room - 2)
-            } else {
-                content(prng, sheet, room - 2)
-            };
-            Value::Package(*label, Box::new(inside))
+        Value::Left(value) => Value::Left(inner(value, room - 1)),
+        Value::Right(value) => Value::Right(inner(value, room - 1)),
+        Value::Package(label, content) if sees(*label) => {
+            Value::Package(*label, inner(content, room - 2))
+        }
+        Value::Package(label, _) => {
+            Value::Package(*label, Box::new(values.content(prng, room - 2)))
+        }
+        Value::Pair(first, second) => {
+            let first = inner(first, room - 1 - second.length());
+            let second = inner(second, room - 1 - first.length());
+            Value::Pair(first, second)
         }
     }
 }

@@ -118,12 +118,13 @@ impl Desk<'_> {
             Err(found) => Verdict::Disagreed(found),
             Ok(Ok(unpacks)) => {
                 let words = Words { sheet: self.sheet, names: self.names };
-                let told = unpacks.iter().map(|unpack| Unpack::new(unpack, &words));
+                let told = unpacks.iter().map(|unpack| Unpack::new(unpack, &text.bytes, &words));
                 Verdict::Accepted(told.collect())
             }
             Ok(Err(reason)) => {
                 let reason = in_full(reason, &self.file.text, &text);
                 let message = message(&reason, Some(self.sheet), self.names);
+                let message = message.with_pair(&reason, &text.bytes, self.sheet);
                 Verdict::Refused(Refusal { name: files::name(file), message })
             }
         }

@@ -15,7 +15,7 @@ use crate::table::{aligned, printed};
 use crate::words::{Right, Words};
 use reference::label::Label;
 use reference::principals::Principals;
-use reference::types::Type;
+use reference::types::{Type, TypeId};
 use std::ffi::OsStr;
 
 pub fn explain(request: &Explain, calls: &Calls, streams: &mut Streams) -> Result<Status, Stop> {
@@ -183,12 +183,17 @@ impl About<'_> {
     }
 
     fn type_json(&self, number: usize) -> Json {
-        let parts = match self.words.sheet.types[number] {
-            Type::Sum(left, right) => Json::list([left, right], Json::number),
-            _ => Json::Null,
+        let both = |first: TypeId, second: TypeId| Json::list([first, second], Json::number);
+        let (kind, parts) = match self.words.sheet.types[number] {
+            Type::Int => ("int", Json::Null),
+            Type::Error => ("error", Json::Null),
+            Type::Package => ("pkg", Json::Null),
+            Type::Sum(left, right) => ("sum", both(left, right)),
+            Type::Pair(first, second) => ("pair", both(first, second)),
         };
         Json::Object(vec![
             ("type", Json::number(number)),
+            ("kind", Json::text(kind)),
             ("parts", parts),
             ("words", Json::text(self.words.parts(number))),
         ])

@@ -78,7 +78,8 @@ const CHECK_JSON: &str = r#"
 
 const RUN: &str = "
 Checks the script and runs it on the memory. Prints how it ended and each location with its words
-and its value; * marks what the run changed. A refused run changes nothing.
+and its value, a pair as (first, second); * marks what the run changed. A refused run changes
+nothing.
 
   --as LIST      the authority: numbers or names of principals, parted by commas; '' is nobody
   --budget N     the most steps, 0 to 4294967295; a large one can take hours
@@ -125,7 +126,7 @@ const ROUND_JSON: &str = r#"
 
 const SHOW: &str = "
 Prints each location as a group of principals may see it. What it can't read is hidden: whole
-locations, and the contents of packages.
+locations, and the contents of packages, also of those that are part of a pair.
 
   --to LIST      the group: numbers or names of principals, parted by commas; '' is nobody
   --plain        the view as a memory text; why it is refused goes to standard error";
@@ -152,7 +153,8 @@ const READERS_JSON: &str = r#"
 "#;
 
 const EXPLAIN: &str = "
-Prints the principals, types, labels and locations of a sheet, and who may read and write what.
+Prints the principals, types, labels and locations of a sheet, and who may read and write what. A
+sum type (`T a b`) is told as a+b, a pair type (`Q a b`) as (a, b).
 
 With SCRIPTS, a file of one script or of a round, it prints of each script instead at which label it
 starts, and who reads that: the label that a line `b label` at its start names, else bottom, which
@@ -163,12 +165,13 @@ prints whether the script is trust-keeping, and each `u` by which it isn't, as s
 const EXPLAIN_JSON: &str = r#"
                    {"sheet": {"name", "answer", "accepted"},
                     "principals": [{"principal": 0, "name"}],
-                    "types": [{"type": 5, "parts": [0, 1], "words": "int+error"}],
+                    "types": [{"type": 5, "kind": "sum", "parts": [0, 1], "words": "int+error"}],
                     "labels": [{"label": 0, "name", "read", "write",
                                 "owners": [{"owner": 0, "readers": [0], "writers": [0, 1]}]}],
                     "locations": [{"location": 0, "name", "type": 0, "label": 0, "read", "write"}]}
-                 a sheet that is refused has "blamed", "line", "fact", "advice" and "rule", and
-                 nothing stands beside it. With SCRIPTS it is
+                 "kind" is "int", "error", "pkg", "sum" or "pair", and "parts" is null but for the
+                 last two; a sheet that is refused has "blamed", "line", "fact", "advice" and
+                 "rule", and nothing stands beside it. With SCRIPTS it is
                    {"sheet": {"name", "answer", "accepted"},
                     "scripts": {"name", "answer", "accepted"},
                     "starts": [{"script": 1, "first_line": 1, "label": 0, "name", "read", "write",

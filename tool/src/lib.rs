@@ -12,6 +12,7 @@ mod inputs;
 mod json;
 mod left;
 mod lent;
+mod long_pair;
 pub mod message;
 pub mod names;
 mod opening;

@@ -4,6 +4,7 @@
 mod flow;
 mod lines;
 mod number;
+mod pairs;
 mod run;
 mod scripts;
 mod shift;
@@ -17,6 +18,7 @@ pub use unpack::Unpack;
 
 use crate::names::Names;
 use crate::words::{named, Words};
+use pairs::Paired;
 use reference::sheet::{Repeat, Sheet};
 use reference::text::{Fault, Thing};
 use reference::Reason;
@@ -69,6 +71,31 @@ fn told(
     rule: impl std::convert::Into<String>,
 ) -> Told {
     Told { fact: fact.into(), advice: advice.into(), rule: rule.into() }
+}
+
+impl Message {
+    /// Tells too how what flows goes through a pair, by the script.
+    pub fn with_pair(self, reason: &Reason, script: &[u8], sheet: &Sheet) -> Message {
+        self.paired(Paired::of_refusal(reason, script, sheet))
+    }
+
+    fn paired(mut self, paired: Option<Paired>) -> Message {
+        if let Some(paired) = paired {
+            paired.add(&mut self.fact, &mut self.advice);
+        }
+        self
+    }
+
+    /// Tells too that the value which is too long is a pair, by the words of its parts.
+    pub fn with_parts(mut self, parts: Option<[usize; 2]>) -> Message {
+        if let Some([first, second]) = parts {
+            self.fact += &format!(
+                "; it is a pair, with {first} of them in its first part, {second} in its second \
+                 and 1 of its own"
+            );
+        }
+        self
+    }
 }
 
 /// What is told of why a call is refused. `sheet` is there where it isn't the sheet that is refused.
@@ -130,11 +157,12 @@ fn repeats(repeat: Repeat, names: &Names) -> Told {
     let label = |label: usize| named("label", label, names.label(label));
     match repeat {
         Repeat::Type { first, again } => told(
-            format!("type {again} has the parts of type {first}"),
+            format!("type {again} has the kind and the parts of type {first}"),
             format!(
                 "take this line out, use type {first}, and lower the number of each later type"
             ),
-            "a sheet has each type once (types 3 and 4 are int+int and pkg+error)",
+            "a sheet has each sum (`T`) and each pair (`Q`) once, and types 3 and 4 are the sums \
+             int+int and pkg+error",
         ),
         Repeat::Label { first, again } => told(
             format!("{} lets the same principals read and write as {}", label(again), label(first)),

@@ -1,12 +1,13 @@
 //! `simp round`.
 
 use crate::args::{Form, Run};
-use crate::calls::{Calls, Ran};
+use crate::calls::{Asked, Calls, Ran};
 use crate::files::{self, shown};
 use crate::inputs::{self, blamed, Inputs};
 use crate::json::{opened, Fields, Json};
 use crate::left::{kept, Left};
 use crate::lent::Lent;
+use crate::long_pair::{LongPair, Started};
 use crate::message::{counted, Message, Scripts};
 use crate::refusal::{disagreed, Refusal};
 use crate::run::{compared, late, uncompared};
@@ -27,10 +28,12 @@ pub fn round(request: &Run, calls: &Calls, streams: &mut Streams) -> Result<Stat
     };
     let lent = Lent::new(&texts.memory, &sheet);
     let mut after = lent.words.clone();
-    let rounded = calls.round(texts.asked(authority, request.budget), &mut after);
+    let asked = texts.asked(authority, request.budget);
+    let rounded = calls.round(asked, &mut after);
     let rounded = rounded.map_err(|found| disagreed(&inputs::in_words(request), &found))?;
     let words = Words { sheet: &sheet, names: &names };
-    let desk = Desk { request, scripts: Scripts::new(&texts.script.bytes), words };
+    let start = Start { calls, asked, memory: &lent.words };
+    let desk = Desk { request, scripts: Scripts::new(&texts.script.bytes), words, start };
     match rounded {
         Ok(runs) => {
             let left = Left { request, words, before: &lent.words, after: &after };
@@ -50,6 +53,27 @@ struct Desk<'a> {
     request: &'a Run,
     scripts: Scripts<'a>,
     words: Words<'a>,
+    start: Start<'a>,
+}
+
+/// What the round started from.
+struct Start<'a> {
+    calls: &'a Calls,
+    asked: Asked<'a>,
+    memory: &'a [u32],
+}
+
+impl Start<'_> {
+    /// The memory before the script in a place.
+    fn memory_before(&self, place: usize, scripts: &Scripts) -> Vec<u32> {
+        let Asked { sheet, authority, budget, .. } = self.asked;
+        let mut memory = self.memory.to_vec();
+        for before in 0..place {
+            let script = scripts.text(before);
+            (self.calls.library.run)(sheet, script, &mut memory, authority, budget);
+        }
+        memory
+    }
 }
 
 /// How a script of a round ended.
@@ -74,7 +98,10 @@ impl Desk<'_> {
     fn end(&self, place: usize, ran: Ran) -> End {
         let (steps, message) = match ran {
             Ran::Done { steps } => return End { place, steps, stopped: None },
-            Ran::Refused(reason) => (reason.steps(), self.told(place, reason)),
+            Ran::Refused(reason) => {
+                let parts = self.long_parts(place, &reason);
+                (reason.steps(), self.told(place, reason).with_parts(parts))
+            }
             // the reference knows no line, so it is the script's first
             Ran::Late(outcome) => {
                 let script = Some(self.scripts.which(place));
@@ -84,6 +111,14 @@ impl Desk<'_> {
         };
         let name = files::name(&self.request.script);
         End { place, steps, stopped: Some(Refusal { name, message }) }
+    }
+
+    /// The words of the parts, where a pair is the value that stopped the script in a place.
+    fn long_parts(&self, place: usize, reason: &Reason) -> Option<[usize; 2]> {
+        let (script, authority) = (self.scripts.text(place), self.start.asked.authority);
+        let pair = LongPair::of(reason, script)?;
+        let memory = &self.start.memory_before(place, &self.scripts);
+        Started { sheet: self.words.sheet, script, memory, authority }.parts(pair)
     }
 
     fn told(&self, place: usize, reason: Reason) -> Message {

@@ -6,6 +6,7 @@ use crate::inputs::{self, blamed, Inputs};
 use crate::json::{opened, Fields, Json};
 use crate::left::{kept, Left};
 use crate::lent::Lent;
+use crate::long_pair::{LongPair, Started};
 use crate::message::{self, counted, message, Message};
 use crate::names::Names;
 use crate::opening::in_full;
@@ -40,7 +41,11 @@ pub fn run(request: &Run, calls: &Calls, streams: &mut Streams) -> Result<Status
         Ran::Refused(reason) => {
             let steps = reason.steps();
             let reason = in_full(reason, &texts.sheet.text, &texts.script);
-            (lent.told(&reason, &sheet, &names), steps)
+            let script = &texts.script.bytes;
+            let started = Started { sheet: &sheet, script, memory: &lent.words, authority };
+            let told = lent.told(&reason, &sheet, &names).with_pair(&reason, script, &sheet);
+            let pair = LongPair::of(&reason, script);
+            (told.with_parts(pair.and_then(|pair| started.parts(pair))), steps)
         }
     };
     let refusal = Refusal { name: blamed(request, &message), message };

@@ -11,7 +11,7 @@ use crate::refusal::{disagreed, Refusal};
 use crate::status::{Status, Stop};
 use crate::streams::{Paint, Streams};
 use crate::values::{self, Row};
-use crate::words::Words;
+use crate::words::{pair, Words};
 use reference::principals::Principals;
 
 pub fn show(request: &Show, calls: &Calls, streams: &mut Streams) -> Result<Status, Stop> {
@@ -109,25 +109,37 @@ impl Desk<'_> {
     fn seen<'a>(&self, location: usize, words: &'a [u32]) -> Seen<'a> {
         let mut content_hidden = false;
         let readable = self.words.sheet.label_at(location).read_by(self.group);
-        let value = readable.then(|| self.value(words, &mut content_hidden));
+        let value = readable.then(|| self.value(words, &mut content_hidden).0);
         Seen { words, value, content_hidden }
     }
 
-    /// The value that a view's words show, up to a content that the group can't read.
-    fn value(&self, words: &[u32], hidden: &mut bool) -> String {
+    /// The value that a view's words start with, without contents that the group can't read, and
+    /// the words after it.
+    fn value<'w>(&self, words: &'w [u32], hidden: &mut bool) -> (String, &'w [u32]) {
+        let mut after = |start: &str, words| {
+            let (value, rest) = self.value(words, hidden);
+            (format!("{start} {value}"), rest)
+        };
         match *words {
-            [3, ref rest @ ..] => format!("left {}", self.value(rest, hidden)),
-            [4, ref rest @ ..] => format!("right {}", self.value(rest, hidden)),
+            [1 | 2, _, ref rest @ ..] => (values::in_words(&words[..2], &self.words), rest),
+            [3, ref rest @ ..] => after("left", rest),
+            [4, ref rest @ ..] => after("right", rest),
             [5, label, ref content @ ..] => {
                 let label = label as usize;
-                let package = format!("a package of {}", self.words.label(label));
+                let package = format!("a package of {} with", self.words.label(label));
                 if self.words.sheet.labels.get(label).is_some_and(|l| l.read_by(self.group)) {
-                    return format!("{package} with {}", self.value(content, hidden));
+                    return after(&package, content);
                 }
                 *hidden = true;
-                format!("{package}, content hidden")
+                // one zero word, and what comes next follows it
+                (format!("{package} hidden content"), content.get(1..).unwrap_or_default())
             }
-            _ => values::in_words(words, &self.words),
+            [6, ref rest @ ..] => {
+                let (first, rest) = self.value(rest, hidden);
+                let (second, rest) = self.value(rest, hidden);
+                (pair(&first, &second), rest)
+            }
+            _ => (values::NONE.to_string(), &[]),
         }
     }
 

@@ -50,11 +50,14 @@ pub fn trimmed(words: &[u32]) -> &[u32] {
     &words[..end]
 }
 
+/// What is told of words that hold no value.
+pub const NONE: &str = "no value";
+
 /// The value that words hold, or that they hold none.
 pub fn in_words(held: &[u32], words: &Words) -> String {
     match Value::decode(held, words.sheet.labels.len()) {
         Ok(value) => words.value(&value),
-        Err(_) => "no value".to_string(),
+        Err(_) => NONE.to_string(),
     }
 }
 

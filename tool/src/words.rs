@@ -14,7 +14,7 @@ pub struct Words<'a> {
     pub names: &'a Names,
 }
 
-/// How deep sums inside sums are told.
+/// How deep types inside types are told.
 const MOST_DEPTH: usize = 3;
 
 /// One of the two things that a label is about.
@@ -54,28 +54,39 @@ impl Words<'_> {
         named("label", label, self.names.label(label))
     }
 
-    /// A type by its number and its parts: `type 5 (int+error)`.
+    /// A type by its number and its parts: `type 5 (int+error)`, of a pair `type 6 (int, int)`.
     pub fn ty(&self, ty: TypeId) -> String {
-        format!("type {ty} ({})", self.parts(ty))
+        let parts = self.parts(ty);
+        match self.sheet.types[ty] {
+            Type::Pair(..) => format!("type {ty} {parts}"),
+            _ => format!("type {ty} ({parts})"),
+        }
     }
 
-    /// A type by its parts alone: `int+error`, a sum inside a sum in parentheses, and by its number
-    /// where that goes deep, since sums of sums can double at each line of a sheet.
+    /// A type by its parts alone: `int+error`, a sum inside a sum in parentheses; `(int, int)`, a
+    /// pair; and by its number where that goes deep, since types of types can double at each line
+    /// of a sheet.
     pub fn parts(&self, ty: TypeId) -> String {
         self.parts_within(ty, MOST_DEPTH)
     }
 
     fn parts_within(&self, ty: TypeId, depth: usize) -> String {
         let inner = |ty: TypeId| match self.sheet.types[ty] {
-            Type::Sum(..) if depth == 1 => format!("(type {ty})"),
-            Type::Sum(..) => format!("({})", self.parts_within(ty, depth - 1)),
+            Type::Sum(..) | Type::Pair(..) if depth == 1 => format!("type {ty}"),
+            Type::Sum(..) | Type::Pair(..) => self.parts_within(ty, depth - 1),
             _ => self.parts_within(ty, depth),
+        };
+        let side = |ty: TypeId| match self.sheet.types[ty] {
+            Type::Sum(..) => format!("({})", inner(ty)),
+            Type::Pair(..) if depth == 1 => format!("({})", inner(ty)),
+            _ => inner(ty),
         };
         match self.sheet.types[ty] {
             Type::Int => "int".to_string(),
             Type::Error => "error".to_string(),
             Type::Package => "pkg".to_string(),
-            Type::Sum(left, right) => format!("{}+{}", inner(left), inner(right)),
+            Type::Sum(left, right) => format!("{}+{}", side(left), side(right)),
+            Type::Pair(first, second) => format!("({}, {})", inner(first), inner(second)),
         }
     }
 
@@ -124,7 +135,8 @@ impl Words<'_> {
         }
     }
 
-    /// A value: `5`, `left 5`, `a package of label 2 with 62`, `error 1 (insufficientAuth)`.
+    /// A value: `5`, `left 5`, `a package of label 2 with 62`, `error 1 (insufficientAuth)`,
+    /// `(5, left 62)`.
     pub fn value(&self, value: &Value) -> String {
         match value {
             Value::Integer(n) => n.to_string(),
@@ -134,6 +146,7 @@ impl Words<'_> {
             Value::Package(label, content) => {
                 format!("a package of {} with {}", self.label(*label), self.value(content))
             }
+            Value::Pair(first, second) => pair(&self.value(first), &self.value(second)),
         }
     }
 }
@@ -144,6 +157,11 @@ pub fn named(kind: &str, number: usize, name: Option<&str>) -> String {
         None => format!("{kind} {number}"),
         Some(name) => format!("{kind} {number} ({name})"),
     }
+}
+
+/// The two parts of a pair.
+pub fn pair(first: &str, second: &str) -> String {
+    format!("({first}, {second})")
 }
 
 pub fn error_name(error: Error) -> &'static str {

@@ -5,13 +5,14 @@ use super::{told, Told};
 use reference::text::{Expected, Operand, Sort};
 
 /// Each kind of line with its fields.
-const SHEET: &[&str] = &["P n", "T a b", "L", "O owner readers writers", "X type label"];
+const SHEET: &[&str] = &["P n", "T a b", "Q a b", "L", "O owner readers writers", "X type label"];
 const OPENINGS: &[&str] = &["b label"];
 const COMMANDS: &[&str] = &["s", ";", "= loc", "w", "c"];
-const EXPRESSIONS: &[&str] = &["i n", "x loc", "v d", "+", "l t", "r t", "k label", "u t label"];
+const EXPRESSIONS: &[&str] =
+    &["i n", "x loc", "v d", "+", "l t", "r t", "k label", "u t label", "p t", "f", "g"];
 
 pub const ORDER: &str =
-    "a sheet is `P n`, then `T` lines, labels (`L` and its `O` lines) and `X` lines";
+    "a sheet is `P n`, then `T` and `Q` lines, labels (`L` and its `O` lines) and `X` lines";
 pub const PREFIX: &str = "a script is one command, the operands of each line following it";
 pub const OPENED: &str = "a script is one command, which a line `b label` may open";
 
@@ -106,7 +107,7 @@ pub fn moved_start(line: usize, first: usize, again: bool) -> String {
 fn sheet_advice(found: &[u8], kinds: &[&str]) -> String {
     match found {
         _ if kinds == ["P"] => "start the sheet with `P n`".to_string(),
-        b"T" => "move it up, before the first `L` and `X`".to_string(),
+        b"T" | b"Q" => "move it up, before the first `L` and `X`".to_string(),
         b"L" => "move it up, before the first `X`".to_string(),
         b"O" => "put it after the `L` of its label".to_string(),
         _ => {
@@ -131,17 +132,18 @@ fn stands(found: &[u8], sheet: &[&str]) -> String {
     }
 }
 
-/// For a kind of line that was written in upper case, or without the tab after it.
+/// For a kind of line that was written in upper case, or without the tab before its first field.
 fn nearly(found: &[u8], openings: &[&str]) -> Option<String> {
     let known = |kind: &[u8]| {
         let mut forms = openings.iter().chain(COMMANDS).chain(EXPRESSIONS);
-        forms.any(|form| first_field(form).as_bytes() == kind)
+        forms.find(|form| first_field(form).as_bytes() == kind)
     };
+    let takes_fields = |kind: &[u8]| known(kind).is_some_and(|form| first_field(form) != *form);
     let lower = found.to_ascii_lowercase();
     let (kind, rest) = found.split_at(found.len().min(1));
-    if lower != found && known(&lower) {
+    if lower != found && known(&lower).is_some() {
         Some(format!("write {} in lower case", shown(&lower)))
-    } else if known(kind) && !rest.is_empty() && rest.iter().all(u8::is_ascii_digit) {
+    } else if takes_fields(kind) && !rest.is_empty() && rest.iter().all(u8::is_ascii_digit) {
         Some(format!("put a tab after {}", shown(kind)))
     } else {
         None
@@ -167,8 +169,8 @@ fn role(operand: Operand) -> String {
         ("c", _) => "the command for right",
         (";", 0) => "the first command",
         (";", _) => "the second command",
-        ("+", 0) => "the first operand",
-        ("+", _) => "the second operand",
+        ("+" | "p", 0) => "the first operand",
+        ("+" | "p", _) => "the second operand",
         _ => "the operand",
     };
     format!("{name} of `{kind}` (line {line})")

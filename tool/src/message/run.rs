@@ -7,7 +7,8 @@ use reference::machine::Stopped;
 use reference::memory::{BadMemory, BadValue};
 use reference::value::{BadWords, MOST_WORDS};
 
-const VALUES: &str = "a value is `1 n`, `2 e`, `3` or `4` and a value, or `5 label` and a value";
+const VALUES: &str = "a value is `1 n`, `2 e`, `3` or `4` and a value, `5 label` and a value, or \
+                      `6` and two values";
 
 pub fn memory(words: &Words, fault: &BadMemory) -> Told {
     let location = words.location(fault.location);
@@ -32,10 +33,10 @@ fn bad_words(words: &Words, bad: BadWords) -> (String, &'static str) {
     match bad {
         BadWords::Start(0) => {
             let fact = "a 0, or the end of the line, stands where a value should start";
-            (fact.to_string(), "give the whole value")
+            (fact.to_string(), "give the whole value, with the zeros inside it")
         }
         BadWords::Start(word) => {
-            (format!("no value starts with word {word}"), "start a value with 1, 2, 3, 4 or 5")
+            (format!("no value starts with word {word}"), "start a value with a word from 1 to 6")
         }
         BadWords::Cut => {
             (format!("its value doesn't end within {MOST_WORDS} words"), "give a value that fits")
@@ -69,7 +70,7 @@ pub fn stopped(stopped: &Stopped) -> (usize, Told) {
             at.line,
             told(
                 format!("in step {} a value takes {} words", u64::from(*steps) + 1, at.words),
-                "pack and wrap less: `l` and `r` add a word, `k` adds three",
+                "pack, wrap and pair less: `l`, `r` and `p` add a word, `k` adds three",
                 "a value has at most 16 words, and a run that meets a longer one changes nothing",
             ),
         ),

@@ -1,6 +1,7 @@
 //! What is told of a script among others in a file: which it is, by the file's lines.
 
 use super::lines::{added, moved_start, starts_expression};
+use super::pairs::Paired;
 use super::shift::{shifted, shifted_unpack};
 use super::{message, message_from, told, Message, Told, Unpack};
 use crate::names::Names;
@@ -48,11 +49,17 @@ impl<'a> Scripts<'a> {
         self.parts[place].first_line
     }
 
+    pub fn text(&self, place: usize) -> &'a [u8] {
+        self.parts[place].text
+    }
+
     /// What is told of the script in a place. The reason's lines are counted from its first.
     pub fn message(&self, place: usize, reason: Reason, sheet: &Sheet, names: &Names) -> Message {
         let first = self.first_line(place);
+        let paired = Paired::of_refusal(&reason, self.text(place), sheet);
         let reason = shifted(reason, first - 1);
-        let mut message = message_from(first, &reason, Some(sheet), names);
+        let mut message = message_from(first, &reason, Some(sheet), names)
+            .paired(paired.map(|paired| paired.shifted(first - 1)));
         message.script = Some(self.which(place));
         if let Reason::Script(fault) = &reason {
             self.amend(&mut message, place, fault);
@@ -63,8 +70,11 @@ impl<'a> Scripts<'a> {
     /// What is told of an unpack by which the script in a place isn't trust-keeping. Its lines are
     /// counted from the script's first.
     pub fn unpack(&self, place: usize, unpack: Endorsement, words: &Words) -> Unpack {
-        let unpack = shifted_unpack(unpack, self.first_line(place) - 1);
-        Unpack { script: Some(self.which(place)), ..Unpack::new(&unpack, words) }
+        let before = self.first_line(place) - 1;
+        let paired = Paired::of_unpack(&unpack, self.text(place), words.sheet);
+        let unpack = shifted_unpack(unpack, before);
+        let paired = paired.map(|paired| paired.shifted(before));
+        Unpack { script: Some(self.which(place)), ..Unpack::through(&unpack, paired, words) }
     }
 
     /// Tells what of a fault comes from the script's place among others.

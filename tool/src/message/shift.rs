@@ -78,7 +78,8 @@ fn in_misfit(misfit: Misfit, before: usize) -> Misfit {
             Misfit::Operand { operand: operand + before, found, wanted }
         }
         Misfit::CaseOf { operand, found } => Misfit::CaseOf { operand: operand + before, found },
-        other @ (Misfit::NoSum(_) | Misfit::NoError(_)) => other,
+        Misfit::PartOf { operand, found } => Misfit::PartOf { operand: operand + before, found },
+        other @ (Misfit::NoSum(_) | Misfit::NoError(_) | Misfit::NoPair(_)) => other,
     }
 }
 

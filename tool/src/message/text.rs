@@ -186,7 +186,7 @@ fn locations(found: usize, wanted: usize) -> Told {
 
 fn too_many(what: Counted, most: usize) -> Told {
     let (things, advice) = match what {
-        Counted::SumLines => ("`T` lines", "take out types that nothing uses"),
+        Counted::TypeLines => ("`T` and `Q` lines", "take out types that nothing uses"),
         Counted::Labels => ("labels", "take out labels that nothing uses"),
         Counted::Locations => ("`X` lines", "take out locations that nothing uses"),
         Counted::ScriptLines => ("lines", "make two scripts of it"),
@@ -194,12 +194,16 @@ fn too_many(what: Counted, most: usize) -> Told {
         Counted::Words => ("words", "give one location's value only"),
     };
     let whole = match what {
-        Counted::SumLines | Counted::Labels | Counted::Locations => "sheet",
+        Counted::TypeLines | Counted::Labels | Counted::Locations => "sheet",
         Counted::ScriptLines => "script",
         Counted::MemoryLines => "memory",
         Counted::Words => "line of a memory",
     };
-    let among = if what == Counted::ScriptLines { ", a `b` line among them" } else { "" };
+    let among = match what {
+        Counted::ScriptLines => ", a `b` line among them",
+        Counted::TypeLines => " together",
+        _ => "",
+    };
     let fact = format!("this is more than {most} {things}");
     told(fact, advice, format!("a {whole} has at most {most} {things}{among}"))
 }
@@ -217,8 +221,8 @@ pub fn missing(thing: Thing, number: usize, count: usize) -> Told {
     };
     let (name, rule) = match thing {
         Thing::Principal => ("principal", "`P n` has principals 0 to n-1"),
-        Thing::Type => ("type", "types 0 to 4 are given, each `T` line makes one more"),
-        Thing::EarlierType => ("type", "a `T` line makes a type of two earlier ones"),
+        Thing::Type => ("type", "types 0 to 4 are given, each `T` or `Q` line makes one more"),
+        Thing::EarlierType => ("type", "a `T` or `Q` line makes a type of two earlier ones"),
         Thing::Label => ("label", "each `L` line of the sheet makes a label, from 0 on"),
         Thing::Location => ("location", "each `X` line of the sheet makes a location, from 0 on"),
         Thing::Binding => (

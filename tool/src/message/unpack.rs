@@ -1,5 +1,6 @@
 //! An unpack by which an accepted script isn't trust-keeping.
 
+use super::pairs::Paired;
 use super::{flow, Told, Which};
 use crate::words::Words;
 use reference::flow::Endorsement;
@@ -20,8 +21,18 @@ pub struct Unpack {
 }
 
 impl Unpack {
-    pub fn new(unpack: &Endorsement, words: &Words) -> Unpack {
-        let Told { fact, advice, rule } = flow::told_of_unpack(words, unpack);
+    /// `script` is the text that it stands in.
+    pub fn new(unpack: &Endorsement, script: &[u8], words: &Words) -> Unpack {
+        let paired = Paired::of_unpack(unpack, script, words.sheet);
+        Unpack::through(unpack, paired, words)
+    }
+
+    /// With the pair that the package comes from, if it does.
+    pub(super) fn through(unpack: &Endorsement, paired: Option<Paired>, words: &Words) -> Unpack {
+        let Told { mut fact, mut advice, rule } = flow::told_of_unpack(words, unpack);
+        if let Some(paired) = paired {
+            paired.add(&mut fact, &mut advice);
+        }
         Unpack { script: None, line: unpack.line, label: unpack.wanted, fact, advice, rule }
     }
 }

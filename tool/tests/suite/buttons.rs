@@ -20,7 +20,8 @@ const FIELDS: &str =
     "[4: each kind of line has its own fields, and its operands follow on lines of their own]";
 const COMMAND: &str = "a command, `s`, `;`, `= loc`, `w` or `c`";
 const EXPRESSION: &str =
-    "an expression, `i n`, `x loc`, `v d`, `+`, `l t`, `r t`, `k label` or `u t label`";
+    "an expression, `i n`, `x loc`, `v d`, `+`, `l t`, `r t`, `k label`, `u t label`, `p t`, `f` \
+     or `g`";
 
 fn folder(test: &str) -> Folder {
     let folder = Folder::new(test);

@@ -73,7 +73,7 @@ fn differs(script: &[u8], alone: &Message) -> Differs {
     let mut lines = script.split(|&byte| byte == b'\n');
     let line = alone.line.and_then(|line| lines.nth(line - 1)).expect("a line of the script");
     let kind = line.split(|&byte| byte == b'\t').next().unwrap_or_default();
-    let starts_expression = kind.len() == 1 && b"ixv+lrku".contains(&kind[0]);
+    let starts_expression = kind.len() == 1 && b"ixv+lrkupfg".contains(&kind[0]);
     if line.iter().all(|byte| b" \t".contains(byte)) {
         Differs::Empty
     } else if alone.fact.ends_with("left over") && !starts_expression {
@@ -92,7 +92,7 @@ fn lines_of_a_script_in_a_round_are_the_file_s() {
     let (before, by) = (b"s\n\n;\ns\ns\n\n", 6);
     let names = Names::default();
     let (mut numbers, mut counts) = (BTreeSet::new(), BTreeMap::new());
-    for seed in 10_000..13_000 {
+    for seed in 10_000..16_000 {
         let (text, scripts) = sheet_and_scripts(seed);
         let Ok(sheet) = reference::calls::read_sheet(&text) else {
             continue;
@@ -101,7 +101,7 @@ fn lines_of_a_script_in_a_round_are_the_file_s() {
             let Err(reason) = reference::try_check(&text, script) else {
                 continue;
             };
-            let alone = message(&reason, Some(&sheet), &names);
+            let alone = message(&reason, Some(&sheet), &names).with_pair(&reason, script, &sheet);
             let file = [&before[..], script].concat();
             let told = Scripts::new(&file).message(2, reason, &sheet, &names);
             assert_eq!(told.script.map(|which| (which.script, which.of)), Some((3, 3)));
@@ -406,7 +406,7 @@ fn unpacks_of_a_round_are_told_by_the_file_s_lines() {
         for script in &scripts {
             let joined = [b"s\n\n", &script[..]].concat();
             for unpack in reference::try_trust(&text, script).unwrap_or_default() {
-                let alone = Unpack::new(&unpack, &words);
+                let alone = Unpack::new(&unpack, script, &words);
                 let told = Scripts::new(&joined).unpack(1, unpack, &words);
                 assert_eq!((told.line, &told.fact), (alone.line + 2, &moved(&alone.fact, 2)));
                 assert_eq!(

@@ -58,9 +58,9 @@ fn scripts_that_stop_in_the_middle() {
         "stops.round:1: script 1 of 3: the budget of 20 steps was used up before the script ended; \
          the run had come to this line: give a larger budget, or see whether its loop ends \
          [9: a run that isn't done within its budget changes nothing]",
-        "stops.round:14: script 3 of 3: in step 11 a value takes 17 words: pack and wrap less: `l` \
-         and `r` add a word, `k` adds three [10: a value has at most 16 words, and a run that \
-         meets a longer one changes nothing]",
+        "stops.round:14: script 3 of 3: in step 11 a value takes 17 words: pack, wrap and pair \
+         less: `l`, `r` and `p` add a word, `k` adds three [10: a value has at most 16 words, and \
+         a run that meets a longer one changes nothing]",
     ];
     let ran = round(&folder, "stops.round", &[]);
     assert_eq!((ran.status, ran.err.as_str()), (1, ""));
@@ -140,7 +140,7 @@ fn numbers_that_are_no_script_s() {
     said("pack.round", &["--as=1"], "a.memory:1: ", 8);
     said("leak.simp", &["--as=1"], "leak.simp:1: script 1 of 1: location 0", 6);
     folder.write("a.sheet", &tabbed("P 3\nT 0 0\n"));
-    said("pack.round", &["--as=1"], "a.sheet:2: type 5 has the parts of type 3", 2);
+    said("pack.round", &["--as=1"], "a.sheet:2: type 5 has the kind and the parts of type 3", 2);
     folder.write("a.sheet", &tabbed("P 0\n"));
     said("pack.round", &["--as=1"], "a.sheet:1: the sheet has 0 principals", 1);
     // the call's answer is 7, and it is the memory's text that isn't of its form

@@ -24,25 +24,37 @@ fn at_samples(folder: &str, arguments: &[&str]) -> Ran {
     simp(samples().join(folder), arguments)
 }
 
+/// A folder of bad samples, with the good ones that each is tried with.
+struct Bad {
+    folder: &'static str,
+    sheet: &'static str,
+    script: &'static str,
+}
+
+const BAD: Bad = Bad { folder: "bad", sheet: "../line.sheet", script: "../tally.simp" };
+
+/// Those with pairs.
+const BAD_PAIRS: Bad = Bad { folder: "flock/bad", sheet: "../flock.sheet", script: "../pack.simp" };
+
 /// What the tool says of a bad sample: the line that starts with its name.
-fn said(name: &str) -> String {
-    let (sheet, memory) = ("../line.sheet", "../morning.memory");
+fn said(bad: &Bad, name: &str) -> String {
+    let (Bad { folder, sheet, script }, memory) = (bad, "../morning.memory");
     let run = |command, script, memory| {
-        at_samples("bad", &[command, sheet, script, memory, "--as", "1", "--budget", "1000"])
+        at_samples(folder, &[command, sheet, script, memory, "--as", "1", "--budget", "1000"])
     };
     let ran = if name.ends_with(".sheet") {
-        let checked = at_samples("bad", &["check", name, "../tally.simp"]);
+        let checked = at_samples(folder, &["check", name, script]);
         if checked.out.starts_with(name) {
             checked
         } else {
-            at_samples("bad", &["readers", name, "0"])
+            at_samples(folder, &["readers", name, "0"])
         }
     } else if name.ends_with(".memory") {
-        run("run", "../tally.simp", name)
+        run("run", script, name)
     } else if name.ends_with(".round") {
         run("round", name, memory)
     } else {
-        let checked = at_samples("bad", &["check", sheet, name]);
+        let checked = at_samples(folder, &["check", sheet, name]);
         if checked.status == 0 {
             run("run", name, memory)
         } else {
@@ -57,14 +69,13 @@ fn said(name: &str) -> String {
     line.to_string()
 }
 
-/// `samples/bad/messages.txt` has a line for each bad file.
-#[test]
-fn each_bad_one_gets_its_message() {
-    let path = samples().join("bad/messages.txt");
+/// `messages.txt` in a folder of bad samples has a line for each file; the numbers there, each once.
+fn numbers_of_messages(bad: &Bad) -> Vec<String> {
+    let path = samples().join(bad.folder).join("messages.txt");
     let expected = fs::read_to_string(path).expect("the messages are there");
     let names =
-        [".simp", ".sheet", ".memory", ".round"].map(|ending| files("bad", ending)).concat();
-    let said: Vec<String> = names.iter().map(|name| said(name)).collect();
+        [".simp", ".sheet", ".memory", ".round"].map(|ending| files(bad.folder, ending)).concat();
+    let said: Vec<String> = names.iter().map(|name| said(bad, name)).collect();
     for (said, expected) in said.iter().zip(expected.lines()) {
         assert_eq!(said, expected);
     }
@@ -74,8 +85,14 @@ fn each_bad_one_gets_its_message() {
         let (_, number) = line.rsplit_once(" [").expect("a number");
         *numbers.entry(number.split(':').next().expect("a number").to_string()).or_insert(0) += 1;
     }
-    let numbers: Vec<String> = numbers.into_keys().collect();
-    assert_eq!(numbers, ["1", "10", "11", "12", "2", "4", "5", "6", "8", "9"]);
+    numbers.into_keys().collect()
+}
+
+#[test]
+fn each_bad_one_gets_its_message() {
+    let numbers = ["1", "10", "11", "12", "2", "4", "5", "6", "8", "9"];
+    assert_eq!(numbers_of_messages(&BAD), numbers);
+    assert_eq!(numbers_of_messages(&BAD_PAIRS), ["1", "10", "2", "4", "5", "6", "8"]);
 }
 
 #[test]
@@ -98,22 +115,44 @@ fn good_ones_are_accepted() {
     assert!(notes.len() == 1 && notes[0].starts_with(&note), "{notes:?}");
 }
 
-/// As one script, and as a round of several.
+/// As one script, and as a round of several; and the same of the flock's.
 #[test]
 fn a_morning_leaves_noon() {
     let scratch = crate::folder::Folder::new("noon");
-    let read = |name: &str| fs::read(samples().join(name)).expect("a sample");
-    for (command, script, budget) in
-        [("run", "morning.simp", "54"), ("round", "morning.round", "21")]
-    {
+    for (folder, line, command, script, budget) in [
+        (".", "line", "run", "morning.simp", "54"),
+        (".", "line", "round", "morning.round", "21"),
+        ("flock", "flock", "round", "morning.round", "7"),
+    ] {
+        let read = |name: &str| fs::read(samples().join(folder).join(name)).expect("a sample");
         scratch.write("memory", &read("morning.memory"));
         let path = scratch.as_ref().join("memory");
         let memory = path.to_str().expect("a path in ASCII");
-        let names = ["--names", "line.names", "--as", "station", "--budget", budget, "--write"];
-        let ran = at_samples(".", &[&[command, "line.sheet", script, memory][..], &names].concat());
+        let [sheet, names] = ["sheet", "names"].map(|ending| format!("{line}.{ending}"));
+        let names = ["--names", &names, "--as", "station", "--budget", budget, "--write"];
+        let ran = at_samples(folder, &[&[command, &sheet, script, memory][..], &names].concat());
         assert_eq!(ran.status, 0, "{}{}", ran.out, ran.err);
-        assert_eq!(fs::read(path).expect("the memory"), read("noon.memory"), "{script}");
+        assert_eq!(fs::read(path).expect("the memory"), read("noon.memory"), "{folder}/{script}");
     }
+}
+
+/// The scripts with pairs are accepted, and all that is hidden of the tag is what is packed.
+#[test]
+fn a_tally_goes_with_its_flock_number() {
+    let scripts = files("flock", ".simp");
+    let mut arguments = vec!["check", "flock.sheet"];
+    arguments.extend(scripts.iter().map(String::as_str));
+    let ran = at_samples("flock", &arguments);
+    let sum = "3 scripts: 3 accepted (3 trust-keeping), 0 refused\n";
+    assert!(ran.status == 0 && ran.out.ends_with(sum), "{}", ran.out);
+    let shown = |party: &str| {
+        let names = ["--names", "flock.names"];
+        let show = ["show", "flock.sheet", "noon.memory", "--plain", "--to", party];
+        let ran = at_samples("flock", &[&show[..], &names].concat());
+        ran.out.lines().nth(3).expect("the tag").to_string()
+    };
+    assert_eq!(shown("farm"), "6\t3\t5\t1\t1\t390\t1\t2");
+    assert_eq!(shown("feed"), "6\t3\t5\t1\t0\t1\t2");
 }
 
 #[test]
@@ -124,6 +163,8 @@ fn a_round_is_made_of_the_samples() {
     for name in ["cracks", "cracks-three", "tally", "queue", "bills", "open-station", "pack"] {
         assert!(parts.contains(&&read(&format!("{name}.simp"))[..]), "{name}");
     }
+    let scripts = ["pack", "open", "tag"].map(|name| read(&format!("flock/{name}.simp")));
+    assert_eq!(read("flock/morning.round"), scripts.join(&b'\n'));
 }
 
 /// Each button's script is accepted in a round, and changes what its readers are shown alone.

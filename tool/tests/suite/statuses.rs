@@ -212,7 +212,7 @@ fn views() {
     let lines: Vec<&str> = ran.out.lines().collect();
     assert_eq!((ran.status, lines.len()), (0, 6));
     assert!(lines[2].ends_with("  hidden"), "{}", lines[2]);
-    assert!(lines[3].ends_with("  left a package of label 2, content hidden"), "{}", lines[3]);
+    assert!(lines[3].ends_with("  left a package of label 2 with hidden content"), "{}", lines[3]);
     assert_eq!(ran.out.lines().last(), Some("2 of 4 locations hidden"));
     assert_eq!(show("0", &["--plain"]).out, "1\t5\n1\t62\n3\t5\t2\t1\t62\n4\t2\t1\n");
     assert_eq!(show("", &["--plain"]).out, "\n\n\n\n");

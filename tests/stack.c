@@ -15,7 +15,7 @@
 #define PATTERN 0xA5
 #define LOCATIONS 3
 
-static const char sheet[] = "P\t2\nL\nL\nO\t0\t0000\t0003\nX\t0\t1\nX\t4\t1\nX\t3\t0\n";
+static const char sheet[] = "P\t2\nQ\t0\t0\nL\nL\nO\t0\t0000\t0003\nX\t0\t1\nX\t4\t1\nX\t3\t0\n";
 
 enum call { NOTHING, CHECK, RUN, VIEW, ROUND, GROUPS, TRUST };
 
@@ -104,9 +104,14 @@ static const struct shape shapes[] = {
     {"255 ; each the second of another", "", ";\ns\n", 255, "s\n", 1, 0, 0},
     {"255 w inside one another", "", "w\nx\t2\n", 255, "s\n", 1, 0, 9},
     {"255 + inside one another", "=\t0\n", "+\n", 255, "i\t1\n", 256, 0, 0},
+    {"170 f, each of a p, the first operand", "=\t0\n", "f\np\t5\n", 170, "i\t1\n", 171, 0, 0},
+    {"170 g, each of a p, the second operand", "=\t0\n", "g\np\t5\ni\t1\n", 170, "i\t1\n", 1, 0, 0},
+    {"255 p inside one another", "=\t0\n", "p\t5\n", 255, "i\t1\n", 256, 5, 5},
+    {"255 p, each the second of another", "=\t0\n", "p\t5\ni\t1\n", 255, "i\t1\n", 1, 5, 5},
     {"512 ; and nothing else", "", ";\n", 512, "", 0, 4, 4},
     {"512 w and nothing else", "", "w\n", 512, "", 0, 4, 4},
     {"512 + and nothing else", "", "+\n", 512, "", 0, 4, 4},
+    {"512 p and nothing else", "", "p\t5\n", 512, "", 0, 4, 4},
     {"= and 511 packs, nothing else", "=\t1\n", "k\t1\n", 511, "", 0, 4, 4},
 };
 
@@ -138,7 +143,7 @@ int main(void)
         write_script(&shapes[i]);
         size_t check = measured(CHECK, shapes[i].checked), run = measured(RUN, shapes[i].ran);
         size_t round = measured(ROUND, shapes[i].checked), trust = measured(TRUST, shapes[i].checked);
-        printf("%-36s check %7zu bytes (answer %2d), run %7zu bytes (answer %2d), round %7zu bytes, trust %7zu bytes\n",
+        printf("%-38s check %7zu bytes (answer %2d), run %7zu bytes (answer %2d), round %7zu bytes, trust %7zu bytes\n",
                shapes[i].name, check, shapes[i].checked, run, shapes[i].ran, round, trust);
         most_trust = trust > most_trust ? trust : most_trust;
         most_round = round > most_round ? round : most_round;

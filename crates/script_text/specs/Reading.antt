@@ -1,5 +1,5 @@
--- How a script's text is read into lines: "The first field decides among" sixteen "kinds of line." Ahead of them there
--- may be an opening, `b label`, one of a script's lines (request (d)).
+-- How a script's text is read into lines: the first field decides among sixteen kinds of line, thirteen of the scope
+-- and three of request (f). Ahead of them there may be an opening, `b label`, one of a script's lines (request (d)).
 use mathlib.Core.Bool.{cond}
 use mathlib.Core.List.{List, [], _∷_}
 use mathlib.Core.Option.{Option, none, some}

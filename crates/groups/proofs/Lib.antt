@@ -3,6 +3,7 @@ pub mod SmallestLaws
 pub mod PastLaws
 pub mod ListLaws
 pub mod RuleLaws
+pub mod SingleLaws
 pub mod WalkLaws
 pub mod LoopLaws
 pub mod StageLaws

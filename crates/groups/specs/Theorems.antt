@@ -1,12 +1,13 @@
--- What is claimed of smallest groups. The proofs are `groups-exact` and `readers-hold-one` (proofs/ListLaws.antt) and
--- `reading-grows` (proofs/RuleLaws.antt).
+-- What is claimed of smallest groups. The proofs are `groups-exact` and `readers-hold-one` (proofs/ListLaws.antt),
+-- `reading-grows` (proofs/RuleLaws.antt) and `single-readers` (proofs/SingleLaws.antt).
 use mathlib.Core.Logic.{_↔_}
 use mathlib.Core.Path.{_≡_}
 use mathlib.Core.Bool.{true}
 use mathlib.Core.List.{List}
-use Prim.Native.Nat.{ℕ}
-use Rattle.sets.specs.Sets.{within, everyone}
-use Rattle.sheet.specs.Sheet.{Sheet}
+use Prim.Native.Nat.{ℕ, _<_}
+use Rattle.sets.specs.Sets.{within, single, everyone}
+use Rattle.labels.specs.declared.Reading.the-variants.{Alone}
+use Rattle.sheet.specs.Sheet.{Sheet, formed}
 use Rattle.sheet.specs.Meaning.{readsNo}
 use Rattle.groups.specs.Smallest.{ReadingRule, Listed, ListsSmallest, Grows}
 use Rattle.groups.specs.Listing.{smallestOf}
@@ -26,3 +27,9 @@ ReadersHoldOne = (n : ℕ) (reads : ReadingRule) → Grows reads → (gs : List 
 -- The sheet's rule of reading grows with the group.
 abbrev pub ReadingGrows : Type 0
 ReadingGrows = (s : Sheet) (l : ℕ) → Grows (λ (g : ℕ). readsNo s g l)
+
+-- Where one reads by himself (request (g)), the smallest groups are the single readers: {p} for each principal p who
+-- reads. There may be none.
+abbrev pub SingleReaders : Type 0
+SingleReaders = (s : Sheet) → formed s ≡ true → s .reading ≡ Alone → (l : ℕ) (gs : List ℕ) → ListsSmallest (s .principals) (λ (g : ℕ). readsNo s g l) gs
+    → (g : ℕ) → Listed g gs ↔ ((p : ℕ) × (p < s .principals) × (g ≡ single p) × (readsNo s (single p) l ≡ true))

@@ -2,6 +2,7 @@ pub mod OwnerTests
 pub mod OrderLaws
 pub mod PartLaws
 pub mod ReadingLaws
+pub mod SoleLaws
 pub mod EffectiveLaws
 pub mod PolicyLaws
 pub mod LatticeLaws

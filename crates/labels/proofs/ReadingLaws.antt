@@ -1,17 +1,21 @@
--- Who reads and who writes, along the order.
+-- Who reads, by both rules, and who writes, along the order.
 -- Assumes nothing.
 use mathlib.Core.Path.{_≡_, refl}
-use mathlib.Core.Bool.{true}
-use Prim.Native.Nat.{ℕ, zero, suc, _≤_}
+use mathlib.Core.Bool.{true, false}
+use Prim.Native.Nat.{ℕ, zero, suc, _≤_, _<_}
 use native.Mathlib.Nat.{lt-of-lt-of-le, not-suc-le-zero}
 use Rattle.logic.specs.Booleans.{both}
-use Rattle.sets.specs.Sets.{within, meets, every}
-use Rattle.sets.proofs.Walks.{every-true, every-at}
-use Rattle.sets.proofs.SetLaws.{meets-mono, meets-grows}
+use Rattle.logic.proofs.BooleanLaws.{bool-ext, both-left, both-right, both-true, fails, not-so}
+use Rattle.sets.specs.Sets.{width, member, within, meets, single, every}
+use Rattle.sets.proofs.Walks.{every-true, every-at, any-true, any-at}
+use Rattle.sets.proofs.SetLaws.{member-empty, within-elim, meets-mono, meets-grows, meets-intro, meets-elim, member-single, member-single-self}
 use Rattle.labels.specs.declared.Label.{Label}
-use Rattle.labels.specs.Labels.{owners, readersOf, writersOf, belowOf, confidentialityOf, integrityOf, readsOf, writesOf}
-use Rattle.labels.specs.Lattice.{EmptyGroups}
+use Rattle.labels.specs.declared.Reading.{Reading}
+use Rattle.labels.specs.declared.Reading.the-variants.{Pooled, Alone}
+use Rattle.labels.specs.Labels.{owners, readersOf, writersOf, belowOf, confidentialityOf, integrityOf, readsOf, writesOf, readsAloneOf, readsUnder}
+use Rattle.labels.specs.Lattice.{EmptyGroups, ClosedBelow, ReadingDownward, TwoRules}
 use Rattle.labels.proofs.OrderLaws.{below-at}
+use Rattle.labels.proofs.PartLaws.{C-mono}
 
 -- who reads a label reads every label below it
 pub reads-down : (n : ℕ) → n ≤ owners → (g : ℕ) (a b : Label) → belowOf a b ≡ true → readsOf n g b ≡ true → readsOf n g a ≡ true
@@ -47,3 +51,90 @@ pub empty-groups : EmptyGroups
 unfolding readsOf writesOf every meets both
 empty-groups zero h a = absurd (not-suc-le-zero h)
 empty-groups (suc n) h a = (refl, refl)
+
+-- ---- reading alone: a member of the group is a reader for every owner
+
+-- p is a member of the group, and a reader for every owner below n
+pub record ReadsAlone (n g : ℕ) (a : Label) (p : ℕ) : Type 0 where
+  pub low : p < width
+  pub among : member p g ≡ true
+  pub each : (o : ℕ) → o < n → member p (readersOf a o) ≡ true
+
+pub alone-member : (n g : ℕ) (a : Label) → readsAloneOf n g a ≡ true → (p : ℕ) × ReadsAlone n g a p
+unfolding readsAloneOf
+alone-member n g a r =
+    let (p, l, e) = any-at width _ r in
+    (p, record { low = l; among = both-left _ _ e; each = every-at n _ (both-right _ _ e) })
+
+pub member-alone : (n g : ℕ) (a : Label) (p : ℕ) → ReadsAlone n g a p → readsAloneOf n g a ≡ true
+unfolding readsAloneOf
+member-alone n g a p h = any-true width _ p (h .low) (both-true (h .among) (every-true n _ (h .each)))
+
+alone-down : (n : ℕ) → n ≤ owners → (g : ℕ) (a b : Label) → belowOf a b ≡ true → readsAloneOf n g b ≡ true → readsAloneOf n g a ≡ true
+alone-down n e g a b h r =
+    let (p, k) = alone-member n g b r in
+    member-alone n g a p (record {
+      low = k .low;
+      among = k .among;
+      each = λ o l. within-elim (readersOf b o) (readersOf a o) (below-at a b h o (lt-of-lt-of-le l e) .0) p (k .each o l);
+    })
+
+alone-grow : (n : ℕ) (a : Label) (g h : ℕ) → within g h ≡ true → readsAloneOf n g a ≡ true → readsAloneOf n h a ≡ true
+alone-grow n a g h w r =
+    let (p, k) = alone-member n g a r in
+    member-alone n h a p (record { low = k .low; among = within-elim g h w p (k .among); each = k .each })
+
+alone-down-C : (n : ℕ) → n ≤ owners → (g : ℕ) (a b : Label)
+    → belowOf (confidentialityOf a) (confidentialityOf b) ≡ true → readsAloneOf n g b ≡ true → readsAloneOf n g a ≡ true
+unfolding readsAloneOf confidentialityOf
+alone-down-C n e g a b h r = alone-down n e g (confidentialityOf a) (confidentialityOf b) h r
+
+-- a member by himself
+alone-one : (n g : ℕ) (a : Label) → readsAloneOf n g a ≡ true → (p : ℕ) × (p < width) × (member p g ≡ true) × (readsOf n (single p) a ≡ true)
+unfolding readsOf
+alone-one n g a r =
+    let (p, k) = alone-member n g a r in
+    (p, k .low, k .among, every-true n _ (λ o l. meets-intro (single p) (readersOf a o) p (member-single-self p) (k .each o l)))
+
+one-alone : (n g : ℕ) (a : Label) (p : ℕ) → p < width → member p g ≡ true → readsOf n (single p) a ≡ true → readsAloneOf n g a ≡ true
+unfolding readsOf
+one-alone n g a p l m r =
+    member-alone n g a p (record {
+      low = l;
+      among = m;
+      each = λ o k. let (q, i, j) = meets-elim (single p) (readersOf a o) (every-at n _ r o k) in rw (← member-single q p i) j;
+    })
+
+alone-pooled : (n g : ℕ) (a : Label) → readsAloneOf n g a ≡ true → readsOf n g a ≡ true
+unfolding readsOf
+alone-pooled n g a r =
+    let (p, k) = alone-member n g a r in
+    every-true n _ (λ o l. meets-intro g (readersOf a o) p (k .among) (k .each o l))
+
+-- ---- both rules
+
+pub closed-below : ClosedBelow
+closed-below reads down a b h = down a b (C-mono a b h)
+
+pub reading-downward : ReadingDownward
+unfolding readsUnder
+reading-downward Pooled n e g a b h r = reads-down-C n e g a b h r
+reading-downward Alone n e g a b h r = alone-down-C n e g a b h r
+
+pub rule-grows : (rule : Reading) (n : ℕ) (a : Label) (g h : ℕ) → within g h ≡ true → readsUnder rule n g a ≡ true → readsUnder rule n h a ≡ true
+unfolding readsUnder
+rule-grows Pooled n a g h w r = reads-grow n a g h w r
+rule-grows Alone n a g h w r = alone-grow n a g h w r
+
+empty-reads : (rule : Reading) (n : ℕ) → 1 ≤ n → (a : Label) → readsUnder rule n 0 a ≡ false
+unfolding readsUnder
+empty-reads Pooled n h a = empty-groups n h a .0
+empty-reads Alone n h a = not-so _ (λ r. let (p, k) = alone-member n 0 a r in fails (member-empty p) (k .among))
+
+pub two-rules : TwoRules
+two-rules = record {
+  one-reader = λ n g a. (alone-one n g a, λ (p, l, m, r). one-alone n g a p l m r);
+  no-more = alone-pooled;
+  of-one = λ n p l a. bool-ext _ _ (alone-pooled n (single p) a) (one-alone n (single p) a p l (member-single-self p));
+  of-none = empty-reads;
+}

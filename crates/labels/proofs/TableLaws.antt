@@ -7,11 +7,11 @@ use mathlib.Core.List.{List, _++_, append-assoc}
 use Prim.Native.Nat.{ℕ, _+_, _<_, _≤_}
 use native.Mathlib.Nat.{add-assoc}
 use native.Mathlib.Omega.{arith}
-use lib.ListN.{length, getD, set, take, drop, length-append, length-drop, length-set, take-append-drop, List·getD-append}
+use lib.ListN.{length, getD, set, take, drop, length-append, length-drop, length-set, take-append-drop, List·getD-append, List·getD-eq-default}
 use lib.Seq.{paste, take-paste, drop-paste, take-all, drop-drop, getD-append-add, take-at, drop-at, length-take-le, getD-take, getD-drop, getD-set-other, drop-set-add, take-set-lt, take-set-le, drop-set-lt, take-add, set-out}
 use borrow.Author.Tests.{le-leb, lt-leb}
 use Rattle.sets.specs.Sets.{union, single, tab}
-use Rattle.sets.proofs.Walks.{length-tab, tab-ext, tab-getD}
+use Rattle.sets.proofs.Walks.{length-tab, getD-tab, tab-ext, tab-getD}
 use Rattle.labels.specs.declared.Label.{Label}
 use Rattle.labels.specs.Labels.{owners, policyOf, wholeOf}
 use Rattle.labels.specs.Internal.Tables.{labelSize, labelWords, setsAt, labelAt, labelPut}
@@ -20,6 +20,18 @@ use Rattle.labels.proofs.OrderLaws.{label-path, whole-lengths}
 pub length-words : (a : Label) → wholeOf a ≡ true → length (labelWords a) ≡ labelSize
 unfolding labelWords
 length-words a h = length-append (a .readers) (a .writers) ∙ ap₂ (λ (x y : ℕ). x + y) (whole-lengths a h .0) (whole-lengths a h .1)
+
+-- ---- the sets of a table: the word at a place, and none past the last owner
+pub set-there : (t : List ℕ) (at o : ℕ) → o < owners → getD (setsAt t at) o 0 ≡ getD t (at + o) 0
+unfolding setsAt
+set-there t at o l = getD-tab owners (λ (k : ℕ). getD t (at + k) 0) o 0 l
+
+pub set-past : (t : List ℕ) (at : ℕ) → getD (setsAt t at) owners 0 ≡ 0
+unfolding setsAt
+set-past t at =
+    let f : ℕ → ℕ = λ k. getD t (at + k) 0 in
+    let l : length (tab owners f) ≤ owners = omega (arith, length-tab owners f) in
+    List·getD-eq-default (tab owners f) 0 l
 
 -- ---- what stands in the midst of a table is read back
 sets-are : (t : List ℕ) (at : ℕ) (row : List ℕ) → length row ≡ owners → ((o : ℕ) → o < owners → getD t (at + o) 0 ≡ getD row o 0) → setsAt t at ≡ row

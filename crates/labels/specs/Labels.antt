@@ -1,5 +1,5 @@
 -- Labels in effective form (the scope, "Principals and labels"; the paper, section 2.2): for each owner a set of readers and a
--- set of writers.
+-- set of writers. Who reads them, by the scope's rule and by that of request (g).
 use mathlib.Core.Path.{_≡_}
 use mathlib.Core.Bool.{Bool, true, cond}
 use mathlib.Core.List.{List, [], _∷_}
@@ -7,8 +7,10 @@ use Prim.Native.Nat.{ℕ}
 use lib.Dec.{eqb, ltb}
 use lib.ListN.{length, getD, replicate, set}
 use Rattle.logic.specs.Booleans.{both}
-use Rattle.sets.specs.Sets.{width, union, intersection, within, meets, single, everyone, every, tab}
+use Rattle.sets.specs.Sets.{width, member, union, intersection, within, meets, single, everyone, every, any, tab}
 use Rattle.labels.specs.declared.Label.{Label}
+use Rattle.labels.specs.declared.Reading.{Reading}
+use Rattle.labels.specs.declared.Reading.the-variants.{Pooled, Alone}
 
 -- the number of owners that a label has room for
 abbrev pub owners : ℕ
@@ -106,19 +108,30 @@ bottomOf all = record { readers = replicate owners all; writers = own }
 unfoldable pub closedAt : ℕ → ℕ → ℕ
 closedAt n o = cond (ltb o n) (single o) (everyone n)
 
--- top, the most restrictive label of n principals: each owner alone reads, and everyone writes
+-- top, the most restrictive label of n principals: each owner lets nobody else read, and everyone writes
 unfoldable pub topOf : ℕ → Label
 topOf n = record { readers = tab owners (closedAt n); writers = tab owners (openAt n (everyone n)) }
 
 -- ---- reading and writing
 
--- a group reads A: for every owner below n it holds at least one effective reader
+-- a group reads A, by the scope's rule: for every owner below n it holds at least one effective reader
 unfoldable pub readsOf : ℕ → ℕ → Label → Bool
 readsOf n g a = every n (λ (o : ℕ). meets g (readersOf a o))
 
 -- a group writes A: likewise over writers
 unfoldable pub writesOf : ℕ → ℕ → Label → Bool
 writesOf n g a = every n (λ (o : ℕ). meets g (writersOf a o))
+
+-- ---- the rule of reading (request (g)), the enum `Reading` in src/lib.rt: `Pooled`, as above, or `Alone`
+
+-- a group reads A alone: one of its members is by himself an effective reader for every owner below n
+unfoldable pub readsAloneOf : ℕ → ℕ → Label → Bool
+readsAloneOf n g a = any width (λ (p : ℕ). both (member p g) (every n (λ (o : ℕ). member p (readersOf a o))))
+
+-- a group reads A, by the rule
+unfoldable pub readsUnder : Reading → ℕ → ℕ → Label → Bool
+readsUnder Pooled n g a = readsOf n g a
+readsUnder Alone n g a = readsAloneOf n g a
 
 -- ---- effective labels
 

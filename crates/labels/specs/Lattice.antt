@@ -1,17 +1,21 @@
--- What the labels of n principals satisfy: the paper's security lattice (section 2.2, lemma 1) with the scope's labels, and what the
--- scope says of policies and of the empty group. The proofs are `security-lattices`, `non-trivial` and `one-label`
--- (proofs/LatticeLaws.antt), `empty-groups` (proofs/ReadingLaws.antt) and `policies-effective` (proofs/PolicyLaws.antt).
+-- What the labels of n principals satisfy: the paper's security lattice (section 2.2, lemma 1) with the scope's labels,
+-- what the scope says of policies and of the empty group, and what is claimed of both rules of reading (request (g)).
+-- The proofs are `security-lattices`, `non-trivial` and `one-label` (proofs/LatticeLaws.antt), `empty-groups`,
+-- `closed-below`, `reading-downward` and `two-rules` (proofs/ReadingLaws.antt) and `policies-effective`
+-- (proofs/PolicyLaws.antt).
 -- The scope differs from the paper in this: an owner's writers in bottom and in C(A) are {o}, since an owner is always in its own
 -- effective sets; an owner without a policy lets everyone write, where the paper has no writers; reading goes by readers and
 -- writing by writers, where the paper's text of the two names the other part; and with one principal there is one label only.
+use mathlib.Core.Logic.{_↔_}
 use mathlib.Core.Path.{_≡_}
-use mathlib.Core.Bool.{true, false}
+use mathlib.Core.Bool.{Bool, true, false}
 use mathlib.Core.List.{List}
-use Prim.Native.Nat.{ℕ, _≤_}
+use Prim.Native.Nat.{ℕ, _≤_, _<_}
 use Rattle.logic.specs.Booleans.{both}
-use Rattle.sets.specs.Sets.{everyone}
+use Rattle.sets.specs.Sets.{width, member, single, everyone}
 use Rattle.labels.specs.declared.Label.{Label}
-use Rattle.labels.specs.Labels.{owners, Policy, labelOf, policiesOn, belowOf, joinOf, confidentialityOf, integrityOf, bottomOf, topOf, readsOf, writesOf, effective}
+use Rattle.labels.specs.declared.Reading.{Reading}
+use Rattle.labels.specs.Labels.{owners, Policy, labelOf, policiesOn, belowOf, joinOf, confidentialityOf, integrityOf, bottomOf, topOf, readsOf, writesOf, readsAloneOf, readsUnder, effective}
 
 pub record SecurityLattice (n : ℕ) : Type 0 where
   -- the operations keep labels effective
@@ -38,7 +42,8 @@ pub record SecurityLattice (n : ℕ) : Type 0 where
   pub below-parts : (a b : Label)
       → belowOf a b
       ≡ both (belowOf (confidentialityOf a) (confidentialityOf b)) (belowOf (integrityOf (everyone n) a) (integrityOf (everyone n) b))
-  -- reading depends on C and goes down; writing depends on I and goes up
+  -- reading by the scope's rule depends on C and goes down (by both rules: ReadingDownward); writing depends on I and
+  -- goes up
   pub reads-down : (g : ℕ) (a b : Label) → belowOf (confidentialityOf a) (confidentialityOf b) ≡ true → readsOf n g b ≡ true → readsOf n g a ≡ true
   pub writes-up : (g : ℕ) (a b : Label)
       → belowOf (integrityOf (everyone n) a) (integrityOf (everyone n) b) ≡ true → writesOf n g a ≡ true → writesOf n g b ≡ true
@@ -55,9 +60,36 @@ NonTrivial = (n : ℕ) → 2 ≤ n → ¬ (topOf n ≡ bottomOf (everyone n))
 abbrev pub OneLabel : Type 0
 OneLabel = (a b : Label) → effective 1 a ≡ true → effective 1 b ≡ true → a ≡ b
 
--- where there is a principal, the empty group reads nothing and writes nothing
+-- where there is a principal, the empty group reads nothing by the scope's rule (by both rules: TwoRules), and writes
+-- nothing
 abbrev pub EmptyGroups : Type 0
 EmptyGroups = (n : ℕ) → 1 ≤ n → (a : Label) → (readsOf n 0 a ≡ false) × (writesOf n 0 a ≡ false)
+
+-- ---- both rules of reading (request (g))
+
+-- Who reads a label reads every label below it: `reads` tells of each label whether he does. Below by readers alone, as C
+-- has it and the rule of unpack compares; a label that is below another is so by C.
+abbrev pub DownwardClosed : (Label → Bool) → Type 0
+DownwardClosed reads = (a b : Label) → belowOf (confidentialityOf a) (confidentialityOf b) ≡ true → reads b ≡ true → reads a ≡ true
+
+-- so of every label below it in the whole order
+abbrev pub ClosedBelow : Type 0
+ClosedBelow = (reads : Label → Bool) → DownwardClosed reads → (a b : Label) → belowOf a b ≡ true → reads b ≡ true → reads a ≡ true
+
+-- Every group reads so, by both rules. What the view promises rests on this and on nothing else about reading
+-- (simp/ReadingRules).
+abbrev pub ReadingDownward : Type 0
+ReadingDownward = (rule : Reading) (n : ℕ) → n ≤ owners → (g : ℕ) → DownwardClosed (readsUnder rule n g)
+
+-- The rules compared.
+pub record TwoRules : Type 0 where
+  -- a group reads alone exactly if one of its members, as a group of one, reads by the scope's rule
+  pub one-reader : (n g : ℕ) (a : Label) → (readsAloneOf n g a ≡ true) ↔ ((p : ℕ) × (p < width) × (member p g ≡ true) × (readsOf n (single p) a ≡ true))
+  -- so it reads no more than by the scope's rule, and a group of one as much
+  pub no-more : (n g : ℕ) (a : Label) → readsAloneOf n g a ≡ true → readsOf n g a ≡ true
+  pub of-one : (n p : ℕ) → p < width → (a : Label) → readsAloneOf n (single p) a ≡ readsOf n (single p) a
+  -- where there is a principal, the empty group reads nothing by either
+  pub of-none : (rule : Reading) (n : ℕ) → 1 ≤ n → (a : Label) → readsUnder rule n 0 a ≡ false
 
 -- the label of policies that name only the n principals is effective
 abbrev pub PoliciesEffective : Type 0

@@ -7,6 +7,7 @@ ghost use lib.Seq.{paste};
 ghost use Rattle.sets.specs.Sets.{within, meets, every};
 ghost use Rattle.labels.specs.Labels.{owners, openOf, policyOf, belowOf, joinOf, confidentialityOf, integrityOf, bottomOf, readsOf, writesOf};
 ghost use Rattle.labels.specs.Internal.Tables.{labelSize, setsAt, labelAt, labelPut};
+ghost use Rattle.labels.specs.Internal.Sole.{commonOf, soleReadersOf};
 use sets::Set;
 
 // A label has a place for each principal that a set has room for.
@@ -14,6 +15,13 @@ pub const OWNERS: usize = sets::WIDTH;
 
 // The number of words that a label takes in a table.
 pub const LABEL_SIZE: usize = 2 * OWNERS;
+
+// The rule of reading: for each owner one of a group's members is a reader, or one of its members is a reader for every
+// owner.
+pub enum Reading {
+    Pooled,
+    Alone,
+}
 
 pub struct Label {
     pub readers: [Set; OWNERS],
@@ -146,6 +154,20 @@ impl Label {
         meets_each(readers, n, group)
     }
 
+    // The principals who read by themselves: the readers for each owner below n, in common.
+    pub fn sole_readers(self, n: usize) -> Set
+        ensures { λ r. ⌜ r ≡ soleReadersOf n self ⌝ }
+    {
+        if n > OWNERS {
+            return 0;
+        }
+        let mut common = sets::everyone(OWNERS);
+        for o in 0..n {
+            common = sets::intersection(common, self.readers[o]);
+        }
+        common
+    }
+
     // Whether a group holds a writer for each owner below n.
     pub fn writes(self, n: usize, group: Set) -> bool
         ensures { λ r. ⌜ r ≡ writesOf n group self ⌝ }
@@ -217,6 +239,21 @@ pub fn meets_at(table: &[Set], at: usize, n: usize, group: Set) -> bool
         }
     }
     true
+}
+
+// What the first n sets from the word at `at` on have in common: of a label's readers, without the label, those who
+// read by themselves.
+pub fn common_at(table: &[Set], at: usize, n: usize) -> Set
+    ensures { λ r. ⌜ r ≡ commonOf n (λ o. getD (setsAt (now (table .entry)) at) o 0) ⌝ }
+{
+    if n > OWNERS {
+        return 0;
+    }
+    let mut common = sets::everyone(OWNERS);
+    for owner in 0..n {
+        common = sets::intersection(common, word_at(table, at, owner));
+    }
+    common
 }
 
 // Whether a group meets each of the first n sets.

@@ -2,11 +2,12 @@
 use Rattle.promises.specs.Promises.{Promises}
 use Rattle.sets.proofs.MeaningLaws.{masks-are-sets}
 use Rattle.labels.proofs.LatticeLaws.{security-lattices, non-trivial, one-label}
-use Rattle.labels.proofs.ReadingLaws.{empty-groups}
+use Rattle.labels.proofs.ReadingLaws.{empty-groups, closed-below, reading-downward, two-rules}
 use Rattle.labels.proofs.PolicyLaws.{policies-effective}
 use Rattle.language.proofs.Theorems.{theorems}
 use Rattle.language.proofs.Trust.{stricter-flow, trust-derivable}
 use Rattle.sheet.proofs.MeaningLaws.{least-label-laws, same-labels-on-sheets, numbers-agree-on-sheets}
+use Rattle.sheet.proofs.ReaderLaws.{reading-on-sheets}
 use Rattle.text.proofs.Decimals.{number-exact}
 use Rattle.text.proofs.Sets.{set-exact}
 use Rattle.text.proofs.Fields.{number-field-exact, set-field-exact, line-end-exact, last-number-exact}
@@ -23,10 +24,12 @@ use Rattle.simp.proofs.RoundViews.{round-view}
 use Rattle.simp.proofs.GroupDemands.{smallest-groups}
 use Rattle.simp.proofs.Unseen.{start-unseen}
 use Rattle.simp.proofs.TrustKept.{trust-kept}
+use Rattle.simp.proofs.ReadingRules.{only-reading, downward-suffices}
 use Rattle.simp.proofs.CasesHold.{cases-hold}
 use Rattle.scripts.proofs.Joined.{parts-exact}
 use Rattle.groups.proofs.ListLaws.{groups-exact, readers-hold-one}
 use Rattle.groups.proofs.RuleLaws.{reading-grows}
+use Rattle.groups.proofs.SingleLaws.{single-readers}
 use Rattle.parts.proofs.Apart.{joined-apart, missing-empty}
 use Rattle.parts.proofs.Steps.{chunks}
 use Rattle.parts.proofs.Keeping.{holds-parts}
@@ -43,6 +46,8 @@ promises = record {
   smallest-groups = smallest-groups;
   start-unseen = start-unseen;
   trust-kept = trust-kept;
+  only-reading = only-reading;
+  downward-suffices = downward-suffices;
   cases-hold = cases-hold;
   every-table = every-table;
   theorems = theorems;
@@ -54,13 +59,18 @@ promises = record {
   non-trivial = non-trivial;
   one-label = one-label;
   empty-groups = empty-groups;
+  closed-below = closed-below;
+  reading-downward = reading-downward;
+  two-rules = two-rules;
   policies-effective = policies-effective;
   groups-exact = groups-exact;
   readers-hold-one = readers-hold-one;
   reading-grows = reading-grows;
+  single-readers = single-readers;
   least-label-laws = least-label-laws;
   same-labels-on-sheets = same-labels-on-sheets;
   numbers-agree-on-sheets = numbers-agree-on-sheets;
+  reading-on-sheets = reading-on-sheets;
   number-exact = number-exact;
   set-exact = set-exact;
   number-field-exact = number-field-exact;

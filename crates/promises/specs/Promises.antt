@@ -3,9 +3,9 @@
 use mathlib.Core.List.{List}
 use Prim.Native.Nat.{ℕ}
 use Rattle.sets.specs.Meaning.{MasksAreSets}
-use Rattle.labels.specs.Lattice.{SecurityLattices, NonTrivial, OneLabel, EmptyGroups, PoliciesEffective}
+use Rattle.labels.specs.Lattice.{SecurityLattices, NonTrivial, OneLabel, EmptyGroups, ClosedBelow, ReadingDownward, TwoRules, PoliciesEffective}
 use Rattle.language.specs.Theorems.{Theorems, StricterFlow, TrustDerivable}
-use Rattle.sheet.specs.Theorems.{LeastLabelLawsHold, SameLabelsOnSheets, NumbersAgreeOnSheets}
+use Rattle.sheet.specs.Theorems.{LeastLabelLawsHold, SameLabelsOnSheets, NumbersAgreeOnSheets, ReadingOnSheets}
 use Rattle.text.specs.Reading.{Read}
 use Rattle.text.specs.Lines.{LineForm}
 use Rattle.text.specs.Theorems.{NumberExact, SetExact, NumberFieldExact, SetFieldExact, LineEndExact, LastNumberExact, LinesExact, AllLinesExact}
@@ -20,9 +20,10 @@ use Rattle.simp.specs.RoundView.{RoundView}
 use Rattle.simp.specs.SmallestGroups.{SmallestGroups}
 use Rattle.simp.specs.StartUnseen.{StartUnseen}
 use Rattle.simp.specs.TrustKept.{TrustKept}
+use Rattle.simp.specs.ReadingRules.{OnlyReading, DownwardSuffices}
 use Rattle.simp.specs.Cases.{CasesHold}
 use Rattle.scripts.specs.Theorems.{PartsExact}
-use Rattle.groups.specs.Theorems.{GroupsExact, ReadersHoldOne, ReadingGrows}
+use Rattle.groups.specs.Theorems.{GroupsExact, ReadersHoldOne, ReadingGrows, SingleReaders}
 use Rattle.parts.specs.Theorems.{JoinedApart, MissingEmpty, Chunks, HoldsParts}
 use Rattle.desk.specs.Theorems.{GroupExact, SameOrder, ShowInOrder, KeptEnough, ShowsInput}
 
@@ -51,8 +52,14 @@ pub record Promises : Type 1 where
   -- under one authority, from memories that are alike in what is left, leave memories that are; and so do rounds of
   -- such scripts.
   pub trust-kept : TrustKept
-  -- The scope's starred cases, its two of long values, rounds, smallest groups, starting labels and trust-keeping
-  -- scripts, in one table.
+  -- A sheet's rule of reading decides who reads, and nothing else: who writes, what is left where a group is distrusted,
+  -- which sheets, scripts and memories are refused, and which scripts are trust-keeping stay.
+  pub only-reading : OnlyReading
+  -- What the view promises, noninterference of runs and rounds and that a start that isn't read isn't seen, rests on one
+  -- fact about reading: it is promised to everyone who reads with a label every label below it by readers alone.
+  pub downward-suffices : DownwardSuffices
+  -- The scope's starred cases, its two of long values, rounds, smallest groups, starting labels, trust-keeping scripts,
+  -- pairs and one reader by himself, in one table.
   pub cases-hold : CasesHold
   -- Of any table of refusal numbers: the first that applies is given, and it settles the whole answer; there is exactly one answer where it is
   -- settled which row applies first, and there is exactly one where none applies.
@@ -75,14 +82,22 @@ pub record Promises : Type 1 where
 
   -- A set of principals is a number whose bit p is principal p; the operations on numbers are those on sets.
   pub masks-are-sets : MasksAreSets
-  -- The labels of up to 16 principals are a bounded order with joins; C, I, reading and writing obey the laws of the paper's section 2.2.
+  -- The labels of up to 16 principals are a bounded order with joins; C, I, reading by the scope's rule and writing obey
+  -- the laws of the paper's section 2.2.
   pub security-lattices : SecurityLattices
   -- The lattice of two principals or more is not trivial.
   pub non-trivial : NonTrivial
   -- One principal has one label.
   pub one-label : OneLabel
-  -- Where there is a principal, the empty group reads nothing and writes nothing.
+  -- Where there is a principal, the empty group reads nothing by the scope's rule and writes nothing.
   pub empty-groups : EmptyGroups
+  -- Who reads with a label what is below it by readers alone reads with it every label below it.
+  pub closed-below : ClosedBelow
+  -- Every group reads so, by the scope's rule and where one reads by himself.
+  pub reading-downward : ReadingDownward
+  -- Where one reads by himself, a group reads exactly if a member does as a group of one; it reads no more than by the
+  -- scope's rule, a group of one as much, and the empty group nothing.
+  pub two-rules : TwoRules
   -- The label of policies that name only the n principals is effective.
   pub policies-effective : PoliciesEffective
   -- By any rule of reading, the smallest groups are those of one list.
@@ -91,12 +106,17 @@ pub record Promises : Type 1 where
   pub readers-hold-one : ReadersHoldOne
   -- The sheet's rule of reading grows with the group.
   pub reading-grows : ReadingGrows
+  -- Where one reads by himself, the smallest groups are the single readers.
+  pub single-readers : SingleReaders
   -- The labels that a sheet's scripts are typed over obey the laws that exact typing asks for.
   pub least-label-laws : LeastLabelLawsHold
   -- Typing and running go by the same labels of a sheet.
   pub same-labels-on-sheets : SameLabelsOnSheets
   -- On a sheet that repeats nothing, equal numbers and equal meaning agree.
   pub numbers-agree-on-sheets : NumbersAgreeOnSheets
+  -- A group reads a label of a sheet by its rule: for every owner one of its members is a reader, or one of its members
+  -- is a reader for every owner.
+  pub reading-on-sheets : ReadingOnSheets
   -- ---- The texts
 
   -- A number is read exactly where its decimal form stands.

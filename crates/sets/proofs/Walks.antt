@@ -1,4 +1,4 @@
--- Laws of `every` and `tab`, for loops that test one place a turn or fill one; and of stores, one run after another.
+-- Laws of `every`, `any` and `tab`, for loops that test one place a turn or fill one; and of stores, one run after another.
 -- Assumes nothing.
 use mathlib.Core.Path.{_≡_, refl, sym, ap, ap₂, _∙_}
 use mathlib.Core.Bool.{Bool, true, false}
@@ -11,9 +11,9 @@ use lib.ListN.{length, getD, set, drop}
 use lib.Seq.{set-getD, sets}
 use lib.Dec.{ltb}
 use borrow.Author.Tests.{ltb-true, ltb-false}
-use Rattle.logic.specs.Booleans.{both}
-use Rattle.logic.proofs.BooleanLaws.{absurd-false, bool-ext, both-left, both-no-left, both-no-right, both-right, both-true, both-yes-left, cases}
-use Rattle.sets.specs.Sets.{every, tab}
+use Rattle.logic.specs.Booleans.{both, either}
+use Rattle.logic.proofs.BooleanLaws.{absurd-false, bool-ext, both-left, both-no-left, both-no-right, both-right, both-true, both-yes-left, cases, either-left, either-right}
+use Rattle.sets.specs.Sets.{every, any, tab}
 
 -- by whether m is below n
 pub by-below : {P : Type 0} (m n : ℕ) → (m < n → P) → (n ≤ m → P) → P
@@ -64,6 +64,20 @@ every-both n f g =
     bool-ext (every n (λ (i : ℕ). both (f i) (g i))) (both (every n f) (every n g))
     (λ h. both-true (every-true n f (λ i l. both-left (f i) (g i) (every-at n _ h i l))) (every-true n g (λ i l. both-right (f i) (g i) (every-at n _ h i l))))
     (λ h. every-true n _ (λ i l. both-true (every-at n f (both-left _ (every n g) h) i l) (every-at n g (both-right (every n f) _ h) i l)))
+
+-- ---- any
+pub any-true : (n : ℕ) (f : ℕ → Bool) (i : ℕ) → i < n → f i ≡ true → any n f ≡ true
+unfolding any
+any-true zero f i l e = absurd (not-suc-le-zero l)
+any-true (suc n) f zero l e = either-left (f 0) _ e
+any-true (suc n) f (suc i) l e = either-right (f 0) _ (any-true n (λ (k : ℕ). f (suc k)) i (le-of-suc-le-suc l) e)
+
+pub any-at : (n : ℕ) (f : ℕ → Bool) → any n f ≡ true → (i : ℕ) × (i < n) × (f i ≡ true)
+unfolding any either
+any-at zero f e = absurd (absurd-false e)
+any-at (suc n) f e =
+    cases (f 0) (λ t. (0, zero-lt-suc n, t))
+    (λ z. let (i, l, t) = any-at n (λ (i : ℕ). f (suc i)) (rw z at e) in (suc i, suc-le-suc l, t))
 
 -- ---- tab
 pub length-tab : (n : ℕ) (f : ℕ → ℕ) → length (tab n f) ≡ n

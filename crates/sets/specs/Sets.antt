@@ -1,11 +1,11 @@
 -- Sets of principals as masks: bit p of a set is principal p, the lowest bit being p = 0 (the scope, "Principals and labels").
 -- Only `width` names a width.
-use mathlib.Core.Bool.{Bool, true, not}
+use mathlib.Core.Bool.{Bool, true, false, not}
 use mathlib.Core.List.{List, [], _∷_}
 use Prim.Native.Nat.{ℕ, zero, suc, _/_, _%_, _^_, _-_}
 use lib.Bits.{bitAnd, bitOr}
 use lib.Dec.{eqb}
-use Rattle.logic.specs.Booleans.{both}
+use Rattle.logic.specs.Booleans.{both, either}
 
 -- the number of bits of a set in the code
 abbrev pub width : ℕ
@@ -51,6 +51,11 @@ restrict k m = m % 2 ^ k
 unfoldable pub every : ℕ → (ℕ → Bool) → Bool
 every zero f = true
 every (suc n) f = both (f 0) (every n (λ (i : ℕ). f (suc i)))
+
+-- the test f passes at some number below n
+unfoldable pub any : ℕ → (ℕ → Bool) → Bool
+any zero f = false
+any (suc n) f = either (f 0) (any n (λ (i : ℕ). f (suc i)))
 
 -- f 0, f 1, .. : n of them
 unfoldable pub tab : ℕ → (ℕ → ℕ) → List ℕ

@@ -5,7 +5,7 @@ use mathlib.Core.Path.{_≡_, refl, ap₂}
 use mathlib.Core.Bool.{Bool, true, false}
 use Prim.Native.Nat.{ℕ}
 use Rattle.logic.proofs.BooleanLaws.{absurd-false}
-use Rattle.labels.specs.Labels.{belowOf, confidentialityOf, integrityOf, readsOf, writesOf, wholeOf, effective, EffectiveLabel}
+use Rattle.labels.specs.Labels.{belowOf, confidentialityOf, integrityOf, writesOf, wholeOf, effective, EffectiveLabel}
 use Rattle.labels.specs.declared.Label.{Label}
 use Rattle.labels.proofs.OrderLaws as order
 use Rattle.labels.proofs.PartLaws as part
@@ -17,7 +17,7 @@ use Rattle.sheet.specs.Meaning.{effectiveIf, effectively, declarationsOf
 use Rattle.sheet.specs.Theorems.{LeastLabelLawsHold, SameLabelsOnSheets, NumbersAgreeOnSheets}
 use Rattle.sheet.proofs.RepeatLaws.{label-once}
 use Rattle.sheet.proofs.TypeLaws.{ty-once}
-use Rattle.sheet.proofs.TableLaws.{principals-in}
+use Rattle.sheet.proofs.TableLaws.{principals-in, reading-in}
 use Rattle.sheet.proofs.LabelLaws.{label-no-effective, label-in}
 
 pub least-label-laws : LeastLabelLawsHold
@@ -62,7 +62,7 @@ module _ (s : Sheet) (fm : formed s ≡ true) where
 
   pub reads-in : (g l : ℕ) → readsIn (tableOf s) g l ≡ readsNo s g l
   unfolding readsIn
-  reads-in g l = ap₂ (λ (n : ℕ) (a : Label). readsOf n g a) (principals-in s fm) (label-in s fm l)
+  reads-in g l = rw (reading-in s fm, principals-in s fm, label-in s fm l)
 
   pub writes-in : (g l : ℕ) → writesIn (tableOf s) g l ≡ writesNo s g l
   unfolding writesIn

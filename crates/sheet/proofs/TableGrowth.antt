@@ -21,9 +21,9 @@ use Rattle.sheet.specs.declared.Kind.{Kind}
 use Rattle.sheet.specs.declared.Kind.the-variants.{Sum, Pair}
 use Rattle.sheet.specs.Sheet.{Compound, Location, Sheet, typeCount, labelsOf, labelNo, labelCount, locationCount, maxPrincipals, maxLabels, maxLocations, formed}
 use Rattle.sheet.specs.Padding.{padded}
-use Rattle.sheet.specs.Internal.Tables.{maxTypes, partsRoom, locationsRoom, labelsRoom, partsBase, locationsBase, partsPlace, labelPlace, tableWords, typesAt, labelsAt, locationsAt, entryWords, partWords, locationWords, labelsWords, tableOf, labelIn, rightWord, givenParts, typeParts}
-use Rattle.sheet.specs.Internal.Growth.{bareSheet, addCompound, addLabel, toLast, addPolicy, addLocation}
-use Rattle.sheet.specs.Internal.Writers.{low, principalsPut, entryPut, compoundPut, locationPut, labelSet, openPut, policyPut}
+use Rattle.sheet.specs.Internal.Tables.{maxTypes, partsRoom, locationsRoom, labelsRoom, partsBase, locationsBase, partsPlace, labelPlace, tableWords, typesAt, labelsAt, locationsAt, entryWords, partWords, locationWords, labelsWords, tableOf, labelIn, rightWord, givenParts, typeParts, readingWord}
+use Rattle.sheet.specs.Internal.Growth.{bareSheet, addReading, addCompound, addLabel, toLast, addPolicy, addLocation}
+use Rattle.sheet.specs.Internal.Writers.{low, principalsPut, readingPut, entryPut, compoundPut, locationPut, labelSet, openPut, policyPut}
 use Rattle.sheet.proofs.FormLaws.{formed-facts, type-count, parts-count}
 use Rattle.sheet.proofs.Words.{length-padded, length-entries}
 use Rattle.sheet.proofs.TableLaws.{principals-in, everyone-in, types-in, labels-in, locations-in, heading, partBlock, locationBlock, labelBlock, toLocations, toLabels, from-locations, from-labels, locations-start, labels-start}
@@ -92,7 +92,7 @@ module _ {A : Type 0} (first second : A → ℕ) where
 
 -- the words of a heading, then others
 headed : Sheet → ℕ → ℕ → ℕ → List ℕ → List ℕ
-headed s types labels locations ws = s .principals ∷ everyone (s .principals) ∷ types ∷ labels ∷ locations ∷ 0 ∷ 0 ∷ 0 ∷ ws
+headed s types labels locations ws = s .principals ∷ everyone (s .principals) ∷ types ∷ labels ∷ locations ∷ readingWord (s .reading) ∷ 0 ∷ 0 ∷ ws
 
 -- an entry is stored where there is room
 entry-put : (base count most a b n : ℕ) (t : List ℕ) → getD t count 0 ≡ n → n < most → most ≤ maxLocations → a ≤ maxLocations → b ≤ maxLocations
@@ -288,5 +288,11 @@ module _ (s : Sheet) (fm : formed s ≡ true) where
 -- ---- a sheet with nothing but its principals
 
 pub principals-put : (n : ℕ) → n ≤ maxPrincipals → principalsPut n (replicate tableWords 0) ≡ tableOf (bareSheet n)
-unfolding tableOf bareSheet typeCount labelCount locationCount labelsOf typeParts givenParts padded entryWords rightWord labelsWords
+unfolding tableOf bareSheet typeCount labelCount locationCount labelsOf typeParts givenParts padded entryWords rightWord labelsWords readingWord
 principals-put n few = rw (low-count n (omega arith), restrict-everyone width n (omega arith))
+
+-- ---- the rule of reading
+
+pub reading-put : (s : Sheet) → readingPut (tableOf s) ≡ tableOf (addReading s)
+unfolding tableOf addReading typeCount labelCount locationCount labelsOf typeParts
+reading-put s = refl

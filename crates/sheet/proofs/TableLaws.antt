@@ -12,11 +12,13 @@ use Rattle.logic.proofs.BooleanLaws.{bool-ext}
 use native.Mathlib.Omega.{arith}
 use lib.ListN.{length, getD, length-append}
 use Rattle.sets.specs.Sets.{everyone}
+use Rattle.labels.specs.declared.Reading.{Reading}
+use Rattle.labels.specs.declared.Reading.the-variants.{Pooled, Alone}
 use Rattle.sheet.specs.declared.Kind.{Kind}
 use Rattle.sheet.specs.declared.Kind.the-variants.{Sum, Pair}
 use Rattle.sheet.specs.Sheet.{Compound, Location, Sheet, typeCount, labelsOf, labelCount, locationNo, locationCount, formed, sameKind}
 use Rattle.sheet.specs.Padding.{padded}
-use Rattle.sheet.specs.Internal.Tables.{partsRoom, locationsRoom, labelsRoom, partsBase, locationsBase, labelsBase, partWords, locationWords, labelsWords, tableOf, principalsIn, everyoneIn, typesIn, labelsIn, locationsIn, entryIn, leftIn, rightWordIn, rightIn, kindIn, typeIn, homeIn, maxTypes, rightWord, noParts, typeParts, partsNo}
+use Rattle.sheet.specs.Internal.Tables.{partsRoom, locationsRoom, labelsRoom, partsBase, locationsBase, labelsBase, partWords, locationWords, labelsWords, tableOf, principalsIn, everyoneIn, typesIn, labelsIn, locationsIn, readingWord, readingIn, entryIn, leftIn, rightWordIn, rightIn, kindIn, typeIn, homeIn, maxTypes, rightWord, noParts, typeParts, partsNo}
 use Rattle.sheet.proofs.FormLaws.{Formed, formed-facts, type-count, parts-count, parts-there}
 use Rattle.sheet.proofs.Words.{length-padded, length-entries, entry-at, entry-of}
 
@@ -43,10 +45,18 @@ module _ (s : Sheet) (fm : formed s ≡ true) where
   unfolding tableOf
   locations-in = refl
 
+  pub reading-in : readingIn (tableOf s) ≡ s .reading
+  unfolding tableOf readingIn readingWord
+  reading-in = of (s .reading)
+    where
+      of : (r : Reading) → cond (eqb (readingWord r) 0) Pooled Alone ≡ r
+      of Pooled = refl
+      of Alone = refl
+
 -- ---- the four blocks
 
 unfoldable pub heading : Sheet → List ℕ
-heading s = s .principals ∷ everyone (s .principals) ∷ typeCount s ∷ labelCount s ∷ locationCount s ∷ 0 ∷ 0 ∷ 0 ∷ []
+heading s = s .principals ∷ everyone (s .principals) ∷ typeCount s ∷ labelCount s ∷ locationCount s ∷ readingWord (s .reading) ∷ 0 ∷ 0 ∷ []
 
 unfoldable pub partBlock : Sheet → List ℕ
 partBlock s = padded partsRoom (partWords (typeParts s))

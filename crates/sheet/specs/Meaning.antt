@@ -4,7 +4,7 @@ use mathlib.Core.Path.{_≡_, refl}
 use mathlib.Core.Bool.{Bool, true, false}
 use Prim.Native.Nat.{ℕ}
 use Rattle.sets.specs.Sets.{everyone}
-use Rattle.labels.specs.Labels.{belowOf, joinOf, confidentialityOf, integrityOf, bottomOf, readsOf, writesOf, effective, EffectiveLabel}
+use Rattle.labels.specs.Labels.{belowOf, joinOf, confidentialityOf, integrityOf, bottomOf, readsUnder, writesOf, effective, EffectiveLabel}
 use Rattle.labels.specs.declared.Label.{Label}
 use Rattle.labels.proofs.EffectiveLaws.{bottom-effective, join-effective, C-effective, I-effective}
 use Rattle.language.specs.Syntax.{Script}
@@ -54,16 +54,16 @@ startLabel s p = startOf (labelsOver (s .principals)) (declarationsOf s) (p .ope
 abbrev pub belowNo : Sheet → ℕ → ℕ → Bool
 belowNo s l m = belowOf (labelNo s l) (labelNo s m)
 
--- whether a group reads a label, and whether it writes it, by the label's number
+-- whether a group reads a label, by the sheet's rule, and whether it writes it, by the label's number
 abbrev pub readsNo : Sheet → ℕ → ℕ → Bool
-readsNo s g l = readsOf (s .principals) g (labelNo s l)
+readsNo s g l = readsUnder (s .reading) (s .principals) g (labelNo s l)
 
 abbrev pub writesNo : Sheet → ℕ → ℕ → Bool
 writesNo s g l = writesOf (s .principals) g (labelNo s l)
 
--- whether a group reads the label that a script starts at
+-- whether a group reads the label that a script starts at, by the sheet's rule
 abbrev pub readsStart : Sheet → ℕ → Script → Bool
-readsStart s g p = readsOf (s .principals) g (startLabel s p .raw)
+readsStart s g p = readsUnder (s .reading) (s .principals) g (startLabel s p .raw)
 
 -- what a run under an authority rests on
 abbrev pub worldOf : Sheet → ℕ → World

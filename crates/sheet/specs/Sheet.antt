@@ -1,5 +1,5 @@
--- A sheet (the scope, "The three texts", and request (f)): its lines, what the numbers on it name, and what it must
--- satisfy.
+-- A sheet (the scope, "The three texts", and requests (f) and (g)): its lines, what the numbers on it name, and what it
+-- must satisfy.
 use mathlib.Core.Bool.{Bool, true, false}
 use mathlib.Core.List.{List, [], _∷_, _++_, map}
 use Prim.Native.Nat.{ℕ, suc, _+_, _^_}
@@ -9,6 +9,7 @@ use Rattle.logic.specs.Booleans.{both, either}
 use Rattle.sets.specs.Sets.{everyone}
 use Rattle.labels.specs.Labels.{Policy, policy, labelOf, bottomOf, sameOf}
 use Rattle.labels.specs.declared.Label.{Label}
+use Rattle.labels.specs.declared.Reading.{Reading}
 use Rattle.sheet.specs.declared.Kind.{Kind}
 use Rattle.sheet.specs.declared.Kind.the-variants.{Sum, Pair}
 use Rattle.language.specs.Syntax.{Ty, t-int, t-err, t-pkg, t-sum, t-pair}
@@ -25,9 +26,11 @@ pub record Location : Type 0 where
   pub type : ℕ
   pub label : ℕ
 
--- `P n`, the `T` and `Q` lines, the labels as `L` with the policies of its `O` lines, the `X` lines.
+-- `P n`, the rule of reading, which is `Alone` with the line `R 1` and `Pooled` without it, the `T` and `Q` lines, the
+-- labels as `L` with the policies of its `O` lines, the `X` lines.
 pub record Sheet : Type 0 where
   pub principals : ℕ
+  pub reading : Reading
   pub compounds : List Compound
   pub labels : List (List Policy)
   pub locations : List Location

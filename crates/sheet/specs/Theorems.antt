@@ -1,12 +1,16 @@
--- What is claimed of a sheet's labels and numbers. The proofs are `least-label-laws`, `same-labels-on-sheets` and
--- `numbers-agree-on-sheets` (proofs/MeaningLaws.antt).
+-- What is claimed of a sheet's labels and numbers, and of who reads. The proofs are `least-label-laws`,
+-- `same-labels-on-sheets` and `numbers-agree-on-sheets` (proofs/MeaningLaws.antt) and `reading-on-sheets`
+-- (proofs/ReaderLaws.antt).
+use mathlib.Core.Logic.{_↔_}
 use mathlib.Core.Path.{_≡_}
 use mathlib.Core.Bool.{true, false}
 use Prim.Native.Nat.{ℕ, _<_}
-use Rattle.labels.specs.Labels.{effective}
+use Rattle.sets.specs.Sets.{member}
+use Rattle.labels.specs.Labels.{readersOf, effective}
+use Rattle.labels.specs.declared.Reading.the-variants.{Pooled, Alone}
 use Rattle.language.specs.Labels.{LeastLabelLaws}
 use Rattle.sheet.specs.Sheet.{Sheet, tyOf, typeCount, labelNo, labelCount, locationNo, formed, repeats}
-use Rattle.sheet.specs.Meaning.{labelsOver, declarationsOf}
+use Rattle.sheet.specs.Meaning.{labelsOver, declarationsOf, readsNo}
 
 -- The labels of n principals satisfy the laws that make least labels exact.
 abbrev pub LeastLabelLawsHold : Type 0
@@ -30,3 +34,14 @@ pub record NumbersAgree (s : Sheet) : Type 0 where
 
 abbrev pub NumbersAgreeOnSheets : Type 0
 NumbersAgreeOnSheets = (s : Sheet) → formed s ≡ true → repeats s ≡ false → NumbersAgree s
+
+-- Whether a group reads label l (the scope, and request (g)). Pooled: for every owner one of its members is an effective
+-- reader. Alone: one of its members is an effective reader for every owner.
+pub record ReadingMeans (s : Sheet) (g l : ℕ) : Type 0 where
+  pub pooled : s .reading ≡ Pooled
+      → (readsNo s g l ≡ true) ↔ ((o : ℕ) → o < s .principals → (p : ℕ) × (member p g ≡ true) × (member p (readersOf (labelNo s l) o) ≡ true))
+  pub alone : s .reading ≡ Alone
+      → (readsNo s g l ≡ true) ↔ ((p : ℕ) × (member p g ≡ true) × ((o : ℕ) → o < s .principals → member p (readersOf (labelNo s l) o) ≡ true))
+
+abbrev pub ReadingOnSheets : Type 0
+ReadingOnSheets = (s : Sheet) → formed s ≡ true → (g l : ℕ) → ReadingMeans s g l

@@ -5,11 +5,14 @@ pub mod write; // write.rt: what is stored where the sheet grows
 
 ghost use mathlib.Core.Path.{_≡_};
 ghost use lib.ListN.{getD};
-ghost use Rattle.sheet.specs.Internal.Tables.{partsPlace, labelPlace, entryIn, principalsIn, everyoneIn, typesIn, labelsIn, locationsIn, leftIn, rightIn, typeIn, rightWordIn, homeIn, labelIn, belowIn, readsIn, writesIn};
+ghost use Rattle.sheet.specs.Internal.Tables.{partsPlace, labelPlace, entryIn, principalsIn, everyoneIn, typesIn, labelsIn, locationsIn, leftIn, rightIn, typeIn, rightWordIn, homeIn, labelIn, belowIn, readingIn, readsIn, writesIn};
+ghost use Rattle.labels.specs.Labels.{readsOf};
+ghost use Rattle.labels.specs.Internal.Sole.{soleReadersOf};
 ghost use Rattle.sheet.specs.Internal.TypeTest.{isOf, isSum, isPair};
 use labels::LABEL_SIZE;
 use labels::Label;
 use labels::OWNERS;
+use labels::Reading;
 use sets::Set;
 
 // The two kinds of types that a sheet makes of others.
@@ -32,7 +35,8 @@ pub const MOST_LOCATIONS: u32 = 64;
 
 pub const MOST_LABELS: u32 = 32;
 
-// The words of the number of principals, of their set, and of the counts of types, of labels and of locations.
+// The words of the number of principals, of their set, of the counts of types, of labels and of locations, and of the
+// rule of reading.
 const PRINCIPAL_COUNT: usize = 0;
 
 const EVERYONE: usize = 1;
@@ -42,6 +46,13 @@ const TYPE_COUNT: usize = 2;
 const LABEL_COUNT: usize = 3;
 
 const LOCATION_COUNT: usize = 4;
+
+const READING: usize = 5;
+
+// The words of the two rules.
+const POOLED: Word = 0;
+
+const ALONE: Word = 1;
 
 // Where the parts of types, the locations and the labels start in a table, and its words in all.
 const PARTS: u32 = 8;
@@ -123,6 +134,17 @@ pub fn locations(table: &[Word]) -> u32
     ensures { λ r. ⌜ r ≡ locationsIn (now (table .entry)) ⌝ }
 {
     number(table, LOCATION_COUNT)
+}
+
+// The rule of reading.
+pub fn reading(table: &[Word]) -> Reading
+    ensures { λ r. ⌜ r ≡ readingIn (now (table .entry)) ⌝ }
+{
+    if word(table, READING) == POOLED {
+        Reading::Pooled
+    } else {
+        Reading::Alone
+    }
 }
 
 // The second word of a type: its right part; of a pair MOST_TYPES more. 0 for a number that names no type.
@@ -225,15 +247,36 @@ pub fn below(table: &[Word], l: u32, m: u32) -> bool
     lower.at_or_below(upper)
 }
 
-// Whether a group reads label l.
-pub fn reads(table: &[Word], group: Set, l: u32) -> bool
-    ensures { λ r. ⌜ r ≡ readsIn (now (table .entry)) group l ⌝ }
+// Whether a group reads label l by what its members may read together.
+fn reads_pooled(table: &[Word], group: Set, l: u32) -> bool
+    ensures { λ r. ⌜ r ≡ readsOf (principalsIn (now (table .entry))) group (labelIn (now (table .entry)) l) ⌝ }
 {
     let n = principals(table) as usize;
     if labels(table) <= l {
         return Label::bottom(everyone(table)).reads(n, group);
     }
     labels::meets_at(table, LABELS + LABEL_SIZE * (l as usize), n, group)
+}
+
+// The principals who read label l by themselves.
+fn sole_readers(table: &[Word], l: u32) -> Set
+    ensures { λ r. ⌜ r ≡ soleReadersOf (principalsIn (now (table .entry))) (labelIn (now (table .entry)) l) ⌝ }
+{
+    let n = principals(table) as usize;
+    if labels(table) <= l {
+        return Label::bottom(everyone(table)).sole_readers(n);
+    }
+    labels::common_at(table, LABELS + LABEL_SIZE * (l as usize), n)
+}
+
+// Whether a group reads label l, by the sheet's rule.
+pub fn reads(table: &[Word], group: Set, l: u32) -> bool
+    ensures { λ r. ⌜ r ≡ readsIn (now (table .entry)) group l ⌝ }
+{
+    match reading(table) {
+        Reading::Pooled => reads_pooled(table, group, l),
+        Reading::Alone => sets::meets(group, sole_readers(table, l)),
+    }
 }
 
 // Whether a group writes label l.

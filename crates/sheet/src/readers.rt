@@ -3,15 +3,17 @@ ghost use mathlib.Core.Path.{_≡_};
 ghost use Rattle.sheet.specs.Internal.Readers.{readsBy, readersIn};
 use crate::Word;
 use labels::OWNERS;
+use labels::Reading;
 use sets::Set;
 
-// The readers of each owner. A place that has no principal holds everyone, whom each group meets that reads.
+// The sets that a group meets if it reads. Pooled: the readers of each owner; a place that has no principal holds
+// everyone, whom each group meets that reads. Alone: in each place those who read by themselves.
 pub struct Readers {
     pub sets: [Set; OWNERS],
 }
 
 impl Readers {
-    // Whether a group holds a reader for each owner. All places are tested, since a loop that always goes to its end
+    // Whether a group meets each of the sets. All places are tested, since a loop that always goes to its end
     // takes fewer instructions than one that may stop.
     pub fn reads(self, group: Set) -> bool
         ensures { λ r. ⌜ r ≡ readsBy self group ⌝ }
@@ -29,7 +31,14 @@ impl Readers {
 pub fn readers_of(table: &[Word], l: u32) -> Readers
     ensures { λ r. ⌜ r ≡ readersIn (now (table .entry)) l ⌝ }
 {
-    let label = crate::label_of(table, l);
-    let sets = label.readers;
-    Readers { sets }
+    match crate::reading(table) {
+        Reading::Pooled => {
+            let label = crate::label_of(table, l);
+            let sets = label.readers;
+            Readers { sets }
+        }
+        Reading::Alone => Readers {
+            sets: [crate::sole_readers(table, l); OWNERS],
+        },
+    }
 }

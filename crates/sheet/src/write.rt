@@ -3,7 +3,8 @@
 ghost use mathlib.Core.Path.{_≡_};
 ghost use Prim.Native.Nat.{_+_, _*_, _<_, _≤_};
 ghost use Rattle.sheet.specs.Internal.Tables.{tableWords, rightWord};
-ghost use Rattle.sheet.specs.Internal.Writers.{low, principalsPut, entryPut, compoundPut, locationPut, openPut, policyPut};
+ghost use Rattle.sheet.specs.Internal.Writers.{low, principalsPut, readingPut, entryPut, compoundPut, locationPut, openPut, policyPut};
+use super::ALONE;
 use super::ERROR;
 use super::EVERYONE;
 use super::GIVEN_TYPES;
@@ -18,6 +19,7 @@ use super::PARTS;
 use super::PKG;
 use super::PKG_OR_ERROR;
 use super::PRINCIPAL_COUNT;
+use super::READING;
 use super::TYPE_COUNT;
 use super::WORDS;
 use super::Word;
@@ -46,6 +48,13 @@ pub fn put_principals(table: &mut [Word; WORDS], n: u32)
     table[TYPE_COUNT] = GIVEN_TYPES as Word;
     table[PKG_PLACE] = PKG as Word;
     table[PKG_PLACE + 1] = ERROR as Word;
+}
+
+// The rule of the line `R 1`.
+pub fn put_reading(table: &mut [Word; WORDS])
+    ensures { λ _. ⌜ now (table .exit) ≡ readingPut (now (table .entry)) ⌝ }
+{
+    table[READING] = ALONE;
 }
 
 // An entry of two words behind those from `base` on, of which there are at most `most` and as many as the word at

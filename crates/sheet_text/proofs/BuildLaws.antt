@@ -11,21 +11,23 @@ use lib.ListN.{length}
 use lib.Pow.{pow-mono}
 use borrow.Author.Tests.{le-leb, ltb-true, leb-true, eqb-true}
 use Rattle.logic.specs.Booleans.{both}
-use Rattle.logic.proofs.BooleanLaws.{both-left, both-right, both-true, cond-split}
+use Rattle.logic.proofs.BooleanLaws.{absurd-false, both-left, both-right, both-true, cond-split}
 use Rattle.text.specs.Lines.{none-left, and-then}
 use Rattle.logic.proofs.OptionLaws.{none-some, some-path}
 use Rattle.sets.specs.Sets.{width}
 use Rattle.labels.specs.Labels.{policy}
+use Rattle.labels.specs.declared.Reading.{Reading}
+use Rattle.labels.specs.declared.Reading.the-variants.{Pooled, Alone}
 use Rattle.sheet.specs.Internal.Tables.{typeParts}
 use Rattle.sheet.specs.declared.Kind.{Kind}
 use Rattle.sheet.specs.declared.Kind.the-variants.{Sum, Pair}
 use Rattle.sheet.specs.Sheet.{Compound, Location, Sheet, typeCount, labelCount, locationCount, earlierTypes, rising, eachRising, eachNamed, maxPrincipals, maxCompounds, maxLabels, maxLocations, formed}
 use Rattle.sheet.proofs.FormLaws.{Formed, formed-facts, type-count}
 use Rattle.sheet_text.specs.declared.line.Line.{Line}
-use Rattle.sheet_text.specs.declared.line.Line.the-variants.{P, T, Q, L, O, X}
-use Rattle.sheet_text.specs.Lines.{typeLine, compoundLine, policyLine, locationLine, each, labelLines, linesThen, sheetLines}
-use Rattle.sheet.specs.Internal.Growth.{bareSheet, addCompound, addLabel, addPolicy, addLocation}
-use Rattle.sheet_text.specs.Internal.Building.{leastOwner, compoundFits, labelFits, policyFits, locationFits, begin, addType, addLine, addLineOn, addLines, build}
+use Rattle.sheet_text.specs.declared.line.Line.the-variants.{P, R, T, Q, L, O, X}
+use Rattle.sheet_text.specs.Lines.{readingLines, typeLine, compoundLine, policyLine, locationLine, each, labelLines, linesThen, sheetLines}
+use Rattle.sheet.specs.Internal.Growth.{bareSheet, addReading, addCompound, addLabel, addPolicy, addLocation}
+use Rattle.sheet_text.specs.Internal.Building.{leastOwner, isPooled, readingFits, compoundFits, labelFits, policyFits, locationFits, begin, addType, addLine, addLineOn, addLines, build}
 use Rattle.sheet_text.proofs.LineLaws.{Fits, AllFit, type-line-fits}
 use Rattle.sheet.proofs.GrowthLaws.{length-more, length-toLast}
 use Rattle.sheet_text.proofs.GrowthLaws.{no-entries, each-more, labels-more, policies-more, earlier-more, each-rising-more, each-rising-last, each-named-more}
@@ -52,9 +54,33 @@ pub no-labels : (s : Sheet) → eqb (labelCount s) 0 ≡ true → s .labels ≡ 
 unfolding labelCount
 no-labels s e = no-entries (s .labels) (eqb-true _ _ e)
 
+pub no-compounds : (s : Sheet) → eqb (length (s .compounds)) 0 ≡ true → s .compounds ≡ []
+no-compounds s e = no-entries (s .compounds) (eqb-true _ _ e)
+
+is-pooled : (r : Reading) → isPooled r ≡ true → r ≡ Pooled
+unfolding isPooled
+is-pooled Pooled e = refl
+is-pooled Alone e = absurd (absurd-false e)
+
+-- the lines before the types, then rest
+abbrev opening : Sheet → List Line → List Line
+opening s rest = P (s .principals) ∷ readingLines (s .reading) rest
+
 module _ (s : Sheet) (fm : formed s ≡ true) where
   facts : Formed s
   facts = formed-facts s fm
+
+  take-reading : (k : ℕ) → readingFits s k ≡ true → Taken s (R k) (addReading s)
+  unfolding readingFits addReading linesThen readingLines each labelLines formed typeCount labelCount Fits
+  take-reading k e =
+      let rest = both-right _ _ e in
+      let bare = both-right _ _ rest in
+      let one : k ≡ 1 = eqb-true _ _ (both-left _ _ rest) in
+      let r = is-pooled (s .reading) (both-left _ _ e) in
+      let c = no-compounds s (both-left _ _ bare) in
+      let l = no-labels s (both-left _ _ (both-right _ _ bare)) in
+      let x0 = no-locations s (both-right _ _ (both-right _ _ bare)) in
+      record { next = λ rest. rw (one, r, c, l, x0); right = fm; fits = omega arith }
 
   take-compound : (k : Kind) (a b : ℕ) → compoundFits s a b ≡ true → Taken s (typeLine k a b) (addCompound s (record { kind = k; left = a; right = b }))
   unfolding compoundFits addCompound linesThen
@@ -70,7 +96,7 @@ module _ (s : Sheet) (fm : formed s ≡ true) where
       let x0 = no-locations s (both-right _ _ order) in
       let count = type-count s in
       record {
-        next = λ rest. unfold labelLines each compoundLine in (rw (l, x0) (ap (_∷_ (P (s .principals))) (each-more compoundLine (s .compounds) x rest)));
+        next = λ rest. unfold labelLines each compoundLine in (rw (l, x0) (ap (opening s) (each-more compoundLine (s .compounds) x rest)));
         right =
             formed-made (addCompound s x)
             (record {
@@ -92,7 +118,7 @@ module _ (s : Sheet) (fm : formed s ≡ true) where
       let few : length (s .labels) < maxLabels = ltb-true _ _ (both-right _ _ e) in
       let x0 = no-locations s (both-left _ _ e) in
       record {
-        next = λ rest. unfold each in (rw x0 (ap (λ ls. P (s .principals) ∷ each compoundLine (s .compounds) ls) (labels-more (s .labels) rest)));
+        next = λ rest. unfold each in (rw x0 (ap (λ ls. opening s (each compoundLine (s .compounds) ls)) (labels-more (s .labels) rest)));
         right =
             formed-made (addLabel s)
             (record {
@@ -125,7 +151,7 @@ module _ (s : Sheet) (fm : formed s ≡ true) where
       let low : o < s .principals = ltb-true _ _ (both-right _ _ rises) in
       record {
         next =
-            λ rest. rw x0 (ap (λ ls. P (s .principals) ∷ each compoundLine (s .compounds) ls) (policies-more p (s .labels) rest some-label));
+            λ rest. rw x0 (ap (λ ls. opening s (each compoundLine (s .compounds) ls)) (policies-more p (s .labels) rest some-label));
         right =
             formed-made (addPolicy s p)
             (record {
@@ -156,7 +182,7 @@ module _ (s : Sheet) (fm : formed s ≡ true) where
       record {
         next =
             λ rest. unfold locationLine in
-            (ap (λ ls. P (s .principals) ∷ each compoundLine (s .compounds) (labelLines (s .labels) ls)) (each-more locationLine (s .locations) x rest));
+            (ap (λ ls. opening s (each compoundLine (s .compounds) (labelLines (s .labels) ls))) (each-more locationLine (s .locations) x rest));
         right =
             formed-made (addLocation s x)
             (record {
@@ -183,6 +209,7 @@ type-sound s k a b s′ fm e = taken-if (compoundFits s a b) _ s′ (λ h q. rw 
 pub step-sound : (s : Sheet) (l : Line) (s′ : Sheet) → formed s ≡ true → addLine s l ≡ some s′ → Taken s l s′
 unfolding addLine typeLine
 step-sound s (P n) s′ fm e = none-some e
+step-sound s (R k) s′ fm e = taken-if (readingFits s k) _ s′ (λ h q. rw (← q) (take-reading s fm k h)) e
 step-sound s (T a b) s′ fm e = type-sound s Sum a b s′ fm e
 step-sound s (Q a b) s′ fm e = type-sound s Pair a b s′ fm e
 step-sound s L s′ fm e = taken-if (labelFits s) _ s′ (λ h k. rw (← k) (take-label s fm h)) e
@@ -211,7 +238,7 @@ pub record Begun (l : Line) (s : Sheet) : Type 0 where
   pub fits : Fits l
 
 blank-begun : (n : ℕ) → 1 ≤ n → n ≤ maxPrincipals → Begun (P n) (bareSheet n)
-unfolding linesThen bareSheet each labelLines Fits
+unfolding linesThen bareSheet readingLines each labelLines Fits
 blank-begun n h k = record { next = λ rest. refl; right = blank-formed n h k; fits = omega arith }
 
 pub begin-sound : (l : Line) (s : Sheet) → begin l ≡ some s → Begun l s
@@ -219,6 +246,7 @@ unfolding begin
 begin-sound (P n) s e =
     taken-if (both (leb 1 n) (leb n maxPrincipals)) (bareSheet n) s
     (λ h k. rw (← k) (blank-begun n (leb-true _ _ (both-left _ _ h)) (leb-true _ _ (both-right _ _ h)))) e
+begin-sound (R k) s e = none-some e
 begin-sound (T a b) s e = none-some e
 begin-sound (Q a b) s e = none-some e
 begin-sound L s e = none-some e

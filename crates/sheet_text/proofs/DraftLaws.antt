@@ -7,10 +7,10 @@ use Prim.Native.Nat.{ℕ, _+_, _-_, _%_, _^_, _<_, _≤_}
 use native.Mathlib.Omega.{arith}
 use native.Mathlib.Nat.{mod-eq-of-lt}
 use native.Mathlib.Numerals.{add-one}
-use lib.Dec.{leb, ltb}
+use lib.Dec.{eqb, leb, ltb}
 use lib.ListN.{length, replicate}
 use lib.Pow.{pow-pos}
-use borrow.Author.Tests.{ltb-true, leb-true, le-leb, lt-ltb}
+use borrow.Author.Tests.{ltb-true, leb-true, le-leb, lt-ltb, eqb-true, eq-eqb}
 use Rattle.logic.specs.Booleans.{both}
 use Rattle.logic.proofs.BooleanLaws.{bool-ext, both-left, both-right}
 use Rattle.sets.specs.Sets.{everyone}
@@ -18,18 +18,18 @@ use Rattle.labels.specs.Labels.{policy}
 use Rattle.sheet.specs.declared.Kind.{Kind}
 use Rattle.sheet.specs.Sheet.{Compound, Sheet, typeCount, labelCount, maxPrincipals, maxCompounds, formed}
 use Rattle.sheet.specs.Internal.Tables.{maxTypes, tableWords, tableOf}
-use Rattle.sheet.specs.Internal.Growth.{bareSheet, addCompound, addLabel, toLast, addPolicy, addLocation}
-use Rattle.sheet.specs.Internal.Writers.{principalsPut, compoundPut, openPut, policyPut, locationPut}
+use Rattle.sheet.specs.Internal.Growth.{bareSheet, addReading, addCompound, addLabel, toLast, addPolicy, addLocation}
+use Rattle.sheet.specs.Internal.Writers.{principalsPut, readingPut, compoundPut, openPut, policyPut, locationPut}
 use Rattle.sheet.proofs.FormLaws.{formed-facts, type-count}
-use Rattle.sheet.proofs.TableLaws.{types-in, labels-in, locations-in, principals-in, everyone-in}
+use Rattle.sheet.proofs.TableLaws.{types-in, labels-in, locations-in, principals-in, everyone-in, reading-in}
 use Rattle.sheet.proofs.GrowthLaws.{toLast-more, labels-split}
-use Rattle.sheet.proofs.TableGrowth.{compound-put, open-put, policy-put, location-put, principals-put}
+use Rattle.sheet.proofs.TableGrowth.{compound-put, open-put, policy-put, location-put, principals-put, reading-put}
 use Rattle.sheet_text.specs.declared.line.Line.{Line}
-use Rattle.sheet_text.specs.declared.line.Line.the-variants.{P, T, Q, L, O, X}
+use Rattle.sheet_text.specs.declared.line.Line.the-variants.{P, R, T, Q, L, O, X}
 use Rattle.sheet_text.specs.declared.draft.Draft.{Draft}
 use Rattle.sheet_text.specs.declared.draft.Draft.the-variants.{Formed, Refused}
-use Rattle.sheet_text.specs.Internal.Building.{lastOf, leastAfter, leastOwner, compoundFits, labelFits, policyFits, locationFits, begin, addType, addLine, addLineOn}
-use Rattle.sheet_text.specs.Internal.Drafts.{draftIf, DraftHolds, FormedIf, Stores, principalsFit, compoundFitsIn, labelFitsIn, policyFitsIn, locationFitsIn}
+use Rattle.sheet_text.specs.Internal.Building.{lastOf, leastAfter, leastOwner, readingFits, compoundFits, labelFits, policyFits, locationFits, begin, addType, addLine, addLineOn}
+use Rattle.sheet_text.specs.Internal.Drafts.{draftIf, DraftHolds, FormedIf, Stores, principalsFit, readingFitsIn, compoundFitsIn, labelFitsIn, policyFitsIn, locationFitsIn}
 use Rattle.logic.proofs.OptionLaws.{none-some}
 use Rattle.sheet_text.proofs.GrowthLaws.{last-more, least-more}
 use Rattle.sheet_text.proofs.BuildLaws.{no-labels, begin-sound, step-sound}
@@ -48,6 +48,18 @@ module _ (s : Sheet) (fm : formed s ≡ true) where
   compound-fits-in : (a b : ℕ) → compoundFitsIn a b (tableOf s) ≡ compoundFits s a b
   unfolding compoundFits
   compound-fits-in a b = rw (labels-in s fm, locations-in s fm, types-in s fm, types-fit-in)
+
+  -- there are the given types alone where there is no line
+  types-none-in : eqb (typeCount s) 5 ≡ eqb (length (s .compounds)) 0
+  types-none-in =
+      let count = type-count s in
+      bool-ext (eqb (typeCount s) 5) (eqb (length (s .compounds)) 0)
+      (λ e. let h : typeCount s ≡ 5 = eqb-true _ _ e in let k : length (s .compounds) ≡ 0 = omega arith in eq-eqb _ _ k)
+      (λ e. let h : length (s .compounds) ≡ 0 = eqb-true _ _ e in let k : typeCount s ≡ 5 = omega arith in eq-eqb _ _ k)
+
+  reading-fits-in : (k : ℕ) → readingFitsIn k (tableOf s) ≡ readingFits s k
+  unfolding readingFits
+  reading-fits-in k = rw (reading-in s fm, labels-in s fm, locations-in s fm, types-in s fm, types-none-in)
 
   label-fits-in : labelFitsIn (tableOf s) ≡ labelFits s
   unfolding labelFits
@@ -97,6 +109,11 @@ least-none s e = rw e
 
 -- ---- what a line that passes its test stores
 
+reading-stored : (s : Sheet) (k : ℕ) → readingFits s k ≡ true → (0 ≡ leastOwner (addReading s)) × (readingPut (tableOf s) ≡ tableOf (addReading s))
+unfolding readingFits
+reading-stored s k f =
+    (least-none (addReading s) (unfold addReading in (no-labels s (both-left _ _ (both-right _ _ (both-right _ _ (both-right _ _ f)))))), reading-put s)
+
 module _ (s : Sheet) (fm : formed s ≡ true) where
   compound-stored : (k : Kind) (a b : ℕ) → compoundFits s a b ≡ true
       → (0 ≡ leastOwner (addCompound s (record { kind = k; left = a; right = b })))
@@ -144,6 +161,11 @@ module _ (s : Sheet) (fm : formed s ≡ true) where
 
 -- what was stored in the table of a sheet
 module _ (s : Sheet) (fm : formed s ≡ true) (t : List ℕ) (e : t ≡ tableOf s) (ok : Bool) (u : List ℕ) where
+  pub reading-holds : (k : ℕ) → Stores (readingFitsIn k) readingPut t ok u → DraftHolds (addLine s (R k)) (draftIf ok 0) u
+  unfolding addLine
+  reading-holds k made =
+      holds-if (readingFits s k) _ (readingFitsIn k) readingPut (tableOf s) u ok 0 (rw e at made) (reading-fits-in s fm k) (λ f. reading-stored s k f)
+
   pub compound-holds : (k : Kind) (a b : ℕ) → Stores (compoundFitsIn a b) (compoundPut k a b) t ok u
       → DraftHolds (addType s k a b) (draftIf ok 0) u
   unfolding addType

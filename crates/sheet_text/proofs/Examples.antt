@@ -12,19 +12,21 @@ use Rattle.text.specs.Set.{hexDigit, hexDigits, hexByte, hexForm}
 use Rattle.text.specs.Field.{numberField, setField, lastNumber}
 use Rattle.text.specs.Lines.{front, onward, linesUpTo, allLines, printLines}
 use Rattle.labels.specs.Labels.{policy, openAt, openOf, policyOf, withPolicies, labelOf, sameAt, sameOf}
+use Rattle.labels.specs.declared.Reading.the-variants.{Pooled}
 use Rattle.sheet.specs.Internal.Tables.{givenParts, typeParts}
 use Rattle.sheet.specs.declared.Kind.the-variants.{Sum}
 use Rattle.sheet.specs.Sheet.{Sheet, typeCount, labelsOf, labelCount, locationCount, earlierTypes, rising, eachRising, eachNamed, formed, among, repeated, sameKind, sameCompound, repeats}
-use Rattle.sheet_text.specs.Lines.{typeLine, compoundLine, policyLine, locationLine, each, labelLines, linesThen, sheetLines, lineBytes, sheetBytes}
-use Rattle.sheet_text.specs.Reading.{principalsRest, numbersRest, labelRest, policyRest, lineOf}
-use Rattle.sheet.specs.Internal.Growth.{bareSheet, addCompound, addLabel, toLast, addPolicy, addLocation}
-use Rattle.sheet_text.specs.Internal.Building.{lastOf, leastAfter, leastOwner, compoundFits, labelFits, policyFits, locationFits, begin, addType, addLine, addLineOn, addLines, build}
+use Rattle.sheet_text.specs.Lines.{readingLines, typeLine, compoundLine, policyLine, locationLine, each, labelLines, linesThen, sheetLines, lineBytes, sheetBytes}
+use Rattle.sheet_text.specs.Reading.{numberRest, numbersRest, labelRest, policyRest, lineOf}
+use Rattle.sheet.specs.Internal.Growth.{bareSheet, addReading, addCompound, addLabel, toLast, addPolicy, addLocation}
+use Rattle.sheet_text.specs.Internal.Building.{lastOf, leastAfter, leastOwner, isPooled, readingFits, compoundFits, labelFits, policyFits, locationFits, begin, addType, addLine, addLineOn, addLines, build}
 use Rattle.sheet_text.specs.Sheets.{buildRead, sheetRead, Answer, malformed, repeating, accepted, judged, sheetOf}
 
 caseSheet : Sheet
 caseSheet =
     record {
       principals = 3;
+      reading = Pooled;
       compounds = record { kind = Sum; left = 0; right = 1 } ∷ [];
       labels = [] ∷ (policy 0 0 0 ∷ []) ∷ (policy 0 0 7 ∷ []) ∷ [];
       locations =
@@ -68,12 +70,12 @@ answers : List Answer
 answers = accepted caseSheet ∷ malformed ∷ malformed ∷ repeating ∷ repeating ∷ replicate 13 malformed
 
 case-printed : sheetBytes caseSheet ≡ caseText
-unfolding caseSheet caseText sheetBytes printLines lineBytes sheetLines linesThen each labelLines typeLine compoundLine policyLine locationLine decimal decimalOn hexForm hexByte
+unfolding caseSheet caseText sheetBytes printLines lineBytes sheetLines linesThen readingLines each labelLines typeLine compoundLine policyLine locationLine decimal decimalOn hexForm hexByte
 case-printed = refl
 
 texts-read : map sheetOf texts ≡ answers
-unfolding caseSheet caseText texts answers sheetOf judged sheetRead buildRead build addLines addLineOn addLine addType begin compoundFits labelFits policyFits locationFits leastOwner leastAfter lastOf bareSheet
-    addCompound addLabel addPolicy toLast addLocation allLines linesUpTo onward front lineOf principalsRest numbersRest labelRest policyRest andThen byte fits digit opensDigit
+unfolding caseSheet caseText texts answers sheetOf judged sheetRead buildRead build addLines addLineOn addLine addType begin isPooled readingFits compoundFits labelFits policyFits locationFits leastOwner leastAfter lastOf bareSheet
+    addReading addCompound addLabel addPolicy toLast addLocation allLines linesUpTo onward front lineOf numberRest numbersRest labelRest policyRest andThen byte fits digit opensDigit
     digits number hexDigit hexDigits numberField setField lastNumber both either union every tab single everyone openAt openOf policyOf withPolicies labelOf sameAt sameOf
     givenParts typeParts typeCount labelsOf labelCount locationCount among repeated sameKind sameCompound repeats
 texts-read = refl

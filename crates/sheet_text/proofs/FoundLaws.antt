@@ -12,11 +12,11 @@ use Rattle.text.proofs.Readings.{drop-step}
 use Rattle.text.proofs.Places.{placed-got, placed-bad, placed-split}
 use Rattle.text.proofs.Lines.{line-within, line-shorter}
 use Rattle.sheet_text.specs.declared.line.Line.{Line}
-use Rattle.sheet_text.specs.declared.line.Line.the-variants.{T, Q, X}
+use Rattle.sheet_text.specs.declared.line.Line.the-variants.{P, R, T, Q, X}
 use Rattle.sheet_text.specs.declared.line.LineRead.the-variants as read
 use Rattle.sheet_text.specs.declared.line.Reached.{Reached}
 use Rattle.sheet_text.specs.declared.line.Found.the-variants as found
-use Rattle.sheet_text.specs.Reading.{principalsRest, numbersRest, labelRest, policyRest, lineOf}
+use Rattle.sheet_text.specs.Reading.{numberRest, numbersRest, labelRest, policyRest, lineOf}
 use Rattle.sheet_text.specs.Internal.Placed.{placedLine, reached, lineAt}
 use Rattle.sheet_text.proofs.LineLaws.{sheet-lines}
 
@@ -61,9 +61,13 @@ module _ (s : List ℕ) (i : ℕ) where
     line-at-first : (b : ℕ) → getD s i 0 ≡ b → lineOf (drop i s) ≡ lineOf (b ∷ drop (i + 1) s)
     line-at-first b e = ap lineOf (drop-step s i h ∙ ap (λ (c : ℕ). c ∷ drop (i + 1) s) e)
 
-    pub line-principals : getD s i 0 ≡ 80 → lineOf (drop i s) ≡ principalsRest (drop (i + 1) s)
+    pub line-principals : getD s i 0 ≡ 80 → lineOf (drop i s) ≡ numberRest P (drop (i + 1) s)
     unfolding lineOf
     line-principals e = line-at-first 80 e
+
+    pub line-reading : getD s i 0 ≡ 82 → lineOf (drop i s) ≡ numberRest R (drop (i + 1) s)
+    unfolding lineOf
+    line-reading e = line-at-first 82 e
 
     pub line-sum : getD s i 0 ≡ 84 → lineOf (drop i s) ≡ numbersRest T (drop (i + 1) s)
     unfolding lineOf
@@ -85,9 +89,9 @@ module _ (s : List ℕ) (i : ℕ) where
     unfolding lineOf
     line-location e = line-at-first 88 e
 
-    pub line-other : (getD s i 0 ≡ 80 → ⊥) → (getD s i 0 ≡ 84 → ⊥) → (getD s i 0 ≡ 81 → ⊥) → (getD s i 0 ≡ 76 → ⊥) → (getD s i 0 ≡ 79 → ⊥)
+    pub line-other : (getD s i 0 ≡ 80 → ⊥) → (getD s i 0 ≡ 82 → ⊥) → (getD s i 0 ≡ 84 → ⊥) → (getD s i 0 ≡ 81 → ⊥) → (getD s i 0 ≡ 76 → ⊥) → (getD s i 0 ≡ 79 → ⊥)
         → (getD s i 0 ≡ 88 → ⊥) → lineOf (drop i s) ≡ bad
     unfolding lineOf
-    line-other p t q l o x =
+    line-other p r t q l o x =
         ap lineOf (drop-step s i h)
-        ∙ simp (ne-eqb (getD s i 0) 80 p, ne-eqb (getD s i 0) 84 t, ne-eqb (getD s i 0) 81 q, ne-eqb (getD s i 0) 76 l, ne-eqb (getD s i 0) 79 o, ne-eqb (getD s i 0) 88 x)
+        ∙ simp (ne-eqb (getD s i 0) 80 p, ne-eqb (getD s i 0) 82 r, ne-eqb (getD s i 0) 84 t, ne-eqb (getD s i 0) 81 q, ne-eqb (getD s i 0) 76 l, ne-eqb (getD s i 0) 79 o, ne-eqb (getD s i 0) 88 x)

@@ -14,16 +14,17 @@ use Rattle.logic.proofs.BooleanLaws.{cond-split}
 use Rattle.text.proofs.Readings.{not-bad, got-same, andThen-got, andThen-split, byte-here, byte-sound}
 use Rattle.text.proofs.Fields.{number-field-sound, number-field-print, last-number-sound, last-number-print, set-field-sound, set-field-print}
 use Rattle.sheet_text.specs.declared.line.Line.{Line}
-use Rattle.sheet_text.specs.declared.line.Line.the-variants.{P, T, Q, L, O, X}
+use Rattle.sheet_text.specs.declared.line.Line.the-variants.{P, R, T, Q, L, O, X}
 use Rattle.sheet.specs.declared.Kind.{Kind}
 use Rattle.sheet.specs.declared.Kind.the-variants.{Sum, Pair}
 use Rattle.sheet_text.specs.Lines.{typeLine, lineBytes}
-use Rattle.sheet_text.specs.Reading.{principalsRest, numbersRest, labelRest, policyRest, lineOf}
+use Rattle.sheet_text.specs.Reading.{numberRest, numbersRest, labelRest, policyRest, lineOf}
 use Rattle.logic.specs.Booleans.{both}
 
 -- the numbers of a line are of 32 bits, and its sets have room in a set
 unfoldable pub Fits : Line → Type 0
 Fits (P n) = n ≤ most
+Fits (R k) = k ≤ most
 Fits (T a b) = (a ≤ most) × (b ≤ most)
 Fits (Q a b) = (a ≤ most) × (b ≤ most)
 Fits L = Unit
@@ -32,14 +33,28 @@ Fits (X t l) = (t ≤ most) × (l ≤ most)
 
 -- ---- what is read stands there, printed
 
-principals-sound : (t : List ℕ) (l : Line) (u : List ℕ) → principalsRest t ≡ got l u → (80 ∷ t ≡ lineBytes l u) × Fits l
-unfolding principalsRest lineBytes Fits
-principals-sound t l u e =
+-- The lines of one number that begin with a letter: how they are printed, and that they fit where their number does.
+record Number (letter : ℕ) (f : ℕ → Line) : Type 0 where
+  bytes : (n : ℕ) (u : List ℕ) → lineBytes (f n) u ≡ letter ∷ printNumberField n (printLineEnd u)
+  fit : (n : ℕ) → n ≤ most → Fits (f n)
+
+principals : Number 80 P
+unfolding lineBytes Fits
+principals = record { bytes = λ n u. refl; fit = λ n h. h }
+
+reading : Number 82 R
+unfolding lineBytes Fits
+reading = record { bytes = λ n u. refl; fit = λ n h. h }
+
+number-sound : {letter : ℕ} {f : ℕ → Line} → Number letter f → (t : List ℕ) (l : Line) (u : List ℕ) → numberRest f t ≡ got l u
+    → (letter ∷ t ≡ lineBytes l u) × Fits l
+unfolding numberRest
+number-sound {letter} {f} n t l u e =
     andThen-split (lastNumber most t) _ l u
-    (λ n v f g.
-    let s = got-same (P n) l v u g in
-    let x = last-number-sound most t n v f in
-    rw (← s .0, ← s .1) (ap (_∷_ 80) (x .0), x .1)) e
+    (λ a v g h.
+    let s = got-same (f a) l v u h in
+    let x = last-number-sound most t a v g in
+    rw (← s .0, ← s .1) (ap (_∷_ letter) (x .0) ∙ sym (n .bytes a v), n .fit a (x .1))) e
 
 -- The lines of two numbers that begin with a letter: how they are printed, and that they fit where their numbers do.
 record Numbers (letter : ℕ) (f : ℕ → ℕ → Line) : Type 0 where
@@ -96,12 +111,13 @@ line-sound : (t : List ℕ) (l : Line) (u : List ℕ) → lineOf t ≡ got l u �
 unfolding lineOf
 line-sound [] l u e = not-bad l u e
 line-sound (b ∷ t) l u e =
-    cond-split (eqb b 80) _ _ _ (λ h x. first 80 h (principals-sound t l u x))
+    cond-split (eqb b 80) _ _ _ (λ h x. first 80 h (number-sound principals t l u x))
+    (λ _. cond-split (eqb b 82) _ _ _ (λ h x. first 82 h (number-sound reading t l u x))
     (λ _. cond-split (eqb b 84) _ _ _ (λ h x. first 84 h (numbers-sound sums t l u x))
     (λ _. cond-split (eqb b 81) _ _ _ (λ h x. first 81 h (numbers-sound pairs t l u x))
     (λ _. cond-split (eqb b 76) _ _ _ (λ h x. first 76 h (label-sound t l u x))
     (λ _. cond-split (eqb b 79) _ _ _ (λ h x. first 79 h (policy-sound t l u x))
-    (λ _. cond-split (eqb b 88) _ _ _ (λ h x. first 88 h (numbers-sound locations t l u x)) (λ _ x. not-bad l u x)))))) e
+    (λ _. cond-split (eqb b 88) _ _ _ (λ h x. first 88 h (numbers-sound locations t l u x)) (λ _ x. not-bad l u x))))))) e
   where
     first : (k : ℕ) → eqb b k ≡ true → (k ∷ t ≡ lineBytes l u) × Fits l → (b ∷ t ≡ lineBytes l u) × Fits l
     first k h r = (ap (λ (x : ℕ). x ∷ t) (eqb-true b k h) ∙ r .0, r .1)
@@ -116,8 +132,9 @@ numbers-print f a b u h k =
     ∙ andThen-got _ _ b u (last-number-print most b u k)
 
 line-print : (l : Line) (u : List ℕ) → Fits l → lineOf (lineBytes l u) ≡ got l u
-unfolding lineBytes lineOf Fits principalsRest labelRest policyRest opensDigit digit both
+unfolding lineBytes lineOf Fits numberRest labelRest policyRest opensDigit digit both
 line-print (P n) u h = andThen-got _ _ n u (last-number-print most n u h)
+line-print (R k) u h = andThen-got _ _ k u (last-number-print most k u h)
 line-print (T a b) u h = numbers-print T a b u (h .0) (h .1)
 line-print (Q a b) u h = numbers-print Q a b u (h .0) (h .1)
 line-print L u h = andThen-got _ _ tt u (byte-here 10 10 u refl)
@@ -143,6 +160,7 @@ AllFit ls = AllGood Fits ls
 bytes-front : (l : Line) (u : List ℕ) → lineBytes l u ≡ lineBytes l [] ++ u
 unfolding lineBytes
 bytes-front (P n) u = simp append-assoc
+bytes-front (R k) u = simp append-assoc
 bytes-front (T a b) u = simp append-assoc
 bytes-front (Q a b) u = simp append-assoc
 bytes-front L u = refl

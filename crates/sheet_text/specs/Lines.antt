@@ -4,11 +4,18 @@ use Prim.Native.Nat.{ℕ}
 use Rattle.text.specs.Field.{printNumberField, printSetField, printLineEnd}
 use Rattle.text.specs.Lines.{printLines}
 use Rattle.labels.specs.Labels.{Policy, policy}
+use Rattle.labels.specs.declared.Reading.{Reading}
+use Rattle.labels.specs.declared.Reading.the-variants.{Pooled, Alone}
 use Rattle.sheet.specs.declared.Kind.{Kind}
 use Rattle.sheet.specs.declared.Kind.the-variants.{Sum, Pair}
 use Rattle.sheet.specs.Sheet.{Compound, Location, Sheet}
 use Rattle.sheet_text.specs.declared.line.Line.{Line}
-use Rattle.sheet_text.specs.declared.line.Line.the-variants.{P, T, Q, L, O, X}
+use Rattle.sheet_text.specs.declared.line.Line.the-variants.{P, R, T, Q, L, O, X}
+
+-- `R 1` where a reader reads alone, and no line where reading is pooled, then rest
+unfoldable pub readingLines : Reading → List Line → List Line
+readingLines Pooled rest = rest
+readingLines Alone rest = R 1 ∷ rest
 
 -- a line `T` or `Q`
 unfoldable pub typeLine : Kind → ℕ → ℕ → Line
@@ -36,7 +43,9 @@ labelLines (ps ∷ pss) rest = L ∷ each policyLine ps (labelLines pss rest)
 
 -- the lines of a sheet, then rest
 unfoldable pub linesThen : Sheet → List Line → List Line
-linesThen s rest = P (s .principals) ∷ each compoundLine (s .compounds) (labelLines (s .labels) (each locationLine (s .locations) rest))
+linesThen s rest =
+    P (s .principals)
+    ∷ readingLines (s .reading) (each compoundLine (s .compounds) (labelLines (s .labels) (each locationLine (s .locations) rest)))
 
 unfoldable pub sheetLines : Sheet → List Line
 sheetLines s = linesThen s []
@@ -44,6 +53,7 @@ sheetLines s = linesThen s []
 -- the bytes of a line, then rest: the letter, the fields, each after a tab, and byte 10
 unfoldable pub lineBytes : Line → List ℕ → List ℕ
 lineBytes (P n) rest = 80 ∷ printNumberField n (printLineEnd rest)
+lineBytes (R k) rest = 82 ∷ printNumberField k (printLineEnd rest)
 lineBytes (T a b) rest = 84 ∷ printNumberField a (printNumberField b (printLineEnd rest))
 lineBytes (Q a b) rest = 81 ∷ printNumberField a (printNumberField b (printLineEnd rest))
 lineBytes L rest = 76 ∷ printLineEnd rest

@@ -10,12 +10,13 @@ use Rattle.text.specs.Number.{most}
 use Rattle.text.specs.Field.{numberField, setField, lineEnd, lastNumber}
 use Rattle.text.specs.Lines.{allLines}
 use Rattle.sheet_text.specs.declared.line.Line.{Line}
-use Rattle.sheet_text.specs.declared.line.Line.the-variants.{P, T, Q, L, O, X}
+use Rattle.sheet_text.specs.declared.line.Line.the-variants.{P, R, T, Q, L, O, X}
 
 -- what follows the letter of each line
 
-unfoldable pub principalsRest : List ℕ → Read Line
-principalsRest t = andThen (lastNumber most t) (λ n u. got (P n) u)
+-- one number, which makes a line by f
+unfoldable pub numberRest : (ℕ → Line) → List ℕ → Read Line
+numberRest f t = andThen (lastNumber most t) (λ n u. got (f n) u)
 
 -- two numbers, which make a line by f
 unfoldable pub numbersRest : (ℕ → ℕ → Line) → List ℕ → Read Line
@@ -32,12 +33,13 @@ policyRest t =
 unfoldable pub lineOf : List ℕ → Read Line
 lineOf [] = bad
 lineOf (b ∷ t) =
-    cond (eqb b 80) (principalsRest t)
+    cond (eqb b 80) (numberRest P t)
+    (cond (eqb b 82) (numberRest R t)
     (cond (eqb b 84) (numbersRest T t)
     (cond (eqb b 81) (numbersRest Q t)
     (cond (eqb b 76) (labelRest t)
     (cond (eqb b 79) (policyRest t)
-    (cond (eqb b 88) (numbersRest X t) bad)))))
+    (cond (eqb b 88) (numbersRest X t) bad))))))
 
 -- the lines of a text
 abbrev pub linesOf : List ℕ → Option (List Line)

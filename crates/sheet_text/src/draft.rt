@@ -4,15 +4,17 @@ ghost use mathlib.Core.Option.{Option};
 ghost use lib.ListN.{drop, replicate};
 ghost use Rattle.sheet.specs.Sheet.{Sheet};
 ghost use Rattle.sheet.specs.Internal.Tables.{tableWords};
-ghost use Rattle.sheet.specs.Internal.Writers.{principalsPut, compoundPut, openPut, policyPut, locationPut};
+ghost use Rattle.sheet.specs.Internal.Writers.{principalsPut, readingPut, compoundPut, openPut, policyPut, locationPut};
 ghost use Rattle.sheet_text.specs.Internal.Building.{begin, addLineOn};
 ghost use Rattle.sheet_text.specs.Sheets.{sheetRead};
 ghost use Rattle.sheet_text.specs.Reading.{linesOf};
-ghost use Rattle.sheet_text.specs.Internal.Drafts.{draftIf, DraftHolds, FormedIf, stepsRead, Stores, principalsFit, compoundFitsIn, labelFitsIn, policyFitsIn, locationFitsIn};
+ghost use Rattle.sheet_text.specs.Internal.Drafts.{draftIf, DraftHolds, FormedIf, stepsRead, Stores, principalsFit, readingFitsIn, compoundFitsIn, labelFitsIn, policyFitsIn, locationFitsIn};
 use super::line::Line;
 use super::line::LineRead;
 use super::line::line_from;
+use labels::Reading;
 use sets::Set;
+use sheet::GIVEN_TYPES;
 use sheet::Kind;
 use sheet::MOST_LABELS;
 use sheet::MOST_LOCATIONS;
@@ -20,6 +22,9 @@ use sheet::MOST_PRINCIPALS;
 use sheet::MOST_TYPES;
 use sheet::WORDS;
 use sheet::Word;
+
+// The number that a line `R` has.
+const RULE: u32 = 1;
 
 // What is known of the lines so far beside their table: the least owner that a policy may have next; or that they are not of the right
 // form, and then nothing is said of the table.
@@ -36,6 +41,18 @@ fn drafted(fits: bool, least: u32) -> Draft
         Draft::Formed(least)
     } else {
         Draft::Refused
+    }
+}
+
+// Whether a rule of reading may come next: reading alone, right after the principals.
+fn reading_fits(table: &[Word], rule: u32) -> bool
+    ensures { λ r. ⌜ r ≡ readingFitsIn rule (now (table .entry)) ⌝ }
+{
+    let empty = (sheet::labels(table) == 0) & (sheet::locations(table) == 0);
+    let bare = (sheet::types(table) == GIVEN_TYPES) & empty;
+    match sheet::reading(table) {
+        Reading::Pooled => (rule == RULE) & bare,
+        Reading::Alone => false,
     }
 }
 
@@ -85,6 +102,17 @@ fn set_principals(table: &mut [Word; WORDS], n: u32) -> bool
         return false;
     }
     sheet::write::put_principals(table, n);
+    true
+}
+
+// The rule of the line `R 1`.
+fn set_reading(table: &mut [Word; WORDS], rule: u32) -> bool
+    ensures { λ r. ⌜ Stores (readingFitsIn rule) readingPut (now (table .entry)) r (now (table .exit)) ⌝ }
+{
+    if !reading_fits(table, rule) {
+        return false;
+    }
+    sheet::write::put_reading(table);
     true
 }
 
@@ -152,6 +180,7 @@ fn step(d: Draft, table: &mut [Word; WORDS], line: Line) -> Draft
     };
     match line {
         Line::P(_) => Draft::Refused,
+        Line::R(rule) => drafted(set_reading(table, rule), 0),
         Line::T(a, b) => drafted(add_compound(table, Kind::Sum, a, b), 0),
         Line::Q(a, b) => drafted(add_compound(table, Kind::Pair, a, b), 0),
         Line::L => drafted(add_label(table), 0),

@@ -1,8 +1,8 @@
 // From a sheet's bytes to its lines.
 ghost use mathlib.Core.Path.{_≡_};
 ghost use lib.ListN.{drop};
-ghost use Rattle.sheet_text.specs.Reading.{principalsRest, numbersRest, labelRest, policyRest, lineOf};
-ghost use Rattle.sheet_text.specs.Internal.Placed.{placedLine, lineAt, lineBy};
+ghost use Rattle.sheet_text.specs.Reading.{numberRest, numbersRest, labelRest, policyRest, lineOf};
+ghost use Rattle.sheet_text.specs.Internal.Placed.{placedLine, lineAt, lineOfOne, lineBy};
 use reader::Reader;
 use sets::Set;
 use text::Decimal;
@@ -14,9 +14,11 @@ use text::line_end;
 use text::number_field;
 use text::set_field;
 
-// A line of a sheet, by its first byte: `P n`, `T a b`, `Q a b`, `L`, `O owner readers writers`, `X type label`.
+// A line of a sheet, by its first byte: `P n`, `R rule`, `T a b`, `Q a b`, `L`, `O owner readers writers`,
+// `X type label`.
 pub enum Line {
     P(u32),
+    R(u32),
     T(u32, u32),
     Q(u32, u32),
     L,
@@ -48,12 +50,22 @@ pub struct Next<'a> {
     pub rest: Reader<'a>,
 }
 
-// What follows the letter of a line `P`.
-fn principals_rest(s: &[u8], at: usize) -> Found
-    ensures { λ r. ⌜ r ≡ placedLine (now (s .entry)) (principalsRest (drop at (now (s .entry)))) ⌝ }
+// The line of one number by its letter: the principals, or otherwise the rule of reading.
+fn line_of_one(letter: u8, n: u32) -> Line
+    ensures { λ r. ⌜ r ≡ lineOfOne letter n ⌝ }
+{
+    match letter {
+        b'P' => Line::P(n),
+        _ => Line::R(n),
+    }
+}
+
+// What follows the letter of a line of one number.
+fn number_rest(s: &[u8], at: usize, letter: u8) -> Found
+    ensures { λ r. ⌜ r ≡ placedLine (now (s .entry)) (numberRest (lineOfOne letter) (drop at (now (s .entry)))) ⌝ }
 {
     match last_number(s, at, MOST) {
-        Decimal::At(n, p) => Found::At(Line::P(n), p),
+        Decimal::At(n, p) => Found::At(line_of_one(letter, n), p),
         Decimal::Refused => Found::Refused,
     }
 }
@@ -120,7 +132,8 @@ fn line_at(s: &[u8], at: usize) -> Found
     }
     let first = s[at];
     match first {
-        b'P' => principals_rest(s, at + 1),
+        b'P' => number_rest(s, at + 1, b'P'),
+        b'R' => number_rest(s, at + 1, b'R'),
         b'T' => numbers_rest(s, at + 1, b'T'),
         b'Q' => numbers_rest(s, at + 1, b'Q'),
         b'L' => label_rest(s, at + 1),

@@ -6,7 +6,7 @@ use Rattle.language.specs.World.{World, Mem}
 use Rattle.language.specs.Evaluation.{bind, fit, fitIf, eval}
 use Rattle.language.specs.Transition.{spent, done, run, iterate, step, after, branch, branchV, at-seq}
 use Rattle.stages.specs.Calls.{ended}
-use Rattle.simp.specs.Cases.{Holds, spends, Each, cases, CasesHold, sheet, nested, fourLocations, before, afterPack, afterUnpack, beforeWith, afterStart, parted, times, twoPolicies, readersOnly, twoLabels, twoStarts, twoPackages, filledRows, packages, packagesTrusted, pairTypes, longPairs, deepPair, mostTypes, tooManyTypes, leafOf, longWith, pairs, firstOf, pairOf, pairsWith, trustedOn}
+use Rattle.simp.specs.Cases.{Holds, spends, Each, cases, CasesHold, sheet, nested, fourLocations, before, afterPack, afterUnpack, beforeWith, afterStart, parted, times, twoPolicies, readersOnly, twoLabels, twoStarts, twoPackages, filledRows, packages, packagesTrusted, pairTypes, longPairs, deepPair, mostTypes, tooManyTypes, leafOf, longWith, pairs, firstOf, pairOf, pairsWith, trustedOn, together, byHimself, lastReader, eachHisOwn, belowTogether, belowByHimself, withPackage, packageShown}
 use Rattle.simp.proofs.Computing.{all-used}
 
 -- `w`, `l 3`, `i 1`, `s`
@@ -36,7 +36,8 @@ a & b = (a, b)
 pub cases-hold : CasesHold
 unfolding Each cases Holds sheet nested fourLocations before afterPack afterUnpack beforeWith afterStart parted times twoPolicies readersOnly twoLabels
     twoStarts twoPackages filledRows packages packagesTrusted pairTypes longPairs deepPair mostTypes
-    tooManyTypes leafOf longWith pairs firstOf pairOf pairsWith trustedOn all-used
+    tooManyTypes leafOf longWith pairs firstOf pairOf pairsWith trustedOn together byHimself lastReader eachHisOwn belowTogether belowByHimself withPackage
+    packageShown all-used
 cases-hold =
     refl & refl & refl & refl & refl & refl & refl & refl & refl & refl & refl & refl & refl & refl & refl & spent-always & refl & refl
     & refl & refl & refl & refl & refl & refl & refl & refl & refl & refl & refl & refl & refl & refl & refl & refl & refl & refl & refl & refl & refl
@@ -51,4 +52,7 @@ cases-hold =
     & refl & refl & refl & refl & refl & refl & refl & refl & refl & refl & refl & refl & refl & refl & refl & refl & refl & refl & refl & refl
     & refl & refl & refl & refl & refl & refl & refl & refl & refl & refl & refl & refl & refl & refl & refl & refl & refl & refl & refl & refl
     & refl & refl & refl & refl & refl & refl & refl & refl
-    & (refl, refl, refl) & tt
+    & (refl, refl, refl)
+    & refl & refl & refl & refl & refl & refl & refl & refl & refl & refl & refl & refl & refl & refl & refl & refl & refl & refl & refl & refl
+    & refl & refl & refl & refl & refl & refl & refl & refl & refl & refl & refl & refl & refl & refl & refl & refl & refl & refl & refl & refl
+    & (refl, refl, refl) & (refl, refl, refl) & refl & refl & refl & refl & refl & refl & refl & tt

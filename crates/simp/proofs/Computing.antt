@@ -54,13 +54,13 @@ logic-used = tt
 
 unfoldable pub sets-used : Unit {0}
 unfolding sets.member sets.union sets.intersection sets.within sets.meets sets.single sets.everyone sets.restrict sets.every
-    sets.tab
+    sets.any sets.tab
 sets-used = tt
 
 unfoldable pub labels-used : Unit {0}
 unfolding labels.own labels.openAt labels.openOf labels.policyOf labels.withPolicies labels.labelOf labels.policyOn labels.policiesOn labels.belowAt
     labels.belowOf labels.sameAt labels.sameOf labels.joinOf labels.confidentialityOf labels.integrityOf labels.bottomOf labels.closedAt
-    labels.topOf labels.readsOf labels.writesOf labels.wholeOf labels.effective
+    labels.topOf labels.readsOf labels.writesOf labels.readsAloneOf labels.readsUnder labels.wholeOf labels.effective
 labels-used = tt
 
 unfoldable pub language-used : Unit {0}
@@ -85,15 +85,15 @@ unfolding meaning.effectiveIf meaning.effectively
     sheet.locationNo sheet.locationCount sheet.earlierTypes sheet.rising sheet.eachRising sheet.eachNamed sheet.formed sheet.among sheet.repeated
     sheet.sameKind sheet.sameCompound sheet.compoundOf sheet.repeats
     padding.padded
-    growth.bareSheet growth.addCompound growth.addLabel growth.toLast growth.addPolicy growth.addLocation
+    growth.bareSheet growth.addReading growth.addCompound growth.addLabel growth.toLast growth.addPolicy growth.addLocation
 sheet-used = tt
 
 unfoldable pub sheet-text-used : Unit {0}
 unfolding building.lastOf building.leastAfter
-    building.leastOwner building.compoundFits building.labelFits building.policyFits building.locationFits building.begin building.addType
+    building.leastOwner building.isPooled building.readingFits building.compoundFits building.labelFits building.policyFits building.locationFits building.begin building.addType
     building.addLine
     building.addLineOn building.addLines building.build
-    sheet-lines.principalsRest sheet-lines.numbersRest sheet-lines.labelRest sheet-lines.policyRest sheet-lines.lineOf
+    sheet-lines.numberRest sheet-lines.numbersRest sheet-lines.labelRest sheet-lines.policyRest sheet-lines.lineOf
     repeats.anyFrom
     sheets.buildRead sheets.sheetRead sheets.judged sheets.sheetOf
 sheet-text-used = tt

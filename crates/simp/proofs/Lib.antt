@@ -15,6 +15,7 @@ pub mod ThirdDemand
 pub mod RoundRuns
 pub mod RoundViews
 pub mod Unseen
+pub mod ReadingRules
 pub mod TrustKept
 pub mod SheetLaws
 mod Computing

@@ -1,6 +1,6 @@
 -- Two rounds of the same scripts, each script done in both: what a script of a kind keeps between two memories, rounds
--- of such scripts keep. Assumes nothing.
-use mathlib.Core.Path.{_≡_, sym, ap, _∙_, subst}
+-- of such scripts keep. One round: what each of its scripts leaves as it is, it leaves. Assumes nothing.
+use mathlib.Core.Path.{_≡_, refl, sym, ap, _∙_, subst}
 use mathlib.Core.List.{List, [], _∷_, map}
 use Prim.Native.Nat.{ℕ, suc, _+_}
 use native.Mathlib.Omega.{arith}
@@ -14,7 +14,7 @@ use Rattle.simp.specs.Rounds.{Open, EachOpen}
 use Rattle.simp.specs.RoundView.{EachDone}
 use Rattle.simp.proofs.RoundRows.{round-started, started-round}
 use Rattle.simp.proofs.Turns.{padded-place}
-use Rattle.simp.proofs.RoundDemands.{turn-open, turn-closed, by-gate}
+use Rattle.simp.proofs.RoundDemands.{by-zero, turn-open, turn-closed, by-gate, round-demand-1}
 
 -- what scripts answer from place i on
 abbrev answered : List Ran → List ℕ
@@ -83,3 +83,26 @@ pub of-each : {P : List ℕ → Type 0} (gate : Gate) → ((t : List ℕ) → P 
 unfolding EachOpen
 of-each gate f i [] = tt
 of-each gate f i (t ∷ ts) = (λ o. f t, of-each gate f (suc i) ts)
+
+-- look: what is made of a memory. P: the scripts that leave it, whatever they answer.
+module _ {A : Type 0} (look : List ℕ → A) (sheet : List ℕ) (authority budget : ℕ) (P : List ℕ → Type 0)
+    (leaves : (t m : List ℕ) → P t → look (runOf sheet t m authority budget .memory) ≡ look m) (gate : Gate) where
+  turn-leaves : (i : ℕ) (t m : List ℕ) → (Open gate i → P t) → look (turnOf gate sheet authority budget i t m .memory) ≡ look m
+  turn-leaves i t m p =
+      by-gate gate sheet authority budget i t m
+      (λ o. rw (turn-open gate sheet authority budget i t m o) (leaves t m (p o)))
+      (λ n. rw (turn-closed gate sheet authority budget i t m n) refl)
+
+  each-leaves : (i : ℕ) (m : List ℕ) (ts : List (List ℕ)) → EachOpen P gate i ts
+      → look (leftBy m (runEach (turnOf gate sheet authority budget) i m ts)) ≡ look m
+  unfolding runEach leftBy EachOpen
+  each-leaves i m [] p = refl
+  each-leaves i m (t ∷ ts) p = each-leaves (suc i) (turnOf gate sheet authority budget i t m .memory) ts (p .1) ∙ turn-leaves i t m (p .0)
+
+  pub round-leaves : (scripts memory : List ℕ) → EachOpen P gate 0 (partsOf scripts) → look (roundBy gate sheet scripts memory authority budget .memory) ≡ look memory
+  round-leaves scripts memory p =
+      by-zero (roundBy gate sheet scripts memory authority budget .answer)
+      (λ z.
+      let e = started-round gate sheet scripts memory authority budget (round-started gate sheet scripts memory authority budget z) in
+      ap (λ (r : RanRound). look (r .memory)) e ∙ each-leaves 0 memory (partsOf scripts) p)
+      (λ n. ap look (round-demand-1 .answers gate sheet scripts memory authority budget .kept n))

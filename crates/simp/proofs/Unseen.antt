@@ -1,8 +1,8 @@
 -- A group that can't read a script's starting label is shown the same before and after: an instance of confinement.
 -- Assumes nothing.
-use mathlib.Core.Path.{_≡_, refl, sym, ap, _∙_}
-use mathlib.Core.List.{List, [], _∷_}
-use Prim.Native.Nat.{ℕ, suc}
+use mathlib.Core.Path.{_≡_, sym, ap, _∙_}
+use mathlib.Core.List.{List}
+use Prim.Native.Nat.{ℕ}
 use Rattle.language.specs.Syntax.{Cmd, skip, Script}
 use Rattle.language.specs.World.{World, Mem}
 use Rattle.language.specs.Transition.{done}
@@ -13,22 +13,18 @@ use Rattle.memory.specs.Memory.{memoryOf, memoryRefusal}
 use Rattle.memory.specs.View.{viewWords, viewRefusal}
 use Rattle.memory.proofs.Exactness.{memories-exactly, views-exactly}
 use Rattle.stages.specs.Calls.{onSheet, runOf, viewOf}
-use Rattle.scripts.specs.Parting.{partsOf}
-use Rattle.rounds.specs.Answers.{RanRound, leftBy, Gate}
-use Rattle.rounds.specs.Calls.{runEach, turnOf, roundBy}
 use Rattle.simp.specs.Judgements.{OnSheet, Started}
-use Rattle.simp.specs.Rounds.{Open, EachOpen}
-use Rattle.simp.specs.StartUnseen.{StartHidden, HiddenFrom, StartUnseen}
+use Rattle.simp.specs.StartUnseen.{StartHidden, StartUnseen}
 use Rattle.simp.proofs.Judged.{read}
 use Rattle.simp.proofs.SecondDemand.{declared, by-figures}
 use Rattle.simp.proofs.FirstDemand.{starts, run-answers}
 use Rattle.simp.proofs.ThirdDemand.{Done, started, done-run, done-declared}
 use Rattle.simp.proofs.Readers.{shown-confined}
-use Rattle.simp.proofs.RoundRows.{round-started, started-round}
-use Rattle.simp.proofs.RoundDemands.{by-zero, turn-open, turn-closed, by-gate, round-demand-1}
+use Rattle.simp.proofs.RoundDemands.{by-zero}
+use Rattle.simp.proofs.RoundRuns.{round-leaves}
 
 -- a run that is done is a trace
-done-steps : {W : World} {b l : ℕ} {M M′ : Mem} {c : Cmd} → RunEnds W b M c (done M′ l) → (k : ℕ) × Steps W k M c M′ skip
+pub done-steps : {W : World} {b l : ℕ} {M M′ : Mem} {c : Cmd} → RunEnds W b M c (done M′ l) → (k : ℕ) × Steps W k M c M′ skip
 done-steps (ends-done {k} e t n) = (k, t)
 
 -- memories that are refused alike and show the group the same words
@@ -62,32 +58,9 @@ module _ (sheet : List ℕ) (group : ℕ) (authority budget : ℕ) (view : List 
       (λ h. let st = starts sheet script memory authority budget h in done-alike script memory _ hidden (st .2) (done-run budget (st .2) h))
       (λ n. ap (λ (m : List ℕ). viewOf sheet m group view) (run-answers sheet script memory authority budget .kept n))
 
-  -- ---- rounds
-
-  module _ (gate : Gate) where
-    turn-alike : (i : ℕ) (t memory : List ℕ) → (Open gate i → StartHidden sheet group t) → Alike (turnOf gate sheet authority budget i t memory .memory) memory
-    turn-alike i t memory hidden =
-        by-gate gate sheet authority budget i t memory
-        (λ o. rw (turn-open gate sheet authority budget i t memory o) (run-alike t memory (hidden o)))
-        (λ n. rw (turn-closed gate sheet authority budget i t memory n) refl)
-
-    each-alike : (i : ℕ) (memory : List ℕ) (ts : List (List ℕ)) → HiddenFrom sheet group gate i ts
-        → Alike (leftBy memory (runEach (turnOf gate sheet authority budget) i memory ts)) memory
-    unfolding runEach leftBy EachOpen
-    each-alike i memory [] h = refl
-    each-alike i memory (t ∷ ts) h = each-alike (suc i) (turnOf gate sheet authority budget i t memory .memory) ts (h .1) ∙ turn-alike i t memory (h .0)
-
-    round-alike : (scripts memory : List ℕ) → HiddenFrom sheet group gate 0 (partsOf scripts)
-        → Alike (roundBy gate sheet scripts memory authority budget .memory) memory
-    round-alike scripts memory h =
-        by-zero (roundBy gate sheet scripts memory authority budget .answer)
-        (λ z.
-        let e = started-round gate sheet scripts memory authority budget (round-started gate sheet scripts memory authority budget z) in
-        ap (λ (r : RanRound). viewOf sheet (r .memory) group view) e ∙ each-alike 0 memory (partsOf scripts) h)
-        (λ n. ap (λ (m : List ℕ). viewOf sheet m group view) (round-demand-1 .answers gate sheet scripts memory authority budget .kept n))
-
 pub start-unseen : StartUnseen
 start-unseen = record {
   run = λ sheet script group hidden authority budget memory view. run-alike sheet group authority budget view script memory hidden;
-  round = λ sheet scripts group gate hidden authority budget memory view. round-alike sheet group authority budget view gate scripts memory hidden;
+  round = λ sheet scripts group gate hidden authority budget memory view.
+      round-leaves (λ m. viewOf sheet m group view) sheet authority budget (StartHidden sheet group) (run-alike sheet group authority budget view) gate scripts memory hidden;
 }

@@ -7,5 +7,6 @@ pub mod Trust
 pub mod Demands
 pub mod RoundView
 pub mod StartUnseen
+pub mod ReadingRules
 pub mod TrustKept
 pub mod SmallestGroups

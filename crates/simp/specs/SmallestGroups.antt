@@ -1,4 +1,4 @@
--- Who together can read a label (request (b)): what simp_groups lists.
+-- Who can read a label, together (request (b)) or each by himself (request (g)): what simp_groups lists.
 use mathlib.Core.Logic.{_↔_}
 use mathlib.Core.Path.{_≡_}
 use mathlib.Core.Bool.{true}

@@ -1,7 +1,7 @@
 -- The loop: the group meets each set below o. Past the last owner there is no set to meet.
 -- Assumes nothing.
 use denote.Ref.{now}
-use lib.ListN.{List·getD-eq-default, length, getD}
+use lib.ListN.{getD}
 use mathlib.Core.Path.{ap, _≡_, sym, _∙_}
 use mathlib.Core.Bool.{Bool, true}
 use mathlib.Core.List.{List}
@@ -10,11 +10,12 @@ use native.Mathlib.Nat.{not-suc-le-zero}
 use native.Mathlib.Omega.{arith}
 use borrow.Author.Count.{below-more}
 use borrow.Author.Tests.{not-true, not-false}
-use Rattle.sets.specs.Sets.{meets, tab}
+use Rattle.sets.specs.Sets.{meets}
 use Rattle.sets.proofs.SetLaws.{meets-empty}
-use Rattle.sets.proofs.Walks.{every-true, every-false, getD-tab, length-tab}
+use Rattle.sets.proofs.Walks.{every-true, every-false}
 use Rattle.labels.specs.Labels.{owners}
 use Rattle.labels.specs.Internal.Tables.{setsAt}
+use Rattle.labels.proofs.TableLaws.{set-there, set-past}
 use borrow.Author.Needs.{needs}
 use Rattle.labels.proofs.meets_at.Statement.{statement}
 use Rattle.labels.proofs.meets_at.Tie as tie
@@ -24,18 +25,6 @@ Inv-loop table at n group o₀ o = (o ≤ n) × ((k : ℕ) → k < o → meets g
 
 abbrev μ-loop : tie.MeasureT-loop
 μ-loop table at n group o₀ o = n - o
-
--- the sets of a table: the word at a place, and none past the last owner
-set-there : (t : List ℕ) (at o : ℕ) → o < owners → getD (setsAt t at) o 0 ≡ getD t (at + o) 0
-unfolding setsAt
-set-there t at o l = getD-tab owners (λ (k : ℕ). getD t (at + k) 0) o 0 l
-
-set-past : (t : List ℕ) (at : ℕ) → getD (setsAt t at) owners 0 ≡ 0
-unfolding setsAt
-set-past t at =
-    let f : ℕ → ℕ = λ k. getD t (at + k) 0 in
-    let l : length (tab owners f) ≤ owners = omega (arith, length-tab owners f) in
-    List·getD-eq-default (tab owners f) 0 l
 
 -- the test of place o, by what the word and the set's test gave
 tested : (t : List ℕ) (at o group w : ℕ) (b : Bool) → o < owners → w ≡ getD t (at + o) 0 → b ≡ meets group w → meets group (getD (setsAt t at) o 0) ≡ b

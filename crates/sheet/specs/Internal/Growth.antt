@@ -1,18 +1,23 @@
--- A sheet with something more: a sum or a pair, a label without policies, a policy of the last label, a location.
+-- A sheet with something more: the line `R 1`, a sum or a pair, a label without policies, a policy of the last label, a
+-- location.
 use mathlib.Core.List.{List, [], _∷_, _++_}
 use Prim.Native.Nat.{ℕ}
 use Rattle.labels.specs.Labels.{Policy}
+use Rattle.labels.specs.declared.Reading.the-variants.{Pooled, Alone}
 use Rattle.sheet.specs.Sheet.{Compound, Location, Sheet}
 
 -- a sheet of n principals with nothing else
 unfoldable pub bareSheet : ℕ → Sheet
-bareSheet n = record { principals = n; compounds = []; labels = []; locations = [] }
+bareSheet n = record { principals = n; reading = Pooled; compounds = []; labels = []; locations = [] }
+
+unfoldable pub addReading : Sheet → Sheet
+addReading s = record { principals = s .principals; reading = Alone; compounds = s .compounds; labels = s .labels; locations = s .locations }
 
 unfoldable pub addCompound : Sheet → Compound → Sheet
-addCompound s x = record { principals = s .principals; compounds = s .compounds ++ (x ∷ []); labels = s .labels; locations = s .locations }
+addCompound s x = record { principals = s .principals; reading = s .reading; compounds = s .compounds ++ (x ∷ []); labels = s .labels; locations = s .locations }
 
 unfoldable pub addLabel : Sheet → Sheet
-addLabel s = record { principals = s .principals; compounds = s .compounds; labels = s .labels ++ ([] ∷ []); locations = s .locations }
+addLabel s = record { principals = s .principals; reading = s .reading; compounds = s .compounds; labels = s .labels ++ ([] ∷ []); locations = s .locations }
 
 -- a policy more at the last label
 unfoldable pub toLast : Policy → List (List Policy) → List (List Policy)
@@ -21,7 +26,7 @@ toLast p (ps ∷ []) = (ps ++ (p ∷ [])) ∷ []
 toLast p (ps ∷ qs ∷ pss) = ps ∷ toLast p (qs ∷ pss)
 
 unfoldable pub addPolicy : Sheet → Policy → Sheet
-addPolicy s p = record { principals = s .principals; compounds = s .compounds; labels = toLast p (s .labels); locations = s .locations }
+addPolicy s p = record { principals = s .principals; reading = s .reading; compounds = s .compounds; labels = toLast p (s .labels); locations = s .locations }
 
 unfoldable pub addLocation : Sheet → Location → Sheet
-addLocation s x = record { principals = s .principals; compounds = s .compounds; labels = s .labels; locations = s .locations ++ (x ∷ []) }
+addLocation s x = record { principals = s .principals; reading = s .reading; compounds = s .compounds; labels = s .labels; locations = s .locations ++ (x ∷ []) }

@@ -2,12 +2,14 @@
 use mathlib.Core.Bool.{Bool, cond}
 use mathlib.Core.List.{List, [], _∷_, _++_}
 use Prim.Native.Nat.{ℕ, _+_, _*_, _%_}
-use lib.Dec.{ltb, leb}
+use lib.Dec.{eqb, ltb, leb}
 use lib.ListN.{getD}
 use Rattle.sets.specs.Sets.{everyone}
-use Rattle.labels.specs.Labels.{bottomOf, belowOf, readsOf, writesOf}
+use Rattle.labels.specs.Labels.{bottomOf, belowOf, readsUnder, writesOf}
 use Rattle.labels.specs.Internal.Tables.{labelSize, labelWords, labelAt}
 use Rattle.labels.specs.declared.Label.{Label}
+use Rattle.labels.specs.declared.Reading.{Reading}
+use Rattle.labels.specs.declared.Reading.the-variants.{Pooled, Alone}
 use Rattle.sheet.specs.declared.Kind.{Kind}
 use Rattle.sheet.specs.declared.Kind.the-variants.{Sum, Pair}
 use Rattle.sheet.specs.Padding.{padded}
@@ -39,7 +41,7 @@ labelsBase = locationsBase + locationsRoom
 abbrev pub tableWords : ℕ
 tableWords = labelsBase + labelsRoom
 
--- where the number of principals, their set, and the counts of types, of labels and of locations stand
+-- where the number of principals, their set, the counts of types, of labels and of locations, and the rule of reading stand
 abbrev pub principalsAt : ℕ
 principalsAt = 0
 
@@ -54,6 +56,9 @@ labelsAt = 3
 
 abbrev pub locationsAt : ℕ
 locationsAt = 4
+
+abbrev pub readingAt : ℕ
+readingAt = 5
 
 -- where the parts of type i, and the words of label l, start
 abbrev pub partsPlace : ℕ → ℕ
@@ -97,10 +102,16 @@ typeParts s = givenParts ++ s .compounds
 unfoldable pub partsNo : Sheet → ℕ → Compound
 partsNo s t = getD (typeParts s) t noParts
 
--- The table of a sheet: eight words of counts, then the kinds and parts of its types, its locations and its labels.
+-- the word of a rule of reading
+unfoldable pub readingWord : Reading → ℕ
+readingWord Pooled = 0
+readingWord Alone = 1
+
+-- The table of a sheet: eight words, of the counts and the rule, then the kinds and parts of its types, its locations
+-- and its labels.
 unfoldable pub tableOf : Sheet → List ℕ
 tableOf s =
-    (s .principals ∷ everyone (s .principals) ∷ typeCount s ∷ labelCount s ∷ locationCount s ∷ 0 ∷ 0 ∷ 0 ∷ [])
+    (s .principals ∷ everyone (s .principals) ∷ typeCount s ∷ labelCount s ∷ locationCount s ∷ readingWord (s .reading) ∷ 0 ∷ 0 ∷ [])
     ++ (padded partsRoom (partWords (typeParts s)) ++ (padded locationsRoom (locationWords (s .locations)) ++ padded labelsRoom (labelsWords (labelsOf s))))
 
 -- ---- what a table says. A number that names nothing has the parts, type and label 0, and the label bottom.
@@ -119,6 +130,10 @@ labelsIn t = getD t labelsAt 0
 
 abbrev pub locationsIn : List ℕ → ℕ
 locationsIn t = getD t locationsAt 0
+
+-- the rule of reading
+unfoldable pub readingIn : List ℕ → Reading
+readingIn t = cond (eqb (getD t readingAt 0) 0) Pooled Alone
 
 -- the word of entry i in a list of count entries of two words that starts at base; 0 past its last entry
 unfoldable pub entryIn : List ℕ → ℕ → ℕ → ℕ → ℕ
@@ -154,9 +169,9 @@ labelIn t l = cond (ltb l (labelsIn t)) (labelAt t (labelPlace l)) (bottomOf (ev
 unfoldable pub belowIn : List ℕ → ℕ → ℕ → Bool
 belowIn t l m = belowOf (labelIn t l) (labelIn t m)
 
--- the group g reads label l, and writes it
+-- the group g reads label l, by the rule, and writes it
 unfoldable pub readsIn : List ℕ → ℕ → ℕ → Bool
-readsIn t g l = readsOf (principalsIn t) g (labelIn t l)
+readsIn t g l = readsUnder (readingIn t) (principalsIn t) g (labelIn t l)
 
 unfoldable pub writesIn : List ℕ → ℕ → ℕ → Bool
 writesIn t g l = writesOf (principalsIn t) g (labelIn t l)

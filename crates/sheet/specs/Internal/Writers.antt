@@ -8,9 +8,10 @@ use Rattle.sets.specs.Sets.{width, everyone, restrict}
 use Rattle.labels.specs.Labels.{openOf, policyOf}
 use Rattle.labels.specs.Internal.Tables.{labelPut}
 use Rattle.labels.specs.declared.Label.{Label}
+use Rattle.labels.specs.declared.Reading.the-variants.{Alone}
 use Rattle.sheet.specs.declared.Kind.{Kind}
 use Rattle.sheet.specs.Sheet.{maxLabels, maxLocations}
-use Rattle.sheet.specs.Internal.Tables.{maxTypes, partsBase, locationsBase, partsPlace, rightWord, labelPlace, principalsAt, everyoneAt, typesAt, labelsAt, locationsAt, principalsIn, everyoneIn, labelsIn, labelIn}
+use Rattle.sheet.specs.Internal.Tables.{maxTypes, partsBase, locationsBase, partsPlace, rightWord, labelPlace, principalsAt, everyoneAt, typesAt, labelsAt, locationsAt, readingAt, readingWord, principalsIn, everyoneIn, labelsIn, labelIn}
 
 -- A number up to the most of anything that is counted, locations, so that it fits a word, however wide. The second word
 -- of a type is lower still.
@@ -21,6 +22,10 @@ low n = n % (maxLocations + 1)
 abbrev pub principalsPut : ℕ → List ℕ → List ℕ
 principalsPut n t =
     set (set (set (set (set t principalsAt (low n)) everyoneAt (restrict width (everyone n))) typesAt 5) (partsPlace 4) 2) (partsPlace 4 + 1) 1
+
+-- the rule of the line `R 1`
+abbrev pub readingPut : List ℕ → List ℕ
+readingPut t = set t readingAt (readingWord Alone)
 
 -- the entry a b behind those from base on, of which there are at most `most` and as many as the word at `count` says
 unfoldable pub entryPut : ℕ → ℕ → ℕ → ℕ → ℕ → List ℕ → List ℕ

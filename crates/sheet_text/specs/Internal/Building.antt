@@ -1,5 +1,5 @@
 -- From lines to the sheet, a line at a time: each is tested against the sheet so far, which refuses those that break the form.
-use mathlib.Core.Bool.{Bool, cond}
+use mathlib.Core.Bool.{Bool, true, false, cond}
 use mathlib.Core.List.{List, [], _∷_}
 use mathlib.Core.Option.{Option, none, some}
 use Prim.Native.Nat.{ℕ, suc, _^_}
@@ -7,12 +7,14 @@ use lib.Dec.{eqb, leb, ltb}
 use lib.ListN.{length}
 use Rattle.logic.specs.Booleans.{both}
 use Rattle.labels.specs.Labels.{Policy, policy}
+use Rattle.labels.specs.declared.Reading.{Reading}
+use Rattle.labels.specs.declared.Reading.the-variants.{Pooled, Alone}
 use Rattle.sheet.specs.declared.Kind.{Kind}
 use Rattle.sheet.specs.declared.Kind.the-variants.{Sum, Pair}
 use Rattle.sheet.specs.Sheet.{Sheet, typeCount, labelCount, locationCount, maxPrincipals, maxCompounds, maxLabels, maxLocations}
-use Rattle.sheet.specs.Internal.Growth.{bareSheet, addCompound, addLabel, addPolicy, addLocation}
+use Rattle.sheet.specs.Internal.Growth.{bareSheet, addReading, addCompound, addLabel, addPolicy, addLocation}
 use Rattle.sheet_text.specs.declared.line.Line.{Line}
-use Rattle.sheet_text.specs.declared.line.Line.the-variants.{P, T, Q, L, O, X}
+use Rattle.sheet_text.specs.declared.line.Line.the-variants.{P, R, T, Q, L, O, X}
 
 -- ---- which line may come next
 
@@ -29,6 +31,17 @@ leastAfter from (policy o r w ∷ ps) = leastAfter (suc o) ps
 
 unfoldable pub leastOwner : Sheet → ℕ
 leastOwner s = leastAfter 0 (lastOf (s .labels))
+
+-- no `R` came
+unfoldable pub isPooled : Reading → Bool
+isPooled Pooled = true
+isPooled Alone = false
+
+-- `R 1` right after `P`
+unfoldable pub readingFits : Sheet → ℕ → Bool
+readingFits s k =
+    both (isPooled (s .reading))
+    (both (eqb k 1) (both (eqb (length (s .compounds)) 0) (both (eqb (labelCount s) 0) (eqb (locationCount s) 0))))
 
 -- `T` and `Q` before any `L` or `X`, of earlier types
 unfoldable pub compoundFits : Sheet → ℕ → ℕ → Bool
@@ -55,6 +68,7 @@ locationFits s t l = both (ltb (locationCount s) maxLocations) (both (ltb t (typ
 -- the sheet after a first line, which is `P`
 unfoldable pub begin : Line → Option Sheet
 begin (P n) = cond (both (leb 1 n) (leb n maxPrincipals)) (some (bareSheet n)) none
+begin (R k) = none
 begin (T a b) = none
 begin (Q a b) = none
 begin L = none
@@ -68,6 +82,7 @@ addType s k a b = cond (compoundFits s a b) (some (addCompound s (record { kind 
 -- the sheet after a further line
 unfoldable pub addLine : Sheet → Line → Option Sheet
 addLine s (P n) = none
+addLine s (R k) = cond (readingFits s k) (some (addReading s)) none
 addLine s (T a b) = addType s Sum a b
 addLine s (Q a b) = addType s Pair a b
 addLine s L = cond (labelFits s) (some (addLabel s)) none

@@ -7,11 +7,11 @@ use Prim.Native.Nat.{ℕ}
 use lib.Dec.{eqb, leb, ltb}
 use Rattle.logic.specs.Booleans.{both}
 use Rattle.sheet.specs.Sheet.{Sheet, formed, maxPrincipals, maxLabels, maxLocations}
-use Rattle.sheet.specs.Internal.Tables.{maxTypes, tableOf, principalsIn, everyoneIn, typesIn, labelsIn, locationsIn}
+use Rattle.sheet.specs.Internal.Tables.{maxTypes, tableOf, principalsIn, everyoneIn, typesIn, labelsIn, locationsIn, readingIn}
 use Rattle.sheet_text.specs.declared.line.Line.{Line}
 use Rattle.sheet_text.specs.declared.draft.Draft.{Draft}
 use Rattle.sheet_text.specs.declared.draft.Draft.the-variants.{Formed, Refused}
-use Rattle.sheet_text.specs.Internal.Building.{leastOwner, addLines}
+use Rattle.sheet_text.specs.Internal.Building.{leastOwner, isPooled, addLines}
 
 -- a draft and a table are those of a sheet of the right form, or the draft is a refusal, whatever the table
 unfoldable pub DraftHolds : Option Sheet → Draft → List ℕ → Type 0
@@ -38,10 +38,14 @@ pub record Stores (fits : List ℕ → Bool) (stored : List ℕ → List ℕ) (t
   pub answer : ok ≡ fits t
   pub table : u ≡ cond (fits t) (stored t) t
 
--- ---- the tests of `begin`, `compoundFits`, `labelFits`, `policyFits` and `locationFits`
+-- ---- the tests of `begin`, `readingFits`, `compoundFits`, `labelFits`, `policyFits` and `locationFits`
 
 abbrev pub principalsFit : ℕ → List ℕ → Bool
 principalsFit n t = both (leb 1 n) (leb n maxPrincipals)
+
+abbrev pub readingFitsIn : ℕ → List ℕ → Bool
+readingFitsIn k t =
+    both (isPooled (readingIn t)) (both (eqb k 1) (both (eqb (typesIn t) 5) (both (eqb (labelsIn t) 0) (eqb (locationsIn t) 0))))
 
 abbrev pub compoundFitsIn : ℕ → ℕ → List ℕ → Bool
 compoundFitsIn a b t =

@@ -7,12 +7,16 @@ use lib.ListN.{drop}
 use Rattle.text.specs.Reading.{Read}
 use Rattle.text.specs.Internal.Place.{placed}
 use Rattle.sheet_text.specs.declared.line.Line.{Line}
-use Rattle.sheet_text.specs.declared.line.Line.the-variants.{T, Q, X}
+use Rattle.sheet_text.specs.declared.line.Line.the-variants.{P, R, T, Q, X}
 use Rattle.sheet_text.specs.declared.line.Found.{Found}
 use Rattle.sheet_text.specs.declared.line.Found.the-variants as found
 use Rattle.sheet_text.specs.declared.line.LineRead.the-variants as read
 use Rattle.sheet_text.specs.declared.line.Reached.{Reached}
 use Rattle.sheet_text.specs.Reading.{lineOf}
+
+-- the line of one number by its letter
+unfoldable pub lineOfOne : ℕ → ℕ → Line
+lineOfOne letter n = cond (eqb letter 80) (P n) (R n)
 
 -- the line of two numbers by its letter
 unfoldable pub lineBy : ℕ → ℕ → ℕ → Line

@@ -1,12 +1,15 @@
-use mathlib.Core.Path.{ap}
-use Rattle.labels.specs.declared.Label.{Label}
-use Rattle.sheet.specs.Internal.Readers.{readersIn}
+-- `sheet::readers::readers_of` meets its contract: by the rule that is found. Assumes nothing.
+use Rattle.sheet.proofs.ReaderLaws.{pooled-sets, alone-sets}
 use borrow.Author.Needs.{needs}
 use Rattle.sheet.proofs.readers.readers_of.Statement.{statement}
 use Rattle.sheet.proofs.readers.readers_of.Tie as tie
 
 pub readers-of-spec : {M : Type 1} → statement M
-unfolding readersIn
 readers-of-spec = tie.close (tie.spec
+    (λ c κs. search needs)  -- reading-requires
+    (λ c. search needs)  -- enum-told
     (λ c κs. search needs)  -- label-of-requires
-    (λ c. ap (λ (a : Label). record { sets = a .readers }) (c .before .label-of .ensures)))  -- returns
+    (λ c. search needs)  -- enum-told-2
+    (λ c κs. search needs)  -- sole-readers-requires
+    (λ c. pooled-sets _ (c .before .before .before .before .reading .ensures) _ (c .before .before .enum-told .given .1) (c .before .label-of .ensures))  -- returns
+    (λ c. alone-sets _ (c .before .before .before .reading .ensures) _ (c .before .enum-told2 .given .1) (c .sole-readers .ensures)))  -- returns-2

@@ -1,0 +1,22 @@
+-- `sheet_text::draft::set_reading` meets its contract. Assumes nothing.
+use mathlib.Core.Path.{sym, _∙_}
+use borrow.Author.Tests.{not-true, not-false}
+use Rattle.sheet_text.proofs.DraftLaws.{passed-over, taken}
+use borrow.Author.Needs.{needs}
+use Rattle.sheet_text.proofs.draft.set_reading.Statement.{statement}
+use Rattle.sheet_text.proofs.draft.set_reading.Tie as tie
+
+returns : tie.Need-returns
+returns c = passed-over _ _ _ (sym (c .before .reading-fits .ensures) ∙ not-true _ (c .if1 .taken))
+
+returns-2 : tie.Need-returns-2
+returns-2 c =
+    let here = c .before .before in
+    taken _ _ _ (sym (here .before .reading-fits .ensures) ∙ not-false _ (here .if1 .left)) _ (c .put-reading .ensures)
+
+pub set-reading-spec : {M : Type 1} → statement M
+set-reading-spec = tie.close (tie.spec
+    (λ c κs. search needs)  -- reading-fits-requires
+    returns
+    (λ c κs. search needs)  -- put-reading-requires
+    returns-2)

@@ -18,7 +18,7 @@ pub fn read_sheet(text: &[u8]) -> Result<Sheet, Reason> {
         return Ok(sheet);
     };
     let line = match repeat {
-        Repeat::Type { again, .. } => sheet_text::line_of_type(again),
+        Repeat::Type { again, .. } => sheet_text::line_of_type(&sheet, again),
         Repeat::Label { again, .. } => sheet_text::line_of_label(text, again),
     };
     Err(Reason::Repeats { line, repeat })

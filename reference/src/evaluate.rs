@@ -82,7 +82,7 @@ fn unpack(context: &Context, ty: TypeId, label: LabelId, package: Value) -> Valu
     };
     let labels = &context.sheet.labels;
     let (wanted, _) = context.sheet.parts(ty).expect("the type of an unpack is a sum");
-    if !labels[label].read_by(context.authority) {
+    if !context.sheet.reads(context.authority, label) {
         failed(Error::InsufficientAuth)
     } else if !labels[package_label].at_or_below(&labels[label]) {
         failed(Error::IllegalFlow)
@@ -90,5 +90,30 @@ fn unpack(context: &Context, ty: TypeId, label: LabelId, package: Value) -> Valu
         failed(Error::TypeMismatch)
     } else {
         Value::Left(content)
+    }
+}
+
+#[cfg(test)]
+mod tests {
+    use super::{pack, unpack, Context};
+    use crate::principals::Principals;
+    use crate::sheet_text;
+    use crate::value::Value;
+
+    /// Principal 2 reads and writes for owner 0, and principal 3 for owner 1; type 5 is int+error.
+    fn of_the_two(rule: &str) -> Vec<u8> {
+        format!("P\t4\n{rule}T\t0\t1\nL\nO\t0\t0004\t0004\nO\t1\t0008\t0008\n").into()
+    }
+
+    #[test]
+    fn the_rule_of_reading_is_for_unpack_and_not_for_pack() {
+        let packed = Value::Package(0, Box::new(Value::Integer(9)));
+        for (rule, unpacked) in [("", [3, 1, 9]), ("R\t1\n", [4, 2, 1])] {
+            let sheet = sheet_text::parse(&of_the_two(rule)).expect("a sheet");
+            let context = Context { sheet: &sheet, authority: Principals::from_bits(0b1100) };
+            assert_eq!(unpack(&context, 5, 0, packed.clone()).words(), unpacked, "{rule}");
+            let written = pack(&context, 0, Value::Integer(9));
+            assert_eq!(written, Value::Left(Box::new(packed.clone())), "{rule}");
+        }
     }
 }

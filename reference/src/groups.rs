@@ -3,6 +3,7 @@
 
 use crate::answer::Groups;
 use crate::calls::{known_label, read_sheet};
+use crate::label::{Label, Reading};
 use crate::principals::Principals;
 use crate::reason::Reason;
 use crate::sheet::{LabelId, Sheet};
@@ -31,11 +32,26 @@ pub fn try_groups(sheet: &[u8], label: u32, groups: &mut [u16]) -> Result<u32, R
 }
 
 /// The smallest groups that read a label of the sheet, rising as numbers.
+pub fn smallest_groups(sheet: &Sheet, label: LabelId) -> Vec<Principals> {
+    let label = &sheet.labels[label];
+    match sheet.reading {
+        Reading::Pooled => smallest_pools(label),
+        Reading::Alone => single_readers(label),
+    }
+}
+
+/// Each principal alone that is an effective reader for every owner: a group that reads holds such
+/// a one, who reads by himself. There may be none.
+fn single_readers(label: &Label) -> Vec<Principals> {
+    let readers = (0..label.principals()).filter(|&principal| label.has_reader(principal));
+    readers.map(Principals::only).collect()
+}
+
+/// The smallest groups that together read a label.
 ///
 /// A group reads the label when it meets the readers of every owner. So the groups are built owner
 /// by owner: they are at each point the smallest ones that meet the readers of the owners so far.
-pub fn smallest_groups(sheet: &Sheet, label: LabelId) -> Vec<Principals> {
-    let label = &sheet.labels[label];
+fn smallest_pools(label: &Label) -> Vec<Principals> {
     let owners = (0..label.principals()).map(|owner| label.readers(owner));
     // without an owner to meet, nobody is enough
     let nobody = Principals::first(0);
@@ -65,13 +81,13 @@ fn and_meet(smallest: Vec<Principals>, readers: Principals) -> Vec<Principals> {
 mod tests {
     use super::{groups, smallest_groups, try_groups};
     use crate::answer::Groups;
-    use crate::label::{Label, Policy};
+    use crate::label::{Label, Policy, Reading};
     use crate::principals::Principals;
     use crate::reason::Reason;
     use crate::sheet::Sheet;
 
     /// A sheet with the label of these effective readers, one set for each owner.
-    fn sheet(readers: &[u16]) -> Sheet {
+    fn sheet(reading: Reading, readers: &[u16]) -> Sheet {
         let policies = readers.iter().enumerate().map(|(owner, &readers)| Policy {
             owner,
             readers: Principals::from_bits(readers),
@@ -79,17 +95,22 @@ mod tests {
         });
         let label = Label::of_policies(readers.len(), &policies.collect::<Vec<Policy>>());
         let principals = readers.len();
-        Sheet { principals, types: Vec::new(), labels: vec![label], locations: Vec::new() }
+        let (labels, types, locations) = (vec![label], Vec::new(), Vec::new());
+        Sheet { principals, reading, types, labels, locations }
+    }
+
+    fn smallest_by(reading: Reading, readers: &[u16]) -> Vec<u16> {
+        smallest_groups(&sheet(reading, readers), 0).into_iter().map(Principals::bits).collect()
     }
 
     fn smallest(readers: &[u16]) -> Vec<u16> {
-        smallest_groups(&sheet(readers), 0).into_iter().map(Principals::bits).collect()
+        smallest_by(Reading::Pooled, readers)
     }
 
     /// The definition: a group that reads while none of its proper subsets does.
-    fn by_definition(readers: &[u16]) -> Vec<u16> {
-        let sheet = sheet(readers);
-        let reads = |bits: u16| sheet.labels[0].read_by(Principals::from_bits(bits));
+    fn by_definition(reading: Reading, readers: &[u16]) -> Vec<u16> {
+        let sheet = sheet(reading, readers);
+        let reads = |bits: u16| sheet.reads(Principals::from_bits(bits), 0);
         let all = 0..1 << readers.len();
         all.filter(|&g| reads(g) && !(0..g).any(|h| h & g == h && reads(h))).collect()
     }
@@ -106,15 +127,29 @@ mod tests {
         assert_eq!(smallest(&ring), [0b0101, 0b1010]);
         assert_eq!(smallest(&[1]), [1]);
         for readers in [everyone, alone, pairs, ring] {
-            assert_eq!(smallest(&readers), by_definition(&readers), "{readers:?}");
+            let defined = by_definition(Reading::Pooled, &readers);
+            assert_eq!(smallest(&readers), defined, "{readers:?}");
         }
+    }
+
+    #[test]
+    fn one_who_reads_alone_is_a_smallest_group() {
+        let alone = |readers: &[u16]| smallest_by(Reading::Alone, readers);
+        assert_eq!(alone(&[0x000f; 4]), [1, 2, 4, 8]);
+        assert_eq!(alone(&[0b0111, 0b1110, 0b1111, 0b1111]), [0b0010, 0b0100]);
+        assert_eq!(alone(&[0b1001, 0b1010, 0b1100, 0b1000]), [0b1000]);
+        assert_eq!(alone(&[0b0101, 0b1010, 0b1111, 0b1111]), []);
+        assert_eq!(alone(&[1]), [1]);
     }
 
     #[test]
     fn all_labels_of_three_have_the_groups_of_the_definition() {
         for choice in 0..1 << 9 {
             let readers = [0, 1, 2].map(|owner| (choice >> (3 * owner) & 7) | 1 << owner);
-            assert_eq!(smallest(&readers), by_definition(&readers), "{readers:?}");
+            for rule in [Reading::Pooled, Reading::Alone] {
+                let defined = by_definition(rule, &readers);
+                assert_eq!(smallest_by(rule, &readers), defined, "{rule:?} {readers:?}");
+            }
         }
     }
 
@@ -158,5 +193,18 @@ mod tests {
         }
         let unknown = Reason::UnknownLabel { label: 0, count: 0 };
         assert_eq!(try_groups(b"P\t3\n", 0, &mut []), Err(unknown));
+    }
+
+    #[test]
+    fn a_label_that_nobody_reads_alone_has_no_group() {
+        let sheet = b"P\t3\nR\t1\nL\nL\nO\t0\t0000\t0000\nO\t1\t0000\t0000\n";
+        let mut places = [7; 2];
+        assert_eq!(groups(sheet, 1, &mut places), Groups::listed(0));
+        assert_eq!(places, [7; 2]);
+        assert_eq!(try_groups(sheet, 1, &mut []), Ok(0));
+        let few = Reason::Places { found: 2, wanted: 3 };
+        assert_eq!(try_groups(sheet, 0, &mut places), Err(few));
+        let unknown = Reason::UnknownLabel { label: 2, count: 2 };
+        assert_eq!(try_groups(sheet, 2, &mut places), Err(unknown));
     }
 }

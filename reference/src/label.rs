@@ -10,6 +10,15 @@ pub struct Policy {
     pub writers: Principals,
 }
 
+/// How a group reads a label.
+#[derive(Clone, Copy, Debug, PartialEq, Eq)]
+pub enum Reading {
+    /// It holds at least one effective reader for every owner.
+    Pooled,
+    /// One of its members is an effective reader for every owner: on a sheet with `R 1`.
+    Alone,
+}
+
 /// What one owner lets principals do.
 #[derive(Clone, Copy, Debug, PartialEq, Eq)]
 struct Effective {
@@ -98,9 +107,18 @@ impl Label {
         Label { owners: owners.collect() }
     }
 
-    /// Whether the group holds at least one effective reader for every owner.
-    pub fn read_by(&self, group: Principals) -> bool {
-        self.owners.iter().all(|effective| effective.readers.meets(group))
+    /// Whether the group reads this label.
+    pub fn read_by(&self, reading: Reading, group: Principals) -> bool {
+        match reading {
+            Reading::Pooled => self.owners.iter().all(|effective| effective.readers.meets(group)),
+            Reading::Alone => group.members().any(|member| self.has_reader(member)),
+        }
+    }
+
+    /// Whether the principal is an effective reader for every owner.
+    pub fn has_reader(&self, principal: usize) -> bool {
+        let one = Principals::only(principal);
+        self.owners.iter().all(|effective| effective.readers.contains(one))
     }
 
     /// Whether the group holds at least one effective writer for every owner.
@@ -111,7 +129,7 @@ impl Label {
 
 #[cfg(test)]
 mod tests {
-    use super::{Label, Policy};
+    use super::{Label, Policy, Reading};
     use crate::principals::Principals;
 
     fn policy(owner: usize, readers: u16, writers: u16) -> Policy {
@@ -138,6 +156,8 @@ mod tests {
         labels
     }
 
+    const RULES: [Reading; 2] = [Reading::Pooled, Reading::Alone];
+
     #[test]
     fn an_owner_without_a_policy_lets_everyone_read_and_write() {
         let open = Label::of_policies(3, &[]);
@@ -150,7 +170,8 @@ mod tests {
         let nobody = Principals::from_bits(0);
         for n in 1..=16 {
             let open = Label::of_policies(n, &[]);
-            assert!(!open.read_by(nobody) && !open.written_by(nobody));
+            assert!(RULES.iter().all(|&rule| !open.read_by(rule, nobody)));
+            assert!(!open.written_by(nobody));
         }
     }
 
@@ -180,10 +201,33 @@ mod tests {
             for b in labels.iter().filter(|b| a.at_or_below(b)) {
                 for bits in 0..4 {
                     let group = Principals::from_bits(bits);
-                    assert!(a.read_by(group) || !b.read_by(group));
+                    for rule in RULES {
+                        assert!(a.read_by(rule, group) || !b.read_by(rule, group));
+                    }
                     assert!(b.written_by(group) || !a.written_by(group));
                 }
             }
+        }
+    }
+
+    #[test]
+    fn readers_pool_or_one_of_them_reads_alone() {
+        let readers_apart = Label::of_policies(4, &[policy(0, 0b0100, 0), policy(1, 0b1000, 0)]);
+        let reading = |rule| {
+            let reads = |&bits: &u16| readers_apart.read_by(rule, Principals::from_bits(bits));
+            (0..16).filter(reads).collect::<Vec<u16>>()
+        };
+        let meets_both = |&bits: &u16| bits & 0b0101 != 0 && bits & 0b1010 != 0;
+        assert_eq!(reading(Reading::Pooled), (0..16).filter(meets_both).collect::<Vec<u16>>());
+        assert_eq!(reading(Reading::Alone), []);
+
+        // 2 reads for both owners, 0 and 1 for one
+        let one_in_both = Label::of_policies(3, &[policy(0, 0b100, 0), policy(1, 0b100, 0)]);
+        for bits in 0..8 {
+            let group = Principals::from_bits(bits);
+            assert_eq!(one_in_both.read_by(Reading::Alone, group), bits & 0b100 != 0);
+            let pooled = bits & 0b100 != 0 || bits == 0b011;
+            assert_eq!(one_in_both.read_by(Reading::Pooled, group), pooled);
         }
     }
 }

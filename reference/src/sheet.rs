@@ -1,6 +1,7 @@
 //! What a sheet says.
 
-use crate::label::Label;
+use crate::label::{Label, Reading};
+use crate::principals::Principals;
 use crate::types::{Type, TypeId};
 
 pub type LabelId = usize;
@@ -17,6 +18,8 @@ pub struct Location {
 pub struct Sheet {
     /// The number n of principals.
     pub principals: usize,
+    /// How a group reads the labels.
+    pub reading: Reading,
     /// The given types, then those made by `T` and `Q`, in the order of their lines.
     pub types: Vec<Type>,
     pub labels: Vec<Label>,
@@ -27,6 +30,11 @@ impl Sheet {
     /// The label of a location.
     pub fn label_at(&self, location: LocationId) -> &Label {
         &self.labels[self.locations[location].label]
+    }
+
+    /// Whether the group reads a label, by the rule of this sheet.
+    pub fn reads(&self, group: Principals, label: LabelId) -> bool {
+        self.labels[label].read_by(self.reading, group)
     }
 
     /// The two parts of a sum, or nothing for another type.

@@ -1,6 +1,6 @@
 //! The reader of a sheet.
 
-use crate::label::{Label, Policy};
+use crate::label::{Label, Policy, Reading};
 use crate::principals;
 use crate::sheet::{LabelId, Location, Sheet};
 use crate::text::{fields, lines, name, number, set, Cause, Counted, Expected, Fault, Thing};
@@ -46,7 +46,7 @@ impl<'a> Rest<'a> {
     }
 }
 
-/// A sheet is one `P`, then `T` and `Q` lines, labels and `X` lines, in this order.
+/// A sheet is one `P`, then `R 1` or not, `T` and `Q` lines, labels and `X` lines, in this order.
 pub fn parse(text: &[u8]) -> Result<Sheet, Fault> {
     let lines = lines(text)?.into_iter().map(fields).collect();
     let mut rest = Rest { lines, read: 0 };
@@ -56,15 +56,18 @@ pub fn parse(text: &[u8]) -> Result<Sheet, Fault> {
 
 fn parse_lines(rest: &mut Rest) -> Result<Sheet, Cause> {
     let principals = parse_principals(rest)?;
+    let reading = parse_reading(rest)?;
     let types = parse_types(rest)?;
     let labels = parse_labels(rest, principals)?;
     let locations = parse_locations(rest, types.len(), labels.len())?;
     if rest.read == rest.lines.len() {
-        return Ok(Sheet { principals, types, labels, locations });
+        return Ok(Sheet { principals, reading, types, labels, locations });
     }
+    let only_principals = rest.read == 1;
     Err(rest.expected(match (labels.is_empty(), locations.is_empty()) {
         (_, false) => &["X"],
         (false, true) => &["O", "L", "X"],
+        (true, true) if only_principals => &["R", "T", "Q", "L", "X"],
         (true, true) => &["T", "Q", "L", "X"],
     }))
 }
@@ -78,6 +81,15 @@ fn parse_principals(rest: &mut Rest) -> Result<usize, Cause> {
         Ok(count)
     } else {
         Err(Cause::PrincipalCount(count))
+    }
+}
+
+/// `R 1` says that a reader reads by himself; no other `R` line says anything.
+fn parse_reading(rest: &mut Rest) -> Result<Reading, Cause> {
+    match rest.take(b"R")? {
+        None => Ok(Reading::Pooled),
+        Some([b"1"]) => Ok(Reading::Alone),
+        Some([found]) => Err(Cause::ReadingRule { found: found.to_vec() }),
     }
 }
 
@@ -146,9 +158,13 @@ fn within(count: usize, what: Counted, most: usize) -> Result<(), Cause> {
     }
 }
 
-/// The line of a type that `T` or `Q` makes.
-pub fn line_of_type(ty: TypeId) -> usize {
-    2 + ty - given().len()
+/// The line of a type that `T` or `Q` makes: those lines follow `P`, and `R 1` where it stands.
+pub fn line_of_type(sheet: &Sheet, ty: TypeId) -> usize {
+    let first = match sheet.reading {
+        Reading::Pooled => 2,
+        Reading::Alone => 3,
+    };
+    first + ty - given().len()
 }
 
 /// The line that a label of a sheet starts with.
@@ -163,6 +179,7 @@ pub fn line_of_label(text: &[u8], label: LabelId) -> usize {
 mod tests {
     use super::parse;
     use crate::calls::read_sheet;
+    use crate::label::Reading;
     use crate::reason::Reason;
     use crate::sheet::Repeat;
     use crate::text::{Cause, Counted, Expected, Thing};
@@ -205,5 +222,58 @@ mod tests {
         assert_eq!(read_sheet(&sheet("Q 0 1,T 0 1,Q 0 1,")), type_at(4, 5, 7));
         assert_eq!(read_sheet(&sheet("T 0 1,Q 0 1,T 0 1,")), type_at(4, 5, 7));
         assert_eq!(read_sheet(&sheet("Q 0 0,T 0 0,")), type_at(3, 3, 6));
+    }
+
+    #[test]
+    fn only_a_line_of_one_after_the_principals_says_who_reads() {
+        let reading = |lines: &str| parse(&sheet(lines)).map(|sheet| sheet.reading);
+        for pooled in ["", "T 0 1,", "L,", "L,X 0 0,"] {
+            assert_eq!(reading(pooled), Ok(Reading::Pooled), "{pooled}");
+            assert_eq!(reading(&format!("R 1,{pooled}")), Ok(Reading::Alone), "{pooled}");
+        }
+        for field in ["0", "2", "01", "10", "+1", "one", "0001"] {
+            let other = Cause::ReadingRule { found: field.into() };
+            assert_eq!(reading(&format!("R {field},")), Err(other.at(2)), "{field}");
+        }
+        for (line, found) in [("R,", 0), ("R 1 1,", 2), ("R 0 0 0,", 3)] {
+            let fields = Cause::FieldCount { kind: b"R".to_vec(), wanted: 1, found };
+            assert_eq!(reading(line), Err(fields.at(2)), "{line}");
+        }
+    }
+
+    #[test]
+    fn a_rule_of_reading_stands_nowhere_else() {
+        let misplaced = |found: &str, expected| Cause::LineKind {
+            found: found.into(),
+            expected: Expected::Sheet(expected),
+        };
+        let types = &["T", "Q", "L", "X"];
+        let labels = &["O", "L", "X"];
+        for (lines, line, expected) in [
+            ("R 1,R 1,", 3, &types[..]),
+            ("T 0 1,R 1,", 3, types),
+            ("R 1,Q 0 1,R 1,", 4, types),
+            ("L,R 1,", 3, labels),
+            ("L,O 0 0000 0000,R 1,", 4, labels),
+            ("L,X 0 0,R 1,", 4, &["X"]),
+        ] {
+            assert_eq!(parse(&sheet(lines)), Err(misplaced("R", expected).at(line)), "{lines}");
+        }
+        assert_eq!(parse(b"R\t1\nP\t1\n"), Err(misplaced("R", &["P"]).at(1)));
+        let first = &["R", "T", "Q", "L", "X"];
+        assert_eq!(parse(&sheet("r 1,")), Err(misplaced("r", first).at(2)));
+        assert_eq!(parse(&sheet("R 1,r 1,")), Err(misplaced("r", types).at(3)));
+        assert_eq!(parse(b"P\t1\nR 1\n"), Err(Cause::Blank.at(2)));
+    }
+
+    #[test]
+    fn the_line_of_a_repeat_counts_the_rule_of_reading() {
+        let repeated = |lines, line, repeat| {
+            assert_eq!(read_sheet(&sheet(lines)), Err(Reason::Repeats { line, repeat }));
+        };
+        repeated("T 0 0,", 2, Repeat::Type { first: 3, again: 5 });
+        repeated("R 1,T 0 0,", 3, Repeat::Type { first: 3, again: 5 });
+        repeated("R 1,Q 0 1,T 0 1,Q 0 1,", 5, Repeat::Type { first: 5, again: 7 });
+        repeated("R 1,T 0 1,L,L,", 5, Repeat::Label { first: 0, again: 1 });
     }
 }

@@ -44,6 +44,8 @@ pub enum Cause {
     Set(Vec<u8>),
     /// The number of principals isn't 1 to 16.
     PrincipalCount(usize),
+    /// The field of an `R` line, given here, isn't `1`.
+    ReadingRule { found: Vec<u8> },
     /// An owner doesn't come after the one before it.
     OwnerOrder { owner: usize, before: usize },
     /// There are more of these than the form has.

@@ -1,7 +1,6 @@
 //! What is seen of a memory by the labels that are seen: a group's view has those that it reads, and
 //! where a group is distrusted those are left that it doesn't write.
 
-use crate::label::Label;
 use crate::memory::Memory;
 use crate::principals::Principals;
 use crate::sheet::{LabelId, Sheet};
@@ -20,16 +19,14 @@ enum Seen {
 }
 
 impl Seen {
-    fn of(sheet: &Sheet, sees: &dyn Fn(&Label) -> bool, value: &Value) -> Seen {
-        let inner = |value: &Value| Box::new(Seen::of(sheet, sees, value));
+    fn of(sees: &dyn Fn(LabelId) -> bool, value: &Value) -> Seen {
+        let inner = |value: &Value| Box::new(Seen::of(sees, value));
         match value {
             Value::Integer(n) => Seen::Integer(*n),
             Value::Error(error) => Seen::Error(*error),
             Value::Left(value) => Seen::Left(inner(value)),
             Value::Right(value) => Seen::Right(inner(value)),
-            Value::Package(label, content) if sees(&sheet.labels[*label]) => {
-                Seen::Package(*label, inner(content))
-            }
+            Value::Package(label, content) if sees(*label) => Seen::Package(*label, inner(content)),
             Value::Package(label, _) => Seen::Package(*label, Box::new(Seen::Hidden)),
             Value::Pair(first, second) => Seen::Pair(inner(first), inner(second)),
         }
@@ -52,21 +49,21 @@ impl Seen {
 
 /// The words of a memory's view for a group, 16 for each location.
 pub fn words(sheet: &Sheet, memory: &Memory, group: Principals) -> Vec<u32> {
-    seen(sheet, memory, |label| label.read_by(group))
+    seen(sheet, memory, |label| sheet.reads(group, label))
 }
 
 /// The words that are left of a memory where a group is distrusted: without the locations and the
 /// contents of packages whose labels the group writes.
 pub fn left(sheet: &Sheet, memory: &Memory, distrusted: Principals) -> Vec<u32> {
-    seen(sheet, memory, |label| !label.written_by(distrusted))
+    seen(sheet, memory, |label| !sheet.labels[label].written_by(distrusted))
 }
 
 /// The words of what is seen of a memory: a location whose label isn't seen is 16 zero words, and
 /// the content of a package whose label isn't seen is one.
-pub fn seen(sheet: &Sheet, memory: &Memory, sees: impl Fn(&Label) -> bool) -> Vec<u32> {
-    let locations = memory.iter().enumerate().map(|(location, value)| {
-        if sees(sheet.label_at(location)) {
-            Seen::of(sheet, &sees, value)
+pub fn seen(sheet: &Sheet, memory: &Memory, sees: impl Fn(LabelId) -> bool) -> Vec<u32> {
+    let locations = sheet.locations.iter().zip(memory).map(|(location, value)| {
+        if sees(location.label) {
+            Seen::of(&sees, value)
         } else {
             Seen::Hidden
         }
@@ -135,5 +132,29 @@ mod tests {
         let one = Principals::from_bits(0b10);
         assert_eq!(words(&sheet, &memory, one), blanked(&[&hidden, &hidden, &shown]));
         assert_eq!(left(&sheet, &memory, one), blanked(&[&[], &hidden, &shown]));
+    }
+
+    /// Principal 2 reads for owner 0 and principal 3 for owner 1; all write. Location 0 has the
+    /// label that all read, location 1 the label of the two.
+    fn readers_apart(rule: &str) -> Vec<u8> {
+        format!("P\t4\n{rule}L\nL\nO\t0\t0004\t000f\nO\t1\t0008\t000f\nX\t2\t0\nX\t2\t1\n").into()
+    }
+
+    #[test]
+    fn with_the_rule_two_readers_do_not_pool() {
+        let memory = vec![
+            package(0, package(1, package(0, Value::Integer(9)))),
+            package(1, Value::Integer(9)),
+        ];
+        let all: [&[u32]; 2] = [&[5, 0, 5, 1, 5, 0, 1, 9], &[5, 1, 1, 9]];
+        let hidden: [&[u32]; 2] = [&[5, 0, 5, 1, 0], &[]];
+        let (two, nobody) = (Principals::from_bits(0b1100), Principals::from_bits(0));
+        for (rule, seen) in [("", &all), ("R\t1\n", &hidden)] {
+            let sheet = sheet_text::parse(&readers_apart(rule)).expect("a sheet");
+            assert_eq!(words(&sheet, &memory, two), blanked(seen), "{rule}");
+            assert_eq!(words(&sheet, &memory, nobody), [0; 32], "{rule}");
+            assert_eq!(left(&sheet, &memory, two), [0; 32], "{rule}");
+            assert_eq!(left(&sheet, &memory, nobody), blanked(&all), "{rule}");
+        }
     }
 }

@@ -2,7 +2,6 @@
 
 use super::memory::Values;
 use super::prng::Prng;
-use reference::label::Label;
 use reference::memory::Memory;
 use reference::principals::Principals;
 use reference::sheet::{LabelId, Sheet};
@@ -10,25 +9,28 @@ use reference::value::{Value, MOST_WORDS};
 
 /// A memory that gives a group the same view, and is random elsewhere.
 pub fn same_view(prng: &mut Prng, sheet: &Sheet, memory: &Memory, group: Principals) -> Memory {
-    alike(prng, sheet, memory, |label| label.read_by(group))
+    alike(prng, sheet, memory, |label| sheet.reads(group, label))
 }
 
 /// A memory in which a distrusted group may have changed all that it writes, and nothing else.
 pub fn tampered(prng: &mut Prng, sheet: &Sheet, memory: &Memory, group: Principals) -> Memory {
-    alike(prng, sheet, memory, |label| !label.written_by(group))
+    alike(prng, sheet, memory, |label| !sheet.labels[label].written_by(group))
 }
 
 /// A memory that is equal in what is seen by the labels that are seen, and random elsewhere.
-fn alike(prng: &mut Prng, sheet: &Sheet, memory: &Memory, sees: impl Fn(&Label) -> bool) -> Memory {
+fn alike(
+    prng: &mut Prng,
+    sheet: &Sheet,
+    memory: &Memory,
+    sees: impl Fn(LabelId) -> bool,
+) -> Memory {
     let values = Values::of(sheet);
-    let sees_package = |label: LabelId| sees(&sheet.labels[label]);
     let mut other = Vec::new();
-    for (location, value) in memory.iter().enumerate() {
-        let ty = sheet.locations[location].ty;
-        let new = if sees(sheet.label_at(location)) {
-            Some(rehidden(prng, &values, value, &sees_package, MOST_WORDS))
+    for (location, value) in sheet.locations.iter().zip(memory) {
+        let new = if sees(location.label) {
+            Some(rehidden(prng, &values, value, &sees, MOST_WORDS))
         } else {
-            values.typed(prng, ty, MOST_WORDS)
+            values.typed(prng, location.ty, MOST_WORDS)
         };
         other.push(new.expect("a type with a value has a value"));
     }

@@ -35,7 +35,7 @@ fn groups(prng: &mut Prng, n: usize) -> Vec<u16> {
 fn blind(prng: &mut Prng, sheet: &Sheet, labels: &[Label]) -> Vec<u16> {
     let reads = |&group: &u16| {
         let group = Principals::from_bits(group);
-        labels.iter().any(|label| label.read_by(group))
+        labels.iter().any(|label| label.read_by(sheet.reading, group))
     };
     groups(prng, sheet.principals).into_iter().filter(|group| !reads(group)).collect()
 }

@@ -16,7 +16,14 @@ fn try_groups(text: &[u8], label: u32, groups: &mut [u16]) -> Result<u32, Refusa
     let mut sheet = Sheet::empty();
     sheet_text::read(text, &mut sheet)?;
     let label = sheet.labels.get(label as usize).ok_or(Refusal::Unlisted)?;
-    let smallest = Smallest { label, everyone: sheet.everyone.into(), next: 1 };
+    if sheet.alone {
+        list(Singles(label.single_readers()), groups)
+    } else {
+        list(Smallest { label, everyone: sheet.everyone.into(), next: 1 }, groups)
+    }
+}
+
+fn list(smallest: impl Iterator<Item = u16> + Clone, groups: &mut [u16]) -> Result<u32, Refusal> {
     let count = smallest.clone().count();
     let places = groups.get_mut(..count).ok_or(Refusal::Unlisted)?;
     for (place, group) in places.iter_mut().zip(smallest) {
@@ -25,7 +32,22 @@ fn try_groups(text: &[u8], label: u32, groups: &mut [u16]) -> Result<u32, Refusa
     Ok(count as u32)
 }
 
-/// The smallest groups of a label from the number `next` on, rising.
+/// Each principal of a set by itself, rising.
+#[derive(Clone)]
+struct Singles(u16);
+
+impl Iterator for Singles {
+    type Item = u16;
+
+    fn next(&mut self) -> Option<u16> {
+        let others = self.0 & self.0.checked_sub(1)?;
+        let single = self.0 ^ others;
+        self.0 = others;
+        Some(single)
+    }
+}
+
+/// The smallest groups that read a label together, from the number `next` on, rising.
 #[derive(Clone)]
 struct Smallest<'a> {
     label: &'a Label,
@@ -39,7 +61,7 @@ impl Iterator for Smallest<'_> {
     fn next(&mut self) -> Option<u16> {
         while self.next <= self.everyone {
             let group = self.next as u16;
-            if !self.label.read_by(group) {
+            if !self.label.read_together_by(group) {
                 self.next += 1;
                 continue;
             }
@@ -53,12 +75,12 @@ impl Iterator for Smallest<'_> {
     }
 }
 
-/// Whether a group that reads a label doesn't without any one of its members.
+/// Whether a group that reads a label together doesn't without any one of its members.
 fn is_smallest(label: &Label, group: u16) -> bool {
     let mut left = group;
     while left != 0 {
         let others = left & (left - 1);
-        if label.read_by(group & !(left ^ others)) {
+        if label.read_together_by(group & !(left ^ others)) {
             return false;
         }
         left = others;

@@ -22,8 +22,14 @@ impl Label {
         self.writers[owner] = writers | 1 << owner;
     }
 
-    pub fn read_by(&self, group: u16) -> bool {
+    /// Whether the group holds a reader for each owner.
+    pub fn read_together_by(&self, group: u16) -> bool {
         meets_each(&self.readers, group)
+    }
+
+    /// Those who read for each owner.
+    pub fn single_readers(&self) -> u16 {
+        self.readers.iter().fold(u16::MAX, |all, set| all & set)
     }
 
     pub fn written_by(&self, group: u16) -> bool {

@@ -42,6 +42,8 @@ pub struct Rights {
 pub struct Sheet {
     /// The set of all principals.
     pub everyone: u16,
+    /// Whether a group reads only what one of its members reads alone.
+    pub alone: bool,
     pub types: List<Type, MOST_TYPES>,
     pub labels: List<Label, MOST_LABELS>,
     pub locations: List<Location, MOST_LOCATIONS>,
@@ -52,6 +54,7 @@ impl Sheet {
     pub fn empty() -> Sheet {
         Sheet {
             everyone: 0,
+            alone: false,
             types: List::new(Type::Int),
             labels: List::new(Label::open(0)),
             locations: List::new(Location { ty: 0, label: 0 }),
@@ -76,7 +79,11 @@ impl Sheet {
 
     /// The labels that a group reads, bit a for label a.
     pub fn read_by(&self, group: u16) -> u32 {
-        self.mask(|label| label.read_by(group))
+        if self.alone {
+            self.mask(|label| label.single_readers() & group != 0)
+        } else {
+            self.mask(|label| label.read_together_by(group))
+        }
     }
 
     pub fn rights(&self, authority: u16) -> Rights {

@@ -20,6 +20,7 @@ fn read_form(text: &[u8], sheet: &mut Sheet) -> Option<bool> {
     let reader = &mut Reader::new(text)?;
     let principals = read_principals(reader)?;
     sheet.everyone = u16::MAX >> (MOST_PRINCIPALS - principals);
+    sheet.alone = read_rule(reader)?;
     let repeats_type = read_types(reader, sheet)?;
     while reader.take(b'L') {
         reader.end_of_line()?;
@@ -41,6 +42,16 @@ fn read_principals(reader: &mut Reader) -> Option<usize> {
     let principals = usize::from(reader.name(MOST_PRINCIPALS + 1)?);
     reader.end_of_line()?;
     (principals > 0).then_some(principals)
+}
+
+/// Whether the line `R 1` is there.
+fn read_rule(reader: &mut Reader) -> Option<bool> {
+    if !reader.take(b'R') {
+        return Some(false);
+    }
+    let rule = reader.number()?;
+    reader.end_of_line()?;
+    (rule == 1).then_some(true)
 }
 
 /// Adds the given types, the sums and the pairs, and tells whether two sums or two pairs have the

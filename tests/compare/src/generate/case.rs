@@ -2,7 +2,8 @@
 
 use super::prng::Prng;
 use super::script::{Script, Wrong};
-use super::{damage, memory, script, sheet};
+use super::trust::{self, Endorsed};
+use super::{damage, memory, pool, script, sheet};
 use reference::sheet::Sheet;
 use reference::sheet_text;
 use reference::types::{Type, INT};
@@ -37,7 +38,11 @@ pub fn case(seed: u64) -> Case {
 
 /// A case in which nothing is damaged: the texts are of their form, the memory is well-formed where
 /// every location's type has a value of 16 words, and the script is accepted but for what is `wrong`.
+/// At times it is one of several unpacks.
 pub fn undamaged(prng: &mut Prng, wrong: Wrong) -> (Case, Sheet) {
+    if wrong == Wrong::Nothing && prng.chance(30) {
+        return trust::undamaged(prng, Endorsed::Any);
+    }
     let text = sheet::plan(prng).text().into_bytes();
     let sheet = sheet_text::parse(&text).expect("a sheet without damage is of the form");
     let size = match prng.below(40) {
@@ -58,10 +63,10 @@ pub fn undamaged(prng: &mut Prng, wrong: Wrong) -> (Case, Sheet) {
         view_length: memory.len(),
         sheet: text,
         budget: budget(prng, &script),
+        authority: pool::authority(prng, &sheet, &script),
         script,
         memory,
-        authority: group(prng, sheet.principals),
-        group: group(prng, sheet.principals),
+        group: pool::onlookers(prng, &sheet),
     };
     (case, sheet)
 }

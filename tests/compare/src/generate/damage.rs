@@ -1,7 +1,7 @@
 //! Damage to texts, memories and the inputs of programs.
 
-use super::damage_pairs;
 use super::prng::Prng;
+use super::{damage_pairs, damage_rule};
 use reference::value::MOST_WORDS;
 
 /// Lines that can replace one of a sheet.
@@ -12,6 +12,9 @@ const SHEET_LINES: &[&str] = &[
     "P\t03",
     "P\t1",
     "P",
+    "R\t1",
+    "R\t0",
+    "R",
     "T\t0\t1",
     "T\t0\t0",
     "T\t2\t1",
@@ -155,11 +158,12 @@ const FIELDS: &[&str] = &[
 ];
 
 pub fn sheet(prng: &mut Prng, text: &[u8]) -> Vec<u8> {
-    match prng.below(20) {
-        0..=4 => repeated(prng, text),
-        5 => damage_pairs::too_many_types(prng, text),
-        6..=8 => damage_pairs::type_line_changed(prng, text)
+    match prng.below(24) {
+        0..=5 => repeated(prng, text),
+        6 => damage_pairs::too_many_types(prng, text),
+        7..=9 => damage_pairs::type_line_changed(prng, text)
             .unwrap_or_else(|| damaged(prng, text, SHEET_LINES)),
+        10..=13 => damage_rule::rule(prng, text),
         _ => damaged(prng, text, SHEET_LINES),
     }
 }
@@ -280,7 +284,7 @@ fn change_line(prng: &mut Prng, text: &[u8], replacements: &[&str]) -> Vec<u8> {
 }
 
 fn change_byte(prng: &mut Prng, mut text: Vec<u8>) -> Vec<u8> {
-    const BYTES: &[u8] = b"0123456789\t\n\r -+;=swcixvlrkubpfgPTQLOXaF\x00\xff";
+    const BYTES: &[u8] = b"0123456789\t\n\r -+;=swcixvlrkubpfgPRTQLOXaF\x00\xff";
     let byte = prng.pick(BYTES);
     if text.is_empty() {
         return vec![byte];

@@ -18,17 +18,24 @@ fn line_with(prng: &mut Prng, text: &[u8], kinds: &[u8]) -> Option<(Vec<Vec<u8>>
     }
 }
 
+/// Where the lines that make types start: after `P`, and `R 1` where it stands.
+fn first_type(lines: &[Vec<u8>]) -> usize {
+    let before = |line: &&Vec<u8>| matches!(line[0], b'P' | b'R');
+    lines.iter().take_while(before).count()
+}
+
 /// A sheet with 28 lines that make types, each new one of the type before it.
 pub fn too_many_types(prng: &mut Prng, text: &[u8]) -> Vec<u8> {
     let mut lines = lines_of(text);
     let made = lines.iter().filter(|line| matches!(line[0], b'T' | b'Q')).count();
+    let end = first_type(&lines) + made;
     let new = (made..28).map(|before| {
         let newest = given().len() - 1 + before;
         let kind = if prng.chance(50) { Type::Sum } else { Type::Pair };
         type_line(kind(newest, prng.below(given().len()))).into_bytes()
     });
     let new: Vec<Vec<u8>> = new.collect();
-    lines.splice(1 + made..1 + made, new);
+    lines.splice(end..end, new);
     lines.concat()
 }
 
@@ -38,7 +45,7 @@ pub fn type_line_changed(prng: &mut Prng, text: &[u8]) -> Option<Vec<u8>> {
     let (mut lines, at) = line_with(prng, text, b"TQ")?;
     let kind = lines[at][0] as char;
     // the number of the type that the line makes
-    let own = given().len() + at - 1;
+    let own = given().len() + at - first_type(&lines);
     let later = format!("{kind}\t{}\t{}\n", prng.pick(&[0, own]), prng.pick(&[own, own + 1]));
     match prng.below(6) {
         0 | 1 => lines[at] = later.into_bytes(),

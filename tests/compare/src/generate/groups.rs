@@ -43,7 +43,7 @@ fn principals(prng: &mut Prng) -> usize {
 /// Policies of all owners or some, whose readers are of one shape; the writers are any.
 fn policies(prng: &mut Prng, n: usize) -> Vec<Listed> {
     let everyone = u16::MAX >> (16 - n);
-    let (shape, number) = (prng.below(9), prng.between(1, n));
+    let (shape, number) = (prng.below(11), prng.between(1, n));
     let all = prng.chance(60);
     let owners: Vec<usize> = (0..n).filter(|_| all || prng.chance(60)).collect();
     let policy = |owner| Listed {
@@ -55,7 +55,7 @@ fn policies(prng: &mut Prng, n: usize) -> Vec<Listed> {
 }
 
 /// The readers of an owner: everyone, nobody else, one of two, one of three, so many from the owner
-/// on, all but so many after it, few, many, or any.
+/// on, all but so many after it, few, many, the same half or so with few others, or any.
 fn readers(prng: &mut Prng, shape: usize, number: usize, owner: usize, n: usize) -> u16 {
     match shape {
         0 => u16::MAX,
@@ -66,6 +66,7 @@ fn readers(prng: &mut Prng, shape: usize, number: usize, owner: usize, n: usize)
         5 => !from(owner + 1, number, n),
         6 => prng.draw() as u16 & prng.draw() as u16,
         7 => prng.draw() as u16 | prng.draw() as u16,
+        8 | 9 => from(number, n.div_ceil(2), n) | prng.draw() as u16 & prng.draw() as u16,
         _ => case::group(prng, n),
     }
 }
@@ -103,12 +104,12 @@ fn needed(sheet: &Sheet, label: u32) -> usize {
     }
 }
 
-/// The length of a slice by the places needed, at least 1.
+/// The length of a slice by the places needed.
 fn length(prng: &mut Prng, needed: usize) -> usize {
     match prng.below(20) {
         0 => 0,
-        1 | 2 => needed - 1,
-        3 => prng.below(needed),
+        1 | 2 => needed.saturating_sub(1),
+        3 => prng.below(needed.max(1)),
         4..=7 => needed + prng.between(1, 20),
         8 => prng.pick(&[needed + (1 << 8), needed + MOST_GROUPS, 1 << 16]),
         _ => needed,

@@ -1,9 +1,10 @@
 //! Whole rounds: a sheet, scripts in one text, a memory and the other arguments.
 
-use super::case::{beyond, budget, group, resize, Case};
+use super::case::{beyond, budget, resize, Case};
 use super::prng::Prng;
 use super::script::{Script, Wrong};
-use super::{damage, memory, script, sheet};
+use super::trust::{self, Endorsed};
+use super::{damage, memory, pool, script, sheet};
 use reference::calls::accepted_script;
 use reference::sheet::Sheet;
 use reference::sheet_text;
@@ -58,8 +59,11 @@ pub fn undamaged(prng: &mut Prng) -> (RoundCase, Sheet) {
     (case, sheet)
 }
 
-/// The same with its scripts apart.
+/// The same with its scripts apart, at times of several unpacks each.
 fn parted(prng: &mut Prng) -> (RoundCase, Sheet, Vec<Vec<u8>>) {
+    if prng.chance(20) {
+        return trust::parted(prng, Endorsed::Any);
+    }
     let text = sheet::plan(prng).text().into_bytes();
     let sheet = sheet_text::parse(&text).expect("a sheet without damage is of the form");
     let scripts = scripts(prng, &sheet);
@@ -67,9 +71,9 @@ fn parted(prng: &mut Prng) -> (RoundCase, Sheet, Vec<Vec<u8>>) {
         sheet: text,
         scripts: Vec::new(),
         memory: memory::memory(prng, &sheet),
-        authority: group(prng, sheet.principals),
+        authority: pool::authority(prng, &sheet, &scripts.concat()),
         budget: 0,
-        group: group(prng, sheet.principals),
+        group: pool::onlookers(prng, &sheet),
     };
     (case, sheet, scripts)
 }

@@ -176,7 +176,7 @@ impl Writer<'_> {
 
     /// A type, or a pair in its place where types may be wrong.
     fn or_pair(&mut self, ty: TypeId) -> TypeId {
-        if self.prng.chance(self.wrong_types) {
+        if self.prng.chance(2 * self.wrong_types) {
             self.pair_with(|_| true).unwrap_or(ty)
         } else {
             ty

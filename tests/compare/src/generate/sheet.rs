@@ -18,6 +18,8 @@ pub(super) struct Listed {
 /// What the lines of a sheet say.
 pub struct Plan {
     principals: usize,
+    /// Whether `R 1` stands on it.
+    alone: bool,
     /// The given types and those of the lines.
     types: Vec<Type>,
     labels: Vec<Vec<Listed>>,
@@ -29,6 +31,9 @@ const MOST_LOCATIONS: usize = 64;
 impl Plan {
     pub fn text(&self) -> String {
         let mut text = format!("P\t{}\n", self.principals);
+        if self.alone {
+            text += "R\t1\n";
+        }
         for ty in &self.types[given().len()..] {
             text += &type_line(*ty);
         }
@@ -93,10 +98,11 @@ pub(super) fn plan_of(
     principals: usize,
     policies: fn(&mut Prng, usize) -> Vec<Listed>,
 ) -> Plan {
+    let alone = prng.chance(45);
     let types = types(prng);
     let labels = labels(prng, principals, policies);
     let locations = locations(prng, &types, labels.len());
-    Plan { principals, types, labels, locations }
+    Plan { principals, alone, types, labels, locations }
 }
 
 /// The given types, and different sums and pairs of earlier ones; sometimes one long chain, and
@@ -183,14 +189,18 @@ fn listed(policy: &Listed) -> Policy {
     }
 }
 
+/// Policies of some owners or all. By two of the styles readers and writers pool: each owner lets
+/// another one read, and some one other besides.
 fn policies(prng: &mut Prng, n: usize) -> Vec<Listed> {
     let everyone = u16::MAX >> (16 - n);
-    let style = prng.below(6);
+    let (style, common) = (prng.below(8), 1 << prng.below(n));
     let owners: Vec<usize> = (0..n).filter(|_| style < 2 || prng.chance(40)).collect();
     let sets = |prng: &mut Prng| match style {
         0 => (everyone, 0),
         1 | 2 => (0, everyone),
         3 => (prng.draw() as u16 & everyone, everyone),
+        4 => (1 << prng.below(n), 1 << prng.below(n)),
+        5 => (common | 1 << prng.below(n), everyone),
         _ => (prng.draw() as u16 & everyone, prng.draw() as u16 & everyone),
     };
     owners

@@ -1,12 +1,12 @@
 //! Scripts of several unpacks, and the calls and rounds that have them.
 
-use super::case::{budget, group, Case};
+use super::case::{budget, Case};
 use super::expression::{Operands, Writer};
 use super::prng::Prng;
 use super::round::RoundCase;
 use super::script::{start, Script, Wrong, MOST_CASES};
 use super::sheet::{plan_of, Listed};
-use super::{damage, memory, script};
+use super::{damage, memory, pool, script};
 use reference::label::Label;
 use reference::sheet::Sheet;
 use reference::sheet_text;
@@ -56,30 +56,37 @@ pub fn undamaged(prng: &mut Prng, endorsed: Endorsed) -> (Case, Sheet) {
         view_length: memory.len(),
         sheet: text,
         budget: budget(prng, &script),
+        authority: pool::authority(prng, &sheet, &script),
         script,
         memory,
-        authority: group(prng, sheet.principals),
-        group: group(prng, sheet.principals),
+        group: pool::onlookers(prng, &sheet),
     };
     (case, sheet)
 }
 
 /// A round of such scripts, all of them trust-keeping.
 pub fn undamaged_round(prng: &mut Prng) -> (RoundCase, Sheet) {
+    let (mut case, sheet, scripts) = parted(prng, Endorsed::None);
+    case.scripts = scripts.join(&b'\n');
+    case.budget = budget(prng, &case.scripts);
+    (case, sheet)
+}
+
+/// A round with its scripts of several unpacks apart, and without a budget.
+pub(super) fn parted(prng: &mut Prng, endorsed: Endorsed) -> (RoundCase, Sheet, Vec<Vec<u8>>) {
     let (text, sheet) = sheet(prng);
     let count = prng.pick(&[1, 2, 2, 3, 3, 4, 6]);
     let scripts: Vec<Vec<u8>> =
-        (0..count).map(|_| unpacks(prng, &sheet, Endorsed::None).text()).collect();
-    let scripts = scripts.join(&b'\n');
+        (0..count).map(|_| unpacks(prng, &sheet, endorsed).text()).collect();
     let case = RoundCase {
         sheet: text,
-        budget: budget(prng, &scripts),
-        scripts,
+        scripts: Vec::new(),
         memory: memory::memory(prng, &sheet),
-        authority: group(prng, sheet.principals),
-        group: group(prng, sheet.principals),
+        authority: pool::authority(prng, &sheet, &scripts.concat()),
+        budget: 0,
+        group: pool::onlookers(prng, &sheet),
     };
-    (case, sheet)
+    (case, sheet, scripts)
 }
 
 /// A sheet whose labels differ mostly in writers, with places for packages.
@@ -91,15 +98,20 @@ fn sheet(prng: &mut Prng) -> (Vec<u8>, Sheet) {
     (text, sheet)
 }
 
-/// Policies of some owners: each lets everyone read or nobody else, and all, some or nobody else
-/// write.
+/// Policies of some owners: each lets everyone read, or in some labels some or nobody else, and
+/// all, some or nobody else write.
 fn policies(prng: &mut Prng, n: usize) -> Vec<Listed> {
     let everyone = u16::MAX >> (16 - n);
-    let share = prng.pick(&[20, 50, 100]);
+    let secret = prng.chance(50);
+    let share = prng.pick(if secret { &[50, 100, 100] } else { &[20, 50, 100] });
     let owners: Vec<usize> = (0..n).filter(|_| prng.chance(share)).collect();
     let policy = |owner| Listed {
         owner,
-        readers: if prng.chance(75) { everyone } else { prng.draw() as u16 & everyone },
+        readers: match prng.below(4) {
+            0 if secret => 0,
+            1 | 2 if secret => prng.draw() as u16 & everyone,
+            _ => everyone,
+        },
         writers: match prng.below(4) {
             0 => everyone,
             1 => prng.draw() as u16 & everyone,
@@ -209,7 +221,7 @@ impl Writer<'_> {
         let start = self.lines.len();
         (0..6).find_map(|_| {
             self.lines.truncate(start);
-            if self.prng.chance(25) {
+            if self.prng.chance(35) {
                 self.opened_in_pair(ty, limit, operands)
             } else {
                 self.unpack_of(operands, ty, limit)

@@ -1,6 +1,7 @@
 //! Texts and memories written as in the scope: blanks for tabs, values without their zeros.
 
 use compare::implementation::ALL;
+use reference::label::Reading;
 use reference::{Trust, DONE};
 
 /// The text of lines whose fields are parted by blanks here.
@@ -35,14 +36,39 @@ pub fn sheet() -> Vec<u8> {
     ])
 }
 
+/// The rules of reading, without the line `R 1` and with it.
+pub const RULES: [Reading; 2] = [Reading::Pooled, Reading::Alone];
+
+/// A sheet of the form under a rule of reading, whichever it had.
+pub fn under(rule: Reading, sheet: &[u8]) -> Vec<u8> {
+    const LINE: &[u8] = b"R\t1\n";
+    let end = sheet.iter().position(|&byte| byte == b'\n').expect("a line");
+    let (principals, rest) = sheet.split_at(end + 1);
+    let rest = rest.strip_prefix(LINE).unwrap_or(rest);
+    match rule {
+        Reading::Pooled => [principals, rest].concat(),
+        Reading::Alone => [principals, LINE, rest].concat(),
+    }
+}
+
+/// The other rule of reading.
+pub fn other(rule: Reading) -> Reading {
+    match rule {
+        Reading::Pooled => Reading::Alone,
+        Reading::Alone => Reading::Pooled,
+    }
+}
+
 /// A sheet with as many lines of each kind as there may be.
 #[cfg(feature = "programs")]
 pub fn largest_sheet() -> Vec<u8> {
-    let mut sheet = lines(&["P 16", "T 3 0"]);
+    let mut sheet = lines(&["P 16", "R 1", "T 3 0"]);
     sheet.extend((5..31).map(|t| format!("T {t} 0")));
     for label in 0..32 {
         sheet.push("L".to_string());
-        sheet.extend((0..16).map(|owner| format!("O {owner} {:04x} ffff", label << 11)));
+        // principal 10 reads every label by himself
+        let readers = label << 11 | 1 << 10;
+        sheet.extend((0..16).map(|owner| format!("O {owner} {readers:04x} ffff")));
     }
     sheet.extend((0..64).map(|location| format!("X 4 {}", location / 2)));
     text_of(&[&sheet])

@@ -1,10 +1,11 @@
 //! The smallest groups of a label, on every implementation.
 
-use crate::common::{groups_count, text, text_of};
+use crate::common::{groups_count, text, text_of, under, RULES};
 use crate::fenced::Fenced;
 use compare::generate::groups::{groups_case, two_of_four};
 use compare::implementation::{ALL, TESTED};
 use compare::workload::groups::EIGHT;
+use reference::label::Reading;
 use reference::{sheet_text, smallest_groups, Groups, DONE};
 
 /// What a place holds before a call.
@@ -28,7 +29,7 @@ fn listed(sheet: &[u8], label: u32, length: usize) -> (Groups, Vec<u16>) {
 
 /// A label has these groups in a slice of just as many places and in longer ones, whose other
 /// places are kept; with fewer places it is refused, and all are kept.
-fn assert_groups(sheet: &[u8], label: u32, groups: &[u16]) {
+pub fn assert_groups(sheet: &[u8], label: u32, groups: &[u16]) {
     let count = groups.len();
     for more in [0, 1, 40] {
         let expected = [groups, &vec![JUNK; more]].concat();
@@ -39,7 +40,7 @@ fn assert_groups(sheet: &[u8], label: u32, groups: &[u16]) {
             sheet.escape_ascii()
         );
     }
-    for length in [0, count / 2, count - 1] {
+    for length in [0, count / 2, count.saturating_sub(1)].into_iter().filter(|&l| l < count) {
         assert_refused(sheet, label, length, 12);
     }
 }
@@ -74,23 +75,27 @@ fn sheet_of_one(n: usize, readers: impl Fn(usize) -> u16) -> Vec<u8> {
     sheet_of(&[(0..n).map(readers).collect()])
 }
 
-/// A group reads a label when for every owner it holds at least one effective reader. The empty
-/// group doesn't.
-fn reads(readers: &[u16], group: u16) -> bool {
-    group != 0 && readers.iter().all(|set| set & group != 0)
+/// A group reads a label when for every owner it holds at least one effective reader; or, by the
+/// other rule, when one of its members is one for every owner. The empty group doesn't.
+pub fn reads(rule: Reading, readers: &[u16], group: u16) -> bool {
+    let reads_alone = |p: usize| readers.iter().all(|set| set >> p & 1 == 1);
+    match rule {
+        Reading::Pooled => group != 0 && readers.iter().all(|set| set & group != 0),
+        Reading::Alone => (0..readers.len()).any(|p| group >> p & 1 == 1 && reads_alone(p)),
+    }
 }
 
 /// Whether none of a group's proper subsets reads.
-fn no_proper_subset_reads(readers: &[u16], group: u16) -> bool {
+fn no_proper_subset_reads(rule: Reading, readers: &[u16], group: u16) -> bool {
     let smaller = |&set: &u16| Some(set.checked_sub(1)? & group);
     let mut subsets = std::iter::successors(smaller(&group), smaller);
-    subsets.all(|subset| !reads(readers, subset))
+    subsets.all(|subset| !reads(rule, readers, subset))
 }
 
 /// The definition, set by set: the groups that read while none of their proper subsets does.
-fn by_definition(readers: &[u16]) -> Vec<u16> {
+fn by_definition(rule: Reading, readers: &[u16]) -> Vec<u16> {
     let everyone = u16::MAX >> (16 - readers.len());
-    let smallest = |&g: &u16| reads(readers, g) && no_proper_subset_reads(readers, g);
+    let smallest = |&g: &u16| reads(rule, readers, g) && no_proper_subset_reads(rule, readers, g);
     (0..=everyone).filter(smallest).collect()
 }
 
@@ -110,9 +115,11 @@ fn every_label_of_up_to_four_principals() {
         let labels = all_labels(n);
         assert_eq!(labels.len(), count);
         for labels in labels.chunks(32) {
-            let sheet = sheet_of(labels);
+            let sheets = RULES.map(|rule| (rule, under(rule, &sheet_of(labels))));
             for (label, readers) in labels.iter().enumerate() {
-                assert_groups(&sheet, label as u32, &by_definition(readers));
+                for (rule, sheet) in &sheets {
+                    assert_groups(sheet, label as u32, &by_definition(*rule, readers));
+                }
             }
         }
     }
@@ -185,7 +192,7 @@ fn labels_of_sixteen_principals_with_many_groups() {
         [(0..16).map(two_of_four).collect(), (0..16).map(eights).collect(), found.to_vec()];
     let sheet = sheet_of(&labels);
     for (label, count) in [1296, 1764, 1387].into_iter().enumerate() {
-        let groups = by_definition(&labels[label]);
+        let groups = by_definition(Reading::Pooled, &labels[label]);
         assert_eq!(groups.len(), count);
         assert_groups(&sheet, label as u32, &groups);
     }
@@ -202,11 +209,12 @@ fn labels_that_one_or_the_last_ones_read() {
 
 /// What is asked of the groups of a label with these effective readers: they rise, each reads while
 /// none of its proper subsets does, and no set reads without containing one of them.
-fn assert_smallest(readers: &[u16], groups: &[u16], seed: u64) {
+fn assert_smallest(rule: Reading, readers: &[u16], groups: &[u16], seed: u64) {
     assert!(groups.windows(2).all(|pair| pair[0] < pair[1]), "seed {seed}: {groups:?}");
     for &group in groups {
-        assert!(reads(readers, group), "seed {seed}: {group:04x} doesn't read");
-        assert!(no_proper_subset_reads(readers, group), "seed {seed}: {group:04x} isn't smallest");
+        assert!(reads(rule, readers, group), "seed {seed}: {group:04x} doesn't read");
+        let smallest = no_proper_subset_reads(rule, readers, group);
+        assert!(smallest, "seed {seed}: {group:04x} isn't smallest");
     }
     let sets = 1 << readers.len();
     let mut contains = vec![false; sets];
@@ -216,13 +224,13 @@ fn assert_smallest(readers: &[u16], groups: &[u16], seed: u64) {
     for set in 0..sets {
         let mut others = (0..readers.len()).map(|p| set & !(1 << p)).filter(|&less| less < set);
         contains[set] |= others.any(|less| contains[less]);
-        assert_eq!(reads(readers, set as u16), contains[set], "seed {seed}: {set:04x}");
+        assert_eq!(reads(rule, readers, set as u16), contains[set], "seed {seed}: {set:04x}");
     }
 }
 
 #[test]
 fn generated_labels_have_all_of_their_smallest_groups_and_no_other() {
-    let mut done = 0;
+    let mut done = [0; 2];
     for seed in 0..groups_count() {
         let case = groups_case(seed);
         let mut places = case.places.clone();
@@ -230,13 +238,14 @@ fn generated_labels_have_all_of_their_smallest_groups_and_no_other() {
         if answer != DONE {
             continue;
         }
-        done += 1;
         let sheet = sheet_text::parse(&case.sheet).expect("a sheet of the form");
+        done[usize::from(sheet.reading == Reading::Alone)] += 1;
         let label = &sheet.labels[case.label as usize];
         let readers = (0..sheet.principals).map(|owner| label.readers(owner).bits());
-        assert_smallest(&readers.collect::<Vec<u16>>(), &places[..count as usize], seed);
+        let readers: Vec<u16> = readers.collect();
+        assert_smallest(sheet.reading, &readers, &places[..count as usize], seed);
         let needed = smallest_groups(&sheet, case.label as usize).len();
         assert_eq!(count as usize, needed, "seed {seed}: the places said to be needed");
     }
-    assert!(done * 3 > groups_count(), "{done} calls were done");
+    assert!(done.iter().all(|done| done * 6 > groups_count()), "{done:?} calls were done");
 }

@@ -1,9 +1,9 @@
 //! Demand 3 on generated cases: two done runs of an accepted script from memories that give a group
 //! the same view leave memories that give it the same view. So do two rounds whose scripts are all
-//! done.
+//! done. Under both rules of reading.
 
 use crate::common::{case_count, round_count};
-use crate::twice::{Shown, Twice};
+use crate::twice::{Left, Shown, Twice};
 use compare::generate::alike::same_view;
 use compare::generate::case::undamaged;
 use compare::generate::prng::Prng;
@@ -11,6 +11,7 @@ use compare::generate::round::{self, RoundCase};
 use compare::generate::script::Wrong;
 use compare::implementation::TESTED;
 use reference::evaluate::Context;
+use reference::label::Reading;
 use reference::machine::{self, Configuration};
 use reference::memory::Memory;
 use reference::principals::Principals;
@@ -45,9 +46,30 @@ fn seen(sheet: &[u8], group: u16, memory: &[u32]) -> Vec<u32> {
     view
 }
 
+/// What pairs of calls have to show, and how many of those that are compared the group would tell
+/// apart by pooling, which its sheet doesn't let it do.
+#[derive(Debug, Default)]
+struct Looks {
+    shown: Shown,
+    kept_from_pooling: u64,
+}
+
+impl Looks {
+    fn count(&mut self, twice: &Twice, left: Option<[Left; 2]>) {
+        let case = &twice.case;
+        self.kept_from_pooling += u64::from(left.is_some() && twice.would_tell_by_pooling());
+        self.shown.count(twice, left, |words| seen(&case.sheet, case.group, words));
+    }
+
+    fn assert_rules(&self) {
+        self.shown.assert_rules();
+        assert!(self.kept_from_pooling * 20 > self.shown.differ, "{self:?}");
+    }
+}
+
 #[test]
 fn what_a_group_sees_follows_from_what_it_saw() {
-    let mut shown = Shown::default();
+    let mut looks = Looks::default();
     for seed in 0..case_count() {
         // scripts that pass over label conditions are accepted at times, and then may not leak either
         let wrong = if seed % 4 == 0 { Wrong::Labels } else { Wrong::Nothing };
@@ -60,9 +82,11 @@ fn what_a_group_sees_follows_from_what_it_saw() {
             continue;
         }
         assert_eq!(check, DONE, "seed {seed}: a script without damage is accepted or too long");
-        shown.count(&twice, twice.runs(&TESTED), |words| seen(&case.sheet, case.group, words));
+        looks.count(&twice, twice.runs(&TESTED));
     }
-    println!("{shown:?}");
+    println!("{looks:?}");
+    looks.assert_rules();
+    let shown = looks.shown;
     let Shown { pairs, compared, .. } = shown;
     assert!(pairs * 2 > case_count() && compared * 2 > pairs, "{shown:?}");
     assert!(shown.written * 20 > compared && shown.changed * 40 > compared, "{shown:?}");
@@ -72,15 +96,16 @@ fn what_a_group_sees_follows_from_what_it_saw() {
 
 #[test]
 fn what_a_group_sees_after_a_round_follows_from_what_it_saw() {
-    let mut shown = Shown::default();
+    let mut looks = Looks::default();
     for seed in 0..round_count() {
         let Some(twice) = pair(seed, round::undamaged) else {
             continue;
         };
-        let case = &twice.case;
-        shown.count(&twice, twice.rounds(&TESTED), |words| seen(&case.sheet, case.group, words));
+        looks.count(&twice, twice.rounds(&TESTED));
     }
-    println!("{shown:?}");
+    println!("{looks:?}");
+    looks.assert_rules();
+    let shown = looks.shown;
     let Shown { pairs, compared, .. } = shown;
     assert!(pairs * 2 > round_count() && compared * 3 > pairs, "{shown:?}");
     assert!(shown.several * 2 > compared, "{shown:?}");
@@ -109,7 +134,7 @@ fn left_unchecked(pair: &Twice, memory: &Memory) -> Option<Memory> {
 /// The pairs can tell: where scripts that are refused with 6 run all the same, views often differ.
 #[test]
 fn scripts_refused_by_their_labels_do_leak() {
-    let (mut compared, mut leaks) = (0, 0);
+    let (mut compared, mut leaks) = ([0; 2], [0; 2]);
     for seed in 0..4000 {
         let Some(pair) = run_pair(seed, Wrong::Labels) else {
             continue;
@@ -117,11 +142,14 @@ fn scripts_refused_by_their_labels_do_leak() {
         let group = Principals::from_bits(pair.case.group);
         let after = pair.memories.each_ref().map(|memory| left_unchecked(&pair, memory));
         if let [Some(first), Some(other)] = after {
-            compared += 1;
+            let rule = usize::from(pair.sheet.reading == Reading::Alone);
+            compared[rule] += 1;
             let sees = |memory| view::words(&pair.sheet, memory, group);
-            leaks += u64::from(sees(&first) != sees(&other));
+            leaks[rule] += u64::from(sees(&first) != sees(&other));
         }
     }
-    println!("{leaks} of {compared} runs of refused scripts leak");
-    assert!(compared > 200 && leaks * 20 > compared, "{leaks} of {compared}");
+    println!("{leaks:?} of {compared:?} runs of refused scripts leak, pooled and alone");
+    for (leaks, compared) in leaks.into_iter().zip(compared) {
+        assert!(compared > 100 && leaks * 20 > compared, "{leaks} of {compared}");
+    }
 }

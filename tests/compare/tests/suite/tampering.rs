@@ -1,7 +1,7 @@
 //! What a distrusted group can't write stays out of its reach: two done runs of an accepted,
 //! trust-keeping script, from memories that are alike in what the group doesn't write, leave memories
-//! that are. So do two rounds of such scripts that are all done. On generated cases, on every
-//! implementation; and what a script that isn't trust-keeping lets the group do.
+//! that are. So do two rounds of such scripts that are all done. On generated cases, under both rules
+//! of reading, on every implementation; and what a script that isn't trust-keeping lets the group do.
 
 use crate::common::{case_count, memory, round_count, text, ENDORSING, KEEPING};
 use crate::twice::{Shown, Twice};
@@ -72,6 +72,7 @@ fn assert_shown(i: &Implementation, shown: &Shown, calls: u64) {
     assert!(shown.started * 40 > compared, "{}: {shown:?}", i.name);
     assert!(shown.paired * 10 > compared, "{}: {shown:?}", i.name);
     assert!(shown.changed_by_pairs * 30 > compared, "{}: {shown:?}", i.name);
+    shown.assert_rules();
 }
 
 #[test]

@@ -1,14 +1,15 @@
 //! One call from two memories that are alike in what is seen of them, each with a budget of its own:
 //! where both are done, the memories that they leave are alike in it too.
 
-use crate::common::has_pairs;
+use crate::common::{has_pairs, other, under};
 use compare::generate::prng::Prng;
 use compare::generate::round::RoundCase;
-use compare::implementation::Implementation;
+use compare::implementation::{Implementation, REFERENCE};
+use reference::label::Reading;
 use reference::memory::{decode, encode, Memory};
 use reference::principals::Principals;
 use reference::sheet::Sheet;
-use reference::{parts, Outcome, Round, DONE};
+use reference::{parts, view, Outcome, Round, DONE};
 
 /// The call of one script or of a round, and two memories that are alike in what is seen: in the
 /// group's view, or in what is left where the group is distrusted.
@@ -24,7 +25,7 @@ pub struct Twice {
 type Alike = fn(&mut Prng, &Sheet, &Memory, Principals) -> Memory;
 
 /// The memory that a call leaves, and the steps of each script.
-type Left = (Vec<u32>, Vec<u32>);
+pub type Left = (Vec<u32>, Vec<u32>);
 
 impl Twice {
     /// The call with its own memory and one that is alike, and with a budget that mostly is enough.
@@ -73,6 +74,24 @@ impl Twice {
             answers.iter().all(|&answer| answer == DONE).then_some(steps.to_vec())
         })
     }
+
+    /// Whether the group would tell the two memories apart if its members pooled.
+    pub fn would_tell_by_pooling(&self) -> bool {
+        let sheet = Sheet { reading: Reading::Pooled, ..self.sheet.clone() };
+        let group = Principals::from_bits(self.case.group);
+        let [first, other] = self.memories.each_ref().map(|m| view::words(&sheet, m, group));
+        first != other
+    }
+
+    /// Whether the call from the first memory, which left this one, would leave another if the
+    /// authority read by the other rule.
+    fn turns_on_the_rule(&self, left: &[u32]) -> bool {
+        let RoundCase { scripts, authority, .. } = &self.case;
+        let sheet = under(other(self.sheet.reading), &self.case.sheet);
+        let mut memory = encode(&self.memories[0]);
+        (REFERENCE.round)(&sheet, scripts, &mut memory, *authority, self.budgets[0]);
+        memory != left
+    }
 }
 
 /// What pairs of calls have to show.
@@ -93,6 +112,11 @@ pub struct Shown {
     pub changed: u64,
     pub changed_by_pairs: u64,
     pub stepped: u64,
+    /// Of those from different memories, by the rule of reading, pooled and alone: all of them,
+    /// those that write, and those that would leave another memory by the other rule.
+    pub by_rule: [u64; 2],
+    pub written_by_rule: [u64; 2],
+    pub turning: [u64; 2],
 }
 
 impl Shown {
@@ -126,5 +150,23 @@ impl Shown {
         self.changed += u64::from(differ && after != before);
         self.changed_by_pairs += u64::from(differ && paired && after != before);
         self.stepped += u64::from(differ && steps != other_steps);
+        if differ {
+            self.count_rule(twice, writes, &after_first);
+        }
+    }
+
+    /// Counts by the rule of reading a pair from different memories, the first of which left this.
+    fn count_rule(&mut self, twice: &Twice, writes: bool, left: &[u32]) {
+        let rule = usize::from(twice.sheet.reading == Reading::Alone);
+        self.by_rule[rule] += 1;
+        self.written_by_rule[rule] += u64::from(writes);
+        self.turning[rule] += u64::from(twice.turns_on_the_rule(left));
+    }
+
+    /// That both rules of reading came often, and each at times where it decides what is left.
+    pub fn assert_rules(&self) {
+        let each = |counts: [u64; 2], rare| counts.iter().all(|count| count * rare > self.differ);
+        assert!(each(self.by_rule, 4) && each(self.written_by_rule, 6), "{self:?}");
+        assert!(each(self.turning, 200), "{self:?}");
     }
 }

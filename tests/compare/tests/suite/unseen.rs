@@ -1,7 +1,7 @@
 //! A group that can't read the starting label of an accepted script has the same view before and
 //! after every run of it. So has one that can read none of the starting labels of a round's
-//! scripts, before and after the round. On generated cases, for the groups of their sheets, on
-//! every implementation.
+//! scripts, before and after the round. On generated cases, for the groups of their sheets, under
+//! both rules of reading, on every implementation.
 
 use crate::common::{case_count, has_pairs, round_count, without_start};
 use compare::generate::case::{undamaged, Case};
@@ -11,7 +11,7 @@ use compare::generate::script::Wrong;
 use compare::generate::{case, damage};
 use compare::implementation::{Implementation, ALL, TESTED};
 use reference::calls::read_sheet;
-use reference::label::Label;
+use reference::label::{Label, Reading};
 use reference::principals::Principals;
 use reference::round_text::{parts, Part};
 use reference::sheet::Sheet;
@@ -31,13 +31,21 @@ fn groups(prng: &mut Prng, n: usize) -> Vec<u16> {
     [0, everyone].into_iter().chain(alone).chain(others).chain(drawn).collect()
 }
 
+/// Whether a group reads one of some labels.
+fn reads_any(reading: Reading, labels: &[Label], group: u16) -> bool {
+    labels.iter().any(|label| label.read_by(reading, Principals::from_bits(group)))
+}
+
 /// Those that can read none of some labels.
 fn blind(prng: &mut Prng, sheet: &Sheet, labels: &[Label]) -> Vec<u16> {
-    let reads = |&group: &u16| {
-        let group = Principals::from_bits(group);
-        labels.iter().any(|label| label.read_by(sheet.reading, group))
-    };
-    groups(prng, sheet.principals).into_iter().filter(|group| !reads(group)).collect()
+    let blind = |&group: &u16| !reads_any(sheet.reading, labels, group);
+    groups(prng, sheet.principals).into_iter().filter(blind).collect()
+}
+
+/// How many of the groups that can't read would if their members pooled.
+fn kept_from_pooling(blind: &[u16], labels: &[Label]) -> u64 {
+    let pools = |&&group: &&u16| reads_any(Reading::Pooled, labels, group);
+    blind.iter().filter(pools).count() as u64
 }
 
 /// How many of these groups have a member: nobody reads nothing, so that its views are all zeros.
@@ -88,11 +96,15 @@ struct Shown {
     paired: u64,
     /// Runs that change what some other group sees.
     seen: u64,
+    /// Those that change the memory while a group looks on that would read the start by pooling,
+    /// which its sheet doesn't let it do, and those on sheets that let it.
+    kept_from_pooling: u64,
+    pooled: u64,
 }
 
 impl Shown {
     /// Runs a case where its script is accepted. None of the groups may tell.
-    fn run(&mut self, case: &Case, blind: &[u16], seed: u64) {
+    fn run(&mut self, case: &Case, sheet: &Sheet, start: &Label, blind: &[u16], seed: u64) {
         for i in ALL.iter().filter(|i| (i.check)(&case.sheet, &case.script) == DONE) {
             let mut memory = case.memory.clone();
             let outcome =
@@ -110,6 +122,9 @@ impl Shown {
                 let group = [case.group];
                 let seen = tell(i, &case.sheet, &group, &case.memory, &memory);
                 self.seen += seen.len() as u64;
+                let kept = kept_from_pooling(blind, std::slice::from_ref(start)) > 0;
+                self.kept_from_pooling += u64::from(kept);
+                self.pooled += u64::from(sheet.reading == Reading::Pooled);
             }
         }
     }
@@ -126,10 +141,11 @@ fn who_cannot_read_the_start_sees_no_run() {
         let Ok(script) = script_text::parse(&sheet, &case.script) else {
             continue;
         };
-        let blind = blind(prng, &sheet, &[script.opening.starting_label(&sheet)]);
+        let start = script.opening.starting_label(&sheet);
+        let blind = blind(prng, &sheet, std::slice::from_ref(&start));
         assert!(script.opening.start.is_some() || members(&blind) == 0, "anybody reads bottom");
         for case in variants(prng, &case, sheet.principals) {
-            shown.run(&case, &blind, seed);
+            shown.run(&case, &sheet, &start, &blind, seed);
         }
     }
     println!("{shown:?}");
@@ -137,6 +153,7 @@ fn who_cannot_read_the_start_sees_no_run() {
     assert_eq!(answers, [0, 3, 7, 8, 9, 10]);
     assert!(shown.written * 6 > cases && shown.looks > cases, "{shown:?}");
     assert!(shown.paired * 20 > cases && shown.seen * 20 > cases, "{shown:?}");
+    assert!(shown.kept_from_pooling * 40 > cases && shown.pooled * 20 > cases, "{shown:?}");
 }
 
 /// The groups can tell: scripts that are refused for their start alone, and run without it, show
@@ -191,6 +208,7 @@ fn starts(sheet: &Sheet, scripts: &[u8]) -> Option<Vec<Label>> {
 fn who_can_read_none_of_the_starts_sees_no_round() {
     let rounds = round_count() / 2;
     let (mut blinded, mut written, mut paired, mut several, mut stopped) = (0, 0, 0, 0, 0);
+    let (mut kept, mut pooled) = (0, 0);
     for seed in 0..rounds {
         let prng = &mut Prng::new(seed);
         let Some((case, sheet)) = round_and_sheet(seed) else {
@@ -214,10 +232,14 @@ fn who_can_read_none_of_the_starts_sees_no_round() {
                 paired += u64::from(writes && has_pairs(&case.scripts));
                 several += u64::from(writes && starts.len() > 1);
                 stopped += u64::from(writes && round.answers.iter().any(|&a| a != DONE));
+                kept += u64::from(writes && kept_from_pooling(&blind, &starts) > 0);
+                pooled += u64::from(writes && sheet.reading == Reading::Pooled);
             }
         }
     }
     println!("{blinded} rounds, {written} write, {paired} with pairs, {several} of several, {stopped} with a stop");
     assert!(written * 20 > rounds && several * 40 > rounds, "{written}, {several} of {rounds}");
     assert!(stopped * 100 > rounds && paired * 40 > rounds, "{stopped}, {paired} of {rounds}");
+    println!("{pooled} under the pooled rule, {kept} where a group is kept from pooling");
+    assert!(pooled * 40 > rounds && kept * 80 > rounds, "{pooled}, {kept} of {rounds}");
 }

@@ -1,30 +1,50 @@
 //! The generator reaches every answer of every call that can give it.
 
-use crate::common::{case_count, groups_count, has_pairs, round_count, trust_count, without_start};
-use compare::generate::case::case;
+use crate::common::{
+    case_count, groups_count, has_pairs, other, round_count, trust_count, under, without_start,
+};
+use compare::generate::case::{case, Case};
 use compare::generate::groups::{groups_case, GroupsCase};
+use compare::generate::pool::{pools, writes};
 use compare::generate::program_input::sheet_and_scripts;
 use compare::generate::round::{round_case, RoundCase};
 use compare::generate::trust::trust_case;
 use reference::calls::{
     accepted_script, known_group, known_label, read_memory, read_sheet, require_length,
 };
+use reference::label::Reading;
+use reference::principals::Principals;
 use reference::script::{Command, Expression, Phrase, Term};
 use reference::sheet::Sheet;
-use reference::text::{Cause, Counted, Thing, MOST_BYTES};
+use reference::text::{Cause, Counted, Fault, Thing, MOST_BYTES};
 use reference::{
-    check, parts, round, run, sheet_text, smallest_groups, try_check, try_groups, try_round,
-    try_trust, view, Reason, DONE, SCRIPTS,
+    check, groups, parts, round, run, sheet_text, smallest_groups, try_check, try_groups,
+    try_round, try_trust, view, Reason, DONE, SCRIPTS,
 };
 use std::collections::{BTreeMap, BTreeSet};
 
 type Counts = BTreeMap<u8, u64>;
+
+/// The same by the rule of reading that a sheet names: pooled, and alone.
+type ByRule = [Counts; 2];
 
 /// Every one of the answers, and no other, comes at least once in `rare` cases.
 fn assert_reached(call: &str, counts: &Counts, answers: &[u8], cases: u64, rare: u64) {
     println!("{call}: {counts:?}");
     assert_eq!(counts.keys().copied().collect::<Vec<u8>>(), answers, "{call}: {counts:?}");
     assert!(counts.values().all(|&count| count * rare >= cases), "{call}: {counts:?}");
+}
+
+/// The same under both rules.
+fn assert_reached_by_rule(call: &str, counts: &ByRule, answers: &[u8], cases: u64, rare: u64) {
+    for (rule, counts) in ["pooled", "alone"].into_iter().zip(counts) {
+        assert_reached(&format!("{call}, {rule}"), counts, answers, cases, rare);
+    }
+}
+
+/// The place of the rule that a sheet names, whether or not it is of the form.
+fn rule(sheet: &[u8]) -> usize {
+    usize::from(sheet.split(|&byte| byte == b'\n').nth(1) == Some(b"R\t1"))
 }
 
 /// What is written to a location. The errors tell which way packs and unpacks went.
@@ -45,15 +65,17 @@ fn kind(words: &[u32]) -> &'static str {
 #[test]
 fn generated_cases_reach_every_answer() {
     let cases = case_count().min(20_000);
-    let (mut checks, mut runs, mut views) = (Counts::new(), Counts::new(), Counts::new());
+    let (mut checks, mut runs, mut views) =
+        (ByRule::default(), ByRule::default(), ByRule::default());
     let (mut steps, mut written) = (0, 0);
     let mut values = BTreeMap::new();
     for seed in 0..cases {
         let case = case(seed);
-        *checks.entry(check(&case.sheet, &case.script)).or_default() += 1;
+        let rule = rule(&case.sheet);
+        *checks[rule].entry(check(&case.sheet, &case.script)).or_default() += 1;
         let mut memory = case.memory.clone();
         let outcome = run(&case.sheet, &case.script, &mut memory, case.authority, case.budget);
-        *runs.entry(outcome.answer).or_default() += 1;
+        *runs[rule].entry(outcome.answer).or_default() += 1;
         steps += u64::from(outcome.steps);
         written += u64::from(memory != case.memory);
         for (after, before) in memory.chunks(16).zip(case.memory.chunks(16)) {
@@ -62,11 +84,12 @@ fn generated_cases_reach_every_answer() {
             }
         }
         let mut lent = vec![0; case.view_length];
-        *views.entry(view(&case.sheet, &case.memory, case.group, &mut lent)).or_default() += 1;
+        let viewed = view(&case.sheet, &case.memory, case.group, &mut lent);
+        *views[rule].entry(viewed).or_default() += 1;
     }
-    assert_reached("check", &checks, &[0, 1, 2, 4, 5, 6], cases, 100);
-    assert_reached("run", &runs, &[0, 1, 2, 3, 4, 5, 6, 7, 8, 9, 10], cases, 200);
-    assert_reached("view", &views, &[0, 1, 2, 3, 7, 8], cases, 100);
+    assert_reached_by_rule("check", &checks, &[0, 1, 2, 4, 5, 6], cases, 200);
+    assert_reached_by_rule("run", &runs, &[0, 1, 2, 3, 4, 5, 6, 7, 8, 9, 10], cases, 400);
+    assert_reached_by_rule("view", &views, &[0, 1, 2, 3, 7, 8], cases, 200);
     println!("{steps} steps, {written} memories written, of {cases} cases");
     assert!(steps > cases && written * 5 > cases, "{steps} steps, {written} written");
     println!("values written: {values:?}");
@@ -214,12 +237,12 @@ impl Shown {
 fn generated_rounds_reach_every_answer() {
     let rounds = round_count().min(10_000);
     let (mut answers, mut among_others, mut shown) =
-        (Counts::new(), Counts::new(), Shown::default());
+        (ByRule::default(), Counts::new(), Shown::default());
     for seed in 0..rounds {
         let case = round_case(seed);
         let mut memory = case.memory.clone();
         let round = round(&case.sheet, &case.scripts, &mut memory, case.authority, case.budget);
-        *answers.entry(round.answer).or_default() += 1;
+        *answers[rule(&case.sheet)].entry(round.answer).or_default() += 1;
         let applying = applying(&case);
         assert_eq!(round.answer, applying.first().copied().unwrap_or(DONE), "seed {seed}");
         if applying.len() > 1 {
@@ -231,9 +254,9 @@ fn generated_rounds_reach_every_answer() {
             shown.count(&case, &round.answers[..count], &round.steps[..count], written);
         }
     }
-    assert_reached("round", &answers, &[0, 1, 2, 3, 4, 5, 6, 7, 8, 11], rounds, 200);
+    assert_reached_by_rule("round", &answers, &[0, 1, 2, 3, 4, 5, 6, 7, 8, 11], rounds, 400);
     // 7 and 8 never apply together
-    assert_reached("round, among others", &among_others, &[1, 2, 3, 4, 5, 6, 11], rounds, 800);
+    assert_reached("round, among others", &among_others, &[1, 2, 3, 4, 5, 6, 11], rounds, 1500);
     assert_reached("scripts of a round", &shown.places, &[0, 9, 10], rounds, 50);
     println!("{shown:?}");
     let sizes = [1, 2, 3, 4, 5, 31, 32];
@@ -259,6 +282,8 @@ struct Asked {
     policies: BTreeMap<usize, u64>,
     /// By number of groups, the calls that are done.
     groups: BTreeMap<usize, u64>,
+    /// The same where one reads alone.
+    singles: BTreeMap<usize, u64>,
     /// By how many places are lent beside the groups that there are.
     places: BTreeMap<&'static str, u64>,
     /// By what label is asked for that isn't on the sheet.
@@ -293,6 +318,9 @@ impl Asked {
             *self.principals.entry(sheet.principals).or_default() += 1;
             *self.policies.entry(policies(&case.sheet, label)).or_default() += 1;
             *self.groups.entry(wanted).or_default() += 1;
+            if sheet.reading == Reading::Alone {
+                *self.singles.entry(wanted).or_default() += 1;
+            }
         }
     }
 }
@@ -315,35 +343,38 @@ fn applying_to_groups(case: &GroupsCase) -> Vec<u8> {
 #[test]
 fn generated_calls_for_groups_reach_every_answer() {
     let calls = groups_count().min(10_000);
-    let (mut answers, mut among_others) = (Counts::new(), Counts::new());
-    let (mut twelve, mut asked) = (BTreeMap::new(), Asked::default());
+    let (mut answers, mut among_others) = (ByRule::default(), Counts::new());
+    // by rule, for the label and for the places
+    let (mut twelve, mut asked) = ([[0; 2]; 2], Asked::default());
     for seed in 0..calls {
         let case = groups_case(seed);
         let refused = try_groups(&case.sheet, case.label, &mut case.places.clone()).err();
         let answer = refused.as_ref().map_or(DONE, Reason::number);
-        *answers.entry(answer).or_default() += 1;
+        *answers[rule(&case.sheet)].entry(answer).or_default() += 1;
         let applying = applying_to_groups(&case);
         assert_eq!(answer, applying.first().copied().unwrap_or(DONE), "seed {seed}");
         if applying.len() > 1 {
             *among_others.entry(answer).or_default() += 1;
         }
         match refused {
-            Some(Reason::UnknownLabel { .. }) => *twelve.entry("label").or_default() += 1,
-            Some(Reason::Places { .. }) => *twelve.entry("places").or_default() += 1,
+            Some(Reason::UnknownLabel { .. }) => twelve[rule(&case.sheet)][0] += 1,
+            Some(Reason::Places { .. }) => twelve[rule(&case.sheet)][1] += 1,
             _ => (),
         }
         if let (DONE | 12, Ok(sheet)) = (answer, sheet_text::parse(&case.sheet)) {
             asked.count(&case, &sheet);
         }
     }
-    assert_reached("groups", &answers, &[0, 1, 2, 12], calls, 50);
+    assert_reached_by_rule("groups", &answers, &[0, 1, 2, 12], calls, 100);
     assert_reached("groups, among others", &among_others, &[1, 2], calls, 200);
     println!("{twelve:?} {asked:?}");
     let often = |count: Option<&u64>, rare| count.is_some_and(|&count| count * rare >= calls);
-    assert!(["label", "places"].iter().all(|case| often(twelve.get(case), 50)), "{twelve:?}");
+    assert!(twelve.iter().flatten().all(|count| often(Some(count), 100)), "{twelve:?}");
     assert!((1..=16).all(|n| often(asked.principals.get(&n), 500)), "{asked:?}");
     assert!((0..=16).all(|n| often(asked.policies.get(&n), 1000)), "{asked:?}");
     assert!(asked.groups.keys().any(|&count| count >= 200), "{asked:?}");
+    assert!((0..=8).all(|count| often(asked.singles.get(&count), 2000)), "{asked:?}");
+    assert!(asked.singles.keys().all(|&count| count <= 16), "{asked:?}");
     let lengths = ["empty", "one short", "short", "exact", "longer", "far longer"];
     assert!(lengths.iter().all(|length| often(asked.places.get(length), 200)), "{asked:?}");
     let labels = ["none on the sheet", "the count", "the largest", "one of more bits"];
@@ -435,13 +466,13 @@ fn by_its_unpacks(command: &Command, endorsing: &[usize]) -> Vec<&'static str> {
 #[test]
 fn generated_calls_for_trust_reach_every_answer() {
     let calls = trust_count().min(20_000);
-    let (mut answers, mut paired) = (Counts::new(), Counts::new());
+    let (mut answers, mut paired) = (ByRule::default(), Counts::new());
     let mut ends = BTreeMap::<&str, u64>::new();
     for seed in 0..calls {
         let case = trust_case(seed);
         let trust = try_trust(&case.sheet, &case.script);
         let answer = trust.as_ref().err().map_or(DONE, Reason::number);
-        *answers.entry(answer).or_default() += 1;
+        *answers[rule(&case.sheet)].entry(answer).or_default() += 1;
         *paired.entry(answer).or_default() += u64::from(has_pairs(&case.script));
         let Ok(endorsements) = trust else {
             continue;
@@ -452,7 +483,7 @@ fn generated_calls_for_trust_reach_every_answer() {
             *ends.entry(end).or_default() += 1;
         }
     }
-    assert_reached("trust", &answers, &[0, 1, 2, 4, 5, 6], calls, 100);
+    assert_reached_by_rule("trust", &answers, &[0, 1, 2, 4, 5, 6], calls, 200);
     assert_reached("trust, with pairs", &paired, &[0, 1, 2, 4, 5, 6], calls, 400);
     println!("{ends:?}");
     let often = |end: &str, rare| ends.get(end).is_some_and(|&count| count * rare >= calls);
@@ -465,4 +496,147 @@ fn generated_calls_for_trust_reach_every_answer() {
     assert!(all.into_iter().all(|end| often(end, 80)), "{ends:?}");
     let in_pairs = ["a first operand", "a second operand"];
     assert!(in_pairs.iter().all(|end| often(end, 500)), "{ends:?}");
+}
+
+/// A line of a text, counted from 1.
+fn line_of(text: &[u8], line: usize) -> &[u8] {
+    text.split(|&byte| byte == b'\n').nth(line - 1).unwrap_or_default()
+}
+
+/// What becomes of a sheet by its rule of reading; nothing of one with another fault.
+fn by_its_rule(text: &[u8]) -> Option<&'static str> {
+    let Fault { line, cause } = match sheet_text::parse(text) {
+        Ok(sheet) if sheet.reading == Reading::Alone => return Some("alone"),
+        Ok(_) => return Some("pooled"),
+        Err(fault) => fault,
+    };
+    let before = if line == 1 { None } else { line_of(text, line - 1).first() };
+    match (cause, line_of(text, line)) {
+        (Cause::ReadingRule { found }, _) => Some(match &found[..] {
+            b"0" => "1, R 0",
+            b"2" => "1, R 2",
+            b"01" => "1, R 01",
+            _ => "1, R with another field",
+        }),
+        (Cause::FieldCount { kind, found, .. }, _) if kind == b"R" => {
+            Some(if found == 0 { "1, R without a field" } else { "1, R with two fields" })
+        }
+        (Cause::Blank, [b'R', b' ', ..]) => Some("1, a blank for its tab"),
+        (Cause::LooseTab | Cause::CarriageReturn, [b'R', ..]) => Some("1, a byte after it"),
+        (Cause::LineKind { found, .. }, _) if found == b"r" => Some("1, lower case"),
+        (Cause::LineKind { found, .. }, _) if found == b"R" => Some(match before {
+            None => "1, before P",
+            Some(b'R') => "1, twice",
+            Some(b'T') => "1, after T",
+            Some(b'Q') => "1, after Q",
+            Some(b'L') => "1, after L",
+            Some(b'O') => "1, after O",
+            _ => "1, after X",
+        }),
+        _ => None,
+    }
+}
+
+const ENDS_OF_A_RULE: [&str; 18] = [
+    "pooled",
+    "alone",
+    "1, R 0",
+    "1, R 2",
+    "1, R 01",
+    "1, R with another field",
+    "1, R without a field",
+    "1, R with two fields",
+    "1, a blank for its tab",
+    "1, a byte after it",
+    "1, lower case",
+    "1, before P",
+    "1, twice",
+    "1, after T",
+    "1, after Q",
+    "1, after L",
+    "1, after O",
+    "1, after X",
+];
+
+/// Every end comes more than once among so many sheets of a kind of call, whatever the number of
+/// cases: some are rare. Both rules come in a third of the sheets.
+#[test]
+fn generated_sheets_reach_every_end_of_a_rule() {
+    const SHEETS: u64 = 20_000;
+    let kinds: [(&str, fn(u64) -> Vec<u8>); 5] = [
+        ("cases", |seed| case(seed).sheet),
+        ("rounds", |seed| round_case(seed).sheet),
+        ("groups", |seed| groups_case(seed).sheet),
+        ("trust", |seed| trust_case(seed).sheet),
+        ("inputs of the tool", |seed| sheet_and_scripts(seed).0),
+    ];
+    for (kind, sheet) in kinds {
+        let mut counts = BTreeMap::<&str, u64>::new();
+        for end in (0..SHEETS).map(|seed| by_its_rule(&sheet(seed))) {
+            *counts.entry(end.unwrap_or("another")).or_default() += 1;
+        }
+        println!("{kind}: {counts:?}");
+        let often = |end: &str, least| counts.get(end).is_some_and(|&count| count >= least);
+        let missing: Vec<&str> = ENDS_OF_A_RULE.into_iter().filter(|end| !often(end, 2)).collect();
+        assert!(missing.is_empty(), "{kind}: {missing:?} of {counts:?}");
+        assert!(["pooled", "alone"].iter().all(|rule| often(rule, SHEETS / 3)), "{counts:?}");
+    }
+}
+
+/// Whether a call hands back something else on the same sheet under the other rule of reading.
+fn turns<T: PartialEq>(sheet: &[u8], call: impl Fn(&[u8]) -> T) -> bool {
+    let read = sheet_text::parse(sheet);
+    read.is_ok_and(|read| call(sheet) != call(&under(other(read.reading), sheet)))
+}
+
+/// Whether a run that left this memory packed under `R 1` with a label that the authority writes
+/// together and none of its members alone.
+fn packs_together(case: &Case, left: &[u32]) -> bool {
+    let Ok(sheet) = read_sheet(&case.sheet) else {
+        return false;
+    };
+    let authority = Principals::from_bits(case.authority);
+    let together = |words: &[u32]| match *words {
+        [3, 5, label, ..] => pools(&sheet.labels[label as usize], authority, writes),
+        _ => false,
+    };
+    let mut locations = left.chunks(16).zip(case.memory.chunks(16));
+    sheet.reading == Reading::Alone
+        && locations.any(|(after, before)| after != before && together(after))
+}
+
+#[test]
+fn generated_calls_turn_on_the_rule() {
+    let calls = case_count().min(20_000) / 2;
+    let [mut runs, mut views, mut rounds, mut listed, mut packs] = [0; 5];
+    for seed in 0..calls {
+        let case = case(seed);
+        let ran = |sheet: &[u8]| {
+            let mut memory = case.memory.clone();
+            (run(sheet, &case.script, &mut memory, case.authority, case.budget), memory)
+        };
+        let seen = |sheet: &[u8]| {
+            let mut lent = vec![0; case.view_length];
+            (view(sheet, &case.memory, case.group, &mut lent), lent)
+        };
+        runs += u64::from(turns(&case.sheet, ran));
+        views += u64::from(turns(&case.sheet, seen));
+        packs += u64::from(packs_together(&case, &ran(&case.sheet).1));
+        let case = round_case(seed);
+        rounds += u64::from(turns(&case.sheet, |sheet| {
+            let mut memory = case.memory.clone();
+            (round(sheet, &case.scripts, &mut memory, case.authority, case.budget), memory)
+        }));
+        let case = groups_case(seed);
+        listed += u64::from(turns(&case.sheet, |sheet| {
+            let mut places = case.places.clone();
+            (groups(sheet, case.label, &mut places), places)
+        }));
+    }
+    println!("{runs} runs, {views} views, {rounds} rounds and {listed} lists of groups turn");
+    println!("{packs} pack together under the rule of one reader");
+    let often = |count: u64, rare| count * rare > calls;
+    assert!(often(runs, 150) && often(rounds, 150), "{runs}, {rounds} of {calls}");
+    assert!(often(views, 5) && often(listed, 3), "{views}, {listed} of {calls}");
+    assert!(often(packs, 300), "{packs} of {calls}");
 }

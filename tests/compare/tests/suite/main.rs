@@ -1,5 +1,6 @@
 //! The tests of the reference, and of the lean version and the library against it, in one program.
 
+mod alone;
 mod bounds;
 mod buttons;
 mod cases;

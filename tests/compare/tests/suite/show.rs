@@ -20,6 +20,13 @@ fn paired(memory: &[&str], group: &str) -> Vec<u8> {
     input(&text(&lines), memory, group)
 }
 
+/// An input of show in which principal 2 reads label 1 for owner 0 and principal 3 for owner 1, under
+/// the rule of reading of the line `rule`, where there is one.
+fn ruled(rule: &[&str], group: &str) -> Vec<u8> {
+    let rest = ["L", "L", "O 0 0004 0000", "O 1 0008 0000", "X 2 0", "X 0 1"];
+    input(&text(&[&["P 4"], rule, &rest].concat()), &["5 1 1 62", "1 7"], group)
+}
+
 /// The last ends in integer 0 inside a package of label 0.
 const PAIRS: &[&str] = &["6 5 1 1 62 1 7", "6 1 7 5 1 1 62", "6 1 0 5 0 1"];
 const SIXTEEN: &str = "6 5 1 3 3 3 3 3 3 3 3 3 1 62 1 7";
@@ -79,6 +86,12 @@ fn table() -> Vec<(Vec<u8>, Vec<u8>)> {
         prints(paired(&[SEVENTEEN, PAIRS[1], PAIRS[2]], "0002\n"), &["8"]),
         prints(input(b"P\t1\nQ\t0\t0\nQ\t0\t0\n", &[], "0001\n"), &["2"]),
         prints(input(b"P\t1\nQ\t0\t5\n", &[], "0001\n"), &["1"]),
+        prints(ruled(&[], "000c\n"), &["5 1 1 62", "1 7"]),
+        prints(ruled(&["R 1"], "000c\n"), &["5 1", ""]),
+        prints(ruled(&["R 1"], "0000\n"), &["", ""]),
+        prints(ruled(&["R 1"], "0010\n"), &["3"]),
+        prints(ruled(&["R 0"], "000c\n"), &["1"]),
+        prints(ruled(&["R 1", "R 1"], "000c\n"), &["1"]),
     ]
 }
 
@@ -99,15 +112,18 @@ const SEEDS: std::ops::Range<u64> = 0..1000;
 
 #[test]
 fn generated_inputs_reach_every_answer() {
-    let (mut counts, mut pairs) = (BTreeMap::new(), 0);
+    let (mut counts, mut pairs, mut alone) = (BTreeMap::new(), 0, 0);
     for seed in SEEDS {
-        let shown = answer(&show_input(seed));
+        let input = show_input(seed);
+        let shown = answer(&input);
+        let ruled = input.split(|&byte| byte == b'\n').nth(1) == Some(b"R\t1");
+        alone += usize::from(ruled && shown.is_ok());
         let paired = |words: &[u32]| words.chunks(16).any(|location| location[0] == 6);
         pairs += usize::from(shown.as_deref().is_ok_and(paired));
         *counts.entry(shown.err().map_or(DONE, Refusal::number)).or_insert(0) += 1;
     }
-    println!("show: {counts:?}, {pairs} with pairs");
-    assert!(pairs >= 100, "{pairs}");
+    println!("show: {counts:?}, {pairs} with pairs, {alone} with one reader alone");
+    assert!(pairs >= 100 && alone >= 200, "{pairs}, {alone}");
     assert_eq!(counts.keys().copied().collect::<Vec<u8>>(), [0, 1, 2, 3, 8]);
     assert!(counts.values().all(|&count| count >= 10), "{counts:?}");
 }

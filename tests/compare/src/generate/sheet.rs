@@ -189,8 +189,8 @@ fn listed(policy: &Listed) -> Policy {
     }
 }
 
-/// Policies of some owners or all. By two of the styles readers and writers pool: each owner lets
-/// another one read, and some one other besides.
+/// Policies of some owners or all. For the rules of reading there are labels in which each owner
+/// lets one other read and one write, and labels that one principal reads for all of them.
 fn policies(prng: &mut Prng, n: usize) -> Vec<Listed> {
     let everyone = u16::MAX >> (16 - n);
     let (style, common) = (prng.below(8), 1 << prng.below(n));

@@ -97,7 +97,7 @@ fn assert_unformed(i: &Implementation, sheet: &[u8]) {
     assert_eq!((groups, places), (Groups { answer: 1, count: 0 }, [7; 4]), "{shown}");
 }
 
-/// g1: the line is `R 1`, and no other opens with `R`.
+/// The line is `R 1`, and no other opens with `R`.
 #[test]
 fn any_other_line_is_refused() {
     let good: &[u8] = b"P\t4\nR\t1\nL\nX\t0\t0\n";
@@ -134,7 +134,7 @@ fn any_other_line_is_refused() {
     }
 }
 
-/// g2: it stands right after `P`, and once.
+/// It stands right after `P`, and once.
 #[test]
 fn the_line_stands_in_one_place() {
     let lines = ["P 4", "T 0 1", "Q 0 1", "L", "O 0 0001 0000", "L", "X 0 0", "X 2 1"];
@@ -290,7 +290,7 @@ fn the_single_readers_of_many() {
     }
 }
 
-/// g3: nobody reads by himself, or together.
+/// The empty group has no member who reads, under either rule.
 #[test]
 fn the_empty_group_reads_nothing() {
     for rule in RULES {
@@ -306,7 +306,7 @@ fn the_empty_group_reads_nothing() {
     }
 }
 
-/// g4: members pool to pack, with the line and without.
+/// Members pool to pack, with the line and without.
 #[test]
 fn writing_is_pooled_under_both_rules() {
     let start = memory(&START);
@@ -320,7 +320,7 @@ fn writing_is_pooled_under_both_rules() {
     }
 }
 
-/// e8: what is left of a memory where a group is distrusted doesn't turn on the rule.
+/// What is left of a memory where a group is distrusted doesn't turn on the rule.
 #[test]
 fn what_is_left_is_the_same_under_both_rules() {
     let left = |rule: Reading, group: u16| {

@@ -1,7 +1,7 @@
 //! A standard output that fails: status 3, a line on standard error, no panic.
 
 use crate::desk::desk;
-use crate::tool::{full, shell, simp_onto};
+use crate::tool::{full, shell, simp_onto, unread};
 
 /// A call of each kind that prints something.
 const CALLS: &[&[&str]] = &[
@@ -42,9 +42,7 @@ fn a_full_disk() {
 fn a_closed_pipe() {
     let folder = desk("closed-pipe");
     for arguments in CALLS.iter().filter(|arguments| !arguments.contains(&"no.sheet")) {
-        let (reader, writer) = std::io::pipe().expect("a pipe");
-        drop(reader);
-        let ran = simp_onto(&folder, arguments, writer);
+        let ran = simp_onto(&folder, arguments, unread());
         assert_eq!((ran.status, ran.err.as_str()), (3, ""), "{arguments:?}");
     }
 }

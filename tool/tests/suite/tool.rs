@@ -2,6 +2,9 @@
 
 use std::fs::File;
 use std::io::Write;
+use std::net::Shutdown;
+use std::os::fd::OwnedFd;
+use std::os::unix::net::UnixStream;
 use std::path::Path;
 use std::process::{Command, Output, Stdio};
 
@@ -53,6 +56,14 @@ pub fn simp_onto(folder: impl AsRef<Path>, arguments: &[&str], out: impl Into<St
 /// A device that is always full.
 pub fn full() -> File {
     File::options().write(true).open("/dev/full").expect("a full device")
+}
+
+/// A stream that no one reads any more. Its other end is shut, not only dropped: a process that
+/// another test starts at that moment could hold that end open a little longer.
+pub fn unread() -> OwnedFd {
+    let (reader, writer) = UnixStream::pair().expect("a stream with two ends");
+    reader.shutdown(Shutdown::Both).expect("an end is shut");
+    writer.into()
 }
 
 /// A shell script in which `$SIMP` is the tool.

@@ -2,7 +2,7 @@
 
 use crate::desk::{desk, tabbed, MEMORY, PACKED};
 use crate::folder::Folder;
-use crate::tool::{command, full, shell, simp, simp_onto};
+use crate::tool::{command, full, shell, simp, simp_onto, unread};
 use std::fs::{self, Permissions};
 use std::os::unix::fs::{chown, symlink, MetadataExt, PermissionsExt};
 use std::path::Path;
@@ -102,9 +102,7 @@ fn a_run_that_cannot_be_printed_is_not_written() {
     for (pack, more) in PACKS.iter().flat_map(|pack| forms.map(|form| (pack, form))) {
         let arguments = [&pack[..], more].concat();
         said(&simp_onto(&folder, &arguments, full()));
-        let (reader, writer) = std::io::pipe().expect("a pipe");
-        drop(reader);
-        said(&simp_onto(&folder, &arguments, writer));
+        said(&simp_onto(&folder, &arguments, unread()));
         said(&shell(&folder, &format!("exec \"$SIMP\" {} >&-", arguments.join(" "))));
     }
     assert!(strangers(&folder).is_empty());

@@ -8,6 +8,7 @@ use crate::files::{self, shown};
 use crate::inputs;
 use crate::json::{Fields, Json};
 use crate::opening::{self, Named};
+use crate::reading;
 use crate::refusal::Refusal;
 use crate::status::{Status, Stop};
 use crate::streams::{Paint, Streams};
@@ -95,6 +96,8 @@ impl About<'_> {
             format!("{} {}\n", paint.bold(&format!("{}:", shown(sheet))), paint.good("accepted")),
             title(about.principals, "principal"),
             printed("  ", &self.principals()),
+            format!("\n{}\n", paint.bold("rule of reading")),
+            format!("  {}\n", reading::in_words(about.reading)),
             title(about.types.len(), "type"),
             printed("  ", &self.types()),
             title(about.labels.len(), "label"),
@@ -173,6 +176,7 @@ impl About<'_> {
         vec![
             ("sheet", Json::Object(verdict(sheet, 0))),
             ("principals", Json::list(0..about.principals, principal)),
+            ("reading", reading::json(about.reading)),
             ("types", Json::list(0..about.types.len(), |number| self.type_json(number))),
             ("labels", Json::list(0..about.labels.len(), |number| self.label_json(number))),
             (

@@ -10,7 +10,7 @@ usage: simp check SHEET SCRIPT..           which scripts are accepted on a sheet
        simp run SHEET SCRIPT MEMORY ..     a run: how it ends, and the memory after it
        simp round SHEET SCRIPTS MEMORY ..  several scripts of a file, run in order on one memory
        simp show SHEET MEMORY ..           what a group may see of a memory
-       simp readers SHEET [LABEL]          the smallest groups that together read a label
+       simp readers SHEET [LABEL]          who reads a label, together or each by himself
        simp explain SHEET [SCRIPTS]        who may read and write what is on a sheet; where scripts
                                            start, who may know that they are run, and which
                                            are trust-keeping
@@ -126,16 +126,21 @@ const ROUND_JSON: &str = r#"
 
 const SHOW: &str = "
 Prints each location as a group of principals may see it. What it can't read is hidden: whole
-locations, and the contents of packages, also of those that are part of a pair.
+locations, and the contents of packages, also of those that are part of a pair. On a sheet with the
+line `R 1`, where one member must be a reader for every owner, what the group would read if parties
+read together is marked so.
 
   --to LIST      the group: numbers or names of principals, parted by commas; '' is nobody
   --plain        the view as a memory text; why it is refused goes to standard error";
 
 const SHOW_JSON: &str = r#"
-                   {"answer": 0, "shown": true, "group": [2], "locations":
+                   {"answer": 0, "shown": true, "group": [2], "reading": {"kind", "line", "words"},
+                    "locations":
                     [{"location": 0, "name", "hidden": false, "content_hidden": false,
-                      "words": [1, 30], "value": "30"}]}
-                 what is refused has "blamed", "name", "line", "fact", "advice" and "rule"
+                      "only_together": false, "words": [1, 30], "value": "30"}]}
+                 "reading" is as in simp explain; "only_together" is whether the group would read
+                 what is hidden if parties read together; what is refused has "blamed", "name",
+                 "line", "fact", "advice" and "rule"
 "#;
 
 const READERS: &str = "
@@ -143,18 +148,22 @@ Prints every smallest group that reads a label: one that reads it while none of 
 does. A group reads the label exactly if it has all members of one of these. LABEL is a number or a
 name; without it every label of the sheet is told of in turn. Groups rise as numbers, in which
 principal p counts 2 to the power of p.
+
+On a sheet with the line `R 1` each of these is one principal, who is a reader for every owner and
+reads the label by himself. There may be none; then it says what to do.
 ";
 
 const READERS_JSON: &str = r#"
-                   {"answer": 0, "listed": true, "labels":
+                   {"answer": 0, "listed": true, "reading": {"kind", "line", "words"}, "labels":
                     [{"label": 0, "name", "count": 2, "groups": [[0], [1, 2]]}]}
-                 a group is the numbers of its members; what is refused has "blamed", "name",
-                 "line", "fact", "advice" and "rule"
+                 a group is the numbers of its members; "reading" is as in simp explain; what is
+                 refused has "blamed", "name", "line", "fact", "advice" and "rule"
 "#;
 
 const EXPLAIN: &str = "
 Prints the principals, types, labels and locations of a sheet, and who may read and write what. A
-sum type (`T a b`) is told as a+b, a pair type (`Q a b`) as (a, b).
+sum type (`T a b`) is told as a+b, a pair type (`Q a b`) as (a, b). It names the sheet's rule of
+reading: parties read together, or with the line `R 1` one reader by himself.
 
 With SCRIPTS, a file of one script or of a round, it prints of each script instead at which label it
 starts, and who reads that: the label that a line `b label` at its start names, else bottom, which
@@ -165,14 +174,16 @@ prints whether the script is trust-keeping, and each `u` by which it isn't, as s
 const EXPLAIN_JSON: &str = r#"
                    {"sheet": {"name", "answer", "accepted"},
                     "principals": [{"principal": 0, "name"}],
+                    "reading": {"kind": "alone", "line": 2, "words"},
                     "types": [{"type": 5, "kind": "sum", "parts": [0, 1], "words": "int+error"}],
                     "labels": [{"label": 0, "name", "read", "write",
                                 "owners": [{"owner": 0, "readers": [0], "writers": [0, 1]}]}],
                     "locations": [{"location": 0, "name", "type": 0, "label": 0, "read", "write"}]}
-                 "kind" is "int", "error", "pkg", "sum" or "pair", and "parts" is null but for the
-                 last two; a sheet that is refused has "blamed", "line", "fact", "advice" and
+                 "kind" of a type is "int", "error", "pkg", "sum" or "pair", and "parts" is null but
+                 for the last two; "kind" of "reading" is "pooled" or "alone", and "line" that of
+                 `R 1` or null; a sheet that is refused has "blamed", "line", "fact", "advice" and
                  "rule", and nothing stands beside it. With SCRIPTS it is
-                   {"sheet": {"name", "answer", "accepted"},
+                   {"sheet": {"name", "answer", "accepted"}, "reading": {"kind", "line", "words"},
                     "scripts": {"name", "answer", "accepted"},
                     "starts": [{"script": 1, "first_line": 1, "label": 0, "name", "read", "write",
                                 "keeping": true, "unpacks": []}]}

@@ -18,6 +18,7 @@ pub mod names;
 mod opening;
 mod progress;
 mod readers;
+mod reading;
 mod refusal;
 mod replace;
 mod round;

@@ -20,7 +20,7 @@ use crate::names::Names;
 use crate::words::{named, Words};
 use pairs::Paired;
 use reference::sheet::{Repeat, Sheet};
-use reference::text::{Fault, Thing};
+use reference::text::{Cause, Fault, Thing};
 use reference::Reason;
 use std::fmt;
 
@@ -77,6 +77,16 @@ impl Message {
     /// Tells too how what flows goes through a pair, by the script.
     pub fn with_pair(self, reason: &Reason, script: &[u8], sheet: &Sheet) -> Message {
         self.paired(Paired::of_refusal(reason, script, sheet))
+    }
+
+    /// Tells too, by the sheet's text, whether an `R` line that can't stand there is a second one.
+    pub fn with_rule(mut self, reason: &Reason, sheet: &[u8]) -> Message {
+        if let Reason::Sheet(Fault { cause: Cause::LineKind { found, .. }, .. }) = reason {
+            if found == b"R" {
+                self.advice = lines::repeated_rule(sheet).unwrap_or(self.advice);
+            }
+        }
+        self
     }
 
     fn paired(mut self, paired: Option<Paired>) -> Message {

@@ -59,7 +59,8 @@ pub fn sheet(
     let judged = calls.sheet(&file.text.bytes);
     match judged.map_err(|found| disagreed(&asked, &found))? {
         Err(reason) => {
-            let message = message(&in_full(reason, &file.text, &file.text), None, names);
+            let reason = in_full(reason, &file.text, &file.text);
+            let message = message(&reason, None, names).with_rule(&reason, &file.text.bytes);
             Ok(Err(Refusal { name: files::name(file.name), message }))
         }
         Ok(sheet) => {

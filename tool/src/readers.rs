@@ -4,15 +4,18 @@ use crate::args::{self, Form, Readers};
 use crate::calls::Calls;
 use crate::files::{self, shown};
 use crate::json::{Fields, Json};
-use crate::message::{groups_read, message, Blamed, Message};
+use crate::message::{counted, groups_read, message, Blamed, Message};
 use crate::names::Names;
 use crate::opening::{self, Named};
+use crate::reading;
 use crate::refusal::{disagreed, Refusal};
 use crate::status::{Status, Stop};
 use crate::streams::{Paint, Streams};
 use crate::words::Words;
+use reference::label::Reading;
 use reference::principals::Principals;
 use reference::sheet::LabelId;
+use reference::sheet_text::line_of_label;
 use reference::Reason;
 
 /// The argument's name.
@@ -31,7 +34,8 @@ pub fn readers(request: &Readers, calls: &Calls, streams: &mut Streams) -> Resul
     let labels = label.map_or(0..sheet.labels.len(), |label| label..label + 1);
     match lists(request, labels, &file.text.bytes, calls)? {
         Ok(lists) => {
-            let desk = Desk { words: Words { sheet: &sheet, names: &names } };
+            let words = Words { sheet: &sheet, names: &names };
+            let desk = Desk { words, sheet: &file.text.bytes };
             let text = desk.told(request, &lists, streams.paint());
             streams.finish(&text, Status::Done)
         }
@@ -105,13 +109,18 @@ fn verdict(answer: u8) -> Fields {
 /// What the lists are told by.
 struct Desk<'a> {
     words: Words<'a>,
+    /// The text of the sheet.
+    sheet: &'a [u8],
 }
 
 impl Desk<'_> {
     fn told(&self, request: &Readers, lists: &[List], paint: Paint) -> String {
         match request.form {
             Form::Json => {
-                let labels = vec![("labels", Json::list(lists, |list| self.json(list)))];
+                let labels = vec![
+                    ("reading", reading::json(self.words.sheet.reading)),
+                    ("labels", Json::list(lists, |list| self.json(list))),
+                ];
                 format!("{}\n", Json::Object([verdict(0), labels].concat()))
             }
             _ if lists.is_empty() => {
@@ -122,13 +131,31 @@ impl Desk<'_> {
         }
     }
 
-    /// The label and how many groups there are, then a line for each.
+    /// The label and how many groups read it, or principals each by himself, then a line for each.
     fn in_words(&self, list: &List, paint: Paint) -> String {
         let label = paint.bold(&format!("{}:", self.words.label(list.label)));
         // `everyone` would be taken for each by himself
         let group = |group: &Principals| format!("  {}\n", self.words.members(*group));
         let groups: String = list.groups.iter().map(group).collect();
-        format!("{label} {} it\n{groups}", groups_read(list.groups.len()))
+        let read = match (self.words.sheet.reading, list.groups.len()) {
+            (Reading::Pooled, count) => format!("{} it", groups_read(count)),
+            (Reading::Alone, 0) => self.unread(list.label),
+            (Reading::Alone, 1) => "1 principal reads it by himself".to_string(),
+            (Reading::Alone, count) => {
+                format!("{} read it, each by himself", counted(count, "principal"))
+            }
+        };
+        format!("{label} {read}\n{groups}")
+    }
+
+    /// That no one reads a label by himself, and what to do.
+    fn unread(&self, label: LabelId) -> String {
+        format!(
+            "nobody reads it by himself: let one principal read for every owner, in the `O` lines \
+             after its `L` (line {}); or take `R 1` (line {}) out if parties may read together",
+            line_of_label(self.sheet, label),
+            reading::LINE
+        )
     }
 
     fn json(&self, list: &List) -> Json {

@@ -7,12 +7,15 @@ use crate::json::{Fields, Json};
 use crate::lent::Lent;
 use crate::message::{Blamed, Message};
 use crate::opening::{self, Named};
+use crate::reading;
 use crate::refusal::{disagreed, Refusal};
 use crate::status::{Status, Stop};
 use crate::streams::{Paint, Streams};
 use crate::values::{self, Row};
 use crate::words::{pair, Words};
+use reference::label::Reading;
 use reference::principals::Principals;
+use reference::sheet::LabelId;
 
 pub fn show(request: &Show, calls: &Calls, streams: &mut Streams) -> Result<Status, Stop> {
     let names_file = opening::read_names(request.names.as_deref(), streams)?;
@@ -83,13 +86,25 @@ struct Seen<'a> {
     words: &'a [u32],
     /// Its value, if it isn't hidden.
     value: Option<String>,
-    /// Whether the content of a package in it is hidden.
-    content_hidden: bool,
+    hidden: Hidden,
 }
+
+/// What is hidden of a location.
+#[derive(Default)]
+struct Hidden {
+    /// Whether the content of a package in it is.
+    content: bool,
+    /// Whether the group would read that, or the location, if parties read together.
+    only_together: bool,
+}
+
+/// Stands after what is hidden only since the sheet wants one reader by himself.
+const ONLY_TOGETHER: &str = " (read only together)";
 
 impl<'a> Seen<'a> {
     fn row(&self) -> Row<'a> {
-        let value = self.value.clone().unwrap_or_else(|| "hidden".to_string());
+        let why = if self.hidden.only_together { ONLY_TOGETHER } else { "" };
+        let value = self.value.clone().unwrap_or_else(|| format!("hidden{why}"));
         Row { mark: "", words: self.words, value }
     }
 }
@@ -107,15 +122,26 @@ impl Desk<'_> {
     }
 
     fn seen<'a>(&self, location: usize, words: &'a [u32]) -> Seen<'a> {
-        let mut content_hidden = false;
-        let readable = self.words.sheet.label_at(location).read_by(self.group);
-        let value = readable.then(|| self.value(words, &mut content_hidden).0);
-        Seen { words, value, content_hidden }
+        let label = self.words.sheet.locations[location].label;
+        let mut hidden = Hidden::default();
+        if self.words.sheet.reads(self.group, label) {
+            let value = Some(self.value(words, &mut hidden).0);
+            Seen { words, value, hidden }
+        } else {
+            hidden.only_together = self.read_together(label);
+            Seen { words, value: None, hidden }
+        }
+    }
+
+    /// Whether the members of the group would read a label together.
+    fn read_together(&self, label: LabelId) -> bool {
+        let label = self.words.sheet.labels.get(label);
+        label.is_some_and(|label| label.read_by(Reading::Pooled, self.group))
     }
 
     /// The value that a view's words start with, without contents that the group can't read, and
     /// the words after it.
-    fn value<'w>(&self, words: &'w [u32], hidden: &mut bool) -> (String, &'w [u32]) {
+    fn value<'w>(&self, words: &'w [u32], hidden: &mut Hidden) -> (String, &'w [u32]) {
         let mut after = |start: &str, words| {
             let (value, rest) = self.value(words, hidden);
             (format!("{start} {value}"), rest)
@@ -125,14 +151,17 @@ impl Desk<'_> {
             [3, ref rest @ ..] => after("left", rest),
             [4, ref rest @ ..] => after("right", rest),
             [5, label, ref content @ ..] => {
-                let label = label as usize;
+                let (label, sheet) = (label as usize, self.words.sheet);
                 let package = format!("a package of {} with", self.words.label(label));
-                if self.words.sheet.labels.get(label).is_some_and(|l| l.read_by(self.group)) {
+                if label < sheet.labels.len() && sheet.reads(self.group, label) {
                     return after(&package, content);
                 }
-                *hidden = true;
+                let together = self.read_together(label);
+                hidden.content = true;
+                hidden.only_together |= together;
+                let why = if together { ONLY_TOGETHER } else { "" };
                 // one zero word, and what comes next follows it
-                (format!("{package} hidden content"), content.get(1..).unwrap_or_default())
+                (format!("{package} hidden content{why}"), content.get(1..).unwrap_or_default())
             }
             [6, ref rest @ ..] => {
                 let (first, rest) = self.value(rest, hidden);
@@ -147,8 +176,12 @@ impl Desk<'_> {
         let rows: Vec<Row> = seen.iter().map(Seen::row).collect();
         let hidden = seen.iter().filter(|seen| seen.value.is_none()).count();
         let group = self.words.principals(self.group);
+        let rule = match seen.iter().any(|seen| seen.hidden.only_together) {
+            true => reading::in_words(self.words.sheet.reading) + "\n",
+            false => String::new(),
+        };
         format!(
-            "what a group of {} may see\n{}{} of {} locations hidden\n",
+            "what a group of {} may see\n{}{} of {} locations hidden\n{rule}",
             paint.bold(&group),
             values::lines(&rows, self.words.names, paint),
             hidden,
@@ -161,6 +194,7 @@ impl Desk<'_> {
             ("answer", Json::number(0)),
             ("shown", Json::Bool(true)),
             ("group", Json::list(self.group.members(), Json::number)),
+            ("reading", reading::json(self.words.sheet.reading)),
             ("locations", Json::list(seen.iter().enumerate(), |seen| self.location(seen))),
         ]
     }
@@ -170,7 +204,8 @@ impl Desk<'_> {
             ("location", Json::number(location)),
             ("name", Json::name(self.words.names.location(location))),
             ("hidden", Json::Bool(seen.value.is_none())),
-            ("content_hidden", Json::Bool(seen.content_hidden)),
+            ("content_hidden", Json::Bool(seen.hidden.content)),
+            ("only_together", Json::Bool(seen.hidden.only_together)),
             ("words", values::json(seen.words)),
             ("value", Json::name(seen.value.as_deref())),
         ])

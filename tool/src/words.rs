@@ -1,7 +1,7 @@
 //! What stands on a sheet and in a memory, in words.
 
 use crate::names::Names;
-use reference::label::Label;
+use reference::label::{Label, Reading};
 use reference::principals::Principals;
 use reference::sheet::{LabelId, LocationId, Sheet};
 use reference::types::{Type, TypeId};
@@ -25,11 +25,7 @@ pub enum Right {
 }
 
 impl Right {
-    /// The effective sets of a label for each owner.
-    pub fn sets(self, label: &Label) -> Vec<Principals> {
-        (0..label.principals()).map(|owner| self.set(label, owner)).collect()
-    }
-
+    /// The effective set of a label for an owner.
     pub fn set(self, label: &Label, owner: usize) -> Principals {
         match self {
             Right::Read => label.readers(owner),
@@ -37,6 +33,9 @@ impl Right {
         }
     }
 }
+
+/// Who may read what no one is a reader of for every owner, where the sheet has `R 1`.
+pub const NOBODY: &str = "nobody by himself";
 
 impl Words<'_> {
     /// A principal's name, or else its number.
@@ -103,12 +102,28 @@ impl Words<'_> {
         listed(&set.members().map(|p| self.principal(p)).collect::<Vec<_>>(), "nobody")
     }
 
-    /// Who may read or write what has a label: `everyone`, `only 0 and 2`, or who must be in a group
-    /// that does.
+    /// The sets that a group must meet to read or write what has a label: one for each owner, or the
+    /// one of those who read by themselves.
+    pub fn sets(&self, right: Right, label: &Label) -> Vec<Principals> {
+        match (right, self.sheet.reading) {
+            (Right::Read, Reading::Alone) => vec![self.lone_readers(label)],
+            _ => (0..label.principals()).map(|owner| right.set(label, owner)).collect(),
+        }
+    }
+
+    fn lone_readers(&self, label: &Label) -> Principals {
+        let each = (0..self.sheet.principals).map(Principals::only);
+        let readers = each.filter(|one| label.read_by(self.sheet.reading, *one));
+        readers.fold(Principals::first(0), Principals::union)
+    }
+
+    /// Who may read or write what has a label: `everyone`, `only 0 and 2`, `nobody by himself`, or
+    /// who must be in a group that does.
     pub fn who(&self, right: Right, label: &Label) -> String {
-        let needed = needed(right.sets(label), self.sheet.principals);
+        let needed = needed(self.sets(right, label), self.sheet.principals);
         match needed.as_slice() {
             [] => "everyone".to_string(),
+            [none] if *none == Principals::first(0) => NOBODY.to_string(),
             [one] => self.only(*one),
             several => {
                 let each = several.iter().map(|set| self.one_of(*set)).collect::<Vec<_>>();

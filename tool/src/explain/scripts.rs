@@ -8,6 +8,7 @@ use crate::files::{self, shown};
 use crate::json::{Fields, Json};
 use crate::message::{counted, Message, Scripts, Unpack};
 use crate::opening::Named;
+use crate::reading;
 use crate::refusal::{disagreed, Refusal};
 use crate::status::{Status, Stop};
 use crate::streams::{Paint, Streams};
@@ -18,7 +19,7 @@ use reference::flow::Endorsement;
 use reference::round::Refused;
 use reference::script::Script;
 
-const MEANING: &str = "
+const MEANING: &str = "\
 a group that can't read a script's starting label is shown no difference when that script is run
 what a group can write makes no difference to the rest after a trust-keeping script is done
 ";
@@ -94,12 +95,14 @@ impl Desk<'_> {
         let parting = if unpacks.is_empty() { "" } else { "\n" };
         let unpacks = trust::lines(self.scripts.name, &unpacks, paint);
         let accepted = paint.good("accepted");
-        format!("{name} {accepted}\n\n{title}\n{rows}{parting}{unpacks}{MEANING}")
+        let rule = reading::in_words(self.words.sheet.reading);
+        format!("{name} {accepted}\n\n{title}\n{rows}{parting}{unpacks}\n{rule}\n{MEANING}")
     }
 
     fn document(&self, about: Fields, scripts: &[About]) -> String {
         let fields = vec![
             ("sheet", Json::Object(verdict(self.sheet.name, 0))),
+            ("reading", reading::json(self.words.sheet.reading)),
             ("scripts", Json::Object(about)),
             ("starts", Json::list(scripts, |script| script.json(&self.words))),
         ];

@@ -1,7 +1,7 @@
 //! Labels that don't fit: both in words, and what flowed where.
 
 use super::{told, Told};
-use crate::words::{Right, Words};
+use crate::words::{Right, Words, NOBODY};
 use reference::flow::{Endorsement, Into, NoFlow, Origin, Source, Through};
 use reference::label::Label;
 use reference::sheet::LocationId;
@@ -59,8 +59,7 @@ impl Flow<'_> {
             Right::Read => (self.source, self.target),
             Right::Write => (self.target, self.source),
         };
-        let beyond = self.right.sets(beyond);
-        let sets = self.right.sets(within);
+        let [sets, beyond] = [within, beyond].map(|label| self.words.sets(self.right, label));
         sets.iter().any(|set| beyond.iter().all(|other| !set.contains(*other)))
     }
 
@@ -160,7 +159,7 @@ impl Flow<'_> {
         }
         let location = self.other_location(owner);
         let label = match (self.right, owner) {
-            (Right::Read, None) => "that lets no one else read".to_string(),
+            (Right::Read, None) => format!("that lets {} read", self.others()),
             (Right::Write, None) => "whose writers include them".to_string(),
             (Right::Read, Some(owner)) => format!("on which owner {owner} lets no one else read"),
             (Right::Write, Some(owner)) => {
@@ -212,7 +211,7 @@ impl Flow<'_> {
     /// Which other location may be assigned to.
     fn other_location(&self, owner: Option<&str>) -> String {
         match (self.right, owner) {
-            (Right::Read, None) => "that no one else may read".to_string(),
+            (Right::Read, None) => format!("that {} may read", self.others()),
             (Right::Write, None) => "that they may have written too".to_string(),
             (Right::Read, Some(owner)) => {
                 format!("on whose label owner {owner} lets no one else read")
@@ -220,6 +219,14 @@ impl Flow<'_> {
             (Right::Write, Some(owner)) => {
                 format!("on whose label owner {owner} lets them have written too")
             }
+        }
+    }
+
+    /// Whom a target may not let read, beside the source's readers.
+    fn others(&self) -> &'static str {
+        match self.words.who(Right::Read, self.source) == NOBODY {
+            true => NOBODY,
+            false => "no one else",
         }
     }
 
@@ -272,8 +279,11 @@ mod tests {
     use reference::principals::Principals;
     use reference::sheet::Sheet;
 
+    /// The line of a sheet by which one reader must read by himself, or none.
+    const RULES: [&str; 2] = ["", "R\t1\n"];
+
     /// A sheet of three principals with two labels, each owner's sets taken from the bits of a seed.
-    fn sheet(seed: u32) -> Option<Sheet> {
+    fn sheet(rule: &str, seed: u32) -> Option<Sheet> {
         let label = |seed: u32| -> String {
             let policy = |owner: u32| {
                 let bits = seed >> (6 * owner);
@@ -282,7 +292,7 @@ mod tests {
             format!("L\n{}", (0..3).map(policy).collect::<String>())
         };
         let (first, second) = (label(seed), label(seed.wrapping_mul(0x9e37_79b1) >> 7));
-        read_sheet(format!("P\t3\n{first}{second}X\t0\t0\nX\t0\t1\n").as_bytes()).ok()
+        read_sheet(format!("P\t3\n{rule}{first}{second}X\t0\t0\nX\t0\t1\n").as_bytes()).ok()
     }
 
     /// From label 0, which a location has or the script starts at, to location 1.
@@ -299,7 +309,7 @@ mod tests {
     /// round.
     fn some_group_shows(sheet: &Sheet, right: Right) -> bool {
         let may = |label: usize, group: Principals| match right {
-            Right::Read => sheet.labels[label].read_by(group),
+            Right::Read => sheet.reads(group, label),
             Right::Write => sheet.labels[label].written_by(group),
         };
         let (more, less) = if right == Right::Read { (1, 0) } else { (0, 1) };
@@ -307,13 +317,21 @@ mod tests {
     }
 
     /// The labels as a whole are told where a group shows what is broken, else an owner's policies,
-    /// and what is told is so.
+    /// and what is told is so, by either rule of reading.
     #[test]
     fn what_is_told_of_two_labels_is_so() {
+        for rule in RULES {
+            let (whole, by_owner) = told_of_two_labels(rule);
+            assert!(whole > 1000 && by_owner > 1000, "{whole} whole, {by_owner} by an owner");
+        }
+    }
+
+    /// How often the labels as a whole are told, and how often an owner's policies.
+    fn told_of_two_labels(rule: &str) -> (usize, usize) {
         let names = Names::default();
         let (mut whole, mut by_owner) = (0, 0);
         for seed in (0..60_000_000).step_by(997) {
-            let Some(sheet) = sheet(seed) else {
+            let Some(sheet) = sheet(rule, seed) else {
                 continue;
             };
             let [source, target] = &sheet.labels[..] else { unreachable!("two labels") };
@@ -344,7 +362,7 @@ mod tests {
             };
             assert!(fact.starts_with(&start) && fact.ends_with(&end), "{fact}");
         }
-        assert!(whole > 1000 && by_owner > 1000, "{whole} whole, {by_owner} by an owner");
+        (whole, by_owner)
     }
 
     /// The same of an unpack whose readers fit and whose writers don't.
@@ -352,7 +370,8 @@ mod tests {
     fn what_is_told_of_an_unpack_is_so() {
         let names = Names::default();
         let (mut whole, mut by_owner) = (0, 0);
-        for sheet in (0..60_000_000).step_by(997).filter_map(sheet) {
+        let of_seed = |seed: u32| sheet(RULES[seed as usize % 2], seed);
+        for sheet in (0..60_000_000).step_by(997).filter_map(of_seed) {
             let [source, target] = &sheet.labels[..] else { unreachable!("two labels") };
             let reads = source.confidentiality().at_or_below(&target.confidentiality());
             if !reads || source.at_or_below(target) {

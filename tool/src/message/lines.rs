@@ -2,17 +2,19 @@
 
 use super::text::shown;
 use super::{told, Told};
+use crate::reading;
 use reference::text::{Expected, Operand, Sort};
 
 /// Each kind of line with its fields.
-const SHEET: &[&str] = &["P n", "T a b", "Q a b", "L", "O owner readers writers", "X type label"];
+const SHEET: &[&str] =
+    &["P n", "R 1", "T a b", "Q a b", "L", "O owner readers writers", "X type label"];
 const OPENINGS: &[&str] = &["b label"];
 const COMMANDS: &[&str] = &["s", ";", "= loc", "w", "c"];
 const EXPRESSIONS: &[&str] =
     &["i n", "x loc", "v d", "+", "l t", "r t", "k label", "u t label", "p t", "f", "g"];
 
-pub const ORDER: &str =
-    "a sheet is `P n`, then `T` and `Q` lines, labels (`L` and its `O` lines) and `X` lines";
+pub const ORDER: &str = "a sheet is `P n`, perhaps `R 1`, then `T` and `Q` lines, labels (`L` and \
+                         its `O` lines) and `X` lines";
 pub const PREFIX: &str = "a script is one command, the operands of each line following it";
 pub const OPENED: &str = "a script is one command, which a line `b label` may open";
 
@@ -106,7 +108,13 @@ pub fn moved_start(line: usize, first: usize, again: bool) -> String {
 /// What to do with a line of a sheet that can't stand where only these kinds may.
 fn sheet_advice(found: &[u8], kinds: &[&str]) -> String {
     match found {
+        b"R" if kinds == ["P"] => {
+            "start the sheet with `P n`, and put `R 1` right after it".to_string()
+        }
         _ if kinds == ["P"] => "start the sheet with `P n`".to_string(),
+        b"R" => format!("move it up to line {}, right after `P n`", reading::LINE),
+        b"R1" if kinds.contains(&"R") => "put a tab after `R`".to_string(),
+        b"r" if kinds.contains(&"R") => "write `R` in upper case".to_string(),
         b"T" | b"Q" => "move it up, before the first `L` and `X`".to_string(),
         b"L" => "move it up, before the first `X`".to_string(),
         b"O" => "put it after the `L` of its label".to_string(),
@@ -115,6 +123,13 @@ fn sheet_advice(found: &[u8], kinds: &[&str]) -> String {
             format!("put {} here", either(&forms.collect::<Vec<_>>()))
         }
     }
+}
+
+/// What to do with an `R` line that isn't the one after `P n`, where that is there.
+pub fn repeated_rule(sheet: &[u8]) -> Option<String> {
+    let line = sheet.split(|&byte| byte == b'\n').nth(reading::LINE - 1)?;
+    let rule = || format!("take it out, line {} is `R 1` already", reading::LINE);
+    (line == b"R\t1").then(rule)
 }
 
 /// What stands where something else is due.

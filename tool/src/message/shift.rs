@@ -54,6 +54,7 @@ fn in_cause(cause: Cause, before: usize) -> Cause {
         | Cause::Integer(_)
         | Cause::Set(_)
         | Cause::PrincipalCount(_)
+        | Cause::ReadingRule { .. }
         | Cause::OwnerOrder { .. }
         | Cause::TooMany { .. }
         | Cause::Missing { .. }

@@ -25,6 +25,9 @@ impl Text {
     }
 }
 
+/// What to do with an `R` line that isn't wanted.
+const WITHOUT_RULE: &str = "take the line out: without it parties read together";
+
 /// What is told where nothing of the text stands in it: the fact, the advice and the rule.
 type Fixed = [&'static str; 3];
 
@@ -101,6 +104,7 @@ pub fn form(text: Text, fault: &Fault, first: usize) -> Told {
         Cause::Integer(field) => integer(field),
         Cause::Set(field) => set(field),
         Cause::PrincipalCount(count) => principal_count(*count),
+        Cause::ReadingRule { found } => reading_rule(found),
         Cause::OwnerOrder { owner, before } => owner_order(*owner, *before),
         Cause::TooMany { what, most } => too_many(*what, *most),
         Cause::Missing { thing, number, count } => missing(*thing, *number, *count),
@@ -141,6 +145,7 @@ fn field_count(text: Text, kind: &[u8], wanted: usize, found: usize) -> Told {
                 .to_string()
         }
         (b"b", _) => "write it as `b label`: a script starts at one label".to_string(),
+        (b"R", 0) => format!("write it as `R 1`, or {WITHOUT_RULE}"),
         _ => format!("write it as {}", form_of(kind)),
     };
     let rule = match text {
@@ -165,6 +170,22 @@ fn principal_count(count: usize) -> Told {
         "give 1 to 16",
         "a sheet has 1 to 16 principals, and a set 16 bits",
     )
+}
+
+/// What an `R` line has in the place of `1`.
+fn reading_rule(found: &[u8]) -> Told {
+    let fact = match found {
+        [b'0', .., b'1'] if found.iter().rev().skip(1).all(|&digit| digit == b'0') => {
+            format!("{} has a needless zero", shown(found))
+        }
+        _ => format!("`R` has {} after it, not `1`", shown(found)),
+    };
+    let alone = "write `R 1` if one reader must read by himself";
+    let advice = match found {
+        b"0" => format!("{WITHOUT_RULE}; {alone}"),
+        _ => format!("{alone}, or {WITHOUT_RULE}"),
+    };
+    told(fact, advice, "the only `R` line is `R 1`, for one reader by himself")
 }
 
 fn owner_order(owner: usize, before: usize) -> Told {

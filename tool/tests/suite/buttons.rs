@@ -362,7 +362,9 @@ fn refusals_in_json() {
 }
 
 const MEANING: &str =
-    "a group that can't read a script's starting label is shown no difference when that script is \
+    "parties read together (no line `R 1`): a group needs a reader for each owner, not \
+     necessarily the same\n\
+     a group that can't read a script's starting label is shown no difference when that script is \
      run\nwhat a group can write makes no difference to the rest after a trust-keeping script is \
      done";
 
@@ -444,6 +446,8 @@ fn starts_in_json() {
     let named = ["--json", "--names", "a.names"];
     let ran = explained(&folder, "b 1\ns\n\ns\n", &named);
     let sheet = r#"{"sheet":{"name":"a.sheet","answer":0,"accepted":true}"#;
+    let reading =
+        r#""reading":{"kind":"pooled","line":null,"words":"parties read together (no line"#;
     let starts = [
         r#"{"script":1,"first_line":1,"label":1,"name":"farm only""#,
         r#""read":"only farm","write":"everyone","keeping":true,"unpacks":[]}"#,
@@ -451,8 +455,10 @@ fn starts_in_json() {
         r#""write":"only a group with farm, station and 2","keeping":true,"unpacks":[]}"#,
     ];
     let accepted = r#""scripts":{"name":"b.simp","answer":0,"accepted":true}"#;
-    let out = format!("{sheet},{accepted},\"starts\":[{}]}}\n", starts.join(","));
-    assert_eq!((ran.status, ran.out, ran.err.as_str()), (0, out, ""));
+    let start = format!("{sheet},{reading} `R 1`): ");
+    let end = format!("\"}},{accepted},\"starts\":[{}]}}\n", starts.join(","));
+    assert_eq!((ran.status, ran.err.as_str()), (0, ""));
+    assert!(ran.out.starts_with(&start) && ran.out.ends_with(&end), "{}", ran.out);
     let ran = explained(&folder, "s\n\nb 1\n= 0\ni 1\n", &named);
     let json = Json::read(&ran.out);
     let scripts = json.at("scripts");

@@ -562,6 +562,43 @@ fn refused_list(test: &str, groups: GroupsCall, library: &str, reference: &str) 
     }
 }
 
+/// A sheet without its line `R 1`.
+fn pooled(sheet: &[u8]) -> Vec<u8> {
+    String::from_utf8_lossy(sheet).replacen("R\t1\n", "", 1).into_bytes()
+}
+
+/// Has parties read together where the sheet wants one reader by himself.
+#[test]
+fn a_library_that_forgets_the_rule_of_reading() {
+    let folder = Folder::new("lying-rule");
+    let label = "L\nO 0 0004 000f\nO 1 0008 000f\n";
+    folder.write("a.sheet", &tabbed(&format!("P 4\nR 1\nT 0 1\nL\n{label}X 4 0\nX 5 1\n")));
+    folder.write("a.memory", &tabbed("3 5 1 1 9\n4 2 2\n"));
+    folder.write("open.simp", &tabbed("c\nx 0\n= 1\nu 5 1\nv 0\ns\n"));
+    let calls = lying(Library {
+        run: |sheet, script, memory, authority, budget| {
+            bindings::run(&pooled(sheet), script, memory, authority, budget)
+        },
+        view: |sheet, memory, group, view| bindings::view(&pooled(sheet), memory, group, view),
+        groups: |sheet, label, places| bindings::groups(&pooled(sheet), label, places),
+        ..CALLS.library
+    });
+    let words = |location, words: &str| format!("answer 0, location {location} is `{words}`");
+    for (arguments, library, reference) in [
+        ("show a.sheet a.memory --to=2,3", words(0, "3 5 1 1 9"), words(0, "3 5 1")),
+        ("readers a.sheet 1", "answer 0, count 4".into(), "answer 0, count 0".into()),
+        (
+            "run a.sheet open.simp a.memory --as=2,3 --budget=9 --write",
+            words(1, "3 1 9"),
+            words(1, "4 2 1"),
+        ),
+    ] {
+        let (status, out, err) = told(&folder, &calls, arguments);
+        assert_eq!((status, out.as_str()), (4, ""), "{arguments}");
+        is_loud(&err, &library, &reference);
+    }
+}
+
 #[test]
 fn a_list_of_other_groups() {
     const MANY: u32 = MOST_GROUPS as u32 + 1;

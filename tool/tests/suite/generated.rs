@@ -449,14 +449,11 @@ fn the_tool_s_groups_are_the_library_s() {
         folder.write("sheet", &case.sheet);
         let (answer, groups) = listed(&case.sheet, case.label);
         let ran = simp(&folder, &["readers", "sheet", &case.label.to_string(), "--json"]);
-        let start = match answer {
-            0 => {
-                let list = list(case.label as usize, &groups);
-                format!("{{\"answer\":0,\"listed\":true,\"labels\":[{list}]}}\n")
-            }
-            _ => format!("{{\"answer\":{answer},\"listed\":false,\"blamed\":"),
-        };
+        let (listed, then) = (answer == 0, if answer == 0 { "reading" } else { "blamed" });
+        let start = format!("{{\"answer\":{answer},\"listed\":{listed},\"{then}\":");
         assert!(ran.out.starts_with(&start), "seed {seed}: {}", ran.out);
+        let end = format!(",\"labels\":[{}]}}\n", list(case.label as usize, &groups));
+        assert_eq!(ran.out.ends_with(&end), listed, "seed {seed}: {}", ran.out);
         assert_eq!((ran.status, ran.err.as_str()), (i32::from(answer != 0), ""), "seed {seed}");
         numbers.insert(answer);
         most = most.max(groups.len());

@@ -1,5 +1,6 @@
 //! The tool as a program, and in this process where a library that lies stands in.
 
+mod alone;
 mod buttons;
 mod desk;
 mod disagreement;

@@ -31,8 +31,8 @@ const READ: &str =
 const ADDED: &str = "[5: `+` adds two integers]";
 const DECLARED: &str = "[8: each location's value has its declared type]";
 const ORDER: &str =
-    "[1: a sheet is `P n`, then `T` and `Q` lines, labels (`L` and its `O` lines) and \
-                     `X` lines]";
+    "[1: a sheet is `P n`, perhaps `R 1`, then `T` and `Q` lines, labels (`L` and its `O` lines) \
+     and `X` lines]";
 const ONCE: &str =
     "[2: a sheet has each sum (`T`) and each pair (`Q`) once, and types 3 and 4 are the \
                     sums int+int and pkg+error]";
@@ -630,7 +630,7 @@ const SHEETS: &[Said] = &[
     ("L\nQ 0 0\n", "3: `Q` can't stand here: move it up, before the first `L` and `X`", ORDER),
     (
         "q 0 0\n",
-        "2: `q` is no kind of line: put `T a b`, `Q a b`, `L` or `X type label` here",
+        "2: `q` is no kind of line: put `R 1`, `T a b`, `Q a b`, `L` or `X type label` here",
         ORDER,
     ),
     (

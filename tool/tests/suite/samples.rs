@@ -205,7 +205,7 @@ fn starts_are_explained() {
                 trust-keeping\n   \
                 3  line 9  starts at bottom, without `b`     read: everyone                \
                 trust-keeping\n";
-    let start = format!("buttons.round: accepted\n\n3 scripts\n{rows}\na group that can't read ");
+    let start = format!("buttons.round: accepted\n\n3 scripts\n{rows}\nparties read together ");
     assert_eq!((ran.status, ran.err.as_str()), (0, ""));
     assert!(ran.out.starts_with(&start), "{}", ran.out);
 }

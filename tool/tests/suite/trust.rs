@@ -194,10 +194,10 @@ fn scripts_of_a_round() {
         assert!(line.starts_with(&start), "{line}");
         assert!(line.contains(&format!("comes from location {from}, which ")), "{line}");
     }
-    assert_eq!((lines[6], lines[10], lines.len()), ("", "", 13));
+    assert_eq!((lines[6], lines[10], lines.len()), ("", "", 14));
     let meaning =
         "what a group can write makes no difference to the rest after a trust-keeping script is done";
-    assert_eq!(lines[12], meaning);
+    assert_eq!(lines[13], meaning);
 }
 
 /// The unpacks of a script in a document, by line and label.

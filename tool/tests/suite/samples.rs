@@ -36,6 +36,10 @@ const BAD: Bad = Bad { folder: "bad", sheet: "../line.sheet", script: "../tally.
 /// Those with pairs.
 const BAD_PAIRS: Bad = Bad { folder: "flock/bad", sheet: "../flock.sheet", script: "../pack.simp" };
 
+/// Those with the rule that one reader must read by himself.
+const BAD_RULES: Bad =
+    Bad { folder: "house/bad", sheet: "../house.sheet", script: "../count.simp" };
+
 /// What the tool says of a bad sample: the line that starts with its name.
 fn said(bad: &Bad, name: &str) -> String {
     let (Bad { folder, sheet, script }, memory) = (bad, "../morning.memory");
@@ -93,6 +97,7 @@ fn each_bad_one_gets_its_message() {
     let numbers = ["1", "10", "11", "12", "2", "4", "5", "6", "8", "9"];
     assert_eq!(numbers_of_messages(&BAD), numbers);
     assert_eq!(numbers_of_messages(&BAD_PAIRS), ["1", "10", "2", "4", "5", "6", "8"]);
+    assert_eq!(numbers_of_messages(&BAD_RULES), ["1", "6"]);
 }
 
 #[test]
@@ -115,21 +120,22 @@ fn good_ones_are_accepted() {
     assert!(notes.len() == 1 && notes[0].starts_with(&note), "{notes:?}");
 }
 
-/// As one script, and as a round of several; and the same of the flock's.
+/// As one script, and as a round of several; and the same of the flock's and the house's.
 #[test]
 fn a_morning_leaves_noon() {
     let scratch = crate::folder::Folder::new("noon");
-    for (folder, line, command, script, budget) in [
-        (".", "line", "run", "morning.simp", "54"),
-        (".", "line", "round", "morning.round", "21"),
-        ("flock", "flock", "round", "morning.round", "7"),
+    for (folder, line, command, script, party, budget) in [
+        (".", "line", "run", "morning.simp", "station", "54"),
+        (".", "line", "round", "morning.round", "station", "21"),
+        ("flock", "flock", "round", "morning.round", "station", "7"),
+        ("house", "house", "round", "morning.round", "vet", "2"),
     ] {
         let read = |name: &str| fs::read(samples().join(folder).join(name)).expect("a sample");
         scratch.write("memory", &read("morning.memory"));
         let path = scratch.as_ref().join("memory");
         let memory = path.to_str().expect("a path in ASCII");
         let [sheet, names] = ["sheet", "names"].map(|ending| format!("{line}.{ending}"));
-        let names = ["--names", &names, "--as", "station", "--budget", budget, "--write"];
+        let names = ["--names", &names, "--as", party, "--budget", budget, "--write"];
         let ran = at_samples(folder, &[&[command, &sheet, script, memory][..], &names].concat());
         assert_eq!(ran.status, 0, "{}{}", ran.out, ran.err);
         assert_eq!(fs::read(path).expect("the memory"), read("noon.memory"), "{folder}/{script}");
@@ -165,6 +171,36 @@ fn a_round_is_made_of_the_samples() {
     }
     let scripts = ["pack", "open", "tag"].map(|name| read(&format!("flock/{name}.simp")));
     assert_eq!(read("flock/morning.round"), scripts.join(&b'\n'));
+    let scripts =
+        ["count", "total", "pack", "open"].map(|name| read(&format!("house/{name}.simp")));
+    assert_eq!(read("house/morning.round"), scripts.join(&b'\n'));
+}
+
+/// The two sheets of the house differ in the line `R 1` alone, and so does what two parties do who
+/// read the finding together.
+#[test]
+fn the_house_with_and_without_its_rule() {
+    let read = |name: &str| fs::read_to_string(samples().join(name)).expect("a sample");
+    assert_eq!(read("house/house.sheet").replacen("R\t1\n", "", 1), read("house/pooled.sheet"));
+    let names = ["--names", "house.names"];
+    for (sheet, finding, package, opened) in [
+        ("house.sheet", "", "3\t5\t1", "right error 1 (insufficientAuth) (was left 7)"),
+        ("pooled.sheet", "1\t7", "3\t5\t1\t1\t7", "left 7"),
+    ] {
+        let show = ["show", sheet, "noon.memory", "--plain", "--to", "station,feed"];
+        let view = at_samples("house", &[&show[..], &names].concat()).out;
+        let lines: Vec<&str> = view.lines().collect();
+        assert_eq!((lines[2], lines[3]), (finding, package), "{sheet}");
+        let run = ["run", sheet, "open.simp", "noon.memory", "--as", "station,feed"];
+        let ran = at_samples("house", &[&run[..], &["--budget", "2"], &names].concat());
+        let line = ran.out.lines().find(|line| line.contains("  opened  ")).expect("a location");
+        assert!(line.ends_with(&format!("  {opened}")), "{line}");
+    }
+    let scripts = files("house", ".simp");
+    let scripts: Vec<&str> = scripts.iter().map(String::as_str).collect();
+    let checked = at_samples("house", &[&["check", "house.sheet"][..], &scripts].concat());
+    let sum = "4 scripts: 4 accepted (4 trust-keeping), 0 refused\n";
+    assert!(checked.status == 0 && checked.out.ends_with(sum), "{}", checked.out);
 }
 
 /// Each button's script is accepted in a round, and changes what its readers are shown alone.

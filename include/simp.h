@@ -1,6 +1,6 @@
 /*
- * SImp scripts on a sheet: checking, running, viewing, rounds of several scripts, who together reads a label, and which
- * scripts are trust-keeping.
+ * SImp scripts on a sheet: checking, running, viewing, rounds of several scripts, who reads a label, and which scripts
+ * are trust-keeping.
  *
  * Link with libsimp.a, which is x86-64 code (System V ABI: a stack aligned to 16 bytes, SSE2 enabled, the red zone in
  * use, so run interrupt handlers on another stack). It needs two symbols from outside, memcpy and memset of the C
@@ -16,6 +16,11 @@
  * A value in a memory is 1 and an integer, 2 and an error, 3 or 4 (left or right) and a value, 5, a label and a value
  * (a package), or 6 and two values (a pair). Pairs have the types that the lines `Q a b` of a sheet make; a script
  * makes a pair by `p`, and takes its parts by `f` and `g`.
+ *
+ * The sheet has a rule of reading. On a sheet with the line `R 1`, right after `P`, a group reads a label if one of its
+ * members is a reader for every owner; on any other, if for every owner it holds a reader, not necessarily the same.
+ * Unpacks (in simp_run and simp_round), views and the groups of simp_groups go by that rule. Who writes a label is the
+ * same by both: a group that for every owner holds a writer.
  *
  * A slice is a pointer and the number of its elements. A pointer is suitably aligned; it may be null where the number
  * is 0 (memcpy and memset may then be handed it, with 0 bytes). No other slice of the call overlaps one that the call
@@ -33,7 +38,7 @@ extern "C" {
 #endif
 
 /* The version of this header and of the archive that it belongs to. `simp --version` has the archive's SHA-256. */
-#define SIMP_VERSION "1.5.0"
+#define SIMP_VERSION "1.6.0"
 
 /* Words of 32 bits that a location takes in a memory or a view: at most so many of a value, the rest 0. A pair takes
  * one more than both of its parts together. */
@@ -98,8 +103,8 @@ typedef struct {
     uint32_t steps[SIMP_MOST_SCRIPTS];
 } simp_round_outcome;
 
-/* The answer of simp_groups, and how many groups it lists: 0 beside an answer other than SIMP_DONE. Compare the
- * members: there is padding between them. */
+/* The answer of simp_groups, and how many groups it lists: 0 beside an answer other than SIMP_DONE, and where a sheet
+ * has `R 1` and no one reads the label by himself. Compare the members: there is padding between them. */
 typedef struct {
     uint8_t answer;
     uint32_t count;
@@ -121,8 +126,8 @@ simp_outcome simp_run(const uint8_t *sheet, size_t sheet_len, const uint8_t *scr
                       uint32_t *memory, size_t memory_len, uint16_t authority, uint32_t budget);
 
 /* Writes into `view` what a group is shown of a memory: 0, 1, 2, 3, 7 or 8. The view changes only if the answer
- * is SIMP_DONE. A location that the group cannot read is 0 in all words. The content of a package that it cannot read
- * is one word 0, and in a pair the next part follows that word at once. */
+ * is SIMP_DONE. A location that the group cannot read, by the sheet's rule, is 0 in all words. The content of a package
+ * that it cannot read is one word 0, and in a pair the next part follows that word at once. */
 uint8_t simp_view(const uint8_t *sheet, size_t sheet_len, const uint32_t *memory, size_t memory_len,
                   uint16_t group, uint32_t *view, size_t view_len);
 
@@ -133,10 +138,11 @@ uint8_t simp_view(const uint8_t *sheet, size_t sheet_len, const uint32_t *memory
 simp_round_outcome simp_round(const uint8_t *sheet, size_t sheet_len, const uint8_t *scripts, size_t scripts_len,
                               uint32_t *memory, size_t memory_len, uint16_t authority, uint32_t budget);
 
-/* Who together can read a label: every smallest group, that is one which reads it while none of its proper subsets
- * does, into the first places of `groups`, rising as numbers: 0, 1, 2 or 12. Labels count from 0; bit p of a group is
- * principal p. A group of the sheet's principals reads the label exactly if it holds one that is listed. Places after
- * the count keep their content, and beside an answer other than SIMP_DONE all places do. */
+/* Who can read a label, by the sheet's rule: every smallest group, that is one which reads it while none of its proper
+ * subsets does, into the first places of `groups`, rising as numbers: 0, 1, 2 or 12. Labels count from 0; bit p of a
+ * group is principal p. A group of the sheet's principals reads the label exactly if it holds one that is listed. On a
+ * sheet with `R 1` each has one member, who reads the label by himself, and there may be none: a slice of no places is
+ * then enough. Places after the count keep their content, and beside an answer other than SIMP_DONE all places do. */
 simp_groups_outcome simp_groups(const uint8_t *sheet, size_t sheet_len, uint32_t label, uint16_t *groups,
                                 size_t groups_len);
 

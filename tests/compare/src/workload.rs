@@ -31,6 +31,7 @@ pub fn all() -> Vec<Workload> {
         long_loop(6, 1468),
         long_loop(8, 6908),
         locations_64(),
+        locations_64_alone(),
         unpacks(),
         pairs(),
         pairs_64(),
@@ -238,8 +239,8 @@ fn long_loop(bits: usize, steps: u32) -> Workload {
 }
 
 /// A sheet of 16 principals, these types, 32 labels and 64 locations of a type.
-fn sheet_64(types: &[&str], ty: usize) -> Vec<String> {
-    let mut sheet = [listed(&["P 16"]), listed(types)].concat();
+fn sheet_64(first: &[&str], ty: usize) -> Vec<String> {
+    let mut sheet = [listed(&["P 16"]), listed(first)].concat();
     for label in 0..32 {
         sheet.push("L".to_string());
         for owner in 0..16 {
@@ -264,6 +265,15 @@ fn locations_64() -> Workload {
         group: 0x0101,
         outcome: Outcome::done(127),
         again: Outcome::done(127),
+    }
+}
+
+/// The same where one reader reads by himself.
+fn locations_64_alone() -> Workload {
+    Workload {
+        name: "64-locations-alone".to_string(),
+        sheet: text(&sheet_64(&["R 1"], 4)),
+        ..locations_64()
     }
 }
 

@@ -1,5 +1,5 @@
-//! The workloads of a label, each of 16 principals: with few groups and with many, and with the last
-//! group early and late among the sets.
+//! The workloads of a label, each of 16 principals: with few groups and with many, with the last
+//! group early and late among the sets, and with none.
 
 use super::{read_sheet, text};
 use crate::implementation::Implementation;
@@ -18,7 +18,7 @@ pub struct LabelWorkload {
 }
 
 pub fn all() -> Vec<LabelWorkload> {
-    vec![top(), pairs(), kept(), late(), most(), worst()]
+    vec![top(), pairs(), kept(), late(), most(), worst(), alone()]
 }
 
 impl LabelWorkload {
@@ -40,10 +40,15 @@ impl LabelWorkload {
 
 /// The workload of a label that lets these principals read, a set for each owner.
 fn of_readers(name: &'static str, readers: [u16; OWNERS], count: u32) -> LabelWorkload {
+    LabelWorkload { name, sheet: sheet(&["P 16", "L"], readers), count }
+}
+
+/// These lines, and the policies of the last label.
+fn sheet(first: &[&str], readers: [u16; OWNERS]) -> String {
     let policies = readers.iter().enumerate();
     let policies = policies.map(|(owner, readers)| format!("O {owner} {readers:04x} ffff"));
-    let lines: Vec<String> = ["P 16", "L"].map(String::from).into_iter().chain(policies).collect();
-    LabelWorkload { name, sheet: text(&lines), count }
+    let lines: Vec<String> = first.iter().map(|line| line.to_string()).chain(policies).collect();
+    text(&lines)
 }
 
 /// Each owner lets itself alone read: the group of all.
@@ -72,8 +77,11 @@ fn late() -> LabelWorkload {
 
 /// In each half of the owners a label of 42 groups, in all the most that a search found.
 fn most() -> LabelWorkload {
-    let readers = |owner: usize| EIGHT[owner & 7] << (owner & 8);
-    of_readers("groups-most", std::array::from_fn(readers), 1764)
+    of_readers("groups-most", most_readers(), 1764)
+}
+
+fn most_readers() -> [u16; OWNERS] {
+    std::array::from_fn(|owner| EIGHT[owner & 7] << (owner & 8))
 }
 
 /// The label that takes the library the most instructions, as far as a search found one: of many
@@ -84,4 +92,10 @@ fn worst() -> LabelWorkload {
         0x0fe8, 0x106e, 0xa3a1, 0xcc6f, 0x90fc,
     ];
     of_readers("groups-worst", READERS, 89)
+}
+
+/// The label of `most` where one reader reads by himself: nobody, so that every set is tried.
+fn alone() -> LabelWorkload {
+    let sheet = sheet(&["P 16", "R 1", "L"], most_readers());
+    LabelWorkload { name: "groups-alone", sheet, count: 0 }
 }

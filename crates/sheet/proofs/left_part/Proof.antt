@@ -8,4 +8,4 @@ unfolding leftIn
 left-part-spec = tie.close (tie.spec
     (λ c κs. search needs)  -- types-requires
     (λ c κs. search needs)  -- entry-requires
-    (λ c. cc))  -- returns
+    (λ c. rw (c .entry .ensures, c .before .types .ensures)))  -- returns

@@ -9,4 +9,4 @@ location-label-spec = tie.close (tie.spec
     (λ c κs. search needs)  -- locations-requires
     (λ c. search needs)  -- add-entry
     (λ c κs. search needs)  -- entry-requires
-    (λ c. cc))  -- returns
+    (λ c. rw (c .entry .ensures, c .before .locations .ensures)))  -- returns

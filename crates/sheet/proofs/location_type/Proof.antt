@@ -8,4 +8,4 @@ unfolding typeIn
 location-type-spec = tie.close (tie.spec
     (λ c κs. search needs)  -- locations-requires
     (λ c κs. search needs)  -- entry-requires
-    (λ c. cc))  -- returns
+    (λ c. rw (c .entry .ensures, c .before .locations .ensures)))  -- returns

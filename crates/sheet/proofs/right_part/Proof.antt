@@ -7,4 +7,4 @@ pub right-part-spec : {M : Type 1} → statement M
 unfolding rightIn
 right-part-spec = tie.close (tie.spec
     (λ c κs. search needs)  -- right-word-requires
-    (λ c. cc))  -- returns
+    (λ c. rw (c .right-word .ensures)))  -- returns

@@ -9,4 +9,4 @@ right-word-spec = tie.close (tie.spec
     (λ c κs. search needs)  -- types-requires
     (λ c. search needs)  -- add-entry
     (λ c κs. search needs)  -- entry-requires
-    (λ c. cc))  -- returns
+    (λ c. rw (c .entry .ensures, c .before .types .ensures)))  -- returns

@@ -6,7 +6,15 @@ use Rattle.checker.proofs.commands.of_assign.Tie as tie
 
 returns : tie.Need-returns
 unfolding assignPassed union intersection
-returns c = cc
+returns c =
+    let flows = c .before .before .before in
+    rw (
+      c .before .is-type .ensures,
+      c .before .before .location-type .ensures,
+      flows .flows .ensures,
+      flows .before .location-label .ensures,
+      flows .before .before .join .ensures,
+    )
 
 pub of-assign-spec : {M : Type 1} → statement M
 of-assign-spec = tie.close (tie.spec

@@ -7,7 +7,7 @@ use Rattle.checker.proofs.commands.of_case.Tie as tie
 
 returns : tie.Need-returns
 unfolding casePassed both intersection
-returns c = cc
+returns c = rw (c .before .before .before .before .before .before .is-sum .ensures)
 
 pub of-case-spec : {M : Type 1} → statement M
 of-case-spec = tie.close (tie.spec

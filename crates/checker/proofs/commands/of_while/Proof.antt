@@ -7,7 +7,7 @@ use Rattle.checker.proofs.commands.of_while.Tie as tie
 
 returns : tie.Need-returns
 unfolding whilePassed both intersection
-returns c = cc
+returns c = rw (c .before .before .before .is-type .ensures)
 
 pub of-while-spec : {M : Type 1} → statement M
 of-while-spec = tie.close (tie.spec

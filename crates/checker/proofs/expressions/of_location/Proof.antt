@@ -5,7 +5,7 @@ use Rattle.checker.proofs.expressions.of_location.Tie as tie
 
 returns : tie.Need-returns
 unfolding locTyped
-returns c = cc
+returns c = rw (c .label .ensures, c .before .location-label .ensures, c .before .before .location-type .ensures)
 
 pub of-location-spec : {M : Type 1} → statement M
 of-location-spec = tie.close (tie.spec

@@ -6,7 +6,7 @@ use Rattle.checker.proofs.expressions.of_pack.Tie as tie
 
 returns : tie.Need-returns
 unfolding packTyped union intersection
-returns c = cc
+returns c = rw (c .integrity .ensures, c .before .before .flows .ensures)
 
 pub of-pack-spec : {M : Type 1} → statement M
 of-pack-spec = tie.close (tie.spec

@@ -7,7 +7,18 @@ use Rattle.checker.proofs.expressions.of_pair.Tie as tie
 
 returns : tie.Need-returns
 unfolding pairTyped both intersection
-returns c = cc
+returns c =
+    let pair = c .before .before .before in
+    let second = pair .before in
+    let first = second .before .before in
+    rw (
+      c .join .ensures,
+      pair .is-pair .ensures,
+      second .is-type2 .ensures,
+      second .before .right-part .ensures,
+      first .is-type .ensures,
+      first .before .left-part .ensures,
+    )
 
 pub of-pair-spec : {M : Type 1} → statement M
 of-pair-spec = tie.close (tie.spec

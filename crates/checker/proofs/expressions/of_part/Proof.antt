@@ -6,7 +6,7 @@ use Rattle.checker.proofs.expressions.of_part.Tie as tie
 
 returns : tie.Need-returns
 unfolding partTyped both
-returns c = cc
+returns c = rw (c .before .is-pair .ensures)
 
 pub of-part-spec : {M : Type 1} → statement M
 of-part-spec = tie.close (tie.spec

@@ -6,7 +6,7 @@ use Rattle.checker.proofs.expressions.of_sum.Tie as tie
 
 returns : tie.Need-returns
 unfolding sumTyped both
-returns c = cc
+returns c = rw (c .is-type .ensures, c .before .is-sum .ensures)
 
 pub of-sum-spec : {M : Type 1} → statement M
 of-sum-spec = tie.close (tie.spec

@@ -7,7 +7,15 @@ use Rattle.checker.proofs.expressions.of_unpack.Tie as tie
 
 returns : tie.Need-returns
 unfolding unpackTyped both intersection
-returns c = cc
+returns c =
+    let type = c .before .before .before in
+    rw (
+      c .label .ensures,
+      c .before .before .flows .ensures,
+      type .is-type .ensures,
+      type .before .right-part .ensures,
+      type .before .before .is-sum .ensures,
+    )
 
 pub of-unpack-spec : {M : Type 1} → statement M
 of-unpack-spec = tie.close (tie.spec

@@ -18,27 +18,48 @@ Inv-loop table memory n x₀ x = (x ≤ n) × ((k : ℕ) → k < x → laws.Held
 abbrev μ-loop : tie.MeasureT-loop
 μ-loop table memory n x₀ x = n - x
 
-pub judge-spec : {M : Type 1} → statement M
+returns : tie.Need-returns Inv-loop μ-loop
 unfolding memoryNumber
+returns c =
+    let a = c .before .before .before .before .args in laws.refused-7 (a .table .now) (a .memory .now) (λ e. c .if1 .taken (omega (arith, c .before .locations .ensures)))
+
+loop-holds : tie.Need-loop-holds Inv-loop μ-loop
+unfolding memoryNumber
+loop-holds c = (omega arith, λ k l. absurd (not-suc-le-zero l))
+
+returns-2 : tie.Need-returns-2 Inv-loop μ-loop
+unfolding memoryNumber
+returns-2 c =
+    let l = c .before .before .before in
+    let a = l .before .before .before .before .before .args in
+    laws.refused-8 (a .table .now) (a .memory .now) (l .loop .x) (omega (arith, l .before .before .locations .ensures)) (omega (arith, l .before .before .locations .ensures))
+    (sym (c .before .location-holds .ensures) ∙ not-true _ (c .if2 .taken))
+
+loop-again : tie.Need-loop-again Inv-loop μ-loop
+unfolding memoryNumber
+loop-again c =
+    let l = c .before .before .before in (omega arith, below-more _ _ (l .loop .inv .1) (sym (c .before .location-holds .ensures) ∙ not-false _ (c .if2 .left)))
+
+returns-3 : tie.Need-returns-3 Inv-loop μ-loop
+unfolding memoryNumber
+returns-3 c =
+    let l = c .before in
+    let a = l .before .before .before .before .before .args in
+    laws.refused-0 (a .table .now) (a .memory .now) (omega (arith, l .before .before .locations .ensures))
+    (λ k h. l .loop .inv .1 k (omega (arith, l .before .before .locations .ensures)))
+
+pub judge-spec : {M : Type 1} → statement M
 judge-spec = tie.close (tie.spec
     Inv-loop
     μ-loop
     (λ c κs. search needs)
     (λ c. search needs)
     (λ c. search needs)
-    (λ c. let a = c .before .before .before .before .args in laws.refused-7 (a .table .now) (a .memory .now) (λ e. c .if1 .taken (omega (arith, c .before .locations .ensures))))  -- returns
-    (λ c. (omega arith, λ k l. absurd (not-suc-le-zero l)))  -- loop-holds
+    returns
+    loop-holds
     (λ c κs. omega arith)
-    (λ c.
-    let l = c .before .before .before in
-    let a = l .before .before .before .before .before .args in
-    laws.refused-8 (a .table .now) (a .memory .now) (l .loop .x) (omega (arith, l .before .before .locations .ensures)) (omega (arith, l .before .before .locations .ensures))
-    (sym (c .before .location-holds .ensures) ∙ not-true _ (c .if2 .taken)))  -- returns-2
+    returns-2
     (λ c. search needs)
     (λ c. search needs)
-    (λ c. let l = c .before .before .before in (omega arith, below-more _ _ (l .loop .inv .1) (sym (c .before .location-holds .ensures) ∙ not-false _ (c .if2 .left))))  -- loop-again
-    (λ c.
-    let l = c .before in
-    let a = l .before .before .before .before .before .args in
-    laws.refused-0 (a .table .now) (a .memory .now) (omega (arith, l .before .before .locations .ensures))
-    (λ k h. l .loop .inv .1 k (omega (arith, l .before .before .locations .ensures)))))  -- returns-3
+    loop-again
+    returns-3)

@@ -15,7 +15,8 @@ use Rattle.logic.specs.Booleans.{both}
 use Rattle.language.specs.Declarations.{nth}
 use Rattle.script.specs.Names.{maxDepth}
 use Rattle.checker.specs.Internal.Bindings.{bindingSize, bindingsSize, boundType, boundLabel, upTo, boundTypes, boundLabels, bindOf}
-use Rattle.checker.specs.Internal.Nodes.{plainTyped, nothing, varTyped}
+use Rattle.checks.specs.Internal.Nodes.{plainTyped, nothing}
+use Rattle.checker.specs.Internal.Bindings.{varTyped}
 use Rattle.checker.specs.Internal.Post.{Kept}
 
 module _ {A : Type 0} where

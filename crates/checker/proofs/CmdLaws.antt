@@ -23,11 +23,11 @@ use Rattle.script.proofs.Rows.{row-of, KindOf, not-here}
 use Rattle.script.proofs.Nodes.{Makes, Node, n-skip, n-seq, n-assign, n-while, n-case, OfOperands, of-operands}
 use Rattle.sheet.specs.Internal.TypeTest.{isSum}
 use Rattle.sheet.specs.Internal.Tables.{leftIn, rightIn, homeIn, labelIn}
-use Rattle.checker.specs.declared.Typed.{Typed}
-use Rattle.checker.specs.declared.Passed.{Passed}
+use Rattle.checks.specs.declared.Typed.{Typed}
+use Rattle.checks.specs.declared.Passed.{Passed}
 use Rattle.checker.specs.Internal.Numbers.{onSumNo, givenNo, shapeNo, conditionsOn}
 use Rattle.checker.specs.Internal.Bindings.{bindingsSize, boundTypes, boundLabels, bindOf}
-use Rattle.checker.specs.Internal.Nodes.{refused, skipPassed, seqPassed, assignPassed, whilePassed, casePassed}
+use Rattle.checks.specs.Internal.Nodes.{refused, skipPassed, seqPassed, assignPassed, whilePassed, casePassed}
 use Rattle.checker.specs.Internal.Post.{Finds, Room, ChecksExpr, Kept, Passes, ChecksCmd}
 use Rattle.checker.proofs.BindingLaws.{kept-same, kept-twice, kept-fewer, bind-kept, bind-type, bind-label}
 use Rattle.members.specs.Internal.Members.{wholeFlows}

@@ -22,10 +22,11 @@ use Rattle.sheet.specs.Internal.Tables.{leftIn, rightIn}
 use Rattle.sheet.specs.Internal.TypeTest.{isPair}
 use Rattle.members.specs.Internal.Members.{wholeFlows, confidentialityFlows}
 use Rattle.members.proofs.FlowLaws.{first-alone, first-tells, second-tells}
-use Rattle.checker.specs.declared.Typed.{Typed}
+use Rattle.checks.specs.declared.Typed.{Typed}
 use Rattle.checker.specs.Internal.Numbers.{isNo, someNo, leftIsNo, rightIsNo, pairIsNo, partNo, givenNo, typeNo}
 use Rattle.checker.specs.Internal.Bindings.{boundType, boundLabel, boundTypes, boundLabels}
-use Rattle.checker.specs.Internal.Nodes.{isType, nothing, intTyped, locTyped, varTyped, plusTyped, sumTyped, packTyped, unpackTyped, pairTyped, partTyped}
+use Rattle.checks.specs.Internal.Nodes.{isType, nothing, intTyped, locTyped, plusTyped, sumTyped, packTyped, unpackTyped, pairTyped, partTyped}
+use Rattle.checker.specs.Internal.Bindings.{varTyped}
 use Rattle.checker.specs.Internal.Post.{Finds, Room, ChecksExpr}
 use Rattle.checker.proofs.HoldLaws.{both-hold, first-held, second-kept}
 use Rattle.checker.proofs.BindingLaws.{nth-upTo, nth-past, var-in, var-past, var-next}

@@ -8,7 +8,7 @@ use Rattle.logic.specs.Booleans.{both, either}
 use Rattle.logic.proofs.BooleanLaws.{both-implied, either-right}
 use Rattle.sets.specs.Sets.{member, intersection, union, meets, single}
 use Rattle.sets.proofs.SetLaws.{member-intersection, member-union, meets-single}
-use Rattle.checker.specs.Internal.Nodes.{keepingAlone}
+use Rattle.checks.specs.Internal.Nodes.{keepingAlone}
 
 -- what holds of both
 pub both-hold : (p x y : ℕ) {a b : Bool} → member p x ≡ a → member p y ≡ b → member p (intersection x y) ≡ both a b

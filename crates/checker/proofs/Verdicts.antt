@@ -16,7 +16,7 @@ use Rattle.sheet.specs.Internal.Starts.{startNo}
 use Rattle.sheet.specs.Meaning.{labelsOver, declarationsOf}
 use Rattle.sheet.proofs.MeaningLaws.{least-label-laws}
 use Rattle.members.specs.Internal.Members.{labelMember}
-use Rattle.checker.specs.declared.Passed.{Passed}
+use Rattle.checks.specs.declared.Passed.{Passed}
 use Rattle.checker.specs.Internal.Numbers.{shapeNo, conditionsOn}
 use Rattle.checker.specs.Internal.Bindings.{upTo, bindingsSize}
 use Rattle.checker.specs.Verdict.{verdictNumber}

@@ -2,7 +2,10 @@
 ghost use mathlib.Core.Path.{_≡_};
 ghost use Prim.Native.Nat.{_<_};
 ghost use Rattle.script.specs.Names.{maxDepth};
-ghost use Rattle.checker.specs.Internal.Bindings.{bindOf};
+ghost use Rattle.checker.specs.Internal.Bindings.{bindOf, varTyped};
+use checks::ALL;
+use checks::Typed;
+use checks::expressions::no_type;
 use members::Members;
 
 // Cases nest at most this deep.
@@ -21,4 +24,25 @@ pub(crate) fn bind(bound: &mut [u64; BINDINGS], depth: usize, ty: u32, label: Me
     let at = depth * BINDING;
     bound[at] = ty as u64;
     bound[at + 1] = label;
+}
+
+// Variable d below `depth` cases.
+pub(crate) fn of_variable(bound: &[u64; BINDINGS], depth: usize, d: u32, next: usize) -> Typed
+    ensures { λ r. ⌜ r ≡ varTyped (now (bound .entry)) depth d next ⌝ }
+{
+    let i = d as usize;
+    if i >= depth {
+        return no_type(next);
+    }
+    if depth > DEPTH {
+        return no_type(next);
+    }
+    let at = (depth - 1 - i) * BINDING;
+    Typed {
+        ty: (bound[at] % 4294967296) as u32,
+        typed: true,
+        holds: ALL,
+        label: bound[at + 1],
+        next,
+    }
 }

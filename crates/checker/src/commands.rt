@@ -1,85 +1,15 @@
-// Commands over the lines, below a surrounding label (the scope, "Typing"; the paper, figure 5).
-ghost use mathlib.Core.Path.{_≡_};
-ghost use Rattle.checker.specs.Internal.Nodes.{refused, skipPassed, seqPassed, assignPassed, whilePassed, casePassed};
+// Commands over the lines, below a surrounding label.
 ghost use Rattle.checker.specs.Internal.Post.{ChecksCmd};
-use crate::ALL;
-use crate::KEEPING;
-use crate::Passed;
-use crate::Typed;
 use crate::bindings;
 use crate::expressions::check_expr;
-use crate::expressions::is_type;
+use checks::Passed;
+use checks::commands::not_passed;
+use checks::commands::of_assign;
+use checks::commands::of_case;
+use checks::commands::of_seq;
+use checks::commands::of_skip;
+use checks::commands::of_while;
 use members::Members;
-use sheet::INT_OR_INT;
-use sheet::is_sum;
-
-fn not_passed(next: usize) -> Passed
-    ensures { λ r. ⌜ r ≡ refused next ⌝ }
-{
-    Passed {
-        typed: false,
-        holds: ALL,
-        next,
-    }
-}
-
-fn of_skip(next: usize) -> Passed
-    ensures { λ r. ⌜ r ≡ skipPassed next ⌝ }
-{
-    Passed {
-        typed: true,
-        holds: ALL,
-        next,
-    }
-}
-
-fn of_seq(x: Passed, y: Passed) -> Passed
-    ensures { λ r. ⌜ r ≡ seqPassed x y ⌝ }
-{
-    Passed {
-        typed: x.typed & y.typed,
-        holds: x.holds & y.holds,
-        next: y.next,
-    }
-}
-
-// An assignment to location x below the surrounding label pc.
-fn of_assign(table: &[sheet::Word], x: u32, pc: Members, e: Typed) -> Passed
-    ensures { λ r. ⌜ r ≡ assignPassed (now (table .entry)) x pc e ⌝ }
-{
-    let flows = members::flows(
-        table,
-        members::join(e.label, pc),
-        sheet::location_label(table, x),
-        true,
-    );
-    Passed {
-        typed: is_type(e, sheet::location_type(table, x)),
-        holds: e.holds & (flows | KEEPING),
-        next: e.next,
-    }
-}
-
-fn of_while(guard: Typed, body: Passed) -> Passed
-    ensures { λ r. ⌜ r ≡ whilePassed guard body ⌝ }
-{
-    Passed {
-        typed: is_type(guard, INT_OR_INT) & body.typed,
-        holds: guard.holds & body.holds,
-        next: body.next,
-    }
-}
-
-fn of_case(table: &[sheet::Word], x: Typed, y: Passed, z: Passed) -> Passed
-    ensures { λ r. ⌜ r ≡ casePassed (now (table .entry)) x y z ⌝ }
-{
-    let typed = is_sum(table, x.ty) & (y.typed & z.typed);
-    Passed {
-        typed: x.typed & typed,
-        holds: x.holds & (y.holds & z.holds),
-        next: z.next,
-    }
-}
 
 // Checks the command whose lines start at the word `at`, below `depth` cases and the surrounding label pc.
 pub(crate) fn check_cmd(

@@ -6,32 +6,8 @@ mod commands; // commands.rt: commands
 ghost use mathlib.Core.Path.{_≡_};
 ghost use Rattle.checker.specs.Verdict.{verdictNumber};
 ghost use Rattle.checker.specs.Internal.Post.{ChecksCode, KeepsCode, verdictOf};
-use members::Members;
-
-// What holds of all lines that were checked, as a set: their label conditions, and what trust-keeping asks of each
-// unpack, an operand at or below the wanted label. It is one byte, since with two a frame of the recursion is larger.
-pub(crate) const FLOW: u8 = 1;
-
-pub(crate) const KEEPING: u8 = 2;
-
-pub(crate) const ALL: u8 = 3;
-
-// What is found of an expression: its type, if it has one; what holds of its lines; its least label; and the word after
-// its lines.
-pub(crate) struct Typed {
-    pub(crate) ty: u32,
-    pub(crate) typed: bool,
-    pub(crate) holds: u8,
-    pub(crate) label: Members,
-    pub(crate) next: usize,
-}
-
-// What is found of a command: whether its types fit; what holds of its lines; and the word after them.
-pub(crate) struct Passed {
-    pub(crate) typed: bool,
-    pub(crate) holds: u8,
-    pub(crate) next: usize,
-}
+use checks::FLOW;
+use checks::KEEPING;
 
 // What is found of a script: it has a derivation, or its types or else its labels leave it none.
 pub enum Verdict {

@@ -1,8 +1,13 @@
 -- What enclosing cases bind, as words: for each case the number of the type that it binds and the members of its label, outermost first.
 use mathlib.Core.List.{List, [], _∷_}
-use Prim.Native.Nat.{ℕ, zero, suc, _+_, _*_, _%_}
+use Prim.Native.Nat.{ℕ, zero, suc, _+_, _*_, _-_, _%_}
+use mathlib.Core.Bool.{cond}
+use lib.Dec.{leb, ltb}
 use lib.ListN.{getD, set}
+use Rattle.logic.specs.Booleans.{both}
 use Rattle.script.specs.Names.{maxDepth}
+use Rattle.checks.specs.declared.Typed.{Typed}
+use Rattle.checks.specs.Internal.Nodes.{plainTyped, nothing}
 
 -- the words for one case, and for all
 abbrev pub bindingSize : ℕ
@@ -33,3 +38,10 @@ boundLabels s d = upTo (boundLabel s) d
 -- the words with a type and a label stored at place d
 unfoldable pub bindOf : List ℕ → ℕ → ℕ → ℕ → List ℕ
 bindOf s d n a = set (set s (d * bindingSize) n) (d * bindingSize + 1) a
+
+-- variable i below d cases
+unfoldable pub varTyped : List ℕ → ℕ → ℕ → ℕ → Typed
+varTyped s d i next =
+    cond (both (ltb i d) (leb d maxDepth))
+    (plainTyped (boundType s (d - suc i)) (boundLabel s (d - suc i)) next)
+    (nothing next)

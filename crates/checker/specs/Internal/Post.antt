@@ -17,10 +17,10 @@ use Rattle.sheet.specs.Internal.Starts.{startNo}
 use Rattle.sheet.specs.Meaning.{labelsOver, declarationsOf}
 use Rattle.checker.specs.declared.Verdict.{Verdict}
 use Rattle.checker.specs.declared.Verdict.the-variants.{Accepted, IllTyped, IllLabelled}
-use Rattle.checker.specs.declared.Typed.{Typed}
-use Rattle.checker.specs.declared.Passed.{Passed}
+use Rattle.checks.specs.declared.Typed.{Typed}
+use Rattle.checks.specs.declared.Passed.{Passed}
 use Rattle.checker.specs.Internal.Numbers.{givenNo, typeNo, shapeNo, conditionsOn, belowOn}
-use Rattle.checker.specs.Internal.Nodes.{plusTyped, pairTyped}
+use Rattle.checks.specs.Internal.Nodes.{plusTyped, pairTyped}
 use Rattle.checker.specs.Internal.Bindings.{bindingsSize, boundTypes, boundLabels}
 
 -- x is what typing finds of e

@@ -1,0 +1,2 @@
+-- What functions promise each other, in this crate and to those above it. A reader need not believe it: docs/READING.md.
+pub mod Nodes

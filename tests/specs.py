@@ -1,5 +1,5 @@
 """What the files of specs/ declare, and what they bring from each other: read off their text, for tests/promises and tests/documents."""
-import glob, os, re
+import functools, glob, os, re
 
 ROOT = os.path.dirname(os.path.dirname(os.path.abspath(__file__)))
 
@@ -14,12 +14,14 @@ def cached(f):
     return lambda path: kept[path] if path in kept else kept.setdefault(path, f(path))
 
 
+@functools.lru_cache(None)
 def plain(text):
     """The text without its comments, line by line."""
     text = re.sub(r"\{-.*?-\}|/\*.*?\*/", "", text, flags=re.S)
     return re.sub(r"(^|\s)--.*", r"\1", text, flags=re.M)
 
 
+@functools.lru_cache(None)
 def pieces(name):
     """What a name is written as where it is used: itself, and the parts of an operator."""
     return {name} | {part for part in name.split("_") if part}
@@ -93,17 +95,26 @@ def named_in(clause, path):
     return [(path, n) for n in here] + [place for n, place in imports(path).items() if pieces(n) & words and n not in here]
 
 
+@functools.lru_cache(None)
+def step(place):
+    """The declarations that bring the name at a place, and the places of what they name."""
+    found, further = set(), []
+    for block in definitions(place[0]).get(place[1], []):
+        words = set(re.findall(r"[^\s(){}.,;]+", block))
+        from_where = sorted({w for word in words for w in brought(place[0]).get(word, ())})
+        found.add((place[0], " ".join(block.split() + from_where)))
+        further += named_in(block, place[0])
+    return found, further
+
+
 def rests_on(places, follow=lambda here, there: True):
     """The declarations, with their files, that places rest on, in turn; `follow` says whether to go from one file to another."""
     found, seen, todo = set(), set(), list(places)
     while todo:
         place = todo.pop()
-        if place in seen:
-            continue
-        seen.add(place)
-        for block in definitions(place[0]).get(place[1], []):
-            words = set(re.findall(r"[^\s(){}.,;]+", block))
-            from_where = sorted({w for word in words for w in brought(place[0]).get(word, ())})
-            found.add((place[0], " ".join(block.split() + from_where)))
-            todo += [p for p in named_in(block, place[0]) if follow(place[0], p[0])]
+        if place not in seen:
+            seen.add(place)
+            declarations, further = step(place)
+            found |= declarations
+            todo += [p for p in further if follow(place[0], p[0])]
     return found

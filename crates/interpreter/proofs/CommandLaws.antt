@@ -28,7 +28,8 @@ use Rattle.evaluator.specs.Internal.Post.{StandsFor}
 use Rattle.interpreter.specs.declared.commands.Stepped.{Stepped}
 use Rattle.interpreter.specs.declared.commands.Decided.{Decided}
 use Rattle.interpreter.specs.declared.commands.Taken.{Taken}
-use Rattle.interpreter.specs.Internal.Post.{CmdAt, Skips, Target, target, Finishes, finish-done, finish-spent, finish-over, finish-wrong, Execs, ticked, Ticks, Assigns, Choice, to-left, to-right, no-budget, choice-long, choice-stuck, choiceV, choice, Chooses, goes-left, goes-right, has-none, is-long, is-stuck, Decides, Branching, Enters, enters-left, enters-right, enters-spent, enters-long, enters-stuck, Branches}
+use Rattle.script.specs.Internal.Skips.{Skips}
+use Rattle.interpreter.specs.Internal.Post.{CmdAt, Target, target, Finishes, finish-done, finish-spent, finish-over, finish-wrong, Execs, ticked, Ticks, Assigns, Choice, to-left, to-right, no-budget, choice-long, choice-stuck, choiceV, choice, Chooses, goes-left, goes-right, has-none, is-long, is-stuck, Decides, Branching, Enters, enters-left, enters-right, enters-spent, enters-long, enters-stuck, Branches}
 use Rattle.evaluator.proofs.StateLaws.{holds-kept, holds-leave}
 use Rattle.evaluator.proofs.EvalLaws.{moved, operand, held-after}
 use Rattle.interpreter.proofs.ExecLaws.{ticked-then, ends-there, goes-on}

@@ -28,7 +28,8 @@ use Rattle.evaluator.specs.Internal.Nodes.{Yields, Gives, Tags}
 use Rattle.evaluator.specs.Internal.Post.{ExprAt, StandsFor, Evals}
 use Rattle.interpreter.specs.declared.commands.Stepped.{Stepped}
 use Rattle.interpreter.specs.declared.commands.Decided.{Decided}
-use Rattle.interpreter.specs.Internal.Post.{Skips, Target, target, Finishes, finish-done, finish-spent, finish-over, finish-wrong, ticked, Ticks, Assigns, Choice, choiceV, choice, Chooses, goes-left, goes-right, has-none, is-long, is-stuck, Decides, Branching, Enters, enters-left, enters-right, enters-spent, enters-long, enters-stuck, Branches}
+use Rattle.script.specs.Internal.Skips.{Skips}
+use Rattle.interpreter.specs.Internal.Post.{Target, target, Finishes, finish-done, finish-spent, finish-over, finish-wrong, ticked, Ticks, Assigns, Choice, choiceV, choice, Chooses, goes-left, goes-right, has-none, is-long, is-stuck, Decides, Branching, Enters, enters-left, enters-right, enters-spent, enters-long, enters-stuck, Branches}
 use Rattle.cells.proofs.CellLaws.{length-load, length-pop}
 use Rattle.evaluator.proofs.ValueLaws.{cell-size, tags-left, tags-right, pop-tag, Kind, is-int, is-err, is-inl, is-inr, is-pkg, is-pair, is-blank, kind-enc}
 use Rattle.evaluator.proofs.NodeLaws.{words-here, load-here}

@@ -1,4 +1,3 @@
-pub mod SkipLaws
 pub mod ExecLaws
 pub mod CommandLaws
 pub mod RunLaws

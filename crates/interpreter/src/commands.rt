@@ -1,8 +1,9 @@
 // Runs of commands over the lines (the paper, figure 3).
 ghost use mathlib.Core.Path.{_≡_};
-ghost use Rattle.interpreter.specs.Internal.Post.{Skips, Execs, Ticks, Assigns, Decides, Branches};
+ghost use Rattle.interpreter.specs.Internal.Post.{Execs, Ticks, Assigns, Decides, Branches};
 use evaluator::State;
 use script::ROW;
+use script::skip;
 use sheet::powers::Powers;
 
 // Done: skip is reached, with so much of the budget left, and the command's lines end at `next`.
@@ -26,28 +27,6 @@ struct Taken {
     left: u32,
     start: usize,
     on: bool,
-}
-
-// The place after the expression or command at `at`.
-fn skip(code: &[u32], at: usize) -> usize
-    ensures { λ r. ⌜ Skips (now (code .entry)) at r ⌝ }
-{
-    let row = script::row_at(code, at);
-    let n = script::operands(row.kind);
-    match n {
-        0 => at + ROW,
-        1 => skip(code, at + ROW),
-        2 => {
-            let second = skip(code, at + ROW);
-            skip(code, second)
-        }
-        3 => {
-            let second = skip(code, at + ROW);
-            let third = skip(code, second);
-            skip(code, third)
-        }
-        _ => at,
-    }
 }
 
 // One transition after d, where d is done.

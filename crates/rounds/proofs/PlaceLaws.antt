@@ -19,14 +19,11 @@ unfolding runEach
 each-length run i memory [] = refl
 each-length run i memory (t ∷ ts) = ap suc (each-length run (suc i) _ ts)
 
-module _ (run : List ℕ → List ℕ → Ran) where
-  abbrev each : ℕ → List ℕ → List (List ℕ) → List Ran
-  each = runEach (λ i. run)
-
+module _ (run : ℕ → List ℕ → List ℕ → Ran) where
   -- the round of the scripts from place i on, over what is stored
   pub rest : ℕ → List ℕ → List ℕ → List ℕ → List (List ℕ) → RanRound
   rest i answers steps memory ts =
-      let rs = each i memory ts in
+      let rs = runEach run i memory ts in
       record {
         answer = 0;
         answers = sets answers i (map (λ r. r .answer) rs);
@@ -36,7 +33,7 @@ module _ (run : List ℕ → List ℕ → Ran) where
 
   pub rest-more : (i : ℕ) (answers steps memory : List ℕ) (t : List ℕ) (ts : List (List ℕ))
       → rest i answers steps memory (t ∷ ts)
-      ≡ rest (i + 1) (set answers i (run t memory .answer)) (set steps i (run t memory .steps)) (run t memory .memory) ts
+      ≡ rest (i + 1) (set answers i (run i t memory .answer)) (set steps i (run i t memory .steps)) (run i t memory .memory) ts
   unfolding rest runEach leftBy
   rest-more i answers steps memory t ts = rw (add-one i) refl
 
@@ -46,9 +43,9 @@ module _ (run : List ℕ → List ℕ → Ran) where
   rest-over i answers steps memory = refl
 
   pub rest-all : (memory : List ℕ) (ts : List (List ℕ)) → length ts ≤ mostScripts
-      → rest 0 (replicate mostScripts 0) (replicate mostScripts 0) memory ts ≡ roundFrom memory (runEach (λ i. run) 0 memory ts)
+      → rest 0 (replicate mostScripts 0) (replicate mostScripts 0) memory ts ≡ roundFrom memory (runEach run 0 memory ts)
   unfolding rest padded
   rest-all memory ts l =
-      let rs = each 0 memory ts in
-      let few : (f : Ran → ℕ) → length (map f rs) ≤ mostScripts = λ f. omega (arith, length-map rs f, each-length (λ i. run) 0 memory ts) in
+      let rs = runEach run 0 memory ts in
+      let few : (f : Ran → ℕ) → length (map f rs) ≤ mostScripts = λ f. omega (arith, length-map rs f, each-length run 0 memory ts) in
       rw (sets-zeros mostScripts (map (λ r. r .answer) rs) (few _), sets-zeros mostScripts (map (λ r. r .steps) rs) (few _)) refl

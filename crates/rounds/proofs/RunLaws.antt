@@ -18,14 +18,14 @@ use Rattle.memory.specs.Memory.{memoryRefusal}
 use Rattle.stages.specs.Answers.{Ran, refusedRun}
 use Rattle.stages.specs.Calls.{unless, strangers, onScript, untyped, numberOf}
 use Rattle.stages.specs.Internal.Stages.{TableOf, AcceptedCode, acceptedRun, RunsAccepted}
-use Rattle.stages.proofs.StageLaws.{goes, accepted-code}
+use Rattle.stages.proofs.StageLaws.{goes, stops, accepted-code}
 use Rattle.stages.proofs.Kept.{left-unrefused}
 use Rattle.scripts.specs.Parting.{partsOf, mostScripts}
 use Rattle.scripts.specs.Internal.Places.{partsAfter}
 use Rattle.scripts.proofs.Places.{PartAt, part-at, parts-all, StartsAt, has-place, kept-end, none-left}
 use Rattle.rounds.specs.Answers.{RanRound}
 use Rattle.rounds.specs.Calls.{lowest}
-use Rattle.rounds.specs.Internal.Stages.{Parted, runOn, ranOn, RunsScript, RunsEach}
+use Rattle.rounds.specs.Internal.Stages.{Parted, runOn, turnOn, gateIn, ranOn, RunsScript, RunsTurn, RunsEach}
 use Rattle.rounds.proofs.LowerLaws.{lower-none, lowest-more}
 use Rattle.rounds.proofs.PlaceLaws.{rest, rest-more, rest-over, rest-all}
 
@@ -64,6 +64,15 @@ runs-script script t memory ws authority budget p r e w ran = record {
       );
 }
 
+-- its turn: run where its gate has no number, else refused with it
+pub turn-runs : (script t memory : List ℕ) (authority budget number : ℕ) (r : Ran) → number ≡ 0 → RunsScript script t memory authority budget r
+    → RunsTurn script number t memory authority budget r
+unfolding unless
+turn-runs script t memory authority budget number r z ran = rw z (record { ran = ran .ran })
+
+pub turn-shut : (script t memory : List ℕ) (authority budget number : ℕ) → ¬ (number ≡ 0) → RunsTurn script number t memory authority budget (refusedRun memory number)
+turn-shut script t memory authority budget number z = record { ran = λ s T g n m. (sym (stops (refusedRun memory) number _ z), m) }
+
 -- ---- all of them
 
 -- The script that starts at a place: where its end is kept, and that it has a place itself.
@@ -74,12 +83,12 @@ script-at scripts ends i at end h s l e =
 pub place-at : (scripts ends : List ℕ) (i at : ℕ) → Parted scripts ends → StartsAt scripts i at → at ≤ length scripts → i < mostScripts
 place-at scripts ends i at h s l = omega (arith, has-place s (script-at scripts ends i at _ h s l refl), h .few)
 
-module _ (scripts t memory₀ : List ℕ) (authority budget : ℕ) where
+module _ (scripts gates t memory₀ : List ℕ) (authority budget : ℕ) where
   -- Where no number refuses the round: at place i, with the scripts from `at` on left, the rest of the round is the whole.
   pub record Going (s : Sheet) (i at : ℕ) (answers steps memory : List ℕ) : Type 0 where
     pub accepted : lowest (numberOf s) (partsAfter scripts at) ≡ 0
     pub unrefused : memoryRefusal s memory ≡ 0
-    pub whole : rest (runOn s authority budget) i answers steps memory (partsAfter scripts at) ≡ ranOn s authority budget (partsOf scripts) memory₀
+    pub whole : rest (turnOn (gateIn gates) s authority budget) i answers steps memory (partsAfter scripts at) ≡ ranOn (gateIn gates) s authority budget (partsOf scripts) memory₀
 
   -- on every sheet of the table on which no number refuses it
   abbrev pub Goes : ℕ → ℕ → List ℕ → List ℕ → List ℕ → Type 0
@@ -91,11 +100,11 @@ module _ (scripts t memory₀ : List ℕ) (authority budget : ℕ) where
   goes-first l s T g n m = record {
     accepted = rw (parts-all scripts) n;
     unrefused = m;
-    whole = rw (parts-all scripts) (rest-all (runOn s authority budget) memory₀ (partsOf scripts) l);
+    whole = rw (parts-all scripts) (rest-all (turnOn (gateIn gates) s authority budget) memory₀ (partsOf scripts) l);
   }
 
   pub goes-on : (i at end : ℕ) (answers steps memory : List ℕ) (r : Ran) → Goes i at answers steps memory → PartAt scripts at end
-      → RunsScript (take (end - at) (drop at scripts)) t memory authority budget r
+      → RunsTurn (take (end - at) (drop at scripts)) (getD gates i 0) t memory authority budget r
       → Goes (i + 1) (end + 1) (set answers i (r .answer)) (set steps i (r .steps)) (r .memory)
   goes-on i at end answers steps memory r k p ran s T g n m =
       let h = k s T g n m in
@@ -108,16 +117,16 @@ module _ (scripts t memory₀ : List ℕ) (authority budget : ℕ) where
         accepted = z .1;
         unrefused = q .1;
         whole = rw (q .0)
-            (sym (rest-more (runOn s authority budget) i answers steps memory script left)
-            ∙ ap (rest (runOn s authority budget) i answers steps memory) (sym (p .parts)) ∙ h .whole);
+            (sym (rest-more (turnOn (gateIn gates) s authority budget) i answers steps memory script left)
+            ∙ ap (rest (turnOn (gateIn gates) s authority budget) i answers steps memory) (sym (p .parts)) ∙ h .whole);
       }
 
   pub goes-over : (i at : ℕ) (answers steps memory : List ℕ) → Goes i at answers steps memory → partsAfter scripts at ≡ []
-      → RunsEach scripts t memory₀ authority budget (record { answer = 0; answers = answers; steps = steps; memory = memory })
+      → RunsEach scripts gates t memory₀ authority budget (record { answer = 0; answers = answers; steps = steps; memory = memory })
   goes-over i at answers steps memory k l = record {
     done = refl;
     ran = λ s T g n m.
         let h = k s T g n m in
-        sym (rest-over (runOn s authority budget) i answers steps memory)
-        ∙ ap (rest (runOn s authority budget) i answers steps memory) (sym l) ∙ h .whole;
+        sym (rest-over (turnOn (gateIn gates) s authority budget) i answers steps memory)
+        ∙ ap (rest (turnOn (gateIn gates) s authority budget) i answers steps memory) (sym l) ∙ h .whole;
   }

@@ -4,7 +4,7 @@ ghost use mathlib.Core.Path.{_≡_};
 ghost use lib.ListN.{replicate};
 ghost use Rattle.scripts.specs.Parting.{mostScripts};
 ghost use Rattle.rounds.specs.Calls.{lower as lowerOf};
-ghost use Rattle.rounds.specs.Internal.Stages.{Parted, NumbersAll, RunsScript, RunsEach, Plays, RoundsOn};
+ghost use Rattle.rounds.specs.Internal.Stages.{Parted, NumbersAll, RunsScript, RunsTurn, RunsEach, Plays, RoundsOn};
 use scripts::MOST_SCRIPTS;
 use sets::Set;
 use stages::Outcome;
@@ -65,7 +65,7 @@ fn lowest_number(scripts: &[u8], ends: [usize; MOST_SCRIPTS], table: &[sheet::Wo
 }
 
 // Decodes an accepted script once more, and runs it on a memory that isn't refused.
-fn run_script(
+pub fn run_script(
     script: &[u8],
     table: &[sheet::Word],
     memory: &mut [u32],
@@ -85,17 +85,36 @@ fn run_script(
     )
 }
 
-// Runs accepted scripts one after another, each with the whole budget. One that stops leaves the memory as it was, and the next one runs.
+// The turn of an accepted script: refused with its gate's number, or run.
+fn turn(
+    script: &[u8],
+    gate: u8,
+    table: &[sheet::Word],
+    memory: &mut [u32],
+    authority: Set,
+    budget: u32,
+) -> Outcome
+    ensures { λ r. ⌜ RunsTurn (now (script .entry)) gate (now (table .entry)) (now (memory .entry)) authority budget (record { answer = r .answer; steps = r .steps; memory = now (memory .exit) }) ⌝ }
+{
+    if gate != stages::DONE {
+        return stages::refused(gate);
+    }
+    run_script(script, table, memory, authority, budget)
+}
+
+// Runs accepted scripts one after another, each with the whole budget; one whose gate has a number gets that number instead. One that stops leaves
+// the memory as it was, and the next one runs.
 fn run_each(
     scripts: &[u8],
     ends: [usize; MOST_SCRIPTS],
+    gates: [u8; MOST_SCRIPTS],
     table: &[sheet::Word],
     memory: &mut [u32],
     authority: Set,
     budget: u32,
 ) -> Round
     requires { ⌜ Parted (now scripts) ends ⌝ }
-    ensures { λ r. ⌜ RunsEach (now (scripts .entry)) (now (table .entry)) (now (memory .entry)) authority budget (record { answer = r .answer; answers = r .answers; steps = r .steps; memory = now (memory .exit) }) ⌝ }
+    ensures { λ r. ⌜ RunsEach (now (scripts .entry)) gates (now (table .entry)) (now (memory .entry)) authority budget (record { answer = r .answer; answers = r .answers; steps = r .steps; memory = now (memory .exit) }) ⌝ }
 {
     let mut answers = [0u8; MOST_SCRIPTS];
     let mut steps = [0u32; MOST_SCRIPTS];
@@ -103,7 +122,8 @@ fn run_each(
     let mut at: usize = 0;
     while at <= scripts.len() {
         let end = ends[i];
-        let ran = run_script(&scripts[at..end], table, memory, authority, budget);
+        let gate = gates[i];
+        let ran = turn(&scripts[at..end], gate, table, memory, authority, budget);
         answers[i] = ran.answer;
         steps[i] = ran.steps;
         i += 1;
@@ -116,17 +136,18 @@ fn run_each(
     }
 }
 
-// Checks the scripts of a text, and runs them on a memory, where the authority is known.
-fn play(
+// Checks the scripts of a text, and runs them on a memory, each by its gate: 0 where it is open. The authority is known.
+pub fn play(
     scripts: &[u8],
     ends: [usize; MOST_SCRIPTS],
+    gates: [u8; MOST_SCRIPTS],
     table: &[sheet::Word],
     memory: &mut [u32],
     authority: Set,
     budget: u32,
 ) -> Round
     requires { ⌜ Parted (now scripts) ends ⌝ }
-    ensures { λ r. ⌜ Plays (now (scripts .entry)) (now (table .entry)) (now (memory .entry)) authority budget (record { answer = r .answer; answers = r .answers; steps = r .steps; memory = now (memory .exit) }) ⌝ }
+    ensures { λ r. ⌜ Plays (now (scripts .entry)) gates (now (table .entry)) (now (memory .entry)) authority budget (record { answer = r .answer; answers = r .answers; steps = r .steps; memory = now (memory .exit) }) ⌝ }
 {
     let number = lowest_number(scripts, ends, table);
     if number != stages::DONE {
@@ -137,7 +158,7 @@ fn play(
     if answer != stages::DONE {
         return refused(answer);
     }
-    run_each(scripts, ends, table, memory, authority, budget)
+    run_each(scripts, ends, gates, table, memory, authority, budget)
 }
 
 // Plays a round on the sheet of a table.
@@ -158,5 +179,13 @@ pub fn round_on(
     if MOST_SCRIPTS < parts.count {
         return refused(TOO_MANY_SCRIPTS);
     }
-    play(scripts, ends, table, memory, authority, budget)
+    play(
+        scripts,
+        ends,
+        [stages::DONE; MOST_SCRIPTS],
+        table,
+        memory,
+        authority,
+        budget,
+    )
 }

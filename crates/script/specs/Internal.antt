@@ -3,3 +3,4 @@ pub mod Code
 pub mod Pieces
 pub mod Nesting
 pub mod Balance
+pub mod Skips

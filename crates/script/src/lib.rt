@@ -2,6 +2,7 @@
 ghost use mathlib.Core.Path.{_≡_};
 ghost use Rattle.script.specs.Internal.Code.{rowAt};
 ghost use Rattle.script.specs.Internal.Pieces.{operandCount};
+ghost use Rattle.script.specs.Internal.Skips.{Skips};
 
 // The kinds of line, by their numbers in the code.
 pub const SKIP: u32 = 1;
@@ -98,5 +99,27 @@ pub fn operands(kind: u32) -> u32
         FIRST => 1,
         SECOND => 1,
         _ => 4,
+    }
+}
+
+// The place after the expression or command at `at`.
+pub fn skip(code: &[u32], at: usize) -> usize
+    ensures { λ r. ⌜ Skips (now (code .entry)) at r ⌝ }
+{
+    let row = row_at(code, at);
+    let n = operands(row.kind);
+    match n {
+        0 => at + ROW,
+        1 => skip(code, at + ROW),
+        2 => {
+            let second = skip(code, at + ROW);
+            skip(code, second)
+        }
+        3 => {
+            let second = skip(code, at + ROW);
+            let third = skip(code, second);
+            skip(code, third)
+        }
+        _ => at,
     }
 }

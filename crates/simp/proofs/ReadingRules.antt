@@ -21,7 +21,7 @@ use Rattle.simp.specs.Judgements.{Started}
 use Rattle.simp.specs.ReadingRules.{OnlyReading, shownBy, StartUnread, PromisedTo, DownwardSuffices}
 use Rattle.simp.proofs.SecondDemand.{declared, by-figures}
 use Rattle.simp.proofs.FirstDemand.{starts, run-answers}
-use Rattle.simp.proofs.ThirdDemand.{Done, started, done-run, done-declared, TwoRuns, two-runs}
+use Rattle.simp.proofs.ThirdDemand.{Done, started, done-run, done-declared, TwoRuns, two-runs, words-kept}
 use Rattle.simp.proofs.RoundDemands.{by-zero}
 use Rattle.simp.proofs.RoundRuns.{of-each, rounds-keep, round-leaves}
 use Rattle.simp.proofs.Unseen.{done-steps}
@@ -48,15 +48,10 @@ module _ (reads : Label → Bool) (down : DownwardClosed reads) (sheet : List �
   runs-show : (script m m′ : List ℕ) (authority b b′ : ℕ) (runs : TwoRuns sheet script m m′ authority b b′)
       → shownBy (runs .its-sheet) reads m ≡ shownBy (runs .its-sheet) reads m′
       → shownBy (runs .its-sheet) reads (runOf sheet script m authority b .memory) ≡ shownBy (runs .its-sheet) reads (runOf sheet script m′ authority b′ .memory)
-  runs-show script m m′ authority b b′ runs h =
+  runs-show script m m′ authority b b′ runs =
       let s : Sheet = runs .its-sheet in
-      let exact = masks-exactly s (seesBy s reads) (showsBy s reads) in
-      let ran = runs .ran in
-      let ran′ = runs .ran′ in
-      let before = exact .same-words m m′ (started (runs .one)) (started (runs .two)) .0 h in
-      let after = kept-by s (runs .one .on-sheet .form .is-formed) reads down (runs .its-script) (runs .one .typable) authority b b′ (ran .rest) (ran′ .rest)
-      (memoryOf m) (memoryOf m′) (ran .reached) (ran′ .reached) before (ran .run) (ran′ .run) in
-      rw (ran .words, ran′ .words) (exact .words-left (ran .reached) (ran′ .reached) (done-declared (runs .one) ran) (done-declared (runs .two) ran′) after)
+      words-kept runs (seesBy s reads) (showsBy s reads) (λ M N M′ N′ l l′.
+      kept-by s (runs .one .on-sheet .form .is-formed) reads down (runs .its-script) (runs .one .typable) authority b b′ l l′ M N M′ N′)
 
   -- and what a done run leaves of a script whose starting label he doesn't read
   done-shows : {script memory left : List ℕ} {s : Sheet} {p : Script} (authority budget : ℕ) → StartUnread reads sheet script

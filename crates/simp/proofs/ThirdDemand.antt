@@ -1,5 +1,6 @@
 -- Demand 3, from noninterference of the language. Assumes nothing.
 use mathlib.Core.Path.{_≡_, refl, sym, ap, _∙_, subst}
+use mathlib.Core.Bool.{Bool}
 use mathlib.Core.List.{List}
 use Prim.Native.Nat.{ℕ, suc}
 use native.Mathlib.Omega.{arith}
@@ -10,9 +11,10 @@ use Rattle.sheet.specs.Sheet.{Sheet, locationCount}
 use Rattle.sheet.specs.Meaning.{worldFor}
 use Rattle.sheet_text.proofs.Theorems.{one-sheet}
 use Rattle.memory.specs.Memory.{memoryOf, wordsOf, wellFormed, memoryRefusal}
-use Rattle.memory.specs.View.{viewWords}
+use Rattle.language.specs.View.{maskMem}
+use Rattle.memory.specs.View.{viewBy, viewWords}
 use Rattle.memory.specs.Theorems.{Declared}
-use Rattle.memory.proofs.Exactness.{memories-exactly, views-exactly}
+use Rattle.memory.proofs.Exactness.{memories-exactly, views-exactly, masks-exactly}
 use Rattle.memory.proofs.MemoryLaws.{unrefused-length, unrefused-formed}
 use Rattle.stages.specs.Answers.{Ran, Viewed}
 use Rattle.stages.specs.Calls.{ended, runOf, viewOf}
@@ -84,6 +86,24 @@ two-runs sheet script memory memory′ authority budget budget′ r r′ =
     let st = starts sheet script memory authority budget r in
     let two : Started sheet script memory′ authority (st .0) (st .1) = same-start (st .2) (starts sheet script memory′ authority budget′ r′ .2) in
     record { its-sheet = st .0; its-script = st .1; one = st .2; two = two; ran = done-run budget (st .2) r; ran′ = done-run budget′ two r′ }
+
+-- What two done runs of one script keep of masks, they keep of words, by any rule of who sees which label.
+pub words-kept : {sheet script m m′ : List ℕ} {authority b b′ : ℕ} (runs : TwoRuns sheet script m m′ authority b b′) (sees shows : ℕ → Bool)
+    → ((M N M′ N′ : Mem) (l l′ : ℕ) → ((x : ℕ) → maskMem sees shows M x ≡ maskMem sees shows N x)
+    → iterate (worldFor (runs .its-sheet) authority (runs .its-script)) b M (runs .its-script .command) ≡ done M′ l
+    → iterate (worldFor (runs .its-sheet) authority (runs .its-script)) b′ N (runs .its-script .command) ≡ done N′ l′
+    → (x : ℕ) → maskMem sees shows M′ x ≡ maskMem sees shows N′ x)
+    → viewBy (locationCount (runs .its-sheet)) sees shows (memoryOf m) ≡ viewBy (locationCount (runs .its-sheet)) sees shows (memoryOf m′)
+    → viewBy (locationCount (runs .its-sheet)) sees shows (memoryOf (runOf sheet script m authority b .memory))
+    ≡ viewBy (locationCount (runs .its-sheet)) sees shows (memoryOf (runOf sheet script m′ authority b′ .memory))
+words-kept {m = m} {m′ = m′} runs sees shows kept h =
+    let exact = masks-exactly (runs .its-sheet) sees shows in
+    let ran = runs .ran in
+    let ran′ = runs .ran′ in
+    let before = exact .same-words m m′ (started (runs .one)) (started (runs .two)) .0 h in
+    rw (ran .words, ran′ .words)
+    (exact .words-left (ran .reached) (ran′ .reached) (done-declared (runs .one) ran) (done-declared (runs .two) ran′)
+    (kept (memoryOf m) (memoryOf m′) (ran .reached) (ran′ .reached) (ran .rest) (ran′ .rest) before (ran .run) (ran′ .run)))
 
 -- a view that was handed out, on the sheet of a run
 record Shown (sheet memory : List ℕ) (group : ℕ) (view : List ℕ) (s : Sheet) : Type 0 where

@@ -4,14 +4,12 @@ use mathlib.Core.List.{List}
 use Prim.Native.Nat.{ℕ}
 use Rattle.sheet.specs.Sheet.{Sheet}
 use Rattle.sheet_text.proofs.Theorems.{one-sheet}
-use Rattle.memory.specs.Memory.{memoryOf}
 use Rattle.memory.specs.View.{trustedLabelNo, trustedLocationNo, trustedWords}
-use Rattle.memory.proofs.Exactness.{masks-exactly}
 use Rattle.stages.specs.Calls.{runOf}
 use Rattle.simp.specs.Trust.{TrustKeeping}
 use Rattle.simp.specs.TrustKept.{SameTrusted, SaidKeeping, TrustKept}
 use Rattle.simp.proofs.Judged.{their}
-use Rattle.simp.proofs.ThirdDemand.{started, done-declared, TwoRuns, two-runs}
+use Rattle.simp.proofs.ThirdDemand.{TwoRuns, two-runs, words-kept}
 use Rattle.simp.proofs.Trusters.{left-kept}
 use Rattle.simp.proofs.TrustDemands.{said-so}
 use Rattle.simp.proofs.RoundRuns.{rounds-keep}
@@ -22,15 +20,10 @@ module _ (sheet : List ℕ) (authority budget budget′ group : ℕ) where
       → trustedWords (runs .its-sheet) group m ≡ trustedWords (runs .its-sheet) group m′
       → trustedWords (runs .its-sheet) group (runOf sheet script m authority budget .memory) ≡ trustedWords (runs .its-sheet) group (runOf sheet script m′ authority budget′ .memory)
   unfolding trustedWords
-  runs-alike script m m′ runs k h =
+  runs-alike script m m′ runs k =
       let s : Sheet = runs .its-sheet in
-      let exact = masks-exactly s (trustedLocationNo s group) (trustedLabelNo s group) in
-      let ran = runs .ran in
-      let ran′ = runs .ran′ in
-      let before = exact .same-words m m′ (started (runs .one)) (started (runs .two)) .0 h in
-      let after = left-kept s (runs .one .on-sheet .form .is-formed) group (runs .its-script) (runs .one .typable) k authority budget budget′ (ran .rest) (ran′ .rest)
-      (memoryOf m) (memoryOf m′) (ran .reached) (ran′ .reached) before (ran .run) (ran′ .run) in
-      rw (ran .words, ran′ .words) (exact .words-left (ran .reached) (ran′ .reached) (done-declared (runs .one) ran) (done-declared (runs .two) ran′) after)
+      words-kept runs (trustedLocationNo s group) (trustedLabelNo s group) (λ M N M′ N′ l l′.
+      left-kept s (runs .one .on-sheet .form .is-formed) group (runs .its-script) (runs .one .typable) k authority budget budget′ l l′ M N M′ N′)
 
   run-kept : (script m m′ : List ℕ) → SaidKeeping sheet script → SameTrusted sheet group m m′
       → runOf sheet script m authority budget .answer ≡ 0 → runOf sheet script m′ authority budget′ .answer ≡ 0

@@ -44,9 +44,9 @@ roundRows sheet scripts memory authority =
 
 -- Scripts in turn, from place i and a memory on, and the memory left after the last. `Turn` says of a place, its script and the memory before it
 -- how the script went: what it answers and leaves; the next one starts from what it leaves.
-pub data InTurn (Turn : ℕ → List ℕ → List ℕ → Ran → Type 0) : ℕ → List ℕ → List (List ℕ) → List ℕ → Type 0 where
+pub data InTurn {A : Type 0} (Turn : ℕ → A → List ℕ → Ran → Type 0) : ℕ → List ℕ → List A → List ℕ → Type 0 where
   no-turn : {i : ℕ} {memory : List ℕ} → InTurn Turn i memory [] memory
-  a-turn : {i : ℕ} {memory t : List ℕ} {ts : List (List ℕ)} {left : List ℕ} (r : Ran) → Turn i t memory r → InTurn Turn (suc i) (r .memory) ts left
+  a-turn : {i : ℕ} {memory : List ℕ} {t : A} {ts : List A} {left : List ℕ} (r : Ran) → Turn i t memory r → InTurn Turn (suc i) (r .memory) ts left
       → InTurn Turn i memory (t ∷ ts) left
 
 -- The places of a round of n scripts: 32 for the answers and 32 for the steps, zero past the last script.

@@ -11,7 +11,6 @@ use Rattle.language.specs.Evaluation.{Res, ok, long, stuck, eval}
 use Rattle.language.specs.Transition.{Out, done, spent, over, wrong, iterate}
 use Rattle.script.specs.Lines.{Line, Source, cmdLines}
 use Rattle.script.specs.Internal.Code.{code}
-use Rattle.script.specs.Internal.Pieces.{Piece}
 use Rattle.script.specs.Names.{Counts, named, maxDepth}
 use Rattle.memory.specs.Words.{cell}
 use Rattle.memory.specs.Memory.{cellOf}
@@ -31,12 +30,6 @@ pub record CmdAt (p : Place) (k : Counts) (rest : List Line) (c : Cmd) : Type 0 
   pub source : Source c
   pub names : named k (p .depth) c ≡ true
   pub lines : drop (p .at) (p .code) ≡ code (cmdLines c rest)
-
--- ---- skip
-
-pub record Skips (ws : List ℕ) (at next : ℕ) : Type 0 where
-  pub forward : at ≤ next
-  pub means : (ls rest : List Line) → Piece ls rest → drop at ws ≡ code ls → drop next ws ≡ code rest
 
 -- ---- exec
 

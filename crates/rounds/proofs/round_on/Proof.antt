@@ -1,7 +1,7 @@
 -- `rounds::round_on` meets its contract: one law for each way out. Assumes nothing.
-use mathlib.Core.Path.{_≡_, sym, ap, _∙_}
-use Prim.Native.Nat.{_≤_}
-use lib.ListN.{length}
+use mathlib.Core.Path.{_≡_, refl, sym, ap, _∙_}
+use Prim.Native.Nat.{ℕ, zero, suc, _≤_}
+use lib.ListN.{length, getD, replicate}
 use borrow.Author.Tests.{not-true, not-false}
 use Rattle.sets.specs.Sets.{within}
 use Rattle.scripts.specs.declared.Parts.{Parts}
@@ -34,6 +34,12 @@ the c = c .before .before .before
 few : (c : tie.Else2) → length (partsOf (the c .before .before .before .before .before .before .before .args .scripts .now)) ≤ mostScripts
 few c = few-parts _ _ (ap (λ (p : Parts). p .count) (the c .part .ensures)) (c .if2 .left)
 
+-- zeros in every place: open
+every-zero : (n i : ℕ) → _≡_ {A = ℕ} (getD (replicate n 0) i 0) 0
+every-zero zero i = refl
+every-zero (suc n) zero = refl
+every-zero (suc n) (suc i) = every-zero n i
+
 returns-3 : tie.Need-returns-3
 returns-3 c =
     let p = c .before .before in
@@ -42,7 +48,7 @@ returns-3 c =
     let e = n .before in
     round-played _ _ _ _ _
     (ap (within _) (sym (e .before .before .everyone .ensures)) ∙ sym (e .before .contained .ensures) ∙ not-false _ (e .if1 .left))
-    (few k) _ (p .play .ensures)
+    (few k) _ _ (λ i. every-zero mostScripts i) (p .play .ensures)
 
 pub round-on-spec : {M : Type 1} → statement M
 round-on-spec = tie.close (tie.spec

@@ -10,11 +10,11 @@ use Rattle.rounds.proofs.run_each.Statement.{statement}
 use Rattle.rounds.proofs.run_each.Tie as tie
 
 abbrev Inv-loop : tie.InvT-loop
-Inv-loop scripts table memory₀ authority budget ends answers₀ steps₀ i₀ at₀ memory answers steps i at =
-    StartsAt scripts i at × (length memory ≡ length memory₀) × Goes scripts table memory₀ authority budget i at answers steps memory
+Inv-loop scripts table memory₀ authority budget ends gates answers₀ steps₀ i₀ at₀ memory answers steps i at =
+    StartsAt scripts i at × (length memory ≡ length memory₀) × Goes scripts gates table memory₀ authority budget i at answers steps memory
 
 abbrev μ-loop : tie.MeasureT-loop
-μ-loop scripts table memory₀ authority budget ends answers₀ steps₀ i₀ at₀ memory answers steps i at = length scripts + 1 - at
+μ-loop scripts table memory₀ authority budget ends gates answers₀ steps₀ i₀ at₀ memory answers steps i at = length scripts + 1 - at
 
 -- the script that starts here, and its place
 here : (c : tie.In-loop Inv-loop μ-loop)
@@ -34,21 +34,22 @@ loop-again c =
     let at = the c .before in
     let p = here (the c) in (
       next-starts (at .loop .inv .0) p,
-      run .run-script .kept .1 .1 .0 ∙ at .loop .inv .1,
-      goes-on _ _ _ _ _ (at .loop .i) (at .loop .at) _ _ _ _ _ (at .loop .inv .2) p (run .run-script .ensures),
+      run .turn .kept .1 .1 .1 .0 ∙ at .loop .inv .1,
+      goes-on _ _ _ _ _ _ (at .loop .i) (at .loop .at) _ _ _ _ _ (at .loop .inv .2) p (run .turn .ensures),
     )
 
 pub run-each-spec : {M : Type 1} → statement M
 run-each-spec = tie.close (tie.spec
     Inv-loop
     μ-loop
-    (λ c. (first-starts _, refl, goes-first _ _ _ _ _ (c .before .before .before .pre .few)))  -- loop-holds
+    (λ c. (first-starts _, refl, goes-first _ _ _ _ _ _ (c .before .before .before .pre .few)))  -- loop-holds
     (λ c. omega (arith, placed c))  -- mul-end
     (λ c. omega (arith, placed c))  -- array-read-end
-    (λ c. omega (arith, here c .rises))  -- sub-run-script
-    (λ c. omega (arith, here c .rises, here c .inside))  -- part-run-script-start
-    (λ c. omega (arith, here c .rises, here c .inside))  -- part-run-script-end
-    (λ c κs. search needs)  -- run-script-requires
+    (λ c. omega (arith, placed c))  -- array-read-gate
+    (λ c. omega (arith, here c .rises))  -- sub-turn
+    (λ c. omega (arith, here c .rises, here c .inside))  -- part-turn-start
+    (λ c. omega (arith, here c .rises, here c .inside))  -- part-turn-end
+    (λ c κs. search needs)  -- turn-requires
     (λ c. omega (arith, placed (the c)))  -- array-write-answers
     (λ c. omega (arith, placed (the c)))  -- mul-steps
     (λ c. omega (arith, placed (the c)))  -- array-write-steps
@@ -57,4 +58,4 @@ run-each-spec = tie.close (tie.spec
     (λ c. omega (arith, here (the c) .rises))  -- loop-less
     loop-again
     (λ c. c .before .loop .inv .1)  -- same-length
-    (λ c. goes-over _ _ _ _ _ _ _ _ _ _ (c .before .loop .inv .2) (none-left _ _ _ (c .before .loop .inv .0) (c .loop-test .left))))  -- returns
+    (λ c. goes-over _ _ _ _ _ _ _ _ _ _ _ (c .before .loop .inv .2) (none-left _ _ _ (c .before .loop .inv .0) (c .loop-test .left))))  -- returns

@@ -20,7 +20,7 @@ use Rattle.interpreter.proofs.commands.+exec.Lts-exec as exec-lts
 use Rattle.script.proofs.row_at.Reads as row-at-reads
 use Rattle.interpreter.proofs.commands.tick.Reads as tick-reads
 use Rattle.interpreter.proofs.commands.assign.Reads as assign-reads
-use Rattle.interpreter.proofs.commands.skip.Reads as skip-reads
+use Rattle.script.proofs.skip.Reads as skip-reads
 use Rattle.interpreter.proofs.commands.decide.Reads as decide-reads
 use Rattle.interpreter.proofs.commands.branch.Reads as branch-reads
 use Rattle.interpreter.proofs.commands.+exec.{statement}

@@ -1,20 +1,20 @@
--- `interpreter::commands::skip` meets its contract. The measure is the rows left. Each return is a law. Assumes nothing.
+-- `script::skip` meets its contract. The measure is the rows left. Each return is a law. Assumes nothing.
 use borrow.Author.Needs.{needs}
 use Prim.Native.Nat.{ℕ, _<_}
 use native.Mathlib.Omega.{arith}
 use Rattle.script.specs.Internal.Code.{rowsLeft}
 use Rattle.script.proofs.Rows.{none-between}
-use Rattle.interpreter.proofs.SkipLaws.{line-in}
-use Rattle.interpreter.proofs.SkipLaws as laws
+use Rattle.script.proofs.SkipLaws.{line-in}
+use Rattle.script.proofs.SkipLaws as laws
 use borrow.Fn.Kinds.{In}
 use borrow.Fn.PlainCycle.{Measures, is, falls, and}
-use Rattle.interpreter.proofs.commands.skip.Reads as skip
-use Rattle.interpreter.proofs.commands.skip.Kinds as skip-kinds
-use Rattle.interpreter.proofs.commands.+skip.Lts-skip as skip-lts
+use Rattle.script.proofs.skip.Reads as skip
+use Rattle.script.proofs.skip.Kinds as skip-kinds
+use Rattle.script.proofs.+skip.Lts-skip as skip-lts
 use Rattle.script.proofs.row_at.Reads as row-at-reads
 use Rattle.script.proofs.operands.Reads as operands-reads
-use Rattle.interpreter.proofs.commands.+skip.{statement}
-use Rattle.interpreter.proofs.commands.+skip.Tie.{close}
+use Rattle.script.proofs.+skip.{statement}
+use Rattle.script.proofs.+skip.Tie.{close}
 
 abbrev μ-skip : Measures 1 skip-kinds.ps ℕ
 μ-skip κs a = rowsLeft (a .0 .now) (a .1 .0)

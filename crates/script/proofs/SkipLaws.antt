@@ -5,12 +5,12 @@ use mathlib.Core.List.{List}
 use Prim.Native.Nat.{ℕ, _+_, _≤_, _<_}
 use native.Mathlib.Omega.{arith}
 use lib.ListN.{length, drop}
 use Rattle.script.specs.Lines.{Line}
 use Rattle.script.specs.Internal.Code.{code, rowAt}
 use Rattle.script.specs.Internal.Pieces.{operandCount}
 use Rattle.script.specs.declared.Row.{Row}
 use Rattle.script.proofs.Nodes.{Parts, no-parts, one-part, two-parts, three-parts, parts, few-parts, counted-within}
-use Rattle.interpreter.specs.Internal.Post.{Skips}
+use Rattle.script.specs.Internal.Skips.{Skips}
 
 module _ (ws : List ℕ) (at : ℕ) {row : Row} {n : ℕ} (r : row ≡ rowAt ws at) (o : n ≡ operandCount (row .kind)) where
   -- a line of a kind lies within the code

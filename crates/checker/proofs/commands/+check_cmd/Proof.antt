@@ -36,8 +36,9 @@ abbrev check-cmd-below : ℕ → In 3 check-cmd-kinds.ps
 check-cmd-below t =
     and 3 check-cmd-kinds.ps (falls 3 check-cmd-kinds.ps _<_ μ-check-cmd t) check-cmd.Pre
 
-pub +check-cmd-spec : {M : Type 1} → statement M
-+check-cmd-spec = close μ-check-cmd λ t. check-cmd-lts.spec (
+-- What is known of the functions that `check_cmd` calls.
+abbrev check-cmd-calls : ℕ → check-cmd-lts.Claims
+check-cmd-calls t = (
   row-at-reads.Asked,
   row-at-reads.Learnt,
   of-skip-reads.Asked,
@@ -65,6 +66,54 @@ pub +check-cmd-spec : {M : Type 1} → statement M
   of-case-reads.Asked,
   of-case-reads.Learnt,
 )
+
+check-cmd-returns : (t : ℕ) → check-cmd-lts.Need-returns (check-cmd-calls t) (check-cmd-at t) check-cmd.Post
+check-cmd-returns t c =
+    arm-deep (c .before .before .before .before .before .before .before .before .row-at .ensures)
+    (c .before .before .match2 .keys3) (c .before .if3 .taken) (c .not-passed .ensures)
+
+check-cmd-returns-2 : (t : ℕ) → check-cmd-lts.Need-returns-2 (check-cmd-calls t) (check-cmd-at t) check-cmd.Post
+check-cmd-returns-2 t c =
+    arm-skip (c .before .before .row-at .ensures) (c .before .match .keys1) (c .of-skip .ensures)
+
+check-cmd-returns-3 : (t : ℕ) → check-cmd-lts.Need-returns-3 (check-cmd-calls t) (check-cmd-at t) check-cmd.Post
+check-cmd-returns-3 t c =
+    arm-seq (c .before .before .before .before .before .before .row-at .ensures) (c .before .before .before .before .before .match .keys2)
+    (c .before .before .before .check-cmd .ensures) (c .before .check-cmd2 .ensures) (c .of-seq .ensures)
+
+check-cmd-returns-4 : (t : ℕ) → check-cmd-lts.Need-returns-4 (check-cmd-calls t) (check-cmd-at t) check-cmd.Post
+check-cmd-returns-4 t c =
+    arm-assign (c .before .before .before .before .before .before .before .row-at .ensures) (c .before .before .check-expr .ensures)
+    (c .before .match2 .keys1) (c .of-assign .ensures)
+
+check-cmd-returns-5 : (t : ℕ) → check-cmd-lts.Need-returns-5 (check-cmd-calls t) (check-cmd-at t) check-cmd.Post
+check-cmd-returns-5 t c =
+    arm-while (c .before .before .before .before .before .before .before .before .before .before .row-at .ensures) (c .before .before .before .before .before .check-expr .ensures)
+    (c .before .before .before .before .match2 .keys2) (c .before .before .before .join .ensures) (c .before .check-cmd3 .ensures) (c .of-while .ensures)
+
+check-cmd-returns-6 : (t : ℕ) → check-cmd-lts.Need-returns-6 (check-cmd-calls t) (check-cmd-at t) check-cmd.Post
+check-cmd-returns-6 t c =
+    arm-case (c .before .before .before .before .before .before .before .before .before .before .before .before .before .before .before .before .before .before .before .row-at .ensures)
+    (c .before .before .before .before .before .before .before .before .before .before .before .before .before .before .check-expr .ensures)
+    (c .before .before .before .before .before .before .before .before .before .before .before .before .before .match2 .keys3)
+    (c .before .before .before .before .before .before .before .before .before .before .before .before .if3 .left)
+    (c .before .before .before .before .before .before .before .before .before .before .before .join2 .ensures)
+    (search (needs, c .before .before .before .before .before .before .before .before .before .left-part .ok)) (c .before .before .before .before .before .before .before .before .before .left-part .ensures)
+    (c .before .before .before .before .before .before .before .before .bind .ensures) (c .before .before .before .before .before .before .check-cmd4 .ensures)
+    (search (needs, c .before .before .before .before .right-part .ok)) (c .before .before .before .before .right-part .ensures) (c .before .before .before .bind2 .ensures) (c .before .check-cmd5 .ensures) (c .of-case .ensures)
+
+check-cmd-returns-7 : (t : ℕ) → check-cmd-lts.Need-returns-7 (check-cmd-calls t) (check-cmd-at t) check-cmd.Post
+check-cmd-returns-7 t c =
+    arm-other (c .before .before .before .before .before .before .before .row-at .ensures)
+    (λ h. none-between 3 3 (c .before .match2 .rest) (none-past 1 2 (c .before .before .before .before .before .before .match .rest) (h .0)) (h .1)) (c .not-passed2 .ensures)
+
+check-cmd-returns-8 : (t : ℕ) → check-cmd-lts.Need-returns-8 (check-cmd-calls t) (check-cmd-at t) check-cmd.Post
+check-cmd-returns-8 t c =
+    arm-other (c .before .before .before .row-at .ensures)
+    (λ h. ⊎-elim (λ w. omega (arith, h .0, w .taken)) (λ w. omega (arith, h .1, w .1 .left)) (c .before .if1 .came)) (c .not-passed3 .ensures)
+
+pub +check-cmd-spec : {M : Type 1} → statement M
++check-cmd-spec = close μ-check-cmd λ t. check-cmd-lts.spec (check-cmd-calls t)
     (check-cmd-at t)
     check-cmd.Post
     (λ c κs. search needs)  -- row-at-requires
@@ -98,8 +147,7 @@ pub +check-cmd-spec : {M : Type 1} → statement M
     ))  -- check-cmd-requires-3
     (λ c κs. search needs)  -- of-while-requires
     (λ c κs. search needs)  -- not-passed-requires
-    (λ c. arm-deep (c .before .before .before .before .before .before .before .before .row-at .ensures)
-    (c .before .before .match2 .keys3) (c .before .if3 .taken) (c .not-passed .ensures))  -- returns
+    (check-cmd-returns t)
     (λ c κs. search needs)  -- join-requires-2
     (λ c κs. search needs)  -- left-part-requires
     (λ c κs. c .before .before .before .if3 .left)  -- bind-requires
@@ -131,22 +179,10 @@ pub +check-cmd-spec : {M : Type 1} → statement M
     (λ c κs. search needs)  -- of-case-requires
     (λ c κs. search needs)  -- not-passed-requires-2
     (λ c κs. search needs)  -- not-passed-requires-3
-    (λ c. arm-skip (c .before .before .row-at .ensures) (c .before .match .keys1) (c .of-skip .ensures))  -- returns-2
-    (λ c. arm-seq (c .before .before .before .before .before .before .row-at .ensures) (c .before .before .before .before .before .match .keys2)
-    (c .before .before .before .check-cmd .ensures) (c .before .check-cmd2 .ensures) (c .of-seq .ensures))  -- returns-3
-    (λ c. arm-assign (c .before .before .before .before .before .before .before .row-at .ensures) (c .before .before .check-expr .ensures)
-    (c .before .match2 .keys1) (c .of-assign .ensures))  -- returns-4
-    (λ c. arm-while (c .before .before .before .before .before .before .before .before .before .before .row-at .ensures) (c .before .before .before .before .before .check-expr .ensures)
-    (c .before .before .before .before .match2 .keys2) (c .before .before .before .join .ensures) (c .before .check-cmd3 .ensures) (c .of-while .ensures))  -- returns-5
-    (λ c. arm-case (c .before .before .before .before .before .before .before .before .before .before .before .before .before .before .before .before .before .before .before .row-at .ensures)
-    (c .before .before .before .before .before .before .before .before .before .before .before .before .before .before .check-expr .ensures)
-    (c .before .before .before .before .before .before .before .before .before .before .before .before .before .match2 .keys3)
-    (c .before .before .before .before .before .before .before .before .before .before .before .before .if3 .left)
-    (c .before .before .before .before .before .before .before .before .before .before .before .join2 .ensures)
-    (search (needs, c .before .before .before .before .before .before .before .before .before .left-part .ok)) (c .before .before .before .before .before .before .before .before .before .left-part .ensures)
-    (c .before .before .before .before .before .before .before .before .bind .ensures) (c .before .before .before .before .before .before .check-cmd4 .ensures)
-    (search (needs, c .before .before .before .before .right-part .ok)) (c .before .before .before .before .right-part .ensures) (c .before .before .before .bind2 .ensures) (c .before .check-cmd5 .ensures) (c .of-case .ensures))  -- returns-6
-    (λ c. arm-other (c .before .before .before .before .before .before .before .row-at .ensures)
-    (λ h. none-between 3 3 (c .before .match2 .rest) (none-past 1 2 (c .before .before .before .before .before .before .match .rest) (h .0)) (h .1)) (c .not-passed2 .ensures))  -- returns-7
-    (λ c. arm-other (c .before .before .before .row-at .ensures)
-    (λ h. ⊎-elim (λ w. omega (arith, h .0, w .taken)) (λ w. omega (arith, h .1, w .1 .left)) (c .before .if1 .came)) (c .not-passed3 .ensures))  -- returns-8
+    (check-cmd-returns-2 t)
+    (check-cmd-returns-3 t)
+    (check-cmd-returns-4 t)
+    (check-cmd-returns-5 t)
+    (check-cmd-returns-6 t)
+    (check-cmd-returns-7 t)
+    (check-cmd-returns-8 t)

@@ -54,9 +54,9 @@ abbrev check-second-below : ℕ → In 3 check-second-kinds.ps
 check-second-below t =
     and 3 check-second-kinds.ps (falls 3 check-second-kinds.ps _<_ μ-check-second t) check-second.Pre
 
-pub +check-expr+check-second-spec : {M : Type 1} → statement M
-unfolding pick
-+check-expr+check-second-spec = close μ-check-expr μ-check-second (λ t. check-expr-lts.spec (
+-- What is known of the functions that `check_expr` calls.
+abbrev check-expr-calls : ℕ → check-expr-lts.Claims
+check-expr-calls t = (
   row-at-reads.Asked,
   row-at-reads.Learnt,
   of-int-reads.Asked,
@@ -84,6 +84,96 @@ unfolding pick
   no-type-reads.Asked,
   no-type-reads.Learnt,
 )
+
+check-expr-returns : (t : ℕ) → check-expr-lts.Need-returns (check-expr-calls t) (check-expr-at t) check-expr.Post
+check-expr-returns t c =
+    arm-int (c .before .before .row-at .ensures) (c .before .match .keys1) (c .of-int .ensures)
+
+check-expr-returns-2 : (t : ℕ) → check-expr-lts.Need-returns-2 (check-expr-calls t) (check-expr-at t) check-expr.Post
+check-expr-returns-2 t c =
+    arm-loc (c .before .before .row-at .ensures) (c .before .match .keys2) (c .of-location .ensures)
+
+check-expr-returns-3 : (t : ℕ) → check-expr-lts.Need-returns-3 (check-expr-calls t) (check-expr-at t) check-expr.Post
+check-expr-returns-3 t c =
+    arm-var (c .before .before .row-at .ensures) (c .before .match .keys3) (c .of-variable .ensures)
+
+check-expr-returns-4 : (t : ℕ) → check-expr-lts.Need-returns-4 (check-expr-calls t) (check-expr-at t) check-expr.Post
+check-expr-returns-4 t c =
+    let two = c .check-second .ensures in
+    arm-plus (c .before .before .before .before .before .before .row-at .ensures) (c .before .before .check-expr .ensures) (c .before .match2 .keys1) (two .1) (two .2)
+
+check-expr-returns-5 : (t : ℕ) → check-expr-lts.Need-returns-5 (check-expr-calls t) (check-expr-at t) check-expr.Post
+check-expr-returns-5 t c =
+    let two = c .check-second2 .ensures in
+    arm-pair (c .before .before .before .before .before .before .row-at .ensures) (c .before .before .check-expr .ensures) (c .before .match2 .keys2) (two .1) (two .2)
+
+check-expr-returns-6 : (t : ℕ) → check-expr-lts.Need-returns-6 (check-expr-calls t) (check-expr-at t) check-expr.Post
+check-expr-returns-6 t c =
+    arm-left (c .before .before .before .before .before .before .before .row-at .ensures) (c .before .before .before .check-expr .ensures)
+    (c .before .before .match2 .keys3) (c .before .left-part .ensures) (c .of-sum .ensures)
+
+check-expr-returns-7 : (t : ℕ) → check-expr-lts.Need-returns-7 (check-expr-calls t) (check-expr-at t) check-expr.Post
+check-expr-returns-7 t c =
+    arm-right (c .before .before .before .before .before .before .before .row-at .ensures) (c .before .before .before .check-expr .ensures)
+    (c .before .before .match2 .keys4) (c .before .right-part .ensures) (c .of-sum2 .ensures)
+
+check-expr-returns-8 : (t : ℕ) → check-expr-lts.Need-returns-8 (check-expr-calls t) (check-expr-at t) check-expr.Post
+check-expr-returns-8 t c =
+    arm-pack (c .before .before .before .before .before .before .row-at .ensures) (c .before .before .check-expr .ensures) (c .before .match2 .keys5)
+    (c .of-pack .ensures)
+
+check-expr-returns-9 : (t : ℕ) → check-expr-lts.Need-returns-9 (check-expr-calls t) (check-expr-at t) check-expr.Post
+check-expr-returns-9 t c =
+    arm-unpack (c .before .before .before .before .before .before .row-at .ensures) (c .before .before .check-expr .ensures) (c .before .match2 .keys6)
+    (c .of-unpack .ensures)
+
+check-expr-returns-10 : (t : ℕ) → check-expr-lts.Need-returns-10 (check-expr-calls t) (check-expr-at t) check-expr.Post
+unfolding pick
+check-expr-returns-10 t c =
+    arm-part (c .before .before .before .before .before .before .before .row-at .ensures) (c .before .before .before .check-expr .ensures)
+    first (c .before .before .match2 .keys7) (c .before .left-part2 .ensures) (c .of-part .ensures)
+
+check-expr-returns-11 : (t : ℕ) → check-expr-lts.Need-returns-11 (check-expr-calls t) (check-expr-at t) check-expr.Post
+unfolding pick
+check-expr-returns-11 t c =
+    arm-part (c .before .before .before .before .before .before .before .row-at .ensures) (c .before .before .before .check-expr .ensures)
+    second (c .before .before .match2 .keys8) (c .before .right-part2 .ensures) (c .of-part2 .ensures)
+
+check-expr-returns-12 : (t : ℕ) → check-expr-lts.Need-returns-12 (check-expr-calls t) (check-expr-at t) check-expr.Post
+check-expr-returns-12 t c =
+    arm-other (c .before .before .before .before .before .before .row-at .ensures)
+    (λ h.
+    let r = c .before .match2 .rest in
+    none-between 9 8
+    ((((((((tt, r .0 .0 .0 .0 .0 .0 .0 .1), r .0 .0 .0 .0 .0 .1), r .0 .0 .0 .0 .1), r .0 .0 .0 .1), r .0 .0 .1), r .0 .0 .0 .0 .0 .0 .1), r .0 .1), r .1)
+    (none-past 6 3 (c .before .before .before .before .before .match .rest) (h .0)) (h .1)) (c .no-type .ensures)
+
+check-expr-returns-13 : (t : ℕ) → check-expr-lts.Need-returns-13 (check-expr-calls t) (check-expr-at t) check-expr.Post
+check-expr-returns-13 t c =
+    arm-other (c .before .before .before .row-at .ensures)
+    (λ h. ⊎-elim (λ w. omega (arith, h .0, w .taken)) (λ w. omega (arith, h .1, w .1 .left)) (c .before .if1 .came)) (c .no-type2 .ensures)
+
+-- What is known of the functions that `check_second` calls.
+abbrev check-second-calls : ℕ → check-second-lts.Claims
+check-second-calls t = (
+  check-expr-below t,
+  check-expr.Post,
+  of-plus-reads.Asked,
+  of-plus-reads.Learnt,
+  of-pair-reads.Asked,
+  of-pair-reads.Learnt,
+)
+
+check-second-returns : (t : ℕ) → check-second-lts.Need-returns (check-second-calls t) (check-second-at t) check-second.Post
+check-second-returns t c =
+    (c .before .before .check-expr .result, c .before .before .check-expr .ensures, rw (c .before .if1 .taken) (c .of-plus .ensures))
+
+check-second-returns-2 : (t : ℕ) → check-second-lts.Need-returns-2 (check-second-calls t) (check-second-at t) check-second.Post
+check-second-returns-2 t c =
+    (c .before .before .check-expr .result, c .before .before .check-expr .ensures, rw (c .before .if1 .left) (c .of-pair .ensures))
+
+pub +check-expr+check-second-spec : {M : Type 1} → statement M
++check-expr+check-second-spec = close μ-check-expr μ-check-second (λ t. check-expr-lts.spec (check-expr-calls t)
     (check-expr-at t)
     check-expr.Post
     (λ c κs. search needs)  -- row-at-requires
@@ -109,47 +199,24 @@ unfolding pick
     (λ c κs. search needs)  -- of-part-requires-2
     (λ c κs. search needs)  -- no-type-requires
     (λ c κs. search needs)  -- no-type-requires-2
-    (λ c. arm-int (c .before .before .row-at .ensures) (c .before .match .keys1) (c .of-int .ensures))  -- returns
-    (λ c. arm-loc (c .before .before .row-at .ensures) (c .before .match .keys2) (c .of-location .ensures))  -- returns-2
-    (λ c. arm-var (c .before .before .row-at .ensures) (c .before .match .keys3) (c .of-variable .ensures))  -- returns-3
-    (λ c.
-    let two = c .check-second .ensures in
-    arm-plus (c .before .before .before .before .before .before .row-at .ensures) (c .before .before .check-expr .ensures) (c .before .match2 .keys1) (two .1) (two .2))  -- returns-4
-    (λ c.
-    let two = c .check-second2 .ensures in
-    arm-pair (c .before .before .before .before .before .before .row-at .ensures) (c .before .before .check-expr .ensures) (c .before .match2 .keys2) (two .1) (two .2))  -- returns-5
-    (λ c. arm-left (c .before .before .before .before .before .before .before .row-at .ensures) (c .before .before .before .check-expr .ensures)
-    (c .before .before .match2 .keys3) (c .before .left-part .ensures) (c .of-sum .ensures))  -- returns-6
-    (λ c. arm-right (c .before .before .before .before .before .before .before .row-at .ensures) (c .before .before .before .check-expr .ensures)
-    (c .before .before .match2 .keys4) (c .before .right-part .ensures) (c .of-sum2 .ensures))  -- returns-7
-    (λ c. arm-pack (c .before .before .before .before .before .before .row-at .ensures) (c .before .before .check-expr .ensures) (c .before .match2 .keys5)
-    (c .of-pack .ensures))  -- returns-8
-    (λ c. arm-unpack (c .before .before .before .before .before .before .row-at .ensures) (c .before .before .check-expr .ensures) (c .before .match2 .keys6)
-    (c .of-unpack .ensures))  -- returns-9
-    (λ c. arm-part (c .before .before .before .before .before .before .before .row-at .ensures) (c .before .before .before .check-expr .ensures)
-    first (c .before .before .match2 .keys7) (c .before .left-part2 .ensures) (c .of-part .ensures))  -- returns-10
-    (λ c. arm-part (c .before .before .before .before .before .before .before .row-at .ensures) (c .before .before .before .check-expr .ensures)
-    second (c .before .before .match2 .keys8) (c .before .right-part2 .ensures) (c .of-part2 .ensures))  -- returns-11
-    (λ c. arm-other (c .before .before .before .before .before .before .row-at .ensures)
-    (λ h.
-    let r = c .before .match2 .rest in
-    none-between 9 8
-    ((((((((tt, r .0 .0 .0 .0 .0 .0 .0 .1), r .0 .0 .0 .0 .0 .1), r .0 .0 .0 .0 .1), r .0 .0 .0 .1), r .0 .0 .1), r .0 .0 .0 .0 .0 .0 .1), r .0 .1), r .1)
-    (none-past 6 3 (c .before .before .before .before .before .match .rest) (h .0)) (h .1)) (c .no-type .ensures))  -- returns-12
-    (λ c. arm-other (c .before .before .before .row-at .ensures)
-    (λ h. ⊎-elim (λ w. omega (arith, h .0, w .taken)) (λ w. omega (arith, h .1, w .1 .left)) (c .before .if1 .came)) (c .no-type2 .ensures)))  -- returns-13
-    λ t. check-second-lts.spec (
-      check-expr-below t,
-      check-expr.Post,
-      of-plus-reads.Asked,
-      of-plus-reads.Learnt,
-      of-pair-reads.Asked,
-      of-pair-reads.Learnt,
-    )
+    (check-expr-returns t)
+    (check-expr-returns-2 t)
+    (check-expr-returns-3 t)
+    (check-expr-returns-4 t)
+    (check-expr-returns-5 t)
+    (check-expr-returns-6 t)
+    (check-expr-returns-7 t)
+    (check-expr-returns-8 t)
+    (check-expr-returns-9 t)
+    (check-expr-returns-10 t)
+    (check-expr-returns-11 t)
+    (check-expr-returns-12 t)
+    (check-expr-returns-13 t))
+    λ t. check-second-lts.spec (check-second-calls t)
     (check-second-at t)
     check-second.Post
     (λ c κs. (omega arith, tt))  -- check-expr-requires
     (λ c κs. search needs)  -- of-plus-requires
     (λ c κs. search needs)  -- of-pair-requires
-    (λ c. (c .before .before .check-expr .result, c .before .before .check-expr .ensures, rw (c .before .if1 .taken) (c .of-plus .ensures)))  -- returns
-    (λ c. (c .before .before .check-expr .result, c .before .before .check-expr .ensures, rw (c .before .if1 .left) (c .of-pair .ensures)))  -- returns-2
+    (check-second-returns t)
+    (check-second-returns-2 t)

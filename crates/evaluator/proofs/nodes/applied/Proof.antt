@@ -6,6 +6,11 @@ use Rattle.evaluator.proofs.NodeLaws as laws
 use Rattle.evaluator.proofs.nodes.applied.Statement.{statement}
 use Rattle.evaluator.proofs.nodes.applied.Tie as tie
 
+returns-7 : tie.Need-returns-7
+unfolding opKind pick partBy
+returns-7 c =
+    laws.applied-by _ _ _ _ (o-part second) (c .before .before .match .keys7) (c .part2 .ensures)
+
 pub applied-spec : {M : Type 1} → statement M
 unfolding opKind pick partBy
 applied-spec = tie.close (tie.spec
@@ -22,5 +27,5 @@ applied-spec = tie.close (tie.spec
     (λ c. laws.applied-by _ _ _ _ o-pack (c .before .before .match .keys4) (c .pack .ensures))  -- returns-4
     (λ c. laws.applied-by _ _ _ _ o-unpack (c .before .before .match .keys5) (c .unpack .ensures))  -- returns-5
     (λ c. laws.applied-by _ _ _ _ (o-part first) (c .before .before .match .keys6) (c .part .ensures))  -- returns-6
-    (λ c. laws.applied-by _ _ _ _ (o-part second) (c .before .before .match .keys7) (c .part2 .ensures))  -- returns-7
+    returns-7
     (λ c. let r = c .match .rest in laws.applied-none _ _ _ _ (r .0 .0) (r .0 .1) (r .1)))  -- returns-8

@@ -9,7 +9,7 @@ use lib.Dec.{eqb}
 use lib.ListN.{drop}
 use Rattle.logic.specs.Booleans.{both}
 use Rattle.sets.specs.Sets.{member}
-use Rattle.language.specs.Syntax.{int, Part, first, second, pick, Expr, val, loc, var, plus, left, right, pack, unpack, pairing, proj}
+use Rattle.language.specs.Syntax.{int, Part, pick, Expr, val, loc, var, plus, left, right, pack, unpack, pairing, proj}
 use Rattle.language.specs.Typing.{orElse, least, flowE}
 use Rattle.language.specs.Trust.{keepsE}
 use Rattle.script.specs.declared.Row.{Row}

@@ -6,7 +6,6 @@ use mathlib.Core.List.{List, [], _∷_}
 use Prim.Native.Nat.{ℕ, zero, suc, _<_}
 use native.Mathlib.Omega.{arith}
 use borrow.Author.Tests.{ltb-true}
-use Rattle.logic.specs.Booleans.{both}
 use Rattle.logic.proofs.BooleanLaws.{both-left, both-right}
 use Rattle.language.specs.Syntax.{Ty, t-err, Part, first, second, pick, Expr, Cmd}
 use Rattle.language.specs.Declarations.{nth}

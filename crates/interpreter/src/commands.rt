@@ -1,5 +1,4 @@
 // Runs of commands over the lines (the paper, figure 3).
-ghost use mathlib.Core.Path.{_≡_};
 ghost use Rattle.interpreter.specs.Internal.Post.{Execs, Ticks, Assigns, Decides, Branches};
 use evaluator::State;
 use script::ROW;

@@ -5,7 +5,7 @@ use mathlib.Core.List.{List, [], _∷_}
 use Prim.Native.Nat.{ℕ, zero, suc, _+_, _%_, _^_}
 use native.Mathlib.Omega.{arith}
 use lib.Dec.{eqb, eqb→eq}
-use Rattle.language.specs.Syntax.{headOf, Value, int, err, inl, inr, pkg, pair, Part, first, second, pick, has, Expr, val, loc, var, plus, left, right, pack, unpack, pairing, proj, Cmd}
+use Rattle.language.specs.Syntax.{headOf, Value, int, err, inl, inr, pkg, Part, first, second, pick, has, Expr, val, loc, var, plus, left, right, pack, unpack, pairing, proj, Cmd}
 use Rattle.language.specs.World.{World, Mem, wanted}
 use Rattle.language.specs.Substitution.{Env, update}
 use Rattle.language.specs.Declarations.{nth}

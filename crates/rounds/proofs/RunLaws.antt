@@ -1,6 +1,6 @@
 -- One script of a round after another. Assumes nothing.
-use mathlib.Core.Path.{_≡_, refl, sym, ap, _∙_, subst}
-use mathlib.Core.List.{List, [], _∷_}
+use mathlib.Core.Path.{_≡_, refl, sym, ap, _∙_}
+use mathlib.Core.List.{List, []}
 use mathlib.Core.Option.{Option, none, some}
 use Prim.Native.Nat.{ℕ, _+_, _-_, _*_, _≤_, _<_}
 use native.Mathlib.Omega.{arith}
@@ -22,8 +22,7 @@ use Rattle.stages.proofs.StageLaws.{goes, stops, accepted-code}
 use Rattle.stages.proofs.Kept.{left-unrefused}
 use Rattle.scripts.specs.Parting.{partsOf, mostScripts}
 use Rattle.scripts.specs.Internal.Places.{partsAfter}
-use Rattle.scripts.proofs.Places.{PartAt, part-at, parts-all, StartsAt, has-place, kept-end, none-left}
-use Rattle.rounds.specs.Answers.{RanRound}
+use Rattle.scripts.proofs.Places.{PartAt, part-at, parts-all, StartsAt, has-place, kept-end}
 use Rattle.rounds.specs.Calls.{lowest}
 use Rattle.rounds.specs.Internal.Stages.{Parted, runOn, turnOn, gateIn, ranOn, RunsScript, RunsTurn, RunsEach}
 use Rattle.rounds.proofs.LowerLaws.{lower-none, lowest-more}

@@ -17,7 +17,7 @@ use Rattle.stages.proofs.StageLaws.{stops, goes, strangers-in, unless-3, not-3}
 use Rattle.scripts.specs.Parting.{partsOf, mostScripts}
 use Rattle.rounds.specs.Answers.{RanRound, refusedRound, Gate, allOpen}
 use Rattle.rounds.specs.Calls.{tooMany, lowest, runEach, turnOf, playedOf}
-use Rattle.rounds.specs.Internal.Stages.{runOn, turnOn, gateIn, ranOn, playedOn, NumbersAll, RunsEach, Plays, RoundsOn}
+use Rattle.rounds.specs.Internal.Stages.{turnOn, gateIn, ranOn, playedOn, NumbersAll, RunsEach, Plays, RoundsOn}
 
 -- ---- gates
 

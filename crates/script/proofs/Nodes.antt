@@ -5,7 +5,7 @@ use mathlib.Core.List.{List, [], _∷_}
 use Prim.Native.Nat.{ℕ, zero, suc, _+_, _≤_, _<_}
 use native.Mathlib.Omega.{arith}
 use lib.ListN.{length, drop, List·getD-eq-default}
-use Rattle.language.specs.Syntax.{int, Part, first, second, pick, Expr, val, loc, var, plus, left, right, pack, unpack, pairing, proj, Cmd, skip, seq, assign, while, case}
+use Rattle.language.specs.Syntax.{int, Part, first, second, pick, val, loc, var, plus, left, right, pack, unpack, pairing, proj, skip, seq, assign, while, case}
 use Rattle.script.specs.declared.Row.{Row}
 use Rattle.script.specs.Lines.{Line, l-skip, l-seq, l-assign, l-while, l-case, l-int, l-loc, l-var, l-plus, l-left, l-right, l-pack, l-unpack, l-pair, l-proj, s-int, s-loc, s-var, s-plus, s-left, s-right, s-pack, s-unpack, s-pair, s-proj, s-skip, s-seq, s-assign, s-while, s-case, integerOf, exprLines, cmdLines}
 use Rattle.script.specs.Internal.Code.{rowOf, code, rowAt}

@@ -11,7 +11,7 @@ use Rattle.logic.proofs.BooleanLaws.{both-left, both-right}
 use lib.ListN.{length, getD, drop, length-drop, drop-of-length-le}
 use Rattle.script.specs.Lines.{Line}
 use Rattle.script.specs.declared.Row.{Row}
-use Rattle.script.specs.Internal.Code.{code, rowOf, rowAt}
+use Rattle.script.specs.Internal.Code.{code, rowAt}
 use Rattle.script.specs.Internal.Pieces.{operandCounts, operandCount}
 use Rattle.script.specs.Internal.Balance.{lineOperands, closes}
 use Rattle.script.proofs.Rows.{line-there}

@@ -1,7 +1,6 @@
 -- Texts of a few bytes, parted by computing. Assumes nothing.
-use Prim.Native.Nat.{ℕ}
 use mathlib.Core.Path.{_≡_, refl}
-use mathlib.Core.List.{List, [], _∷_}
+use mathlib.Core.List.{[], _∷_}
 use Rattle.logic.specs.Booleans.{both}
 use Rattle.scripts.specs.Parting.{toFirst, partsFrom, partsOf}
 

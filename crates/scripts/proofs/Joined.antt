@@ -2,14 +2,14 @@
 use Prim.Native.Nat.{ℕ}
 use native.Mathlib.Omega.{arith}
 use mathlib.Core.Path.{_≡_, refl, sym, ap, _∙_}
-use mathlib.Core.Bool.{Bool, true, false, cond, not}
+use mathlib.Core.Bool.{Bool, true, false, not}
 use mathlib.Core.List.{List, [], _∷_, _++_}
 use lib.Dec.{eqb}
 use borrow.Author.Tests.{eqb-true}
 use Rattle.logic.specs.Booleans.{both}
 use Rattle.logic.proofs.BooleanLaws.{cases, both-left, both-right, both-true, absurd-false}
 use Rattle.parts.specs.Parts.{noEmptyLine, lineEnded, joined}
-use Rattle.parts.specs.Theorems.{Lines, AllWhole}
+use Rattle.parts.specs.Theorems.{AllWhole}
 use Rattle.scripts.specs.Parting.{toFirst, partsFrom, partsOf}
 use Rattle.scripts.specs.Theorems.{PartsExact}
 

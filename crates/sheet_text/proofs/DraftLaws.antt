@@ -25,7 +25,7 @@ use Rattle.sheet.proofs.TableLaws.{types-in, labels-in, locations-in, principal
 use Rattle.sheet.proofs.GrowthLaws.{toLast-more, labels-split}
 use Rattle.sheet.proofs.TableGrowth.{compound-put, open-put, policy-put, location-put, principals-put, reading-put}
 use Rattle.sheet_text.specs.declared.line.Line.{Line}
-use Rattle.sheet_text.specs.declared.line.Line.the-variants.{P, R, T, Q, L, O, X}
+use Rattle.sheet_text.specs.declared.line.Line.the-variants.{P, R, L, O, X}
 use Rattle.sheet_text.specs.declared.draft.Draft.{Draft}
 use Rattle.sheet_text.specs.declared.draft.Draft.the-variants.{Formed, Refused}
 use Rattle.sheet_text.specs.Internal.Building.{lastOf, leastAfter, leastOwner, readingFits, compoundFits, labelFits, policyFits, locationFits, begin, addType, addLine, addLineOn}

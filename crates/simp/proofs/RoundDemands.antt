@@ -1,11 +1,11 @@
 -- Demands 1 and 2 of a round. Assumes nothing.
 use mathlib.Core.Logic.{_↔_, inl, inr, ⊎-elim}
-use mathlib.Core.Path.{_≡_, refl, sym, ap, _∙_, subst}
+use mathlib.Core.Path.{_≡_, refl, sym, _∙_, subst}
 use mathlib.Core.List.{List, [], _∷_}
 use mathlib.Core.Option.{Option, none, some}
 use Prim.Native.Nat.{ℕ, zero, suc, _≤_}
 use native.Mathlib.Omega.{arith}
-use lib.ListN.{length, getD, replicate, length-replicate}
+use lib.ListN.{length, getD, replicate}
 use Rattle.language.specs.Syntax.{Script}
 use Rattle.sheet.specs.Sheet.{Sheet, locationCount}
 use Rattle.script_text.specs.Counts.{countsOf}
@@ -25,8 +25,8 @@ use Rattle.rounds.proofs.LowerLaws.{lower-none, lowest-more}
 use Rattle.rounds.proofs.PlaceLaws.{each-length}
 use Rattle.numbers.specs.Rows.{numbers, Among, here, later}
 use Rattle.numbers.proofs.RowLaws.{by-rows, not-one, exactly, every-table}
-use Rattle.simp.specs.Judgements.{OnSheet, Principals, Typable, Started, Ends, ends-0, ends-9, ends-10, Run}
-use Rattle.simp.specs.Rounds.{roundRows, InTurn, no-turn, a-turn, Places, InPlace, Played, Open, TurnGoes, Round}
+use Rattle.simp.specs.Judgements.{OnSheet, Principals, Typable, Started, Ends, ends-0, ends-9, ends-10}
+use Rattle.simp.specs.Rounds.{roundRows, InTurn, no-turn, a-turn, Places, Played, Open, TurnGoes, Round}
 use Rattle.simp.specs.Demands.{RoundAnswers, ScriptAnswers, RoundDemand1}
 use Rattle.simp.proofs.Numbers.{typable-0, 0-typable}
 use Rattle.simp.proofs.SecondDemand.{started-run, run-ends, run-exactly}

@@ -1,11 +1,8 @@
 // SImp scripts on a sheet: the calls that firmware and the desk programs make.
 // Each settles every input; what they answer is defined in crates stages, rounds and groups, specs/Calls.antt.
 ghost use mathlib.Core.Path.{_≡_};
-ghost use Rattle.stages.specs.Answers.{Ran, Viewed, TrustAnswer};
 ghost use Rattle.stages.specs.Calls.{checkOf, runOf, viewOf, trustOf};
-ghost use Rattle.rounds.specs.Answers.{RanRound};
 ghost use Rattle.rounds.specs.Calls.{roundOf};
-ghost use Rattle.groups.specs.Answers.{Grouped};
 ghost use Rattle.groups.specs.Calls.{groupsOf};
 use groups::Groups;
 use rounds::Round;

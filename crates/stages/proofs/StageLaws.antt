@@ -13,7 +13,6 @@ use Rattle.language.specs.Transition.{Out, done, spent, over, wrong, iterate}
 use Rattle.language.specs.Typing.{shape}
 use Rattle.language.proofs.Exactness.{script-iff, exactness}
 use Rattle.language.proofs.TypeSoundness.{type-soundness}
-use Rattle.script.specs.Internal.Code.{code}
 use Rattle.sheet.specs.Sheet.{Sheet, locationCount}
 use Rattle.sets.specs.Sets.{within, everyone}
 use Rattle.sheet.specs.Internal.Tables.{everyoneIn}

@@ -1,6 +1,6 @@
 -- `rounds::run_each` meets its contract: the rest of the round, placed from here on, is the whole. Assumes nothing.
 use mathlib.Core.Path.{_≡_, refl, _∙_}
-use Prim.Native.Nat.{ℕ, _+_, _-_, _≤_}
+use Prim.Native.Nat.{_+_, _-_, _≤_}
 use native.Mathlib.Omega.{arith}
 use lib.ListN.{length, getD}
 use Rattle.scripts.proofs.Places.{PartAt, StartsAt, first-starts, next-starts, none-left}

@@ -1,10 +1,9 @@
 -- The loop: the lines from `at` on are to be those of so many trees. Assumes nothing.
-use mathlib.Core.Path.{_≡_, refl}
+use mathlib.Core.Path.{refl}
 use Prim.Native.Nat.{_+_, _-_, _≤_}
 use native.Mathlib.Omega.{arith}
 use lib.ListN.{length}
 use borrow.Author.Needs.{needs}
-use Rattle.script.specs.declared.Row.{Row}
 use Rattle.script_text.proofs.BalanceLaws.{Due, few-operands, due-none, due-end, due-more}
 use Rattle.script_text.proofs.balanced.Statement.{statement}
 use Rattle.script_text.proofs.balanced.Tie as tie

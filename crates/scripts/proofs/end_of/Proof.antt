@@ -1,7 +1,6 @@
 -- `scripts::end_of` meets its contract: what is left of the walk from here is the walk from the start. Assumes nothing.
 use Prim.Native.Nat.{_+_, _-_}
 use mathlib.Core.Path.{_≡_, refl, sym, _∙_}
-use native.Mathlib.Omega.{arith}
 use borrow.Author.Needs.{needs}
 use lib.ListN.{length, drop}
 use Rattle.scripts.specs.Internal.Places.{partLength, partEnd}

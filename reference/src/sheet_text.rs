@@ -201,7 +201,7 @@ mod tests {
         assert_eq!(parse(&sheet("T 0 1,Q 6 0,")), Err(later.at(3)));
         let many = Cause::TooMany { what: Counted::TypeLines, most: 27 };
         let chain = |count: usize| {
-            let kind = |t: usize| if t % 2 == 0 { 'T' } else { 'Q' };
+            let kind = |t: usize| if t.is_multiple_of(2) { 'T' } else { 'Q' };
             (5..5 + count).map(|t| format!("{} {} 0,", kind(t), t - 1)).collect::<String>()
         };
         assert_eq!(parse(&sheet(&chain(27))).map(|sheet| sheet.types.len()), Ok(32));

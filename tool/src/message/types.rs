@@ -146,7 +146,7 @@ impl There<'_> {
                     "{} takes {due}, but the value (line {operand}) is {there}",
                     words.location(location)
                 ),
-                self.into_location(),
+                self.to_assign(),
                 "a value has the type that the location is declared with",
             ),
             Rule::While => told(
@@ -236,7 +236,7 @@ impl There<'_> {
         }
     }
 
-    fn into_location(&self) -> String {
+    fn to_assign(&self) -> String {
         if self.is_side() {
             return "take it apart by `c` first, and assign `v 0` in one of its commands"
                 .to_string();

@@ -563,7 +563,8 @@ const ENDS_OF_A_RULE: [&str; 18] = [
 #[test]
 fn generated_sheets_reach_every_end_of_a_rule() {
     const SHEETS: u64 = 20_000;
-    let kinds: [(&str, fn(u64) -> Vec<u8>); 5] = [
+    type SheetOf = fn(u64) -> Vec<u8>;
+    let kinds: [(&str, SheetOf); 5] = [
         ("cases", |seed| case(seed).sheet),
         ("rounds", |seed| round_case(seed).sheet),
         ("groups", |seed| groups_case(seed).sheet),

@@ -187,7 +187,7 @@ fn scripts_refused_for_their_start_alone_would_show_it() {
 
 /// A round and its sheet; nothing in half of the rounds is damaged.
 fn round_and_sheet(seed: u64) -> Option<(RoundCase, Sheet)> {
-    if seed % 2 == 0 {
+    if seed.is_multiple_of(2) {
         return Some(round::undamaged(&mut Prng::new(seed)));
     }
     let case = round::round_case(seed);

@@ -13,7 +13,7 @@ use Rattle.labels.specs.declared.Label.{Label}
 use Rattle.labels.specs.declared.Reading.{Reading}
 use Rattle.labels.specs.declared.Reading.the-variants.{Pooled, Alone}
 use Rattle.labels.specs.Labels.{owners, readersOf, writersOf, belowOf, confidentialityOf, integrityOf, readsOf, writesOf, readsAloneOf, readsUnder}
-use Rattle.labels.specs.Lattice.{EmptyGroups, ClosedBelow, ReadingDownward, TwoRules}
+use Rattle.labels.specs.Lattice.{EmptyGroups, ClosedBelow, ReadingDownward, ReadsBelow, TwoRules}
 use Rattle.labels.proofs.OrderLaws.{below-at}
 use Rattle.labels.proofs.PartLaws.{C-mono}
 
@@ -120,6 +120,9 @@ pub reading-downward : ReadingDownward
 unfolding readsUnder
 reading-downward Pooled n e g a b h r = reads-down-C n e g a b h r
 reading-downward Alone n e g a b h r = alone-down-C n e g a b h r
+
+pub reads-below : ReadsBelow
+reads-below rule n e g = closed-below (readsUnder rule n g) (reading-downward rule n e g)
 
 pub rule-grows : (rule : Reading) (n : ℕ) (a : Label) (g h : ℕ) → within g h ≡ true → readsUnder rule n g a ≡ true → readsUnder rule n h a ≡ true
 unfolding readsUnder

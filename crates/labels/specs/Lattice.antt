@@ -1,7 +1,7 @@
 -- What the labels of n principals satisfy: the paper's security lattice (section 2.2, lemma 1) with the scope's labels,
 -- what the scope says of policies and of the empty group, and what is claimed of both rules of reading (request (g)).
 -- The proofs are `security-lattices`, `non-trivial` and `one-label` (proofs/LatticeLaws.antt), `empty-groups`,
--- `closed-below`, `reading-downward` and `two-rules` (proofs/ReadingLaws.antt) and `policies-effective`
+-- `closed-below`, `reading-downward`, `reads-below` and `two-rules` (proofs/ReadingLaws.antt) and `policies-effective`
 -- (proofs/PolicyLaws.antt).
 -- The scope differs from the paper in this: an owner's writers in bottom and in C(A) are {o}, since an owner is always in its own
 -- effective sets; an owner without a policy lets everyone write, where the paper has no writers; reading goes by readers and
@@ -80,6 +80,11 @@ ClosedBelow = (reads : Label → Bool) → DownwardClosed reads → (a b : Label
 -- (simp/ReadingRules).
 abbrev pub ReadingDownward : Type 0
 ReadingDownward = (rule : Reading) (n : ℕ) → n ≤ owners → (g : ℕ) → DownwardClosed (readsUnder rule n g)
+
+-- Request (g)'s own sentence: who reads a label reads every label below it, by both rules.
+abbrev pub ReadsBelow : Type 0
+ReadsBelow = (rule : Reading) (n : ℕ) → n ≤ owners → (g : ℕ) (a b : Label)
+    → belowOf a b ≡ true → readsUnder rule n g b ≡ true → readsUnder rule n g a ≡ true
 
 -- The rules compared.
 pub record TwoRules : Type 0 where

@@ -12,7 +12,7 @@ use Rattle.language.specs.Labels.{Labels, LeastLabelLaws, struck}
 use Rattle.language.specs.Declarations.{Declarations, unlabelled, startOf, nth}
 use Rattle.language.specs.Rules.{LabelledType, Typed, te-int, te-loc, te-var, te-plus, te-suml, te-sumr, te-pack, te-unpack, te-pair, te-proj, te-sub, Safe, tc-skip, tc-assign, tc-seq, tc-while, tc-case, tc-subs, Derivable}
 use Rattle.language.specs.Typing.{orElse, typeOfValue, typeOf, shape, least, flowE, flow, conditions, refusal}
-use Rattle.language.specs.Theorems.{Exactness}
+use Rattle.language.specs.Theorems.{Exactness, LeastLabels, labelsBound}
 use Rattle.language.proofs.Types.{isTy-true, hasTy-true, given-true, leftIs-true, rightIs-true, pairIs-true, partTy-true, onSum-true, onSum-path, HasType, h-int, h-loc, h-var, h-plus, h-left, h-right, h-pack, h-unpack, h-pair, h-proj, has-type, is-type}
 use Rattle.logic.proofs.OptionLaws.{none-some, some-path}
 
@@ -36,10 +36,6 @@ module _ {L : Type 0} (𝓛 : Labels L) (law : LeastLabelLaws 𝓛) (D : Declara
   unfoldable pub types : List (LabelledType L) → List Ty
   types [] = []
   types (g ∷ Γ) = g .type ∷ types Γ
-
-  unfoldable pub labels : List (LabelledType L) → List L
-  labels [] = []
-  labels (g ∷ Γ) = g .label ∷ labels Γ
 
   nth-types : (Γ : List (LabelledType L)) (d : ℕ) (g : LabelledType L) → nth Γ d ≡ some g → nth (types Γ) d ≡ some (g .type)
   unfolding nth types
@@ -118,8 +114,8 @@ module _ {L : Type 0} (𝓛 : Labels L) (law : LeastLabelLaws 𝓛) (D : Declara
       record { type-is = s′ .type-is; flows = s′ .flows; label-is = law .leq-trans _ _ _ (s′ .label-is) h }
 
   nth-both : (Γ : List (LabelledType L)) (d : ℕ) (τ : Ty) → nth (types Γ) d ≡ some τ
-      → nth Γ d ≡ some (record { type = τ; label = orElse (𝓛 .bot) (nth (labels Γ) d) })
-  unfolding nth types labels orElse
+      → nth Γ d ≡ some (record { type = τ; label = orElse (𝓛 .bot) (nth (labelsBound Γ) d) })
+  unfolding nth types labelsBound orElse
   nth-both [] d τ h = none-some h
   nth-both (g ∷ Γ) zero τ h = ap (λ (t : Ty). some (record { type = t; label = g .label })) (some-path h)
   nth-both (g ∷ Γ) (suc d) τ h = nth-both Γ d τ h
@@ -128,8 +124,8 @@ module _ {L : Type 0} (𝓛 : Labels L) (law : LeastLabelLaws 𝓛) (D : Declara
   conf-absorb : (m a : L) → 𝓛 .leq (𝓛 .conf m) (𝓛 .conf a) ≡ true → 𝓛 .conf (𝓛 .join m (𝓛 .conf a)) ≡ 𝓛 .conf a
   conf-absorb m a h = law .conf-join _ _ ∙ rw (law .conf-idem a) (law .leq-antisym _ _ (law .join-leq _ _ _ h (law .leq-refl _)) (law .leq-join-right _ _))
 
-  sound : (Γ : List (LabelledType L)) {e : Expr} {τ : Ty} → HasType (D .shapes) (types Γ) e τ → flowE (conditions 𝓛 D) (labels Γ) e ≡ true
-      → Typed 𝓛 D Γ e τ (least (conditions 𝓛 D) (labels Γ) e)
+  sound : (Γ : List (LabelledType L)) {e : Expr} {τ : Ty} → HasType (D .shapes) (types Γ) e τ → flowE (conditions 𝓛 D) (labelsBound Γ) e ≡ true
+      → Typed 𝓛 D Γ e τ (least (conditions 𝓛 D) (labelsBound Γ) e)
   unfolding flowE least
   sound Γ h-int f = te-int
   sound Γ h-loc f = te-loc refl refl
@@ -144,10 +140,19 @@ module _ {L : Type 0} (𝓛 : Labels L) (law : LeastLabelLaws 𝓛) (D : Declara
       te-pair p (te-sub (sound Γ a (both-left _ _ f)) (law .leq-join-left _ _)) (te-sub (sound Γ b (both-right _ _ f)) (law .leq-join-right _ _))
   sound Γ (h-proj e) f = te-proj (sound Γ e f)
 
-  below-same : (Γ : List (LabelledType L)) → Below (labels Γ) Γ
-  unfolding labels
+  below-same : (Γ : List (LabelledType L)) → Below (labelsBound Γ) Γ
+  unfolding labelsBound
   below-same [] = none-below
   below-same (g ∷ Γ) = more-below (law .leq-refl (g .label)) (below-same Γ)
+
+  -- Figure 4 types an expression at a label exactly if it does at the least one, and that is at or below the label.
+  pub least-label : (Γ : List (LabelledType L)) (e : Expr) (τ : Ty) (ℓ : L)
+      → Typed 𝓛 D Γ e τ ℓ
+      ↔ (Typed 𝓛 D Γ e τ (least (conditions 𝓛 D) (labelsBound Γ) e) × (𝓛 .leq (least (conditions 𝓛 D) (labelsBound Γ) e) ℓ ≡ true))
+  least-label Γ e τ ℓ = (
+    (λ t. let p = complete t (below-same Γ) in (sound Γ (has-type _ _ e (p .type-is)) (p .flows), p .label-is)),
+    (λ h. te-sub (h .0) (h .1)),
+  )
 
   -- Commands
 
@@ -190,9 +195,9 @@ module _ {L : Type 0} (𝓛 : Labels L) (law : LeastLabelLaws 𝓛) (D : Declara
       }
   complete-cmd (tc-subs s l) b h = complete-cmd s b (law .leq-trans _ _ _ h l)
 
-  sound-cmd : (c : Cmd) (Γ : List (LabelledType L)) (pc : L) → shape (D .shapes) (types Γ) c ≡ true → flow (conditions 𝓛 D) pc (labels Γ) c ≡ true
+  sound-cmd : (c : Cmd) (Γ : List (LabelledType L)) (pc : L) → shape (D .shapes) (types Γ) c ≡ true → flow (conditions 𝓛 D) pc (labelsBound Γ) c ≡ true
       → Safe 𝓛 D pc Γ c
-  unfolding shape flow types labels
+  unfolding shape flow types labelsBound
   sound-cmd skip Γ pc h f = tc-skip
   sound-cmd (seq c₁ c₂) Γ pc h f = tc-seq (sound-cmd c₁ Γ pc (both-left _ _ h) (both-left _ _ f)) (sound-cmd c₂ Γ pc (both-right _ _ h) (both-right _ _ f))
   sound-cmd (assign x e) Γ pc h f =
@@ -202,12 +207,12 @@ module _ {L : Type 0} (𝓛 : Labels L) (law : LeastLabelLaws 𝓛) (D : Declara
   sound-cmd (case e c₁ c₂) Γ pc h f =
       let o = onSum-path _ _ h in
       let k = both-right _ _ f in
-      let m = least (conditions 𝓛 D) (labels Γ) e in
+      let m = least (conditions 𝓛 D) (labelsBound Γ) e in
       tc-case (sound Γ (has-type _ _ e (o .2)) (both-left _ _ f)) (sound-cmd c₁ (record { type = o .0; label = m } ∷ Γ) _ (both-left _ _ (o .3)) (both-left _ _ k))
       (sound-cmd c₂ (record { type = o .1; label = m } ∷ Γ) _ (both-right _ _ (o .3)) (both-right _ _ k))
 
   -- Figure 5 has a derivation exactly if the command passes both tests.
-  pub safe-iff : (pc : L) (Γ : List (LabelledType L)) (c : Cmd) → Safe 𝓛 D pc Γ c ↔ Accepts Γ (labels Γ) pc c
+  pub safe-iff : (pc : L) (Γ : List (LabelledType L)) (c : Cmd) → Safe 𝓛 D pc Γ c ↔ Accepts Γ (labelsBound Γ) pc c
   safe-iff pc Γ c = ((λ s. complete-cmd s (below-same Γ) (law .leq-refl pc)), (λ a. sound-cmd c Γ pc (a .shaped) (a .flows)))
 
 -- Over the one label every condition holds.
@@ -235,7 +240,7 @@ struck-flow D (case e c₁ c₂) pc ls = both-true (struck-flowE D e ls) (both-t
 
 -- A script has a derivation with every label condition struck out exactly if its command passes `shape`.
 pub shape-iff : {L : Type 0} (D : Declarations L) (p : Script) → (shape (D .shapes) [] (p .command) ≡ true) ↔ Derivable struck (unlabelled D) p
-unfolding types labels
+unfolding types labelsBound
 shape-iff D p = (
   (λ h. safe-iff struck struck-laws (unlabelled D) _ [] (p .command) .1 (record { shaped = h; flows = struck-flow (unlabelled D) (p .command) _ [] })),
   (λ d. (safe-iff struck struck-laws (unlabelled D) _ [] (p .command) .0 d) .shaped),
@@ -257,7 +262,7 @@ number p q = rw (p, q)
 module _ {L : Type 0} (𝓛 : Labels L) (law : LeastLabelLaws 𝓛) (D : Declarations L) where
   -- A command has a derivation under the surrounding label pc exactly if it passes `shape` and `flow` there.
   pub flow-iff : (pc : L) (c : Cmd) → ((shape (D .shapes) [] c ≡ true) × (flow (conditions 𝓛 D) pc [] c ≡ true)) ↔ Safe 𝓛 D pc [] c
-  unfolding types labels
+  unfolding types labelsBound
   flow-iff pc c = (
     (λ h. safe-iff 𝓛 law D pc [] c .1 (record { shaped = h .0; flows = h .1 })),
     (λ d. let a = safe-iff 𝓛 law D pc [] c .0 d in (a .shaped, a .flows)),
@@ -291,3 +296,6 @@ module _ {L : Type 0} (𝓛 : Labels L) (law : LeastLabelLaws 𝓛) (D : Declara
       (λ n. number (shape-iff D p .1 (n .0)) (not-so (test-6 p) (λ f. n .1 (script-iff p .0 (shape-iff D p .1 (n .0), f))))),
     );
   }
+
+pub least-labels : LeastLabels
+least-labels L = least-label

@@ -2,18 +2,18 @@
 use mathlib.Core.Logic.{_↔_}
 use mathlib.Core.Path.{_≡_}
 use mathlib.Core.Bool.{Bool, true}
-use mathlib.Core.List.{List, []}
+use mathlib.Core.List.{List, [], _∷_}
 use Prim.Native.Nat.{ℕ, suc, _+_}
 use Rattle.logic.specs.Booleans.{both}
-use Rattle.language.specs.Syntax.{Value, Expr, val, Cmd, skip, Script}
+use Rattle.language.specs.Syntax.{Ty, Value, Expr, val, Cmd, skip, Script}
 use Rattle.language.specs.World.{World, Mem}
 use Rattle.language.specs.Transition.{final, to, too-long, no-rule, step, Out, done, spent, over, wrong, iterate}
 use Rattle.language.specs.Figures.{EStar, Step, Steps, LongExpr, LongStep, NoneLong}
 use Rattle.language.specs.Labels.{Labels, LeastLabelLaws, struck}
 use Rattle.language.specs.Declarations.{Shapes, WellTyped, Fitting, Declarations, unlabelled}
-use Rattle.language.specs.Typing.{shape, Conditions, least, flowE, flow, refusal}
+use Rattle.language.specs.Typing.{shape, Conditions, conditions, least, flowE, flow, refusal}
 use Rattle.language.specs.Trust.{keeps, trustKeeping, wholeLabels, stricter}
-use Rattle.language.specs.Rules.{Derivable}
+use Rattle.language.specs.Rules.{LabelledType, Typed, Derivable}
 use Rattle.language.specs.View.{mask, maskMem, Equiv, EquivMem}
 
 -- Figures 2 and 3 against `step`: they agree up to values that are too long, which the figures do not have. `LongExact` says when
@@ -68,6 +68,21 @@ pub record Exactness {L : Type 0} (𝓛 : Labels L) (D : Declarations L) : Type 
   pub accepted : (p : Script) → (refusal 𝓛 D p ≡ 0) ↔ Derivable 𝓛 D p
   pub refused-5 : (p : Script) → (refusal 𝓛 D p ≡ 5) ↔ (¬ Derivable struck (unlabelled D) p)
   pub refused-6 : (p : Script) → (refusal 𝓛 D p ≡ 6) ↔ (Derivable struck (unlabelled D) p × ¬ Derivable 𝓛 D p)
+
+-- The labels of Γ, innermost first.
+unfoldable pub labelsBound : {L : Type 0} → List (LabelledType L) → List L
+labelsBound [] = []
+labelsBound (g ∷ Γ) = g .label ∷ labelsBound Γ
+
+-- `least` is the least label that figure 4 gives an expression: figure 4 types it at a label exactly if it types it at
+-- the least one and that is at or below the label.
+abbrev pub LeastLabel : {L : Type 0} → Labels L → Declarations L → Type 0
+LeastLabel {L} 𝓛 D = (Γ : List (LabelledType L)) (e : Expr) (τ : Ty) (ℓ : L)
+    → Typed 𝓛 D Γ e τ ℓ
+    ↔ (Typed 𝓛 D Γ e τ (least (conditions 𝓛 D) (labelsBound Γ) e) × (𝓛 .leq (least (conditions 𝓛 D) (labelsBound Γ) e) ℓ ≡ true))
+
+abbrev pub LeastLabels : Type 1
+LeastLabels = (L : Type 0) (𝓛 : Labels L) → LeastLabelLaws 𝓛 → (D : Declarations L) → LeastLabel 𝓛 D
 
 -- Figure 6 and definition 1 against masks: two values have the same mask exactly if they are equivalent, and so have two memories.
 pub record Masking : Type 0 where

@@ -2,9 +2,10 @@
 use Rattle.promises.specs.Promises.{Promises}
 use Rattle.sets.proofs.MeaningLaws.{masks-are-sets}
 use Rattle.labels.proofs.LatticeLaws.{security-lattices, non-trivial, one-label}
-use Rattle.labels.proofs.ReadingLaws.{empty-groups, closed-below, reading-downward, two-rules}
+use Rattle.labels.proofs.ReadingLaws.{empty-groups, closed-below, reading-downward, reads-below, two-rules}
 use Rattle.labels.proofs.PolicyLaws.{policies-effective}
 use Rattle.language.proofs.Theorems.{theorems}
+use Rattle.language.proofs.Exactness.{least-labels}
 use Rattle.language.proofs.Trust.{stricter-flow, trust-derivable}
 use Rattle.sheet.proofs.MeaningLaws.{least-label-laws, same-labels-on-sheets, numbers-agree-on-sheets}
 use Rattle.sheet.proofs.ReaderLaws.{reading-on-sheets}
@@ -51,6 +52,7 @@ promises = record {
   cases-hold = cases-hold;
   every-table = every-table;
   theorems = theorems;
+  least-labels = least-labels;
   stricter-flow = stricter-flow;
   trust-derivable = trust-derivable;
   checker-exact = checker-exact;
@@ -61,6 +63,7 @@ promises = record {
   empty-groups = empty-groups;
   closed-below = closed-below;
   reading-downward = reading-downward;
+  reads-below = reads-below;
   two-rules = two-rules;
   policies-effective = policies-effective;
   groups-exact = groups-exact;

@@ -3,8 +3,8 @@
 use mathlib.Core.List.{List}
 use Prim.Native.Nat.{ℕ}
 use Rattle.sets.specs.Meaning.{MasksAreSets}
-use Rattle.labels.specs.Lattice.{SecurityLattices, NonTrivial, OneLabel, EmptyGroups, ClosedBelow, ReadingDownward, TwoRules, PoliciesEffective}
-use Rattle.language.specs.Theorems.{Theorems, StricterFlow, TrustDerivable}
+use Rattle.labels.specs.Lattice.{SecurityLattices, NonTrivial, OneLabel, EmptyGroups, ClosedBelow, ReadingDownward, ReadsBelow, TwoRules, PoliciesEffective}
+use Rattle.language.specs.Theorems.{Theorems, LeastLabels, StricterFlow, TrustDerivable}
 use Rattle.sheet.specs.Theorems.{LeastLabelLawsHold, SameLabelsOnSheets, NumbersAgreeOnSheets, ReadingOnSheets}
 use Rattle.text.specs.Reading.{Read}
 use Rattle.text.specs.Lines.{LineForm}
@@ -53,7 +53,8 @@ pub record Promises : Type 1 where
   -- such scripts.
   pub trust-kept : TrustKept
   -- A sheet's rule of reading decides who reads, and nothing else: who writes, what is left where a group is distrusted,
-  -- which sheets, scripts and memories are refused, and which scripts are trust-keeping stay.
+  -- which sheets, scripts and memories are refused, which scripts are trust-keeping, where a script starts and what else
+  -- a run goes by stay.
   pub only-reading : OnlyReading
   -- What the view promises, noninterference of runs and rounds and that a start that isn't read isn't seen, rests on one
   -- fact about reading: it is promised to everyone who reads with a label every label below it by readers alone.
@@ -69,6 +70,9 @@ pub record Promises : Type 1 where
   -- The functions agree with the figures; runs are determinate, sound and end as the figures have it; typing is exact; the paper's
   -- theorems 1 and 2, noninterference, of one expression and of one command; confinement.
   pub theorems : Theorems
+  -- The scope's least label of an expression is the least that figure 4 gives it: it is typed at a label exactly if it
+  -- is at the least one, and that is at or below the label.
+  pub least-labels : LeastLabels
   -- A command passes stricter conditions on unpacks exactly if it passes the conditions and each of its unpacks the
   -- test besides; so trust-keeping is what noninterference asks for where a group is distrusted.
   pub stricter-flow : StricterFlow
@@ -95,6 +99,8 @@ pub record Promises : Type 1 where
   pub closed-below : ClosedBelow
   -- Every group reads so, by the scope's rule and where one reads by himself.
   pub reading-downward : ReadingDownward
+  -- Who reads a label reads every label below it, by both rules.
+  pub reads-below : ReadsBelow
   -- Where one reads by himself, a group reads exactly if a member does as a group of one; it reads no more than by the
   -- scope's rule, a group of one as much, and the empty group nothing.
   pub two-rules : TwoRules

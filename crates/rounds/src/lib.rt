@@ -65,7 +65,7 @@ fn lowest_number(scripts: &[u8], ends: [usize; MOST_SCRIPTS], table: &[sheet::Wo
 }
 
 // Decodes an accepted script once more, and runs it on a memory that isn't refused.
-pub fn run_script(
+fn run_script(
     script: &[u8],
     table: &[sheet::Word],
     memory: &mut [u32],
@@ -137,7 +137,7 @@ fn run_each(
 }
 
 // Checks the scripts of a text, and runs them on a memory, each by its gate: 0 where it is open. The authority is known.
-pub fn play(
+fn play(
     scripts: &[u8],
     ends: [usize; MOST_SCRIPTS],
     gates: [u8; MOST_SCRIPTS],

@@ -2,7 +2,7 @@
 -- nothing.
 use mathlib.Core.Path.{_≡_, refl, sym, ap, _∙_}
 use mathlib.Core.Bool.{true}
-use mathlib.Core.List.{List, [], _∷_}
+use mathlib.Core.List.{List, []}
 use mathlib.Core.Option.{Option, none, some}
 use Prim.Native.Nat.{ℕ, suc, _+_, _-_, _^_, _≤_}
 use native.Mathlib.Omega.{arith}
@@ -25,7 +25,7 @@ use Rattle.sheet.specs.Internal.Tables.{tableOf}
 use Rattle.sheet.proofs.FormLaws.{formed-facts, type-count}
 use Rattle.script_text.specs.Bytes.{linesBytes, openingBytes, scriptBytes}
 use Rattle.script_text.specs.Reading.{lineOf, openingOf, Written, writtenWith, linesAfter, writtenOf}
-use Rattle.script_text.specs.Internal.Parse.{stackOf, onlyCommand, parse}
+use Rattle.script_text.specs.Internal.Parse.{parse}
 use Rattle.script_text.specs.Counts.{countsOf}
 use Rattle.script_text.specs.Script.{namedOnly, commandOf, scriptWith, scriptRead, scriptOf}
 use Rattle.script_text.specs.Internal.Decoded.{countsIn}
@@ -101,12 +101,6 @@ pub command-lines : (k : Counts) (c : Cmd) → Source c → named k 0 c ≡ true
 unfolding commandOf namedOnly
 command-lines k c s n = rw (parse-lines s, n)
 
--- no lines are no command
-pub command-some : (k : Counts) (ls : List Line) (c : Cmd) → commandOf k ls ≡ some c → 1 ≤ length ls
-unfolding commandOf parse onlyCommand stackOf
-command-some k [] c e = unfold namedOnly in none-some e
-command-some k (l ∷ ls) c e = omega arith
-
 -- ---- the script of a text
 
 -- a script that is read names only what is there
@@ -165,13 +159,11 @@ script-sound k t p e =
     script-split k (writtenOf t) p (λ ls x y n.
     let r = written-sound t _ x in
     let q = command-sound k ls (p .command) y in
-    let m = command-some k ls (p .command) y in
     record {
       printed = r .printed ∙ ap (λ (z : List Line). openingBytes (p .opening) (linesBytes z)) (q .0);
       source = q .1;
       opened-there = n;
       named-there = q .2;
-      not-empty = rw (q .0) at m;
       few = rw (q .0) at (r .few);
       short = r .short;
     }) e

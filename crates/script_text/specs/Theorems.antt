@@ -22,7 +22,6 @@ pub record IsScript (k : Counts) (t : List ℕ) (p : Script) : Type 0 where
   pub source : Source (p .command)
   pub opened-there : namedOpening k (p .opening) ≡ true
   pub named-there : named k 0 (p .command) ≡ true
-  pub not-empty : 1 ≤ length (cmdLines (p .command) [])
   pub few : openingLines (p .opening) + length (cmdLines (p .command) []) ≤ maxLines
   pub short : length t ≤ limit
 

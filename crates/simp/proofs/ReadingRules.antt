@@ -39,6 +39,8 @@ only-reading = record {
   typing = λ rule s p. refl;
   keeping = λ rule s p. refl;
   memories = λ rule s ws. refl;
+  runs = λ rule s authority p. refl;
+  starts = λ rule s p. refl;
 }
 
 -- ---- what is promised to one who reads the labels `reads`

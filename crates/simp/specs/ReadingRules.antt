@@ -14,7 +14,7 @@ use Rattle.language.specs.Syntax.{Script}
 use Rattle.language.specs.Typing.{refusal}
 use Rattle.language.specs.Trust.{trustKeeping}
 use Rattle.sheet.specs.Sheet.{Sheet, labelNo, locationNo, locationCount, formed, repeats}
-use Rattle.sheet.specs.Meaning.{labelsOver, declarationsOf, startLabel, writesNo}
+use Rattle.sheet.specs.Meaning.{labelsOver, declarationsOf, startLabel, readsNo, writesNo, worldFor}
 use Rattle.sheet_text.specs.Theorems.{IsSheet}
 use Rattle.script_text.specs.Counts.{countsOf}
 use Rattle.script_text.specs.Theorems.{IsScript}
@@ -46,6 +46,11 @@ pub record OnlyReading : Type 0 where
   pub keeping : (rule : Reading) (s : Sheet) (p : Script)
       → trustKeeping (labelsOver (s .principals)) (declarationsOf (ruled rule s)) p ≡ trustKeeping (labelsOver (s .principals)) (declarationsOf s) p
   pub memories : (rule : Reading) (s : Sheet) (ws : List ℕ) → memoryRefusal (ruled rule s) ws ≡ memoryRefusal s ws
+  -- what a run goes by, but for who reads; and the label that a script starts at
+  pub runs : (rule : Reading) (s : Sheet) (authority : ℕ) (p : Script) → let w = worldFor s authority p in
+      worldFor (ruled rule s) authority p
+      ≡ record { ty = w .ty; below = w .below; reads = readsNo (ruled rule s) authority; writes = w .writes }
+  pub starts : (rule : Reading) (s : Sheet) (p : Script) → startLabel (ruled rule s) p ≡ startLabel s p
 
 -- ---- what the view promises rests on one fact about reading
 

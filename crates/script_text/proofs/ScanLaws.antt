@@ -1,5 +1,6 @@
 -- An expression or a command is found at a row exactly if its lines stand there: a law for each number of operands. Assumes nothing.
 use mathlib.Core.Path.{_≡_, refl, sym, ap, _∙_}
+use mathlib.Core.Logic.{_⊎_, inl, inr}
 use mathlib.Core.Bool.{Bool, true, false}
 use mathlib.Core.List.{List, [], _∷_}
 use Prim.Native.Nat.{ℕ, suc, _+_, _≤_, _<_}
@@ -7,19 +8,20 @@ use native.Mathlib.Numerals.{add-one}
 use native.Mathlib.Omega.{arith}
 use lib.Dec.{ltb}
 use lib.ListN.{drop}
-use borrow.Author.Tests.{lt-ltb, le-ltb}
-use Rattle.logic.specs.Booleans.{both}
+use borrow.Author.Tests.{lt-ltb, le-ltb, ne-eqb}
+use Rattle.logic.specs.Booleans.{both, either}
 use Rattle.logic.proofs.BooleanLaws.{both-assoc, both-left, both-right, both-true}
 use Rattle.language.specs.Syntax.{case}
 use Rattle.script.specs.declared.Row.{Row}
 use Rattle.script.specs.Lines.{Line}
 use Rattle.script.specs.Internal.Code.{rowOf, code, rowAt}
 use Rattle.script.specs.Internal.Pieces.{Sort, expression, command, Tree, SourceOf, linesOf}
-use Rattle.script.specs.Names.{Counts, maxDepth, named}
-use Rattle.script.proofs.Rows.{row-of, line-there, line-nowhere, KindOf, not-here}
+use Rattle.script.specs.Names.{Counts, maxDepth, namedE, named}
+use Rattle.script.proofs.Rows.{row-of, line-there, line-nowhere, KindOf, not-here, NoneOf, OneOf, one-between}
 use Rattle.script.proofs.Nodes.{view, Makes, Node, n-case, no-node, Made, made, OfOperands, of-operands}
+use Rattle.script.proofs.Nodes.{n-plus, n-left, n-right, n-pack, n-unpack, n-pair, n-first, n-second}
 use Rattle.script_text.specs.declared.Scanned.{Scanned}
-use Rattle.script_text.specs.Internal.Scan.{Scans, ScansExpr, ScansCmd}
+use Rattle.script_text.specs.Internal.Scan.{Scans, ScansExpr, ScansCmd, namesThere}
 
 pub false-true : {A : Type 0} (b : Bool) → b ≡ false → b ≡ true → A
 false-true b f t = absurd (let z : _≡_ {A = ℕ} 0 1 = cc in omega arith)
@@ -89,12 +91,6 @@ module _ {s : Sort} {names : Tree s → Bool} {ws : List ℕ} {at : ℕ} {row : 
       let g = sa .complete x rest u (both-right _ _ m′) h in
       (both-true (both-left _ _ m′) (g .0), g .1)))
 
-  -- one operand, and no number of the line's own
-  pub scan-operand : {t : Sort} {namesT : Tree t → Bool} {k : ℕ} {f : Tree t → Tree s} {a : Scanned} → Node s (t ∷ []) k (row .a) (row .b) f
-      → row .kind ≡ k → Scans t namesT ws (at + 3) a → ((x : Tree t) → names (f x) ≡ namesT x) → Scans s names ws at a
-  unfolding both
-  scan-operand n k sa i = scan-one {test = true} n k refl sa refl i
-
   pub scan-two : {t v : Sort} {namesT : Tree t → Bool} {namesV : Tree v → Bool} {k : ℕ} {f : Tree t → Tree v → Tree s} {a b r : Scanned}
       → Node s (t ∷ v ∷ []) k (row .a) (row .b) f → row .kind ≡ k → Scans t namesT ws (at + 3) a
       → Scans v namesV ws (a .next) b → r ≡ record { ok = both (a .ok) (b .ok); next = b .next }
@@ -133,6 +129,56 @@ module _ {s : Sort} {names : Tree s → Bool} {ws : List ℕ} {at : ℕ} {row : 
         sound = λ ls h t. false-true false refl t;
         complete = λ x rest u n h. absurd (not-here s x rest ws at q f u h);
       }
+
+-- ---- an expression with operands, and the numbers of its line
+
+-- a line of another kind names nothing
+pub names-none : (k : Counts) {kind : ℕ} (a b : ℕ) → NoneOf kind 10 5 → true ≡ namesThere k kind a b
+unfolding namesThere either
+names-none k a b f =
+    let first = f .0 .0 .0 in
+    rw (
+      ne-eqb _ _ (first .0 .1),
+      ne-eqb _ _ (first .1),
+      ne-eqb _ _ (f .0 .0 .1),
+      ne-eqb _ _ (f .0 .1),
+      ne-eqb _ _ (f .1),
+    )
+
+-- the test, where the kind is known
+of-kind : (k : Counts) (row : Row) {test : Bool} → test ≡ namesThere k (row .kind) (row .a) (row .b)
+    → (n : ℕ) → row .kind ≡ n → test ≡ namesThere k n (row .a) (row .b)
+of-kind k row p n i = p ∙ ap (λ (m : ℕ). namesThere k m (row .a) (row .b)) i
+
+module _ (k : Counts) (d : ℕ) {ws : List ℕ} {at : ℕ} {row : Row} (q : row ≡ rowAt ws at) {test : Bool}
+    (p : test ≡ namesThere k (row .kind) (row .a) (row .b)) where
+  -- the kinds with two operands
+  pub scan-named-two : {a b c r : Scanned} → (row .kind ≡ 9) ⊎ (row .kind ≡ 14) → ScansExpr k d ws (at + 3) a
+      → ScansExpr k d ws (a .next) b → c ≡ record { ok = both (a .ok) (b .ok); next = b .next }
+      → r ≡ record { ok = both test (c .ok); next = c .next } → ScansExpr k d ws at r
+  unfolding namedE namesThere either both
+  scan-named-two (inl i) sa sb g h = scan-two-tested q n-plus i (of-kind k row p 9 i) sa sb g h (λ x y. refl)
+  scan-named-two (inr i) sa sb g h = scan-two-tested q n-pair i (of-kind k row p 14 i) sa sb g h (λ x y. refl)
+
+  -- the kinds with one, between which that of a pair stands
+  scan-one-of : {a r : Scanned} → OneOf (row .kind) 10 6 → (row .kind ≡ 14 → ⊥) → ScansExpr k d ws (at + 3) a
+      → r ≡ record { ok = both test (a .ok); next = a .next } → ScansExpr k d ws at r
+  unfolding namedE namesThere either both
+  scan-one-of (inl i) f sa h = scan-one q n-left i (of-kind k row p 10 i) sa h (λ x. refl)
+  scan-one-of (inr (inl i)) f sa h = scan-one q n-right i (of-kind k row p 11 i) sa h (λ x. refl)
+  scan-one-of (inr (inr (inl i))) f sa h = scan-one q n-pack i (of-kind k row p 12 i) sa h (λ x. refl)
+  scan-one-of (inr (inr (inr (inl i)))) f sa h = scan-one q n-unpack i (of-kind k row p 13 i) sa h (λ x. refl)
+  scan-one-of (inr (inr (inr (inr (inl i))))) f sa h = absurd (f i)
+  scan-one-of (inr (inr (inr (inr (inr (inl i)))))) f sa h =
+      scan-one q n-first i (of-kind k row p 15 i) sa h (λ x. refl)
+  scan-one-of (inr (inr (inr (inr (inr (inr i)))))) f sa h =
+      scan-one q n-second i (of-kind k row p 16 i) sa h (λ x. refl)
+
+  pub scan-named-one : {a r : Scanned} → 9 ≤ row .kind → row .kind ≤ 16 → ((row .kind ≡ 9) ⊎ (row .kind ≡ 14) → ⊥)
+      → ScansExpr k d ws (at + 3) a → r ≡ record { ok = both test (a .ok); next = a .next } → ScansExpr k d ws at r
+  scan-named-one l u f sa h =
+      let g : row .kind ≡ 9 → ⊥ = λ i. f (inl i) in
+      scan-one-of (one-between 10 6 (omega (arith, l, g)) u) (λ i. f (inr i)) sa h
 
 -- ---- a case, below d others
 

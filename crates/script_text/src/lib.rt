@@ -14,7 +14,7 @@ ghost use Rattle.script_text.specs.Reading.{bare, one, two, operandsOf, 
 ghost use Rattle.script_text.specs.Script.{scriptOf};
 ghost use Rattle.script_text.specs.Internal.Decoded.{codeWords, countsIn, noCode, codedLines, codedText, decodedScript};
 ghost use Rattle.script_text.specs.Internal.Placed.{placedLine, lineAt, placedOpening};
-ghost use Rattle.script_text.specs.Internal.Scan.{ScansExpr, ScansCmd, Balanced, Whole};
+ghost use Rattle.script_text.specs.Internal.Scan.{namesThere, ScansExpr, ScansCmd, Balanced, Whole};
 use reader::Reader;
 use script::ASSIGN;
 use script::CASE;
@@ -342,6 +342,20 @@ fn also(test: bool, r: Scanned) -> Scanned
     }
 }
 
+// Whether the numbers of a line with operands, of an expression, name types and labels that are there.
+fn names_there(table: &[sheet::Word], kind: u32, a: u32, b: u32) -> bool
+    ensures { λ r. ⌜ r ≡ namesThere (countsIn (now (table .entry))) kind a b ⌝ }
+{
+    match kind {
+        LEFT => is_type(table, a),
+        RIGHT => is_type(table, a),
+        PACK => is_label(table, a),
+        UNPACK => is_type(table, a) & is_label(table, b),
+        PAIR => is_type(table, a),
+        _ => true,
+    }
+}
+
 // Whether an expression below `depth` cases starts at word `at`, and where the next row starts.
 fn scan_expr(code: &[u32], at: usize, table: &[sheet::Word], depth: u32) -> Scanned
     ensures { λ r. ⌜ ScansExpr (countsIn (now (table .entry))) depth (now (code .entry)) at r ⌝ }
@@ -370,22 +384,9 @@ fn scan_expr(code: &[u32], at: usize, table: &[sheet::Word], depth: u32) -> Scan
                 PLUS | PAIR => {
                     let mid = e.next;
                     let f = also(e.ok, scan_expr(code, mid, table, depth));
-                    if kind == PAIR {
-                        also(is_type(table, a), f)
-                    } else {
-                        f
-                    }
+                    also(names_there(table, kind, a, row.b), f)
                 }
-                LEFT => also(is_type(table, a), e),
-                RIGHT => also(is_type(table, a), e),
-                PACK => also(is_label(table, a), e),
-                UNPACK => also(is_type(table, a), also(is_label(table, row.b), e)),
-                FIRST => e,
-                SECOND => e,
-                _ => Scanned {
-                    ok: false,
-                    next: at,
-                },
+                _ => also(names_there(table, kind, a, row.b), e),
             }
         }
         _ => Scanned {

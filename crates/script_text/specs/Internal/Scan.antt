@@ -1,10 +1,12 @@
 -- What the code answers where it looks for an expression or a command at a row.
 use mathlib.Core.Path.{_≡_}
-use mathlib.Core.Bool.{Bool, true, false}
+use mathlib.Core.Bool.{Bool, true, false, cond}
 use mathlib.Core.List.{List}
 use mathlib.Core.Option.{Option, none, some}
 use Prim.Native.Nat.{ℕ, _≤_}
+use lib.Dec.{eqb, ltb}
 use lib.ListN.{drop}
+use Rattle.logic.specs.Booleans.{both, either}
 use Rattle.script.specs.Lines.{Line}
 use Rattle.script.specs.Internal.Code.{code}
 use Rattle.script.specs.Internal.Balance.{closes}
@@ -28,6 +30,13 @@ ScansExpr k d ws at r = Scans expression (namedE k d) ws at r
 -- a command likewise
 abbrev pub ScansCmd : Counts → ℕ → List ℕ → ℕ → Scanned → Type 0
 ScansCmd k d ws at r = Scans command (named k d) ws at r
+
+-- Whether the numbers of a line with operands, of an expression, name what is there, by its kind: a type where it makes
+-- a left, a right or a pair, a label where it makes a pack, both where it makes an unpack. The others have none.
+unfoldable pub namesThere : Counts → ℕ → ℕ → ℕ → Bool
+namesThere k kind a b =
+    cond (either (eqb kind 10) (either (eqb kind 11) (eqb kind 14))) (ltb a (k .types))
+    (cond (eqb kind 12) (ltb a (k .labels)) (cond (eqb kind 13) (both (ltb a (k .types)) (ltb b (k .labels))) true))
 
 -- whether lines are as many as their kinds ask for
 abbrev pub Balanced : List ℕ → Bool → Type 0

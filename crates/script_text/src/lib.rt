@@ -412,31 +412,27 @@ fn scan_cmd(code: &[u32], at: usize, table: &[sheet::Word], depth: u32) -> Scann
             let mid = c.next;
             also(c.ok, scan_cmd(code, mid, table, depth))
         }
-        ASSIGN | WHILE | CASE => {
+        ASSIGN => also(
+            is_location(table, row.a),
+            scan_expr(code, at + ROW, table, depth),
+        ),
+        WHILE => {
             let e = scan_expr(code, at + ROW, table, depth);
-            match kind {
-                ASSIGN => also(is_location(table, row.a), e),
-                WHILE => {
-                    let mid = e.next;
-                    also(e.ok, scan_cmd(code, mid, table, depth))
-                }
-                CASE => {
-                    if DEPTH <= depth {
-                        return Scanned {
-                            ok: false,
-                            next: at,
-                        };
-                    }
-                    let first = e.next;
-                    let c = scan_cmd(code, first, table, depth + 1);
-                    let second = c.next;
-                    also(e.ok, also(c.ok, scan_cmd(code, second, table, depth + 1)))
-                }
-                _ => Scanned {
+            let mid = e.next;
+            also(e.ok, scan_cmd(code, mid, table, depth))
+        }
+        CASE => {
+            if DEPTH <= depth {
+                return Scanned {
                     ok: false,
                     next: at,
-                },
+                };
             }
+            let e = scan_expr(code, at + ROW, table, depth);
+            let first = e.next;
+            let c = scan_cmd(code, first, table, depth + 1);
+            let second = c.next;
+            also(e.ok, also(c.ok, scan_cmd(code, second, table, depth + 1)))
         }
         _ => Scanned {
             ok: false,

@@ -1,4 +1,6 @@
 // Runs of commands over the lines (the paper, figure 3).
+ghost use mathlib.Core.Path.{_≡_};
+ghost use Rattle.script.specs.Internal.Code.{rowAt};
 ghost use Rattle.interpreter.specs.Internal.Post.{Execs, Ticks, Assigns, Decides, Branches};
 use evaluator::State;
 use script::ROW;
@@ -186,7 +188,8 @@ fn branch(
     }
 }
 
-// Runs the command at `at`, below so many cases, within a budget.
+// Runs the command at `at`, below so many cases, within a budget. A command with commands in it has a function of its
+// own: called in one place, it is compiled into this one, where their locals then share their room in the frame.
 pub(crate) fn exec(
     code: &[u32],
     at: usize,
@@ -208,67 +211,122 @@ pub(crate) fn exec(
             left: fuel,
             next: at + ROW,
         },
-        script::SEQ => {
-            let d = exec(code, at + ROW, table, powers, depth, work, fuel);
-            let t = tick(d);
-            let first = t.state;
-            let State::Done = first else {
-                return t;
-            };
-            let next = t.next;
-            exec(code, next, table, powers, depth, work, t.left)
-        }
+        script::SEQ => sequence(code, at, table, powers, depth, work, fuel),
         script::ASSIGN => assign(code, at + ROW, table, powers, depth, work, fuel, row.a),
-        script::WHILE => {
-            let mut left = fuel;
-            // where the last round ended; `at` before the first
-            let mut end = at;
-            loop {
-                let g = decide(code, at + ROW, table, powers, depth, work, left);
-                let body = g.next;
-                if !g.on {
-                    let state = g.state;
-                    let next = if end == at { skip(code, body) } else { end };
-                    return Stepped {
-                        state,
-                        left: g.left,
-                        next,
-                    };
-                }
-                let d = exec(code, body, table, powers, depth, work, g.left);
-                let t = tick(d);
-                let state = t.state;
-                let State::Done = state else {
-                    return t;
-                };
-                left = t.left;
-                end = t.next;
-            }
-        }
-        script::CASE => {
-            let b = branch(code, at + ROW, table, powers, depth, work, fuel);
-            let state = b.state;
-            let State::Done = state else {
-                return Stepped {
-                    state,
-                    left: b.left,
-                    next: at,
-                };
-            };
-            let start = b.start;
-            let d = exec(code, start, table, powers, depth + 1, work, b.left);
-            let state = d.state;
-            let next = if b.on { skip(code, d.next) } else { d.next };
-            Stepped {
-                state,
-                left: d.left,
-                next,
-            }
-        }
+        script::WHILE => repeat(code, at, table, powers, depth, work, fuel),
+        script::CASE => select(code, at, table, powers, depth, work, fuel),
         _ => Stepped {
             state: State::NoRule,
             left: fuel,
             next: at,
         },
+    }
+}
+
+// Runs the two commands of the `;` at `at`, one after the other.
+fn sequence(
+    code: &[u32],
+    at: usize,
+    table: &[sheet::Word],
+    powers: Powers,
+    depth: u32,
+    work: &mut [u32; evaluator::WORK],
+    fuel: u32,
+) -> Stepped
+    requires { ⌜ rowAt (now code) at .kind ≡ 2 ⌝ }
+    ensures { λ r. ⌜ Execs (record { table = now (table .entry); powers = powers })
+        (record { code = now (code .entry); at = at; depth = depth; cells = now (work .entry) })
+        fuel r (now (work .exit)) ⌝ }
+{
+    let d = exec(code, at + ROW, table, powers, depth, work, fuel);
+    let t = tick(d);
+    let first = t.state;
+    let State::Done = first else {
+        return t;
+    };
+    let next = t.next;
+    let d = exec(code, next, table, powers, depth, work, t.left);
+    // by its parts: handed on whole, it is copied once more
+    let state = d.state;
+    Stepped {
+        state,
+        left: d.left,
+        next: d.next,
+    }
+}
+
+// Runs the while at `at`.
+fn repeat(
+    code: &[u32],
+    at: usize,
+    table: &[sheet::Word],
+    powers: Powers,
+    depth: u32,
+    work: &mut [u32; evaluator::WORK],
+    fuel: u32,
+) -> Stepped
+    requires { ⌜ rowAt (now code) at .kind ≡ 4 ⌝ }
+    ensures { λ r. ⌜ Execs (record { table = now (table .entry); powers = powers })
+        (record { code = now (code .entry); at = at; depth = depth; cells = now (work .entry) })
+        fuel r (now (work .exit)) ⌝ }
+{
+    let mut left = fuel;
+    // where the last round ended; `at` before the first
+    let mut end = at;
+    loop {
+        let g = decide(code, at + ROW, table, powers, depth, work, left);
+        let body = g.next;
+        if !g.on {
+            let state = g.state;
+            let next = if end == at { skip(code, body) } else { end };
+            return Stepped {
+                state,
+                left: g.left,
+                next,
+            };
+        }
+        let d = exec(code, body, table, powers, depth, work, g.left);
+        let t = tick(d);
+        let state = t.state;
+        let State::Done = state else {
+            return t;
+        };
+        left = t.left;
+        end = t.next;
+    }
+}
+
+// Runs the case at `at`: its branch, below one case more.
+fn select(
+    code: &[u32],
+    at: usize,
+    table: &[sheet::Word],
+    powers: Powers,
+    depth: u32,
+    work: &mut [u32; evaluator::WORK],
+    fuel: u32,
+) -> Stepped
+    requires { ⌜ rowAt (now code) at .kind ≡ 5 ⌝ }
+    ensures { λ r. ⌜ Execs (record { table = now (table .entry); powers = powers })
+        (record { code = now (code .entry); at = at; depth = depth; cells = now (work .entry) })
+        fuel r (now (work .exit)) ⌝ }
+{
+    let b = branch(code, at + ROW, table, powers, depth, work, fuel);
+    let state = b.state;
+    let State::Done = state else {
+        return Stepped {
+            state,
+            left: b.left,
+            next: at,
+        };
+    };
+    let start = b.start;
+    let d = exec(code, start, table, powers, depth + 1, work, b.left);
+    let state = d.state;
+    let next = if b.on { skip(code, d.next) } else { d.next };
+    Stepped {
+        state,
+        left: d.left,
+        next,
     }
 }

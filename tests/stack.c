@@ -38,7 +38,8 @@ static void write_memory(uint32_t *memory)
     memory[2 * SIMP_CELL] = 3, memory[2 * SIMP_CELL + 1] = 1;
 }
 
-/* The empty call, by a pointer so that it is made: it touches the last word of its caller's frame, as each call does. */
+/* The empty call, by a pointer so that it is made: it touches the last word of its caller's frame, as each call
+   does. */
 static int nothing(void) { return 0; }
 static int (*volatile empty)(void) = nothing;
 
@@ -54,11 +55,13 @@ static void *make(void *unused)
     if (chosen == CHECK)
         answer = simp_check(bytes(sheet), strlen(sheet), bytes(script), strlen(script));
     if (chosen == RUN)
-        answer = simp_run(bytes(sheet), strlen(sheet), bytes(script), strlen(script), memory, LOCATIONS * SIMP_CELL, 3, 1000).answer;
+        answer = simp_run(bytes(sheet), strlen(sheet), bytes(script), strlen(script),
+                          memory, LOCATIONS * SIMP_CELL, 3, 1000).answer;
     if (chosen == VIEW)
         answer = simp_view(bytes(sheet), strlen(sheet), memory, LOCATIONS * SIMP_CELL, 3, view, LOCATIONS * SIMP_CELL);
     if (chosen == ROUND)
-        answer = simp_round(bytes(sheet), strlen(sheet), bytes(twice), strlen(twice), memory, LOCATIONS * SIMP_CELL, 3, 1000).answer;
+        answer = simp_round(bytes(sheet), strlen(sheet), bytes(twice), strlen(twice),
+                            memory, LOCATIONS * SIMP_CELL, 3, 1000).answer;
     if (chosen == GROUPS)
         answer = simp_groups(bytes(sheet), strlen(sheet), 1, groups, 2).answer;
     if (chosen == TRUST)

@@ -95,7 +95,8 @@ fn deep_cases(sheet: &[u8]) {
     run_case(
         b"fifteen lefts",
         sheet,
-        b"=\t1\nl\t19\nl\t18\nl\t17\nl\t16\nl\t15\nl\t14\nl\t13\nl\t12\nl\t11\nl\t10\nl\t9\nl\t8\nl\t7\nl\t6\nl\t5\ni\t7\n",
+        b"=\t1\nl\t19\nl\t18\nl\t17\nl\t16\nl\t15\nl\t14\nl\t13\nl\t12\nl\t11\nl\t10\nl\t9\nl\t8\nl\t7\nl\t6\nl\t5\n\
+          i\t7\n",
         rights,
         0,
         1,
@@ -107,6 +108,7 @@ fn main() {
         b"P\t3\nT\t0\t1\nL\nL\nO\t0\t0000\t0000\nL\nO\t0\t0000\t0007\nX\t0\t0\nX\t0\t2\nX\t4\t0\nX\t5\t2\n",
     );
     deep_cases(
-        b"P\t1\nT\t0\t1\nT\t5\t1\nT\t6\t1\nT\t7\t1\nT\t8\t1\nT\t9\t1\nT\t10\t1\nT\t11\t1\nT\t12\t1\nT\t13\t1\nT\t14\t1\nT\t15\t1\nT\t16\t1\nT\t17\t1\nT\t18\t1\nL\nX\t18\t0\nX\t19\t0\n",
+        b"P\t1\nT\t0\t1\nT\t5\t1\nT\t6\t1\nT\t7\t1\nT\t8\t1\nT\t9\t1\nT\t10\t1\nT\t11\t1\nT\t12\t1\nT\t13\t1\n\
+          T\t14\t1\nT\t15\t1\nT\t16\t1\nT\t17\t1\nT\t18\t1\nL\nX\t18\t0\nX\t19\t0\n",
     );
 }

@@ -10,8 +10,10 @@ use native.Mathlib.Nat.{le-div-iff-mul-le, zero-add}
 use native.Mathlib.Numerals.{add-one}
 use borrow.Author.Tests.{lt-ltb, le-ltb, ltb-true, ltb-false}
 use lib.Dec.{ltb}
-use lib.ListN.{length, take, drop, getD, set, length-append, length-take, length-drop, length-replicate, take-append-drop, drop-of-length-le, getD-replicate, List·getD-append}
-use lib.Seq.{length-take-le, drop-cons, take-at, drop-at, drop-append-le, drop-append-add, take-append-le, drop-drop, take-take, take-all, paste, paste-suc, length-paste-head, getD-take, getD-drop, getD-at, getD-append-add}
+use lib.ListN.{length, take, drop, getD, set, length-append, length-take, length-drop, length-replicate}
+use lib.ListN.{take-append-drop, drop-of-length-le, getD-replicate, List·getD-append}
+use lib.Seq.{length-take-le, drop-cons, take-at, drop-at, drop-append-le, drop-append-add, take-append-le, drop-drop}
+use lib.Seq.{take-take, take-all, paste, paste-suc, length-paste-head, getD-take, getD-drop, getD-at, getD-append-add}
 use Rattle.language.specs.World.{cell-words}
 use Rattle.memory.specs.Words.{zeros}
 use Rattle.memory.specs.Memory.{cellOf}
@@ -54,14 +56,17 @@ cell-agree a b (suc k) h e = cell-later a k ∙ ap (λ (l : List ℕ). cellOf l 
 pub cell-front : (p x : List ℕ) (j : ℕ) → cell-words * j + cell-words ≤ length p → cellOf (p ++ x) j ≡ cellOf p j
 unfolding cellOf
 cell-front p x j h =
-    ap (take 16) (drop-append-le (16 * j) p x (omega arith)) ∙ take-append-le 16 (drop (16 * j) p) x (omega (arith, length-drop (16 * j) p))
+    ap (take 16) (drop-append-le (16 * j) p x (omega arith))
+    ∙ take-append-le 16 (drop (16 * j) p) x (omega (arith, length-drop (16 * j) p))
 
-cell-back : (p q x : List ℕ) (j : ℕ) → length p ≡ length q → length p ≤ cell-words * j → cellOf (p ++ x) j ≡ cellOf (q ++ x) j
+cell-back : (p q x : List ℕ) (j : ℕ) → length p ≡ length q → length p ≤ cell-words * j
+    → cellOf (p ++ x) j ≡ cellOf (q ++ x) j
 unfolding cellOf
 cell-back p q x j e h =
     let a : 16 * j ≡ length p + (16 * j - length p) = omega arith in
     let b : 16 * j ≡ length q + (16 * j - length p) = omega arith in
-    ap (take 16) (ap (λ (n : ℕ). drop n (p ++ x)) a ∙ drop-append-add p x (16 * j - length p) ∙ sym (drop-append-add q x (16 * j - length p)) ∙ ap (λ (n : ℕ). drop n (q ++ x))
+    ap (take 16) (ap (λ (n : ℕ). drop n (p ++ x)) a ∙ drop-append-add p x (16 * j - length p)
+    ∙ sym (drop-append-add q x (16 * j - length p)) ∙ ap (λ (n : ℕ). drop n (q ++ x))
     (sym b))
 
 -- ---- load and store
@@ -79,7 +84,8 @@ module _ (ws : List ℕ) (k : ℕ) where
   length-load = on (ltb k (cellCount ws)) refl
     where
       on : (b : Bool) → ltb k (cellCount ws) ≡ b → length (loadOf ws k) ≡ cell-words
-      on true e = ap (λ (l : List ℕ). length l) (load-there (ltb-true _ _ e)) ∙ length-cell-of ws k (room ws k (ltb-true _ _ e))
+      on true e =
+          ap (λ (l : List ℕ). length l) (load-there (ltb-true _ _ e)) ∙ length-cell-of ws k (room ws k (ltb-true _ _ e))
       on false e = ap (λ (l : List ℕ). length l) (load-past (ltb-false _ _ e))
 
 -- ws with the words of cell k replaced
@@ -97,7 +103,8 @@ module _ (ws : List ℕ) (k : ℕ) (words : List ℕ) where
 
   module _ (long : length words ≡ cell-words) where
     length-head : k < cellCount ws → length (take (cell-words * k) ws ++ words) ≡ cell-words * k + cell-words
-    length-head h = length-append (take (16 * k) ws) words ∙ omega (arith, length-take-le (16 * k) ws (omega (arith, room ws k h)))
+    length-head h =
+        length-append (take (16 * k) ws) words ∙ omega (arith, length-take-le (16 * k) ws (omega (arith, room ws k h)))
 
     length-stored : k < cellCount ws → length (stored ws k words) ≡ length ws
     length-stored h =
@@ -116,7 +123,8 @@ module _ (ws : List ℕ) (k : ℕ) (words : List ℕ) where
     unfolding cellOf
     cell-stored h =
         ap (λ (l : List ℕ). cellOf l k) (store-there h)
-        ∙ ap (take 16) (drop-at (take (16 * k) ws) (words ++ drop (16 * k + 16) ws) (16 * k) (length-take-le (16 * k) ws (omega (arith, room ws k h))))
+        ∙ ap (take 16) (drop-at (take (16 * k) ws) (words ++ drop (16 * k + 16) ws) (16 * k)
+        (length-take-le (16 * k) ws (omega (arith, room ws k h))))
         ∙ take-at words (drop (16 * k + 16) ws) 16 long
 
     before-stored : (j : ℕ) → k < cellCount ws → j < k → cellOf (stored ws k words) j ≡ cellOf ws j
@@ -131,7 +139,8 @@ module _ (ws : List ℕ) (k : ℕ) (words : List ℕ) where
         let n = length-head h in
         let x : List ℕ = drop (16 * k + 16) ws in
         ap (λ (u : List ℕ). cellOf u j) (sym (append-assoc (take (16 * k) ws) words x))
-        ∙ cell-back (take (16 * k) ws ++ words) (take (16 * k + 16) ws) x j (n ∙ sym (length-take-le (16 * k + 16) ws (room ws k h))) (omega arith)
+        ∙ cell-back (take (16 * k) ws ++ words) (take (16 * k + 16) ws) x j
+        (n ∙ sym (length-take-le (16 * k + 16) ws (room ws k h))) (omega arith)
         ∙ ap (λ (u : List ℕ). cellOf u j) (take-append-drop (16 * k + 16) ws)
 
     -- the other cells stay
@@ -143,11 +152,13 @@ module _ (ws : List ℕ) (k : ℕ) (words : List ℕ) where
         side h false e = after-stored j h (omega (arith, ltb-false j k e))
 
         on : (b : Bool) → ltb k (cellCount ws) ≡ b → cellOf (storeOf ws k words) j ≡ cellOf ws j
-        on true e = ap (λ (u : List ℕ). cellOf u j) (store-there (ltb-true _ _ e)) ∙ side (ltb-true _ _ e) (ltb j k) refl
+        on true e =
+            ap (λ (u : List ℕ). cellOf u j) (store-there (ltb-true _ _ e)) ∙ side (ltb-true _ _ e) (ltb j k) refl
         on false e = ap (λ (u : List ℕ). cellOf u j) (store-past (ltb-false _ _ e))
 
 -- a store into the accumulator leaves the words after it
-pub rest-kept : (ws words : List ℕ) → length words ≡ cell-words → drop cell-words (storeOf ws 0 words) ≡ drop cell-words ws
+pub rest-kept : (ws words : List ℕ) → length words ≡ cell-words
+    → drop cell-words (storeOf ws 0 words) ≡ drop cell-words ws
 rest-kept ws words long = on (ltb 0 (cellCount ws)) refl
   where
     on : (b : Bool) → ltb 0 (cellCount ws) ≡ b → drop cell-words (storeOf ws 0 words) ≡ drop cell-words ws
@@ -176,32 +187,38 @@ length-pops (suc n) ws long = length-pop _ (length-pops n ws long)
 
 pub length-cut : (n : ℕ) (ws : List ℕ) → length ws ≡ cell-words → length (cutOf n ws) ≡ cell-words
 unfolding cutOf
-length-cut n ws long = length-append (take n ws) (zeros (16 - n)) ∙ omega (arith, length-take n ws, length-replicate {A = ℕ} (16 - n) 0)
+length-cut n ws long =
+    length-append (take n ws) (zeros (16 - n)) ∙ omega (arith, length-take n ws, length-replicate {A = ℕ} (16 - n) 0)
 
 -- ---- the loops that copy
 
-pub copy-turn : (d₀ s : List ℕ) (to from i : ℕ) (d : List ℕ) → d ≡ paste d₀ to (drop from s) i → to + i < length d₀ → from + i < length s
+pub copy-turn : (d₀ s : List ℕ) (to from i : ℕ) (d : List ℕ) → d ≡ paste d₀ to (drop from s) i → to + i < length d₀
+    → from + i < length s
     → set d (to + i) (getD s (from + i) 0) ≡ paste d₀ to (drop from s) (i + 1)
 copy-turn d₀ s to from i d e h l =
     rw (add-one i, e, ← getD-drop from s i 0) (paste-suc d₀ to (drop from s) i 0 h (omega (arith, length-drop from s)))
 
-pub copy-done : (d₀ : List ℕ) (to : ℕ) (s : List ℕ) (i n : ℕ) (d : List ℕ) → d ≡ paste d₀ to s i → i ≡ n → d ≡ paste d₀ to s n
+pub copy-done : (d₀ : List ℕ) (to : ℕ) (s : List ℕ) (i n : ℕ) (d : List ℕ) → d ≡ paste d₀ to s i → i ≡ n
+    → d ≡ paste d₀ to s n
 copy-done d₀ to s i n d e h = e ∙ ap (λ (j : ℕ). paste d₀ to s j) h
 
 -- a word that a copy does not reach
-paste-outside : (d : List ℕ) (to : ℕ) (s : List ℕ) (i j : ℕ) → to + i ≤ length d → i ≤ length s → (j < to) ⊎ (to + i ≤ j) → getD (paste d to s i) j 0 ≡ getD d j 0
+paste-outside : (d : List ℕ) (to : ℕ) (s : List ℕ) (i j : ℕ) → to + i ≤ length d → i ≤ length s
+    → (j < to) ⊎ (to + i ≤ j) → getD (paste d to s i) j 0 ≡ getD d j 0
 paste-outside d to s i j h l side =
     let p : List ℕ = take to d ++ take i s in
     let n : length p ≡ to + i = length-paste-head d to s i (omega arith) l in
     ⊎-elim
     (λ b. List·getD-append p (drop (to + i) d) 0 j (omega arith)
-    ∙ List·getD-append (take to d) (take i s) 0 j (omega (arith, length-take-le to d (omega arith))) ∙ getD-take to d j 0 b)
+    ∙ List·getD-append (take to d) (take i s) 0 j (omega (arith, length-take-le to d (omega arith)))
+    ∙ getD-take to d j 0 b)
     (λ a. let e : j ≡ length p + (j - (to + i)) = omega arith in
     ap (λ (m : ℕ). getD (p ++ drop (to + i) d) m 0) e ∙ getD-append-add p (drop (to + i) d) (j - (to + i)) 0
     ∙ getD-drop (to + i) d (j - (to + i)) 0 ∙ ap (λ (m : ℕ). getD d m 0) (omega arith))
     side
 
-pub slide-turn : (d₀ : List ℕ) (to from n i : ℕ) (d : List ℕ) → d ≡ paste d₀ to (drop from d₀) i → i < n → to + n ≤ length d₀ → from + n ≤ length d₀
+pub slide-turn : (d₀ : List ℕ) (to from n i : ℕ) (d : List ℕ) → d ≡ paste d₀ to (drop from d₀) i → i < n
+    → to + n ≤ length d₀ → from + n ≤ length d₀
     → (to ≤ from) ⊎ (from + n ≤ to) → set d (to + i) (getD d (from + i) 0) ≡ paste d₀ to (drop from d₀) (i + 1)
 slide-turn d₀ to from n i d e h l m side =
     let apart : (from + i < to) ⊎ (to + i ≤ from + i) = ⊎-elim (λ a. inr (omega arith)) (λ b. inl (omega arith)) side in
@@ -215,22 +232,27 @@ module _ (d₀ : List ℕ) (w i : ℕ) (d : List ℕ) (e : d ≡ paste d₀ 0 (w
   push-turn held g =
       ap (set d i) g ∙ ap (λ (u : List ℕ). set u i (getD (w ∷ d₀) i 0)) e
       ∙ ap (λ (j : ℕ). set (paste d₀ 0 (w ∷ d₀) i) j (getD (w ∷ d₀) i 0)) (sym (zero-add i))
-      ∙ paste-suc d₀ 0 (w ∷ d₀) i 0 (omega arith) (omega arith) ∙ ap (λ (j : ℕ). paste d₀ 0 (w ∷ d₀) j) (sym (add-one i))
+      ∙ paste-suc d₀ 0 (w ∷ d₀) i 0 (omega arith) (omega arith)
+      ∙ ap (λ (j : ℕ). paste d₀ 0 (w ∷ d₀) j) (sym (add-one i))
 
   pub push-held : getD d i 0 ≡ getD (w ∷ d₀) (i + 1) 0
   push-held =
-      ap (λ (u : List ℕ). getD u i 0) e ∙ paste-outside d₀ 0 (w ∷ d₀) i i (omega arith) (omega arith) (inr (omega arith))
+      ap (λ (u : List ℕ). getD u i 0) e
+      ∙ paste-outside d₀ 0 (w ∷ d₀) i i (omega arith) (omega arith) (inr (omega arith))
       ∙ ap (λ (j : ℕ). getD (w ∷ d₀) j 0) (sym (add-one i))
 
 pub clear-turn : (d₀ : List ℕ) (to n i : ℕ) (d : List ℕ) → d ≡ paste d₀ to (zeros n) i → i < n → to + n ≤ length d₀
     → set d (to + i) 0 ≡ paste d₀ to (zeros n) (i + 1)
 clear-turn d₀ to n i d e h l =
-    ap (λ (u : List ℕ). set u (to + i) 0) e ∙ ap (set (paste d₀ to (zeros n) i) (to + i)) (sym (getD-replicate n i 0 0 h))
-    ∙ paste-suc d₀ to (zeros n) i 0 (omega arith) (omega (arith, length-replicate {A = ℕ} n 0)) ∙ ap (λ (j : ℕ). paste d₀ to (zeros n) j) (sym (add-one i))
+    ap (λ (u : List ℕ). set u (to + i) 0) e
+    ∙ ap (set (paste d₀ to (zeros n) i) (to + i)) (sym (getD-replicate n i 0 0 h))
+    ∙ paste-suc d₀ to (zeros n) i 0 (omega arith) (omega (arith, length-replicate {A = ℕ} n 0))
+    ∙ ap (λ (j : ℕ). paste d₀ to (zeros n) j) (sym (add-one i))
 
 -- what the functions over a cell leave
 
-pub store-done : (ws : List ℕ) (k : ℕ) (words out : List ℕ) → out ≡ paste ws (cell-words * k) words cell-words → length words ≡ cell-words → k < cellCount ws
+pub store-done : (ws : List ℕ) (k : ℕ) (words out : List ℕ) → out ≡ paste ws (cell-words * k) words cell-words
+    → length words ≡ cell-words → k < cellCount ws
     → out ≡ storeOf ws k words
 store-done ws k words out e long h =
     e ∙ append-assoc (take (16 * k) ws) (take 16 words) (drop (16 * k + 16) ws)
@@ -247,7 +269,8 @@ module _ (ws : List ℕ) where
   load-first : 0 < cellCount ws → loadOf ws 0 ≡ take cell-words ws
   load-first h = load-there ws 0 h ∙ cell-first ws
 
-  pub copy-cell-done : (from to : ℕ) (out : List ℕ) → out ≡ paste ws (cell-words * to) (drop (cell-words * from) ws) cell-words → from < cellCount ws → to < cellCount ws
+  pub copy-cell-done : (from to : ℕ) (out : List ℕ) → out
+      ≡ paste ws (cell-words * to) (drop (cell-words * from) ws) cell-words → from < cellCount ws → to < cellCount ws
       → out ≡ storeOf ws to (loadOf ws from)
   unfolding cellOf
   copy-cell-done from to out e h l =
@@ -257,18 +280,22 @@ module _ (ws : List ℕ) where
       (sym (take-take 16 16 (drop (16 * from) ws) (omega arith)) ∙ ap (take 16) (sym c)))
       (length-load ws from) l
 
-  pub copy-cell-past : (from to : ℕ) (out : List ℕ) → out ≡ storeOf ws to (zeros cell-words) → cellCount ws ≤ from → out ≡ storeOf ws to (loadOf ws from)
+  pub copy-cell-past : (from to : ℕ) (out : List ℕ) → out ≡ storeOf ws to (zeros cell-words) → cellCount ws ≤ from
+      → out ≡ storeOf ws to (loadOf ws from)
   copy-cell-past from to out e h = e ∙ ap (storeOf ws to) (sym (load-past ws from h))
 
-  pub push-done : (w : ℕ) (out : List ℕ) → out ≡ paste ws 0 (w ∷ ws) cell-words → 0 < cellCount ws → out ≡ storeOf ws 0 (pushOf w (loadOf ws 0))
+  pub push-done : (w : ℕ) (out : List ℕ) → out ≡ paste ws 0 (w ∷ ws) cell-words → 0 < cellCount ws
+      → out ≡ storeOf ws 0 (pushOf w (loadOf ws 0))
   unfolding pushOf
   push-done w out e h =
       store-done ws 0 (w ∷ take 15 (loadOf ws 0)) out
-      (e ∙ ap (λ (u : List ℕ). [] ++ (w ∷ u) ++ drop 16 ws) (sym (take-take 15 16 ws (omega arith)) ∙ ap (take 15) (sym (load-first h))
+      (e ∙ ap (λ (u : List ℕ). [] ++ (w ∷ u) ++ drop 16 ws)
+      (sym (take-take 15 16 ws (omega arith)) ∙ ap (take 15) (sym (load-first h))
       ∙ sym (take-take 15 15 (loadOf ws 0) (omega arith))))
       (ap suc (length-take-le 15 (loadOf ws 0) (omega (arith, length-load ws 0)))) h
 
-  pub pop-done : (k : ℕ) (moved out : List ℕ) → moved ≡ paste ws (cell-words * k) (drop 1 ws) 15 → out ≡ set moved (cell-words * k + 15) 0 → k < cellCount ws
+  pub pop-done : (k : ℕ) (moved out : List ℕ) → moved ≡ paste ws (cell-words * k) (drop 1 ws) 15
+      → out ≡ set moved (cell-words * k + 15) 0 → k < cellCount ws
       → out ≡ storeOf ws k (popOf (loadOf ws 0))
   unfolding popOf
   pop-done k moved out e f h =
@@ -280,8 +307,10 @@ module _ (ws : List ℕ) where
       shifted ws ∙ ap (drop 1) (sym (load-first (omega arith))) ∙ sym (take-at p (0 ∷ []) 15 m) in
       let last : 0 ≡ getD s 15 0 = sym (getD-at p 0 [] 0 15 m) in
       store-done ws k s out
-      (f ∙ ap (λ (u : List ℕ). set u (16 * k + 15) 0) (e ∙ ap (λ (u : List ℕ). take (16 * k) ws ++ u ++ drop (16 * k + 15) ws) first)
-      ∙ ap (set (paste ws (16 * k) s 15) (16 * k + 15)) last ∙ paste-suc ws (16 * k) s 15 0 (omega (arith, room ws k h)) (omega arith))
+      (f ∙ ap (λ (u : List ℕ). set u (16 * k + 15) 0)
+      (e ∙ ap (λ (u : List ℕ). take (16 * k) ws ++ u ++ drop (16 * k + 15) ws) first)
+      ∙ ap (set (paste ws (16 * k) s 15) (16 * k + 15)) last
+      ∙ paste-suc ws (16 * k) s 15 0 (omega (arith, room ws k h)) (omega arith))
       l h
     where
       shifted : (l : List ℕ) → take 15 (drop 1 l) ≡ drop 1 (take 16 l)
@@ -289,16 +318,21 @@ module _ (ws : List ℕ) where
       shifted (x ∷ xs) = refl
 
 -- one change of the accumulator after another
-pub after : (ws ws′ : List ℕ) {ws″ : List ℕ} (a : List ℕ) (f : List ℕ → List ℕ) → length a ≡ cell-words → ws′ ≡ storeOf ws 0 a → ws″ ≡ storeOf ws′ 0 (f (loadOf ws′ 0))
+pub after : (ws ws′ : List ℕ) {ws″ : List ℕ} (a : List ℕ) (f : List ℕ → List ℕ) → length a ≡ cell-words
+    → ws′ ≡ storeOf ws 0 a → ws″ ≡ storeOf ws′ 0 (f (loadOf ws′ 0))
     → ws″ ≡ storeOf ws 0 (f a)
 after ws ws′ a f n e g = g ∙ rw e (on (ltb 0 (cellCount ws)) refl)
   where
-    on : (b : Bool) → ltb 0 (cellCount ws) ≡ b → storeOf (storeOf ws 0 a) 0 (f (loadOf (storeOf ws 0 a) 0)) ≡ storeOf ws 0 (f a)
+    on : (b : Bool) → ltb 0 (cellCount ws) ≡ b
+        → storeOf (storeOf ws 0 a) 0 (f (loadOf (storeOf ws 0 a) 0)) ≡ storeOf ws 0 (f a)
     on true t =
         let h = ltb-true _ _ t in
-        let h′ : 0 < cellCount (storeOf ws 0 a) = there (storeOf ws 0 a) 0 (omega (arith, length-store ws 0 a n, room ws 0 h)) in
-        ap (λ (u : List ℕ). storeOf (storeOf ws 0 a) 0 (f u)) (load-there (storeOf ws 0 a) 0 h′ ∙ cell-stored ws 0 a n h)
-        ∙ store-there (storeOf ws 0 a) 0 (f a) h′ ∙ ap (λ (u : List ℕ). [] ++ (f a ++ u)) (rest-kept ws a n) ∙ sym (store-there ws 0 (f a) h)
+        let h′ : 0 < cellCount (storeOf ws 0 a) =
+        there (storeOf ws 0 a) 0 (omega (arith, length-store ws 0 a n, room ws 0 h)) in
+        ap (λ (u : List ℕ). storeOf (storeOf ws 0 a) 0 (f u))
+        (load-there (storeOf ws 0 a) 0 h′ ∙ cell-stored ws 0 a n h)
+        ∙ store-there (storeOf ws 0 a) 0 (f a) h′ ∙ ap (λ (u : List ℕ). [] ++ (f a ++ u)) (rest-kept ws a n)
+        ∙ sym (store-there ws 0 (f a) h)
     on false t =
         let u = store-past ws 0 a (ltb-false _ _ t) in
         rw u (store-past ws 0 (f (loadOf ws 0)) (ltb-false _ _ t) ∙ sym (store-past ws 0 (f a) (ltb-false _ _ t)))
@@ -310,27 +344,33 @@ store-load ws = on (ltb 0 (cellCount ws)) refl
     on : (b : Bool) → ltb 0 (cellCount ws) ≡ b → storeOf ws 0 (loadOf ws 0) ≡ ws
     on true t =
         let h = ltb-true _ _ t in
-        store-there ws 0 (loadOf ws 0) h ∙ ap (λ (u : List ℕ). [] ++ (u ++ drop 16 ws)) (load-first ws h) ∙ take-append-drop 16 ws
+        store-there ws 0 (loadOf ws 0) h ∙ ap (λ (u : List ℕ). [] ++ (u ++ drop 16 ws)) (load-first ws h)
+        ∙ take-append-drop 16 ws
     on false t = store-past ws 0 (loadOf ws 0) (ltb-false _ _ t)
 
 -- a word more of the first cell is copied
 pub load-turn : (s : List ℕ) (i : ℕ) (d : List ℕ) → d ≡ paste (zeros cell-words) 0 s i → i < cell-words → i < length s
     → set d i (getD s i 0) ≡ paste (zeros cell-words) 0 s (i + 1)
 load-turn s i d e h l =
-    ap (λ (j : ℕ). set d j (getD s j 0)) (sym (zero-add i)) ∙ copy-turn (zeros 16) s 0 0 i d e (omega (arith, length-replicate {A = ℕ} 16 0)) (omega arith)
+    ap (λ (j : ℕ). set d j (getD s j 0)) (sym (zero-add i))
+    ∙ copy-turn (zeros 16) s 0 0 i d e (omega (arith, length-replicate {A = ℕ} 16 0)) (omega arith)
 
 -- the first cell, copied
-pub load-done : (ws out : List ℕ) → out ≡ paste (zeros cell-words) 0 ws cell-words → 0 < cellCount ws → out ≡ loadOf ws 0
+pub load-done : (ws out : List ℕ) → out ≡ paste (zeros cell-words) 0 ws cell-words → 0 < cellCount ws
+    → out ≡ loadOf ws 0
 load-done ws out e h = e ∙ append-nil (take 16 ws) ∙ sym (load-first ws h)
 
 -- zeros from n on
-pub cut-done : (ws : List ℕ) (n : ℕ) (out : List ℕ) → out ≡ paste ws n (zeros (cell-words - n)) (cell-words - n) → n < cell-words → 0 < cellCount ws
+pub cut-done : (ws : List ℕ) (n : ℕ) (out : List ℕ) → out ≡ paste ws n (zeros (cell-words - n)) (cell-words - n)
+    → n < cell-words → 0 < cellCount ws
     → out ≡ storeOf ws 0 (cutOf n (loadOf ws 0))
 unfolding cutOf
 cut-done ws n out e h l =
     let z : n + (16 - n) ≡ 16 = omega arith in
-    e ∙ ap₂ (λ (u : List ℕ) (k : ℕ). (take n ws ++ u) ++ drop k ws) (take-all (16 - n) (zeros (16 - n)) (omega (arith, length-replicate {A = ℕ} (16 - n) 0))) z
-    ∙ ap (λ (u : List ℕ). (u ++ zeros (16 - n)) ++ drop 16 ws) (sym (take-take n 16 ws (omega arith)) ∙ ap (take n) (sym (load-first ws l)))
+    e ∙ ap₂ (λ (u : List ℕ) (k : ℕ). (take n ws ++ u) ++ drop k ws)
+    (take-all (16 - n) (zeros (16 - n)) (omega (arith, length-replicate {A = ℕ} (16 - n) 0))) z
+    ∙ ap (λ (u : List ℕ). (u ++ zeros (16 - n)) ++ drop 16 ws)
+    (sym (take-take n 16 ws (omega arith)) ∙ ap (take n) (sym (load-first ws l)))
     ∙ sym (store-there ws 0 (cutOf n (loadOf ws 0)) l)
 
 -- nothing is left to cut
@@ -338,28 +378,33 @@ pub cut-none : (ws : List ℕ) (n : ℕ) → cell-words ≤ n → ws ≡ storeOf
 unfolding cutOf
 cut-none ws n h =
     let z : 16 - n ≡ 0 = omega arith in
-    sym (ap (storeOf ws 0) (ap₂ (λ (u : List ℕ) (k : ℕ). u ++ zeros k) (take-all n (loadOf ws 0) (omega (arith, length-load ws 0))) z ∙ append-nil (loadOf ws 0))
+    sym (ap (storeOf ws 0) (ap₂ (λ (u : List ℕ) (k : ℕ). u ++ zeros k)
+    (take-all n (loadOf ws 0) (omega (arith, length-load ws 0))) z ∙ append-nil (loadOf ws 0))
     ∙ store-load ws)
 
 -- ---- words pushed and popped one by one
 
 -- the last of the words that are still to be pushed
-pub push-next : (d₀ words : List ℕ) (k : ℕ) (d : List ℕ) {d′ : List ℕ} → d ≡ storeOf d₀ 0 (pushesOf (drop k words) (loadOf d₀ 0))
+pub push-next : (d₀ words : List ℕ) (k : ℕ) (d : List ℕ) {d′ : List ℕ}
+    → d ≡ storeOf d₀ 0 (pushesOf (drop k words) (loadOf d₀ 0))
     → d′ ≡ storeOf d 0 (pushOf (getD words (k - 1) 0) (loadOf d 0)) → 0 < k → k ≤ length words
     → d′ ≡ storeOf d₀ 0 (pushesOf (drop (k - 1) words) (loadOf d₀ 0))
 unfolding pushesOf
 push-next d₀ words k d e g h l =
     let z : suc (k - 1) ≡ k = omega arith in
-    after d₀ d (pushesOf (drop k words) (loadOf d₀ 0)) (pushOf (getD words (k - 1) 0)) (length-pushes (drop k words) (loadOf d₀ 0) (length-load d₀ 0)) e g
+    after d₀ d (pushesOf (drop k words) (loadOf d₀ 0)) (pushOf (getD words (k - 1) 0))
+    (length-pushes (drop k words) (loadOf d₀ 0) (length-load d₀ 0)) e g
     ∙ ap (λ (us : List ℕ). storeOf d₀ 0 (pushesOf us (loadOf d₀ 0)))
     (sym (drop-cons words (k - 1) 0 (omega arith) ∙ ap (λ (i : ℕ). getD words (k - 1) 0 ∷ drop i words) z))
 
 -- none is pushed yet
 pub push-none : (ws words : List ℕ) → ws ≡ storeOf ws 0 (pushesOf (drop (length words) words) (loadOf ws 0))
 unfolding pushesOf
-push-none ws words = sym (ap (λ (us : List ℕ). storeOf ws 0 (pushesOf us (loadOf ws 0))) (drop-of-length-le words {i = length words} (omega arith)) ∙ store-load ws)
+push-none ws words = sym (ap (λ (us : List ℕ). storeOf ws 0 (pushesOf us (loadOf ws 0)))
+    (drop-of-length-le words {i = length words} (omega arith)) ∙ store-load ws)
 
-pub pop-next : (d₀ : List ℕ) (n left : ℕ) (d : List ℕ) {d′ : List ℕ} → d ≡ storeOf d₀ 0 (popsOf (n - left) (loadOf d₀ 0)) → d′ ≡ storeOf d 0 (popOf (loadOf d 0))
+pub pop-next : (d₀ : List ℕ) (n left : ℕ) (d : List ℕ) {d′ : List ℕ}
+    → d ≡ storeOf d₀ 0 (popsOf (n - left) (loadOf d₀ 0)) → d′ ≡ storeOf d 0 (popOf (loadOf d 0))
     → 0 < left → left ≤ n → d′ ≡ storeOf d₀ 0 (popsOf (n - (left - 1)) (loadOf d₀ 0))
 unfolding popsOf
 pop-next d₀ n left d e g h l =
@@ -370,10 +415,12 @@ pop-next d₀ n left d e g h l =
 -- none is popped yet
 pub pop-none : (ws : List ℕ) (n : ℕ) → ws ≡ storeOf ws 0 (popsOf (n - n) (loadOf ws 0))
 unfolding popsOf
-pop-none ws n = let z : n - n ≡ 0 = omega arith in sym (ap (λ (i : ℕ). storeOf ws 0 (popsOf i (loadOf ws 0))) z ∙ store-load ws)
+pop-none ws n =
+    let z : n - n ≡ 0 = omega arith in sym (ap (λ (i : ℕ). storeOf ws 0 (popsOf i (loadOf ws 0))) z ∙ store-load ws)
 
 -- two cells are one or do not meet
-pub cells-apart : (from to : ℕ) → (cell-words * to ≤ cell-words * from) ⊎ (cell-words * from + cell-words ≤ cell-words * to)
+pub cells-apart : (from to : ℕ)
+    → (cell-words * to ≤ cell-words * from) ⊎ (cell-words * from + cell-words ≤ cell-words * to)
 cells-apart from to = on (ltb from to) refl
   where
     on : (b : Bool) → ltb from to ≡ b → (16 * to ≤ 16 * from) ⊎ (16 * from + 16 ≤ 16 * to)

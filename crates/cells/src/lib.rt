@@ -6,7 +6,8 @@ ghost use Rattle.language.specs.World.{cell-words};
 ghost use Rattle.memory.specs.Words.{zeros};
 ghost use lib.ListN.{length, drop, getD};
 ghost use lib.Seq.{paste};
-ghost use Rattle.cells.specs.Internal.Cells.{accumulator, loadOf, storeOf, pushOf, pushesOf, popOf, popsOf, cutOf};
+ghost use Rattle.cells.specs.Internal.Cells.{accumulator, loadOf, storeOf, pushOf, pushesOf, popOf, popsOf};
+ghost use Rattle.cells.specs.Internal.Cells.{cutOf};
 
 // The words of a cell.
 pub const CELL: usize = memory::CELL;
@@ -43,7 +44,8 @@ pub fn copy_cell(work: &mut [u32], from: usize, to: usize)
 
 // The word w in front of the words in the accumulator; the last of these goes.
 pub fn push(work: &mut [u32], w: u32)
-    ensures { λ _. ⌜ now (work .exit) ≡ storeOf (now (work .entry)) accumulator (pushOf w (loadOf (now (work .entry)) accumulator)) ⌝ }
+    ensures { λ _. ⌜ now (work .exit)
+        ≡ storeOf (now (work .entry)) accumulator (pushOf w (loadOf (now (work .entry)) accumulator)) ⌝ }
 {
     if work.len() / CELL == 0 {
         return;
@@ -58,7 +60,8 @@ pub fn push(work: &mut [u32], w: u32)
 
 // Puts words in front of those in the accumulator, of which as many go at the end.
 pub fn push_words(work: &mut [u32], words: &[u32])
-    ensures { λ _. ⌜ now (work .exit) ≡ storeOf (now (work .entry)) accumulator (pushesOf (now (words .entry)) (loadOf (now (work .entry)) accumulator)) ⌝ }
+    ensures { λ _. ⌜ now (work .exit) ≡ storeOf (now (work .entry)) accumulator
+        (pushesOf (now (words .entry)) (loadOf (now (work .entry)) accumulator)) ⌝ }
 {
     let mut k = words.len();
     while 0 < k {
@@ -69,7 +72,8 @@ pub fn push_words(work: &mut [u32], words: &[u32])
 
 // Stores the words of the accumulator without the first in cell k; a 0 comes at the end.
 pub fn pop_to(work: &mut [u32], k: usize)
-    ensures { λ _. ⌜ now (work .exit) ≡ storeOf (now (work .entry)) k (popOf (loadOf (now (work .entry)) accumulator)) ⌝ }
+    ensures { λ _. ⌜ now (work .exit)
+        ≡ storeOf (now (work .entry)) k (popOf (loadOf (now (work .entry)) accumulator)) ⌝ }
 {
     if work.len() / CELL <= k {
         return;
@@ -81,7 +85,8 @@ pub fn pop_to(work: &mut [u32], k: usize)
 
 // Takes the first n words off the accumulator; zeros come at the end.
 pub fn pop_words(work: &mut [u32], n: usize)
-    ensures { λ _. ⌜ now (work .exit) ≡ storeOf (now (work .entry)) accumulator (popsOf n (loadOf (now (work .entry)) accumulator)) ⌝ }
+    ensures { λ _. ⌜ now (work .exit)
+        ≡ storeOf (now (work .entry)) accumulator (popsOf n (loadOf (now (work .entry)) accumulator)) ⌝ }
 {
     let mut left = n;
     while 0 < left {
@@ -92,7 +97,8 @@ pub fn pop_words(work: &mut [u32], n: usize)
 
 // Makes the words of the accumulator after the first n zeros.
 pub fn cut(work: &mut [u32], n: usize)
-    ensures { λ _. ⌜ now (work .exit) ≡ storeOf (now (work .entry)) accumulator (cutOf n (loadOf (now (work .entry)) accumulator)) ⌝ }
+    ensures { λ _. ⌜ now (work .exit)
+        ≡ storeOf (now (work .entry)) accumulator (cutOf n (loadOf (now (work .entry)) accumulator)) ⌝ }
 {
     if work.len() / CELL == 0 {
         return;

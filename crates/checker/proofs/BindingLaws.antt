@@ -14,7 +14,8 @@ use borrow.Author.Tests.{lt-ltb, le-ltb, le-leb, lt-leb}
 use Rattle.logic.specs.Booleans.{both}
 use Rattle.language.specs.Declarations.{nth}
 use Rattle.script.specs.Names.{maxDepth}
-use Rattle.checker.specs.Internal.Bindings.{bindingSize, bindingsSize, boundType, boundLabel, upTo, boundTypes, boundLabels, bindOf}
+use Rattle.checker.specs.Internal.Bindings.{bindingSize, bindingsSize, boundType, boundLabel, upTo, boundTypes}
+use Rattle.checker.specs.Internal.Bindings.{boundLabels, bindOf}
 use Rattle.checks.specs.Internal.Nodes.{plainTyped, nothing}
 use Rattle.checker.specs.Internal.Bindings.{varTyped}
 use Rattle.checker.specs.Internal.Post.{Kept}
@@ -25,7 +26,8 @@ module _ {A : Type 0} where
   nth-upTo f zero i h = absurd (omega arith)
   nth-upTo f (suc d) zero h = let e : d ≡ suc d - 1 = omega arith in ap (λ (m : ℕ). some (f m)) e
   nth-upTo f (suc d) (suc i) h =
-      let e : d - suc i ≡ suc d - suc (suc i) = omega arith in nth-upTo f d i (omega arith) ∙ ap (λ (m : ℕ). some (f m)) e
+      let e : d - suc i ≡ suc d - suc (suc i) = omega arith in
+      nth-upTo f d i (omega arith) ∙ ap (λ (m : ℕ). some (f m)) e
 
   pub nth-past : (f : ℕ → A) (d i : ℕ) → d ≤ i → nth (upTo f d) i ≡ none
   unfolding nth upTo
@@ -36,7 +38,8 @@ module _ {A : Type 0} where
   upTo-same : (f g : ℕ → A) (d : ℕ) → ((i : ℕ) → i < d → f i ≡ g i) → upTo f d ≡ upTo g d
   unfolding upTo
   upTo-same f g zero h = refl
-  upTo-same f g (suc d) h = ap₂ (λ (x : A) (l : List A). x ∷ l) (h d (omega arith)) (upTo-same f g d (λ i k. h i (omega arith)))
+  upTo-same f g (suc d) h =
+      ap₂ (λ (x : A) (l : List A). x ∷ l) (h d (omega arith)) (upTo-same f g d (λ i k. h i (omega arith)))
 
   tail : List A → List A
   tail [] = []
@@ -69,15 +72,18 @@ module _ (s : List ℕ) (d n a : ℕ) where
     labels = upTo-same _ _ d (λ i l. kept (i * bindingSize + 1) (omega arith));
   }
     where
-      kept : (i : ℕ) → i < d * bindingSize → getD (set (set s (d * bindingSize) n) (d * bindingSize + 1) a) i 0 ≡ getD s i 0
-      kept i l = getD-set-other (set s (d * bindingSize) n) (d * bindingSize + 1) i a 0 (λ e. omega arith) ∙ getD-set-other s (d * bindingSize) i n 0 (λ e. omega arith)
+      kept : (i : ℕ) → i < d * bindingSize
+          → getD (set (set s (d * bindingSize) n) (d * bindingSize + 1) a) i 0 ≡ getD s i 0
+      kept i l = getD-set-other (set s (d * bindingSize) n) (d * bindingSize + 1) i a 0 (λ e. omega arith)
+          ∙ getD-set-other s (d * bindingSize) i n 0 (λ e. omega arith)
 
   module _ (h : d < maxDepth) (k : bindingsSize ≤ length s) where
     pub bind-type : n < 4294967296 → boundTypes (bindOf s d n a) (d + 1) ≡ n ∷ boundTypes s d
     unfolding upTo bindOf
     bind-type small =
         let here : boundType (bindOf s d n a) d ≡ n =
-        ap (λ (w : ℕ). w % 4294967296) (getD-set-other (set s (d * bindingSize) n) (d * bindingSize + 1) (d * bindingSize) a 0 (λ e. omega arith) ∙ getD-set-same s (d * bindingSize) n 0 (omega arith))
+        ap (λ (w : ℕ). w % 4294967296) (getD-set-other (set s (d * bindingSize) n) (d * bindingSize + 1)
+        (d * bindingSize) a 0 (λ e. omega arith) ∙ getD-set-same s (d * bindingSize) n 0 (omega arith))
         ∙ mod-eq-of-lt small in
         ap (upTo (boundType (bindOf s d n a))) (add-one d) ∙ ap₂ (λ (x : ℕ) (l : List ℕ). x ∷ l) here (bind-kept .types)
 
@@ -85,12 +91,15 @@ module _ (s : List ℕ) (d n a : ℕ) where
     unfolding upTo bindOf
     bind-label =
         let here : boundLabel (bindOf s d n a) d ≡ a =
-        getD-set-same (set s (d * bindingSize) n) (d * bindingSize + 1) a 0 (omega (arith, length-set s (d * bindingSize) n)) in
-        ap (upTo (boundLabel (bindOf s d n a))) (add-one d) ∙ ap₂ (λ (x : ℕ) (l : List ℕ). x ∷ l) here (bind-kept .labels)
+        getD-set-same (set s (d * bindingSize) n) (d * bindingSize + 1) a 0
+        (omega (arith, length-set s (d * bindingSize) n)) in
+        ap (upTo (boundLabel (bindOf s d n a))) (add-one d)
+        ∙ ap₂ (λ (x : ℕ) (l : List ℕ). x ∷ l) here (bind-kept .labels)
 
 -- a variable is read from its place, if it has one
 module _ (s : List ℕ) (d i next : ℕ) where
-  pub var-in : i < d → d ≤ maxDepth → varTyped s d i next ≡ plainTyped (boundType s (d - suc i)) (boundLabel s (d - suc i)) next
+  pub var-in : i < d → d ≤ maxDepth
+      → varTyped s d i next ≡ plainTyped (boundType s (d - suc i)) (boundLabel s (d - suc i)) next
   unfolding varTyped both
   var-in h k = rw (lt-ltb i d h, le-leb d maxDepth k)
 
@@ -102,7 +111,8 @@ module _ (s : List ℕ) (d i next : ℕ) where
   unfolding varTyped both
   var-deep h = rw (lt-leb d maxDepth h) (on (ltb i d))
     where
-      on : (b : Bool) → cond (both b false) (plainTyped (boundType s (d - suc i)) (boundLabel s (d - suc i)) next) (nothing next) ≡ nothing next
+      on : (b : Bool) → cond (both b false) (plainTyped (boundType s (d - suc i)) (boundLabel s (d - suc i)) next)
+          (nothing next) ≡ nothing next
       on true = refl
       on false = refl
 
@@ -110,6 +120,7 @@ module _ (s : List ℕ) (d i next : ℕ) where
   unfolding varTyped nothing
   var-next = on (both (ltb i d) (leb d maxDepth))
     where
-      on : (b : Bool) → (cond b (plainTyped (boundType s (d - suc i)) (boundLabel s (d - suc i)) next) (nothing next)) .next ≡ next
+      on : (b : Bool)
+          → (cond b (plainTyped (boundType s (d - suc i)) (boundLabel s (d - suc i)) next) (nothing next)) .next ≡ next
       on true = refl
       on false = refl

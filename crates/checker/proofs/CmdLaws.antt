@@ -38,7 +38,8 @@ use Rattle.checker.proofs.ExprLaws.{is-type}
 
 -- ---- what a node finds, from what its operands' nodes found
 
-on-sum : (t : List ℕ) (b : Bool) (n : ℕ) (k : ℕ → ℕ → Bool) → onSumNo t (givenNo b n) k ≡ both b (both (isSum t n) (k (leftIn t n) (rightIn t n)))
+on-sum : (t : List ℕ) (b : Bool) (n : ℕ) (k : ℕ → ℕ → Bool)
+    → onSumNo t (givenNo b n) k ≡ both b (both (isSum t n) (k (leftIn t n) (rightIn t n)))
 unfolding onSumNo givenNo both
 on-sum t true n k = refl
 on-sum t false n k = refl
@@ -48,7 +49,8 @@ module _ (t Γ : List ℕ) (pc : ℕ) (Δ : List ℕ) where
   unfolding shapeNo flow keeps member
   pass-skip next = record { typed-is = refl; flow-is = refl; keeping-is = refl }
 
-  pass-seq : {c d : Cmd} {x y : Passed} → Passes t Γ pc Δ c x → Passes t Γ pc Δ d y → Passes t Γ pc Δ (seq c d) (seqPassed x y)
+  pass-seq : {c d : Cmd} {x y : Passed} → Passes t Γ pc Δ c x → Passes t Γ pc Δ d y
+      → Passes t Γ pc Δ (seq c d) (seqPassed x y)
   unfolding seqPassed shapeNo flow keeps
   pass-seq p q = record {
     typed-is = rw (p .typed-is, q .typed-is);
@@ -66,7 +68,8 @@ module _ (t Γ : List ℕ) (pc : ℕ) (Δ : List ℕ) where
       keeping-is = second-kept (x .holds) _ (p .keeping-is);
     }
 
-    pass-while : {c : Cmd} {y : Passed} → Passes t Γ (union pc (x .label)) Δ c y → Passes t Γ pc Δ (while e c) (whilePassed x y)
+    pass-while : {c : Cmd} {y : Passed} → Passes t Γ (union pc (x .label)) Δ c y
+        → Passes t Γ pc Δ (while e c) (whilePassed x y)
     unfolding whilePassed shapeNo flow keeps
     pass-while {c} {y} q = record {
       typed-is = rw (← p .type-is, is-type x 3, q .typed-is);
@@ -82,7 +85,8 @@ module _ (t Γ : List ℕ) (pc : ℕ) (Δ : List ℕ) where
     pass-case q r = record {
       typed-is = rw (← p .type-is, on-sum t (x .typed) (x .ty) _, q .typed-is, r .typed-is);
       flow-is = rw (← p .label-is) (both-hold 0 _ _ (p .flow-is) (both-hold 0 _ _ (q .flow-is) (r .flow-is)));
-      keeping-is = rw (← p .label-is) (both-hold 1 _ _ (p .keeping-is) (both-hold 1 _ _ (q .keeping-is) (r .keeping-is)));
+      keeping-is =
+          rw (← p .label-is) (both-hold 1 _ _ (p .keeping-is) (both-hold 1 _ _ (q .keeping-is) (r .keeping-is)));
     }
 
 -- ---- the arms: the row at `at`, what the operands' checks ensure, and what the node gives
@@ -109,12 +113,16 @@ pass-kept k p = record {
 }
 
 -- what is found over words that bind one case more, where the cases below it are those of s
-pass-bound : (t : List ℕ) {s s′ s″ : List ℕ} (d n a : ℕ) {pc pc′ : ℕ} {c : Cmd} {x : Passed} → s″ ≡ bindOf s′ d n a → Kept s s′ d
+pass-bound : (t : List ℕ) {s s′ s″ : List ℕ} (d n a : ℕ) {pc pc′ : ℕ} {c : Cmd} {x : Passed}
+    → s″ ≡ bindOf s′ d n a → Kept s s′ d
     → n < 4294967296 → d < maxDepth → bindingsSize ≤ length s′ → pc ≡ pc′
-    → Passes t (boundTypes s″ (d + 1)) pc (boundLabels s″ (d + 1)) c x → Passes t (n ∷ boundTypes s d) pc′ (a ∷ boundLabels s d) c x
+    → Passes t (boundTypes s″ (d + 1)) pc (boundLabels s″ (d + 1)) c x
+    → Passes t (n ∷ boundTypes s d) pc′ (a ∷ boundLabels s d) c x
 pass-bound t {s} {s′} d n a e k small h l lab p =
-    let types = ap (λ (z : List ℕ). boundTypes z (d + 1)) e ∙ bind-type s′ d n a h l small ∙ ap (λ (z : List ℕ). n ∷ z) (k .types) in
-    let labels = ap (λ (z : List ℕ). boundLabels z (d + 1)) e ∙ bind-label s′ d n a h l ∙ ap (λ (z : List ℕ). a ∷ z) (k .labels) in
+    let types = ap (λ (z : List ℕ). boundTypes z (d + 1)) e ∙ bind-type s′ d n a h l small
+    ∙ ap (λ (z : List ℕ). n ∷ z) (k .types) in
+    let labels =
+    ap (λ (z : List ℕ). boundLabels z (d + 1)) e ∙ bind-label s′ d n a h l ∙ ap (λ (z : List ℕ). a ∷ z) (k .labels) in
     record {
       typed-is = rw (← types) (p .typed-is);
       flow-is = rw (← labels, ← lab) (p .flow-is);
@@ -123,23 +131,29 @@ pass-bound t {s} {s′} d n a e k small h l lab p =
 
 -- x is what is found of c, if its names are there, and rest stands after it
 abbrev Done : List ℕ → List ℕ → List ℕ → ℕ → ℕ → Counts → List Line → Passed → Cmd → Type 0
-Done ws t s d pc k rest x c = named k d c ≡ true → Passes t (boundTypes s d) pc (boundLabels s d) c x × (drop (x .next) ws ≡ code rest)
+Done ws t s d pc k rest x c =
+    named k d c ≡ true → Passes t (boundTypes s d) pc (boundLabels s d) c x × (drop (x .next) ws ≡ code rest)
 
 module _ {ws : List ℕ} {at : ℕ} {t s : List ℕ} {d pc : ℕ} {row : Row} (q : row ≡ rowAt ws at) where
-  by-node : {ss : List Sort} {j : ℕ} {f : Makes ss Cmd} (x : Passed) → Node command ss j (row .a) (row .b) f → row .kind ≡ j → at ≤ x .next
-      → {s′ : List ℕ} → Kept s s′ d → ((k : Counts) → Room s d → (rest : List Line) → OfOperands ws at rest command ss f (λ more. more) (Done ws t s d pc k rest x))
+  by-node : {ss : List Sort} {j : ℕ} {f : Makes ss Cmd} (x : Passed) → Node command ss j (row .a) (row .b) f
+      → row .kind ≡ j → at ≤ x .next
+      → {s′ : List ℕ} → Kept s s′ d → ((k : Counts) → Room s d → (rest : List Line)
+      → OfOperands ws at rest command ss f (λ more. more) (Done ws t s d pc k rest x))
       → ChecksCmd ws at t s d pc x s′
   by-node x n h g same m = record {
     onward = g;
     kept = same;
     means = λ k c rest src w names room.
-        of-operands ws at rest n (row-of ws at command c rest q h src w) (Done ws t s d pc k rest x) (m k room rest) names;
+        of-operands ws at rest n (row-of ws at command c rest q h src w) (Done ws t s d pc k rest x)
+        (m k room rest) names;
   }
 
   pub arm-skip : row .kind ≡ 1 → {x : Passed} → x ≡ skipPassed (at + 3) → ChecksCmd ws at t s d pc x s
-  arm-skip h e = rw e (by-node _ n-skip h (omega arith) kept-same (λ k room rest w names. (pass-skip t _ pc _ (at + 3), w)))
+  arm-skip h e =
+      rw e (by-node _ n-skip h (omega arith) kept-same (λ k room rest w names. (pass-skip t _ pc _ (at + 3), w)))
 
-  pub arm-seq : row .kind ≡ 2 → {x y : Passed} {s₁ s₂ : List ℕ} → ChecksCmd ws (at + 3) t s d pc x s₁ → ChecksCmd ws (x .next) t s₁ d pc y s₂
+  pub arm-seq : row .kind ≡ 2 → {x y : Passed} {s₁ s₂ : List ℕ} → ChecksCmd ws (at + 3) t s d pc x s₁
+      → ChecksCmd ws (x .next) t s₁ d pc y s₂
       → {r : Passed} → r ≡ seqPassed x y → ChecksCmd ws at t s d pc r s₂
   unfolding seqPassed named
   arm-seq h cx cy e =
@@ -168,19 +182,23 @@ module _ {ws : List ℕ} {at : ℕ} {t s : List ℕ} {d pc : ℕ} {row : Row} (q
 
     -- a case, with the words for bindings after each step
     pub arm-case : row .kind ≡ 5 → d < maxDepth → {pc′ : ℕ} → pc′ ≡ union pc (x .label)
-        → {s₁ s₂ s₃ s₄ : List ℕ} {y z : Passed} {m : ℕ} → m < 4294967296 → m ≡ leftIn t (x .ty) → s₁ ≡ bindOf s d m (x .label) → ChecksCmd ws (x .next) t s₁ (d + 1) pc′ y s₂
-        → {n : ℕ} → n < 4294967296 → n ≡ rightIn t (x .ty) → s₃ ≡ bindOf s₂ d n (x .label) → ChecksCmd ws (y .next) t s₃ (d + 1) pc′ z s₄
+        → {s₁ s₂ s₃ s₄ : List ℕ} {y z : Passed} {m : ℕ} → m < 4294967296 → m ≡ leftIn t (x .ty)
+        → s₁ ≡ bindOf s d m (x .label) → ChecksCmd ws (x .next) t s₁ (d + 1) pc′ y s₂
+        → {n : ℕ} → n < 4294967296 → n ≡ rightIn t (x .ty) → s₃ ≡ bindOf s₂ d n (x .label)
+        → ChecksCmd ws (y .next) t s₃ (d + 1) pc′ z s₄
         → {r : Passed} → r ≡ casePassed t x y z → ChecksCmd ws at t s d pc r s₄
     unfolding casePassed
     arm-case h shallow lab {s₁} {s₂} {s₃} {y = y} {z} {m} ml tl bl cy {n} nl tr br cz e =
-        rw e (by-node _ n-case h (omega (arith, cx .onward, cy .onward, cz .onward)) (kept-twice upto₃ (kept-fewer (cz .kept)))
+        rw e (by-node _ n-case h (omega (arith, cx .onward, cy .onward, cz .onward))
+        (kept-twice upto₃ (kept-fewer (cz .kept)))
         (λ k room rest e p f r g u w names.
         let ns = case-names k d e f g names in
         let me = cx .means e (cmdLines f (cmdLines g rest)) p w room in
         let mf = cy .means k f (cmdLines g rest) r (me .1) (ns .1) (inner upto₁ room) in
         let mg = cz .means k g rest u (mf .1) (ns .2) (inner upto₃ room) in
         let long₂ : bindingsSize ≤ length s₂ = rw (upto₂ .size) (room .1) in (
-          pass-case t _ pc _ (me .0) (rw tl at (pass-bound t d m (x .label) bl kept-same ml shallow (room .1) lab (mf .0)))
+          pass-case t _ pc _ (me .0)
+              (rw tl at (pass-bound t d m (x .label) bl kept-same ml shallow (room .1) lab (mf .0)))
               (rw tr at (pass-bound t d n (x .label) br upto₂ nl shallow long₂ lab (mg .0))),
           mg .1,
         )))
@@ -206,4 +224,8 @@ module _ {ws : List ℕ} {at : ℕ} {t s : List ℕ} {d pc : ℕ} {row : Row} (q
   -- a row of another kind is no command's
   pub arm-other : (KindOf command (row .kind) → ⊥) → {x : Passed} → x ≡ refused at → ChecksCmd ws at t s d pc x s
   arm-other f e =
-      rw e (record { onward = omega arith; kept = kept-same; means = λ k c rest src w names room. absurd (not-here command c rest ws at q f src w) })
+      rw e (record {
+        onward = omega arith;
+        kept = kept-same;
+        means = λ k c rest src w names room. absurd (not-here command c rest ws at q f src w);
+      })

@@ -17,7 +17,8 @@ use Rattle.script.specs.Lines.{Line, exprLines}
 use Rattle.script.specs.Internal.Code.{code, rowAt}
 use Rattle.script.specs.Internal.Pieces.{Sort, expression}
 use Rattle.script.proofs.Rows.{row-of, KindOf, not-here}
-use Rattle.script.proofs.Nodes.{Makes, Node, n-int, n-loc, n-var, n-plus, n-left, n-right, n-pack, n-unpack, n-pair, n-proj, OfOperands, of-operands}
+use Rattle.script.proofs.Nodes.{Makes, Node, n-int, n-loc, n-var, n-plus, n-left, n-right, n-pack, n-unpack, n-pair}
+use Rattle.script.proofs.Nodes.{n-proj, OfOperands, of-operands}
 use Rattle.sheet.specs.Internal.Tables.{leftIn, rightIn}
 use Rattle.sheet.specs.Internal.TypeTest.{isPair}
 use Rattle.members.specs.Internal.Members.{wholeFlows, confidentialityFlows}
@@ -25,7 +26,8 @@ use Rattle.members.proofs.FlowLaws.{first-alone, first-tells, second-tells}
 use Rattle.checks.specs.declared.Typed.{Typed}
 use Rattle.checker.specs.Internal.Numbers.{isNo, someNo, leftIsNo, rightIsNo, pairIsNo, partNo, givenNo, typeNo}
 use Rattle.checker.specs.Internal.Bindings.{boundType, boundLabel, boundTypes, boundLabels}
-use Rattle.checks.specs.Internal.Nodes.{isType, nothing, intTyped, locTyped, plusTyped, sumTyped, packTyped, unpackTyped, pairTyped, partTyped}
+use Rattle.checks.specs.Internal.Nodes.{isType, nothing, intTyped, locTyped, plusTyped, sumTyped, packTyped}
+use Rattle.checks.specs.Internal.Nodes.{unpackTyped, pairTyped, partTyped}
 use Rattle.checker.specs.Internal.Bindings.{varTyped}
 use Rattle.checker.specs.Internal.Post.{Finds, Room, ChecksExpr}
 use Rattle.checker.proofs.HoldLaws.{both-hold, first-held, second-kept}
@@ -50,11 +52,13 @@ some-type x = on (x .typed)
     on false = refl
 
 part-type : (t : List ℕ) (q : Part) (x : Typed)
-    → givenNo (both (x .typed) (isPair t (x .ty))) (pick q (leftIn t (x .ty)) (rightIn t (x .ty))) ≡ partNo t q (givenNo (x .typed) (x .ty))
+    → givenNo (both (x .typed) (isPair t (x .ty))) (pick q (leftIn t (x .ty)) (rightIn t (x .ty)))
+    ≡ partNo t q (givenNo (x .typed) (x .ty))
 unfolding partNo givenNo both
 part-type t q x = on (x .typed)
   where
-    on : (b : Bool) → givenNo (both b (isPair t (x .ty))) (pick q (leftIn t (x .ty)) (rightIn t (x .ty))) ≡ partNo t q (givenNo b (x .ty))
+    on : (b : Bool) → givenNo (both b (isPair t (x .ty))) (pick q (leftIn t (x .ty)) (rightIn t (x .ty)))
+        ≡ partNo t q (givenNo b (x .ty))
     on true = refl
     on false = refl
 
@@ -131,7 +135,8 @@ module _ (t Γ Δ : List ℕ) where
       keeping-is = p .keeping-is;
     }
 
-find-var : (t s : List ℕ) (d i next : ℕ) → Room s d → Finds t (boundTypes s d) (boundLabels s d) (var i) (varTyped s d i next)
+find-var : (t s : List ℕ) (d i next : ℕ) → Room s d
+    → Finds t (boundTypes s d) (boundLabels s d) (var i) (varTyped s d i next)
 unfolding typeNo least flowE keepsE givenNo orElse nothing member
 find-var t s d i next room = on (decLt i d)
   where
@@ -160,11 +165,14 @@ abbrev Done : List ℕ → List ℕ → List ℕ → ℕ → List Line → Typed
 Done ws t s d rest x e = Finds t (boundTypes s d) (boundLabels s d) e x × (drop (x .next) ws ≡ code rest)
 
 module _ {ws : List ℕ} {at : ℕ} {t s : List ℕ} {d : ℕ} {row : Row} (q : row ≡ rowAt ws at) where
-  by-node : {ss : List Sort} {k : ℕ} {f : Makes ss Expr} (x : Typed) → Node expression ss k (row .a) (row .b) f → row .kind ≡ k → at ≤ x .next
-      → (Room s d → (rest : List Line) → OfOperands ws at rest expression ss f (λ more. more) (Done ws t s d rest x)) → ChecksExpr ws at t s d x
+  by-node : {ss : List Sort} {k : ℕ} {f : Makes ss Expr} (x : Typed) → Node expression ss k (row .a) (row .b) f
+      → row .kind ≡ k → at ≤ x .next
+      → (Room s d → (rest : List Line) → OfOperands ws at rest expression ss f (λ more. more) (Done ws t s d rest x))
+      → ChecksExpr ws at t s d x
   by-node x n h g m = record {
     onward = g;
-    means = λ e rest src w room. of-operands ws at rest n (row-of ws at expression e rest q h src w) (Done ws t s d rest x) (m room rest);
+    means = λ e rest src w room.
+        of-operands ws at rest n (row-of ws at expression e rest q h src w) (Done ws t s d rest x) (m room rest);
   }
 
   pub arm-int : row .kind ≡ 6 → {x : Typed} → x ≡ intTyped (at + 3) → ChecksExpr ws at t s d x
@@ -182,9 +190,11 @@ module _ {ws : List ℕ} {at : ℕ} {t s : List ℕ} {d : ℕ} {row : Row} (q : 
 
   module _ {x : Typed} (cx : ChecksExpr ws (at + 3) t s d x) where
     -- a line with two operands
-    arm-two : {k : ℕ} {f : Expr → Expr → Expr} {y r : Typed} → Node expression (expression ∷ expression ∷ []) k (row .a) (row .b) f → row .kind ≡ k
+    arm-two : {k : ℕ} {f : Expr → Expr → Expr} {y r : Typed}
+        → Node expression (expression ∷ expression ∷ []) k (row .a) (row .b) f → row .kind ≡ k
         → ChecksExpr ws (x .next) t s d y → r .next ≡ y .next
-        → ((e g : Expr) → Finds t (boundTypes s d) (boundLabels s d) e x → Finds t (boundTypes s d) (boundLabels s d) g y
+        → ((e g : Expr) → Finds t (boundTypes s d) (boundLabels s d) e x
+        → Finds t (boundTypes s d) (boundLabels s d) g y
         → Finds t (boundTypes s d) (boundLabels s d) (f e g) r)
         → ChecksExpr ws at t s d r
     arm-two n h cy i find =
@@ -194,26 +204,33 @@ module _ {ws : List ℕ} {at : ℕ} {t s : List ℕ} {d : ℕ} {row : Row} (q : 
         let l = cy .means g rest q (m .1) room in
         (find e g (m .0) (l .0), rw i (l .1)))
 
-    pub arm-plus : row .kind ≡ 9 → {y : Typed} → ChecksExpr ws (x .next) t s d y → {r : Typed} → r ≡ plusTyped x y → ChecksExpr ws at t s d r
+    pub arm-plus : row .kind ≡ 9 → {y : Typed} → ChecksExpr ws (x .next) t s d y → {r : Typed} → r ≡ plusTyped x y
+        → ChecksExpr ws at t s d r
     unfolding plusTyped
     arm-plus h cy e = rw e (arm-two n-plus h cy refl (λ e g p q. find-plus t _ _ p q))
 
-    pub arm-pair : row .kind ≡ 14 → {y : Typed} → ChecksExpr ws (x .next) t s d y → {r : Typed} → r ≡ pairTyped t (row .a) x y
+    pub arm-pair : row .kind ≡ 14 → {y : Typed} → ChecksExpr ws (x .next) t s d y → {r : Typed}
+        → r ≡ pairTyped t (row .a) x y
         → ChecksExpr ws at t s d r
     unfolding pairTyped
     arm-pair h cy e = rw e (arm-two n-pair h cy refl (λ e g p q. find-pair t _ _ p (row .a) q))
 
     -- a line with one operand
-    arm-one : {k : ℕ} {f : Expr → Expr} {r : Typed} → Node expression (expression ∷ []) k (row .a) (row .b) f → row .kind ≡ k → r .next ≡ x .next
-        → ((e : Expr) → Finds t (boundTypes s d) (boundLabels s d) e x → Finds t (boundTypes s d) (boundLabels s d) (f e) r) → ChecksExpr ws at t s d r
+    arm-one : {k : ℕ} {f : Expr → Expr} {r : Typed} → Node expression (expression ∷ []) k (row .a) (row .b) f
+        → row .kind ≡ k → r .next ≡ x .next
+        → ((e : Expr) → Finds t (boundTypes s d) (boundLabels s d) e x
+        → Finds t (boundTypes s d) (boundLabels s d) (f e) r) → ChecksExpr ws at t s d r
     arm-one n h i find =
-        by-node _ n h (omega (arith, cx .onward)) (λ room rest e p w. let m = cx .means e rest p w room in (find e (m .0), rw i (m .1)))
+        by-node _ n h (omega (arith, cx .onward))
+        (λ room rest e p w. let m = cx .means e rest p w room in (find e (m .0), rw i (m .1)))
 
-    pub arm-left : row .kind ≡ 10 → {m : ℕ} → m ≡ leftIn t (row .a) → {r : Typed} → r ≡ sumTyped t (row .a) m x → ChecksExpr ws at t s d r
+    pub arm-left : row .kind ≡ 10 → {m : ℕ} → m ≡ leftIn t (row .a) → {r : Typed} → r ≡ sumTyped t (row .a) m x
+        → ChecksExpr ws at t s d r
     unfolding sumTyped
     arm-left h p e = rw (e, p) (arm-one n-left h refl (λ e g. find-left t _ _ g (row .a)))
 
-    pub arm-right : row .kind ≡ 11 → {m : ℕ} → m ≡ rightIn t (row .a) → {r : Typed} → r ≡ sumTyped t (row .a) m x → ChecksExpr ws at t s d r
+    pub arm-right : row .kind ≡ 11 → {m : ℕ} → m ≡ rightIn t (row .a) → {r : Typed} → r ≡ sumTyped t (row .a) m x
+        → ChecksExpr ws at t s d r
     unfolding sumTyped
     arm-right h p e = rw (e, p) (arm-one n-right h refl (λ e g. find-right t _ _ g (row .a)))
 
@@ -225,7 +242,8 @@ module _ {ws : List ℕ} {at : ℕ} {t s : List ℕ} {d : ℕ} {row : Row} (q : 
     unfolding unpackTyped
     arm-unpack h e = rw e (arm-one n-unpack h refl (λ e g. find-unpack t _ _ g (row .a) (row .b)))
 
-    pub arm-part : (q : Part) → row .kind ≡ pick q 15 16 → {m : ℕ} → m ≡ pick q (leftIn t (x .ty)) (rightIn t (x .ty)) → {r : Typed}
+    pub arm-part : (q : Part) → row .kind ≡ pick q 15 16 → {m : ℕ}
+        → m ≡ pick q (leftIn t (x .ty)) (rightIn t (x .ty)) → {r : Typed}
         → r ≡ partTyped t m x → ChecksExpr ws at t s d r
     unfolding partTyped
     arm-part q h p e = rw (e, p) (arm-one (n-proj q) h refl (λ e g. find-part t _ _ g q))
@@ -233,4 +251,7 @@ module _ {ws : List ℕ} {at : ℕ} {t s : List ℕ} {d : ℕ} {row : Row} (q : 
   -- a row of another kind is no expression's
   pub arm-other : (KindOf expression (row .kind) → ⊥) → {x : Typed} → x ≡ nothing at → ChecksExpr ws at t s d x
   unfolding nothing
-  arm-other f e = rw e (record { onward = omega arith; means = λ e rest src w room. absurd (not-here expression e rest ws at q f src w) })
+  arm-other f e = rw e (record {
+    onward = omega arith;
+    means = λ e rest src w room. absurd (not-here expression e rest ws at q f src w);
+  })

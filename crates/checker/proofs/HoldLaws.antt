@@ -16,9 +16,11 @@ both-hold p x y e f = member-intersection p x y ∙ ap₂ both e f
 
 -- a test of the first fact
 module _ (x y : ℕ) where
-  pub first-held : {a b : Bool} → member 0 x ≡ a → member 0 y ≡ b → member 0 (intersection x (union y keepingAlone)) ≡ both a b
+  pub first-held : {a b : Bool} → member 0 x ≡ a → member 0 y ≡ b
+      → member 0 (intersection x (union y keepingAlone)) ≡ both a b
   unfolding member either
-  first-held {a} {b} e f = both-hold 0 x _ e (member-union 0 y keepingAlone ∙ ap (λ (c : Bool). either c false) f ∙ alone b)
+  first-held {a} {b} e f =
+      both-hold 0 x _ e (member-union 0 y keepingAlone ∙ ap (λ (c : Bool). either c false) f ∙ alone b)
     where
       alone : (c : Bool) → either c false ≡ c
       alone true = refl
@@ -26,7 +28,8 @@ module _ (x y : ℕ) where
 
   pub second-kept : {a : Bool} → member 1 x ≡ a → member 1 (intersection x (union y keepingAlone)) ≡ a
   unfolding member either
-  second-kept {a} e = both-hold 1 x _ e (member-union 1 y keepingAlone ∙ either-right (member 1 y) _ refl) ∙ both-implied a true (λ h. refl)
+  second-kept {a} e = both-hold 1 x _ e (member-union 1 y keepingAlone ∙ either-right (member 1 y) _ refl)
+      ∙ both-implied a true (λ h. refl)
 
 -- the tests of one fact
 pub first-holds : (h : ℕ) → not (eqb (bitAnd h 1) 0) ≡ member 0 h

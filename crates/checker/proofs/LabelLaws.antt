@@ -57,7 +57,8 @@ module _ (s : Sheet) (fm : formed s ≡ true) where
         unpackLabel-is = λ l a. label-is l;
         mayAssign-is = λ x a. ap (belowOf (a .raw)) (home-is x);
         mayPack-is = λ l a. ap (belowOf (a .raw)) (label-is l);
-        mayUnpack-is = λ l a. ap (λ (b : Label). belowOf (confidentialityOf (a .raw)) (confidentialityOf b)) (label-is l);
+        mayUnpack-is =
+            λ l a. ap (λ (b : Label). belowOf (confidentialityOf (a .raw)) (confidentialityOf b)) (label-is l);
       }
 
   -- the labels of the table lie above bottom, and so do their integrity parts
@@ -68,10 +69,12 @@ module _ (s : Sheet) (fm : formed s ≡ true) where
   bottom-under a h = rw all-is at (bottom-least (s .principals) a h)
 
   past : (l : ℕ) → maxLabels ≤ l → labelIn T l ≡ bottomOf (everyoneIn T)
-  past l h = let few : labelCount s ≤ maxLabels = few-of s fm in label-past T l (sym (labels-in s fm)) refl (omega arith)
+  past l h =
+      let few : labelCount s ≤ maxLabels = few-of s fm in label-past T l (sym (labels-in s fm)) refl (omega arith)
 
   label-joined : (l : ℕ) → joinIn T (labelMember l) ≡ labelIn T l
-  label-joined l = join-label T past l (effective-whole _ _ (effective-in l)) (bottom-under (labelIn T l) (effective-in l))
+  label-joined l =
+      join-label T past l (effective-whole _ _ (effective-in l)) (bottom-under (labelIn T l) (effective-in l))
 
   -- the conditions over sets of members, and those over the labels that they stand for
   members-image : Image (conditionsOn T) (conditionsIn T) (joinIn T)
@@ -98,7 +101,8 @@ module _ (s : Sheet) (fm : formed s ≡ true) where
   start-is none = ap bottomOf all-is ∙ sym (past maxLabels (omega arith))
   start-is (some l) = label-is l
 
-  pub flow-table : (p : Script) → flow (conditions (labelsOver (s .principals)) (declarationsOf s)) (startLabel s p) [] (p .command)
+  pub flow-table : (p : Script)
+      → flow (conditions (labelsOver (s .principals)) (declarationsOf s)) (startLabel s p) [] (p .command)
       ≡ flow (conditionsOn T) (labelMember (startNo (p .opening .start))) [] (p .command)
   flow-table p =
       let c = p .command in
@@ -108,8 +112,10 @@ module _ (s : Sheet) (fm : formed s ≡ true) where
       ∙ sym (flow-image _ _ (joinIn T) members-image (labelMember start) [] c)
 
   -- whether each unpack's operand is at or below the wanted label, over the table
-  pub keeps-table : (p : Script) → trustKeeping (labelsOver (s .principals)) (declarationsOf s) p ≡ keeps (conditionsOn T) (belowOn T) [] (p .command)
+  pub keeps-table : (p : Script) → trustKeeping (labelsOver (s .principals)) (declarationsOf s) p
+      ≡ keeps (conditionsOn T) (belowOn T) [] (p .command)
   unfolding trustKeeping wholeFlows
   keeps-table p =
-      keeps-image _ _ (λ a. a .raw) table-image _ (λ l a. belowOf a (labelIn T l)) (λ l a. ap (belowOf (a .raw)) (label-is l)) [] (p .command)
+      keeps-image _ _ (λ a. a .raw) table-image _ (λ l a. belowOf a (labelIn T l))
+      (λ l a. ap (belowOf (a .raw)) (label-is l)) [] (p .command)
       ∙ sym (keeps-image _ _ (joinIn T) members-image (belowOn T) _ (λ l a. refl) [] (p .command))

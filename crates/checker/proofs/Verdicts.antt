@@ -34,28 +34,34 @@ verdict-number false flow = refl
 
 -- the number that the table gives
 number : (s : Sheet) → formed s ≡ true → repeats s ≡ false → (p : Script) → Source (p .command)
-    → cond (shapeNo (tableOf s) [] (p .command)) (cond (flow (conditionsOn (tableOf s)) (labelMember (startNo (p .opening .start))) [] (p .command)) 0 6) 5
+    → cond (shapeNo (tableOf s) [] (p .command))
+    (cond (flow (conditionsOn (tableOf s)) (labelMember (startNo (p .opening .start))) [] (p .command)) 0 6) 5
     ≡ refusal (labelsOver (s .principals)) (declarationsOf s) p
 unfolding refusal
 number s fm once p src = rw (shape-agree s fm once src (no-bound), ← flow-table s fm p)
 
-pub check-answers : (ws t : List ℕ) (start : ℕ) {bound bound′ : List ℕ} {x : Passed} {r : Verdict} {pc : ℕ} → pc ≡ labelMember start → ChecksCmd ws 0 t bound 0 pc x bound′
-    → r ≡ verdictOf (x .typed) (member 0 (x .holds)) → bindingsSize ≤ length bound → ChecksCode ws t start (verdictNumber r)
+pub check-answers : (ws t : List ℕ) (start : ℕ) {bound bound′ : List ℕ} {x : Passed} {r : Verdict} {pc : ℕ}
+    → pc ≡ labelMember start → ChecksCmd ws 0 t bound 0 pc x bound′
+    → r ≡ verdictOf (x .typed) (member 0 (x .holds)) → bindingsSize ≤ length bound
+    → ChecksCode ws t start (verdictNumber r)
 unfolding upTo
 check-answers ws t start {x = x} m cx e room =
     record {
       exact = λ s fm once table k p src names w i.
           let y = cx .means k (p .command) [] src w names (omega arith, room) .0 in
-          ap verdictNumber (e ∙ ap₂ verdictOf (y .typed-is) (y .flow-is)) ∙ verdict-number _ _ ∙ rw (m, i, table) (number s fm once p src);
+          ap verdictNumber (e ∙ ap₂ verdictOf (y .typed-is) (y .flow-is)) ∙ verdict-number _ _
+          ∙ rw (m, i, table) (number s fm once p src);
     }
 
-pub check-keeps : (ws t : List ℕ) {bound bound′ : List ℕ} {x : Passed} {pc : ℕ} {r : Bool} → ChecksCmd ws 0 t bound 0 pc x bound′
+pub check-keeps : (ws t : List ℕ) {bound bound′ : List ℕ} {x : Passed} {pc : ℕ} {r : Bool}
+    → ChecksCmd ws 0 t bound 0 pc x bound′
     → r ≡ member 1 (x .holds) → bindingsSize ≤ length bound → KeepsCode ws t r
 unfolding upTo
 check-keeps ws t cx e room =
     record {
       says = λ s fm table k p src names w.
-          e ∙ cx .means k (p .command) [] src w names (omega arith, room) .0 .keeping-is ∙ rw table (sym (keeps-table s fm p));
+          e ∙ cx .means k (p .command) [] src w names (omega arith, room) .0 .keeping-is
+          ∙ rw table (sym (keeps-table s fm p));
     }
 
 pub checker-exact : CheckerExact

@@ -20,7 +20,8 @@ pub(crate) fn check_cmd(
     depth: usize,
     pc: Members,
 ) -> Passed
-    ensures { λ r. ⌜ ChecksCmd (now (code .entry)) at (now (table .entry)) (now (bound .entry)) depth pc r (now (bound .exit)) ⌝ }
+    ensures { λ r. ⌜ ChecksCmd (now (code .entry)) at (now (table .entry)) (now (bound .entry)) depth pc r
+        (now (bound .exit)) ⌝ }
 {
     let row = script::row_at(code, at);
     let kind = row.kind;
@@ -31,7 +32,8 @@ pub(crate) fn check_cmd(
             let second = check_cmd(code, first.next, table, bound, depth, pc);
             of_seq(first, second)
         }
-        // One call for the expression that each of these starts with, since each local takes its own place in every frame.
+        // One call for the expression that each of these starts with, since each local takes its own
+        // place in every frame.
         script::ASSIGN | script::WHILE | script::CASE => {
             let x = check_expr(code, at + script::ROW, table, bound, depth);
             match kind {

@@ -25,7 +25,8 @@ pub struct Finding {
 // Checks a script's code against a sheet's table. `start`: the number of the label that it starts at; one that names
 // none is bottom's.
 pub fn check(code: &[u32], table: &[sheet::Word], start: u32) -> Finding
-    ensures { λ r. ⌜ ChecksCode (now (code .entry)) (now (table .entry)) start (verdictNumber (r .verdict)) × KeepsCode (now (code .entry)) (now (table .entry)) (r .keeping) ⌝ }
+    ensures { λ r. ⌜ ChecksCode (now (code .entry)) (now (table .entry)) start (verdictNumber (r .verdict))
+        × KeepsCode (now (code .entry)) (now (table .entry)) (r .keeping) ⌝ }
 {
     let mut bound: [u64; bindings::BINDINGS] = [0; bindings::BINDINGS];
     let x = commands::check_cmd(code, 0, table, &mut bound, 0, members::label(start));

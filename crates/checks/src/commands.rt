@@ -1,6 +1,7 @@
 // Commands, below a surrounding label (the scope, "Typing"; the paper, figure 5).
 ghost use mathlib.Core.Path.{_≡_};
-ghost use Rattle.checks.specs.Internal.Nodes.{refused, skipPassed, seqPassed, assignPassed, whilePassed, casePassed};
+ghost use Rattle.checks.specs.Internal.Nodes.{refused, skipPassed, seqPassed, assignPassed, whilePassed};
+ghost use Rattle.checks.specs.Internal.Nodes.{casePassed};
 use crate::ALL;
 use crate::KEEPING;
 use crate::Passed;

@@ -1,6 +1,7 @@
 // Types and least labels of expressions (the scope, "Typing"; the paper, figure 4).
 ghost use mathlib.Core.Path.{_≡_};
-ghost use Rattle.checks.specs.Internal.Nodes.{isType, nothing, intTyped, locTyped, plusTyped, sumTyped, packTyped, unpackTyped, pairTyped, partTyped};
+ghost use Rattle.checks.specs.Internal.Nodes.{isType, nothing, intTyped, locTyped, plusTyped, sumTyped};
+ghost use Rattle.checks.specs.Internal.Nodes.{packTyped, unpackTyped, pairTyped, partTyped};
 use crate::ALL;
 use crate::KEEPING;
 use crate::Typed;

@@ -46,10 +46,17 @@ only-print field v e = rw e
 
 pub group-exact : GroupExact
 unfolding groupOf
-group-exact t g =
-    (λ e. set-exact g t (10 ∷ []) .0 (only-sound (hexSet t) g e), λ h. only-print (hexSet t) g (set-exact g t (10 ∷ []) .1 h))
+group-exact t g = (
+  λ e. set-exact g t (10 ∷ []) .0 (only-sound (hexSet t) g e),
+  λ h. only-print (hexSet t) g (set-exact g t (10 ∷ []) .1 h),
+)
 
 -- how long such a text is
 pub group-length : (t : List ℕ) (g : ℕ) → groupOf t ≡ some g → length t ≤ setDigits + 1
 group-length t g e =
-    omega (arith, ap length (group-exact t g .0 e .0), length-append (hexForm setDigits g) (10 ∷ []), length-form setDigits g)
+    omega (
+      arith,
+      ap length (group-exact t g .0 e .0),
+      length-append (hexForm setDigits g) (10 ∷ []),
+      length-form setDigits g,
+    )

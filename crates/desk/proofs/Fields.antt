@@ -38,7 +38,8 @@ module _ (s : List ℕ) (p : ℕ) where
         let z : length s - p ≡ 1 = eqb-true _ _ q in
         q ∙ sym (eq-eqb (length (drop (p + 1) s)) 0 (omega (arith, length-drop (p + 1) s))))
         (λ q.
-        q ∙ sym (ne-eqb (length (drop (p + 1) s)) 0 (λ z. eqb-false (length s - p) 1 q (omega (arith, length-drop (p + 1) s))))))
+        q ∙ sym (ne-eqb (length (drop (p + 1) s)) 0
+        (λ z. eqb-false (length s - p) 1 q (omega (arith, length-drop (p + 1) s))))))
 
 -- whether a field is the whole of a text
 module _ (field : Read ℕ) (s : List ℕ) (v p : ℕ) (e : field ≡ got v (drop p s)) where

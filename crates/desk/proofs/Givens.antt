@@ -33,7 +33,12 @@ given-whole text group g e = rw e (go (memory text) refl)
         record {
           whole = s .whole;
           few = omega (arith, s .most-locations);
-          all = omega (arith, length-append ws (replicate (memoryWords - length ws) 0), length-replicate {A = ℕ} (memoryWords - length ws) 0, s .most-locations);
+          all = omega (
+            arith,
+            length-append ws (replicate (memoryWords - length ws) 0),
+            length-replicate {A = ℕ} (memoryWords - length ws) 0,
+            s .most-locations,
+          );
         }
     go bad q = record { whole = refl; few = omega arith; all = length-replicate {A = ℕ} memoryWords 0 }
 
@@ -58,11 +63,20 @@ number-is (some g) (got ws r) = refl
 number-is (some g) bad = refl
 
 pub given-is : (text : List ℕ) (m : Memory) → m ≡ memoryAnswer text → (o : Option ℕ) (a : Answer) → m .answer ≡ a
-    → _≡_ {A = Given} (record { words = m .words; count = m .count * cell-words; group = Option·getD o 0; other = numberBy o a }) (givenFrom (memory text) o)
+    → _≡_ {A = Given}
+    (record { words = m .words; count = m .count * cell-words; group = Option·getD o 0; other = numberBy o a })
+    (givenFrom (memory text) o)
 unfolding givenFrom memoryAnswer table wordsRead padded
 given-is text m em o a e = rw (← e, em, number-is o (memory text)) (go (memory text) refl)
   where
     go : (want : Read (List ℕ)) → memory text ≡ want
-        → record { words = table want .words; count = table want .count * cell-words; group = Option·getD o 0; other = unread o want } ≡ givenFrom want o
-    go (got ws r) q = let n : length ws / cell-words * cell-words ≡ length ws = omega (arith, memory-sound ws text r q .1 .whole) in rw n
+        → record {
+          words = table want .words;
+          count = table want .count * cell-words;
+          group = Option·getD o 0;
+          other = unread o want;
+        } ≡ givenFrom want o
+    go (got ws r) q =
+        let n : length ws / cell-words * cell-words ≡ length ws =
+        omega (arith, memory-sound ws text r q .1 .whole) in rw n
     go bad q = refl

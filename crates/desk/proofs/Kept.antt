@@ -31,7 +31,8 @@ unfolding fits
 kept-cases t f g =
     cases (leb (length t) limit)
     (λ e. let l : length t ≤ limit = leb-true _ _ e in f (take-all keep t (omega arith)))
-    (λ e. let l : limit < length t = leb-false _ _ e in g e (lt-leb (length (take keep t)) limit (omega (arith, length-take-le keep t (omega arith)))))
+    (λ e. let l : limit < length t = leb-false _ _ e in
+    g e (lt-leb (length (take keep t)) limit (omega (arith, length-take-le keep t (omega arith)))))
 
 sheet-kept : (t : List ℕ) → sheetOf (take keep t) ≡ sheetOf t
 unfolding sheetOf sheetRead

@@ -1,4 +1,5 @@
--- Show gives its numbers in their order: its table against that of the view which it prints (demand 2). Assumes nothing.
+-- Show gives its numbers in their order: its table against that of the view which it prints (demand 2).
+-- Assumes nothing.
 use Prim.Native.Nat.{ℕ}
 use mathlib.Core.Path.{_≡_, refl, sym, ap, _∙_, subst}
 use mathlib.Core.Logic.{_⊎_, inl, inr, ⊎-elim}
@@ -78,7 +79,8 @@ module _ (sheet text group ws : List ℕ) (g : ℕ) where
 
   -- 1 and 2 come before the number of a text
   sheet-first : (o : Option ℕ) (m : Read (List ℕ))
-      → (said (unread o m) (refusedView zeros 1) ≡ numberLine 1) × (said (unread o m) (refusedView zeros 2) ≡ numberLine 2)
+      → (said (unread o m) (refusedView zeros 1) ≡ numberLine 1)
+      × (said (unread o m) (refusedView zeros 2) ≡ numberLine 2)
   unfolding viewText earlier placeOf asText unread
   sheet-first none m = (refl, refl)
   sheet-first (some a) bad = (refl, refl)
@@ -109,7 +111,8 @@ module _ (sheet text group ws : List ℕ) (g : ℕ) where
     three-first bad = refl
     three-first (got us r) = refl
 
-    on-group : (m : Read (List ℕ)) → (Seen past-3 → Said (memory-rows sheet text group) (unread (some g) m)) → Seen past-2
+    on-group : (m : Read (List ℕ))
+        → (Seen past-3 → Said (memory-rows sheet text group) (unread (some g) m)) → Seen past-2
         → Said (group-rows sheet text group) (unread (some g) m)
     unfolding First
     on-group m k (inl (a, e)) = inl (inr (g, i, a), ap (said (unread (some g) m)) e ∙ three-first m)
@@ -127,12 +130,14 @@ module _ (sheet text group ws : List ℕ) (g : ℕ) where
     on-memory : IsMemory text ws → Seen past-3 → Said (memory-rows sheet text group) 0
     unfolding First viewText earlier placeOf asText
     on-memory j (inl (inl a, e)) = inl (inr (ws, j, inl a), ap (said 0) e)
-    on-memory j (inl (inr (s, f, a), e)) = inl (inr (ws, j, inl (s, f, λ z. a (length-replicate {A = ℕ} (length ws) 0 ∙ z))), ap (said 0) e)
+    on-memory j (inl (inr (s, f, a), e)) =
+        inl (inr (ws, j, inl (s, f, λ z. a (length-replicate {A = ℕ} (length ws) 0 ∙ z))), ap (said 0) e)
     on-memory j (inr (m, inl (a, e))) = inl (inr (ws, j, inr a), ap (said 0) e)
     on-memory j (inr (m, inr (l, (s, f, e)))) =
         inr (
           ⊎-elim (λ n. n ws j) (λ o.
-              ⊎-elim (λ a. m (inl (subst (OtherSize sheet) (one-memory j (o .1)) a))) (λ a. l (subst (IllFormed sheet) (one-memory j (o .1)) a)) (o .2)),
+              ⊎-elim (λ a. m (inl (subst (OtherSize sheet) (one-memory j (o .1)) a)))
+              (λ a. l (subst (IllFormed sheet) (one-memory j (o .1)) a)) (o .2)),
           (s, f, (g, i, (ws, j, ap (said 0) e))),
         )
 
@@ -145,7 +150,8 @@ module _ (sheet text group : List ℕ) where
   unfolding showOf viewed givenOf givenFrom
   show-by = rw (given-words (memory text) (groupOf group))
 
-  by-texts : (o : Option ℕ) → groupOf group ≡ o → (m : Read (List ℕ)) → memory text ≡ m → Shown sheet text group (printed o m)
+  by-texts : (o : Option ℕ) → groupOf group ≡ o → (m : Read (List ℕ)) → memory text ≡ m
+      → Shown sheet text group (printed o m)
   unfolding wordsRead unread
   by-texts none e m q =
       on-sheet sheet text group (wordsRead m) 0 none m
@@ -153,7 +159,8 @@ module _ (sheet text group : List ℕ) where
   by-texts (some g) e bad q =
       on-sheet sheet text group [] g (some g) bad
       (on-group sheet text group [] g (group-exact group g .0 e) bad
-      (no-memory sheet text group [] g (group-exact group g .0 e) (λ us i. not-bad us [] (sym q ∙ memory-exact us text .1 i))))
+      (no-memory sheet text group [] g (group-exact group g .0 e)
+      (λ us i. not-bad us [] (sym q ∙ memory-exact us text .1 i))))
   by-texts (some g) e (got ws r) q =
       let s = memory-sound ws text r q in
       on-sheet sheet text group ws g (some g) (got ws r)
@@ -166,7 +173,8 @@ same-order sheet memory group view = refl
 
 pub show-in-order : ShowInOrder
 show-in-order sheet text group =
-    exactly numberLine (Prints sheet text group) (Prints sheet text group) (showOf sheet text group) (showRows sheet text group)
+    exactly numberLine (Prints sheet text group) (Prints sheet text group) (showOf sheet text group)
+    (showRows sheet text group)
     (λ n (s, f, (g, i, (ws, j, e))) out. (
       λ z. (s, f, (g, i, (ws, j, sym z ∙ e))),
       λ o.

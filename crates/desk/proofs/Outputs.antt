@@ -47,10 +47,14 @@ pub memory-puts : (out w x now : List ℕ) (r : ℕ) → w ≡ x → r ≡ print
     → length x % cell-words ≡ 0 → length x ≤ memoryWords → memoryRoom ≤ length out → PutAll out (memoryText x) now r
 memory-puts out w x now r e er en h l room =
     let p = printed-all x out h (omega arith) in
-    record { length-is = er ∙ ap (λ (u : List ℕ). printedLength u out) e ∙ p .0; held = en ∙ ap (λ (u : List ℕ). printed u out) e ∙ p .1 }
+    record {
+      length-is = er ∙ ap (λ (u : List ℕ). printedLength u out) e ∙ p .0;
+      held = en ∙ ap (λ (u : List ℕ). printed u out) e ∙ p .1;
+    }
 
 -- other words for the same bytes
-pub put-same : (out bytes bytes′ now : List ℕ) (r : ℕ) → bytes ≡ bytes′ → PutAll out bytes now r → PutAll out bytes′ now r
+pub put-same : (out bytes bytes′ now : List ℕ) (r : ℕ) → bytes ≡ bytes′ → PutAll out bytes now r
+    → PutAll out bytes′ now r
 put-same out bytes bytes′ now r e p = rw e at p
 
 -- the first n places of w, replaced by as many

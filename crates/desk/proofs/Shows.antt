@@ -25,13 +25,16 @@ take-zeros (suc n) (suc m) h = ap {B = List ℕ} (λ (l : List ℕ). 0 ∷ l) (t
 
 -- a view that was made in an array of zeros
 module _ (sheet : List ℕ) (g : Given) (answer : ℕ) (view : List ℕ) (w : Whole g)
-    (e : _≡_ {A = Viewed} (record { answer = answer; view = view }) (viewOf sheet (givenWords g) (g .group) (take (g .count) (replicate memoryWords 0))))
+    (e : _≡_ {A = Viewed} (record { answer = answer; view = view })
+    (viewOf sheet (givenWords g) (g .group) (take (g .count) (replicate memoryWords 0))))
     (k : ℕ) (ek : k ≡ earlier (asText answer) (g .other)) where
   view-is : viewed sheet g ≡ viewText k view
   unfolding viewed
   view-is =
-      let q : viewOf sheet (givenWords g) (g .group) (replicate (length (givenWords g)) 0) ≡ record { answer = answer; view = view }
-      = ap (viewOf sheet (givenWords g) (g .group)) (rw (words-length g w) (sym (take-zeros (g .count) memoryWords (w .few)))) ∙ sym e in
+      let q : viewOf sheet (givenWords g) (g .group) (replicate (length (givenWords g)) 0)
+      ≡ record { answer = answer; view = view }
+      = ap (viewOf sheet (givenWords g) (g .group))
+      (rw (words-length g w) (sym (take-zeros (g .count) memoryWords (w .few)))) ∙ sym e in
       rw (q, ek)
 
   pub view-shown : k ≡ 0 → memoryText view ≡ viewed sheet g

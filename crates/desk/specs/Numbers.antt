@@ -1,5 +1,5 @@
--- The first number that applies is given, in the order judged (the scope, "From the input" and "From the state"), where a text that isn't of its
--- form has a number too.
+-- The first number that applies is given, in the order judged (the scope, "From the input" and "From the state"), where
+-- a text that isn't of its form has a number too.
 use Prim.Native.Nat.{ℕ, suc}
 use mathlib.Core.Bool.{cond}
 use mathlib.Core.List.{List, [], _∷_}

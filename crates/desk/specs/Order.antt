@@ -1,4 +1,5 @@
--- What show must print, by the scope: its numbers in the order judged, each with when it applies, and the view where none does.
+-- What show must print, by the scope: its numbers in the order judged, each with when it applies, and the view
+-- where none does.
 use Prim.Native.Nat.{ℕ, _^_, _<_}
 use mathlib.Core.Logic.{_⊎_}
 use mathlib.Core.Path.{_≡_}
@@ -49,4 +50,6 @@ showRows sheet text group =
 -- the number alone, or the view, written as a memory text is
 abbrev pub Shown : List ℕ → List ℕ → List ℕ → List ℕ → Type 0
 Shown sheet text group =
-    First numberLine (λ out. OfSheet sheet (λ s. OfGroup group (λ g. OfMemory text (λ ws. out ≡ memoryText (viewWords s g ws))))) (showRows sheet text group)
+    First numberLine
+    (λ out. OfSheet sheet (λ s. OfGroup group (λ g. OfMemory text (λ ws. out ≡ memoryText (viewWords s g ws)))))
+    (showRows sheet text group)

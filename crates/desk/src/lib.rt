@@ -89,8 +89,8 @@ fn number(answer: u8, other: u8) -> u8
     earlier(answer, other)
 }
 
-// What a memory and a group give; a text that isn't of its form stands for no location, or for the empty group, and has the
-// number 8 or 3.
+// What a memory and a group give; a text that isn't of its form stands for no location, or for the empty group, and has
+// the number 8 or 3.
 fn read_given(memory: &[u8], group: &[u8]) -> Given
     ensures { λ r. ⌜ r ≡ givenOf (now (memory .entry)) (now (group .entry)) ⌝ }
 {
@@ -147,11 +147,13 @@ fn show_given(sheet: &[u8], given: Given, out: &mut [u8]) -> usize
     put_line(out, k as u32)
 }
 
-// What show prints, at the start of a buffer; its length. Nothing is written, and the answer is 0, where the buffer has fewer
-// than PLACES places.
+// What show prints, at the start of a buffer; its length. Nothing is written, and the answer is 0, where the buffer has
+// fewer than PLACES places.
 pub fn show(sheet: &[u8], memory: &[u8], group: &[u8], out: &mut [u8]) -> usize
-    ensures { λ r. ⌜ r ≡ putLength (now (out .entry)) (showOf (now (sheet .entry)) (now (memory .entry)) (now (group .entry))) ⌝ }
-    ensures { λ _. ⌜ now (out .exit) ≡ put (now (out .entry)) (showOf (now (sheet .entry)) (now (memory .entry)) (now (group .entry))) ⌝ }
+    ensures { λ r. ⌜ r ≡ putLength (now (out .entry))
+        (showOf (now (sheet .entry)) (now (memory .entry)) (now (group .entry))) ⌝ }
+    ensures { λ _. ⌜ now (out .exit)
+        ≡ put (now (out .entry)) (showOf (now (sheet .entry)) (now (memory .entry)) (now (group .entry))) ⌝ }
 {
     if out.len() < PLACES {
         return 0;

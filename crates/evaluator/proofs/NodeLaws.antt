@@ -9,9 +9,11 @@ use borrow.Author.Tests.{le-leb, lt-leb}
 use lib.Dec.{eqb}
 use lib.ListN.{length, take, drop, getD, take-append-drop}
 use lib.Seq.{getD-take}
-use Rattle.language.specs.Syntax.{Head, headOf, headSize, Value, int, err, inl, inr, pkg, pair, blank, Part, first, second, pick, size, has}
+use Rattle.language.specs.Syntax.{Head, headOf, headSize, Value, int, err, inl, inr, pkg, pair, blank, Part, first}
+use Rattle.language.specs.Syntax.{second, pick, size, has}
 use Rattle.language.specs.World.{World, cell-words, wanted}
-use Rattle.language.specs.Evaluation.{Res, ok, long, stuck, bind, fitIf, fit, addTo, add, packed, opened, unpacked, partOf}
+use Rattle.language.specs.Evaluation.{Res, ok, long, stuck, bind, fitIf, fit, addTo, add, packed, opened, unpacked}
+use Rattle.language.specs.Evaluation.{partOf}
 use Rattle.sheet.specs.Internal.Tables.{labelsIn, leftIn, belowIn}
 use Rattle.sheet.specs.Internal.Powers.{mayWrite, mayRead}
 use Rattle.sheet.specs.Internal.TypeTest.{hasNo}
@@ -23,22 +25,29 @@ use Rattle.cells.specs.Internal.Cells.{accumulator, loadOf, storeOf, pushOf, pu
 use Rattle.script.specs.declared.Row.{Row}
 use Rattle.script.proofs.Rows.{NoneOf, none-between}
 use Rattle.evaluator.specs.Internal.Records.{Setting, Result, endState, reached}
-use Rattle.evaluator.specs.Internal.Nodes.{Yields, Gives, Turns, Applies, errorOf, errorIn, Tells, Sums, Tagged, Packs, Unpacks, Projects, partBy, Op, o-plus, o-left, o-right, o-pack, o-unpack, o-part, opKind, MadeBy, Applied, Pairs}
-use Rattle.cells.proofs.CellLaws.{there, load-there, length-load, length-push, length-pushes, length-pop, length-pops, length-cut, store-there, cell-stored, rest-kept}
-use Rattle.evaluator.proofs.ValueLaws.{cell-size, tags-left, push-tag, push-package, pop-package, push-pair, pop-first, pop-second}
+use Rattle.evaluator.specs.Internal.Nodes.{Yields, Gives, Turns, Applies, errorOf, errorIn, Tells, Sums, Tagged}
+use Rattle.evaluator.specs.Internal.Nodes.{Packs, Unpacks, Projects, partBy, Op, o-plus, o-left, o-right, o-pack}
+use Rattle.evaluator.specs.Internal.Nodes.{o-unpack, o-part, opKind, MadeBy, Applied, Pairs}
+use Rattle.cells.proofs.CellLaws.{there, load-there, length-load, length-push, length-pushes, length-pop, length-pops}
+use Rattle.cells.proofs.CellLaws.{length-cut, store-there, cell-stored, rest-kept}
+use Rattle.evaluator.proofs.ValueLaws.{cell-size, tags-left, push-tag, push-package, pop-package, push-pair}
+use Rattle.evaluator.proofs.ValueLaws.{pop-first, pop-second}
 
 -- ---- what is in the accumulator
 
 -- the words start with those of the accumulator's value
-pub words-here : (work : List ℕ) (v : Value) → cellOf work accumulator ≡ cell v → work ≡ enc v (zeros (cell-words - size v) ++ drop cell-words work)
+pub words-here : (work : List ℕ) (v : Value) → cellOf work accumulator ≡ cell v
+    → work ≡ enc v (zeros (cell-words - size v) ++ drop cell-words work)
 unfolding cellOf cell
 words-here work v e =
-    sym (take-append-drop 16 work) ∙ ap (λ (l : List ℕ). l ++ drop 16 work) e ∙ enc-append v (zeros (16 - size v)) (drop 16 work)
+    sym (take-append-drop 16 work) ∙ ap (λ (l : List ℕ). l ++ drop 16 work) e
+    ∙ enc-append v (zeros (16 - size v)) (drop 16 work)
 
 size-here : (work : List ℕ) (v : Value) (n : ℕ) → n ≡ endOf work 0 → cellOf work accumulator ≡ cell v → n ≡ size v
 size-here work v n s e = omega (arith, end-enc work 0 v _ (words-here work v e))
 
-pub load-here : (work : List ℕ) (v : Value) → cell-words ≤ length work → cellOf work accumulator ≡ cell v → loadOf work accumulator ≡ cell v
+pub load-here : (work : List ℕ) (v : Value) → cell-words ≤ length work → cellOf work accumulator ≡ cell v
+    → loadOf work accumulator ≡ cell v
 load-here work v h e = load-there work 0 (there work 0 (omega arith)) ∙ e
 
 -- the second word
@@ -74,15 +83,18 @@ module _ (f : Value → Res) (v : Result) where
 
   -- a new value is stored
   turns-put : (words : List ℕ) → v .state ≡ 0 → length words ≡ cell-words
-      → ((u : Value) → cell-words ≤ length (v .cells) → cellOf (v .cells) accumulator ≡ cell u → Yields (f u) (v .state) words)
+      → ((u : Value) → cell-words ≤ length (v .cells) → cellOf (v .cells) accumulator ≡ cell u
+      → Yields (f u) (v .state) words)
       → Turns f v (withCells v (storeOf (v .cells) accumulator words))
   unfolding Yields bind
-  turns-put words z n k (ok u) h a = rw (cell-stored (v .cells) 0 words n (there (v .cells) 0 (omega arith))) (k u h (a .1))
+  turns-put words z n k (ok u) h a =
+      rw (cell-stored (v .cells) 0 words n (there (v .cells) 0 (omega arith))) (k u h (a .1))
   turns-put words z n k long h a = absurd (omega arith)
   turns-put words z n k stuck h a = tt
 
   -- nothing is stored
-  turns-keep : (end : ℕ) → v .state ≡ 0 → ((u : Value) → cellOf (v .cells) accumulator ≡ cell u → Gives (f u) (reached end (v .cells)))
+  turns-keep : (end : ℕ) → v .state ≡ 0
+      → ((u : Value) → cellOf (v .cells) accumulator ≡ cell u → Gives (f u) (reached end (v .cells)))
       → Turns f v (reached end (v .cells))
   unfolding Yields bind
   turns-keep end z k (ok u) h a = k u (a .1)
@@ -93,12 +105,23 @@ module _ {Means : Type 0} {v : Result} where
   pub applies-past : Means → Applies v v Means
   applies-past m = record { kept = refl; through = λ z. z; same-place = λ z. refl; means = m }
 
-  applies-put : {cells : List ℕ} (words : List ℕ) → length words ≡ cell-words → cells ≡ storeOf (v .cells) accumulator words → Means
+  applies-put : {cells : List ℕ} (words : List ℕ) → length words ≡ cell-words
+      → cells ≡ storeOf (v .cells) accumulator words → Means
       → Applies v (withCells v cells) Means
-  applies-put words n e m = record { kept = ap (drop 16) e ∙ rest-kept (v .cells) words n; through = λ z. z; same-place = λ z. refl; means = m }
+  applies-put words n e m = record {
+    kept = ap (drop 16) e ∙ rest-kept (v .cells) words n;
+    through = λ z. z;
+    same-place = λ z. refl;
+    means = m;
+  }
 
   applies-keep : (end : ℕ) → end ≤ 1 → Means → Applies v (reached end (v .cells)) Means
-  applies-keep end h m = record { kept = refl; through = λ z. absurd (end-none end h z); same-place = λ z. absurd (end-none end h z); means = m }
+  applies-keep end h m = record {
+    kept = refl;
+    through = λ z. absurd (end-none end h z);
+    same-place = λ z. absurd (end-none end h z);
+    means = m;
+  }
 
 -- ---- values that fit, and that don't
 
@@ -110,7 +133,8 @@ too-long : (v : Value) → cell-words < size v → fit v ≡ long
 unfolding fit fitIf
 too-long v h = simp (lt-leb (size v) 16 h)
 
-answers-ok : (r : Res) (v : Value) (state : ℕ) (words : List ℕ) → r ≡ ok v → state ≡ 0 → words ≡ cell v → Yields r state words
+answers-ok : (r : Res) (v : Value) (state : ℕ) (words : List ℕ) → r ≡ ok v → state ≡ 0 → words ≡ cell v
+    → Yields r state words
 unfolding Yields
 answers-ok r v state words e z w = rw e (z, w)
 
@@ -131,10 +155,12 @@ loaded work words l = ap (λ (u : List ℕ). length u) l ∙ length-load work 0
 
 -- ---- plus
 
-add-answer : (u w : Value) (n m s state : ℕ) (words : List ℕ) → state ≡ 0 → words ≡ cell (int s) → n ≡ getD (cell u) 1 0 → m ≡ getD (cell w) 1 0
+add-answer : (u w : Value) (n m s state : ℕ) (words : List ℕ) → state ≡ 0 → words ≡ cell (int s) → n ≡ getD (cell u) 1 0
+    → m ≡ getD (cell w) 1 0
     → s ≡ (n + m) % 2 ^ 32 → Yields (add u w) state words
 unfolding Yields add addTo fit fitIf size cell enc
-add-answer (int a) (int b) n m s state words z e p q r = (z, e ∙ ap (λ (i : ℕ). cell (int i)) (r ∙ ap (λ (i : ℕ). (i + m) % 2 ^ 32) p ∙ ap (λ (i : ℕ). (a + i) % 2 ^ 32) q))
+add-answer (int a) (int b) n m s state words z e p q r =
+    (z, e ∙ ap (λ (i : ℕ). cell (int i)) (r ∙ ap (λ (i : ℕ). (i + m) % 2 ^ 32) p ∙ ap (λ (i : ℕ). (a + i) % 2 ^ 32) q))
 add-answer (int a) (err b) n m s state words z e p q r = tt
 add-answer (int a) (inl w) n m s state words z e p q r = tt
 add-answer (int a) (inr w) n m s state words z e p q r = tt
@@ -164,13 +190,16 @@ module _ {v : Result} where
   pub tagged-past : {w : ℕ} → (v .state ≡ 0 → ⊥) → Tagged w v v
   tagged-past z = applies-past (λ f t. turns-past (λ u. fit (f u)) v z)
 
-  pub tagged-long : {w end : ℕ} → v .state ≡ 0 → end ≡ endOf (v .cells) 0 → cell-words ≤ end → Tagged w v (reached 1 (v .cells))
+  pub tagged-long : {w end : ℕ} → v .state ≡ 0 → end ≡ endOf (v .cells) 0 → cell-words ≤ end
+      → Tagged w v (reached 1 (v .cells))
   tagged-long {end = end} z s h =
       applies-keep 1 (omega arith)
       (λ f t. turns-keep (λ u. fit (f u)) v 1 z
-      (λ u a. answers-long (fit (f u)) (cellOf (v .cells) 0) (too-long (f u) (omega (arith, t .longer u, size-here (v .cells) u end s a)))))
+      (λ u a. answers-long (fit (f u)) (cellOf (v .cells) 0)
+      (too-long (f u) (omega (arith, t .longer u, size-here (v .cells) u end s a)))))
 
-  pub tagged-done : {w end : ℕ} {words cells : List ℕ} → v .state ≡ 0 → end ≡ endOf (v .cells) 0 → end < cell-words → words ≡ loadOf (v .cells) accumulator
+  pub tagged-done : {w end : ℕ} {words cells : List ℕ} → v .state ≡ 0 → end ≡ endOf (v .cells) 0 → end < cell-words
+      → words ≡ loadOf (v .cells) accumulator
       → cells ≡ storeOf (v .cells) accumulator (pushOf w words) → Tagged w v (withCells v cells)
   tagged-done {w} {end} {words} z s h l e =
       let n = length-push w words (loaded (v .cells) words l) in
@@ -187,30 +216,37 @@ module _ {v : Result} where
     pack-past z = applies-past (turns-past (packed (mayWrite powers l) l) v z)
 
     module _ {may : Bool} (w : may ≡ mayWrite powers l) where
-      pub pack-error : {cells : List ℕ} → v .state ≡ 0 → may ≡ false → cells ≡ storeOf (v .cells) accumulator (cell (inr (err 1))) → Packs powers l v (withCells v cells)
+      pub pack-error : {cells : List ℕ} → v .state ≡ 0 → may ≡ false
+          → cells ≡ storeOf (v .cells) accumulator (cell (inr (err 1))) → Packs powers l v (withCells v cells)
       unfolding packed
       pack-error z n e =
           applies-put (cell (inr (err 1))) (length-error 1) e
           (rw (e, ← w, n) (turns-put (packed false l) v (cell (inr (err 1))) z (length-error 1)
           (λ u h a. answers-ok (packed false l u) (inr (err 1)) (v .state) (cell (inr (err 1))) refl z refl)))
 
-      pub pack-long : {end : ℕ} → v .state ≡ 0 → may ≡ true → end ≡ endOf (v .cells) 0 → 13 < end → Packs powers l v (reached 1 (v .cells))
+      pub pack-long : {end : ℕ} → v .state ≡ 0 → may ≡ true → end ≡ endOf (v .cells) 0 → 13 < end
+          → Packs powers l v (reached 1 (v .cells))
       unfolding packed size
       pack-long {end} z y s h =
           applies-keep 1 (omega arith)
           (rw (← w, y) (turns-keep (packed true l) v 1 z
-          (λ u a. answers-long (packed true l u) (cellOf (v .cells) 0) (too-long (inl (pkg (headOf l) u)) (omega (arith, size-here (v .cells) u end s a))))))
+          (λ u a. answers-long (packed true l u) (cellOf (v .cells) 0)
+          (too-long (inl (pkg (headOf l) u)) (omega (arith, size-here (v .cells) u end s a))))))
 
-      pub pack-done : {end : ℕ} {words cells : List ℕ} → v .state ≡ 0 → may ≡ true → end ≡ endOf (v .cells) 0 → end ≤ 13 → words ≡ loadOf (v .cells) accumulator
-          → cells ≡ storeOf (v .cells) accumulator (pushOf 3 (pushOf 5 (pushOf l words))) → Packs powers l v (withCells v cells)
+      pub pack-done : {end : ℕ} {words cells : List ℕ} → v .state ≡ 0 → may ≡ true → end ≡ endOf (v .cells) 0 → end ≤ 13
+          → words ≡ loadOf (v .cells) accumulator
+          → cells ≡ storeOf (v .cells) accumulator (pushOf 3 (pushOf 5 (pushOf l words)))
+          → Packs powers l v (withCells v cells)
       unfolding packed size
       pack-done {end} {words} z y s h ld e =
           let left : List ℕ = pushOf 3 (pushOf 5 (pushOf l words)) in
-          let n : length left ≡ 16 = length-push 3 _ (length-push 5 _ (length-push l words (loaded (v .cells) words ld))) in
+          let n : length left ≡ 16 =
+          length-push 3 _ (length-push 5 _ (length-push l words (loaded (v .cells) words ld))) in
           applies-put left n e
           (rw (e, ← w, y) (turns-put (packed true l) v left z n
           (λ u g a. let m = size-here (v .cells) u end s a in
-          answers-ok (packed true l u) (inl (pkg (headOf l) u)) (v .state) left (fits (inl (pkg (headOf l) u)) (omega arith)) z
+          answers-ok (packed true l u) (inl (pkg (headOf l) u)) (v .state) left
+          (fits (inl (pkg (headOf l) u)) (omega arith)) z
           (ap (λ (x : List ℕ). pushOf 3 (pushOf 5 (pushOf l x))) (ld ∙ load-here (v .cells) u g a)
           ∙ ap (pushOf 3) (push-package l u (omega arith)) ∙ push-tag tags-left (pkg (headOf l) u) (omega arith)))))
 
@@ -231,7 +267,8 @@ opened-fine true true false v e p n = absurd (omega arith)
 opened-fine true true true v e p n = refl
 
 -- the first word tells a package
-no-package : (W : World) (t l : ℕ) (work : List ℕ) (v : Value) (state : ℕ) → (getD work 0 0 ≡ 5 → ⊥) → cellOf work accumulator ≡ cell v
+no-package : (W : World) (t l : ℕ) (work : List ℕ) (v : Value) (state : ℕ) → (getD work 0 0 ≡ 5 → ⊥)
+    → cellOf work accumulator ≡ cell v
     → Yields (unpacked W t l v) state (cellOf work accumulator)
 unfolding Yields unpacked enc
 no-package W t l work (int n) state ne e = tt
@@ -240,15 +277,18 @@ no-package W t l work (inl v) state ne e = tt
 no-package W t l work (inr v) state ne e = tt
 no-package W t l work (pkg h v) state ne e = absurd (ne (first-word work (pkg h v) e))
   where
-    first-word : (work : List ℕ) (v : Value) → cellOf work accumulator ≡ cell v → getD work 0 0 ≡ getD (enc v (zeros (16 - size v) ++ drop 16 work)) 0 0
+    first-word : (work : List ℕ) (v : Value) → cellOf work accumulator ≡ cell v
+        → getD work 0 0 ≡ getD (enc v (zeros (16 - size v) ++ drop 16 work)) 0 0
     first-word work v e = ap (λ (l : List ℕ). getD l 0 0) (words-here work v e)
 no-package W t l work (pair v w) state ne e = tt
 no-package W t l work blank state ne e = tt
 
 module _ {S : Setting} (v : Result) (t l e : ℕ)
-    (p : e ≡ errorIn S l (getD (v .cells) 1 0) (hasNo (S .table) (valueOf (drop 2 (v .cells))) (leftIn (S .table) t))) where
+    (p : e
+    ≡ errorIn S l (getD (v .cells) 1 0) (hasNo (S .table) (valueOf (drop 2 (v .cells))) (leftIn (S .table) t))) where
   -- what the three tests say of the package
-  tested : (W : World) → Tells S W → l < labelsIn (S .table) → (h : Head) (u : Value) → cellOf (v .cells) accumulator ≡ cell (pkg h u)
+  tested : (W : World) → Tells S W → l < labelsIn (S .table) → (h : Head) (u : Value)
+      → cellOf (v .cells) accumulator ≡ cell (pkg h u)
       → e ≡ errorOf (W .reads l) (W .below (h .label) l) (has u (wanted (W .ty t)))
   unfolding errorIn headWords enc
   tested W tells there h u a =
@@ -259,7 +299,8 @@ module _ {S : Setting} (v : Result) (t l e : ℕ)
       p ∙ rw (l′, u′, tells .reads-is l there, tells .below-is (h .label) l, tells .type-is u t) refl
 
   module _ (z : v .state ≡ 0) where
-    unpack-error-at : (W : World) → Tells S W → l < labelsIn (S .table) → (u : Value) → (e ≡ 0 → ⊥) → cellOf (v .cells) accumulator ≡ cell u
+    unpack-error-at : (W : World) → Tells S W → l < labelsIn (S .table) → (u : Value) → (e ≡ 0 → ⊥)
+        → cellOf (v .cells) accumulator ≡ cell u
         → Yields (unpacked W t l u) (v .state) (cell (inr (err e)))
     unfolding Yields unpacked
     unpack-error-at W tells there (int n) ne a = tt
@@ -267,11 +308,13 @@ module _ {S : Setting} (v : Result) (t l e : ℕ)
     unpack-error-at W tells there (inl u) ne a = tt
     unpack-error-at W tells there (inr u) ne a = tt
     unpack-error-at W tells there (pkg h u) ne a =
-        answers-ok _ (inr (err e)) (v .state) (cell (inr (err e))) (opened-error _ _ _ u e (tested W tells there h u a) ne) z refl
+        answers-ok _ (inr (err e)) (v .state) (cell (inr (err e)))
+        (opened-error _ _ _ u e (tested W tells there h u a) ne) z refl
     unpack-error-at W tells there (pair u w) ne a = tt
     unpack-error-at W tells there blank ne a = tt
 
-    unpack-done-at : (W : World) → Tells S W → l < labelsIn (S .table) → (u : Value) (content : List ℕ) → e ≡ 0 → cellOf (v .cells) accumulator ≡ cell u
+    unpack-done-at : (W : World) → Tells S W → l < labelsIn (S .table) → (u : Value) (content : List ℕ) → e ≡ 0
+        → cellOf (v .cells) accumulator ≡ cell u
         → content ≡ pushOf 3 (popOf (popOf (cell u))) → Yields (unpacked W t l u) (v .state) content
     unfolding Yields unpacked size
     unpack-done-at W tells there (int n) content ne a c = tt
@@ -280,15 +323,18 @@ module _ {S : Setting} (v : Result) (t l e : ℕ)
     unpack-done-at W tells there (inr u) content ne a c = tt
     unpack-done-at W tells there (pkg h u) content ne a c =
         let n : suc (headSize + size u) ≤ 16 = cell-size (v .cells) 0 (pkg h u) a in
-        answers-ok _ (inl u) (v .state) content (opened-fine _ _ _ u e (tested W tells there h u a) ne ∙ fits (inl u) (omega arith)) z
+        answers-ok _ (inl u) (v .state) content
+        (opened-fine _ _ _ u e (tested W tells there h u a) ne ∙ fits (inl u) (omega arith)) z
         (c ∙ ap (pushOf 3) (pop-package h u (omega arith)) ∙ push-tag tags-left u (omega arith))
     unpack-done-at W tells there (pair u w) content ne a c = tt
     unpack-done-at W tells there blank content ne a c = tt
 
-    pub unpack-error : {cells : List ℕ} → (e ≡ 0 → ⊥) → cells ≡ storeOf (v .cells) accumulator (cell (inr (err e))) → Unpacks S t l v (withCells v cells)
+    pub unpack-error : {cells : List ℕ} → (e ≡ 0 → ⊥) → cells ≡ storeOf (v .cells) accumulator (cell (inr (err e)))
+        → Unpacks S t l v (withCells v cells)
     unpack-error ne s =
         applies-put (cell (inr (err e))) (length-error e) s
-        (λ W tells there. rw s (turns-put (unpacked W t l) v (cell (inr (err e))) z (length-error e) (λ u h a. unpack-error-at W tells there u ne a)))
+        (λ W tells there. rw s (turns-put (unpacked W t l) v (cell (inr (err e))) z (length-error e)
+        (λ u h a. unpack-error-at W tells there u ne a)))
 
     pub unpack-done : {words cells : List ℕ} → e ≡ 0 → words ≡ loadOf (v .cells) accumulator
         → cells ≡ storeOf (v .cells) accumulator (pushOf 3 (popOf (popOf words))) → Unpacks S t l v (withCells v cells)
@@ -297,13 +343,15 @@ module _ {S : Setting} (v : Result) (t l e : ℕ)
         let n : length left ≡ 16 = length-push 3 _ (length-pop _ (length-pop words (loaded (v .cells) words ld))) in
         applies-put left n s
         (λ W tells there. rw s (turns-put (unpacked W t l) v left z n
-        (λ u h a. unpack-done-at W tells there u left ne a (ap (λ (ws : List ℕ). pushOf 3 (popOf (popOf ws))) (ld ∙ load-here (v .cells) u h a)))))
+        (λ u h a. unpack-done-at W tells there u left ne a
+        (ap (λ (ws : List ℕ). pushOf 3 (popOf (popOf ws))) (ld ∙ load-here (v .cells) u h a)))))
 
 module _ {S : Setting} {v : Result} (t l : ℕ) where
   pub unpack-past : (v .state ≡ 0 → ⊥) → Unpacks S t l v v
   unpack-past z = applies-past (λ W tells there. turns-past (unpacked W t l) v z)
 
-  pub unpack-none : {w : ℕ} → v .state ≡ 0 → w ≡ getD (v .cells) 0 0 → (w ≡ 5 → ⊥) → Unpacks S t l v (reached 0 (v .cells))
+  pub unpack-none : {w : ℕ} → v .state ≡ 0 → w ≡ getD (v .cells) 0 0 → (w ≡ 5 → ⊥)
+      → Unpacks S t l v (reached 0 (v .cells))
   unpack-none z p ne =
       applies-keep 0 (omega arith)
       (λ W tells there. turns-keep (unpacked W t l) v 0 z (λ u a. no-package W t l (v .cells) u _ (λ q. ne (p ∙ q)) a))
@@ -333,7 +381,8 @@ module _ (S : Setting) (l m : ℕ) (fits : Bool) {may : Bool} (r : may ≡ mayRe
 -- ---- the parts of a pair
 
 -- the first word tells a pair
-no-pair : (p : Part) (work : List ℕ) (v : Value) (state : ℕ) → (getD work 0 0 ≡ 6 → ⊥) → cellOf work accumulator ≡ cell v
+no-pair : (p : Part) (work : List ℕ) (v : Value) (state : ℕ) → (getD work 0 0 ≡ 6 → ⊥)
+    → cellOf work accumulator ≡ cell v
     → Yields (partOf p v) state (cellOf work accumulator)
 unfolding Yields partOf enc
 no-pair p work (int n) state ne e = tt
@@ -345,7 +394,8 @@ no-pair p work (pair v w) state ne e = absurd (ne (ap (λ (l : List ℕ). getD l
 no-pair p work blank state ne e = tt
 
 -- what stands in the accumulator for a part that is taken of a value
-part-answer : (p : Part) (u : Value) (state : ℕ) (words : List ℕ) → state ≡ 0 → ((v w : Value) → u ≡ pair v w → words ≡ cell (pick p v w))
+part-answer : (p : Part) (u : Value) (state : ℕ) (words : List ℕ) → state ≡ 0
+    → ((v w : Value) → u ≡ pair v w → words ≡ cell (pick p v w))
     → Yields (partOf p u) state words
 unfolding Yields partOf
 part-answer p (int n) state words z k = tt
@@ -357,14 +407,16 @@ part-answer p (pair v w) state words z k = (z, k v w refl)
 part-answer p blank state words z k = tt
 
 -- where the first part ends once the pair's word is popped, and where the second starts before
-first-end : (work popped : List ℕ) (u w : Value) → cell-words ≤ length work → popped ≡ storeOf work accumulator (popOf (cell (pair u w)))
+first-end : (work popped : List ℕ) (u w : Value) → cell-words ≤ length work
+    → popped ≡ storeOf work accumulator (popOf (cell (pair u w)))
     → endOf popped 0 ≡ size u
 unfolding popOf cell enc
 first-end work popped u w h p =
     let rest : List ℕ = enc w (zeros (16 - size (pair u w))) in
     let e : popped ≡ enc u ((rest ++ (0 ∷ [])) ++ drop 16 work) =
     p ∙ store-there work 0 (popOf (cell (pair u w))) (there work 0 (omega arith))
-    ∙ ap (λ (l : List ℕ). l ++ drop 16 work) (enc-append u rest (0 ∷ [])) ∙ enc-append u (rest ++ (0 ∷ [])) (drop 16 work) in
+    ∙ ap (λ (l : List ℕ). l ++ drop 16 work) (enc-append u rest (0 ∷ []))
+    ∙ enc-append u (rest ++ (0 ∷ [])) (drop 16 work) in
     omega (arith, end-enc popped 0 u _ e)
 
 second-start : (work : List ℕ) (u w : Value) → cellOf work accumulator ≡ cell (pair u w) → endOf work 1 ≡ suc (size u)
@@ -375,13 +427,16 @@ module _ {v : Result} where
   pub part-past : (b : Bool) → (v .state ≡ 0 → ⊥) → Projects (partBy b) v v
   part-past b z = applies-past (turns-past (partOf (partBy b)) v z)
 
-  pub part-none : (b : Bool) {w : ℕ} → v .state ≡ 0 → w ≡ getD (v .cells) 0 0 → (w ≡ 6 → ⊥) → Projects (partBy b) v (reached 0 (v .cells))
-  part-none b z p ne = applies-keep 0 (omega arith) (turns-keep (partOf (partBy b)) v 0 z (λ u a. no-pair (partBy b) (v .cells) u _ (λ q. ne (p ∙ q)) a))
+  pub part-none : (b : Bool) {w : ℕ} → v .state ≡ 0 → w ≡ getD (v .cells) 0 0 → (w ≡ 6 → ⊥)
+      → Projects (partBy b) v (reached 0 (v .cells))
+  part-none b z p ne = applies-keep 0 (omega arith)
+      (turns-keep (partOf (partBy b)) v 0 z (λ u a. no-pair (partBy b) (v .cells) u _ (λ q. ne (p ∙ q)) a))
 
   module _ (z : v .state ≡ 0) {words : List ℕ} (ld : words ≡ loadOf (v .cells) accumulator) where
     -- a part is stored
     part-put : (p : Part) {out cells : List ℕ} → length out ≡ cell-words → cells ≡ storeOf (v .cells) accumulator out
-        → ((u w : Value) → cell-words ≤ length (v .cells) → cellOf (v .cells) accumulator ≡ cell (pair u w) → words ≡ cell (pair u w) → out ≡ cell (pick p u w))
+        → ((u w : Value) → cell-words ≤ length (v .cells) → cellOf (v .cells) accumulator ≡ cell (pair u w)
+        → words ≡ cell (pair u w) → out ≡ cell (pick p u w))
         → Projects p v (withCells v cells)
     part-put p {out} n e k =
         applies-put out n e
@@ -389,13 +444,16 @@ module _ {v : Result} where
         (λ u h a. part-answer p u (v .state) out z
         (λ x y q. k x y h (a ∙ ap cell q) (ld ∙ load-here (v .cells) u h a ∙ ap cell q)))))
 
-    pub part-first : {b : Bool} {popped cells : List ℕ} {end : ℕ} → b ≡ true → popped ≡ storeOf (v .cells) accumulator (popOf words) → end ≡ endOf popped 0
+    pub part-first : {b : Bool} {popped cells : List ℕ} {end : ℕ} → b ≡ true
+        → popped ≡ storeOf (v .cells) accumulator (popOf words) → end ≡ endOf popped 0
         → cells ≡ storeOf (v .cells) accumulator (cutOf end (popOf words)) → Projects (partBy b) v (withCells v cells)
     unfolding partBy pick size
     part-first {popped = popped} {end = end} t p s e =
         rw t (part-put first (length-cut end _ (length-pop words (loaded (v .cells) words ld))) e
         (λ u w h a q.
-        ap₂ cutOf (s ∙ first-end (v .cells) popped u w h (p ∙ ap (λ (l : List ℕ). storeOf (v .cells) accumulator (popOf l)) q)) (ap popOf q)
+        ap₂ cutOf
+        (s ∙ first-end (v .cells) popped u w h (p ∙ ap (λ (l : List ℕ). storeOf (v .cells) accumulator (popOf l)) q))
+        (ap popOf q)
         ∙ pop-first u w (omega (arith, cell-size (v .cells) 0 (pair u w) a))))
 
     pub part-second : {b : Bool} {cells : List ℕ} {end : ℕ} → b ≡ false → end ≡ endOf (v .cells) 1
@@ -403,7 +461,8 @@ module _ {v : Result} where
     unfolding partBy pick size
     part-second {end = end} t s e =
         rw t (part-put second (length-pops end words (loaded (v .cells) words ld)) e
-        (λ u w h a q. ap₂ popsOf (s ∙ second-start (v .cells) u w a) q ∙ pop-second u w (omega (arith, cell-size (v .cells) 0 (pair u w) a))))
+        (λ u w h a q. ap₂ popsOf (s ∙ second-start (v .cells) u w a) q
+        ∙ pop-second u w (omega (arith, cell-size (v .cells) 0 (pair u w) a))))
 
 -- ---- a pair
 
@@ -422,10 +481,13 @@ module _ {v : Result} {words : List ℕ} where
     pair-long {m} t h =
         applies-keep 1 (omega arith)
         (λ u p. turns-keep (λ w. fit (pair u w)) v 1 z
-        (λ w a. answers-long (fit (pair u w)) (cellOf (v .cells) 0) (too-long (pair u w) (omega (arith, words-size words u n s p, size-here (v .cells) w m t a)))))
+        (λ w a. answers-long (fit (pair u w)) (cellOf (v .cells) 0)
+        (too-long (pair u w) (omega (arith, words-size words u n s p, size-here (v .cells) w m t a)))))
 
-    pub pair-done : {m k : ℕ} {held cells : List ℕ} → m ≡ endOf (v .cells) 0 → n + m < cell-words → held ≡ loadOf (v .cells) accumulator → k ≡ n
-        → cells ≡ storeOf (v .cells) accumulator (pushOf 6 (pushesOf (take k words) held)) → Pairs words v (withCells v cells)
+    pub pair-done : {m k : ℕ} {held cells : List ℕ} → m ≡ endOf (v .cells) 0 → n + m < cell-words
+        → held ≡ loadOf (v .cells) accumulator → k ≡ n
+        → cells ≡ storeOf (v .cells) accumulator (pushOf 6 (pushesOf (take k words) held))
+        → Pairs words v (withCells v cells)
     unfolding size
     pair-done {m} {k} {held} t h ld whole e =
         let out : List ℕ = pushOf 6 (pushesOf (take k words) held) in
@@ -443,7 +505,8 @@ module _ {v : Result} {words : List ℕ} where
 -- the line of a kind's number
 opOf : ℕ → Op
 opOf n =
-    cond (eqb n 9) o-plus (cond (eqb n 10) o-left (cond (eqb n 11) o-right (cond (eqb n 12) o-pack (cond (eqb n 13) o-unpack
+    cond (eqb n 9) o-plus
+    (cond (eqb n 10) o-left (cond (eqb n 11) o-right (cond (eqb n 12) o-pack (cond (eqb n 13) o-unpack
     (o-part (cond (eqb n 15) first second))))))
 
 op-back : (o : Op) → opOf (opKind o) ≡ o

@@ -20,9 +20,11 @@ use Rattle.evaluator.specs.Internal.Cells.{firstLocation, workWords, Bin
 use Rattle.evaluator.specs.Internal.Nodes.{Yields}
 use Rattle.cells.proofs.CellLaws.{there, cell-agree, load-there, length-store, cell-stored, cell-other}
 
-pub binds-kept : {a b : List ℕ} {depth : ℕ} {ρ : Env} → ((k : ℕ) → k < depth → cellOf b (suc k) ≡ cellOf a (suc k)) → Binds a depth ρ → Binds b depth ρ
+pub binds-kept : {a b : List ℕ} {depth : ℕ} {ρ : Env} → ((k : ℕ) → k < depth → cellOf b (suc k) ≡ cellOf a (suc k))
+    → Binds a depth ρ → Binds b depth ρ
 binds-kept h bound-none = bound-none
-binds-kept h (bound-more {depth = d} e bs) = bound-more (h d (omega arith) ∙ e) (binds-kept (λ k l. h k (omega arith)) bs)
+binds-kept h (bound-more {depth = d} e bs) =
+    bound-more (h d (omega arith) ∙ e) (binds-kept (λ k l. h k (omega arith)) bs)
 
 module _ {work : List ℕ} {locations depth : ℕ} {M : Mem} {ρ : Env} (held : CellsHold work locations depth M ρ) where
   -- there is a cell for each of the locations, and for each depth
@@ -44,7 +46,8 @@ module _ {work : List ℕ} {locations depth : ℕ} {M : Mem} {ρ : Env} (held : 
       }
 
   -- a location is given a value
-  pub holds-put : {words work′ : List ℕ} (x : ℕ) (v : Value) → x < locations → words ≡ cell v → length words ≡ cell-words
+  pub holds-put : {words work′ : List ℕ} (x : ℕ) (v : Value) → x < locations → words ≡ cell v
+      → length words ≡ cell-words
       → work′ ≡ storeOf work (firstLocation + x) words → CellsHold work′ locations depth (update M x v) ρ
   unfolding update
   holds-put {words} {work′} x v h w n e =
@@ -54,12 +57,15 @@ module _ {work : List ℕ} {locations depth : ℕ} {M : Mem} {ρ : Env} (held : 
         memory = λ y l. ap (λ (u : List ℕ). cellOf u (9 + y)) e ∙ at y l (eqb x y) refl;
         shallow = held .shallow;
         bindings = binds-kept
-            (λ k l. ap (λ (u : List ℕ). cellOf u (suc k)) e ∙ cell-other work (9 + x) words n (suc k) (λ q. omega (arith, held .shallow)))
+            (λ k l. ap (λ (u : List ℕ). cellOf u (suc k)) e
+            ∙ cell-other work (9 + x) words n (suc k) (λ q. omega (arith, held .shallow)))
             (held .bindings);
       }
     where
-      at : (y : ℕ) → y < locations → (b : Bool) → eqb x y ≡ b → cellOf (storeOf work (9 + x) words) (9 + y) ≡ cell (cond b v (M y))
-      at y l true q = rw (← (eqb-true x y q)) (cell-stored work (9 + x) words n (cell-in (9 + x) (omega (arith, held .few))) ∙ w)
+      at : (y : ℕ) → y < locations → (b : Bool) → eqb x y ≡ b
+          → cellOf (storeOf work (9 + x) words) (9 + y) ≡ cell (cond b v (M y))
+      at y l true q =
+          rw (← (eqb-true x y q)) (cell-stored work (9 + x) words n (cell-in (9 + x) (omega (arith, held .few))) ∙ w)
       at y l false q = cell-other work (9 + x) words n (9 + y) (λ z. eqb-false x y q (omega arith)) ∙ held .memory y l
 
   -- a case binds a value
@@ -73,20 +79,30 @@ module _ {work : List ℕ} {locations depth : ℕ} {M : Mem} {ρ : Env} (held : 
             ∙ cell-other work (suc depth) words n (9 + y) (λ q. omega arith) ∙ held .memory y l;
         shallow = h;
         bindings = bound-more
-            (ap (λ (u : List ℕ). cellOf u (suc depth)) e ∙ cell-stored work (suc depth) words n (cell-in (suc depth) (omega arith)) ∙ w)
-            (binds-kept (λ k l. ap (λ (u : List ℕ). cellOf u (suc k)) e ∙ cell-other work (suc depth) words n (suc k) (λ q. omega arith)) (held .bindings));
+            (ap (λ (u : List ℕ). cellOf u (suc depth)) e
+            ∙ cell-stored work (suc depth) words n (cell-in (suc depth) (omega arith)) ∙ w)
+            (binds-kept (λ k l. ap (λ (u : List ℕ). cellOf u (suc k)) e
+            ∙ cell-other work (suc depth) words n (suc k) (λ q. omega arith)) (held .bindings));
       }
 
 unbind : {work : List ℕ} {depth : ℕ} {v : Value} {ρ : Env} → Binds work (suc depth) (v ∷ ρ) → Binds work depth ρ
 unbind (bound-more e bs) = bs
 
 -- a case is left
-pub holds-leave : {work : List ℕ} {locations depth : ℕ} {M : Mem} {v : Value} {ρ : Env} → CellsHold work locations (suc depth) M (v ∷ ρ) → CellsHold work locations depth M ρ
+pub holds-leave : {work : List ℕ} {locations depth : ℕ} {M : Mem} {v : Value} {ρ : Env}
+    → CellsHold work locations (suc depth) M (v ∷ ρ) → CellsHold work locations depth M ρ
 holds-leave held =
-    record { whole = held .whole; few = held .few; memory = held .memory; shallow = omega (arith, held .shallow); bindings = unbind (held .bindings) }
+    record {
+      whole = held .whole;
+      few = held .few;
+      memory = held .memory;
+      shallow = omega (arith, held .shallow);
+      bindings = unbind (held .bindings);
+    }
 
 -- the value that a variable names
-pub bound-answers : {work : List ℕ} {depth : ℕ} {ρ : Env} → Binds work depth ρ → length work ≡ workWords → depth ≤ maxDepth → (i : ℕ)
+pub bound-answers : {work : List ℕ} {depth : ℕ} {ρ : Env} → Binds work depth ρ → length work ≡ workWords
+    → depth ≤ maxDepth → (i : ℕ)
     → Yields (lookup ρ i) 0 (loadOf work (depth - i))
 unfolding Yields lookup
 bound-answers bound-none n h i = tt

@@ -60,7 +60,13 @@ zeros-more v n e = enc-more v n ∙ ap (λ (m : ℕ). enc v (zeros m)) e
 pub cell-size : (ws : List ℕ) (k : ℕ) (v : Value) → cellOf ws k ≡ cell v → size v ≤ cell-words
 unfolding cell
 cell-size ws k v e =
-    omega (arith, cell-short ws k, ap (λ (l : List ℕ). length l) e, length-enc v (zeros (16 - size v)), length-replicate {A = ℕ} (16 - size v) 0)
+    omega (
+      arith,
+      cell-short ws k,
+      ap (λ (l : List ℕ). length l) e,
+      length-enc v (zeros (16 - size v)),
+      length-replicate {A = ℕ} (16 - size v) 0,
+    )
 
 pub tags-left : Tags 3 inl
 unfolding enc size
@@ -78,7 +84,8 @@ module _ {w : ℕ} {f : Value → Value} (t : Tags w f) (v : Value) where
   unfolding cell
   tagged-cell =
       let n : 16 - suc (size v) ≡ 15 - size v = omega arith in
-      ap (λ (m : ℕ). enc (f v) (zeros (16 - m))) (t .longer v) ∙ t .words v (zeros (16 - suc (size v))) ∙ ap (λ (m : ℕ). w ∷ enc v (zeros m)) n
+      ap (λ (m : ℕ). enc (f v) (zeros (16 - m))) (t .longer v) ∙ t .words v (zeros (16 - suc (size v)))
+      ∙ ap (λ (m : ℕ). w ∷ enc v (zeros m)) n
 
   pub push-tag : size v < cell-words → pushOf w (cell v) ≡ cell (f v)
   unfolding pushOf
@@ -102,20 +109,23 @@ pub push-package : (l : ℕ) (v : Value) → size v ≤ 14 → pushOf 5 (pushOf 
 unfolding pushOf cell headWords enc size
 push-package l v h =
     let n : 14 - size v ≡ 16 - suc (headSize + size v) = omega arith in
-    ap (λ (u : List ℕ). 5 ∷ l ∷ u) (take-take 14 15 (cell v) (omega arith) ∙ take-cell v 14 h (omega arith) ∙ ap (λ (m : ℕ). enc v (zeros m)) n)
+    ap (λ (u : List ℕ). 5 ∷ l ∷ u)
+    (take-take 14 15 (cell v) (omega arith) ∙ take-cell v 14 h (omega arith) ∙ ap (λ (m : ℕ). enc v (zeros m)) n)
 
 pub pop-package : (h : Head) (v : Value) → size v ≤ 14 → popOf (popOf (cell (pkg h v))) ≡ cell v
 unfolding popOf cell headWords enc size
 pop-package h v s =
     let n : 16 - suc (headSize + size v) + 1 ≡ 15 - size v = omega arith in
-    ap (λ (u : List ℕ). u ++ (0 ∷ [])) (enc-more v (16 - suc (headSize + size v)) ∙ ap (λ (m : ℕ). enc v (zeros m)) n) ∙ zeros-more v (15 - size v) (omega arith)
+    ap (λ (u : List ℕ). u ++ (0 ∷ [])) (enc-more v (16 - suc (headSize + size v)) ∙ ap (λ (m : ℕ). enc v (zeros m)) n)
+    ∙ zeros-more v (15 - size v) (omega arith)
 
 -- words in front of a cell, and words taken off it: as many go or come at the end
 
 pushes-take : (us ws : List ℕ) → length ws ≡ cell-words → pushesOf us ws ≡ take cell-words (us ++ ws)
 unfolding pushesOf pushOf
 pushes-take [] ws long = sym (take-all 16 ws (omega arith))
-pushes-take (w ∷ us) ws long = ap (λ (l : List ℕ). w ∷ take 15 l) (pushes-take us ws long) ∙ ap (λ (l : List ℕ). w ∷ l) (take-take 15 16 (us ++ ws) (omega arith))
+pushes-take (w ∷ us) ws long = ap (λ (l : List ℕ). w ∷ take 15 l) (pushes-take us ws long)
+    ∙ ap (λ (l : List ℕ). w ∷ l) (take-take 15 16 (us ++ ws) (omega arith))
 
 -- a value's words alone, and others after them
 enc-alone : (v : Value) (rest : List ℕ) → enc v [] ++ rest ≡ enc v rest
@@ -124,18 +134,22 @@ enc-alone v rest = enc-append v [] rest
 -- the words of a value that a cell starts with
 cell-front : (v : Value) → size v ≤ cell-words → take (size v) (cell v) ≡ enc v []
 unfolding cell
-cell-front v h = ap (λ (n : ℕ). take n (enc v (zeros (16 - size v)))) (sym (add-zero (size v))) ∙ take-enc v 0 (zeros (16 - size v))
+cell-front v h =
+    ap (λ (n : ℕ). take n (enc v (zeros (16 - size v)))) (sym (add-zero (size v))) ∙ take-enc v 0 (zeros (16 - size v))
 
-pub push-pair : (v w : Value) → size v + size w < cell-words → pushOf 6 (pushesOf (take (size v) (cell v)) (cell w)) ≡ cell (pair v w)
+pub push-pair : (v w : Value) → size v + size w < cell-words
+    → pushOf 6 (pushesOf (take (size v) (cell v)) (cell w)) ≡ cell (pair v w)
 unfolding pushOf cell enc size
 push-pair v w h =
     let n : 15 ≡ size v + (15 - size v) = omega arith in
     let k : 15 - size v - size w ≡ 16 - suc (size v + size w) = omega arith in
     ap (λ (l : List ℕ). 6 ∷ take 15 l)
-    (pushes-take (take (size v) (cell v)) (cell w) (length-cell w (omega arith)) ∙ ap (λ (l : List ℕ). take 16 (l ++ cell w)) (cell-front v (omega arith))
+    (pushes-take (take (size v) (cell v)) (cell w) (length-cell w (omega arith))
+    ∙ ap (λ (l : List ℕ). take 16 (l ++ cell w)) (cell-front v (omega arith))
     ∙ ap (take 16) (enc-alone v (cell w)))
     ∙ ap (λ (l : List ℕ). 6 ∷ l)
-    (take-take 15 16 (enc v (cell w)) (omega arith) ∙ ap (λ (m : ℕ). take m (enc v (cell w))) n ∙ take-enc v (15 - size v) (cell w)
+    (take-take 15 16 (enc v (cell w)) (omega arith) ∙ ap (λ (m : ℕ). take m (enc v (cell w))) n
+    ∙ take-enc v (15 - size v) (cell w)
     ∙ ap (enc v) (take-cell w (15 - size v) (omega arith) (omega arith) ∙ ap (λ (m : ℕ). enc w (zeros m)) k))
 
 pops-drop : (n : ℕ) (ws : List ℕ) → n ≤ length ws → popsOf n ws ≡ drop n ws ++ zeros n
@@ -143,12 +157,15 @@ unfolding popsOf popOf
 pops-drop zero ws h = sym (append-nil ws)
 pops-drop (suc n) ws h =
     ap popOf (pops-drop n ws (omega arith))
-    ∙ ap (λ (l : List ℕ). l ++ (0 ∷ [])) (drop-append-le 1 (drop n ws) (zeros n) (omega (arith, length-drop n ws)) ∙ ap (λ (l : List ℕ). l ++ zeros n) (drop-drop 1 n ws))
-    ∙ append-assoc (drop (n + 1) ws) (zeros n) (0 ∷ []) ∙ ap₂ (λ (k : ℕ) (l : List ℕ). drop k ws ++ l) (add-one n) (replicate-append-replicate n 1 0 ∙ ap zeros (add-one n))
+    ∙ ap (λ (l : List ℕ). l ++ (0 ∷ [])) (drop-append-le 1 (drop n ws) (zeros n) (omega (arith, length-drop n ws))
+    ∙ ap (λ (l : List ℕ). l ++ zeros n) (drop-drop 1 n ws))
+    ∙ append-assoc (drop (n + 1) ws) (zeros n) (0 ∷ [])
+    ∙ ap₂ (λ (k : ℕ) (l : List ℕ). drop k ws ++ l) (add-one n) (replicate-append-replicate n 1 0 ∙ ap zeros (add-one n))
 
 -- the words after a value
 drop-enc : (v : Value) (rest : List ℕ) → drop (size v) (enc v rest) ≡ rest
-drop-enc v rest = ap (drop (size v)) (sym (enc-alone v rest)) ∙ drop-at (enc v []) rest (size v) (length-enc v [] ∙ add-zero (size v))
+drop-enc v rest =
+    ap (drop (size v)) (sym (enc-alone v rest)) ∙ drop-at (enc v []) rest (size v) (length-enc v [] ∙ add-zero (size v))
 
 pub pop-second : (v w : Value) → size v + size w < cell-words → popsOf (suc (size v)) (cell (pair v w)) ≡ cell w
 unfolding cell enc size
@@ -157,14 +174,16 @@ pop-second v w h =
     let n : 16 - suc (size v + size w) + suc (size v) ≡ 16 - size w = omega arith in
     pops-drop (suc (size v)) (cell (pair v w)) (omega (arith, length-cell (pair v w) (omega arith)))
     ∙ ap (λ (l : List ℕ). l ++ zeros (suc (size v))) (drop-enc v (enc w z))
-    ∙ enc-append w z (zeros (suc (size v))) ∙ ap (enc w) (replicate-append-replicate (16 - suc (size v + size w)) (suc (size v)) 0 ∙ ap zeros n)
+    ∙ enc-append w z (zeros (suc (size v)))
+    ∙ ap (enc w) (replicate-append-replicate (16 - suc (size v + size w)) (suc (size v)) 0 ∙ ap zeros n)
 
 pub pop-first : (v w : Value) → size v ≤ cell-words → cutOf (size v) (popOf (cell (pair v w))) ≡ cell v
 unfolding cutOf popOf cell enc size
 pop-first v w h =
     let z = enc w (zeros (16 - suc (size v + size w))) in
     ap (λ (l : List ℕ). l ++ zeros (16 - size v))
-    (ap (take (size v)) (enc-append v z (0 ∷ [])) ∙ ap (λ (n : ℕ). take n (enc v (z ++ (0 ∷ [])))) (sym (add-zero (size v))) ∙ take-enc v 0 (z ++ (0 ∷ [])))
+    (ap (take (size v)) (enc-append v z (0 ∷ []))
+    ∙ ap (λ (n : ℕ). take n (enc v (z ++ (0 ∷ [])))) (sym (add-zero (size v))) ∙ take-enc v 0 (z ++ (0 ∷ [])))
     ∙ enc-alone v (zeros (16 - size v))
 
 -- ---- the first word of a value tells its kind

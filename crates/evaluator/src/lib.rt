@@ -17,8 +17,8 @@ pub const MEMORY: usize = CELL * LOCATIONS;
 
 pub const WORK: usize = MEMORY + CELL * (sheet::MOST_LOCATIONS as usize);
 
-// How an evaluation or a run ends: done, the budget used up, a value too long; or, on words that are no script's code or no sheet's
-// memory, that no rule applies.
+// How an evaluation or a run ends: done, the budget used up, a value too long; or, on words that are no script's code
+// or no sheet's memory, that no rule applies.
 pub enum State {
     Done,
     Spent,

@@ -9,7 +9,8 @@ ghost use Rattle.memory.specs.Words.{cell, valueOf};
 ghost use Rattle.cells.specs.Internal.Cells.{loadOf, storeOf, accumulator};
 ghost use Rattle.evaluator.specs.Internal.Cells.{firstLocation};
 ghost use Rattle.evaluator.specs.Internal.Records.{reached};
-ghost use Rattle.evaluator.specs.Internal.Nodes.{Sums, Tagged, Packs, Unpacks, Projects, partBy, Pairs, Applied, errorIn};
+ghost use Rattle.evaluator.specs.Internal.Nodes.{Sums, Tagged, Packs, Unpacks, Projects, partBy, Pairs, Applied};
+ghost use Rattle.evaluator.specs.Internal.Nodes.{errorIn};
 use crate::End;
 use crate::LOCATIONS;
 use crate::NO_RULE;
@@ -50,14 +51,16 @@ fn fail(work: &mut [u32; WORK], e: u32)
 
 // The value of location x.
 pub(crate) fn location(work: &mut [u32; WORK], x: u32)
-    ensures { λ _. ⌜ now (work .exit) ≡ storeOf (now (work .entry)) accumulator (loadOf (now (work .entry)) (firstLocation + x)) ⌝ }
+    ensures { λ _. ⌜ now (work .exit)
+        ≡ storeOf (now (work .entry)) accumulator (loadOf (now (work .entry)) (firstLocation + x)) ⌝ }
 {
     cells::copy_cell(work, LOCATIONS + x as usize, ACCUMULATOR);
 }
 
 // The value that the d-th enclosing case binds, innermost 0, at a depth.
 pub(crate) fn variable(work: &mut [u32; WORK], depth: u32, d: u32)
-    ensures { λ _. ⌜ now (work .exit) ≡ storeOf (now (work .entry)) accumulator (loadOf (now (work .entry)) (depth - d)) ⌝ }
+    ensures { λ _. ⌜ now (work .exit)
+        ≡ storeOf (now (work .entry)) accumulator (loadOf (now (work .entry)) (depth - d)) ⌝ }
 {
     let k = if d < depth { depth - d } else { 0 };
     cells::copy_cell(work, k as usize, ACCUMULATOR);
@@ -109,9 +112,11 @@ fn pack(work: &mut [u32; WORK], powers: Powers, l: u32, v: End) -> End
     v
 }
 
-// The error of unpacking the package in the accumulator with the wanted label l and the wanted type on the left of type t; else 0.
+// The error of unpacking the package in the accumulator with the wanted label l and the wanted type on the left
+// of type t; else 0.
 fn refusal(work: &[u32], table: &[sheet::Word], powers: Powers, t: u32, l: u32) -> u32
-    ensures { λ r. ⌜ r ≡ errorIn (record { table = now (table .entry); powers = powers }) l (getD (now (work .entry)) 1 0)
+    ensures { λ r. ⌜ r ≡ errorIn (record { table = now (table .entry); powers = powers }) l
+        (getD (now (work .entry)) 1 0)
         (hasNo (now (table .entry)) (valueOf (drop 2 (now (work .entry)))) (leftIn (now (table .entry)) t)) ⌝ }
 {
     if !sheet::powers::may_read(powers, l) {
@@ -196,7 +201,8 @@ pub(crate) fn pair(work: &mut [u32; WORK], first: &[u32; CELL], v: End) -> End
     v
 }
 
-// What a line of a kind, with the numbers a and b, makes of the value in the accumulator; of a plus, a is the integer on the left.
+// What a line of a kind, with the numbers a and b, makes of the value in the accumulator; of a plus, a is the
+// integer on the left.
 pub(crate) fn applied(
     work: &mut [u32; WORK],
     table: &[sheet::Word],
@@ -206,7 +212,8 @@ pub(crate) fn applied(
     b: u32,
     v: End,
 ) -> End
-    ensures { λ r. ⌜ Applied (record { table = now (table .entry); powers = powers }) (record { kind = kind; a = a; b = b })
+    ensures { λ r. ⌜ Applied (record { table = now (table .entry); powers = powers })
+        (record { kind = kind; a = a; b = b })
         (reached v (now (work .entry))) (reached r (now (work .exit))) ⌝ }
 {
     match kind {

@@ -56,20 +56,24 @@ rising-above : (x : ℕ) (ys : List ℕ) → Rising (x ∷ ys) → (y : ℕ) →
 rising-above x ys r y (i, l, e) = rw (← e) (r 0 (suc i) (omega arith) (suc-le-suc l))
 
 -- two rising lists of the same numbers are equal
-same-rising : (xs ys : List ℕ) → Rising xs → Rising ys → ((z : ℕ) → Listed z xs → Listed z ys) → ((z : ℕ) → Listed z ys → Listed z xs) → xs ≡ ys
+same-rising : (xs ys : List ℕ) → Rising xs → Rising ys → ((z : ℕ) → Listed z xs → Listed z ys)
+    → ((z : ℕ) → Listed z ys → Listed z xs) → xs ≡ ys
 same-rising [] [] r q f g = refl
 same-rising [] (y ∷ ys) r q f g = absurd (listed-none (g y (listed-first y ys)))
 same-rising (x ∷ xs) [] r q f g = absurd (listed-none (f x (listed-first x xs)))
 same-rising (x ∷ xs) (y ∷ ys) r q f g =
     ap₂ (λ (z : ℕ) (zs : List ℕ). z ∷ zs) first
     (same-rising xs ys (rising-rest x xs r) (rising-rest y ys q)
-    (λ z l. ⊎-elim (λ e. absurd (omega (arith, first, e, rising-above x xs r z l))) (λ m. m) (listed-in z y ys (f z (listed-later z x xs l))))
-    (λ z l. ⊎-elim (λ e. absurd (omega (arith, first, e, rising-above y ys q z l))) (λ m. m) (listed-in z x xs (g z (listed-later z y ys l)))))
+    (λ z l. ⊎-elim (λ e. absurd (omega (arith, first, e, rising-above x xs r z l))) (λ m. m)
+    (listed-in z y ys (f z (listed-later z x xs l))))
+    (λ z l. ⊎-elim (λ e. absurd (omega (arith, first, e, rising-above y ys q z l))) (λ m. m)
+    (listed-in z x xs (g z (listed-later z y ys l)))))
   where
     first : x ≡ y
     first =
         ⊎-elim (λ e. sym e)
-        (λ l. ⊎-elim (λ e. e) (λ m. absurd (omega (arith, rising-above y ys q x l, rising-above x xs r y m))) (listed-in y x xs (g y (listed-first y ys))))
+        (λ l. ⊎-elim (λ e. e) (λ m. absurd (omega (arith, rising-above y ys q x l, rising-above x xs r y m)))
+        (listed-in y x xs (g y (listed-first y ys))))
         (listed-in x y ys (f x (listed-first x xs)))
 
 -- ---- the list of smallest groups
@@ -92,10 +96,12 @@ module _ (reads : ReadingRule) where
   from-sound zero g x l = absurd (listed-none (rw (from-over g) at l))
   from-sound (suc k) g x l =
       cases (isSmallest reads g)
-      (λ t. ⊎-elim (λ e. (omega arith, omega arith, rw (← e) t)) (λ m. on (from-sound k (suc g) x m)) (listed-in x g (smallestFrom reads k (suc g)) (rw (from-on k g t) at l)))
+      (λ t. ⊎-elim (λ e. (omega arith, omega arith, rw (← e) t)) (λ m. on (from-sound k (suc g) x m))
+      (listed-in x g (smallestFrom reads k (suc g)) (rw (from-on k g t) at l)))
       (λ f. on (from-sound k (suc g) x (rw (from-off k g f) at l)))
     where
-      on : (suc g ≤ x) × (x < suc g + k) × (isSmallest reads x ≡ true) → (g ≤ x) × (x < g + suc k) × (isSmallest reads x ≡ true)
+      on : (suc g ≤ x) × (x < suc g + k) × (isSmallest reads x ≡ true)
+          → (g ≤ x) × (x < g + suc k) × (isSmallest reads x ≡ true)
       on (a, b, c) = (omega arith, omega arith, c)
 
   -- and each of these stands in it
@@ -103,14 +109,17 @@ module _ (reads : ReadingRule) where
   from-all zero g x a b t = absurd (omega arith)
   from-all (suc k) g x a b t =
       cases (isSmallest reads g)
-      (λ s. rw (from-on k g s) (⊎-elim (λ e. rw (← e) (listed-first g (smallestFrom reads k (suc g)))) (λ l. listed-later x g (smallestFrom reads k (suc g)) (from-all k (suc g) x l (omega arith) t)) (eq-or-lt-of-le a)))
-      (λ f. rw (from-off k g f) (⊎-elim (λ e. absurd (absurd-false (sym f ∙ rw e t))) (λ l. from-all k (suc g) x l (omega arith) t) (eq-or-lt-of-le a)))
+      (λ s. rw (from-on k g s) (⊎-elim (λ e. rw (← e) (listed-first g (smallestFrom reads k (suc g)))) (λ l.
+      listed-later x g (smallestFrom reads k (suc g)) (from-all k (suc g) x l (omega arith) t)) (eq-or-lt-of-le a)))
+      (λ f. rw (from-off k g f) (⊎-elim (λ e. absurd (absurd-false (sym f ∙ rw e t)))
+      (λ l. from-all k (suc g) x l (omega arith) t) (eq-or-lt-of-le a)))
 
   from-rising : (k g : ℕ) → Rising (smallestFrom reads k g)
   from-rising zero g = rw (from-over g) rising-none
   from-rising (suc k) g =
       cases (isSmallest reads g)
-      (λ t. rw (from-on k g t) (rising-on g (smallestFrom reads k (suc g)) (λ y l. from-sound k (suc g) y l .0) (from-rising k (suc g))))
+      (λ t. rw (from-on k g t)
+      (rising-on g (smallestFrom reads k (suc g)) (λ y l. from-sound k (suc g) y l .0) (from-rising k (suc g))))
       (λ f. rw (from-off k g f) (from-rising k (suc g)))
 
 -- a set of n principals is a number below 2^n
@@ -122,7 +131,8 @@ lists : (n : ℕ) (reads : ReadingRule) → ListsSmallest n reads (smallestOf n 
 unfolding smallestOf
 lists n reads = record {
   listed = λ g. (
-    λ l. let (a, b, t) = from-sound reads (2 ^ n) 0 g l in (within-everyone n g (omega arith), smallest-iff reads g .0 t),
+    λ l. let (a, b, t) = from-sound reads (2 ^ n) 0 g l in
+        (within-everyone n g (omega arith), smallest-iff reads g .0 t),
     λ (w, s). from-all reads (2 ^ n) 0 g (omega arith) (omega (arith, below-all n g w)) (smallest-iff reads g .1 s),
   );
   rising = from-rising reads (2 ^ n) 0;
@@ -139,7 +149,8 @@ groups-exact = record {
 -- ---- who reads
 
 -- a group that reads and isn't smallest holds a lower one that reads
-reads-lower : (reads : ReadingRule) (g : ℕ) → reads g ≡ true → isSmallest reads g ≡ false → (h : ℕ) × (h < g) × (within h g ≡ true) × (reads h ≡ true)
+reads-lower : (reads : ReadingRule) (g : ℕ) → reads g ≡ true → isSmallest reads g ≡ false
+    → (h : ℕ) × (h < g) × (within h g ≡ true) × (reads h ≡ true)
 unfolding isSmallest
 reads-lower reads g r f =
     let (h, l, e) = every-fails g _ (sym (both-yes-left (reads g) _ r) ∙ f) in
@@ -147,9 +158,11 @@ reads-lower reads g r f =
     (h, l, both-left (within h g) (reads h) b, both-right (within h g) (reads h) b)
 
 -- so it holds one that is smallest
-holds-smallest : (reads : ReadingRule) (most g : ℕ) → g ≤ most → reads g ≡ true → (h : ℕ) × (within h g ≡ true) × Smallest reads h
+holds-smallest : (reads : ReadingRule) (most g : ℕ) → g ≤ most → reads g ≡ true
+    → (h : ℕ) × (within h g ≡ true) × Smallest reads h
 holds-smallest reads zero g l r =
-    cases (isSmallest reads g) (λ t. (g, within-refl g, smallest-iff reads g .0 t)) (λ f. let (h, b, w, t) = reads-lower reads g r f in absurd (omega arith))
+    cases (isSmallest reads g) (λ t. (g, within-refl g, smallest-iff reads g .0 t))
+    (λ f. let (h, b, w, t) = reads-lower reads g r f in absurd (omega arith))
 holds-smallest reads (suc most) g l r =
     cases (isSmallest reads g) (λ t. (g, within-refl g, smallest-iff reads g .0 t)) (λ f.
     let (h, b, w, t) = reads-lower reads g r f in

@@ -39,7 +39,11 @@ module _ (reads : ReadingRule) (end : ℕ) where
 
   module _ {from g : ℕ} (w : CameTo from g) where
     pub none-first : end ≤ g → FirstFrom reads end from g
-    none-first l = record { not-before = w .not-before; none = λ m. w .same ∙ left-over reads end g m; first = λ m. absurd (omega arith) }
+    none-first l = record {
+      not-before = w .not-before;
+      none = λ m. w .same ∙ left-over reads end g m;
+      first = λ m. absurd (omega arith);
+    }
 
     -- a group that doesn't read is passed by
     pub silent-on : reads g ≡ false → CameTo from (g + 1)
@@ -48,7 +52,8 @@ module _ (reads : ReadingRule) (end : ℕ) where
       same = w .same ∙ left-step reads end g (silent-not reads g f) ∙ ap left (sym (add-one g));
     }
 
-    module _ (grows : Grows reads) {b : Bool} (some : 1 ≤ from) (below : g < end) (few : end ≤ 2 ^ width) (r : reads g ≡ true) (tested : b ≡ needsEach reads g) where
+    module _ (grows : Grows reads) {b : Bool} (some : 1 ≤ from) (below : g < end) (few : end ≤ 2 ^ width)
+        (r : reads g ≡ true) (tested : b ≡ needsEach reads g) where
       is-tested : b ≡ isSmallest reads g
       is-tested = tested ∙ both-on (reads g) (needsEach reads g) r ∙ sym (one-less reads grows g (omega arith))
 
@@ -104,15 +109,18 @@ module _ (reads : ReadingRule) (end : ℕ) where
     writes-first = record { counts = counts-first; as-long = refl; whole = refl }
 
     module _ {now : List ℕ} {i from : ℕ} (w : Writes before now i from) where
-      pub writes-over : length (left 1) ≤ length before → length (left 1) ≤ i → now ≡ left 1 ++ drop (length (left 1)) before
+      pub writes-over : length (left 1) ≤ length before → length (left 1) ≤ i
+          → now ≡ left 1 ++ drop (length (left 1)) before
       writes-over l m =
           let none : left from ≡ [] = empty (left from) (omega (arith, w .counts .all)) in
           sym (ap (sets now i) none) ∙ w .whole ∙ sets-eq (left 1) before 0 (omega arith)
           ∙ ap (λ (k : ℕ). left 1 ++ drop k before) (zero-add (length (left 1)))
 
-      pub writes-on : {g : ℕ} → FirstFrom reads end from g → g < end → Writes before (set now i g) (i + 1) (pastHolders g)
+      pub writes-on : {g : ℕ} → FirstFrom reads end from g → g < end
+          → Writes before (set now i g) (i + 1) (pastHolders g)
       writes-on {g} f l = record {
         counts = counts-on (w .counts) f l;
         as-long = length-set now i g ∙ w .as-long;
-        whole = ap (λ (k : ℕ). sets (set now i g) k (left (pastHolders g))) (add-one i) ∙ ap (sets now i) (sym (f .first l)) ∙ w .whole;
+        whole = ap (λ (k : ℕ). sets (set now i g) k (left (pastHolders g))) (add-one i)
+            ∙ ap (sets now i) (sym (f .first l)) ∙ w .whole;
       }

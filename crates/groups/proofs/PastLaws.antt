@@ -8,7 +8,8 @@ use lib.Arith.{bin-ind}
 use lib.Bits.{bitOr, or-step, or-self, or-lt}
 use Rattle.logic.proofs.BooleanLaws.{fails}
 use Rattle.sets.specs.Sets.{member, within, union}
-use Rattle.sets.proofs.SetLaws.{member-low, member-high, within-intro, within-elim, within-refl, within-le, within-union-left}
+use Rattle.sets.proofs.SetLaws.{member-low, member-high, within-intro, within-elim, within-refl, within-le}
+use Rattle.sets.proofs.SetLaws.{within-union-left}
 use Rattle.groups.specs.Internal.Walk.{pastHolders}
 
 pub past-rises : (g : ℕ) → g < pastHolders g
@@ -22,7 +23,8 @@ past-bound k g p l = or-lt k g (g - 1) l (omega arith)
 -- each of them holds it
 pub past-holds : (g h : ℕ) → 1 ≤ g → g ≤ h → h < pastHolders g → within g h ≡ true
 unfolding pastHolders union
-past-holds = bin-ind (λ (g : ℕ). (h : ℕ) → 1 ≤ g → g ≤ h → h < suc (bitOr g (g - 1)) → within g h ≡ true) (λ h p. absurd (omega arith)) step
+past-holds = bin-ind (λ (g : ℕ). (h : ℕ) → 1 ≤ g → g ≤ h → h < suc (bitOr g (g - 1)) → within g h ≡ true)
+    (λ h p. absurd (omega arith)) step
   where
     step : (g : ℕ) → ((h : ℕ) → 1 ≤ g / 2 → g / 2 ≤ h → h < suc (bitOr (g / 2) (g / 2 - 1)) → within (g / 2) h ≡ true)
         → (h : ℕ) → 1 ≤ g → g ≤ h → h < suc (bitOr g (g - 1)) → within g h ≡ true
@@ -33,7 +35,8 @@ past-holds = bin-ind (λ (g : ℕ). (h : ℕ) → 1 ≤ g → g ≤ h → h < su
             let s = or-step g (g - 1) in
             let x : (g - 1) / 2 ≡ g / 2 - 1 = omega arith in
             let y : (g - 1) % 2 ≡ 1 = omega arith in
-            let z : bitOr g (g - 1) ≡ bitOr (g / 2) (g / 2 - 1) * 2 + 1 = s ∙ ap₂ (λ (a c : ℕ). bitOr (g / 2) a * 2 + c) x (rw (e, y) refl) in
+            let z : bitOr g (g - 1) ≡ bitOr (g / 2) (g / 2 - 1) * 2 + 1 =
+            s ∙ ap₂ (λ (a c : ℕ). bitOr (g / 2) a * 2 + c) x (rw (e, y) refl) in
             let w = ih (h / 2) (omega arith) (omega arith) (omega arith) in
             within-intro g h λ q m. on q m w e
           where
@@ -43,7 +46,8 @@ past-holds = bin-ind (λ (g : ℕ). (h : ℕ) → 1 ≤ g → g ≤ h → h < su
         by (suc zero) e b =
             let x : (g - 1) / 2 ≡ g / 2 = omega arith in
             let y : (g - 1) % 2 ≡ 0 = omega arith in
-            let z : bitOr g (g - 1) ≡ g / 2 * 2 + 1 = or-step g (g - 1) ∙ ap₂ (λ (a c : ℕ). a * 2 + c) (ap (bitOr (g / 2)) x ∙ or-self (g / 2)) (rw (e, y) refl) in
+            let z : bitOr g (g - 1) ≡ g / 2 * 2 + 1 = or-step g (g - 1)
+            ∙ ap₂ (λ (a c : ℕ). a * 2 + c) (ap (bitOr (g / 2)) x ∙ or-self (g / 2)) (rw (e, y) refl) in
             let w : h ≡ g = omega arith in
             rw w (within-refl g)
         by (suc (suc d)) e b = absurd (omega arith)

@@ -8,7 +8,8 @@ use lib.Dec.{eqb}
 use borrow.Author.Tests.{eqb-true, eqb-false, ltb-true}
 use Rattle.logic.proofs.BooleanLaws.{cases, fails, not-so}
 use Rattle.sets.specs.Sets.{member, single, everyone}
-use Rattle.sets.proofs.SetLaws.{within-antisym, within-elim, single-within, single-within-everyone, member-single, member-single-self, member-everyone}
+use Rattle.sets.proofs.SetLaws.{within-antisym, within-elim, single-within, single-within-everyone, member-single}
+use Rattle.sets.proofs.SetLaws.{member-single-self, member-everyone}
 use Rattle.sheet.specs.Meaning.{readsNo}
 use Rattle.sheet.proofs.ReaderLaws.{read-by-one}
 use Rattle.groups.specs.Smallest.{ReadingRule, Smallest, Listed, ListsSmallest}
@@ -43,7 +44,8 @@ module _ (reads : ReadingRule) (through : ThroughOne reads) where
       let m : member p g ≡ true = ap (member p) e ∙ member-single-self p in
       (p, ltb-true p n (sym (member-everyone p n) ∙ within-elim g (everyone n) w p m), e, r)
 
-  single-listed : (n : ℕ) (gs : List ℕ) → ListsSmallest n reads gs → (g p : ℕ) → p < n → g ≡ single p → reads (single p) ≡ true → Listed g gs
+  single-listed : (n : ℕ) (gs : List ℕ) → ListsSmallest n reads gs → (g p : ℕ) → p < n → g ≡ single p
+      → reads (single p) ≡ true → Listed g gs
   single-listed n gs ls g p l e r = rw e (ls .listed (single p) .1 (single-within-everyone p n l, single-smallest p r))
 
 pub single-readers : SingleReaders

@@ -9,10 +9,12 @@ use native.Mathlib.Omega.{arith}
 use lib.Pow.{pow-mono}
 use borrow.Author.Tests.{not-true}
 use Rattle.logic.specs.Booleans.{both}
-use Rattle.logic.proofs.BooleanLaws.{absurd-false, bool-ext, fails, cases, not-so, both-true, both-left, both-right, both-yes-left, both-no-left, both-no-right, both-on}
+use Rattle.logic.proofs.BooleanLaws.{absurd-false, bool-ext, fails, cases, not-so, both-true, both-left, both-right}
+use Rattle.logic.proofs.BooleanLaws.{both-yes-left, both-no-left, both-no-right, both-on}
 use Rattle.sets.specs.Sets.{width, member, within, meets, single, restrict}
 use Rattle.sets.proofs.Walks.{every-true, every-at, every-false, by-below}
-use Rattle.sets.proofs.SetLaws.{within-intro, within-elim, within-le, single-within, member-single, member-single-self, member-beyond, member-difference, lacks-member, meets-single, restrict-single}
+use Rattle.sets.proofs.SetLaws.{within-intro, within-elim, within-le, single-within, member-single, member-single-self}
+use Rattle.sets.proofs.SetLaws.{member-beyond, member-difference, lacks-member, meets-single, restrict-single}
 use Rattle.groups.specs.Smallest.{ReadingRule, Smallest, Grows}
 use Rattle.groups.specs.Listing.{isSmallest}
 use Rattle.groups.specs.Internal.Walk.{readsWithout, needsEach}
@@ -37,10 +39,12 @@ module _ (reads : ReadingRule) where
   smallest-iff g = (
     λ e. record {
       itself = both-left (reads g) _ e;
-      no-less = λ h w n. not-both (within h g) (reads h) (every-at g _ (both-right (reads g) _ e) h (part-below h g w n)) w;
+      no-less =
+          λ h w n. not-both (within h g) (reads h) (every-at g _ (both-right (reads g) _ e) h (part-below h g w n)) w;
     },
     λ s. both-true (s .itself) (every-true g _ (λ h l.
-        cases (within h g) (λ w. yes-no (both-no-right (within h g) (reads h) (s .no-less h w (λ z. omega arith)))) (λ f. yes-no (both-no-left (within h g) (reads h) f)))),
+        cases (within h g) (λ w. yes-no (both-no-right (within h g) (reads h) (s .no-less h w (λ z. omega arith))))
+        (λ f. yes-no (both-no-left (within h g) (reads h) f)))),
   )
 
   -- a group that holds another one that reads isn't smallest
@@ -59,13 +63,16 @@ module _ (reads : ReadingRule) where
     rest-holds p h m w f =
         within-intro h (g - single p) (λ q k.
         member-difference q g (single p) (single-within p g ∙ m)
-        ∙ both-true (within-elim h g w q k) (yes-no (not-so (member q (single p)) (λ z. fails f (rw (member-single q p z) at k)))))
+        ∙ both-true (within-elim h g w q k)
+        (yes-no (not-so (member q (single p)) (λ z. fails f (rw (member-single q p z) at k)))))
 
     rest-less : (p : ℕ) → member p g ≡ true → (within (g - single p) g ≡ true) × (¬ (g - single p ≡ g))
     rest-less p m =
-        let d : (q : ℕ) → member q (g - single p) ≡ both (member q g) (not (member q (single p))) = λ q. member-difference q g (single p) (single-within p g ∙ m) in (
+        let d : (q : ℕ) → member q (g - single p) ≡ both (member q g) (not (member q (single p))) =
+        λ q. member-difference q g (single p) (single-within p g ∙ m) in (
           within-intro (g - single p) g (λ q k. both-left (member q g) _ (sym (d q) ∙ k)),
-          λ z. absurd (absurd-false (sym (no-yes (member-single-self p)) ∙ both-right (member p g) _ (sym (d p) ∙ rw z m))),
+          λ z. absurd
+              (absurd-false (sym (no-yes (member-single-self p)) ∙ both-right (member p g) _ (sym (d p) ∙ rw z m))),
         )
 
     pub one-less : isSmallest reads g ≡ both (reads g) (needsEach reads g)
@@ -77,7 +84,8 @@ module _ (reads : ReadingRule) where
             let s = smallest-iff g .0 e in
             both-true (s .itself) (every-true width _ (λ p l.
             cases (member p g)
-            (λ m. let r = rest-less p m in yes-no (both-no-right (member p g) _ (s .no-less (g - single p) (r .0) (r .1))))
+            (λ m. let r = rest-less p m in
+            yes-no (both-no-right (member p g) _ (s .no-less (g - single p) (r .0) (r .1))))
             (λ f. yes-no (both-no-left (member p g) _ f))))
 
         from : both (reads g) (needsEach reads g) ≡ true → isSmallest reads g ≡ true
@@ -86,14 +94,17 @@ module _ (reads : ReadingRule) where
           no-less = λ h w n.
               let (p, m, f) = lacks-member h g w n in
               not-so (reads h) (λ r.
-              let below : p < width = by-below p width (λ l. l) (λ l. absurd (fails (member-beyond p g (lt-of-lt-of-le few (pow-mono l))) m)) in
+              let below : p < width =
+              by-below p width (λ l. l) (λ l. absurd (fails (member-beyond p g (lt-of-lt-of-le few (pow-mono l))) m)) in
               let stays = grows h (g - single p) (rest-holds p h m w f) r in
-              fails (not-both (member p g) (reads (g - single p)) (every-at width _ (both-right (reads g) _ e) p below) m) stays);
+              fails (not-both (member p g) (reads (g - single p))
+              (every-at width _ (both-right (reads g) _ e) p below) m) stays);
         })
 
 -- ---- a group without one of its members
 
-module _ (reads : ReadingRule) (g p m : ℕ) (is : m ≡ restrict width (single p)) (l : p < width) (b : Bool) (met : b ≡ meets g m) where
+module _ (reads : ReadingRule) (g p m : ℕ) (is : m ≡ restrict width (single p)) (l : p < width) (b : Bool)
+    (met : b ≡ meets g m) where
   meets-member : b ≡ member p g
   meets-member = met ∙ ap (meets g) (is ∙ restrict-single width p l) ∙ meets-single g p
 
@@ -106,7 +117,8 @@ module _ (reads : ReadingRule) (g p m : ℕ) (is : m ≡ restrict width (single 
 
   pub its-member : b ≡ true → reads (g - m) ≡ readsWithout reads g p
   unfolding readsWithout
-  its-member e = ap (λ (x : ℕ). reads (g - x)) (is ∙ restrict-single width p l) ∙ both-on (member p g) (reads (g - single p)) (sym meets-member ∙ e)
+  its-member e = ap (λ (x : ℕ). reads (g - x)) (is ∙ restrict-single width p l)
+      ∙ both-on (member p g) (reads (g - single p)) (sym meets-member ∙ e)
 
 -- ---- member by member
 

@@ -31,11 +31,13 @@ module _ (s : Sheet) (l : ℕ) (places : List ℕ) where
   unfolding groupsOn groupsRefusal unless both
   no-label m = rw (le-ltb l (labelCount s) m) refl
 
-  pub few-places : l < labelCount s → length places < length (groupsFor s l) → groupsOn s l places ≡ refusedGroups places 12
+  pub few-places : l < labelCount s → length places < length (groupsFor s l)
+      → groupsOn s l places ≡ refusedGroups places 12
   unfolding groupsOn groupsRefusal unless both
   few-places m k = rw (lt-ltb l (labelCount s) m, lt-leb (length (groupsFor s l)) (length places) k) refl
 
-  pub all-placed : l < labelCount s → length (groupsFor s l) ≤ length places → groupsOn s l places ≡ grouped places (groupsFor s l)
+  pub all-placed : l < labelCount s → length (groupsFor s l) ≤ length places
+      → groupsOn s l places ≡ grouped places (groupsFor s l)
   unfolding groupsOn groupsRefusal unless both
   all-placed m k = rw (lt-ltb l (labelCount s) m, le-leb (length (groupsFor s l)) (length places) k) refl
 
@@ -46,7 +48,8 @@ module _ {t : List ℕ} {s : Sheet} (T : TableOf t s) where
   labels-there = ap labelsIn (T .words) ∙ labels-in s (T .form)
 
   -- what the walk finds is what the sheet has
-  walked : (l : ℕ) (rd : Readers) (end : ℕ) → rd ≡ readersIn t l → end ≡ everyoneIn t + 1 → smallestUpTo (readsBy rd) end 1 ≡ groupsFor s l
+  walked : (l : ℕ) (rd : Readers) (end : ℕ) → rd ≡ readersIn t l → end ≡ everyoneIn t + 1
+      → smallestUpTo (readsBy rd) end 1 ≡ groupsFor s l
   unfolding groupsFor everyone
   walked l rd end is ends =
       let n : ℕ = s .principals in
@@ -68,7 +71,8 @@ pub record Counted (t : List ℕ) (l : ℕ) (rd : Readers) (end k : ℕ) : Type 
 
 module _ (t : List ℕ) (l : ℕ) (places : List ℕ) where
   pub lists-no-label : labelsIn t ≤ l → ListsOn t l places (refusedGroups places 12)
-  lists-no-label m = record { refused = λ n. refl; listed = λ s T. sym (no-label s l places (omega (arith, labels-there T))) }
+  lists-no-label m =
+      record { refused = λ n. refl; listed = λ s T. sym (no-label s l places (omega (arith, labels-there T))) }
 
   module _ {rd : Readers} {end k : ℕ} (c : Counted t l rd end k) where
     its-groups : {s : Sheet} → TableOf t s → smallestUpTo (readsBy rd) end 1 ≡ groupsFor s l

@@ -38,17 +38,20 @@ module _ (reads : ReadingRule) (end : ℕ) where
   left-steps : (k g : ℕ) → ((h : ℕ) → g ≤ h → h < g + k → isSmallest reads h ≡ false) → left g ≡ left (g + k)
   left-steps zero g f = ap left (omega arith)
   left-steps (suc k) g f =
-      left-step g (f g (omega arith) (omega arith)) ∙ left-steps k (suc g) (λ h a b. f h (omega arith) (omega arith)) ∙ ap left (omega arith)
+      left-step g (f g (omega arith) (omega arith)) ∙ left-steps k (suc g) (λ h a b. f h (omega arith) (omega arith))
+      ∙ ap left (omega arith)
 
   -- none of those that hold a group that reads is smallest
   left-past : (g : ℕ) → 1 ≤ g → reads g ≡ true → left (suc g) ≡ left (pastHolders g)
   left-past g p r =
       left-steps (pastHolders g - suc g) (suc g)
-      (λ h a b. holder-not reads g h r (past-holds g h p (omega arith) (omega (arith, past-rises g))) (λ z. omega arith))
+      (λ h a b. holder-not reads g h r (past-holds g h p (omega arith) (omega (arith, past-rises g)))
+      (λ z. omega arith))
       ∙ ap left (omega (arith, past-rises g))
 
   -- a group that is smallest is the first of what is left
-  pub walk-found : (g : ℕ) → 1 ≤ g → g < end → reads g ≡ true → isSmallest reads g ≡ true → left g ≡ g ∷ left (pastHolders g)
+  pub walk-found : (g : ℕ) → 1 ≤ g → g < end → reads g ≡ true → isSmallest reads g ≡ true
+      → left g ≡ g ∷ left (pastHolders g)
   walk-found g p l r t = left-found g l t ∙ ap (λ (gs : List ℕ). g ∷ gs) (left-past g p r)
 
   -- after one that reads and isn't, the same is left
@@ -60,7 +63,8 @@ length-from : (reads : ReadingRule) (k g : ℕ) → length (smallestFrom reads k
 length-from reads zero g = rw (from-over reads g) (omega arith)
 length-from reads (suc k) g =
     let i = length-from reads k (suc g) in
-    cases (isSmallest reads g) (λ t. rw (from-on reads k g t) (suc-le-suc i)) (λ f. rw (from-off reads k g f) (omega arith))
+    cases (isSmallest reads g) (λ t. rw (from-on reads k g t) (suc-le-suc i))
+    (λ f. rw (from-off reads k g f) (omega arith))
 
 pub left-few : (reads : ReadingRule) (end : ℕ) → length (smallestUpTo reads end 1) ≤ end
 unfolding smallestUpTo

@@ -13,7 +13,8 @@ isSmallest reads g = both (reads g) (every g (λ (h : ℕ). not (both (within h 
 -- the smallest groups among k numbers from g on
 unfoldable pub smallestFrom : ReadingRule → ℕ → ℕ → List ℕ
 smallestFrom reads zero g = []
-smallestFrom reads (suc k) g = cond (isSmallest reads g) (g ∷ smallestFrom reads k (suc g)) (smallestFrom reads k (suc g))
+smallestFrom reads (suc k) g =
+    cond (isSmallest reads g) (g ∷ smallestFrom reads k (suc g)) (smallestFrom reads k (suc g))
 
 -- those of n principals, whose sets are the numbers below 2^n
 unfoldable pub smallestOf : ℕ → ReadingRule → List ℕ

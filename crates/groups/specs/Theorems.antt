@@ -21,7 +21,8 @@ pub record GroupsExact : Type 0 where
 -- By a rule that grows with the group, the list says who reads: a group of the n principals reads exactly if it holds
 -- a listed one.
 abbrev pub ReadersHoldOne : Type 0
-ReadersHoldOne = (n : ℕ) (reads : ReadingRule) → Grows reads → (gs : List ℕ) → ListsSmallest n reads gs → (g : ℕ) → within g (everyone n) ≡ true
+ReadersHoldOne = (n : ℕ) (reads : ReadingRule) → Grows reads → (gs : List ℕ) → ListsSmallest n reads gs → (g : ℕ)
+    → within g (everyone n) ≡ true
     → (reads g ≡ true) ↔ ((h : ℕ) × Listed h gs × (within h g ≡ true))
 
 -- The sheet's rule of reading grows with the group.
@@ -31,5 +32,6 @@ ReadingGrows = (s : Sheet) (l : ℕ) → Grows (λ (g : ℕ). readsNo s g l)
 -- Where one reads by himself (request (g)), the smallest groups are the single readers: {p} for each principal p who
 -- reads. There may be none.
 abbrev pub SingleReaders : Type 0
-SingleReaders = (s : Sheet) → formed s ≡ true → s .reading ≡ Alone → (l : ℕ) (gs : List ℕ) → ListsSmallest (s .principals) (λ (g : ℕ). readsNo s g l) gs
+SingleReaders = (s : Sheet) → formed s ≡ true → s .reading ≡ Alone → (l : ℕ) (gs : List ℕ)
+    → ListsSmallest (s .principals) (λ (g : ℕ). readsNo s g l) gs
     → (g : ℕ) → Listed g gs ↔ ((p : ℕ) × (p < s .principals) × (g ≡ single p) × (readsNo s (single p) l ≡ true))

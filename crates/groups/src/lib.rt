@@ -103,8 +103,10 @@ fn count(readers: Readers, end: u32) -> u32
 
 // Writes them into the first places, as many as were found.
 fn list(readers: Readers, end: u32, found: usize, groups: &mut [Set])
-    requires { ⌜ (end ≤ 2 ^ width) × (found ≡ length (smallestUpTo (readsBy readers) end 1)) × (found ≤ length (now groups)) ⌝ }
-    ensures { λ _. ⌜ now (groups .exit) ≡ grouped (now (groups .entry)) (smallestUpTo (readsBy readers) end 1) .places ⌝ }
+    requires { ⌜ (end ≤ 2 ^ width) × (found ≡ length (smallestUpTo (readsBy readers) end 1))
+        × (found ≤ length (now groups)) ⌝ }
+    ensures { λ _. ⌜ now (groups .exit)
+        ≡ grouped (now (groups .entry)) (smallestUpTo (readsBy readers) end 1) .places ⌝ }
 {
     let mut i: usize = 0;
     let mut from: u32 = FIRST;
@@ -118,7 +120,8 @@ fn list(readers: Readers, end: u32, found: usize, groups: &mut [Set])
 
 // Lists the smallest groups that read label l on the sheet of a table.
 pub fn list_on(table: &[sheet::Word], l: u32, groups: &mut [Set]) -> Groups
-    ensures { λ r. ⌜ ListsOn (now (table .entry)) l (now (groups .entry)) (record { answer = r .answer; count = r .count; places = now (groups .exit) }) ⌝ }
+    ensures { λ r. ⌜ ListsOn (now (table .entry)) l (now (groups .entry))
+        (record { answer = r .answer; count = r .count; places = now (groups .exit) }) ⌝ }
 {
     if sheet::labels(table) <= l {
         return refused(NOT_LISTED);

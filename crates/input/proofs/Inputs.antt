@@ -25,10 +25,12 @@ got-none (negsuc n) chunk h = (refl, refl)
 take-min : (n : ℕ) (l : List ℕ) → take (min n (length l)) l ≡ take n l
 take-min zero l = ap (λ (k : ℕ). take k l) (zero-min (length l))
 take-min (suc n) [] = ap (λ (k : ℕ). take k []) (min-zero (suc n))
-take-min (suc n) (x ∷ l) = ap (λ (k : ℕ). take k (x ∷ l)) (suc-min-suc n (length l)) ∙ ap {B = List ℕ} (λ (k : List ℕ). x ∷ k) (take-min n l)
+take-min (suc n) (x ∷ l) =
+    ap (λ (k : ℕ). take k (x ∷ l)) (suc-min-suc n (length l)) ∙ ap {B = List ℕ} (λ (k : List ℕ). x ∷ k) (take-min n l)
 
 -- a read that gave bytes
-got-some : (got : ℤ) (chunk : List ℕ) → leZ got (pos 0) ≡ false → (goesOn got ≡ true) × (take (clamped got (length chunk)) chunk ≡ gotBytes got chunk)
+got-some : (got : ℤ) (chunk : List ℕ) → leZ got (pos 0) ≡ false
+    → (goesOn got ≡ true) × (take (clamped got (length chunk)) chunk ≡ gotBytes got chunk)
 unfolding goesOn gotBytes
 got-some (pos n) chunk h = (lt-ltb 0 n (leb-false n 0 h), take-min n chunk)
 got-some (negsuc n) chunk h = absurd (true≢false h)
@@ -38,15 +40,18 @@ module _ (got z : ℤ) (e : z ≡ got) (chunk : List ℕ) where
   pub read-none : leZ z (pos 0) ≡ true → (goesOn got ≡ false) × (gotBytes got chunk ≡ [])
   read-none h = got-none got chunk (ap (λ (y : ℤ). leZ y (pos 0)) (sym e) ∙ h)
 
-  pub read-some : leZ z (pos 0) ≡ false → (n : ℕ) → n ≡ clamped z (length chunk) → (goesOn got ≡ true) × (take n chunk ≡ gotBytes got chunk)
+  pub read-some : leZ z (pos 0) ≡ false → (n : ℕ) → n ≡ clamped z (length chunk)
+      → (goesOn got ≡ true) × (take n chunk ≡ gotBytes got chunk)
   read-some h n en =
       let p = got-some got chunk (ap (λ (y : ℤ). leZ y (pos 0)) (sym e) ∙ h) in
       (p .0, ap (λ (k : ℕ). take k chunk) (en ∙ ap (λ (y : ℤ). clamped y (length chunk)) e) ∙ p .1)
 
 pub after-more : (last : ℕ) (h k l : Held) → After last h k → After last k l → After last h l
-after-more last h k l a b = (a .0 ++ b .0, b .1 ∙ ap (λ (x : Held). fed last x (b .0)) (a .1) ∙ sym (chunks last h (a .0) (b .0)))
+after-more last h k l a b =
+    (a .0 ++ b .0, b .1 ∙ ap (λ (x : Held). fed last x (b .0)) (a .1) ∙ sym (chunks last h (a .0) (b .0)))
 
 -- a chunk, as its two parts tell it
-pub after-chunk : (last : ℕ) (h : Held) (chunk : List ℕ) (s : State) (buffer : List ℕ) → s ≡ fed last h chunk .state → buffer ≡ fed last h chunk .buffer
+pub after-chunk : (last : ℕ) (h : Held) (chunk : List ℕ) (s : State) (buffer : List ℕ) → s ≡ fed last h chunk .state
+    → buffer ≡ fed last h chunk .buffer
     → After last h (held s buffer)
 after-chunk last h chunk s buffer e f = (chunk, rw (e, f))

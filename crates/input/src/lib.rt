@@ -14,8 +14,10 @@ struct Turn {
 // Feeds what a read with the answer `got` left in its chunk.
 fn feed_got(state: State, chunk: &[u8], got: isize, buffer: &mut [u8], last: usize) -> Turn
     ensures { λ r. ⌜ r .more ≡ goesOn got ⌝ }
-    ensures { λ r. ⌜ r .state ≡ fed last (held state (now (buffer .entry))) (gotBytes got (now (chunk .entry))) .state ⌝ }
-    ensures { λ _. ⌜ now (buffer .exit) ≡ fed last (held state (now (buffer .entry))) (gotBytes got (now (chunk .entry))) .buffer ⌝ }
+    ensures { λ r. ⌜ r .state
+        ≡ fed last (held state (now (buffer .entry))) (gotBytes got (now (chunk .entry))) .state ⌝ }
+    ensures { λ _. ⌜ now (buffer .exit)
+        ≡ fed last (held state (now (buffer .entry))) (gotBytes got (now (chunk .entry))) .buffer ⌝ }
 {
     if got <= 0 {
         return Turn { more: false, state };
@@ -37,8 +39,8 @@ fn feed_some(state: State, buffer: &mut [u8], last: usize) -> Turn
     feed_got(state, &chunk, got, buffer, last)
 }
 
-// Standard input as the texts 0 to `last`, kept in the buffer. A read that fails ends the input. A proved loop has to end, so it
-// counts its turns down, from a number that no run uses up.
+// Standard input as the texts 0 to `last`, kept in the buffer. A read that fails ends the input. A proved loop has to
+// end, so it counts its turns down, from a number that no run uses up.
 pub fn read_texts(buffer: &mut [u8], last: usize) -> State
     ensures { λ r. ⌜ After last (held beginning (now (buffer .entry))) (held r (now (buffer .exit))) ⌝ }
 {

@@ -29,9 +29,14 @@ use Rattle.evaluator.specs.Internal.Post.{ExprAt, StandsFor, Evals}
 use Rattle.interpreter.specs.declared.commands.Stepped.{Stepped}
 use Rattle.interpreter.specs.declared.commands.Decided.{Decided}
 use Rattle.script.specs.Internal.Skips.{Skips}
-use Rattle.interpreter.specs.Internal.Post.{Target, target, Finishes, finish-done, finish-spent, finish-over, finish-wrong, ticked, Ticks, Assigns, Choice, choiceV, choice, Chooses, goes-left, goes-right, has-none, is-long, is-stuck, Decides, Branching, Enters, enters-left, enters-right, enters-spent, enters-long, enters-stuck, Branches}
+use Rattle.interpreter.specs.Internal.Post.{Target, target, Finishes, finish-done, finish-spent, finish-over}
+use Rattle.interpreter.specs.Internal.Post.{finish-wrong, ticked, Ticks, Assigns, Choice, choiceV, choice}
+use Rattle.interpreter.specs.Internal.Post.{Chooses, goes-left, goes-right, has-none, is-long, is-stuck, Decides}
+use Rattle.interpreter.specs.Internal.Post.{Branching, Enters, enters-left, enters-right, enters-spent}
+use Rattle.interpreter.specs.Internal.Post.{enters-long, enters-stuck, Branches}
 use Rattle.cells.proofs.CellLaws.{length-load, length-pop}
-use Rattle.evaluator.proofs.ValueLaws.{cell-size, tags-left, tags-right, pop-tag, Kind, is-int, is-err, is-inl, is-inr, is-pkg, is-pair, is-blank, kind-enc}
+use Rattle.evaluator.proofs.ValueLaws.{cell-size, tags-left, tags-right, pop-tag, Kind, is-int, is-err, is-inl, is-inr}
+use Rattle.evaluator.proofs.ValueLaws.{is-pkg, is-pair, is-blank, kind-enc}
 use Rattle.evaluator.proofs.NodeLaws.{words-here, load-here}
 use Rattle.evaluator.proofs.StateLaws.{room-here, holds-kept, holds-put, holds-bind}
 
@@ -58,10 +63,12 @@ module _ {g h : Target} {d : Stepped} {cells : List ℕ} (F : Mem → ℕ → Ou
 
   -- a run that is done goes on
   pub goes-on : {o : Out} {r : Stepped} {cells′ : List ℕ} → stateNumber (d .state) ≡ 0 → Finishes g d cells o
-      → ((M : Mem) → CellsHold cells (g .locations) (g .depth) M (g .env) → drop (d .next) (g .code) ≡ code (g .rest) → Finishes h r cells′ (F M (d .left)))
+      → ((M : Mem) → CellsHold cells (g .locations) (g .depth) M (g .env) → drop (d .next) (g .code) ≡ code (g .rest)
+      → Finishes h r cells′ (F M (d .left)))
       → Finishes h r cells′ (andThen o F)
   unfolding andThen
-  goes-on {r = r} {cells′ = cells′} z (finish-done {M = M} s l held n) k = subst (λ (i : ℕ). Finishes h r cells′ (F M i)) l (k M held n)
+  goes-on {r = r} {cells′ = cells′} z (finish-done {M = M} s l held n) k =
+      subst (λ (i : ℕ). Finishes h r cells′ (F M i)) l (k M held n)
   goes-on z (finish-spent s l) k = absurd (omega arith)
   goes-on z (finish-over s l) k = absurd (omega arith)
   goes-on z finish-wrong k = finish-wrong
@@ -98,10 +105,12 @@ module _ (d : Stepped) where
   pub tick-same : (stateNumber (d .state) ≡ 0 → ⊥) → Ticks d d
   tick-same z = record { spends = omega arith; same-place = refl; means = same-end z }
 
-  pub tick-spent : stateNumber (d .state) ≡ 0 → d .left ≡ 0 → Ticks d (record { state = Spent; left = 0; next = d .next })
+  pub tick-spent : stateNumber (d .state) ≡ 0 → d .left ≡ 0
+      → Ticks d (record { state = Spent; left = 0; next = d .next })
   tick-spent z f = record { spends = omega arith; same-place = refl; means = spent-end z f }
 
-  pub tick-step : stateNumber (d .state) ≡ 0 → (d .left ≡ 0 → ⊥) → Ticks d (record { state = Done; left = d .left - 1; next = d .next })
+  pub tick-step : stateNumber (d .state) ≡ 0 → (d .left ≡ 0 → ⊥)
+      → Ticks d (record { state = Done; left = d .left - 1; next = d .next })
   tick-step z f = record { spends = omega arith; same-place = refl; means = step-end z f }
 
 -- ---- assign
@@ -110,28 +119,33 @@ module _ (d : Stepped) where
 abbrev assignedTo : Mem → ℕ → ℕ → Res → Out
 assignedTo M x fuel r = spend fuel (λ b. assigned (λ v. done (update M x v) b) b r)
 
-assign-fail-at : {g : Target} (M : Mem) (x : ℕ) {s : State} {cells : List ℕ} (at fuel : ℕ) (r : Res) (words : List ℕ) → (fuel ≡ 0 → ⊥) → (stateNumber s ≡ 0 → ⊥)
-    → Yields r (stateNumber s) words → Finishes g (record { state = s; left = fuel; next = at }) cells (assignedTo M x fuel r)
+assign-fail-at : {g : Target} (M : Mem) (x : ℕ) {s : State} {cells : List ℕ} (at fuel : ℕ) (r : Res) (words : List ℕ)
+    → (fuel ≡ 0 → ⊥) → (stateNumber s ≡ 0 → ⊥)
+    → Yields r (stateNumber s) words
+    → Finishes g (record { state = s; left = fuel; next = at }) cells (assignedTo M x fuel r)
 unfolding spend assigned Yields
 assign-fail-at M x at zero r words f z a = absurd (f refl)
 assign-fail-at M x at (suc b) (ok v) words f z a = absurd (z (a .0))
 assign-fail-at M x at (suc b) long words f z a = finish-over a refl
 assign-fail-at M x at (suc b) stuck words f z a = finish-wrong
 
-assign-done-at : (g : Target) {M : Mem} (x : ℕ) (v : Result) {cells : List ℕ} (fuel : ℕ) (r : Res) → (fuel ≡ 0 → ⊥) → v .state ≡ 0 → Gives r v → x < g .locations
+assign-done-at : (g : Target) {M : Mem} (x : ℕ) (v : Result) {cells : List ℕ} (fuel : ℕ) (r : Res) → (fuel ≡ 0 → ⊥)
+    → v .state ≡ 0 → Gives r v → x < g .locations
     → CellsHold (v .cells) (g .locations) (g .depth) M (g .env) → drop (v .next) (g .code) ≡ code (g .rest)
     → cells ≡ storeOf (v .cells) (firstLocation + x) (loadOf (v .cells) accumulator)
     → Finishes g (record { state = Done; left = fuel - 1; next = v .next }) cells (assignedTo M x fuel r)
 unfolding spend assigned Yields stateNumber
 assign-done-at g x v zero r f z a l held n e = absurd (f refl)
 assign-done-at g x v (suc b) (ok u) f z a l held n e =
-    finish-done {b = b} refl (omega arith) (holds-put held x u l (load-here (v .cells) u (room-here held) (a .1)) (length-load (v .cells) 0) e) n
+    finish-done {b = b} refl (omega arith)
+    (holds-put held x u l (load-here (v .cells) u (room-here held) (a .1)) (length-load (v .cells) 0) e) n
 assign-done-at g x v (suc b) long f z a l held n e = absurd (omega arith)
 assign-done-at g x v (suc b) stuck f z a l held n e = finish-wrong
 
 module _ {S : Setting} {p : Place} {fuel x : ℕ} where
   assign-by : {d : Stepped} {cells : List ℕ} → p .at ≤ d .next → d .left ≤ fuel
-      → ((C : Context) (M : Mem) (e : Expr) (rest : List Line) → StandsFor S p C M → ExprAt p (C .counts) rest e → x < C .counts .locations
+      → ((C : Context) (M : Mem) (e : Expr) (rest : List Line) → StandsFor S p C M → ExprAt p (C .counts) rest e
+      → x < C .counts .locations
       → Finishes (target p C rest) d cells (assignedTo M x fuel (eval (C .world) (C .env) M e)))
       → Assigns S p fuel x d cells
   unfolding go
@@ -140,17 +154,20 @@ module _ {S : Setting} {p : Place} {fuel x : ℕ} where
         forward = f;
         spends = s;
         means = λ C M e rest held here l.
-            subst (λ (o : Out). Finishes (target p C rest) d cells o) (sym (go-assign (C .world) (C .env) M x e fuel)) (m C M e rest held here l);
+            subst (λ (o : Out). Finishes (target p C rest) d cells o) (sym (go-assign (C .world) (C .env) M x e fuel))
+            (m C M e rest held here l);
       }
 
   pub assign-spent : fuel ≡ 0 → Assigns S p fuel x (record { state = Spent; left = 0; next = p .at }) (p .cells)
   unfolding stateNumber spend
   assign-spent z = assign-by (omega arith) (omega arith) (λ C M e rest held here l. rw z (finish-spent refl refl))
 
-  pub assign-fail : {s : State} {n : ℕ} {cells : List ℕ} → (fuel ≡ 0 → ⊥) → Evals S p (record { state = stateNumber s; next = n; cells = cells })
+  pub assign-fail : {s : State} {n : ℕ} {cells : List ℕ} → (fuel ≡ 0 → ⊥)
+      → Evals S p (record { state = stateNumber s; next = n; cells = cells })
       → (stateNumber s ≡ 0 → ⊥) → Assigns S p fuel x (record { state = s; left = fuel; next = p .at }) cells
   assign-fail f y z =
-      assign-by (omega arith) (omega arith) (λ C M e rest held here l. assign-fail-at M x (p .at) fuel _ _ f z (y .means C M e rest held here .0))
+      assign-by (omega arith) (omega arith)
+      (λ C M e rest held here l. assign-fail-at M x (p .at) fuel _ _ f z (y .means C M e rest held here .0))
 
   pub assign-done : {v : Result} {cells : List ℕ} → (fuel ≡ 0 → ⊥) → Evals S p v → v .state ≡ 0
       → cells ≡ storeOf (v .cells) (firstLocation + x) (loadOf (v .cells) accumulator)
@@ -158,12 +175,15 @@ module _ {S : Setting} {p : Place} {fuel x : ℕ} where
   assign-done {v} f y z e =
       assign-by (y .forward z) (omega arith)
       (λ C M u rest held here l. let m = y .means C M u rest held here in
-      assign-done-at (target p C rest) x v fuel _ f z (m .0) l (holds-kept (held .cells) (v .cells) (y .kept)) (m .1 z) e)
+      assign-done-at (target p C rest) x v fuel _ f z (m .0) l
+      (holds-kept (held .cells) (v .cells) (y .kept)) (m .1 z) e)
 
 -- ---- decide
 
-decide-fail-at : {ws : List ℕ} {rest : List Line} {s : State} {cells : List ℕ} (at fuel : ℕ) (r : Res) → (fuel ≡ 0 → ⊥) → (stateNumber s ≡ 0 → ⊥)
-    → Yields r (stateNumber s) (cellOf cells accumulator) → Chooses ws rest (record { state = s; left = fuel; next = at; on = false }) cells (choice fuel r)
+decide-fail-at : {ws : List ℕ} {rest : List Line} {s : State} {cells : List ℕ} (at fuel : ℕ) (r : Res) → (fuel ≡ 0 → ⊥)
+    → (stateNumber s ≡ 0 → ⊥)
+    → Yields r (stateNumber s) (cellOf cells accumulator)
+    → Chooses ws rest (record { state = s; left = fuel; next = at; on = false }) cells (choice fuel r)
 unfolding choice Yields
 decide-fail-at at zero r f z a = absurd (f refl)
 decide-fail-at at (suc b) (ok v) f z a = absurd (z (a .0))
@@ -171,7 +191,8 @@ decide-fail-at at (suc b) long f z a = is-long a refl
 decide-fail-at at (suc b) stuck f z a = is-stuck
 
 module _ {S : Setting} {p : Place} {fuel : ℕ} where
-  pub decide-spent : fuel ≡ 0 → Decides S p fuel (record { state = Spent; left = 0; next = p .at; on = false }) (p .cells)
+  pub decide-spent : fuel ≡ 0
+      → Decides S p fuel (record { state = Spent; left = 0; next = p .at; on = false }) (p .cells)
   unfolding stateNumber choice
   decide-spent z =
       record {
@@ -183,7 +204,8 @@ module _ {S : Setting} {p : Place} {fuel : ℕ} where
         means = λ C M e rest held here. rw z (has-none refl refl);
       }
 
-  pub decide-fail : {s : State} {n : ℕ} {cells : List ℕ} → (fuel ≡ 0 → ⊥) → Evals S p (record { state = stateNumber s; next = n; cells = cells })
+  pub decide-fail : {s : State} {n : ℕ} {cells : List ℕ} → (fuel ≡ 0 → ⊥)
+      → Evals S p (record { state = stateNumber s; next = n; cells = cells })
       → (stateNumber s ≡ 0 → ⊥) → Decides S p fuel (record { state = s; left = fuel; next = p .at; on = false }) cells
   decide-fail f y z =
       record {
@@ -196,7 +218,8 @@ module _ {S : Setting} {p : Place} {fuel : ℕ} where
       }
 
 -- the value in the accumulator, by its first word
-kind-here : (work : List ℕ) (v : Value) {w : ℕ} (n : ℕ) → cellOf work accumulator ≡ cell v → w ≡ getD work 0 0 → w ≡ n → Kind n v
+kind-here : (work : List ℕ) (v : Value) {w : ℕ} (n : ℕ) → cellOf work accumulator ≡ cell v → w ≡ getD work 0 0
+    → w ≡ n → Kind n v
 kind-here work v {w} n a p q =
     let e : getD (enc v _) 0 0 ≡ n = ap (λ (l : List ℕ). getD l 0 0) (sym (words-here work v a)) ∙ sym p ∙ q in
     subst (λ (i : ℕ). Kind i v) e (kind-enc v _)
@@ -207,13 +230,15 @@ pub data Side : ℕ → Bool → Type 0 where
   side-right : Side 4 false
 
 module _ {ws : List ℕ} {rest : List Line} {cells : List ℕ} where
-  chooses-side : {next b : ℕ} (v : Value) {n : ℕ} {on : Bool} → Side n on → Kind n v → cellOf cells accumulator ≡ cell v → drop next ws ≡ code rest
+  chooses-side : {next b : ℕ} (v : Value) {n : ℕ} {on : Bool} → Side n on → Kind n v → cellOf cells accumulator ≡ cell v
+      → drop next ws ≡ code rest
       → Chooses ws rest (record { state = Done; left = b; next = next; on = on }) cells (choiceV b v)
   unfolding choiceV stateNumber
   chooses-side v side-left is-inl e d = goes-left refl refl refl e d
   chooses-side v side-right is-inr e d = goes-right refl refl refl e d
 
-  chooses-none : {g : Decided} (b : ℕ) (v : Value) {w : ℕ} → Kind w v → (w ≡ 3 → ⊥) → (w ≡ 4 → ⊥) → Chooses ws rest g cells (choiceV b v)
+  chooses-none : {g : Decided} (b : ℕ) (v : Value) {w : ℕ} → Kind w v → (w ≡ 3 → ⊥) → (w ≡ 4 → ⊥)
+      → Chooses ws rest g cells (choiceV b v)
   unfolding choiceV
   chooses-none b v is-int n3 n4 = is-stuck
   chooses-none b v is-err n3 n4 = is-stuck
@@ -224,8 +249,10 @@ module _ {ws : List ℕ} {rest : List Line} {cells : List ℕ} where
   chooses-none b v is-blank n3 n4 = is-stuck
 
 -- a decision, by the value that was found
-decided : {ws : List ℕ} {rest : List Line} {g : Decided} (v : Result) (fuel : ℕ) (r : Res) → (fuel ≡ 0 → ⊥) → v .state ≡ 0 → Gives r v
-    → ((b : ℕ) (u : Value) → fuel ≡ suc b → cellOf (v .cells) accumulator ≡ cell u → Chooses ws rest g (v .cells) (choiceV b u))
+decided : {ws : List ℕ} {rest : List Line} {g : Decided} (v : Result) (fuel : ℕ) (r : Res) → (fuel ≡ 0 → ⊥)
+    → v .state ≡ 0 → Gives r v
+    → ((b : ℕ) (u : Value) → fuel ≡ suc b → cellOf (v .cells) accumulator ≡ cell u
+    → Chooses ws rest g (v .cells) (choiceV b u))
     → Chooses ws rest g (v .cells) (choice fuel r)
 unfolding choice Yields
 decided v zero r f z a k = absurd (f refl)
@@ -233,8 +260,10 @@ decided v (suc b) (ok u) f z a k = k b u refl (a .1)
 decided v (suc b) long f z a k = absurd (omega arith)
 decided v (suc b) stuck f z a k = is-stuck
 
-module _ {S : Setting} {p : Place} {fuel w : ℕ} {v : Result} (f : fuel ≡ 0 → ⊥) (y : Evals S p v) (z : v .state ≡ 0) (q : w ≡ getD (v .cells) 0 0) where
-  pub decide-side : {n : ℕ} {on : Bool} → Side n on → w ≡ n → Decides S p fuel (record { state = Done; left = fuel - 1; next = v .next; on = on }) (v .cells)
+module _ {S : Setting} {p : Place} {fuel w : ℕ} {v : Result} (f : fuel ≡ 0 → ⊥) (y : Evals S p v) (z : v .state ≡ 0)
+    (q : w ≡ getD (v .cells) 0 0) where
+  pub decide-side : {n : ℕ} {on : Bool} → Side n on → w ≡ n
+      → Decides S p fuel (record { state = Done; left = fuel - 1; next = v .next; on = on }) (v .cells)
   unfolding stateNumber
   decide-side {n} {on} side i =
       record {
@@ -254,7 +283,8 @@ module _ {S : Setting} {p : Place} {fuel w : ℕ} {v : Result} (f : fuel ≡ 0 �
       less zero f = absurd (f refl)
       less (suc n) f = omega arith
 
-  pub decide-none : (w ≡ 3 → ⊥) → (w ≡ 4 → ⊥) → Decides S p fuel (record { state = NoRule; left = fuel; next = p .at; on = false }) (v .cells)
+  pub decide-none : (w ≡ 3 → ⊥) → (w ≡ 4 → ⊥)
+      → Decides S p fuel (record { state = NoRule; left = fuel; next = p .at; on = false }) (v .cells)
   decide-none n3 n4 =
       record {
         forward = omega arith;
@@ -263,7 +293,8 @@ module _ {S : Setting} {p : Place} {fuel w : ℕ} {v : Result} (f : fuel ≡ 0 �
         falls = λ o. absurd (false≢true o);
         kept = y .kept;
         means = λ C M e rest held here.
-            decided v fuel _ f z (y .means C M e rest held here .0) (λ b u s a. chooses-none b u (kind-here (v .cells) u w a q refl) n3 n4);
+            decided v fuel _ f z (y .means C M e rest held here .0)
+            (λ b u s a. chooses-none b u (kind-here (v .cells) u w a q refl) n3 n4);
       }
 
 -- ---- branch
@@ -287,29 +318,34 @@ module _ {t : Target} {M : Mem} {cs : Branching} {g : Decided} {ws : List ℕ} {
   enters-past at z is-stuck = enters-stuck
 
 module _ (t : Target) {M : Mem} {cells cells′ : List ℕ} (held : CellsHold cells (t .locations) (t .depth) M (t .env))
-    (shallow : t .depth < maxDepth) (e : cells′ ≡ storeOf cells (suc (t .depth)) (popOf (loadOf cells accumulator))) where
+    (shallow : t .depth < maxDepth)
+    (e : cells′ ≡ storeOf cells (suc (t .depth)) (popOf (loadOf cells accumulator))) where
   binds-inside : {w : ℕ} {f : Value → Value} → Tags w f → (v : Value) → cellOf cells accumulator ≡ cell (f v)
       → CellsHold cells′ (t .locations) (suc (t .depth)) M (v ∷ t .env)
   binds-inside {f = f} tag v a =
       holds-bind held v shallow
-      (ap popOf (load-here cells (f v) (room-here held) a) ∙ pop-tag tag v (omega (arith, tag .longer v, cell-size cells 0 (f v) a)))
+      (ap popOf (load-here cells (f v) (room-here held) a)
+      ∙ pop-tag tag v (omega (arith, tag .longer v, cell-size cells 0 (f v) a)))
       (length-pop _ (length-load cells 0)) e
 
   module _ {cs : Branching} (g : Decided) (s : Source (cs .on-left)) where
-    enters-on : {c : Choice} {on : Bool} {start : ℕ} → stateNumber (g .state) ≡ 0 → g .on ≡ on → Starts (t .code) (g .next) on start
+    enters-on : {c : Choice} {on : Bool} {start : ℕ} → stateNumber (g .state) ≡ 0 → g .on ≡ on
+        → Starts (t .code) (g .next) on start
         → Chooses (t .code) (cmdLines (cs .on-left) (cmdLines (cs .on-right) (t .rest))) g cells c
         → Enters t M cs (record { state = Done; left = g .left; start = start; on = g .on }) cells′ c
     unfolding stateNumber
     enters-on z i at-first (goes-left {v = v} q l o a n) = enters-left refl l o (binds-inside tags-left v a) n
     enters-on z i (at-second k) (goes-left q l o a n) = absurd (false≢true (sym i ∙ o))
     enters-on z i at-first (goes-right q l o a n) = absurd (false≢true (sym o ∙ i))
-    enters-on z i (at-second k) (goes-right {v = v} q l o a n) = enters-right refl l o (binds-inside tags-right v a) (k .means _ _ (a-command s) n)
+    enters-on z i (at-second k) (goes-right {v = v} q l o a n) =
+        enters-right refl l o (binds-inside tags-right v a) (k .means _ _ (a-command s) n)
     enters-on z i h (has-none q l) = absurd (omega arith)
     enters-on z i h (is-long q l) = absurd (omega arith)
     enters-on z i h is-stuck = enters-stuck
 
 module _ {S : Setting} {p : Place} {fuel : ℕ} where
-  pub branch-deep : maxDepth ≤ p .depth → Branches S p fuel (record { state = NoRule; left = fuel; start = p .at; on = false }) (p .cells)
+  pub branch-deep : maxDepth ≤ p .depth
+      → Branches S p fuel (record { state = NoRule; left = fuel; start = p .at; on = false }) (p .cells)
   unfolding stateNumber
   branch-deep h =
       record {
@@ -320,7 +356,8 @@ module _ {S : Setting} {p : Place} {fuel : ℕ} where
       }
 
   module _ {g : Decided} {cells : List ℕ} (y : Decides S p fuel g cells) where
-    pub branch-past : (stateNumber (g .state) ≡ 0 → ⊥) → Branches S p fuel (record { state = g .state; left = g .left; start = p .at; on = false }) cells
+    pub branch-past : (stateNumber (g .state) ≡ 0 → ⊥)
+        → Branches S p fuel (record { state = g .state; left = g .left; start = p .at; on = false }) cells
     branch-past h =
         record {
           forward = omega arith;
@@ -330,13 +367,16 @@ module _ {S : Setting} {p : Place} {fuel : ℕ} where
         }
 
     pub branch-taken : {cells′ : List ℕ} {on : Bool} {start : ℕ} → p .depth < maxDepth
-        → cells′ ≡ storeOf cells (suc (p .depth)) (popOf (loadOf cells accumulator)) → stateNumber (g .state) ≡ 0 → g .on ≡ on
-        → Starts (p .code) (g .next) on start → Branches S p fuel (record { state = Done; left = g .left; start = start; on = g .on }) cells′
+        → cells′ ≡ storeOf cells (suc (p .depth)) (popOf (loadOf cells accumulator))
+        → stateNumber (g .state) ≡ 0 → g .on ≡ on
+        → Starts (p .code) (g .next) on start
+        → Branches S p fuel (record { state = Done; left = g .left; start = start; on = g .on }) cells′
     branch-taken l b z o h =
         record {
           forward = omega (arith, y .forward, starts-after h);
           spends = y .spends;
           shallow = λ q. l;
           means = λ C M e cs rest held here s m.
-              enters-on (target p C rest) (holds-kept (held .cells) cells (y .kept)) l b g s z o h (y .means C M e _ held here);
+              enters-on (target p C rest) (holds-kept (held .cells) cells (y .kept)) l b g s z o h
+              (y .means C M e _ held here);
         }

@@ -32,13 +32,15 @@ use Rattle.evaluator.specs.declared.State.the-variants.{Done, NoRule}
 use Rattle.evaluator.specs.Internal.Cells.{firstLocation, workWords, CellsHold, bound-none}
 use Rattle.evaluator.specs.Internal.Nodes.{Tells}
 use Rattle.interpreter.specs.declared.commands.Stepped.{Stepped}
-use Rattle.interpreter.specs.Internal.Post.{Target, Finishes, finish-done, finish-spent, finish-over, finish-wrong, Execs}
+use Rattle.interpreter.specs.Internal.Post.{Target, Finishes, finish-done, finish-spent, finish-over}
+use Rattle.interpreter.specs.Internal.Post.{finish-wrong, Execs}
 use Rattle.interpreter.specs.Internal.Run.{RunLeaves, Runs}
 use Rattle.cells.proofs.CellLaws.{cell-front}
 
 -- ---- a sheet's table, and an authority's powers by it, say what the sheet means
 
-tells-sheet : (s : Sheet) → formed s ≡ true → (authority : ℕ) → Tells (record { table = tableOf s; powers = powersIn (tableOf s) authority }) (worldOf s authority)
+tells-sheet : (s : Sheet) → formed s ≡ true → (authority : ℕ)
+    → Tells (record { table = tableOf s; powers = powersIn (tableOf s) authority }) (worldOf s authority)
 unfolding labelCount
 tells-sheet s fm authority =
     let few : labelsIn (tableOf s) ≤ maxLabels = omega (arith, labels-in s, formed-facts s fm .few-labels) in
@@ -63,24 +65,29 @@ cell-dropped ws j i =
     let n : 16 * j + 16 * i ≡ 16 * (j + i) = omega arith in
     ap (take 16) (drop-drop (16 * i) (16 * j) ws ∙ ap (λ (m : ℕ). drop m ws) n)
 
-cell-taken : (ws : List ℕ) (n x : ℕ) → cell-words * x + cell-words ≤ n → n ≤ length ws → cellOf (take n ws) x ≡ cellOf ws x
+cell-taken : (ws : List ℕ) (n x : ℕ) → cell-words * x + cell-words ≤ n → n ≤ length ws
+    → cellOf (take n ws) x ≡ cellOf ws x
 cell-taken ws n x h l =
-    sym (cell-front (take n ws) (drop n ws) x (omega (arith, length-take-le n ws l))) ∙ ap (λ (u : List ℕ). cellOf u x) (take-append-drop n ws)
+    sym (cell-front (take n ws) (drop n ws) x (omega (arith, length-take-le n ws l)))
+    ∙ ap (λ (u : List ℕ). cellOf u x) (take-append-drop n ws)
 
 -- ---- the memory
 
 -- each location of a well-formed memory holds its value's words
-memory-cell : (s : Sheet) (memory : List ℕ) → length memory ≡ cell-words * locationCount s → wellFormed s memory ≡ true → (x : ℕ) → x < locationCount s
+memory-cell : (s : Sheet) (memory : List ℕ) → length memory ≡ cell-words * locationCount s → wellFormed s memory ≡ true
+    → (x : ℕ) → x < locationCount s
     → cellOf memory x ≡ cell (memoryOf memory x)
 unfolding wellFormed
 memory-cell s memory n wf x h = sym (value-words (locationCount s) (labelCount s) (asDeclared s) memory n wf x h)
 
-module _ (work memory : List ℕ) (whole : length work ≡ workWords) (locations : ℕ) (n : length memory ≡ cell-words * locations) (few : locations ≤ 64) where
+module _ (work memory : List ℕ) (whole : length work ≡ workWords) (locations : ℕ)
+    (n : length memory ≡ cell-words * locations) (few : locations ≤ 64) where
   pub copied-in : (work′ : List ℕ) → work′ ≡ paste work (cell-words * firstLocation) memory (length memory) → (M : Mem)
       → ((x : ℕ) → x < locations → cellOf memory x ≡ cell (M x)) → CellsHold work′ locations 0 M []
   copied-in work′ e M h =
       record {
-        whole = ap (λ (l : List ℕ). length l) e ∙ length-paste work 144 memory (length memory) (omega arith) (omega arith) ∙ whole;
+        whole = ap (λ (l : List ℕ). length l) e
+            ∙ length-paste work 144 memory (length memory) (omega arith) (omega arith) ∙ whole;
         few = few;
         memory = λ x l. ap (λ (u : List ℕ). cellOf u (9 + x)) e ∙ there x l ∙ h x l;
         shallow = omega arith;
@@ -95,14 +102,16 @@ module _ (work memory : List ℕ) (whole : length work ≡ workWords) (locations
           ∙ ap (λ (u : List ℕ). cellOf (u ++ q) x) (take-all (length memory) memory (omega arith))
           ∙ cell-front memory q x (omega arith)
 
-  pub copied-out : (work′ memory′ : List ℕ) (M : Mem) → CellsHold work′ locations 0 M [] → memory′ ≡ paste memory 0 (drop (cell-words * firstLocation) work′) (length memory)
+  pub copied-out : (work′ memory′ : List ℕ) (M : Mem) → CellsHold work′ locations 0 M []
+      → memory′ ≡ paste memory 0 (drop (cell-words * firstLocation) work′) (length memory)
       → memory′ ≡ wordsOf locations M
   unfolding wordsOf
   copied-out work′ memory′ M held e =
       let part : List ℕ = take (length memory) (drop 144 work′) in
       let z : 0 + length memory ≡ length memory = omega arith in
       let d : length memory ≤ length (drop 144 work′) = omega (arith, held .whole, length-drop 144 work′) in
-      e ∙ ap (λ (u : List ℕ). part ++ u) (drop-of-length-le memory {i = 0 + length memory} (omega arith)) ∙ append-nil part
+      e ∙ ap (λ (u : List ℕ). part ++ u) (drop-of-length-le memory {i = 0 + length memory} (omega arith))
+      ∙ append-nil part
       ∙ sym (cells-all locations part (length-take-le (length memory) (drop 144 work′) d ∙ n))
       ∙ cells-ext locations (λ (x : ℕ). cellOf part x) (λ (x : ℕ). cell (M x))
       (λ x l. cell-taken (drop 144 work′) (length memory) x (omega arith) d ∙ cell-dropped work′ 9 x ∙ held .memory x l)
@@ -115,7 +124,8 @@ whole-target ws locations = record { code = ws; rest = []; locations = locations
 
 module _ (memory : List ℕ) (budget : ℕ) {ws cells : List ℕ} {locations : ℕ} {d : Stepped} where
   done-at : {memory′ : List ℕ} {o : Out} → stateNumber (d .state) ≡ 0 → Finishes (whole-target ws locations) d cells o
-      → ((M : Mem) → CellsHold cells locations 0 M [] → memory′ ≡ wordsOf locations M) → RunLeaves locations budget memory o 0 (budget - d .left) memory′
+      → ((M : Mem) → CellsHold cells locations 0 M [] → memory′ ≡ wordsOf locations M)
+      → RunLeaves locations budget memory o 0 (budget - d .left) memory′
   unfolding RunLeaves
   done-at z (finish-done {M = M} s l held n) k = (refl, ap (λ (i : ℕ). budget - i) l, k M held)
   done-at z (finish-spent s l) k = absurd (omega arith)
@@ -131,7 +141,8 @@ module _ (memory : List ℕ) (budget : ℕ) {ws cells : List ℕ} {locations : �
   kept-at z finish-wrong = tt
 
 -- a memory of more locations than a sheet has
-pub run-large : {ws table memory : List ℕ} {authority budget : ℕ} → cell-words * maxLocations < length memory → Runs ws table memory authority budget (stateNumber NoRule) 0 memory
+pub run-large : {ws table memory : List ℕ} {authority budget : ℕ} → cell-words * maxLocations < length memory
+    → Runs ws table memory authority budget (stateNumber NoRule) 0 memory
 unfolding stateNumber
 run-large h =
     record {
@@ -142,23 +153,30 @@ run-large h =
     }
 
 module _ (authority : ℕ) {ws table : List ℕ} {budget : ℕ} (work memory : List ℕ) (whole : length work ≡ workWords)
-    {start : List ℕ} (e : start ≡ paste work (cell-words * firstLocation) memory (length memory)) {d : Stepped} {cells : List ℕ}
+    {start : List ℕ}
+    (e : start ≡ paste work (cell-words * firstLocation) memory (length memory)) {d : Stepped} {cells : List ℕ}
     {powers : ℕ} (may : powers ≡ powersIn table authority)
-    (x : Execs (record { table = table; powers = powers }) (record { code = ws; at = 0; depth = 0; cells = start }) budget d cells) where
+    (x : Execs (record { table = table; powers = powers })
+    (record { code = ws; at = 0; depth = 0; cells = start }) budget d cells) where
   -- how the command's run ends
-  run-ends : (s : Sheet) (k : Counts) (c : Cmd) → formed s ≡ true → table ≡ tableOf s → k .labels ≡ labelCount s → k .locations ≡ locationCount s → Source c → named k 0 c ≡ true
+  run-ends : (s : Sheet) (k : Counts) (c : Cmd) → formed s ≡ true → table ≡ tableOf s → k .labels ≡ labelCount s
+      → k .locations ≡ locationCount s → Source c → named k 0 c ≡ true
       → ws ≡ code (cmdLines c []) → length memory ≡ cell-words * locationCount s → wellFormed s memory ≡ true
       → Finishes (whole-target ws (locationCount s)) d cells (iterate (worldOf s authority) budget (memoryOf memory) c)
   run-ends s k c fm te le ke src nm w n wf =
-      let held = copied-in work memory whole (locationCount s) n (locations-few s fm) start e (memoryOf memory) (memory-cell s memory n wf) in
-      let t : Tells (record { table = table; powers = powers }) (worldOf s authority) = rw (may, te) (tells-sheet s fm authority) in
+      let held = copied-in work memory whole (locationCount s) n (locations-few s fm) start e (memoryOf memory)
+      (memory-cell s memory n wf) in
+      let t : Tells (record { table = table; powers = powers }) (worldOf s authority) =
+      rw (may, te) (tells-sheet s fm authority) in
       let m = x .means (record { world = worldOf s authority; counts = k; env = [] }) (memoryOf memory) c []
       (record { tells = t; labels = le ∙ sym (ap labelsIn te ∙ labels-in s fm); cells = rw ke held })
       (record { source = src; names = nm; lines = w }) in
-      subst (λ (u : Cmd). Finishes (whole-target ws (locationCount s)) d cells (iterate (worldOf s authority) budget (memoryOf memory) u)) (close-none zero c) (rw ke at m)
+      subst (λ (u : Cmd). Finishes (whole-target ws (locationCount s)) d cells
+      (iterate (worldOf s authority) budget (memoryOf memory) u)) (close-none zero c) (rw ke at m)
 
   pub run-done : {memory′ : List ℕ} → stateNumber (d .state) ≡ 0 → length memory′ ≡ length memory
-      → memory′ ≡ paste memory 0 (drop (cell-words * firstLocation) cells) (length memory) → Runs ws table memory authority budget (stateNumber Done) (budget - d .left) memory′
+      → memory′ ≡ paste memory 0 (drop (cell-words * firstLocation) cells) (length memory)
+      → Runs ws table memory authority budget (stateNumber Done) (budget - d .left) memory′
   unfolding stateNumber
   run-done {memory′} z l p =
       record {
@@ -170,7 +188,8 @@ module _ (authority : ℕ) {ws table : List ℕ} {budget : ℕ} (work memory : L
             (λ M held. copied-out work memory whole (locationCount s) n (locations-few s fm) cells memory′ M held p);
       }
 
-  pub run-kept : (stateNumber (d .state) ≡ 0 → ⊥) → Runs ws table memory authority budget (stateNumber (d .state)) (budget - d .left) memory
+  pub run-kept : (stateNumber (d .state) ≡ 0 → ⊥)
+      → Runs ws table memory authority budget (stateNumber (d .state)) (budget - d .left) memory
   run-kept z =
       record {
         long = refl;

@@ -25,7 +25,8 @@ pub fn run(
     authority: Set,
     budget: u32,
 ) -> Ran
-    ensures { λ r. ⌜ Runs (now (code .entry)) (now (table .entry)) (now (memory .entry)) authority budget (stateNumber (r .state)) (r .steps) (now (memory .exit)) ⌝ }
+    ensures { λ r. ⌜ Runs (now (code .entry)) (now (table .entry)) (now (memory .entry)) authority budget
+        (stateNumber (r .state)) (r .steps) (now (memory .exit)) ⌝ }
 {
     let mut work = [0u32; evaluator::WORK];
     run_in(code, table, memory, authority, budget, &mut work)
@@ -41,7 +42,8 @@ fn run_in(
     work: &mut [u32; evaluator::WORK],
 ) -> Ran
     requires { ⌜ length (now work) ≡ workWords ⌝ }
-    ensures { λ r. ⌜ Runs (now (code .entry)) (now (table .entry)) (now (memory .entry)) authority budget (stateNumber (r .state)) (r .steps) (now (memory .exit)) ⌝ }
+    ensures { λ r. ⌜ Runs (now (code .entry)) (now (table .entry)) (now (memory .entry)) authority budget
+        (stateNumber (r .state)) (r .steps) (now (memory .exit)) ⌝ }
 {
     let n = memory.len();
     if n > evaluator::WORK - evaluator::MEMORY {

@@ -11,8 +11,10 @@ use Rattle.sets.specs.Sets.{within, single, everyone}
 use Rattle.sets.proofs.Walks.{by-below, getD-tab, length-tab}
 use Rattle.sets.proofs.SetLaws.{within-refl, single-within-everyone}
 use Rattle.labels.specs.declared.Label.{Label}
-use Rattle.labels.specs.Labels.{owners, readersOf, writersOf, openAt, belowOf, joinOf, confidentialityOf, integrityOf, bottomOf, closedAt, topOf, wholeOf, effective}
-use Rattle.labels.proofs.OrderLaws.{whole-intro, below-intro, below-at, below-refl, below-trans, join-left, join-least, join-whole}
+use Rattle.labels.specs.Labels.{owners, readersOf, writersOf, openAt, belowOf, joinOf, confidentialityOf}
+use Rattle.labels.specs.Labels.{integrityOf, bottomOf, closedAt, topOf, wholeOf, effective}
+use Rattle.labels.proofs.OrderLaws.{whole-intro, below-intro, below-at, below-refl, below-trans, join-left}
+use Rattle.labels.proofs.OrderLaws.{join-least, join-whole}
 use Rattle.labels.proofs.PartLaws.{own-at, C-whole, I-whole, bottom-whole, C-mono, I-mono, I-bottom}
 
 -- ---- an effective label is whole and lies between bottom and top
@@ -38,7 +40,8 @@ pub bottom-at : (all o : ℕ) → o < owners → (readersOf (bottomOf all) o ≡
 unfolding bottomOf
 bottom-at all o l = (getD-replicate owners o all 0 l, own-at o l)
 
-pub top-at : (n o : ℕ) → o < owners → (readersOf (topOf n) o ≡ closedAt n o) × (writersOf (topOf n) o ≡ openAt n (everyone n) o)
+pub top-at : (n o : ℕ) → o < owners
+    → (readersOf (topOf n) o ≡ closedAt n o) × (writersOf (topOf n) o ≡ openAt n (everyone n) o)
 unfolding topOf
 top-at n o l = (getD-tab owners _ o 0 l, getD-tab owners _ o 0 l)
 
@@ -87,11 +90,13 @@ pub record Fits (n o r w : ℕ) : Type 0 where
   pub owner-in : within (single o) w ≡ true
   pub open-over : within w (openAt n (everyone n) o) ≡ true
 
-pub effective-fits : (n : ℕ) (a : Label) → effective n a ≡ true → (o : ℕ) → o < owners → Fits n o (readersOf a o) (writersOf a o)
+pub effective-fits : (n : ℕ) (a : Label) → effective n a ≡ true → (o : ℕ) → o < owners
+    → Fits n o (readersOf a o) (writersOf a o)
 effective-fits n a h o l =
     record {
       closed-in = rw (top-at n o l .0) at (below-at a (topOf n) (top-greatest n a h) o l .0);
-      readers-in = rw (bottom-at (everyone n) o l .0) at (below-at (bottomOf (everyone n)) a (bottom-least n a h) o l .0);
+      readers-in =
+          rw (bottom-at (everyone n) o l .0) at (below-at (bottomOf (everyone n)) a (bottom-least n a h) o l .0);
       owner-in = rw (bottom-at (everyone n) o l .1) at (below-at (bottomOf (everyone n)) a (bottom-least n a h) o l .1);
       open-over = rw (top-at n o l .1) at (below-at a (topOf n) (top-greatest n a h) o l .1);
     }
@@ -101,8 +106,10 @@ pub fits-effective : (n : ℕ) (a : Label)
 fits-effective n a w f =
     effective-intro n a w
     (below-intro (bottomOf (everyone n)) a
-    (λ o l. rw (bottom-at (everyone n) o l .0) (f o l .readers-in)) (λ o l. rw (bottom-at (everyone n) o l .1) (f o l .owner-in)))
-    (below-intro a (topOf n) (λ o l. rw (top-at n o l .0) (f o l .closed-in)) (λ o l. rw (top-at n o l .1) (f o l .open-over)))
+    (λ o l. rw (bottom-at (everyone n) o l .0) (f o l .readers-in))
+    (λ o l. rw (bottom-at (everyone n) o l .1) (f o l .owner-in)))
+    (below-intro a (topOf n) (λ o l. rw (top-at n o l .0) (f o l .closed-in))
+    (λ o l. rw (top-at n o l .1) (f o l .open-over)))
 
 -- ---- the operations keep labels effective
 pub bottom-effective : (n : ℕ) → effective n (bottomOf (everyone n)) ≡ true
@@ -111,7 +118,8 @@ bottom-effective n = effective-intro n _ (bottom-whole (everyone n)) (below-refl
 pub top-effective : (n : ℕ) → effective n (topOf n) ≡ true
 top-effective n = effective-intro n _ (top-whole n) (bottom-below-top n) (below-refl _)
 
-pub join-effective : (n : ℕ) (a b : Label) → effective n a ≡ true → effective n b ≡ true → effective n (joinOf a b) ≡ true
+pub join-effective : (n : ℕ) (a b : Label) → effective n a ≡ true → effective n b ≡ true
+    → effective n (joinOf a b) ≡ true
 join-effective n a b h k =
     effective-intro n (joinOf a b) (join-whole a b) (below-trans _ a (joinOf a b) (bottom-least n a h) (join-left a b))
     (join-least a b (topOf n) (top-greatest n a h) (top-greatest n b k))
@@ -120,7 +128,8 @@ join-effective n a b h k =
 pub C-below : (n : ℕ) (a : Label) → effective n a ≡ true → belowOf (confidentialityOf a) a ≡ true
 unfolding confidentialityOf
 C-below n a h =
-    below-intro (confidentialityOf a) a (λ o l. within-refl _) (λ o l. rw (own-at o l) (effective-fits n a h o l .owner-in))
+    below-intro (confidentialityOf a) a (λ o l. within-refl _)
+    (λ o l. rw (own-at o l) (effective-fits n a h o l .owner-in))
 
 pub I-below : (n : ℕ) (a : Label) → effective n a ≡ true → belowOf (integrityOf (everyone n) a) a ≡ true
 unfolding integrityOf

@@ -9,7 +9,8 @@ use borrow.Author.Tests.{lt-ltb}
 use Rattle.sets.specs.Sets.{member, single, everyone, tab}
 use Rattle.sets.proofs.SetLaws.{member-single, member-everyone}
 use Rattle.labels.specs.declared.Label.{Label}
-use Rattle.labels.specs.Labels.{owners, own, readersOf, openAt, belowOf, joinOf, confidentialityOf, integrityOf, bottomOf, closedAt, topOf, effective, EffectiveLabel}
+use Rattle.labels.specs.Labels.{owners, own, readersOf, openAt, belowOf, joinOf, confidentialityOf, integrityOf}
+use Rattle.labels.specs.Labels.{bottomOf, closedAt, topOf, effective, EffectiveLabel}
 use Rattle.labels.specs.Lattice.{SecurityLattices, NonTrivial, OneLabel}
 use Rattle.labels.proofs.OrderLaws as order
 use Rattle.labels.proofs.PartLaws as part
@@ -63,7 +64,8 @@ non-trivial n h e =
     let alone : everyone n ≡ single 0 =
     sym (effect.bottom-at (everyone n) 0 l .0) ∙ ap (λ (a : Label). readersOf a 0) (sym e) ∙ effect.top-at n 0 l .0
     ∙ effect.closed-principal n 0 (omega arith) in
-    let q : _≡_ {A = ℕ} 1 0 = member-single 1 0 (ap (member 1) (sym alone) ∙ member-everyone 1 n ∙ lt-ltb 1 n (omega arith)) in
+    let q : _≡_ {A = ℕ} 1 0 =
+    member-single 1 0 (ap (member 1) (sym alone) ∙ member-everyone 1 n ∙ lt-ltb 1 n (omega arith)) in
     omega arith
 
 -- of one principal they are equal, and so is every label between them
@@ -73,10 +75,12 @@ top-bottom = refl
 
 pub one-label : OneLabel
 one-label a b h k =
-    order.below-antisym a b (effect.effective-whole 1 a h) (effect.effective-whole 1 b k) (through a b h k) (through b a k h)
+    order.below-antisym a b (effect.effective-whole 1 a h) (effect.effective-whole 1 b k) (through a b h k)
+    (through b a k h)
   where
     through : (a b : Label) → effective 1 a ≡ true → effective 1 b ≡ true → belowOf a b ≡ true
-    through a b h k = order.below-trans a (topOf 1) b (effect.top-greatest 1 a h) (rw top-bottom (effect.bottom-least 1 b k))
+    through a b h k =
+        order.below-trans a (topOf 1) b (effect.top-greatest 1 a h) (rw top-bottom (effect.bottom-least 1 b k))
 
 -- ---- labels with the fact that they are effective: equal if their labels are
 pub effective-path : (n : ℕ) (a b : EffectiveLabel n) → a .raw ≡ b .raw → a ≡ b

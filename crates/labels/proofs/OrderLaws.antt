@@ -11,7 +11,9 @@ use Rattle.logic.specs.Booleans.{both}
 use Rattle.logic.proofs.BooleanLaws.{bool-ext, both-left, both-right, both-true}
 use Rattle.sets.specs.Sets.{union, intersection, within, every}
 use Rattle.sets.proofs.Walks.{every-true, every-at, every-both, getD-tab, length-tab}
-use Rattle.sets.proofs.SetLaws.{within-refl, within-trans, within-antisym, intersection-within-left, intersection-within-right, within-intersection, within-union-left, within-union-right, union-within}
+use Rattle.sets.proofs.SetLaws.{within-refl, within-trans, within-antisym, intersection-within-left}
+use Rattle.sets.proofs.SetLaws.{intersection-within-right, within-intersection, within-union-left, within-union-right}
+use Rattle.sets.proofs.SetLaws.{union-within}
 use Rattle.labels.specs.declared.Label.{Label}
 use Rattle.labels.specs.Labels.{owners, readersOf, writersOf, belowAt, belowOf, sameAt, sameOf, joinOf, wholeOf}
 
@@ -27,7 +29,8 @@ pub whole-lengths : (a : Label) → wholeOf a ≡ true → (length (a .readers) 
 unfolding wholeOf
 whole-lengths a h = (eqb-true _ owners (both-left _ _ h), eqb-true _ owners (both-right _ _ h))
 
-sets-path : (x y : List ℕ) → length x ≡ owners → length y ≡ owners → ((o : ℕ) → o < owners → getD x o 0 ≡ getD y o 0) → x ≡ y
+sets-path : (x y : List ℕ) → length x ≡ owners → length y ≡ owners
+    → ((o : ℕ) → o < owners → getD x o 0 ≡ getD y o 0) → x ≡ y
 sets-path x y hx hy e = ext-getD 0 x y (hx ∙ sym hy) (λ o l. e o (subst (λ (n : ℕ). o < n) hx l))
 
 -- ---- the order, owner by owner
@@ -46,9 +49,11 @@ below-at a b h o l = let e = every-at owners (belowAt a b) h o l in (both-left _
 -- the order as one test of readers and one of writers
 pub below-split : (a b : Label)
     → belowOf a b
-    ≡ both (every owners (λ (o : ℕ). within (readersOf b o) (readersOf a o))) (every owners (λ (o : ℕ). within (writersOf a o) (writersOf b o)))
+    ≡ both (every owners (λ (o : ℕ). within (readersOf b o) (readersOf a o)))
+    (every owners (λ (o : ℕ). within (writersOf a o) (writersOf b o)))
 unfolding belowOf belowAt
-below-split a b = every-both owners (λ (o : ℕ). within (readersOf b o) (readersOf a o)) (λ (o : ℕ). within (writersOf a o) (writersOf b o))
+below-split a b = every-both owners (λ (o : ℕ). within (readersOf b o) (readersOf a o))
+    (λ (o : ℕ). within (writersOf a o) (writersOf b o))
 
 pub below-refl : (a : Label) → belowOf a a ≡ true
 below-refl a = below-intro a a (λ o l. within-refl _) (λ o l. within-refl _)
@@ -58,7 +63,8 @@ below-trans a b c h k =
     below-intro a c (λ o l. within-trans _ _ _ (below-at b c k o l .0) (below-at a b h o l .0))
     (λ o l. within-trans _ _ _ (below-at a b h o l .1) (below-at b c k o l .1))
 
-pub below-antisym : (a b : Label) → wholeOf a ≡ true → wholeOf b ≡ true → belowOf a b ≡ true → belowOf b a ≡ true → a ≡ b
+pub below-antisym : (a b : Label) → wholeOf a ≡ true → wholeOf b ≡ true → belowOf a b ≡ true
+    → belowOf b a ≡ true → a ≡ b
 below-antisym a b ha hb h k =
     label-path a b
     (sets-path _ _ (whole-lengths a ha .0) (whole-lengths b hb .0)
@@ -75,7 +81,8 @@ same-both-ways a b =
     bool-ext (sameOf a b) (both (belowOf a b) (belowOf b a))
     (λ h.
     let e : (o : ℕ) → o < owners → (readersOf a o ≡ readersOf b o) × (writersOf a o ≡ writersOf b o) =
-    λ o l. let s = every-at owners (sameAt a b) h o l in (eqb-true _ _ (both-left _ _ s), eqb-true _ _ (both-right _ _ s)) in
+    λ o l. let s = every-at owners (sameAt a b) h o l in
+    (eqb-true _ _ (both-left _ _ s), eqb-true _ _ (both-right _ _ s)) in
     both-true (below-intro a b (λ o l. rw (e o l .0) (within-refl _)) (λ o l. rw (e o l .1) (within-refl _)))
     (below-intro b a (λ o l. rw (e o l .0) (within-refl _)) (λ o l. rw (e o l .1) (within-refl _))))
     (λ h.

@@ -17,7 +17,8 @@ pub tested-none : (f : ℕ → Bool) → Tested f 0 true
 unfolding every
 tested-none f = (omega arith, refl)
 
-pub tested-more : (f : ℕ → Bool) (o : ℕ) {all b : Bool} → Tested f o all → o < owners → b ≡ f o → Tested f (o + 1) (both all b)
+pub tested-more : (f : ℕ → Bool) (o : ℕ) {all b : Bool} → Tested f o all → o < owners → b ≡ f o
+    → Tested f (o + 1) (both all b)
 tested-more f o h l e = (omega arith, every-more o f (h .1) e)
 
 pub tested-all : (f : ℕ → Bool) (o : ℕ) {all : Bool} → Tested f o all → owners ≤ o → all ≡ every owners f

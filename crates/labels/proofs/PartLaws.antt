@@ -10,8 +10,10 @@ use Rattle.sets.specs.Sets.{union, within, single, every}
 use Rattle.sets.proofs.Walks.{every-true, getD-tab, length-tab, tab-ext}
 use Rattle.sets.proofs.SetLaws.{within-refl, union-of-within}
 use Rattle.labels.specs.declared.Label.{Label}
-use Rattle.labels.specs.Labels.{owners, own, readersOf, belowOf, joinOf, confidentialityOf, integrityOf, bottomOf, wholeOf}
-use Rattle.labels.proofs.OrderLaws.{label-path, whole-intro, whole-lengths, below-intro, below-at, below-split, join-below}
+use Rattle.labels.specs.Labels.{owners, own, readersOf, belowOf, joinOf, confidentialityOf, integrityOf, bottomOf}
+use Rattle.labels.specs.Labels.{wholeOf}
+use Rattle.labels.proofs.OrderLaws.{label-path, whole-intro, whole-lengths, below-intro, below-at, below-split}
+use Rattle.labels.proofs.OrderLaws.{join-below}
 
 -- ---- the sets that are the same in every label
 pub own-at : (o : ℕ) → o < owners → getD own o 0 ≡ single o
@@ -54,13 +56,15 @@ unfolding integrityOf
 I-mono all a b h = below-intro _ _ (λ o l. within-refl _) (λ o l. below-at a b h o l .1)
 
 pub below-of-parts : (all : ℕ) (a b : Label)
-    → belowOf (confidentialityOf a) (confidentialityOf b) ≡ true → belowOf (integrityOf all a) (integrityOf all b) ≡ true → belowOf a b ≡ true
+    → belowOf (confidentialityOf a) (confidentialityOf b) ≡ true
+    → belowOf (integrityOf all a) (integrityOf all b) ≡ true → belowOf a b ≡ true
 unfolding confidentialityOf integrityOf
 below-of-parts all a b h k = below-intro a b (λ o l. below-at _ _ h o l .0) (λ o l. below-at _ _ k o l .1)
 
 -- C(A) ≤ C(B) is a test of readers alone, since both have the same writers
 pub C-below-readers : (a b : Label)
-    → belowOf (confidentialityOf a) (confidentialityOf b) ≡ every owners (λ (o : ℕ). within (readersOf b o) (readersOf a o))
+    → belowOf (confidentialityOf a) (confidentialityOf b)
+    ≡ every owners (λ (o : ℕ). within (readersOf b o) (readersOf a o))
 unfolding confidentialityOf
 C-below-readers a b =
     below-split (confidentialityOf a) (confidentialityOf b)
@@ -68,9 +72,11 @@ C-below-readers a b =
 
 -- A ≤ B exactly if C(A) ≤ C(B) and I(A) ≤ I(B)
 pub below-parts : (all : ℕ) (a b : Label)
-    → belowOf a b ≡ both (belowOf (confidentialityOf a) (confidentialityOf b)) (belowOf (integrityOf all a) (integrityOf all b))
+    → belowOf a b
+    ≡ both (belowOf (confidentialityOf a) (confidentialityOf b)) (belowOf (integrityOf all a) (integrityOf all b))
 below-parts all a b =
-    bool-ext (belowOf a b) (both (belowOf (confidentialityOf a) (confidentialityOf b)) (belowOf (integrityOf all a) (integrityOf all b)))
+    bool-ext (belowOf a b)
+    (both (belowOf (confidentialityOf a) (confidentialityOf b)) (belowOf (integrityOf all a) (integrityOf all b)))
     (λ h. both-true (C-mono a b h) (I-mono all a b h))
     (λ h. below-of-parts all a b (both-left _ _ h) (both-right _ _ h))
 

@@ -14,10 +14,12 @@ use Rattle.sets.specs.Sets.{union, within, single, everyone}
 use Rattle.sets.proofs.Walks.{getD-tab, length-tab}
 use Rattle.sets.proofs.SetLaws.{within-refl, within-union-right, union-within, single-within-everyone}
 use Rattle.labels.specs.declared.Label.{Label}
-use Rattle.labels.specs.Labels.{owners, readersOf, writersOf, openAt, openOf, policyOf, Policy, policy, withPolicies, labelOf, policyOn, policiesOn, wholeOf, effective}
+use Rattle.labels.specs.Labels.{owners, readersOf, writersOf, openAt, openOf, policyOf, Policy, policy}
+use Rattle.labels.specs.Labels.{withPolicies, labelOf, policyOn, policiesOn, wholeOf, effective}
 use Rattle.labels.specs.Lattice.{PoliciesEffective}
 use Rattle.labels.proofs.OrderLaws.{whole-intro, whole-lengths}
-use Rattle.labels.proofs.EffectiveLaws.{Fits, effective-whole, effective-fits, fits-effective, closed-principal, open-principal, closed-within, single-within-open}
+use Rattle.labels.proofs.EffectiveLaws.{Fits, effective-whole, effective-fits, fits-effective, closed-principal}
+use Rattle.labels.proofs.EffectiveLaws.{open-principal, closed-within, single-within-open}
 
 -- an owner without a policy lets everyone read and write
 pub open-effective : (n : ℕ) → effective n (openOf n (everyone n)) ≡ true
@@ -39,16 +41,19 @@ policy-whole a o r w h =
     (length-set (a .writers) o (union w (single o)) ∙ whole-lengths a h .1)
 
 -- a policy of the n principals keeps a label effective
-policy-fits : (n o r w : ℕ) → o < n → within r (everyone n) ≡ true → within w (everyone n) ≡ true → Fits n o (union r (single o)) (union w (single o))
+policy-fits : (n o r w : ℕ) → o < n → within r (everyone n) ≡ true → within w (everyone n) ≡ true
+    → Fits n o (union r (single o)) (union w (single o))
 policy-fits n o r w k hr hw =
     record {
       closed-in = rw (closed-principal n o k) (within-union-right r (single o));
       readers-in = union-within r (single o) (everyone n) hr (single-within-everyone o n k);
       owner-in = within-union-right w (single o);
-      open-over = rw (open-principal n (everyone n) o k) (union-within w (single o) (everyone n) hw (single-within-everyone o n k));
+      open-over = rw (open-principal n (everyone n) o k)
+          (union-within w (single o) (everyone n) hw (single-within-everyone o n k));
     }
 
-pub policy-effective : (n : ℕ) (a : Label) (o r w : ℕ) → o < n → within r (everyone n) ≡ true → within w (everyone n) ≡ true
+pub policy-effective : (n : ℕ) (a : Label) (o r w : ℕ) → o < n → within r (everyone n) ≡ true
+    → within w (everyone n) ≡ true
     → effective n a ≡ true → effective n (policyOf a o r w) ≡ true
 unfolding policyOf
 policy-effective n a o r w k hr hw h =
@@ -65,7 +70,8 @@ policy-effective n a o r w k hr hw h =
         let v = getD-set-other (a .writers) o i (union w (single o)) 0 d in
         rw (u, v) (effective-fits n a h i l)
 
-policies-keep : (n : ℕ) (a : Label) (ps : List Policy) → policiesOn n ps ≡ true → effective n a ≡ true → effective n (withPolicies a ps) ≡ true
+policies-keep : (n : ℕ) (a : Label) (ps : List Policy) → policiesOn n ps ≡ true → effective n a ≡ true
+    → effective n (withPolicies a ps) ≡ true
 unfolding policiesOn policyOn withPolicies
 policies-keep n a [] on h = h
 policies-keep n a (policy o r w ∷ ps) on h =

@@ -8,29 +8,35 @@ use Rattle.logic.specs.Booleans.{both}
 use Rattle.logic.proofs.BooleanLaws.{bool-ext, both-left, both-right, both-true, fails, not-so}
 use Rattle.sets.specs.Sets.{width, member, within, meets, single, every}
 use Rattle.sets.proofs.Walks.{every-true, every-at, any-true, any-at}
-use Rattle.sets.proofs.SetLaws.{member-empty, within-elim, meets-mono, meets-grows, meets-intro, meets-elim, member-single, member-single-self}
+use Rattle.sets.proofs.SetLaws.{member-empty, within-elim, meets-mono, meets-grows, meets-intro, meets-elim}
+use Rattle.sets.proofs.SetLaws.{member-single, member-single-self}
 use Rattle.labels.specs.declared.Label.{Label}
 use Rattle.labels.specs.declared.Reading.{Reading}
 use Rattle.labels.specs.declared.Reading.the-variants.{Pooled, Alone}
-use Rattle.labels.specs.Labels.{owners, readersOf, writersOf, belowOf, confidentialityOf, integrityOf, readsOf, writesOf, readsAloneOf, readsUnder}
+use Rattle.labels.specs.Labels.{owners, readersOf, writersOf, belowOf, confidentialityOf, integrityOf, readsOf}
+use Rattle.labels.specs.Labels.{writesOf, readsAloneOf, readsUnder}
 use Rattle.labels.specs.Lattice.{EmptyGroups, ClosedBelow, ReadingDownward, ReadsBelow, TwoRules}
 use Rattle.labels.proofs.OrderLaws.{below-at}
 use Rattle.labels.proofs.PartLaws.{C-mono}
 
 -- who reads a label reads every label below it
-pub reads-down : (n : ℕ) → n ≤ owners → (g : ℕ) (a b : Label) → belowOf a b ≡ true → readsOf n g b ≡ true → readsOf n g a ≡ true
+pub reads-down : (n : ℕ) → n ≤ owners → (g : ℕ) (a b : Label) → belowOf a b ≡ true → readsOf n g b ≡ true
+    → readsOf n g a ≡ true
 unfolding readsOf
 reads-down n e g a b h r =
-    every-true n _ (λ o l. meets-mono g (readersOf b o) (readersOf a o) (below-at a b h o (lt-of-lt-of-le l e) .0) (every-at n _ r o l))
+    every-true n _ (λ o l.
+    meets-mono g (readersOf b o) (readersOf a o) (below-at a b h o (lt-of-lt-of-le l e) .0) (every-at n _ r o l))
 
 -- who writes a label writes every label above it
-pub writes-up : (n : ℕ) → n ≤ owners → (g : ℕ) (a b : Label) → belowOf a b ≡ true → writesOf n g a ≡ true → writesOf n g b ≡ true
+pub writes-up : (n : ℕ) → n ≤ owners → (g : ℕ) (a b : Label) → belowOf a b ≡ true → writesOf n g a ≡ true
+    → writesOf n g b ≡ true
 unfolding writesOf
 writes-up n e g a b h w =
-    every-true n _ (λ o l. meets-mono g (writersOf a o) (writersOf b o) (below-at a b h o (lt-of-lt-of-le l e) .1) (every-at n _ w o l))
+    every-true n _ (λ o l.
+    meets-mono g (writersOf a o) (writersOf b o) (below-at a b h o (lt-of-lt-of-le l e) .1) (every-at n _ w o l))
 
--- reading depends on C alone, writing on I alone: who reads B reads A where C(A) ≤ C(B), and who writes A writes B where
--- I(A) ≤ I(B)
+-- reading depends on C alone, writing on I alone: who reads B reads A where C(A) ≤ C(B), and who writes A writes B
+-- where I(A) ≤ I(B)
 pub reads-down-C : (n : ℕ) → n ≤ owners → (g : ℕ) (a b : Label)
     → belowOf (confidentialityOf a) (confidentialityOf b) ≡ true → readsOf n g b ≡ true → readsOf n g a ≡ true
 unfolding readsOf confidentialityOf
@@ -70,13 +76,15 @@ pub member-alone : (n g : ℕ) (a : Label) (p : ℕ) → ReadsAlone n g a p → 
 unfolding readsAloneOf
 member-alone n g a p h = any-true width _ p (h .low) (both-true (h .among) (every-true n _ (h .each)))
 
-alone-down : (n : ℕ) → n ≤ owners → (g : ℕ) (a b : Label) → belowOf a b ≡ true → readsAloneOf n g b ≡ true → readsAloneOf n g a ≡ true
+alone-down : (n : ℕ) → n ≤ owners → (g : ℕ) (a b : Label) → belowOf a b ≡ true → readsAloneOf n g b ≡ true
+    → readsAloneOf n g a ≡ true
 alone-down n e g a b h r =
     let (p, k) = alone-member n g b r in
     member-alone n g a p (record {
       low = k .low;
       among = k .among;
-      each = λ o l. within-elim (readersOf b o) (readersOf a o) (below-at a b h o (lt-of-lt-of-le l e) .0) p (k .each o l);
+      each =
+          λ o l. within-elim (readersOf b o) (readersOf a o) (below-at a b h o (lt-of-lt-of-le l e) .0) p (k .each o l);
     })
 
 alone-grow : (n : ℕ) (a : Label) (g h : ℕ) → within g h ≡ true → readsAloneOf n g a ≡ true → readsAloneOf n h a ≡ true
@@ -90,19 +98,26 @@ unfolding readsAloneOf confidentialityOf
 alone-down-C n e g a b h r = alone-down n e g (confidentialityOf a) (confidentialityOf b) h r
 
 -- a member by himself
-alone-one : (n g : ℕ) (a : Label) → readsAloneOf n g a ≡ true → (p : ℕ) × (p < width) × (member p g ≡ true) × (readsOf n (single p) a ≡ true)
+alone-one : (n g : ℕ) (a : Label) → readsAloneOf n g a ≡ true
+    → (p : ℕ) × (p < width) × (member p g ≡ true) × (readsOf n (single p) a ≡ true)
 unfolding readsOf
 alone-one n g a r =
-    let (p, k) = alone-member n g a r in
-    (p, k .low, k .among, every-true n _ (λ o l. meets-intro (single p) (readersOf a o) p (member-single-self p) (k .each o l)))
+    let (p, k) = alone-member n g a r in (
+      p,
+      k .low,
+      k .among,
+      every-true n _ (λ o l. meets-intro (single p) (readersOf a o) p (member-single-self p) (k .each o l)),
+    )
 
-one-alone : (n g : ℕ) (a : Label) (p : ℕ) → p < width → member p g ≡ true → readsOf n (single p) a ≡ true → readsAloneOf n g a ≡ true
+one-alone : (n g : ℕ) (a : Label) (p : ℕ) → p < width → member p g ≡ true → readsOf n (single p) a ≡ true
+    → readsAloneOf n g a ≡ true
 unfolding readsOf
 one-alone n g a p l m r =
     member-alone n g a p (record {
       low = l;
       among = m;
-      each = λ o k. let (q, i, j) = meets-elim (single p) (readersOf a o) (every-at n _ r o k) in rw (← member-single q p i) j;
+      each = λ o k. let (q, i, j) = meets-elim (single p) (readersOf a o) (every-at n _ r o k) in
+          rw (← member-single q p i) j;
     })
 
 alone-pooled : (n g : ℕ) (a : Label) → readsAloneOf n g a ≡ true → readsOf n g a ≡ true
@@ -124,7 +139,8 @@ reading-downward Alone n e g a b h r = alone-down-C n e g a b h r
 pub reads-below : ReadsBelow
 reads-below rule n e g = closed-below (readsUnder rule n g) (reading-downward rule n e g)
 
-pub rule-grows : (rule : Reading) (n : ℕ) (a : Label) (g h : ℕ) → within g h ≡ true → readsUnder rule n g a ≡ true → readsUnder rule n h a ≡ true
+pub rule-grows : (rule : Reading) (n : ℕ) (a : Label) (g h : ℕ) → within g h ≡ true → readsUnder rule n g a ≡ true
+    → readsUnder rule n h a ≡ true
 unfolding readsUnder
 rule-grows Pooled n a g h w r = reads-grow n a g h w r
 rule-grows Alone n a g h w r = alone-grow n a g h w r

@@ -8,17 +8,20 @@ use native.Mathlib.Numerals.{add-one}
 use lib.Dec.{ltb}
 use borrow.Author.Tests.{lt-ltb, ltb-true}
 use Rattle.logic.specs.Booleans.{both}
-use Rattle.logic.proofs.BooleanLaws.{bool-ext, both-left, both-right, both-true, both-assoc, both-no-right, both-implied}
+use Rattle.logic.proofs.BooleanLaws.{bool-ext, both-left, both-right, both-true, both-assoc, both-no-right}
+use Rattle.logic.proofs.BooleanLaws.{both-implied}
 use Rattle.sets.specs.Sets.{width, member, intersection, meets, everyone, restrict, every}
 use Rattle.sets.proofs.Walks.{every-true, every-at, every-false, every-last}
-use Rattle.sets.proofs.SetLaws.{member-intersection, member-everyone, member-empty, member-ext, meets-intro, meets-elim, restrict-everyone}
+use Rattle.sets.proofs.SetLaws.{member-intersection, member-everyone, member-empty, member-ext, meets-intro, meets-elim}
+use Rattle.sets.proofs.SetLaws.{restrict-everyone}
 use Rattle.labels.specs.declared.Label.{Label}
 use Rattle.labels.specs.Labels.{readersOf, readsAloneOf}
 use Rattle.labels.specs.Internal.Sole.{commonOf, soleReadersOf}
 use Rattle.labels.proofs.ReadingLaws.{alone-member, member-alone}
 
 -- what is in common is in each
-pub member-common : (p n : ℕ) (f : ℕ → ℕ) → member p (commonOf n f) ≡ both (ltb p width) (every n (λ (o : ℕ). member p (f o)))
+pub member-common : (p n : ℕ) (f : ℕ → ℕ)
+    → member p (commonOf n f) ≡ both (ltb p width) (every n (λ (o : ℕ). member p (f o)))
 unfolding commonOf every
 member-common p zero f = member-everyone p width ∙ sym (both-implied (ltb p width) true (λ h. refl))
 member-common p (suc n) f =
@@ -30,7 +33,8 @@ pub common-none : (n : ℕ) (f : ℕ → ℕ) (o : ℕ) → o < n → f o ≡ 0 
 common-none n f o l e =
     member-ext _ 0 (λ p.
     member-common p n f
-    ∙ both-no-right (ltb p width) _ (every-false n (λ (o : ℕ). member p (f o)) o l (ap (member p) e ∙ member-empty p)) ∙ sym (member-empty p))
+    ∙ both-no-right (ltb p width) _ (every-false n (λ (o : ℕ). member p (f o)) o l (ap (member p) e ∙ member-empty p))
+    ∙ sym (member-empty p))
 
 -- ---- a loop over the owners: at its start, a turn more, at its end
 pub common-start : (f : ℕ → ℕ) → restrict width (everyone width) ≡ commonOf 0 f

@@ -1,5 +1,5 @@
--- Labels in a table of words: one that stands there is read back, one is stored where it fits, and so is a policy, in place.
--- Assumes nothing.
+-- Labels in a table of words: one that stands there is read back, one is stored where it fits, and so is a policy, in
+-- place. Assumes nothing.
 use mathlib.Core.Path.{_≡_, refl, sym, ap, ap₂, _∙_, subst}
 use mathlib.Core.Bool.{true}
 use mathlib.Core.Logic.{_≢_}
@@ -7,8 +7,11 @@ use mathlib.Core.List.{List, _++_, append-assoc}
 use Prim.Native.Nat.{ℕ, _+_, _<_, _≤_}
 use native.Mathlib.Nat.{add-assoc}
 use native.Mathlib.Omega.{arith}
-use lib.ListN.{length, getD, set, take, drop, length-append, length-drop, length-set, take-append-drop, List·getD-append, List·getD-eq-default}
-use lib.Seq.{paste, take-paste, drop-paste, take-all, drop-drop, getD-append-add, take-at, drop-at, length-take-le, getD-take, getD-drop, getD-set-other, drop-set-add, take-set-lt, take-set-le, drop-set-lt, take-add, set-out}
+use lib.ListN.{length, getD, set, take, drop, length-append, length-drop, length-set, take-append-drop}
+use lib.ListN.{List·getD-append, List·getD-eq-default}
+use lib.Seq.{paste, take-paste, drop-paste, take-all, drop-drop, getD-append-add, take-at, drop-at, length-take-le}
+use lib.Seq.{getD-take, getD-drop, getD-set-other, drop-set-add, take-set-lt, take-set-le, drop-set-lt, take-add}
+use lib.Seq.{set-out}
 use borrow.Author.Tests.{le-leb, lt-leb}
 use Rattle.sets.specs.Sets.{union, single, tab}
 use Rattle.sets.proofs.Walks.{length-tab, getD-tab, tab-ext, tab-getD}
@@ -19,7 +22,8 @@ use Rattle.labels.proofs.OrderLaws.{label-path, whole-lengths}
 
 pub length-words : (a : Label) → wholeOf a ≡ true → length (labelWords a) ≡ labelSize
 unfolding labelWords
-length-words a h = length-append (a .readers) (a .writers) ∙ ap₂ (λ (x y : ℕ). x + y) (whole-lengths a h .0) (whole-lengths a h .1)
+length-words a h =
+    length-append (a .readers) (a .writers) ∙ ap₂ (λ (x y : ℕ). x + y) (whole-lengths a h .0) (whole-lengths a h .1)
 
 -- ---- the sets of a table: the word at a place, and none past the last owner
 pub set-there : (t : List ℕ) (at o : ℕ) → o < owners → getD (setsAt t at) o 0 ≡ getD t (at + o) 0
@@ -34,7 +38,8 @@ set-past t at =
     List·getD-eq-default (tab owners f) 0 l
 
 -- ---- what stands in the midst of a table is read back
-sets-are : (t : List ℕ) (at : ℕ) (row : List ℕ) → length row ≡ owners → ((o : ℕ) → o < owners → getD t (at + o) 0 ≡ getD row o 0) → setsAt t at ≡ row
+sets-are : (t : List ℕ) (at : ℕ) (row : List ℕ) → length row ≡ owners
+    → ((o : ℕ) → o < owners → getD t (at + o) 0 ≡ getD row o 0) → setsAt t at ≡ row
 unfolding setsAt
 sets-are t at row h e =
     tab-ext owners (λ (o : ℕ). getD t (at + o) 0) (λ (o : ℕ). getD row o 0) e
@@ -52,7 +57,8 @@ label-read xs ys a h =
     let w = a .writers in
     let here : xs ++ (r ++ w) ++ ys ≡ xs ++ (r ++ (w ++ ys)) = simp append-assoc in
     let there : xs ++ (r ++ w) ++ ys ≡ (xs ++ r) ++ (w ++ ys) = simp append-assoc in
-    let past : length xs + owners ≡ length (xs ++ r) = sym (length-append xs r ∙ ap (λ (n : ℕ). length xs + n) (whole-lengths a h .0)) in
+    let past : length xs + owners ≡ length (xs ++ r) =
+    sym (length-append xs r ∙ ap (λ (n : ℕ). length xs + n) (whole-lengths a h .0)) in
     label-path (labelAt (xs ++ (r ++ w) ++ ys) (length xs)) a
     (ap (λ (t : List ℕ). setsAt t (length xs)) here ∙ sets-read xs r (w ++ ys) (whole-lengths a h .0))
     (ap₂ setsAt there past ∙ sets-read (xs ++ r) w ys (whole-lengths a h .1))
@@ -68,7 +74,8 @@ module _ (t : List ℕ) (at : ℕ) (a : Label) where
   put-short l = rw (lt-leb (at + labelSize) (length t) l)
 
 -- a label takes the place of labelSize words
-pub put-middle : (xs old ys : List ℕ) (a : Label) → length old ≡ labelSize → labelPut (xs ++ old ++ ys) (length xs) a ≡ xs ++ labelWords a ++ ys
+pub put-middle : (xs old ys : List ℕ) (a : Label) → length old ≡ labelSize
+    → labelPut (xs ++ old ++ ys) (length xs) a ≡ xs ++ labelWords a ++ ys
 put-middle xs old ys a h =
     let whole = xs ++ old ++ ys in
     let far : length (xs ++ old) ≡ length xs + labelSize = length-append xs old ∙ ap (λ (n : ℕ). length xs + n) h in
@@ -87,12 +94,14 @@ put-rows t at a h l =
     let p = paste t at r owners in
     let long : owners ≤ length r = omega (arith, whole-lengths a h .0) in
     let front : take (at + owners) p ≡ take at t ++ r =
-    take-paste t at r owners (omega arith) long ∙ ap (λ (x : List ℕ). take at t ++ x) (take-all owners r (omega (arith, whole-lengths a h .0))) in
+    take-paste t at r owners (omega arith) long
+    ∙ ap (λ (x : List ℕ). take at t ++ x) (take-all owners r (omega (arith, whole-lengths a h .0))) in
     let back : drop (at + owners + owners) p ≡ drop (at + labelSize) t =
     sym (drop-drop owners (at + owners) p) ∙ ap (drop owners) (drop-paste t at r owners (omega arith) long)
     ∙ drop-drop owners (at + owners) t ∙ ap (λ (k : ℕ). drop k t) (add-assoc at owners owners) in
     ap₂ (λ (x y : List ℕ). x ++ take owners w ++ y) front back
-    ∙ ap (λ (x : List ℕ). take at t ++ r ++ x ++ drop (at + labelSize) t) (take-all owners w (omega (arith, whole-lengths a h .1)))
+    ∙ ap (λ (x : List ℕ). take at t ++ r ++ x ++ drop (at + labelSize) t)
+    (take-all owners w (omega (arith, whole-lengths a h .1)))
     ∙ ap (λ (x : List ℕ). x ++ drop (at + labelSize) t) (append-assoc (take at t) r w)
     ∙ sym (put-fits t at a l)
 
@@ -105,7 +114,8 @@ sets-there t at l =
     (λ o k. sym (getD-take owners (drop at t) o 0 k ∙ getD-drop at t o 0))
 
 -- after a store in one of these words, and after one elsewhere
-sets-set : (t : List ℕ) (at o v : ℕ) → at + owners ≤ length t → o < owners → setsAt (set t (at + o) v) at ≡ set (setsAt t at) o v
+sets-set : (t : List ℕ) (at o v : ℕ) → at + owners ≤ length t → o < owners
+    → setsAt (set t (at + o) v) at ≡ set (setsAt t at) o v
 sets-set t at o v l k =
     sets-there (set t (at + o) v) at (omega (arith, length-set t (at + o) v))
     ∙ ap (take owners) (drop-set-add at t o v)
@@ -115,7 +125,8 @@ sets-set t at o v l k =
 sets-apart : (t : List ℕ) (at j v : ℕ) → ((o : ℕ) → o < owners → at + o ≢ j) → setsAt (set t j v) at ≡ setsAt t at
 unfolding setsAt
 sets-apart t at j v h =
-    tab-ext owners (λ (o : ℕ). getD (set t j v) (at + o) 0) (λ (o : ℕ). getD t (at + o) 0) (λ o k. getD-set-other t j (at + o) v 0 (h o k))
+    tab-ext owners (λ (o : ℕ). getD (set t j v) (at + o) 0) (λ (o : ℕ). getD t (at + o) 0)
+    (λ o k. getD-set-other t j (at + o) v 0 (h o k))
 
 -- the label that stands in u, stored in a table that is as u elsewhere, gives u
 put-from : (t u : List ℕ) (at : ℕ) → at + labelSize ≤ length t → length u ≡ length t
@@ -136,7 +147,8 @@ put-from t u at l e front back =
 -- a label with one policy more, stored where it stood
 module _ (t : List ℕ) (at : ℕ) (l : at + labelSize ≤ length t) (o r w : ℕ) where
   pub put-policy : o < owners
-      → labelPut t at (policyOf (labelAt t at) o r w) ≡ set (set t (at + o) (union r (single o))) (at + owners + o) (union w (single o))
+      → labelPut t at (policyOf (labelAt t at) o r w)
+      ≡ set (set t (at + o) (union r (single o))) (at + owners + o) (union w (single o))
   unfolding policyOf labelAt
   put-policy k =
       let x = union r (single o) in
@@ -152,7 +164,8 @@ module _ (t : List ℕ) (at : ℕ) (l : at + labelSize ≤ length t) (o r w : �
       ap (labelPut t at) label
       ∙ put-from t both at l (length-set first (at + owners + o) y ∙ same)
       (sym (take-set-le at first (at + owners + o) y (omega arith) ∙ take-set-le at t (at + o) x (omega arith)))
-      (sym (drop-set-lt (at + labelSize) first (at + owners + o) y (omega arith) ∙ drop-set-lt (at + labelSize) t (at + o) x (omega arith)))
+      (sym (drop-set-lt (at + labelSize) first (at + owners + o) y (omega arith)
+      ∙ drop-set-lt (at + labelSize) t (at + o) x (omega arith)))
 
   -- an owner without a place
   pub put-policy-past : owners ≤ o → labelPut t at (policyOf (labelAt t at) o r w) ≡ t
@@ -161,5 +174,6 @@ module _ (t : List ℕ) (at : ℕ) (l : at + labelSize ≤ length t) (o r w : �
       ap (labelPut t at)
       (label-path (policyOf (labelAt t at) o r w) (labelAt t at)
       (set-out (setsAt t at) o (union r (single o)) (omega (arith, length-tab owners (λ (i : ℕ). getD t (at + i) 0))))
-      (set-out (setsAt t (at + owners)) o (union w (single o)) (omega (arith, length-tab owners (λ (i : ℕ). getD t (at + owners + i) 0)))))
+      (set-out (setsAt t (at + owners)) o (union w (single o))
+      (omega (arith, length-tab owners (λ (i : ℕ). getD t (at + owners + i) 0)))))
       ∙ put-from t t at l refl refl refl

@@ -1,5 +1,5 @@
--- Labels in effective form (the scope, "Principals and labels"; the paper, section 2.2): for each owner a set of readers and a
--- set of writers. Who reads them, by the scope's rule and by that of request (g).
+-- Labels in effective form (the scope, "Principals and labels"; the paper, section 2.2): for each owner a set of
+-- readers and a set of writers. Who reads them, by the scope's rule and by that of request (g).
 use mathlib.Core.Path.{_≡_}
 use mathlib.Core.Bool.{Bool, true, cond}
 use mathlib.Core.List.{List, [], _∷_}
@@ -139,8 +139,8 @@ readsUnder Alone n g a = readsAloneOf n g a
 unfoldable pub wholeOf : Label → Bool
 wholeOf a = both (eqb (length (a .readers)) owners) (eqb (length (a .writers)) owners)
 
--- what a label of n principals satisfies: between bottom and top, so that each of the n owners is in its own sets, and only the n
--- principals are; a place that has no principal is as in bottom
+-- what a label of n principals satisfies: between bottom and top, so that each of the n owners is in its own sets, and
+-- only the n principals are; a place that has no principal is as in bottom
 unfoldable pub effective : ℕ → Label → Bool
 effective n a = both (wholeOf a) (both (belowOf (bottomOf (everyone n)) a) (belowOf a (topOf n)))
 

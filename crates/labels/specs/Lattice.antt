@@ -3,9 +3,10 @@
 -- The proofs are `security-lattices`, `non-trivial` and `one-label` (proofs/LatticeLaws.antt), `empty-groups`,
 -- `closed-below`, `reading-downward`, `reads-below` and `two-rules` (proofs/ReadingLaws.antt) and `policies-effective`
 -- (proofs/PolicyLaws.antt).
--- The scope differs from the paper in this: an owner's writers in bottom and in C(A) are {o}, since an owner is always in its own
--- effective sets; an owner without a policy lets everyone write, where the paper has no writers; reading goes by readers and
--- writing by writers, where the paper's text of the two names the other part; and with one principal there is one label only.
+-- The scope differs from the paper in this: an owner's writers in bottom and in C(A) are {o}, since an owner is always
+-- in its own effective sets; an owner without a policy lets everyone write, where the paper has no writers; reading
+-- goes by readers and writing by writers, where the paper's text of the two names the other part; and with one
+-- principal there is one label only.
 use mathlib.Core.Logic.{_↔_}
 use mathlib.Core.Path.{_≡_}
 use mathlib.Core.Bool.{Bool, true, false}
@@ -15,7 +16,9 @@ use Rattle.logic.specs.Booleans.{both}
 use Rattle.sets.specs.Sets.{width, member, single, everyone}
 use Rattle.labels.specs.declared.Label.{Label}
 use Rattle.labels.specs.declared.Reading.{Reading}
-use Rattle.labels.specs.Labels.{owners, Policy, labelOf, policiesOn, belowOf, joinOf, confidentialityOf, integrityOf, bottomOf, topOf, readsOf, writesOf, readsAloneOf, readsUnder, effective}
+use Rattle.labels.specs.Labels.{owners, Policy, labelOf, policiesOn, belowOf, joinOf, confidentialityOf}
+use Rattle.labels.specs.Labels.{integrityOf, bottomOf, topOf, readsOf, writesOf, readsAloneOf, readsUnder}
+use Rattle.labels.specs.Labels.{effective}
 
 pub record SecurityLattice (n : ℕ) : Type 0 where
   -- the operations keep labels effective
@@ -27,7 +30,8 @@ pub record SecurityLattice (n : ℕ) : Type 0 where
   -- a bounded order with joins
   pub below-refl : (a : Label) → belowOf a a ≡ true
   pub below-trans : (a b c : Label) → belowOf a b ≡ true → belowOf b c ≡ true → belowOf a c ≡ true
-  pub below-antisym : (a b : Label) → effective n a ≡ true → effective n b ≡ true → belowOf a b ≡ true → belowOf b a ≡ true → a ≡ b
+  pub below-antisym : (a b : Label) → effective n a ≡ true → effective n b ≡ true → belowOf a b ≡ true
+      → belowOf b a ≡ true → a ≡ b
   pub bottom-least : (a : Label) → effective n a ≡ true → belowOf (bottomOf (everyone n)) a ≡ true
   pub top-greatest : (a : Label) → effective n a ≡ true → belowOf a (topOf n) ≡ true
   pub join-left : (a b : Label) → belowOf a (joinOf a b) ≡ true
@@ -41,14 +45,18 @@ pub record SecurityLattice (n : ℕ) : Type 0 where
   pub I-idem : (a : Label) → integrityOf (everyone n) (integrityOf (everyone n) a) ≡ integrityOf (everyone n) a
   pub below-parts : (a b : Label)
       → belowOf a b
-      ≡ both (belowOf (confidentialityOf a) (confidentialityOf b)) (belowOf (integrityOf (everyone n) a) (integrityOf (everyone n) b))
+      ≡ both (belowOf (confidentialityOf a) (confidentialityOf b))
+      (belowOf (integrityOf (everyone n) a) (integrityOf (everyone n) b))
   -- reading by the scope's rule depends on C and goes down (by both rules: ReadingDownward); writing depends on I and
   -- goes up
-  pub reads-down : (g : ℕ) (a b : Label) → belowOf (confidentialityOf a) (confidentialityOf b) ≡ true → readsOf n g b ≡ true → readsOf n g a ≡ true
+  pub reads-down : (g : ℕ) (a b : Label) → belowOf (confidentialityOf a) (confidentialityOf b) ≡ true
+      → readsOf n g b ≡ true → readsOf n g a ≡ true
   pub writes-up : (g : ℕ) (a b : Label)
-      → belowOf (integrityOf (everyone n) a) (integrityOf (everyone n) b) ≡ true → writesOf n g a ≡ true → writesOf n g b ≡ true
+      → belowOf (integrityOf (everyone n) a) (integrityOf (everyone n) b) ≡ true → writesOf n g a ≡ true
+      → writesOf n g b ≡ true
 
--- the labels of up to 16 principals are a security lattice (meets, which a finite order with bottom and joins has, are not stated)
+-- the labels of up to 16 principals are a security lattice (meets, which a finite order with bottom and joins
+-- has, are not stated)
 abbrev pub SecurityLattices : Type 0
 SecurityLattices = (n : ℕ) → n ≤ owners → SecurityLattice n
 
@@ -67,14 +75,16 @@ EmptyGroups = (n : ℕ) → 1 ≤ n → (a : Label) → (readsOf n 0 a ≡ false
 
 -- ---- both rules of reading (request (g))
 
--- Who reads a label reads every label below it: `reads` tells of each label whether he does. Below by readers alone, as C
--- has it and the rule of unpack compares; a label that is below another is so by C.
+-- Who reads a label reads every label below it: `reads` tells of each label whether he does. Below by readers alone, as
+-- C has it and the rule of unpack compares; a label that is below another is so by C.
 abbrev pub DownwardClosed : (Label → Bool) → Type 0
-DownwardClosed reads = (a b : Label) → belowOf (confidentialityOf a) (confidentialityOf b) ≡ true → reads b ≡ true → reads a ≡ true
+DownwardClosed reads =
+    (a b : Label) → belowOf (confidentialityOf a) (confidentialityOf b) ≡ true → reads b ≡ true → reads a ≡ true
 
 -- so of every label below it in the whole order
 abbrev pub ClosedBelow : Type 0
-ClosedBelow = (reads : Label → Bool) → DownwardClosed reads → (a b : Label) → belowOf a b ≡ true → reads b ≡ true → reads a ≡ true
+ClosedBelow =
+    (reads : Label → Bool) → DownwardClosed reads → (a b : Label) → belowOf a b ≡ true → reads b ≡ true → reads a ≡ true
 
 -- Every group reads so, by both rules. What the view promises rests on this and on nothing else about reading
 -- (simp/ReadingRules).
@@ -89,7 +99,8 @@ ReadsBelow = (rule : Reading) (n : ℕ) → n ≤ owners → (g : ℕ) (a b : La
 -- The rules compared.
 pub record TwoRules : Type 0 where
   -- a group reads alone exactly if one of its members, as a group of one, reads by the scope's rule
-  pub one-reader : (n g : ℕ) (a : Label) → (readsAloneOf n g a ≡ true) ↔ ((p : ℕ) × (p < width) × (member p g ≡ true) × (readsOf n (single p) a ≡ true))
+  pub one-reader : (n g : ℕ) (a : Label)
+      → (readsAloneOf n g a ≡ true) ↔ ((p : ℕ) × (p < width) × (member p g ≡ true) × (readsOf n (single p) a ≡ true))
   -- so it reads no more than by the scope's rule, and a group of one as much
   pub no-more : (n g : ℕ) (a : Label) → readsAloneOf n g a ≡ true → readsOf n g a ≡ true
   pub of-one : (n p : ℕ) → p < width → (a : Label) → readsAloneOf n (single p) a ≡ readsOf n (single p) a

@@ -5,7 +5,8 @@ ghost use lib.Dec.{leb};
 ghost use lib.ListN.{length, getD};
 ghost use lib.Seq.{paste};
 ghost use Rattle.sets.specs.Sets.{within, meets, every};
-ghost use Rattle.labels.specs.Labels.{owners, openOf, policyOf, belowOf, joinOf, confidentialityOf, integrityOf, bottomOf, readsOf, writesOf};
+ghost use Rattle.labels.specs.Labels.{owners, openOf, policyOf, belowOf, joinOf, confidentialityOf, integrityOf};
+ghost use Rattle.labels.specs.Labels.{bottomOf, readsOf, writesOf};
 ghost use Rattle.labels.specs.Internal.Tables.{labelSize, setsAt, labelAt, labelPut};
 ghost use Rattle.labels.specs.Internal.Sole.{commonOf, soleReadersOf};
 use sets::Set;
@@ -65,7 +66,8 @@ impl Label {
         }
     }
 
-    // Whether this label is at or below the other: its readers contain the other's, and its writers lie within the other's.
+    // Whether this label is at or below the other: its readers contain the other's, and its writers lie
+    // within the other's.
     pub fn at_or_below(self, other: Label) -> bool
         ensures { λ r. ⌜ r ≡ belowOf self other ⌝ }
     {
@@ -207,10 +209,11 @@ pub fn put_label(table: &mut [Set], at: usize, label: Label)
     put_sets(table, at + OWNERS, writers);
 }
 
-// A policy of an owner for the label whose words start at `at`, stored in place; the table is left as it is where the label's words
-// don't fit, or where it has no place for that owner.
+// A policy of an owner for the label whose words start at `at`, stored in place; the table is left as it is where the
+// label's words don't fit, or where it has no place for that owner.
 pub fn put_policy(table: &mut [Set], at: usize, owner: usize, readers: Set, writers: Set)
-    ensures { λ _. ⌜ now (table .exit) ≡ labelPut (now (table .entry)) at (policyOf (labelAt (now (table .entry)) at) owner readers writers) ⌝ }
+    ensures { λ _. ⌜ now (table .exit)
+        ≡ labelPut (now (table .entry)) at (policyOf (labelAt (now (table .entry)) at) owner readers writers) ⌝ }
 {
     if at > table.len() {
         return;
@@ -226,7 +229,8 @@ pub fn put_policy(table: &mut [Set], at: usize, owner: usize, readers: Set, writ
     table[at + OWNERS + owner] = sets::union(writers, own);
 }
 
-// Whether a group meets each of the first n sets from the word at `at` on: a label's readers, or its writers, without the label.
+// Whether a group meets each of the first n sets from the word at `at` on: a label's readers, or its writers,
+// without the label.
 pub fn meets_at(table: &[Set], at: usize, n: usize, group: Set) -> bool
     ensures { λ r. ⌜ r ≡ every n (λ o. meets group (getD (setsAt (now (table .entry)) at) o 0)) ⌝ }
 {
@@ -271,8 +275,8 @@ fn meets_each(held: [Set; OWNERS], n: usize, group: Set) -> bool
     true
 }
 
-// Whether each set of x is contained in that of y at the same place. All places are tested, since a loop that always goes to its end
-// takes fewer instructions than one that may stop.
+// Whether each set of x is contained in that of y at the same place. All places are tested, since a loop that always
+// goes to its end takes fewer instructions than one that may stop.
 fn contained_each(x: [Set; OWNERS], y: [Set; OWNERS]) -> bool
     ensures { λ r. ⌜ r ≡ every owners (λ o. within (getD x o 0) (getD y o 0)) ⌝ }
 {

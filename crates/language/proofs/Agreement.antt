@@ -4,12 +4,23 @@ use mathlib.Core.Bool.{Bool, true, false}
 use mathlib.Core.List.{[]}
 use Prim.Native.Nat.{ℕ, _+_, _%_, _^_}
 use native.Mathlib.Omega.{arith}
-use Rattle.language.specs.Syntax.{Head, headOf, Value, int, inl, inr, pkg, pair, Part, has, Expr, val, loc, var, plus, left, right, pack, unpack, pairing, proj, Cmd, skip, seq, assign, while, case}
+use Rattle.language.specs.Syntax.{Head, headOf, Value, int, inl, inr, pkg, pair, Part, has, Expr, val, loc, var}
+use Rattle.language.specs.Syntax.{plus, left, right, pack, unpack, pairing, proj, Cmd, skip, seq, assign, while}
+use Rattle.language.specs.Syntax.{case}
 use Rattle.language.specs.World.{World, Mem, wanted}
 use Rattle.language.specs.Substitution.{inst}
-use Rattle.language.specs.Figures.{EStep, ee-loc, ee-inl, ee-inr, ee-plus-struct1, ee-plus-struct2, ee-plus, ee-pack-struct, ee-pack-ok, ee-pack-fail, ee-unpack-struct, ee-unpack-fail1, ee-unpack-fail2, ee-unpack-fail3, ee-unpack-ok, ee-pair-struct1, ee-pair-struct2, ee-proj-struct, ee-proj, inl-value, inr-value, pair-value, EStar, e-none, e-more, Step, ec-assign, ec-seq-skip, ec-seq-struct, ec-while-false, ec-while-true, ec-casel, ec-caser, LongExpr, long-value, in-plus1, in-plus2, in-left, in-right, in-pack, in-unpack, in-pair1, in-pair2, in-proj, LongStep, in-assign, in-seq, in-while, in-case}
-use Rattle.language.specs.Evaluation.{Res, ok, long, stuck, bind, fit, add, addTo, packed, opened, unpacked, partOf, lookup, eval}
-use Rattle.language.specs.Transition.{Next, final, to, too-long, no-rule, at-seq, at-assign, branch, branchV, step}
+use Rattle.language.specs.Figures.{EStep, ee-loc, ee-inl, ee-inr, ee-plus-struct1, ee-plus-struct2, ee-plus}
+use Rattle.language.specs.Figures.{ee-pack-struct, ee-pack-ok, ee-pack-fail, ee-unpack-struct, ee-unpack-fail1}
+use Rattle.language.specs.Figures.{ee-unpack-fail2, ee-unpack-fail3, ee-unpack-ok, ee-pair-struct1}
+use Rattle.language.specs.Figures.{ee-pair-struct2, ee-proj-struct, ee-proj, inl-value, inr-value, pair-value}
+use Rattle.language.specs.Figures.{EStar, e-none, e-more, Step, ec-assign, ec-seq-skip, ec-seq-struct}
+use Rattle.language.specs.Figures.{ec-while-false, ec-while-true, ec-casel, ec-caser, LongExpr, long-value}
+use Rattle.language.specs.Figures.{in-plus1, in-plus2, in-left, in-right, in-pack, in-unpack, in-pair1, in-pair2}
+use Rattle.language.specs.Figures.{in-proj, LongStep, in-assign, in-seq, in-while, in-case}
+use Rattle.language.specs.Evaluation.{Res, ok, long, stuck, bind, fit, add, addTo, packed, opened, unpacked}
+use Rattle.language.specs.Evaluation.{partOf, lookup, eval}
+use Rattle.language.specs.Transition.{Next, final, to, too-long, no-rule, at-seq, at-assign, branch, branchV}
+use Rattle.language.specs.Transition.{step}
 use Rattle.language.specs.Theorems.{Agreement}
 use Rattle.language.proofs.Results.{by-fit, by-add, by-unpacked, by-part, by-branch}
 
@@ -21,7 +32,8 @@ module _ (W : World) (M : Mem) where
   star-trans (e-more s p) q = e-more s (star-trans p q)
 
   -- a context that steps go under
-  star-in : (f : Expr → Expr) → ((a b : Expr) → EStep W M a b → EStep W M (f a) (f b)) → {a b : Expr} → EStar W M a b → EStar W M (f a) (f b)
+  star-in : (f : Expr → Expr) → ((a b : Expr) → EStep W M a b → EStep W M (f a) (f b)) → {a b : Expr} → EStar W M a b
+      → EStar W M (f a) (f b)
   star-in f h e-none = e-none
   star-in f h (e-more s p) = e-more (h _ _ s) (star-in f h p)
 
@@ -46,14 +58,17 @@ module _ (W : World) (M : Mem) where
   gives-fit e v h = by-fit (Gives e) v (λ s. h) (λ s. long-value h s)
 
   gives-add : (e : Expr) (v w : Value) → EStar W M e (plus (val v) (val w)) → Gives e (add v w)
-  gives-add e = by-add (λ v w r. EStar W M e (plus (val v) (val w)) → Gives e r) (λ m n p. gives-fit e (int _) (star-end p ee-plus)) (λ v w q p. tt)
+  gives-add e = by-add (λ v w r. EStar W M e (plus (val v) (val w)) → Gives e r)
+      (λ m n p. gives-fit e (int _) (star-end p ee-plus)) (λ v w q p. tt)
 
-  gives-pack : (e : Expr) (l : ℕ) (v : Value) (b : Bool) → W .writes l ≡ b → EStar W M e (pack l (val v)) → Gives e (packed b l v)
+  gives-pack : (e : Expr) (l : ℕ) (v : Value) (b : Bool) → W .writes l ≡ b → EStar W M e (pack l (val v))
+      → Gives e (packed b l v)
   unfolding packed
   gives-pack e l v true h p = gives-fit e (inl (pkg (headOf l) v)) (star-end p (ee-pack-ok h))
   gives-pack e l v false h p = star-end p (ee-pack-fail h)
 
-  gives-open : (e : Expr) (t l : ℕ) (h : Head) (v : Value) (a b c : Bool) → W .reads l ≡ a → W .below (h .label) l ≡ b → has v (wanted (W .ty t)) ≡ c
+  gives-open : (e : Expr) (t l : ℕ) (h : Head) (v : Value) (a b c : Bool) → W .reads l ≡ a → W .below (h .label) l ≡ b
+      → has v (wanted (W .ty t)) ≡ c
       → EStar W M e (unpack t l (val (pkg h v))) → Gives e (opened a b c v)
   unfolding opened
   gives-open e t l h v false b c x y z p = star-end p (ee-unpack-fail1 x)
@@ -63,10 +78,12 @@ module _ (W : World) (M : Mem) where
 
   gives-unpack : (e : Expr) (t l : ℕ) (v : Value) → EStar W M e (unpack t l (val v)) → Gives e (unpacked W t l v)
   gives-unpack e t l = by-unpacked (λ v r. EStar W M e (unpack t l (val v)) → Gives e r) W t l
-      (λ h v p. gives-open e t l h v (W .reads l) (W .below (h .label) l) (has v (wanted (W .ty t))) refl refl refl p) (λ v q p. tt)
+      (λ h v p. gives-open e t l h v (W .reads l) (W .below (h .label) l) (has v (wanted (W .ty t))) refl refl refl p)
+      (λ v q p. tt)
 
   gives-part : (e : Expr) (p : Part) (v : Value) → EStar W M e (proj p (val v)) → Gives e (partOf p v)
-  gives-part e p = by-part (λ v r. EStar W M e (proj p (val v)) → Gives e r) p (λ v w s. star-end s ee-proj) (λ v q s. tt)
+  gives-part e p =
+      by-part (λ v r. EStar W M e (proj p (val v)) → Gives e r) p (λ v w s. star-end s ee-proj) (λ v q s. tt)
 
   pub eval-gives : (e : Expr) → Gives e (eval W [] M e)
   unfolding eval lookup
@@ -76,7 +93,8 @@ module _ (W : World) (M : Mem) where
   eval-gives (plus a b) =
       gives-bind a _ (eval W [] M a) _ (eval-gives a) (λ h. in-plus1 h) λ v p.
       gives-bind b _ (eval W [] M b) _ (eval-gives b) (λ h. in-plus2 h) λ w q.
-      gives-add _ v w (star-trans (star-in (λ x. plus x b) (λ _ _ s. ee-plus-struct1 s) p) (star-in (plus (val v)) (λ _ _ s. ee-plus-struct2 s) q))
+      gives-add _ v w (star-trans (star-in (λ x. plus x b) (λ _ _ s. ee-plus-struct1 s) p)
+      (star-in (plus (val v)) (λ _ _ s. ee-plus-struct2 s) q))
   eval-gives (left t a) = gives-bind a _ (eval W [] M a) _ (eval-gives a) (λ h. in-left h) λ v p.
       gives-fit _ (inl v) (star-end (star-in (left t) (λ _ _ s. ee-inl s) p) inl-value)
   eval-gives (right t a) = gives-bind a _ (eval W [] M a) _ (eval-gives a) (λ h. in-right h) λ v p.
@@ -105,7 +123,8 @@ refines-trans same q = q
 refines-trans was-long q = was-long
 
 -- a function that takes too long to too long
-refines-of : {A B : Type 0} {bad r s : A} {worse : B} (f : A → B) → f bad ≡ worse → Refines bad r s → Refines worse (f r) (f s)
+refines-of : {A B : Type 0} {bad r s : A} {worse : B} (f : A → B) → f bad ≡ worse → Refines bad r s
+    → Refines worse (f r) (f s)
 refines-of f q same = same
 refines-of f q was-long = rw q was-long
 
@@ -189,8 +208,10 @@ module _ (W : World) where
   gives-assign M x e long h = in-assign h
   gives-assign M x e stuck h = tt
 
-  gives-branch : (M : Mem) (c : Cmd) (e : Expr) (l r : Value → Next) → ((v : Value) → EStar W M e (val (inl v)) → GivesN M c (l v))
-      → ((v : Value) → EStar W M e (val (inr v)) → GivesN M c (r v)) → (LongExpr W M e → LongStep W M c) → (s : Res) → Gives W M e s
+  gives-branch : (M : Mem) (c : Cmd) (e : Expr) (l r : Value → Next)
+      → ((v : Value) → EStar W M e (val (inl v)) → GivesN M c (l v))
+      → ((v : Value) → EStar W M e (val (inr v)) → GivesN M c (r v)) → (LongExpr W M e → LongStep W M c)
+      → (s : Res) → Gives W M e s
       → GivesN M c (branch l r too-long no-rule s)
   gives-branch M c e l r p q o = by-branch (λ s n. Gives W M e s → GivesN M c n) p q o (λ s a e h. tt)
 
@@ -199,18 +220,24 @@ module _ (W : World) where
   step-gives M skip = refl
   step-gives M (seq a c) = gives-seq M a c (step W M a) (step-gives M a)
   step-gives M (assign x e) = gives-assign M x e (eval W [] M e) (eval-gives W M e)
-  step-gives M (while e c) = gives-branch M _ e _ _ (λ v p. ec-while-true p) (λ v p. ec-while-false p) (λ h. in-while h) (eval W [] M e) (eval-gives W M e)
-  step-gives M (case e a b) = gives-branch M _ e _ _ (λ v p. ec-casel p) (λ v p. ec-caser p) (λ h. in-case h) (eval W [] M e) (eval-gives W M e)
+  step-gives M (while e c) = gives-branch M _ e _ _ (λ v p. ec-while-true p) (λ v p. ec-while-false p) (λ h. in-while h)
+      (eval W [] M e) (eval-gives W M e)
+  step-gives M (case e a b) =
+      gives-branch M _ e _ _ (λ v p. ec-casel p) (λ v p. ec-caser p) (λ h. in-case h) (eval W [] M e) (eval-gives W M e)
 
   step-has : {M M′ : Mem} {c c′ : Cmd} → Step W M c M′ c′ → Refines too-long (step W M c) (to M′ c′)
   unfolding step at-assign at-seq branch branchV eval
   step-has (ec-assign {M} {x} p) = refines-of (at-assign M x) refl (star-refines W M p)
   step-has ec-seq-skip = same
   step-has (ec-seq-struct {M} {c₂ = c} s) = refines-of (at-seq M c) refl (step-has s)
-  step-has (ec-while-false {M} {e} {c} p) = refines-of (branch (λ v. to M (seq c (while e c))) (λ v. to M skip) too-long no-rule) refl (star-refines W M p)
-  step-has (ec-while-true {M} {e} {c} p) = refines-of (branch (λ v. to M (seq c (while e c))) (λ v. to M skip) too-long no-rule) refl (star-refines W M p)
-  step-has (ec-casel {M} {e} {c₁} {c₂} p) = refines-of (branch (λ v. to M (inst v c₁)) (λ v. to M (inst v c₂)) too-long no-rule) refl (star-refines W M p)
-  step-has (ec-caser {M} {e} {c₁} {c₂} p) = refines-of (branch (λ v. to M (inst v c₁)) (λ v. to M (inst v c₂)) too-long no-rule) refl (star-refines W M p)
+  step-has (ec-while-false {M} {e} {c} p) =
+      refines-of (branch (λ v. to M (seq c (while e c))) (λ v. to M skip) too-long no-rule) refl (star-refines W M p)
+  step-has (ec-while-true {M} {e} {c} p) =
+      refines-of (branch (λ v. to M (seq c (while e c))) (λ v. to M skip) too-long no-rule) refl (star-refines W M p)
+  step-has (ec-casel {M} {e} {c₁} {c₂} p) =
+      refines-of (branch (λ v. to M (inst v c₁)) (λ v. to M (inst v c₂)) too-long no-rule) refl (star-refines W M p)
+  step-has (ec-caser {M} {e} {c₁} {c₂} p) =
+      refines-of (branch (λ v. to M (inst v c₁)) (λ v. to M (inst v c₂)) too-long no-rule) refl (star-refines W M p)
 
   pub agreement : Agreement W
   agreement = record {

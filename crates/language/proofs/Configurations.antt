@@ -1,4 +1,5 @@
--- A property of configurations that transitions keep, runs keep: what holds of every value in memory and of the command.
+-- A property of configurations that transitions keep, runs keep: what holds of every value in memory
+-- and of the command.
 use mathlib.Core.Path.{_≡_, refl, subst}
 use mathlib.Core.Bool.{Bool, true, false, cond}
 use Prim.Native.Nat.{ℕ}
@@ -24,14 +25,16 @@ module _ (Q : ℕ → Value → Type 0) (I : Cmd → Type 0) (X : Type 0) where
   ConfigNext too-long = Unit {0}
   ConfigNext no-rule = X
 
-  pub config-seq : ((a b : Cmd) → I a → I b → I (seq a b)) → (M : Mem) (c : Cmd) → Config M c → (n : Next) → ConfigNext n → ConfigNext (at-seq M c n)
+  pub config-seq : ((a b : Cmd) → I a → I b → I (seq a b)) → (M : Mem) (c : Cmd) → Config M c → (n : Next)
+      → ConfigNext n → ConfigNext (at-seq M c n)
   unfolding at-seq
   config-seq s M c i final h = i
   config-seq s M c i (to M′ c′) h = record { memory = h .memory; command = s _ _ (h .command) (i .command) }
   config-seq s M c i too-long h = tt
   config-seq s M c i no-rule h = h
 
-  pub config-assign : I skip → (M : Mem) (x : ℕ) (r : Res) → ((y : ℕ) → Q y (M y)) → ResultHolds (Q x) X r → ConfigNext (at-assign M x r)
+  pub config-assign : I skip → (M : Mem) (x : ℕ) (r : Res) → ((y : ℕ) → Q y (M y)) → ResultHolds (Q x) X r
+      → ConfigNext (at-assign M x r)
   unfolding at-assign update
   config-assign s M x (ok v) m h = record { memory = λ y. on y (eqb x y) refl; command = s }
     where

@@ -3,10 +3,16 @@ use mathlib.Core.Path.{_≡_, refl, ap, sym, _∙_, subst}
 use mathlib.Core.Bool.{Bool, true, false, true≢false}
 use Prim.Native.Nat.{ℕ, suc}
 use native.Mathlib.Omega.{arith}
-use Rattle.language.specs.Syntax.{Value, inl, inr, Expr, val, plus, left, right, pack, unpack, pairing, proj, Cmd, skip, seq}
+use Rattle.language.specs.Syntax.{Value, inl, inr, Expr, val, plus, left, right, pack, unpack, pairing, proj, Cmd}
+use Rattle.language.specs.Syntax.{skip, seq}
 use Rattle.language.specs.World.{World, Mem}
 use Rattle.language.specs.Substitution.{update}
-use Rattle.language.specs.Figures.{EStep, ee-loc, ee-inl, ee-inr, ee-plus-struct1, ee-plus-struct2, ee-plus, ee-pack-struct, ee-pack-ok, ee-pack-fail, ee-unpack-struct, ee-unpack-fail1, ee-unpack-fail2, ee-unpack-fail3, ee-unpack-ok, ee-pair-struct1, ee-pair-struct2, ee-proj-struct, ee-proj, inl-value, inr-value, pair-value, EStar, e-none, e-more, Step, ec-assign, ec-seq-skip, ec-seq-struct, ec-while-false, ec-while-true, ec-casel, ec-caser, Steps, s-none, s-more}
+use Rattle.language.specs.Figures.{EStep, ee-loc, ee-inl, ee-inr, ee-plus-struct1, ee-plus-struct2, ee-plus}
+use Rattle.language.specs.Figures.{ee-pack-struct, ee-pack-ok, ee-pack-fail, ee-unpack-struct, ee-unpack-fail1}
+use Rattle.language.specs.Figures.{ee-unpack-fail2, ee-unpack-fail3, ee-unpack-ok, ee-pair-struct1}
+use Rattle.language.specs.Figures.{ee-pair-struct2, ee-proj-struct, ee-proj, inl-value, inr-value, pair-value}
+use Rattle.language.specs.Figures.{EStar, e-none, e-more, Step, ec-assign, ec-seq-skip, ec-seq-struct}
+use Rattle.language.specs.Figures.{ec-while-false, ec-while-true, ec-casel, ec-caser, Steps, s-none, s-more}
 use Rattle.language.specs.Theorems.{Determinacy}
 
 module _ (W : World) (M : Mem) where
@@ -91,7 +97,8 @@ module _ (W : World) (M : Mem) where
       from-val e-none = refl
       from-val (e-more s p) = absurd (val-rests s)
   star-once (e-more s p) e-none = absurd (val-rests s)
-  star-once {w = w} (e-more s p) (e-more s′ p′) = star-once p (subst (λ x. EStar W M x (val w)) (sym (step-once s s′)) p′)
+  star-once {w = w} (e-more s p) (e-more s′ p′) =
+      star-once p (subst (λ x. EStar W M x (val w)) (sym (step-once s s′)) p′)
 
   -- no expression has a left and a right value
   not-both : {e : Expr} {v w : Value} {A : Type 0} → EStar W M e (val (inl v)) → EStar W M e (val (inr w)) → A
@@ -119,12 +126,14 @@ module _ (W : World) where
   once (ec-caser p) (ec-caser q) = let h = star-once W _ p q in (refl, cc)
 
   -- the steps after the first, which is the only one
-  pub after-first : {j : ℕ} {M N M₁ : Mem} {c d c₁ : Cmd} → Step W M c N d → Steps W (suc j) M c M₁ c₁ → Steps W j N d M₁ c₁
+  pub after-first : {j : ℕ} {M N M₁ : Mem} {c d c₁ : Cmd} → Step W M c N d → Steps W (suc j) M c M₁ c₁
+      → Steps W j N d M₁ c₁
   after-first {j = j} {M₁ = M₁} {c₁ = c₁} s (s-more s′ p) =
       let h = once s′ s in
       subst (λ (z : Mem × Cmd). Steps W j (z .0) (z .1) M₁ c₁) (λ i. (h .0 i, h .1 i)) p
 
-  pub trace-once : {k : ℕ} {M M₁ M₂ : Mem} {c c₁ c₂ : Cmd} → Steps W k M c M₁ c₁ → Steps W k M c M₂ c₂ → (M₁ ≡ M₂) × (c₁ ≡ c₂)
+  pub trace-once : {k : ℕ} {M M₁ M₂ : Mem} {c c₁ c₂ : Cmd} → Steps W k M c M₁ c₁ → Steps W k M c M₂ c₂
+      → (M₁ ≡ M₂) × (c₁ ≡ c₂)
   trace-once s-none s-none = (refl, refl)
   trace-once (s-more s p) q = trace-once p (after-first s q)
 

@@ -7,13 +7,18 @@ use mathlib.Core.List.{List, [], _∷_}
 use Prim.Native.Nat.{ℕ, zero, suc}
 use native.Mathlib.Omega.{arith}
 use Rattle.logic.proofs.BooleanLaws.{both-left, both-right, both-true, not-so}
-use Rattle.language.specs.Syntax.{Ty, t-int, t-pkg, Expr, val, loc, var, plus, left, right, pack, unpack, pairing, proj, Cmd, skip, seq, assign, while, case, Script}
+use Rattle.language.specs.Syntax.{Ty, t-int, t-pkg, Expr, val, loc, var, plus, left, right, pack, unpack, pairing}
+use Rattle.language.specs.Syntax.{proj, Cmd, skip, seq, assign, while, case, Script}
 use Rattle.language.specs.Labels.{Labels, LeastLabelLaws, struck}
 use Rattle.language.specs.Declarations.{Declarations, unlabelled, startOf, nth}
-use Rattle.language.specs.Rules.{LabelledType, Typed, te-int, te-loc, te-var, te-plus, te-suml, te-sumr, te-pack, te-unpack, te-pair, te-proj, te-sub, Safe, tc-skip, tc-assign, tc-seq, tc-while, tc-case, tc-subs, Derivable}
+use Rattle.language.specs.Rules.{LabelledType, Typed, te-int, te-loc, te-var, te-plus, te-suml, te-sumr, te-pack}
+use Rattle.language.specs.Rules.{te-unpack, te-pair, te-proj, te-sub, Safe, tc-skip, tc-assign, tc-seq, tc-while}
+use Rattle.language.specs.Rules.{tc-case, tc-subs, Derivable}
 use Rattle.language.specs.Typing.{orElse, typeOfValue, typeOf, shape, least, flowE, flow, conditions, refusal}
 use Rattle.language.specs.Theorems.{Exactness, LeastLabels, labelsBound}
-use Rattle.language.proofs.Types.{isTy-true, hasTy-true, given-true, leftIs-true, rightIs-true, pairIs-true, partTy-true, onSum-true, onSum-path, HasType, h-int, h-loc, h-var, h-plus, h-left, h-right, h-pack, h-unpack, h-pair, h-proj, has-type, is-type}
+use Rattle.language.proofs.Types.{isTy-true, hasTy-true, given-true, leftIs-true, rightIs-true, pairIs-true}
+use Rattle.language.proofs.Types.{partTy-true, onSum-true, onSum-path, HasType, h-int, h-loc, h-var, h-plus}
+use Rattle.language.proofs.Types.{h-left, h-right, h-pack, h-unpack, h-pair, h-proj, has-type, is-type}
 use Rattle.logic.proofs.OptionLaws.{none-some, some-path}
 
 pub struck-laws : LeastLabelLaws struck
@@ -37,7 +42,8 @@ module _ {L : Type 0} (𝓛 : Labels L) (law : LeastLabelLaws 𝓛) (D : Declara
   types [] = []
   types (g ∷ Γ) = g .type ∷ types Γ
 
-  nth-types : (Γ : List (LabelledType L)) (d : ℕ) (g : LabelledType L) → nth Γ d ≡ some g → nth (types Γ) d ≡ some (g .type)
+  nth-types : (Γ : List (LabelledType L)) (d : ℕ) (g : LabelledType L) → nth Γ d ≡ some g
+      → nth (types Γ) d ≡ some (g .type)
   unfolding nth types
   nth-types [] d g h = none-some h
   nth-types (k ∷ Γ) zero g h = ap (λ (o : LabelledType L). some (o .type)) (some-path h)
@@ -49,11 +55,13 @@ module _ {L : Type 0} (𝓛 : Labels L) (law : LeastLabelLaws 𝓛) (D : Declara
     more-below : {m : L} {ls : List L} {τ : Ty} {ℓ : L} {Γ : List (LabelledType L)} → 𝓛 .leq m ℓ ≡ true → Below ls Γ
         → Below (m ∷ ls) (record { type = τ; label = ℓ } ∷ Γ)
 
-  nth-below : {ls : List L} {Γ : List (LabelledType L)} → Below ls Γ → (d : ℕ) (τ : Ty) (ℓ : L) → nth Γ d ≡ some (record { type = τ; label = ℓ })
+  nth-below : {ls : List L} {Γ : List (LabelledType L)} → Below ls Γ → (d : ℕ) (τ : Ty) (ℓ : L)
+      → nth Γ d ≡ some (record { type = τ; label = ℓ })
       → 𝓛 .leq (orElse (𝓛 .bot) (nth ls d)) ℓ ≡ true
   unfolding nth orElse
   nth-below none-below d τ ℓ h = law .bot-leq ℓ
-  nth-below (more-below {m = m} p b) zero τ ℓ h = subst (λ (g : LabelledType L). 𝓛 .leq m (g .label) ≡ true) (some-path h) p
+  nth-below (more-below {m = m} p b) zero τ ℓ h =
+      subst (λ (g : LabelledType L). 𝓛 .leq m (g .label) ≡ true) (some-path h) p
   nth-below (more-below p b) (suc d) τ ℓ h = nth-below b d τ ℓ h
 
   -- What the checker says of an expression that the rules give the type τ and the label ℓ.
@@ -65,7 +73,8 @@ module _ {L : Type 0} (𝓛 : Labels L) (law : LeastLabelLaws 𝓛) (D : Declara
   integ-below : {a e ℓ : L} → a ≡ e → 𝓛 .integ e ≡ 𝓛 .integ ℓ → 𝓛 .leq (𝓛 .integ a) ℓ ≡ true
   integ-below {ℓ = ℓ} p q = rw (p, q) (law .integ-leq ℓ)
 
-  complete : {Γ : List (LabelledType L)} {e : Expr} {τ : Ty} {ℓ : L} → Typed 𝓛 D Γ e τ ℓ → {ls : List L} → Below ls Γ → Passes Γ ls e τ ℓ
+  complete : {Γ : List (LabelledType L)} {e : Expr} {τ : Ty} {ℓ : L} → Typed 𝓛 D Γ e τ ℓ → {ls : List L} → Below ls Γ
+      → Passes Γ ls e τ ℓ
   unfolding typeOf typeOfValue flowE least
   complete te-int b = record { type-is = refl; flows = refl; label-is = law .bot-leq _ }
   complete (te-loc p q) b = record { type-is = ap some p; flows = refl; label-is = rw q (law .leq-refl _) }
@@ -80,10 +89,18 @@ module _ {L : Type 0} (𝓛 : Labels L) (law : LeastLabelLaws 𝓛) (D : Declara
       }
   complete (te-suml p s) b =
       let s′ = complete s b in
-      record { type-is = given-true _ (leftIs-true _ _ p (s′ .type-is)) ∙ ap some p; flows = s′ .flows; label-is = s′ .label-is }
+      record {
+        type-is = given-true _ (leftIs-true _ _ p (s′ .type-is)) ∙ ap some p;
+        flows = s′ .flows;
+        label-is = s′ .label-is;
+      }
   complete (te-sumr p s) b =
       let s′ = complete s b in
-      record { type-is = given-true _ (rightIs-true _ _ p (s′ .type-is)) ∙ ap some p; flows = s′ .flows; label-is = s′ .label-is }
+      record {
+        type-is = given-true _ (rightIs-true _ _ p (s′ .type-is)) ∙ ap some p;
+        flows = s′ .flows;
+        label-is = s′ .label-is;
+      }
   complete (te-pack p s q) b =
       let s′ = complete s b in
       record {
@@ -122,22 +139,28 @@ module _ {L : Type 0} (𝓛 : Labels L) (law : LeastLabelLaws 𝓛) (D : Declara
 
   -- the label that TE-UNPACK's operand is raised to
   conf-absorb : (m a : L) → 𝓛 .leq (𝓛 .conf m) (𝓛 .conf a) ≡ true → 𝓛 .conf (𝓛 .join m (𝓛 .conf a)) ≡ 𝓛 .conf a
-  conf-absorb m a h = law .conf-join _ _ ∙ rw (law .conf-idem a) (law .leq-antisym _ _ (law .join-leq _ _ _ h (law .leq-refl _)) (law .leq-join-right _ _))
+  conf-absorb m a h = law .conf-join _ _
+      ∙ rw (law .conf-idem a) (law .leq-antisym _ _ (law .join-leq _ _ _ h (law .leq-refl _)) (law .leq-join-right _ _))
 
-  sound : (Γ : List (LabelledType L)) {e : Expr} {τ : Ty} → HasType (D .shapes) (types Γ) e τ → flowE (conditions 𝓛 D) (labelsBound Γ) e ≡ true
+  sound : (Γ : List (LabelledType L)) {e : Expr} {τ : Ty} → HasType (D .shapes) (types Γ) e τ
+      → flowE (conditions 𝓛 D) (labelsBound Γ) e ≡ true
       → Typed 𝓛 D Γ e τ (least (conditions 𝓛 D) (labelsBound Γ) e)
   unfolding flowE least
   sound Γ h-int f = te-int
   sound Γ h-loc f = te-loc refl refl
   sound Γ (h-var h) f = te-var (nth-both Γ _ _ h)
-  sound Γ (h-plus a b) f = te-plus (te-sub (sound Γ a (both-left _ _ f)) (law .leq-join-left _ _)) (te-sub (sound Γ b (both-right _ _ f)) (law .leq-join-right _ _))
+  sound Γ (h-plus a b) f = te-plus (te-sub (sound Γ a (both-left _ _ f)) (law .leq-join-left _ _))
+      (te-sub (sound Γ b (both-right _ _ f)) (law .leq-join-right _ _))
   sound Γ (h-left p e) f = te-suml p (sound Γ e f)
   sound Γ (h-right p e) f = te-sumr p (sound Γ e f)
-  sound Γ (h-pack e) f = te-pack refl (te-sub (sound Γ e (both-left _ _ f)) (both-right _ _ f)) (sym (law .integ-idem _))
+  sound Γ (h-pack e) f =
+      te-pack refl (te-sub (sound Γ e (both-left _ _ f)) (both-right _ _ f)) (sym (law .integ-idem _))
   sound Γ (h-unpack p e) f =
-      te-unpack p refl (te-sub (sound Γ e (both-left _ _ f)) (law .leq-join-left _ _)) (conf-absorb _ _ (both-right _ _ f))
+      te-unpack p refl (te-sub (sound Γ e (both-left _ _ f)) (law .leq-join-left _ _))
+      (conf-absorb _ _ (both-right _ _ f))
   sound Γ (h-pair p a b) f =
-      te-pair p (te-sub (sound Γ a (both-left _ _ f)) (law .leq-join-left _ _)) (te-sub (sound Γ b (both-right _ _ f)) (law .leq-join-right _ _))
+      te-pair p (te-sub (sound Γ a (both-left _ _ f)) (law .leq-join-left _ _))
+      (te-sub (sound Γ b (both-right _ _ f)) (law .leq-join-right _ _))
   sound Γ (h-proj e) f = te-proj (sound Γ e f)
 
   below-same : (Γ : List (LabelledType L)) → Below (labelsBound Γ) Γ
@@ -148,7 +171,8 @@ module _ {L : Type 0} (𝓛 : Labels L) (law : LeastLabelLaws 𝓛) (D : Declara
   -- Figure 4 types an expression at a label exactly if it does at the least one, and that is at or below the label.
   pub least-label : (Γ : List (LabelledType L)) (e : Expr) (τ : Ty) (ℓ : L)
       → Typed 𝓛 D Γ e τ ℓ
-      ↔ (Typed 𝓛 D Γ e τ (least (conditions 𝓛 D) (labelsBound Γ) e) × (𝓛 .leq (least (conditions 𝓛 D) (labelsBound Γ) e) ℓ ≡ true))
+      ↔ (Typed 𝓛 D Γ e τ (least (conditions 𝓛 D) (labelsBound Γ) e)
+      × (𝓛 .leq (least (conditions 𝓛 D) (labelsBound Γ) e) ℓ ≡ true))
   least-label Γ e τ ℓ = (
     (λ t. let p = complete t (below-same Γ) in (sound Γ (has-type _ _ e (p .type-is)) (p .flows), p .label-is)),
     (λ h. te-sub (h .0) (h .1)),
@@ -160,13 +184,15 @@ module _ {L : Type 0} (𝓛 : Labels L) (law : LeastLabelLaws 𝓛) (D : Declara
   leq-as q h = rw q h
 
   join-mono : {a b c d : L} → 𝓛 .leq a c ≡ true → 𝓛 .leq b d ≡ true → 𝓛 .leq (𝓛 .join a b) (𝓛 .join c d) ≡ true
-  join-mono p q = law .join-leq _ _ _ (law .leq-trans _ _ _ p (law .leq-join-left _ _)) (law .leq-trans _ _ _ q (law .leq-join-right _ _))
+  join-mono p q = law .join-leq _ _ _ (law .leq-trans _ _ _ p (law .leq-join-left _ _))
+      (law .leq-trans _ _ _ q (law .leq-join-right _ _))
 
   pub record Accepts (Γ : List (LabelledType L)) (ls : List L) (pc : L) (c : Cmd) : Type 0 where
     pub shaped : shape (D .shapes) (types Γ) c ≡ true
     pub flows : flow (conditions 𝓛 D) pc ls c ≡ true
 
-  complete-cmd : {pc : L} {Γ : List (LabelledType L)} {c : Cmd} → Safe 𝓛 D pc Γ c → {ls : List L} → Below ls Γ → {pc₀ : L} → 𝓛 .leq pc₀ pc ≡ true
+  complete-cmd : {pc : L} {Γ : List (LabelledType L)} {c : Cmd} → Safe 𝓛 D pc Γ c → {ls : List L} → Below ls Γ
+      → {pc₀ : L} → 𝓛 .leq pc₀ pc ≡ true
       → Accepts Γ ls pc₀ c
   unfolding shape flow types
   complete-cmd tc-skip b h = record { shaped = refl; flows = refl }
@@ -174,7 +200,8 @@ module _ {L : Type 0} (𝓛 : Labels L) (law : LeastLabelLaws 𝓛) (D : Declara
       let s′ = complete s b in
       record {
         shaped = isTy-true _ (s′ .type-is ∙ ap some (sym p));
-        flows = both-true (s′ .flows) (both-true (leq-as q (law .leq-trans _ _ _ (s′ .label-is) (law .leq-trans _ _ _ (law .leq-join-left _ _) l)))
+        flows = both-true (s′ .flows) (both-true (leq-as q
+            (law .leq-trans _ _ _ (s′ .label-is) (law .leq-trans _ _ _ (law .leq-join-left _ _) l)))
             (leq-as q (law .leq-trans _ _ _ h (law .leq-trans _ _ _ (law .leq-join-right _ _) l))));
       }
   complete-cmd (tc-seq s t) b h =
@@ -195,25 +222,31 @@ module _ {L : Type 0} (𝓛 : Labels L) (law : LeastLabelLaws 𝓛) (D : Declara
       }
   complete-cmd (tc-subs s l) b h = complete-cmd s b (law .leq-trans _ _ _ h l)
 
-  sound-cmd : (c : Cmd) (Γ : List (LabelledType L)) (pc : L) → shape (D .shapes) (types Γ) c ≡ true → flow (conditions 𝓛 D) pc (labelsBound Γ) c ≡ true
+  sound-cmd : (c : Cmd) (Γ : List (LabelledType L)) (pc : L) → shape (D .shapes) (types Γ) c ≡ true
+      → flow (conditions 𝓛 D) pc (labelsBound Γ) c ≡ true
       → Safe 𝓛 D pc Γ c
   unfolding shape flow types labelsBound
   sound-cmd skip Γ pc h f = tc-skip
-  sound-cmd (seq c₁ c₂) Γ pc h f = tc-seq (sound-cmd c₁ Γ pc (both-left _ _ h) (both-left _ _ f)) (sound-cmd c₂ Γ pc (both-right _ _ h) (both-right _ _ f))
+  sound-cmd (seq c₁ c₂) Γ pc h f = tc-seq (sound-cmd c₁ Γ pc (both-left _ _ h) (both-left _ _ f))
+      (sound-cmd c₂ Γ pc (both-right _ _ h) (both-right _ _ f))
   sound-cmd (assign x e) Γ pc h f =
       let k = both-right _ _ f in
-      tc-assign (sound Γ (is-type _ _ h) (both-left _ _ f)) refl refl (law .join-leq _ _ _ (both-left _ _ k) (both-right _ _ k))
-  sound-cmd (while e c) Γ pc h f = tc-while (sound Γ (is-type _ _ (both-left _ _ h)) (both-left _ _ f)) (sound-cmd c Γ _ (both-right _ _ h) (both-right _ _ f))
+      tc-assign (sound Γ (is-type _ _ h) (both-left _ _ f)) refl refl
+      (law .join-leq _ _ _ (both-left _ _ k) (both-right _ _ k))
+  sound-cmd (while e c) Γ pc h f = tc-while (sound Γ (is-type _ _ (both-left _ _ h)) (both-left _ _ f))
+      (sound-cmd c Γ _ (both-right _ _ h) (both-right _ _ f))
   sound-cmd (case e c₁ c₂) Γ pc h f =
       let o = onSum-path _ _ h in
       let k = both-right _ _ f in
       let m = least (conditions 𝓛 D) (labelsBound Γ) e in
-      tc-case (sound Γ (has-type _ _ e (o .2)) (both-left _ _ f)) (sound-cmd c₁ (record { type = o .0; label = m } ∷ Γ) _ (both-left _ _ (o .3)) (both-left _ _ k))
+      tc-case (sound Γ (has-type _ _ e (o .2)) (both-left _ _ f))
+      (sound-cmd c₁ (record { type = o .0; label = m } ∷ Γ) _ (both-left _ _ (o .3)) (both-left _ _ k))
       (sound-cmd c₂ (record { type = o .1; label = m } ∷ Γ) _ (both-right _ _ (o .3)) (both-right _ _ k))
 
   -- Figure 5 has a derivation exactly if the command passes both tests.
   pub safe-iff : (pc : L) (Γ : List (LabelledType L)) (c : Cmd) → Safe 𝓛 D pc Γ c ↔ Accepts Γ (labelsBound Γ) pc c
-  safe-iff pc Γ c = ((λ s. complete-cmd s (below-same Γ) (law .leq-refl pc)), (λ a. sound-cmd c Γ pc (a .shaped) (a .flows)))
+  safe-iff pc Γ c =
+      ((λ s. complete-cmd s (below-same Γ) (law .leq-refl pc)), (λ a. sound-cmd c Γ pc (a .shaped) (a .flows)))
 
 -- Over the one label every condition holds.
 
@@ -236,13 +269,16 @@ struck-flow D skip pc ls = refl
 struck-flow D (seq c₁ c₂) pc ls = both-true (struck-flow D c₁ pc ls) (struck-flow D c₂ pc ls)
 struck-flow D (assign x e) pc ls = both-true (struck-flowE D e ls) (both-true refl refl)
 struck-flow D (while e c) pc ls = both-true (struck-flowE D e ls) (struck-flow D c _ ls)
-struck-flow D (case e c₁ c₂) pc ls = both-true (struck-flowE D e ls) (both-true (struck-flow D c₁ _ _) (struck-flow D c₂ _ _))
+struck-flow D (case e c₁ c₂) pc ls =
+    both-true (struck-flowE D e ls) (both-true (struck-flow D c₁ _ _) (struck-flow D c₂ _ _))
 
 -- A script has a derivation with every label condition struck out exactly if its command passes `shape`.
-pub shape-iff : {L : Type 0} (D : Declarations L) (p : Script) → (shape (D .shapes) [] (p .command) ≡ true) ↔ Derivable struck (unlabelled D) p
+pub shape-iff : {L : Type 0} (D : Declarations L) (p : Script)
+    → (shape (D .shapes) [] (p .command) ≡ true) ↔ Derivable struck (unlabelled D) p
 unfolding types labelsBound
 shape-iff D p = (
-  (λ h. safe-iff struck struck-laws (unlabelled D) _ [] (p .command) .1 (record { shaped = h; flows = struck-flow (unlabelled D) (p .command) _ [] })),
+  (λ h. safe-iff struck struck-laws (unlabelled D) _ [] (p .command) .1
+      (record { shaped = h; flows = struck-flow (unlabelled D) (p .command) _ [] })),
   (λ d. (safe-iff struck struck-laws (unlabelled D) _ [] (p .command) .0 d) .shaped),
 )
 
@@ -251,7 +287,8 @@ shape-iff D p = (
 abbrev answer : Bool → Bool → ℕ
 answer s f = cond s (cond f 0 6) 5
 
-numbers : (s f : Bool) → (answer s f ≡ 0 → (s ≡ true) × (f ≡ true)) × (answer s f ≡ 5 → s ≡ false) × (answer s f ≡ 6 → (s ≡ true) × (f ≡ false))
+numbers : (s f : Bool) → (answer s f ≡ 0 → (s ≡ true) × (f ≡ true)) × (answer s f ≡ 5 → s ≡ false)
+    × (answer s f ≡ 6 → (s ≡ true) × (f ≡ false))
 numbers true true = ((λ h. (refl, refl)), (λ h. absurd (omega arith)), λ h. absurd (omega arith))
 numbers true false = ((λ h. absurd (omega arith)), (λ h. absurd (omega arith)), λ h. (refl, refl))
 numbers false f = ((λ h. absurd (omega arith)), (λ h. refl), λ h. absurd (omega arith))
@@ -261,7 +298,8 @@ number p q = rw (p, q)
 
 module _ {L : Type 0} (𝓛 : Labels L) (law : LeastLabelLaws 𝓛) (D : Declarations L) where
   -- A command has a derivation under the surrounding label pc exactly if it passes `shape` and `flow` there.
-  pub flow-iff : (pc : L) (c : Cmd) → ((shape (D .shapes) [] c ≡ true) × (flow (conditions 𝓛 D) pc [] c ≡ true)) ↔ Safe 𝓛 D pc [] c
+  pub flow-iff : (pc : L) (c : Cmd)
+      → ((shape (D .shapes) [] c ≡ true) × (flow (conditions 𝓛 D) pc [] c ≡ true)) ↔ Safe 𝓛 D pc [] c
   unfolding types labelsBound
   flow-iff pc c = (
     (λ h. safe-iff 𝓛 law D pc [] c .1 (record { shaped = h .0; flows = h .1 })),
@@ -293,7 +331,8 @@ module _ {L : Type 0} (𝓛 : Labels L) (law : LeastLabelLaws 𝓛) (D : Declara
     refused-6 = λ p. (
       (λ h. let n = numbers (test-5 p) (test-6 p) .2 h in
           (shape-iff D p .0 (n .0), λ d. true≢false (sym (script-iff p .1 d .1) ∙ n .1))),
-      (λ n. number (shape-iff D p .1 (n .0)) (not-so (test-6 p) (λ f. n .1 (script-iff p .0 (shape-iff D p .1 (n .0), f))))),
+      (λ n. number (shape-iff D p .1 (n .0))
+          (not-so (test-6 p) (λ f. n .1 (script-iff p .0 (shape-iff D p .1 (n .0), f))))),
     );
   }
 

@@ -1,9 +1,10 @@
--- Label conditions that a function carries to other label conditions: the least labels go along, and the tests stay the same.
--- Assumes nothing.
+-- Label conditions that a function carries to other label conditions: the least labels go along, and the tests stay the
+-- same. Assumes nothing.
 use mathlib.Core.Path.{_≡_, refl, ap, ap₂, _∙_}
 use mathlib.Core.List.{List, [], _∷_, map}
 use Prim.Native.Nat.{ℕ, zero, suc}
-use Rattle.language.specs.Syntax.{Expr, val, loc, var, plus, left, right, pack, unpack, pairing, proj, Cmd, skip, seq, assign, while, case}
+use Rattle.language.specs.Syntax.{Expr, val, loc, var, plus, left, right, pack, unpack, pairing, proj, Cmd, skip}
+use Rattle.language.specs.Syntax.{seq, assign, while, case}
 use Rattle.language.specs.Declarations.{nth}
 use Rattle.language.specs.Typing.{orElse, Conditions, least, flowE, flow}
 
@@ -61,4 +62,10 @@ module _ {A B : Type 0} (K : Conditions A) (R : Conditions B) (f : A → B) (ima
       rw (flowE-image Γ e, flow-image (K .join pc (least K Γ e)) Γ c, image .join-is pc (least K Γ e), least-image Γ e)
   flow-image pc Γ (case e a b) =
       let l = least K Γ e in
-      rw (flowE-image Γ e, flow-image (K .join pc l) (l ∷ Γ) a, flow-image (K .join pc l) (l ∷ Γ) b, image .join-is pc l, least-image Γ e)
+      rw (
+        flowE-image Γ e,
+        flow-image (K .join pc l) (l ∷ Γ) a,
+        flow-image (K .join pc l) (l ∷ Γ) b,
+        image .join-is pc l,
+        least-image Γ e,
+      )

@@ -1,5 +1,5 @@
--- The equations of an interpreter with an environment. `go` is the run of a command whose variables ρ binds; each equation
--- gives it for one command by the runs of its parts.
+-- The equations of an interpreter with an environment. `go` is the run of a command whose variables ρ binds; each
+-- equation gives it for one command by the runs of its parts.
 use mathlib.Core.Path.{_≡_, refl, ap, sym, _∙_, fun-ext}
 use mathlib.Core.List.{_∷_}
 use Prim.Native.Nat.{ℕ, zero, suc}
@@ -7,7 +7,8 @@ use Rattle.language.specs.Syntax.{Value, Expr, Cmd, skip, seq, assign, w
 use Rattle.language.specs.World.{World, Mem}
 use Rattle.language.specs.Substitution.{Env, close, update}
 use Rattle.language.specs.Evaluation.{Res, ok, long, stuck, eval}
-use Rattle.language.specs.Transition.{Next, final, to, too-long, no-rule, at-seq, at-assign, branch, branchV, step, Out, done, spent, over, wrong, after, run, iterate}
+use Rattle.language.specs.Transition.{Next, final, to, too-long, no-rule, at-seq, at-assign, branch, branchV}
+use Rattle.language.specs.Transition.{step, Out, done, spent, over, wrong, after, run, iterate}
 use Rattle.language.proofs.Substitution.{inst-close, eval-close}
 use Rattle.language.proofs.Results.{by-branch}
 
@@ -46,7 +47,8 @@ run-skip zero W k M = refl
 run-skip (suc b) W k M = refl
 
 module _ (W : World) (k : Mem → ℕ → Out) (c : Cmd) where
-  after-seq : (r r′ : Mem → Cmd → Out) (o w : Out) (b : ℕ) (M : Mem) → r M c ≡ next W k c M b → ((M′ : Mem) (a : Cmd) → r M′ (seq a c) ≡ r′ M′ a)
+  after-seq : (r r′ : Mem → Cmd → Out) (o w : Out) (b : ℕ) (M : Mem) → r M c ≡ next W k c M b
+      → ((M′ : Mem) (a : Cmd) → r M′ (seq a c) ≡ r′ M′ a)
       → (n : Next) → after r k o w M b (at-seq M c n) ≡ after r′ (next W k c) o w M b n
   unfolding after at-seq
   after-seq r r′ o w b M h ih final = h
@@ -60,9 +62,11 @@ module _ (W : World) (k : Mem → ℕ → Out) (c : Cmd) where
   run-seq (suc b) M a = after-seq _ _ (over (suc b)) wrong (suc b) M refl (λ M′ a′. run-seq b M′ a′) (step W M a)
 
 -- the branch taken, after a function on its result
-branch-after : (f : Next → Out) (l r : Value → Next) (t n : Next) (s : Res) → f (branch l r t n s) ≡ branch (λ v. f (l v)) (λ v. f (r v)) (f t) (f n) s
+branch-after : (f : Next → Out) (l r : Value → Next) (t n : Next) (s : Res)
+    → f (branch l r t n s) ≡ branch (λ v. f (l v)) (λ v. f (r v)) (f t) (f n) s
 unfolding branch branchV
-branch-after f l r t n = by-branch (λ s x. f x ≡ branch (λ v. f (l v)) (λ v. f (r v)) (f t) (f n) s) (λ v. refl) (λ v. refl) refl
+branch-after f l r t n =
+    by-branch (λ s x. f x ≡ branch (λ v. f (l v)) (λ v. f (r v)) (f t) (f n) s) (λ v. refl) (λ v. refl) refl
     (λ s o e. sym (e Out (λ v. f (l v)) (λ v. f (r v)) (f t) (f n)))
 
 branch-cong : {l l′ r r′ : Value → Out} (t n : Out) (s : Res) → ((v : Value) → l v ≡ l′ v) → ((v : Value) → r v ≡ r′ v)
@@ -74,13 +78,15 @@ branch-same : (o : Out) (s : Res) → branch (λ v. o) (λ v. o) o o s ≡ o
 branch-same o s = sym (branch-after (λ n. o) (λ v. final) (λ v. final) final final s)
 
 assign-after : (b : ℕ) (W : World) (k : Mem → ℕ → Out) (M : Mem) (x : ℕ) (r : Res)
-    → after (λ M′ c′. run b W k M′ c′) k (over (suc b)) wrong M (suc b) (at-assign M x r) ≡ assigned (λ v. k (update M x v) b) b r
+    → after (λ M′ c′. run b W k M′ c′) k (over (suc b)) wrong M (suc b) (at-assign M x r)
+    ≡ assigned (λ v. k (update M x v) b) b r
 unfolding after at-assign assigned
 assign-after b W k M x (ok v) = run-skip b W k (update M x v)
 assign-after b W k M x long = refl
 assign-after b W k M x stuck = refl
 
-assign-spent : (k : Mem → ℕ → Out) (M : Mem) (x : ℕ) (r : Res) → after (λ M′ c′. spent) k spent spent M zero (at-assign M x r) ≡ spent
+assign-spent : (k : Mem → ℕ → Out) (M : Mem) (x : ℕ) (r : Res)
+    → after (λ M′ c′. spent) k spent spent M zero (at-assign M x r) ≡ spent
 unfolding after at-assign
 assign-spent k M x (ok v) = refl
 assign-spent k M x long = refl
@@ -94,25 +100,30 @@ module _ (W : World) (k : Mem → ℕ → Out) (M : Mem) where
   run-assign ρ (suc b) x e = rw (eval-close W M ρ e) (assign-after b W k M x (eval W ρ M e))
 
   pub run-while : (ρ : Env) (b : ℕ) (e : Expr) (c : Cmd) → run b W k M (close zero ρ (while e c))
-      ≡ spend b (λ b′. branch (λ v. run b′ W (next W k (close zero ρ (while e c))) M (close zero ρ c)) (λ v. k M b′) (over (suc b′)) wrong (eval W ρ M e))
+      ≡ spend b (λ b′. branch (λ v. run b′ W (next W k (close zero ρ (while e c))) M (close zero ρ c)) (λ v. k M b′)
+      (over (suc b′)) wrong (eval W ρ M e))
   unfolding run step close after spend
   run-while ρ zero e c = branch-after (after (λ M′ c′. spent) k spent spent M zero) _ _ _ _ _ ∙ branch-same spent _
   run-while ρ (suc b) e c = rw (eval-close W M ρ e)
       (branch-after (after (λ M′ c′. run b W k M′ c′) k (over (suc b)) wrong M (suc b)) _ _ _ _ (eval W ρ M e)
-      ∙ branch-cong _ _ (eval W ρ M e) (λ v. run-seq W k (close zero ρ (while e c)) b M (close zero ρ c)) (λ v. run-skip b W k M))
+      ∙ branch-cong _ _ (eval W ρ M e) (λ v. run-seq W k (close zero ρ (while e c)) b M (close zero ρ c))
+      (λ v. run-skip b W k M))
 
   pub run-case : (ρ : Env) (b : ℕ) (e : Expr) (a c : Cmd) → run b W k M (close zero ρ (case e a c))
-      ≡ spend b (λ b′. branch (λ v. run b′ W k M (close zero (v ∷ ρ) a)) (λ v. run b′ W k M (close zero (v ∷ ρ) c)) (over (suc b′)) wrong (eval W ρ M e))
+      ≡ spend b (λ b′. branch (λ v. run b′ W k M (close zero (v ∷ ρ) a)) (λ v. run b′ W k M (close zero (v ∷ ρ) c))
+      (over (suc b′)) wrong (eval W ρ M e))
   unfolding run step close after spend
   run-case ρ zero e a c = branch-after (after (λ M′ c′. spent) k spent spent M zero) _ _ _ _ _ ∙ branch-same spent _
   run-case ρ (suc b) e a c = rw (eval-close W M ρ e)
       (branch-after (after (λ M′ c′. run b W k M′ c′) k (over (suc b)) wrong M (suc b)) _ _ _ _ (eval W ρ M e)
-      ∙ branch-cong _ _ (eval W ρ M e) (λ v. ap (run b W k M) (inst-close v ρ a)) (λ v. ap (run b W k M) (inst-close v ρ c)))
+      ∙ branch-cong _ _ (eval W ρ M e) (λ v. ap (run b W k M) (inst-close v ρ a))
+      (λ v. ap (run b W k M) (inst-close v ρ c)))
 
 -- A continuation can wait until the run is done.
 
 module _ (W : World) (k : Mem → ℕ → Out) where
-  after-then : (r r′ : Mem → Cmd → Out) (o w : Out) (b : ℕ) (M : Mem) → ((M′ : Mem) (c : Cmd) → r M′ c ≡ andThen (r′ M′ c) k) → o ≡ andThen o k
+  after-then : (r r′ : Mem → Cmd → Out) (o w : Out) (b : ℕ) (M : Mem)
+      → ((M′ : Mem) (c : Cmd) → r M′ c ≡ andThen (r′ M′ c) k) → o ≡ andThen o k
       → w ≡ andThen w k → (n : Next) → after r k o w M b n ≡ andThen (after r′ done o w M b n) k
   unfolding after andThen
   after-then r r′ o w b M ih p q final = refl
@@ -123,7 +134,8 @@ module _ (W : World) (k : Mem → ℕ → Out) where
   run-then : (b : ℕ) (M : Mem) (c : Cmd) → run b W k M c ≡ andThen (run b W done M c) k
   unfolding run andThen
   run-then zero M c = after-then _ _ spent spent zero M (λ M′ c′. refl) refl refl (step W M c)
-  run-then (suc b) M c = after-then _ _ (over (suc b)) wrong (suc b) M (λ M′ c′. run-then b M′ c′) refl refl (step W M c)
+  run-then (suc b) M c =
+      after-then _ _ (over (suc b)) wrong (suc b) M (λ M′ c′. run-then b M′ c′) refl refl (step W M c)
 
 -- The equations.
 
@@ -143,16 +155,19 @@ module _ (W : World) (ρ : Env) (M : Mem) where
   then-next a c b = run-then W (next W done (close zero ρ c)) b M (close zero ρ a)
       ∙ ap (andThen (run b W done M (close zero ρ a))) (fun-ext λ M′. fun-ext λ b′. next-spend c M′ b′)
 
-  pub go-seq : (a c : Cmd) (b : ℕ) → go W ρ (seq a c) M b ≡ andThen (go W ρ a M b) (λ M′ b′. spend b′ (λ b″. go W ρ c M′ b″))
+  pub go-seq : (a c : Cmd) (b : ℕ)
+      → go W ρ (seq a c) M b ≡ andThen (go W ρ a M b) (λ M′ b′. spend b′ (λ b″. go W ρ c M′ b″))
   unfolding go iterate close
   go-seq a c b = run-seq W done (close zero ρ c) b M (close zero ρ a) ∙ then-next a c b
 
-  pub go-assign : (x : ℕ) (e : Expr) (b : ℕ) → go W ρ (assign x e) M b ≡ spend b (λ b′. assigned (λ v. done (update M x v) b′) b′ (eval W ρ M e))
+  pub go-assign : (x : ℕ) (e : Expr) (b : ℕ)
+      → go W ρ (assign x e) M b ≡ spend b (λ b′. assigned (λ v. done (update M x v) b′) b′ (eval W ρ M e))
   unfolding go iterate
   go-assign x e b = run-assign W done M ρ b x e
 
   pub go-case : (e : Expr) (a c : Cmd) (b : ℕ) → go W ρ (case e a c) M b
-      ≡ spend b (λ b′. branch (λ v. go W (v ∷ ρ) a M b′) (λ v. go W (v ∷ ρ) c M b′) (over (suc b′)) wrong (eval W ρ M e))
+      ≡ spend b
+      (λ b′. branch (λ v. go W (v ∷ ρ) a M b′) (λ v. go W (v ∷ ρ) c M b′) (over (suc b′)) wrong (eval W ρ M e))
   unfolding go iterate
   go-case e a c b = run-case W done M ρ b e a c
 

@@ -5,7 +5,9 @@ use mathlib.Core.List.{[], _∷_}
 use Prim.Native.Nat.{ℕ, zero, suc, _+_, _%_, _^_, _≤_, _<_}
 use native.Mathlib.Nat.{mod-lt}
 use native.Mathlib.Omega.{arith}
-use Rattle.language.specs.Syntax.{Head, headOf, Value, int, err, inl, inr, pkg, pair, Part, first, second, pick, size, has, Expr, val, loc, var, plus, left, right, pack, unpack, pairing, proj, Cmd, skip, seq, assign, while, case}
+use Rattle.language.specs.Syntax.{Head, headOf, Value, int, err, inl, inr, pkg, pair, Part, first, second, pick}
+use Rattle.language.specs.Syntax.{size, has, Expr, val, loc, var, plus, left, right, pack, unpack, pairing, proj}
+use Rattle.language.specs.Syntax.{Cmd, skip, seq, assign, while, case}
 use Rattle.language.specs.World.{World, Mem, cell-words, wanted}
 use Rattle.language.specs.Substitution.{Env, lift, close-var, closeE, close, inst}
 use Rattle.language.specs.Evaluation.{Res, bind, fit, add, packed, opened, unpacked, partOf, lookup, eval}
@@ -19,7 +21,8 @@ pub record Kept (P : Value → Type 0) (named : ℕ → Type 0) : Type 0 where
   pub error : (e : ℕ) → 1 ≤ e → e ≤ 3 → P (inr (err e))
   pub to-left : (v : Value) → P v → size (inl v) ≤ cell-words → P (inl v)
   pub to-right : (v : Value) → P v → size (inr v) ≤ cell-words → P (inr v)
-  pub to-package : (l : ℕ) (v : Value) → named l → P v → size (inl (pkg (headOf l) v)) ≤ cell-words → P (inl (pkg (headOf l) v))
+  pub to-package : (l : ℕ) (v : Value) → named l → P v → size (inl (pkg (headOf l) v)) ≤ cell-words
+      → P (inl (pkg (headOf l) v))
   pub from-left : (v : Value) → P (inl v) → P v
   pub from-right : (v : Value) → P (inr v) → P v
   pub to-pair : (v w : Value) → P v → P w → size (pair v w) ≤ cell-words → P (pair v w)
@@ -117,7 +120,8 @@ module _ (P : Value → Type 0) (named : ℕ → Type 0) where
 
   module _ (kept : Kept P named) (W : World) where
     has-add : (v w : Value) → Has (add v w)
-    has-add = by-add (λ v w r. Has r) (λ m n. has-fit (int ((m + n) % 2 ^ 32)) λ s. kept .sum _ (mod-lt (m + n) (omega arith))) (λ v w e. tt)
+    has-add = by-add (λ v w r. Has r)
+        (λ m n. has-fit (int ((m + n) % 2 ^ 32)) λ s. kept .sum _ (mod-lt (m + n) (omega arith))) (λ v w e. tt)
 
     has-pack : (b : Bool) (l : ℕ) (v : Value) → named l → P v → Has (packed b l v)
     unfolding packed
@@ -133,7 +137,8 @@ module _ (P : Value → Type 0) (named : ℕ → Type 0) where
 
     has-unpack : (t l : ℕ) (v : Value) → P v → Has (unpacked W t l v)
     has-unpack t l = by-unpacked (λ v r. P v → Has r) W t l
-        (λ h v p. has-open (W .reads l) (W .below (h .label) l) (has v (wanted (W .ty t))) v (kept .from-package h v p)) (λ v e p. tt)
+        (λ h v p. has-open (W .reads l) (W .below (h .label) l) (has v (wanted (W .ty t))) v (kept .from-package h v p))
+        (λ v e p. tt)
 
     has-part : (p : Part) (v : Value) → P v → Has (partOf p v)
     has-part p = by-part (λ v r. P v → Has r) p (λ v w h. kept .from-pair p v w h) (λ v e h. tt)
@@ -145,17 +150,20 @@ module _ (P : Value → Type 0) (named : ℕ → Type 0) where
     has-lookup (all-more h r) (suc i) = has-lookup r i
 
     -- Evaluation keeps P.
-    pub keeps-eval : {ρ : Env} {M : Mem} → AllOf P ρ → ((x : ℕ) → P (M x)) → {e : Expr} → UsesE P named e → Has (eval W ρ M e)
+    pub keeps-eval : {ρ : Env} {M : Mem} → AllOf P ρ → ((x : ℕ) → P (M x)) → {e : Expr} → UsesE P named e
+        → Has (eval W ρ M e)
     unfolding eval
     keeps-eval r m (u-val h) = h
     keeps-eval r m (u-loc {x}) = m x
     keeps-eval r m (u-var {i}) = has-lookup r i
-    keeps-eval r m (u-plus a b) = has-bind _ _ (keeps-eval r m a) λ v h. has-bind _ _ (keeps-eval r m b) λ w k. has-add v w
+    keeps-eval r m (u-plus a b) =
+        has-bind _ _ (keeps-eval r m a) λ v h. has-bind _ _ (keeps-eval r m b) λ w k. has-add v w
     keeps-eval r m (u-left a) = has-bind _ _ (keeps-eval r m a) λ v h. has-fit (inl v) (kept .to-left v h)
     keeps-eval r m (u-right a) = has-bind _ _ (keeps-eval r m a) λ v h. has-fit (inr v) (kept .to-right v h)
     keeps-eval r m (u-pack {l} n a) = has-bind _ _ (keeps-eval r m a) λ v h. has-pack (W .writes l) l v n h
     keeps-eval r m (u-unpack {t} {l} a) = has-bind _ _ (keeps-eval r m a) λ v h. has-unpack t l v h
-    keeps-eval r m (u-pair a b) = has-bind _ _ (keeps-eval r m a) λ v h. has-bind _ _ (keeps-eval r m b) λ w k. has-fit (pair v w) (kept .to-pair v w h k)
+    keeps-eval r m (u-pair a b) = has-bind _ _ (keeps-eval r m a) λ v h. has-bind _ _ (keeps-eval r m b) λ w k.
+        has-fit (pair v w) (kept .to-pair v w h k)
     keeps-eval r m (u-proj {p} a) = has-bind _ _ (keeps-eval r m a) λ v h. has-part p v h
 
     -- Transitions.
@@ -163,26 +171,32 @@ module _ (P : Value → Type 0) (named : ℕ → Type 0) where
     abbrev ThroughNext : Next → Type 0
     ThroughNext n = ConfigNext (λ x. P) (Uses P named) Unit n
 
-    through-branch : (l r : Value → Next) (s : Res) → Has s → ((v : Value) → P v → ThroughNext (l v)) → ((v : Value) → P v → ThroughNext (r v))
+    through-branch : (l r : Value → Next) (s : Res) → Has s → ((v : Value) → P v → ThroughNext (l v))
+        → ((v : Value) → P v → ThroughNext (r v))
         → ThroughNext (branch l r too-long no-rule s)
-    through-branch l r s h p q = by-branch (λ s n. Has s → ThroughNext n) (λ v h. p v (kept .from-left v h)) (λ v h. q v (kept .from-right v h))
+    through-branch l r s h p q =
+        by-branch (λ s n. Has s → ThroughNext n) (λ v h. p v (kept .from-left v h)) (λ v h. q v (kept .from-right v h))
         (λ h. tt) (λ s o e h. tt) s h
 
     through-step : (M : Mem) → ((x : ℕ) → P (M x)) → {c : Cmd} → Uses P named c → ThroughNext (step W M c)
     unfolding step
     through-step M m u-skip = tt
-    through-step M m (u-seq a b) = config-seq _ _ _ (λ _ _ p q. u-seq p q) M _ (record { memory = m; command = b }) _ (through-step M m a)
+    through-step M m (u-seq a b) =
+        config-seq _ _ _ (λ _ _ p q. u-seq p q) M _ (record { memory = m; command = b }) _ (through-step M m a)
     through-step M m (u-assign {x} e) = config-assign _ _ _ u-skip M x _ m (keeps-eval all-none m e)
     through-step M m (u-while e c) = through-branch _ _ _ (keeps-eval all-none m e)
         (λ v h. record { memory = m; command = u-seq c (u-while e c) }) (λ v h. record { memory = m; command = u-skip })
     through-step M m (u-case e a b) = through-branch _ _ _ (keeps-eval all-none m e)
-        (λ v h. record { memory = m; command = uses-inst v h a }) (λ v h. record { memory = m; command = uses-inst v h b })
+        (λ v h. record { memory = m; command = uses-inst v h a })
+        (λ v h. record { memory = m; command = uses-inst v h b })
 
     pub through : (M : Mem) (c : Cmd) → Through M c → ThroughNext (step W M c)
     through M c i = through-step M (i .memory) (i .command)
 
-    -- A done run keeps P: it holds of every value that the run leaves, if it holds of the values before and in the script.
-    pub keeps : (b l : ℕ) (M M′ : Mem) (c : Cmd) → Uses P named c → ((x : ℕ) → P (M x)) → iterate W b M c ≡ done M′ l → (x : ℕ) → P (M′ x)
+    -- A done run keeps P: it holds of every value that the run leaves, if it holds of the values before
+    -- and in the script.
+    pub keeps : (b l : ℕ) (M M′ : Mem) (c : Cmd) → Uses P named c → ((x : ℕ) → P (M x)) → iterate W b M c ≡ done M′ l
+        → (x : ℕ) → P (M′ x)
     keeps b l M M′ c u m h = config-done _ _ _ W through b h (record { memory = m; command = u }) .memory
 
 -- Properties that are kept.

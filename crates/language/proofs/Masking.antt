@@ -4,9 +4,11 @@ use mathlib.Core.Path.{_≡_, refl, ap, ap₂}
 use mathlib.Core.Bool.{Bool, true, false}
 use Prim.Native.Nat.{ℕ}
 use Rattle.logic.specs.Booleans.{both}
-use Rattle.language.specs.Syntax.{Ty, t-int, t-err, t-pkg, t-sum, t-pair, Head, Value, int, err, inl, inr, pkg, pair, blank, has}
+use Rattle.language.specs.Syntax.{Ty, t-int, t-err, t-pkg, t-sum, t-pair, Head, Value, int, err, inl, inr, pkg}
+use Rattle.language.specs.Syntax.{pair, blank, has}
 use Rattle.language.specs.World.{Mem}
-use Rattle.language.specs.View.{seen, mask, maskMem, Equiv, ve-int, ve-err, ve-inl, ve-inr, ve-pack-in, ve-pack-lab, ve-pair, ve-blank, EquivMem}
+use Rattle.language.specs.View.{seen, mask, maskMem, Equiv, ve-int, ve-err, ve-inl, ve-inr, ve-pack-in}
+use Rattle.language.specs.View.{ve-pack-lab, ve-pair, ve-blank, EquivMem}
 
 -- the graph of mask, to match two values by what they show
 data Masks (shows : ℕ → Bool) : Value → Value → Type 0 where
@@ -29,7 +31,8 @@ module _ (shows : ℕ → Bool) where
   equiv-refl (pair v w) = ve-pair (equiv-refl v) (equiv-refl w)
   equiv-refl blank = ve-blank
 
-  masks-pkg : (b : Bool) (h : Head) (v : Value) → shows (h .label) ≡ b → Masks shows v (mask shows v) → Masks shows (pkg h v) (pkg h (seen b (mask shows v)))
+  masks-pkg : (b : Bool) (h : Head) (v : Value) → shows (h .label) ≡ b → Masks shows v (mask shows v)
+      → Masks shows (pkg h v) (pkg h (seen b (mask shows v)))
   unfolding seen
   masks-pkg true h v e m = s-in m
   masks-pkg false h v e m = s-hidden e

@@ -1,5 +1,5 @@
--- Observers: who sees the labels of a set that is closed downward meets what noninterference asks, for the scope's label
--- conditions and for others.
+-- Observers: who sees the labels of a set that is closed downward meets what noninterference asks, for the scope's
+-- label conditions and for others.
 use mathlib.Core.Path.{_≡_, refl, ap, ap₂, sym, _∙_}
 use mathlib.Core.Bool.{Bool, true, true≢false}
 use mathlib.Core.List.{[]}
@@ -44,7 +44,8 @@ Ordered 𝓛 D W = (m l : ℕ) → W .below m l ≡ 𝓛 .leq (D .label m) (D .l
 abbrev pub Downward : {L : Type 0} → Labels L → (L → Bool) → Type 0
 Downward {L} 𝓛 vis = (a b : L) → 𝓛 .leq a b ≡ true → vis b ≡ true → vis a ≡ true
 
-module _ {L : Type 0} (𝓛 : Labels L) (D : Declarations L) (W : World) (vis : L → Bool) (joins : Joins (𝓛 .leq) (𝓛 .join)) (down : Downward 𝓛 vis)
+module _ {L : Type 0} (𝓛 : Labels L) (D : Declarations L) (W : World) (vis : L → Bool)
+    (joins : Joins (𝓛 .leq) (𝓛 .join)) (down : Downward 𝓛 vis)
     (order : Ordered 𝓛 D W) where
   below-shown : (l m : ℕ) → vis (D .label l) ≡ true → W .below m l ≡ true → vis (D .label m) ≡ true
   below-shown l m v h = down _ _ (sym (order m l) ∙ h) v
@@ -73,9 +74,10 @@ module _ {L : Type 0} (𝓛 : Labels L) (D : Declarations L) (W : World) (vis : 
     content = λ l m a. below-shown l m;
   }
 
--- For a rule that says on which locations a location may depend: a label is a set of locations, a pack and an unpack keep their
--- operand's, and every content is shown. No call tells dependencies; this is kept for one that does.
-module _ {L : Type 0} (home : ℕ → L) (bot : L) (leq : L → L → Bool) (join : L → L → L) (W : World) (vis : L → Bool) (joins : Joins leq join)
+-- For a rule that says on which locations a location may depend: a label is a set of locations, a pack and an unpack
+-- keep their operand's, and every content is shown. No call tells dependencies; this is kept for one that does.
+module _ {L : Type 0} (home : ℕ → L) (bot : L) (leq : L → L → Bool) (join : L → L → L) (W : World) (vis : L → Bool)
+    (joins : Joins leq join)
     (down : (a b : L) → leq a b ≡ true → vis b ≡ true → vis a ≡ true) where
   abbrev pub dependencies : Conditions L
   dependencies = record {
@@ -100,8 +102,10 @@ module _ {L : Type 0} (home : ℕ → L) (bot : L) (leq : L → L → Bool) (joi
   }
 
   -- Two done runs agree on a location that is seen, where their beginnings agree on all locations that are.
-  pub depends : (pc : L) (c : Cmd) → flow dependencies pc [] c ≡ true → (b b′ l l′ : ℕ) (M N M′ N′ : Mem) → ((x : ℕ) → vis (home x) ≡ true → M x ≡ N x)
+  pub depends : (pc : L) (c : Cmd) → flow dependencies pc [] c ≡ true → (b b′ l l′ : ℕ) (M N M′ N′ : Mem)
+      → ((x : ℕ) → vis (home x) ≡ true → M x ≡ N x)
       → iterate W b M c ≡ done M′ l → iterate W b′ N c ≡ done N′ l′ → (y : ℕ) → vis (home y) ≡ true → M′ y ≡ N′ y
   depends pc c f b b′ l l′ M N M′ N′ h p q y v =
-      equal-shown (equiv-of-view _ _ M′ N′ (noninterference dependencies W vis (λ n. true) depender pc c f b b′ l l′ M N M′ N′
+      equal-shown (equiv-of-view _ _ M′ N′
+      (noninterference dependencies W vis (λ n. true) depender pc c f b b′ l l′ M N M′ N′
       (view-of-equiv _ _ M N (λ x s. rw (h x s) (equiv-refl _ (N x)))) p q) y v)

@@ -1,5 +1,5 @@
--- The outcome of `iterate` is the one by which the run of the figures ends, and `step` is too long exactly where the figures meet a value
--- that is too long.
+-- The outcome of `iterate` is the one by which the run of the figures ends, and `step` is too long exactly where the
+-- figures meet a value that is too long.
 use mathlib.Core.Path.{_≡_, refl, sym, _∙_, subst}
 use mathlib.Core.Bool.{true}
 use mathlib.Core.List.{List, []}
@@ -7,20 +7,27 @@ use Prim.Native.Nat.{ℕ, zero, suc, _≤_, _<_}
 use native.Mathlib.Omega.{arith}
 use Rattle.language.specs.Syntax.{Ty, Value, int, size, Expr, Cmd, skip, seq, assign, while, case}
 use Rattle.language.specs.World.{World, Mem}
-use Rattle.language.specs.Figures.{Steps, s-none, LongExpr, long-value, in-plus1, in-plus2, in-left, in-right, in-pack, in-unpack, in-pair1, in-pair2, in-proj, LongStep, in-assign, in-seq, in-while, in-case, NoneLong}
+use Rattle.language.specs.Figures.{Steps, s-none, LongExpr, long-value, in-plus1, in-plus2, in-left, in-right}
+use Rattle.language.specs.Figures.{in-pack, in-unpack, in-pair1, in-pair2, in-proj, LongStep, in-assign, in-seq}
+use Rattle.language.specs.Figures.{in-while, in-case, NoneLong}
 use Rattle.language.specs.Declarations.{Shapes, Fitting}
 use Rattle.language.specs.Evaluation.{Res, ok, long, stuck, eval}
-use Rattle.language.specs.Transition.{Next, final, to, too-long, no-rule, at-seq, at-assign, branch, step, Out, done, spent, over, after, run, iterate}
+use Rattle.language.specs.Transition.{Next, final, to, too-long, no-rule, at-seq, at-assign, branch, step, Out}
+use Rattle.language.specs.Transition.{done, spent, over, after, run, iterate}
 use Rattle.language.specs.Typing.{shape}
 use Rattle.language.specs.Theorems.{SameTypes, RunEnds, ends-done, ends-spent, ends-over, LongExact, Outcome}
 use Rattle.logic.proofs.BooleanLaws.{both-left, both-right}
-use Rattle.language.proofs.Types.{onSum-path, HasType, h-int, h-loc, h-var, h-plus, h-left, h-right, h-pack, h-unpack, h-pair, h-proj, has-type, is-type}
+use Rattle.language.proofs.Types.{onSum-path, HasType, h-int, h-loc, h-var, h-plus, h-left, h-right, h-pack}
+use Rattle.language.proofs.Types.{h-unpack, h-pair, h-proj, has-type, is-type}
 use Rattle.language.proofs.Agreement.{agreement, Refines, same, was-long, star-eval}
 use Rattle.language.proofs.Determinacy.{after-first}
 use Rattle.language.proofs.Results.{bind-ok}
 use Rattle.language.proofs.Interpreter.{run-skip}
-use Rattle.language.proofs.Traces.{Trace, t-none, t-more, Stops, stops-done, stops-spent, stops-over, stops-wrong, iterate-stops, trace-run, trace-steps, steps-trace}
-use Rattle.language.proofs.Invariants.{Fits, Anywhere, fits-kept, UsesE, u-val, u-loc, u-var, u-plus, u-left, u-right, u-pack, u-unpack, u-pair, u-proj, Uses, u-skip, u-seq, u-assign, u-while, u-case, all-none, Has, Through, keeps-eval, through}
+use Rattle.language.proofs.Traces.{Trace, t-none, t-more, Stops, stops-done, stops-spent, stops-over}
+use Rattle.language.proofs.Traces.{stops-wrong, iterate-stops, trace-run, trace-steps, steps-trace}
+use Rattle.language.proofs.Invariants.{Fits, Anywhere, fits-kept, UsesE, u-val, u-loc, u-var, u-plus, u-left}
+use Rattle.language.proofs.Invariants.{u-right, u-pack, u-unpack, u-pair, u-proj, Uses, u-skip, u-seq, u-assign}
+use Rattle.language.proofs.Invariants.{u-while, u-case, all-none, Has, Through, keeps-eval, through}
 use Rattle.language.proofs.Configurations.{config-step, config-trace}
 use Rattle.language.proofs.TypeSoundness.{Fine, has-rule, trace-fine, start-fine}
 
@@ -47,7 +54,8 @@ fits-cmd S Γ (assign x e) s = u-assign (fits-expr (is-type S Γ s))
 fits-cmd S Γ (while e c) s = u-while (fits-expr (is-type S Γ (both-left _ _ s))) (fits-cmd S Γ c (both-right _ _ s))
 fits-cmd S Γ (case e a b) s =
     let p = onSum-path _ _ s in
-    u-case (fits-expr (has-type S Γ e (p .2))) (fits-cmd S _ a (both-left _ _ (p .3))) (fits-cmd S _ b (both-right _ _ (p .3)))
+    u-case (fits-expr (has-type S Γ e (p .2))) (fits-cmd S _ a (both-left _ _ (p .3)))
+    (fits-cmd S _ b (both-right _ _ (p .3)))
 
 -- Where `eval` has a value, no part of the expression is too long.
 
@@ -61,7 +69,8 @@ too-many h k = omega arith
 module _ (W : World) (M : Mem) (m : Fitting M) where
   not-long-expr : {e : Expr} {w : Value} → LongExpr W M e → UsesE Fits Anywhere e → ¬ (eval W [] M e ≡ ok w)
   unfolding eval
-  not-long-expr (long-value p s) u h = too-many (subst (Has Fits Anywhere) (refines-ok (star-eval W M p) h) (keeps-eval Fits Anywhere fits-kept W all-none m u)) s
+  not-long-expr (long-value p s) u h = too-many (subst (Has Fits Anywhere) (refines-ok (star-eval W M p) h)
+      (keeps-eval Fits Anywhere fits-kept W all-none m u)) s
   not-long-expr (in-plus1 l) (u-plus a b) h = not-long-expr l a (bind-ok _ _ _ h .1)
   not-long-expr (in-plus2 l) (u-plus a b) h = not-long-expr l b (bind-ok _ _ _ (bind-ok _ _ _ h .2) .1)
   not-long-expr (in-left l) (u-left a) h = not-long-expr l a (bind-ok _ _ _ h .1)
@@ -130,10 +139,12 @@ module _ (S : Shapes) (W : World) (agree : SameTypes S W) where
   trace-none-long t-none f j M₁ c₁ lt s l = omega arith
   trace-none-long (t-more h t) f zero M₁ c₁ lt s l = to-long f h (zero-long s l)
   trace-none-long (t-more h t) f (suc j) M₁ c₁ lt s l =
-      trace-none-long t (config-step _ _ _ W (through Fits Anywhere fits-kept W) h f) j M₁ c₁ (omega arith) (after-first W (agreement W .has-rule _ _ _ _ h) s) l
+      trace-none-long t (config-step _ _ _ W (through Fits Anywhere fits-kept W) h f) j M₁ c₁ (omega arith)
+      (after-first W (agreement W .has-rule _ _ _ _ h) s) l
 
   -- From `iterate` to the figures.
-  stops-ends : {b : ℕ} {M : Mem} {c : Cmd} {o : Out} → Fine S W agree M c → Fit M c → Stops W b M c o → RunEnds W b M c o
+  stops-ends : {b : ℕ} {M : Mem} {c : Cmd} {o : Out} → Fine S W agree M c → Fit M c → Stops W b M c o
+      → RunEnds W b M c o
   stops-ends i f (stops-done e t) = ends-done e (trace-steps W t) (trace-none-long t f)
   stops-ends i f (stops-spent t n) = ends-spent (trace-steps W t) n (trace-none-long t f)
   stops-ends i f (stops-over e t h) = ends-over e (trace-steps W t) (agreement W .is-long _ _ h) (trace-none-long t f)
@@ -159,11 +170,14 @@ module _ (S : Shapes) (W : World) (agree : SameTypes S W) where
   over-now l M c h = rw h refl
 
   long-now : (M : Mem) (c : Cmd) → Fine S W agree M c → Fit M c → LongStep W M c → step W M c ≡ too-long
-  long-now M c i f l = long-is W M (f .memory) (step W M c) (not-long-step W M (f .memory) l (f .command)) (has-rule S W agree M c i)
+  long-now M c i f l =
+      long-is W M (f .memory) (step W M c) (not-long-step W M (f .memory) l (f .command)) (has-rule S W agree M c i)
 
-  ends-iterate : {b : ℕ} {M : Mem} {c : Cmd} {o : Out} → Fine S W agree M c → Fit M c → RunEnds W b M c o → iterate W b M c ≡ o
+  ends-iterate : {b : ℕ} {M : Mem} {c : Cmd} {o : Out} → Fine S W agree M c → Fit M c → RunEnds W b M c o
+      → iterate W b M c ≡ o
   ends-iterate {b} i f (ends-done {k} {l} {M′} e s n) = trace-run W l b (steps-trace W s n) e ∙ skip-done l M′
-  ends-iterate {b} i f (ends-spent {M′} {c′} s h n) = trace-run W zero b (steps-trace W s n) (omega arith) ∙ spent-now M′ c′ h
+  ends-iterate {b} i f (ends-spent {M′} {c′} s h n) =
+      trace-run W zero b (steps-trace W s n) (omega arith) ∙ spent-now M′ c′ h
   ends-iterate {b} i f (ends-over {k} {l} {M′} {c′} e s h n) =
       let t = steps-trace W s n in
       trace-run W (suc l) b t e ∙ over-now l M′ c′ (long-now M′ c′ (trace-fine S W agree t i) (keep t f) h)
@@ -173,8 +187,10 @@ module _ (S : Shapes) (W : World) (agree : SameTypes S W) where
 
   pub long-exact : LongExact S W
   long-exact c s M m g k M′ c′ p n =
-      let t = steps-trace W p n in
-      (agreement W .is-long M′ c′, long-now M′ c′ (trace-fine S W agree t (start-fine S W agree M c m s)) (keep t (start-fit M c g s)))
+      let t = steps-trace W p n in (
+        agreement W .is-long M′ c′,
+        long-now M′ c′ (trace-fine S W agree t (start-fine S W agree M c m s)) (keep t (start-fit M c g s)),
+      )
 
   pub outcome : Outcome S W
   outcome c s M m g b o =

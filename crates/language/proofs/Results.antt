@@ -6,9 +6,11 @@ use Prim.Native.Nat.{ℕ, _+_, _%_, _^_, _≤_, _<_}
 use native.Mathlib.Omega.{arith}
 use lib.Dec.{leb, leb→le, nleb→lt, T}
 use Rattle.logic.specs.Booleans.{both}
-use Rattle.language.specs.Syntax.{Ty, t-int, t-pkg, t-sum, t-pair, Head, Value, int, err, inl, inr, pkg, pair, blank, Part, pick, size, has}
+use Rattle.language.specs.Syntax.{Ty, t-int, t-pkg, t-sum, t-pair, Head, Value, int, err, inl, inr, pkg, pair}
+use Rattle.language.specs.Syntax.{blank, Part, pick, size, has}
 use Rattle.language.specs.World.{World, cell-words, wanted}
-use Rattle.language.specs.Evaluation.{Res, ok, long, stuck, bind, fitIf, fit, add, addTo, opened, unpacked, partOf}
+use Rattle.language.specs.Evaluation.{Res, ok, long, stuck, bind, fitIf, fit, add, addTo, opened, unpacked}
+use Rattle.language.specs.Evaluation.{partOf}
 use Rattle.language.specs.Transition.{branch, branchV}
 use Rattle.logic.proofs.BooleanLaws.{T-of}
 
@@ -16,7 +18,8 @@ T-not : {b : Bool} → b ≡ false → T (not b)
 T-not e = rw e tt
 
 -- what holds of a value that fits and of too long holds of `fit`
-pub by-fit : (P : Res → Type 0) (v : Value) → (size v ≤ cell-words → P (ok v)) → (cell-words < size v → P long) → P (fit v)
+pub by-fit : (P : Res → Type 0) (v : Value) → (size v ≤ cell-words → P (ok v))
+    → (cell-words < size v → P long) → P (fit v)
 unfolding fit fitIf
 by-fit P v f g = on (leb (size v) cell-words) refl
   where
@@ -30,7 +33,8 @@ ResultHolds P X (ok v) = P v
 ResultHolds P X long = Unit {0}
 ResultHolds P X stuck = X
 
-pub holds-bind : (P Q : Value → Type 0) (X : Type 0) (r : Res) (f : Value → Res) → ResultHolds P X r → ((v : Value) → P v → ResultHolds Q X (f v))
+pub holds-bind : (P Q : Value → Type 0) (X : Type 0) (r : Res) (f : Value → Res) → ResultHolds P X r
+    → ((v : Value) → P v → ResultHolds Q X (f v))
     → ResultHolds Q X (bind r f)
 unfolding bind
 holds-bind P Q X (ok v) f h k = k v h
@@ -94,7 +98,8 @@ by-part P p f g blank = g _ (λ a b. refl)
 -- left and right go their ways, too long its own, and what is no value of a sum type the last
 pub by-branch : {A : Type 0} (P : Res → A → Type 0) {l r : Value → A} {o n : A} → ((v : Value) → P (ok (inl v)) (l v))
     → ((v : Value) → P (ok (inr v)) (r v)) → P long o
-    → ((s : Res) → ((a b : Ty) → ¬ Good (t-sum a b) s) → ((B : Type 0) (f g : Value → B) (p q : B) → branch f g p q s ≡ q) → P s n)
+    → ((s : Res) → ((a b : Ty) → ¬ Good (t-sum a b) s)
+    → ((B : Type 0) (f g : Value → B) (p q : B) → branch f g p q s ≡ q) → P s n)
     → (s : Res) → P s (branch l r o n s)
 unfolding branch branchV has
 by-branch P f g h k (ok (int i)) = k _ (λ a b e. false≢true e) λ B f g p q. refl

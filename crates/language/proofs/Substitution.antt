@@ -2,7 +2,8 @@
 use mathlib.Core.Path.{_≡_, refl, ap, ap₂, _∙_}
 use mathlib.Core.List.{[], _∷_}
 use Prim.Native.Nat.{ℕ, zero, suc}
-use Rattle.language.specs.Syntax.{Value, Expr, val, loc, var, plus, left, right, pack, unpack, pairing, proj, Cmd, skip, seq, assign, while, case}
+use Rattle.language.specs.Syntax.{Value, Expr, val, loc, var, plus, left, right, pack, unpack, pairing, proj, Cmd}
+use Rattle.language.specs.Syntax.{skip, seq, assign, while, case}
 use Rattle.language.specs.World.{World, Mem}
 use Rattle.language.specs.Substitution.{Env, lift, close-var, closeE, close, inst}
 use Rattle.language.specs.Evaluation.{lookup, eval}

@@ -5,20 +5,24 @@ use native.Mathlib.Omega.{arith}
 use Rattle.language.specs.Syntax.{Cmd, skip}
 use Rattle.language.specs.World.{World, Mem}
 use Rattle.language.specs.Figures.{Steps, s-none, s-more, NoneLong}
-use Rattle.language.specs.Transition.{Next, final, to, too-long, no-rule, step, Out, done, spent, over, wrong, after, run, iterate}
+use Rattle.language.specs.Transition.{Next, final, to, too-long, no-rule, step, Out, done, spent, over, wrong}
+use Rattle.language.specs.Transition.{after, run, iterate}
 use Rattle.language.proofs.Agreement.{agreement}
 
 -- k transitions that `step` gives
 pub data Trace (W : World) : ℕ → Mem → Cmd → Mem → Cmd → Type 0 where
   t-none : {M : Mem} {c : Cmd} → Trace W zero M c M c
-  t-more : {k : ℕ} {M M₁ M′ : Mem} {c c₁ c′ : Cmd} → step W M c ≡ to M₁ c₁ → Trace W k M₁ c₁ M′ c′ → Trace W (suc k) M c M′ c′
+  t-more : {k : ℕ} {M M₁ M′ : Mem} {c c₁ c′ : Cmd} → step W M c ≡ to M₁ c₁ → Trace W k M₁ c₁ M′ c′
+      → Trace W (suc k) M c M′ c′
 
 -- How a run within the budget b stops, by `step`.
 pub data Stops (W : World) (b : ℕ) (M : Mem) (c : Cmd) : Out → Type 0 where
   stops-done : {k l : ℕ} {M′ : Mem} → k + l ≡ b → Trace W k M c M′ skip → Stops W b M c (done M′ l)
   stops-spent : {M′ : Mem} {c′ : Cmd} → Trace W b M c M′ c′ → ¬ (c′ ≡ skip) → Stops W b M c spent
-  stops-over : {k l : ℕ} {M′ : Mem} {c′ : Cmd} → k + suc l ≡ b → Trace W k M c M′ c′ → step W M′ c′ ≡ too-long → Stops W b M c (over (suc l))
-  stops-wrong : {k : ℕ} {M′ : Mem} {c′ : Cmd} (l : ℕ) → k + suc l ≡ b → Trace W k M c M′ c′ → step W M′ c′ ≡ no-rule → Stops W b M c wrong
+  stops-over : {k l : ℕ} {M′ : Mem} {c′ : Cmd} → k + suc l ≡ b → Trace W k M c M′ c′ → step W M′ c′ ≡ too-long
+      → Stops W b M c (over (suc l))
+  stops-wrong : {k : ℕ} {M′ : Mem} {c′ : Cmd} (l : ℕ) → k + suc l ≡ b → Trace W k M c M′ c′ → step W M′ c′ ≡ no-rule
+      → Stops W b M c wrong
 
 module _ (W : World) where
   skip-final : (M : Mem) (c : Cmd) → c ≡ skip → step W M c ≡ final
@@ -32,7 +36,8 @@ module _ (W : World) where
       omega arith
 
   -- one transition before a run
-  stops-more : {b : ℕ} {M M₁ : Mem} {c c₁ : Cmd} {o : Out} → step W M c ≡ to M₁ c₁ → Stops W b M₁ c₁ o → Stops W (suc b) M c o
+  stops-more : {b : ℕ} {M M₁ : Mem} {c c₁ : Cmd} {o : Out} → step W M c ≡ to M₁ c₁ → Stops W b M₁ c₁ o
+      → Stops W (suc b) M c o
   stops-more h (stops-done {k} {l} e t) = stops-done {k = suc k} {l = l} (omega arith) (t-more h t)
   stops-more h (stops-spent t n) = stops-spent (t-more h t) n
   stops-more h (stops-over {k} {l} e t s) = stops-over {k = suc k} {l = l} (omega arith) (t-more h t) s
@@ -67,7 +72,8 @@ module _ (W : World) where
   iterate-stops b M c = run-stops b M c
 
   -- A run goes on from where a trace ends.
-  pub trace-run : {k : ℕ} {M M′ : Mem} {c c′ : Cmd} (l b : ℕ) → Trace W k M c M′ c′ → k + l ≡ b → iterate W b M c ≡ iterate W l M′ c′
+  pub trace-run : {k : ℕ} {M M′ : Mem} {c c′ : Cmd} (l b : ℕ) → Trace W k M c M′ c′ → k + l ≡ b
+      → iterate W b M c ≡ iterate W l M′ c′
   unfolding iterate run after
   trace-run l b (t-none {M} {c}) e =
       let q : b ≡ l = omega arith in

@@ -7,7 +7,8 @@ use mathlib.Core.Option.{Option, none, some}
 use Prim.Native.Nat.{ℕ}
 use Rattle.logic.specs.Booleans.{both}
 use Rattle.logic.proofs.BooleanLaws.{bool-ext, both-true, both-left, both-right, both-last, both-exchange}
-use Rattle.language.specs.Syntax.{Expr, val, loc, var, plus, left, right, pack, unpack, pairing, proj, Cmd, skip, seq, assign, while, case, Script}
+use Rattle.language.specs.Syntax.{Expr, val, loc, var, plus, left, right, pack, unpack, pairing, proj, Cmd, skip}
+use Rattle.language.specs.Syntax.{seq, assign, while, case, Script}
 use Rattle.language.specs.Labels.{Labels, LeastLabelLaws}
 use Rattle.language.specs.Declarations.{Declarations, startOf}
 use Rattle.language.specs.Typing.{Conditions, least, flowE, flow, conditions}
@@ -44,7 +45,8 @@ module _ {L : Type 0} (K : Conditions L) (test : ℕ → L → Bool) where
   flowE-stricter Γ (pairing t a b) = rw (flowE-stricter Γ a, flowE-stricter Γ b) (both-exchange _ _ _ _)
   flowE-stricter Γ (proj p a) = flowE-stricter Γ a
 
-  flow-stricter : (pc : L) (Γ : List L) (c : Cmd) → flow (stricter K test) pc Γ c ≡ both (flow K pc Γ c) (keeps K test Γ c)
+  flow-stricter : (pc : L) (Γ : List L) (c : Cmd)
+      → flow (stricter K test) pc Γ c ≡ both (flow K pc Γ c) (keeps K test Γ c)
   unfolding flow keeps
   flow-stricter pc Γ skip = sym (both-true refl refl)
   flow-stricter pc Γ (seq a b) = rw (flow-stricter pc Γ a, flow-stricter pc Γ b) (both-exchange _ _ _ _)
@@ -58,7 +60,8 @@ module _ {L : Type 0} (K : Conditions L) (test : ℕ → L → Bool) where
         least-stricter Γ e,
         flow-stricter (K .join pc l) (l ∷ Γ) a,
         flow-stricter (K .join pc l) (l ∷ Γ) b,
-        both-exchange (flow K (K .join pc l) (l ∷ Γ) a) (keeps K test (l ∷ Γ) a) (flow K (K .join pc l) (l ∷ Γ) b) (keeps K test (l ∷ Γ) b),
+        both-exchange (flow K (K .join pc l) (l ∷ Γ) a) (keeps K test (l ∷ Γ) a) (flow K (K .join pc l) (l ∷ Γ) b)
+            (keeps K test (l ∷ Γ) b),
       )
       (both-exchange _ _ _ _)
 
@@ -125,7 +128,8 @@ pub trust-derivable : TrustDerivable
 trust-derivable L = trust-iff
 
 -- f carries the conditions K to the conditions R, and one test to the other: each says the same of a command.
-module _ {A B : Type 0} (K : Conditions A) (R : Conditions B) (f : A → B) (image : Image K R f) (test : ℕ → A → Bool) (other : ℕ → B → Bool)
+module _ {A B : Type 0} (K : Conditions A) (R : Conditions B) (f : A → B) (image : Image K R f) (test : ℕ → A → Bool)
+    (other : ℕ → B → Bool)
     (same : (l : ℕ) (a : A) → test l a ≡ other l (f a)) where
   keepsE-image : (Γ : List A) (e : Expr) → keepsE K test Γ e ≡ keepsE R other (map f Γ) e
   unfolding keepsE

@@ -1,4 +1,5 @@
--- Laws of the type tests: what follows where a test passes, and when it passes; the types of expressions as derivations.
+-- Laws of the type tests: what follows where a test passes, and when it passes; the types of
+-- expressions as derivations.
 use mathlib.Core.Path.{_≡_, refl, ap, sym, _∙_, subst}
 use mathlib.Core.Bool.{Bool, true, false, false≢true}
 use mathlib.Core.Option.{Option, none, some}
@@ -6,9 +7,12 @@ use mathlib.Core.List.{List}
 use Prim.Native.Nat.{ℕ}
 use Rattle.logic.proofs.BooleanLaws.{both-left, both-right, both-true}
 use Rattle.logic.proofs.OptionLaws.{none-some, some-path}
-use Rattle.language.specs.Syntax.{Ty, t-int, t-err, t-pkg, t-sum, t-pair, Ty-discrete, int, err, inl, inr, pkg, pair, blank, Part, pick, Expr, val, loc, var, plus, left, right, pack, unpack, pairing, proj}
+use Rattle.language.specs.Syntax.{Ty, t-int, t-err, t-pkg, t-sum, t-pair, Ty-discrete, int, err, inl, inr, pkg}
+use Rattle.language.specs.Syntax.{pair, blank, Part, pick, Expr, val, loc, var, plus, left, right, pack, unpack}
+use Rattle.language.specs.Syntax.{pairing, proj}
 use Rattle.language.specs.Declarations.{Shapes, nth}
-use Rattle.language.specs.Typing.{isYes, sameTy, isTy, hasTy, leftIs, rightIs, onSum, pairIs, partTy, given, typeOfValue, typeOf}
+use Rattle.language.specs.Typing.{isYes, sameTy, isTy, hasTy, leftIs, rightIs, onSum, pairIs, partTy, given}
+use Rattle.language.specs.Typing.{typeOfValue, typeOf}
 
 sameTy-refl : (a : Ty) → sameTy a a ≡ true
 unfolding sameTy isYes
@@ -77,11 +81,13 @@ rightIs-path t-pkg o h = absurd (false≢true h)
 rightIs-path (t-sum a b) o h = (a, b, refl, isTy-path b o h)
 rightIs-path (t-pair a b) o h = absurd (false≢true h)
 
-pub onSum-true : {o : Option Ty} (k : Ty → Ty → Bool) (a b : Ty) → o ≡ some (t-sum a b) → k a b ≡ true → onSum o k ≡ true
+pub onSum-true : {o : Option Ty} (k : Ty → Ty → Bool) (a b : Ty) → o ≡ some (t-sum a b) → k a b ≡ true
+    → onSum o k ≡ true
 unfolding onSum
 onSum-true k a b e h = rw (e, onSum) h
 
-pub onSum-path : (o : Option Ty) (k : Ty → Ty → Bool) → onSum o k ≡ true → (a : Ty) × (b : Ty) × (o ≡ some (t-sum a b)) × (k a b ≡ true)
+pub onSum-path : (o : Option Ty) (k : Ty → Ty → Bool) → onSum o k ≡ true
+    → (a : Ty) × (b : Ty) × (o ≡ some (t-sum a b)) × (k a b ≡ true)
 unfolding onSum
 onSum-path none k h = absurd (false≢true h)
 onSum-path (some t-int) k h = absurd (false≢true h)
@@ -90,7 +96,8 @@ onSum-path (some t-pkg) k h = absurd (false≢true h)
 onSum-path (some (t-sum a b)) k h = (a, b, refl, h)
 onSum-path (some (t-pair a b)) k h = absurd (false≢true h)
 
-pub pairIs-true : {t : Ty} {o₁ o₂ : Option Ty} (a b : Ty) → t ≡ t-pair a b → o₁ ≡ some a → o₂ ≡ some b → pairIs t o₁ o₂ ≡ true
+pub pairIs-true : {t : Ty} {o₁ o₂ : Option Ty} (a b : Ty) → t ≡ t-pair a b → o₁ ≡ some a → o₂ ≡ some b
+    → pairIs t o₁ o₂ ≡ true
 unfolding pairIs
 pairIs-true a b p e f = rw (p, pairIs) (both-true (isTy-true a e) (isTy-true b f))
 
@@ -126,8 +133,10 @@ pub data HasType (S : Shapes) (Γ : List Ty) : Expr → Ty → Type 0 where
   h-left : {n : ℕ} {e : Expr} {a b : Ty} → S .ty n ≡ t-sum a b → HasType S Γ e a → HasType S Γ (left n e) (t-sum a b)
   h-right : {n : ℕ} {e : Expr} {a b : Ty} → S .ty n ≡ t-sum a b → HasType S Γ e b → HasType S Γ (right n e) (t-sum a b)
   h-pack : {l : ℕ} {e : Expr} {t : Ty} → HasType S Γ e t → HasType S Γ (pack l e) (t-sum t-pkg t-err)
-  h-unpack : {n l : ℕ} {e : Expr} {t : Ty} → S .ty n ≡ t-sum t t-err → HasType S Γ e t-pkg → HasType S Γ (unpack n l e) (t-sum t t-err)
-  h-pair : {n : ℕ} {e f : Expr} {a b : Ty} → S .ty n ≡ t-pair a b → HasType S Γ e a → HasType S Γ f b → HasType S Γ (pairing n e f) (t-pair a b)
+  h-unpack : {n l : ℕ} {e : Expr} {t : Ty} → S .ty n ≡ t-sum t t-err → HasType S Γ e t-pkg
+      → HasType S Γ (unpack n l e) (t-sum t t-err)
+  h-pair : {n : ℕ} {e f : Expr} {a b : Ty} → S .ty n ≡ t-pair a b → HasType S Γ e a → HasType S Γ f b
+      → HasType S Γ (pairing n e f) (t-pair a b)
   h-proj : {p : Part} {e : Expr} {a b : Ty} → HasType S Γ e (t-pair a b) → HasType S Γ (proj p e) (pick p a b)
 
 module _ (S : Shapes) (Γ : List Ty) where
@@ -145,7 +154,8 @@ module _ (S : Shapes) (Γ : List Ty) where
   has-type (var d) h = h-var h
   has-type (plus a b) h =
       let g = given-path _ _ _ h in
-      rw (← g .1) (h-plus (has-type a (isTy-path t-int _ (both-left _ _ (g .0)))) (has-type b (isTy-path t-int _ (both-right _ _ (g .0)))))
+      rw (← g .1) (h-plus (has-type a (isTy-path t-int _ (both-left _ _ (g .0))))
+      (has-type b (isTy-path t-int _ (both-right _ _ (g .0)))))
   has-type (left n e) h =
       let g = given-path _ _ _ h in
       let l = leftIs-path _ _ (g .0) in

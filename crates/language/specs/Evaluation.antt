@@ -4,7 +4,8 @@ use mathlib.Core.Bool.{Bool, true, false}
 use mathlib.Core.List.{[], _∷_}
 use Prim.Native.Nat.{ℕ, zero, suc, _+_, _%_, _^_}
 use lib.Dec.{leb}
-use Rattle.language.specs.Syntax.{headOf, Value, int, err, inl, inr, pkg, pair, blank, Part, pick, Expr, val, loc, var, plus, left, right, pack, unpack, pairing, proj, size, has}
+use Rattle.language.specs.Syntax.{headOf, Value, int, err, inl, inr, pkg, pair, blank, Part, pick, Expr, val, loc}
+use Rattle.language.specs.Syntax.{var, plus, left, right, pack, unpack, pairing, proj, size, has}
 use Rattle.language.specs.World.{World, Mem, cell-words, wanted}
 use Rattle.language.specs.Substitution.{Env}
 
@@ -50,8 +51,8 @@ unfoldable pub packed : Bool → ℕ → Value → Res
 packed true l v = fit (inl (pkg (headOf l) v))
 packed false l v = ok (inr (err 1))
 
--- EE-UNPACK-FAIL1, -FAIL2, -FAIL3 and -OK, by: the authority reads the wanted label; the package's label is at or below it;
--- the content has the wanted type
+-- EE-UNPACK-FAIL1, -FAIL2, -FAIL3 and -OK, by: the authority reads the wanted label; the package's label is at or below
+-- it; the content has the wanted type
 unfoldable pub opened : Bool → Bool → Bool → Value → Res
 opened false b c v = ok (inr (err 1))
 opened true false c v = ok (inr (err 2))

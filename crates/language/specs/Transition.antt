@@ -1,13 +1,14 @@
 -- Figure 3 as a function; runs within a budget.
 use mathlib.Core.List.{[]}
 use Prim.Native.Nat.{ℕ, zero, suc}
-use Rattle.language.specs.Syntax.{Value, int, err, inl, inr, pkg, pair, blank, Cmd, skip, seq, assign, while, case}
+use Rattle.language.specs.Syntax.{Value, int, err, inl, inr, pkg, pair, blank, Cmd, skip, seq, assign, while}
+use Rattle.language.specs.Syntax.{case}
 use Rattle.language.specs.World.{World, Mem}
 use Rattle.language.specs.Substitution.{inst, update}
 use Rattle.language.specs.Evaluation.{Res, ok, long, stuck, eval}
 
--- What follows a configuration: nothing, for skip alone; the next configuration; or none, since an expression has a part that
--- is too long, or since no rule applies.
+-- What follows a configuration: nothing, for skip alone; the next configuration; or none, since an expression has a
+-- part that is too long, or since no rule applies.
 pub data Next : Type 0 where
   final : Next
   to : Mem → Cmd → Next
@@ -49,8 +50,9 @@ step W M (assign x e) = at-assign M x (eval W [] M e)
 step W M (while e c) = branch (λ v. to M (seq c (while e c))) (λ v. to M skip) too-long no-rule (eval W [] M e)
 step W M (case e a b) = branch (λ v. to M (inst v a)) (λ v. to M (inst v b)) too-long no-rule (eval W [] M e)
 
--- How a run within a budget ends: skip is reached, with the memory and what is left of the budget; the budget is used up before;
--- a step within it meets a value that is too long, with what is left of the budget before that step; no rule applies.
+-- How a run within a budget ends: skip is reached, with the memory and what is left of the budget; the budget is
+-- used up before; a step within it meets a value that is too long, with what is left of the budget before that step;
+-- no rule applies.
 pub data Out : Type 0 where
   done : Mem → ℕ → Out
   spent : Out

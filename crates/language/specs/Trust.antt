@@ -3,7 +3,8 @@ use mathlib.Core.Bool.{Bool, true}
 use mathlib.Core.List.{List, [], _∷_}
 use Prim.Native.Nat.{ℕ}
 use Rattle.logic.specs.Booleans.{both}
-use Rattle.language.specs.Syntax.{Expr, val, loc, var, plus, left, right, pack, unpack, pairing, proj, Cmd, skip, seq, assign, while, case, Script}
+use Rattle.language.specs.Syntax.{Expr, val, loc, var, plus, left, right, pack, unpack, pairing, proj, Cmd, skip}
+use Rattle.language.specs.Syntax.{seq, assign, while, case, Script}
 use Rattle.language.specs.Labels.{Labels}
 use Rattle.language.specs.Declarations.{Declarations}
 use Rattle.language.specs.Typing.{Conditions, least, conditions}

@@ -4,7 +4,9 @@ use mathlib.Core.Option.{Option, none, some}
 use mathlib.Core.List.{List, [], _∷_}
 use Prim.Native.Nat.{ℕ}
 use Rattle.logic.specs.Booleans.{both}
-use Rattle.language.specs.Syntax.{Ty, t-int, t-err, t-pkg, t-sum, t-pair, Ty-discrete, Value, int, err, inl, inr, pkg, pair, blank, Part, pick, Expr, val, loc, var, plus, left, right, pack, unpack, pairing, proj, Cmd, skip, seq, assign, while, case, Script}
+use Rattle.language.specs.Syntax.{Ty, t-int, t-err, t-pkg, t-sum, t-pair, Ty-discrete, Value, int, err, inl, inr}
+use Rattle.language.specs.Syntax.{pkg, pair, blank, Part, pick, Expr, val, loc, var, plus, left, right, pack}
+use Rattle.language.specs.Syntax.{unpack, pairing, proj, Cmd, skip, seq, assign, while, case, Script}
 use Rattle.language.specs.Labels.{Labels}
 use Rattle.language.specs.Declarations.{Shapes, Declarations, startOf, nth}
 
@@ -111,8 +113,9 @@ shape S Γ (case e a b) = onSum (typeOf S Γ e) (λ s t. both (shape S (s ∷ Γ
 
 -- Labels
 
--- What the label conditions rest on: a location's label; bottom and the join; whether a label allows an assignment to a location; for a
--- pack and an unpack at a label number, the label that it has from its operand's, and whether the operand's allows it.
+-- What the label conditions rest on: a location's label; bottom and the join; whether a label allows an assignment to a
+-- location; for a pack and an unpack at a label number, the label that it has from its operand's, and whether the
+-- operand's allows it.
 pub record Conditions (L : Type 0) : Type 0 where
   pub home : ℕ → L
   pub bot : L
@@ -149,8 +152,8 @@ flowE K Γ (unpack t l a) = both (flowE K Γ a) (K .mayUnpack l (least K Γ a))
 flowE K Γ (pairing t a b) = both (flowE K Γ a) (flowE K Γ b)
 flowE K Γ (proj p a) = flowE K Γ a
 
--- Whether the label conditions in a command hold below the surrounding label pc, which is joined with the guard's label in
--- the body of a loop and in the branches of a case.
+-- Whether the label conditions in a command hold below the surrounding label pc, which is joined with the guard's label
+-- in the body of a loop and in the branches of a case.
 unfoldable pub flow : {L : Type 0} → Conditions L → L → List L → Cmd → Bool
 flow K pc Γ skip = true
 flow K pc Γ (seq a b) = both (flow K pc Γ a) (flow K pc Γ b)
@@ -160,8 +163,8 @@ flow K pc Γ (case e a b) =
     let l = least K Γ e in
     both (flowE K Γ e) (both (flow K (K .join pc l) (l ∷ Γ) a) (flow K (K .join pc l) (l ∷ Γ) b))
 
--- The scope's label conditions: `k A` needs its operand at or below A and has I(A); `u t A` needs C(operand) at or below
--- C(A) and has A.
+-- The scope's label conditions: `k A` needs its operand at or below A and has I(A); `u t A` needs C(operand) at or
+-- below C(A) and has A.
 abbrev pub conditions : {L : Type 0} → Labels L → Declarations L → Conditions L
 conditions 𝓛 D = record {
   home = D .home;

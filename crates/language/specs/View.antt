@@ -11,8 +11,8 @@ unfoldable pub seen : Bool → Value → Value
 seen true v = v
 seen false v = blank
 
--- What stands in a view for a value: the content of a package whose label is not seen is blank, also inside a content that is.
--- A pair shows what its parts show, each by itself.
+-- What stands in a view for a value: the content of a package whose label is not seen is blank, also inside a content
+-- that is. A pair shows what its parts show, each by itself.
 -- `shows l` tells whether the label that the number l names is seen.
 unfoldable pub mask : (ℕ → Bool) → Value → Value
 mask shows (int n) = int n
@@ -27,8 +27,8 @@ mask shows blank = blank
 unfoldable pub maskMem : (ℕ → Bool) → (ℕ → Bool) → Mem → Mem
 maskMem sees shows M = λ x. seen (sees x) (mask shows (M x))
 
--- Figure 6. An observer is given by the labels that it sees, instead of by a label ℓ (the figure asks ℓ₁ ≰ ℓ, its text C(ℓ₁) ≰ C(ℓ));
--- here it is asked that ℓ₁ is not seen. The figure has no rule of errors, pairs and blank, which are
+-- Figure 6. An observer is given by the labels that it sees, instead of by a label ℓ (the figure asks ℓ₁ ≰ ℓ, its text
+-- C(ℓ₁) ≰ C(ℓ)); here it is asked that ℓ₁ is not seen. The figure has no rule of errors, pairs and blank, which are
 -- values here.
 pub data Equiv (shows : ℕ → Bool) : Value → Value → Type 0 where
   ve-int : {i : ℕ} → Equiv shows (int i) (int i)

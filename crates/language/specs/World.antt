@@ -3,7 +3,8 @@ use mathlib.Core.Bool.{Bool}
 use Prim.Native.Nat.{ℕ}
 use Rattle.language.specs.Syntax.{Ty, t-int, t-err, t-pkg, t-sum, t-pair, Value}
 
--- What a run rests on: the types and the order of labels that the sheet gives, and which labels the authority reads and writes.
+-- What a run rests on: the types and the order of labels that the sheet gives, and which labels the authority
+-- reads and writes.
 pub record World : Type 0 where
   pub ty : ℕ → Ty
   pub below : ℕ → ℕ → Bool

@@ -37,7 +37,8 @@ cases true f g = f refl
 cases false f g = g refl
 
 -- the two cases of a choice that is x
-pub cond-split : {A P : Type 0} (c : Bool) (a b x : A) → (c ≡ true → a ≡ x → P) → (c ≡ false → b ≡ x → P) → cond c a b ≡ x → P
+pub cond-split : {A P : Type 0} (c : Bool) (a b x : A) → (c ≡ true → a ≡ x → P) → (c ≡ false → b ≡ x → P)
+    → cond c a b ≡ x → P
 cond-split true a b x f g e = f refl e
 cond-split false a b x f g e = g refl e
 

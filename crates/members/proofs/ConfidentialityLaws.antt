@@ -8,7 +8,8 @@ use native.Mathlib.Nat.{mod-lt}
 use native.Mathlib.Omega.{arith}
 use borrow.Author.Tests.{lt-ltb}
 use Rattle.logic.specs.Booleans.{both}
-use Rattle.logic.proofs.BooleanLaws.{bool-ext, both-left, both-right, both-true, both-yes-left, both-implied, both-assoc}
+use Rattle.logic.proofs.BooleanLaws.{bool-ext, both-left, both-right, both-true, both-yes-left, both-implied}
+use Rattle.logic.proofs.BooleanLaws.{both-assoc}
 use Rattle.sets.specs.Sets.{member, every, restrict}
 use Rattle.sets.proofs.Walks.{by-below, every-true, every-at, every-last, every-more}
 use Rattle.sets.proofs.SetLaws.{member-restrict}
@@ -59,7 +60,8 @@ module _ (t : List ℕ) (c : Label) where
 
   -- ---- testing the join is testing bottom and each member by itself
 
-  more-passes : (b : Bool) (a d : Label) → Passes c (cond b (joinOf a d) a) ≡ both (Passes c a) (cond b (Passes c d) true)
+  more-passes : (b : Bool) (a d : Label)
+      → Passes c (cond b (joinOf a d) a) ≡ both (Passes c a) (cond b (Passes c d) true)
   more-passes true a d = C-join-below a d c
   more-passes false a d = both-alone _
 
@@ -83,13 +85,15 @@ module _ (t : List ℕ) (c : Label) where
     where
       on : (b : Bool) → cond b (Passes c (memberIn t q)) true ≡ true
       on true =
-          ap (Passes c) (member-integrity t q l) ∙ ap (λ (a : Label). belowOf a (confidentialityOf c)) (C-of-I _ _ ∙ sym (C-bottom _)) ∙ h
+          ap (Passes c) (member-integrity t q l)
+          ∙ ap (λ (a : Label). belowOf a (confidentialityOf c)) (C-of-I _ _ ∙ sym (C-bottom _)) ∙ h
       on false = refl
 
   pub labels-pass : (m : ℕ) → Passes c (joinIn t m) ≡ both BottomPasses (every maxLabels (memberPasses m))
   labels-pass m =
       join-passes m
-      ∙ sym (implied-past BottomPasses (memberPasses m) maxLabels maxMembers (omega arith) (λ q k w. integrity-passes m q k))
+      ∙ sym (implied-past BottomPasses (memberPasses m) maxLabels maxMembers (omega arith)
+      (λ q k w. integrity-passes m q k))
 
   -- ---- a walk over the labels of m: bottom and those below p pass
 
@@ -108,7 +112,8 @@ module _ (t : List ℕ) (c : Label) where
       ∙ sym (both-assoc BottomPasses (every p (memberPasses m)) (memberPasses m p))
       ∙ ap (both BottomPasses) (every-more p (memberPasses m) refl refl)
 
-  passed-past : (m p n : ℕ) → p ≤ n → ((q : ℕ) → p ≤ q → q < n → member q m ≡ false) → {a : Bool} → Passed m p a → Passed m n a
+  passed-past : (m p n : ℕ) → p ≤ n → ((q : ℕ) → p ≤ q → q < n → member q m ≡ false) → {a : Bool}
+      → Passed m p a → Passed m n a
   unfolding memberPasses
   passed-past m p n l h e = e ∙ implied-past BottomPasses (memberPasses m) p n l (λ q k w b. rw (h q k w))
 

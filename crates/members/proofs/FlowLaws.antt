@@ -47,7 +47,8 @@ module _ (t : List ℕ) (m l : ℕ) where
     unfolding flowsIn flowBits
     is-neither a c = rw (not-so _ (λ w. fails c (whole-conf w)), a, c) refl
 
-    pub is-confidentiality : alone ≡ false → confidentialityFlows t m l ≡ true → wholeFlows t m l ≡ false → 1 ≡ flowsIn t m l alone
+    pub is-confidentiality : alone ≡ false → confidentialityFlows t m l ≡ true → wholeFlows t m l ≡ false
+        → 1 ≡ flowsIn t m l alone
     unfolding flowsIn flowBits
     is-confidentiality a c w = rw (w, a, c) refl
 

@@ -13,10 +13,12 @@ use borrow.Author.Tests.{lt-ltb, le-ltb}
 use Rattle.logic.specs.Booleans.{both}
 use Rattle.logic.proofs.BooleanLaws.{absurd-false, either-left, either-right, either-case}
 use Rattle.sets.specs.Sets.{member, union, single}
-use Rattle.sets.proofs.SetLaws.{member-low, member-high, member-union, member-single, member-single-self, member-empty, member-beyond, some-member}
+use Rattle.sets.proofs.SetLaws.{member-low, member-high, member-union, member-single, member-single-self, member-empty}
+use Rattle.sets.proofs.SetLaws.{member-beyond, some-member}
 use Rattle.labels.specs.declared.Label.{Label}
 use Rattle.labels.specs.Labels.{belowOf, joinOf, bottomOf, wholeOf, integrityOf}
-use Rattle.labels.proofs.OrderLaws.{below-refl, below-trans, below-antisym, join-left, join-right, join-least, join-whole, join-below}
+use Rattle.labels.proofs.OrderLaws.{below-refl, below-trans, below-antisym, join-left, join-right, join-least}
+use Rattle.labels.proofs.OrderLaws.{join-whole, join-below}
 use Rattle.labels.proofs.PartLaws.{bottom-whole}
 use Rattle.sheet.specs.Sheet.{maxLabels}
 use Rattle.sheet.specs.Internal.Tables.{everyoneIn, labelIn}
@@ -40,7 +42,8 @@ module _ (t : List ℕ) where
   more-has true a c h = join-right a c
   more-has false a c h = absurd (absurd-false h)
 
-  more-least : (b : Bool) (a c d : Label) → belowOf a d ≡ true → (b ≡ true → belowOf c d ≡ true) → belowOf (cond b (joinOf a c) a) d ≡ true
+  more-least : (b : Bool) (a c d : Label) → belowOf a d ≡ true → (b ≡ true → belowOf c d ≡ true)
+      → belowOf (cond b (joinOf a c) a) d ≡ true
   more-least true a c d h k = join-least a c d h (k refl)
   more-least false a c d h k = h
 
@@ -66,18 +69,21 @@ module _ (t : List ℕ) where
       on (yes k) f = more-above (member n m) _ _ _ (f k)
       on (no k) f = let e : p ≡ n = omega arith in rw e (more-has (member n m) _ _ (rw (sym e) h))
 
-  up-to-least : (m n : ℕ) (c : Label) → belowOf Bottom c ≡ true → ((p : ℕ) → p < n → member p m ≡ true → belowOf (memberIn t p) c ≡ true)
+  up-to-least : (m n : ℕ) (c : Label) → belowOf Bottom c ≡ true
+      → ((p : ℕ) → p < n → member p m ≡ true → belowOf (memberIn t p) c ≡ true)
       → belowOf (joinUpTo t m n) c ≡ true
   unfolding joinUpTo
   up-to-least m zero c h k = h
-  up-to-least m (suc n) c h k = more-least (member n m) _ _ c (up-to-least m n c h (λ p l. k p (omega arith))) (k n (omega arith))
+  up-to-least m (suc n) c h k =
+      more-least (member n m) _ _ c (up-to-least m n c h (λ p l. k p (omega arith))) (k n (omega arith))
 
   -- the empty set is bottom
   pub join-none : joinIn t 0 ≡ Bottom
   unfolding joinIn
   join-none =
       below-antisym _ _ (up-to-whole 0 maxMembers) (bottom-whole _)
-      (up-to-least 0 maxMembers _ (below-refl _) (λ p l h. absurd (absurd-false (sym (member-empty p) ∙ h)))) (up-to-bottom 0 maxMembers)
+      (up-to-least 0 maxMembers _ (below-refl _) (λ p l h. absurd (absurd-false (sym (member-empty p) ∙ h))))
+      (up-to-bottom 0 maxMembers)
 
   -- a union is the join
   pub join-union : (x y : ℕ) → joinIn t (union x y) ≡ joinOf (joinIn t x) (joinIn t y)
@@ -87,20 +93,25 @@ module _ (t : List ℕ) where
       let Y = joinUpTo t y maxMembers in
       let U = joinUpTo t (union x y) maxMembers in
       below-antisym U (joinOf X Y) (up-to-whole _ _) (join-whole X Y)
-      (up-to-least (union x y) maxMembers (joinOf X Y) (below-trans _ X _ (up-to-bottom x maxMembers) (join-left X Y)) (λ p l h.
+      (up-to-least (union x y) maxMembers (joinOf X Y)
+      (below-trans _ X _ (up-to-bottom x maxMembers) (join-left X Y)) (λ p l h.
       either-case (member p x) (member p y) _
       (λ k. below-trans _ X _ (up-to-member x maxMembers p l k) (join-left X Y))
       (λ k. below-trans _ Y _ (up-to-member y maxMembers p l k) (join-right X Y)) (sym (member-union p x y) ∙ h)))
       (join-least X Y U
-      (up-to-least x maxMembers U (up-to-bottom _ _) (λ p l h. up-to-member (union x y) maxMembers p l (member-union p x y ∙ either-left _ _ h)))
-      (up-to-least y maxMembers U (up-to-bottom _ _) (λ p l h. up-to-member (union x y) maxMembers p l (member-union p x y ∙ either-right _ _ h))))
+      (up-to-least x maxMembers U (up-to-bottom _ _)
+      (λ p l h. up-to-member (union x y) maxMembers p l (member-union p x y ∙ either-left _ _ h)))
+      (up-to-least y maxMembers U (up-to-bottom _ _)
+      (λ p l h. up-to-member (union x y) maxMembers p l (member-union p x y ∙ either-right _ _ h))))
 
   -- one test of a union stands for two
-  pub union-below : (x y : ℕ) (c : Label) → belowOf (joinIn t (union x y)) c ≡ both (belowOf (joinIn t x) c) (belowOf (joinIn t y) c)
+  pub union-below : (x y : ℕ) (c : Label)
+      → belowOf (joinIn t (union x y)) c ≡ both (belowOf (joinIn t x) c) (belowOf (joinIn t y) c)
   union-below x y c = ap (λ (a : Label). belowOf a c) (join-union x y) ∙ join-below _ _ c
 
   -- one member, if bottom is at or below it
-  join-one : (p : ℕ) → p < maxMembers → wholeOf (memberIn t p) ≡ true → belowOf Bottom (memberIn t p) ≡ true → joinIn t (single p) ≡ memberIn t p
+  join-one : (p : ℕ) → p < maxMembers → wholeOf (memberIn t p) ≡ true → belowOf Bottom (memberIn t p) ≡ true
+      → joinIn t (single p) ≡ memberIn t p
   unfolding joinIn
   join-one p l w b =
       below-antisym _ _ (up-to-whole (single p) maxMembers) w
@@ -145,7 +156,8 @@ pub rest-all : (m : ℕ) → Rest m 0 m
 rest-all m q = let z : 0 + q ≡ q = omega arith in ap (λ (k : ℕ). member k m) (sym z)
 
 pub rest-first : (m p rest : ℕ) → Rest m p rest → member p m ≡ eqb (rest % 2) 1
-rest-first m p rest h = let z : p + 0 ≡ p = omega arith in ap (λ (q : ℕ). member q m) (sym z) ∙ sym (h 0) ∙ member-low rest
+rest-first m p rest h =
+    let z : p + 0 ≡ p = omega arith in ap (λ (q : ℕ). member q m) (sym z) ∙ sym (h 0) ∙ member-low rest
 
 pub rest-more : (m p rest : ℕ) → Rest m p rest → Rest m (p + 1) (rest / 2)
 rest-more m p rest h q =
@@ -159,7 +171,8 @@ rest-below m p rest k h l n = on (decLt p k)
     on (yes w) = w
     on (no w) =
         let s = some-member rest n in
-        absurd (absurd-false (sym (member-beyond (p + s .0) m (lt-of-lt-of-le l (pow-mono (omega arith)))) ∙ sym (h (s .0)) ∙ s .1))
+        absurd (absurd-false (sym (member-beyond (p + s .0) m (lt-of-lt-of-le l (pow-mono (omega arith))))
+        ∙ sym (h (s .0)) ∙ s .1))
 
 pub rest-none : (m p rest : ℕ) → Rest m p rest → rest ≡ 0 → (q : ℕ) → p ≤ q → member q m ≡ false
 rest-none m p rest h e q l =
@@ -184,17 +197,21 @@ integrity-past l k = rw (le-ltb l maxLabels k)
 
 -- a member alone, where every label of the table is one of the sheet's
 module _ (t : List ℕ) (past : (l : ℕ) → maxLabels ≤ l → labelIn t l ≡ bottomOf (everyoneIn t)) (l : ℕ) where
-  pub join-label : wholeOf (labelIn t l) ≡ true → belowOf (Bottom t) (labelIn t l) ≡ true → joinIn t (labelMember l) ≡ labelIn t l
+  pub join-label : wholeOf (labelIn t l) ≡ true → belowOf (Bottom t) (labelIn t l) ≡ true
+      → joinIn t (labelMember l) ≡ labelIn t l
   join-label w b = on (decLt l maxLabels)
     where
       on : Dec (l < maxLabels) → joinIn t (labelMember l) ≡ labelIn t l
       on (yes k) =
           let e = member-label t l k in
-          ap (joinIn t) (label-there l k) ∙ join-one t l (omega arith) (ap wholeOf e ∙ w) (ap (belowOf (Bottom t)) e ∙ b) ∙ e
+          ap (joinIn t) (label-there l k)
+          ∙ join-one t l (omega arith) (ap wholeOf e ∙ w) (ap (belowOf (Bottom t)) e ∙ b) ∙ e
       on (no k) = ap (joinIn t) (label-past l (omega arith)) ∙ join-none t ∙ sym (past l (omega arith))
 
-  pub join-integrity : integrityOf (everyoneIn t) (Bottom t) ≡ Bottom t → wholeOf (integrityOf (everyoneIn t) (labelIn t l)) ≡ true
-      → belowOf (Bottom t) (integrityOf (everyoneIn t) (labelIn t l)) ≡ true → joinIn t (integrityMember l) ≡ integrityOf (everyoneIn t) (labelIn t l)
+  pub join-integrity : integrityOf (everyoneIn t) (Bottom t) ≡ Bottom t
+      → wholeOf (integrityOf (everyoneIn t) (labelIn t l)) ≡ true
+      → belowOf (Bottom t) (integrityOf (everyoneIn t) (labelIn t l)) ≡ true
+      → joinIn t (integrityMember l) ≡ integrityOf (everyoneIn t) (labelIn t l)
   join-integrity i w b = on (decLt l maxLabels)
     where
       is : memberIn t (maxLabels + l) ≡ integrityOf (everyoneIn t) (labelIn t l)
@@ -203,5 +220,7 @@ module _ (t : List ℕ) (past : (l : ℕ) → maxLabels ≤ l → labelIn t l �
           member-integrity t (maxLabels + l) (omega arith) ∙ ap (λ (k : ℕ). integrityOf (everyoneIn t) (labelIn t k)) e
 
       on : Dec (l < maxLabels) → joinIn t (integrityMember l) ≡ integrityOf (everyoneIn t) (labelIn t l)
-      on (yes k) = ap (joinIn t) (integrity-there l k) ∙ join-one t (maxLabels + l) (omega arith) (ap wholeOf is ∙ w) (ap (belowOf (Bottom t)) is ∙ b) ∙ is
-      on (no k) = ap (joinIn t) (integrity-past l (omega arith)) ∙ join-none t ∙ sym (ap (integrityOf (everyoneIn t)) (past l (omega arith)) ∙ i)
+      on (yes k) = ap (joinIn t) (integrity-there l k)
+          ∙ join-one t (maxLabels + l) (omega arith) (ap wholeOf is ∙ w) (ap (belowOf (Bottom t)) is ∙ b) ∙ is
+      on (no k) = ap (joinIn t) (integrity-past l (omega arith)) ∙ join-none t
+          ∙ sym (ap (integrityOf (everyoneIn t)) (past l (omega arith)) ∙ i)

@@ -1,8 +1,10 @@
-// A least label as the set of the labels that it is the join of: bit l is label l of the table, bit 32 + l is I of label l, and the
-// empty set is bottom. Labels are fetched where they are compared, so that no frame of the recursion holds one.
+// A least label as the set of the labels that it is the join of: bit l is label l of the table, bit 32 + l is I of
+// label l, and the empty set is bottom. Labels are fetched where they are compared, so that no frame of the
+// recursion holds one.
 ghost use mathlib.Core.Path.{_≡_};
 ghost use Rattle.sets.specs.Sets.{union};
-ghost use Rattle.members.specs.Internal.Members.{labelMember, integrityMember, memberIn, joinIn, wholeFlows, confidentialityFlows, flowsIn};
+ghost use Rattle.members.specs.Internal.Members.{labelMember, integrityMember, memberIn, joinIn, wholeFlows};
+ghost use Rattle.members.specs.Internal.Members.{confidentialityFlows, flowsIn};
 use labels::Label;
 
 pub type Members = u64;

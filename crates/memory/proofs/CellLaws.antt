@@ -29,7 +29,8 @@ unfolding equalWords
 equal-means [] [] h = refl
 equal-means [] (y ∷ ys) h = absurd (absurd-false h)
 equal-means (x ∷ xs) [] h = absurd (absurd-false h)
-equal-means (x ∷ xs) (y ∷ ys) h = ap₂ (λ (z : ℕ) (zs : List ℕ). z ∷ zs) (eqb-true x y (both-left _ _ h)) (equal-means xs ys (both-right (eqb x y) _ h))
+equal-means (x ∷ xs) (y ∷ ys) h = ap₂ (λ (z : ℕ) (zs : List ℕ). z ∷ zs) (eqb-true x y (both-left _ _ h))
+    (equal-means xs ys (both-right (eqb x y) _ h))
 
 equal-cons : (x : ℕ) (xs ys : List ℕ) → equalWords (x ∷ xs) (x ∷ ys) ≡ equalWords xs ys
 unfolding equalWords
@@ -75,7 +76,8 @@ module _ (ws : List ℕ) (i : ℕ) where
 
 -- ---- a location's words, walked
 
-module _ (labels : ℕ) (test : Value → Bool) (ws : List ℕ) {lab : ℕ} {ok : Bool} {next : ℕ} (e : lab ≡ labels) (w : Walks lab ws 0 (readOf ws) ok next) where
+module _ (labels : ℕ) (test : Value → Bool) (ws : List ℕ) {lab : ℕ} {ok : Bool} {next : ℕ} (e : lab ≡ labels)
+    (w : Walks lab ws 0 (readOf ws) ok next) where
   proper-is : ok ≡ proper labels (valueOf ws)
   proper-is = w .told ∙ ap (λ (n : ℕ). proper n (valueOf ws)) e
 
@@ -96,6 +98,7 @@ module _ (labels : ℕ) (test : Value → Bool) (ws : List ℕ) {lab : ℕ} {ok 
       omega (arith, length-drop next ws, ap length (w .after), ap length x, length-enc v (readOf ws .1)) in
       rw (k, w .after) (sym (equal-enc v _ _)) ∙ ap (equalWords (enc v (zeros (cell-words - size v)))) x
 
-  pub is-cell : {r : Bool} → length ws ≡ cell-words → ok ≡ true → test (valueOf ws) ≡ true → r ≡ Cleared ws 0 next → r ≡ holdsBy labels test ws
+  pub is-cell : {r : Bool} → length ws ≡ cell-words → ok ≡ true → test (valueOf ws) ≡ true → r ≡ Cleared ws 0 next
+      → r ≡ holdsBy labels test ws
   unfolding exactly
   is-cell n h k z = z ∙ rest-zero n h ∙ both-on _ _ k ∙ both-on _ _ (sym proper-is ∙ h)

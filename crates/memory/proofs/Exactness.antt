@@ -20,13 +20,18 @@ use Rattle.sheet.proofs.TableLaws.{types-in, labels-in, locations-in, type-in, 
 use Rattle.sheet.proofs.MeaningLaws.{reads-in}
 use Rattle.sheet.proofs.NumberLaws.{type-in-there, has-no}
 use Rattle.memory.specs.Words.{cell, valueOf}
-use Rattle.memory.specs.Memory.{memoryOf, wordsOf, formedBy, sliceRefusal, refusalBy, asDeclared, wellFormed, memoryRefusal}
+use Rattle.memory.specs.Memory.{memoryOf, wordsOf, formedBy, sliceRefusal, refusalBy, asDeclared, wellFormed}
+use Rattle.memory.specs.Memory.{memoryRefusal}
 use Rattle.memory.specs.View.{viewBy, seesNo, viewWords, viewRefusal}
-use Rattle.memory.specs.Internal.InTable.{viewLeaves, asDeclaredIn, wellFormedIn, refusalIn, seesIn, viewIn, viewRefusalIn, viewLeavesIn, TableAgrees}
-use Rattle.memory.specs.Theorems.{WordsExactly, CellExactly, Declared, MemoriesExactly, MasksExactly, ViewsExactly}
+use Rattle.memory.specs.Internal.InTable.{viewLeaves, asDeclaredIn, wellFormedIn, refusalIn, seesIn, viewIn}
+use Rattle.memory.specs.Internal.InTable.{viewRefusalIn, viewLeavesIn, TableAgrees}
+use Rattle.memory.specs.Theorems.{WordsExactly, CellExactly, Declared, MemoriesExactly, MasksExactly}
+use Rattle.memory.specs.Theorems.{ViewsExactly}
 use Rattle.memory.proofs.WordLaws.{read-enc, read-exact, cell-inj, length-cell}
 use Rattle.memory.proofs.CellsLaws.{cells-ext, cells-inj}
-use Rattle.memory.proofs.MemoryLaws.{exact-parts, cell-holds, value-past, value-passes, value-proper, value-fits, words-back, length-words, values-back, words-formed, unrefused-length, unrefused-formed}
+use Rattle.memory.proofs.MemoryLaws.{exact-parts, cell-holds, value-past, value-passes, value-proper, value-fits}
+use Rattle.memory.proofs.MemoryLaws.{words-back, length-words, values-back, words-formed, unrefused-length}
+use Rattle.memory.proofs.MemoryLaws.{unrefused-formed}
 use Rattle.memory.proofs.ViewLaws.{seen-size, mask-size, view-cell}
 
 pub words-exactly : WordsExactly
@@ -44,7 +49,8 @@ module _ (s : Sheet) where
   -- a number past the last location has the type int
   past-type : (x : ℕ) → locationCount s ≤ x → tyOf s (locationNo s x .type) ≡ t-int
   unfolding locationNo locationCount
-  past-type x h = ap (λ (l : Location). tyOf s (l .type)) (List·getD-eq-default (s .locations) (record { type = 0; label = 0 }) h) ∙ ty-0 s
+  past-type x h = ap (λ (l : Location). tyOf s (l .type))
+      (List·getD-eq-default (s .locations) (record { type = 0; label = 0 }) h) ∙ ty-0 s
 
   module _ (ws : List ℕ) (h : memoryRefusal s ws ≡ 0) where
     pub whole : length ws ≡ cell-words * locationCount s
@@ -61,7 +67,8 @@ module _ (s : Sheet) where
     typed-values : WellTyped (shapesOf s) (memoryOf ws)
     unfolding asDeclared has
     typed-values x =
-        by-below x (locationCount s) (value-passes (locationCount s) (labelCount s) (asDeclared s) ws whole well-formed x)
+        by-below x (locationCount s)
+        (value-passes (locationCount s) (labelCount s) (asDeclared s) ws whole well-formed x)
         (λ k. ap₂ has (value-past ws x (omega (arith, whole))) (past-type x k))
 
     pub declared-values : Declared s (memoryOf ws)
@@ -89,7 +96,12 @@ module _ (s : Sheet) where
     declared-back = values-back (locationCount s) M (λ x l. d .fitting x)
 
 pub memories-exactly : MemoriesExactly
-memories-exactly s = record { values = declared-values s; words = words-of-values s; accepted = words-accepted s; values-back = declared-back s }
+memories-exactly s = record {
+  values = declared-values s;
+  words = words-of-values s;
+  accepted = words-accepted s;
+  values-back = declared-back s;
+}
 
 -- ---- views
 
@@ -101,18 +113,22 @@ module _ (n : ℕ) (sees shows : ℕ → Bool) where
 
   masked-fits : (M : Mem) → Fitting M → Fitting (maskMem sees shows M)
   unfolding maskMem
-  masked-fits M h x = seen-size (sees x) (mask shows (M x)) cell-words (omega (arith, mask-size shows (M x), h x)) (omega arith)
+  masked-fits M h x =
+      seen-size (sees x) (mask shows (M x)) cell-words (omega (arith, mask-size shows (M x), h x)) (omega arith)
 
   module _ (M N : Mem) (h : Fitting M) (k : Fitting N) where
-    pub masks-of-view : viewBy n sees shows M ≡ viewBy n sees shows N → (x : ℕ) → x < n → maskMem sees shows M x ≡ maskMem sees shows N x
+    pub masks-of-view : viewBy n sees shows M ≡ viewBy n sees shows N → (x : ℕ) → x < n
+        → maskMem sees shows M x ≡ maskMem sees shows N x
     unfolding wordsOf
     masks-of-view e x l =
         cell-inj _ _
         (cells-inj n (λ (y : ℕ). cell (maskMem sees shows M y)) (λ (y : ℕ). cell (maskMem sees shows N y))
-        (λ y m. length-cell (maskMem sees shows M y) (masked-fits M h y)) (λ y m. length-cell (maskMem sees shows N y) (masked-fits N k y))
+        (λ y m. length-cell (maskMem sees shows M y) (masked-fits M h y))
+        (λ y m. length-cell (maskMem sees shows N y) (masked-fits N k y))
         (sym (view-words M) ∙ e ∙ view-words N) x l)
 
-  pub view-of-masks : (M N : Mem) → ((x : ℕ) → x < n → maskMem sees shows M x ≡ maskMem sees shows N x) → viewBy n sees shows M ≡ viewBy n sees shows N
+  pub view-of-masks : (M N : Mem) → ((x : ℕ) → x < n → maskMem sees shows M x ≡ maskMem sees shows N x)
+      → viewBy n sees shows M ≡ viewBy n sees shows N
   unfolding wordsOf
   view-of-masks M N e = view-words M ∙ cells-ext n _ _ (λ x l. ap cell (e x l)) ∙ sym (view-words N)
 
@@ -126,16 +142,19 @@ module _ (s : Sheet) (sees shows : ℕ → Bool) where
 
   module _ (ws us : List ℕ) (h : memoryRefusal s ws ≡ 0) (k : memoryRefusal s us ≡ 0) where
     -- past the last location both memories have the integer 0
-    all-masks : ((x : ℕ) → x < locationCount s → Masked (memoryOf ws) x ≡ Masked (memoryOf us) x) → (x : ℕ) → Masked (memoryOf ws) x ≡ Masked (memoryOf us) x
+    all-masks : ((x : ℕ) → x < locationCount s → Masked (memoryOf ws) x ≡ Masked (memoryOf us) x) → (x : ℕ)
+        → Masked (memoryOf ws) x ≡ Masked (memoryOf us) x
     unfolding maskMem
     all-masks e x =
         by-below x (locationCount s) (e x)
         (λ m. ap (λ v. seen (sees x) (mask shows v))
         (value-past ws x (omega (arith, whole s ws h)) ∙ sym (value-past us x (omega (arith, whole s us k)))))
 
-    same-words : (Shown (memoryOf ws) ≡ Shown (memoryOf us)) ↔ ((x : ℕ) → Masked (memoryOf ws) x ≡ Masked (memoryOf us) x)
+    same-words : (Shown (memoryOf ws) ≡ Shown (memoryOf us))
+        ↔ ((x : ℕ) → Masked (memoryOf ws) x ≡ Masked (memoryOf us) x)
     same-words = (
-      λ e. all-masks (masks-of-view (locationCount s) sees shows (memoryOf ws) (memoryOf us) (fitting-values s ws h) (fitting-values s us k) e),
+      λ e. all-masks (masks-of-view (locationCount s) sees shows (memoryOf ws) (memoryOf us) (fitting-values s ws h)
+          (fitting-values s us k) e),
       λ e. view-of-masks (locationCount s) sees shows (memoryOf ws) (memoryOf us) (λ x l. e x),
     )
 
@@ -144,11 +163,13 @@ module _ (s : Sheet) (sees shows : ℕ → Bool) where
   unfolding maskMem
   words-left M N d e h =
       view-of-masks (locationCount s) sees shows _ _
-      (λ x l. ap (λ v. seen (sees x) (mask shows v)) (declared-back s M d x l) ∙ h x ∙ ap (λ v. seen (sees x) (mask shows v))
+      (λ x l. ap (λ v. seen (sees x) (mask shows v)) (declared-back s M d x l) ∙ h x
+      ∙ ap (λ v. seen (sees x) (mask shows v))
       (sym (declared-back s N e x l)))
 
 pub masks-exactly : MasksExactly
-masks-exactly s sees shows = record { same-words = same-words s sees shows; words-left = words-left s sees shows; no-longer = mask-size shows }
+masks-exactly s sees shows =
+    record { same-words = same-words s sees shows; words-left = words-left s sees shows; no-longer = mask-size shows }
 
 pub views-exactly : ViewsExactly
 unfolding viewWords
@@ -162,7 +183,8 @@ module _ (s : Sheet) (fm : formed s ≡ true) where
   fits-in-table : asDeclaredIn (tableOf s) ≡ asDeclared s
   unfolding asDeclaredIn asDeclared
   fits-in-table = fun-ext λ x. fun-ext λ v.
-      has-no s fm v (typeIn (tableOf s) x) (rw (types-in s fm) at (type-in-there s fm x)) ∙ ap (λ (n : ℕ). has v (tyOf s n)) (type-in s fm x)
+      has-no s fm v (typeIn (tableOf s) x) (rw (types-in s fm) at (type-in-there s fm x))
+      ∙ ap (λ (n : ℕ). has v (tyOf s n)) (type-in s fm x)
 
   refusal-in-table : (ws : List ℕ) → refusalIn (tableOf s) ws ≡ memoryRefusal s ws
   unfolding refusalIn wellFormedIn memoryRefusal wellFormed

@@ -27,7 +27,8 @@ module _ (h : Head) where
       rw e refl
 
   -- a head's words stored, and others after them
-  pub head-sets : (out : List ℕ) (to : ℕ) (ws : List ℕ) → sets (sets out to (headWords h [])) (to + headSize) ws ≡ sets out to (headWords h ws)
+  pub head-sets : (out : List ℕ) (to : ℕ) (ws : List ℕ)
+      → sets (sets out to (headWords h [])) (to + headSize) ws ≡ sets out to (headWords h ws)
   unfolding headWords
   head-sets out to ws = rw add-one refl
 
@@ -48,7 +49,8 @@ module _ (r : List ℕ → Got) where
   unfolding packaged
   package-none ws h = rw (lt-leb _ _ h) refl
 
-  pub package-some : (ws : List ℕ) → headSize ≤ length ws → packaged r ws ≡ wrap (pkg (headAt ws 0)) (r (drop headSize ws))
+  pub package-some : (ws : List ℕ) → headSize ≤ length ws
+      → packaged r ws ≡ wrap (pkg (headAt ws 0)) (r (drop headSize ws))
   unfolding packaged
   package-some ws h = rw (le-leb _ _ h) refl
 
@@ -56,6 +58,7 @@ module _ (r : List ℕ → Got) where
   unfolding headWords headAt
   package-head h ws = package-some (headWords h ws) (omega (arith, length-head h ws))
 
-pub packaged-same : (r r′ : List ℕ → Got) (ws : List ℕ) → ((us : List ℕ) → length us ≤ length ws → r us ≡ r′ us) → packaged r ws ≡ packaged r′ ws
+pub packaged-same : (r r′ : List ℕ → Got) (ws : List ℕ) → ((us : List ℕ) → length us ≤ length ws → r us ≡ r′ us)
+    → packaged r ws ≡ packaged r′ ws
 unfolding packaged
 packaged-same r r′ ws h = rw (h (drop headSize ws) (omega (arith, length-drop headSize ws))) refl

@@ -1,5 +1,5 @@
--- Laws of a memory whose words are well-formed, over the number of locations and labels and the test of each location's value:
--- its values, and its words from its values.
+-- Laws of a memory whose words are well-formed, over the number of locations and labels and the test of each location's
+-- value: its values, and its words from its values.
 -- Assumes nothing.
 use mathlib.Core.Path.{_≡_, refl, sym, ap, _∙_}
 use mathlib.Core.Bool.{Bool, true, false, cond}
@@ -14,7 +14,8 @@ use Rattle.sets.proofs.Walks.{by-below, every-true, every-at}
 use Rattle.language.specs.Syntax.{Value, int, size}
 use Rattle.language.specs.World.{Mem, cell-words}
 use Rattle.memory.specs.Words.{zeros, cell, valueOf}
-use Rattle.memory.specs.Memory.{cellOf, memoryOf, wordsOf, proper, exactly, holdsBy, formedBy, sliceRefusal, refusalBy}
+use Rattle.memory.specs.Memory.{cellOf, memoryOf, wordsOf, proper, exactly, holdsBy, formedBy, sliceRefusal}
+use Rattle.memory.specs.Memory.{refusalBy}
 use Rattle.memory.proofs.WordLaws.{length-enc, length-cell, value-cell}
 use Rattle.memory.proofs.CellLaws.{equal-refl, equal-means}
 use Rattle.memory.proofs.CellsLaws.{Cellwise, length-cells, cells-at, cells-ext, cells-all, length-cell-of}
@@ -49,11 +50,13 @@ module _ (ws : List ℕ) (x : ℕ) where
   unfolding memoryOf
   value-past h = simp (le-ltb _ _ h)
 
-module _ (n labels : ℕ) (test : ℕ → Value → Bool) (ws : List ℕ) (whole : length ws ≡ cell-words * n) (f : formedBy n labels test ws ≡ true) where
+module _ (n labels : ℕ) (test : ℕ → Value → Bool) (ws : List ℕ) (whole : length ws ≡ cell-words * n)
+    (f : formedBy n labels test ws ≡ true) where
   pub value-exact : (x : ℕ) → x < n
       → (proper labels (memoryOf ws x) ≡ true) × (test x (memoryOf ws x) ≡ true) × (cell (memoryOf ws x) ≡ cellOf ws x)
   unfolding formedBy
-  value-exact x l = rw (value-there ws x (omega arith)) (exact-parts labels (test x) (cellOf ws x) _ (every-at n _ f x l))
+  value-exact x l =
+      rw (value-there ws x (omega arith)) (exact-parts labels (test x) (cellOf ws x) _ (every-at n _ f x l))
 
   -- the words of a location are those of its value
   pub value-words : (x : ℕ) → x < n → cell (memoryOf ws x) ≡ cellOf ws x
@@ -72,7 +75,8 @@ module _ (n labels : ℕ) (test : ℕ → Value → Bool) (ws : List ℕ) (whole
   -- no value is too long
   pub value-fits : (x : ℕ) → size (memoryOf ws x) ≤ cell-words
   unfolding size
-  value-fits = by-place (λ v. size v ≤ cell-words) (omega arith) (λ x l. cell-fits (memoryOf ws x) (ap length (value-words x l) ∙ length-cell-of ws x (omega arith)))
+  value-fits = by-place (λ v. size v ≤ cell-words) (omega arith)
+      (λ x l. cell-fits (memoryOf ws x) (ap length (value-words x l) ∙ length-cell-of ws x (omega arith)))
 
   -- the words are those of the values
   pub words-back : wordsOf n (memoryOf ws) ≡ ws
@@ -95,13 +99,16 @@ module _ (n : ℕ) (M : Mem) (fits : (x : ℕ) → x < n → size (M x) ≤ cell
 
   -- the values are back
   pub values-back : (x : ℕ) → x < n → memoryOf (wordsOf n M) x ≡ M x
-  values-back x l = value-there (wordsOf n M) x (omega (arith, length-words)) ∙ ap valueOf (words-at x l) ∙ value-cell (M x)
+  values-back x l =
+      value-there (wordsOf n M) x (omega (arith, length-words)) ∙ ap valueOf (words-at x l) ∙ value-cell (M x)
 
-  pub words-formed : (labels : ℕ) (test : ℕ → Value → Bool) → ((x : ℕ) → x < n → proper labels (M x) ≡ true) → ((x : ℕ) → x < n → test x (M x) ≡ true)
+  pub words-formed : (labels : ℕ) (test : ℕ → Value → Bool) → ((x : ℕ) → x < n → proper labels (M x) ≡ true)
+      → ((x : ℕ) → x < n → test x (M x) ≡ true)
       → formedBy n labels test (wordsOf n M) ≡ true
   unfolding formedBy
   words-formed labels test p q =
-      every-true n _ (λ x l. cell-holds labels (test x) (cellOf (wordsOf n M) x) (M x) (p x l) (q x l) (sym (words-at x l)))
+      every-true n _
+      (λ x l. cell-holds labels (test x) (cellOf (wordsOf n M) x) (M x) (p x l) (q x l) (sym (words-at x l)))
 
 -- ---- refusals
 

@@ -26,10 +26,12 @@ module _ (ws : List ℕ) (at : ℕ) where
   at-past h = ap readOf (past h)
 
   module _ (h : at < length ws) where
-    pub at-numeral : {w : ℕ} {f : ℕ → Value} → Numeral w f → getD ws at 0 ≡ w → readOf (drop at ws) ≡ numbered f (drop (at + 1) ws)
+    pub at-numeral : {w : ℕ} {f : ℕ → Value} → Numeral w f → getD ws at 0 ≡ w
+        → readOf (drop at ws) ≡ numbered f (drop (at + 1) ws)
     at-numeral k e = ap readOf (here _ h e) ∙ read-numeral (drop (at + 1) ws) k
 
-    pub at-side : {w : ℕ} {f : Value → Value} → Side w f → getD ws at 0 ≡ w → readOf (drop at ws) ≡ wrap f (readOf (drop (at + 1) ws))
+    pub at-side : {w : ℕ} {f : Value → Value} → Side w f → getD ws at 0 ≡ w
+        → readOf (drop at ws) ≡ wrap f (readOf (drop (at + 1) ws))
     at-side k e = ap readOf (here _ h e) ∙ read-side (drop (at + 1) ws) k
 
     pub at-package : getD ws at 0 ≡ 5 → readOf (drop at ws) ≡ packaged readOf (drop (at + 1) ws)
@@ -42,8 +44,10 @@ module _ (ws : List ℕ) (at : ℕ) where
     at-none o = ap readOf (here (getD ws at 0) h refl) ∙ read-none (drop (at + 1) ws) (getD ws at 0) o
 
   -- the head of a package, and the content after it
-  pub headed : at + headSize ≤ length ws → packaged readOf (drop at ws) ≡ wrap (pkg (headAt ws at)) (readOf (drop (at + headSize) ws))
-  headed h = package-some readOf (drop at ws) (omega (arith, length-drop at ws)) ∙ rw (head-from ws at, drop-drop headSize at ws) refl
+  pub headed : at + headSize ≤ length ws
+      → packaged readOf (drop at ws) ≡ wrap (pkg (headAt ws at)) (readOf (drop (at + headSize) ws))
+  headed h = package-some readOf (drop at ws) (omega (arith, length-drop at ws))
+      ∙ rw (head-from ws at, drop-drop headSize at ws) refl
 
   pub headless : length ws ≤ at → packaged readOf (drop at ws) ≡ (blank, [])
   headless h = package-none readOf (drop at ws) (omega (arith, length-drop at ws))

@@ -9,7 +9,8 @@ use Rattle.language.specs.Syntax.{Value, pair, Part, first, second, pick}
 use Rattle.language.proofs.Invariants.{Kept}
 use Rattle.memory.specs.Memory.{properHead, proper}
 
-proper-part : (labels : ℕ) (p : Part) (v w : Value) → proper labels (pair v w) ≡ true → proper labels (pick p v w) ≡ true
+proper-part : (labels : ℕ) (p : Part) (v w : Value) → proper labels (pair v w) ≡ true
+    → proper labels (pick p v w) ≡ true
 unfolding proper pick
 proper-part labels first v w h = both-left _ _ h
 proper-part labels second v w h = both-right _ _ h

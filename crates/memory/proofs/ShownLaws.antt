@@ -15,7 +15,8 @@ use Rattle.sheet.specs.Internal.Tables.{labelsIn, locationsIn, readsIn}
 use Rattle.memory.specs.Words.{valueOf}
 use Rattle.memory.specs.Memory.{cellOf, memoryOf, cells, sliceRefusal}
 use Rattle.memory.specs.View.{viewCell, viewBy}
-use Rattle.memory.specs.Internal.InTable.{leaves, asDeclaredIn, wellFormedIn, refusalIn, seesIn, viewIn, viewRefusalIn, viewLeavesIn}
+use Rattle.memory.specs.Internal.InTable.{leaves, asDeclaredIn, wellFormedIn, refusalIn, seesIn, viewIn}
+use Rattle.memory.specs.Internal.InTable.{viewRefusalIn, viewLeavesIn}
 use Rattle.memory.proofs.WordLaws.{length-cell}
 use Rattle.memory.proofs.CellsLaws.{Cellwise, stored-more, stored-all}
 use Rattle.memory.proofs.MemoryLaws.{value-there, value-fits, unrefused-length, unrefused-formed}
@@ -36,24 +37,31 @@ module _ (t ws : List ℕ) where
 
     fits-in : (x : ℕ) → size (memoryOf ws x) ≤ cell-words
     unfolding refusalIn wellFormedIn
-    fits-in = value-fits (locationsIn t) (labelsIn t) (asDeclaredIn t) ws whole-in (unrefused-formed (locationsIn t) (wellFormedIn t ws) ws h)
+    fits-in = value-fits (locationsIn t) (labelsIn t) (asDeclaredIn t) ws whole-in
+        (unrefused-formed (locationsIn t) (wellFormedIn t ws) ws h)
 
     pub shown-cellwise : (g n : ℕ) → Cellwise n (Shown g)
-    shown-cellwise g n x l = length-view-cell (seesIn t g x) (mask (readsIn t g) (memoryOf ws x)) (omega (arith, mask-size (readsIn t g) (memoryOf ws x), fits-in x))
+    shown-cellwise g n x l = length-view-cell (seesIn t g x) (mask (readsIn t g) (memoryOf ws x))
+        (omega (arith, mask-size (readsIn t g) (memoryOf ws x), fits-in x))
 
     pub shown-is : (g x : ℕ) {r : List ℕ} → x < locationsIn t
-        → (size (valueOf (cellOf ws x)) ≤ cell-words → r ≡ viewCell (seesIn t g x) (mask (readsIn t g) (valueOf (cellOf ws x)))) → r ≡ Shown g x
+        → (size (valueOf (cellOf ws x)) ≤ cell-words
+        → r ≡ viewCell (seesIn t g x) (mask (readsIn t g) (valueOf (cellOf ws x)))) → r ≡ Shown g x
     shown-is g x l k =
         let e : memoryOf ws x ≡ valueOf (cellOf ws x) = value-there ws x (omega (arith, whole-in)) in
         k (rw e at (fits-in x)) ∙ ap (λ v. viewCell (seesIn t g x) (mask (readsIn t g) v)) (sym e)
 
     -- x locations are stored, and the rest is as in d
-    pub view-more : (g x : ℕ) (d us vs c : List ℕ) → us ≡ cells x (Shown g) ++ drop (cell-words * x) d → x < locationsIn t
-        → (size (valueOf (cellOf ws x)) ≤ cell-words → c ≡ viewCell (seesIn t g x) (mask (readsIn t g) (valueOf (cellOf ws x))))
+    pub view-more : (g x : ℕ) (d us vs c : List ℕ) → us ≡ cells x (Shown g) ++ drop (cell-words * x) d
+        → x < locationsIn t
+        → (size (valueOf (cellOf ws x)) ≤ cell-words
+        → c ≡ viewCell (seesIn t g x) (mask (readsIn t g) (valueOf (cellOf ws x))))
         → vs ≡ paste us (cell-words * x) c cell-words → vs ≡ cells (x + 1) (Shown g) ++ drop (cell-words * (x + 1)) d
-    view-more g x d us vs c e l k p = stored-more (Shown g) x d us vs c (λ y m. shown-cellwise g _ y m) e (shown-is g x l k) p
+    view-more g x d us vs c e l k p =
+        stored-more (Shown g) x d us vs c (λ y m. shown-cellwise g _ y m) e (shown-is g x l k) p
 
-  pub view-all : (g : ℕ) (d us : List ℕ) (n : ℕ) → us ≡ cells n (Shown g) ++ drop (cell-words * n) d → n ≡ locationsIn t → length d ≡ cell-words * locationsIn t
+  pub view-all : (g : ℕ) (d us : List ℕ) (n : ℕ) → us ≡ cells n (Shown g) ++ drop (cell-words * n) d → n ≡ locationsIn t
+      → length d ≡ cell-words * locationsIn t
       → us ≡ viewIn t g ws
   unfolding viewIn viewBy
   view-all g d us n e k m = stored-all (Shown g) n d us (omega arith) e ∙ ap (λ (j : ℕ). cells j (Shown g)) k

@@ -34,7 +34,8 @@ mask-size shows (int n) = omega arith
 mask-size shows (err e) = omega arith
 mask-size shows (inl v) = omega (arith, mask-size shows v)
 mask-size shows (inr v) = omega (arith, mask-size shows v)
-mask-size shows (pkg h v) = omega (arith, seen-size (shows (h .label)) (mask shows v) (size v) (mask-size shows v) (size-pos v))
+mask-size shows (pkg h v) =
+    omega (arith, seen-size (shows (h .label)) (mask shows v) (size v) (mask-size shows v) (size-pos v))
 mask-size shows (pair v w) = omega (arith, mask-size shows v, mask-size shows w)
 mask-size shows blank = omega arith
 
@@ -58,7 +59,8 @@ stored-cell v h =
     let n : length (enc v []) ≡ size v = length-enc v [] ∙ add-zero (size v) in
     let e : cell-words ≡ size v + (cell-words - size v) = omega arith in
     sets-eq (enc v []) (zeros cell-words) 0 (omega arith)
-    ∙ rw (zero-add (length (enc v [])), n) (ap (λ (us : List ℕ). enc v [] ++ us) (ap (λ (k : ℕ). drop (size v) (zeros k)) e ∙ drop-zeros (size v) (cell-words - size v)))
+    ∙ rw (zero-add (length (enc v [])), n) (ap (λ (us : List ℕ). enc v [] ++ us)
+    (ap (λ (k : ℕ). drop (size v) (zeros k)) e ∙ drop-zeros (size v) (cell-words - size v)))
     ∙ enc-append v [] (zeros (cell-words - size v))
 
 -- ---- one location
@@ -74,9 +76,12 @@ module _ (t ws : List ℕ) (g x : ℕ) {home : ℕ} {r : Bool} (e : home ≡ hom
 
   pub shown-view : {left : List ℕ} {next end : ℕ} → r ≡ true
       → Masks (readsIn t g) (take (cell-words * x + cell-words - cell-words * x) (drop (cell-words * x) ws))
-      (readOf (take (cell-words * x + cell-words - cell-words * x) (drop (cell-words * x) ws))) (zeros cell-words) 0 left next end
-      → size (valueOf (cellOf ws x)) ≤ cell-words → left ≡ viewCell (seesIn t g x) (mask (readsIn t g) (valueOf (cellOf ws x)))
+      (readOf (take (cell-words * x + cell-words - cell-words * x) (drop (cell-words * x) ws)))
+      (zeros cell-words) 0 left next end
+      → size (valueOf (cellOf ws x)) ≤ cell-words
+      → left ≡ viewCell (seesIn t g x) (mask (readsIn t g) (valueOf (cellOf ws x)))
   unfolding viewCell
   shown-view h m s =
       let q = mask-size (readsIn t g) (valueOf (cellOf ws x)) in
-      m .stored ∙ rw (part-cell ws x, sees-is, h) (stored-cell (mask (readsIn t g) (valueOf (cellOf ws x))) (omega arith))
+      m .stored
+      ∙ rw (part-cell ws x, sees-is, h) (stored-cell (mask (readsIn t g) (valueOf (cellOf ws x))) (omega arith))

@@ -13,10 +13,12 @@ use Rattle.logic.proofs.BooleanLaws.{absurd-false, both-left, both-right}
 use Rattle.sets.proofs.Walks.{by-below}
 use Rattle.language.specs.Syntax.{Head, headSize, Value, int, err, inl, inr, pkg, pair, blank, size}
 use Rattle.language.specs.World.{cell-words}
-use Rattle.memory.specs.Words.{headWords, enc, zeros, cell, Got, wrap, numbered, packaged, paired, tagged, read, readOf, valueOf}
+use Rattle.memory.specs.Words.{headWords, enc, zeros, cell, Got, wrap, numbered, packaged, paired, tagged, read}
+use Rattle.memory.specs.Words.{readOf, valueOf}
 use Rattle.memory.specs.Internal.Post.{endOf, Numeral, num-int, num-err}
 use Rattle.memory.specs.Memory.{proper}
-use Rattle.memory.proofs.HeadLaws.{length-head, head-append, head-whole, package-head, package-none, package-some, packaged-same}
+use Rattle.memory.proofs.HeadLaws.{length-head, head-append, head-whole, package-head, package-none}
+use Rattle.memory.proofs.HeadLaws.{package-some, packaged-same}
 
 -- ---- lengths
 
@@ -47,8 +49,10 @@ enc-append (int n) rest more = refl
 enc-append (err e) rest more = refl
 enc-append (inl v) rest more = ap (λ (us : List ℕ). 3 ∷ us) (enc-append v rest more)
 enc-append (inr v) rest more = ap (λ (us : List ℕ). 4 ∷ us) (enc-append v rest more)
-enc-append (pkg h v) rest more = ap (λ (us : List ℕ). 5 ∷ us) (head-append h (enc v rest) more ∙ ap (headWords h) (enc-append v rest more))
-enc-append (pair v w) rest more = ap (λ (us : List ℕ). 6 ∷ us) (enc-append v (enc w rest) more ∙ ap (enc v) (enc-append w rest more))
+enc-append (pkg h v) rest more =
+    ap (λ (us : List ℕ). 5 ∷ us) (head-append h (enc v rest) more ∙ ap (headWords h) (enc-append v rest more))
+enc-append (pair v w) rest more =
+    ap (λ (us : List ℕ). 6 ∷ us) (enc-append v (enc w rest) more ∙ ap (enc v) (enc-append w rest more))
 enc-append blank rest more = refl
 
 pub length-cell : (v : Value) → size v ≤ cell-words → length (cell v) ≡ cell-words
@@ -71,7 +75,8 @@ data Reads : List ℕ → Got → Type 0 where
   r-pair : {ws : List ℕ} {g k : Got} → Reads ws g → Reads (g .1) k → Reads (6 ∷ ws) (wrap (pair (g .0)) k)
 
 -- by whether the first word is n
-on-word : (n w : ℕ) (ws : List ℕ) (x y : Got) → Reads (n ∷ ws) x → Reads (w ∷ ws) y → Reads (w ∷ ws) (cond (eqb w n) x y)
+on-word : (n w : ℕ) (ws : List ℕ) (x y : Got) → Reads (n ∷ ws) x → Reads (w ∷ ws) y
+    → Reads (w ∷ ws) (cond (eqb w n) x y)
 on-word n w ws x y h k = at (eqb w n) refl
   where
     at : (b : Bool) → eqb w n ≡ b → Reads (w ∷ ws) (cond b x y)
@@ -86,9 +91,11 @@ reads-numeral {w} k (n ∷ ws) = r-num k
 reads-pkg : (r : List ℕ → Got) → ((us : List ℕ) → Reads us (r us)) → (ws : List ℕ) → Reads (5 ∷ ws) (packaged r ws)
 reads-pkg r h ws =
     by-below (length ws) headSize (λ l. rw (package-none r ws l) (r-none (5 ∷ ws) [] (omega arith)))
-    (λ l. subst (λ us. Reads (5 ∷ us) (packaged r ws)) (head-whole ws l) (rw (package-some r ws l) (r-pkg _ (h (drop headSize ws)))))
+    (λ l. subst (λ us. Reads (5 ∷ us) (packaged r ws)) (head-whole ws l)
+    (rw (package-some r ws l) (r-pkg _ (h (drop headSize ws)))))
 
-reads-tagged : (r : List ℕ → Got) → ((us : List ℕ) → Reads us (r us)) → (w : ℕ) (ws : List ℕ) → Reads (w ∷ ws) (tagged r w ws)
+reads-tagged : (r : List ℕ → Got) → ((us : List ℕ) → Reads us (r us)) → (w : ℕ) (ws : List ℕ)
+    → Reads (w ∷ ws) (tagged r w ws)
 unfolding tagged paired
 reads-tagged r h w ws =
     on-word 1 w ws _ _ (reads-numeral num-int ws)
@@ -129,7 +136,8 @@ read-shortens k us = omega (arith, reads-size (reads k us), size-pos (read k us 
 
 -- ---- reading: more words allowed than there are change nothing
 
-module _ (r r′ : List ℕ → Got) (s : Shortens r) (ws : List ℕ) (h : (us : List ℕ) → length us ≤ length ws → r us ≡ r′ us) where
+module _ (r r′ : List ℕ → Got) (s : Shortens r) (ws : List ℕ)
+    (h : (us : List ℕ) → length us ≤ length ws → r us ≡ r′ us) where
   paired-same : paired r ws ≡ paired r′ ws
   unfolding paired
   paired-same = rw (h (r ws .1) (s ws), h ws (le-refl (length ws))) refl
@@ -146,7 +154,8 @@ read-any zero (suc j) (w ∷ ws) h h′ = absurd (omega arith)
 read-any (suc k) zero [] h h′ = refl
 read-any (suc k) zero (w ∷ ws) h h′ = absurd (omega arith)
 read-any (suc k) (suc j) [] h h′ = refl
-read-any (suc k) (suc j) (w ∷ ws) h h′ = tagged-same (λ us. read k us) (λ us. read j us) (read-shortens k) ws (λ us l. read-any k j us (omega arith) (omega arith)) w
+read-any (suc k) (suc j) (w ∷ ws) h h′ = tagged-same (λ us. read k us) (λ us. read j us) (read-shortens k) ws
+    (λ us l. read-any k j us (omega arith) (omega arith)) w
 
 -- ---- reading, by the first word
 
@@ -167,15 +176,18 @@ module _ (ws : List ℕ) where
 
   pub read-package : readOf (5 ∷ ws) ≡ packaged readOf ws
   unfolding readOf read tagged
-  read-package = packaged-same (λ us. read (length ws) us) readOf ws (λ us h. read-any (length ws) (length us) us h (le-refl (length us)))
+  read-package = packaged-same (λ us. read (length ws) us) readOf ws
+      (λ us h. read-any (length ws) (length us) us h (le-refl (length us)))
 
   pub read-pair : readOf (6 ∷ ws) ≡ paired readOf ws
   unfolding readOf read tagged
-  read-pair = paired-same (λ us. read (length ws) us) readOf (read-shortens (length ws)) ws (λ us h. read-any (length ws) (length us) us h (le-refl (length us)))
+  read-pair = paired-same (λ us. read (length ws) us) readOf (read-shortens (length ws)) ws
+      (λ us h. read-any (length ws) (length us) us h (le-refl (length us)))
 
   pub read-none : (w : ℕ) → Other w → readOf (w ∷ ws) ≡ (blank, ws)
   unfolding readOf read tagged
-  read-none w ((((((_, n1), n2), n3), n4), n5), n6) = simp (ne-eqb w 1 n1, ne-eqb w 2 n2, ne-eqb w 3 n3, ne-eqb w 4 n4, ne-eqb w 5 n5, ne-eqb w 6 n6)
+  read-none w ((((((_, n1), n2), n3), n4), n5), n6) =
+      simp (ne-eqb w 1 n1, ne-eqb w 2 n2, ne-eqb w 3 n3, ne-eqb w 4 n4, ne-eqb w 5 n5, ne-eqb w 6 n6)
 
 -- ---- reading the words of a value
 
@@ -185,10 +197,15 @@ read-enc (int n) rest = read-numeral (n ∷ rest) num-int
 read-enc (err e) rest = read-numeral (e ∷ rest) num-err
 read-enc (inl v) rest = read-side (enc v rest) to-left ∙ ap (wrap inl) (read-enc v rest)
 read-enc (inr v) rest = read-side (enc v rest) to-right ∙ ap (wrap inr) (read-enc v rest)
-read-enc (pkg h v) rest = read-package (headWords h (enc v rest)) ∙ package-head readOf h (enc v rest) ∙ ap (wrap (pkg h)) (read-enc v rest)
-read-enc (pair v w) rest = read-pair (enc v (enc w rest)) ∙ rw (read-enc v (enc w rest)) (ap (wrap (pair v)) (read-enc w rest))
+read-enc (pkg h v) rest =
+    read-package (headWords h (enc v rest)) ∙ package-head readOf h (enc v rest) ∙ ap (wrap (pkg h)) (read-enc v rest)
+read-enc (pair v w) rest =
+    read-pair (enc v (enc w rest)) ∙ rw (read-enc v (enc w rest)) (ap (wrap (pair v)) (read-enc w rest))
 read-enc blank rest =
-    read-none rest 0 ((((((tt, λ h. omega arith), λ h. omega arith), λ h. omega arith), λ h. omega arith), λ h. omega arith), λ h. omega arith)
+    read-none rest 0 (
+      (((((tt, λ h. omega arith), λ h. omega arith), λ h. omega arith), λ h. omega arith), λ h. omega arith),
+      λ h. omega arith,
+    )
 
 pub value-enc : (v : Value) (rest : List ℕ) → valueOf (enc v rest) ≡ v
 value-enc v rest = ap (λ (g : Got). g .0) (read-enc v rest)
@@ -218,7 +235,8 @@ exact labels (r-side to-left h) p = ap (λ (us : List ℕ). 3 ∷ us) (exact lab
 exact labels (r-side to-right h) p = ap (λ (us : List ℕ). 4 ∷ us) (exact labels h p)
 exact labels (r-pkg h r) p = ap (λ (us : List ℕ). 5 ∷ headWords h us) (exact labels r (both-right _ _ p))
 exact labels (r-pair {g = g} r k) p =
-    ap (λ (us : List ℕ). 6 ∷ us) (ap (enc (g .0)) (exact labels k (both-right _ _ p)) ∙ exact labels r (both-left _ _ p))
+    ap (λ (us : List ℕ). 6 ∷ us)
+    (ap (enc (g .0)) (exact labels k (both-right _ _ p)) ∙ exact labels r (both-left _ _ p))
 
 pub read-exact : (labels : ℕ) (ws : List ℕ) → proper labels (valueOf ws) ≡ true → enc (readOf ws .0) (readOf ws .1) ≡ ws
 unfolding readOf

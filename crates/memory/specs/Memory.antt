@@ -15,7 +15,8 @@ use Rattle.memory.specs.Words.{cell, valueOf}
 unfoldable pub cellOf : List ℕ → ℕ → List ℕ
 cellOf ws x = take cell-words (drop (cell-words * x) ws)
 
--- The value at each location. A number past the last location has the integer 0, which is of the type that a sheet gives it.
+-- The value at each location. A number past the last location has the integer 0, which is of the type that
+-- a sheet gives it.
 unfoldable pub memoryOf : List ℕ → Mem
 memoryOf ws = λ x. cond (ltb (cell-words * x) (length ws)) (valueOf (cellOf ws x)) (int 0)
 

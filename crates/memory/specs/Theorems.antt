@@ -15,7 +15,8 @@ use Rattle.memory.specs.Words.{enc, cell, readOf, valueOf}
 use Rattle.memory.specs.Memory.{memoryOf, wordsOf, proper, holdsBy, memoryRefusal}
 use Rattle.memory.specs.View.{viewBy, seesNo, viewWords}
 
--- Reading gives back the value whose words stand there, and what it gives that is proper stands there; a cell is that of one value.
+-- Reading gives back the value whose words stand there, and what it gives that is proper stands there; a cell is
+-- that of one value.
 pub record WordsExactly : Type 0 where
   pub read-back : (v : Value) (rest : List ℕ) → readOf (enc v rest) ≡ (v, rest)
   pub no-other : (labels : ℕ) (ws : List ℕ) → proper labels (valueOf ws) ≡ true → enc (valueOf ws) (readOf ws .1) ≡ ws
@@ -37,7 +38,8 @@ pub record MemoryExactly (s : Sheet) : Type 0 where
   pub values : (ws : List ℕ) → memoryRefusal s ws ≡ 0 → Declared s (memoryOf ws)
   pub words : (ws : List ℕ) → memoryRefusal s ws ≡ 0 → wordsOf (locationCount s) (memoryOf ws) ≡ ws
   pub accepted : (M : Mem) → Declared s M → memoryRefusal s (wordsOf (locationCount s) M) ≡ 0
-  pub values-back : (M : Mem) → Declared s M → (x : ℕ) → x < locationCount s → memoryOf (wordsOf (locationCount s) M) x ≡ M x
+  pub values-back : (M : Mem) → Declared s M → (x : ℕ) → x < locationCount s
+      → memoryOf (wordsOf (locationCount s) M) x ≡ M x
 
 abbrev pub MemoriesExactly : Type 0
 MemoriesExactly = (s : Sheet) → MemoryExactly s
@@ -46,8 +48,10 @@ MemoriesExactly = (s : Sheet) → MemoryExactly s
 pub record ViewExactly (s : Sheet) (g : ℕ) : Type 0 where
   pub same-view : (ws us : List ℕ) → memoryRefusal s ws ≡ 0 → memoryRefusal s us ≡ 0
       → (viewWords s g ws ≡ viewWords s g us)
-      ↔ ((x : ℕ) → maskMem (seesNo s g) (readsNo s g) (memoryOf ws) x ≡ maskMem (seesNo s g) (readsNo s g) (memoryOf us) x)
-  pub same-left : (M N : Mem) → Declared s M → Declared s N → ((x : ℕ) → maskMem (seesNo s g) (readsNo s g) M x ≡ maskMem (seesNo s g) (readsNo s g) N x)
+      ↔ ((x : ℕ)
+      → maskMem (seesNo s g) (readsNo s g) (memoryOf ws) x ≡ maskMem (seesNo s g) (readsNo s g) (memoryOf us) x)
+  pub same-left : (M N : Mem) → Declared s M → Declared s N
+      → ((x : ℕ) → maskMem (seesNo s g) (readsNo s g) M x ≡ maskMem (seesNo s g) (readsNo s g) N x)
       → viewWords s g (wordsOf (locationCount s) M) ≡ viewWords s g (wordsOf (locationCount s) N)
   pub no-longer : (v : Value) → size (mask (readsNo s g) v) ≤ size v
 
@@ -61,7 +65,8 @@ pub record MaskExactly (s : Sheet) (sees shows : ℕ → Bool) : Type 0 where
   pub same-words : (ws us : List ℕ) → memoryRefusal s ws ≡ 0 → memoryRefusal s us ≡ 0
       → (viewBy (locationCount s) sees shows (memoryOf ws) ≡ viewBy (locationCount s) sees shows (memoryOf us))
       ↔ ((x : ℕ) → maskMem sees shows (memoryOf ws) x ≡ maskMem sees shows (memoryOf us) x)
-  pub words-left : (M N : Mem) → Declared s M → Declared s N → ((x : ℕ) → maskMem sees shows M x ≡ maskMem sees shows N x)
+  pub words-left : (M N : Mem) → Declared s M → Declared s N
+      → ((x : ℕ) → maskMem sees shows M x ≡ maskMem sees shows N x)
       → viewBy (locationCount s) sees shows (memoryOf (wordsOf (locationCount s) M))
       ≡ viewBy (locationCount s) sees shows (memoryOf (wordsOf (locationCount s) N))
   pub no-longer : (v : Value) → size (mask shows v) ≤ size v

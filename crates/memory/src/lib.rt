@@ -18,7 +18,8 @@ ghost use Rattle.memory.specs.Internal.Post.{endOf};
 ghost use Rattle.memory.specs.Memory.{holdsBy, cellOf};
 ghost use Rattle.memory.specs.View.{viewCell};
 ghost use Rattle.memory.specs.Verdict.{memoryNumber};
-ghost use Rattle.memory.specs.Internal.InTable.{asDeclaredIn, refusalIn, seesIn, viewIn, viewRefusalIn, viewLeavesIn};
+ghost use Rattle.memory.specs.Internal.InTable.{asDeclaredIn, refusalIn, seesIn, viewIn, viewRefusalIn};
+ghost use Rattle.memory.specs.Internal.InTable.{viewLeavesIn};
 use sets::Set;
 use sheet::Word;
 
@@ -46,8 +47,8 @@ pub const LABEL: usize = 1;
 
 pub const CONTENT: usize = LABEL + HEAD;
 
-// What is found of the slices that are lent: a memory that is well-formed, in slices of their size; a slice that isn't 16 words for each
-// location; or a memory that isn't well-formed.
+// What is found of the slices that are lent: a memory that is well-formed, in slices of their size; a slice that isn't
+// 16 words for each location; or a memory that isn't well-formed.
 pub enum Verdict {
     Accepted,
     OtherSize,
@@ -116,7 +117,8 @@ fn one_more(words: &[u32], at: usize, ty: u32, wanted: u32) -> bool
 // Whether the words of a location are exactly those of a proper value of a type.
 fn holds(table: &[Word], words: &[u32], ty: u32) -> bool
     requires { ⌜ length (now words) ≡ cell-words ⌝ }
-    ensures { λ r. ⌜ r ≡ holdsBy (labelsIn (now (table .entry))) (λ v. hasNo (now (table .entry)) v ty) (now (words .entry)) ⌝ }
+    ensures { λ r. ⌜ r ≡ holdsBy (labelsIn (now (table .entry))) (λ v. hasNo (now (table .entry)) v ty)
+        (now (words .entry)) ⌝ }
 {
     let walked = values::value_at(sheet::labels(table), words, 0);
     if !walked.ok {
@@ -132,7 +134,8 @@ fn holds(table: &[Word], words: &[u32], ty: u32) -> bool
 // Whether location x of a memory holds a value as declared.
 fn location_holds(table: &[Word], memory: &[u32], x: u32) -> bool
     requires { ⌜ cell-words * x + cell-words ≤ length (now memory) ⌝ }
-    ensures { λ r. ⌜ r ≡ holdsBy (labelsIn (now (table .entry))) (asDeclaredIn (now (table .entry)) x) (cellOf (now (memory .entry)) x) ⌝ }
+    ensures { λ r. ⌜ r ≡ holdsBy (labelsIn (now (table .entry))) (asDeclaredIn (now (table .entry)) x)
+        (cellOf (now (memory .entry)) x) ⌝ }
 {
     let start = CELL * (x as usize);
     let end = start + CELL;
@@ -161,7 +164,8 @@ pub fn judge(table: &[Word], memory: &[u32]) -> Verdict
 fn location_view(table: &[Word], memory: &[u32], group: Set, x: u32) -> [u32; CELL]
     requires { ⌜ cell-words * x + cell-words ≤ length (now memory) ⌝ }
     ensures { λ r. ⌜ (size (valueOf (cellOf (now (memory .entry)) x)) ≤ cell-words
-        → r ≡ viewCell (seesIn (now (table .entry)) group x) (mask (readsIn (now (table .entry)) group) (valueOf (cellOf (now (memory .entry)) x)))) ⌝ }
+        → r ≡ viewCell (seesIn (now (table .entry)) group x)
+        (mask (readsIn (now (table .entry)) group) (valueOf (cellOf (now (memory .entry)) x)))) ⌝ }
 {
     let mut out = [0u32; CELL];
     if sheet::reads(table, group, sheet::location_label(table, x)) {
@@ -185,7 +189,8 @@ fn put_cell(shown: &mut [u32], x: u32, cell: [u32; CELL])
 
 // Stores what a group is shown of a well-formed memory.
 fn view_each(table: &[Word], memory: &[u32], group: Set, shown: &mut [u32])
-    requires { ⌜ (refusalIn (now table) (now memory) ≡ 0) × (length (now shown) ≡ cell-words * locationsIn (now table)) ⌝ }
+    requires { ⌜ (refusalIn (now table) (now memory) ≡ 0)
+        × (length (now shown) ≡ cell-words * locationsIn (now table)) ⌝ }
     ensures { λ _. ⌜ now (shown .exit) ≡ viewIn (now (table .entry)) group (now (memory .entry)) ⌝ }
 {
     let n = sheet::locations(table);
@@ -199,8 +204,10 @@ fn view_each(table: &[Word], memory: &[u32], group: Set, shown: &mut [u32])
 
 // Stores what a group is shown of a memory, if both slices have their size and the memory is well-formed; else nothing.
 pub fn view(table: &[Word], memory: &[u32], group: Set, shown: &mut [u32]) -> Verdict
-    ensures { λ r. ⌜ memoryNumber r ≡ viewRefusalIn (now (table .entry)) (now (memory .entry)) (length (now (shown .entry))) ⌝ }
-    ensures { λ r. ⌜ now (shown .exit) ≡ viewLeavesIn (now (table .entry)) group (now (memory .entry)) (now (shown .entry)) ⌝ }
+    ensures { λ r. ⌜ memoryNumber r
+        ≡ viewRefusalIn (now (table .entry)) (now (memory .entry)) (length (now (shown .entry))) ⌝ }
+    ensures { λ r. ⌜ now (shown .exit)
+        ≡ viewLeavesIn (now (table .entry)) group (now (memory .entry)) (now (shown .entry)) ⌝ }
 {
     if shown.len() != CELL * (sheet::locations(table) as usize) {
         return Verdict::OtherSize;

@@ -28,7 +28,8 @@ pub(crate) fn mask_at(
     to: usize,
 ) -> Places
     requires { ⌜ to + 2 * (length (now words) - at) ≤ 2 * length (now words) ⌝ }
-    ensures { λ r. ⌜ Masks (readsIn (now (table .entry)) group) (now (words .entry)) (readOf (drop at (now (words .entry))))
+    ensures { λ r. ⌜ Masks (readsIn (now (table .entry)) group) (now (words .entry))
+        (readOf (drop at (now (words .entry))))
         (now (out .entry)) to (now (out .exit)) (r .next) (r .end) ⌝ }
 {
     if words.len() <= at {
@@ -87,7 +88,8 @@ fn mask_blank(next: usize, out: &mut [u32], to: usize) -> Places
 fn mask_number(words: &[u32], at: usize, out: &mut [u32], to: usize) -> Places
     requires { ⌜ (to ≤ 2 * length (now words)) × (at < length (now words)) ⌝ }
     ensures { λ r. ⌜ ((shows : ℕ → Bool) (f : ℕ → Value) → Numeral (getD (now (words .entry)) at 0) f
-        → Masks shows (now (words .entry)) (numbered f (drop (at + 1) (now (words .entry)))) (now (out .entry)) to (now (out .exit)) (r .next) (r .end)) ⌝ }
+        → Masks shows (now (words .entry)) (numbered f (drop (at + 1) (now (words .entry)))) (now (out .entry)) to
+        (now (out .exit)) (r .next) (r .end)) ⌝ }
 {
     let number = at + 1;
     if words.len() <= number {
@@ -119,7 +121,8 @@ fn mask_label(
     to: usize,
 ) -> Head
     requires { ⌜ (to ≤ 2 * length (now words)) × (at ≤ length (now words)) ⌝ }
-    ensures { λ r. ⌜ Opens (readsIn (now (table .entry)) group) (now (words .entry)) at (now (out .entry)) to (r .shown) (now (out .exit)) (r .next) (r .end) ⌝ }
+    ensures { λ r. ⌜ Opens (readsIn (now (table .entry)) group) (now (words .entry)) at (now (out .entry)) to (r .shown)
+        (now (out .exit)) (r .next) (r .end) ⌝ }
 {
     if words.len() <= at {
         let none = mask_blank(at, out, to);

@@ -49,7 +49,8 @@ pub(crate) fn value_at(labels: u32, words: &[u32], at: usize) -> Walked
 
 // An integer, whose number stands at `at`.
 fn integer_at(words: &[u32], at: usize) -> Walked
-    ensures { λ r. ⌜ ((labels : ℕ) → Walks labels (now (words .entry)) at (numbered int (drop at (now (words .entry)))) (r .ok) (r .next)) ⌝ }
+    ensures { λ r. ⌜ ((labels : ℕ)
+        → Walks labels (now (words .entry)) at (numbered int (drop at (now (words .entry)))) (r .ok) (r .next)) ⌝ }
 {
     if at < words.len() {
         Walked {
@@ -66,7 +67,8 @@ fn integer_at(words: &[u32], at: usize) -> Walked
 
 // An error, whose number stands at `at`: 1 to 3.
 fn error_at(words: &[u32], at: usize) -> Walked
-    ensures { λ r. ⌜ ((labels : ℕ) → Walks labels (now (words .entry)) at (numbered err (drop at (now (words .entry)))) (r .ok) (r .next)) ⌝ }
+    ensures { λ r. ⌜ ((labels : ℕ)
+        → Walks labels (now (words .entry)) at (numbered err (drop at (now (words .entry)))) (r .ok) (r .next)) ⌝ }
 {
     if words.len() <= at {
         return Walked {
@@ -91,7 +93,8 @@ fn is_error(e: u32) -> bool
 
 // A package, whose head stands at `at` before its content.
 fn package_at(labels: u32, words: &[u32], at: usize, content: Walked) -> Walked
-    ensures { λ r. ⌜ (Walks labels (now (words .entry)) (at + headSize) (readOf (drop (at + headSize) (now (words .entry)))) (content .ok) (content .next)
+    ensures { λ r. ⌜ (Walks labels (now (words .entry)) (at + headSize)
+        (readOf (drop (at + headSize) (now (words .entry)))) (content .ok) (content .next)
         → Walks labels (now (words .entry)) at (packaged readOf (drop at (now (words .entry)))) (r .ok) (r .next)) ⌝ }
 {
     if words.len() <= at {

@@ -11,7 +11,8 @@ use Rattle.memory_text.specs.Printing.{consTrimmed, trim, fields, line, 
 use Rattle.sheet.specs.Sheet.{maxLocations}
 use Rattle.sheet.specs.Padding.{padded}
 use Rattle.memory_text.specs.Sizes.{memoryWords}
-use Rattle.memory_text.specs.Reading.{following, words, blankOr, filledLine, location, allWords, wordsOfRows, locations, memory}
+use Rattle.memory_text.specs.Reading.{following, words, blankOr, filledLine, location, allWords, wordsOfRows}
+use Rattle.memory_text.specs.Reading.{locations, memory}
 use Rattle.logic.specs.Booleans.{both}
 
 -- the view that the scope shows: `1 5`, an empty line, `3 5 2`, an empty line
@@ -27,7 +28,8 @@ printed-view = refl
 
 read-examples :
     (memory viewText ≡ got view [])
-    -- no locations; no end of line; a zero word at the end; a zero inside; two tabs; a carriage return; a tab at the end
+    -- no locations; no end of line; a zero word at the end; a zero inside; two tabs; a carriage return;
+    -- a tab at the end
     × (memory [] ≡ got [] [])
     × (memory (49 ∷ []) ≡ bad)
     × (memory (49 ∷ 9 ∷ 48 ∷ 10 ∷ []) ≡ bad)
@@ -38,6 +40,8 @@ read-examples :
     -- the most locations and one more, 17 words
     × (memory (replicate maxLocations 10) ≡ got (replicate memoryWords 0) [])
     × (memory (replicate (maxLocations + 1) 10) ≡ bad)
-    × (memory (49 ∷ 9 ∷ 49 ∷ 9 ∷ 49 ∷ 9 ∷ 49 ∷ 9 ∷ 49 ∷ 9 ∷ 49 ∷ 9 ∷ 49 ∷ 9 ∷ 49 ∷ 9 ∷ 49 ∷ 9 ∷ 49 ∷ 9 ∷ 49 ∷ 9 ∷ 49 ∷ 9 ∷ 49 ∷ 9 ∷ 49 ∷ 9 ∷ 49 ∷ 9 ∷ 49 ∷ 9 ∷ 49 ∷ 10 ∷ []) ≡ bad)
-unfolding view viewText memory locations wordsOfRows allWords front onward linesUpTo location blankOr filledLine words following padded andThen byte fits number digits digit opensDigit both
+    × (memory (49 ∷ 9 ∷ 49 ∷ 9 ∷ 49 ∷ 9 ∷ 49 ∷ 9 ∷ 49 ∷ 9 ∷ 49 ∷ 9 ∷ 49 ∷ 9 ∷ 49 ∷ 9 ∷ 49 ∷ 9 ∷ 49 ∷ 9 ∷ 49 ∷ 9 ∷ 49 ∷
+    9 ∷ 49 ∷ 9 ∷ 49 ∷ 9 ∷ 49 ∷ 9 ∷ 49 ∷ 9 ∷ 49 ∷ 10 ∷ []) ≡ bad)
+unfolding view viewText memory locations wordsOfRows allWords front onward linesUpTo location blankOr filledLine words
+    following padded andThen byte fits number digits digit opensDigit both
 read-examples = (refl, refl, refl, refl, refl, refl, refl, refl, refl, refl, refl)

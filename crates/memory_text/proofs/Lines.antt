@@ -13,7 +13,8 @@ use Rattle.text.specs.Number.{opensDigit, number, decimal, most}
 use Rattle.text.specs.Field.{lineEnd}
 use Rattle.text.specs.Lines.{LineForm}
 use Rattle.logic.proofs.BooleanLaws.{cond-split}
-use Rattle.text.proofs.Readings.{not-bad, got-same, andThen-got, andThen-bad, andThen-split, byte-here, byte-none, byte-sound}
+use Rattle.text.proofs.Readings.{not-bad, got-same, andThen-got, andThen-bad, andThen-split, byte-here, byte-none}
+use Rattle.text.proofs.Readings.{byte-sound}
 use Rattle.text.proofs.Numbers.{digit-low, opens-none, opens-byte, number-none, byte-digit}
 use Rattle.text.proofs.Decimals.{number-sound, number-print, opens-decimal}
 use Rattle.text.proofs.Writings.{length-decimal}
@@ -59,10 +60,14 @@ module _ (v : ℕ) (more : List ℕ → Read (List ℕ)) where
   following-split (c ∷ t) vs u f g e =
       cond-split (eqb c 10) _ _ _
       (λ p. cond-split (eqb v 0) _ _ _ (λ q x. not-bad vs u x)
-      (λ q x. let z = got-same (v ∷ []) vs t u x in let y : c ≡ 10 = eqb-true _ _ p in f (rw (y, z .1)) (eqb-false _ _ q) (z .0)))
+      (λ q x. let z = got-same (v ∷ []) vs t u x in
+      let y : c ≡ 10 = eqb-true _ _ p in
+      f (rw (y, z .1)) (eqb-false _ _ q) (z .0)))
       (λ p. cond-split (eqb c 9) _ _ _
       (λ q. andThen-split (more t) _ vs u
-      (λ ws r x h. let z = got-same (v ∷ ws) vs r u h in let y : c ≡ 9 = eqb-true _ _ q in g t ws (rw y) (x ∙ ap (got ws) (z .1)) (z .0)))
+      (λ ws r x h. let z = got-same (v ∷ ws) vs r u h in
+      let y : c ≡ 9 = eqb-true _ _ q in
+      g t ws (rw y) (x ∙ ap (got ws) (z .1)) (z .0)))
       (λ q x. not-bad vs u x)) e
 
 -- the cases of `words`
@@ -104,9 +109,11 @@ pub record Line (k : ℕ) (t vs u : List ℕ) : Type 0 where
 
 line-one : (k v : ℕ) (t u : List ℕ) → t ≡ decimal v ++ (10 ∷ u) → v ≤ most → (v ≡ 0 → ⊥) → Line (suc k) t (v ∷ []) u
 unfolding line fields trim Words
-line-one k v t u e h z = record { text = e; not-empty = omega arith; few = omega arith; in-range = (h, tt); kept = trimming.keep-last v z }
+line-one k v t u e h z =
+    record { text = e; not-empty = omega arith; few = omega arith; in-range = (h, tt); kept = trimming.keep-last v z }
 
-line-more : (k v : ℕ) (t w vs u : List ℕ) → t ≡ decimal v ++ (9 ∷ w) → v ≤ most → Line k w vs u → Line (suc k) t (v ∷ vs) u
+line-more : (k v : ℕ) (t w vs u : List ℕ) → t ≡ decimal v ++ (9 ∷ w) → v ≤ most → Line k w vs u
+    → Line (suc k) t (v ∷ vs) u
 line-more k v t w [] u e h l = let x : 1 ≤ 0 = l .not-empty in absurd (omega arith)
 line-more k v t w (x ∷ vs) u e h l = record {
   text = e ∙ rw (l .text) (unfold line in (rw (fields-line x vs u)));
@@ -125,7 +132,8 @@ words-sound (suc k) t vs u e =
     let n = number-sound most t v r f in
     following-split v _ r vs u
     (λ x z y. rw (← y) (line-one k v t u (n .0 ∙ ap (λ (l : List ℕ). decimal v ++ l) x) (n .1) z))
-    (λ w ws x g y. rw (← y) (line-more k v t w ws u (n .0 ∙ ap (λ (l : List ℕ). decimal v ++ l) x) (n .1) (words-sound k w ws u g)))) e
+    (λ w ws x g y.
+    rw (← y) (line-more k v t w ws u (n .0 ∙ ap (λ (l : List ℕ). decimal v ++ l) x) (n .1) (words-sound k w ws u g)))) e
 
 -- the first word of a line
 number-line : (v : ℕ) (vs u : List ℕ) → v ≤ most → number most (line (v ∷ vs) u) ≡ got v (fields vs (10 ∷ u))
@@ -141,7 +149,8 @@ words-print (suc k) v [] u h r e =
     words-on k (line (v ∷ []) u) v (10 ∷ u) (number-line v [] u (r .0) ∙ ap (got v) (fields-end u))
     ∙ following-end v _ 10 u refl (trimming.trim-single v e)
 words-print (suc k) v (w ∷ vs) u h r e =
-    words-on k (line (v ∷ w ∷ vs) u) v (9 ∷ line (w ∷ vs) u) (number-line v (w ∷ vs) u (r .0) ∙ ap (got v) (fields-line w vs u))
+    words-on k (line (v ∷ w ∷ vs) u) v (9 ∷ line (w ∷ vs) u)
+    (number-line v (w ∷ vs) u (r .0) ∙ ap (got v) (fields-line w vs u))
     ∙ following-tab v _ 9 (line (w ∷ vs) u) refl
     ∙ andThen-got _ _ (w ∷ vs) u (words-print k w vs u (omega arith) (r .1) (trimming.trim-tail v w vs e))
 
@@ -169,7 +178,8 @@ unfolding line
 line-words v vs u = byte-digit 10 _ (digit-low 10 (omega arith)) (opens-decimal v (fields vs (10 ∷ u)))
 
 -- a location that is read has 16 words in range, and its line stands there
-pub location-sound : (t row u : List ℕ) → location t ≡ got row u → (t ≡ line (trim row) u) × (length row ≡ cell-words) × Words row
+pub location-sound : (t row u : List ℕ) → location t ≡ got row u
+    → (t ≡ line (trim row) u) × (length row ≡ cell-words) × Words row
 unfolding trim filledLine
 location-sound t row u e = go (lineEnd t) refl
   where
@@ -214,7 +224,12 @@ pub length-line : (vs t : List ℕ) → Words vs → length vs ≤ cell-words �
 unfolding line Words
 length-line [] t h l = omega arith
 length-line (v ∷ vs) t h l =
-    omega (arith, length-append (decimal v) (fields vs (10 ∷ t)), length-decimal v (h .0), length-fields vs (10 ∷ t) (h .1))
+    omega (
+      arith,
+      length-append (decimal v) (fields vs (10 ∷ t)),
+      length-decimal v (h .0),
+      length-fields vs (10 ∷ t) (h .1),
+    )
 
 -- ---- the form of lines
 
@@ -222,13 +237,15 @@ length-line (v ∷ vs) t h l =
 fields-ahead : (vs t u : List ℕ) → fields vs (t ++ u) ≡ fields vs t ++ u
 unfolding fields
 fields-ahead [] t u = refl
-fields-ahead (v ∷ vs) t u = ap (λ (l : List ℕ). 9 ∷ (decimal v ++ l)) (fields-ahead vs t u) ∙ ap (_∷_ 9) (sym (append-assoc (decimal v) (fields vs t) u))
+fields-ahead (v ∷ vs) t u = ap (λ (l : List ℕ). 9 ∷ (decimal v ++ l)) (fields-ahead vs t u)
+    ∙ ap (_∷_ 9) (sym (append-assoc (decimal v) (fields vs t) u))
 
 line-ahead : (vs u : List ℕ) → line vs u ≡ line vs [] ++ u
 unfolding line
 line-ahead [] u = refl
 line-ahead (v ∷ vs) u =
-    ap (λ (l : List ℕ). decimal v ++ l) (fields-ahead vs (10 ∷ []) u) ∙ sym (append-assoc (decimal v) (fields vs (10 ∷ [])) u)
+    ap (λ (l : List ℕ). decimal v ++ l) (fields-ahead vs (10 ∷ []) u)
+    ∙ sym (append-assoc (decimal v) (fields vs (10 ∷ [])) u)
 
 -- 16 words, each in range
 abbrev pub Row : List ℕ → Type 0

@@ -38,7 +38,8 @@ rows-joined : (rs : List (List ℕ)) → AllGood Row rs → rows (length rs) (al
 unfolding allWords rows
 rows-joined [] none-left = refl
 rows-joined (row ∷ rs) (and-then g e) =
-    rw (take-at row (allWords rs) cell-words (g .0), drop-at row (allWords rs) cell-words (g .0)) (ap (_∷_ row) (rows-joined rs e))
+    rw (take-at row (allWords rs) cell-words (g .0), drop-at row (allWords rs) cell-words (g .0))
+    (ap (_∷_ row) (rows-joined rs e))
 
 -- the words of the first location and those of the others
 words-split : (ws : List ℕ) → Words ws → Words (take cell-words ws) × Words (drop cell-words ws)
@@ -51,7 +52,8 @@ unfolding rows
 rows-length zero ws = refl
 rows-length (suc j) ws = ap suc (rows-length j (drop cell-words ws))
 
-rows-good : (j : ℕ) (ws : List ℕ) → length ws ≡ cell-words * j → Words ws → AllGood Row (rows j ws) × (allWords (rows j ws) ≡ ws)
+rows-good : (j : ℕ) (ws : List ℕ) → length ws ≡ cell-words * j → Words ws
+    → AllGood Row (rows j ws) × (allWords (rows j ws) ≡ ws)
 unfolding rows allWords
 rows-good zero [] n h = (none-left, refl)
 rows-good zero (w ∷ ws) n h = absurd (omega arith)
@@ -72,24 +74,28 @@ length-lines (suc j) ws n h =
     let r : length (take cell-words ws) ≡ cell-words = length-take-le cell-words ws (omega arith) in
     omega (
       arith,
-      length-line (trim (take cell-words ws)) (lines j (drop cell-words ws)) (words-trim (take cell-words ws) (s .0)) (omega (arith, length-trim (take cell-words ws))),
+      length-line (trim (take cell-words ws)) (lines j (drop cell-words ws)) (words-trim (take cell-words ws) (s .0))
+          (omega (arith, length-trim (take cell-words ws))),
       length-lines j (drop cell-words ws) d (s .1),
     )
 
 -- what is read is 16 words in range for each of at most k locations, printed there
 pub rows-sound : (k : ℕ) (t : List ℕ) (rs : List (List ℕ)) → linesUpTo location k t ≡ some rs
-    → (t ≡ lines (length (allWords rs) / cell-words) (allWords rs)) × (length (allWords rs) ≡ cell-words * length rs) × (length rs ≤ k) × Words (allWords rs)
+    → (t ≡ lines (length (allWords rs) / cell-words) (allWords rs)) × (length (allWords rs) ≡ cell-words * length rs)
+    × (length rs ≤ k) × Words (allWords rs)
 rows-sound k t rs e =
     let x = lines-exact memory-lines k t rs .0 e in
     let n = joined-length rs (x .1) in
     let q : length (allWords rs) / cell-words ≡ length rs = omega arith in
     (x .0 ∙ rw (q, rows-joined rs (x .1)), n, x .2, joined-words rs (x .1))
 
-locations-sound : (ws t r : List ℕ) → locations maxLocations t ≡ got ws r → (t ≡ memoryText ws) × WholeLocations ws × (r ≡ [])
+locations-sound : (ws t r : List ℕ) → locations maxLocations t ≡ got ws r
+    → (t ≡ memoryText ws) × WholeLocations ws × (r ≡ [])
 unfolding locations wordsOfRows memoryText
 locations-sound ws t r e = go (linesUpTo location maxLocations t) refl e
   where
-    go : (o : Option (List (List ℕ))) → linesUpTo location maxLocations t ≡ o → wordsOfRows o ≡ got ws r → (t ≡ memoryText ws) × WholeLocations ws × (r ≡ [])
+    go : (o : Option (List (List ℕ))) → linesUpTo location maxLocations t ≡ o → wordsOfRows o ≡ got ws r
+        → (t ≡ memoryText ws) × WholeLocations ws × (r ≡ [])
     go none x h = not-bad ws r h
     go (some rs) x h =
         let z = got-same (allWords rs) ws [] r h in
@@ -108,10 +114,15 @@ unfolding memory memoryText fits locations wordsOfRows
 memory-print ws m =
     let n : length ws ≡ cell-words * (length ws / cell-words) = let w = m .whole in omega arith in
     let k : length ws / cell-words ≤ maxLocations = let w = m .most-locations in omega arith in
-    let f : length (lines (length ws / cell-words) ws) ≤ limit = omega (arith, length-lines (length ws / cell-words) ws n (m .in-range)) in
+    let f : length (lines (length ws / cell-words) ws) ≤ limit =
+    omega (arith, length-lines (length ws / cell-words) ws n (m .in-range)) in
     let g = rows-good (length ws / cell-words) ws n (m .in-range) in
     let c = rows-length (length ws / cell-words) ws in
-    rw (le-leb _ _ f, lines-exact memory-lines maxLocations _ (rows (length ws / cell-words) ws) .1 (refl, g .0, omega arith), g .1)
+    rw (
+      le-leb _ _ f,
+      lines-exact memory-lines maxLocations _ (rows (length ws / cell-words) ws) .1 (refl, g .0, omega arith),
+      g .1,
+    )
 
 pub memory-exact : MemoryExact
 memory-exact ws t =

@@ -42,7 +42,8 @@ left-start t = go (words cell-words t) refl
         → andThen x (stored (replicate cell-words 0) 0) ≡ andThen x (λ ws u. got (padded cell-words ws) u)
     go (got vs u) e =
         let l = lines.words-sound cell-words t vs u e in
-        andThen-got _ _ vs u refl ∙ ap (λ (a : List ℕ). got a u) (sets-zeros cell-words vs (l .few)) ∙ sym (andThen-got _ _ vs u refl)
+        andThen-got _ _ vs u refl ∙ ap (λ (a : List ℕ). got a u) (sets-zeros cell-words vs (l .few))
+        ∙ sym (andThen-got _ _ vs u refl)
     go bad e = andThen-bad _ _ refl ∙ sym (andThen-bad _ _ refl)
 
 pub left-full : (i : ℕ) (array t : List ℕ) → cell-words ≤ i → left i array t ≡ bad
@@ -52,7 +53,9 @@ left-full i array t h = let z : cell-words - i ≡ 0 = omega arith in rw z (andT
 module _ (i : ℕ) (array t : List ℕ) (h : i < cell-words) where
   pub left-bad : number most t ≡ bad → left i array t ≡ bad
   unfolding left
-  left-bad e = let z : cell-words - i ≡ suc (cell-words - (i + 1)) = omega arith in rw z (andThen-bad _ _ (lines.words-bad (cell-words - (i + 1)) t e))
+  left-bad e =
+      let z : cell-words - i ≡ suc (cell-words - (i + 1)) = omega arith in
+      rw z (andThen-bad _ _ (lines.words-bad (cell-words - (i + 1)) t e))
 
   -- a word is read and q is the place after it
   module _ (v : ℕ) (s : List ℕ) (q : ℕ) (e : number most t ≡ got v (drop q s)) where
@@ -61,28 +64,33 @@ module _ (i : ℕ) (array t : List ℕ) (h : i < cell-words) where
     unfolding left
     left-on =
         let z : cell-words - i ≡ suc (cell-words - (i + 1)) = omega arith in
-        rw z (ap (λ (x : Read (List ℕ)). andThen x (stored array i)) (lines.words-on (cell-words - (i + 1)) t v (drop q s) e))
+        rw z (ap (λ (x : Read (List ℕ)). andThen x (stored array i))
+        (lines.words-on (cell-words - (i + 1)) t v (drop q s) e))
 
     pub left-end : length s ≤ q → left i array t ≡ bad
     left-end l = left-on ∙ andThen-bad _ _ (rw (drop-of-length-le s l) (lines.following-none v _))
 
     module _ (l : q < length s) where
       pub left-zero : getD s q 0 ≡ 10 → v ≡ 0 → left i array t ≡ bad
-      left-zero b z = left-on ∙ andThen-bad _ _ (rw (drop-step s q l) (lines.following-zero v _ (getD s q 0) (drop (q + 1) s) b z))
+      left-zero b z =
+          left-on ∙ andThen-bad _ _ (rw (drop-step s q l) (lines.following-zero v _ (getD s q 0) (drop (q + 1) s) b z))
 
       pub left-last : getD s q 0 ≡ 10 → (v ≡ 0 → ⊥) → left i array t ≡ got (set array i v) (drop (q + 1) s)
       left-last b z =
-          left-on ∙ andThen-got _ _ (v ∷ []) (drop (q + 1) s) (rw (drop-step s q l) (lines.following-end v _ (getD s q 0) (drop (q + 1) s) b z))
+          left-on ∙ andThen-got _ _ (v ∷ []) (drop (q + 1) s)
+          (rw (drop-step s q l) (lines.following-end v _ (getD s q 0) (drop (q + 1) s) b z))
 
       pub left-more : getD s q 0 ≡ 9 → left i array t ≡ left (i + 1) (set array i v) (drop (q + 1) s)
       left-more b =
           left-on
-          ∙ ap (λ (x : Read (List ℕ)). andThen x (stored array i)) (rw (drop-step s q l) (lines.following-tab v _ (getD s q 0) (drop (q + 1) s) b))
+          ∙ ap (λ (x : Read (List ℕ)). andThen x (stored array i))
+          (rw (drop-step s q l) (lines.following-tab v _ (getD s q 0) (drop (q + 1) s) b))
           ∙ stored-cons array i v (words (cell-words - (i + 1)) (drop (q + 1) s))
           ∙ sym (left-is (i + 1) (set array i v) (drop (q + 1) s))
 
       pub left-other : (getD s q 0 ≡ 10 → ⊥) → (getD s q 0 ≡ 9 → ⊥) → left i array t ≡ bad
-      left-other b c = left-on ∙ andThen-bad _ _ (rw (drop-step s q l) (lines.following-other v _ (getD s q 0) (drop (q + 1) s) b c))
+      left-other b c =
+          left-on ∙ andThen-bad _ _ (rw (drop-step s q l) (lines.following-other v _ (getD s q 0) (drop (q + 1) s) b c))
 
 -- a row stored word by word: what is left to store from i on
 pub store-more : (l : List ℕ) (at i : ℕ) (row : List ℕ) → i < length row

@@ -29,13 +29,16 @@ use Rattle.memory_text.proofs.Memories.{rows-sound, memory-sound}
 -- a table of n locations with those that are still read after them
 unfoldable pub tabled : ℕ → List ℕ → Option (List (List ℕ)) → Memory
 tabled n words none = table bad
-tabled n words (some rs) = record { answer = answer.Read; count = n + length rs; words = sets words (n * cell-words) (allWords rs) }
+tabled n words (some rs) =
+    record { answer = answer.Read; count = n + length rs; words = sets words (n * cell-words) (allWords rs) }
 
-pub tabled-start : (t : List ℕ) → tabled 0 (replicate memoryWords 0) (linesUpTo location maxLocations t) ≡ table (locations maxLocations t)
+pub tabled-start : (t : List ℕ)
+    → tabled 0 (replicate memoryWords 0) (linesUpTo location maxLocations t) ≡ table (locations maxLocations t)
 unfolding tabled table locations wordsOfRows padded
 tabled-start t = go (linesUpTo location maxLocations t) refl
   where
-    go : (o : Option (List (List ℕ))) → linesUpTo location maxLocations t ≡ o → tabled 0 (replicate memoryWords 0) o ≡ table (wordsOfRows o)
+    go : (o : Option (List (List ℕ))) → linesUpTo location maxLocations t ≡ o
+        → tabled 0 (replicate memoryWords 0) o ≡ table (wordsOfRows o)
     go none e = refl
     go (some rs) e =
         let r = rows-sound maxLocations t rs e in
@@ -56,7 +59,8 @@ tabled-front n words row (some rs) e =
 
 -- what is left at a place of a text
 module _ (n : ℕ) (words s : List ℕ) (i : ℕ) where
-  pub rest-done : length s ≤ i → tabled n words (linesUpTo location (maxLocations - n) (drop i s)) ≡ record { answer = answer.Read; count = n; words = words }
+  pub rest-done : length s ≤ i → tabled n words (linesUpTo location (maxLocations - n) (drop i s))
+      ≡ record { answer = answer.Read; count = n; words = words }
   unfolding tabled allWords
   rest-done h = let z : n + 0 ≡ n = omega arith in rw (lines-at-end location maxLocations n s i h, z)
 
@@ -66,12 +70,14 @@ module _ (n : ℕ) (words s : List ℕ) (i : ℕ) where
     rest-full l = rw (lines-at-full location maxLocations n s i h l)
 
     module _ (l : n < maxLocations) where
-      pub rest-bad : location (drop i s) ≡ bad → tabled n words (linesUpTo location (maxLocations - n) (drop i s)) ≡ table bad
+      pub rest-bad : location (drop i s) ≡ bad
+          → tabled n words (linesUpTo location (maxLocations - n) (drop i s)) ≡ table bad
       unfolding tabled
       rest-bad e = rw (lines-at-bad location maxLocations n s i l h e)
 
       pub rest-more : (row : List ℕ) (p : ℕ) → location (drop i s) ≡ got row (drop p s)
-          → tabled n words (linesUpTo location (maxLocations - n) (drop i s)) ≡ tabled (n + 1) (sets words (n * cell-words) row)
+          → tabled n words (linesUpTo location (maxLocations - n) (drop i s))
+          ≡ tabled (n + 1) (sets words (n * cell-words) row)
           (linesUpTo location (maxLocations - (n + 1)) (drop p s))
       rest-more row p e =
           rw (lines-at-more location maxLocations n s i l (memory-lines .no-end) row p e)
@@ -83,12 +89,16 @@ module _ (s : List ℕ) (i : ℕ) (r : Reached) (e : r ≡ locationAt s i) where
   row-on o =
       placed-split _ _ s i _ r (line-within memory-lines (drop i s)) e
       (λ row p x l y. rw y x)
-      (λ x y. let f : r .row .answer ≡ answer.Refused = ap (λ (q : Reached). q .row .answer) y in let z : _≡_ {A = ℕ} 0 1 = cc in absurd (omega arith))
+      (λ x y. let f : r .row .answer ≡ answer.Refused = ap (λ (q : Reached). q .row .answer) y in
+      let z : _≡_ {A = ℕ} 0 1 = cc in
+      absurd (omega arith))
 
   pub row-off : r .row .answer ≡ answer.Refused → location (drop i s) ≡ bad
   row-off o =
       placed-split _ _ s i _ r (line-within memory-lines (drop i s)) e
-      (λ row p x l y. let f : r .row .answer ≡ answer.Read = ap (λ (q : Reached). q .row .answer) y in let z : _≡_ {A = ℕ} 0 1 = cc in absurd (omega arith))
+      (λ row p x l y. let f : r .row .answer ≡ answer.Read = ap (λ (q : Reached). q .row .answer) y in
+      let z : _≡_ {A = ℕ} 0 1 = cc in
+      absurd (omega arith))
       (λ x y. x)
 
 -- a text that fits, and one that is too long

@@ -92,8 +92,12 @@ trim-tail w v vs e = go (trim (v ∷ vs)) (unfold trim in e)
     go : (ts : List ℕ) → consTrimmed w ts ≡ w ∷ v ∷ vs → ts ≡ v ∷ vs
     go [] f =
         cases (eqb w 0)
-        (λ z. let x : [] ≡ w ∷ v ∷ vs = sym (keep-zero w (eqb-true _ _ z)) ∙ f in let y : _≡_ {A = ℕ} 0 1 = cc in absurd (omega arith))
-        (λ z. let x : w ∷ [] ≡ w ∷ v ∷ vs = sym (keep-last w (eqb-false _ _ z)) ∙ f in let y : _≡_ {A = ℕ} 0 1 = cc in absurd (omega arith))
+        (λ z. let x : [] ≡ w ∷ v ∷ vs = sym (keep-zero w (eqb-true _ _ z)) ∙ f in
+        let y : _≡_ {A = ℕ} 0 1 = cc in
+        absurd (omega arith))
+        (λ z. let x : w ∷ [] ≡ w ∷ v ∷ vs = sym (keep-last w (eqb-false _ _ z)) ∙ f in
+        let y : _≡_ {A = ℕ} 0 1 = cc in
+        absurd (omega arith))
     go (t ∷ ts) f = let x : w ∷ t ∷ ts ≡ w ∷ v ∷ vs = sym (keep-more w t ts) ∙ f in cc
 
 -- a single word that is kept is not zero

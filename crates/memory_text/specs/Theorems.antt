@@ -22,7 +22,8 @@ pub record WholeLocations (ws : List ℕ) : Type 0 where
   pub most-locations : length ws ≤ memoryWords
   pub in-range : Words ws
 
--- The text is that of a memory: its printed form. Such a text has at most 11,264 bytes, so that the limit on texts needs no mention.
+-- The text is that of a memory: its printed form. Such a text has at most 11,264 bytes, so that the limit on texts
+-- needs no mention.
 abbrev pub IsMemory : List ℕ → List ℕ → Type 0
 IsMemory t ws = (t ≡ memoryText ws) × WholeLocations ws
 

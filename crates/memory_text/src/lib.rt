@@ -118,7 +118,8 @@ fn location(s: &[u8], at: usize) -> Reached
 
 // The location whose line a reader has before it, and the reader after it.
 pub fn next_location<'a>(r: Reader<'a>) -> Next<'a>
-    ensures { λ n. ⌜ (record { row = n .row; at = n .rest .at } ≡ locationAt (now (r .entry .text)) (r .entry .at)) × (n .rest .text ≡ r .entry .text) ⌝ }
+    ensures { λ n. ⌜ (record { row = n .row; at = n .rest .at } ≡ locationAt (now (r .entry .text)) (r .entry .at))
+        × (n .rest .text ≡ r .entry .text) ⌝ }
 {
     let line = location(r.text, r.at);
     Next {
@@ -130,8 +131,8 @@ pub fn next_location<'a>(r: Reader<'a>) -> Next<'a>
     }
 }
 
-// The location that a reader at a byte of a text reads, and the byte that it then has reached; a plain slice, so that its callers
-// hold no reader.
+// The location that a reader at a byte of a text reads, and the byte that it then has reached; a plain slice, so that
+// its callers hold no reader.
 fn location_from(text: &[u8], at: usize) -> Reached
     ensures { λ r. ⌜ r ≡ locationAt (now (text .entry)) at ⌝ }
 {

@@ -33,7 +33,8 @@ fn used(words: &[u32], from: usize) -> usize
 // The words from `from` to `to`, each after a tab; the place after them.
 fn put_fields(words: &[u32], from: usize, to: usize, out: &mut [u8], at: usize) -> usize
     requires { ⌜ (from ≤ to) × (to ≤ length (now words)) × (at + 11 * (to - from) ≤ length (now out)) ⌝ }
-    ensures { λ r. ⌜ Puts (fields (take (to - from) (drop from (now (words .entry))))) (11 * (to - from)) (now (out .entry)) at (now (out .exit)) r ⌝ }
+    ensures { λ r. ⌜ Puts (fields (take (to - from) (drop from (now (words .entry))))) (11 * (to - from))
+        (now (out .entry)) at (now (out .exit)) r ⌝ }
 {
     let mut i = from;
     let mut p = at;
@@ -48,7 +49,8 @@ fn put_fields(words: &[u32], from: usize, to: usize, out: &mut [u8], at: usize) 
 // The line of the location whose words stand from `from` on; the place after it.
 fn put_line(words: &[u32], from: usize, out: &mut [u8], at: usize) -> usize
     requires { ⌜ (from + cell-words ≤ length (now words)) × (at + lineRoom ≤ length (now out)) ⌝ }
-    ensures { λ r. ⌜ Puts (line (trim (take cell-words (drop from (now (words .entry)))))) lineRoom (now (out .entry)) at (now (out .exit)) r ⌝ }
+    ensures { λ r. ⌜ Puts (line (trim (take cell-words (drop from (now (words .entry)))))) lineRoom
+        (now (out .entry)) at (now (out .exit)) r ⌝ }
 {
     let n = used(words, from);
     if n == 0 {
@@ -59,8 +61,8 @@ fn put_line(words: &[u32], from: usize, out: &mut [u8], at: usize) -> usize
     put_byte(out, q, b'\n')
 }
 
-// A memory, 16 words for each location; the length of its text. Nothing is written, and the answer is 0, where the words
-// are no whole locations or the buffer has fewer than 176 bytes for each.
+// A memory, 16 words for each location; the length of its text. Nothing is written, and the answer is 0, where the
+// words are no whole locations or the buffer has fewer than 176 bytes for each.
 pub fn write_memory(words: &[u32], out: &mut [u8]) -> usize
     ensures { λ r. ⌜ r ≡ printedLength (now (words .entry)) (now (out .entry)) ⌝ }
     ensures { λ _. ⌜ now (out .exit) ≡ printed (now (words .entry)) (now (out .entry)) ⌝ }

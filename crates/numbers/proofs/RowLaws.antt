@@ -23,16 +23,20 @@ below {P} k n g = record {
 
 module _ {A : Type 0} (refuse : ℕ → A) (Else : A → Type 0) where
   -- what holds of each refusal, and of each answer where none applies, holds of the answer by the table
-  pub by-rows {ℓ} : (Q : A → Type ℓ) (rows : List Row) → ((k : ℕ) → Among (numbers rows) k → FirstToApply rows k → Q (refuse k))
+  pub by-rows {ℓ} : (Q : A → Type ℓ) (rows : List Row)
+      → ((k : ℕ) → Among (numbers rows) k → FirstToApply rows k → Q (refuse k))
       → ((r : A) → None rows → Else r → Q r) → (r : A) → First refuse Else rows r → Q r
   unfolding First numbers None
   by-rows Q [] p q r h = q r tt h
   by-rows Q ((k when P) ∷ rows) p q r (inl (a, e)) =
-      subst Q (sym e) (p k here (record { before = []; Condition = P; after = rows; order = refl; applies = a; none-before = tt }))
-  by-rows Q ((k when P) ∷ rows) p q r (inr (n, h)) = by-rows Q rows (λ j i g. p j (later i) (below k n g)) (λ x m. q x (n, m)) r h
+      subst Q (sym e)
+      (p k here (record { before = []; Condition = P; after = rows; order = refl; applies = a; none-before = tt }))
+  by-rows Q ((k when P) ∷ rows) p q r (inr (n, h)) =
+      by-rows Q rows (λ j i g. p j (later i) (below k n g)) (λ x m. q x (n, m)) r h
 
   -- f is the answer by the table, and the only one, if that is so where none applies
-  pub exactly : (Else′ : A → Type 0) (f : A) (rows : List Row) → (None rows → Else f → (r : A) → (f ≡ r) ↔ Else′ r) → First refuse Else rows f
+  pub exactly : (Else′ : A → Type 0) (f : A) (rows : List Row) → (None rows → Else f → (r : A) → (f ≡ r) ↔ Else′ r)
+      → First refuse Else rows f
       → (r : A) → (f ≡ r) ↔ First refuse Else′ rows r
   unfolding First None
   exactly Else′ f [] k h r = k tt h r
@@ -44,7 +48,8 @@ module _ {A : Type 0} (refuse : ℕ → A) (Else : A → Type 0) where
 
   -- ---- in order
 
-  at-row : (k : ℕ) {P : Type 0} (after : List Row) → P → (before : List Row) → None before → First refuse Else (before ++ ((k when P) ∷ after)) (refuse k)
+  at-row : (k : ℕ) {P : Type 0} (after : List Row) → P → (before : List Row) → None before
+      → First refuse Else (before ++ ((k when P) ∷ after)) (refuse k)
   unfolding First None
   at-row k after a [] n = inl (a, refl)
   at-row k after a ((j when Q) ∷ rows) n = inr (n .0, at-row k after a rows (n .1))
@@ -55,30 +60,42 @@ module _ {A : Type 0} (refuse : ℕ → A) (Else : A → Type 0) where
   past-all r ((j when Q) ∷ rows) n e = inr (n .0, past-all r rows (n .1) e)
 
   judged : {rows : List Row} {r : A} → InOrder refuse Else rows r → First refuse Else rows r
-  judged (refuses {k} g) = subst (λ (rs : List Row). First refuse Else rs (refuse k)) (sym (g .order)) (at-row k (g .after) (g .applies) (g .before) (g .none-before))
+  judged (refuses {k} g) = subst (λ (rs : List Row). First refuse Else rs (refuse k)) (sym (g .order))
+      (at-row k (g .after) (g .applies) (g .before) (g .none-before))
   judged {rows} (none-applies {r} n e) = past-all r rows n e
 
 -- ---- one answer
 
 -- the rows of a table that is settled are judged to the end
-some-answer : {A : Type 0} (refuse : ℕ → A) (Else : A → Type 0) (rows : List Row) → Settled rows → (None rows → (r : A) × Else r) → (r : A) × First refuse Else rows r
+some-answer : {A : Type 0} (refuse : ℕ → A) (Else : A → Type 0) (rows : List Row) → Settled rows
+    → (None rows → (r : A) × Else r) → (r : A) × First refuse Else rows r
 unfolding First None Settled
 some-answer refuse Else [] s e = e tt
 some-answer refuse Else ((k when P) ∷ rows) (inl a) e = (refuse k, inl (a, refl))
-some-answer refuse Else ((k when P) ∷ rows) (inr (n, s)) e = let f = some-answer refuse Else rows s (λ m. e (n, m)) in (f .0, inr (n, f .1))
+some-answer refuse Else ((k when P) ∷ rows) (inr (n, s)) e =
+    let f = some-answer refuse Else rows s (λ m. e (n, m)) in (f .0, inr (n, f .1))
 
 one-answer : ExactlyOneAnswer
 one-answer A refuse Else rows s e =
-    let f = some-answer refuse Else rows s (λ n. (e n .0, e n .1)) in
-    (f .0, f .1, λ r. exactly refuse Else Else (f .0) rows (λ n d x. (λ z. subst Else z d, λ d′. sym (e n .2 (f .0) d) ∙ e n .2 x d′)) (f .1) r .1)
+    let f = some-answer refuse Else rows s (λ n. (e n .0, e n .1)) in (
+      f .0,
+      f .1,
+      λ r. exactly refuse Else Else (f .0) rows
+          (λ n d x. (λ z. subst Else z d, λ d′. sym (e n .2 (f .0) d) ∙ e n .2 x d′)) (f .1) r .1,
+    )
 
 pub every-table : EveryTable
 every-table = record {
   first-that-applies = λ A refuse number Else rows h. by-rows refuse Else (λ r. GivenInOrder rows (number r)) rows
-      (λ k i g. subst (GivenInOrder rows) (sym (h .of-refusal k)) (record { refused = λ _. g; not-refused = λ n. absurd (n i) }))
+      (λ k i g. subst (GivenInOrder rows) (sym (h .of-refusal k))
+      (record { refused = λ _. g; not-refused = λ n. absurd (n i) }))
       (λ r n e. record { refused = λ i. absurd (h .of-others r e i); not-refused = λ _. n });
-  answers-in-order = λ A refuse Else rows r. (by-rows refuse Else (InOrder refuse Else rows) rows (λ k i g. refuses g) (λ x n e. none-applies n e) r, judged refuse Else);
-  refused-by-a-number = λ A refuse Else rows. by-rows refuse Else _ rows (λ k i g. inl (k, i, refl)) (λ r n e. inr (n, e));
+  answers-in-order = λ A refuse Else rows r. (
+    by-rows refuse Else (InOrder refuse Else rows) rows (λ k i g. refuses g) (λ x n e. none-applies n e) r,
+    judged refuse Else,
+  );
+  refused-by-a-number =
+      λ A refuse Else rows. by-rows refuse Else _ rows (λ k i g. inl (k, i, refl)) (λ r n e. inr (n, e));
   exactly-one-answer = one-answer;
 }
 

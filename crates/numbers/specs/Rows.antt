@@ -1,5 +1,5 @@
--- A call's refusals as a table: its numbers, each with when it applies, in the order judged. The first that applies is given.
--- A number has its place in the table and no size: nothing here compares two numbers but for being equal.
+-- A call's refusals as a table: its numbers, each with when it applies, in the order judged. The first that applies is
+-- given. A number has its place in the table and no size: nothing here compares two numbers but for being equal.
 use mathlib.Core.Logic.{_⊎_}
 use mathlib.Core.Path.{_≡_}
 use mathlib.Core.List.{List, [], _∷_, _++_}
@@ -20,7 +20,8 @@ unfoldable pub None : List Row → Type 0
 None [] = Unit {0}
 None ((k when P) ∷ rows) = (¬ P) × None rows
 
--- r is the answer by this table: what the first row that applies refuses with; where none applies, an answer as `Else` has it.
+-- r is the answer by this table: what the first row that applies refuses with; where none applies, an answer
+-- as `Else` has it.
 unfoldable pub First : {A : Type 0} → (ℕ → A) → (A → Type 0) → List Row → A → Type 0
 First refuse Else [] r = Else r
 First refuse Else ((k when P) ∷ rows) r = (P × (r ≡ refuse k)) ⊎ ((¬ P) × First refuse Else rows r)
@@ -39,7 +40,8 @@ pub record FirstToApply (rows : List Row) (k : ℕ) : Type 1 where
   pub applies : Condition
   pub none-before : None before
 
--- n is as the table has it: one of its numbers, which applies while none that comes before it in the order does; or none of them, and none applies.
+-- n is as the table has it: one of its numbers, which applies while none that comes before it in the order does; or
+-- none of them, and none applies.
 pub record GivenInOrder (rows : List Row) (n : ℕ) : Type 1 where
   pub refused : Among (numbers rows) n → FirstToApply rows n
   pub not-refused : ¬ Among (numbers rows) n → None rows

@@ -1,6 +1,6 @@
 -- What is claimed of every table, as types; each call is an instance. The proofs stand in proofs/RowLaws.antt.
--- `refuse k` is the whole answer of a call that refuses with k, `number r` the number of the answer r, and `Else` holds of the answers that are
--- right where no row applies.
+-- `refuse k` is the whole answer of a call that refuses with k, `number r` the number of the answer r, and `Else` holds
+-- of the answers that are right where no row applies.
 use mathlib.Core.Logic.{_↔_, _⊎_}
 use mathlib.Core.Path.{_≡_}
 use mathlib.Core.List.{List, [], _∷_}
@@ -14,7 +14,8 @@ pub record Numbered {A : Type 0} (refuse : ℕ → A) (number : A → ℕ) (Else
 
 -- The number given applies, and none that comes before it in the order does; where none is given, none applies.
 abbrev pub FirstThatAppliesIsGiven : Type 1
-FirstThatAppliesIsGiven = (A : Type 0) (refuse : ℕ → A) (number : A → ℕ) (Else : A → Type 0) (rows : List Row) → Numbered refuse number Else rows
+FirstThatAppliesIsGiven = (A : Type 0) (refuse : ℕ → A) (number : A → ℕ) (Else : A → Type 0) (rows : List Row)
+    → Numbered refuse number Else rows
     → (r : A) → First refuse Else rows r → GivenInOrder rows (number r)
 
 -- The answer refuses with the first number that applies, or none applies and it is as `Else` has it.
@@ -24,11 +25,14 @@ pub data InOrder {A : Type 0} (refuse : ℕ → A) (Else : A → Type 0) (rows :
 
 -- The same of whole answers: `First` is neither more nor less.
 abbrev pub AnswersInOrder : Type 1
-AnswersInOrder = (A : Type 0) (refuse : ℕ → A) (Else : A → Type 0) (rows : List Row) (r : A) → First refuse Else rows r ↔ InOrder refuse Else rows r
+AnswersInOrder = (A : Type 0) (refuse : ℕ → A) (Else : A → Type 0) (rows : List Row) (r : A)
+    → First refuse Else rows r ↔ InOrder refuse Else rows r
 
--- A refusal is by one of the table's numbers, and the number settles all of the answer: what `refuse` leaves as it was is as it was.
+-- A refusal is by one of the table's numbers, and the number settles all of the answer: what `refuse` leaves as it
+-- was is as it was.
 abbrev pub RefusedByANumber : Type 1
-RefusedByANumber = (A : Type 0) (refuse : ℕ → A) (Else : A → Type 0) (rows : List Row) (r : A) → First refuse Else rows r
+RefusedByANumber =
+    (A : Type 0) (refuse : ℕ → A) (Else : A → Type 0) (rows : List Row) (r : A) → First refuse Else rows r
     → ((k : ℕ) × Among (numbers rows) k × (r ≡ refuse k)) ⊎ (None rows × Else r)
 
 -- It is settled which row is the first to apply, or that none does.
@@ -40,9 +44,11 @@ Settled ((k when P) ∷ rows) = P ⊎ ((¬ P) × Settled rows)
 abbrev pub ExactlyOne : {A : Type 0} → (A → Type 0) → Type 0
 ExactlyOne {A} P = (r : A) × P r × ((r′ : A) → P r′ → r ≡ r′)
 
--- Where it is settled which row is the first to apply, there is exactly one answer by a table, if there is exactly one where none applies.
+-- Where it is settled which row is the first to apply, there is exactly one answer by a table, if there is exactly one
+-- where none applies.
 abbrev pub ExactlyOneAnswer : Type 1
-ExactlyOneAnswer = (A : Type 0) (refuse : ℕ → A) (Else : A → Type 0) (rows : List Row) → Settled rows → (None rows → ExactlyOne Else)
+ExactlyOneAnswer =
+    (A : Type 0) (refuse : ℕ → A) (Else : A → Type 0) (rows : List Row) → Settled rows → (None rows → ExactlyOne Else)
     → ExactlyOne (First refuse Else rows)
 
 -- All of it.

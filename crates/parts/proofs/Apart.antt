@@ -43,7 +43,8 @@ module _ (last i : ℕ) where
   unfolding parting noEmptyLine both
   inside j true b t e = go (eqb b 10) e
     where
-      go : (x : Bool) → both (not x) (noEmptyLine (eqb b 10) t) ≡ true → (both x (ltb j last) ≡ false) × (noEmptyLine (eqb b 10) t ≡ true)
+      go : (x : Bool) → both (not x) (noEmptyLine (eqb b 10) t) ≡ true
+          → (both x (ltb j last) ≡ false) × (noEmptyLine (eqb b 10) t ≡ true)
       go true h = absurd (false≢true h)
       go false h = (refl, h)
   inside j false b t e = (refl, e)
@@ -62,10 +63,12 @@ module _ (last i : ℕ) where
       ∙ append-nil (piece (eqb j i) (b ∷ t))
 
   -- a text with an empty line after it
-  from-parted : (t : List ℕ) (j : ℕ) (start : Bool) (u : List ℕ) → noEmptyLine start t ≡ true → lineEnded start t ≡ true → j < last
+  from-parted : (t : List ℕ) (j : ℕ) (start : Bool) (u : List ℕ) → noEmptyLine start t ≡ true
+      → lineEnded start t ≡ true → j < last
       → textFrom last i j start (t ++ (10 ∷ u)) ≡ piece (eqb j i) t ++ textFrom last i (j + 1) true u
   unfolding lineEnded
-  from-parted [] j start u e f l = from-next last i j start 10 u (parting-empty last j start 10 f refl ∙ lt-ltb j last l) ∙ rw (piece-none (eqb j i))
+  from-parted [] j start u e f l =
+      from-next last i j start 10 u (parting-empty last j start 10 f refl ∙ lt-ltb j last l) ∙ rw (piece-none (eqb j i))
   from-parted (b ∷ t) j start u e f l =
       let h = inside j start b t e in
       from-same last i j start b (t ++ (10 ∷ u)) (h .0)
@@ -78,7 +81,8 @@ never-parting last start b =
     cases (parting last last start b) (λ e. let z = parting-below last last start b e in absurd (omega arith)) (λ e. e)
 
 -- texts from text j on, where the last of them, text k, goes on to the end
-module _ (last k : ℕ) (end : List ℕ) (few : k ≤ last) (rest : (i : ℕ) → textFrom last i k true end ≡ piece (eqb k i) end) where
+module _ (last k : ℕ) (end : List ℕ) (few : k ≤ last)
+    (rest : (i : ℕ) → textFrom last i k true end ≡ piece (eqb k i) end) where
   apart : (ts : List (List ℕ)) (j : ℕ) → AllWhole ts → k ≡ j + length ts → (d i : ℕ) → i ≡ j + d
       → textFrom last i j true (joined ts end) ≡ getD (ts ++ (end ∷ [])) d []
   unfolding joined AllWhole piece
@@ -94,9 +98,11 @@ module _ (last k : ℕ) (end : List ℕ) (few : k ≤ last) (rest : (i : ℕ) �
 pub joined-apart : JoinedApart
 unfolding textOf
 joined-apart ts end each i =
-    apart (length ts) (length ts) end (omega arith) (λ i. from-whole (length ts) i (length ts) (λ _ _. Unit) (λ start b t _. (never-parting (length ts) start b, tt)) end true tt) ts 0 each (omega arith) i i (omega arith)
+    apart (length ts) (length ts) end (omega arith) (λ i. from-whole (length ts) i (length ts) (λ _ _. Unit)
+    (λ start b t _. (never-parting (length ts) start b, tt)) end true tt) ts 0 each (omega arith) i i (omega arith)
 
 pub missing-empty : MissingEmpty
 unfolding textOf
 missing-empty ts end each plain last few i =
-    apart last (length ts) end few (λ i. from-whole last i (length ts) (λ start t. noEmptyLine start t ≡ true) (inside last i (length ts)) end true plain) ts 0 each (omega arith) i i (omega arith)
+    apart last (length ts) end few (λ i. from-whole last i (length ts) (λ start t. noEmptyLine start t ≡ true)
+    (inside last i (length ts)) end true plain) ts 0 each (omega arith) i i (omega arith)

@@ -4,7 +4,8 @@ use native.Mathlib.Omega.{arith}
 use mathlib.Core.Path.{_≡_, refl, sym, ap, _∙_}
 use mathlib.Core.Bool.{true, false}
 use mathlib.Core.List.{List, [], _∷_, _++_, append-assoc, append-nil}
-use lib.ListN.{length, take, drop, getD, set, length-set, length-take, length-drop, replicate, List·getD-eq-default, getD-replicate}
+use lib.ListN.{length, take, drop, getD, set, length-set, length-take, length-drop, replicate, List·getD-eq-default}
+use lib.ListN.{getD-replicate}
 use lib.Seq.{take-all, take-append-le, getD-set-same, getD-set-other}
 use lib.Dec.{eqb, ltb}
 use borrow.Author.Tests.{ltb-true, ltb-false, eqb-true, eqb-false}
@@ -12,7 +13,8 @@ use Rattle.logic.proofs.BooleanLaws.{cases}
 use Rattle.parts.specs.Parts.{parting, byteIf, textFrom, textOf, keep, keptOf}
 use Rattle.parts.specs.Feeding.{texts, beginning, Held, held, count, turned, stored, fed, textHeld}
 use Rattle.parts.specs.Theorems.{HoldsParts}
-use Rattle.parts.proofs.Steps.{parting-below, stored-full, stored-room, stepped-on, stepped-in, from-next, from-same}
+use Rattle.parts.proofs.Steps.{parting-below, stored-full, stored-room, stepped-on, stepped-in, from-next}
+use Rattle.parts.proofs.Steps.{from-same}
 use Rattle.parts.proofs.Places.{place-same, place-other}
 
 -- what holds between two bytes of the input
@@ -35,7 +37,8 @@ unfolding turned
 sound-turned last h s l = record { inside = omega arith; places = s .places; few = s .few; long = s .long }
 
 -- one number of a list, raised by one
-raised : (ks : List ℕ) (j : ℕ) → (i : ℕ) → getD ks i 0 ≤ keep → getD ks j 0 < keep → j < length ks → getD (set ks j (getD ks j 0 + 1)) i 0 ≤ keep
+raised : (ks : List ℕ) (j : ℕ) → (i : ℕ) → getD ks i 0 ≤ keep → getD ks j 0 < keep → j < length ks
+    → getD (set ks j (getD ks j 0 + 1)) i 0 ≤ keep
 raised ks j i h l p =
     cases (eqb i j)
     (λ e. let q : i ≡ j = eqb-true _ _ e in rw q (rw (getD-set-same ks j (getD ks j 0 + 1) 0 p) (omega arith)))
@@ -51,8 +54,10 @@ module _ (last : ℕ) (h : Held) (s : Sound last h) (b : ℕ) (below : last < te
 
   -- the byte is stored where there is room
   by-room : (P : Held → Type 0)
-      → (n < keep → P (held (record { text = j; start = eqb b 10; kept = set (h .state .kept) j (n + 1) }) (set (h .buffer) (j * keep + n) b)))
-      → (keep ≤ n → P (held (record { text = j; start = eqb b 10; kept = h .state .kept }) (h .buffer))) → P (stored h b)
+      → (n < keep → P (held (record { text = j; start = eqb b 10; kept = set (h .state .kept) j (n + 1) })
+      (set (h .buffer) (j * keep + n) b)))
+      → (keep ≤ n → P (held (record { text = j; start = eqb b 10; kept = h .state .kept }) (h .buffer)))
+      → P (stored h b)
   by-room P f g =
       let l : j < texts = omega (arith, s .inside) in
       cases (ltb n keep)
@@ -73,7 +78,8 @@ module _ (last : ℕ) (h : Held) (s : Sound last h) (b : ℕ) (below : last < te
       (λ l. record { inside = s .inside; places = s .places; few = s .few; long = s .long })
 
   stored-start : (stored h b .state .text ≡ j) × (stored h b .state .start ≡ eqb b 10)
-  stored-start = by-room (λ g. (g .state .text ≡ j) × (g .state .start ≡ eqb b 10)) (λ l. (refl, refl)) (λ l. (refl, refl))
+  stored-start =
+      by-room (λ g. (g .state .text ≡ j) × (g .state .start ≡ eqb b 10)) (λ l. (refl, refl)) (λ l. (refl, refl))
 
   -- of the text itself, with whatever follows
   part-mine : (t : List ℕ) → take keep (part (stored h b) j ++ t) ≡ take keep (part h j ++ (b ∷ t))
@@ -81,20 +87,30 @@ module _ (last : ℕ) (h : Held) (s : Sound last h) (b : ℕ) (below : last < te
   part-mine t =
       let xs = take n (drop (j * keep) (h .buffer)) in
       by-room (λ g. take keep (part g j ++ t) ≡ take keep (part h j ++ (b ∷ t)))
-      (λ l. rw (getD-set-same (h .state .kept) j (n + 1) 0 placed) (rw (place-same (h .buffer) (j * keep) n b (omega (arith, s .inside, s .long)))
+      (λ l. rw (getD-set-same (h .state .kept) j (n + 1) 0 placed)
+      (rw (place-same (h .buffer) (j * keep) n b (omega (arith, s .inside, s .long)))
       (ap (take keep) (append-assoc xs (b ∷ []) t))))
       (λ l.
-      let d : keep ≤ length xs = omega (arith, length-take n (drop (j * keep) (h .buffer)), length-drop (j * keep) (h .buffer), s .few j, s .inside, s .long) in
+      let d : keep ≤ length xs = omega (
+        arith,
+        length-take n (drop (j * keep) (h .buffer)),
+        length-drop (j * keep) (h .buffer),
+        s .few j,
+        s .inside,
+        s .long,
+      ) in
       take-append-le keep xs t d ∙ sym (take-append-le keep xs (b ∷ t) d))
 
   -- of another text
   part-other : (i : ℕ) → (j ≡ i → ⊥) → part (stored h b) i ≡ part h i
   unfolding textHeld
   part-other i d = by-room (λ g. part g i ≡ part h i)
-      (λ l. rw (getD-set-other (h .state .kept) j i (n + 1) 0 (λ q. d (sym q))) (place-other (h .buffer) i j (count (h .state) i) n b d (s .few i) l))
+      (λ l. rw (getD-set-other (h .state .kept) j i (n + 1) 0 (λ q. d (sym q)))
+      (place-other (h .buffer) i j (count (h .state) i) n b d (s .few i) l))
       (λ l. refl)
 
-  part-stored : (i : ℕ) (t : List ℕ) → take keep (part (stored h b) i ++ t) ≡ take keep (part h i ++ byteIf (eqb j i) b t)
+  part-stored : (i : ℕ) (t : List ℕ)
+      → take keep (part (stored h b) i ++ t) ≡ take keep (part h i ++ byteIf (eqb j i) b t)
   unfolding byteIf
   part-stored i t =
       cases (eqb j i)
@@ -108,9 +124,11 @@ upto last i h t = take keep (part h i ++ textFrom last i (h .state .text) (h .st
 upto-turned : (last i : ℕ) (h : Held) (b : ℕ) (t : List ℕ) → parting last (h .state .text) (h .state .start) b ≡ true
     → upto last i (turned h) t ≡ upto last i h (b ∷ t)
 unfolding turned textHeld
-upto-turned last i h b t e = ap (λ (u : List ℕ). take keep (part h i ++ u)) (sym (from-next last i (h .state .text) (h .state .start) b t e))
+upto-turned last i h b t e =
+    ap (λ (u : List ℕ). take keep (part h i ++ u)) (sym (from-next last i (h .state .text) (h .state .start) b t e))
 
-upto-stored : (last i : ℕ) (h : Held) (b : ℕ) (t : List ℕ) → Sound last h → last < texts → parting last (h .state .text) (h .state .start) b ≡ false
+upto-stored : (last i : ℕ) (h : Held) (b : ℕ) (t : List ℕ) → Sound last h → last < texts
+    → parting last (h .state .text) (h .state .start) b ≡ false
     → upto last i (stored h b) t ≡ upto last i h (b ∷ t)
 upto-stored last i h b t s l e =
     let q = stored-start last h s b l in
@@ -118,14 +136,17 @@ upto-stored last i h b t s l e =
     (part-stored last h s b l i (textFrom last i (h .state .text) (eqb b 10) t)
     ∙ ap (λ (u : List ℕ). take keep (part h i ++ u)) (sym (from-same last i (h .state .text) (h .state .start) b t e)))
 
-held-after : (last i : ℕ) → last < texts → (t : List ℕ) (h : Held) → Sound last h → part (fed last h t) i ≡ upto last i h t
+held-after : (last i : ℕ) → last < texts → (t : List ℕ) (h : Held) → Sound last h
+    → part (fed last h t) i ≡ upto last i h t
 unfolding fed textFrom
-held-after last i l [] h s = sym (take-all keep (part h i ++ []) (rw (append-nil (part h i)) (part-few last h s i)) ∙ append-nil (part h i))
+held-after last i l [] h s =
+    sym (take-all keep (part h i ++ []) (rw (append-nil (part h i)) (part-few last h s i)) ∙ append-nil (part h i))
 held-after last i l (b ∷ t) h s =
     cases (parting last (h .state .text) (h .state .start) b)
     (λ e.
     ap (λ (g : Held). part (fed last g t) i) (stepped-on last h b e)
-    ∙ held-after last i l t (turned h) (sound-turned last h s (parting-below last (h .state .text) (h .state .start) b e))
+    ∙ held-after last i l t (turned h)
+    (sound-turned last h s (parting-below last (h .state .text) (h .state .start) b e))
     ∙ upto-turned last i h b t e)
     (λ e.
     ap (λ (g : Held). part (fed last g t) i) (stepped-in last h b e)
@@ -142,7 +163,8 @@ none-kept i =
 
 sound-beginning : (last : ℕ) (buffer : List ℕ) → suc last * keep ≤ length buffer → Sound last (held beginning buffer)
 unfolding beginning
-sound-beginning last buffer l = record { inside = omega arith; places = refl; few = λ i. omega (arith, none-kept i); long = l }
+sound-beginning last buffer l =
+    record { inside = omega arith; places = refl; few = λ i. omega (arith, none-kept i); long = l }
 
 part-beginning : (buffer : List ℕ) (i : ℕ) → part (held beginning buffer) i ≡ []
 unfolding textHeld

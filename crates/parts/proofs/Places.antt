@@ -14,8 +14,10 @@ use Rattle.parts.specs.Parts.{keep}
 use Rattle.parts.specs.Feeding.{count, textHeld}
 
 -- a byte stored after the n bytes from p on
-pub place-same : (l : List ℕ) (p n b : ℕ) → p + n < length l → take (n + 1) (drop p (set l (p + n) b)) ≡ take n (drop p l) ++ (b ∷ [])
-place-same l p n b h = rw (drop-set-add p l n b, add-one n) (take-suc-set (drop p l) n b (omega (arith, length-drop p l)))
+pub place-same : (l : List ℕ) (p n b : ℕ) → p + n < length l
+    → take (n + 1) (drop p (set l (p + n) b)) ≡ take n (drop p l) ++ (b ∷ [])
+place-same l p n b h =
+    rw (drop-set-add p l n b, add-one n) (take-suc-set (drop p l) n b (omega (arith, length-drop p l)))
 
 -- a byte stored in the places of another text
 pub place-other : (l : List ℕ) (i j m n b : ℕ) → (j ≡ i → ⊥) → m ≤ keep → n < keep
@@ -25,9 +27,11 @@ place-other l i j m n b d hm hn =
     (λ e. let s : j < i = ltb-true _ _ e in ap (take m) (drop-set-lt (i * keep) l (j * keep + n) b (omega arith)))
     (λ e.
     let s : i ≤ j = ltb-false _ _ e in
-    let more : i < j = cases (ltb i j) (λ q. ltb-true _ _ q) (λ q. let z : j ≤ i = ltb-false _ _ q in absurd (d (omega arith))) in
+    let more : i < j =
+    cases (ltb i j) (λ q. ltb-true _ _ q) (λ q. let z : j ≤ i = ltb-false _ _ q in absurd (d (omega arith))) in
     let q : j * keep + n ≡ i * keep + (j * keep + n - i * keep) = omega arith in
-    rw q (rw (drop-set-add (i * keep) l (j * keep + n - i * keep) b) (take-set-le m (drop (i * keep) l) (j * keep + n - i * keep) b (omega arith))))
+    rw q (rw (drop-set-add (i * keep) l (j * keep + n - i * keep) b)
+    (take-set-le m (drop (i * keep) l) (j * keep + n - i * keep) b (omega arith))))
 
 -- what is held of a text, as the code takes it
 module _ (s : State) (buffer : List ℕ) (i : ℕ) where

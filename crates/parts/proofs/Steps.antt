@@ -39,18 +39,21 @@ parting-below last j false b e = absurd (mathlib.Core.Bool.false≢true e)
 
 -- a byte of the text that goes on
 module _ (s : State) (buffer : List ℕ) (b : ℕ) where
-  pub stored-past : texts ≤ s .text → stored (held s buffer) b ≡ held (record { text = s .text; start = eqb b 10; kept = s .kept }) buffer
+  pub stored-past : texts ≤ s .text
+      → stored (held s buffer) b ≡ held (record { text = s .text; start = eqb b 10; kept = s .kept }) buffer
   unfolding stored room both
   stored-past h = rw (le-ltb _ _ h)
 
   module _ (l : s .text < texts) where
-    pub stored-full : keep ≤ count s (s .text) → stored (held s buffer) b ≡ held (record { text = s .text; start = eqb b 10; kept = s .kept }) buffer
+    pub stored-full : keep ≤ count s (s .text)
+        → stored (held s buffer) b ≡ held (record { text = s .text; start = eqb b 10; kept = s .kept }) buffer
     unfolding stored room both
     stored-full h = rw (lt-ltb _ _ l, le-ltb _ _ h)
 
     pub stored-room : count s (s .text) < keep
         → stored (held s buffer) b
-        ≡ held (record { text = s .text; start = eqb b 10; kept = set (s .kept) (s .text) (count s (s .text) + 1) }) (set buffer (s .text * keep + count s (s .text)) b)
+        ≡ held (record { text = s .text; start = eqb b 10; kept = set (s .kept) (s .text) (count s (s .text) + 1) })
+        (set buffer (s .text * keep + count s (s .text)) b)
     unfolding stored room both
     stored-room h = rw (lt-ltb _ _ l, lt-ltb _ _ h)
 
@@ -66,7 +69,8 @@ module _ (last : ℕ) (h : Held) (b : ℕ) where
 
 -- a chunk from a place on
 module _ (last : ℕ) (h : Held) (chunk : List ℕ) (i : ℕ) where
-  pub fed-more : i < length chunk → fed last h (drop i chunk) ≡ fed last (stepped last h (getD chunk i 0)) (drop (i + 1) chunk)
+  pub fed-more : i < length chunk
+      → fed last h (drop i chunk) ≡ fed last (stepped last h (getD chunk i 0)) (drop (i + 1) chunk)
   unfolding fed
   fed-more l = rw (drop-step chunk i l)
 
@@ -80,7 +84,8 @@ module _ (last i j : ℕ) (start : Bool) (b : ℕ) (t : List ℕ) where
   unfolding textFrom
   from-next e = rw e
 
-  pub from-same : parting last j start b ≡ false → textFrom last i j start (b ∷ t) ≡ byteIf (eqb j i) b (textFrom last i j (eqb b 10) t)
+  pub from-same : parting last j start b ≡ false
+      → textFrom last i j start (b ∷ t) ≡ byteIf (eqb j i) b (textFrom last i j (eqb b 10) t)
   unfolding textFrom
   from-same e = rw e
 

@@ -42,7 +42,8 @@ stored h b =
     let s = h .state in
     let n = count s (s .text) in
     cond (room s)
-    (held (record { text = s .text; start = eqb b 10; kept = set (s .kept) (s .text) (n + 1) }) (set (h .buffer) (s .text * keep + n) b))
+    (held (record { text = s .text; start = eqb b 10; kept = set (s .kept) (s .text) (n + 1) })
+    (set (h .buffer) (s .text * keep + n) b))
     (held (record { text = s .text; start = eqb b 10; kept = s .kept }) (h .buffer))
 
 -- one byte of an input with the texts 0 to last

@@ -16,9 +16,11 @@ unfoldable pub AllWhole : List (List ℕ) → Type 0
 AllWhole [] = Unit {0}
 AllWhole (t ∷ ts) = Lines t × AllWhole ts
 
--- Texts without empty lines, joined by empty lines, are the parts of the whole; empty lines in the last text belong to it.
+-- Texts without empty lines, joined by empty lines, are the parts of the whole; empty lines in the last
+-- text belong to it.
 abbrev pub JoinedApart : Type 0
-JoinedApart = (ts : List (List ℕ)) (end : List ℕ) → AllWhole ts → (i : ℕ) → textOf (length ts) i (joined ts end) ≡ getD (ts ++ (end ∷ [])) i []
+JoinedApart = (ts : List (List ℕ)) (end : List ℕ) → AllWhole ts → (i : ℕ)
+    → textOf (length ts) i (joined ts end) ≡ getD (ts ++ (end ∷ [])) i []
 
 -- Where there are fewer empty lines than the texts need, the missing texts are empty.
 abbrev pub MissingEmpty : Type 0

@@ -1,14 +1,16 @@
--- Every promise, by the name of its proof, at its type: the table of contents of what is proved. docs/PROMISES.md is this list for a reader, and
--- tests/promises holds the two together, with the statements and the proofs.
+-- Every promise, by the name of its proof, at its type: the table of contents of what is proved. docs/PROMISES.md is
+-- this list for a reader, and tests/promises holds the two together, with the statements and the proofs.
 use mathlib.Core.List.{List}
 use Prim.Native.Nat.{ℕ}
 use Rattle.sets.specs.Meaning.{MasksAreSets}
-use Rattle.labels.specs.Lattice.{SecurityLattices, NonTrivial, OneLabel, EmptyGroups, ClosedBelow, ReadingDownward, ReadsBelow, TwoRules, PoliciesEffective}
+use Rattle.labels.specs.Lattice.{SecurityLattices, NonTrivial, OneLabel, EmptyGroups, ClosedBelow, ReadingDownward}
+use Rattle.labels.specs.Lattice.{ReadsBelow, TwoRules, PoliciesEffective}
 use Rattle.language.specs.Theorems.{Theorems, LeastLabels, StricterFlow, TrustDerivable}
 use Rattle.sheet.specs.Theorems.{LeastLabelLawsHold, SameLabelsOnSheets, NumbersAgreeOnSheets, ReadingOnSheets}
 use Rattle.text.specs.Reading.{Read}
 use Rattle.text.specs.Lines.{LineForm}
-use Rattle.text.specs.Theorems.{NumberExact, SetExact, NumberFieldExact, SetFieldExact, LineEndExact, LastNumberExact, LinesExact, AllLinesExact}
+use Rattle.text.specs.Theorems.{NumberExact, SetExact, NumberFieldExact, SetFieldExact, LineEndExact, LastNumberExact}
+use Rattle.text.specs.Theorems.{LinesExact, AllLinesExact}
 use Rattle.sheet_text.specs.Theorems.{AcceptedExact, RepeatingExact, MalformedExact, OneSheet}
 use Rattle.script_text.specs.Theorems.{ScriptExact}
 use Rattle.memory.specs.Theorems.{WordsExactly, CellExactly, MemoriesExactly, ViewsExactly, MasksExactly}
@@ -30,17 +32,17 @@ use Rattle.desk.specs.Theorems.{GroupExact, SameOrder, ShowInOrder, KeptEnough,
 pub record Promises : Type 1 where
   -- ---- The calls
 
-  -- Each call gives the first number that applies, in their order; after any call the lent memory holds a finished run's
-  -- values or what it held before, and a refused call writes to no lent slice.
+  -- Each call gives the first number that applies, in their order; after any call the lent memory holds a finished
+  -- run's values or what it held before, and a refused call writes to no lent slice.
   pub demand-1 : Demand1
   -- Each call answers exactly what the papers say: the numbers, the typing rules, the memory and the step count of
   -- the evaluation rules, the smallest groups, whether a script is trust-keeping.
   pub demand-2 : Demand2
-  -- Noninterference: two done runs of an accepted script under one authority, from memories that give a group the same view, leave memories
-  -- that do.
+  -- Noninterference: two done runs of an accepted script under one authority, from memories that give a group the same
+  -- view, leave memories that do.
   pub demand-3 : Demand3
-  -- Two rounds of the same scripts under one authority, from memories that give a group the same view, leave memories that do, where each script
-  -- is done in both.
+  -- Two rounds of the same scripts under one authority, from memories that give a group the same view, leave memories
+  -- that do, where each script is done in both.
   pub round-view : RoundView
   -- simp_groups lists a group exactly if it is a set of the sheet's principals that reads the label while none of its
   -- proper subsets does; the list rises, its length is the count, and the places after it are kept.
@@ -52,23 +54,23 @@ pub record Promises : Type 1 where
   -- under one authority, from memories that are alike in what is left, leave memories that are; and so do rounds of
   -- such scripts.
   pub trust-kept : TrustKept
-  -- A sheet's rule of reading decides who reads, and nothing else: who writes, what is left where a group is distrusted,
-  -- which sheets, scripts and memories are refused, which scripts are trust-keeping, where a script starts and what else
-  -- a run goes by stay.
+  -- A sheet's rule of reading decides who reads, and nothing else: who writes, what is left where a group is
+  -- distrusted, which sheets, scripts and memories are refused, which scripts are trust-keeping, where a script starts
+  -- and what else a run goes by stay.
   pub only-reading : OnlyReading
-  -- What the view promises, noninterference of runs and rounds and that a start that isn't read isn't seen, rests on one
-  -- fact about reading: it is promised to everyone who reads with a label every label below it by readers alone.
+  -- What the view promises, noninterference of runs and rounds and that a start that isn't read isn't seen, rests on
+  -- one fact about reading: it is promised to everyone who reads with a label every label below it by readers alone.
   pub downward-suffices : DownwardSuffices
   -- The scope's starred cases, its two of long values, rounds, smallest groups, starting labels, trust-keeping scripts,
   -- pairs and one reader by himself, in one table.
   pub cases-hold : CasesHold
-  -- Of any table of refusal numbers: the first that applies is given, and it settles the whole answer; there is exactly one answer where it is
-  -- settled which row applies first, and there is exactly one where none applies.
+  -- Of any table of refusal numbers: the first that applies is given, and it settles the whole answer; there is exactly
+  -- one answer where it is settled which row applies first, and there is exactly one where none applies.
   pub every-table : EveryTable
   -- ---- The language
 
-  -- The functions agree with the figures; runs are determinate, sound and end as the figures have it; typing is exact; the paper's
-  -- theorems 1 and 2, noninterference, of one expression and of one command; confinement.
+  -- The functions agree with the figures; runs are determinate, sound and end as the figures have it; typing is exact;
+  -- the paper's theorems 1 and 2, noninterference, of one expression and of one command; confinement.
   pub theorems : Theorems
   -- The scope's least label of an expression is the least that figure 4 gives it: it is typed at a label exactly if it
   -- is at the least one, and that is at or below the label.
@@ -86,8 +88,8 @@ pub record Promises : Type 1 where
 
   -- A set of principals is a number whose bit p is principal p; the operations on numbers are those on sets.
   pub masks-are-sets : MasksAreSets
-  -- The labels of up to 16 principals are a bounded order with joins; C, I, reading by the scope's rule and writing obey
-  -- the laws of the paper's section 2.2.
+  -- The labels of up to 16 principals are a bounded order with joins; C, I, reading by the scope's rule and writing
+  -- obey the laws of the paper's section 2.2.
   pub security-lattices : SecurityLattices
   -- The lattice of two principals or more is not trivial.
   pub non-trivial : NonTrivial
@@ -138,10 +140,13 @@ pub record Promises : Type 1 where
   -- The last field of a line, a number, is read exactly where it and the end of the line stand.
   pub last-number-exact : LastNumberExact
   -- Lines of a form are read as at most k of them exactly where these stand printed one after another.
-  pub lines-exact : {A : Type 0} {line : List ℕ → Read A} {print : A → List ℕ → List ℕ} {Good : A → Type 0} → LineForm line print Good → LinesExact line print Good
+  pub lines-exact : {A : Type 0} {line : List ℕ → Read A} {print : A → List ℕ → List ℕ} {Good : A → Type 0}
+      → LineForm line print Good → LinesExact line print Good
   -- And as any number of them.
-  pub all-lines-exact : {A : Type 0} {line : List ℕ → Read A} {print : A → List ℕ → List ℕ} {Good : A → Type 0} → LineForm line print Good → AllLinesExact line print Good
-  -- A text is accepted as a sheet exactly where it is the printed form of one of the right form, is not too long, and the sheet repeats nothing.
+  pub all-lines-exact : {A : Type 0} {line : List ℕ → Read A} {print : A → List ℕ → List ℕ} {Good : A → Type 0}
+      → LineForm line print Good → AllLinesExact line print Good
+  -- A text is accepted as a sheet exactly where it is the printed form of one of the right form, is not too long, and
+  -- the sheet repeats nothing.
   pub accepted-exact : AcceptedExact
   -- A sheet is refused by 2 exactly where it is of its form and repeats a type or a label.
   pub repeating-exact : RepeatingExact
@@ -152,7 +157,8 @@ pub record Promises : Type 1 where
   -- On a sheet of the form, a script is read exactly where the text is the printed form of an opening and a command
   -- within the bounds that name only what is there.
   pub script-exact : ScriptExact
-  -- The scripts of a text are these exactly where no line of them is empty and the text is these, joined by empty lines.
+  -- The scripts of a text are these exactly where no line of them is empty and the text is these,
+  -- joined by empty lines.
   pub parts-exact : PartsExact
   -- A memory text is read exactly where it is the printed form of a memory.
   pub memory-exact : MemoryExact

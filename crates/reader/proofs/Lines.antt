@@ -1,7 +1,10 @@
--- What a text's reader reads at a byte, and the two structs that hold it: with the byte after it, and with the reader after it.
---     Lines                what the walks are told of the types.        found-type, next-type     the structs' types, and found-laws, next-laws their laws
---     found-mir, next-mir  their MIR types.        what-typed, found-typed, next-typed     a machine value of each has the MIR type
---     found-shut, next-shut     what the fields own together is what the struct owns
+-- What a text's reader reads at a byte, and the two structs that hold it: with the byte after it, and with the
+-- reader after it.
+--     Lines                                what the walks are told of the types.
+--     found-type, next-type                the structs' types, and found-laws, next-laws their laws
+--     found-mir, next-mir                  their MIR types.
+--     what-typed, found-typed, next-typed  a machine value of each has the MIR type
+--     found-shut, next-shut                what the fields own together is what the struct owns
 -- Assumes nothing.
 use mathlib.Core.Path.{_≡_, sym, subst}
 use Prim.Native.Nat.{ℕ}
@@ -41,7 +44,8 @@ pub record Lines : Type 2 where
   pub found-name : Sym
   pub Found : Type 0
   pub found-values : Found → what .Value × (ℕ × Unit {0})
-  pub found-one : (x y : Found) → intos (what ∷ usize-field ∷ []) (found-values x) ≡ intos (what ∷ usize-field ∷ []) (found-values y) → x ≡ y
+  pub found-one : (x y : Found)
+      → intos (what ∷ usize-field ∷ []) (found-values x) ≡ intos (what ∷ usize-field ∷ []) (found-values y) → x ≡ y
   pub found : what .Value → ℕ → Found
   pub found-eta : (d : Found) → found (found-values d .0) (found-values d .1 .0) ≡ d
   pub found-beta : (x : what .Value) (p : ℕ) → found-values (found x p) ≡ (x, (p, tt))
@@ -49,7 +53,8 @@ pub record Lines : Type 2 where
   pub next-name : Sym
   pub Next : Type 0
   pub next-values : Next → what .Value × (Reader × Unit {0})
-  pub next-one : (α : NamedLft) (x y : Next) → intos (what ∷ T.the-field α ∷ []) (next-values x) ≡ intos (what ∷ T.the-field α ∷ []) (next-values y) → x ≡ y
+  pub next-one : (α : NamedLft) (x y : Next)
+      → intos (what ∷ T.the-field α ∷ []) (next-values x) ≡ intos (what ∷ T.the-field α ∷ []) (next-values y) → x ≡ y
   pub next : what .Value → Reader → Next
   pub next-beta : (x : what .Value) (r : Reader) → next-values (next x r) ≡ (x, (r, tt))
 
@@ -93,17 +98,22 @@ module _ (R : Lines) where
   next-mir a = tyStruct (R .next-name) (tcons (R .mir) (tcons (T′.mir a) tnil))
 
   module _ {M : Type 1} (𝓤 : URA M) (H : Heap 𝓤) (A : Atoms 𝓤) (W : Given 𝓤 H A) where
-    pub what-typed : (x : R .what .row .Denot) (u : Val) → Is (R .what .row) x (u ∷ []) → IsTrue (hasTy (R .mir) u) × WT u
-    what-typed x u is = subst (λ (ts : List Ty). Typed ts (u ∷ [])) (R .layout) (R .laws .lawful 𝓤 H A W .typed x (u ∷ []) is) .0
+    pub what-typed : (x : R .what .row .Denot) (u : Val) → Is (R .what .row) x (u ∷ [])
+        → IsTrue (hasTy (R .mir) u) × WT u
+    what-typed x u is =
+        subst (λ (ts : List Ty). Typed ts (u ∷ [])) (R .layout) (R .laws .lawful 𝓤 H A W .typed x (u ∷ []) is) .0
 
     pub found-typed : (d : R .Found) (u : Val) → Is (row found-type) d (u ∷ []) → IsTrue (hasTy found-mir u) × WT u
     found-typed d u is =
-        subst (λ (ts : List Ty). Typed (tyStruct (R .found-name) (toTys (ts ++ (tyInt w64 ∷ []))) ∷ []) (u ∷ [])) (R .layout)
+        subst (λ (ts : List Ty). Typed (tyStruct (R .found-name) (toTys (ts ++ (tyInt w64 ∷ []))) ∷ []) (u ∷ []))
+        (R .layout)
         (LL.lawful found-type found-laws 𝓤 H A W .typed d (u ∷ []) is) .0
 
-    pub next-typed : (α : NamedLft) (d : R .Next) (u : Val) → Is (row (next-type α)) d (u ∷ []) → IsTrue (hasTy (next-mir (α .mir)) u) × WT u
+    pub next-typed : (α : NamedLft) (d : R .Next) (u : Val) → Is (row (next-type α)) d (u ∷ [])
+        → IsTrue (hasTy (next-mir (α .mir)) u) × WT u
     next-typed α d u is =
-        subst (λ (ts : List Ty). Typed (tyStruct (R .next-name) (toTys (ts ++ (T′.mir (α .mir) ∷ []))) ∷ []) (u ∷ [])) (R .layout)
+        subst (λ (ts : List Ty). Typed (tyStruct (R .next-name) (toTys (ts ++ (T′.mir (α .mir) ∷ []))) ∷ []) (u ∷ []))
+        (R .layout)
         (LL.lawful (next-type α) (next-laws α) 𝓤 H A W .typed d (u ∷ []) is) .0
 
     pub found-shut : (x : R .what .Value) (p : ℕ)
@@ -111,13 +121,16 @@ module _ (R : Lines) where
         (sem 𝓤 H A (row found-type .own (R .found x p) (vstruct (spelled found-parts found-laws (x, (p, tt))) ∷ [])))
     found-shut x p =
         subst (λ (v : Values found-parts). ent 𝓤 (sem 𝓤 H A (all-own found-parts found-laws (x, (p, tt))))
-        (sem 𝓤 H A (Struct (shape found-type) .own (intos found-parts v) (vstruct (spelled found-parts found-laws (x, (p, tt))) ∷ [])))) (sym (R .found-beta x p))
+        (sem 𝓤 H A (Struct (shape found-type) .own (intos found-parts v)
+        (vstruct (spelled found-parts found-laws (x, (p, tt))) ∷ [])))) (sym (R .found-beta x p))
         (own-shut 𝓤 H A W found-type found-laws (x, (p, tt)))
 
     pub next-shut : (α : NamedLft) (x : R .what .Value) (r : Reader)
         → ent 𝓤 (sem 𝓤 H A (all-own (next-parts α) (next-laws α) (x, (r, tt))))
-        (sem 𝓤 H A (row (next-type α) .own (R .next x r) (vstruct (spelled (next-parts α) (next-laws α) (x, (r, tt))) ∷ [])))
+        (sem 𝓤 H A
+        (row (next-type α) .own (R .next x r) (vstruct (spelled (next-parts α) (next-laws α) (x, (r, tt))) ∷ [])))
     next-shut α x r =
         subst (λ (v : Values (next-parts α)). ent 𝓤 (sem 𝓤 H A (all-own (next-parts α) (next-laws α) (x, (r, tt))))
-        (sem 𝓤 H A (Struct (shape (next-type α)) .own (intos (next-parts α) v) (vstruct (spelled (next-parts α) (next-laws α) (x, (r, tt))) ∷ [])))) (sym (R .next-beta x r))
+        (sem 𝓤 H A (Struct (shape (next-type α)) .own (intos (next-parts α) v)
+        (vstruct (spelled (next-parts α) (next-laws α) (x, (r, tt))) ∷ [])))) (sym (R .next-beta x r))
         (own-shut 𝓤 H A W (next-type α) (next-laws α) (x, (r, tt)))

@@ -39,8 +39,10 @@ lower-none zero k e = (refl, e)
 lower-none (suc j) zero e = absurd (omega arith)
 lower-none (suc j) (suc k) e =
     cases (leb j k)
-    (λ h. let z = lower-first (suc j) (suc k) (λ w. omega arith) (let l : j ≤ k = leb-true _ _ h in omega arith) in absurd (omega arith))
-    (λ h. let z = lower-second (suc j) (suc k) (λ w. omega arith) (let l : k < j = leb-false _ _ h in omega arith) in absurd (omega arith))
+    (λ h. let z = lower-first (suc j) (suc k) (λ w. omega arith) (let l : j ≤ k = leb-true _ _ h in omega arith) in
+    absurd (omega arith))
+    (λ h. let z = lower-second (suc j) (suc k) (λ w. omega arith) (let l : k < j = leb-false _ _ h in omega arith) in
+    absurd (omega arith))
 
 pub lower-assoc : (i j k : ℕ) → lower (lower i j) k ≡ lower i (lower j k)
 unfolding lower
@@ -72,6 +74,7 @@ module _ (number : List ℕ → ℕ) where
   lowest-over = refl
 
   -- one script more: the lower of what was found before it and its own number goes on with those after it
-  pub lowest-on : (k : ℕ) (t : List ℕ) (ts : List (List ℕ)) → lower k (lowest number (t ∷ ts)) ≡ lower (lower k (number t)) (lowest number ts)
+  pub lowest-on : (k : ℕ) (t : List ℕ) (ts : List (List ℕ))
+      → lower k (lowest number (t ∷ ts)) ≡ lower (lower k (number t)) (lowest number ts)
   unfolding lowest
   lowest-on k t ts = sym (lower-assoc k (number t) (lowest number ts))

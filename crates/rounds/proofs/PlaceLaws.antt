@@ -14,7 +14,8 @@ use Rattle.rounds.specs.Answers.{RanRound, leftBy, roundFrom}
 use Rattle.rounds.specs.Calls.{runEach}
 
 -- as many runs as scripts
-pub each-length : (run : ℕ → List ℕ → List ℕ → Ran) (i : ℕ) (memory : List ℕ) (ts : List (List ℕ)) → length (runEach run i memory ts) ≡ length ts
+pub each-length : (run : ℕ → List ℕ → List ℕ → Ran) (i : ℕ) (memory : List ℕ) (ts : List (List ℕ))
+    → length (runEach run i memory ts) ≡ length ts
 unfolding runEach
 each-length run i memory [] = refl
 each-length run i memory (t ∷ ts) = ap suc (each-length run (suc i) _ ts)
@@ -33,7 +34,8 @@ module _ (run : ℕ → List ℕ → List ℕ → Ran) where
 
   pub rest-more : (i : ℕ) (answers steps memory : List ℕ) (t : List ℕ) (ts : List (List ℕ))
       → rest i answers steps memory (t ∷ ts)
-      ≡ rest (i + 1) (set answers i (run i t memory .answer)) (set steps i (run i t memory .steps)) (run i t memory .memory) ts
+      ≡ rest (i + 1) (set answers i (run i t memory .answer)) (set steps i (run i t memory .steps))
+      (run i t memory .memory) ts
   unfolding rest runEach leftBy
   rest-more i answers steps memory t ts = rw (add-one i) refl
 
@@ -43,9 +45,14 @@ module _ (run : ℕ → List ℕ → List ℕ → Ran) where
   rest-over i answers steps memory = refl
 
   pub rest-all : (memory : List ℕ) (ts : List (List ℕ)) → length ts ≤ mostScripts
-      → rest 0 (replicate mostScripts 0) (replicate mostScripts 0) memory ts ≡ roundFrom memory (runEach run 0 memory ts)
+      → rest 0 (replicate mostScripts 0) (replicate mostScripts 0) memory ts
+      ≡ roundFrom memory (runEach run 0 memory ts)
   unfolding rest padded
   rest-all memory ts l =
       let rs = runEach run 0 memory ts in
-      let few : (f : Ran → ℕ) → length (map f rs) ≤ mostScripts = λ f. omega (arith, length-map rs f, each-length run 0 memory ts) in
-      rw (sets-zeros mostScripts (map (λ r. r .answer) rs) (few _), sets-zeros mostScripts (map (λ r. r .steps) rs) (few _)) refl
+      let few : (f : Ran → ℕ) → length (map f rs) ≤ mostScripts =
+      λ f. omega (arith, length-map rs f, each-length run 0 memory ts) in
+      rw (
+        sets-zeros mostScripts (map (λ r. r .answer) rs) (few _),
+        sets-zeros mostScripts (map (λ r. r .steps) rs) (few _),
+      ) refl

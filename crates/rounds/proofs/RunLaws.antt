@@ -31,15 +31,18 @@ use Rattle.rounds.proofs.PlaceLaws.{rest, rest-more, rest-over, rest-al
 -- ---- one script
 
 -- an accepted script on a memory that isn't refused: no number refuses its run
-run-on-accepted : (s : Sheet) (authority budget : ℕ) (script memory ws : List ℕ) (a : AcceptedCode s script ws) → strangers s authority ≡ 0 → memoryRefusal s memory ≡ 0
+run-on-accepted : (s : Sheet) (authority budget : ℕ) (script memory ws : List ℕ) (a : AcceptedCode s script ws)
+    → strangers s authority ≡ 0 → memoryRefusal s memory ≡ 0
     → runOn s authority budget script memory ≡ acceptedRun s memory authority budget (a .parsed)
 unfolding onScript
 run-on-accepted s authority budget script memory ws a g m =
     goes (refusedRun memory) (strangers s authority) _ g
-    ∙ rw (a .is-its) (goes (refusedRun memory) (untyped s (a .parsed)) _ (a .typed) ∙ goes (refusedRun memory) (memoryRefusal s memory) _ m)
+    ∙ rw (a .is-its) (goes (refusedRun memory) (untyped s (a .parsed)) _ (a .typed)
+    ∙ goes (refusedRun memory) (memoryRefusal s memory) _ m)
 
 -- the lines of an accepted script are its code
-decoded-accepted : (t script : List ℕ) (p : Decoded) → p ≡ codedText (writtenOf script) → (s : Sheet) → TableOf t s → numberOf s script ≡ 0
+decoded-accepted : (t script : List ℕ) (p : Decoded) → p ≡ codedText (writtenOf script) → (s : Sheet) → TableOf t s
+    → numberOf s script ≡ 0
     → p ≡ decodedScript (scriptOf (countsIn t) script)
 unfolding numberOf onScript
 decoded-accepted t script p e s T n = go (scriptOf (countsOf s) script) refl n
@@ -47,12 +50,15 @@ decoded-accepted t script p e s T n = go (scriptOf (countsOf s) script) refl n
     k : countsIn t ≡ countsOf s
     k = ap countsIn (T .words) ∙ counts-table s
 
-    go : (o : Option Script) → scriptOf (countsOf s) script ≡ o → onScript (λ j. j) o (λ c. untyped s c) ≡ 0 → p ≡ decodedScript (scriptOf (countsIn t) script)
+    go : (o : Option Script) → scriptOf (countsOf s) script ≡ o → onScript (λ j. j) o (λ c. untyped s c) ≡ 0
+        → p ≡ decodedScript (scriptOf (countsIn t) script)
     go none x z = absurd (omega arith)
     go (some c) x z = e ∙ script-coded (countsIn t) script c (ap (λ (j : Counts). scriptOf j script) k ∙ x)
 
-pub runs-script : (script t memory ws : List ℕ) (authority budget : ℕ) (p : Decoded) (r : Ran) → p ≡ codedText (writtenOf script)
-    → ws ≡ take (p .count * 3) (p .code) → RunsAccepted ws t memory authority budget r → RunsScript script t memory authority budget r
+pub runs-script : (script t memory ws : List ℕ) (authority budget : ℕ) (p : Decoded) (r : Ran)
+    → p ≡ codedText (writtenOf script)
+    → ws ≡ take (p .count * 3) (p .code) → RunsAccepted ws t memory authority budget r
+    → RunsScript script t memory authority budget r
 runs-script script t memory ws authority budget p r e w ran = record {
   spares = ran .spares;
   ran = λ s T g n m.
@@ -64,45 +70,55 @@ runs-script script t memory ws authority budget p r e w ran = record {
 }
 
 -- its turn: run where its gate has no number, else refused with it
-pub turn-runs : (script t memory : List ℕ) (authority budget number : ℕ) (r : Ran) → number ≡ 0 → RunsScript script t memory authority budget r
+pub turn-runs : (script t memory : List ℕ) (authority budget number : ℕ) (r : Ran) → number ≡ 0
+    → RunsScript script t memory authority budget r
     → RunsTurn script number t memory authority budget r
 unfolding unless
 turn-runs script t memory authority budget number r z ran = rw z (record { ran = ran .ran })
 
-pub turn-shut : (script t memory : List ℕ) (authority budget number : ℕ) → ¬ (number ≡ 0) → RunsTurn script number t memory authority budget (refusedRun memory number)
-turn-shut script t memory authority budget number z = record { ran = λ s T g n m. (sym (stops (refusedRun memory) number _ z), m) }
+pub turn-shut : (script t memory : List ℕ) (authority budget number : ℕ) → ¬ (number ≡ 0)
+    → RunsTurn script number t memory authority budget (refusedRun memory number)
+turn-shut script t memory authority budget number z =
+    record { ran = λ s T g n m. (sym (stops (refusedRun memory) number _ z), m) }
 
 -- ---- all of them
 
 -- The script that starts at a place: where its end is kept, and that it has a place itself.
-pub script-at : (scripts ends : List ℕ) (i at end : ℕ) → Parted scripts ends → StartsAt scripts i at → at ≤ length scripts → end ≡ getD ends i 0 → PartAt scripts at end
+pub script-at : (scripts ends : List ℕ) (i at end : ℕ) → Parted scripts ends → StartsAt scripts i at
+    → at ≤ length scripts → end ≡ getD ends i 0 → PartAt scripts at end
 script-at scripts ends i at end h s l e =
     part-at scripts at end l (e ∙ ap (λ (es : List ℕ). getD es i 0) (h .kept) ∙ kept-end scripts i at s (h .few) l)
 
-pub place-at : (scripts ends : List ℕ) (i at : ℕ) → Parted scripts ends → StartsAt scripts i at → at ≤ length scripts → i < mostScripts
+pub place-at : (scripts ends : List ℕ) (i at : ℕ) → Parted scripts ends → StartsAt scripts i at → at ≤ length scripts
+    → i < mostScripts
 place-at scripts ends i at h s l = omega (arith, has-place s (script-at scripts ends i at _ h s l refl), h .few)
 
 module _ (scripts gates t memory₀ : List ℕ) (authority budget : ℕ) where
-  -- Where no number refuses the round: at place i, with the scripts from `at` on left, the rest of the round is the whole.
+  -- Where no number refuses the round: at place i, with the scripts from `at` on left, the rest of the
+  -- round is the whole.
   pub record Going (s : Sheet) (i at : ℕ) (answers steps memory : List ℕ) : Type 0 where
     pub accepted : lowest (numberOf s) (partsAfter scripts at) ≡ 0
     pub unrefused : memoryRefusal s memory ≡ 0
-    pub whole : rest (turnOn (gateIn gates) s authority budget) i answers steps memory (partsAfter scripts at) ≡ ranOn (gateIn gates) s authority budget (partsOf scripts) memory₀
+    pub whole : rest (turnOn (gateIn gates) s authority budget) i answers steps memory (partsAfter scripts at)
+        ≡ ranOn (gateIn gates) s authority budget (partsOf scripts) memory₀
 
   -- on every sheet of the table on which no number refuses it
   abbrev pub Goes : ℕ → ℕ → List ℕ → List ℕ → List ℕ → Type 0
   Goes i at answers steps memory =
-      (s : Sheet) → TableOf t s → strangers s authority ≡ 0 → lowest (numberOf s) (partsOf scripts) ≡ 0 → memoryRefusal s memory₀ ≡ 0
+      (s : Sheet) → TableOf t s → strangers s authority ≡ 0 → lowest (numberOf s) (partsOf scripts) ≡ 0
+      → memoryRefusal s memory₀ ≡ 0
       → Going s i at answers steps memory
 
-  pub goes-first : length (partsOf scripts) ≤ mostScripts → Goes 0 0 (replicate mostScripts 0) (replicate mostScripts 0) memory₀
+  pub goes-first : length (partsOf scripts) ≤ mostScripts
+      → Goes 0 0 (replicate mostScripts 0) (replicate mostScripts 0) memory₀
   goes-first l s T g n m = record {
     accepted = rw (parts-all scripts) n;
     unrefused = m;
     whole = rw (parts-all scripts) (rest-all (turnOn (gateIn gates) s authority budget) memory₀ (partsOf scripts) l);
   }
 
-  pub goes-on : (i at end : ℕ) (answers steps memory : List ℕ) (r : Ran) → Goes i at answers steps memory → PartAt scripts at end
+  pub goes-on : (i at end : ℕ) (answers steps memory : List ℕ) (r : Ran) → Goes i at answers steps memory
+      → PartAt scripts at end
       → RunsTurn (take (end - at) (drop at scripts)) (getD gates i 0) t memory authority budget r
       → Goes (i + 1) (end + 1) (set answers i (r .answer)) (set steps i (r .steps)) (r .memory)
   goes-on i at end answers steps memory r k p ran s T g n m =
@@ -120,8 +136,10 @@ module _ (scripts gates t memory₀ : List ℕ) (authority budget : ℕ) where
             ∙ ap (rest (turnOn (gateIn gates) s authority budget) i answers steps memory) (sym (p .parts)) ∙ h .whole);
       }
 
-  pub goes-over : (i at : ℕ) (answers steps memory : List ℕ) → Goes i at answers steps memory → partsAfter scripts at ≡ []
-      → RunsEach scripts gates t memory₀ authority budget (record { answer = 0; answers = answers; steps = steps; memory = memory })
+  pub goes-over : (i at : ℕ) (answers steps memory : List ℕ) → Goes i at answers steps memory
+      → partsAfter scripts at ≡ []
+      → RunsEach scripts gates t memory₀ authority budget
+      (record { answer = 0; answers = answers; steps = steps; memory = memory })
   goes-over i at answers steps memory k l = record {
     done = refl;
     ran = λ s T g n m.

@@ -27,13 +27,16 @@ always-open i = refl
 
 -- the same number in each place: the same round
 module _ (gate gate′ : Gate) (s : Sheet) (authority budget : ℕ) (same : (i : ℕ) → gate i ≡ gate′ i) where
-  each-same : (i : ℕ) (memory : List ℕ) (ts : List (List ℕ)) → runEach (turnOn gate s authority budget) i memory ts ≡ runEach (turnOn gate′ s authority budget) i memory ts
+  each-same : (i : ℕ) (memory : List ℕ) (ts : List (List ℕ))
+      → runEach (turnOn gate s authority budget) i memory ts ≡ runEach (turnOn gate′ s authority budget) i memory ts
   unfolding runEach
   each-same i memory [] = refl
   each-same i memory (t ∷ ts) =
-      rw (same i) (ap (λ (rs : List Ran). turnOn gate′ s authority budget i t memory ∷ rs) (each-same (suc i) (turnOn gate′ s authority budget i t memory .memory) ts))
+      rw (same i) (ap (λ (rs : List Ran). turnOn gate′ s authority budget i t memory ∷ rs)
+      (each-same (suc i) (turnOn gate′ s authority budget i t memory .memory) ts))
 
-pub played-same : (gate gate′ : Gate) (s : Sheet) (authority budget : ℕ) (ts : List (List ℕ)) (memory : List ℕ) → ((i : ℕ) → gate i ≡ gate′ i)
+pub played-same : (gate gate′ : Gate) (s : Sheet) (authority budget : ℕ) (ts : List (List ℕ)) (memory : List ℕ)
+    → ((i : ℕ) → gate i ≡ gate′ i)
     → playedOn gate s authority budget ts memory ≡ playedOn gate′ s authority budget ts memory
 played-same gate gate′ s authority budget ts memory e = rw (each-same gate gate′ s authority budget e 0 memory ts) refl
 
@@ -50,7 +53,8 @@ module _ (scripts gates t memory : List ℕ) (authority budget : ℕ) where
     pub play-numbered : (number ≡ 0 → ⊥) → Plays scripts gates t memory authority budget (R number)
     play-numbered z = record {
       refused = λ v. refl;
-      played = λ s T g. ap R (n .numbered s T) ∙ sym (stops R (lowest (numberOf s) (partsOf scripts)) _ (λ w. z (n .numbered s T ∙ w)));
+      played = λ s T g. ap R (n .numbered s T)
+          ∙ sym (stops R (lowest (numberOf s) (partsOf scripts)) _ (λ w. z (n .numbered s T ∙ w)));
     }
 
     module _ (z : number ≡ 0) where
@@ -58,46 +62,61 @@ module _ (scripts gates t memory : List ℕ) (authority budget : ℕ) where
       all-accepted s T = sym (n .numbered s T) ∙ z
 
       by-memory : (s : Sheet) → TableOf t s
-          → playedOn (gateIn gates) s authority budget (partsOf scripts) memory ≡ unless R (memoryRefusal s memory) (ranOn (gateIn gates) s authority budget (partsOf scripts) memory)
+          → playedOn (gateIn gates) s authority budget (partsOf scripts) memory
+          ≡ unless R (memoryRefusal s memory) (ranOn (gateIn gates) s authority budget (partsOf scripts) memory)
       by-memory s T = goes R (lowest (numberOf s) (partsOf scripts)) _ (all-accepted s T)
 
       -- 7 and 8
-      pub play-refused : (k : ℕ) → ((s : Sheet) → TableOf t s → k ≡ memoryRefusal s memory) → (k ≡ 0 → ⊥) → Plays scripts gates t memory authority budget (R k)
+      pub play-refused : (k : ℕ) → ((s : Sheet) → TableOf t s → k ≡ memoryRefusal s memory) → (k ≡ 0 → ⊥)
+          → Plays scripts gates t memory authority budget (R k)
       play-refused k m w = record {
         refused = λ v. refl;
         played = λ s T g. ap R (m s T) ∙ sym (by-memory s T ∙ stops R (memoryRefusal s memory) _ (λ v. w (m s T ∙ v)));
       }
 
-      pub play-runs : (r : RanRound) → ((s : Sheet) → TableOf t s → 0 ≡ memoryRefusal s memory) → RunsEach scripts gates t memory authority budget r
+      pub play-runs : (r : RanRound) → ((s : Sheet) → TableOf t s → 0 ≡ memoryRefusal s memory)
+          → RunsEach scripts gates t memory authority budget r
           → Plays scripts gates t memory authority budget r
       play-runs r m ran = record {
         refused = λ v. absurd (v (ran .done));
-        played = λ s T g. ran .ran s T g (all-accepted s T) (sym (m s T)) ∙ sym (by-memory s T ∙ goes R (memoryRefusal s memory) _ (sym (m s T)));
+        played = λ s T g. ran .ran s T g (all-accepted s T) (sym (m s T))
+            ∙ sym (by-memory s T ∙ goes R (memoryRefusal s memory) _ (sym (m s T)));
       }
 
 -- ---- 3 and 11
 
 module _ (scripts t memory : List ℕ) (authority budget : ℕ) where
-  pub round-stranger : within authority (everyoneIn t) ≡ false → RoundsOn scripts t memory authority budget (refusedRound memory 3)
-  round-stranger h = record { refused = λ v. refl; played = λ s T. sym (unless-3 (refusedRound memory) t s authority _ T h) }
+  pub round-stranger : within authority (everyoneIn t) ≡ false
+      → RoundsOn scripts t memory authority budget (refusedRound memory 3)
+  round-stranger h =
+      record { refused = λ v. refl; played = λ s T. sym (unless-3 (refusedRound memory) t s authority _ T h) }
 
   module _ (h : within authority (everyoneIn t) ≡ true) where
-    pub round-many : mostScripts < length (partsOf scripts) → RoundsOn scripts t memory authority budget (refusedRound memory 11)
+    pub round-many : mostScripts < length (partsOf scripts)
+        → RoundsOn scripts t memory authority budget (refusedRound memory 11)
     unfolding tooMany unless
-    round-many l = record { refused = λ v. refl; played = λ s T. sym (not-3 (refusedRound memory) t s authority _ T h ∙ rw (lt-ltb _ _ l) refl) }
+    round-many l = record {
+      refused = λ v. refl;
+      played = λ s T. sym (not-3 (refusedRound memory) t s authority _ T h ∙ rw (lt-ltb _ _ l) refl);
+    }
 
-    pub round-played : length (partsOf scripts) ≤ mostScripts → (gates : List ℕ) (r : RanRound) → ((i : ℕ) → gateIn gates i ≡ 0) → Plays scripts gates t memory authority budget r → RoundsOn scripts t memory authority budget r
+    pub round-played : length (partsOf scripts) ≤ mostScripts → (gates : List ℕ) (r : RanRound)
+        → ((i : ℕ) → gateIn gates i ≡ 0) → Plays scripts gates t memory authority budget r
+        → RoundsOn scripts t memory authority budget r
     unfolding tooMany unless
     round-played l gates r o p = record {
       refused = p .refused;
-      played = λ s T. p .played s T (strangers-in t s authority true T h) ∙ played-same (gateIn gates) allOpen s authority budget (partsOf scripts) memory (λ i. o i ∙ sym (always-open i)) ∙ sym (not-3 (refusedRound memory) t s authority _ T h ∙ rw (le-ltb _ _ l) refl);
+      played = λ s T. p .played s T (strangers-in t s authority true T h) ∙ played-same (gateIn gates)
+          allOpen s authority budget (partsOf scripts) memory (λ i. o i ∙ sym (always-open i))
+          ∙ sym (not-3 (refusedRound memory) t s authority _ T h ∙ rw (le-ltb _ _ l) refl);
     }
 
 -- ---- the sheet of a text
 
 module _ (gate : Gate) (sheet : List ℕ) (s : Sheet) (e : sheetOf sheet ≡ accepted s) (authority budget : ℕ) where
   -- a turn is that on the sheet
-  turn-on : (i : ℕ) (script memory : List ℕ) → turnOf gate sheet authority budget i script memory ≡ turnOn gate s authority budget i script memory
+  turn-on : (i : ℕ) (script memory : List ℕ)
+      → turnOf gate sheet authority budget i script memory ≡ turnOn gate s authority budget i script memory
   unfolding turnOf runOf onSheet
   turn-on i script memory = rw e refl
 
@@ -105,14 +124,19 @@ module _ (gate : Gate) (sheet : List ℕ) (s : Sheet) (e : sheetOf sheet ≡ acc
       → runEach (turnOf gate sheet authority budget) i memory ts ≡ runEach (turnOn gate s authority budget) i memory ts
   unfolding runEach
   each-on i memory [] = refl
-  each-on i memory (t ∷ ts) = rw (turn-on i t memory) (ap (λ (rs : List Ran). turnOn gate s authority budget i t memory ∷ rs) (each-on (suc i) (turnOn gate s authority budget i t memory .memory) ts))
+  each-on i memory (t ∷ ts) =
+      rw (turn-on i t memory) (ap (λ (rs : List Ran). turnOn gate s authority budget i t memory ∷ rs)
+      (each-on (suc i) (turnOn gate s authority budget i t memory .memory) ts))
 
-  pub played-on : (ts : List (List ℕ)) (memory : List ℕ) → playedOn gate s authority budget ts memory ≡ playedOf gate sheet s ts memory authority budget
+  pub played-on : (ts : List (List ℕ)) (memory : List ℕ)
+      → playedOn gate s authority budget ts memory ≡ playedOf gate sheet s ts memory authority budget
   unfolding playedOf
   played-on ts memory = rw (each-on 0 memory ts) refl
 
 module _ (sheet : List ℕ) (s : Sheet) (e : sheetOf sheet ≡ accepted s) (authority budget : ℕ) where
   pub round-of : (scripts t memory : List ℕ) (r : RanRound) → RoundsOn scripts t memory authority budget r → TableOf t s
-      → r ≡ unless (refusedRound memory) (strangers s authority) (unless (refusedRound memory) (tooMany (partsOf scripts)) (
+      → r
+      ≡ unless (refusedRound memory) (strangers s authority) (unless (refusedRound memory) (tooMany (partsOf scripts)) (
       playedOf allOpen sheet s (partsOf scripts) memory authority budget))
-  round-of scripts t memory r h T = h .played s T ∙ rw (played-on allOpen sheet s e authority budget (partsOf scripts) memory) refl
+  round-of scripts t memory r h T =
+      h .played s T ∙ rw (played-on allOpen sheet s e authority budget (partsOf scripts) memory) refl

@@ -6,7 +6,8 @@ use Rattle.sheet.specs.Padding.{padded}
 use Rattle.stages.specs.Answers.{Ran}
 use Rattle.scripts.specs.Parting.{mostScripts}
 
--- what a round answers; what each script answers, and its steps, in its place of `mostScripts`; and what the lent memory then holds
+-- what a round answers; what each script answers, and its steps, in its place of `mostScripts`; and what the lent
+-- memory then holds
 pub record RanRound : Type 0 where
   pub answer : ℕ
   pub answers : List ℕ
@@ -15,7 +16,8 @@ pub record RanRound : Type 0 where
 
 -- a refused round: zeros in every place, and the memory as it was
 abbrev pub refusedRound : List ℕ → ℕ → RanRound
-refusedRound memory k = record { answer = k; answers = replicate mostScripts 0; steps = replicate mostScripts 0; memory = memory }
+refusedRound memory k =
+    record { answer = k; answers = replicate mostScripts 0; steps = replicate mostScripts 0; memory = memory }
 
 -- the memory that the last of several runs leaves
 unfoldable pub leftBy : List ℕ → List Ran → List ℕ

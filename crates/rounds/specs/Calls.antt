@@ -27,14 +27,16 @@ unfoldable pub lowest : (List ℕ → ℕ) → List (List ℕ) → ℕ
 lowest number [] = 0
 lowest number (t ∷ ts) = lower (number t) (lowest number ts)
 
--- Scripts in turn, the first of them in place i, each from the memory that the one before it left. `run`: of the script in a place, from a memory.
+-- Scripts in turn, the first of them in place i, each from the memory that the one before it left. `run`: of the script
+-- in a place, from a memory.
 unfoldable pub runEach : {A : Type 0} → (ℕ → A → List ℕ → Ran) → ℕ → List ℕ → List A → List Ran
 runEach run i memory [] = []
 runEach run i memory (t ∷ ts) = let r = run i t memory in r ∷ runEach run (suc i) (r .memory) ts
 
 -- the script in place i, from a memory: refused with its gate's number, or run with the whole budget
 unfoldable pub turnOf : Gate → List ℕ → ℕ → ℕ → ℕ → List ℕ → List ℕ → Ran
-turnOf gate sheet authority budget i script memory = unless (refusedRun memory) (gate i) (runOf sheet script memory authority budget)
+turnOf gate sheet authority budget i script memory =
+    unless (refusedRun memory) (gate i) (runOf sheet script memory authority budget)
 
 -- 4 to 8 in this order, then the scripts in turn: scripts that have a place each, and s the sheet of the text
 unfoldable pub playedOf : Gate → List ℕ → Sheet → List (List ℕ) → List ℕ → ℕ → ℕ → RanRound

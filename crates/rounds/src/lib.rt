@@ -1,10 +1,12 @@
-// A round: the scripts of one text, one after another on one memory. Every script is checked before the first runs; each is then decoded once
-// more and run, so that one decoded script at a time is on the stack, and none is checked twice.
+// A round: the scripts of one text, one after another on one memory. Every script is checked before the first
+// runs; each is then decoded once more and run, so that one decoded script at a time is on the stack, and none
+// is checked twice.
 ghost use mathlib.Core.Path.{_≡_};
 ghost use lib.ListN.{replicate};
 ghost use Rattle.scripts.specs.Parting.{mostScripts};
 ghost use Rattle.rounds.specs.Calls.{lower as lowerOf};
-ghost use Rattle.rounds.specs.Internal.Stages.{Parted, NumbersAll, RunsScript, RunsTurn, RunsEach, Plays, RoundsOn};
+ghost use Rattle.rounds.specs.Internal.Stages.{Parted, NumbersAll, RunsScript, RunsTurn, RunsEach, Plays};
+ghost use Rattle.rounds.specs.Internal.Stages.{RoundsOn};
 use scripts::MOST_SCRIPTS;
 use sets::Set;
 use stages::Outcome;
@@ -22,7 +24,8 @@ pub struct Round {
 
 // A refused round has zeros in every place.
 pub fn refused(answer: u8) -> Round
-    ensures { λ r. ⌜ r ≡ record { answer = answer; answers = replicate mostScripts 0; steps = replicate mostScripts 0 } ⌝ }
+    ensures { λ r.
+        ⌜ r ≡ record { answer = answer; answers = replicate mostScripts 0; steps = replicate mostScripts 0 } ⌝ }
 {
     Round {
         answer,
@@ -47,7 +50,8 @@ fn lower(a: u8, b: u8) -> u8
     b
 }
 
-// The lowest number over all scripts of a text, 0 where each is accepted. `ends`: where each script ends (scripts::part).
+// The lowest number over all scripts of a text, 0 where each is accepted. `ends`: where each script ends
+// (scripts::part).
 fn lowest_number(scripts: &[u8], ends: [usize; MOST_SCRIPTS], table: &[sheet::Word]) -> u8
     requires { ⌜ Parted (now scripts) ends ⌝ }
     ensures { λ r. ⌜ NumbersAll (now (scripts .entry)) (now (table .entry)) r ⌝ }
@@ -72,7 +76,8 @@ fn run_script(
     authority: Set,
     budget: u32,
 ) -> Outcome
-    ensures { λ r. ⌜ RunsScript (now (script .entry)) (now (table .entry)) (now (memory .entry)) authority budget (record { answer = r .answer; steps = r .steps; memory = now (memory .exit) }) ⌝ }
+    ensures { λ r. ⌜ RunsScript (now (script .entry)) (now (table .entry)) (now (memory .entry)) authority budget
+        (record { answer = r .answer; steps = r .steps; memory = now (memory .exit) }) ⌝ }
 {
     let mut code = [0u32; script_text::WORDS];
     let read = script_text::decode(script, &mut code);
@@ -94,7 +99,8 @@ fn turn(
     authority: Set,
     budget: u32,
 ) -> Outcome
-    ensures { λ r. ⌜ RunsTurn (now (script .entry)) gate (now (table .entry)) (now (memory .entry)) authority budget (record { answer = r .answer; steps = r .steps; memory = now (memory .exit) }) ⌝ }
+    ensures { λ r. ⌜ RunsTurn (now (script .entry)) gate (now (table .entry)) (now (memory .entry)) authority budget
+        (record { answer = r .answer; steps = r .steps; memory = now (memory .exit) }) ⌝ }
 {
     if gate != stages::DONE {
         return stages::refused(gate);
@@ -102,8 +108,8 @@ fn turn(
     run_script(script, table, memory, authority, budget)
 }
 
-// Runs accepted scripts one after another, each with the whole budget; one whose gate has a number gets that number instead. One that stops leaves
-// the memory as it was, and the next one runs.
+// Runs accepted scripts one after another, each with the whole budget; one whose gate has a number gets that number
+// instead. One that stops leaves the memory as it was, and the next one runs.
 fn run_each(
     scripts: &[u8],
     ends: [usize; MOST_SCRIPTS],
@@ -114,7 +120,8 @@ fn run_each(
     budget: u32,
 ) -> Round
     requires { ⌜ Parted (now scripts) ends ⌝ }
-    ensures { λ r. ⌜ RunsEach (now (scripts .entry)) gates (now (table .entry)) (now (memory .entry)) authority budget (record { answer = r .answer; answers = r .answers; steps = r .steps; memory = now (memory .exit) }) ⌝ }
+    ensures { λ r. ⌜ RunsEach (now (scripts .entry)) gates (now (table .entry)) (now (memory .entry)) authority budget
+        (record { answer = r .answer; answers = r .answers; steps = r .steps; memory = now (memory .exit) }) ⌝ }
 {
     let mut answers = [0u8; MOST_SCRIPTS];
     let mut steps = [0u32; MOST_SCRIPTS];
@@ -136,7 +143,8 @@ fn run_each(
     }
 }
 
-// Checks the scripts of a text, and runs them on a memory, each by its gate: 0 where it is open. The authority is known.
+// Checks the scripts of a text, and runs them on a memory, each by its gate: 0 where it is open. The
+// authority is known.
 fn play(
     scripts: &[u8],
     ends: [usize; MOST_SCRIPTS],
@@ -147,7 +155,8 @@ fn play(
     budget: u32,
 ) -> Round
     requires { ⌜ Parted (now scripts) ends ⌝ }
-    ensures { λ r. ⌜ Plays (now (scripts .entry)) gates (now (table .entry)) (now (memory .entry)) authority budget (record { answer = r .answer; answers = r .answers; steps = r .steps; memory = now (memory .exit) }) ⌝ }
+    ensures { λ r. ⌜ Plays (now (scripts .entry)) gates (now (table .entry)) (now (memory .entry)) authority budget
+        (record { answer = r .answer; answers = r .answers; steps = r .steps; memory = now (memory .exit) }) ⌝ }
 {
     let number = lowest_number(scripts, ends, table);
     if number != stages::DONE {
@@ -169,7 +178,8 @@ pub fn round_on(
     authority: Set,
     budget: u32,
 ) -> Round
-    ensures { λ r. ⌜ RoundsOn (now (scripts .entry)) (now (table .entry)) (now (memory .entry)) authority budget (record { answer = r .answer; answers = r .answers; steps = r .steps; memory = now (memory .exit) }) ⌝ }
+    ensures { λ r. ⌜ RoundsOn (now (scripts .entry)) (now (table .entry)) (now (memory .entry)) authority budget
+        (record { answer = r .answer; answers = r .answers; steps = r .steps; memory = now (memory .exit) }) ⌝ }
 {
     if !sets::contained(authority, sheet::everyone(table)) {
         return refused(stages::PRINCIPAL_UNKNOWN);

@@ -7,7 +7,8 @@ use native.Mathlib.Omega.{arith}
 use borrow.Author.Tests.{eqb-true}
 use lib.ListN.{length}
 use Rattle.logic.proofs.BooleanLaws.{absurd-false}
-use Rattle.language.specs.Syntax.{Part, first, second, pick, Expr, val, loc, var, plus, left, right, pack, unpack, pairing, proj, Cmd, skip, seq, assign, while, case}
+use Rattle.language.specs.Syntax.{Part, first, second, pick, Expr, val, loc, var, plus, left, right, pack, unpack}
+use Rattle.language.specs.Syntax.{pairing, proj, Cmd, skip, seq, assign, while, case}
 use Rattle.script.specs.Lines.{Line, l-proj, exprLines, cmdLines}
 use Rattle.script.specs.Internal.Code.{rowOf}
 use Rattle.script.specs.Internal.Pieces.{operandCount}
@@ -29,13 +30,15 @@ expr-closes (val v) n rest = after n 0 n rest (omega arith) refl
 expr-closes (loc x) n rest = after n 0 n rest (omega arith) refl
 expr-closes (var d) n rest = after n 0 n rest (omega arith) refl
 expr-closes (plus a b) n rest =
-    after n 2 (suc (suc n)) (exprLines a (exprLines b rest)) (omega arith) (expr-closes a (suc n) (exprLines b rest) ∙ expr-closes b n rest)
+    after n 2 (suc (suc n)) (exprLines a (exprLines b rest)) (omega arith)
+    (expr-closes a (suc n) (exprLines b rest) ∙ expr-closes b n rest)
 expr-closes (left t a) n rest = after n 1 (suc n) (exprLines a rest) (omega arith) (expr-closes a n rest)
 expr-closes (right t a) n rest = after n 1 (suc n) (exprLines a rest) (omega arith) (expr-closes a n rest)
 expr-closes (pack l a) n rest = after n 1 (suc n) (exprLines a rest) (omega arith) (expr-closes a n rest)
 expr-closes (unpack t l a) n rest = after n 1 (suc n) (exprLines a rest) (omega arith) (expr-closes a n rest)
 expr-closes (pairing t a b) n rest =
-    after n 2 (suc (suc n)) (exprLines a (exprLines b rest)) (omega arith) (expr-closes a (suc n) (exprLines b rest) ∙ expr-closes b n rest)
+    after n 2 (suc (suc n)) (exprLines a (exprLines b rest)) (omega arith)
+    (expr-closes a (suc n) (exprLines b rest) ∙ expr-closes b n rest)
 expr-closes (proj p a) n rest =
     after n (lineOperands (l-proj p)) (suc n) (exprLines a rest) (omega (arith, proj-operands p)) (expr-closes a n rest)
 
@@ -43,16 +46,20 @@ pub cmd-closes : (c : Cmd) (n : ℕ) (rest : List Line) → closes (suc n) (cmdL
 unfolding cmdLines closes operandCount rowOf
 cmd-closes skip n rest = after n 0 n rest (omega arith) refl
 cmd-closes (seq a b) n rest =
-    after n 2 (suc (suc n)) (cmdLines a (cmdLines b rest)) (omega arith) (cmd-closes a (suc n) (cmdLines b rest) ∙ cmd-closes b n rest)
+    after n 2 (suc (suc n)) (cmdLines a (cmdLines b rest)) (omega arith)
+    (cmd-closes a (suc n) (cmdLines b rest) ∙ cmd-closes b n rest)
 cmd-closes (assign x e) n rest = after n 1 (suc n) (exprLines e rest) (omega arith) (expr-closes e n rest)
 cmd-closes (while e c) n rest =
-    after n 2 (suc (suc n)) (exprLines e (cmdLines c rest)) (omega arith) (expr-closes e (suc n) (cmdLines c rest) ∙ cmd-closes c n rest)
+    after n 2 (suc (suc n)) (exprLines e (cmdLines c rest)) (omega arith)
+    (expr-closes e (suc n) (cmdLines c rest) ∙ cmd-closes c n rest)
 cmd-closes (case e a b) n rest =
     after n 3 (suc (suc (suc n))) (exprLines e (cmdLines a (cmdLines b rest))) (omega arith)
-    (expr-closes e (suc (suc n)) (cmdLines a (cmdLines b rest)) ∙ cmd-closes a (suc n) (cmdLines b rest) ∙ cmd-closes b n rest)
+    (expr-closes e (suc (suc n)) (cmdLines a (cmdLines b rest)) ∙ cmd-closes a (suc n) (cmdLines b rest)
+    ∙ cmd-closes b n rest)
 
--- The lines of n trees have as many operands as lines, but for n. So where a call of a walk over the lines stands in an operand of a line,
--- that line has taken as many lines as it has operands: two for a command around a command, one for an expression around another.
+-- The lines of n trees have as many operands as lines, but for n. So where a call of a walk over the lines stands in an
+-- operand of a line, that line has taken as many lines as it has operands: two for a command around a command, one for
+-- an expression around another.
 pub closed-operands : (n : ℕ) (ls : List Line) → closes n ls ≡ true → allOperands ls + n ≡ length ls
 unfolding closes allOperands
 closed-operands n [] h = omega (arith, eqb-true n 0 h)

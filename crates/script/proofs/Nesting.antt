@@ -3,7 +3,8 @@ use mathlib.Core.List.{List}
 use Prim.Native.Nat.{_+_, _<_}
 use native.Mathlib.Omega.{arith}
 use lib.ListN.{length}
-use Rattle.language.specs.Syntax.{Expr, val, loc, var, plus, left, right, pack, unpack, pairing, proj, Cmd, skip, seq, assign, while, case}
+use Rattle.language.specs.Syntax.{Expr, val, loc, var, plus, left, right, pack, unpack, pairing, proj, Cmd, skip, seq}
+use Rattle.language.specs.Syntax.{assign, while, case}
 use Rattle.script.specs.Lines.{Line, exprLines, cmdLines}
 use Rattle.script.specs.Internal.Nesting.{exprNesting, cmdNesting}
 

@@ -1,16 +1,23 @@
--- What a line makes of its operands, and what follows it: one table of the kinds, and a law for a line with no operand, one, two or three.
--- Assumes nothing.
+-- What a line makes of its operands, and what follows it: one table of the kinds, and a law for a line with no operand,
+-- one, two or three. Assumes nothing.
 use mathlib.Core.Path.{_≡_, refl, sym}
 use mathlib.Core.List.{List, [], _∷_}
 use Prim.Native.Nat.{ℕ, zero, suc, _+_, _≤_, _<_}
 use native.Mathlib.Omega.{arith}
 use lib.ListN.{length, drop, List·getD-eq-default}
-use Rattle.language.specs.Syntax.{int, Part, first, second, pick, val, loc, var, plus, left, right, pack, unpack, pairing, proj, skip, seq, assign, while, case}
+use Rattle.language.specs.Syntax.{int, Part, first, second, pick, val, loc, var, plus, left, right, pack, unpack}
+use Rattle.language.specs.Syntax.{pairing, proj, skip, seq, assign, while, case}
 use Rattle.script.specs.declared.Row.{Row}
-use Rattle.script.specs.Lines.{Line, l-skip, l-seq, l-assign, l-while, l-case, l-int, l-loc, l-var, l-plus, l-left, l-right, l-pack, l-unpack, l-pair, l-proj, s-int, s-loc, s-var, s-plus, s-left, s-right, s-pack, s-unpack, s-pair, s-proj, s-skip, s-seq, s-assign, s-while, s-case, integerOf, exprLines, cmdLines}
+use Rattle.script.specs.Lines.{Line, l-skip, l-seq, l-assign, l-while, l-case, l-int, l-loc, l-var, l-plus}
+use Rattle.script.specs.Lines.{l-left, l-right, l-pack, l-unpack, l-pair, l-proj, s-int, s-loc, s-var, s-plus}
+use Rattle.script.specs.Lines.{s-left, s-right, s-pack, s-unpack, s-pair, s-proj, s-skip, s-seq, s-assign}
+use Rattle.script.specs.Lines.{s-while, s-case, integerOf, exprLines, cmdLines}
 use Rattle.script.specs.Internal.Code.{rowOf, code, rowAt}
-use Rattle.script.specs.Internal.Pieces.{Sort, expression, command, Tree, SourceOf, linesOf, Piece, an-expression, a-command, operandCounts, operandCount}
-use Rattle.script.proofs.Rows.{RowOf, at-skip, at-seq, at-assign, at-while, at-case, at-int, at-loc, at-var, at-plus, at-left, at-right, at-pack, at-unpack, at-pair, at-first, at-second, row-of, row-within}
+use Rattle.script.specs.Internal.Pieces.{Sort, expression, command, Tree, SourceOf, linesOf, Piece, an-expression}
+use Rattle.script.specs.Internal.Pieces.{a-command, operandCounts, operandCount}
+use Rattle.script.proofs.Rows.{RowOf, at-skip, at-seq, at-assign, at-while, at-case, at-int, at-loc, at-var}
+use Rattle.script.proofs.Rows.{at-plus, at-left, at-right, at-pack, at-unpack, at-pair, at-first, at-second}
+use Rattle.script.proofs.Rows.{row-of, row-within}
 
 -- ---- a line by the words of its row
 
@@ -91,7 +98,8 @@ abbrev pub Made : (s : Sort) (ss : List Sort) → Makes ss (Tree s) → (List Li
 Made s [] x lines = SourceOf s x × ((rest : List Line) → lines rest ≡ linesOf s x rest)
 Made s (t ∷ ss) f lines = (x : Tree t) → SourceOf t x → Made s ss (f x) (λ rest. lines (linesOf t x rest))
 
-pub made : {s : Sort} {ss : List Sort} {k a b : ℕ} {f : Makes ss (Tree s)} {l : Line} → Node s ss k a b f → View k a b l → Made s ss f (λ rest. l ∷ rest)
+pub made : {s : Sort} {ss : List Sort} {k a b : ℕ} {f : Makes ss (Tree s)} {l : Line} → Node s ss k a b f → View k a b l
+    → Made s ss f (λ rest. l ∷ rest)
 unfolding exprLines cmdLines integerOf
 made n-skip v-skip = (s-skip, λ rest. refl)
 made n-seq v-seq = λ c u d v. (s-seq u v, λ rest. refl)
@@ -112,11 +120,14 @@ made n-second v-second = λ e u. (s-proj u, λ rest. refl)
 
 module _ (ws : List ℕ) (at : ℕ) (rest : List Line) where
   -- P holds of what is made of trees whose lines stand one after another behind the line
-  abbrev pub OfOperands : (s : Sort) (ss : List Sort) → Makes ss (Tree s) → (List Line → List Line) → (Tree s → Type 0) → Type 0
+  abbrev pub OfOperands : (s : Sort) (ss : List Sort) → Makes ss (Tree s) → (List Line → List Line)
+      → (Tree s → Type 0) → Type 0
   OfOperands s [] x lines P = drop (at + 3) ws ≡ code (lines rest) → P x
-  OfOperands s (t ∷ ss) f lines P = (x : Tree t) → SourceOf t x → OfOperands s ss (f x) (λ more. lines (linesOf t x more)) P
+  OfOperands s (t ∷ ss) f lines P =
+      (x : Tree t) → SourceOf t x → OfOperands s ss (f x) (λ more. lines (linesOf t x more)) P
 
-  pub of-operands : {s : Sort} {ss : List Sort} {k a b : ℕ} {f : Makes ss (Tree s)} {x : Tree s} → Node s ss k a b f → RowOf ws at rest s k a b x
+  pub of-operands : {s : Sort} {ss : List Sort} {k a b : ℕ} {f : Makes ss (Tree s)} {x : Tree s} → Node s ss k a b f
+      → RowOf ws at rest s k a b x
       → (P : Tree s → Type 0) → OfOperands s ss f (λ more. more) P → P x
   of-operands n-skip (at-skip h) P p = p h
   of-operands n-seq (at-seq u v h) P p = p _ u _ v h
@@ -141,16 +152,19 @@ module _ (ws : List ℕ) (at : ℕ) (rest : List Line) where
 pub operands-none : (k : ℕ) → (1 ≤ k → k < 17 → ⊥) → 4 ≡ operandCount k
 unfolding operandCount
 operands-none zero f = refl
-operands-none (suc k) f = let g : suc k < 17 → ⊥ = f (omega arith) in sym (List·getD-eq-default operandCounts 4 {n = suc k} (omega arith))
+operands-none (suc k) f =
+    let g : suc k < 17 → ⊥ = f (omega arith) in sym (List·getD-eq-default operandCounts 4 {n = suc k} (omega arith))
 
 module _ (ws : List ℕ) (at : ℕ) where
   pub data Parts (rest : List Line) : ℕ → Type 0 where
     no-parts : drop (at + 3) ws ≡ code rest → Parts rest 0
     one-part : {ls : List Line} → Piece ls rest → drop (at + 3) ws ≡ code ls → Parts rest 1
     two-parts : {ls mid : List Line} → Piece ls mid → Piece mid rest → drop (at + 3) ws ≡ code ls → Parts rest 2
-    three-parts : {ls mid end : List Line} → Piece ls mid → Piece mid end → Piece end rest → drop (at + 3) ws ≡ code ls → Parts rest 3
+    three-parts : {ls mid end : List Line} → Piece ls mid → Piece mid end → Piece end rest
+        → drop (at + 3) ws ≡ code ls → Parts rest 3
 
-  row-parts : {rest : List Line} {s : Sort} {k a b : ℕ} {x : Tree s} → RowOf ws at rest s k a b x → Parts rest (operandCount k)
+  row-parts : {rest : List Line} {s : Sort} {k a b : ℕ} {x : Tree s} → RowOf ws at rest s k a b x
+      → Parts rest (operandCount k)
   unfolding operandCount
   row-parts (at-skip h) = no-parts h
   row-parts (at-seq s r h) = two-parts (a-command s) (a-command r) h
@@ -170,7 +184,8 @@ module _ (ws : List ℕ) (at : ℕ) where
   row-parts (at-second s h) = one-part (an-expression s) h
 
   -- what follows the row that was read, where a piece starts
-  pub parts : {ls rest : List Line} {row : Row} → row ≡ rowAt ws at → Piece ls rest → drop at ws ≡ code ls → Parts rest (operandCount (row .kind))
+  pub parts : {ls rest : List Line} {row : Row} → row ≡ rowAt ws at → Piece ls rest → drop at ws ≡ code ls
+      → Parts rest (operandCount (row .kind))
   parts {rest = rest} q (an-expression {e} s) h = row-parts (row-of ws at expression e rest q refl s h)
   parts {rest = rest} q (a-command {c} s) h = row-parts (row-of ws at command c rest q refl s h)
 

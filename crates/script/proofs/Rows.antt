@@ -11,15 +11,19 @@ use borrow.Author.Tests.{le-leb, lt-leb, leb-true, leb-false}
 use lib.Dec.{leb}
 use lib.ListN.{length, getD, drop, length-drop}
 use lib.Seq.{getD-drop, drop-drop}
-use Rattle.language.specs.Syntax.{int, Part, pick, Expr, val, loc, var, plus, left, right, pack, unpack, pairing, proj, Cmd, skip, seq, assign, while, case}
+use Rattle.language.specs.Syntax.{int, Part, pick, Expr, val, loc, var, plus, left, right, pack, unpack, pairing, proj}
+use Rattle.language.specs.Syntax.{Cmd, skip, seq, assign, while, case}
 use Rattle.script.specs.declared.Row.{Row}
-use Rattle.script.specs.Lines.{Line, SourceE, s-int, s-loc, s-var, s-plus, s-left, s-right, s-pack, s-unpack, s-pair, s-proj, Source, s-skip, s-seq, s-assign, s-while, s-case, integerOf, exprLines, cmdLines}
+use Rattle.script.specs.Lines.{Line, SourceE, s-int, s-loc, s-var, s-plus, s-left, s-right, s-pack, s-unpack}
+use Rattle.script.specs.Lines.{s-pair, s-proj, Source, s-skip, s-seq, s-assign, s-while, s-case, integerOf}
+use Rattle.script.specs.Lines.{exprLines, cmdLines}
 use Rattle.script.specs.Internal.Code.{rowWith, rowOf, code, rowAt}
 use Rattle.script.specs.Internal.Pieces.{Sort, expression, command, Tree, SourceOf, linesOf}
 
 -- ---- the row at a word
 
-pub row-there : (ws : List ℕ) (at : ℕ) → at + 3 ≤ length ws → rowAt ws at ≡ rowWith (getD ws at 0) (getD ws (at + 1) 0) (getD ws (at + 2) 0)
+pub row-there : (ws : List ℕ) (at : ℕ) → at + 3 ≤ length ws
+    → rowAt ws at ≡ rowWith (getD ws at 0) (getD ws (at + 1) 0) (getD ws (at + 2) 0)
 unfolding rowAt
 row-there ws at h = simp (le-leb _ _ h)
 
@@ -40,24 +44,34 @@ row-within ws at q h = on (leb (at + 3) (length ws)) refl
 module _ (ws : List ℕ) (at : ℕ) where
   pub data RowOf (rest : List Line) : (s : Sort) → ℕ → ℕ → ℕ → Tree s → Type 0 where
     at-skip : drop (at + 3) ws ≡ code rest → RowOf rest command 1 0 0 skip
-    at-seq : {c d : Cmd} → Source c → Source d → drop (at + 3) ws ≡ code (cmdLines c (cmdLines d rest)) → RowOf rest command 2 0 0 (seq c d)
-    at-assign : {x : ℕ} {e : Expr} → SourceE e → drop (at + 3) ws ≡ code (exprLines e rest) → RowOf rest command 3 x 0 (assign x e)
+    at-seq : {c d : Cmd} → Source c → Source d → drop (at + 3) ws ≡ code (cmdLines c (cmdLines d rest))
+        → RowOf rest command 2 0 0 (seq c d)
+    at-assign : {x : ℕ} {e : Expr} → SourceE e → drop (at + 3) ws ≡ code (exprLines e rest)
+        → RowOf rest command 3 x 0 (assign x e)
     at-while : {e : Expr} {c : Cmd} → SourceE e → Source c → drop (at + 3) ws ≡ code (exprLines e (cmdLines c rest))
         → RowOf rest command 4 0 0 (while e c)
-    at-case : {e : Expr} {c d : Cmd} → SourceE e → Source c → Source d → drop (at + 3) ws ≡ code (exprLines e (cmdLines c (cmdLines d rest)))
+    at-case : {e : Expr} {c d : Cmd} → SourceE e → Source c → Source d
+        → drop (at + 3) ws ≡ code (exprLines e (cmdLines c (cmdLines d rest)))
         → RowOf rest command 5 0 0 (case e c d)
     at-int : {n : ℕ} → drop (at + 3) ws ≡ code rest → RowOf rest expression 6 n 0 (val (int n))
     at-loc : {x : ℕ} → drop (at + 3) ws ≡ code rest → RowOf rest expression 7 x 0 (loc x)
     at-var : {d : ℕ} → drop (at + 3) ws ≡ code rest → RowOf rest expression 8 d 0 (var d)
-    at-plus : {e f : Expr} → SourceE e → SourceE f → drop (at + 3) ws ≡ code (exprLines e (exprLines f rest)) → RowOf rest expression 9 0 0 (plus e f)
-    at-left : {t : ℕ} {e : Expr} → SourceE e → drop (at + 3) ws ≡ code (exprLines e rest) → RowOf rest expression 10 t 0 (left t e)
-    at-right : {t : ℕ} {e : Expr} → SourceE e → drop (at + 3) ws ≡ code (exprLines e rest) → RowOf rest expression 11 t 0 (right t e)
-    at-pack : {l : ℕ} {e : Expr} → SourceE e → drop (at + 3) ws ≡ code (exprLines e rest) → RowOf rest expression 12 l 0 (pack l e)
-    at-unpack : {t l : ℕ} {e : Expr} → SourceE e → drop (at + 3) ws ≡ code (exprLines e rest) → RowOf rest expression 13 t l (unpack t l e)
+    at-plus : {e f : Expr} → SourceE e → SourceE f → drop (at + 3) ws ≡ code (exprLines e (exprLines f rest))
+        → RowOf rest expression 9 0 0 (plus e f)
+    at-left : {t : ℕ} {e : Expr} → SourceE e → drop (at + 3) ws ≡ code (exprLines e rest)
+        → RowOf rest expression 10 t 0 (left t e)
+    at-right : {t : ℕ} {e : Expr} → SourceE e → drop (at + 3) ws ≡ code (exprLines e rest)
+        → RowOf rest expression 11 t 0 (right t e)
+    at-pack : {l : ℕ} {e : Expr} → SourceE e → drop (at + 3) ws ≡ code (exprLines e rest)
+        → RowOf rest expression 12 l 0 (pack l e)
+    at-unpack : {t l : ℕ} {e : Expr} → SourceE e → drop (at + 3) ws ≡ code (exprLines e rest)
+        → RowOf rest expression 13 t l (unpack t l e)
     at-pair : {t : ℕ} {e f : Expr} → SourceE e → SourceE f → drop (at + 3) ws ≡ code (exprLines e (exprLines f rest))
         → RowOf rest expression 14 t 0 (pairing t e f)
-    at-first : {e : Expr} → SourceE e → drop (at + 3) ws ≡ code (exprLines e rest) → RowOf rest expression 15 0 0 (proj Part.first e)
-    at-second : {e : Expr} → SourceE e → drop (at + 3) ws ≡ code (exprLines e rest) → RowOf rest expression 16 0 0 (proj Part.second e)
+    at-first : {e : Expr} → SourceE e → drop (at + 3) ws ≡ code (exprLines e rest)
+        → RowOf rest expression 15 0 0 (proj Part.first e)
+    at-second : {e : Expr} → SourceE e → drop (at + 3) ws ≡ code (exprLines e rest)
+        → RowOf rest expression 16 0 0 (proj Part.second e)
 
   abbrev pub ExprRow : List Line → ℕ → ℕ → ℕ → Expr → Type 0
   ExprRow rest = RowOf rest expression
@@ -66,11 +80,13 @@ module _ (ws : List ℕ) (at : ℕ) where
   CmdRow rest = RowOf rest command
 
   -- a family over the three words of the row holds of the row that is read
-  row-read : {X : Type 0} (P : ℕ → ℕ → ℕ → X → Type 0) (x : X) (k a b : ℕ) (more : List ℕ) → drop at ws ≡ k ∷ a ∷ b ∷ more
+  row-read : {X : Type 0} (P : ℕ → ℕ → ℕ → X → Type 0) (x : X) (k a b : ℕ) (more : List ℕ)
+      → drop at ws ≡ k ∷ a ∷ b ∷ more
       → (drop (at + 3) ws ≡ more → P k a b x) → P (rowAt ws at .kind) (rowAt ws at .a) (rowAt ws at .b) x
   row-read P x k a b more h p =
       let n : at + 3 ≤ length ws = omega (arith, length-drop at ws, ap length h) in
-      let e0 : getD ws at 0 ≡ k = ap (λ (i : ℕ). getD ws i 0) (sym (add-zero at)) ∙ sym (getD-drop at ws 0 0) ∙ ap (λ (l : List ℕ). getD l 0 0) h in
+      let e0 : getD ws at 0 ≡ k =
+      ap (λ (i : ℕ). getD ws i 0) (sym (add-zero at)) ∙ sym (getD-drop at ws 0 0) ∙ ap (λ (l : List ℕ). getD l 0 0) h in
       let e1 : getD ws (at + 1) 0 ≡ a = sym (getD-drop at ws 1 0) ∙ ap (λ (l : List ℕ). getD l 1 0) h in
       let e2 : getD ws (at + 2) 0 ≡ b = sym (getD-drop at ws 2 0) ∙ ap (λ (l : List ℕ). getD l 2 0) h in
       rw (row-there ws at n, e0, e1, e2) (p (sym (drop-drop 3 at ws) ∙ ap (λ (l : List ℕ). drop 3 l) h))
@@ -105,12 +121,14 @@ module _ (ws : List ℕ) (at : ℕ) where
   tree-row command c rest u h = cmd-row u h
 
   -- the row that was read is that of the tree whose lines stand there
-  pub row-of : (s : Sort) (x : Tree s) (rest : List Line) {row : Row} {k : ℕ} → row ≡ rowAt ws at → row .kind ≡ k → SourceOf s x
+  pub row-of : (s : Sort) (x : Tree s) (rest : List Line) {row : Row} {k : ℕ} → row ≡ rowAt ws at
+      → row .kind ≡ k → SourceOf s x
       → drop at ws ≡ code (linesOf s x rest) → RowOf rest s k (row .a) (row .b) x
   row-of s x rest q h u w = rw (← q, h) at (tree-row s x rest u w)
 
   -- the row where lines stand is that of the first, and the others stand after it
-  pub line-there : (l : Line) (ls : List Line) → drop at ws ≡ code (l ∷ ls) → (rowAt ws at ≡ rowOf l) × (drop (at + 3) ws ≡ code ls)
+  pub line-there : (l : Line) (ls : List Line) → drop at ws ≡ code (l ∷ ls)
+      → (rowAt ws at ≡ rowOf l) × (drop (at + 3) ws ≡ code ls)
   unfolding code
   line-there l ls g =
       row-read {X = Unit} (λ k a b _. (_≡_ {A = Row} (rowWith k a b) (rowOf l)) × (drop (at + 3) ws ≡ code ls))
@@ -130,7 +148,8 @@ abbrev pub KindOf : Sort → ℕ → Type 0
 KindOf command k = (1 ≤ k) × (k < 6)
 KindOf expression k = (6 ≤ k) × (k < 17)
 
-row-kind : {ws : List ℕ} {at : ℕ} {rest : List Line} {s : Sort} {k a b : ℕ} {x : Tree s} → RowOf ws at rest s k a b x → KindOf s k
+row-kind : {ws : List ℕ} {at : ℕ} {rest : List Line} {s : Sort} {k a b : ℕ} {x : Tree s}
+    → RowOf ws at rest s k a b x → KindOf s k
 row-kind (at-skip h) = (omega arith, omega arith)
 row-kind (at-seq s r h) = (omega arith, omega arith)
 row-kind (at-assign s h) = (omega arith, omega arith)
@@ -149,7 +168,8 @@ row-kind (at-first s h) = (omega arith, omega arith)
 row-kind (at-second s h) = (omega arith, omega arith)
 
 -- no tree starts where the row's kind is none of its sort's
-pub not-here : (s : Sort) (x : Tree s) (rest : List Line) (ws : List ℕ) (at : ℕ) {row : Row} → row ≡ rowAt ws at → (KindOf s (row .kind) → ⊥)
+pub not-here : (s : Sort) (x : Tree s) (rest : List Line) (ws : List ℕ) (at : ℕ) {row : Row} → row ≡ rowAt ws at
+    → (KindOf s (row .kind) → ⊥)
     → SourceOf s x → drop at ws ≡ code (linesOf s x rest) → ⊥
 not-here s x rest ws at q f u w = f (row-kind (row-of ws at s x rest q refl u w))
 

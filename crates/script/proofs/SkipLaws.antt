@@ -9,7 +9,8 @@ use Rattle.script.specs.Lines.{Line}
 use Rattle.script.specs.Internal.Code.{code, rowAt}
 use Rattle.script.specs.Internal.Pieces.{operandCount}
 use Rattle.script.specs.declared.Row.{Row}
-use Rattle.script.proofs.Nodes.{Parts, no-parts, one-part, two-parts, three-parts, parts, few-parts, counted-within}
+use Rattle.script.proofs.Nodes.{Parts, no-parts, one-part, two-parts, three-parts, parts, few-parts}
+use Rattle.script.proofs.Nodes.{counted-within}
 use Rattle.script.specs.Internal.Skips.{Skips}
 
 module _ (ws : List ℕ) (at : ℕ) {row : Row} {n : ℕ} (r : row ≡ rowAt ws at) (o : n ≡ operandCount (row .kind)) where
@@ -17,7 +18,8 @@ module _ (ws : List ℕ) (at : ℕ) {row : Row} {n : ℕ} (r : row ≡ rowAt ws 
   pub line-in : n < 4 → at + 3 ≤ length ws
   line-in l = counted-within ws at r (omega arith)
 
-  by-parts : {m next : ℕ} → n ≡ m → at ≤ next → ((rest : List Line) → Parts ws at rest m → drop next ws ≡ code rest) → Skips ws at next
+  by-parts : {m next : ℕ} → n ≡ m → at ≤ next → ((rest : List Line) → Parts ws at rest m → drop next ws ≡ code rest)
+      → Skips ws at next
   by-parts e f p =
       record {
         forward = f;
@@ -42,11 +44,13 @@ module _ (ws : List ℕ) (at : ℕ) {row : Row} {n : ℕ} (r : row ≡ rowAt ws 
       two : (rest : List Line) → Parts ws at rest 2 → drop next ws ≡ code rest
       two rest (two-parts {ls = ls} {mid = mid} p q h) = t .means mid rest q (s .means ls mid p h)
 
-  pub skip-three : {second third next : ℕ} → n ≡ 3 → Skips ws (at + 3) second → Skips ws second third → Skips ws third next → Skips ws at next
+  pub skip-three : {second third next : ℕ} → n ≡ 3 → Skips ws (at + 3) second → Skips ws second third
+      → Skips ws third next → Skips ws at next
   skip-three {second} {third} {next} e s t u = by-parts e (omega (arith, s .forward, t .forward, u .forward)) three
     where
       three : (rest : List Line) → Parts ws at rest 3 → drop next ws ≡ code rest
-      three rest (three-parts {ls = ls} {mid = mid} {end = end} p q x h) = u .means end rest x (t .means mid end q (s .means ls mid p h))
+      three rest (three-parts {ls = ls} {mid = mid} {end = end} p q x h) =
+          u .means end rest x (t .means mid end q (s .means ls mid p h))
 
   pub skip-none : (n < 4 → ⊥) → Skips ws at at
   skip-none f = by-parts refl (omega arith) (λ rest p. absurd (f (few-parts ws at p)))

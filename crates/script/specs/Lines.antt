@@ -3,7 +3,8 @@
 use mathlib.Core.List.{List, _∷_}
 use mathlib.Core.Option.{Option, none, some}
 use Prim.Native.Nat.{ℕ}
-use Rattle.language.specs.Syntax.{Value, int, err, inl, inr, pkg, pair, blank, Part, Expr, val, loc, var, plus, left, right, pack, unpack, pairing, proj, Cmd, skip, seq, assign, while, case, Opening}
+use Rattle.language.specs.Syntax.{Value, int, err, inl, inr, pkg, pair, blank, Part, Expr, val, loc, var, plus, left}
+use Rattle.language.specs.Syntax.{right, pack, unpack, pairing, proj, Cmd, skip, seq, assign, while, case, Opening}
 
 -- One line of each kind, with its operands' numbers; `l-proj` is the line of a first part and that of a second.
 pub data Line : Type 0 where

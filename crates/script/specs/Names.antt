@@ -1,11 +1,12 @@
--- What a script may name (the scope, "The three texts"): what is on the sheet, variables that a case binds; how many lines it has, and how
--- deep its cases nest.
+-- What a script may name (the scope, "The three texts"): what is on the sheet, variables that a case binds; how many
+-- lines it has, and how deep its cases nest.
 use mathlib.Core.Bool.{Bool, true}
 use mathlib.Core.Option.{Option, none, some}
 use Prim.Native.Nat.{ℕ, suc, _^_}
 use lib.Dec.{ltb}
 use Rattle.logic.specs.Booleans.{both}
-use Rattle.language.specs.Syntax.{Expr, val, loc, var, plus, left, right, pack, unpack, pairing, proj, Cmd, skip, seq, assign, while, case, Opening}
+use Rattle.language.specs.Syntax.{Expr, val, loc, var, plus, left, right, pack, unpack, pairing, proj, Cmd, skip, seq}
+use Rattle.language.specs.Syntax.{assign, while, case, Opening}
 use Rattle.script.specs.Lines.{integerOf}
 
 -- How many types, labels and locations a sheet has.

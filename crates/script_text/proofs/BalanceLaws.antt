@@ -35,10 +35,12 @@ few-operands k = few-at operandCounts refl k
 module _ (ws : List ℕ) (at : ℕ) where
   -- The lines from a word on are those of n trees exactly if all lines are those of one.
   abbrev pub Due : ℕ → Type 0
-  Due n = (ls : List Line) → ws ≡ code ls → (rest : List Line) × (drop at ws ≡ code rest) × (closes 1 ls ≡ closes n rest)
+  Due n =
+      (ls : List Line) → ws ≡ code ls → (rest : List Line) × (drop at ws ≡ code rest) × (closes 1 ls ≡ closes n rest)
 
   -- a line stands where words are left
-  first-line : (rest : List Line) → at < length ws → drop at ws ≡ code rest → (l : Line) × (ls : List Line) × (rest ≡ l ∷ ls)
+  first-line : (rest : List Line) → at < length ws → drop at ws ≡ code rest
+      → (l : Line) × (ls : List Line) × (rest ≡ l ∷ ls)
   unfolding code
   first-line [] h e = absurd (omega (arith, length-drop at ws, ap length e))
   first-line (l ∷ ls) h e = (l, ls, refl)
@@ -58,7 +60,8 @@ module _ (ws : List ℕ) (at : ℕ) where
       sym (r .2 ∙ ap (closes n) z)
 
 module _ (ws : List ℕ) (at : ℕ) {row : Row} (q : row ≡ rowAt ws at) where
-  pub due-more : (n k : ℕ) → Due ws at n → at < length ws → (n ≡ 0 → ⊥) → k ≡ operandCount (row .kind) → Due ws (at + 3) (n - 1 + k)
+  pub due-more : (n k : ℕ) → Due ws at n → at < length ws → (n ≡ 0 → ⊥) → k ≡ operandCount (row .kind)
+      → Due ws (at + 3) (n - 1 + k)
   unfolding closes
   due-more n k o h z e ls w = on n z (o ls w)
     where

@@ -44,7 +44,8 @@ put w n k a b = set (set (set w (n * 3) k) (n * 3 + 1) a) (n * 3 + 2) b
 -- n lines after a start, and further ones
 unfoldable pub tabled : ℕ → ℕ → List ℕ → Option (List Line) → Decoded
 tabled start n w none = noCode
-tabled start n w (some ls) = record { answer = answer.Read; count = n + length ls; start = start; code = sets w (n * 3) (code ls) }
+tabled start n w (some ls) =
+    record { answer = answer.Read; count = n + length ls; start = start; code = sets w (n * 3) (code ls) }
 
 -- ---- the table of a text's lines, from line n and byte `at` on
 
@@ -62,7 +63,8 @@ tabled-front start n w l (some ls) =
 -- at most m lines
 module _ (start m n : ℕ) (w : List ℕ) (s : List ℕ) (at : ℕ) where
   pub table-done : length s ≤ at
-      → tabled start n w (linesUpTo lineOf (m - n) (drop at s)) ≡ record { answer = answer.Read; count = n; start = start; code = w }
+      → tabled start n w (linesUpTo lineOf (m - n) (drop at s))
+      ≡ record { answer = answer.Read; count = n; start = start; code = w }
   unfolding tabled code
   table-done h = let z : n + 0 ≡ n = omega arith in rw (lines-at-end lineOf m n s at h, z)
 
@@ -76,7 +78,8 @@ module _ (start m n : ℕ) (w : List ℕ) (s : List ℕ) (at : ℕ) where
     table-bad g = rw (lines-at-bad lineOf m n s at l h (found-none s at r e g))
 
     pub table-more : (k a b : ℕ) → r .read ≡ read.Line k a b
-        → tabled start n w (linesUpTo lineOf (m - n) (drop at s)) ≡ tabled start (n + 1) (put w n k a b) (linesUpTo lineOf (m - (n + 1)) (drop (r .at) s))
+        → tabled start n w (linesUpTo lineOf (m - n) (drop at s))
+        ≡ tabled start (n + 1) (put w n k a b) (linesUpTo lineOf (m - (n + 1)) (drop (r .at) s))
     table-more k a b g =
         found-at s at r e k a b g (λ x y i f1 f2 f3.
         rw (lines-at-more lineOf m n s at l (script-lines .no-end) x (r .at) y, tabled-front, f1, f2, f3))
@@ -87,7 +90,8 @@ pub table-start : (start m : ℕ) (w t : List ℕ) → m ≤ maxLines → w ≡ 
 unfolding tabled codedLines coded padded
 table-start start m w t h e = let z : m - 0 ≡ m = omega arith in rw (e, z) (go (linesUpTo lineOf m t) refl)
   where
-    go : (o : Option (List Line)) → linesUpTo lineOf m t ≡ o → tabled start 0 (replicate codeWords 0) o ≡ codedLines start o
+    go : (o : Option (List Line)) → linesUpTo lineOf m t ≡ o
+        → tabled start 0 (replicate codeWords 0) o ≡ codedLines start o
     go none e = refl
     go (some ls) e =
         let few = lines-exact script-lines m t ls .0 e .2 in

@@ -13,14 +13,17 @@ use Rattle.language.specs.Syntax.{first, second, pick, loc, var, unpack, pairin
 use Rattle.script.specs.Lines.{cmdLines, exprLines, startLines}
 use Rattle.script.specs.Names.{Counts, named, namedE, namedStart}
 use Rattle.script_text.specs.Bytes.{lineBytes, startBytes, scriptBytes}
-use Rattle.script_text.specs.Reading.{formOf, operandsOf, lineOf, startRead, openingOf, writtenWith, linesAfter, writtenOf}
+use Rattle.script_text.specs.Reading.{formOf, operandsOf, lineOf, startRead, openingOf, writtenWith, linesAfter}
+use Rattle.script_text.specs.Reading.{writtenOf}
 use Rattle.script_text.specs.Internal.Parse.{popE, popC, onStack, pushOn, stackOf, onlyCommand, parse}
 use Rattle.script_text.specs.Script.{namedOnly, commandOf, scriptWith, scriptRead, scriptOf}
 
 -- what reading a script computes with: to unfold it is to unfold all that its line names
 unfoldable reading-used : Unit {0}
-unfolding andThen byte fits digit digits opensDigit number both named namedE namedStart startLines numberField lastNumber formOf operandsOf lineOf front onward
-    linesUpTo startRead openingOf writtenWith linesAfter writtenOf popE popC onStack pushOn stackOf onlyCommand parse namedOnly commandOf scriptWith scriptRead
+unfolding andThen byte fits digit digits opensDigit number both named namedE namedStart startLines numberField
+    lastNumber formOf operandsOf lineOf front onward
+    linesUpTo startRead openingOf writtenWith linesAfter writtenOf popE popC onStack pushOn stackOf onlyCommand parse
+    namedOnly commandOf scriptWith scriptRead
     scriptOf
 reading-used = tt
 
@@ -32,11 +35,13 @@ counts = record { types = 6; labels = 3; locations = 4 }
 abbrev opened : List ℕ
 opened = 99 ∷ 10 ∷ 120 ∷ 9 ∷ 50 ∷ 10 ∷ 61 ∷ 9 ∷ 51 ∷ 10 ∷ 117 ∷ 9 ∷ 53 ∷ 9 ∷ 50 ∷ 10 ∷ 118 ∷ 9 ∷ 48 ∷ 10 ∷ 115 ∷ 10 ∷ []
 
-opened-read : scriptOf counts opened ≡ some (record { opening = record { start = none }; command = case (loc 2) (assign 3 (unpack 5 2 (var 0))) skip })
+opened-read : scriptOf counts opened
+    ≡ some (record { opening = record { start = none }; command = case (loc 2) (assign 3 (unpack 5 2 (var 0))) skip })
 unfolding reading-used
 opened-read = refl
 
-opened-printed : scriptBytes (record { opening = record { start = none }; command = case (loc 2) (assign 3 (unpack 5 2 (var 0))) skip }) ≡ opened
+opened-printed : scriptBytes
+    (record { opening = record { start = none }; command = case (loc 2) (assign 3 (unpack 5 2 (var 0))) skip }) ≡ opened
 unfolding decimal decimalOn lineBytes printLines cmdLines exprLines startBytes
 opened-printed = refl
 
@@ -54,7 +59,8 @@ started-printed = refl
 
 -- `b 3`, a label that is not there, before a command; `b 2` alone; twice; after the command; inside a sequence; no
 -- label
-refused-starts : (scriptOf counts (98 ∷ 9 ∷ 51 ∷ 10 ∷ 115 ∷ 10 ∷ []) ≡ none) × (scriptOf counts (98 ∷ 9 ∷ 50 ∷ 10 ∷ []) ≡ none)
+refused-starts : (scriptOf counts (98 ∷ 9 ∷ 51 ∷ 10 ∷ 115 ∷ 10 ∷ []) ≡ none)
+    × (scriptOf counts (98 ∷ 9 ∷ 50 ∷ 10 ∷ []) ≡ none)
     × (scriptOf counts (98 ∷ 9 ∷ 50 ∷ 10 ∷ 98 ∷ 9 ∷ 50 ∷ 10 ∷ 115 ∷ 10 ∷ []) ≡ none)
     × (scriptOf counts (115 ∷ 10 ∷ 98 ∷ 9 ∷ 50 ∷ 10 ∷ []) ≡ none)
     × (scriptOf counts (59 ∷ 10 ∷ 98 ∷ 9 ∷ 50 ∷ 10 ∷ 115 ∷ 10 ∷ 115 ∷ 10 ∷ []) ≡ none)
@@ -75,7 +81,10 @@ abbrev paired : List ℕ
 paired = 61 ∷ 9 ∷ 51 ∷ 10 ∷ 112 ∷ 9 ∷ 53 ∷ 10 ∷ 102 ∷ 10 ∷ 120 ∷ 9 ∷ 50 ∷ 10 ∷ 103 ∷ 10 ∷ 120 ∷ 9 ∷ 50 ∷ 10 ∷ []
 
 abbrev pair-script : Script
-pair-script = record { opening = record { start = none }; command = assign 3 (pairing 5 (proj first (loc 2)) (proj second (loc 2))) }
+pair-script = record {
+  opening = record { start = none };
+  command = assign 3 (pairing 5 (proj first (loc 2)) (proj second (loc 2)));
+}
 
 paired-read : scriptOf counts paired ≡ some pair-script
 unfolding reading-used
@@ -86,7 +95,8 @@ unfolding decimal decimalOn lineBytes printLines cmdLines exprLines startBytes p
 paired-printed = refl
 
 -- after `= 3`: a pair of a type that is not there; a pair with one part; a first part with a number
-refused-pairs : (scriptOf counts (61 ∷ 9 ∷ 51 ∷ 10 ∷ 112 ∷ 9 ∷ 54 ∷ 10 ∷ 120 ∷ 9 ∷ 50 ∷ 10 ∷ 120 ∷ 9 ∷ 50 ∷ 10 ∷ []) ≡ none)
+refused-pairs : (scriptOf counts
+    (61 ∷ 9 ∷ 51 ∷ 10 ∷ 112 ∷ 9 ∷ 54 ∷ 10 ∷ 120 ∷ 9 ∷ 50 ∷ 10 ∷ 120 ∷ 9 ∷ 50 ∷ 10 ∷ []) ≡ none)
     × (scriptOf counts (61 ∷ 9 ∷ 51 ∷ 10 ∷ 112 ∷ 9 ∷ 53 ∷ 10 ∷ 120 ∷ 9 ∷ 50 ∷ 10 ∷ []) ≡ none)
     × (scriptOf counts (61 ∷ 9 ∷ 51 ∷ 10 ∷ 102 ∷ 9 ∷ 48 ∷ 10 ∷ 120 ∷ 9 ∷ 50 ∷ 10 ∷ []) ≡ none)
 unfolding reading-used

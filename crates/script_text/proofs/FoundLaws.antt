@@ -49,12 +49,15 @@ module _ (s : List ℕ) (i k : ℕ) where
       let x = byte-at s i 10 r e p g in
       found-got s _ l k 0 0 p q (andThen-got _ _ tt _ (x .0)) (x .1)
 
-  pub bare-none : (l : Line) (r : Place) → r ≡ placedEnd s (lineEnd (drop i s)) → r ≡ place.Refused → found.Refused ≡ placedLine s (operandsOf (bare l) (drop i s))
+  pub bare-none : (l : Line) (r : Place) → r ≡ placedEnd s (lineEnd (drop i s)) → r ≡ place.Refused
+      → found.Refused ≡ placedLine s (operandsOf (bare l) (drop i s))
   unfolding operandsOf
   bare-none l r e g = found-bad s _ (andThen-bad _ _ (byte-bad s i 10 r e g))
 
-  pub one-got : (f : ℕ → Line) (r : Decimal) (a p : ℕ) → r ≡ placedDecimal s (lastNumber most (drop i s)) → r ≡ decimal.At a p
-      → rowOf (f a) ≡ record { kind = k; a = a; b = 0 } → found.At k a 0 p ≡ placedLine s (operandsOf (one f) (drop i s))
+  pub one-got : (f : ℕ → Line) (r : Decimal) (a p : ℕ) → r ≡ placedDecimal s (lastNumber most (drop i s))
+      → r ≡ decimal.At a p
+      → rowOf (f a) ≡ record { kind = k; a = a; b = 0 }
+      → found.At k a 0 p ≡ placedLine s (operandsOf (one f) (drop i s))
   unfolding operandsOf
   one-got f r a p e g q =
       let x = last-number-at s i most r e a p g in
@@ -66,15 +69,18 @@ module _ (s : List ℕ) (i k : ℕ) where
   one-none f r e g = found-bad s _ (andThen-bad _ _ (last-number-bad s i most r e g))
 
   module _ (f : ℕ → ℕ → Line) (r : Decimal) (e : r ≡ placedDecimal s (numberField most (drop i s))) where
-    pub two-got : (a b p q : ℕ) (t : Decimal) → r ≡ decimal.At a p → t ≡ placedDecimal s (lastNumber most (drop p s)) → t ≡ decimal.At b q
-        → rowOf (f a b) ≡ record { kind = k; a = a; b = b } → found.At k a b q ≡ placedLine s (operandsOf (two f) (drop i s))
+    pub two-got : (a b p q : ℕ) (t : Decimal) → r ≡ decimal.At a p → t ≡ placedDecimal s (lastNumber most (drop p s))
+        → t ≡ decimal.At b q
+        → rowOf (f a b) ≡ record { kind = k; a = a; b = b }
+        → found.At k a b q ≡ placedLine s (operandsOf (two f) (drop i s))
     unfolding operandsOf
     two-got a b p q t g d h w =
         let x = number-field-at s i most r e a p g in
         let y = last-number-at s p most t d b q h in
         found-got s _ (f a b) k a b q w (andThen-got _ _ a _ (x .0) ∙ andThen-got _ _ b _ (y .0)) (y .1)
 
-    pub two-open : (a p : ℕ) (t : Decimal) → r ≡ decimal.At a p → t ≡ placedDecimal s (lastNumber most (drop p s)) → t ≡ decimal.Refused
+    pub two-open : (a p : ℕ) (t : Decimal) → r ≡ decimal.At a p → t ≡ placedDecimal s (lastNumber most (drop p s))
+        → t ≡ decimal.Refused
         → found.Refused ≡ placedLine s (operandsOf (two f) (drop i s))
     unfolding operandsOf
     two-open a p t g d h =
@@ -87,7 +93,8 @@ module _ (s : List ℕ) (i k : ℕ) where
 
 -- ---- the first field decides
 
-pub other-form : (b : ℕ) → (b ≡ 115 → ⊥) → (b ≡ 59 → ⊥) → (b ≡ 61 → ⊥) → (b ≡ 119 → ⊥) → (b ≡ 99 → ⊥) → (b ≡ 105 → ⊥) → (b ≡ 120 → ⊥)
+pub other-form : (b : ℕ) → (b ≡ 115 → ⊥) → (b ≡ 59 → ⊥) → (b ≡ 61 → ⊥) → (b ≡ 119 → ⊥) → (b ≡ 99 → ⊥)
+    → (b ≡ 105 → ⊥) → (b ≡ 120 → ⊥)
     → (b ≡ 118 → ⊥) → (b ≡ 43 → ⊥) → (b ≡ 108 → ⊥) → (b ≡ 114 → ⊥) → (b ≡ 107 → ⊥) → (b ≡ 117 → ⊥) → (b ≡ 112 → ⊥)
     → (b ≡ 102 → ⊥) → (b ≡ 103 → ⊥) → formOf b ≡ other
 unfolding formOf
@@ -120,7 +127,8 @@ module _ (s : List ℕ) (i : ℕ) where
   unfolding lineOf
   line-form f h e = rw (drop-step s i h, e)
 
-  pub line-kind : (f : Form) (r : Found) → i < length s → formOf (getD s i 0) ≡ f → r ≡ placedLine s (operandsOf f (drop (i + 1) s))
+  pub line-kind : (f : Form) (r : Found) → i < length s → formOf (getD s i 0) ≡ f
+      → r ≡ placedLine s (operandsOf f (drop (i + 1) s))
       → r ≡ placedLine s (lineOf (drop i s))
   line-kind f r h e q = q ∙ ap (placedLine s) (sym (line-form f h e))
 
@@ -132,15 +140,18 @@ module _ (s : List ℕ) (i : ℕ) where
 
 module _ (s : List ℕ) (i : ℕ) (r : Reached) (e : r ≡ lineAt s i) where
   line-split : {P : Type 0}
-      → ((l : Line) (p : ℕ) → lineOf (drop i s) ≡ got l (drop p s) → p ≤ length s → r ≡ record { read = read.Line (rowOf l .kind) (rowOf l .a) (rowOf l .b); at = p } → P)
+      → ((l : Line) (p : ℕ) → lineOf (drop i s) ≡ got l (drop p s) → p ≤ length s
+      → r ≡ record { read = read.Line (rowOf l .kind) (rowOf l .a) (rowOf l .b); at = p } → P)
       → (lineOf (drop i s) ≡ bad → r ≡ record { read = read.Refused; at = i } → P) → P
   unfolding reached
   line-split f g =
-      placed-split (λ l p. found.At (rowOf l .kind) (rowOf l .a) (rowOf l .b) p) found.Refused s i _ _ (line-within script-lines (drop i s)) refl
+      placed-split (λ l p. found.At (rowOf l .kind) (rowOf l .a) (rowOf l .b) p) found.Refused s i _ _
+      (line-within script-lines (drop i s)) refl
       (λ l p x h y. f l p x h (e ∙ ap (reached i) y)) (λ x y. g x (e ∙ ap (reached i) y))
 
   pub found-at : {P : Type 0} (k a b : ℕ) → r .read ≡ read.Line k a b
-      → ((l : Line) → lineOf (drop i s) ≡ got l (drop (r .at) s) → r .at ≤ length s → rowOf l .kind ≡ k → rowOf l .a ≡ a → rowOf l .b ≡ b → P) → P
+      → ((l : Line) → lineOf (drop i s) ≡ got l (drop (r .at) s) → r .at ≤ length s → rowOf l .kind ≡ k → rowOf l .a ≡ a
+      → rowOf l .b ≡ b → P) → P
   found-at k a b g f = line-split
       (λ l p x h y. let z : p ≡ r .at = cc in f l (rw z at x) (rw z at h) (cc) (cc) (cc))
       (λ x y. let z : _≡_ {A = ℕ} 0 1 = cc in absurd (omega arith))

@@ -13,7 +13,8 @@ use Rattle.text.specs.Lines.{AllGood, LineForm}
 use Rattle.text.proofs.Readings.{not-bad, got-same, andThen-got, andThen-split, byte-here, byte-sound}
 use Rattle.text.proofs.Fields.{number-field-sound, number-field-print, last-number-sound, last-number-print}
 use Rattle.language.specs.Syntax.{Part, first, second, pick}
-use Rattle.script.specs.Lines.{Line, l-skip, l-seq, l-assign, l-while, l-case, l-int, l-loc, l-var, l-plus, l-left, l-right, l-pack, l-unpack, l-pair, l-proj}
+use Rattle.script.specs.Lines.{Line, l-skip, l-seq, l-assign, l-while, l-case, l-int, l-loc, l-var, l-plus, l-left}
+use Rattle.script.specs.Lines.{l-right, l-pack, l-unpack, l-pair, l-proj}
 use Rattle.script.specs.Internal.Code.{rowOf}
 use Rattle.script_text.specs.Bytes.{lineBytes}
 use Rattle.script_text.specs.Reading.{Form, bare, one, two, other, formOf, operandsOf, lineOf}
@@ -52,7 +53,8 @@ form-of b =
     chosen b 115 _ _ f-skip (chosen b 59 _ _ f-seq (chosen b 61 _ _ f-assign (chosen b 119 _ _ f-while
     (chosen b 99 _ _ f-case (chosen b 105 _ _ f-int (chosen b 120 _ _ f-loc (chosen b 118 _ _ f-var
     (chosen b 43 _ _ f-plus (chosen b 108 _ _ f-left (chosen b 114 _ _ f-right (chosen b 107 _ _ f-pack
-    (chosen b 117 _ _ f-unpack (chosen b 112 _ _ f-pair (chosen b 102 _ _ (f-proj {p = first}) (chosen b 103 _ _ (f-proj {p = second})
+    (chosen b 117 _ _ f-unpack
+    (chosen b 112 _ _ f-pair (chosen b 102 _ _ (f-proj {p = first}) (chosen b 103 _ _ (f-proj {p = second})
     f-other)))))))))))))))
 
 -- both operands are numbers of 32 bits
@@ -74,7 +76,8 @@ bare-sound m l t u e =
     (λ x w f g. let s = got-same m l w u g in (byte-sound 10 t w x f ∙ ap printLineEnd (s .1), s .0)) e
 
 module _ (l : Line) (t u : List ℕ) (P : Type 0) where
-  one-sound : (f : ℕ → Line) → operandsOf (one f) t ≡ got l u → ((a : ℕ) → t ≡ printNumberField a (printLineEnd u) → a ≤ most → f a ≡ l → P) → P
+  one-sound : (f : ℕ → Line) → operandsOf (one f) t ≡ got l u
+      → ((a : ℕ) → t ≡ printNumberField a (printLineEnd u) → a ≤ most → f a ≡ l → P) → P
   unfolding operandsOf
   one-sound f e g =
       andThen-split (lastNumber most t) _ l u
@@ -84,7 +87,8 @@ module _ (l : Line) (t u : List ℕ) (P : Type 0) where
       g a (n .0 ∙ ap (λ v. printNumberField a (printLineEnd v)) (s .1)) (n .1) (s .0)) e
 
   two-sound : (f : ℕ → ℕ → Line) → operandsOf (two f) t ≡ got l u
-      → ((a b : ℕ) → t ≡ printNumberField a (printNumberField b (printLineEnd u)) → a ≤ most → b ≤ most → f a b ≡ l → P) → P
+      → ((a b : ℕ) → t ≡ printNumberField a (printNumberField b (printLineEnd u)) → a ≤ most → b ≤ most → f a b ≡ l → P)
+      → P
   unfolding operandsOf
   two-sound f e g =
       andThen-split (numberField most t) _ l u
@@ -93,9 +97,11 @@ module _ (l : Line) (t u : List ℕ) (P : Type 0) where
       let s = got-same (f a b) l w u y in
       let m = number-field-sound most t a v x in
       let n = last-number-sound most v b w z in
-      g a b (m .0 ∙ ap (printNumberField a) (n .0 ∙ ap (λ r. printNumberField b (printLineEnd r)) (s .1))) (m .1) (n .1) (s .0))) e
+      g a b (m .0 ∙ ap (printNumberField a) (n .0 ∙ ap (λ r. printNumberField b (printLineEnd r)) (s .1))) (m .1)
+      (n .1) (s .0))) e
 
-formed-sound : {b : ℕ} {f : Form} (l : Line) (t u : List ℕ) → Formed b f → operandsOf f t ≡ got l u → (b ∷ t ≡ lineBytes l u) × Fits l
+formed-sound : {b : ℕ} {f : Form} (l : Line) (t u : List ℕ) → Formed b f → operandsOf f t ≡ got l u
+    → (b ∷ t ≡ lineBytes l u) × Fits l
 unfolding lineBytes rowOf
 formed-sound l t u f-skip e = let r = bare-sound _ l t u e in rw (← r .1, r .0) (refl, (no-operand, no-operand))
 formed-sound l t u f-seq e = let r = bare-sound _ l t u e in rw (← r .1, r .0) (refl, (no-operand, no-operand))

@@ -53,7 +53,8 @@ unfolding startBytes
 unstarted t none u e = (got-same none none t u e .1, tt)
 unstarted t (some l) u e = none-some (got-same none (some l) t u e .0)
 
-started : (l : ℕ) (t w : List ℕ) → lastNumber lastLabel t ≡ got l w → (x : Option ℕ) (u : List ℕ) → got (some l) w ≡ got x u
+started : (l : ℕ) (t w : List ℕ) → lastNumber lastLabel t ≡ got l w → (x : Option ℕ) (u : List ℕ)
+    → got (some l) w ≡ got x u
     → (98 ∷ t ≡ startBytes x u) × Low x
 unfolding startBytes
 started l t w g none u e = none-some (sym (got-same (some l) none w u e .0))
@@ -72,14 +73,17 @@ start-sound (b ∷ t) x u e =
     andThen-split (lastNumber lastLabel t) _ x u (λ l w g k. rw y (started l t w g x u k)) f)
     (λ h f. unstarted (b ∷ t) x u f) e
 
-pub opening-sound : (t : List ℕ) (o : Opening) (u : List ℕ) → openingOf t ≡ got o u → (t ≡ openingBytes o u) × Low (o .start)
+pub opening-sound : (t : List ℕ) (o : Opening) (u : List ℕ) → openingOf t ≡ got o u
+    → (t ≡ openingBytes o u) × Low (o .start)
 unfolding openingOf
 opening-sound t o u e =
     andThen-split (startRead t) _ o u
-    (λ x w f g. let z = got-same (record { start = x }) o w u g in let r = start-sound t x w f in rw (← z .0, ← z .1) r) e
+    (λ x w f g. let z = got-same (record { start = x }) o w u g in let r = start-sound t x w f in rw (← z .0, ← z .1) r)
+    e
 
 -- an opening line, or none where a command's lines follow
-start-print : (x : Option ℕ) → Low x → (c : Cmd) → startRead (startBytes x (linesBytes (cmdLines c []))) ≡ got x (linesBytes (cmdLines c []))
+start-print : (x : Option ℕ) → Low x → (c : Cmd)
+    → startRead (startBytes x (linesBytes (cmdLines c []))) ≡ got x (linesBytes (cmdLines c []))
 unfolding startRead startBytes
 start-print (some l) h c = andThen-got _ _ l _ (last-number-print lastLabel l _ h)
 start-print none h skip = unfold cmdLines printLines lineBytes in refl
@@ -88,7 +92,8 @@ start-print none h (assign x e) = unfold cmdLines printLines lineBytes in refl
 start-print none h (while e c) = unfold cmdLines printLines lineBytes in refl
 start-print none h (case e a b) = unfold cmdLines printLines lineBytes in refl
 
-pub opening-print : (o : Opening) → Low (o .start) → (c : Cmd) → openingOf (openingBytes o (linesBytes (cmdLines c []))) ≡ got o (linesBytes (cmdLines c []))
+pub opening-print : (o : Opening) → Low (o .start) → (c : Cmd)
+    → openingOf (openingBytes o (linesBytes (cmdLines c []))) ≡ got o (linesBytes (cmdLines c []))
 unfolding openingOf
 opening-print o h c = andThen-got _ _ (o .start) _ (start-print (o .start) h c)
 
@@ -98,7 +103,8 @@ start-ends : (x : Option ℕ) (t u : List ℕ) → t ≡ startBytes x u → IsEn
 unfolding startBytes
 start-ends none t u e = ends-print t [] u e
 start-ends (some l) t u e =
-    ends-print t (98 ∷ 9 ∷ (decimal l ++ (10 ∷ []))) u (e ∙ ap (λ (w : List ℕ). 98 ∷ 9 ∷ w) (sym (append-assoc (decimal l) (10 ∷ []) u)))
+    ends-print t (98 ∷ 9 ∷ (decimal l ++ (10 ∷ []))) u
+    (e ∙ ap (λ (w : List ℕ). 98 ∷ 9 ∷ w) (sym (append-assoc (decimal l) (10 ∷ []) u)))
 
 opening-within : (t : List ℕ) → Within t (openingOf t)
 opening-within t o u e = start-ends (o .start) t u (opening-sound t o u e .0)
@@ -116,14 +122,16 @@ other-read : {s t : List ℕ} {b : ℕ} → s ≡ b ∷ t → eqb b 98 ≡ false
 unfolding startRead
 other-read e h = rw (e, h)
 
-start-read : {s t : List ℕ} {b : ℕ} → s ≡ b ∷ t → eqb b 98 ≡ true → startRead s ≡ andThen (lastNumber lastLabel t) (λ l u. got (some l) u)
+start-read : {s t : List ℕ} {b : ℕ} → s ≡ b ∷ t → eqb b 98 ≡ true
+    → startRead s ≡ andThen (lastNumber lastLabel t) (λ l u. got (some l) u)
 unfolding startRead
 start-read e h = rw (e, h)
 
 module _ (s : List ℕ) where
   -- an answer is that of the opening, after which the lines stand, or the refusal
   opened-split : {P : Type 0} (r : Opened) → r ≡ placedOpening s (openingOf s)
-      → ((o : Opening) (p : ℕ) → openingOf s ≡ got o (drop p s) → r ≡ at o p → P) → (openingOf s ≡ bad → r ≡ answer.Refused → P) → P
+      → ((o : Opening) (p : ℕ) → openingOf s ≡ got o (drop p s) → r ≡ at o p → P)
+      → (openingOf s ≡ bad → r ≡ answer.Refused → P) → P
   opened-split r e f g = placed-split at answer.Refused s 0 _ r (opening-within s) e (λ o p x h y. f o p x y) g
 
   no-start : startRead s ≡ got none s → answer.At (startNo none) 0 0 ≡ placedOpening s (openingOf s)
@@ -156,19 +164,22 @@ module _ (s : List ℕ) where
       pub opening-bad : r ≡ decimal-answer.Refused → answer.Refused ≡ placedOpening s (openingOf s)
       unfolding openingOf
       opening-bad g =
-          placed-bad at answer.Refused s _ (andThen-bad _ _ (starts ∙ andThen-bad _ _ (last-number-bad s 1 lastLabel r e g)))
+          placed-bad at answer.Refused s _
+          (andThen-bad _ _ (starts ∙ andThen-bad _ _ (last-number-bad s 1 lastLabel r e g)))
 
   -- ---- what follows from an answer
 
   -- the lines after an opening, with its start
-  coded-after : (o : Opening) (ls : Option (List Line)) → codedText (writtenWith o ls) ≡ codedLines (startNo (o .start)) ls
+  coded-after : (o : Opening) (ls : Option (List Line))
+      → codedText (writtenWith o ls) ≡ codedLines (startNo (o .start)) ls
   unfolding codedText codedLines writtenWith
   coded-after o none = refl
   coded-after o (some ls) = refl
 
   module _ (fit : fits s ≡ true) (r : Opened) (e : r ≡ placedOpening s (openingOf s)) where
     pub decode-after : (start lines p : ℕ) → r ≡ answer.At start lines p
-        → (lines ≤ maxLines) × (codedLines start (linesUpTo lineOf (maxLines - lines) (drop p s)) ≡ codedText (writtenOf s))
+        → (lines ≤ maxLines)
+        × (codedLines start (linesUpTo lineOf (maxLines - lines) (drop p s)) ≡ codedText (writtenOf s))
     unfolding writtenOf linesAfter
     decode-after start lines p g = opened-split r e
         (λ o q x y.

@@ -5,8 +5,12 @@ use mathlib.Core.Option.{Option, none, some}
 use Prim.Native.Nat.{ℕ}
 use Rattle.logic.proofs.OptionLaws.{none-some, some-path}
 use Rattle.language.specs.Syntax.{Expr, plus, left, right, pack, unpack, pairing, proj, Cmd, seq, assign, while, case}
-use Rattle.script.specs.Lines.{Line, l-skip, l-seq, l-assign, l-while, l-case, l-int, l-loc, l-var, l-plus, l-left, l-right, l-pack, l-unpack, l-pair, l-proj, SourceE, s-int, s-loc, s-var, s-plus, s-left, s-right, s-pack, s-unpack, s-pair, s-proj, Source, s-skip, s-seq, s-assign, s-while, s-case, integerOf, exprLines, cmdLines}
-use Rattle.script_text.specs.Internal.Parse.{Tree, ex, cm, Stack, popE, popC, onStack, pushOn, stackOf, onlyCommand, parse}
+use Rattle.script.specs.Lines.{Line, l-skip, l-seq, l-assign, l-while, l-case, l-int, l-loc, l-var, l-plus, l-left}
+use Rattle.script.specs.Lines.{l-right, l-pack, l-unpack, l-pair, l-proj, SourceE, s-int, s-loc, s-var, s-plus, s-left}
+use Rattle.script.specs.Lines.{s-right, s-pack, s-unpack, s-pair, s-proj, Source, s-skip, s-seq, s-assign, s-while}
+use Rattle.script.specs.Lines.{s-case, integerOf, exprLines, cmdLines}
+use Rattle.script_text.specs.Internal.Parse.{Tree, ex, cm, Stack, popE, popC, onStack, pushOn, stackOf}
+use Rattle.script_text.specs.Internal.Parse.{onlyCommand, parse}
 
 -- ---- the lines of a tree leave the tree on the stack
 
@@ -21,12 +25,14 @@ module _ (l : Line) (t : Tree) where
   push-0 none h = refl
   push-0 (some st) h = h st
 
-  push-1 : (x : Tree) (o : Option Stack) → ((st : Stack) → onStack l (x ∷ st) ≡ some (t ∷ st)) → pushOn l (topped x o) ≡ topped t o
+  push-1 : (x : Tree) (o : Option Stack) → ((st : Stack) → onStack l (x ∷ st) ≡ some (t ∷ st))
+      → pushOn l (topped x o) ≡ topped t o
   unfolding pushOn topped
   push-1 x none h = refl
   push-1 x (some st) h = h st
 
-  push-2 : (x y : Tree) (o : Option Stack) → ((st : Stack) → onStack l (x ∷ y ∷ st) ≡ some (t ∷ st)) → pushOn l (topped x (topped y o)) ≡ topped t o
+  push-2 : (x y : Tree) (o : Option Stack) → ((st : Stack) → onStack l (x ∷ y ∷ st) ≡ some (t ∷ st))
+      → pushOn l (topped x (topped y o)) ≡ topped t o
   unfolding pushOn topped
   push-2 x y none h = refl
   push-2 x y (some st) h = h st
@@ -42,22 +48,27 @@ unfolding stackOf exprLines onStack popE integerOf
 stack-expr rest s-int = push-0 _ _ _ (λ st. refl)
 stack-expr rest s-loc = push-0 _ _ _ (λ st. refl)
 stack-expr rest s-var = push-0 _ _ _ (λ st. refl)
-stack-expr rest (s-plus {b = b} s r) = rw (stack-expr (exprLines b rest) s, stack-expr rest r) (push-2 _ _ _ _ _ (λ st. refl))
+stack-expr rest (s-plus {b = b} s r) =
+    rw (stack-expr (exprLines b rest) s, stack-expr rest r) (push-2 _ _ _ _ _ (λ st. refl))
 stack-expr rest (s-left s) = rw (stack-expr rest s) (push-1 _ _ _ _ (λ st. refl))
 stack-expr rest (s-right s) = rw (stack-expr rest s) (push-1 _ _ _ _ (λ st. refl))
 stack-expr rest (s-pack s) = rw (stack-expr rest s) (push-1 _ _ _ _ (λ st. refl))
 stack-expr rest (s-unpack s) = rw (stack-expr rest s) (push-1 _ _ _ _ (λ st. refl))
-stack-expr rest (s-pair {b = b} s r) = rw (stack-expr (exprLines b rest) s, stack-expr rest r) (push-2 _ _ _ _ _ (λ st. refl))
+stack-expr rest (s-pair {b = b} s r) =
+    rw (stack-expr (exprLines b rest) s, stack-expr rest r) (push-2 _ _ _ _ _ (λ st. refl))
 stack-expr rest (s-proj s) = rw (stack-expr rest s) (push-1 _ _ _ _ (λ st. refl))
 
 stack-cmd : {c : Cmd} (rest : List Line) → Source c → stackOf (cmdLines c rest) ≡ topped (cm c) (stackOf rest)
 unfolding stackOf cmdLines onStack popE popC
 stack-cmd rest s-skip = push-0 _ _ _ (λ st. refl)
-stack-cmd rest (s-seq {b = b} s r) = rw (stack-cmd (cmdLines b rest) s, stack-cmd rest r) (push-2 _ _ _ _ _ (λ st. refl))
+stack-cmd rest (s-seq {b = b} s r) =
+    rw (stack-cmd (cmdLines b rest) s, stack-cmd rest r) (push-2 _ _ _ _ _ (λ st. refl))
 stack-cmd rest (s-assign s) = rw (stack-expr rest s) (push-1 _ _ _ _ (λ st. refl))
-stack-cmd rest (s-while {c = c} s r) = rw (stack-expr (cmdLines c rest) s, stack-cmd rest r) (push-2 _ _ _ _ _ (λ st. refl))
+stack-cmd rest (s-while {c = c} s r) =
+    rw (stack-expr (cmdLines c rest) s, stack-cmd rest r) (push-2 _ _ _ _ _ (λ st. refl))
 stack-cmd rest (s-case {a = a} {b = b} s r q) =
-    rw (stack-expr (cmdLines a (cmdLines b rest)) s, stack-cmd (cmdLines b rest) r, stack-cmd rest q) (push-3 _ _ _ _ _ _ (λ st. refl))
+    rw (stack-expr (cmdLines a (cmdLines b rest)) s, stack-cmd (cmdLines b rest) r, stack-cmd rest q)
+    (push-3 _ _ _ _ _ _ (λ st. refl))
 
 pub parse-lines : {c : Cmd} → Source c → parse (cmdLines c []) ≡ some c
 unfolding parse onlyCommand stackOf topped
@@ -119,11 +130,14 @@ unfolding stackLines
 leaf-e {l = l} h s q g = record { lines = ap (λ (r : List Line). l ∷ r) h ∙ g _; sources = on-expr s q }
 
 -- one operand, an expression, makes an expression
-one-e : {ls : List Line} {st : Stack} {l : Line} {e : Expr} {u : Stack} (f : Expr → Expr) → ls ≡ stackLines st → HasE st e u
-    → ((a : Expr) → SourceE a → SourceE (f a)) → ((a : Expr) (rest : List Line) → l ∷ exprLines a rest ≡ exprLines (f a) rest)
+one-e : {ls : List Line} {st : Stack} {l : Line} {e : Expr} {u : Stack} (f : Expr → Expr)
+    → ls ≡ stackLines st → HasE st e u
+    → ((a : Expr) → SourceE a → SourceE (f a))
+    → ((a : Expr) (rest : List Line) → l ∷ exprLines a rest ≡ exprLines (f a) rest)
     → StackHolds (l ∷ ls) (ex (f e) ∷ u)
 unfolding stackLines
-one-e {l = l} f h (has-e s q) g k = record { lines = ap (λ (r : List Line). l ∷ r) h ∙ k _ _; sources = on-expr (g _ s) q }
+one-e {l = l} f h (has-e s q) g k =
+    record { lines = ap (λ (r : List Line). l ∷ r) h ∙ k _ _; sources = on-expr (g _ s) q }
 
 assign-c : {ls : List Line} {st : Stack} {e : Expr} {u : Stack} (x : ℕ) → ls ≡ stackLines st → HasE st e u
     → StackHolds (l-assign x ∷ ls) (cm (assign x e) ∷ u)
@@ -131,50 +145,69 @@ unfolding stackLines cmdLines
 assign-c x h (has-e s q) = record { lines = ap (λ (r : List Line). l-assign x ∷ r) h; sources = on-cmd (s-assign s) q }
 
 -- two operands, expressions, make an expression
-two-e : {ls : List Line} {st : Stack} {l : Line} {a b : Expr} {u w : Stack} (f : Expr → Expr → Expr) → ls ≡ stackLines st → HasE st a u → HasE u b w
+two-e : {ls : List Line} {st : Stack} {l : Line} {a b : Expr} {u w : Stack} (f : Expr → Expr → Expr)
+    → ls ≡ stackLines st → HasE st a u → HasE u b w
     → ((a b : Expr) → SourceE a → SourceE b → SourceE (f a b))
     → ((a b : Expr) (rest : List Line) → l ∷ exprLines a (exprLines b rest) ≡ exprLines (f a b) rest)
     → StackHolds (l ∷ ls) (ex (f a b) ∷ w)
 unfolding stackLines
-two-e {l = l} f h (has-e s p) (has-e r q) g k = record { lines = ap (λ (r : List Line). l ∷ r) h ∙ k _ _ _; sources = on-expr (g _ _ s r) q }
+two-e {l = l} f h (has-e s p) (has-e r q) g k =
+    record { lines = ap (λ (r : List Line). l ∷ r) h ∙ k _ _ _; sources = on-expr (g _ _ s r) q }
 
 seq-c : {ls : List Line} {st : Stack} {a b : Cmd} {u w : Stack} → ls ≡ stackLines st → HasC st a u → HasC u b w
     → StackHolds (l-seq ∷ ls) (cm (seq a b) ∷ w)
 unfolding stackLines cmdLines
 seq-c h (has-c s p) (has-c r q) = record { lines = ap (λ (r : List Line). l-seq ∷ r) h; sources = on-cmd (s-seq s r) q }
 
-while-c : {ls : List Line} {st : Stack} {e : Expr} {c : Cmd} {u w : Stack} → ls ≡ stackLines st → HasE st e u → HasC u c w
+while-c : {ls : List Line} {st : Stack} {e : Expr} {c : Cmd} {u w : Stack} → ls ≡ stackLines st
+    → HasE st e u → HasC u c w
     → StackHolds (l-while ∷ ls) (cm (while e c) ∷ w)
 unfolding stackLines cmdLines
-while-c h (has-e s p) (has-c r q) = record { lines = ap (λ (r : List Line). l-while ∷ r) h; sources = on-cmd (s-while s r) q }
+while-c h (has-e s p) (has-c r q) =
+    record { lines = ap (λ (r : List Line). l-while ∷ r) h; sources = on-cmd (s-while s r) q }
 
-case-c : {ls : List Line} {st : Stack} {e : Expr} {a b : Cmd} {u v w : Stack} → ls ≡ stackLines st → HasE st e u → HasC u a v → HasC v b w
+case-c : {ls : List Line} {st : Stack} {e : Expr} {a b : Cmd} {u v w : Stack} → ls ≡ stackLines st → HasE st e u
+    → HasC u a v → HasC v b w
     → StackHolds (l-case ∷ ls) (cm (case e a b) ∷ w)
 unfolding stackLines cmdLines
-case-c h (has-e s p) (has-c r o) (has-c t q) = record { lines = ap (λ (r : List Line). l-case ∷ r) h; sources = on-cmd (s-case s r t) q }
+case-c h (has-e s p) (has-c r o) (has-c t q) =
+    record { lines = ap (λ (r : List Line). l-case ∷ r) h; sources = on-cmd (s-case s r t) q }
 
-push-sound : (l : Line) {st r : Stack} {ls : List Line} → ls ≡ stackLines st → Sources st → onStack l st ≡ some r → StackHolds (l ∷ ls) r
+push-sound : (l : Line) {st r : Stack} {ls : List Line} → ls ≡ stackLines st → Sources st → onStack l st ≡ some r
+    → StackHolds (l ∷ ls) r
 unfolding onStack exprLines cmdLines integerOf
-push-sound l-skip h q e = unfold stackLines in onto e (record { lines = ap (λ (r : List Line). l-skip ∷ r) h; sources = on-cmd s-skip q })
-push-sound l-seq {r = r} h q e = popC-split r q _ e (λ a u x f. popC-split r (under-c x) _ f (λ b w y g. onto g (seq-c h x y)))
+push-sound l-skip h q e = unfold stackLines in
+    onto e (record { lines = ap (λ (r : List Line). l-skip ∷ r) h; sources = on-cmd s-skip q })
+push-sound l-seq {r = r} h q e =
+    popC-split r q _ e (λ a u x f. popC-split r (under-c x) _ f (λ b w y g. onto g (seq-c h x y)))
 push-sound (l-assign x) {r = r} h q e = popE-split r q _ e (λ a u y f. onto f (assign-c x h y))
-push-sound l-while {r = r} h q e = popE-split r q _ e (λ a u x f. popC-split r (under-e x) _ f (λ b w y g. onto g (while-c h x y)))
+push-sound l-while {r = r} h q e =
+    popE-split r q _ e (λ a u x f. popC-split r (under-e x) _ f (λ b w y g. onto g (while-c h x y)))
 push-sound l-case {r = r} h q e =
-    popE-split r q _ e (λ a u x f. popC-split r (under-e x) _ f (λ b v y g. popC-split r (under-c y) _ g (λ d w z i. onto i (case-c h x y z))))
+    popE-split r q _ e (λ a u x f.
+    popC-split r (under-e x) _ f (λ b v y g. popC-split r (under-c y) _ g (λ d w z i. onto i (case-c h x y z))))
 push-sound (l-int n) h q e = onto e (leaf-e h s-int q (λ rest. refl))
 push-sound (l-loc x) h q e = onto e (leaf-e h s-loc q (λ rest. refl))
 push-sound (l-var d) h q e = onto e (leaf-e h s-var q (λ rest. refl))
 push-sound l-plus {r = r} h q e =
-    popE-split r q _ e (λ a u x f. popE-split r (under-e x) _ f (λ b w y g. onto g (two-e plus h x y (λ c d. s-plus) (λ c d rest. refl))))
-push-sound (l-left t) {r = r} h q e = popE-split r q _ e (λ a u x f. onto f (one-e (left t) h x (λ b. s-left) (λ b rest. refl)))
-push-sound (l-right t) {r = r} h q e = popE-split r q _ e (λ a u x f. onto f (one-e (right t) h x (λ b. s-right) (λ b rest. refl)))
-push-sound (l-pack l) {r = r} h q e = popE-split r q _ e (λ a u x f. onto f (one-e (pack l) h x (λ b. s-pack) (λ b rest. refl)))
-push-sound (l-unpack t l) {r = r} h q e = popE-split r q _ e (λ a u x f. onto f (one-e (unpack t l) h x (λ b. s-unpack) (λ b rest. refl)))
+    popE-split r q _ e
+    (λ a u x f. popE-split r (under-e x) _ f (λ b w y g. onto g (two-e plus h x y (λ c d. s-plus) (λ c d rest. refl))))
+push-sound (l-left t) {r = r} h q e =
+    popE-split r q _ e (λ a u x f. onto f (one-e (left t) h x (λ b. s-left) (λ b rest. refl)))
+push-sound (l-right t) {r = r} h q e =
+    popE-split r q _ e (λ a u x f. onto f (one-e (right t) h x (λ b. s-right) (λ b rest. refl)))
+push-sound (l-pack l) {r = r} h q e =
+    popE-split r q _ e (λ a u x f. onto f (one-e (pack l) h x (λ b. s-pack) (λ b rest. refl)))
+push-sound (l-unpack t l) {r = r} h q e =
+    popE-split r q _ e (λ a u x f. onto f (one-e (unpack t l) h x (λ b. s-unpack) (λ b rest. refl)))
 push-sound (l-pair t) {r = r} h q e =
-    popE-split r q _ e (λ a u x f. popE-split r (under-e x) _ f (λ b w y g. onto g (two-e (pairing t) h x y (λ c d. s-pair) (λ c d rest. refl))))
-push-sound (l-proj p) {r = r} h q e = popE-split r q _ e (λ a u x f. onto f (one-e (proj p) h x (λ b. s-proj) (λ b rest. refl)))
+    popE-split r q _ e (λ a u x f.
+    popE-split r (under-e x) _ f (λ b w y g. onto g (two-e (pairing t) h x y (λ c d. s-pair) (λ c d rest. refl))))
+push-sound (l-proj p) {r = r} h q e =
+    popE-split r q _ e (λ a u x f. onto f (one-e (proj p) h x (λ b. s-proj) (λ b rest. refl)))
 
-pushOn-sound : (l : Line) (o : Option Stack) (ls : List Line) (r : Stack) → ((st : Stack) → o ≡ some st → StackHolds ls st)
+pushOn-sound : (l : Line) (o : Option Stack) (ls : List Line) (r : Stack)
+    → ((st : Stack) → o ≡ some st → StackHolds ls st)
     → pushOn l o ≡ some r → StackHolds (l ∷ ls) r
 unfolding pushOn
 pushOn-sound l none ls r k h = none-some h
@@ -198,4 +231,5 @@ on-top (on-cmd s q) = s
 
 pub parse-sound : (ls : List Line) (c : Cmd) → parse ls ≡ some c → (ls ≡ cmdLines c []) × Source c
 unfolding parse stackLines
-parse-sound ls c h = let x = stack-sound ls (cm c ∷ []) (single-sound (stackOf ls) c h) in (x .lines, on-top (x .sources))
+parse-sound ls c h =
+    let x = stack-sound ls (cm c ∷ []) (single-sound (stackOf ls) c h) in (x .lines, on-top (x .sources))

@@ -30,7 +30,8 @@ use Rattle.script_text.specs.Internal.Scan.{ScansCmd, isSome, Balanced, 
 use Rattle.script_text.proofs.OpeningLaws.{Low}
 use Rattle.script_text.proofs.CodeLaws.{code-empty, code-length}
 use Rattle.script_text.proofs.ScanLaws.{false-true}
-use Rattle.script_text.proofs.ScriptLaws.{command-sound, command-lines, script-split, written-sound, script-sound}
+use Rattle.script_text.proofs.ScriptLaws.{command-sound, command-lines, script-split, written-sound}
+use Rattle.script_text.proofs.ScriptLaws.{script-sound}
 use Rattle.logic.proofs.BooleanLaws.{bool-ext, cases}
 
 -- ---- whether there is something
@@ -51,7 +52,8 @@ is-some o c e = rw e
 
 module _ (k : Counts) (ws : List ℕ) (r : Scanned) (s : ScansCmd k 0 ws 0 r) where
   -- the lines are those of a command exactly if one was found and it ends where the code does
-  whole-complete : (ls : List Line) → ws ≡ code ls → isSome (commandOf k ls) ≡ true → (r .ok ≡ true) × (length ws ≤ r .next)
+  whole-complete : (ls : List Line) → ws ≡ code ls → isSome (commandOf k ls) ≡ true
+      → (r .ok ≡ true) × (length ws ≤ r .next)
   unfolding code
   whole-complete ls h t =
       let o = some-of (commandOf k ls) t in
@@ -92,24 +94,28 @@ unfolding padded
 coded-code ls = take-at (code ls) _ (length ls * 3) (code-length ls)
 
 -- the lines of a script's command are all of its code
-coded-script : (k : Counts) (o : Option Written) → isSome (scriptRead k o) ≡ true → codedText o ≡ decodedScript (scriptRead k o)
+coded-script : (k : Counts) (o : Option Written) → isSome (scriptRead k o) ≡ true
+    → codedText o ≡ decodedScript (scriptRead k o)
 unfolding codedText decodedScript isSome
 coded-script k none x = unfold scriptRead in false-true false refl x
 coded-script k (some w) x = let y = some-of (scriptRead k (some w)) x in go (y .0) (y .1)
   where
     go : (p : Script) → scriptRead k (some w) ≡ some p → codedText (some w) ≡ decodedScript (scriptRead k (some w))
     go p y =
-        script-split k (some w) p (λ ls e c n. ap codedText e ∙ ap (coded (startNo (p .opening .start))) (command-sound k ls (p .command) c .0)) y
+        script-split k (some w) p
+        (λ ls e c n. ap codedText e ∙ ap (coded (startNo (p .opening .start))) (command-sound k ls (p .command) c .0)) y
         ∙ ap decodedScript (sym y)
 
-pub script-coded : (k : Counts) (t : List ℕ) (p : Script) → scriptOf k t ≡ some p → codedText (writtenOf t) ≡ decodedScript (scriptOf k t)
+pub script-coded : (k : Counts) (t : List ℕ) (p : Script) → scriptOf k t ≡ some p
+    → codedText (writtenOf t) ≡ decodedScript (scriptOf k t)
 unfolding scriptOf
 script-coded k t p e = coded-script k (writtenOf t) (is-some _ p e)
 
 -- ---- the answer
 
 -- what is tested of a start that is read is whether it is there
-start-tested : (k : Counts) (x : Option ℕ) → Low x → either (eqb (startNo x) maxLabels) (ltb (startNo x) (k .labels)) ≡ namedStart k x
+start-tested : (k : Counts) (x : Option ℕ) → Low x
+    → either (eqb (startNo x) maxLabels) (ltb (startNo x) (k .labels)) ≡ namedStart k x
 unfolding startNo namedStart either
 start-tested k none h = refl
 start-tested k (some l) h = rw (ne-eqb l maxLabels (λ e. omega arith))
@@ -132,7 +138,8 @@ module _ (k : Counts) (t : List ℕ) (s : Decoded) (e : s ≡ codedText (written
       go none y x = unfold code commandOf namedOnly parse onlyCommand stackOf isSome both in rw (w [] (q ∙ rw x)) refl
       go (some r) y x =
           let m : d ≡ namedOpening k (r .opening) =
-          i ∙ ap (λ (z : Decoded). either (eqb (z .start) maxLabels) (ltb (z .start) (k .labels))) x ∙ start-tested k (r .opening .start) (written-sound t r y .low) in
+          i ∙ ap (λ (z : Decoded). either (eqb (z .start) maxLabels) (ltb (z .start) (k .labels))) x
+          ∙ start-tested k (r .opening .start) (written-sound t r y .low) in
           rw (w (r .lines) (q ∙ rw x (coded-code (r .lines))), m) (some-with k (r .opening) (commandOf k (r .lines)))
 
   pub read-yes : both b d ≡ true → s ≡ decodedScript (scriptOf k t)
@@ -148,7 +155,8 @@ module _ (k : Counts) (t : List ℕ) (s : Decoded) (e : s ≡ codedText (written
 -- the answer r is a refusal, or the code of the text's script and its start
 pub read-split : {P : Type 0} (k : Counts) (t : List ℕ) (r : Decoded) → r ≡ decodedScript (scriptOf k t)
     → (scriptOf k t ≡ none → r .answer ≡ answer.Refused → P)
-    → ((p : Script) → scriptOf k t ≡ some p → Source (p .command) → named k 0 (p .command) ≡ true → r .answer ≡ answer.Read
+    → ((p : Script) → scriptOf k t ≡ some p → Source (p .command) → named k 0 (p .command) ≡ true
+    → r .answer ≡ answer.Read
     → take (r .count * 3) (r .code) ≡ code (cmdLines (p .command) []) → r .start ≡ startNo (p .opening .start) → P)
     → P
 unfolding decodedScript coded noCode
@@ -162,7 +170,8 @@ read-split {P} k t r e f g = go (scriptOf k t) refl
         g p x (s .source) (s .named-there) (rw y refl) (rw y (coded-code (cmdLines (p .command) []))) (rw y refl)
 
 -- the lent words stay as many
-pub read-whole : (k : Counts) (t : List ℕ) (r : Decoded) → r ≡ decodedScript (scriptOf k t) → length (r .code) ≡ codeWords
+pub read-whole : (k : Counts) (t : List ℕ) (r : Decoded) → r ≡ decodedScript (scriptOf k t)
+    → length (r .code) ≡ codeWords
 unfolding decodedScript coded noCode
 read-whole k t r e = ap (λ (d : Decoded). length (d .code)) e ∙ go (scriptOf k t) refl
   where
@@ -179,4 +188,5 @@ decoded-whole t r e = ap (λ (d : Decoded). length (d .code)) e ∙ go (writtenO
   where
     go : (o : Option Written) → writtenOf t ≡ o → length (codedText o .code) ≡ codeWords
     go none x = length-replicate {A = ℕ} codeWords 0
-    go (some w) x = length-padded codeWords (code (w .lines)) (omega (arith, code-length (w .lines), written-sound t w x .few))
+    go (some w) x =
+        length-padded codeWords (code (w .lines)) (omega (arith, code-length (w .lines), written-sound t w x .few))

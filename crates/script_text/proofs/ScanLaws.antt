@@ -1,4 +1,5 @@
--- An expression or a command is found at a row exactly if its lines stand there: a law for each number of operands. Assumes nothing.
+-- An expression or a command is found at a row exactly if its lines stand there: a law for each number of operands.
+-- Assumes nothing.
 use mathlib.Core.Path.{_≡_, refl, sym, ap, _∙_}
 use mathlib.Core.Logic.{_⊎_, inl, inr}
 use mathlib.Core.Bool.{Bool, true, false}
@@ -27,7 +28,8 @@ pub false-true : {A : Type 0} (b : Bool) → b ≡ false → b ≡ true → A
 false-true b f t = absurd (let z : _≡_ {A = ℕ} 0 1 = cc in omega arith)
 
 -- two tests are one
-pub both-tests : (t l : Bool) (a : Scanned) {b r : Scanned} → b ≡ record { ok = both l (a .ok); next = a .next } → r ≡ record { ok = both t (b .ok); next = b .next }
+pub both-tests : (t l : Bool) (a : Scanned) {b r : Scanned} → b ≡ record { ok = both l (a .ok); next = a .next }
+    → r ≡ record { ok = both t (b .ok); next = b .next }
     → r ≡ record { ok = both (both t l) (a .ok); next = a .next }
 both-tests t l a g h = h ∙ rw (g, both-assoc t l (a .ok))
 
@@ -36,30 +38,37 @@ lines-then : (s : Sort) (x : Tree s) {ls mid end : List Line} → ls ≡ linesOf
 lines-then s x p q = p ∙ ap (linesOf s x) q
 
 -- a tree that is found, with a test beside it
-tested : {s : Sort} {names : Tree s → Bool} {ws : List ℕ} {at : ℕ} {test want : Bool} {a : Scanned} → test ≡ want → Scans s names ws at a
+tested : {s : Sort} {names : Tree s → Bool} {ws : List ℕ} {at : ℕ} {test want : Bool} {a : Scanned} → test ≡ want
+    → Scans s names ws at a
     → Scans s (λ x. both want (names x)) ws at (record { ok = both test (a .ok); next = a .next })
 tested p sa =
     rw (← p) (record {
       forward = sa .forward;
-      sound = λ ls h t. let g = sa .sound ls h (both-right _ _ t) in (g .0, g .1, g .2, both-true (both-left _ _ t) (g .3), g .4, g .5);
-      complete = λ x rest u m h. let g = sa .complete x rest u (both-right _ _ m) h in (both-true (both-left _ _ m) (g .0), g .1);
+      sound = λ ls h t. let g = sa .sound ls h (both-right _ _ t) in
+          (g .0, g .1, g .2, both-true (both-left _ _ t) (g .3), g .4, g .5);
+      complete = λ x rest u m h. let g = sa .complete x rest u (both-right _ _ m) h in
+          (both-true (both-left _ _ m) (g .0), g .1);
     })
 
 -- ---- what is found at a row, from its operands
 
 module _ {s : Sort} {names : Tree s → Bool} {ws : List ℕ} {at : ℕ} {row : Row} (q : row ≡ rowAt ws at) where
   -- what the answer r must say of a line of a kind
-  by-node : {ss : List Sort} {k : ℕ} {f : Makes ss (Tree s)} (r : Scanned) → Node s ss k (row .a) (row .b) f → row .kind ≡ k → at ≤ r .next
+  by-node : {ss : List Sort} {k : ℕ} {f : Makes ss (Tree s)} (r : Scanned) → Node s ss k (row .a) (row .b) f
+      → row .kind ≡ k → at ≤ r .next
       → ((l : Line) (ls : List Line) → Made s ss f (λ rest. l ∷ rest) → drop (at + 3) ws ≡ code ls → r .ok ≡ true
-      → (x : Tree s) × (rest : List Line) × SourceOf s x × (names x ≡ true) × (l ∷ ls ≡ linesOf s x rest) × (drop (r .next) ws ≡ code rest))
-      → ((rest : List Line) → OfOperands ws at rest s ss f (λ more. more) (λ x. names x ≡ true → (r .ok ≡ true) × (drop (r .next) ws ≡ code rest)))
+      → (x : Tree s) × (rest : List Line) × SourceOf s x × (names x ≡ true) × (l ∷ ls ≡ linesOf s x rest)
+      × (drop (r .next) ws ≡ code rest))
+      → ((rest : List Line) → OfOperands ws at rest s ss f (λ more. more)
+      (λ x. names x ≡ true → (r .ok ≡ true) × (drop (r .next) ws ≡ code rest)))
       → Scans s names ws at r
   by-node r n k g sound complete =
       record {
         forward = g;
         sound =
             elim [
-              | [] ↦ λ h t. let z : row .kind ≡ 0 = ap (λ (x : Row). x .kind) q ∙ line-nowhere ws at h in absurd (no-node (rw (sym k ∙ z) at n))
+              | [] ↦ λ h t. let z : row .kind ≡ 0 = ap (λ (x : Row). x .kind) q ∙ line-nowhere ws at h in
+                  absurd (no-node (rw (sym k ∙ z) at n))
               | l ∷ ls ↦ λ h t.
                   let w = line-there ws at l ls h in
                   let e : rowOf l ≡ row = sym (w .0) ∙ sym q in
@@ -77,21 +86,30 @@ module _ {s : Sort} {names : Tree s → Bool} {ws : List ℕ} {at : ℕ} {row : 
       (λ rest h m. (e ∙ m, h))
 
   -- one operand, and a test of the line's own numbers
-  pub scan-one : {t : Sort} {namesT : Tree t → Bool} {k : ℕ} {f : Tree t → Tree s} {test want : Bool} {a r : Scanned} → Node s (t ∷ []) k (row .a) (row .b) f
-      → row .kind ≡ k → test ≡ want → Scans t namesT ws (at + 3) a → r ≡ record { ok = both test (a .ok); next = a .next }
+  pub scan-one : {t : Sort} {namesT : Tree t → Bool} {k : ℕ} {f : Tree t → Tree s} {test want : Bool} {a r : Scanned}
+      → Node s (t ∷ []) k (row .a) (row .b) f
+      → row .kind ≡ k → test ≡ want → Scans t namesT ws (at + 3) a
+      → r ≡ record { ok = both test (a .ok); next = a .next }
       → ((x : Tree t) → names (f x) ≡ both want (namesT x)) → Scans s names ws at r
   scan-one {namesT = namesT} {f = f} {test} {a = a} n k p sa e i =
       rw e (by-node _ n k (omega (arith, sa .forward))
       (λ l ls m h t.
       let g = sa .sound ls h (both-right _ _ t) in
-      let z = m (g .0) (g .2) in
-      (f (g .0), g .1, z .0, i _ ∙ both-true (sym p ∙ both-left _ _ t) (g .3), ap (λ (v : List Line). l ∷ v) (g .4) ∙ z .1 (g .1), g .5))
+      let z = m (g .0) (g .2) in (
+        f (g .0),
+        g .1,
+        z .0,
+        i _ ∙ both-true (sym p ∙ both-left _ _ t) (g .3),
+        ap (λ (v : List Line). l ∷ v) (g .4) ∙ z .1 (g .1),
+        g .5,
+      ))
       (λ rest x u h m.
       let m′ : both test (namesT x) ≡ true = rw p (sym (i x) ∙ m) in
       let g = sa .complete x rest u (both-right _ _ m′) h in
       (both-true (both-left _ _ m′) (g .0), g .1)))
 
-  pub scan-two : {t v : Sort} {namesT : Tree t → Bool} {namesV : Tree v → Bool} {k : ℕ} {f : Tree t → Tree v → Tree s} {a b r : Scanned}
+  pub scan-two : {t v : Sort} {namesT : Tree t → Bool} {namesV : Tree v → Bool} {k : ℕ} {f : Tree t → Tree v → Tree s}
+      {a b r : Scanned}
       → Node s (t ∷ v ∷ []) k (row .a) (row .b) f → row .kind ≡ k → Scans t namesT ws (at + 3) a
       → Scans v namesV ws (a .next) b → r ≡ record { ok = both (a .ok) (b .ok); next = b .next }
       → ((x : Tree t) (y : Tree v) → names (f x y) ≡ both (namesT x) (namesV y)) → Scans s names ws at r
@@ -115,11 +133,15 @@ module _ {s : Sort} {names : Tree s → Bool} {ws : List ℕ} {at : ℕ} {row : 
       (both-true (g .0) (g′ .0), g′ .1)))
 
   -- two operands, and a test of the line's own numbers
-  pub scan-two-tested : {t v : Sort} {namesT : Tree t → Bool} {namesV : Tree v → Bool} {k : ℕ} {f : Tree t → Tree v → Tree s} {test want : Bool}
-      {a b c r : Scanned} → Node s (t ∷ v ∷ []) k (row .a) (row .b) f → row .kind ≡ k → test ≡ want → Scans t namesT ws (at + 3) a
-      → Scans v namesV ws (a .next) b → c ≡ record { ok = both (a .ok) (b .ok); next = b .next } → r ≡ record { ok = both test (c .ok); next = c .next }
+  pub scan-two-tested : {t v : Sort} {namesT : Tree t → Bool} {namesV : Tree v → Bool} {k : ℕ}
+      {f : Tree t → Tree v → Tree s} {test want : Bool}
+      {a b c r : Scanned} → Node s (t ∷ v ∷ []) k (row .a) (row .b) f → row .kind ≡ k → test ≡ want
+      → Scans t namesT ws (at + 3) a
+      → Scans v namesV ws (a .next) b → c ≡ record { ok = both (a .ok) (b .ok); next = b .next }
+      → r ≡ record { ok = both test (c .ok); next = c .next }
       → ((x : Tree t) (y : Tree v) → names (f x y) ≡ both want (both (namesT x) (namesV y))) → Scans s names ws at r
-  scan-two-tested n k p sa sb d e i = scan-two n k (tested p sa) sb (both-tests _ _ _ d e) (λ x y. i x y ∙ both-assoc _ _ _)
+  scan-two-tested n k p sa sb d e i =
+      scan-two n k (tested p sa) sb (both-tests _ _ _ d e) (λ x y. i x y ∙ both-assoc _ _ _)
 
   -- nothing is found where the row's kind is another
   pub scan-none : (KindOf s (row .kind) → ⊥) → Scans s names ws at (record { ok = false; next = at })
@@ -189,8 +211,10 @@ module _ (k : Counts) (d : ℕ) {ws : List ℕ} {at : ℕ} {row : Row} (q : row 
       by-node q _ n-case e (omega arith) (λ l ls m g t. false-true false refl t)
       (λ rest x sx y sy z sz g m. false-true (ltb d maxDepth) (le-ltb _ _ h) (both-left _ _ (both-right _ _ m)))
 
-  pub scan-case : {a b c t r : Scanned} → d < maxDepth → ScansExpr k d ws (at + 3) a → ScansCmd k (d + 1) ws (a .next) b → ScansCmd k (d + 1) ws (b .next) c
-      → t ≡ record { ok = both (b .ok) (c .ok); next = c .next } → r ≡ record { ok = both (a .ok) (t .ok); next = t .next } → ScansCmd k d ws at r
+  pub scan-case : {a b c t r : Scanned} → d < maxDepth → ScansExpr k d ws (at + 3) a → ScansCmd k (d + 1) ws (a .next) b
+      → ScansCmd k (d + 1) ws (b .next) c
+      → t ≡ record { ok = both (b .ok) (c .ok); next = c .next }
+      → r ≡ record { ok = both (a .ok) (t .ok); next = t .next } → ScansCmd k d ws at r
   unfolding named
   scan-case {a} {b} {c} h sa sb sc p u =
       rw (u, p) (by-node q _ n-case e (omega (arith, sa .forward, sb .forward, sc .forward))
@@ -204,7 +228,8 @@ module _ (k : Counts) (d : ℕ) {ws : List ℕ} {at : ℕ} {row : Row} (q : row 
         z .1,
         w .0,
         both-true (x .3) (both-true (lt-ltb _ _ h) (both-true (y .3) (z .3))),
-        ap (λ (v : List Line). l ∷ v) (lines-then expression (x .0) (x .4) (lines-then command (y .0) (y .4) (z .4))) ∙ w .1 (z .1),
+        ap (λ (v : List Line). l ∷ v) (lines-then expression (x .0) (x .4) (lines-then command (y .0) (y .4) (z .4)))
+            ∙ w .1 (z .1),
         z .5,
       ))
       (λ rest x sx y sy z sz g m.

@@ -17,7 +17,10 @@ use Rattle.logic.proofs.OptionLaws.{none-some, some-path}
 use Rattle.text.proofs.Lines.{lines-exact}
 use Rattle.language.specs.Syntax.{Expr, Cmd, Opening, Script}
 use Rattle.logic.proofs.BooleanLaws.{both-left, both-right, cond-split}
-use Rattle.script.specs.Lines.{Line, l-skip, l-seq, l-assign, l-while, l-case, l-int, l-loc, l-var, l-plus, l-left, l-right, l-pack, l-unpack, l-pair, l-proj, SourceE, s-int, s-loc, s-var, s-plus, s-left, s-right, s-pack, s-unpack, s-pair, s-proj, Source, s-skip, s-seq, s-assign, s-while, s-case, integerOf, exprLines, cmdLines, openingLines}
+use Rattle.script.specs.Lines.{Line, l-skip, l-seq, l-assign, l-while, l-case, l-int, l-loc, l-var, l-plus, l-left}
+use Rattle.script.specs.Lines.{l-right, l-pack, l-unpack, l-pair, l-proj, SourceE, s-int, s-loc, s-var, s-plus, s-left}
+use Rattle.script.specs.Lines.{s-right, s-pack, s-unpack, s-pair, s-proj, Source, s-skip, s-seq, s-assign, s-while}
+use Rattle.script.specs.Lines.{s-case, integerOf, exprLines, cmdLines, openingLines}
 use Rattle.script.specs.Internal.Code.{rowOf}
 use Rattle.script.specs.Names.{Counts, maxDepth, namedE, named, namedStart, namedOpening, maxLines}
 use Rattle.sheet.specs.Sheet.{Sheet, labelCount, locationCount, formed, maxLabels}
@@ -47,21 +50,30 @@ small : (x n : ℕ) → ltb x n ≡ true → n ≤ most + 1 → x ≤ most
 small x n h l = omega (arith, ltb-true x n h)
 
 module _ (k : Counts) (narrow : Narrow k) where
-  fit-expr : {e : Expr} {rest : List Line} (d : ℕ) → SourceE e → d ≤ maxDepth → namedE k d e ≡ true → AllFit rest → AllFit (exprLines e rest)
+  fit-expr : {e : Expr} {rest : List Line} (d : ℕ) → SourceE e → d ≤ maxDepth → namedE k d e ≡ true → AllFit rest
+      → AllFit (exprLines e rest)
   unfolding exprLines namedE integerOf rowOf
   fit-expr d (s-int {n = n}) h m r = and-then {l = l-int n} (small n (2 ^ 32) m (omega arith), omega arith) r
-  fit-expr d (s-loc {x = n}) h m r = and-then {l = l-loc n} (small n (k .locations) m (omega (arith, narrow .locations)), omega arith) r
+  fit-expr d (s-loc {x = n}) h m r =
+      and-then {l = l-loc n} (small n (k .locations) m (omega (arith, narrow .locations)), omega arith) r
   fit-expr d (s-var {d = n}) h m r = and-then {l = l-var n} (small n d m (omega arith), omega arith) r
-  fit-expr d (s-plus s q) h n r = and-then {l = l-plus} (omega arith, omega arith) (fit-expr d s h (both-left _ _ n) (fit-expr d q h (both-right _ _ n) r))
-  fit-expr d (s-left {t = x} s) h n r = and-then {l = l-left x} (small x (k .types) (both-left _ _ n) (omega (arith, narrow .types)), omega arith)
+  fit-expr d (s-plus s q) h n r = and-then {l = l-plus} (omega arith, omega arith)
+      (fit-expr d s h (both-left _ _ n) (fit-expr d q h (both-right _ _ n) r))
+  fit-expr d (s-left {t = x} s) h n r =
+      and-then {l = l-left x} (small x (k .types) (both-left _ _ n) (omega (arith, narrow .types)), omega arith)
       (fit-expr d s h (both-right _ _ n) r)
-  fit-expr d (s-right {t = x} s) h n r = and-then {l = l-right x} (small x (k .types) (both-left _ _ n) (omega (arith, narrow .types)), omega arith)
+  fit-expr d (s-right {t = x} s) h n r =
+      and-then {l = l-right x} (small x (k .types) (both-left _ _ n) (omega (arith, narrow .types)), omega arith)
       (fit-expr d s h (both-right _ _ n) r)
-  fit-expr d (s-pack {l = x} s) h n r = and-then {l = l-pack x} (small x (k .labels) (both-left _ _ n) (omega (arith, narrow .labels)), omega arith)
+  fit-expr d (s-pack {l = x} s) h n r =
+      and-then {l = l-pack x} (small x (k .labels) (both-left _ _ n) (omega (arith, narrow .labels)), omega arith)
       (fit-expr d s h (both-right _ _ n) r)
   fit-expr d (s-unpack {t = x} {l = y} s) h n r =
       let t = both-left _ _ n in
-      and-then {l = l-unpack x y} (small x (k .types) (both-left _ _ t) (omega (arith, narrow .types)), small y (k .labels) (both-right _ _ t) (omega (arith, narrow .labels)))
+      and-then {l = l-unpack x y} (
+        small x (k .types) (both-left _ _ t) (omega (arith, narrow .types)),
+        small y (k .labels) (both-right _ _ t) (omega (arith, narrow .labels)),
+      )
       (fit-expr d s h (both-right _ _ n) r)
   fit-expr d (s-pair {t = x} s q) h n r =
       let m = both-right _ _ n in
@@ -69,27 +81,35 @@ module _ (k : Counts) (narrow : Narrow k) where
       (fit-expr d s h (both-left _ _ m) (fit-expr d q h (both-right _ _ m) r))
   fit-expr d (s-proj {p = p} s) h n r = and-then {l = l-proj p} (omega arith, omega arith) (fit-expr d s h n r)
 
-  fit-cmd : {c : Cmd} {rest : List Line} (d : ℕ) → Source c → d ≤ maxDepth → named k d c ≡ true → AllFit rest → AllFit (cmdLines c rest)
+  fit-cmd : {c : Cmd} {rest : List Line} (d : ℕ) → Source c → d ≤ maxDepth → named k d c ≡ true → AllFit rest
+      → AllFit (cmdLines c rest)
   unfolding cmdLines named rowOf
   fit-cmd d s-skip h n r = and-then {l = l-skip} (omega arith, omega arith) r
-  fit-cmd d (s-seq s q) h n r = and-then {l = l-seq} (omega arith, omega arith) (fit-cmd d s h (both-left _ _ n) (fit-cmd d q h (both-right _ _ n) r))
+  fit-cmd d (s-seq s q) h n r = and-then {l = l-seq} (omega arith, omega arith)
+      (fit-cmd d s h (both-left _ _ n) (fit-cmd d q h (both-right _ _ n) r))
   fit-cmd d (s-assign {x = x} s) h n r =
-      and-then {l = l-assign x} (small x (k .locations) (both-left _ _ n) (omega (arith, narrow .locations)), omega arith) (fit-expr d s h (both-right _ _ n) r)
-  fit-cmd d (s-while s q) h n r = and-then {l = l-while} (omega arith, omega arith) (fit-expr d s h (both-left _ _ n) (fit-cmd d q h (both-right _ _ n) r))
+      and-then {l = l-assign x}
+      (small x (k .locations) (both-left _ _ n) (omega (arith, narrow .locations)), omega arith)
+      (fit-expr d s h (both-right _ _ n) r)
+  fit-cmd d (s-while s q) h n r = and-then {l = l-while} (omega arith, omega arith)
+      (fit-expr d s h (both-left _ _ n) (fit-cmd d q h (both-right _ _ n) r))
   fit-cmd d (s-case s q p) h n r =
       let m = both-right _ _ n in
       let deep : suc d ≤ maxDepth = ltb-true _ _ (both-left _ _ m) in
       let i = both-right _ _ m in
       and-then {l = l-case} (omega arith, omega arith)
-      (fit-expr d s h (both-left _ _ n) (fit-cmd (suc d) q deep (both-left _ _ i) (fit-cmd (suc d) p deep (both-right _ _ i) r)))
+      (fit-expr d s h (both-left _ _ n)
+      (fit-cmd (suc d) q deep (both-left _ _ i) (fit-cmd (suc d) p deep (both-right _ _ i) r)))
 
 -- ---- the command of lines
 
-pub command-sound : (k : Counts) (ls : List Line) (c : Cmd) → commandOf k ls ≡ some c → (ls ≡ cmdLines c []) × Source c × (named k 0 c ≡ true)
+pub command-sound : (k : Counts) (ls : List Line) (c : Cmd) → commandOf k ls ≡ some c
+    → (ls ≡ cmdLines c []) × Source c × (named k 0 c ≡ true)
 unfolding commandOf
 command-sound k ls c e = go (parse ls) refl e
   where
-    go : (o : Option Cmd) → parse ls ≡ o → namedOnly k o ≡ some c → (ls ≡ cmdLines c []) × Source c × (named k 0 c ≡ true)
+    go : (o : Option Cmd) → parse ls ≡ o → namedOnly k o ≡ some c
+        → (ls ≡ cmdLines c []) × Source c × (named k 0 c ≡ true)
     go none p h = unfold namedOnly in none-some h
     go (some d) p h =
         unfold namedOnly in
@@ -105,7 +125,8 @@ command-lines k c s n = rw (parse-lines s, n)
 
 -- a script that is read names only what is there
 pub script-split : {P : Type 0} (k : Counts) (w : Option Written) (p : Script)
-    → ((ls : List Line) → w ≡ some (record { opening = p .opening; lines = ls }) → commandOf k ls ≡ some (p .command) → namedOpening k (p .opening) ≡ true → P)
+    → ((ls : List Line) → w ≡ some (record { opening = p .opening; lines = ls }) → commandOf k ls ≡ some (p .command)
+    → namedOpening k (p .opening) ≡ true → P)
     → scriptRead k w ≡ some p → P
 unfolding scriptRead scriptWith
 script-split k none p g e = none-some e
@@ -130,7 +151,8 @@ pub record IsWritten (t : List ℕ) (w : Written) : Type 0 where
 
 pub written-sound : (t : List ℕ) (w : Written) → writtenOf t ≡ some w → IsWritten t w
 unfolding writtenOf fits linesAfter writtenWith
-written-sound t w e = cond-split (leb (length t) limit) _ _ _ (λ f x. after (openingOf t) refl (leb-true _ _ f) x) (λ f x. none-some x) e
+written-sound t w e =
+    cond-split (leb (length t) limit) _ _ _ (λ f x. after (openingOf t) refl (leb-true _ _ f) x) (λ f x. none-some x) e
   where
     lines : (o : Opening) (u : List ℕ) → openingOf t ≡ got o u → length t ≤ limit → (ls : Option (List Line))
         → linesUpTo lineOf (maxLines - openingLines o) u ≡ ls → writtenWith o ls ≡ some w → IsWritten t w
@@ -139,18 +161,28 @@ written-sound t w e = cond-split (leb (length t) limit) _ _ _ (λ f x. after (op
         let s = opening-sound t o u z in
         let r = lines-exact script-lines (maxLines - openingLines o) u ls .0 y in
         rw (← some-path h)
-        (record { printed = s .0 ∙ ap (openingBytes o) (r .0); few = omega (arith, r .2, opening-few o); short = l; low = s .1 })
+        (record {
+          printed = s .0 ∙ ap (openingBytes o) (r .0);
+          few = omega (arith, r .2, opening-few o);
+          short = l;
+          low = s .1;
+        })
 
     after : (r : Read Opening) → openingOf t ≡ r → length t ≤ limit → linesAfter r ≡ some w → IsWritten t w
     after bad z l h = none-some h
     after (got o u) z l h = lines o u z l (linesUpTo lineOf (maxLines - openingLines o) u) refl h
 
-written-print : (o : Opening) → Low (o .start) → (c : Cmd) → AllFit (cmdLines c []) → openingLines o + length (cmdLines c []) ≤ maxLines
+written-print : (o : Opening) → Low (o .start) → (c : Cmd) → AllFit (cmdLines c [])
+    → openingLines o + length (cmdLines c []) ≤ maxLines
     → length (openingBytes o (linesBytes (cmdLines c []))) ≤ limit
     → writtenOf (openingBytes o (linesBytes (cmdLines c []))) ≡ some (record { opening = o; lines = cmdLines c [] })
 unfolding writtenOf linesAfter writtenWith fits
 written-print o w c f h l =
-    rw (le-leb _ _ l, opening-print o w c, lines-exact script-lines (maxLines - openingLines o) _ (cmdLines c []) .1 (refl, f, omega arith))
+    rw (
+      le-leb _ _ l,
+      opening-print o w c,
+      lines-exact script-lines (maxLines - openingLines o) _ (cmdLines c []) .1 (refl, f, omega arith),
+    )
 
 -- what a text that is read is
 pub script-sound : (k : Counts) (t : List ℕ) (p : Script) → scriptOf k t ≡ some p → IsScript k t p
@@ -174,7 +206,8 @@ unfolding namedStart
 start-low k l none h = tt
 start-low k l (some x) h = omega (arith, ltb-true x (k .labels) h)
 
-pub script-print : (k : Counts) → Narrow k → k .labels ≤ maxLabels → (t : List ℕ) (p : Script) → IsScript k t p → scriptOf k t ≡ some p
+pub script-print : (k : Counts) → Narrow k → k .labels ≤ maxLabels → (t : List ℕ) (p : Script) → IsScript k t p
+    → scriptOf k t ≡ some p
 unfolding scriptOf scriptRead scriptWith
 script-print k w m t p s =
     let f = fit-cmd k w 0 (s .source) (omega arith) (s .named-there) none-left in
@@ -191,12 +224,21 @@ pub sheet-narrow : (s : Sheet) → formed s ≡ true → Narrow (countsOf s)
 unfolding labelCount locationCount
 sheet-narrow s h =
     let f = formed-facts s h in
-    record
-    { types = omega (arith, type-count s, f .few-compounds); labels = omega (arith, f .few-labels); locations = omega (arith, f .few-locations) }
+    record {
+      types = omega (arith, type-count s, f .few-compounds);
+      labels = omega (
+        arith,
+        f .few-labels,
+      );
+      locations = omega (arith, f .few-locations);
+    }
 
 pub script-exact : ScriptExact
 unfolding labelCount
-script-exact s h t p = (λ e. script-sound (countsOf s) t p e, λ x. script-print (countsOf s) (sheet-narrow s h) (formed-facts s h .few-labels) t p x)
+script-exact s h t p = (
+  λ e. script-sound (countsOf s) t p e,
+  λ x. script-print (countsOf s) (sheet-narrow s h) (formed-facts s h .few-labels) t p x,
+)
 
 -- the counts in a sheet's table are the sheet's
 pub counts-table : (s : Sheet) → countsIn (tableOf s) ≡ countsOf s

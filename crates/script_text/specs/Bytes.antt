@@ -6,7 +6,8 @@ use Prim.Native.Nat.{ℕ}
 use Rattle.text.specs.Field.{printNumberField, printLineEnd}
 use Rattle.text.specs.Lines.{printLines}
 use Rattle.language.specs.Syntax.{pick, Opening, Script}
-use Rattle.script.specs.Lines.{Line, cmdLines, l-skip, l-seq, l-assign, l-while, l-case, l-int, l-loc, l-var, l-plus, l-left, l-right, l-pack, l-unpack, l-pair, l-proj}
+use Rattle.script.specs.Lines.{Line, cmdLines, l-skip, l-seq, l-assign, l-while, l-case, l-int, l-loc, l-var, l-plus}
+use Rattle.script.specs.Lines.{l-left, l-right, l-pack, l-unpack, l-pair, l-proj}
 
 -- The bytes of a line, then rest. The kinds are s ; = w c i x v + l r k u p f g.
 unfoldable pub lineBytes : Line → List ℕ → List ℕ

@@ -11,7 +11,8 @@ use Rattle.text.specs.Number.{most}
 use Rattle.text.specs.Field.{numberField, lineEnd, lastNumber}
 use Rattle.text.specs.Lines.{linesUpTo}
 use Rattle.language.specs.Syntax.{first, second, Opening}
-use Rattle.script.specs.Lines.{Line, openingLines, l-skip, l-seq, l-assign, l-while, l-case, l-int, l-loc, l-var, l-plus, l-left, l-right, l-pack, l-unpack, l-pair, l-proj}
+use Rattle.script.specs.Lines.{Line, openingLines, l-skip, l-seq, l-assign, l-while, l-case, l-int, l-loc, l-var}
+use Rattle.script.specs.Lines.{l-plus, l-left, l-right, l-pack, l-unpack, l-pair, l-proj}
 use Rattle.script.specs.Names.{maxLines}
 use Rattle.sheet.specs.Sheet.{maxLabels}
 

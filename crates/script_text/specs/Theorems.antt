@@ -27,4 +27,5 @@ pub record IsScript (k : Counts) (t : List ℕ) (p : Script) : Type 0 where
 
 -- On a sheet of the form, the script is read exactly if the text is that of a script.
 abbrev pub ScriptExact : Type 0
-ScriptExact = (s : Sheet) → formed s ≡ true → (t : List ℕ) (p : Script) → (scriptOf (countsOf s) t ≡ some p) ↔ IsScript (countsOf s) t p
+ScriptExact = (s : Sheet) → formed s ≡ true → (t : List ℕ) (p : Script)
+    → (scriptOf (countsOf s) t ≡ some p) ↔ IsScript (countsOf s) t p

@@ -12,7 +12,8 @@ ghost use Rattle.sheet.specs.Sheet.{maxLabels};
 ghost use Rattle.sheet.specs.Internal.Tables.{typesIn, labelsIn, locationsIn};
 ghost use Rattle.script_text.specs.Reading.{bare, one, two, operandsOf, lineOf, openingOf, writtenOf};
 ghost use Rattle.script_text.specs.Script.{scriptOf};
-ghost use Rattle.script_text.specs.Internal.Decoded.{codeWords, countsIn, noCode, codedLines, codedText, decodedScript};
+ghost use Rattle.script_text.specs.Internal.Decoded.{codeWords, countsIn, noCode, codedLines, codedText};
+ghost use Rattle.script_text.specs.Internal.Decoded.{decodedScript};
 ghost use Rattle.script_text.specs.Internal.Placed.{placedLine, lineAt, placedOpening};
 ghost use Rattle.script_text.specs.Internal.Scan.{namesThere, ScansExpr, ScansCmd, Balanced, Whole};
 use reader::Reader;
@@ -190,7 +191,8 @@ fn read_line(s: &[u8], at: usize) -> Reached
 
 // The line that a reader has before it, and the reader after it.
 pub fn next_line<'a>(r: Reader<'a>) -> Next<'a>
-    ensures { λ n. ⌜ (record { read = n .read; at = n .rest .at } ≡ lineAt (now (r .entry .text)) (r .entry .at)) × (n .rest .text ≡ r .entry .text) ⌝ }
+    ensures { λ n. ⌜ (record { read = n .read; at = n .rest .at } ≡ lineAt (now (r .entry .text)) (r .entry .at))
+        × (n .rest .text ≡ r .entry .text) ⌝ }
 {
     let line = read_line(r.text, r.at);
     Next {
@@ -202,8 +204,8 @@ pub fn next_line<'a>(r: Reader<'a>) -> Next<'a>
     }
 }
 
-// The line that a reader at a byte of a text reads, and the byte that it then has reached; a plain slice, so that its callers hold
-// no reader.
+// The line that a reader at a byte of a text reads, and the byte that it then has reached; a plain slice, so that its
+// callers hold no reader.
 fn line_from(text: &[u8], at: usize) -> Reached
     ensures { λ r. ⌜ r ≡ lineAt (now (text .entry)) at ⌝ }
 {
@@ -216,7 +218,8 @@ fn line_from(text: &[u8], at: usize) -> Reached
 
 // The answer to a text that is refused, with zeros for its code.
 fn refused(code: &mut [u32; WORDS]) -> ReadScript
-    ensures { λ r. ⌜ record { answer = r .answer; count = r .count; start = r .start; code = now (code .exit) } ≡ noCode ⌝ }
+    ensures { λ r. ⌜ record { answer = r .answer; count = r .count; start = r .start; code = now (code .exit) }
+        ≡ noCode ⌝ }
 {
     *code = [0u32; WORDS];
     ReadScript {
@@ -252,7 +255,8 @@ fn decode_lines(
     code: &mut [u32; WORDS],
 ) -> ReadScript
     requires { ⌜ (most ≤ maxLines) × (now code ≡ replicate codeWords 0) ⌝ }
-    ensures { λ r. ⌜ record { answer = r .answer; count = r .count; start = r .start; code = now (code .exit) } ≡ codedLines start (linesUpTo lineOf most (drop from (now (s .entry)))) ⌝ }
+    ensures { λ r. ⌜ record { answer = r .answer; count = r .count; start = r .start; code = now (code .exit) }
+        ≡ codedLines start (linesUpTo lineOf most (drop from (now (s .entry)))) ⌝ }
 {
     let mut n: usize = 0;
     let mut at = from;
@@ -285,7 +289,8 @@ fn decode_lines(
 // Fills the lent words with the code of the lines after a text's opening, whatever they say: the code of a script, if
 // the text is that of one. The opening's line is one of the lines that a script may have.
 pub fn decode(s: &[u8], code: &mut [u32; WORDS]) -> ReadScript
-    ensures { λ r. ⌜ record { answer = r .answer; count = r .count; start = r .start; code = now (code .exit) } ≡ codedText (writtenOf (now (s .entry))) ⌝ }
+    ensures { λ r. ⌜ record { answer = r .answer; count = r .count; start = r .start; code = now (code .exit) }
+        ≡ codedText (writtenOf (now (s .entry))) ⌝ }
 {
     if !fits(s) {
         return refused(code);
@@ -452,8 +457,9 @@ pub fn rows(code: &[u32], count: usize) -> &[u32]
     &code[..end]
 }
 
-// Whether the operand counts of all lines sum to the number of lines minus one, and no sooner: one tree, with all its operands. Whatever
-// the kinds are, calls over the lines then nest no deeper than over a script's (crate script, Balance).
+// Whether the operand counts of all lines sum to the number of lines minus one, and no sooner: one tree, with all
+// its operands. Whatever the kinds are, calls over the lines then nest no deeper than over a script's (crate
+// script, Balance).
 fn balanced(code: &[u32]) -> bool
     ensures { λ r. ⌜ Balanced (now (code .entry)) r ⌝ }
 {
@@ -483,7 +489,8 @@ fn whole(code: &[u32], table: &[sheet::Word]) -> bool
 
 // Fills the lent words with the code of a script on a sheet's table; refused, and zeros, where 4 applies.
 pub fn read(text: &[u8], table: &[sheet::Word], code: &mut [u32; WORDS]) -> ReadScript
-    ensures { λ r. ⌜ record { answer = r .answer; count = r .count; start = r .start; code = now (code .exit) } ≡ decodedScript (scriptOf (countsIn (now (table .entry))) (now (text .entry))) ⌝ }
+    ensures { λ r. ⌜ record { answer = r .answer; count = r .count; start = r .start; code = now (code .exit) }
+        ≡ decodedScript (scriptOf (countsIn (now (table .entry))) (now (text .entry))) ⌝ }
 {
     let s = decode(text, code);
     let count = s.count;

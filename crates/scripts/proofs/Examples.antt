@@ -15,7 +15,8 @@ unfolding partsOf partsFrom toFirst both
 two = refl
 
 -- an empty line at the start, two in a row, one at the end: empty scripts
-empty-lines : partsOf (10 ∷ 115 ∷ 10 ∷ 10 ∷ 10 ∷ 115 ∷ 10 ∷ 10 ∷ []) ≡ [] ∷ (115 ∷ 10 ∷ []) ∷ [] ∷ (115 ∷ 10 ∷ []) ∷ [] ∷ []
+empty-lines : partsOf (10 ∷ 115 ∷ 10 ∷ 10 ∷ 10 ∷ 115 ∷ 10 ∷ 10 ∷ [])
+    ≡ [] ∷ (115 ∷ 10 ∷ []) ∷ [] ∷ (115 ∷ 10 ∷ []) ∷ [] ∷ []
 unfolding partsOf partsFrom toFirst both
 empty-lines = refl
 

@@ -21,7 +21,8 @@ Whole start (t ∷ ts) end = (noEmptyLine start t ≡ true) × (lineEnded start 
 -- ---- what is joined is parted so
 
 -- a byte of a text without empty lines parts nothing
-no-parting : (start : Bool) (b : ℕ) (t : List ℕ) → noEmptyLine start (b ∷ t) ≡ true → (both start (eqb b 10) ≡ false) × (noEmptyLine (eqb b 10) t ≡ true)
+no-parting : (start : Bool) (b : ℕ) (t : List ℕ) → noEmptyLine start (b ∷ t) ≡ true
+    → (both start (eqb b 10) ≡ false) × (noEmptyLine (eqb b 10) t ≡ true)
 unfolding noEmptyLine
 no-parting start b t e = (inside (both start (eqb b 10)) (both-left _ _ e), both-right _ _ e)
   where
@@ -34,15 +35,18 @@ unfolding partsFrom toFirst
 parted-last start [] e = refl
 parted-last start (b ∷ t) e = let h = no-parting start b t e in rw (h .0, parted-last (eqb b 10) t (h .1)) refl
 
-parted-next : (start : Bool) (t u : List ℕ) → noEmptyLine start t ≡ true → lineEnded start t ≡ true → partsFrom start (t ++ (10 ∷ u)) ≡ t ∷ partsFrom true u
+parted-next : (start : Bool) (t u : List ℕ) → noEmptyLine start t ≡ true → lineEnded start t ≡ true
+    → partsFrom start (t ++ (10 ∷ u)) ≡ t ∷ partsFrom true u
 unfolding partsFrom toFirst lineEnded both
 parted-next start [] u e f = rw f refl
 parted-next start (b ∷ t) u e f = let h = no-parting start b t e in rw (h .0, parted-next (eqb b 10) t u (h .1) f) refl
 
-parted : (start : Bool) (ts : List (List ℕ)) (end : List ℕ) → Whole start ts end → partsFrom start (joined ts end) ≡ ts ++ (end ∷ [])
+parted : (start : Bool) (ts : List (List ℕ)) (end : List ℕ) → Whole start ts end
+    → partsFrom start (joined ts end) ≡ ts ++ (end ∷ [])
 unfolding joined Whole
 parted start [] end w = parted-last start end w
-parted start (t ∷ ts) end w = parted-next start t (joined ts end) (w .0) (w .1) ∙ ap (λ (ps : List (List ℕ)). t ∷ ps) (parted true ts end (w .2))
+parted start (t ∷ ts) end w =
+    parted-next start t (joined ts end) (w .0) (w .1) ∙ ap (λ (ps : List (List ℕ)). t ∷ ps) (parted true ts end (w .2))
 
 -- ---- what is parted is joined so
 
@@ -67,14 +71,17 @@ behind-empty start b t e p =
     }
 
 -- another byte in front
-behind-byte : (start : Bool) (b : ℕ) (t : List ℕ) → both start (eqb b 10) ≡ false → Parts (eqb b 10) t → Parts start (b ∷ t)
+behind-byte : (start : Bool) (b : ℕ) (t : List ℕ) → both start (eqb b 10) ≡ false → Parts (eqb b 10) t
+    → Parts start (b ∷ t)
 unfolding partsFrom joined Whole noEmptyLine lineEnded toFirst
 behind-byte start b t e p = go (p .before) (p .parts) (p .text-is) (p .whole)
   where
-    more : (u : List ℕ) → noEmptyLine (eqb b 10) u ≡ true → both (not (both start (eqb b 10))) (noEmptyLine (eqb b 10) u) ≡ true
+    more : (u : List ℕ) → noEmptyLine (eqb b 10) u ≡ true
+        → both (not (both start (eqb b 10))) (noEmptyLine (eqb b 10) u) ≡ true
     more u h = both-true (rw e refl) h
 
-    go : (ts : List (List ℕ)) → partsFrom (eqb b 10) t ≡ ts ++ (p .end ∷ []) → t ≡ joined ts (p .end) → Whole (eqb b 10) ts (p .end) → Parts start (b ∷ t)
+    go : (ts : List (List ℕ)) → partsFrom (eqb b 10) t ≡ ts ++ (p .end ∷ []) → t ≡ joined ts (p .end)
+        → Whole (eqb b 10) ts (p .end) → Parts start (b ∷ t)
     go [] d i w = record {
       before = [];
       end = b ∷ p .end;
@@ -94,7 +101,8 @@ its-parts : (start : Bool) (text : List ℕ) → Parts start text
 unfolding partsFrom joined Whole noEmptyLine
 its-parts start [] = record { before = []; end = []; parts = refl; text-is = refl; whole = refl }
 its-parts start (b ∷ t) =
-    cases (both start (eqb b 10)) (λ e. behind-empty start b t e (its-parts true t)) (λ e. behind-byte start b t e (its-parts (eqb b 10) t))
+    cases (both start (eqb b 10)) (λ e. behind-empty start b t e (its-parts true t))
+    (λ e. behind-byte start b t e (its-parts (eqb b 10) t))
 
 -- ---- in one way
 
@@ -133,7 +141,8 @@ joined-so text ts end h =
     let w = all-whole ts end (rw (← o .0, ← o .1) (p .whole)) in
     (p .text-is ∙ rw (o .0, o .1) refl, w .0, w .1)
 
-parted-so : (text : List ℕ) (ts : List (List ℕ)) (end : List ℕ) → (text ≡ joined ts end) × AllWhole ts × (noEmptyLine true end ≡ true)
+parted-so : (text : List ℕ) (ts : List (List ℕ)) (end : List ℕ)
+    → (text ≡ joined ts end) × AllWhole ts × (noEmptyLine true end ≡ true)
     → partsOf text ≡ ts ++ (end ∷ [])
 unfolding partsOf
 parted-so text ts end (i, a, e) = ap (partsFrom true) i ∙ parted true ts end (whole-all ts end a e)

@@ -6,7 +6,8 @@ use mathlib.Core.Path.{_≡_, refl, sym, ap, _∙_}
 use mathlib.Core.Bool.{Bool, true, false, cond, _&&_}
 use mathlib.Core.List.{List, [], _∷_, _++_}
 use lib.Dec.{eqb, leb, ltb, leb·zero, leb·suc-suc}
-use lib.ListN.{length, take, drop, getD, set, replicate, length-drop, length-replicate, drop-of-length-le, List·getD-append}
+use lib.ListN.{length, take, drop, getD, set, replicate, length-drop, length-replicate, drop-of-length-le}
+use lib.ListN.{List·getD-append}
 use lib.Seq.{set-out, sets, sets-eq, length-take-le, drop-drop, getD-drop}
 use borrow.Author.Tests.{ltb-true, leb-true, lt-ltb, le-leb, lt-leb}
 use Rattle.logic.specs.Booleans.{both}
@@ -22,7 +23,8 @@ use Rattle.scripts.specs.Internal.Places.{partLength, partEnd, partsAfte
 others : List ℕ → ℕ → List (List ℕ)
 others t n = cond (ltb n (length t)) (partsFrom true (drop (suc n) t)) []
 
-first-part : (start : Bool) (t : List ℕ) → partsFrom start t ≡ take (partLength start t) t ∷ others t (partLength start t)
+first-part : (start : Bool) (t : List ℕ)
+    → partsFrom start t ≡ take (partLength start t) t ∷ others t (partLength start t)
 unfolding partsFrom partLength others toFirst
 first-part start [] = refl
 first-part start (b ∷ t) =
@@ -42,7 +44,8 @@ part-fits start (b ∷ t) =
 
 -- ---- by place
 
--- The part that starts at a place: its end lies within the text, and the parts after it start behind the byte at its end.
+-- The part that starts at a place: its end lies within the text, and the parts after it start behind the
+-- byte at its end.
 pub record PartAt (text : List ℕ) (at end : ℕ) : Type 0 where
   pub rises : at ≤ end
   pub inside : end ≤ length text
@@ -77,7 +80,8 @@ parts-all text = rw (le-leb 0 (length text) (omega arith)) refl
 
 -- ---- from part to part
 
--- Part n starts at a place: those before it and those from it on are all, and so are their ends. Past the last, none is left.
+-- Part n starts at a place: those before it and those from it on are all, and so are their ends. Past the
+-- last, none is left.
 pub record StartsAt (text : List ℕ) (n at : ℕ) : Type 0 where
   pub near : at ≤ length text + 1
   pub counted : n + length (partsAfter text at) ≡ length (partsOf text)
@@ -99,7 +103,8 @@ module _ {text : List ℕ} {n at end : ℕ} (s : StartsAt text n at) (p : PartAt
   its-ends : endsFrom at (partsAfter text at) ≡ end ∷ endsFrom (end + 1) (partsAfter text (end + 1))
   unfolding endsFrom
   its-ends =
-      let l : length (take (end - at) (drop at text)) ≡ end - at = length-take-le (end - at) (drop at text) (omega (arith, length-drop at text, p .inside)) in
+      let l : length (take (end - at) (drop at text)) ≡ end - at =
+      length-take-le (end - at) (drop at text) (omega (arith, length-drop at text, p .inside)) in
       let e : at + (end - at) ≡ end = omega (arith, p .rises) in
       rw (p .parts, l, e) refl
 
@@ -123,7 +128,8 @@ module _ {text : List ℕ} {n at end : ℕ} (s : StartsAt text n at) (p : PartAt
   has-place = omega (arith, ap length (p .parts), s .counted)
 
 -- the end of a part, as it is kept
-module _ (text : List ℕ) (n at : ℕ) (s : StartsAt text n at) (few : length (partsOf text) ≤ mostScripts) (l : at ≤ length text) where
+module _ (text : List ℕ) (n at : ℕ) (s : StartsAt text n at) (few : length (partsOf text) ≤ mostScripts)
+    (l : at ≤ length text) where
   ends-length : (k : ℕ) (ps : List (List ℕ)) → length (endsFrom k ps) ≡ length ps
   unfolding endsFrom
   ends-length k [] = refl
@@ -134,14 +140,16 @@ module _ (text : List ℕ) (n at : ℕ) (s : StartsAt text n at) (few : length (
   kept-all =
       let k = ends-length 0 (partsOf text) in
       let z : 0 + length (endsFrom 0 (partsOf text)) ≡ length (partsOf text) = omega (arith, k) in
-      sets-eq (endsFrom 0 (partsOf text)) (replicate mostScripts 0) 0 (omega (arith, k, length-replicate {A = ℕ} mostScripts 0)) ∙ rw z refl
+      sets-eq (endsFrom 0 (partsOf text)) (replicate mostScripts 0) 0
+      (omega (arith, k, length-replicate {A = ℕ} mostScripts 0)) ∙ rw z refl
 
   pub kept-end : getD (keptEnds text) n 0 ≡ partEnd text at
   kept-end =
       let p = part-at text at (partEnd text at) l refl in
       let z : n + 0 ≡ n = omega arith in
       rw kept-all
-      (List·getD-append (endsFrom 0 (partsOf text)) (drop (length (partsOf text)) (replicate mostScripts 0)) 0 n (omega (arith, ends-length 0 (partsOf text), has-place s p))
+      (List·getD-append (endsFrom 0 (partsOf text)) (drop (length (partsOf text)) (replicate mostScripts 0)) 0 n
+      (omega (arith, ends-length 0 (partsOf text), has-place s p))
       ∙ ap (λ (k : ℕ). getD (endsFrom 0 (partsOf text)) k 0) (sym z)
       ∙ sym (getD-drop n (endsFrom 0 (partsOf text)) 0 0)
       ∙ ap (λ (es : List ℕ). getD es 0 0) (sym (s .ends) ∙ its-ends s p))
@@ -159,7 +167,8 @@ module _ (text : List ℕ) (n at : ℕ) (s : StartsAt text n at) (l : length tex
       → _≡_ {A = Parts} (record { count = n; ends = es }) (record { count = partsCounted text; ends = keptEnds text })
   unfolding partsCounted
   parted-all es few h =
-      let c : n ≡ min (suc mostScripts) (length (partsOf text)) = omega (arith, ap length (parts-past text at l), s .counted) in
+      let c : n ≡ min (suc mostScripts) (length (partsOf text)) =
+      omega (arith, ap length (parts-past text at l), s .counted) in
       rw (c, all-kept es h) refl
 
 -- what has no place is not stored
@@ -169,8 +178,10 @@ sets-past (v ∷ vs) es n l = rw (set-out es n v l) (sets-past vs es (suc n) (om
 
 -- a part more than have a place
 module _ (text : List ℕ) (n at : ℕ) (s : StartsAt text n at) (l : at ≤ length text) where
-  pub parted-many : (es : List ℕ) → length es ≡ mostScripts → n ≡ mostScripts → sets es n (endsFrom at (partsAfter text at)) ≡ keptEnds text
-      → _≡_ {A = Parts} (record { count = suc mostScripts; ends = es }) (record { count = partsCounted text; ends = keptEnds text })
+  pub parted-many : (es : List ℕ) → length es ≡ mostScripts → n ≡ mostScripts
+      → sets es n (endsFrom at (partsAfter text at)) ≡ keptEnds text
+      → _≡_ {A = Parts} (record { count = suc mostScripts; ends = es })
+      (record { count = partsCounted text; ends = keptEnds text })
   unfolding partsCounted
   parted-many es k e h =
       let p = part-at text at (partEnd text at) l refl in
@@ -196,7 +207,8 @@ module _ (text : List ℕ) (at : ℕ) (start : Bool) where
   unfolding partLength both
   walk l = rw (drop-step text at l) (go start (eqb (getD text at 0) 10))
     where
-      go : (x y : Bool) → at + cond (both x y) 0 (suc (partLength y (drop (at + 1) text))) ≡ cond (x && y) at (at + 1 + partLength y (drop (at + 1) text))
+      go : (x y : Bool) → at + cond (both x y) 0 (suc (partLength y (drop (at + 1) text)))
+          ≡ cond (x && y) at (at + 1 + partLength y (drop (at + 1) text))
       go true true = omega arith
       go true false = omega arith
       go false y = omega arith

@@ -10,7 +10,8 @@ unfoldable pub toFirst : ℕ → List (List ℕ) → List (List ℕ)
 toFirst b [] = (b ∷ []) ∷ []
 toFirst b (p ∷ ps) = (b ∷ p) ∷ ps
 
--- The parts of what is left of a text; `start`: a line starts here. Every line without a byte parts, and its end belongs to no part.
+-- The parts of what is left of a text; `start`: a line starts here. Every line without a byte parts, and its end
+-- belongs to no part.
 unfoldable pub partsFrom : Bool → List ℕ → List (List ℕ)
 partsFrom start [] = [] ∷ []
 partsFrom start (b ∷ t) = cond (both start (eqb b 10)) ([] ∷ partsFrom true t) (toFirst b (partsFrom (eqb b 10) t))

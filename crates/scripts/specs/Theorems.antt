@@ -8,7 +8,8 @@ use Rattle.parts.specs.Parts.{noEmptyLine, joined}
 use Rattle.parts.specs.Theorems.{AllWhole}
 use Rattle.scripts.specs.Parting.{partsOf}
 
--- A text is parted so exactly if it is the parts joined by empty lines: each but the last of whole lines, and no line of any empty.
+-- A text is parted so exactly if it is the parts joined by empty lines: each but the last of whole lines, and no
+-- line of any empty.
 pub record PartsExact : Type 0 where
   pub exact : (text : List ℕ) (ts : List (List ℕ)) (end : List ℕ)
       → (partsOf text ≡ ts ++ (end ∷ [])) ↔ ((text ≡ joined ts end) × AllWhole ts × (noEmptyLine true end ≡ true))

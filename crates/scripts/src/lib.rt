@@ -1,5 +1,5 @@
-// Several scripts in one text, parted by its empty lines. A script is the bytes from where it starts to its end; the next one starts after
-// the byte that ends the empty line, and past the end of the text there is none.
+// Several scripts in one text, parted by its empty lines. A script is the bytes from where it starts to its end; the
+// next one starts after the byte that ends the empty line, and past the end of the text there is none.
 ghost use mathlib.Core.Path.{_≡_};
 ghost use Rattle.scripts.specs.Internal.Places.{partEnd, partsCounted, keptEnds};
 

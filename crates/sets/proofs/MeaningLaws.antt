@@ -1,7 +1,9 @@
 -- The masks are sets of principals.
 -- Assumes nothing.
 use Rattle.sets.specs.Meaning.{MasksAreSets}
-use Rattle.sets.proofs.SetLaws.{member-ext, member-union, member-intersection, within-intro, within-elim, meets-intro, meets-elim, member-single, member-single-self, member-everyone, member-restrict}
+use Rattle.sets.proofs.SetLaws.{member-ext, member-union, member-intersection, within-intro, within-elim}
+use Rattle.sets.proofs.SetLaws.{meets-intro, meets-elim, member-single, member-single-self, member-everyone}
+use Rattle.sets.proofs.SetLaws.{member-restrict}
 
 pub masks-are-sets : MasksAreSets
 masks-are-sets =

@@ -1,19 +1,22 @@
--- Masks against sets of principals: what union, intersection, containment, {p} and the first n principals have as members.
--- No law names a width.
+-- Masks against sets of principals: what union, intersection, containment, {p} and the first n principals have as
+-- members. No law names a width.
 -- Assumes nothing.
 use mathlib.Core.Path.{_≡_, refl, sym, ap, ap₂, _∙_, subst}
 use mathlib.Core.Bool.{Bool, true, false, not, cond}
 use Prim.Native.Nat.{ℕ, zero, suc, _+_, _*_, _/_, _%_, _^_, _<_, _≤_, _-_, min, max}
-use native.Mathlib.Nat.{div-eq-of-lt, one-mul, zero-div, mod-lt, mod-eq-of-lt, zero-lt-suc, div-add-mod', div-one, lt-of-lt-of-le, le-of-suc-le-suc, not-suc-le-zero}
+use native.Mathlib.Nat.{div-eq-of-lt, one-mul, zero-div, mod-lt, mod-eq-of-lt, zero-lt-suc, div-add-mod', div-one}
+use native.Mathlib.Nat.{lt-of-lt-of-le, le-of-suc-le-suc, not-suc-le-zero}
 use native.Mathlib.Omega.{arith}
 use native.Mathlib.Numerals.{one-add, add-one}
 use lib.Arith.{bin-ind, half-le, digits-mod}
-use lib.Bits.{bitAnd, bitOr, bitXor, differ, and-step, or-step, xor-step, and-shr, or-shr, xor-shr, and-mask, and-le-r, and-comm, xor-add-and, block-odd, block-half}
+use lib.Bits.{bitAnd, bitOr, bitXor, differ, and-step, or-step, xor-step, and-shr, or-shr, xor-shr, and-mask, and-le-r}
+use lib.Bits.{and-comm, xor-add-and, block-odd, block-half}
 use lib.Pow.{shr-shr, shl-exact, high, split, ones-split, ones-lt, pow-lt, pow-mono, pow-pos}
 use lib.Dec.{eqb, ltb, lit<}
 use borrow.Author.Tests.{eqb-true, eqb-false, eq-eqb, ne-eqb, not-true, lt-ltb, le-ltb, ltb-true}
 use Rattle.logic.specs.Booleans.{both, either}
-use Rattle.logic.proofs.BooleanLaws.{absurd-false, bool-ext, fails, both-implied, both-left, both-right, both-true, either-case, either-left, either-right, not-so}
+use Rattle.logic.proofs.BooleanLaws.{absurd-false, bool-ext, fails, both-implied, both-left, both-right, both-true}
+use Rattle.logic.proofs.BooleanLaws.{either-case, either-left, either-right, not-so}
 use Rattle.sets.proofs.Walks.{by-below}
 use Rattle.sets.specs.Sets.{member, union, intersection, within, meets, single, everyone, restrict}
 
@@ -38,13 +41,15 @@ bit-inj a b =
     (by-digit (λ (y : ℕ). bit 1 ≡ bit y → 1 ≡ y) (λ e. absurd (absurd-false (sym e))) (λ e. refl) b) a
 
 -- an operation on numbers that works digit by digit, and what it does to two digits
-module _ (op : ℕ → ℕ → ℕ) (f : ℕ → ℕ → ℕ) (g : Bool → Bool → Bool) (shr : (a b p : ℕ) → op a b / 2 ^ p ≡ op (a / 2 ^ p) (b / 2 ^ p))
+module _ (op : ℕ → ℕ → ℕ) (f : ℕ → ℕ → ℕ) (g : Bool → Bool → Bool)
+    (shr : (a b p : ℕ) → op a b / 2 ^ p ≡ op (a / 2 ^ p) (b / 2 ^ p))
     (step : (a b : ℕ) → op a b ≡ op (a / 2) (b / 2) * 2 + f (a % 2) (b % 2)) (small : (a b : ℕ) → f (a % 2) (b % 2) < 2)
   where
     abbrev Digits : ℕ → ℕ → Type 0
     Digits x y = bit (f x y) ≡ g (bit x) (bit y)
 
-    member-op : Digits 0 0 → Digits 0 1 → Digits 1 0 → Digits 1 1 → (p a b : ℕ) → member p (op a b) ≡ g (member p a) (member p b)
+    member-op : Digits 0 0 → Digits 0 1 → Digits 1 0 → Digits 1 1 → (p a b : ℕ)
+        → member p (op a b) ≡ g (member p a) (member p b)
     unfolding member
     member-op oo oi io ii p a b =
         let x = a / 2 ^ p in
@@ -107,18 +112,21 @@ pub some-member : (n : ℕ) → (n ≡ 0 → ⊥) → (p : ℕ) × (member p n �
 some-member =
     bin-ind (λ (n : ℕ). (n ≡ 0 → ⊥) → (p : ℕ) × (member p n ≡ true)) (λ h. absurd (h refl))
     (λ n ih h. by-digit (λ (d : ℕ). n % 2 ≡ d → (p : ℕ) × (member p n ≡ true))
-    (λ e. let r = ih (λ z. h (omega arith)) in (suc (r .0), member-high (r .0) n ∙ r .1)) (λ e. (0, member-low n ∙ ap bit e)) n refl)
+    (λ e. let r = ih (λ z. h (omega arith)) in (suc (r .0), member-high (r .0) n ∙ r .1))
+    (λ e. (0, member-low n ∙ ap bit e)) n refl)
 
 -- ---- containment: x is within y exactly if every member of x is one of y
 pub within-intro : (x y : ℕ) → ((p : ℕ) → member p x ≡ true → member p y ≡ true) → within x y ≡ true
 unfolding within intersection
 within-intro x y h =
-    eq-eqb (bitAnd x y) x (member-ext (bitAnd x y) x (λ p. member-intersection p x y ∙ both-implied (member p x) (member p y) (h p)))
+    eq-eqb (bitAnd x y) x
+    (member-ext (bitAnd x y) x (λ p. member-intersection p x y ∙ both-implied (member p x) (member p y) (h p)))
 
 pub within-elim : (x y : ℕ) → within x y ≡ true → (p : ℕ) → member p x ≡ true → member p y ≡ true
 unfolding within intersection
 within-elim x y e p m =
-    both-right (member p x) (member p y) (sym (member-intersection p x y) ∙ ap (member p) (eqb-true (bitAnd x y) x e) ∙ m)
+    both-right (member p x) (member p y)
+    (sym (member-intersection p x y) ∙ ap (member p) (eqb-true (bitAnd x y) x e) ∙ m)
 
 pub within-refl : (x : ℕ) → within x x ≡ true
 within-refl x = within-intro x x (λ p m. m)
@@ -127,7 +135,8 @@ pub within-trans : (x y z : ℕ) → within x y ≡ true → within y z ≡ true
 within-trans x y z h k = within-intro x z (λ p m. within-elim y z k p (within-elim x y h p m))
 
 pub within-antisym : (x y : ℕ) → within x y ≡ true → within y x ≡ true → x ≡ y
-within-antisym x y h k = member-ext x y (λ p. bool-ext (member p x) (member p y) (within-elim x y h p) (within-elim y x k p))
+within-antisym x y h k =
+    member-ext x y (λ p. bool-ext (member p x) (member p y) (within-elim x y h p) (within-elim y x k p))
 
 -- ---- the intersection is the largest set within both
 pub intersection-within-left : (x y : ℕ) → within (intersection x y) x ≡ true
@@ -136,23 +145,27 @@ intersection-within-left x y =
 
 pub intersection-within-right : (x y : ℕ) → within (intersection x y) y ≡ true
 intersection-within-right x y =
-    within-intro (intersection x y) y (λ p m. both-right (member p x) (member p y) (sym (member-intersection p x y) ∙ m))
+    within-intro (intersection x y) y
+    (λ p m. both-right (member p x) (member p y) (sym (member-intersection p x y) ∙ m))
 
 pub within-intersection : (z x y : ℕ) → within z x ≡ true → within z y ≡ true → within z (intersection x y) ≡ true
 within-intersection z x y h k =
-    within-intro z (intersection x y) (λ p m. member-intersection p x y ∙ both-true (within-elim z x h p m) (within-elim z y k p m))
+    within-intro z (intersection x y)
+    (λ p m. member-intersection p x y ∙ both-true (within-elim z x h p m) (within-elim z y k p m))
 
 -- ---- the union is the smallest set that both are within
 pub within-union-left : (x y : ℕ) → within x (union x y) ≡ true
 within-union-left x y = within-intro x (union x y) (λ p m. member-union p x y ∙ either-left (member p x) (member p y) m)
 
 pub within-union-right : (x y : ℕ) → within y (union x y) ≡ true
-within-union-right x y = within-intro y (union x y) (λ p m. member-union p x y ∙ either-right (member p x) (member p y) m)
+within-union-right x y =
+    within-intro y (union x y) (λ p m. member-union p x y ∙ either-right (member p x) (member p y) m)
 
 pub union-within : (x y z : ℕ) → within x z ≡ true → within y z ≡ true → within (union x y) z ≡ true
 union-within x y z h k =
     within-intro (union x y) z
-    (λ p m. either-case (member p x) (member p y) (member p z) (within-elim x z h p) (within-elim y z k p) (sym (member-union p x y) ∙ m))
+    (λ p m. either-case (member p x) (member p y) (member p z) (within-elim x z h p) (within-elim y z k p)
+    (sym (member-union p x y) ∙ m))
 
 -- ---- a member in common: x meets y exactly if some p is in both
 pub meets-intro : (x y p : ℕ) → member p x ≡ true → member p y ≡ true → meets x y ≡ true
@@ -209,7 +222,8 @@ meets-single g p =
 -- ---- the first n principals: those below n
 ones-odd : (k : ℕ) → (2 ^ suc k - 1) % 2 ≡ 1
 ones-odd k =
-    ap (λ (j : ℕ). (2 ^ j - 1) % 2) (sym (add-one k)) ∙ ap (λ (x : ℕ). x % 2) (ones-split k 1) ∙ digits-mod (2 ^ k - 1) (lit< tt)
+    ap (λ (j : ℕ). (2 ^ j - 1) % 2) (sym (add-one k)) ∙ ap (λ (x : ℕ). x % 2) (ones-split k 1)
+    ∙ digits-mod (2 ^ k - 1) (lit< tt)
 
 pub member-everyone : (p n : ℕ) → member p (everyone n) ≡ ltb p n
 unfolding everyone member
@@ -234,7 +248,8 @@ single-within-everyone p n l = single-within p (everyone n) ∙ member-everyone 
 pub member-restrict : (p k m : ℕ) → member p (restrict k m) ≡ both (ltb p k) (member p m)
 unfolding restrict both
 member-restrict p k m =
-    by-below p k (λ l. rw (lt-ltb p k l) (sym (ap (member p) (sym (split m k)) ∙ member-above p k (m / 2 ^ k) (m % 2 ^ k) l)))
+    by-below p k
+    (λ l. rw (lt-ltb p k l) (sym (ap (member p) (sym (split m k)) ∙ member-above p k (m / 2 ^ k) (m % 2 ^ k) l)))
     (λ l. rw (le-ltb p k l) (member-beyond p (m % 2 ^ k) (lt-of-lt-of-le (mod-lt m (pow-pos k)) (pow-mono l))))
 
 pub restrict-id : (k m : ℕ) → m < 2 ^ k → restrict k m ≡ m
@@ -265,7 +280,8 @@ pub restrict-everyone-full : (k n : ℕ) → k ≤ n → restrict k (everyone n)
 restrict-everyone-full k n l =
     member-ext (restrict k (everyone n)) (everyone k)
     (λ p. member-restrict p k (everyone n)
-    ∙ both-implied (ltb p k) (member p (everyone n)) (λ e. member-everyone p n ∙ lt-ltb p n (lt-of-lt-of-le (ltb-true p k e) l))
+    ∙ both-implied (ltb p k) (member p (everyone n))
+    (λ e. member-everyone p n ∙ lt-ltb p n (lt-of-lt-of-le (ltb-true p k e) l))
     ∙ sym (member-everyone p k))
 
 -- `1 << p` at a width of k bits is {p}
@@ -297,7 +313,8 @@ member-exclusive = member-op bitXor differ exclusive xor-shr xor-step small refl
 -- a set without those of its members that are in y: where y lies within it, the difference of the numbers
 pub member-difference : (p x y : ℕ) → within y x ≡ true → member p (x - y) ≡ both (member p x) (not (member p y))
 unfolding within both
-member-difference p x y h = ap (member p) is ∙ member-exclusive p x y ∙ on (member p x) (member p y) (within-elim y x h p)
+member-difference p x y h =
+    ap (member p) is ∙ member-exclusive p x y ∙ on (member p x) (member p y) (within-elim y x h p)
   where
     is : x - y ≡ bitXor x y
     is =
@@ -316,5 +333,8 @@ lacks-member x y h n = of (some-member (y - x) (λ z. n (omega (arith, within-le
   where
     of : ((p : ℕ) × (member p (y - x) ≡ true)) → (p : ℕ) × (member p y ≡ true) × (member p x ≡ false)
     of (p, m) =
-        let e : both (member p y) (not (member p x)) ≡ true = sym (member-difference p y x h) ∙ m in
-        (p, both-left (member p y) (not (member p x)) e, not-true (member p x) (both-right (member p y) (not (member p x)) e))
+        let e : both (member p y) (not (member p x)) ≡ true = sym (member-difference p y x h) ∙ m in (
+          p,
+          both-left (member p y) (not (member p x)) e,
+          not-true (member p x) (both-right (member p y) (not (member p x)) e),
+        )

@@ -1,5 +1,5 @@
--- Laws of `every`, `any` and `tab`, for loops that test one place a turn or fill one; and of stores, one run after another.
--- Assumes nothing.
+-- Laws of `every`, `any` and `tab`, for loops that test one place a turn or fill one; and of stores, one run after
+-- another. Assumes nothing.
 use mathlib.Core.Path.{_≡_, refl, sym, ap, ap₂, _∙_}
 use mathlib.Core.Bool.{Bool, true, false}
 use mathlib.Core.List.{List, [], _∷_, _++_}
@@ -12,7 +12,8 @@ use lib.Seq.{set-getD, sets}
 use lib.Dec.{ltb}
 use borrow.Author.Tests.{ltb-true, ltb-false}
 use Rattle.logic.specs.Booleans.{both, either}
-use Rattle.logic.proofs.BooleanLaws.{absurd-false, bool-ext, both-left, both-no-left, both-no-right, both-right, both-true, both-yes-left, cases, either-left, either-right}
+use Rattle.logic.proofs.BooleanLaws.{absurd-false, bool-ext, both-left, both-no-left, both-no-right, both-right}
+use Rattle.logic.proofs.BooleanLaws.{both-true, both-yes-left, cases, either-left, either-right}
 use Rattle.sets.specs.Sets.{every, any, tab}
 
 -- by whether m is below n
@@ -23,7 +24,8 @@ by-below m n f g = cases (ltb m n) (λ e. f (ltb-true m n e)) (λ e. g (ltb-fals
 pub every-true : (n : ℕ) (f : ℕ → Bool) → ((i : ℕ) → i < n → f i ≡ true) → every n f ≡ true
 unfolding every
 every-true zero f h = refl
-every-true (suc n) f h = both-true (h 0 (zero-lt-suc n)) (every-true n (λ (i : ℕ). f (suc i)) (λ i l. h (suc i) (suc-le-suc l)))
+every-true (suc n) f h =
+    both-true (h 0 (zero-lt-suc n)) (every-true n (λ (i : ℕ). f (suc i)) (λ i l. h (suc i) (suc-le-suc l)))
 
 pub every-at : (n : ℕ) (f : ℕ → Bool) → every n f ≡ true → (i : ℕ) → i < n → f i ≡ true
 unfolding every
@@ -36,7 +38,8 @@ pub every-false : (n : ℕ) (f : ℕ → Bool) (i : ℕ) → i < n → f i ≡ f
 unfolding every
 every-false zero f i l e = absurd (not-suc-le-zero l)
 every-false (suc n) f zero l e = both-no-left (f 0) _ e
-every-false (suc n) f (suc i) l e = both-no-right (f 0) _ (every-false n (λ (k : ℕ). f (suc k)) i (le-of-suc-le-suc l) e)
+every-false (suc n) f (suc i) l e =
+    both-no-right (f 0) _ (every-false n (λ (k : ℕ). f (suc k)) i (le-of-suc-le-suc l) e)
 
 -- a test that doesn't pass everywhere fails somewhere
 pub every-fails : (n : ℕ) (f : ℕ → Bool) → every n f ≡ false → (i : ℕ) × (i < n) × (f i ≡ false)
@@ -44,15 +47,18 @@ unfolding every
 every-fails zero f e = absurd (absurd-false (sym e))
 every-fails (suc n) f e =
     cases (f 0)
-    (λ t. let (i, l, z) = every-fails n (λ (i : ℕ). f (suc i)) (sym (both-yes-left (f 0) _ t) ∙ e) in (suc i, suc-le-suc l, z))
+    (λ t. let (i, l, z) = every-fails n (λ (i : ℕ). f (suc i)) (sym (both-yes-left (f 0) _ t) ∙ e) in
+    (suc i, suc-le-suc l, z))
     (λ z. (0, zero-lt-suc n, z))
 
 -- one place more
 pub every-last : (n : ℕ) (f : ℕ → Bool) → every (suc n) f ≡ both (every n f) (f n)
 every-last n f =
     bool-ext (every (suc n) f) (both (every n f) (f n))
-    (λ h. both-true (every-true n f (λ i l. every-at (suc n) f h i (omega arith))) (every-at (suc n) f h n (omega arith)))
-    (λ h. every-true (suc n) f (λ i l. by-below i n (every-at n f (both-left _ (f n) h) i) (λ k. let e : n ≡ i = omega arith in rw e at (both-right (every n f) _ h))))
+    (λ h. both-true (every-true n f (λ i l. every-at (suc n) f h i (omega arith)))
+    (every-at (suc n) f h n (omega arith)))
+    (λ h. every-true (suc n) f (λ i l. by-below i n (every-at n f (both-left _ (f n) h) i)
+    (λ k. let e : n ≡ i = omega arith in rw e at (both-right (every n f) _ h))))
 
 -- one turn more of a loop that joins its tests
 pub every-more : (n : ℕ) (f : ℕ → Bool) {a b : Bool} → a ≡ every n f → b ≡ f n → both a b ≡ every (n + 1) f
@@ -62,8 +68,10 @@ every-more n f p q = ap₂ both p q ∙ sym (every-last n f) ∙ ap (λ (k : ℕ
 pub every-both : (n : ℕ) (f g : ℕ → Bool) → every n (λ (i : ℕ). both (f i) (g i)) ≡ both (every n f) (every n g)
 every-both n f g =
     bool-ext (every n (λ (i : ℕ). both (f i) (g i))) (both (every n f) (every n g))
-    (λ h. both-true (every-true n f (λ i l. both-left (f i) (g i) (every-at n _ h i l))) (every-true n g (λ i l. both-right (f i) (g i) (every-at n _ h i l))))
-    (λ h. every-true n _ (λ i l. both-true (every-at n f (both-left _ (every n g) h) i l) (every-at n g (both-right (every n f) _ h) i l)))
+    (λ h. both-true (every-true n f (λ i l. both-left (f i) (g i) (every-at n _ h i l)))
+    (every-true n g (λ i l. both-right (f i) (g i) (every-at n _ h i l))))
+    (λ h. every-true n _
+    (λ i l. both-true (every-at n f (both-left _ (every n g) h) i l) (every-at n g (both-right (every n f) _ h) i l)))
 
 -- ---- any
 pub any-true : (n : ℕ) (f : ℕ → Bool) (i : ℕ) → i < n → f i ≡ true → any n f ≡ true
@@ -136,7 +144,8 @@ filled-all f n d e = rw (← e) (go f d)
     go f [] = refl
     go f (x ∷ d) = ap (λ (t : List ℕ). f 0 ∷ t) (go (λ (k : ℕ). f (suc k)) d)
 
--- ---- the steps of a loop that fills xs from d: a read of the next place, a store there, a place left as it is, the end
+-- ---- the steps of a loop that fills xs from d: a read of the next place, a store there, a place left
+-- as it is, the end
 module _ (f : ℕ → ℕ) (n : ℕ) (d xs : List ℕ) (inv : xs ≡ filled f n d) where
   pub fill-read : n < length d → getD xs n 0 ≡ getD d n 0
   fill-read l = rw inv (filled-next f n d l)

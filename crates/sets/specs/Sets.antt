@@ -1,5 +1,5 @@
--- Sets of principals as masks: bit p of a set is principal p, the lowest bit being p = 0 (the scope, "Principals and labels").
--- Only `width` names a width.
+-- Sets of principals as masks: bit p of a set is principal p, the lowest bit being p = 0 (the scope, "Principals and
+-- labels"). Only `width` names a width.
 use mathlib.Core.Bool.{Bool, true, false, not}
 use mathlib.Core.List.{List, [], _∷_}
 use Prim.Native.Nat.{ℕ, zero, suc, _/_, _%_, _^_, _-_}

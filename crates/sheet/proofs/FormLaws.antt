@@ -12,7 +12,9 @@ use Rattle.logic.proofs.BooleanLaws.{both-left, both-right}
 use Rattle.sets.proofs.Walks.{by-below}
 use Rattle.labels.specs.Labels.{Policy}
 use Rattle.sheet.specs.Internal.Tables.{noParts, givenParts, typeParts, partsNo}
-use Rattle.sheet.specs.Sheet.{Compound, Location, Sheet, typeCount, labelCount, locationNo, locationCount, earlierTypes, rising, eachRising, eachNamed, maxPrincipals, maxCompounds, maxLabels, maxLocations, formed}
+use Rattle.sheet.specs.Sheet.{Compound, Location, Sheet, typeCount, labelCount, locationNo, locationCount}
+use Rattle.sheet.specs.Sheet.{earlierTypes, rising, eachRising, eachNamed, maxPrincipals, maxCompounds, maxLabels}
+use Rattle.sheet.specs.Sheet.{maxLocations, formed}
 
 -- ---- the form
 
@@ -78,7 +80,8 @@ earlier-at k (s ∷ ss) e (suc i) d h =
     let (l, r) = earlier-at (suc k) ss (both-right _ _ e) i d (omega arith) in
     (omega arith, omega arith)
 
-named-at : (types labels : ℕ) (xs : List Location) → eachNamed types labels xs ≡ true → (x : ℕ) (d : Location) → x < length xs
+named-at : (types labels : ℕ) (xs : List Location) → eachNamed types labels xs ≡ true
+    → (x : ℕ) (d : Location) → x < length xs
     → (getD xs x d .type < types) × (getD xs x d .label < labels)
 unfolding eachNamed
 named-at types labels [] e x d h = absurd (omega arith)
@@ -116,7 +119,8 @@ module _ (s : Sheet) (fm : formed s ≡ true) where
   parts-there (suc zero) = (omega (arith, type-count s), omega (arith, type-count s))
   parts-there (suc (suc zero)) = (omega (arith, type-count s), omega (arith, type-count s))
   parts-there (suc (suc (suc i))) =
-      by-below (suc (suc (suc i))) (typeCount s) (λ h. let (l, r) = parts-earlier _ (omega arith) h in (omega arith, omega arith))
+      by-below (suc (suc (suc i))) (typeCount s)
+      (λ h. let (l, r) = parts-earlier _ (omega arith) h in (omega arith, omega arith))
       (λ h. rw (parts-past s _ h) (omega (arith, type-count s), omega (arith, type-count s)))
 
   -- the owners of each label rise, and its sets are of the sheet's principals

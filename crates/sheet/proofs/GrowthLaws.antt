@@ -16,7 +16,8 @@ length-toLast p [] = refl
 length-toLast p (ps ∷ []) = refl
 length-toLast p (ps ∷ qs ∷ pss) = ap suc (length-toLast p (qs ∷ pss))
 
-pub toLast-more : (p : Policy) (pss : List (List Policy)) (ps : List Policy) → toLast p (pss ++ (ps ∷ [])) ≡ pss ++ ((ps ++ (p ∷ [])) ∷ [])
+pub toLast-more : (p : Policy) (pss : List (List Policy)) (ps : List Policy)
+    → toLast p (pss ++ (ps ∷ [])) ≡ pss ++ ((ps ++ (p ∷ [])) ∷ [])
 unfolding toLast
 toLast-more p [] ps = refl
 toLast-more p (qs ∷ []) ps = refl
@@ -27,4 +28,5 @@ pub labels-split : {P : Type 0} (pss : List (List Policy)) → 1 ≤ length pss
     → ((before : List (List Policy)) (ps : List Policy) → pss ≡ before ++ (ps ∷ []) → P) → P
 labels-split [] h f = absurd (omega arith)
 labels-split (ps ∷ []) h f = f [] ps refl
-labels-split (ps ∷ qs ∷ pss) h f = labels-split (qs ∷ pss) (omega arith) (λ before rs e. f (ps ∷ before) rs (ap (_∷_ ps) e))
+labels-split (ps ∷ qs ∷ pss) h f =
+    labels-split (qs ∷ pss) (omega arith) (λ before rs e. f (ps ∷ before) rs (ap (_∷_ ps) e))

@@ -34,7 +34,8 @@ rising-on n from (policy o r w ∷ ps) h =
     let sets = both-left _ _ sets-and-rest in
     both-true
     (both-true (both-right _ _ (both-left _ _ h))
-    (both-true (within-everyone n r (ltb-true _ _ (both-left _ _ sets))) (within-everyone n w (ltb-true _ _ (both-right _ _ sets)))))
+    (both-true (within-everyone n r (ltb-true _ _ (both-left _ _ sets)))
+    (within-everyone n w (ltb-true _ _ (both-right _ _ sets)))))
     (rising-on n (suc o) ps (both-right _ _ sets-and-rest))
 
 each-effective : (n : ℕ) (pss : List (List Policy)) → ((l : ℕ) → policiesOn n (getD pss l []) ≡ true) → (l : ℕ)
@@ -50,17 +51,21 @@ label-no-effective s fm l = each-effective (s .principals) (s .labels) (λ k. ri
 
 -- ---- the words of labels
 
-label-among : (before : List ℕ) (ls : List Label) (after : List ℕ) (d : Label) → ((l : ℕ) → l < length ls → wholeOf (getD ls l d) ≡ true)
-    → (l : ℕ) → l < length ls → labelAt (before ++ (labelsWords ls ++ after)) (length before + labelSize * l) ≡ getD ls l d
+label-among : (before : List ℕ) (ls : List Label) (after : List ℕ) (d : Label)
+    → ((l : ℕ) → l < length ls → wholeOf (getD ls l d) ≡ true)
+    → (l : ℕ) → l < length ls
+    → labelAt (before ++ (labelsWords ls ++ after)) (length before + labelSize * l) ≡ getD ls l d
 unfolding labelsWords
 label-among before [] after d w l h = absurd (omega arith)
 label-among before (a ∷ ls) after d w zero h =
-    let e : before ++ ((labelWords a ++ labelsWords ls) ++ after) ≡ before ++ labelWords a ++ (labelsWords ls ++ after) = simp append-assoc in
+    let e : before ++ ((labelWords a ++ labelsWords ls) ++ after)
+    ≡ before ++ labelWords a ++ (labelsWords ls ++ after) = simp append-assoc in
     let start : length before + labelSize * 0 ≡ length before = omega arith in
     ap₂ labelAt e start ∙ label-read before (labelsWords ls ++ after) a (w 0 h)
 label-among before (a ∷ ls) after d w (suc l) h =
     let front = before ++ labelWords a in
-    let e : before ++ ((labelWords a ++ labelsWords ls) ++ after) ≡ front ++ (labelsWords ls ++ after) = simp append-assoc in
+    let e : before ++ ((labelWords a ++ labelsWords ls) ++ after) ≡ front ++ (labelsWords ls ++ after) =
+    simp append-assoc in
     let start : length before + labelSize * suc l ≡ length front + labelSize * l =
     omega (arith, length-append before (labelWords a), length-words a (w 0 (omega arith))) in
     ap₂ labelAt e start ∙ label-among front ls after d (λ k r. w (suc k) (omega arith)) l (omega arith)

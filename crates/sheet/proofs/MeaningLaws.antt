@@ -1,5 +1,5 @@
--- The labels of n principals are a lattice as typing needs it, what a sheet declares are its labels, and its table says the same of them;
--- equal numbers and equal meaning agree.
+-- The labels of n principals are a lattice as typing needs it, what a sheet declares are its labels, and its table says
+-- the same of them; equal numbers and equal meaning agree.
 -- Assumes nothing.
 use mathlib.Core.Path.{_≡_, refl, ap₂}
 use mathlib.Core.Bool.{Bool, true, false}
@@ -54,7 +54,8 @@ module _ (s : Sheet) (fm : formed s ≡ true) where
   declared-label l = effectively-raw (s .principals) (labelNo s l) (label-no-effective s fm l)
 
   pub declared-home : (x : ℕ) → (declarationsOf s .home x) .raw ≡ labelNo s (locationNo s x .label)
-  declared-home x = effectively-raw (s .principals) (labelNo s (locationNo s x .label)) (label-no-effective s fm (locationNo s x .label))
+  declared-home x = effectively-raw (s .principals) (labelNo s (locationNo s x .label))
+      (label-no-effective s fm (locationNo s x .label))
 
   pub below-in : (l m : ℕ) → belowIn (tableOf s) l m ≡ belowNo s l m
   unfolding belowIn
@@ -70,7 +71,11 @@ module _ (s : Sheet) (fm : formed s ≡ true) where
 
 pub same-labels-on-sheets : SameLabelsOnSheets
 same-labels-on-sheets s fm =
-    record { are-effective = label-no-effective s fm; of-numbers = declared-label s fm; of-locations = declared-home s fm }
+    record {
+      are-effective = label-no-effective s fm;
+      of-numbers = declared-label s fm;
+      of-locations = declared-home s fm;
+    }
 
 pub numbers-agree-on-sheets : NumbersAgreeOnSheets
 numbers-agree-on-sheets s fm once = record { of-types = ty-once s fm once; of-labels = label-once s once }

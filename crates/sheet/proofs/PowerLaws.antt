@@ -59,10 +59,12 @@ module _ (t : List ℕ) (g : ℕ) where
   unfolding powersUpTo withPower
   none-yet zero p h = member-empty p
   none-yet (suc n) p h =
-      more-other _ (32 + n) (hasPower t g (32 + n)) p (λ e. omega arith) ∙ more-other _ n (hasPower t g n) p (λ e. omega arith) ∙ none-yet n p (omega arith)
+      more-other _ (32 + n) (hasPower t g (32 + n)) p (λ e. omega arith)
+      ∙ more-other _ n (hasPower t g n) p (λ e. omega arith) ∙ none-yet n p (omega arith)
 
   -- each power over a label below n
-  up-to-member : (n p : ℕ) → n ≤ maxLabels → p % maxLabels < n → p < maxLabels + maxLabels → member p (powersUpTo t g n) ≡ hasPower t g p
+  up-to-member : (n p : ℕ) → n ≤ maxLabels → p % maxLabels < n → p < maxLabels + maxLabels
+      → member p (powersUpTo t g n) ≡ hasPower t g p
   unfolding powersUpTo withPower
   up-to-member zero p few h l = absurd (omega arith)
   up-to-member (suc n) p few h l = on (decLt (p % 32) n) (decLt p 32) (λ k. up-to-member n p (omega arith) k l)
@@ -70,10 +72,12 @@ module _ (t : List ℕ) (g : ℕ) where
       on : Dec (p % 32 < n) → Dec (p < 32) → (p % 32 < n → member p (powersUpTo t g n) ≡ hasPower t g p)
           → member p (withPower t g (withPower t g (powersUpTo t g n) n) (32 + n)) ≡ hasPower t g p
       on (yes k) d m =
-          more-other _ (32 + n) (hasPower t g (32 + n)) p (λ e. omega arith) ∙ more-other _ n (hasPower t g n) p (λ e. omega arith) ∙ m k
+          more-other _ (32 + n) (hasPower t g (32 + n)) p (λ e. omega arith)
+          ∙ more-other _ n (hasPower t g n) p (λ e. omega arith) ∙ m k
       on (no k) (yes w) m =
           let e : p ≡ n = omega arith in
-          more-other _ (32 + n) (hasPower t g (32 + n)) p (λ i. omega arith) ∙ rw e (more-self _ n (hasPower t g n) (none-yet n n (omega arith)))
+          more-other _ (32 + n) (hasPower t g (32 + n)) p (λ i. omega arith)
+          ∙ rw e (more-self _ n (hasPower t g n) (none-yet n n (omega arith)))
       on (no k) (no w) m =
           let e : p ≡ 32 + n = omega arith in
           rw e (more-self _ (32 + n) (hasPower t g (32 + n))
@@ -125,12 +129,15 @@ module _ (powers l : ℕ) where
 module _ (t : List ℕ) (g l : ℕ) (few : labelsIn t ≤ maxLabels) (there : l < labelsIn t) where
   has-bit : (p : ℕ) → p % maxLabels ≡ l → p < maxLabels + maxLabels → member p (powersIn t g) ≡ hasPower t g p
   unfolding powersIn
-  has-bit p e h = ap (λ (n : ℕ). member p (powersUpTo t g n)) (held-there t few) ∙ up-to-member t g (labelsIn t) p few (omega arith) h
+  has-bit p e h = ap (λ (n : ℕ). member p (powersUpTo t g n)) (held-there t few)
+      ∙ up-to-member t g (labelsIn t) p few (omega arith) h
 
   pub writes-by : mayWrite (powersIn t g) l ≡ writesIn t g l
-  writes-by = sym (write-bit _ l (omega arith)) ∙ has-bit l (omega arith) (omega arith) ∙ sym (power-write t g l (omega arith))
+  writes-by =
+      sym (write-bit _ l (omega arith)) ∙ has-bit l (omega arith) (omega arith) ∙ sym (power-write t g l (omega arith))
 
   pub reads-by : mayRead (powersIn t g) l ≡ readsIn t g l
   reads-by =
       let e : 32 + l - 32 ≡ l = omega arith in
-      sym (read-bit _ l (omega arith)) ∙ has-bit (32 + l) (omega arith) (omega arith) ∙ sym (power-read t g (32 + l) (omega arith)) ∙ ap (readsIn t g) e
+      sym (read-bit _ l (omega arith)) ∙ has-bit (32 + l) (omega arith) (omega arith)
+      ∙ sym (power-read t g (32 + l) (omega arith)) ∙ ap (readsIn t g) e

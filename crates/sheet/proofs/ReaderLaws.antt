@@ -11,7 +11,8 @@ use borrow.Author.Tests.{ltb-true}
 use Rattle.logic.proofs.BooleanLaws.{bool-ext}
 use Rattle.sets.specs.Sets.{member, within, meets, single, everyone, every}
 use Rattle.sets.proofs.Walks.{by-below, every-true, every-at}
-use Rattle.sets.proofs.SetLaws.{within-elim, within-trans, meets-intro, meets-elim, meets-mono, meets-grows, member-single-self, member-everyone}
+use Rattle.sets.proofs.SetLaws.{within-elim, within-trans, meets-intro, meets-elim, meets-mono, meets-grows}
+use Rattle.sets.proofs.SetLaws.{member-single-self, member-everyone}
 use Rattle.labels.specs.Labels.{owners, readersOf, readsOf, readsUnder, effective}
 use Rattle.labels.specs.declared.Reading.{Reading}
 use Rattle.labels.specs.declared.Reading.the-variants.{Pooled, Alone}
@@ -39,12 +40,14 @@ pub nobody-reads : (s : Sheet) → formed s ≡ true → (l : ℕ) → readsNo s
 nobody-reads s f l = two-rules .of-none (s .reading) (s .principals) (formed-facts s f .some-principal) (labelNo s l)
 
 -- a reader for an owner is one of the principals
-reader-low : (s : Sheet) → formed s ≡ true → (l o p : ℕ) → o < s .principals → member p (readersOf (labelNo s l) o) ≡ true → p < s .principals
+reader-low : (s : Sheet) → formed s ≡ true → (l o p : ℕ) → o < s .principals
+    → member p (readersOf (labelNo s l) o) ≡ true → p < s .principals
 reader-low s f l o p h m =
     let z = formed-facts s f in
     let n = s .principals in
     let fit = effective-fits n (labelNo s l) (label-no-effective s f l) o (lt-of-lt-of-le h (z .few-principals)) in
-    ltb-true p n (sym (member-everyone p n) ∙ within-elim (readersOf (labelNo s l) o) (everyone n) (fit .readers-in) p m)
+    ltb-true p n
+    (sym (member-everyone p n) ∙ within-elim (readersOf (labelNo s l) o) (everyone n) (fit .readers-in) p m)
 
 pub reading-on-sheets : ReadingOnSheets
 unfolding readsUnder readsOf
@@ -106,24 +109,29 @@ unfolding readsBy
 readers-grow r g h w e = every-true owners _ (λ o l. meets-grows g h (getD (r .sets) o 0) w (every-at owners _ e o l))
 
 -- a place that has no principal is met by each group that meets the readers of an owner
-whole : (n : ℕ) (a : Label) → effective n a ≡ true → 1 ≤ n → n ≤ owners → (g : ℕ) → every owners (λ (o : ℕ). meets g (readersOf a o)) ≡ readsOf n g a
+whole : (n : ℕ) (a : Label) → effective n a ≡ true → 1 ≤ n → n ≤ owners → (g : ℕ)
+    → every owners (λ (o : ℕ). meets g (readersOf a o)) ≡ readsOf n g a
 unfolding readsOf
-whole n a e p f g = bool-ext _ _ (λ t. every-true n _ (λ o l. every-at owners _ t o (lt-of-lt-of-le l f))) (λ t. every-true owners _ (λ o l. at t o l))
+whole n a e p f g = bool-ext _ _ (λ t. every-true n _ (λ o l. every-at owners _ t o (lt-of-lt-of-le l f)))
+    (λ t. every-true owners _ (λ o l. at t o l))
   where
     at : every n (λ (o : ℕ). meets g (readersOf a o)) ≡ true → (o : ℕ) → o < owners → meets g (readersOf a o) ≡ true
     at t o l =
         by-below o n (λ b. every-at n _ t o b)
         (λ b.
-        let all = subst (λ (x : ℕ). within x (readersOf a o) ≡ true) (closed-other n o b) (effective-fits n a e o l .closed-in) in
+        let all =
+        subst (λ (x : ℕ). within x (readersOf a o) ≡ true) (closed-other n o b) (effective-fits n a e o l .closed-in) in
         meets-mono g (readersOf a 0) (readersOf a o)
-        (within-trans (readersOf a 0) (everyone n) (readersOf a o) (effective-fits n a e 0 (lt-of-lt-of-le p f) .readers-in) all)
+        (within-trans (readersOf a 0) (everyone n) (readersOf a o)
+        (effective-fits n a e 0 (lt-of-lt-of-le p f) .readers-in) all)
         (every-at n _ t 0 p))
 
 -- one set in every place
 same-sets : (x g : ℕ) → every owners (λ (o : ℕ). meets g (getD (replicate owners x) o 0)) ≡ meets g x
 same-sets x g =
     let at : (o : ℕ) → o < owners → getD (replicate owners x) o 0 ≡ x = λ o l. getD-replicate owners o x 0 l in
-    bool-ext _ _ (λ t. rw (at 0 (omega arith)) at (every-at owners _ t 0 (omega arith))) (λ t. every-true owners _ (λ o l. rw (at o l) t))
+    bool-ext _ _ (λ t. rw (at 0 (omega arith)) at (every-at owners _ t 0 (omega arith)))
+    (λ t. every-true owners _ (λ o l. rw (at o l) t))
 
 -- the sets that a group must meet, by either rule
 meets-to-read : (rule : Reading) (n : ℕ) (a : Label) → effective n a ≡ true → 1 ≤ n → n ≤ owners → (g : ℕ)
@@ -138,4 +146,5 @@ unfolding readsBy readersIn
 readers-of-label s f l g =
     let z = formed-facts s f in
     rw (reading-in s f, principals-in s f, label-in s f l)
-    (meets-to-read (s .reading) (s .principals) (labelNo s l) (label-no-effective s f l) (z .some-principal) (z .few-principals) g)
+    (meets-to-read (s .reading) (s .principals) (labelNo s l) (label-no-effective s f l) (z .some-principal)
+    (z .few-principals) g)

@@ -16,7 +16,8 @@ use Rattle.labels.proofs.OrderLaws.{same-refl}
 use Rattle.sheet.specs.declared.Kind.{Kind}
 use Rattle.sheet.specs.declared.Kind.the-variants.{Sum, Pair}
 use Rattle.sheet.specs.Internal.Tables.{noParts, givenParts, typeParts, partsNo}
-use Rattle.sheet.specs.Sheet.{Compound, Sheet, typeCount, labelsOf, labelNo, labelCount, among, repeated, sameKind, sameCompound, givenSums, repeats}
+use Rattle.sheet.specs.Sheet.{Compound, Sheet, typeCount, labelsOf, labelNo, labelCount, among, repeated}
+use Rattle.sheet.specs.Sheet.{sameKind, sameCompound, givenSums, repeats}
 
 module _ {A : Type 0} (same : A → A → Bool) (d : A) where
   among-at : (x : A) (xs : List A) (j : ℕ) → j < length xs → same x (getD xs j d) ≡ true → among same x xs ≡ true
@@ -25,7 +26,8 @@ module _ {A : Type 0} (same : A → A → Bool) (d : A) where
   among-at x (y ∷ ys) zero h q = either-left _ _ q
   among-at x (y ∷ ys) (suc j) h q = either-right _ _ (among-at x ys j (omega arith) q)
 
-  repeated-at : (xs : List A) (i j : ℕ) → i < j → j < length xs → same (getD xs i d) (getD xs j d) ≡ true → repeated same xs ≡ true
+  repeated-at : (xs : List A) (i j : ℕ) → i < j → j < length xs → same (getD xs i d) (getD xs j d) ≡ true
+      → repeated same xs ≡ true
   unfolding repeated
   repeated-at [] i j l h q = absurd (omega arith)
   repeated-at (x ∷ xs) zero zero l h q = absurd (omega arith)
@@ -50,13 +52,15 @@ unfolding sameKind
 same-kind Sum = refl
 same-kind Pair = refl
 
-compounds-same : (a b : Compound) → a .kind ≡ b .kind → a .left ≡ b .left → a .right ≡ b .right → sameCompound a b ≡ true
+compounds-same : (a b : Compound) → a .kind ≡ b .kind → a .left ≡ b .left → a .right ≡ b .right
+    → sameCompound a b ≡ true
 unfolding sameCompound
 compounds-same a b k p q = both-true (rw k (same-kind (b .kind))) (both-true (eq-eqb _ _ p) (eq-eqb _ _ q))
 
 -- two types of one kind with the same parts have the same number
 pub parts-once : (s : Sheet) → repeats s ≡ false → (m n : ℕ) → 3 ≤ m → m < typeCount s → 3 ≤ n → n < typeCount s
-    → partsNo s m .kind ≡ partsNo s n .kind → partsNo s m .left ≡ partsNo s n .left → partsNo s m .right ≡ partsNo s n .right → m ≡ n
+    → partsNo s m .kind ≡ partsNo s n .kind → partsNo s m .left ≡ partsNo s n .left
+    → partsNo s m .right ≡ partsNo s n .right → m ≡ n
 unfolding repeats partsNo typeParts typeCount givenParts
 parts-once s once zero n h k h′ k′ e p q = absurd (omega arith)
 parts-once s once (suc zero) n h k h′ k′ e p q = absurd (omega arith)
@@ -71,9 +75,11 @@ parts-once s once (suc (suc (suc i))) (suc (suc (suc j))) h k h′ k′ e p q =
     omega (arith, i≡j)
 
 -- two labels with the same sets have the same number
-pub label-once : (s : Sheet) → repeats s ≡ false → (l m : ℕ) → l < labelCount s → m < labelCount s → labelNo s l ≡ labelNo s m → l ≡ m
+pub label-once : (s : Sheet) → repeats s ≡ false → (l m : ℕ) → l < labelCount s → m < labelCount s
+    → labelNo s l ≡ labelNo s m → l ≡ m
 unfolding repeats labelNo labelsOf labelCount
 label-once s once l m h k p =
     let long = length-map (s .labels) (labelOf (s .principals)) in
-    same-place sameOf (bottomOf (everyone (s .principals))) (labelsOf s) (neither _ _ once .1) l m (omega arith) (omega arith)
+    same-place sameOf (bottomOf (everyone (s .principals))) (labelsOf s) (neither _ _ once .1) l m
+    (omega arith) (omega arith)
     (rw p (same-refl _)) (rw p (same-refl _))

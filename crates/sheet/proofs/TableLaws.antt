@@ -16,9 +16,14 @@ use Rattle.labels.specs.declared.Reading.{Reading}
 use Rattle.labels.specs.declared.Reading.the-variants.{Pooled, Alone}
 use Rattle.sheet.specs.declared.Kind.{Kind}
 use Rattle.sheet.specs.declared.Kind.the-variants.{Sum, Pair}
-use Rattle.sheet.specs.Sheet.{Compound, Location, Sheet, typeCount, labelsOf, labelCount, locationNo, locationCount, formed, sameKind}
+use Rattle.sheet.specs.Sheet.{Compound, Location, Sheet, typeCount, labelsOf, labelCount, locationNo}
+use Rattle.sheet.specs.Sheet.{locationCount, formed, sameKind}
 use Rattle.sheet.specs.Padding.{padded}
-use Rattle.sheet.specs.Internal.Tables.{partsRoom, locationsRoom, labelsRoom, partsBase, locationsBase, labelsBase, partWords, locationWords, labelsWords, tableOf, principalsIn, everyoneIn, typesIn, labelsIn, locationsIn, readingWord, readingIn, entryIn, leftIn, rightWordIn, rightIn, kindIn, typeIn, homeIn, maxTypes, rightWord, noParts, typeParts, partsNo}
+use Rattle.sheet.specs.Internal.Tables.{partsRoom, locationsRoom, labelsRoom, partsBase, locationsBase}
+use Rattle.sheet.specs.Internal.Tables.{labelsBase, partWords, locationWords, labelsWords, tableOf, principalsIn}
+use Rattle.sheet.specs.Internal.Tables.{everyoneIn, typesIn, labelsIn, locationsIn, readingWord, readingIn}
+use Rattle.sheet.specs.Internal.Tables.{entryIn, leftIn, rightWordIn, rightIn, kindIn, typeIn, homeIn, maxTypes}
+use Rattle.sheet.specs.Internal.Tables.{rightWord, noParts, typeParts, partsNo}
 use Rattle.sheet.proofs.FormLaws.{Formed, formed-facts, type-count, parts-count, parts-there}
 use Rattle.sheet.proofs.Words.{length-padded, length-entries, entry-at, entry-of}
 
@@ -56,7 +61,8 @@ module _ (s : Sheet) (fm : formed s ≡ true) where
 -- ---- the four blocks
 
 unfoldable pub heading : Sheet → List ℕ
-heading s = s .principals ∷ everyone (s .principals) ∷ typeCount s ∷ labelCount s ∷ locationCount s ∷ readingWord (s .reading) ∷ 0 ∷ 0 ∷ []
+heading s = s .principals ∷ everyone (s .principals) ∷ typeCount s ∷ labelCount s ∷ locationCount s
+    ∷ readingWord (s .reading) ∷ 0 ∷ 0 ∷ []
 
 unfoldable pub partBlock : Sheet → List ℕ
 partBlock s = padded partsRoom (partWords (typeParts s))
@@ -113,14 +119,25 @@ module _ (s : Sheet) (fm : formed s ≡ true) where
 
   types-fit : length (partWords (typeParts s)) ≤ partsRoom
   types-fit =
-      omega (arith, length-entries (λ (p : Compound). p .left) (λ (p : Compound). rightWord (p .kind) (p .right)) (typeParts s), parts-count s, type-count s, facts .few-compounds)
+      omega (
+        arith,
+        length-entries (λ (p : Compound). p .left) (λ (p : Compound). rightWord (p .kind) (p .right)) (typeParts s),
+        parts-count s,
+        type-count s,
+        facts .few-compounds,
+      )
 
   locations-fit : length (locationWords (s .locations)) ≤ locationsRoom
-  locations-fit = omega (arith, length-entries (λ (x : Location). x .type) (λ (x : Location). x .label) (s .locations), facts .few-locations)
+  locations-fit = omega (
+    arith,
+    length-entries (λ (x : Location). x .type) (λ (x : Location). x .label) (s .locations),
+    facts .few-locations,
+  )
 
   pub locations-start : length (toLocations s) ≡ locationsBase
   unfolding toLocations heading partBlock
-  locations-start = length-append (heading s) (partBlock s) ∙ omega (arith, length-padded partsRoom (partWords (typeParts s)) types-fit)
+  locations-start = length-append (heading s) (partBlock s)
+      ∙ omega (arith, length-padded partsRoom (partWords (typeParts s)) types-fit)
 
   pub labels-start : length (toLabels s) ≡ labelsBase
   unfolding toLabels locationBlock
@@ -131,13 +148,15 @@ module _ (s : Sheet) (fm : formed s ≡ true) where
   -- ---- parts of types
 
   part-in : (f : Compound → ℕ) (j : ℕ) → f (noParts) ≡ 0 → j < 2
-      → ((i : ℕ) → i < length (typeParts s) → getD (partWords (typeParts s)) (j + 2 * i) 0 ≡ f (getD (typeParts s) i (noParts)))
+      → ((i : ℕ) → i < length (typeParts s)
+      → getD (partWords (typeParts s)) (j + 2 * i) 0 ≡ f (getD (typeParts s) i (noParts)))
       → (i : ℕ) → entryIn (tableOf s) (typesIn (tableOf s)) (partsBase + j) i ≡ f (partsNo s i)
   unfolding tableOf partsNo heading
   part-in f j none two word i =
       ap (λ (k : ℕ). entryIn (tableOf s) k (partsBase + j) i) (types-in s fm ∙ sym (parts-count s))
       ∙ entry-of (typeParts s) (noParts) f j (heading s) (partWords (typeParts s))
-      (padded locationsRoom (locationWords (s .locations)) ++ padded labelsRoom (labelsWords (labelsOf s))) partsRoom (partsBase + j)
+      (padded locationsRoom (locationWords (s .locations)) ++ padded labelsRoom (labelsWords (labelsOf s)))
+      partsRoom (partsBase + j)
       none refl two (length-entries _ _ (typeParts s)) types-fit word i
 
   pub left-in : (n : ℕ) → leftIn (tableOf s) n ≡ partsNo s n .left
@@ -147,7 +166,8 @@ module _ (s : Sheet) (fm : formed s ≡ true) where
   pub right-word-in : (n : ℕ) → rightWordIn (tableOf s) n ≡ rightWord (partsNo s n .kind) (partsNo s n .right)
   unfolding rightWordIn rightWord
   right-word-in n =
-      part-in (λ (p : Compound). rightWord (p .kind) (p .right)) 1 refl (omega arith) (λ i h. entry-at _ _ (typeParts s) _ i h .1) n
+      part-in (λ (p : Compound). rightWord (p .kind) (p .right)) 1 refl (omega arith)
+      (λ i h. entry-at _ _ (typeParts s) _ i h .1) n
 
   -- every right part is a number of a type
   pub right-below : (n : ℕ) → partsNo s n .right < maxTypes
@@ -161,24 +181,31 @@ module _ (s : Sheet) (fm : formed s ≡ true) where
 
   pub kind-in : (n : ℕ) → kindIn (tableOf s) n ≡ partsNo s n .kind
   unfolding kindIn
-  kind-in n = ap (λ (w : ℕ). cond (leb maxTypes w) Pair Sum) (right-word-in n) ∙ right-word-kind (partsNo s n .kind) (partsNo s n .right)
+  kind-in n = ap (λ (w : ℕ). cond (leb maxTypes w) Pair Sum) (right-word-in n)
+      ∙ right-word-kind (partsNo s n .kind) (partsNo s n .right)
 
   -- ---- locations
 
   location-in : (f : Location → ℕ) (j : ℕ) → f (record { type = 0; label = 0 }) ≡ 0 → j < 2
-      → ((i : ℕ) → i < length (s .locations) → getD (locationWords (s .locations)) (j + 2 * i) 0 ≡ f (getD (s .locations) i (record { type = 0; label = 0 })))
+      → ((i : ℕ) → i < length (s .locations)
+      → getD (locationWords (s .locations)) (j + 2 * i) 0 ≡ f (getD (s .locations) i (record { type = 0; label = 0 })))
       → (x : ℕ) → entryIn (tableOf s) (locationsIn (tableOf s)) (locationsBase + j) x ≡ f (locationNo s x)
   unfolding locationNo locationCount locationBlock
   location-in f j none two word x =
       ap (λ (t : List ℕ). entryIn t (locationsIn (tableOf s)) (locationsBase + j) x) (from-locations s)
-      ∙ ap (λ (c : ℕ). entryIn (toLocations s ++ (locationBlock s ++ labelBlock s)) c (locationsBase + j) x) (locations-in s fm)
-      ∙ entry-of (s .locations) (record { type = 0; label = 0 }) f j (toLocations s) (locationWords (s .locations)) (labelBlock s) locationsRoom
-      (locationsBase + j) none (ap (λ (n : ℕ). n + j) (sym locations-start)) two (length-entries _ _ (s .locations)) locations-fit word x
+      ∙ ap (λ (c : ℕ). entryIn (toLocations s ++ (locationBlock s ++ labelBlock s)) c (locationsBase + j) x)
+      (locations-in s fm)
+      ∙ entry-of (s .locations) (record { type = 0; label = 0 }) f j (toLocations s) (locationWords (s .locations))
+      (labelBlock s) locationsRoom
+      (locationsBase + j) none (ap (λ (n : ℕ). n + j) (sym locations-start)) two
+      (length-entries _ _ (s .locations)) locations-fit word x
 
   pub type-in : (x : ℕ) → typeIn (tableOf s) x ≡ locationNo s x .type
   unfolding typeIn
-  type-in x = location-in (λ (y : Location). y .type) 0 refl (omega arith) (λ i h. entry-at _ _ (s .locations) _ i h .0) x
+  type-in x =
+      location-in (λ (y : Location). y .type) 0 refl (omega arith) (λ i h. entry-at _ _ (s .locations) _ i h .0) x
 
   pub home-in : (x : ℕ) → homeIn (tableOf s) x ≡ locationNo s x .label
   unfolding homeIn
-  home-in x = location-in (λ (y : Location). y .label) 1 refl (omega arith) (λ i h. entry-at _ _ (s .locations) _ i h .1) x
+  home-in x =
+      location-in (λ (y : Location). y .label) 1 refl (omega arith) (λ i h. entry-at _ _ (s .locations) _ i h .1) x

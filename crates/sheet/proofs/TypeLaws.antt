@@ -15,7 +15,8 @@ use Rattle.language.specs.Syntax.{Ty, t-int, t-err, t-pkg, t-sum, t-pair}
 use Rattle.sheet.specs.declared.Kind.{Kind}
 use Rattle.sheet.specs.declared.Kind.the-variants.{Sum, Pair}
 use Rattle.sheet.specs.Internal.Tables.{noParts, givenParts, typeParts, partsNo}
-use Rattle.sheet.specs.Sheet.{Compound, Sheet, givenTypes, compoundOf, typesFrom, tyOf, typeCount, earlierTypes, formed, repeats}
+use Rattle.sheet.specs.Sheet.{Compound, Sheet, givenTypes, compoundOf, typesFrom, tyOf, typeCount, earlierTypes}
+use Rattle.sheet.specs.Sheet.{formed, repeats}
 use Rattle.sheet.proofs.RepeatLaws.{parts-once}
 use Rattle.sheet.proofs.FormLaws.{formed-facts, type-count, parts-earlier}
 
@@ -34,24 +35,33 @@ unfolding typesFrom with-type
 length-types ts [] = sym (add-zero (length ts))
 length-types ts (s ∷ ss) = omega (arith, length-types (with-type ts s) ss, length-one-more ts s)
 
-types-kept : (ts : List Ty) (ss : List Compound) (n : ℕ) (d : Ty) → n < length ts → getD (typesFrom ts ss) n d ≡ getD ts n d
+types-kept : (ts : List Ty) (ss : List Compound) (n : ℕ) (d : Ty) → n < length ts
+    → getD (typesFrom ts ss) n d ≡ getD ts n d
 unfolding typesFrom with-type
 types-kept ts [] n d h = refl
-types-kept ts (s ∷ ss) n d h = types-kept (with-type ts s) ss n d (omega (arith, length-one-more ts s)) ∙ List·getD-append ts _ d n h
+types-kept ts (s ∷ ss) n d h =
+    types-kept (with-type ts s) ss n d (omega (arith, length-one-more ts s)) ∙ List·getD-append ts _ d n h
 
-types-compound : (ts : List Ty) (ss : List Compound) → earlierTypes (length ts) ss ≡ true → (i : ℕ) (p : Compound) → i < length ss
+types-compound : (ts : List Ty) (ss : List Compound) → earlierTypes (length ts) ss ≡ true
+    → (i : ℕ) (p : Compound) → i < length ss
     → getD (typesFrom ts ss) (length ts + i) t-int
-    ≡ compoundOf (getD ss i p .kind) (getD (typesFrom ts ss) (getD ss i p .left) t-int) (getD (typesFrom ts ss) (getD ss i p .right) t-int)
+    ≡ compoundOf (getD ss i p .kind) (getD (typesFrom ts ss) (getD ss i p .left) t-int)
+    (getD (typesFrom ts ss) (getD ss i p .right) t-int)
 unfolding typesFrom with-type earlierTypes
 types-compound ts [] e i p h = absurd (omega arith)
 types-compound ts (s ∷ ss) e zero p h =
     let parts = both-left _ _ e in
     let kept-left = types-kept ts (s ∷ ss) (s .left) t-int (ltb-true _ _ (both-left _ _ parts)) in
     let kept-right = types-kept ts (s ∷ ss) (s .right) t-int (ltb-true _ _ (both-right _ _ parts)) in
-    rw (add-zero, types-kept (with-type ts s) ss (length ts) t-int (omega (arith, length-one-more ts s)), getD-append-seam)
+    rw (
+      add-zero,
+      types-kept (with-type ts s) ss (length ts) t-int (omega (arith, length-one-more ts s)),
+      getD-append-seam,
+    )
     (sym (ap₂ (compoundOf (s .kind)) kept-left kept-right))
 types-compound ts (s ∷ ss) e (suc i) p h =
-    rw (length-one-more ts s, suc-add, ← add-suc) at (types-compound (with-type ts s) ss (rw (length-one-more ts s) (both-right _ _ e)) i p (omega arith))
+    rw (length-one-more ts s, suc-add, ← add-suc) at
+    (types-compound (with-type ts s) ss (rw (length-one-more ts s) (both-right _ _ e)) i p (omega arith))
 
 -- ---- by number
 
@@ -82,10 +92,12 @@ ty-4 s = given s 4 (omega arith)
 -- a number past the last type names int
 pub ty-past : (s : Sheet) (n : ℕ) → typeCount s ≤ n → tyOf s n ≡ t-int
 unfolding tyOf givenTypes
-ty-past s n h = List·getD-eq-default (typesFrom givenTypes (s .compounds)) t-int {n = n} (omega (arith, type-count s, length-types givenTypes (s .compounds)))
+ty-past s n h = List·getD-eq-default (typesFrom givenTypes (s .compounds))
+    t-int {n = n} (omega (arith, type-count s, length-types givenTypes (s .compounds)))
 
 later : (s : Sheet) → formed s ≡ true → (n i : ℕ) → n ≡ 5 + i → i < length (s .compounds) → (p : Compound)
-    → tyOf s n ≡ compoundOf (getD (s .compounds) i p .kind) (tyOf s (getD (s .compounds) i p .left)) (tyOf s (getD (s .compounds) i p .right))
+    → tyOf s n ≡ compoundOf (getD (s .compounds) i p .kind) (tyOf s (getD (s .compounds) i p .left))
+    (tyOf s (getD (s .compounds) i p .right))
 unfolding tyOf givenTypes
 later s fm n i e h p = rw e (types-compound givenTypes (s .compounds) (formed-facts s fm .compounds-earlier) i p h)
 

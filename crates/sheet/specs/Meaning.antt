@@ -4,7 +4,8 @@ use mathlib.Core.Path.{_≡_, refl}
 use mathlib.Core.Bool.{Bool, true, false}
 use Prim.Native.Nat.{ℕ}
 use Rattle.sets.specs.Sets.{everyone}
-use Rattle.labels.specs.Labels.{belowOf, joinOf, confidentialityOf, integrityOf, bottomOf, readsUnder, writesOf, effective, EffectiveLabel}
+use Rattle.labels.specs.Labels.{belowOf, joinOf, confidentialityOf, integrityOf}
+use Rattle.labels.specs.Labels.{bottomOf, readsUnder, writesOf, effective, EffectiveLabel}
 use Rattle.labels.specs.declared.Label.{Label}
 use Rattle.labels.proofs.EffectiveLaws.{bottom-effective, join-effective, C-effective, I-effective}
 use Rattle.language.specs.Syntax.{Script}

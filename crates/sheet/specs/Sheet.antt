@@ -49,7 +49,8 @@ compoundOf Pair a b = t-pair a b
 -- the types after further sums and pairs, each of two earlier ones
 unfoldable pub typesFrom : List Ty → List Compound → List Ty
 typesFrom ts [] = ts
-typesFrom ts (c ∷ cs) = typesFrom (ts ++ (compoundOf (c .kind) (getD ts (c .left) t-int) (getD ts (c .right) t-int) ∷ [])) cs
+typesFrom ts (c ∷ cs) =
+    typesFrom (ts ++ (compoundOf (c .kind) (getD ts (c .left) t-int) (getD ts (c .right) t-int) ∷ [])) cs
 
 -- the type that a number names; int for a number that names none
 unfoldable pub tyOf : Sheet → ℕ → Ty

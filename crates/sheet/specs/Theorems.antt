@@ -16,8 +16,8 @@ use Rattle.sheet.specs.Meaning.{labelsOver, declarationsOf, readsNo}
 abbrev pub LeastLabelLawsHold : Type 0
 LeastLabelLawsHold = (n : ℕ) → LeastLabelLaws (labelsOver n)
 
--- Typing and running go by the same labels: every label of the sheet is effective for its principals, so that what typing takes it for
--- is the label itself.
+-- Typing and running go by the same labels: every label of the sheet is effective for its principals, so that what
+-- typing takes it for is the label itself.
 pub record SameLabels (s : Sheet) : Type 0 where
   pub are-effective : (l : ℕ) → effective (s .principals) (labelNo s l) ≡ true
   pub of-numbers : (l : ℕ) → (declarationsOf s .label l) .raw ≡ labelNo s l
@@ -35,13 +35,15 @@ pub record NumbersAgree (s : Sheet) : Type 0 where
 abbrev pub NumbersAgreeOnSheets : Type 0
 NumbersAgreeOnSheets = (s : Sheet) → formed s ≡ true → repeats s ≡ false → NumbersAgree s
 
--- Whether a group reads label l (the scope, and request (g)). Pooled: for every owner one of its members is an effective
--- reader. Alone: one of its members is an effective reader for every owner.
+-- Whether a group reads label l (the scope, and request (g)). Pooled: for every owner one of its members is an
+-- effective reader. Alone: one of its members is an effective reader for every owner.
 pub record ReadingMeans (s : Sheet) (g l : ℕ) : Type 0 where
   pub pooled : s .reading ≡ Pooled
-      → (readsNo s g l ≡ true) ↔ ((o : ℕ) → o < s .principals → (p : ℕ) × (member p g ≡ true) × (member p (readersOf (labelNo s l) o) ≡ true))
+      → (readsNo s g l ≡ true)
+      ↔ ((o : ℕ) → o < s .principals → (p : ℕ) × (member p g ≡ true) × (member p (readersOf (labelNo s l) o) ≡ true))
   pub alone : s .reading ≡ Alone
-      → (readsNo s g l ≡ true) ↔ ((p : ℕ) × (member p g ≡ true) × ((o : ℕ) → o < s .principals → member p (readersOf (labelNo s l) o) ≡ true))
+      → (readsNo s g l ≡ true)
+      ↔ ((p : ℕ) × (member p g ≡ true) × ((o : ℕ) → o < s .principals → member p (readersOf (labelNo s l) o) ≡ true))
 
 abbrev pub ReadingOnSheets : Type 0
 ReadingOnSheets = (s : Sheet) → formed s ≡ true → (g l : ℕ) → ReadingMeans s g l

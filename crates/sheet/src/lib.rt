@@ -5,7 +5,9 @@ pub mod write; // write.rt: what is stored where the sheet grows
 
 ghost use mathlib.Core.Path.{_≡_};
 ghost use lib.ListN.{getD};
-ghost use Rattle.sheet.specs.Internal.Tables.{partsPlace, labelPlace, entryIn, principalsIn, everyoneIn, typesIn, labelsIn, locationsIn, leftIn, rightIn, typeIn, rightWordIn, homeIn, labelIn, belowIn, readingIn, readsIn, writesIn};
+ghost use Rattle.sheet.specs.Internal.Tables.{partsPlace, labelPlace, entryIn, principalsIn, everyoneIn, typesIn};
+ghost use Rattle.sheet.specs.Internal.Tables.{labelsIn, locationsIn, leftIn, rightIn, typeIn, rightWordIn};
+ghost use Rattle.sheet.specs.Internal.Tables.{homeIn, labelIn, belowIn, readingIn, readsIn, writesIn};
 ghost use Rattle.labels.specs.Labels.{readsOf};
 ghost use Rattle.labels.specs.Internal.Sole.{soleReadersOf};
 ghost use Rattle.sheet.specs.Internal.TypeTest.{isOf, isSum, isPair};

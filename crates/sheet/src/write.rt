@@ -3,7 +3,8 @@
 ghost use mathlib.Core.Path.{_≡_};
 ghost use Prim.Native.Nat.{_+_, _*_, _<_, _≤_};
 ghost use Rattle.sheet.specs.Internal.Tables.{tableWords, rightWord};
-ghost use Rattle.sheet.specs.Internal.Writers.{low, principalsPut, readingPut, entryPut, compoundPut, locationPut, openPut, policyPut};
+ghost use Rattle.sheet.specs.Internal.Writers.{low, principalsPut, readingPut, entryPut, compoundPut};
+ghost use Rattle.sheet.specs.Internal.Writers.{locationPut, openPut, policyPut};
 use super::ALONE;
 use super::ERROR;
 use super::EVERYONE;

@@ -21,23 +21,29 @@ use Rattle.labels.specs.declared.Reading.the-variants.{Pooled, Alone}
 use Rattle.sheet.specs.Internal.Tables.{typeParts}
 use Rattle.sheet.specs.declared.Kind.{Kind}
 use Rattle.sheet.specs.declared.Kind.the-variants.{Sum, Pair}
-use Rattle.sheet.specs.Sheet.{Compound, Location, Sheet, typeCount, labelCount, locationCount, earlierTypes, rising, eachRising, eachNamed, maxPrincipals, maxCompounds, maxLabels, maxLocations, formed}
+use Rattle.sheet.specs.Sheet.{Compound, Location, Sheet, typeCount, labelCount, locationCount, earlierTypes, rising}
+use Rattle.sheet.specs.Sheet.{eachRising, eachNamed, maxPrincipals, maxCompounds, maxLabels, maxLocations, formed}
 use Rattle.sheet.proofs.FormLaws.{Formed, formed-facts, type-count}
 use Rattle.sheet_text.specs.declared.line.Line.{Line}
 use Rattle.sheet_text.specs.declared.line.Line.the-variants.{P, R, T, Q, L, O, X}
-use Rattle.sheet_text.specs.Lines.{readingLines, typeLine, compoundLine, policyLine, locationLine, each, labelLines, linesThen, sheetLines}
+use Rattle.sheet_text.specs.Lines.{readingLines, typeLine, compoundLine, policyLine, locationLine, each}
+use Rattle.sheet_text.specs.Lines.{labelLines, linesThen, sheetLines}
 use Rattle.sheet.specs.Internal.Growth.{bareSheet, addReading, addCompound, addLabel, addPolicy, addLocation}
-use Rattle.sheet_text.specs.Internal.Building.{leastOwner, isPooled, readingFits, compoundFits, labelFits, policyFits, locationFits, begin, addType, addLine, addLineOn, addLines, build}
+use Rattle.sheet_text.specs.Internal.Building.{leastOwner, isPooled, readingFits, compoundFits, labelFits}
+use Rattle.sheet_text.specs.Internal.Building.{policyFits, locationFits, begin, addType, addLine, addLineOn}
+use Rattle.sheet_text.specs.Internal.Building.{addLines, build}
 use Rattle.sheet_text.proofs.LineLaws.{Fits, AllFit, type-line-fits}
 use Rattle.sheet.proofs.GrowthLaws.{length-more, length-toLast}
-use Rattle.sheet_text.proofs.GrowthLaws.{no-entries, each-more, labels-more, policies-more, earlier-more, each-rising-more, each-rising-last, each-named-more}
+use Rattle.sheet_text.proofs.GrowthLaws.{no-entries, each-more, labels-more, policies-more, earlier-more}
+use Rattle.sheet_text.proofs.GrowthLaws.{each-rising-more, each-rising-last, each-named-more}
 
 pub formed-made : (s : Sheet) → Formed s → formed s ≡ true
 unfolding formed
 formed-made s f =
     both-true (both-true (le-leb _ _ (f .some-principal)) (le-leb _ _ (f .few-principals)))
     (both-true (both-true (le-leb _ _ (f .few-compounds)) (f .compounds-earlier))
-    (both-true (both-true (le-leb _ _ (f .few-labels)) (f .labels-rising)) (both-true (le-leb _ _ (f .few-locations)) (f .locations-named))))
+    (both-true (both-true (le-leb _ _ (f .few-labels)) (f .labels-rising))
+    (both-true (le-leb _ _ (f .few-locations)) (f .locations-named))))
 
 -- ---- a line that is taken is the next one of the new sheet, which is of the right form
 
@@ -82,7 +88,8 @@ module _ (s : Sheet) (fm : formed s ≡ true) where
       let x0 = no-locations s (both-right _ _ (both-right _ _ bare)) in
       record { next = λ rest. rw (one, r, c, l, x0); right = fm; fits = omega arith }
 
-  take-compound : (k : Kind) (a b : ℕ) → compoundFits s a b ≡ true → Taken s (typeLine k a b) (addCompound s (record { kind = k; left = a; right = b }))
+  take-compound : (k : Kind) (a b : ℕ) → compoundFits s a b ≡ true
+      → Taken s (typeLine k a b) (addCompound s (record { kind = k; left = a; right = b }))
   unfolding compoundFits addCompound linesThen
   take-compound k a b e =
       let x : Compound = record { kind = k; left = a; right = b } in
@@ -96,14 +103,16 @@ module _ (s : Sheet) (fm : formed s ≡ true) where
       let x0 = no-locations s (both-right _ _ order) in
       let count = type-count s in
       record {
-        next = λ rest. unfold labelLines each compoundLine in (rw (l, x0) (ap (opening s) (each-more compoundLine (s .compounds) x rest)));
+        next = λ rest. unfold labelLines each compoundLine in
+            (rw (l, x0) (ap (opening s) (each-more compoundLine (s .compounds) x rest)));
         right =
             formed-made (addCompound s x)
             (record {
               some-principal = facts .some-principal;
               few-principals = facts .few-principals;
               few-compounds = omega (arith, length-more (s .compounds) x);
-              compounds-earlier = earlier-more 5 (s .compounds) x (facts .compounds-earlier) (omega arith) (omega arith);
+              compounds-earlier =
+                  earlier-more 5 (s .compounds) x (facts .compounds-earlier) (omega arith) (omega arith);
               few-labels = facts .few-labels;
               labels-rising = facts .labels-rising;
               few-locations = facts .few-locations;
@@ -118,7 +127,8 @@ module _ (s : Sheet) (fm : formed s ≡ true) where
       let few : length (s .labels) < maxLabels = ltb-true _ _ (both-right _ _ e) in
       let x0 = no-locations s (both-left _ _ e) in
       record {
-        next = λ rest. unfold each in (rw x0 (ap (λ ls. opening s (each compoundLine (s .compounds) ls)) (labels-more (s .labels) rest)));
+        next = λ rest. unfold each in
+            (rw x0 (ap (λ ls. opening s (each compoundLine (s .compounds) ls)) (labels-more (s .labels) rest)));
         right =
             formed-made (addLabel s)
             (record {
@@ -136,7 +146,9 @@ module _ (s : Sheet) (fm : formed s ≡ true) where
 
   -- a set of the principals has room in a set
   narrow : (r : ℕ) → r < 2 ^ s .principals → r < 2 ^ width
-  narrow r h = let m : 2 ^ s .principals ≤ 2 ^ width = pow-mono {i = s .principals} {j = width} (omega (arith, facts .few-principals)) in lt-of-lt-of-le h m
+  narrow r h =
+      let m : 2 ^ s .principals ≤ 2 ^ width =
+      pow-mono {i = s .principals} {j = width} (omega (arith, facts .few-principals)) in lt-of-lt-of-le h m
 
   take-policy : (o r w : ℕ) → policyFits s o r w ≡ true → Taken s (O o r w) (addPolicy s (policy o r w))
   unfolding policyFits addPolicy linesThen labelCount Fits each policyLine rising leastOwner eachNamed
@@ -151,7 +163,8 @@ module _ (s : Sheet) (fm : formed s ≡ true) where
       let low : o < s .principals = ltb-true _ _ (both-right _ _ rises) in
       record {
         next =
-            λ rest. rw x0 (ap (λ ls. opening s (each compoundLine (s .compounds) ls)) (policies-more p (s .labels) rest some-label));
+            λ rest. rw x0
+            (ap (λ ls. opening s (each compoundLine (s .compounds) ls)) (policies-more p (s .labels) rest some-label));
         right =
             formed-made (addPolicy s p)
             (record {
@@ -166,11 +179,15 @@ module _ (s : Sheet) (fm : formed s ≡ true) where
               few-locations = facts .few-locations;
               locations-named = rw x0;
             });
-        fits =
-            (omega (arith, facts .few-principals), narrow r (ltb-true _ _ (both-left _ _ sets)), narrow w (ltb-true _ _ (both-right _ _ sets)));
+        fits = (
+          omega (arith, facts .few-principals),
+          narrow r (ltb-true _ _ (both-left _ _ sets)),
+          narrow w (ltb-true _ _ (both-right _ _ sets)),
+        );
       }
 
-  take-location : (t l : ℕ) → locationFits s t l ≡ true → Taken s (X t l) (addLocation s (record { type = t; label = l }))
+  take-location : (t l : ℕ) → locationFits s t l ≡ true
+      → Taken s (X t l) (addLocation s (record { type = t; label = l }))
   unfolding locationFits addLocation linesThen locationCount labelCount Fits typeCount typeParts
   take-location t l e =
       let x : Location = record { type = t; label = l } in
@@ -182,7 +199,8 @@ module _ (s : Sheet) (fm : formed s ≡ true) where
       record {
         next =
             λ rest. unfold locationLine in
-            (ap (λ ls. opening s (each compoundLine (s .compounds) (labelLines (s .labels) ls))) (each-more locationLine (s .locations) x rest));
+            (ap (λ ls. opening s (each compoundLine (s .compounds) (labelLines (s .labels) ls)))
+            (each-more locationLine (s .locations) x rest));
         right =
             formed-made (addLocation s x)
             (record {
@@ -193,7 +211,8 @@ module _ (s : Sheet) (fm : formed s ≡ true) where
               few-labels = facts .few-labels;
               labels-rising = facts .labels-rising;
               few-locations = omega (arith, length-more (s .locations) x);
-              locations-named = each-named-more (typeCount s) (labelCount s) (s .locations) x (facts .locations-named) type label;
+              locations-named =
+                  each-named-more (typeCount s) (labelCount s) (s .locations) x (facts .locations-named) type label;
             });
         fits = (omega (arith, facts .few-compounds), omega (arith, facts .few-labels));
       }
@@ -202,7 +221,8 @@ module _ (s : Sheet) (fm : formed s ≡ true) where
 taken-if : {P : Type 0} (c : Bool) (x y : Sheet) → (c ≡ true → x ≡ y → P) → cond c (some x) none ≡ some y → P
 taken-if c x y f e = cond-split c _ _ _ (λ h k. f h (some-path k)) (λ h k. none-some k) e
 
-type-sound : (s : Sheet) (k : Kind) (a b : ℕ) (s′ : Sheet) → formed s ≡ true → addType s k a b ≡ some s′ → Taken s (typeLine k a b) s′
+type-sound : (s : Sheet) (k : Kind) (a b : ℕ) (s′ : Sheet) → formed s ≡ true → addType s k a b ≡ some s′
+    → Taken s (typeLine k a b) s′
 unfolding addType
 type-sound s k a b s′ fm e = taken-if (compoundFits s a b) _ s′ (λ h q. rw (← q) (take-compound s fm k a b h)) e
 
@@ -213,7 +233,8 @@ step-sound s (R k) s′ fm e = taken-if (readingFits s k) _ s′ (λ h q. rw (�
 step-sound s (T a b) s′ fm e = type-sound s Sum a b s′ fm e
 step-sound s (Q a b) s′ fm e = type-sound s Pair a b s′ fm e
 step-sound s L s′ fm e = taken-if (labelFits s) _ s′ (λ h k. rw (← k) (take-label s fm h)) e
-step-sound s (O o r w) s′ fm e = taken-if (policyFits s o r w) (addPolicy s (policy o r w)) s′ (λ h k. rw (← k) (take-policy s fm o r w h)) e
+step-sound s (O o r w) s′ fm e =
+    taken-if (policyFits s o r w) (addPolicy s (policy o r w)) s′ (λ h k. rw (← k) (take-policy s fm o r w h)) e
 step-sound s (X t l) s′ fm e = taken-if (locationFits s t l) _ s′ (λ h k. rw (← k) (take-location s fm t l h)) e
 
 -- the first line
@@ -266,7 +287,8 @@ unfolding addLines addLineOn
 steps-sound [] s s′ fm e = let k : s′ ≡ s = sym (some-path e) in rw k (refl, fm, none-left)
 steps-sound (l ∷ ls) s s′ fm e = at (λ s₁ h. steps-sound ls s₁ s′ h) (addLine s l) refl e
   where
-    at : ((s₁ : Sheet) → formed s₁ ≡ true → addLines (some s₁) ls ≡ some s′ → (linesThen s′ [] ≡ linesThen s₁ ls) × (formed s′ ≡ true) × AllFit ls)
+    at : ((s₁ : Sheet) → formed s₁ ≡ true → addLines (some s₁) ls ≡ some s′
+        → (linesThen s′ [] ≡ linesThen s₁ ls) × (formed s′ ≡ true) × AllFit ls)
         → (o : Option Sheet) → addLine s l ≡ o → addLines o ls ≡ some s′
         → (linesThen s′ [] ≡ linesThen s (l ∷ ls)) × (formed s′ ≡ true) × AllFit (l ∷ ls)
     at rest none h k = none-some (sym (steps-none ls) ∙ k)
@@ -280,7 +302,8 @@ unfolding build sheetLines
 build-sound [] s e = none-some e
 build-sound (l ∷ ls) s e = at (begin l) refl e
   where
-    at : (o : Option Sheet) → begin l ≡ o → addLines o ls ≡ some s → (l ∷ ls ≡ linesThen s []) × (formed s ≡ true) × AllFit (l ∷ ls)
+    at : (o : Option Sheet) → begin l ≡ o → addLines o ls ≡ some s
+        → (l ∷ ls ≡ linesThen s []) × (formed s ≡ true) × AllFit (l ∷ ls)
     at none h k = none-some (sym (steps-none ls) ∙ k)
     at (some s₁) h k =
         let b = begin-sound l s₁ h in

@@ -15,12 +15,16 @@ use Rattle.labels.specs.declared.Reading.{Reading}
 use Rattle.labels.specs.declared.Reading.the-variants.{Pooled, Alone}
 use Rattle.sheet.specs.declared.Kind.{Kind}
 use Rattle.sheet.specs.declared.Kind.the-variants.{Sum, Pair}
-use Rattle.sheet.specs.Sheet.{Compound, Location, Sheet, typeCount, labelCount, locationCount, earlierTypes, rising, eachRising, eachNamed, maxCompounds, maxLabels, maxLocations, formed}
+use Rattle.sheet.specs.Sheet.{Compound, Location, Sheet, typeCount, labelCount, locationCount, earlierTypes, rising}
+use Rattle.sheet.specs.Sheet.{eachRising, eachNamed, maxCompounds, maxLabels, maxLocations, formed}
 use Rattle.sheet.proofs.FormLaws.{formed-facts, type-count}
 use Rattle.sheet_text.specs.declared.line.Line.{Line}
-use Rattle.sheet_text.specs.Lines.{readingLines, typeLine, compoundLine, policyLine, locationLine, each, labelLines, linesThen, sheetLines}
+use Rattle.sheet_text.specs.Lines.{readingLines, typeLine, compoundLine, policyLine, locationLine, each}
+use Rattle.sheet_text.specs.Lines.{labelLines, linesThen, sheetLines}
 use Rattle.sheet.specs.Internal.Growth.{bareSheet, addReading, addCompound, addLabel, addPolicy, addLocation}
-use Rattle.sheet_text.specs.Internal.Building.{leastAfter, leastOwner, isPooled, readingFits, compoundFits, labelFits, policyFits, locationFits, begin, addType, addLine, addLineOn, addLines, build}
+use Rattle.sheet_text.specs.Internal.Building.{leastAfter, leastOwner, isPooled, readingFits, compoundFits}
+use Rattle.sheet_text.specs.Internal.Building.{labelFits, policyFits, locationFits, begin, addType, addLine}
+use Rattle.sheet_text.specs.Internal.Building.{addLineOn, addLines, build}
 use Rattle.sheet.proofs.GrowthLaws.{length-more, toLast-more}
 use Rattle.sheet_text.proofs.GrowthLaws.{last-more, least-more}
 
@@ -30,8 +34,10 @@ passes c s s′ h e = rw h (ap some e)
 
 -- lines that each make a list of the sheet one longer
 module _ {A : Type 0} (line : A → Line) (sheet : List A → Sheet) (Good : List A → List A → Type 0)
-    (grow : (ys : List A) (xs : List A) (y : A) → Good xs (y ∷ ys) → (addLine (sheet xs) (line y) ≡ some (sheet (xs ++ (y ∷ [])))) × Good (xs ++ (y ∷ [])) ys) where
-  steps-each : (ys xs : List A) (rest : List Line) → Good xs ys → addLines (some (sheet xs)) (each line ys rest) ≡ addLines (some (sheet (xs ++ ys))) rest
+    (grow : (ys : List A) (xs : List A) (y : A) → Good xs (y ∷ ys)
+    → (addLine (sheet xs) (line y) ≡ some (sheet (xs ++ (y ∷ [])))) × Good (xs ++ (y ∷ [])) ys) where
+  steps-each : (ys xs : List A) (rest : List Line) → Good xs ys
+      → addLines (some (sheet xs)) (each line ys rest) ≡ addLines (some (sheet (xs ++ ys))) rest
   unfolding each addLines addLineOn
   steps-each [] xs rest g = ap (λ (zs : List A). addLines (some (sheet zs)) rest) (sym (append-nil xs))
   steps-each (y ∷ ys) xs rest g =
@@ -45,7 +51,8 @@ sheetAt n rule ss pss xs = record { principals = n; reading = rule; compounds = 
 -- ---- the rule of reading
 
 reading-built : (n : ℕ) (rule : Reading) (rest : List Line)
-    → addLines (some (sheetAt n Pooled [] [] [])) (readingLines rule rest) ≡ addLines (some (sheetAt n rule [] [] [])) rest
+    → addLines (some (sheetAt n Pooled [] [] [])) (readingLines rule rest)
+    ≡ addLines (some (sheetAt n rule [] [] [])) rest
 unfolding readingLines addLines addLineOn addLine readingFits isPooled addReading both labelCount locationCount
 reading-built n Pooled rest = refl
 reading-built n Alone rest = refl
@@ -57,13 +64,15 @@ GoodTypes xs ys = (length xs + length ys ≤ maxCompounds) × (earlierTypes (5 +
 
 -- a line of either kind adds its type
 add-type : (s : Sheet) (k : Kind) (a b : ℕ)
-    → addLine s (typeLine k a b) ≡ cond (compoundFits s a b) (some (addCompound s (record { kind = k; left = a; right = b }))) none
+    → addLine s (typeLine k a b)
+    ≡ cond (compoundFits s a b) (some (addCompound s (record { kind = k; left = a; right = b }))) none
 unfolding addLine addType typeLine
 add-type s Sum a b = refl
 add-type s Pair a b = refl
 
 type-built : (n : ℕ) (rule : Reading) (ys xs : List Compound) (y : Compound) → GoodTypes xs (y ∷ ys)
-    → (addLine (sheetAt n rule xs [] []) (compoundLine y) ≡ some (sheetAt n rule (xs ++ (y ∷ [])) [] [])) × GoodTypes (xs ++ (y ∷ [])) ys
+    → (addLine (sheetAt n rule xs [] []) (compoundLine y) ≡ some (sheetAt n rule (xs ++ (y ∷ [])) [] []))
+    × GoodTypes (xs ++ (y ∷ [])) ys
 unfolding earlierTypes compoundLine compoundFits addCompound labelCount locationCount
 type-built n rule ys xs y g =
     let few : length xs < maxCompounds = omega (arith, g .0) in
@@ -76,7 +85,8 @@ type-built n rule ys xs y g =
     let left-there : y .left < typeCount (sheetAt n rule xs [] []) = omega arith in
     let right-there : y .right < typeCount (sheetAt n rule xs [] []) = omega arith in
     let test : compoundFits (sheetAt n rule xs [] []) (y .left) (y .right) ≡ true =
-    both-true (both-true refl refl) (both-true (lt-ltb _ _ few) (both-true (lt-ltb _ _ left-there) (lt-ltb _ _ right-there))) in (
+    both-true (both-true refl refl)
+    (both-true (lt-ltb _ _ few) (both-true (lt-ltb _ _ left-there) (lt-ltb _ _ right-there))) in (
       add-type (sheetAt n rule xs [] []) (y .kind) (y .left) (y .right) ∙ passes _ _ _ test refl,
       (omega (arith, g .0), ap (λ (k : ℕ). earlierTypes k ys) (sym next) ∙ both-right _ _ (g .1)),
     )
@@ -86,8 +96,10 @@ type-built n rule ys xs y g =
 abbrev GoodPolicies : ℕ → List Policy → List Policy → Type 0
 GoodPolicies n qs ps = rising n (leastAfter 0 qs) ps ≡ true
 
-policy-built : (n : ℕ) (rule : Reading) (ss : List Compound) (done : List (List Policy)) (ps qs : List Policy) (p : Policy) → GoodPolicies n qs (p ∷ ps)
-    → (addLine (sheetAt n rule ss (done ++ (qs ∷ [])) []) (policyLine p) ≡ some (sheetAt n rule ss (done ++ ((qs ++ (p ∷ [])) ∷ [])) []))
+policy-built : (n : ℕ) (rule : Reading) (ss : List Compound) (done : List (List Policy)) (ps qs : List Policy)
+    (p : Policy) → GoodPolicies n qs (p ∷ ps)
+    → (addLine (sheetAt n rule ss (done ++ (qs ∷ [])) []) (policyLine p)
+    ≡ some (sheetAt n rule ss (done ++ ((qs ++ (p ∷ [])) ∷ [])) []))
     × GoodPolicies n (qs ++ (p ∷ [])) ps
 unfolding rising addLine policyLine policyFits addPolicy labelCount locationCount leastOwner
 policy-built n rule ss done ps qs (policy o r w) g =
@@ -105,15 +117,18 @@ policy-built n rule ss done ps qs (policy o r w) g =
 
 labels-built : (n : ℕ) (rule : Reading) (ss : List Compound) (pss done : List (List Policy)) (rest : List Line)
     → length done + length pss ≤ maxLabels → eachRising n pss ≡ true
-    → addLines (some (sheetAt n rule ss done [])) (labelLines pss rest) ≡ addLines (some (sheetAt n rule ss (done ++ pss) [])) rest
+    → addLines (some (sheetAt n rule ss done [])) (labelLines pss rest)
+    ≡ addLines (some (sheetAt n rule ss (done ++ pss) [])) rest
 unfolding labelLines eachRising addLines addLineOn addLine labelFits addLabel labelCount locationCount leastAfter
-labels-built n rule ss [] done rest few e = ap (λ (zs : List (List Policy)). addLines (some (sheetAt n rule ss zs [])) rest) (sym (append-nil done))
+labels-built n rule ss [] done rest few e =
+    ap (λ (zs : List (List Policy)). addLines (some (sheetAt n rule ss zs [])) rest) (sym (append-nil done))
 labels-built n rule ss (ps ∷ pss) done rest few e =
     let room : length done < maxLabels = omega arith in
     let long = length-more done ps in
     ap (λ (o : Option Sheet). addLines o (each policyLine ps (labelLines pss rest)))
     (passes (both true (ltb (length done) maxLabels)) _ _ (both-true refl (lt-ltb _ _ room)) refl)
-    ∙ steps-each policyLine (λ qs. sheetAt n rule ss (done ++ (qs ∷ [])) []) (GoodPolicies n) (policy-built n rule ss done) ps []
+    ∙ steps-each policyLine (λ qs. sheetAt n rule ss (done ++ (qs ∷ [])) []) (GoodPolicies n)
+    (policy-built n rule ss done) ps []
     (labelLines pss rest) (both-left _ _ e)
     ∙ labels-built n rule ss pss (done ++ (ps ∷ [])) rest (omega arith) (both-right _ _ e)
     ∙ ap (λ (zs : List (List Policy)). addLines (some (sheetAt n rule ss zs [])) rest) (append-assoc done (ps ∷ []) pss)
@@ -123,7 +138,8 @@ labels-built n rule ss (ps ∷ pss) done rest few e =
 abbrev GoodLocations : ℕ → ℕ → List Location → List Location → Type 0
 GoodLocations types labels xs ys = (length xs + length ys ≤ maxLocations) × (eachNamed types labels ys ≡ true)
 
-location-built : (n : ℕ) (rule : Reading) (ss : List Compound) (pss : List (List Policy)) (ys xs : List Location) (y : Location)
+location-built : (n : ℕ) (rule : Reading) (ss : List Compound) (pss : List (List Policy))
+    (ys xs : List Location) (y : Location)
     → GoodLocations (typeCount (sheetAt n rule ss pss [])) (length pss) xs (y ∷ ys)
     → (addLine (sheetAt n rule ss pss xs) (locationLine y) ≡ some (sheetAt n rule ss pss (xs ++ (y ∷ []))))
     × GoodLocations (typeCount (sheetAt n rule ss pss [])) (length pss) (xs ++ (y ∷ [])) ys
@@ -155,9 +171,13 @@ build-complete s fm =
     (passes _ _ _ (both-true (le-leb _ _ (f .some-principal)) (le-leb _ _ (f .few-principals))) refl)
     ∙ reading-built n rule lines
     ∙ steps-each compoundLine (λ xs. sheetAt n rule xs [] []) GoodTypes (type-built n rule) (s .compounds) []
-    (labelLines (s .labels) (each locationLine (s .locations) [])) (omega (arith, f .few-compounds), f .compounds-earlier)
-    ∙ labels-built n rule (s .compounds) (s .labels) [] (each locationLine (s .locations) []) (omega (arith, f .few-labels)) (f .labels-rising)
+    (labelLines (s .labels) (each locationLine (s .locations) []))
+    (omega (arith, f .few-compounds), f .compounds-earlier)
+    ∙ labels-built n rule (s .compounds) (s .labels) [] (each locationLine (s .locations) [])
+    (omega (arith, f .few-labels)) (f .labels-rising)
     ∙ steps-each locationLine (λ xs. sheetAt n rule (s .compounds) (s .labels) xs)
     (GoodLocations (typeCount (sheetAt n rule (s .compounds) (s .labels) [])) (length (s .labels)))
-    (location-built n rule (s .compounds) (s .labels)) (s .locations) [] []
-    (omega (arith, f .few-locations), ap (λ (k : ℕ). eachNamed k (length (s .labels)) (s .locations)) (sym types) ∙ f .locations-named)
+    (location-built n rule (s .compounds) (s .labels)) (s .locations) [] [] (
+      omega (arith, f .few-locations),
+      ap (λ (k : ℕ). eachNamed k (length (s .labels)) (s .locations)) (sym types) ∙ f .locations-named,
+    )

@@ -28,8 +28,11 @@ use Rattle.sheet_text.specs.declared.line.Line.{Line}
 use Rattle.sheet_text.specs.declared.line.Line.the-variants.{P, R, L, O, X}
 use Rattle.sheet_text.specs.declared.draft.Draft.{Draft}
 use Rattle.sheet_text.specs.declared.draft.Draft.the-variants.{Formed, Refused}
-use Rattle.sheet_text.specs.Internal.Building.{lastOf, leastAfter, leastOwner, readingFits, compoundFits, labelFits, policyFits, locationFits, begin, addType, addLine, addLineOn}
-use Rattle.sheet_text.specs.Internal.Drafts.{draftIf, DraftHolds, FormedIf, Stores, principalsFit, readingFitsIn, compoundFitsIn, labelFitsIn, policyFitsIn, locationFitsIn}
+use Rattle.sheet_text.specs.Internal.Building.{lastOf, leastAfter, leastOwner, readingFits, compoundFits}
+use Rattle.sheet_text.specs.Internal.Building.{labelFits, policyFits, locationFits, begin, addType, addLine}
+use Rattle.sheet_text.specs.Internal.Building.{addLineOn}
+use Rattle.sheet_text.specs.Internal.Drafts.{draftIf, DraftHolds, FormedIf, Stores, principalsFit, readingFitsIn}
+use Rattle.sheet_text.specs.Internal.Drafts.{compoundFitsIn, labelFitsIn, policyFitsIn, locationFitsIn}
 use Rattle.logic.proofs.OptionLaws.{none-some}
 use Rattle.sheet_text.proofs.GrowthLaws.{last-more, least-more}
 use Rattle.sheet_text.proofs.BuildLaws.{no-labels, begin-sound, step-sound}
@@ -42,8 +45,10 @@ module _ (s : Sheet) (fm : formed s ≡ true) where
   types-fit-in =
       let count = type-count s in
       bool-ext (ltb (typeCount s) maxTypes) (ltb (length (s .compounds)) maxCompounds)
-      (λ e. let h : typeCount s < maxTypes = ltb-true _ _ e in let k : length (s .compounds) < maxCompounds = omega arith in lt-ltb _ _ k)
-      (λ e. let h : length (s .compounds) < maxCompounds = ltb-true _ _ e in let k : typeCount s < maxTypes = omega arith in lt-ltb _ _ k)
+      (λ e. let h : typeCount s < maxTypes = ltb-true _ _ e in let k : length (s .compounds) < maxCompounds =
+      omega arith in lt-ltb _ _ k)
+      (λ e. let h : length (s .compounds) < maxCompounds = ltb-true _ _ e in let k : typeCount s < maxTypes =
+      omega arith in lt-ltb _ _ k)
 
   compound-fits-in : (a b : ℕ) → compoundFitsIn a b (tableOf s) ≡ compoundFits s a b
   unfolding compoundFits
@@ -71,12 +76,15 @@ module _ (s : Sheet) (fm : formed s ≡ true) where
   set-fits-in r =
       let some-set : 0 < 2 ^ s .principals = pow-pos (s .principals) in
       bool-ext (leb r (2 ^ s .principals - 1)) (ltb r (2 ^ s .principals))
-      (λ e. let h : r ≤ 2 ^ s .principals - 1 = leb-true _ _ e in let k : r < 2 ^ s .principals = omega arith in lt-ltb _ _ k)
-      (λ e. let h : r < 2 ^ s .principals = ltb-true _ _ e in let k : r ≤ 2 ^ s .principals - 1 = omega arith in le-leb _ _ k)
+      (λ e. let h : r ≤ 2 ^ s .principals - 1 = leb-true _ _ e in let k : r < 2 ^ s .principals =
+      omega arith in lt-ltb _ _ k)
+      (λ e. let h : r < 2 ^ s .principals = ltb-true _ _ e in let k : r ≤ 2 ^ s .principals - 1 =
+      omega arith in le-leb _ _ k)
 
   policy-fits-in : (o r w : ℕ) → policyFitsIn (leastOwner s) o r w (tableOf s) ≡ policyFits s o r w
   unfolding policyFits
-  policy-fits-in o r w = rw (locations-in s fm, labels-in s fm, principals-in s fm, everyone-in s fm, set-fits-in r, set-fits-in w)
+  policy-fits-in o r w =
+      rw (locations-in s fm, labels-in s fm, principals-in s fm, everyone-in s fm, set-fits-in r, set-fits-in w)
 
   location-fits-in : (t l : ℕ) → locationFitsIn t l (tableOf s) ≡ locationFits s t l
   unfolding locationFits
@@ -95,11 +103,15 @@ module _ (fits : List ℕ → Bool) (stored : List ℕ → List ℕ) (t : List �
 -- ---- what the code holds after each line
 
 -- the sheet after a line, if its test passes, from what the code answered and stored
-holds-if : (c : Bool) (s : Sheet) (fits : List ℕ → Bool) (stored : List ℕ → List ℕ) (t u : List ℕ) (ok : Bool) (k : ℕ) → Stores fits stored t ok u
-    → fits t ≡ c → (c ≡ true → (k ≡ leastOwner s) × (stored t ≡ tableOf s)) → DraftHolds (cond c (some s) none) (draftIf ok k) u
+holds-if : (c : Bool) (s : Sheet) (fits : List ℕ → Bool) (stored : List ℕ → List ℕ) (t u : List ℕ) (ok : Bool) (k : ℕ)
+    → Stores fits stored t ok u
+    → fits t ≡ c → (c ≡ true → (k ≡ leastOwner s) × (stored t ≡ tableOf s))
+    → DraftHolds (cond c (some s) none) (draftIf ok k) u
 unfolding DraftHolds draftIf
-holds-if true s fits stored t u ok k made same h =
-    (ap (λ (b : Bool). draftIf b k) (made .answer ∙ same) ∙ ap Formed (h refl .0), made .table ∙ ap (λ (b : Bool). cond b (stored t) t) same ∙ h refl .1)
+holds-if true s fits stored t u ok k made same h = (
+  ap (λ (b : Bool). draftIf b k) (made .answer ∙ same) ∙ ap Formed (h refl .0),
+  made .table ∙ ap (λ (b : Bool). cond b (stored t) t) same ∙ h refl .1,
+)
 holds-if false s fits stored t u ok k made same h = ap (λ (b : Bool). draftIf b k) (made .answer ∙ same)
 
 -- without labels the least owner is 0
@@ -109,10 +121,14 @@ least-none s e = rw e
 
 -- ---- what a line that passes its test stores
 
-reading-stored : (s : Sheet) (k : ℕ) → readingFits s k ≡ true → (0 ≡ leastOwner (addReading s)) × (readingPut (tableOf s) ≡ tableOf (addReading s))
+reading-stored : (s : Sheet) (k : ℕ) → readingFits s k ≡ true
+    → (0 ≡ leastOwner (addReading s)) × (readingPut (tableOf s) ≡ tableOf (addReading s))
 unfolding readingFits
-reading-stored s k f =
-    (least-none (addReading s) (unfold addReading in (no-labels s (both-left _ _ (both-right _ _ (both-right _ _ (both-right _ _ f)))))), reading-put s)
+reading-stored s k f = (
+  least-none (addReading s)
+      (unfold addReading in (no-labels s (both-left _ _ (both-right _ _ (both-right _ _ (both-right _ _ f)))))),
+  reading-put s,
+)
 
 module _ (s : Sheet) (fm : formed s ≡ true) where
   compound-stored : (k : Kind) (a b : ℕ) → compoundFits s a b ≡ true
@@ -130,15 +146,18 @@ module _ (s : Sheet) (fm : formed s ≡ true) where
 
   label-stored : labelFits s ≡ true → (0 ≡ leastOwner (addLabel s)) × (openPut (tableOf s) ≡ tableOf (addLabel s))
   unfolding labelFits
-  label-stored f =
-      (unfold leastOwner addLabel leastAfter in (sym (ap (leastAfter 0) (last-more (s .labels) []))), open-put s fm (ltb-true _ _ (both-right _ _ f)))
+  label-stored f = (
+    unfold leastOwner addLabel leastAfter in (sym (ap (leastAfter 0) (last-more (s .labels) []))),
+    open-put s fm (ltb-true _ _ (both-right _ _ f)),
+  )
 
   least-policy : (o r w : ℕ) → 0 < labelCount s → o + 1 ≡ leastOwner (addPolicy s (policy o r w))
   unfolding leastOwner addPolicy labelCount
   least-policy o r w h =
       labels-split (s .labels) h
       (λ before ps e.
-      let new = ap (λ pss. lastOf (toLast (policy o r w) pss)) e ∙ ap lastOf (toLast-more (policy o r w) before ps) ∙ last-more before _ in
+      let new = ap (λ pss. lastOf (toLast (policy o r w) pss)) e ∙ ap lastOf (toLast-more (policy o r w) before ps)
+      ∙ last-more before _ in
       add-one o ∙ sym (ap (leastAfter 0) new ∙ least-more 0 ps o r w))
 
   policy-stored : (o r w : ℕ) → policyFits s o r w ≡ true
@@ -156,40 +175,49 @@ module _ (s : Sheet) (fm : formed s ≡ true) where
   unfolding locationFits
   location-stored t l f =
       let names = both-right _ _ f in
-      location-put s fm (record { type = t; label = l }) (ltb-true _ _ (both-left _ _ f)) (ltb-true _ _ (both-left _ _ names))
+      location-put s fm (record { type = t; label = l }) (ltb-true _ _ (both-left _ _ f))
+      (ltb-true _ _ (both-left _ _ names))
       (ltb-true _ _ (both-right _ _ names))
 
 -- what was stored in the table of a sheet
 module _ (s : Sheet) (fm : formed s ≡ true) (t : List ℕ) (e : t ≡ tableOf s) (ok : Bool) (u : List ℕ) where
-  pub reading-holds : (k : ℕ) → Stores (readingFitsIn k) readingPut t ok u → DraftHolds (addLine s (R k)) (draftIf ok 0) u
+  pub reading-holds : (k : ℕ) → Stores (readingFitsIn k) readingPut t ok u
+      → DraftHolds (addLine s (R k)) (draftIf ok 0) u
   unfolding addLine
   reading-holds k made =
-      holds-if (readingFits s k) _ (readingFitsIn k) readingPut (tableOf s) u ok 0 (rw e at made) (reading-fits-in s fm k) (λ f. reading-stored s k f)
+      holds-if (readingFits s k) _ (readingFitsIn k) readingPut (tableOf s) u ok 0 (rw e at made)
+      (reading-fits-in s fm k) (λ f. reading-stored s k f)
 
   pub compound-holds : (k : Kind) (a b : ℕ) → Stores (compoundFitsIn a b) (compoundPut k a b) t ok u
       → DraftHolds (addType s k a b) (draftIf ok 0) u
   unfolding addType
   compound-holds k a b made =
-      holds-if (compoundFits s a b) _ (compoundFitsIn a b) (compoundPut k a b) (tableOf s) u ok 0 (rw e at made) (compound-fits-in s fm a b)
+      holds-if (compoundFits s a b) _ (compoundFitsIn a b) (compoundPut k a b) (tableOf s) u ok 0 (rw e at made)
+      (compound-fits-in s fm a b)
       (λ f. compound-stored s fm k a b f)
 
   pub label-holds : Stores labelFitsIn openPut t ok u → DraftHolds (addLine s L) (draftIf ok 0) u
   unfolding addLine
   label-holds made =
-      holds-if (labelFits s) _ labelFitsIn openPut (tableOf s) u ok 0 (rw e at made) (label-fits-in s fm) (λ f. label-stored s fm f)
+      holds-if (labelFits s) _ labelFitsIn openPut (tableOf s) u ok 0 (rw e at made) (label-fits-in s fm)
+      (λ f. label-stored s fm f)
 
-  pub policy-holds : (o r w : ℕ) (least : ℕ) → least ≡ leastOwner s → Stores (policyFitsIn least o r w) (policyPut o r w) t ok u
+  pub policy-holds : (o r w : ℕ) (least : ℕ) → least ≡ leastOwner s
+      → Stores (policyFitsIn least o r w) (policyPut o r w) t ok u
       → DraftHolds (addLine s (O o r w)) (draftIf ok (o % maxPrincipals + 1)) u
   unfolding addLine
   policy-holds o r w least same made =
-      holds-if (policyFits s o r w) _ (policyFitsIn (leastOwner s) o r w) (policyPut o r w) (tableOf s) u ok (o % maxPrincipals + 1)
+      holds-if (policyFits s o r w) _ (policyFitsIn (leastOwner s) o r w) (policyPut o r w) (tableOf s) u ok
+      (o % maxPrincipals + 1)
       (rw (e, same) at made) (policy-fits-in s fm o r w) (λ f. policy-stored s fm o r w f)
 
-  pub location-holds : (ty l : ℕ) (least : ℕ) → least ≡ leastOwner s → Stores (locationFitsIn ty l) (locationPut ty l) t ok u
+  pub location-holds : (ty l : ℕ) (least : ℕ) → least ≡ leastOwner s
+      → Stores (locationFitsIn ty l) (locationPut ty l) t ok u
       → DraftHolds (addLine s (X ty l)) (draftIf ok least) u
   unfolding addLine
   location-holds ty l least same made =
-      holds-if (locationFits s ty l) _ (locationFitsIn ty l) (locationPut ty l) (tableOf s) u ok least (rw e at made) (location-fits-in s fm ty l)
+      holds-if (locationFits s ty l) _ (locationFitsIn ty l) (locationPut ty l) (tableOf s) u ok least (rw e at made)
+      (location-fits-in s fm ty l)
       (λ f. (same ∙ least-kept, location-stored s fm ty l f))
     where
       least-kept : leastOwner s ≡ leastOwner (addLocation s (record { type = ty; label = l }))
@@ -201,7 +229,8 @@ pub begin-holds : (n : ℕ) (t : List ℕ) → t ≡ replicate tableWords 0 → 
     → Stores (principalsFit n) (principalsPut n) t ok u → DraftHolds (begin (P n)) (draftIf ok 0) u
 unfolding begin
 begin-holds n t e ok u made =
-    holds-if (both (leb 1 n) (leb n maxPrincipals)) (bareSheet n) (principalsFit n) (principalsPut n) (replicate tableWords 0) u ok 0 (rw e at made) refl
+    holds-if (both (leb 1 n) (leb n maxPrincipals)) (bareSheet n) (principalsFit n) (principalsPut n)
+    (replicate tableWords 0) u ok 0 (rw e at made) refl
     (λ f. (least-none (bareSheet n) (unfold bareSheet in refl), principals-put n (leb-true _ _ (both-right _ _ f))))
 
 -- ---- the sheet so far stays of the right form
@@ -235,14 +264,17 @@ refused-formed d k h e = let z : _≡_ {A = ℕ} 0 1 = cc in absurd (omega arith
 
 module _ (d : Draft) (t : List ℕ) where
   -- a refusal stays one
-  pub step-refused : (o : Option Sheet) (l : Line) (u : List ℕ) → d ≡ Refused → DraftHolds o d t → DraftHolds (addLineOn o l) Refused u
+  pub step-refused : (o : Option Sheet) (l : Line) (u : List ℕ) → d ≡ Refused → DraftHolds o d t
+      → DraftHolds (addLineOn o l) Refused u
   unfolding DraftHolds addLineOn
   step-refused none l u h e = refl
   step-refused (some s) l u h e = refused-formed d _ h (e .0)
 
   -- what is made of the sheet by the line
-  pub step-made : (o : Option Sheet) (l l′ : Line) (r : Draft) (u : List ℕ) (k : ℕ) → d ≡ Formed k → l ≡ l′ → FormedIf o → DraftHolds o d t
-      → ((s : Sheet) → formed s ≡ true → k ≡ leastOwner s → t ≡ tableOf s → DraftHolds (addLine s l′) r u) → DraftHolds (addLineOn o l) r u
+  pub step-made : (o : Option Sheet) (l l′ : Line) (r : Draft) (u : List ℕ) (k : ℕ) → d ≡ Formed k → l ≡ l′ → FormedIf o
+      → DraftHolds o d t
+      → ((s : Sheet) → formed s ≡ true → k ≡ leastOwner s → t ≡ tableOf s → DraftHolds (addLine s l′) r u)
+      → DraftHolds (addLineOn o l) r u
   unfolding DraftHolds addLineOn FormedIf
   step-made none l l′ r u k h told f e g = refused-formed d k e h
   step-made (some s) l l′ r u k h told f e g =

@@ -15,11 +15,15 @@ use Rattle.labels.specs.Labels.{policy, openAt, openOf, policyOf, withPolicies,
 use Rattle.labels.specs.declared.Reading.the-variants.{Pooled}
 use Rattle.sheet.specs.Internal.Tables.{givenParts, typeParts}
 use Rattle.sheet.specs.declared.Kind.the-variants.{Sum}
-use Rattle.sheet.specs.Sheet.{Sheet, typeCount, labelsOf, labelCount, locationCount, earlierTypes, rising, eachRising, eachNamed, formed, among, repeated, sameKind, sameCompound, repeats}
-use Rattle.sheet_text.specs.Lines.{readingLines, typeLine, compoundLine, policyLine, locationLine, each, labelLines, linesThen, sheetLines, lineBytes, sheetBytes}
+use Rattle.sheet.specs.Sheet.{Sheet, typeCount, labelsOf, labelCount, locationCount, earlierTypes, rising, eachRising}
+use Rattle.sheet.specs.Sheet.{eachNamed, formed, among, repeated, sameKind, sameCompound, repeats}
+use Rattle.sheet_text.specs.Lines.{readingLines, typeLine, compoundLine, policyLine, locationLine, each}
+use Rattle.sheet_text.specs.Lines.{labelLines, linesThen, sheetLines, lineBytes, sheetBytes}
 use Rattle.sheet_text.specs.Reading.{numberRest, numbersRest, labelRest, policyRest, lineOf}
 use Rattle.sheet.specs.Internal.Growth.{bareSheet, addReading, addCompound, addLabel, toLast, addPolicy, addLocation}
-use Rattle.sheet_text.specs.Internal.Building.{lastOf, leastAfter, leastOwner, isPooled, readingFits, compoundFits, labelFits, policyFits, locationFits, begin, addType, addLine, addLineOn, addLines, build}
+use Rattle.sheet_text.specs.Internal.Building.{lastOf, leastAfter, leastOwner, isPooled, readingFits}
+use Rattle.sheet_text.specs.Internal.Building.{compoundFits, labelFits, policyFits, locationFits, begin, addType}
+use Rattle.sheet_text.specs.Internal.Building.{addLine, addLineOn, addLines, build}
 use Rattle.sheet_text.specs.Sheets.{buildRead, sheetRead, Answer, malformed, repeating, accepted, judged, sheetOf}
 
 caseSheet : Sheet
@@ -30,7 +34,8 @@ caseSheet =
       compounds = record { kind = Sum; left = 0; right = 1 } ∷ [];
       labels = [] ∷ (policy 0 0 0 ∷ []) ∷ (policy 0 0 7 ∷ []) ∷ [];
       locations =
-          record { type = 0; label = 0 } ∷ record { type = 0; label = 2 } ∷ record { type = 4; label = 0 } ∷ record { type = 5; label = 2 } ∷ [];
+          record { type = 0; label = 0 } ∷ record { type = 0; label = 2 } ∷ record { type = 4; label = 0 }
+          ∷ record { type = 5; label = 2 } ∷ [];
     }
 
 caseText : List ℕ
@@ -40,9 +45,10 @@ caseText =
     ∷ 79 ∷ 9 ∷ 48 ∷ 9 ∷ 48 ∷ 48 ∷ 48 ∷ 48 ∷ 9 ∷ 48 ∷ 48 ∷ 48 ∷ 55 ∷ 10
     ∷ 88 ∷ 9 ∷ 48 ∷ 9 ∷ 48 ∷ 10 ∷ 88 ∷ 9 ∷ 48 ∷ 9 ∷ 50 ∷ 10 ∷ 88 ∷ 9 ∷ 52 ∷ 9 ∷ 48 ∷ 10 ∷ 88 ∷ 9 ∷ 53 ∷ 9 ∷ 50 ∷ 10 ∷ []
 
--- texts and their answers: the sheet; no text; a last line without its end; a type again; a label again, once as everybody listed;
--- an owner again; a label that isn't there; `T` after `L`; 0 principals; 17; a needless zero; a tab more; byte 13 before byte 10;
--- a byte above 127; a type that comes later; a set with a principal that isn't there; a set in capitals; 4294967296 for a type
+-- texts and their answers: the sheet; no text; a last line without its end; a type again; a label again, once as
+-- everybody listed; an owner again; a label that isn't there; `T` after `L`; 0 principals; 17; a needless zero; a tab
+-- more; byte 13 before byte 10; a byte above 127; a type that comes later; a set with a principal that isn't there; a
+-- set in capitals; 4294967296 for a type
 texts : List (List ℕ)
 texts =
     caseText
@@ -70,13 +76,17 @@ answers : List Answer
 answers = accepted caseSheet ∷ malformed ∷ malformed ∷ repeating ∷ repeating ∷ replicate 13 malformed
 
 case-printed : sheetBytes caseSheet ≡ caseText
-unfolding caseSheet caseText sheetBytes printLines lineBytes sheetLines linesThen readingLines each labelLines typeLine compoundLine policyLine locationLine decimal decimalOn hexForm hexByte
+unfolding caseSheet caseText sheetBytes printLines lineBytes sheetLines linesThen readingLines each labelLines typeLine
+    compoundLine policyLine locationLine decimal decimalOn hexForm hexByte
 case-printed = refl
 
 texts-read : map sheetOf texts ≡ answers
-unfolding caseSheet caseText texts answers sheetOf judged sheetRead buildRead build addLines addLineOn addLine addType begin isPooled readingFits compoundFits labelFits policyFits locationFits leastOwner leastAfter lastOf bareSheet
-    addReading addCompound addLabel addPolicy toLast addLocation allLines linesUpTo onward front lineOf numberRest numbersRest labelRest policyRest andThen byte fits digit opensDigit
-    digits number hexDigit hexDigits numberField setField lastNumber both either union every tab single everyone openAt openOf policyOf withPolicies labelOf sameAt sameOf
+unfolding caseSheet caseText texts answers sheetOf judged sheetRead buildRead build addLines addLineOn addLine addType
+    begin isPooled readingFits compoundFits labelFits policyFits locationFits leastOwner leastAfter lastOf bareSheet
+    addReading addCompound addLabel addPolicy toLast addLocation allLines linesUpTo onward front lineOf numberRest
+    numbersRest labelRest policyRest andThen byte fits digit opensDigit
+    digits number hexDigit hexDigits numberField setField lastNumber both either union every tab single everyone openAt
+    openOf policyOf withPolicies labelOf sameAt sameOf
     givenParts typeParts typeCount labelsOf labelCount locationCount among repeated sameKind sameCompound repeats
 texts-read = refl
 

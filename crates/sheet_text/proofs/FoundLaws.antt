@@ -30,14 +30,17 @@ module _ (s : List ℕ) (want : Read Line) where
 
 -- what an answer at i in s says of the line there
 module _ (s : List ℕ) (i : ℕ) (r : Reached) (e : r ≡ lineAt s i) where
-  line-split : {P : Type 0} → ((l : Line) (p : ℕ) → lineOf (drop i s) ≡ got l (drop p s) → p ≤ length s → r ≡ record { read = read.Line l; at = p } → P)
+  line-split : {P : Type 0} → ((l : Line) (p : ℕ) → lineOf (drop i s) ≡ got l (drop p s) → p ≤ length s
+      → r ≡ record { read = read.Line l; at = p } → P)
       → (lineOf (drop i s) ≡ bad → r ≡ record { read = read.Refused; at = i } → P) → P
   unfolding reached
   line-split f g =
-      placed-split (λ l p. found.At l p) found.Refused s i (lineOf (drop i s)) _ (line-within sheet-lines (drop i s)) refl
+      placed-split (λ l p. found.At l p) found.Refused s i (lineOf (drop i s)) _
+      (line-within sheet-lines (drop i s)) refl
       (λ l p x h y. f l p x h (e ∙ ap (reached i) y)) (λ x y. g x (e ∙ ap (reached i) y))
 
-  pub line-found : (l : Line) → r .read ≡ read.Line l → (lineOf (drop i s) ≡ got l (drop (r .at) s)) × (r .at ≤ length s)
+  pub line-found : (l : Line) → r .read ≡ read.Line l
+      → (lineOf (drop i s) ≡ got l (drop (r .at) s)) × (r .at ≤ length s)
   line-found l g = line-split
       (λ l′ p x h y. let a : l′ ≡ l = cc in rw (y, ← a) (x, h))
       (λ x y. let z : _≡_ {A = ℕ} 0 1 = cc in absurd (omega arith))
@@ -47,7 +50,8 @@ module _ (s : List ℕ) (i : ℕ) (r : Reached) (e : r ≡ lineAt s i) where
 
 -- the place after a line is past the line's own
 pub line-onward : (s : List ℕ) (i : ℕ) (l : Line) (p : ℕ) → lineOf (drop i s) ≡ got l (drop p s) → p ≤ length s → i < p
-line-onward s i l p e h = omega (arith, line-shorter sheet-lines (drop i s) l (drop p s) e, length-drop i s, length-drop p s)
+line-onward s i l p e h =
+    omega (arith, line-shorter sheet-lines (drop i s) l (drop p s) e, length-drop i s, length-drop p s)
 
 -- ---- the cases of a line, by its letter, at a place of a text
 
@@ -88,9 +92,18 @@ module _ (s : List ℕ) (i : ℕ) where
     unfolding lineOf
     line-location e = line-at-first 88 e
 
-    pub line-other : (getD s i 0 ≡ 80 → ⊥) → (getD s i 0 ≡ 82 → ⊥) → (getD s i 0 ≡ 84 → ⊥) → (getD s i 0 ≡ 81 → ⊥) → (getD s i 0 ≡ 76 → ⊥) → (getD s i 0 ≡ 79 → ⊥)
+    pub line-other : (getD s i 0 ≡ 80 → ⊥) → (getD s i 0 ≡ 82 → ⊥) → (getD s i 0 ≡ 84 → ⊥) → (getD s i 0 ≡ 81 → ⊥)
+        → (getD s i 0 ≡ 76 → ⊥) → (getD s i 0 ≡ 79 → ⊥)
         → (getD s i 0 ≡ 88 → ⊥) → lineOf (drop i s) ≡ bad
     unfolding lineOf
     line-other p r t q l o x =
         ap lineOf (drop-step s i h)
-        ∙ simp (ne-eqb (getD s i 0) 80 p, ne-eqb (getD s i 0) 82 r, ne-eqb (getD s i 0) 84 t, ne-eqb (getD s i 0) 81 q, ne-eqb (getD s i 0) 76 l, ne-eqb (getD s i 0) 79 o, ne-eqb (getD s i 0) 88 x)
+        ∙ simp (
+          ne-eqb (getD s i 0) 80 p,
+          ne-eqb (getD s i 0) 82 r,
+          ne-eqb (getD s i 0) 84 t,
+          ne-eqb (getD s i 0) 81 q,
+          ne-eqb (getD s i 0) 76 l,
+          ne-eqb (getD s i 0) 79 o,
+          ne-eqb (getD s i 0) 88 x,
+        )

@@ -22,12 +22,14 @@ no-entries (x ∷ xs) h = absurd (omega arith)
 
 -- ---- lines
 
-pub each-more : {A : Type 0} (line : A → Line) (xs : List A) (x : A) (rest : List Line) → each line (xs ++ (x ∷ [])) rest ≡ each line xs (line x ∷ rest)
+pub each-more : {A : Type 0} (line : A → Line) (xs : List A) (x : A) (rest : List Line)
+    → each line (xs ++ (x ∷ [])) rest ≡ each line xs (line x ∷ rest)
 unfolding each
 each-more line [] x rest = refl
 each-more line (y ∷ xs) x rest = ap (_∷_ (line y)) (each-more line xs x rest)
 
-pub labels-more : (pss : List (List Policy)) (rest : List Line) → labelLines (pss ++ ([] ∷ [])) rest ≡ labelLines pss (L ∷ rest)
+pub labels-more : (pss : List (List Policy)) (rest : List Line)
+    → labelLines (pss ++ ([] ∷ [])) rest ≡ labelLines pss (L ∷ rest)
 unfolding labelLines each
 labels-more [] rest = refl
 labels-more (ps ∷ pss) rest = ap (λ ls. L ∷ each policyLine ps ls) (labels-more pss rest)
@@ -37,7 +39,8 @@ pub policies-more : (p : Policy) (pss : List (List Policy)) (rest : List Line) �
 unfolding labelLines toLast
 policies-more p [] rest h = absurd (omega arith)
 policies-more p (ps ∷ []) rest h = ap (_∷_ L) (each-more policyLine ps p rest)
-policies-more p (ps ∷ qs ∷ pss) rest h = ap (λ ls. L ∷ each policyLine ps ls) (policies-more p (qs ∷ pss) rest (omega arith))
+policies-more p (ps ∷ qs ∷ pss) rest h =
+    ap (λ ls. L ∷ each policyLine ps ls) (policies-more p (qs ∷ pss) rest (omega arith))
 
 -- ---- the last label
 
@@ -54,13 +57,17 @@ least-more from (policy o′ r′ w′ ∷ ps) o r w = least-more (suc o′) ps 
 
 -- ---- the form
 
-pub earlier-more : (k : ℕ) (ss : List Compound) (x : Compound) → earlierTypes k ss ≡ true → x .left < k + length ss → x .right < k + length ss
+pub earlier-more : (k : ℕ) (ss : List Compound) (x : Compound) → earlierTypes k ss ≡ true → x .left < k + length ss
+    → x .right < k + length ss
     → earlierTypes k (ss ++ (x ∷ [])) ≡ true
 unfolding earlierTypes
-earlier-more k [] x e h i = both-true (both-true (lt-ltb _ _ (rw (add-zero k) at h)) (lt-ltb _ _ (rw (add-zero k) at i))) refl
-earlier-more k (s ∷ ss) x e h i = both-true (both-left _ _ e) (earlier-more (suc k) ss x (both-right _ _ e) (omega arith) (omega arith))
+earlier-more k [] x e h i =
+    both-true (both-true (lt-ltb _ _ (rw (add-zero k) at h)) (lt-ltb _ _ (rw (add-zero k) at i))) refl
+earlier-more k (s ∷ ss) x e h i =
+    both-true (both-left _ _ e) (earlier-more (suc k) ss x (both-right _ _ e) (omega arith) (omega arith))
 
-pub rising-more : (n from : ℕ) (ps : List Policy) (p : Policy) → rising n from ps ≡ true → rising n (leastAfter from ps) (p ∷ []) ≡ true
+pub rising-more : (n from : ℕ) (ps : List Policy) (p : Policy) → rising n from ps ≡ true
+    → rising n (leastAfter from ps) (p ∷ []) ≡ true
     → rising n from (ps ++ (p ∷ [])) ≡ true
 unfolding rising leastAfter
 rising-more n from [] p e h = h
@@ -68,7 +75,8 @@ rising-more n from (policy o r w ∷ ps) p e h =
     let sets = both-right _ _ e in
     both-true (both-left _ _ e) (both-true (both-left _ _ sets) (rising-more n (suc o) ps p (both-right _ _ sets) h))
 
-pub each-rising-more : (n : ℕ) (pss : List (List Policy)) → eachRising n pss ≡ true → eachRising n (pss ++ ([] ∷ [])) ≡ true
+pub each-rising-more : (n : ℕ) (pss : List (List Policy)) → eachRising n pss ≡ true
+    → eachRising n (pss ++ ([] ∷ [])) ≡ true
 unfolding eachRising rising
 each-rising-more n [] e = both-true refl refl
 each-rising-more n (ps ∷ pss) e = both-true (both-left _ _ e) (each-rising-more n pss (both-right _ _ e))
@@ -78,10 +86,12 @@ pub each-rising-last : (n : ℕ) (p : Policy) (pss : List (List Policy)) → eac
 unfolding eachRising toLast lastOf
 each-rising-last n p [] e h = e
 each-rising-last n p (ps ∷ []) e h = both-true (rising-more n 0 ps p (both-left _ _ e) h) refl
-each-rising-last n p (ps ∷ qs ∷ pss) e h = both-true (both-left _ _ e) (each-rising-last n p (qs ∷ pss) (both-right _ _ e) h)
+each-rising-last n p (ps ∷ qs ∷ pss) e h =
+    both-true (both-left _ _ e) (each-rising-last n p (qs ∷ pss) (both-right _ _ e) h)
 
 pub each-named-more : (types labels : ℕ) (xs : List Location) (x : Location) → eachNamed types labels xs ≡ true
     → x .type < types → x .label < labels → eachNamed types labels (xs ++ (x ∷ [])) ≡ true
 unfolding eachNamed
 each-named-more types labels [] x e h i = both-true (both-true (lt-ltb _ _ h) (lt-ltb _ _ i)) refl
-each-named-more types labels (y ∷ xs) x e h i = both-true (both-left _ _ e) (each-named-more types labels xs x (both-right _ _ e) h i)
+each-named-more types labels (y ∷ xs) x e h i =
+    both-true (both-left _ _ e) (each-named-more types labels xs x (both-right _ _ e) h i)

@@ -12,7 +12,8 @@ use Rattle.text.specs.Field.{numberField, setField, lineEnd, lastNumber, printN
 use Rattle.text.specs.Lines.{AllGood, LineForm}
 use Rattle.logic.proofs.BooleanLaws.{cond-split}
 use Rattle.text.proofs.Readings.{not-bad, got-same, andThen-got, andThen-split, byte-here, byte-sound}
-use Rattle.text.proofs.Fields.{number-field-sound, number-field-print, last-number-sound, last-number-print, set-field-sound, set-field-print}
+use Rattle.text.proofs.Fields.{number-field-sound, number-field-print, last-number-sound, last-number-print}
+use Rattle.text.proofs.Fields.{set-field-sound, set-field-print}
 use Rattle.sheet_text.specs.declared.line.Line.{Line}
 use Rattle.sheet_text.specs.declared.line.Line.the-variants.{P, R, T, Q, L, O, X}
 use Rattle.sheet.specs.declared.Kind.{Kind}
@@ -46,7 +47,8 @@ reading : Number 82 R
 unfolding lineBytes Fits
 reading = record { bytes = λ n u. refl; fit = λ n h. h }
 
-number-sound : {letter : ℕ} {f : ℕ → Line} → Number letter f → (t : List ℕ) (l : Line) (u : List ℕ) → numberRest f t ≡ got l u
+number-sound : {letter : ℕ} {f : ℕ → Line} → Number letter f → (t : List ℕ) (l : Line) (u : List ℕ)
+    → numberRest f t ≡ got l u
     → (letter ∷ t ≡ lineBytes l u) × Fits l
 unfolding numberRest
 number-sound {letter} {f} n t l u e =
@@ -58,7 +60,8 @@ number-sound {letter} {f} n t l u e =
 
 -- The lines of two numbers that begin with a letter: how they are printed, and that they fit where their numbers do.
 record Numbers (letter : ℕ) (f : ℕ → ℕ → Line) : Type 0 where
-  bytes : (a b : ℕ) (u : List ℕ) → lineBytes (f a b) u ≡ letter ∷ printNumberField a (printNumberField b (printLineEnd u))
+  bytes : (a b : ℕ) (u : List ℕ)
+      → lineBytes (f a b) u ≡ letter ∷ printNumberField a (printNumberField b (printLineEnd u))
   fit : (a b : ℕ) → a ≤ most → b ≤ most → Fits (f a b)
 
 sums : Numbers 84 T
@@ -73,7 +76,8 @@ locations : Numbers 88 X
 unfolding lineBytes Fits
 locations = record { bytes = λ a b u. refl; fit = λ a b h k. (h, k) }
 
-numbers-sound : {letter : ℕ} {f : ℕ → ℕ → Line} → Numbers letter f → (t : List ℕ) (l : Line) (u : List ℕ) → numbersRest f t ≡ got l u
+numbers-sound : {letter : ℕ} {f : ℕ → ℕ → Line} → Numbers letter f → (t : List ℕ) (l : Line) (u : List ℕ)
+    → numbersRest f t ≡ got l u
     → (letter ∷ t ≡ lineBytes l u) × Fits l
 unfolding numbersRest
 numbers-sound {letter} {f} n t l u e =
@@ -83,7 +87,10 @@ numbers-sound {letter} {f} n t l u e =
     let s = got-same (f a b) l w u k in
     let x = number-field-sound most t a v g in
     let y = last-number-sound most v b w h in
-    rw (← s .0, ← s .1) (ap (_∷_ letter) (x .0 ∙ ap (printNumberField a) (y .0)) ∙ sym (n .bytes a b w), n .fit a b (x .1) (y .1)))) e
+    rw (
+      ← s .0,
+      ← s .1,
+    ) (ap (_∷_ letter) (x .0 ∙ ap (printNumberField a) (y .0)) ∙ sym (n .bytes a b w), n .fit a b (x .1) (y .1)))) e
 
 label-sound : (t : List ℕ) (l : Line) (u : List ℕ) → labelRest t ≡ got l u → (76 ∷ t ≡ lineBytes l u) × Fits l
 unfolding labelRest lineBytes Fits
@@ -104,8 +111,10 @@ policy-sound t l u e =
     let b = set-field-sound v r w g in
     let c = set-field-sound w q x h in
     let d = byte-sound 10 x y z k in
-    rw (← s .0, ← s .1)
-    (ap (_∷_ 79) (a .0 ∙ ap (printNumberField o) (b .0 ∙ ap (printSetField r) (c .0 ∙ ap (printSetField q) d))), (a .1, b .1, c .1)))))) e
+    rw (← s .0, ← s .1) (
+      ap (_∷_ 79) (a .0 ∙ ap (printNumberField o) (b .0 ∙ ap (printSetField r) (c .0 ∙ ap (printSetField q) d))),
+      (a .1, b .1, c .1),
+    ))))) e
 
 line-sound : (t : List ℕ) (l : Line) (u : List ℕ) → lineOf t ≡ got l u → (t ≡ lineBytes l u) × Fits l
 unfolding lineOf
@@ -117,7 +126,8 @@ line-sound (b ∷ t) l u e =
     (λ _. cond-split (eqb b 81) _ _ _ (λ h x. first 81 h (numbers-sound pairs t l u x))
     (λ _. cond-split (eqb b 76) _ _ _ (λ h x. first 76 h (label-sound t l u x))
     (λ _. cond-split (eqb b 79) _ _ _ (λ h x. first 79 h (policy-sound t l u x))
-    (λ _. cond-split (eqb b 88) _ _ _ (λ h x. first 88 h (numbers-sound locations t l u x)) (λ _ x. not-bad l u x))))))) e
+    (λ _. cond-split (eqb b 88) _ _ _ (λ h x. first 88 h (numbers-sound locations t l u x)) (λ _ x. not-bad l u x)))))))
+    e
   where
     first : (k : ℕ) → eqb b k ≡ true → (k ∷ t ≡ lineBytes l u) × Fits l → (b ∷ t ≡ lineBytes l u) × Fits l
     first k h r = (ap (λ (x : ℕ). x ∷ t) (eqb-true b k h) ∙ r .0, r .1)

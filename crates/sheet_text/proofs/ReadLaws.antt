@@ -32,7 +32,8 @@ use Rattle.sheet_text.proofs.Theorems.{sheet-in-sound, accepted-exact}
 
 -- ---- the lines that are left, at a place of a text
 
-steps-front : (o : Option Sheet) (l : Line) (ls : Option (List Line)) → stepsRead o (front l ls) ≡ stepsRead (addLineOn o l) ls
+steps-front : (o : Option Sheet) (l : Line) (ls : Option (List Line))
+    → stepsRead o (front l ls) ≡ stepsRead (addLineOn o l) ls
 unfolding stepsRead front addLines
 steps-front o l none = refl
 steps-front o l (some ls) = refl
@@ -40,7 +41,8 @@ steps-front o l (some ls) = refl
 module _ (o : Option Sheet) (s : List ℕ) (i : ℕ) where
   pub steps-on : (l : Line) (p : ℕ) → lineOf (drop i s) ≡ got l (drop p s)
       → stepsRead (addLineOn o l) (linesOf (drop p s)) ≡ stepsRead o (linesOf (drop i s))
-  steps-on l p e = sym (ap (stepsRead o) (all-more sheet-lines (drop i s) l (drop p s) e) ∙ steps-front o l (linesOf (drop p s)))
+  steps-on l p e =
+      sym (ap (stepsRead o) (all-more sheet-lines (drop i s) l (drop p s) e) ∙ steps-front o l (linesOf (drop p s)))
 
   pub steps-bad : i < length s → lineOf (drop i s) ≡ bad → none ≡ stepsRead o (linesOf (drop i s))
   unfolding stepsRead
@@ -48,7 +50,8 @@ module _ (o : Option Sheet) (s : List ℕ) (i : ℕ) where
 
   pub steps-end : length s ≤ i → o ≡ stepsRead o (linesOf (drop i s))
   unfolding stepsRead addLines
-  steps-end h = sym (ap (λ (t : List ℕ). stepsRead o (linesOf t)) (drop-of-length-le s {i = i} h) ∙ ap (stepsRead o) (all-none sheet-lines))
+  steps-end h = sym (ap (λ (t : List ℕ). stepsRead o (linesOf t)) (drop-of-length-le s {i = i} h)
+      ∙ ap (stepsRead o) (all-none sheet-lines))
 
 -- ---- the sheet of a text
 
@@ -62,7 +65,8 @@ module _ (t : List ℕ) where
   unfolding sheetRead
   sheet-long f = rw f
 
-  pub sheet-first : (l : Line) (u : List ℕ) → fits t ≡ true → lineOf t ≡ got l u → stepsRead (begin l) (linesOf u) ≡ sheetRead t
+  pub sheet-first : (l : Line) (u : List ℕ) → fits t ≡ true → lineOf t ≡ got l u
+      → stepsRead (begin l) (linesOf u) ≡ sheetRead t
   unfolding sheetRead
   sheet-first l u f e = rw (f, all-more sheet-lines t l u e) (build-front l (linesOf u))
 
@@ -83,14 +87,16 @@ module _ (t : List ℕ) where
 -- ---- the answer
 
 module _ (d : Draft) (t : List ℕ) where
-  pub answer-malformed : (o : Option Sheet) → DraftHolds o d t → d ≡ Refused → refusedBy Malformed ≡ decodedSheet (judged o)
+  pub answer-malformed : (o : Option Sheet) → DraftHolds o d t → d ≡ Refused
+      → refusedBy Malformed ≡ decodedSheet (judged o)
   unfolding DraftHolds decodedSheet judged
   answer-malformed none e h = refl
   answer-malformed (some s) e h = refused-formed d _ h (e .0)
 
   module _ (k : ℕ) (h : d ≡ Formed k) where
     -- a table of a sheet of the right form has few types and labels
-    pub counts-few : (o : Option Sheet) → FormedIf o → DraftHolds o d t → (typesIn t ≤ maxTypes) × (labelsIn t ≤ maxLabels)
+    pub counts-few : (o : Option Sheet) → FormedIf o → DraftHolds o d t
+        → (typesIn t ≤ maxTypes) × (labelsIn t ≤ maxLabels)
     unfolding DraftHolds FormedIf
     counts-few none f e = refused-formed d k e h
     counts-few (some s) f e =
@@ -99,16 +105,19 @@ module _ (d : Draft) (t : List ℕ) where
         let labels : labelCount s ≤ maxLabels = unfold labelCount in (facts .few-labels) in
         rw (e .1, types-in s f, labels-in s f) (types, labels)
 
-    pub answer-repeating : (o : Option Sheet) → FormedIf o → DraftHolds o d t → repeatsIn t ≡ true → refusedBy Repeats ≡ decodedSheet (judged o)
+    pub answer-repeating : (o : Option Sheet) → FormedIf o → DraftHolds o d t → repeatsIn t ≡ true
+        → refusedBy Repeats ≡ decodedSheet (judged o)
     unfolding DraftHolds decodedSheet judged FormedIf
     answer-repeating none f e r = refused-formed d k e h
     answer-repeating (some s) f e r = rw (sym (repeats-in s f) ∙ ap repeatsIn (sym (e .1)) ∙ r)
 
-    pub answer-accepted : (o : Option Sheet) → FormedIf o → DraftHolds o d t → repeatsIn t ≡ false → record { verdict = Accepted; table = t } ≡ decodedSheet (judged o)
+    pub answer-accepted : (o : Option Sheet) → FormedIf o → DraftHolds o d t → repeatsIn t ≡ false
+        → record { verdict = Accepted; table = t } ≡ decodedSheet (judged o)
     unfolding DraftHolds decodedSheet judged FormedIf
     answer-accepted none f e r = refused-formed d k e h
     answer-accepted (some s) f e r =
-        rw (sym (repeats-in s f) ∙ ap repeatsIn (sym (e .1)) ∙ r) (ap (λ (t : List ℕ). record { verdict = Accepted; table = t }) (e .1))
+        rw (sym (repeats-in s f) ∙ ap repeatsIn (sym (e .1)) ∙ r)
+        (ap (λ (t : List ℕ). record { verdict = Accepted; table = t }) (e .1))
 
 -- the table that a text is answered has all its words
 pub decoded-long : (t : List ℕ) (d : Decoded) → d ≡ decodedSheet (sheetOf t) → length (d .table) ≡ tableWords

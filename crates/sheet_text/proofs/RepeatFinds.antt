@@ -14,8 +14,10 @@ use Rattle.sets.proofs.Walks.{every-true, every-at, getD-tab}
 use Rattle.labels.specs.Labels.{owners, labelOf, bottomOf, readersOf, writersOf, sameAt, sameOf}
 use Rattle.labels.specs.Internal.Tables.{labelSize, setsAt, labelAt}
 use Rattle.labels.specs.declared.Label.{Label}
-use Rattle.sheet.specs.Sheet.{Sheet, labelsOf, labelNo, labelCount, maxLabels, formed, among, repeated, sameKind, sameCompound, givenSums, repeats}
-use Rattle.sheet.specs.Internal.Tables.{maxTypes, partsBase, partsPlace, labelPlace, tableOf, typesIn, labelsIn, leftIn, rightWordIn, rightWord, noParts, givenParts, typeParts, partsNo}
+use Rattle.sheet.specs.Sheet.{Sheet, labelsOf, labelNo, labelCount, maxLabels, formed, among, repeated, sameKind}
+use Rattle.sheet.specs.Sheet.{sameCompound, givenSums, repeats}
+use Rattle.sheet.specs.Internal.Tables.{maxTypes, partsBase, partsPlace, labelPlace, tableOf, typesIn, labelsIn, leftIn}
+use Rattle.sheet.specs.Internal.Tables.{rightWordIn, rightWord, noParts, givenParts, typeParts, partsNo}
 use Rattle.sheet.proofs.Entries.{entry-there, label-there}
 use Rattle.sheet.proofs.FormLaws.{type-count}
 use Rattle.sheet.proofs.TableLaws.{types-in, labels-in, left-in, right-word-same, right-below, right-word-in}
@@ -47,11 +49,13 @@ module _ (labels : Bool) (i : ℕ) where
   few-types e h = rw e at h
 
 module _ (t : List ℕ) (labels : Bool) (i j : ℕ) where
-  pub same-labels-at : (a b : ℕ) → a ≡ labelPlace i → b ≡ labelPlace j → labels ≡ true → sameWords t a b labelSize ≡ sameIn t labels i j
+  pub same-labels-at : (a b : ℕ) → a ≡ labelPlace i → b ≡ labelPlace j → labels ≡ true
+      → sameWords t a b labelSize ≡ sameIn t labels i j
   unfolding sameIn
   same-labels-at a b p q e = rw (p, q, e)
 
-  pub same-types-at : (a b : ℕ) → a ≡ partsPlace i → b ≡ partsPlace j → labels ≡ false → sameWords t a b 2 ≡ sameIn t labels i j
+  pub same-types-at : (a b : ℕ) → a ≡ partsPlace i → b ≡ partsPlace j → labels ≡ false
+      → sameWords t a b 2 ≡ sameIn t labels i j
   unfolding sameIn
   same-types-at a b p q e = rw (p, q, e)
 
@@ -68,18 +72,21 @@ module _ (t : List ℕ) where
 -- ---- a search among the entries of a list, which stand at the numbers from i on
 
 module _ {A : Type 0} (same : A → A → Bool) (d : A) where
-  any-among : (x : A) (test : ℕ → Bool) (xs : List A) (i : ℕ) → ((k : ℕ) → k < length xs → test (i + k) ≡ same x (getD xs k d))
+  any-among : (x : A) (test : ℕ → Bool) (xs : List A) (i : ℕ)
+      → ((k : ℕ) → k < length xs → test (i + k) ≡ same x (getD xs k d))
       → anyFrom test i (length xs) ≡ among same x xs
   unfolding anyFrom among
   any-among x test [] i h = refl
   any-among x test (y ∷ ys) i h =
       let here : i + 0 ≡ i = omega arith in
       ap₂ either (ap test (sym here) ∙ h 0 (omega arith))
-      (any-among x test ys (i + 1) (λ k l. let next : i + 1 + k ≡ i + suc k = omega arith in ap test next ∙ h (suc k) (omega arith)))
+      (any-among x test ys (i + 1)
+      (λ k l. let next : i + 1 + k ≡ i + suc k = omega arith in ap test next ∙ h (suc k) (omega arith)))
 
   module _ (t : List ℕ) (labels : Bool) (n : ℕ) where
     any-repeated : (xs : List A) (i : ℕ) → i + length xs ≡ n
-        → ((j k : ℕ) → j < length xs → k < length xs → sameIn t labels (i + j) (i + k) ≡ same (getD xs j d) (getD xs k d))
+        → ((j k : ℕ) → j < length xs → k < length xs
+        → sameIn t labels (i + j) (i + k) ≡ same (getD xs j d) (getD xs k d))
         → anyFrom (againIn t labels n) i (length xs) ≡ repeated same xs
     unfolding anyFrom againIn repeated
     any-repeated [] i e h = refl
@@ -128,15 +135,18 @@ module _ (t : List ℕ) (a b : ℕ) where
       bool-ext (every labelSize same-word) (every owners (sameAt (labelAt t a) (labelAt t b)))
       (λ e.
       every-true owners _
-      (λ o l. same-owner o l ∙ both-true (every-at labelSize same-word e o (omega arith)) (every-at labelSize same-word e (owners + o) (omega arith))))
+      (λ o l. same-owner o l ∙ both-true (every-at labelSize same-word e o (omega arith))
+      (every-at labelSize same-word e (owners + o) (omega arith))))
       (λ e. every-true labelSize same-word (λ k l. word-same e k l (decLe owners k)))
     where
-      word-same : every owners (sameAt (labelAt t a) (labelAt t b)) ≡ true → (k : ℕ) → k < labelSize → Dec (owners ≤ k) → same-word k ≡ true
+      word-same : every owners (sameAt (labelAt t a) (labelAt t b)) ≡ true → (k : ℕ) → k < labelSize → Dec (owners ≤ k)
+          → same-word k ≡ true
       word-same e k l (yes h) =
           let o : ℕ = k - owners in
           let z : owners + o ≡ k = omega arith in
           let i : o < owners = omega arith in
-          ap same-word (sym z) ∙ both-right (same-word o) (same-word (owners + o)) (sym (same-owner o i) ∙ every-at owners _ e o i)
+          ap same-word (sym z)
+          ∙ both-right (same-word o) (same-word (owners + o)) (sym (same-owner o i) ∙ every-at owners _ e o i)
       word-same e k l (no h) =
           let i : k < owners = omega arith in
           both-left (same-word k) (same-word (owners + k)) (sym (same-owner k i) ∙ every-at owners _ e k i)
@@ -155,12 +165,15 @@ module _ (s : Sheet) (fm : formed s ≡ true) where
       let z : partsBase + 2 * i + 0 ≡ partsBase + 2 * i = omega arith in
       rw z (sym (entry-there (tableOf s) (typesIn (tableOf s)) partsBase i h) ∙ unfold leftIn in (left-in s fm i))
 
-  right-at : (i : ℕ) → i < typesIn (tableOf s) → getD (tableOf s) (partsBase + 2 * i + 1) 0 ≡ rightWord (partsNo s i .kind) (partsNo s i .right)
+  right-at : (i : ℕ) → i < typesIn (tableOf s)
+      → getD (tableOf s) (partsBase + 2 * i + 1) 0 ≡ rightWord (partsNo s i .kind) (partsNo s i .right)
   right-at i h =
       let z : partsBase + 2 * i + 1 ≡ partsBase + 1 + 2 * i = omega arith in
-      rw z (sym (entry-there (tableOf s) (typesIn (tableOf s)) (partsBase + 1) i h) ∙ unfold rightWordIn in (right-word-in s fm i))
+      rw z (sym (entry-there (tableOf s) (typesIn (tableOf s)) (partsBase + 1) i h) ∙ unfold rightWordIn in
+      (right-word-in s fm i))
 
-  same-types : (i j : ℕ) → i < typesIn (tableOf s) → j < typesIn (tableOf s) → sameIn (tableOf s) false i j ≡ sameCompound (partsNo s i) (partsNo s j)
+  same-types : (i j : ℕ) → i < typesIn (tableOf s) → j < typesIn (tableOf s)
+      → sameIn (tableOf s) false i j ≡ sameCompound (partsNo s i) (partsNo s j)
   unfolding sameIn sameWords sameCompound every both
   same-types i j h l =
       let a = partsNo s i in
@@ -175,13 +188,15 @@ module _ (s : Sheet) (fm : formed s ≡ true) where
       )
       (both-exchange true (eqb (a .left) (b .left)) (sameKind (a .kind) (b .kind)) (eqb (a .right) (b .right)))
 
-  types-repeated : anyFrom (againIn (tableOf s) false (typesIn (tableOf s))) 3 (typesIn (tableOf s) - 3) ≡ repeated sameCompound (givenSums ++ s .compounds)
+  types-repeated : anyFrom (againIn (tableOf s) false (typesIn (tableOf s))) 3 (typesIn (tableOf s) - 3)
+      ≡ repeated sameCompound (givenSums ++ s .compounds)
   types-repeated =
       let xs = givenSums ++ s .compounds in
       let long : 3 + length xs ≡ typesIn (tableOf s) = omega (arith, type-count s, types-in s fm) in
       let left : typesIn (tableOf s) - 3 ≡ length xs = omega arith in
       ap (λ (k : ℕ). anyFrom (againIn (tableOf s) false (typesIn (tableOf s))) 3 k) left
-      ∙ any-repeated sameCompound noParts (tableOf s) false (typesIn (tableOf s)) xs 3 long (λ j k l m. same-types (3 + j) (3 + k) (omega arith) (omega arith) ∙ ap₂ sameCompound (compound-at j) (compound-at k))
+      ∙ any-repeated sameCompound noParts (tableOf s) false (typesIn (tableOf s)) xs 3 long (λ j k l m.
+      same-types (3 + j) (3 + k) (omega arith) (omega arith) ∙ ap₂ sameCompound (compound-at j) (compound-at k))
 
   noLabel : Label
   noLabel = bottomOf (everyone (s .principals))
@@ -194,15 +209,18 @@ module _ (s : Sheet) (fm : formed s ≡ true) where
       let second : 0 + k ≡ k = omega arith in
       ap₂ (λ (a b : ℕ). sameWords (tableOf s) (labelPlace a) (labelPlace b) labelSize) first second
       ∙ label-words-same (tableOf s) (labelPlace j) (labelPlace k)
-      ∙ ap₂ sameOf (sym (label-there (tableOf s) j refl h) ∙ label-in s fm j) (sym (label-there (tableOf s) k refl i) ∙ label-in s fm k)
+      ∙ ap₂ sameOf (sym (label-there (tableOf s) j refl h) ∙ label-in s fm j)
+      (sym (label-there (tableOf s) k refl i) ∙ label-in s fm k)
 
-  labels-repeated : anyFrom (againIn (tableOf s) true (labelsIn (tableOf s))) 0 (labelsIn (tableOf s) - 0) ≡ repeated sameOf (labelsOf s)
+  labels-repeated : anyFrom (againIn (tableOf s) true (labelsIn (tableOf s))) 0 (labelsIn (tableOf s) - 0)
+      ≡ repeated sameOf (labelsOf s)
   labels-repeated =
       let long : 0 + length (labelsOf s) ≡ labelsIn (tableOf s) =
       unfold labelsOf labelCount in (omega (arith, length-map (s .labels) (labelOf (s .principals)), labels-in s fm)) in
       let left : labelsIn (tableOf s) - 0 ≡ length (labelsOf s) = omega arith in
       ap (λ (k : ℕ). anyFrom (againIn (tableOf s) true (labelsIn (tableOf s))) 0 k) left
-      ∙ any-repeated sameOf noLabel (tableOf s) true (labelsIn (tableOf s)) (labelsOf s) 0 long (λ j k l m. same-labels j k (omega arith) (omega arith))
+      ∙ any-repeated sameOf noLabel (tableOf s) true (labelsIn (tableOf s)) (labelsOf s) 0 long
+      (λ j k l m. same-labels j k (omega arith) (omega arith))
 
   pub repeats-in : repeatsIn (tableOf s) ≡ repeats s
   unfolding repeatsIn repeats

@@ -25,17 +25,23 @@ use Rattle.sheet_text.proofs.CompleteLaws.{build-complete}
 
 -- ---- texts of the form
 
-build-in-sound : (t : List ℕ) (s : Sheet) (o : Option (List Line)) → linesOf t ≡ o → length t ≤ limit → buildRead o ≡ some s → IsSheet t s
+build-in-sound : (t : List ℕ) (s : Sheet) (o : Option (List Line)) → linesOf t ≡ o → length t ≤ limit
+    → buildRead o ≡ some s → IsSheet t s
 unfolding buildRead sheetBytes
 build-in-sound t s none e h k = none-some k
 build-in-sound t s (some ls) e h k =
     let b = build-sound ls s k in
-    record { printed = all-lines-exact sheet-lines t ls .0 e .0 ∙ ap (printLines lineBytes) (b .0); short = h; is-formed = b .1 }
+    record {
+      printed = all-lines-exact sheet-lines t ls .0 e .0 ∙ ap (printLines lineBytes) (b .0);
+      short = h;
+      is-formed = b .1;
+    }
 
 pub sheet-in-sound : (t : List ℕ) (s : Sheet) → sheetRead t ≡ some s → IsSheet t s
 unfolding sheetRead fits
 sheet-in-sound t s e =
-    cond-split (leb (length t) limit) _ _ _ (λ h k. build-in-sound t s (linesOf t) refl (leb-true _ _ h) k) (λ h k. none-some k) e
+    cond-split (leb (length t) limit) _ _ _ (λ h k. build-in-sound t s (linesOf t) refl (leb-true _ _ h) k)
+    (λ h k. none-some k) e
 
 pub sheet-in-print : (t : List ℕ) (s : Sheet) → IsSheet t s → sheetRead t ≡ some s
 unfolding sheetRead fits buildRead sheetBytes

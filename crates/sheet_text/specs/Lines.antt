@@ -45,7 +45,8 @@ labelLines (ps ∷ pss) rest = L ∷ each policyLine ps (labelLines pss rest)
 unfoldable pub linesThen : Sheet → List Line → List Line
 linesThen s rest =
     P (s .principals)
-    ∷ readingLines (s .reading) (each compoundLine (s .compounds) (labelLines (s .labels) (each locationLine (s .locations) rest)))
+    ∷ readingLines (s .reading)
+    (each compoundLine (s .compounds) (labelLines (s .labels) (each locationLine (s .locations) rest)))
 
 unfoldable pub sheetLines : Sheet → List Line
 sheetLines s = linesThen s []

@@ -27,7 +27,8 @@ labelRest t = andThen (lineEnd t) (λ _ u. got L u)
 
 unfoldable pub policyRest : List ℕ → Read Line
 policyRest t =
-    andThen (numberField most t) (λ o u. andThen (setField u) (λ r v. andThen (setField v) (λ w x. andThen (lineEnd x) (λ _ y. got (O o r w) y))))
+    andThen (numberField most t)
+    (λ o u. andThen (setField u) (λ r v. andThen (setField v) (λ w x. andThen (lineEnd x) (λ _ y. got (O o r w) y))))
 
 -- the line at the front of a text
 unfoldable pub lineOf : List ℕ → Read Line

@@ -1,5 +1,5 @@
--- The sheet of a text, or the number of its refusal: 1 where the text isn't of the form or names what isn't there, over the whole
--- sheet, and otherwise 2 where it repeats a type or a label.
+-- The sheet of a text, or the number of its refusal: 1 where the text isn't of the form or names what isn't there, over
+-- the whole sheet, and otherwise 2 where it repeats a type or a label.
 use mathlib.Core.Bool.{cond}
 use mathlib.Core.List.{List}
 use mathlib.Core.Option.{Option, none, some}

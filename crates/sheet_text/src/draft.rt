@@ -8,7 +8,9 @@ ghost use Rattle.sheet.specs.Internal.Writers.{principalsPut, readingPut, compo
 ghost use Rattle.sheet_text.specs.Internal.Building.{begin, addLineOn};
 ghost use Rattle.sheet_text.specs.Sheets.{sheetRead};
 ghost use Rattle.sheet_text.specs.Reading.{linesOf};
-ghost use Rattle.sheet_text.specs.Internal.Drafts.{draftIf, DraftHolds, FormedIf, stepsRead, Stores, principalsFit, readingFitsIn, compoundFitsIn, labelFitsIn, policyFitsIn, locationFitsIn};
+ghost use Rattle.sheet_text.specs.Internal.Drafts.{draftIf, DraftHolds, FormedIf, stepsRead, Stores};
+ghost use Rattle.sheet_text.specs.Internal.Drafts.{principalsFit, readingFitsIn, compoundFitsIn, labelFitsIn};
+ghost use Rattle.sheet_text.specs.Internal.Drafts.{policyFitsIn, locationFitsIn};
 use super::line::Line;
 use super::line::LineRead;
 use super::line::line_from;
@@ -26,8 +28,8 @@ use sheet::Word;
 // The number that a line `R` has.
 const RULE: u32 = 1;
 
-// What is known of the lines so far beside their table: the least owner that a policy may have next; or that they are not of the right
-// form, and then nothing is said of the table.
+// What is known of the lines so far beside their table: the least owner that a policy may have next; or that they are
+// not of the right form, and then nothing is said of the table.
 pub enum Draft {
     Formed(u32),
     Refused,
@@ -92,7 +94,8 @@ fn location_fits(table: &[Word], ty: u32, label: u32) -> bool
     (sheet::locations(table) < MOST_LOCATIONS) & known
 }
 
-// Each function from here to `begin` stores what a line adds to the table, if the line may come next, and answers whether it may.
+// Each function from here to `begin` stores what a line adds to the table, if the line may come next, and
+// answers whether it may.
 
 // The number of principals, and what every sheet has.
 fn set_principals(table: &mut [Word; WORDS], n: u32) -> bool
@@ -140,7 +143,8 @@ fn add_label(table: &mut [Word; WORDS]) -> bool
 
 // A policy of the last label.
 fn add_policy(table: &mut [Word; WORDS], least: u32, owner: u32, readers: Set, writers: Set) -> bool
-    ensures { λ r. ⌜ Stores (policyFitsIn least owner readers writers) (policyPut owner readers writers) (now (table .entry)) r (now (table .exit)) ⌝ }
+    ensures { λ r. ⌜ Stores (policyFitsIn least owner readers writers) (policyPut owner readers writers)
+        (now (table .entry)) r (now (table .exit)) ⌝ }
 {
     if !policy_fits(table, least, owner, readers, writers) {
         return false;
@@ -151,7 +155,8 @@ fn add_policy(table: &mut [Word; WORDS], least: u32, owner: u32, readers: Set, w
 
 // A location.
 fn add_location(table: &mut [Word; WORDS], ty: u32, label: u32) -> bool
-    ensures { λ r. ⌜ Stores (locationFitsIn ty label) (locationPut ty label) (now (table .entry)) r (now (table .exit)) ⌝ }
+    ensures { λ r. ⌜ Stores (locationFitsIn ty label) (locationPut ty label) (now (table .entry)) r
+        (now (table .exit)) ⌝ }
 {
     if !location_fits(table, ty, label) {
         return false;
@@ -173,7 +178,8 @@ fn begin(table: &mut [Word; WORDS], line: Line) -> Draft
 
 // The sheet after a further line.
 fn step(d: Draft, table: &mut [Word; WORDS], line: Line) -> Draft
-    ensures { λ r. ⌜ ((o : Option Sheet) → FormedIf o → DraftHolds o d (now (table .entry)) → DraftHolds (addLineOn o line) r (now (table .exit))) ⌝ }
+    ensures { λ r. ⌜ ((o : Option Sheet) → FormedIf o → DraftHolds o d (now (table .entry))
+        → DraftHolds (addLineOn o line) r (now (table .exit))) ⌝ }
 {
     let Draft::Formed(least) = d else {
         return Draft::Refused;
@@ -194,7 +200,8 @@ fn step(d: Draft, table: &mut [Word; WORDS], line: Line) -> Draft
 
 // The sheet after the lines from `from` on.
 fn follow(s: &[u8], from: usize, first: Draft, table: &mut [Word; WORDS]) -> Draft
-    ensures { λ r. ⌜ ((o : Option Sheet) → FormedIf o → DraftHolds o first (now (table .entry)) → DraftHolds (stepsRead o (linesOf (drop from (now (s .entry))))) r (now (table .exit))) ⌝ }
+    ensures { λ r. ⌜ ((o : Option Sheet) → FormedIf o → DraftHolds o first (now (table .entry))
+        → DraftHolds (stepsRead o (linesOf (drop from (now (s .entry))))) r (now (table .exit))) ⌝ }
 {
     let mut d = first;
     let mut at = from;

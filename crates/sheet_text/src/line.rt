@@ -161,7 +161,8 @@ fn read_line(s: &[u8], at: usize) -> Reached
 
 // The line that a reader has before it, and the reader after it.
 pub fn next_line<'a>(r: Reader<'a>) -> Next<'a>
-    ensures { λ n. ⌜ (record { read = n .read; at = n .rest .at } ≡ lineAt (now (r .entry .text)) (r .entry .at)) × (n .rest .text ≡ r .entry .text) ⌝ }
+    ensures { λ n. ⌜ (record { read = n .read; at = n .rest .at } ≡ lineAt (now (r .entry .text)) (r .entry .at))
+        × (n .rest .text ≡ r .entry .text) ⌝ }
 {
     let line = read_line(r.text, r.at);
     Next {
@@ -173,8 +174,8 @@ pub fn next_line<'a>(r: Reader<'a>) -> Next<'a>
     }
 }
 
-// The line that a reader at a byte of a text reads, and the byte that it then has reached; a plain slice, so that its callers hold
-// no reader.
+// The line that a reader at a byte of a text reads, and the byte that it then has reached; a plain slice, so that its
+// callers hold no reader.
 pub(crate) fn line_from(text: &[u8], at: usize) -> Reached
     ensures { λ r. ⌜ r ≡ lineAt (now (text .entry)) at ⌝ }
 {

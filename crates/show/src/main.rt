@@ -1,4 +1,5 @@
-// Takes a sheet, a memory and a group on standard input, parted by empty lines, and prints the view or the number of the refusal.
+// Takes a sheet, a memory and a group on standard input, parted by empty lines, and prints the view or the
+// number of the refusal.
 use desk::PLACES;
 use libc::STDOUT_FILENO;
 use parts::KEEP;

@@ -6,7 +6,12 @@ use Rattle.language.specs.World.{World, Mem}
 use Rattle.language.specs.Evaluation.{bind, fit, fitIf, eval}
 use Rattle.language.specs.Transition.{spent, done, run, iterate, step, after, branch, branchV, at-seq}
 use Rattle.stages.specs.Calls.{ended}
-use Rattle.simp.specs.Cases.{Holds, spends, Each, cases, CasesHold, sheet, nested, fourLocations, before, afterPack, afterUnpack, beforeWith, afterStart, parted, times, twoPolicies, readersOnly, twoLabels, twoStarts, twoPackages, filledRows, packages, packagesTrusted, pairTypes, longPairs, deepPair, mostTypes, tooManyTypes, leafOf, longWith, pairs, firstOf, pairOf, pairsWith, trustedOn, together, byHimself, lastReader, eachHisOwn, belowTogether, belowByHimself, withPackage, packageShown}
+use Rattle.simp.specs.Cases.{Holds, spends, Each, cases, CasesHold, sheet, nested, fourLocations, before}
+use Rattle.simp.specs.Cases.{afterPack, afterUnpack, beforeWith, afterStart, parted, times, twoPolicies}
+use Rattle.simp.specs.Cases.{readersOnly, twoLabels, twoStarts, twoPackages, filledRows, packages}
+use Rattle.simp.specs.Cases.{packagesTrusted, pairTypes, longPairs, deepPair, mostTypes, tooManyTypes, leafOf}
+use Rattle.simp.specs.Cases.{longWith, pairs, firstOf, pairOf, pairsWith, trustedOn, together, byHimself}
+use Rattle.simp.specs.Cases.{lastReader, eachHisOwn, belowTogether, belowByHimself, withPackage, packageShown}
 use Rattle.simp.proofs.Computing.{all-used}
 
 -- `w`, `l 3`, `i 1`, `s`
@@ -34,13 +39,17 @@ abbrev _&_ : {A B : Type 0} → A → B → A × B
 a & b = (a, b)
 
 pub cases-hold : CasesHold
-unfolding Each cases Holds sheet nested fourLocations before afterPack afterUnpack beforeWith afterStart parted times twoPolicies readersOnly twoLabels
+unfolding Each cases Holds sheet nested fourLocations before afterPack afterUnpack beforeWith afterStart parted times
+    twoPolicies readersOnly twoLabels
     twoStarts twoPackages filledRows packages packagesTrusted pairTypes longPairs deepPair mostTypes
-    tooManyTypes leafOf longWith pairs firstOf pairOf pairsWith trustedOn together byHimself lastReader eachHisOwn belowTogether belowByHimself withPackage
+    tooManyTypes leafOf longWith pairs firstOf pairOf pairsWith trustedOn together byHimself lastReader eachHisOwn
+    belowTogether belowByHimself withPackage
     packageShown all-used
 cases-hold =
-    refl & refl & refl & refl & refl & refl & refl & refl & refl & refl & refl & refl & refl & refl & refl & spent-always & refl & refl
-    & refl & refl & refl & refl & refl & refl & refl & refl & refl & refl & refl & refl & refl & refl & refl & refl & refl & refl & refl & refl & refl
+    refl & refl & refl & refl & refl & refl & refl & refl & refl & refl & refl & refl & refl & refl & refl
+    & spent-always & refl & refl
+    & refl & refl & refl & refl & refl & refl & refl & refl & refl & refl & refl & refl & refl & refl & refl & refl
+    & refl & refl & refl & refl & refl
     & refl & refl & refl & refl
     & refl & refl & refl & refl & refl & refl & refl & refl & refl & refl & refl & refl & refl
     & refl & refl & refl & refl & refl & refl & refl & refl & refl & refl & refl & refl & refl & refl & refl
@@ -48,11 +57,16 @@ cases-hold =
     & (refl, refl, refl) & (refl, refl, refl) & (refl, refl, refl) & (refl, refl, refl)
     & (refl, refl, refl) & (refl, refl, refl) & (refl, refl, refl) & (refl, refl, refl)
     & (refl, refl, refl) & (refl, refl, refl) & (refl, refl, refl) & (refl, refl, refl)
-    & refl & refl & refl & refl & refl & refl & refl & refl & refl & refl & refl & refl & refl & refl & refl & refl & refl & refl & refl & refl
-    & refl & refl & refl & refl & refl & refl & refl & refl & refl & refl & refl & refl & refl & refl & refl & refl & refl & refl & refl & refl
-    & refl & refl & refl & refl & refl & refl & refl & refl & refl & refl & refl & refl & refl & refl & refl & refl & refl & refl & refl & refl
+    & refl & refl & refl & refl & refl & refl & refl & refl & refl & refl & refl & refl & refl & refl & refl & refl
+    & refl & refl & refl & refl
+    & refl & refl & refl & refl & refl & refl & refl & refl & refl & refl & refl & refl & refl & refl & refl & refl
+    & refl & refl & refl & refl
+    & refl & refl & refl & refl & refl & refl & refl & refl & refl & refl & refl & refl & refl & refl & refl & refl
+    & refl & refl & refl & refl
     & refl & refl & refl & refl & refl & refl & refl & refl
     & (refl, refl, refl)
-    & refl & refl & refl & refl & refl & refl & refl & refl & refl & refl & refl & refl & refl & refl & refl & refl & refl & refl & refl & refl
-    & refl & refl & refl & refl & refl & refl & refl & refl & refl & refl & refl & refl & refl & refl & refl & refl & refl & refl & refl & refl
+    & refl & refl & refl & refl & refl & refl & refl & refl & refl & refl & refl & refl & refl & refl & refl & refl
+    & refl & refl & refl & refl
+    & refl & refl & refl & refl & refl & refl & refl & refl & refl & refl & refl & refl & refl & refl & refl & refl
+    & refl & refl & refl & refl
     & (refl, refl, refl) & (refl, refl, refl) & refl & refl & refl & refl & refl & refl & refl & tt

@@ -1,4 +1,5 @@
--- The definitions that the cases compute with, by crate: to unfold `text-used` is to unfold all that its line names. Assumes nothing.
+-- The definitions that the cases compute with, by crate: to unfold `text-used` is to unfold all that its line names.
+-- Assumes nothing.
 use Rattle.text.specs.Field as field
 use Rattle.text.specs.Lines as text-lines
 use Rattle.text.specs.Number as number
@@ -53,23 +54,30 @@ unfolding logic.both logic.either
 logic-used = tt
 
 unfoldable pub sets-used : Unit {0}
-unfolding sets.member sets.union sets.intersection sets.within sets.meets sets.single sets.everyone sets.restrict sets.every
+unfolding sets.member sets.union sets.intersection sets.within sets.meets sets.single sets.everyone
+    sets.restrict sets.every
     sets.any sets.tab
 sets-used = tt
 
 unfoldable pub labels-used : Unit {0}
-unfolding labels.own labels.openAt labels.openOf labels.policyOf labels.withPolicies labels.labelOf labels.policyOn labels.policiesOn labels.belowAt
-    labels.belowOf labels.sameAt labels.sameOf labels.joinOf labels.confidentialityOf labels.integrityOf labels.bottomOf labels.closedAt
+unfolding labels.own labels.openAt labels.openOf labels.policyOf labels.withPolicies labels.labelOf labels.policyOn
+    labels.policiesOn labels.belowAt
+    labels.belowOf labels.sameAt labels.sameOf labels.joinOf labels.confidentialityOf labels.integrityOf
+    labels.bottomOf labels.closedAt
     labels.topOf labels.readsOf labels.writesOf labels.readsAloneOf labels.readsUnder labels.wholeOf labels.effective
 labels-used = tt
 
 unfoldable pub language-used : Unit {0}
-unfolding evaluation.bind evaluation.fitIf evaluation.fit evaluation.addTo evaluation.add evaluation.packed evaluation.opened world.wanted
+unfolding evaluation.bind evaluation.fitIf evaluation.fit evaluation.addTo evaluation.add evaluation.packed
+    evaluation.opened world.wanted
     evaluation.unpacked evaluation.partOf evaluation.lookup evaluation.eval
     syntax.pick syntax.size syntax.has
-    substitution.lift substitution.close-var substitution.closeE substitution.close substitution.inst substitution.update transition.at-seq
-    transition.at-assign transition.branchV transition.branch transition.step transition.after transition.run transition.iterate
-    declarations.startOf declarations.nth typing.orElse typing.isYes typing.sameTy typing.isTy typing.hasTy typing.leftIs typing.rightIs typing.onSum typing.pairIs typing.partTy typing.given
+    substitution.lift substitution.close-var substitution.closeE substitution.close substitution.inst
+    substitution.update transition.at-seq
+    transition.at-assign transition.branchV transition.branch transition.step transition.after transition.run
+    transition.iterate
+    declarations.startOf declarations.nth typing.orElse typing.isYes typing.sameTy typing.isTy typing.hasTy
+    typing.leftIs typing.rightIs typing.onSum typing.pairIs typing.partTy typing.given
     typing.typeOfValue typing.typeOf typing.shape typing.least typing.flowE typing.flow typing.refusal
     trust.keepsE trust.keeps trust.trustKeeping masks.mask masks.seen
 language-used = tt
@@ -82,15 +90,18 @@ script-used = tt
 unfoldable pub sheet-used : Unit {0}
 unfolding meaning.effectiveIf meaning.effectively
     sheet.givenTypes sheet.typesFrom sheet.tyOf sheet.typeCount sheet.labelsOf sheet.labelNo sheet.labelCount
-    sheet.locationNo sheet.locationCount sheet.earlierTypes sheet.rising sheet.eachRising sheet.eachNamed sheet.formed sheet.among sheet.repeated
+    sheet.locationNo sheet.locationCount sheet.earlierTypes sheet.rising sheet.eachRising sheet.eachNamed sheet.formed
+    sheet.among sheet.repeated
     sheet.sameKind sheet.sameCompound sheet.compoundOf sheet.repeats
     padding.padded
-    growth.bareSheet growth.addReading growth.addCompound growth.addLabel growth.toLast growth.addPolicy growth.addLocation
+    growth.bareSheet growth.addReading growth.addCompound growth.addLabel growth.toLast growth.addPolicy
+    growth.addLocation
 sheet-used = tt
 
 unfoldable pub sheet-text-used : Unit {0}
 unfolding building.lastOf building.leastAfter
-    building.leastOwner building.isPooled building.readingFits building.compoundFits building.labelFits building.policyFits building.locationFits building.begin building.addType
+    building.leastOwner building.isPooled building.readingFits building.compoundFits building.labelFits
+    building.policyFits building.locationFits building.begin building.addType
     building.addLine
     building.addLineOn building.addLines building.build
     sheet-lines.numberRest sheet-lines.numbersRest sheet-lines.labelRest sheet-lines.policyRest sheet-lines.lineOf
@@ -100,20 +111,25 @@ sheet-text-used = tt
 
 unfoldable pub script-text-used : Unit {0}
 unfolding parse.popE parse.popC parse.onStack parse.pushOn parse.stackOf parse.onlyCommand parse.parse
-    script-lines.formOf script-lines.operandsOf script-lines.lineOf script-lines.startRead script-lines.openingOf script-lines.writtenWith
+    script-lines.formOf script-lines.operandsOf script-lines.lineOf script-lines.startRead script-lines.openingOf
+    script-lines.writtenWith
     script-lines.linesAfter script-lines.writtenOf
     script.namedOnly script.commandOf script.scriptWith script.scriptRead script.scriptOf
 script-text-used = tt
 
 unfoldable pub memory-used : Unit {0}
-unfolding memory.cellOf memory.memoryOf memory.cells memory.wordsOf memory.properHead memory.proper memory.equalWords memory.exactly memory.formedBy memory.sliceRefusal
+unfolding memory.cellOf memory.memoryOf memory.cells memory.wordsOf memory.properHead memory.proper memory.equalWords
+    memory.exactly memory.formedBy memory.sliceRefusal
     memory.refusalBy memory.asDeclared memory.wellFormed memory.memoryRefusal
-    words.headWords words.enc words.cell words.wrap words.numbered words.headAt words.packaged words.paired words.tagged words.read words.readOf
-    view.viewCell view.viewBy view.seesNo view.viewWords view.viewRefusal view.trustedLabelNo view.trustedLocationNo view.trustedWords
+    words.headWords words.enc words.cell words.wrap words.numbered words.headAt words.packaged words.paired words.tagged
+    words.read words.readOf
+    view.viewCell view.viewBy view.seesNo view.viewWords view.viewRefusal view.trustedLabelNo view.trustedLocationNo
+    view.trustedWords
 memory-used = tt
 
 unfoldable pub simp-used : Unit {0}
-unfolding calls.onSheet calls.unless calls.strangers calls.onScript calls.untyped calls.numberOf calls.checkOf calls.ended calls.runOf calls.viewOf calls.keepingBit
+unfolding calls.onSheet calls.unless calls.strangers calls.onScript calls.untyped calls.numberOf calls.checkOf
+    calls.ended calls.runOf calls.viewOf calls.keepingBit
     calls.trustOn calls.trustOf
     texts.bytes
 simp-used = tt
@@ -121,7 +137,8 @@ simp-used = tt
 unfoldable pub rounds-used : Unit {0}
 unfolding parting.toFirst parting.partsFrom parting.partsOf
     round-answers.leftBy round-answers.allOpen
-    round-calls.tooMany round-calls.lower round-calls.lowest round-calls.runEach round-calls.turnOf round-calls.playedOf round-calls.roundBy
+    round-calls.tooMany round-calls.lower round-calls.lowest round-calls.runEach round-calls.turnOf round-calls.playedOf
+    round-calls.roundBy
 rounds-used = tt
 
 unfoldable pub groups-used : Unit {0}
@@ -130,6 +147,7 @@ unfolding listing.isSmallest listing.smallestFrom listing.smallestOf
 groups-used = tt
 
 unfoldable pub all-used : Unit {0}
-unfolding logic-used text-used sets-used labels-used language-used script-used sheet-used sheet-text-used script-text-used memory-used simp-used rounds-used
+unfolding logic-used text-used sets-used labels-used language-used script-used sheet-used sheet-text-used
+    script-text-used memory-used simp-used rounds-used
     groups-used
 all-used = tt

@@ -21,10 +21,12 @@ demand-1 = record {
       (record { of-refusal = λ k. refl; of-others = λ r e i. not-one 0 i refl e }) _ (checked sheet script);
   run-order = λ sheet script memory authority budget.
       every-table .first-that-applies Ran (refusedRun memory) (λ r. r .answer) _ (runRows sheet script memory authority)
-      (record { of-refusal = λ k. refl; of-others = λ r e. past-8 (e .2 .2) }) _ (run-exactly sheet script memory authority budget _ .0 refl);
+      (record { of-refusal = λ k. refl; of-others = λ r e. past-8 (e .2 .2) }) _
+      (run-exactly sheet script memory authority budget _ .0 refl);
   view-order = λ sheet memory group view.
       every-table .first-that-applies Viewed (refusedView view) (λ v. v .answer) _ (viewRows sheet memory group view)
-      (record { of-refusal = λ k. refl; of-others = λ v e i. not-one 0 i refl (ap (λ (x : Viewed). x .answer) (e .2)) }) _
+      (record { of-refusal = λ k. refl; of-others = λ v e i. not-one 0 i refl (ap (λ (x : Viewed). x .answer) (e .2)) })
+      _
       (view-exactly sheet memory group view _ .0 refl);
   check-number = checked;
   run-number = λ sheet script memory authority budget. run-exactly sheet script memory authority budget _ .0 refl;
@@ -42,7 +44,8 @@ demand-1 = record {
 
 pub demand-2 : Demand2
 demand-2 = record {
-  check = λ sheet script. exactly (λ k. k) _ _ (checkOf sheet script) (checkRows sheet script) (λ n z r. (λ e. sym e ∙ z, λ y. z ∙ sym y)) (checked sheet script);
+  check = λ sheet script. exactly (λ k. k) _ _ (checkOf sheet script) (checkRows sheet script)
+      (λ n z r. (λ e. sym e ∙ z, λ y. z ∙ sym y)) (checked sheet script);
   run = run-exactly;
   view = view-exactly;
   round = round-exactly;

@@ -14,13 +14,16 @@ use Rattle.numbers.proofs.RowLaws.{by-rows, not-one, among-more}
 use Rattle.simp.proofs.SecondDemand.{checked, Starts, run-starts, run-exactly, Shows, view-shows, view-exactly}
 
 module _ {memory : List ℕ} {budget : ℕ} where
-  pub finished : {sheet script : List ℕ} {authority : ℕ} {s : Sheet} {p : Script} {r : Ran} → Started sheet script memory authority s p → Ends s p memory authority budget r → r .answer ≡ 0
+  pub finished : {sheet script : List ℕ} {authority : ℕ} {s : Sheet} {p : Script} {r : Ran}
+      → Started sheet script memory authority s p → Ends s p memory authority budget r → r .answer ≡ 0
       → Finished sheet script memory authority budget (r .steps) (r .memory)
   finished st (ends-9 t n l) h = absurd (omega arith)
   finished st (ends-10 k t n l) h = absurd (omega arith)
-  finished {s = s} {p = p} st (ends-0 {M′} k t n) h = record { its-sheet = s; its-script = p; reached = M′; started = st; run = t; words = refl; in-budget = k }
+  finished {s = s} {p = p} st (ends-0 {M′} k t n) h =
+      record { its-sheet = s; its-script = p; reached = M′; started = st; run = t; words = refl; in-budget = k }
 
-  pub ended : {authority : ℕ} {s : Sheet} {p : Script} {r : Ran} → Ends s p memory authority budget r → RunAnswers memory budget r
+  pub ended : {authority : ℕ} {s : Sheet} {p : Script} {r : Ran} → Ends s p memory authority budget r
+      → RunAnswers memory budget r
   ended (ends-0 k t n) = record {
     number = here;
     kept = λ h. absurd (h refl);
@@ -53,38 +56,48 @@ module _ {memory : List ℕ} {budget : ℕ} where
   }
 
 -- a run that is done has started, and a view that is handed out is refused by nothing
-pub starts : (sheet script memory : List ℕ) (authority budget : ℕ) → runOf sheet script memory authority budget .answer ≡ 0 → Starts sheet script memory authority
+pub starts : (sheet script memory : List ℕ) (authority budget : ℕ)
+    → runOf sheet script memory authority budget .answer ≡ 0 → Starts sheet script memory authority
 unfolding numbers
 starts sheet script memory authority budget =
-    by-rows (refusedRun memory) _ (λ (r : Ran). r .answer ≡ 0 → Starts sheet script memory authority) (runRows sheet script memory authority)
+    by-rows (refusedRun memory) _ (λ (r : Ran). r .answer ≡ 0 → Starts sheet script memory authority)
+    (runRows sheet script memory authority)
     (λ k i g h. absurd (not-one 0 i refl h)) (λ r n st h. st) _ (run-starts sheet script memory authority budget)
 
-pub shows : (sheet memory : List ℕ) (group : ℕ) (view : List ℕ) → viewOf sheet memory group view .answer ≡ 0 → Shows sheet memory group view
+pub shows : (sheet memory : List ℕ) (group : ℕ) (view : List ℕ) → viewOf sheet memory group view .answer ≡ 0
+    → Shows sheet memory group view
 unfolding numbers
 shows sheet memory group view =
-    by-rows (refusedView view) _ (λ (v : Viewed). v .answer ≡ 0 → Shows sheet memory group view) (viewRows sheet memory group view)
+    by-rows (refusedView view) _ (λ (v : Viewed). v .answer ≡ 0 → Shows sheet memory group view)
+    (viewRows sheet memory group view)
     (λ k i g h. absurd (not-one 0 i refl h)) (λ v n z h. z) _ (view-shows sheet memory group view)
 
-pub run-answers : (sheet script memory : List ℕ) (authority budget : ℕ) → RunAnswers memory budget (runOf sheet script memory authority budget)
+pub run-answers : (sheet script memory : List ℕ) (authority budget : ℕ)
+    → RunAnswers memory budget (runOf sheet script memory authority budget)
 unfolding numbers
 run-answers sheet script memory authority budget =
-    by-rows (refusedRun memory) _ (RunAnswers memory budget) (runRows sheet script memory authority) (λ k i g. refused k i) (λ r n e. ended (e .2 .2)) _
+    by-rows (refusedRun memory) _ (RunAnswers memory budget) (runRows sheet script memory authority)
+    (λ k i g. refused k i) (λ r n e. ended (e .2 .2)) _
     (run-exactly sheet script memory authority budget _ .0 refl)
 
 pub check-answers : (sheet script : List ℕ) → Among (0 ∷ 1 ∷ 2 ∷ 4 ∷ 5 ∷ 6 ∷ []) (checkOf sheet script)
 unfolding numbers
-check-answers sheet script = by-rows (λ k. k) _ (Among (0 ∷ 1 ∷ 2 ∷ 4 ∷ 5 ∷ 6 ∷ [])) (checkRows sheet script) (λ k i g. later i) (λ r n e. rw e here) _ (checked sheet script)
+check-answers sheet script = by-rows (λ k. k) _ (Among (0 ∷ 1 ∷ 2 ∷ 4 ∷ 5 ∷ 6 ∷ [])) (checkRows sheet script)
+    (λ k i g. later i) (λ r n e. rw e here) _ (checked sheet script)
 
-pub view-answers : (sheet memory : List ℕ) (group : ℕ) (view : List ℕ) → ViewAnswers view (viewOf sheet memory group view)
+pub view-answers : (sheet memory : List ℕ) (group : ℕ) (view : List ℕ)
+    → ViewAnswers view (viewOf sheet memory group view)
 unfolding numbers
 view-answers sheet memory group view =
     by-rows (refusedView view) _ (ViewAnswers view) (viewRows sheet memory group view)
     (λ k i g. record { number = later i; kept = λ h. refl })
-    (λ v n e. let z : v .answer ≡ 0 = ap (λ (x : Viewed). x .answer) (e .2) in record { number = rw z here; kept = λ h. absurd (h z) })
+    (λ v n e. let z : v .answer ≡ 0 = ap (λ (x : Viewed). x .answer) (e .2) in
+    record { number = rw z here; kept = λ h. absurd (h z) })
     _ (view-exactly sheet memory group view _ .0 refl)
 
 -- the numbers past the table of a run
-pub past-8 : {s : Sheet} {p : Script} {memory : List ℕ} {authority budget : ℕ} {r : Ran} → Ends s p memory authority budget r
+pub past-8 : {s : Sheet} {p : Script} {memory : List ℕ} {authority budget : ℕ} {r : Ran}
+    → Ends s p memory authority budget r
     → ¬ Among (1 ∷ 2 ∷ 3 ∷ 4 ∷ 5 ∷ 6 ∷ 7 ∷ 8 ∷ []) (r .answer)
 past-8 (ends-0 k t n) i = not-one 0 i refl refl
 past-8 (ends-9 t n l) i = not-one 9 i refl refl

@@ -53,7 +53,8 @@ module _ (places gs : List ℕ) where
         (getD-append-add gs (drop (length gs) places) j 0 ∙ getD-drop (length gs) places j 0);
   }
 
-  same-grouped : {r : Grouped} {k : ℕ} {ws : List ℕ} → r .answer ≡ 0 → r .count ≡ k → r .places ≡ ws → r ≡ record { answer = 0; count = k; places = ws }
+  same-grouped : {r : Grouped} {k : ℕ} {ws : List ℕ} → r .answer ≡ 0 → r .count ≡ k → r .places ≡ ws
+      → r ≡ record { answer = 0; count = k; places = ws }
   same-grouped a c p = rw (← a, ← c, ← p) refl
 
   handed-so : {r : Grouped} → Handed places gs r → r ≡ grouped places gs
@@ -61,7 +62,8 @@ module _ (places gs : List ℕ) where
       let w = hands (h .enough) in
       same-grouped (h .not-refused) (h .its-count)
       (ext-getD 0 (r .places) (grouped places gs .places) (h .as-many-places ∙ sym (w .as-many-places)) (λ i m.
-      by-below i (length gs) (λ b. h .first-places i b ∙ sym (w .first-places i b)) (λ b. h .rest-kept i b ∙ sym (w .rest-kept i b))))
+      by-below i (length gs) (λ b. h .first-places i b ∙ sym (w .first-places i b))
+      (λ b. h .rest-kept i b ∙ sym (w .rest-kept i b))))
 
 -- ---- the stages against the rows
 
@@ -79,7 +81,8 @@ module _ (sheet : List ℕ) (l : ℕ) (places : List ℕ) where
   abbrev E : Grouped → Type 0
   E _ = Lists sheet l places
 
-  past-12 : (s : Sheet) → OnSheet sheet s → First R E (12 when (NoLabel sheet l ⊎ FewPlaces sheet l places) ∷ []) (groupsOn s l places)
+  past-12 : (s : Sheet) → OnSheet sheet s
+      → First R E (12 when (NoLabel sheet l ⊎ FewPlaces sheet l places) ∷ []) (groupsOn s l places)
   unfolding First
   past-12 s h =
       by-below l (labelCount s)
@@ -89,7 +92,8 @@ module _ (sheet : List ℕ) (l : ℕ) (places : List ℕ) where
       (λ k. inr (
         ⊎-elim (λ o. let z = its (λ (s : Sheet). labelCount s ≤ l) (h .form) o in omega arith)
             (λ o.
-            let (gs, g, z) = its (λ (s : Sheet). (gs : List ℕ) × SmallestOn s l gs × (length places < length gs)) (h .form) o in
+            let (gs, g, z) =
+            its (λ (s : Sheet). (gs : List ℕ) × SmallestOn s l gs × (length places < length gs)) (h .form) o in
             omega (arith, ap length (no-others s l gs g))),
         record { its-sheet = s; on-sheet = h; there = m; enough = k },
       )))
@@ -103,15 +107,25 @@ module _ (sheet : List ℕ) (l : ℕ) (places : List ℕ) where
   unfolding groupsOf onSheet
   listed-so h = rw (read (h .on-sheet)) (all-placed (h .its-sheet) l places (h .there) (h .enough))
 
-pub groups-exactly : (sheet : List ℕ) (l : ℕ) (places : List ℕ) (r : Grouped) → (groupsOf sheet l places ≡ r) ↔ Groups sheet l places r
+pub groups-exactly : (sheet : List ℕ) (l : ℕ) (places : List ℕ) (r : Grouped)
+    → (groupsOf sheet l places ≡ r) ↔ Groups sheet l places r
 groups-exactly sheet l places =
     exactly (refusedGroups places) _ _ (groupsOf sheet l places) (groupRows sheet l places)
     (λ n h r.
     let s : Sheet = h .its-sheet in
     let gs : List ℕ = groupsFor s l in (
-      λ e. (s, h .on-sheet .form, (gs, its-groups s l, subst (Handed places gs) (sym (listed-so sheet l places h) ∙ e) (hands places gs (h .enough)))),
+      λ e. (
+        s,
+        h .on-sheet .form,
+        (
+          gs,
+          its-groups s l,
+          subst (Handed places gs) (sym (listed-so sheet l places h) ∙ e) (hands places gs (h .enough)),
+        ),
+      ),
       λ o.
-          let (hs, g, z) = its (λ (s : Sheet). (gs : List ℕ) × SmallestOn s l gs × Handed places gs r) (h .on-sheet .form) o in
+          let (hs, g, z) =
+          its (λ (s : Sheet). (gs : List ℕ) × SmallestOn s l gs × Handed places gs r) (h .on-sheet .form) o in
           listed-so sheet l places h ∙ ap (grouped places) (sym (no-others s l hs g)) ∙ sym (handed-so places hs z),
     ))
     (lists sheet l places)
@@ -131,7 +145,8 @@ unfolding numbers
 groups-demand-1 = record {
   order = λ sheet l places.
       every-table .first-that-applies Grouped (refusedGroups places) (λ r. r .answer) _ (groupRows sheet l places)
-      (record { of-refusal = λ k. refl; of-others = λ r o i. not-one 0 i refl (o .2 .2 .not-refused) }) _ (groups-exactly sheet l places _ .0 refl);
+      (record { of-refusal = λ k. refl; of-others = λ r o i. not-one 0 i refl (o .2 .2 .not-refused) }) _
+      (groups-exactly sheet l places _ .0 refl);
   number = λ sheet l places. groups-exactly sheet l places _ .0 refl;
   answers = group-answers;
 }
@@ -142,7 +157,8 @@ groups-demand-1 = record {
 listing : (sheet : List ℕ) (l : ℕ) (places : List ℕ) → groupsOf sheet l places .answer ≡ 0 → Lists sheet l places
 unfolding numbers
 listing sheet l places z =
-    by-rows (refusedGroups places) (λ _. Lists sheet l places) (λ r. r .answer ≡ 0 → Lists sheet l places) (groupRows sheet l places)
+    by-rows (refusedGroups places) (λ _. Lists sheet l places) (λ r. r .answer ≡ 0 → Lists sheet l places)
+    (groupRows sheet l places)
     (λ k i g e. absurd (not-one 0 i refl e)) (λ r n h e. h) _ (lists sheet l places) z
 
 pub smallest-groups : SmallestGroups
@@ -157,7 +173,8 @@ smallest-groups sheet l places z =
         groups = gs;
         smallest = its-groups s l;
         handed = rw (listed-so sheet l places h) (hands places gs (h .enough));
-        not-empty = λ o. fails (nobody-reads s (h .on-sheet .form .is-formed) l) (its-groups s l .listed 0 .0 o .1 .itself);
+        not-empty =
+            λ o. fails (nobody-reads s (h .on-sheet .form .is-formed) l) (its-groups s l .listed 0 .0 o .1 .itself);
         readers = readers-hold-one (s .principals) (λ (g : ℕ). readsNo s g l) (reading-grows s l) gs (its-groups s l);
       },
     )

@@ -38,20 +38,29 @@ above : (b : ℕ) (ks : List ℕ) → Rising b ks → (P : ℕ → Type 0) (x : 
 unfolding First
 above b [] u P x h = inl h
 above b (k ∷ ks) u P x (inl (p, e)) = let l = u .0 in inr (omega (arith, l, e))
-above b (k ∷ ks) u P x (inr (n, h)) = ⊎-elim inl (λ g. let l = u .0 in inr (omega (arith, l, g))) (above k ks (u .1) P x h)
+above b (k ∷ ks) u P x (inr (n, h)) =
+    ⊎-elim inl (λ g. let l = u .0 in inr (omega (arith, l, g))) (above k ks (u .1) P x h)
 
 -- the lower of two judged numbers is judged by either
-merged : (b : ℕ) (ks : List ℕ) → Rising b ks → (P Q : ℕ → Type 0) (x y : ℕ) → Judged (table ks P) x → Judged (table ks Q) y
+merged : (b : ℕ) (ks : List ℕ) → Rising b ks → (P Q : ℕ → Type 0) (x y : ℕ) → Judged (table ks P) x
+    → Judged (table ks Q) y
     → Judged (table ks (λ k. P k ⊎ Q k)) (lower x y)
 unfolding First
 merged b [] u P Q x y h h′ = lower-right x y h ∙ h′
-merged b (k ∷ ks) u P Q x y (inl (p, e)) (inl (q, d)) = let l = u .0 in inl (inl p, first-of x y (omega (arith, l, e)) (inr (omega (arith, e, d))) ∙ e)
+merged b (k ∷ ks) u P Q x y (inl (p, e)) (inl (q, d)) =
+    let l = u .0 in inl (inl p, first-of x y (omega (arith, l, e)) (inr (omega (arith, e, d))) ∙ e)
 merged b (k ∷ ks) u P Q x y (inl (p, e)) (inr (n, d)) =
     let l = u .0 in
-    inl (inl p, first-of x y (omega (arith, l, e)) (⊎-elim inl (λ g. inr (omega (arith, e, g))) (above k ks (u .1) Q y d)) ∙ e)
+    inl (
+      inl p,
+      first-of x y (omega (arith, l, e)) (⊎-elim inl (λ g. inr (omega (arith, e, g))) (above k ks (u .1) Q y d)) ∙ e,
+    )
 merged b (k ∷ ks) u P Q x y (inr (n, h)) (inl (q, d)) =
     let l = u .0 in
-    inl (inr q, second-of x y (omega (arith, l, d)) (⊎-elim inl (λ g. inr (omega (arith, d, g))) (above k ks (u .1) P x h)) ∙ d)
+    inl (
+      inr q,
+      second-of x y (omega (arith, l, d)) (⊎-elim inl (λ g. inr (omega (arith, d, g))) (above k ks (u .1) P x h)) ∙ d,
+    )
 merged b (k ∷ ks) u P Q x y (inr (n, h)) (inr (m, d)) = inr (⊎-elim n m, merged k ks (u .1) P Q x y h d)
 
 none-of : (ks : List ℕ) (P : ℕ → Type 0) → ((k : ℕ) → ¬ P k) → Judged (table ks P) 0
@@ -59,16 +68,21 @@ unfolding First
 none-of [] P n = refl
 none-of (k ∷ ks) P n = inr (n k, none-of ks P n)
 
-pub over-all : (ks : List ℕ) → Rising 0 ks → (P : ℕ → List ℕ → Type 0) (f : List ℕ → ℕ) → ((t : List ℕ) → Judged (table ks (λ k. P k t)) (f t))
+pub over-all : (ks : List ℕ) → Rising 0 ks → (P : ℕ → List ℕ → Type 0) (f : List ℕ → ℕ)
+    → ((t : List ℕ) → Judged (table ks (λ k. P k t)) (f t))
     → (ts : List (List ℕ)) → Judged (table ks (λ k. OneOf (P k) ts)) (lowest f ts)
 unfolding OneOf
 over-all ks u P f j [] = rw (lowest-over f) (none-of ks _ (λ k h. h))
-over-all ks u P f j (t ∷ ts) = rw (lowest-more f t ts) (merged 0 ks u (λ k. P k t) (λ k. OneOf (P k) ts) (f t) (lowest f ts) (j t) (over-all ks u P f j ts))
+over-all ks u P f j (t ∷ ts) = rw (lowest-more f t ts)
+    (merged 0 ks u (λ k. P k t) (λ k. OneOf (P k) ts) (f t) (lowest f ts) (j t) (over-all ks u P f j ts))
 
 -- a judged number is a stage of a call: its rows, and then the rows after it
-pub stage : {A : Type 0} (refuse : ℕ → A) (Else : A → Type 0) (b : ℕ) (ks : List ℕ) → Rising b ks → (P : ℕ → Type 0) (rows : List Row) (k : ℕ) (go : A)
-    → Judged (table ks P) k → (k ≡ 0 → First refuse Else rows go) → First refuse Else (table ks P ++ rows) (unless refuse k go)
+pub stage : {A : Type 0} (refuse : ℕ → A) (Else : A → Type 0) (b : ℕ) (ks : List ℕ) → Rising b ks
+    → (P : ℕ → Type 0) (rows : List Row) (k : ℕ) (go : A)
+    → Judged (table ks P) k → (k ≡ 0 → First refuse Else rows go)
+    → First refuse Else (table ks P ++ rows) (unless refuse k go)
 unfolding First unless
 stage refuse Else b [] u P rows k go h g = rw h (g h)
-stage refuse Else b (j ∷ js) u P rows k go (inl (p, e)) g = let l = u .0 in inl (p, stops refuse k go (λ z. omega (arith, l, e, z)) ∙ ap refuse e)
+stage refuse Else b (j ∷ js) u P rows k go (inl (p, e)) g =
+    let l = u .0 in inl (p, stops refuse k go (λ z. omega (arith, l, e, z)) ∙ ap refuse e)
 stage refuse Else b (j ∷ js) u P rows k go (inr (n, h)) g = inr (n, stage refuse Else j js (u .1) P rows k go h g)

@@ -25,15 +25,18 @@ module _ (s : Sheet) where
   -- 5 and 6
   pub typable-0 : (p : Script) → Typable s p → untyped s p ≡ 0
   unfolding untyped
-  typable-0 p = exactness (labelsOver (s .principals)) (least-label-laws (s .principals)) (declarationsOf s) .accepted p .1
+  typable-0 p =
+      exactness (labelsOver (s .principals)) (least-label-laws (s .principals)) (declarationsOf s) .accepted p .1
 
   pub 0-typable : (p : Script) → untyped s p ≡ 0 → Typable s p
   unfolding untyped
-  0-typable p = exactness (labelsOver (s .principals)) (least-label-laws (s .principals)) (declarationsOf s) .accepted p .0
+  0-typable p =
+      exactness (labelsOver (s .principals)) (least-label-laws (s .principals)) (declarationsOf s) .accepted p .0
 
   -- an accepted script passes the test on types
   pub typable-shape : (p : Script) → Typable s p → shape (shapesOf s) [] (p .command) ≡ true
-  typable-shape p h = script-iff (labelsOver (s .principals)) (least-label-laws (s .principals)) (declarationsOf s) p .1 h .0
+  typable-shape p h =
+      script-iff (labelsOver (s .principals)) (least-label-laws (s .principals)) (declarationsOf s) p .1 h .0
 
   -- 7 and 8
   pub sized-0 : (ws : List ℕ) → Sized s ws → wellFormed s ws ≡ true → memoryRefusal s ws ≡ 0

@@ -27,7 +27,8 @@ use Rattle.memory.specs.View.{seesNo}
 use Rattle.simp.specs.Judgements.{Typable}
 
 -- values that are the same where they are seen
-same-seen : (b : Bool) (shows : ℕ → Bool) (v w : Value) → (b ≡ true → v ≡ w) → seen b (mask shows v) ≡ seen b (mask shows w)
+same-seen : (b : Bool) (shows : ℕ → Bool) (v w : Value) → (b ≡ true → v ≡ w)
+    → seen b (mask shows v) ≡ seen b (mask shows w)
 unfolding seen
 same-seen true shows v w h = ap (mask shows) (h refl)
 same-seen false shows v w h = refl
@@ -37,7 +38,8 @@ Alike : Mem → Mem → (ℕ → Bool) → (ℕ → Bool) → Type 0
 Alike M N sees shows = (x : ℕ) → maskMem sees shows M x ≡ maskMem sees shows N x
 
 -- Noninterference, of an observer of whom numbers tell what it sees.
-module _ {L : Type 0} (K : Conditions L) (W : World) (vis : L → Bool) (label : ℕ → L) (observer : Observer K W vis (λ l. vis (label l)))
+module _ {L : Type 0} (K : Conditions L) (W : World) (vis : L → Bool) (label : ℕ → L)
+    (observer : Observer K W vis (λ l. vis (label l)))
     {sees shows : ℕ → Bool} (sees-is : (λ x. vis (K .home x)) ≡ sees) (shows-is : (λ l. vis (label l)) ≡ shows) where
   pub looks-kept : (pc : L) (c : Cmd) → flow K pc [] c ≡ true → (b b′ l l′ : ℕ) (M N M′ N′ : Mem)
       → ((x : ℕ) → maskMem sees shows M x ≡ maskMem sees shows N x)
@@ -46,7 +48,8 @@ module _ {L : Type 0} (K : Conditions L) (W : World) (vis : L → Bool) (label :
   unfolding Alike
   looks-kept pc c f b b′ l l′ M N M′ N′ h e e′ =
       subst₂ (Alike M′ N′) sees-is shows-is
-      (noninterference K W vis (λ k. vis (label k)) observer pc c f b b′ l l′ M N M′ N′ (subst₂ (Alike M N) (sym sees-is) (sym shows-is) h) e e′)
+      (noninterference K W vis (λ k. vis (label k)) observer pc c f b b′ l l′ M N M′ N′
+      (subst₂ (Alike M N) (sym sees-is) (sym shows-is) h) e e′)
 
 -- the locations whose label is read, and the label numbers that are
 abbrev pub seesBy : Sheet → (Label → Bool) → ℕ → Bool
@@ -67,7 +70,8 @@ module _ (s : Sheet) (fm : formed s ≡ true) (reads : Label → Bool) (down : D
   sees-is : (λ x. vis (declarationsOf s .home x)) ≡ seesBy s reads
   sees-is = fun-ext λ x. ap reads (declared-home s fm x)
 
-  observer : (authority : ℕ) → Observer (conditions (labelsOver (s .principals)) (declarationsOf s)) (worldOf s authority) vis (λ l. vis (declarationsOf s .label l))
+  observer : (authority : ℕ) → Observer (conditions (labelsOver (s .principals)) (declarationsOf s))
+      (worldOf s authority) vis (λ l. vis (declarationsOf s .label l))
   observer authority =
       let 𝓛 = labelsOver (s .principals) in
       reader 𝓛 (declarationsOf s) (worldOf s authority) vis (law-joins 𝓛 (least-label-laws (s .principals)))
@@ -75,19 +79,23 @@ module _ (s : Sheet) (fm : formed s ≡ true) (reads : Label → Bool) (down : D
       (λ m l. rw (declared-label s fm m, declared-label s fm l) refl)
       (λ a b. down (a .raw) (b .raw))
 
-  -- Two done runs of an accepted script, under one authority, from memories that show him the same, leave such memories.
+  -- Two done runs of an accepted script, under one authority, from memories that show him the same,
+  -- leave such memories.
   pub kept-by : (p : Script) → Typable s p → (authority b b′ l l′ : ℕ) (M N M′ N′ : Mem)
       → ((x : ℕ) → maskMem (seesBy s reads) (showsBy s reads) M x ≡ maskMem (seesBy s reads) (showsBy s reads) N x)
-      → iterate (worldFor s authority p) b M (p .command) ≡ done M′ l → iterate (worldFor s authority p) b′ N (p .command) ≡ done N′ l′
+      → iterate (worldFor s authority p) b M (p .command) ≡ done M′ l
+      → iterate (worldFor s authority p) b′ N (p .command) ≡ done N′ l′
       → (x : ℕ) → maskMem (seesBy s reads) (showsBy s reads) M′ x ≡ maskMem (seesBy s reads) (showsBy s reads) N′ x
   kept-by p t authority =
       let 𝓛 = labelsOver (s .principals) in
       let D = declarationsOf s in
-      looks-kept (conditions 𝓛 D) (worldFor s authority p) vis (D .label) (observer authority) sees-is shows-is (startLabel s p) (p .command)
+      looks-kept (conditions 𝓛 D) (worldFor s authority p) vis (D .label) (observer authority) sees-is shows-is
+      (startLabel s p) (p .command)
       (script-iff 𝓛 (least-label-laws (s .principals)) D p .1 t .1)
 
   -- A script whose starting label he doesn't read: however far a run of it goes, the memory shows him the same.
-  pub confined-by : (p : Script) → Typable s p → ¬ (vis (startLabel s p) ≡ true) → (authority k : ℕ) (M M′ : Mem) (c′ : Cmd)
+  pub confined-by : (p : Script) → Typable s p → ¬ (vis (startLabel s p) ≡ true)
+      → (authority k : ℕ) (M M′ : Mem) (c′ : Cmd)
       → Steps (worldFor s authority p) k M (p .command) M′ c′
       → (x : ℕ) → maskMem (seesBy s reads) (showsBy s reads) M′ x ≡ maskMem (seesBy s reads) (showsBy s reads) M x
   unfolding maskMem
@@ -95,8 +103,10 @@ module _ (s : Sheet) (fm : formed s ≡ true) (reads : Label → Bool) (down : D
       let 𝓛 = labelsOver (s .principals) in
       let D = declarationsOf s in
       same-seen (seesBy s reads x) (showsBy s reads) (M′ x) (M x) (λ v.
-      confinement (conditions 𝓛 D) (worldFor s authority p) vis (λ k. vis (D .label k)) (observer authority) (startLabel s p) (p .command)
-      (script-iff 𝓛 (least-label-laws (s .principals)) D p .1 t .1) h k M M′ c′ run x (ap (λ (f : ℕ → Bool). f x) sees-is ∙ v))
+      confinement (conditions 𝓛 D) (worldFor s authority p) vis (λ k. vis (D .label k)) (observer authority)
+      (startLabel s p) (p .command)
+      (script-iff 𝓛 (least-label-laws (s .principals)) D p .1 t .1) h k M M′ c′ run x
+      (ap (λ (f : ℕ → Bool). f x) sees-is ∙ v))
 
 -- A group, by the sheet's rule.
 module _ (s : Sheet) (fm : formed s ≡ true) (group : ℕ) where
@@ -108,12 +118,14 @@ module _ (s : Sheet) (fm : formed s ≡ true) (group : ℕ) where
 
   pub shown-kept : (p : Script) → Typable s p → (authority b b′ l l′ : ℕ) (M N M′ N′ : Mem)
       → ((x : ℕ) → maskMem (seesNo s group) (readsNo s group) M x ≡ maskMem (seesNo s group) (readsNo s group) N x)
-      → iterate (worldFor s authority p) b M (p .command) ≡ done M′ l → iterate (worldFor s authority p) b′ N (p .command) ≡ done N′ l′
+      → iterate (worldFor s authority p) b M (p .command) ≡ done M′ l
+      → iterate (worldFor s authority p) b′ N (p .command) ≡ done N′ l′
       → (x : ℕ) → maskMem (seesNo s group) (readsNo s group) M′ x ≡ maskMem (seesNo s group) (readsNo s group) N′ x
   unfolding seesNo
   shown-kept = kept-by s fm groupReads group-downward
 
-  pub shown-confined : (p : Script) → Typable s p → ¬ (readsStart s group p ≡ true) → (authority k : ℕ) (M M′ : Mem) (c′ : Cmd)
+  pub shown-confined : (p : Script) → Typable s p → ¬ (readsStart s group p ≡ true)
+      → (authority k : ℕ) (M M′ : Mem) (c′ : Cmd)
       → Steps (worldFor s authority p) k M (p .command) M′ c′
       → (x : ℕ) → maskMem (seesNo s group) (readsNo s group) M′ x ≡ maskMem (seesNo s group) (readsNo s group) M x
   unfolding seesNo

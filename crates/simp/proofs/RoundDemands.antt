@@ -32,7 +32,8 @@ use Rattle.simp.proofs.Numbers.{typable-0, 0-typable}
 use Rattle.simp.proofs.SecondDemand.{started-run, run-ends, run-exactly}
 use Rattle.simp.proofs.FirstDemand.{finished, run-answers}
 use Rattle.simp.proofs.RoundRows.{RoundStarts, round-starts, round-started, started-round}
-use Rattle.simp.proofs.Turns.{zeros-at, turns-map, turns-placed, placed-turns, round-placed, round-places, round-is}
+use Rattle.simp.proofs.Turns.{zeros-at, turns-map, turns-placed, placed-turns, round-placed, round-places}
+use Rattle.simp.proofs.Turns.{round-is}
 
 -- ---- a turn, by its gate
 
@@ -42,7 +43,8 @@ by-zero zero f g = f refl
 by-zero (suc k) f g = g (λ e. absurd (omega arith))
 
 module _ (gate : Gate) (sheet : List ℕ) (authority budget i : ℕ) (script memory : List ℕ) where
-  pub turn-open : Open gate i → turnOf gate sheet authority budget i script memory ≡ runOf sheet script memory authority budget
+  pub turn-open : Open gate i
+      → turnOf gate sheet authority budget i script memory ≡ runOf sheet script memory authority budget
   unfolding turnOf unless
   turn-open o = rw o refl
 
@@ -54,30 +56,37 @@ module _ (gate : Gate) (sheet : List ℕ) (authority budget i : ℕ) (script mem
   pub by-gate : {P : Type 0} → (Open gate i → P) → ((¬ Open gate i) → P) → P
   by-gate f g = by-zero (gate i) f g
 
-  turn-goes : (r : Ran) → (turnOf gate sheet authority budget i script memory ≡ r) ↔ TurnGoes gate sheet authority budget i script memory r
+  turn-goes : (r : Ran) → (turnOf gate sheet authority budget i script memory ≡ r)
+      ↔ TurnGoes gate sheet authority budget i script memory r
   turn-goes r = (
-    λ e. by-gate (λ o. inr (o, run-exactly sheet script memory authority budget r .0 (sym (turn-open o) ∙ e))) (λ n. inl (n, sym e ∙ turn-closed n)),
-    ⊎-elim (λ c. turn-closed (c .0) ∙ sym (c .1)) (λ c. turn-open (c .0) ∙ run-exactly sheet script memory authority budget r .1 (c .1)),
+    λ e. by-gate (λ o. inr (o, run-exactly sheet script memory authority budget r .0 (sym (turn-open o) ∙ e)))
+        (λ n. inl (n, sym e ∙ turn-closed n)),
+    ⊎-elim (λ c. turn-closed (c .0) ∙ sym (c .1))
+        (λ c. turn-open (c .0) ∙ run-exactly sheet script memory authority budget r .1 (c .1)),
   )
 
 -- ---- the scripts of a round that has started
 
 -- an accepted text is that of a script with a derivation
-accepted-script : {sheet : List ℕ} {s : Sheet} (script : List ℕ) → OnSheet sheet s → numberOf s script ≡ 0 → (p : Script) × IsScript (countsOf s) script p × Typable s p
+accepted-script : {sheet : List ℕ} {s : Sheet} (script : List ℕ) → OnSheet sheet s → numberOf s script ≡ 0
+    → (p : Script) × IsScript (countsOf s) script p × Typable s p
 unfolding numberOf onScript
 accepted-script {s = s} script h n = go (scriptOf (countsOf s) script) refl n
   where
-    go : (o : Option Script) → scriptOf (countsOf s) script ≡ o → onScript (λ k. k) o (λ p. untyped s p) ≡ 0 → (p : Script) × IsScript (countsOf s) script p × Typable s p
+    go : (o : Option Script) → scriptOf (countsOf s) script ≡ o → onScript (λ k. k) o (λ p. untyped s p) ≡ 0
+        → (p : Script) × IsScript (countsOf s) script p × Typable s p
     go none e z = absurd (omega arith)
     go (some p) e z = (p, script-exact s (h .form .is-formed) script p .0 e, 0-typable s p z)
 
 -- a run that started answers 0, 9 or 10
-past-refusals : {s : Sheet} {p : Script} {memory : List ℕ} {authority budget : ℕ} {r : Ran} → Ends s p memory authority budget r → Among (0 ∷ 9 ∷ 10 ∷ []) (r .answer)
+past-refusals : {s : Sheet} {p : Script} {memory : List ℕ} {authority budget : ℕ} {r : Ran}
+    → Ends s p memory authority budget r → Among (0 ∷ 9 ∷ 10 ∷ []) (r .answer)
 past-refusals (ends-0 k t n) = here
 past-refusals (ends-9 t n l) = later here
 past-refusals (ends-10 k t n l) = later (later here)
 
-module _ (gate : Gate) {sheet : List ℕ} {s : Sheet} (authority budget : ℕ) (h : OnSheet sheet s) (a : Principals s authority) where
+module _ (gate : Gate) {sheet : List ℕ} {s : Sheet} (authority budget : ℕ) (h : OnSheet sheet s)
+    (a : Principals s authority) where
   abbrev turn : ℕ → List ℕ → List ℕ → Ran
   turn = turnOf gate sheet authority budget
 
@@ -98,9 +107,12 @@ module _ (gate : Gate) {sheet : List ℕ} {s : Sheet} (authority budget : ℕ) (
 
     its-turn : ScriptAnswers gate sheet authority budget i script memory (turn i script memory)
     its-turn = record {
-      its-number = λ o. rw (turn-open gate sheet authority budget i script memory o) (past-refusals (run-ends its-start budget));
-      as-run = λ o. rw (turn-open gate sheet authority budget i script memory o) (run-answers sheet script memory authority budget);
-      finished = λ o. rw (turn-open gate sheet authority budget i script memory o) (finished its-start (run-ends its-start budget));
+      its-number =
+          λ o. rw (turn-open gate sheet authority budget i script memory o) (past-refusals (run-ends its-start budget));
+      as-run = λ o. rw (turn-open gate sheet authority budget i script memory o)
+          (run-answers sheet script memory authority budget);
+      finished = λ o.
+          rw (turn-open gate sheet authority budget i script memory o) (finished its-start (run-ends its-start budget));
       closed = turn-closed gate sheet authority budget i script memory;
     }
 
@@ -111,16 +123,19 @@ module _ (gate : Gate) {sheet : List ℕ} {s : Sheet} (authority budget : ℕ) (
         (λ o.
         let c = its-script in
         rw (turn-open gate sheet authority budget i script memory o ∙ started-run its-start budget)
-        (left-unrefused s (c .0) (c .1 .source) (c .1 .named-there) (typable-0 s (c .0) (c .2)) memory authority budget m))
+        (left-unrefused s (c .0) (c .1 .source) (c .1 .named-there)
+        (typable-0 s (c .0) (c .2)) memory authority budget m))
         (λ z. rw (turn-closed gate sheet authority budget i script memory z) m)
 
   turns : (i : ℕ) (memory : List ℕ) (ts : List (List ℕ)) → lowest (numberOf s) ts ≡ 0 → memoryRefusal s memory ≡ 0
-      → InTurn (λ j t m r. (r ≡ turn j t m) × ScriptAnswers gate sheet authority budget j t m r) i memory ts (leftBy memory (runEach turn i memory ts))
+      → InTurn (λ j t m r. (r ≡ turn j t m) × ScriptAnswers gate sheet authority budget j t m r) i memory ts
+      (leftBy memory (runEach turn i memory ts))
   unfolding runEach leftBy
   turns i memory [] n m = no-turn
   turns i memory (t ∷ ts) n m =
       let z = lower-none (numberOf s t) (lowest (numberOf s) ts) (sym (lowest-more (numberOf s) t ts) ∙ n) in
-      a-turn (turn i t memory) (refl, its-turn i t memory (z .0) m) (turns (suc i) (turn i t memory .memory) ts (z .1) (turn-kept i t memory (z .0) m))
+      a-turn (turn i t memory) (refl, its-turn i t memory (z .0) m)
+      (turns (suc i) (turn i t memory .memory) ts (z .1) (turn-kept i t memory (z .0) m))
 
 -- ---- the demands
 
@@ -140,7 +155,8 @@ module _ (gate : Gate) (sheet scripts memory : List ℕ) (authority budget : ℕ
 
     -- its scripts went so, if each of their turns did
     played-so : (P : ℕ → List ℕ → List ℕ → Ran → Type 0)
-        → ((j : ℕ) (t m : List ℕ) (r : Ran) → (r ≡ turnOf gate sheet authority budget j t m) × ScriptAnswers gate sheet authority budget j t m r → P j t m r)
+        → ((j : ℕ) (t m : List ℕ) (r : Ran) → (r ≡ turnOf gate sheet authority budget j t m)
+        × ScriptAnswers gate sheet authority budget j t m r → P j t m r)
         → Played P scripts memory R
     played-so P f =
         rw (started-round gate sheet scripts memory authority budget st) (record {
@@ -148,7 +164,8 @@ module _ (gate : Gate) (sheet scripts memory : List ℕ) (authority budget : ℕ
           places = rw (← as-many) (round-places memory runs few-runs);
           in-turn = turns-placed (turnOf gate sheet authority budget) (roundFrom memory runs) P
               (turns-map (λ j t m r g. (g .0, f j t m r g))
-              (turns gate authority budget (st .on-sheet) (st .principals) 0 memory (partsOf scripts) (st .accepted) (st .unrefused)))
+              (turns gate authority budget (st .on-sheet) (st .principals) 0 memory (partsOf scripts) (st .accepted)
+              (st .unrefused)))
               (round-placed memory runs few-runs);
         })
 
@@ -158,14 +175,16 @@ module _ (gate : Gate) (sheet scripts memory : List ℕ) (authority budget : ℕ
         let q = placed-turns (turnOf gate sheet authority budget) r
         (turns-map (λ j t m x g. (g .0, sym (turn-goes gate sheet authority budget j t m x .1 (g .1)))) (p .in-turn)) in
         started-round gate sheet scripts memory authority budget st
-        ∙ sym (round-is memory runs few-runs r (p .not-refused) (subst (λ (n : ℕ). Places n r) (sym as-many) (p .places)) (q .0) (q .1))
+        ∙ sym (round-is memory runs few-runs r (p .not-refused)
+        (subst (λ (n : ℕ). Places n r) (sym as-many) (p .places)) (q .0) (q .1))
 
   round-goes : (r : RanRound) → (R ≡ r) ↔ Round gate sheet scripts memory authority budget r
   round-goes =
       exactly (refusedRound memory) _ _ R (roundRows sheet scripts memory authority)
       (λ n st r. (
         λ e. subst (Played (TurnGoes gate sheet authority budget) scripts memory) e
-            (played-so st (TurnGoes gate sheet authority budget) (λ j t m x g. turn-goes gate sheet authority budget j t m x .0 (sym (g .0)))),
+            (played-so st (TurnGoes gate sheet authority budget)
+            (λ j t m x g. turn-goes gate sheet authority budget j t m x .0 (sym (g .0)))),
         so-played st r,
       ))
       (round-starts gate sheet scripts memory authority budget)
@@ -174,7 +193,8 @@ module _ (gate : Gate) (sheet scripts memory : List ℕ) (authority budget : ℕ
   zero-places i = zeros-at mostScripts i
 
   -- a refused round
-  refused-answers : (k : ℕ) → Among (1 ∷ 2 ∷ 3 ∷ 11 ∷ 4 ∷ 5 ∷ 6 ∷ 7 ∷ 8 ∷ []) k → RoundAnswers scripts memory (refusedRound memory k)
+  refused-answers : (k : ℕ) → Among (1 ∷ 2 ∷ 3 ∷ 11 ∷ 4 ∷ 5 ∷ 6 ∷ 7 ∷ 8 ∷ []) k
+      → RoundAnswers scripts memory (refusedRound memory k)
   refused-answers k i = record {
     number = later i;
     kept = λ n. refl;
@@ -203,9 +223,12 @@ pub round-demand-1 : RoundDemand1
 unfolding numbers allOpen
 round-demand-1 = record {
   order = λ gate sheet scripts memory authority budget.
-      every-table .first-that-applies RanRound (refusedRound memory) (λ r. r .answer) _ (roundRows sheet scripts memory authority)
-      (record { of-refusal = λ k. refl; of-others = λ r p i. not-one 0 i refl (p .not-refused) }) _ (round-exactly gate sheet scripts memory authority budget _ .0 refl);
-  number = λ gate sheet scripts memory authority budget. round-exactly gate sheet scripts memory authority budget _ .0 refl;
+      every-table .first-that-applies RanRound (refusedRound memory) (λ r. r .answer) _
+      (roundRows sheet scripts memory authority)
+      (record { of-refusal = λ k. refl; of-others = λ r p i. not-one 0 i refl (p .not-refused) }) _
+      (round-exactly gate sheet scripts memory authority budget _ .0 refl);
+  number =
+      λ gate sheet scripts memory authority budget. round-exactly gate sheet scripts memory authority budget _ .0 refl;
   played = λ gate sheet scripts memory authority budget h.
       played-so gate sheet scripts memory authority budget (round-started gate sheet scripts memory authority budget h)
       (ScriptAnswers gate sheet authority budget) (λ j t m r g. g .1);

@@ -28,9 +28,11 @@ use Rattle.simp.proofs.Lowest.{Judged, table, over-all, stage}
 
 -- when 4, 5 and 6 apply to a script
 abbrev when-script : List ℕ → ℕ → List ℕ → Type 0
-when-script sheet k t = elim (eqb k 4) [ true ↦ NoScript sheet t | false ↦ elim (eqb k 5) [ true ↦ IllTyped sheet t | false ↦ IllLabelled sheet t ] ]
+when-script sheet k t = elim (eqb k 4)
+    [ true ↦ NoScript sheet t | false ↦ elim (eqb k 5) [ true ↦ IllTyped sheet t | false ↦ IllLabelled sheet t ] ]
 
-script-judged : {sheet : List ℕ} {s : Sheet} → OnSheet sheet s → (t : List ℕ) → Judged (table (4 ∷ 5 ∷ 6 ∷ []) (λ k. when-script sheet k t)) (numberOf s t)
+script-judged : {sheet : List ℕ} {s : Sheet} → OnSheet sheet s → (t : List ℕ)
+    → Judged (table (4 ∷ 5 ∷ 6 ∷ []) (λ k. when-script sheet k t)) (numberOf s t)
 unfolding numberOf
 script-judged {sheet} {s} h t =
     past-4 (λ k. k) (λ r. r ≡ 0) h _ t _ λ c i.
@@ -40,14 +42,18 @@ script-judged {sheet} {s} h t =
 module _ {A : Type 0} (refuse : ℕ → A) (Else : A → Type 0) where
   past-scripts : {sheet : List ℕ} {s : Sheet} → OnSheet sheet s → (rows : List Row) (ts : List (List ℕ)) (go : A)
       → (lowest (numberOf s) ts ≡ 0 → First refuse Else rows go)
-      → First refuse Else (4 when OneOf (NoScript sheet) ts ∷ 5 when OneOf (IllTyped sheet) ts ∷ 6 when OneOf (IllLabelled sheet) ts ∷ rows)
+      → First refuse Else
+      (4 when OneOf (NoScript sheet) ts ∷ 5 when OneOf (IllTyped sheet) ts ∷ 6 when OneOf (IllLabelled sheet) ts ∷ rows)
       (unless refuse (lowest (numberOf s) ts) go)
   past-scripts {sheet} {s} h rows ts go k =
-      stage refuse Else 0 (4 ∷ 5 ∷ 6 ∷ []) (omega arith, (omega arith, (omega arith, tt))) (λ j. OneOf (when-script sheet j) ts) rows (lowest (numberOf s) ts) go
-      (over-all (4 ∷ 5 ∷ 6 ∷ []) (omega arith, (omega arith, (omega arith, tt))) (when-script sheet) (numberOf s) (script-judged h) ts) k
+      stage refuse Else 0 (4 ∷ 5 ∷ 6 ∷ []) (omega arith, (omega arith, (omega arith, tt)))
+      (λ j. OneOf (when-script sheet j) ts) rows (lowest (numberOf s) ts) go
+      (over-all (4 ∷ 5 ∷ 6 ∷ []) (omega arith, (omega arith, (omega arith, tt))) (when-script sheet) (numberOf s)
+      (script-judged h) ts) k
 
   -- 11
-  past-11 : (scripts : List ℕ) (rows : List Row) (go : A) → (length (partsOf scripts) ≤ mostScripts → First refuse Else rows go)
+  past-11 : (scripts : List ℕ) (rows : List Row) (go : A)
+      → (length (partsOf scripts) ≤ mostScripts → First refuse Else rows go)
       → First refuse Else (11 when TooMany scripts ∷ rows) (unless refuse (tooMany (partsOf scripts)) go)
   unfolding First unless tooMany
   past-11 scripts rows go k =
@@ -66,7 +72,8 @@ pub record RoundStarts (sheet scripts memory : List ℕ) (authority : ℕ) : Typ
   pub unrefused : memoryRefusal its-sheet memory ≡ 0
 
 module _ (gate : Gate) (sheet scripts memory : List ℕ) (authority budget : ℕ) where
-  pub round-starts : First (refusedRound memory) (λ _. RoundStarts sheet scripts memory authority) (roundRows sheet scripts memory authority)
+  pub round-starts : First (refusedRound memory) (λ _. RoundStarts sheet scripts memory authority)
+      (roundRows sheet scripts memory authority)
       (roundBy gate sheet scripts memory authority budget)
   unfolding roundBy playedOf
   round-starts =
@@ -77,18 +84,28 @@ module _ (gate : Gate) (sheet scripts memory : List ℕ) (authority budget : ℕ
       past-11 R E scripts _ _ λ f.
       past-scripts R E h _ (partsOf scripts) _ λ n.
       past-8 R E h _ memory _ λ z w.
-      past-all R E (record { its-sheet = s; on-sheet = h; principals = a; few = f; accepted = n; unrefused = sized-0 s memory z w })
+      past-all R E
+      (record { its-sheet = s; on-sheet = h; principals = a; few = f; accepted = n; unrefused = sized-0 s memory z w })
 
   -- a round that answers 0 has started
-  pub round-started : roundBy gate sheet scripts memory authority budget .answer ≡ 0 → RoundStarts sheet scripts memory authority
+  pub round-started : roundBy gate sheet scripts memory authority budget .answer ≡ 0
+      → RoundStarts sheet scripts memory authority
   unfolding numbers
   round-started =
-      by-rows (refusedRound memory) _ (λ (r : RanRound). r .answer ≡ 0 → RoundStarts sheet scripts memory authority) (roundRows sheet scripts memory authority)
+      by-rows (refusedRound memory) _ (λ (r : RanRound). r .answer ≡ 0 → RoundStarts sheet scripts memory authority)
+      (roundRows sheet scripts memory authority)
       (λ k i g h. absurd (not-one 0 i refl h)) (λ r n st h. st) _ round-starts
 
   -- and is then refused by no number
   pub started-round : RoundStarts sheet scripts memory authority
-      → roundBy gate sheet scripts memory authority budget ≡ roundFrom memory (runEach (turnOf gate sheet authority budget) 0 memory (partsOf scripts))
+      → roundBy gate sheet scripts memory authority budget
+      ≡ roundFrom memory (runEach (turnOf gate sheet authority budget) 0 memory (partsOf scripts))
   unfolding roundBy playedOf onSheet unless tooMany
   started-round st =
-      rw (read (st .on-sheet), no-strangers (st .its-sheet) authority (st .principals), le-ltb _ _ (st .few), st .accepted, st .unrefused) refl
+      rw (
+        read (st .on-sheet),
+        no-strangers (st .its-sheet) authority (st .principals),
+        le-ltb _ _ (st .few),
+        st .accepted,
+        st .unrefused,
+      ) refl

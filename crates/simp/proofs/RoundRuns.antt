@@ -21,23 +21,29 @@ abbrev answered : List Ran → List ℕ
 answered rs = map (λ r. r .answer) rs
 
 -- a round that is done in each script: the runs that it is made of
-module _ (gate : Gate) (sheet scripts memory : List ℕ) (authority budget : ℕ) (h : EachDone gate (roundBy gate sheet scripts memory authority budget)) where
+module _ (gate : Gate) (sheet scripts memory : List ℕ) (authority budget : ℕ)
+    (h : EachDone gate (roundBy gate sheet scripts memory authority budget)) where
   abbrev runs : List Ran
   runs = runEach (turnOf gate sheet authority budget) 0 memory (partsOf scripts)
 
   is-runs : roundBy gate sheet scripts memory authority budget .memory ≡ leftBy memory runs
   is-runs = ap (λ (r : RanRound). r .memory)
-      (started-round gate sheet scripts memory authority budget (round-started gate sheet scripts memory authority budget (h .not-refused)))
+      (started-round gate sheet scripts memory authority budget
+      (round-started gate sheet scripts memory authority budget (h .not-refused)))
 
   each-done : (j : ℕ) → Open gate (0 + j) → getD (answered runs) j 0 ≡ 0
   each-done j o =
-      let e = started-round gate sheet scripts memory authority budget (round-started gate sheet scripts memory authority budget (h .not-refused)) in
+      let e = started-round gate sheet scripts memory authority budget
+      (round-started gate sheet scripts memory authority budget (h .not-refused)) in
       let z : 0 + j ≡ j = omega arith in
-      sym (padded-place mostScripts (answered runs) j) ∙ sym (ap (λ (r : RanRound). getD (r .answers) j 0) e) ∙ h .each j (subst (Open gate) z o)
+      sym (padded-place mostScripts (answered runs) j) ∙ sym (ap (λ (r : RanRound). getD (r .answers) j 0) e)
+      ∙ h .each j (subst (Open gate) z o)
 
 -- Same: what two memories have in common. P: the scripts whose done runs keep it.
-module _ (gate : Gate) (sheet : List ℕ) (authority budget budget′ : ℕ) (Same : List ℕ → List ℕ → Type 0) (P : List ℕ → Type 0)
-    (kept : (t m m′ : List ℕ) → P t → Same m m′ → runOf sheet t m authority budget .answer ≡ 0 → runOf sheet t m′ authority budget′ .answer ≡ 0
+module _ (gate : Gate) (sheet : List ℕ) (authority budget budget′ : ℕ) (Same : List ℕ → List ℕ → Type 0)
+    (P : List ℕ → Type 0)
+    (kept : (t m m′ : List ℕ) → P t → Same m m′ → runOf sheet t m authority budget .answer ≡ 0
+    → runOf sheet t m′ authority budget′ .answer ≡ 0
     → Same (runOf sheet t m authority budget .memory) (runOf sheet t m′ authority budget′ .memory)) where
   -- the script in place i, with either budget
   abbrev one : ℕ → List ℕ → List ℕ → Ran
@@ -46,7 +52,8 @@ module _ (gate : Gate) (sheet : List ℕ) (authority budget budget′ : ℕ) (Sa
   abbrev two : ℕ → List ℕ → List ℕ → Ran
   two = turnOf gate sheet authority budget′
 
-  turn-kept : (i : ℕ) (t m m′ : List ℕ) → (Open gate i → P t) → Same m m′ → (Open gate i → one i t m .answer ≡ 0) → (Open gate i → two i t m′ .answer ≡ 0)
+  turn-kept : (i : ℕ) (t m m′ : List ℕ) → (Open gate i → P t) → Same m m′ → (Open gate i → one i t m .answer ≡ 0)
+      → (Open gate i → two i t m′ .answer ≡ 0)
       → Same (one i t m .memory) (two i t m′ .memory)
   turn-kept i t m m′ p h d d′ =
       by-gate gate sheet authority budget i t m
@@ -59,7 +66,8 @@ module _ (gate : Gate) (sheet : List ℕ) (authority budget budget′ : ℕ) (Sa
       (λ n. rw (turn-closed gate sheet authority budget i t m n, turn-closed gate sheet authority budget′ i t m′ n) h)
 
   each-kept : (i : ℕ) (m m′ : List ℕ) (ts : List (List ℕ)) → EachOpen P gate i ts → Same m m′
-      → ((j : ℕ) → Open gate (i + j) → getD (answered (runEach one i m ts)) j 0 ≡ 0) → ((j : ℕ) → Open gate (i + j) → getD (answered (runEach two i m′ ts)) j 0 ≡ 0)
+      → ((j : ℕ) → Open gate (i + j) → getD (answered (runEach one i m ts)) j 0 ≡ 0)
+      → ((j : ℕ) → Open gate (i + j) → getD (answered (runEach two i m′ ts)) j 0 ≡ 0)
       → Same (leftBy m (runEach one i m ts)) (leftBy m′ (runEach two i m′ ts))
   unfolding runEach leftBy EachOpen
   each-kept i m m′ [] p h d d′ = h
@@ -71,15 +79,19 @@ module _ (gate : Gate) (sheet : List ℕ) (authority budget budget′ : ℕ) (Sa
       (λ j o. d (suc j) (subst (Open gate) (next j) o)) (λ j o. d′ (suc j) (subst (Open gate) (next j) o))
 
   pub rounds-keep : (scripts memory memory′ : List ℕ) → EachOpen P gate 0 (partsOf scripts) → Same memory memory′
-      → EachDone gate (roundBy gate sheet scripts memory authority budget) → EachDone gate (roundBy gate sheet scripts memory′ authority budget′)
-      → Same (roundBy gate sheet scripts memory authority budget .memory) (roundBy gate sheet scripts memory′ authority budget′ .memory)
+      → EachDone gate (roundBy gate sheet scripts memory authority budget)
+      → EachDone gate (roundBy gate sheet scripts memory′ authority budget′)
+      → Same (roundBy gate sheet scripts memory authority budget .memory)
+      (roundBy gate sheet scripts memory′ authority budget′ .memory)
   rounds-keep scripts memory memory′ p h d d′ =
       rw (is-runs gate sheet scripts memory authority budget d, is-runs gate sheet scripts memory′ authority budget′ d′)
       (each-kept 0 memory memory′ (partsOf scripts) p h
-      (each-done gate sheet scripts memory authority budget d) (each-done gate sheet scripts memory′ authority budget′ d′))
+      (each-done gate sheet scripts memory authority budget d)
+      (each-done gate sheet scripts memory′ authority budget′ d′))
 
 -- what holds of every script holds of those that are open
-pub of-each : {P : List ℕ → Type 0} (gate : Gate) → ((t : List ℕ) → P t) → (i : ℕ) (ts : List (List ℕ)) → EachOpen P gate i ts
+pub of-each : {P : List ℕ → Type 0} (gate : Gate) → ((t : List ℕ) → P t) → (i : ℕ) (ts : List (List ℕ))
+    → EachOpen P gate i ts
 unfolding EachOpen
 of-each gate f i [] = tt
 of-each gate f i (t ∷ ts) = (λ o. f t, of-each gate f (suc i) ts)
@@ -87,7 +99,8 @@ of-each gate f i (t ∷ ts) = (λ o. f t, of-each gate f (suc i) ts)
 -- look: what is made of a memory. P: the scripts that leave it, whatever they answer.
 module _ {A : Type 0} (look : List ℕ → A) (sheet : List ℕ) (authority budget : ℕ) (P : List ℕ → Type 0)
     (leaves : (t m : List ℕ) → P t → look (runOf sheet t m authority budget .memory) ≡ look m) (gate : Gate) where
-  turn-leaves : (i : ℕ) (t m : List ℕ) → (Open gate i → P t) → look (turnOf gate sheet authority budget i t m .memory) ≡ look m
+  turn-leaves : (i : ℕ) (t m : List ℕ) → (Open gate i → P t)
+      → look (turnOf gate sheet authority budget i t m .memory) ≡ look m
   turn-leaves i t m p =
       by-gate gate sheet authority budget i t m
       (λ o. rw (turn-open gate sheet authority budget i t m o) (leaves t m (p o)))
@@ -97,12 +110,15 @@ module _ {A : Type 0} (look : List ℕ → A) (sheet : List ℕ) (authority budg
       → look (leftBy m (runEach (turnOf gate sheet authority budget) i m ts)) ≡ look m
   unfolding runEach leftBy EachOpen
   each-leaves i m [] p = refl
-  each-leaves i m (t ∷ ts) p = each-leaves (suc i) (turnOf gate sheet authority budget i t m .memory) ts (p .1) ∙ turn-leaves i t m (p .0)
+  each-leaves i m (t ∷ ts) p =
+      each-leaves (suc i) (turnOf gate sheet authority budget i t m .memory) ts (p .1) ∙ turn-leaves i t m (p .0)
 
-  pub round-leaves : (scripts memory : List ℕ) → EachOpen P gate 0 (partsOf scripts) → look (roundBy gate sheet scripts memory authority budget .memory) ≡ look memory
+  pub round-leaves : (scripts memory : List ℕ) → EachOpen P gate 0 (partsOf scripts)
+      → look (roundBy gate sheet scripts memory authority budget .memory) ≡ look memory
   round-leaves scripts memory p =
       by-zero (roundBy gate sheet scripts memory authority budget .answer)
       (λ z.
-      let e = started-round gate sheet scripts memory authority budget (round-started gate sheet scripts memory authority budget z) in
+      let e = started-round gate sheet scripts memory authority budget
+      (round-started gate sheet scripts memory authority budget z) in
       ap (λ (r : RanRound). look (r .memory)) e ∙ each-leaves 0 memory (partsOf scripts) p)
       (λ n. ap look (round-demand-1 .answers gate sheet scripts memory authority budget .kept n))

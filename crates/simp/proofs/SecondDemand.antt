@@ -18,10 +18,12 @@ use Rattle.memory.proofs.Exactness.{memories-exactly}
 use Rattle.stages.specs.Answers.{Ran, refusedRun, Viewed, refusedView}
 use Rattle.stages.specs.Calls.{onSheet, unless, onScript, untyped, numberOf, checkOf, ended, runOf, viewOf}
 use Rattle.numbers.specs.Rows.{First}
-use Rattle.simp.specs.Judgements.{OnSheet, Principals, Sized, Checked, Started, Ends, ends-0, ends-9, ends-10, runRows, Run, viewRows, View}
+use Rattle.simp.specs.Judgements.{OnSheet, Principals, Sized, Checked, Started, Ends, ends-0, ends-9, ends-10}
+use Rattle.simp.specs.Judgements.{runRows, Run, viewRows, View}
 use Rattle.simp.proofs.Numbers.{no-strangers, typable-0, typable-shape, sized-0, view-sized}
 use Rattle.numbers.proofs.RowLaws.{exactly}
-use Rattle.simp.proofs.Judged.{read, parsed, its, their, past-all, past-2, past-3, past-4, past-6, past-8, past-view-8}
+use Rattle.simp.proofs.Judged.{read, parsed, its, their, past-all, past-2, past-3, past-4, past-6, past-8}
+use Rattle.simp.proofs.Judged.{past-view-8}
 
 -- ---- check
 
@@ -45,7 +47,8 @@ abbrev pub Starts : List ℕ → List ℕ → List ℕ → ℕ → Type 0
 Starts sheet script memory authority = (s : Sheet) × (p : Script) × Started sheet script memory authority s p
 
 pub run-starts : (sheet script memory : List ℕ) (authority budget : ℕ)
-    → First (refusedRun memory) (λ _. Starts sheet script memory authority) (runRows sheet script memory authority) (runOf sheet script memory authority budget)
+    → First (refusedRun memory) (λ _. Starts sheet script memory authority) (runRows sheet script memory authority)
+    (runOf sheet script memory authority budget)
 unfolding runOf
 run-starts sheet script memory authority budget =
     let R = refusedRun memory in
@@ -57,17 +60,22 @@ run-starts sheet script memory authority budget =
     past-8 R E h _ memory _ λ z w.
     past-all R E (s, p, record { on-sheet = h; principals = a; of-script = i; typable = t; sized = z; well-formed = w })
 
-module _ {sheet script memory : List ℕ} {authority : ℕ} {s : Sheet} {p : Script} (st : Started sheet script memory authority s p) where
+module _ {sheet script memory : List ℕ} {authority : ℕ} {s : Sheet} {p : Script}
+    (st : Started sheet script memory authority s p) where
   pub declared : Declared s (memoryOf memory)
   declared = memories-exactly s .values memory (sized-0 s memory (st .sized) (st .well-formed))
 
-module _ {sheet script memory : List ℕ} {authority : ℕ} {s : Sheet} {p : Script} (st : Started sheet script memory authority s p) (budget : ℕ) where
-  pub by-figures : (o : Out) → (iterate (worldFor s authority p) budget (memoryOf memory) (p .command) ≡ o) ↔ RunEnds (worldFor s authority p) budget (memoryOf memory) (p .command) o
-  by-figures o = outcome (shapesOf s) (worldFor s authority p) (λ t. refl) (p .command) (typable-shape s p (st .typable)) (memoryOf memory)
+module _ {sheet script memory : List ℕ} {authority : ℕ} {s : Sheet} {p : Script}
+    (st : Started sheet script memory authority s p) (budget : ℕ) where
+  pub by-figures : (o : Out) → (iterate (worldFor s authority p) budget (memoryOf memory) (p .command) ≡ o)
+      ↔ RunEnds (worldFor s authority p) budget (memoryOf memory) (p .command) o
+  by-figures o = outcome (shapesOf s) (worldFor s authority p) (λ t. refl) (p .command)
+      (typable-shape s p (st .typable)) (memoryOf memory)
       (declared st .typed) (declared st .fitting) budget o
 
   -- a run that starts is refused by none of 1 to 8
-  pub started-run : runOf sheet script memory authority budget ≡ ended (locationCount s) budget memory (iterate (worldFor s authority p) budget (memoryOf memory) (p .command))
+  pub started-run : runOf sheet script memory authority budget
+      ≡ ended (locationCount s) budget memory (iterate (worldFor s authority p) budget (memoryOf memory) (p .command))
   unfolding runOf onSheet onScript unless
   started-run =
       rw (
@@ -79,20 +87,24 @@ module _ {sheet script memory : List ℕ} {authority : ℕ} {s : Sheet} {p : Scr
       ) refl
 
   -- it ends as the figures have it
-  so-ends : (o : Out) → RunEnds (worldFor s authority p) budget (memoryOf memory) (p .command) o → Ends s p memory authority budget (ended (locationCount s) budget memory o)
+  so-ends : (o : Out) → RunEnds (worldFor s authority p) budget (memoryOf memory) (p .command) o
+      → Ends s p memory authority budget (ended (locationCount s) budget memory o)
   unfolding ended
   so-ends o (ends-done {k} {l} {M′} e t n) =
       let z : k ≡ budget - l = omega arith in
-      subst (λ (j : ℕ). Ends s p memory authority budget (record { answer = 0; steps = j; memory = wordsOf (locationCount s) M′ })) z (ends-0 (omega arith) t n)
+      subst (λ (j : ℕ). Ends s p memory authority budget
+      (record { answer = 0; steps = j; memory = wordsOf (locationCount s) M′ })) z (ends-0 (omega arith) t n)
   so-ends o (ends-spent t h n) = ends-9 t h n
   so-ends o (ends-over {k} {l} e t h n) =
       let z : k ≡ budget - suc l = omega arith in
-      subst (λ (j : ℕ). Ends s p memory authority budget (record { answer = 10; steps = j; memory = memory })) z (ends-10 (omega arith) t h n)
+      subst (λ (j : ℕ). Ends s p memory authority budget (record { answer = 10; steps = j; memory = memory })) z
+      (ends-10 (omega arith) t h n)
 
   pub run-ends : Ends s p memory authority budget (runOf sheet script memory authority budget)
   run-ends = subst (Ends s p memory authority budget) (sym started-run) (so-ends _ (by-figures _ .0 refl))
 
-  ran : (o : Out) → RunEnds (worldFor s authority p) budget (memoryOf memory) (p .command) o → runOf sheet script memory authority budget ≡ ended (locationCount s) budget memory o
+  ran : (o : Out) → RunEnds (worldFor s authority p) budget (memoryOf memory) (p .command) o
+      → runOf sheet script memory authority budget ≡ ended (locationCount s) budget memory o
   ran o e = started-run ∙ ap (ended (locationCount s) budget memory) (by-figures o .1 e)
 
   -- and in one way
@@ -107,7 +119,8 @@ module _ {sheet script memory : List ℕ} {authority : ℕ} {s : Sheet} {p : Scr
   ran-so (ends-0 {M′ = M′} {k = k} l t n) =
       let z : k + (budget - k) ≡ budget = omega arith in
       let y : budget - (budget - k) ≡ k = omega arith in
-      ran (done M′ (budget - k)) (ends-done z t n) ∙ ap (λ (j : ℕ). record { answer = 0; steps = j; memory = wordsOf (locationCount s) M′ }) y
+      ran (done M′ (budget - k)) (ends-done z t n)
+      ∙ ap (λ (j : ℕ). record { answer = 0; steps = j; memory = wordsOf (locationCount s) M′ }) y
 
 pub run-exactly : (sheet script memory : List ℕ) (authority budget : ℕ) (r : Ran)
     → (runOf sheet script memory authority budget ≡ r) ↔ Run sheet script memory authority budget r
@@ -131,7 +144,8 @@ pub record Shows (sheet memory : List ℕ) (group : ℕ) (view : List ℕ) : Typ
   pub well-formed : wellFormed its-sheet memory ≡ true
 
 pub view-shows : (sheet memory : List ℕ) (group : ℕ) (view : List ℕ)
-    → First (refusedView view) (λ _. Shows sheet memory group view) (viewRows sheet memory group view) (viewOf sheet memory group view)
+    → First (refusedView view) (λ _. Shows sheet memory group view) (viewRows sheet memory group view)
+    (viewOf sheet memory group view)
 unfolding viewOf
 view-shows sheet memory group view =
     let R = refusedView view in
@@ -146,13 +160,20 @@ pub shown-view : {sheet memory : List ℕ} {group : ℕ} {view : List ℕ} (h : 
 unfolding viewOf onSheet unless
 shown-view {sheet} {memory} {group} {view} h =
     let s : Sheet = h .its-sheet in
-    rw (read (h .on-sheet), no-strangers s group (h .known), view-sized s memory view (h .room), sized-0 s memory (h .sized) (h .well-formed)) refl
+    rw (
+      read (h .on-sheet),
+      no-strangers s group (h .known),
+      view-sized s memory view (h .room),
+      sized-0 s memory (h .sized) (h .well-formed),
+    ) refl
 
-pub view-exactly : (sheet memory : List ℕ) (group : ℕ) (view : List ℕ) (v : Viewed) → (viewOf sheet memory group view ≡ v) ↔ View sheet memory group view v
+pub view-exactly : (sheet memory : List ℕ) (group : ℕ) (view : List ℕ) (v : Viewed)
+    → (viewOf sheet memory group view ≡ v) ↔ View sheet memory group view v
 view-exactly sheet memory group view =
     exactly (refusedView view) _ _ (viewOf sheet memory group view) (viewRows sheet memory group view)
     (λ n h v. (
       λ e. (h .its-sheet, h .on-sheet .form, sym e ∙ shown-view h),
-      λ o. shown-view h ∙ sym (its (λ s. v ≡ record { answer = 0; view = viewWords s group memory }) (h .on-sheet .form) o),
+      λ o. shown-view h
+          ∙ sym (its (λ s. v ≡ record { answer = 0; view = viewWords s group memory }) (h .on-sheet .form) o),
     ))
     (view-shows sheet memory group view)

@@ -46,9 +46,14 @@ module _ (sheet script : List ℕ) where
       past-6 refusedTrust E h _ script p _ i λ t.
       past-all refusedTrust E (record { its-sheet = s; its-script = p; on-sheet = h; of-script = i; typable = t })
 
-  accepted-so : (a : Accepts sheet script) → trustOf sheet script ≡ record { answer = 0; keeping = keepingBit (a .its-sheet) (a .its-script) }
+  accepted-so : (a : Accepts sheet script)
+      → trustOf sheet script ≡ record { answer = 0; keeping = keepingBit (a .its-sheet) (a .its-script) }
   unfolding trustOf trustOn onSheet onScript unless
-  accepted-so a = rw (read (a .on-sheet), parsed script (a .on-sheet) (a .of-script), typable-0 (a .its-sheet) (a .its-script) (a .typable)) refl
+  accepted-so a = rw (
+    read (a .on-sheet),
+    parsed script (a .on-sheet) (a .of-script),
+    typable-0 (a .its-sheet) (a .its-script) (a .typable),
+  ) refl
 
 -- ---- the bit
 
@@ -102,16 +107,20 @@ as-check : (sheet script : List ℕ) → trustOf sheet script .answer ≡ checkO
 unfolding trustOf trustOn checkOf numberOf onSheet onScript unless
 as-check sheet script = on (sheetOf sheet)
   where
-    numbered : (s : Sheet) (p : Script) (k : ℕ) → unless refusedTrust k (record { answer = 0; keeping = keepingBit s p }) .answer ≡ k
+    numbered : (s : Sheet) (p : Script) (k : ℕ)
+        → unless refusedTrust k (record { answer = 0; keeping = keepingBit s p }) .answer ≡ k
     numbered s p zero = refl
     numbered s p (suc k) = refl
 
     scripted : (s : Sheet) (o : Option Script)
-        → onScript refusedTrust o (λ p. unless refusedTrust (untyped s p) (record { answer = 0; keeping = keepingBit s p })) .answer ≡ onScript (λ k. k) o (untyped s)
+        → onScript refusedTrust o
+        (λ p. unless refusedTrust (untyped s p) (record { answer = 0; keeping = keepingBit s p })) .answer
+        ≡ onScript (λ k. k) o (untyped s)
     scripted s none = refl
     scripted s (some p) = numbered s p (untyped s p)
 
-    on : (a : Answer) → onSheet refusedTrust a (λ s. trustOn s script) .answer ≡ onSheet (λ k. k) a (λ s. numberOf s script)
+    on : (a : Answer)
+        → onSheet refusedTrust a (λ s. trustOn s script) .answer ≡ onSheet (λ k. k) a (λ s. numberOf s script)
     on malformed = refl
     on repeating = refl
     on (accepted s) = scripted s (scriptOf (countsOf s) script)
@@ -119,7 +128,8 @@ as-check sheet script = on (sheetOf sheet)
 trust-answers : (sheet script : List ℕ) → TrustAnswers sheet script (trustOf sheet script)
 unfolding numbers
 trust-answers sheet script =
-    by-rows refusedTrust _ (λ r. r .answer ≡ checkOf sheet script → TrustAnswers sheet script r) (checkRows sheet script)
+    by-rows refusedTrust _ (λ r. r .answer ≡ checkOf sheet script → TrustAnswers sheet script r)
+    (checkRows sheet script)
     (λ k i g e. record { number = later i; as-check = e; keeping-bit = here; no-keeping = λ n. refl })
     (λ r n o e.
     let says = o .2 .2 in
@@ -132,7 +142,8 @@ unfolding numbers
 trust-demand-1 = record {
   order = λ sheet script.
       every-table .first-that-applies TrustAnswer refusedTrust (λ r. r .answer) _ (checkRows sheet script)
-      (record { of-refusal = λ k. refl; of-others = λ r o i. not-one 0 i refl (o .2 .2 .not-refused) }) _ (trust-exactly sheet script _ .0 refl);
+      (record { of-refusal = λ k. refl; of-others = λ r o i. not-one 0 i refl (o .2 .2 .not-refused) }) _
+      (trust-exactly sheet script _ .0 refl);
   number = λ sheet script. trust-exactly sheet script _ .0 refl;
   answers = trust-answers;
 }

@@ -47,7 +47,8 @@ module _ (s : Sheet) (fm : formed s ≡ true) (group : ℕ) where
   unfolding trustedLocationNo trustedLabelNo
   locations-are = fun-ext λ x. ap trusts (declared-home s fm x)
 
-  observer : (authority : ℕ) → Observer (trusting (labelsOver (s .principals)) (declarationsOf s)) (worldOf s authority) vis (λ l. vis (declarationsOf s .label l))
+  observer : (authority : ℕ) → Observer (trusting (labelsOver (s .principals)) (declarationsOf s))
+      (worldOf s authority) vis (λ l. vis (declarationsOf s .label l))
   observer authority =
       let 𝓛 = labelsOver (s .principals) in
       truster 𝓛 (declarationsOf s) (worldOf s authority) vis (law-joins 𝓛 (least-label-laws (s .principals)))
@@ -66,10 +67,14 @@ module _ (s : Sheet) (fm : formed s ≡ true) (group : ℕ) where
 
   -- Two done runs of it, under one authority, from memories that are alike in what is left, leave such memories.
   pub left-kept : (p : Script) → Typable s p → TrustKeeping s p → (authority b b′ l l′ : ℕ) (M N M′ N′ : Mem)
-      → ((x : ℕ) → maskMem (trustedLocationNo s group) (trustedLabelNo s group) M x ≡ maskMem (trustedLocationNo s group) (trustedLabelNo s group) N x)
-      → iterate (worldFor s authority p) b M (p .command) ≡ done M′ l → iterate (worldFor s authority p) b′ N (p .command) ≡ done N′ l′
-      → (x : ℕ) → maskMem (trustedLocationNo s group) (trustedLabelNo s group) M′ x ≡ maskMem (trustedLocationNo s group) (trustedLabelNo s group) N′ x
+      → ((x : ℕ) → maskMem (trustedLocationNo s group) (trustedLabelNo s group) M x
+      ≡ maskMem (trustedLocationNo s group) (trustedLabelNo s group) N x)
+      → iterate (worldFor s authority p) b M (p .command) ≡ done M′ l
+      → iterate (worldFor s authority p) b′ N (p .command) ≡ done N′ l′
+      → (x : ℕ) → maskMem (trustedLocationNo s group) (trustedLabelNo s group) M′ x
+      ≡ maskMem (trustedLocationNo s group) (trustedLabelNo s group) N′ x
   left-kept p t k authority =
       let 𝓛 = labelsOver (s .principals) in
       let D = declarationsOf s in
-      looks-kept (trusting 𝓛 D) (worldFor s authority p) vis (D .label) (observer authority) locations-are labels-are (startLabel s p) (p .command) (passes p t k)
+      looks-kept (trusting 𝓛 D) (worldFor s authority p) vis (D .label) (observer authority) locations-are labels-are
+      (startLabel s p) (p .command) (passes p t k)

@@ -24,11 +24,13 @@ use Rattle.simp.proofs.RoundDemands.{by-zero}
 use Rattle.simp.proofs.RoundRuns.{round-leaves}
 
 -- a run that is done is a trace
-pub done-steps : {W : World} {b l : ℕ} {M M′ : Mem} {c : Cmd} → RunEnds W b M c (done M′ l) → (k : ℕ) × Steps W k M c M′ skip
+pub done-steps : {W : World} {b l : ℕ} {M M′ : Mem} {c : Cmd} → RunEnds W b M c (done M′ l)
+    → (k : ℕ) × Steps W k M c M′ skip
 done-steps (ends-done {k} e t n) = (k, t)
 
 -- memories that are refused alike and show the group the same words
-viewed-alike : {sheet : List ℕ} {s : Sheet} (group : ℕ) (m m′ view : List ℕ) → OnSheet sheet s → memoryRefusal s m ≡ memoryRefusal s m′
+viewed-alike : {sheet : List ℕ} {s : Sheet} (group : ℕ) (m m′ view : List ℕ) → OnSheet sheet s
+    → memoryRefusal s m ≡ memoryRefusal s m′
     → viewWords s group m ≡ viewWords s group m′ → viewOf sheet m group view ≡ viewOf sheet m′ group view
 unfolding viewOf onSheet viewRefusal
 viewed-alike group m m′ view i e w = rw (read i, e, w)
@@ -39,12 +41,14 @@ module _ (sheet : List ℕ) (group : ℕ) (authority budget : ℕ) (view : List 
   Alike m m′ = viewOf sheet m group view ≡ viewOf sheet m′ group view
 
   -- a done run
-  done-alike : (script memory left : List ℕ) {s : Sheet} {p : Script} → StartHidden sheet group script → (st : Started sheet script memory authority s p)
+  done-alike : (script memory left : List ℕ) {s : Sheet} {p : Script} → StartHidden sheet group script
+      → (st : Started sheet script memory authority s p)
       → Done s p memory authority budget left → Alike left memory
   done-alike script memory left {s} {p} hidden st ran =
       let d = done-declared st ran in
       let run = done-steps (by-figures st budget _ .0 (ran .run)) in
-      let masks = shown-confined s (st .on-sheet .form .is-formed) group p (st .typable) (hidden s p (st .on-sheet .form) (st .of-script)) authority (run .0)
+      let masks = shown-confined s (st .on-sheet .form .is-formed) group p (st .typable)
+      (hidden s p (st .on-sheet .form) (st .of-script)) authority (run .0)
       (memoryOf memory) (ran .reached) skip (run .1) in
       let same = views-exactly s group .same-left (ran .reached) (memoryOf memory) d (declared st) masks in
       let back = memories-exactly s .words memory (started st) in
@@ -52,15 +56,19 @@ module _ (sheet : List ℕ) (group : ℕ) (authority budget : ℕ) (view : List 
       (ap (memoryRefusal s) (ran .words) ∙ memories-exactly s .accepted (ran .reached) d ∙ sym (started st))
       (ap (viewWords s group) (ran .words) ∙ same ∙ ap (viewWords s group) back)
 
-  run-alike : (script memory : List ℕ) → StartHidden sheet group script → Alike (runOf sheet script memory authority budget .memory) memory
+  run-alike : (script memory : List ℕ) → StartHidden sheet group script
+      → Alike (runOf sheet script memory authority budget .memory) memory
   run-alike script memory hidden =
       by-zero (runOf sheet script memory authority budget .answer)
-      (λ h. let st = starts sheet script memory authority budget h in done-alike script memory _ hidden (st .2) (done-run budget (st .2) h))
+      (λ h. let st = starts sheet script memory authority budget h in
+      done-alike script memory _ hidden (st .2) (done-run budget (st .2) h))
       (λ n. ap (λ (m : List ℕ). viewOf sheet m group view) (run-answers sheet script memory authority budget .kept n))
 
 pub start-unseen : StartUnseen
 start-unseen = record {
-  run = λ sheet script group hidden authority budget memory view. run-alike sheet group authority budget view script memory hidden;
+  run = λ sheet script group hidden authority budget memory view.
+      run-alike sheet group authority budget view script memory hidden;
   round = λ sheet scripts group gate hidden authority budget memory view.
-      round-leaves (λ m. viewOf sheet m group view) sheet authority budget (StartHidden sheet group) (run-alike sheet group authority budget view) gate scripts memory hidden;
+      round-leaves (λ m. viewOf sheet m group view) sheet authority budget (StartHidden sheet group)
+      (run-alike sheet group authority budget view) gate scripts memory hidden;
 }

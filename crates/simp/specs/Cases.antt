@@ -46,13 +46,15 @@ twoPackages = "P 2\nT 0 1\nT 5 1\nT 0 5\nL\nL\nO 0 0000 0000\nX 2 0\nX 2 1\nX 5 
 
 -- no location, and fourteen sums from type 5 on, each with the one before it on its left, the first with int+int
 unfoldable pub nested : String
-nested = "P 1\nT 3 0\nT 5 0\nT 6 0\nT 7 0\nT 8 0\nT 9 0\nT 10 0\nT 11 0\nT 12 0\nT 13 0\nT 14 0\nT 15 0\nT 16 0\nT 17 0\n"
+nested =
+    "P 1\nT 3 0\nT 5 0\nT 6 0\nT 7 0\nT 8 0\nT 9 0\nT 10 0\nT 11 0\nT 12 0\nT 13 0\nT 14 0\nT 15 0\nT 16 0\nT 17 0\n"
 
 -- The principals and labels of `twoPackages`. Types 5 and 6 are pkg*int and int*int, 7 is int*int+error, and 8 to 11
 -- pair int+int, int and pkg with 7, and 7 with int. A pkg*int at label 0, an int at label 1 and at label 0, an
 -- int*int+error at label 1, an int*int at label 0, and a pkg*int at label 1.
 unfoldable pub pairTypes : String
-pairTypes = "P 2\nQ 2 0\nQ 0 0\nT 6 1\nQ 3 7\nQ 0 7\nQ 2 7\nQ 7 0\nL\nL\nO 0 0000 0000\nX 5 0\nX 0 1\nX 0 0\nX 7 1\nX 6 0\nX 5 1\n"
+pairTypes =
+    "P 2\nQ 2 0\nQ 0 0\nT 6 1\nQ 3 7\nQ 0 7\nQ 2 7\nQ 7 0\nL\nL\nO 0 0000 0000\nX 5 0\nX 0 1\nX 0 0\nX 7 1\nX 6 0\nX 5 1\n"
 
 -- int*int in 5 words, two of them in 11, and with these for their first part type 8, of at most 16 words, and type 10,
 -- of at most 17; an integer, and a pair of type 8
@@ -65,11 +67,13 @@ deepPair = "P 1\nQ 0 2\nQ 3 5\nT 6 1\nL\nX 2 0\nX 7 0\n"
 
 -- as many types as there can be, sums and pairs in turn
 unfoldable pub mostTypes : String
-mostTypes = "P 1\nQ 0 0\nT 5 0\nQ 6 0\nT 7 0\nQ 8 0\nT 9 0\nQ 10 0\nT 11 0\nQ 12 0\nT 13 0\nQ 14 0\nT 15 0\nQ 16 0\nT 17 0\nQ 18 0\nT 19 0\nQ 20 0\nT 21 0\nQ 22 0\nT 23 0\nQ 24 0\nT 25 0\nQ 26 0\nT 27 0\nQ 28 0\nT 29 0\nQ 30 0\n"
+mostTypes =
+    "P 1\nQ 0 0\nT 5 0\nQ 6 0\nT 7 0\nQ 8 0\nT 9 0\nQ 10 0\nT 11 0\nQ 12 0\nT 13 0\nQ 14 0\nT 15 0\nQ 16 0\nT 17 0\nQ 18 0\nT 19 0\nQ 20 0\nT 21 0\nQ 22 0\nT 23 0\nQ 24 0\nT 25 0\nQ 26 0\nT 27 0\nQ 28 0\nT 29 0\nQ 30 0\n"
 
 -- and one more
 unfoldable pub tooManyTypes : String
-tooManyTypes = "P 1\nQ 0 0\nT 5 0\nQ 6 0\nT 7 0\nQ 8 0\nT 9 0\nQ 10 0\nT 11 0\nQ 12 0\nT 13 0\nQ 14 0\nT 15 0\nQ 16 0\nT 17 0\nQ 18 0\nT 19 0\nQ 20 0\nT 21 0\nQ 22 0\nT 23 0\nQ 24 0\nT 25 0\nQ 26 0\nT 27 0\nQ 28 0\nT 29 0\nQ 30 0\nT 31 0\n"
+tooManyTypes =
+    "P 1\nQ 0 0\nT 5 0\nQ 6 0\nT 7 0\nQ 8 0\nT 9 0\nQ 10 0\nT 11 0\nQ 12 0\nT 13 0\nQ 14 0\nT 15 0\nQ 16 0\nT 17 0\nQ 18 0\nT 19 0\nQ 20 0\nT 21 0\nQ 22 0\nT 23 0\nQ 24 0\nT 25 0\nQ 26 0\nT 27 0\nQ 28 0\nT 29 0\nQ 30 0\nT 31 0\n"
 
 -- The labels of `twoLabels`; an integer at each, a package, an integer or error at label 1, and a package or error.
 unfoldable pub together : String
@@ -140,8 +144,8 @@ pairs a n s p = filledRows (a ∷ (1 ∷ 62 ∷ []) ∷ n ∷ s ∷ p ∷ (6 ∷
 unfoldable pub firstOf : List ℕ → List ℕ
 firstOf a = pairs a (1 ∷ 7 ∷ []) (4 ∷ 2 ∷ 1 ∷ []) (6 ∷ 1 ∷ 1 ∷ 1 ∷ 2 ∷ [])
 
--- the same with the pair of a package at label 1, whose content these words are, and of 5 in location 0, and other words
--- in location 3
+-- the same with the pair of a package at label 1, whose content these words are, and of 5 in location 0, and other
+-- words in location 3
 unfoldable pub pairOf : List ℕ → List ℕ → List ℕ
 pairOf content s = pairs (6 ∷ 5 ∷ 1 ∷ content ++ (1 ∷ 5 ∷ [])) (1 ∷ 7 ∷ []) s (6 ∷ 1 ∷ 1 ∷ 1 ∷ 2 ∷ [])
 
@@ -227,18 +231,23 @@ Holds (checksLong opening n last answer) =
 Holds (runs script m authority steps left) =
     runOf (bytes sheet) (bytes script) m authority largest ≡ record { answer = 0; steps = steps; memory = left }
 Holds (spends script m authority) =
-    (budget : ℕ) → runOf (bytes sheet) (bytes script) m authority budget ≡ record { answer = 9; steps = budget; memory = m }
-Holds (answers script answer steps) = runOf (bytes nested) (bytes script) [] 0 largest ≡ record { answer = answer; steps = steps; memory = [] }
+    (budget : ℕ)
+    → runOf (bytes sheet) (bytes script) m authority budget ≡ record { answer = 9; steps = budget; memory = m }
+Holds (answers script answer steps) =
+    runOf (bytes nested) (bytes script) [] 0 largest ≡ record { answer = answer; steps = steps; memory = [] }
 Holds (runsOn on script m authority answer steps left) =
     runOf (bytes on) (bytes script) m authority largest ≡ record { answer = answer; steps = steps; memory = left }
 Holds (views on group m shown) = viewOf (bytes on) m group m ≡ record { answer = 0; view = shown }
 Holds (rounds on scripts m budget answer each steps left) =
-    roundOf (bytes on) (parted scripts) m 0 budget ≡ record { answer = answer; answers = padded mostScripts each; steps = padded mostScripts steps; memory = left }
-Holds (trusts on script answer keeping) = trustOf (bytes on) (bytes script) ≡ record { answer = answer; keeping = keeping }
+    roundOf (bytes on) (parted scripts) m 0 budget
+    ≡ record { answer = answer; answers = padded mostScripts each; steps = padded mostScripts steps; memory = left }
+Holds (trusts on script answer keeping) =
+    trustOf (bytes on) (bytes script) ≡ record { answer = answer; keeping = keeping }
 Holds (distrusts on script authority group m left after) =
     let r = runOf (bytes on) (bytes script) m authority largest in
     (trustedOn on group m ≡ left) × (r .answer ≡ 0) × (trustedOn on group (r .memory) ≡ after)
-Holds (groups on l places answer count after) = groupsOf (bytes on) l places ≡ record { answer = answer; count = count; places = after }
+Holds (groups on l places answer count after) =
+    groupsOf (bytes on) l places ≡ record { answer = answer; count = count; places = after }
 
 unfoldable pub cases : List Case
 cases =
@@ -300,8 +309,11 @@ cases =
     ∷ rounds sheet ("= 0\ni 6\n" ∷ "= 0\nx 1\n" ∷ []) before 1 6 [] [] before
     ∷ rounds sheet ("= 0\ni 6\n" ∷ "" ∷ []) before 1 4 [] [] before
     -- a script that stops leaves the memory as the one before it did, and the round goes on with the whole budget
-    ∷ rounds sheet ("= 0\ni 6\n" ∷ ";\n= 0\ni 70\nw\nl 3\ni 1\ns\n" ∷ "= 0\n+\nx 0\ni 1\n" ∷ []) before 3 0 (0 ∷ 9 ∷ 0 ∷ []) (1 ∷ 3 ∷ 1 ∷ []) (beforeWith 7)
-    ∷ rounds nested ("s\n" ∷ "c\nl 18\nl 17\nl 16\nl 15\nl 14\nl 13\nl 12\nl 11\nl 10\nl 9\nl 8\nl 7\nl 6\nl 5\nl 3\ni 1\ns\ns\n" ∷ ";\ns\ns\n" ∷ []) [] 2 0 (0 ∷ 10 ∷ 0 ∷ []) (0 ∷ 0 ∷ 1 ∷ []) []
+    ∷ rounds sheet ("= 0\ni 6\n" ∷ ";\n= 0\ni 70\nw\nl 3\ni 1\ns\n" ∷ "= 0\n+\nx 0\ni 1\n" ∷ []) before 3 0
+    (0 ∷ 9 ∷ 0 ∷ []) (1 ∷ 3 ∷ 1 ∷ []) (beforeWith 7)
+    ∷ rounds nested
+    ("s\n" ∷ "c\nl 18\nl 17\nl 16\nl 15\nl 14\nl 13\nl 12\nl 11\nl 10\nl 9\nl 8\nl 7\nl 6\nl 5\nl 3\ni 1\ns\ns\n" ∷
+    ";\ns\ns\n" ∷ []) [] 2 0 (0 ∷ 10 ∷ 0 ∷ []) (0 ∷ 0 ∷ 1 ∷ []) []
     -- smallest groups: of {0: 2; 1: 3} those of one of 0 and 2 and one of 1 and 3, rising, and the place after them
     -- is kept; of a label without policies each principal by itself, into as many places
     ∷ groups twoLabels 1 (7 ∷ 7 ∷ 7 ∷ 7 ∷ 7 ∷ []) 0 4 (0b0011 ∷ 0b0110 ∷ 0b1001 ∷ 0b1100 ∷ 7 ∷ [])
@@ -348,26 +360,40 @@ cases =
     ∷ trusts "" "s\n" 1 0
     -- where principal 1, who writes location 0 alone, is distrusted: by an accepted script that isn't trust-keeping two
     -- memories that are alike in what is left come to differ in it; by a trust-keeping one they stay alike
-    ∷ distrusts twoPackages "= 2\nu 5 1\nx 0\n" 0b01 0b10 (packages 5 9 (4 ∷ 2 ∷ 1 ∷ [])) (packagesTrusted 9 (4 ∷ 2 ∷ 1 ∷ [])) (packagesTrusted 9 (3 ∷ 1 ∷ 5 ∷ []))
-    ∷ distrusts twoPackages "= 2\nu 5 1\nx 0\n" 0b01 0b10 (packages 7 9 (4 ∷ 2 ∷ 1 ∷ [])) (packagesTrusted 9 (4 ∷ 2 ∷ 1 ∷ [])) (packagesTrusted 9 (3 ∷ 1 ∷ 7 ∷ []))
-    ∷ distrusts twoPackages "= 2\nu 5 1\nx 1\n" 0b01 0b10 (packages 5 9 (4 ∷ 2 ∷ 1 ∷ [])) (packagesTrusted 9 (4 ∷ 2 ∷ 1 ∷ [])) (packagesTrusted 9 (3 ∷ 1 ∷ 9 ∷ []))
-    ∷ distrusts twoPackages "= 2\nu 5 1\nx 1\n" 0b01 0b10 (packages 7 9 (4 ∷ 2 ∷ 1 ∷ [])) (packagesTrusted 9 (4 ∷ 2 ∷ 1 ∷ [])) (packagesTrusted 9 (3 ∷ 1 ∷ 9 ∷ []))
+    ∷ distrusts twoPackages "= 2\nu 5 1\nx 0\n" 0b01 0b10 (packages 5 9 (4 ∷ 2 ∷ 1 ∷ []))
+    (packagesTrusted 9 (4 ∷ 2 ∷ 1 ∷ [])) (packagesTrusted 9 (3 ∷ 1 ∷ 5 ∷ []))
+    ∷ distrusts twoPackages "= 2\nu 5 1\nx 0\n" 0b01 0b10 (packages 7 9 (4 ∷ 2 ∷ 1 ∷ []))
+    (packagesTrusted 9 (4 ∷ 2 ∷ 1 ∷ [])) (packagesTrusted 9 (3 ∷ 1 ∷ 7 ∷ []))
+    ∷ distrusts twoPackages "= 2\nu 5 1\nx 1\n" 0b01 0b10 (packages 5 9 (4 ∷ 2 ∷ 1 ∷ []))
+    (packagesTrusted 9 (4 ∷ 2 ∷ 1 ∷ [])) (packagesTrusted 9 (3 ∷ 1 ∷ 9 ∷ []))
+    ∷ distrusts twoPackages "= 2\nu 5 1\nx 1\n" 0b01 0b10 (packages 7 9 (4 ∷ 2 ∷ 1 ∷ []))
+    (packagesTrusted 9 (4 ∷ 2 ∷ 1 ∷ [])) (packagesTrusted 9 (3 ∷ 1 ∷ 9 ∷ []))
     -- a package whose own label principal 1 writes, where it doesn't write the location's: the content is blanked, and
     -- a run doesn't open the package at a label that principal 1 doesn't write
-    ∷ distrusts twoPackages "= 2\nu 5 1\nx 1\n" 0b01 0b10 (filledRows ((5 ∷ 1 ∷ 1 ∷ 5 ∷ []) ∷ (5 ∷ 0 ∷ 1 ∷ 9 ∷ []) ∷ (4 ∷ 2 ∷ 1 ∷ []) ∷ []))
-    (filledRows ([] ∷ (5 ∷ 0 ∷ 0 ∷ []) ∷ (4 ∷ 2 ∷ 1 ∷ []) ∷ [])) (filledRows ([] ∷ (5 ∷ 0 ∷ 0 ∷ []) ∷ (4 ∷ 2 ∷ 2 ∷ []) ∷ []))
-    ∷ distrusts twoPackages "= 2\nu 5 1\nx 1\n" 0b01 0b10 (filledRows ((5 ∷ 1 ∷ 1 ∷ 5 ∷ []) ∷ (5 ∷ 0 ∷ 1 ∷ 8 ∷ []) ∷ (4 ∷ 2 ∷ 1 ∷ []) ∷ []))
-    (filledRows ([] ∷ (5 ∷ 0 ∷ 0 ∷ []) ∷ (4 ∷ 2 ∷ 1 ∷ []) ∷ [])) (filledRows ([] ∷ (5 ∷ 0 ∷ 0 ∷ []) ∷ (4 ∷ 2 ∷ 2 ∷ []) ∷ []))
+    ∷ distrusts twoPackages "= 2\nu 5 1\nx 1\n" 0b01 0b10
+    (filledRows ((5 ∷ 1 ∷ 1 ∷ 5 ∷ []) ∷ (5 ∷ 0 ∷ 1 ∷ 9 ∷ []) ∷ (4 ∷ 2 ∷ 1 ∷ []) ∷ []))
+    (filledRows ([] ∷ (5 ∷ 0 ∷ 0 ∷ []) ∷ (4 ∷ 2 ∷ 1 ∷ []) ∷ []))
+    (filledRows ([] ∷ (5 ∷ 0 ∷ 0 ∷ []) ∷ (4 ∷ 2 ∷ 2 ∷ []) ∷ []))
+    ∷ distrusts twoPackages "= 2\nu 5 1\nx 1\n" 0b01 0b10
+    (filledRows ((5 ∷ 1 ∷ 1 ∷ 5 ∷ []) ∷ (5 ∷ 0 ∷ 1 ∷ 8 ∷ []) ∷ (4 ∷ 2 ∷ 1 ∷ []) ∷ []))
+    (filledRows ([] ∷ (5 ∷ 0 ∷ 0 ∷ []) ∷ (4 ∷ 2 ∷ 1 ∷ []) ∷ []))
+    (filledRows ([] ∷ (5 ∷ 0 ∷ 0 ∷ []) ∷ (4 ∷ 2 ∷ 2 ∷ []) ∷ []))
     -- writing decides, not reading: principal 1 reads both of these and writes the second alone, both together write
     -- both; and it writes every location of the scope's sheet, though it doesn't read label 2
-    ∷ distrusts twoStarts "s\n" 0 0b10 (filledRows ((1 ∷ 5 ∷ []) ∷ (1 ∷ 7 ∷ []) ∷ [])) (filledRows ((1 ∷ 5 ∷ []) ∷ [] ∷ [])) (filledRows ((1 ∷ 5 ∷ []) ∷ [] ∷ []))
-    ∷ distrusts twoStarts "s\n" 0 0b11 (filledRows ((1 ∷ 5 ∷ []) ∷ (1 ∷ 7 ∷ []) ∷ [])) (filledRows ([] ∷ [] ∷ [])) (filledRows ([] ∷ [] ∷ []))
+    ∷ distrusts twoStarts "s\n" 0 0b10 (filledRows ((1 ∷ 5 ∷ []) ∷ (1 ∷ 7 ∷ []) ∷ []))
+    (filledRows ((1 ∷ 5 ∷ []) ∷ [] ∷ [])) (filledRows ((1 ∷ 5 ∷ []) ∷ [] ∷ []))
+    ∷ distrusts twoStarts "s\n" 0 0b11 (filledRows ((1 ∷ 5 ∷ []) ∷ (1 ∷ 7 ∷ []) ∷ [])) (filledRows ([] ∷ [] ∷ []))
+    (filledRows ([] ∷ [] ∷ []))
     ∷ distrusts sheet "s\n" 0 0b010 before (fourLocations [] [] [] []) (fourLocations [] [] [] [])
     -- who writes all leaves nothing, nobody blanks nothing; a content inside one that is left is blanked
-    ∷ distrusts twoPackages "s\n" 0 0b01 (packages 5 9 (4 ∷ 2 ∷ 1 ∷ [])) (filledRows ([] ∷ [] ∷ [] ∷ [])) (filledRows ([] ∷ [] ∷ [] ∷ []))
-    ∷ distrusts twoPackages "s\n" 0 0b00 (packages 5 9 (4 ∷ 2 ∷ 1 ∷ [])) (packages 5 9 (4 ∷ 2 ∷ 1 ∷ [])) (packages 5 9 (4 ∷ 2 ∷ 1 ∷ []))
-    ∷ distrusts twoPackages "s\n" 0 0b10 (filledRows ((5 ∷ 1 ∷ 1 ∷ 5 ∷ []) ∷ (5 ∷ 1 ∷ 5 ∷ 0 ∷ 1 ∷ 9 ∷ []) ∷ (4 ∷ 2 ∷ 1 ∷ []) ∷ []))
-    (filledRows ([] ∷ (5 ∷ 1 ∷ 5 ∷ 0 ∷ 0 ∷ []) ∷ (4 ∷ 2 ∷ 1 ∷ []) ∷ [])) (filledRows ([] ∷ (5 ∷ 1 ∷ 5 ∷ 0 ∷ 0 ∷ []) ∷ (4 ∷ 2 ∷ 1 ∷ []) ∷ []))
+    ∷ distrusts twoPackages "s\n" 0 0b01 (packages 5 9 (4 ∷ 2 ∷ 1 ∷ [])) (filledRows ([] ∷ [] ∷ [] ∷ []))
+    (filledRows ([] ∷ [] ∷ [] ∷ []))
+    ∷ distrusts twoPackages "s\n" 0 0b00 (packages 5 9 (4 ∷ 2 ∷ 1 ∷ [])) (packages 5 9 (4 ∷ 2 ∷ 1 ∷ []))
+    (packages 5 9 (4 ∷ 2 ∷ 1 ∷ []))
+    ∷ distrusts twoPackages "s\n" 0 0b10
+    (filledRows ((5 ∷ 1 ∷ 1 ∷ 5 ∷ []) ∷ (5 ∷ 1 ∷ 5 ∷ 0 ∷ 1 ∷ 9 ∷ []) ∷ (4 ∷ 2 ∷ 1 ∷ []) ∷ []))
+    (filledRows ([] ∷ (5 ∷ 1 ∷ 5 ∷ 0 ∷ 0 ∷ []) ∷ (4 ∷ 2 ∷ 1 ∷ []) ∷ []))
+    (filledRows ([] ∷ (5 ∷ 1 ∷ 5 ∷ 0 ∷ 0 ∷ []) ∷ (4 ∷ 2 ∷ 1 ∷ []) ∷ []))
     -- pairs: `Q` is no repeat of the same `T`, a given type included, but of itself; its types come before it, and it
     -- before the labels; there are 27 of both together
     ∷ checksOn "P 1\nT 0 1\nQ 0 1\n" "s\n" 0
@@ -415,29 +441,44 @@ cases =
     ∷ runsOn pairTypes "= 2\ng\nx 4\n" (pairsWith 7 1 2) 0 0 1 (pairsWith 2 1 2)
     ∷ runsOn pairTypes "= 4\np 6\ng\nx 4\nf\nx 4\n" (pairsWith 7 1 2) 0 0 1 (pairsWith 7 2 1)
     -- an unpack tests both parts of a pair, down to the leaves, and doesn't look into packages
-    ∷ runsOn deepPair "= 1\nu 7 0\nx 0\n" (leafOf (6 ∷ 3 ∷ 1 ∷ 2 ∷ 6 ∷ 1 ∷ 7 ∷ 5 ∷ 0 ∷ 2 ∷ 3 ∷ []) (4 ∷ 2 ∷ 1 ∷ [])) 1 0 1 (leafOf (6 ∷ 3 ∷ 1 ∷ 2 ∷ 6 ∷ 1 ∷ 7 ∷ 5 ∷ 0 ∷ 2 ∷ 3 ∷ []) (3 ∷ 6 ∷ 3 ∷ 1 ∷ 2 ∷ 6 ∷ 1 ∷ 7 ∷ 5 ∷ 0 ∷ 2 ∷ 3 ∷ []))
-    ∷ runsOn deepPair "= 1\nu 7 0\nx 0\n" (leafOf (6 ∷ 3 ∷ 1 ∷ 2 ∷ 6 ∷ 1 ∷ 7 ∷ 1 ∷ 9 ∷ []) (4 ∷ 2 ∷ 1 ∷ [])) 1 0 1 (leafOf (6 ∷ 3 ∷ 1 ∷ 2 ∷ 6 ∷ 1 ∷ 7 ∷ 1 ∷ 9 ∷ []) (4 ∷ 2 ∷ 3 ∷ []))
-    ∷ runsOn deepPair "= 1\nu 7 0\nx 0\n" (leafOf (6 ∷ 3 ∷ 2 ∷ 2 ∷ 6 ∷ 1 ∷ 7 ∷ 5 ∷ 0 ∷ 1 ∷ 9 ∷ []) (4 ∷ 2 ∷ 1 ∷ [])) 1 0 1 (leafOf (6 ∷ 3 ∷ 2 ∷ 2 ∷ 6 ∷ 1 ∷ 7 ∷ 5 ∷ 0 ∷ 1 ∷ 9 ∷ []) (4 ∷ 2 ∷ 3 ∷ []))
-    ∷ runsOn pairTypes "= 3\nu 7 1\nf\nx 0\n" (pairOf (6 ∷ 1 ∷ 3 ∷ 1 ∷ 4 ∷ []) (4 ∷ 2 ∷ 1 ∷ [])) 0b01 0 1 (pairOf (6 ∷ 1 ∷ 3 ∷ 1 ∷ 4 ∷ []) (3 ∷ 6 ∷ 1 ∷ 3 ∷ 1 ∷ 4 ∷ []))
-    ∷ runsOn pairTypes "= 3\nu 7 1\nf\nx 0\n" (pairOf (6 ∷ 1 ∷ 3 ∷ 2 ∷ 1 ∷ []) (4 ∷ 2 ∷ 1 ∷ [])) 0b01 0 1 (pairOf (6 ∷ 1 ∷ 3 ∷ 2 ∷ 1 ∷ []) (4 ∷ 2 ∷ 3 ∷ []))
-    ∷ runsOn pairTypes "= 3\nu 7 1\nf\nx 0\n" (pairOf (6 ∷ 2 ∷ 1 ∷ 1 ∷ 4 ∷ []) (4 ∷ 2 ∷ 1 ∷ [])) 0b01 0 1 (pairOf (6 ∷ 2 ∷ 1 ∷ 1 ∷ 4 ∷ []) (4 ∷ 2 ∷ 3 ∷ []))
-    ∷ runsOn pairTypes "= 3\nu 7 1\nf\nx 0\n" (pairOf (1 ∷ 3 ∷ []) (4 ∷ 2 ∷ 1 ∷ [])) 0b01 0 1 (pairOf (1 ∷ 3 ∷ []) (4 ∷ 2 ∷ 3 ∷ []))
+    ∷ runsOn deepPair "= 1\nu 7 0\nx 0\n" (leafOf (6 ∷ 3 ∷ 1 ∷ 2 ∷ 6 ∷ 1 ∷ 7 ∷ 5 ∷ 0 ∷ 2 ∷ 3 ∷ []) (4 ∷ 2 ∷ 1 ∷ []))
+    1 0 1 (leafOf (6 ∷ 3 ∷ 1 ∷ 2 ∷ 6 ∷ 1 ∷ 7 ∷ 5 ∷ 0 ∷ 2 ∷ 3 ∷ []) (3 ∷ 6 ∷ 3 ∷ 1 ∷ 2 ∷ 6 ∷ 1 ∷ 7 ∷ 5 ∷ 0 ∷ 2 ∷ 3 ∷ []))
+    ∷ runsOn deepPair "= 1\nu 7 0\nx 0\n" (leafOf (6 ∷ 3 ∷ 1 ∷ 2 ∷ 6 ∷ 1 ∷ 7 ∷ 1 ∷ 9 ∷ []) (4 ∷ 2 ∷ 1 ∷ [])) 1 0 1
+    (leafOf (6 ∷ 3 ∷ 1 ∷ 2 ∷ 6 ∷ 1 ∷ 7 ∷ 1 ∷ 9 ∷ []) (4 ∷ 2 ∷ 3 ∷ []))
+    ∷ runsOn deepPair "= 1\nu 7 0\nx 0\n" (leafOf (6 ∷ 3 ∷ 2 ∷ 2 ∷ 6 ∷ 1 ∷ 7 ∷ 5 ∷ 0 ∷ 1 ∷ 9 ∷ []) (4 ∷ 2 ∷ 1 ∷ []))
+    1 0 1 (leafOf (6 ∷ 3 ∷ 2 ∷ 2 ∷ 6 ∷ 1 ∷ 7 ∷ 5 ∷ 0 ∷ 1 ∷ 9 ∷ []) (4 ∷ 2 ∷ 3 ∷ []))
+    ∷ runsOn pairTypes "= 3\nu 7 1\nf\nx 0\n" (pairOf (6 ∷ 1 ∷ 3 ∷ 1 ∷ 4 ∷ []) (4 ∷ 2 ∷ 1 ∷ [])) 0b01 0 1
+    (pairOf (6 ∷ 1 ∷ 3 ∷ 1 ∷ 4 ∷ []) (3 ∷ 6 ∷ 1 ∷ 3 ∷ 1 ∷ 4 ∷ []))
+    ∷ runsOn pairTypes "= 3\nu 7 1\nf\nx 0\n" (pairOf (6 ∷ 1 ∷ 3 ∷ 2 ∷ 1 ∷ []) (4 ∷ 2 ∷ 1 ∷ [])) 0b01 0 1
+    (pairOf (6 ∷ 1 ∷ 3 ∷ 2 ∷ 1 ∷ []) (4 ∷ 2 ∷ 3 ∷ []))
+    ∷ runsOn pairTypes "= 3\nu 7 1\nf\nx 0\n" (pairOf (6 ∷ 2 ∷ 1 ∷ 1 ∷ 4 ∷ []) (4 ∷ 2 ∷ 1 ∷ [])) 0b01 0 1
+    (pairOf (6 ∷ 2 ∷ 1 ∷ 1 ∷ 4 ∷ []) (4 ∷ 2 ∷ 3 ∷ []))
+    ∷ runsOn pairTypes "= 3\nu 7 1\nf\nx 0\n" (pairOf (1 ∷ 3 ∷ []) (4 ∷ 2 ∷ 1 ∷ [])) 0b01 0 1
+    (pairOf (1 ∷ 3 ∷ []) (4 ∷ 2 ∷ 3 ∷ []))
     -- a memory with another type in the second part, without a second part, with words after it, is refused
     ∷ runsOn pairTypes "s\n" (firstOf (6 ∷ 5 ∷ 1 ∷ 1 ∷ 9 ∷ 2 ∷ 1 ∷ [])) 0 8 0 (firstOf (6 ∷ 5 ∷ 1 ∷ 1 ∷ 9 ∷ 2 ∷ 1 ∷ []))
     ∷ runsOn pairTypes "s\n" (firstOf (6 ∷ 5 ∷ 1 ∷ 1 ∷ 9 ∷ [])) 0 8 0 (firstOf (6 ∷ 5 ∷ 1 ∷ 1 ∷ 9 ∷ []))
-    ∷ runsOn pairTypes "s\n" (firstOf (6 ∷ 5 ∷ 1 ∷ 1 ∷ 9 ∷ 1 ∷ 5 ∷ 1 ∷ [])) 0 8 0 (firstOf (6 ∷ 5 ∷ 1 ∷ 1 ∷ 9 ∷ 1 ∷ 5 ∷ 1 ∷ []))
+    ∷ runsOn pairTypes "s\n" (firstOf (6 ∷ 5 ∷ 1 ∷ 1 ∷ 9 ∷ 1 ∷ 5 ∷ 1 ∷ [])) 0 8 0
+    (firstOf (6 ∷ 5 ∷ 1 ∷ 1 ∷ 9 ∷ 1 ∷ 5 ∷ 1 ∷ []))
     -- a pair of 16 words fits, one of 17 gives 10, also where a part of it is wanted alone
-    ∷ runsOn longPairs "= 1\np 8\np 6\np 5\ni 1\ni 2\np 5\ni 3\ni 4\nl 7\nl 3\ni 5\n" (longWith 0) 0 0 1 (filledRows ((1 ∷ 0 ∷ []) ∷ (6 ∷ 6 ∷ 6 ∷ 1 ∷ 1 ∷ 1 ∷ 2 ∷ 6 ∷ 1 ∷ 3 ∷ 1 ∷ 4 ∷ 3 ∷ 3 ∷ 1 ∷ 5 ∷ []) ∷ []))
-    ∷ runsOn longPairs "= 0\nf\ng\nf\np 8\np 6\np 5\ni 1\ni 2\np 5\ni 3\ni 4\nl 7\nl 3\ni 5\n" (longWith 0) 0 0 1 (longWith 3)
-    ∷ runsOn longPairs "= 0\nf\ng\nf\np 10\np 6\np 5\ni 1\ni 2\np 5\ni 3\ni 4\nl 9\nl 7\nl 3\ni 5\n" (longWith 0) 0 10 0 (longWith 0)
+    ∷ runsOn longPairs "= 1\np 8\np 6\np 5\ni 1\ni 2\np 5\ni 3\ni 4\nl 7\nl 3\ni 5\n" (longWith 0) 0 0 1
+    (filledRows ((1 ∷ 0 ∷ []) ∷ (6 ∷ 6 ∷ 6 ∷ 1 ∷ 1 ∷ 1 ∷ 2 ∷ 6 ∷ 1 ∷ 3 ∷ 1 ∷ 4 ∷ 3 ∷ 3 ∷ 1 ∷ 5 ∷ []) ∷ []))
+    ∷ runsOn longPairs "= 0\nf\ng\nf\np 8\np 6\np 5\ni 1\ni 2\np 5\ni 3\ni 4\nl 7\nl 3\ni 5\n"
+    (longWith 0) 0 0 1 (longWith 3)
+    ∷ runsOn longPairs "= 0\nf\ng\nf\np 10\np 6\np 5\ni 1\ni 2\np 5\ni 3\ni 4\nl 9\nl 7\nl 3\ni 5\n"
+    (longWith 0) 0 10 0 (longWith 0)
     -- a view: a hidden content is one zero word, however long it is, and the second part follows at once; who reads it
     -- sees all
-    ∷ views pairTypes 0b10 (pairOf (1 ∷ 9 ∷ []) (4 ∷ 2 ∷ 1 ∷ [])) (filledRows ((6 ∷ 5 ∷ 1 ∷ 0 ∷ 1 ∷ 5 ∷ []) ∷ [] ∷ (1 ∷ 7 ∷ []) ∷ [] ∷ (6 ∷ 1 ∷ 1 ∷ 1 ∷ 2 ∷ []) ∷ [] ∷ []))
-    ∷ views pairTypes 0b10 (pairOf (6 ∷ 3 ∷ 1 ∷ 9 ∷ 2 ∷ 3 ∷ []) (4 ∷ 2 ∷ 1 ∷ [])) (filledRows ((6 ∷ 5 ∷ 1 ∷ 0 ∷ 1 ∷ 5 ∷ []) ∷ [] ∷ (1 ∷ 7 ∷ []) ∷ [] ∷ (6 ∷ 1 ∷ 1 ∷ 1 ∷ 2 ∷ []) ∷ [] ∷ []))
-    ∷ views pairTypes 0b01 (pairOf (6 ∷ 3 ∷ 1 ∷ 9 ∷ 2 ∷ 3 ∷ []) (4 ∷ 2 ∷ 1 ∷ [])) (pairOf (6 ∷ 3 ∷ 1 ∷ 9 ∷ 2 ∷ 3 ∷ []) (4 ∷ 2 ∷ 1 ∷ []))
+    ∷ views pairTypes 0b10 (pairOf (1 ∷ 9 ∷ []) (4 ∷ 2 ∷ 1 ∷ []))
+    (filledRows ((6 ∷ 5 ∷ 1 ∷ 0 ∷ 1 ∷ 5 ∷ []) ∷ [] ∷ (1 ∷ 7 ∷ []) ∷ [] ∷ (6 ∷ 1 ∷ 1 ∷ 1 ∷ 2 ∷ []) ∷ [] ∷ []))
+    ∷ views pairTypes 0b10 (pairOf (6 ∷ 3 ∷ 1 ∷ 9 ∷ 2 ∷ 3 ∷ []) (4 ∷ 2 ∷ 1 ∷ []))
+    (filledRows ((6 ∷ 5 ∷ 1 ∷ 0 ∷ 1 ∷ 5 ∷ []) ∷ [] ∷ (1 ∷ 7 ∷ []) ∷ [] ∷ (6 ∷ 1 ∷ 1 ∷ 1 ∷ 2 ∷ []) ∷ [] ∷ []))
+    ∷ views pairTypes 0b01 (pairOf (6 ∷ 3 ∷ 1 ∷ 9 ∷ 2 ∷ 3 ∷ []) (4 ∷ 2 ∷ 1 ∷ []))
+    (pairOf (6 ∷ 3 ∷ 1 ∷ 9 ∷ 2 ∷ 3 ∷ []) (4 ∷ 2 ∷ 1 ∷ []))
     ∷ views pairTypes 0b00 (pairOf (1 ∷ 9 ∷ []) (4 ∷ 2 ∷ 1 ∷ [])) (filledRows ([] ∷ [] ∷ [] ∷ [] ∷ [] ∷ [] ∷ []))
     -- a round that makes a pair and takes a part
-    ∷ rounds pairTypes ("= 4\np 6\ni 3\ni 4\n" ∷ "= 2\ng\nx 4\n" ∷ []) (pairsWith 7 1 2) 1 0 [] (1 ∷ 1 ∷ []) (pairsWith 4 3 4)
+    ∷ rounds pairTypes ("= 4\np 6\ni 3\ni 4\n" ∷ "= 2\ng\nx 4\n" ∷ []) (pairsWith 7 1 2) 1 0 [] (1 ∷ 1 ∷ [])
+    (pairsWith 4 3 4)
     -- trust-keeping: an unpack counts in the part that isn't taken, in the guard of a `w`, under `+` on either side and
     -- under another unpack too
     ∷ trusts pairTypes "= 3\nu 7 1\nf\nx 5\n" 0 1
@@ -485,26 +526,37 @@ cases =
     ∷ checksOn "P 4\nL\nO 0 0001 0001\nR 1\n" "s\n" 1
     ∷ checksOn "P 4\nL\nX 0 0\nR 1\n" "s\n" 1
     -- a view follows the rule, in a location and in a package; the last principal is a reader too
-    ∷ views together 0b1100 (withPackage (1 ∷ 9 ∷ []) (4 ∷ 2 ∷ 1 ∷ []) (4 ∷ 2 ∷ 1 ∷ [])) (withPackage (1 ∷ 9 ∷ []) (4 ∷ 2 ∷ 1 ∷ []) (4 ∷ 2 ∷ 1 ∷ []))
+    ∷ views together 0b1100 (withPackage (1 ∷ 9 ∷ []) (4 ∷ 2 ∷ 1 ∷ []) (4 ∷ 2 ∷ 1 ∷ []))
+    (withPackage (1 ∷ 9 ∷ []) (4 ∷ 2 ∷ 1 ∷ []) (4 ∷ 2 ∷ 1 ∷ []))
     ∷ views byHimself 0b1100 (withPackage (1 ∷ 9 ∷ []) (4 ∷ 2 ∷ 1 ∷ []) (4 ∷ 2 ∷ 1 ∷ [])) packageShown
     ∷ views byHimself 0b1111 (withPackage (1 ∷ 9 ∷ []) (4 ∷ 2 ∷ 1 ∷ []) (4 ∷ 2 ∷ 1 ∷ [])) packageShown
-    ∷ views byHimself 0b0000 (withPackage (1 ∷ 9 ∷ []) (4 ∷ 2 ∷ 1 ∷ []) (4 ∷ 2 ∷ 1 ∷ [])) (filledRows ([] ∷ [] ∷ [] ∷ [] ∷ [] ∷ []))
+    ∷ views byHimself 0b0000 (withPackage (1 ∷ 9 ∷ []) (4 ∷ 2 ∷ 1 ∷ []) (4 ∷ 2 ∷ 1 ∷ []))
+    (filledRows ([] ∷ [] ∷ [] ∷ [] ∷ [] ∷ []))
     ∷ views lastReader 0b1000000000000000 (filledRows ((1 ∷ 5 ∷ []) ∷ [])) (filledRows ((1 ∷ 5 ∷ []) ∷ []))
     ∷ views lastReader 0b0111111111111111 (filledRows ((1 ∷ 5 ∷ []) ∷ [])) (filledRows ([] ∷ []))
     -- a group sees what some member reads, label by label: of a package one member the location, another the content
     ∷ views eachHisOwn 0b11 (filledRows ((5 ∷ 1 ∷ 1 ∷ 9 ∷ []) ∷ [])) (filledRows ((5 ∷ 1 ∷ 1 ∷ 9 ∷ []) ∷ []))
     ∷ views eachHisOwn 0b01 (filledRows ((5 ∷ 1 ∷ 1 ∷ 9 ∷ []) ∷ [])) (filledRows ((5 ∷ 1 ∷ 0 ∷ []) ∷ []))
     -- an unpack follows it, for the wanted label, also where the package's is below it and read; one member is enough
-    ∷ runsOn together "= 3\nu 5 1\nx 2\n" (withPackage (1 ∷ 9 ∷ []) (4 ∷ 2 ∷ 3 ∷ []) (4 ∷ 2 ∷ 1 ∷ [])) 0b1100 0 1 (withPackage (1 ∷ 9 ∷ []) (3 ∷ 1 ∷ 9 ∷ []) (4 ∷ 2 ∷ 1 ∷ []))
-    ∷ runsOn byHimself "= 3\nu 5 1\nx 2\n" (withPackage (1 ∷ 9 ∷ []) (4 ∷ 2 ∷ 3 ∷ []) (4 ∷ 2 ∷ 1 ∷ [])) 0b1100 0 1 (withPackage (1 ∷ 9 ∷ []) (4 ∷ 2 ∷ 1 ∷ []) (4 ∷ 2 ∷ 1 ∷ []))
-    ∷ runsOn belowTogether "= 1\nu 5 1\nx 0\n" (filledRows ((5 ∷ 0 ∷ 1 ∷ 9 ∷ []) ∷ (4 ∷ 2 ∷ 3 ∷ []) ∷ [])) 0b1100 0 1 (filledRows ((5 ∷ 0 ∷ 1 ∷ 9 ∷ []) ∷ (3 ∷ 1 ∷ 9 ∷ []) ∷ []))
-    ∷ runsOn belowByHimself "= 1\nu 5 1\nx 0\n" (filledRows ((5 ∷ 0 ∷ 1 ∷ 9 ∷ []) ∷ (4 ∷ 2 ∷ 3 ∷ []) ∷ [])) 0b1100 0 1 (filledRows ((5 ∷ 0 ∷ 1 ∷ 9 ∷ []) ∷ (4 ∷ 2 ∷ 1 ∷ []) ∷ []))
-    ∷ runsOn belowByHimself "= 1\nu 5 0\nx 0\n" (filledRows ((5 ∷ 0 ∷ 1 ∷ 9 ∷ []) ∷ (4 ∷ 2 ∷ 3 ∷ []) ∷ [])) 0b0100 0 1 (filledRows ((5 ∷ 0 ∷ 1 ∷ 9 ∷ []) ∷ (3 ∷ 1 ∷ 9 ∷ []) ∷ []))
+    ∷ runsOn together "= 3\nu 5 1\nx 2\n" (withPackage (1 ∷ 9 ∷ []) (4 ∷ 2 ∷ 3 ∷ []) (4 ∷ 2 ∷ 1 ∷ [])) 0b1100 0 1
+    (withPackage (1 ∷ 9 ∷ []) (3 ∷ 1 ∷ 9 ∷ []) (4 ∷ 2 ∷ 1 ∷ []))
+    ∷ runsOn byHimself "= 3\nu 5 1\nx 2\n" (withPackage (1 ∷ 9 ∷ []) (4 ∷ 2 ∷ 3 ∷ []) (4 ∷ 2 ∷ 1 ∷ [])) 0b1100 0 1
+    (withPackage (1 ∷ 9 ∷ []) (4 ∷ 2 ∷ 1 ∷ []) (4 ∷ 2 ∷ 1 ∷ []))
+    ∷ runsOn belowTogether "= 1\nu 5 1\nx 0\n" (filledRows ((5 ∷ 0 ∷ 1 ∷ 9 ∷ []) ∷ (4 ∷ 2 ∷ 3 ∷ []) ∷ [])) 0b1100 0 1
+    (filledRows ((5 ∷ 0 ∷ 1 ∷ 9 ∷ []) ∷ (3 ∷ 1 ∷ 9 ∷ []) ∷ []))
+    ∷ runsOn belowByHimself "= 1\nu 5 1\nx 0\n" (filledRows ((5 ∷ 0 ∷ 1 ∷ 9 ∷ []) ∷ (4 ∷ 2 ∷ 3 ∷ []) ∷ [])) 0b1100 0 1
+    (filledRows ((5 ∷ 0 ∷ 1 ∷ 9 ∷ []) ∷ (4 ∷ 2 ∷ 1 ∷ []) ∷ []))
+    ∷ runsOn belowByHimself "= 1\nu 5 0\nx 0\n" (filledRows ((5 ∷ 0 ∷ 1 ∷ 9 ∷ []) ∷ (4 ∷ 2 ∷ 3 ∷ []) ∷ [])) 0b0100 0 1
+    (filledRows ((5 ∷ 0 ∷ 1 ∷ 9 ∷ []) ∷ (3 ∷ 1 ∷ 9 ∷ []) ∷ []))
     -- writing stays: 0 and 1 write label 1 together, neither by himself, in a pack and where they are distrusted
-    ∷ runsOn byHimself "= 4\nk 1\ni 9\n" (withPackage (1 ∷ 9 ∷ []) (4 ∷ 2 ∷ 1 ∷ []) (4 ∷ 2 ∷ 3 ∷ [])) 0b0011 0 1 (withPackage (1 ∷ 9 ∷ []) (4 ∷ 2 ∷ 1 ∷ []) (3 ∷ 5 ∷ 1 ∷ 1 ∷ 9 ∷ []))
-    ∷ runsOn byHimself "= 4\nk 1\ni 9\n" (withPackage (1 ∷ 9 ∷ []) (4 ∷ 2 ∷ 1 ∷ []) (4 ∷ 2 ∷ 3 ∷ [])) 0b0001 0 1 (withPackage (1 ∷ 9 ∷ []) (4 ∷ 2 ∷ 1 ∷ []) (4 ∷ 2 ∷ 1 ∷ []))
-    ∷ distrusts byHimself "s\n" 0 0b0011 (withPackage (1 ∷ 9 ∷ []) (4 ∷ 2 ∷ 1 ∷ []) (4 ∷ 2 ∷ 1 ∷ [])) (filledRows ([] ∷ [] ∷ [] ∷ [] ∷ [] ∷ [])) (filledRows ([] ∷ [] ∷ [] ∷ [] ∷ [] ∷ []))
-    ∷ distrusts byHimself "s\n" 0 0b0001 (withPackage (1 ∷ 9 ∷ []) (4 ∷ 2 ∷ 1 ∷ []) (4 ∷ 2 ∷ 1 ∷ [])) (filledRows ([] ∷ (1 ∷ 62 ∷ []) ∷ [] ∷ (4 ∷ 2 ∷ 1 ∷ []) ∷ [] ∷ []))
+    ∷ runsOn byHimself "= 4\nk 1\ni 9\n" (withPackage (1 ∷ 9 ∷ []) (4 ∷ 2 ∷ 1 ∷ []) (4 ∷ 2 ∷ 3 ∷ [])) 0b0011 0 1
+    (withPackage (1 ∷ 9 ∷ []) (4 ∷ 2 ∷ 1 ∷ []) (3 ∷ 5 ∷ 1 ∷ 1 ∷ 9 ∷ []))
+    ∷ runsOn byHimself "= 4\nk 1\ni 9\n" (withPackage (1 ∷ 9 ∷ []) (4 ∷ 2 ∷ 1 ∷ []) (4 ∷ 2 ∷ 3 ∷ [])) 0b0001 0 1
+    (withPackage (1 ∷ 9 ∷ []) (4 ∷ 2 ∷ 1 ∷ []) (4 ∷ 2 ∷ 1 ∷ []))
+    ∷ distrusts byHimself "s\n" 0 0b0011 (withPackage (1 ∷ 9 ∷ []) (4 ∷ 2 ∷ 1 ∷ []) (4 ∷ 2 ∷ 1 ∷ []))
+    (filledRows ([] ∷ [] ∷ [] ∷ [] ∷ [] ∷ [])) (filledRows ([] ∷ [] ∷ [] ∷ [] ∷ [] ∷ []))
+    ∷ distrusts byHimself "s\n" 0 0b0001 (withPackage (1 ∷ 9 ∷ []) (4 ∷ 2 ∷ 1 ∷ []) (4 ∷ 2 ∷ 1 ∷ []))
+    (filledRows ([] ∷ (1 ∷ 62 ∷ []) ∷ [] ∷ (4 ∷ 2 ∷ 1 ∷ []) ∷ [] ∷ []))
     (filledRows ([] ∷ (1 ∷ 62 ∷ []) ∷ [] ∷ (4 ∷ 2 ∷ 1 ∷ []) ∷ [] ∷ []))
     ∷ trusts byHimself "= 3\nu 5 1\nx 2\n" 0 0
     ∷ trusts byHimself "= 4\nk 1\ni 9\n" 0 1

@@ -23,7 +23,8 @@ use Rattle.simp.specs.Rounds.{roundRows, Places, Played, Open, Round}
 use Rattle.simp.specs.Groups.{groupRows, Groups}
 use Rattle.simp.specs.Trust.{Trust}
 
--- The run was started and reached skip within the budget, and these are the words of the memory that it reached, after so many steps.
+-- The run was started and reached skip within the budget, and these are the words of the memory that it reached,
+-- after so many steps.
 pub record Finished (sheet script memory : List ℕ) (authority budget steps : ℕ) (left : List ℕ) : Type 0 where
   pub its-sheet : Sheet
   pub its-script : Script
@@ -33,8 +34,8 @@ pub record Finished (sheet script memory : List ℕ) (authority budget steps : �
   pub words : left ≡ wordsOf (locationCount its-sheet) reached
   pub in-budget : steps ≤ budget
 
--- What a run answers and leaves, whatever it is given: one of its numbers; the memory as it was, unless it is done; and beside 1 to 8
--- no steps, beside 9 as many as the budget, beside 10 fewer (how many, `Ends` says).
+-- What a run answers and leaves, whatever it is given: one of its numbers; the memory as it was, unless it is done; and
+-- beside 1 to 8 no steps, beside 9 as many as the budget, beside 10 fewer (how many, `Ends` says).
 pub record RunAnswers (memory : List ℕ) (budget : ℕ) (r : Ran) : Type 0 where
   pub number : Among (0 ∷ 1 ∷ 2 ∷ 3 ∷ 4 ∷ 5 ∷ 6 ∷ 7 ∷ 8 ∷ 9 ∷ 10 ∷ []) (r .answer)
   pub kept : ¬ (r .answer ≡ 0) → r .memory ≡ memory
@@ -46,31 +47,37 @@ pub record ViewAnswers (view : List ℕ) (v : Viewed) : Type 0 where
   pub number : Among (0 ∷ 1 ∷ 2 ∷ 3 ∷ 7 ∷ 8 ∷ []) (v .answer)
   pub kept : ¬ (v .answer ≡ 0) → v .view ≡ view
 
--- What a round answers and leaves, whatever it is given: one of its numbers; beside a refusal the memory as it was and zeros in every place; and
--- zeros in the places past the last script.
+-- What a round answers and leaves, whatever it is given: one of its numbers; beside a refusal the memory as it was and
+-- zeros in every place; and zeros in the places past the last script.
 pub record RoundAnswers (scripts memory : List ℕ) (r : RanRound) : Type 0 where
   pub number : Among (0 ∷ 1 ∷ 2 ∷ 3 ∷ 11 ∷ 4 ∷ 5 ∷ 6 ∷ 7 ∷ 8 ∷ []) (r .answer)
   pub kept : ¬ (r .answer ≡ 0) → r .memory ≡ memory
   pub zeros : ¬ (r .answer ≡ 0) → (i : ℕ) → (getD (r .answers) i 0 ≡ 0) × (getD (r .steps) i 0 ≡ 0)
   pub places : Places (length (partsOf scripts)) r
 
--- How a script goes in its turn, in a round that isn't refused. Open, it answers 0, 9 or 10: done, it is a finished run from the memory before it to
--- the one after it; stopped, it leaves the memory as it was (RunAnswers). Not open, it has its gate's number, no steps, and leaves the memory.
-pub record ScriptAnswers (gate : Gate) (sheet : List ℕ) (authority budget i : ℕ) (script memory : List ℕ) (r : Ran) : Type 0 where
+-- How a script goes in its turn, in a round that isn't refused. Open, it answers 0, 9 or 10: done, it is a finished run
+-- from the memory before it to the one after it; stopped, it leaves the memory as it was (RunAnswers). Not open, it has
+-- its gate's number, no steps, and leaves the memory.
+pub record ScriptAnswers (gate : Gate) (sheet : List ℕ) (authority budget i : ℕ) (script memory : List ℕ)
+    (r : Ran) : Type 0 where
   pub its-number : Open gate i → Among (0 ∷ 9 ∷ 10 ∷ []) (r .answer)
   pub as-run : Open gate i → RunAnswers memory budget r
   pub finished : Open gate i → r .answer ≡ 0 → Finished sheet script memory authority budget (r .steps) (r .memory)
   pub closed : ¬ Open gate i → r ≡ refusedRun memory (gate i)
 
--- Demand 1 of a round, by any gate: the number given applies, and none that comes before it in the order does; the whole answer is as the table
--- has it; where the round isn't refused, each script went so in its turn. A round's finished run is its done scripts, one after another.
+-- Demand 1 of a round, by any gate: the number given applies, and none that comes before it in the order does; the
+-- whole answer is as the table has it; where the round isn't refused, each script went so in its turn. A round's
+-- finished run is its done scripts, one after another.
 pub record RoundDemand1 : Type 1 where
   pub order : (gate : Gate) (sheet scripts memory : List ℕ) (authority budget : ℕ)
-      → GivenInOrder (roundRows sheet scripts memory authority) (roundBy gate sheet scripts memory authority budget .answer)
+      → GivenInOrder (roundRows sheet scripts memory authority)
+      (roundBy gate sheet scripts memory authority budget .answer)
   pub number : (gate : Gate) (sheet scripts memory : List ℕ) (authority budget : ℕ)
       → Round gate sheet scripts memory authority budget (roundBy gate sheet scripts memory authority budget)
-  pub played : (gate : Gate) (sheet scripts memory : List ℕ) (authority budget : ℕ) → roundBy gate sheet scripts memory authority budget .answer ≡ 0
-      → Played (ScriptAnswers gate sheet authority budget) scripts memory (roundBy gate sheet scripts memory authority budget)
+  pub played : (gate : Gate) (sheet scripts memory : List ℕ) (authority budget : ℕ)
+      → roundBy gate sheet scripts memory authority budget .answer ≡ 0
+      → Played (ScriptAnswers gate sheet authority budget) scripts memory
+      (roundBy gate sheet scripts memory authority budget)
   pub answers : (gate : Gate) (sheet scripts memory : List ℕ) (authority budget : ℕ)
       → RoundAnswers scripts memory (roundBy gate sheet scripts memory authority budget)
   -- simp_round shuts no script out
@@ -86,7 +93,8 @@ pub record GroupAnswers (places : List ℕ) (r : Grouped) : Type 0 where
 -- Demand 1 of simp_groups: the number given applies, and none that comes before it in the order does; the whole
 -- answer is as the table has it.
 pub record GroupsDemand1 : Type 1 where
-  pub order : (sheet : List ℕ) (l : ℕ) (places : List ℕ) → GivenInOrder (groupRows sheet l places) (groupsOf sheet l places .answer)
+  pub order : (sheet : List ℕ) (l : ℕ) (places : List ℕ)
+      → GivenInOrder (groupRows sheet l places) (groupsOf sheet l places .answer)
   pub number : (sheet : List ℕ) (l : ℕ) (places : List ℕ) → Groups sheet l places (groupsOf sheet l places)
   pub answers : (sheet : List ℕ) (l : ℕ) (places : List ℕ) → GroupAnswers places (groupsOf sheet l places)
 
@@ -110,21 +118,28 @@ pub record TrustDemand1 : Type 1 where
 -- call writes to no lent slice. That a call ends is proved with each function; simp_check and simp_trust are lent
 -- nothing to write, and simp_view is lent its memory for reading.
 pub record Demand1 : Type 1 where
-  -- the number given applies, and none that comes before it in the order does (crate numbers' FirstThatAppliesIsGiven, of each table);
-  -- when a run's 9 and 10 apply, and its steps beside 10, is in run-number
+  -- the number given applies, and none that comes before it in the order does (crate numbers' FirstThatAppliesIsGiven,
+  -- of each table); when a run's 9 and 10 apply, and its steps beside 10, is in run-number
   pub check-order : (sheet script : List ℕ) → GivenInOrder (checkRows sheet script) (checkOf sheet script)
   pub run-order : (sheet script memory : List ℕ) (authority budget : ℕ)
       → GivenInOrder (runRows sheet script memory authority) (runOf sheet script memory authority budget .answer)
-  pub view-order : (sheet memory : List ℕ) (group : ℕ) (view : List ℕ) → GivenInOrder (viewRows sheet memory group view) (viewOf sheet memory group view .answer)
+  pub view-order : (sheet memory : List ℕ) (group : ℕ) (view : List ℕ)
+      → GivenInOrder (viewRows sheet memory group view) (viewOf sheet memory group view .answer)
   -- and the whole answer is as the table has it
   pub check-number : (sheet script : List ℕ) → Checked sheet script (checkOf sheet script)
-  pub run-number : (sheet script memory : List ℕ) (authority budget : ℕ) → Run sheet script memory authority budget (runOf sheet script memory authority budget)
-  pub view-number : (sheet memory : List ℕ) (group : ℕ) (view : List ℕ) → View sheet memory group view (viewOf sheet memory group view)
-  pub run-finished : (sheet script memory : List ℕ) (authority budget : ℕ) → runOf sheet script memory authority budget .answer ≡ 0
-      → Finished sheet script memory authority budget (runOf sheet script memory authority budget .steps) (runOf sheet script memory authority budget .memory)
+  pub run-number : (sheet script memory : List ℕ) (authority budget : ℕ)
+      → Run sheet script memory authority budget (runOf sheet script memory authority budget)
+  pub view-number : (sheet memory : List ℕ) (group : ℕ) (view : List ℕ)
+      → View sheet memory group view (viewOf sheet memory group view)
+  pub run-finished : (sheet script memory : List ℕ) (authority budget : ℕ)
+      → runOf sheet script memory authority budget .answer ≡ 0
+      → Finished sheet script memory authority budget (runOf sheet script memory authority budget .steps)
+      (runOf sheet script memory authority budget .memory)
   pub check-answers : (sheet script : List ℕ) → Among (0 ∷ 1 ∷ 2 ∷ 4 ∷ 5 ∷ 6 ∷ []) (checkOf sheet script)
-  pub run-answers : (sheet script memory : List ℕ) (authority budget : ℕ) → RunAnswers memory budget (runOf sheet script memory authority budget)
-  pub view-answers : (sheet memory : List ℕ) (group : ℕ) (view : List ℕ) → ViewAnswers view (viewOf sheet memory group view)
+  pub run-answers : (sheet script memory : List ℕ) (authority budget : ℕ)
+      → RunAnswers memory budget (runOf sheet script memory authority budget)
+  pub view-answers : (sheet memory : List ℕ) (group : ℕ) (view : List ℕ)
+      → ViewAnswers view (viewOf sheet memory group view)
   -- all of it of a round
   pub round : RoundDemand1
   -- and of simp_groups
@@ -139,26 +154,30 @@ pub record Demand2 : Type 0 where
   pub check : (sheet script : List ℕ) (k : ℕ) → (checkOf sheet script ≡ k) ↔ Checked sheet script k
   pub run : (sheet script memory : List ℕ) (authority budget : ℕ) (r : Ran)
       → (runOf sheet script memory authority budget ≡ r) ↔ Run sheet script memory authority budget r
-  pub view : (sheet memory : List ℕ) (group : ℕ) (words : List ℕ) (v : Viewed) → (viewOf sheet memory group words ≡ v) ↔ View sheet memory group words v
+  pub view : (sheet memory : List ℕ) (group : ℕ) (words : List ℕ) (v : Viewed)
+      → (viewOf sheet memory group words ≡ v) ↔ View sheet memory group words v
   pub round : (gate : Gate) (sheet scripts memory : List ℕ) (authority budget : ℕ) (r : RanRound)
       → (roundBy gate sheet scripts memory authority budget ≡ r) ↔ Round gate sheet scripts memory authority budget r
-  pub groups : (sheet : List ℕ) (l : ℕ) (places : List ℕ) (r : Grouped) → (groupsOf sheet l places ≡ r) ↔ Groups sheet l places r
+  pub groups : (sheet : List ℕ) (l : ℕ) (places : List ℕ) (r : Grouped)
+      → (groupsOf sheet l places ≡ r) ↔ Groups sheet l places r
   pub trust : (sheet script : List ℕ) (r : TrustAnswer) → (trustOf sheet script ≡ r) ↔ Trust sheet script r
 
--- Two memories give a group the same view: the view of each is handed out into a lent slice, and these agree in every word.
--- `shown` holds exactly if the sheet is of its form and repeats nothing, the group is on it, the slices have their size and the memory is
--- well-formed; `view` and `view′` are what the lent slices held before.
+-- Two memories give a group the same view: the view of each is handed out into a lent slice, and these agree in every
+-- word. `shown` holds exactly if the sheet is of its form and repeats nothing, the group is on it, the slices have
+-- their size and the memory is well-formed; `view` and `view′` are what the lent slices held before.
 pub record SameView (sheet : List ℕ) (group : ℕ) (memory memory′ view view′ : List ℕ) : Type 0 where
   pub shown : viewOf sheet memory group view .answer ≡ 0
   pub shown′ : viewOf sheet memory′ group view′ .answer ≡ 0
   pub same : viewOf sheet memory group view .view ≡ viewOf sheet memory′ group view′ .view
 
--- Demand 3, noninterference. Any sheet, any script accepted on it, any authority, any two budgets, any two memories, any group: if both memories give
--- the group the same view and both runs are done, the memories left behind give it the same view. (That the script is accepted follows from a done
--- run too; it stands because the demand names it.)
+-- Demand 3, noninterference. Any sheet, any script accepted on it, any authority, any two budgets, any two memories,
+-- any group: if both memories give the group the same view and both runs are done, the memories left behind give it the
+-- same view. (That the script is accepted follows from a done run too; it stands because the demand names it.)
 abbrev pub Demand3 : Type 0
-Demand3 = (sheet script : List ℕ) → checkOf sheet script ≡ 0 → (authority budget budget′ group : ℕ) (memory memory′ view view′ : List ℕ)
+Demand3 = (sheet script : List ℕ) → checkOf sheet script ≡ 0
+    → (authority budget budget′ group : ℕ) (memory memory′ view view′ : List ℕ)
     → SameView sheet group memory memory′ view view′
     → runOf sheet script memory authority budget .answer ≡ 0
     → runOf sheet script memory′ authority budget′ .answer ≡ 0
-    → SameView sheet group (runOf sheet script memory authority budget .memory) (runOf sheet script memory′ authority budget′ .memory) view view′
+    → SameView sheet group (runOf sheet script memory authority budget .memory)
+    (runOf sheet script memory′ authority budget′ .memory) view view′

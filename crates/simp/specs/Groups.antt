@@ -47,4 +47,5 @@ pub record Handed (places gs : List ℕ) (r : Grouped) : Type 0 where
 
 abbrev pub Groups : List ℕ → ℕ → List ℕ → Grouped → Type 0
 Groups sheet l places =
-    First (refusedGroups places) (λ r. OfSheet sheet (λ s. (gs : List ℕ) × SmallestOn s l gs × Handed places gs r)) (groupRows sheet l places)
+    First (refusedGroups places) (λ r. OfSheet sheet (λ s. (gs : List ℕ) × SmallestOn s l gs × Handed places gs r))
+    (groupRows sheet l places)

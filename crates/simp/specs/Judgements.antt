@@ -1,8 +1,10 @@
--- What each call must answer, by the papers: its numbers in the order judged, each with when it applies, and what holds where none does. (Of a
--- round Rounds.antt says it, of smallest groups Groups.antt, of trust-keeping scripts Trust.antt.)
+-- What each call must answer, by the papers: its numbers in the order judged, each with when it applies, and what
+-- holds where none does. (Of a round Rounds.antt says it, of smallest groups Groups.antt, of trust-keeping
+-- scripts Trust.antt.)
 -- The demands say that the calls answer so.
--- `wellFormed`, `memoryOf`, `wordsOf` and `viewWords` are crate memory's: its theorems MemoryExactly and ViewExactly say that a
--- memory is well-formed exactly if it is the words of values as declared, and that views are equal exactly if the masked values are.
+-- `wellFormed`, `memoryOf`, `wordsOf` and `viewWords` are crate memory's: its theorems MemoryExactly and ViewExactly
+-- say that a memory is well-formed exactly if it is the words of values as declared, and that views are equal exactly
+-- if the masked values are.
 use mathlib.Core.Logic.{_⊎_}
 use mathlib.Core.Path.{_≡_}
 use mathlib.Core.Bool.{true, false}
@@ -124,17 +126,20 @@ pub data Ends (s : Sheet) (p : Script) (memory : List ℕ) (authority budget : �
       → NoneLong (worldFor s authority p) k (memoryOf memory) (p .command)
       → Ends s p memory authority budget (record { answer = 0; steps = k; memory = wordsOf (locationCount s) M′ })
   -- spent: after as many transitions as the budget has, the command is not skip, and no step within it met 10
-  ends-9 : {c′ : Cmd} {M′ : Mem} → Steps (worldFor s authority p) budget (memoryOf memory) (p .command) M′ c′ → ¬ (c′ ≡ skip)
+  ends-9 : {c′ : Cmd} {M′ : Mem}
+      → Steps (worldFor s authority p) budget (memoryOf memory) (p .command) M′ c′ → ¬ (c′ ≡ skip)
       → NoneLong (worldFor s authority p) budget (memoryOf memory) (p .command)
       → Ends s p memory authority budget (record { answer = 9; steps = budget; memory = memory })
   -- too long: after k transitions, fewer than the budget, the next step meets a value of more than 16 words
-  ends-10 : {c′ : Cmd} {M′ : Mem} {k : ℕ} → k < budget → Steps (worldFor s authority p) k (memoryOf memory) (p .command) M′ c′
+  ends-10 : {c′ : Cmd} {M′ : Mem} {k : ℕ} → k < budget
+      → Steps (worldFor s authority p) k (memoryOf memory) (p .command) M′ c′
       → LongStep (worldFor s authority p) M′ c′ → NoneLong (worldFor s authority p) k (memoryOf memory) (p .command)
       → Ends s p memory authority budget (record { answer = 10; steps = k; memory = memory })
 
 abbrev pub Run : List ℕ → List ℕ → List ℕ → ℕ → ℕ → Ran → Type 0
 Run sheet script memory authority budget =
-    First (refusedRun memory) (λ r. OfScript sheet script (λ s p. Ends s p memory authority budget r)) (runRows sheet script memory authority)
+    First (refusedRun memory) (λ r. OfScript sheet script (λ s p. Ends s p memory authority budget r))
+    (runRows sheet script memory authority)
 
 -- ---- simp_view
 
@@ -149,7 +154,8 @@ viewRows sheet memory group view =
 
 abbrev pub View : List ℕ → List ℕ → ℕ → List ℕ → Viewed → Type 0
 View sheet memory group view =
-    First (refusedView view) (λ v. OfSheet sheet (λ s. v ≡ record { answer = 0; view = viewWords s group memory })) (viewRows sheet memory group view)
+    First (refusedView view) (λ v. OfSheet sheet (λ s. v ≡ record { answer = 0; view = viewWords s group memory }))
+    (viewRows sheet memory group view)
 
 -- ---- no number applies, said of the sheet and the script
 

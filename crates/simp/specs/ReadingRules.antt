@@ -1,6 +1,6 @@
--- What a sheet's rule of reading decides (request (g)): who reads, and nothing else. What the view promises rests on one
--- fact about reading, which both rules have (crate labels' ReadingDownward): who reads a label reads every label below
--- it, by readers alone (DownwardClosed).
+-- What a sheet's rule of reading decides (request (g)): who reads, and nothing else. What the view promises rests on
+-- one fact about reading, which both rules have (crate labels' ReadingDownward): who reads a label reads every label
+-- below it, by readers alone (DownwardClosed).
 use mathlib.Core.Logic.{_↔_}
 use mathlib.Core.Path.{_≡_}
 use mathlib.Core.Bool.{Bool, true}
@@ -32,19 +32,28 @@ use Rattle.simp.specs.StartUnseen.{StartHidden}
 
 -- the sheet with this rule, otherwise the same
 abbrev pub ruled : Reading → Sheet → Sheet
-ruled rule s = record { principals = s .principals; reading = rule; compounds = s .compounds; labels = s .labels; locations = s .locations }
+ruled rule s = record {
+  principals = s .principals;
+  reading = rule;
+  compounds = s .compounds;
+  labels = s .labels;
+  locations = s .locations;
+}
 
 pub record OnlyReading : Type 0 where
   -- who writes a label, so what a pack does and what is left where a group is distrusted
   pub writing : (rule : Reading) (s : Sheet) (g l : ℕ) → writesNo (ruled rule s) g l ≡ writesNo s g l
-  pub distrusting : (rule : Reading) (s : Sheet) (g : ℕ) (ws : List ℕ) → trustedWords (ruled rule s) g ws ≡ trustedWords s g ws
+  pub distrusting : (rule : Reading) (s : Sheet) (g : ℕ) (ws : List ℕ)
+      → trustedWords (ruled rule s) g ws ≡ trustedWords s g ws
   -- which sheets, scripts and memories are refused, and which scripts are trust-keeping
   pub sheets : (rule : Reading) (s : Sheet) → (formed (ruled rule s) ≡ formed s) × (repeats (ruled rule s) ≡ repeats s)
   pub names : (rule : Reading) (s : Sheet) → countsOf (ruled rule s) ≡ countsOf s
   pub typing : (rule : Reading) (s : Sheet) (p : Script)
-      → refusal (labelsOver (s .principals)) (declarationsOf (ruled rule s)) p ≡ refusal (labelsOver (s .principals)) (declarationsOf s) p
+      → refusal (labelsOver (s .principals)) (declarationsOf (ruled rule s)) p
+      ≡ refusal (labelsOver (s .principals)) (declarationsOf s) p
   pub keeping : (rule : Reading) (s : Sheet) (p : Script)
-      → trustKeeping (labelsOver (s .principals)) (declarationsOf (ruled rule s)) p ≡ trustKeeping (labelsOver (s .principals)) (declarationsOf s) p
+      → trustKeeping (labelsOver (s .principals)) (declarationsOf (ruled rule s)) p
+      ≡ trustKeeping (labelsOver (s .principals)) (declarationsOf s) p
   pub memories : (rule : Reading) (s : Sheet) (ws : List ℕ) → memoryRefusal (ruled rule s) ws ≡ memoryRefusal s ws
   -- what a run goes by, but for who reads; and the label that a script starts at
   pub runs : (rule : Reading) (s : Sheet) (authority : ℕ) (p : Script) → let w = worldFor s authority p in
@@ -56,37 +65,46 @@ pub record OnlyReading : Type 0 where
 
 -- what is shown of the memory ws to one who reads the labels `reads`
 abbrev pub shownBy : Sheet → (Label → Bool) → List ℕ → List ℕ
-shownBy s reads ws = viewBy (locationCount s) (λ (x : ℕ). reads (labelNo s (locationNo s x .label))) (λ (l : ℕ). reads (labelNo s l)) (memoryOf ws)
+shownBy s reads ws = viewBy (locationCount s) (λ (x : ℕ). reads (labelNo s (locationNo s x .label)))
+    (λ (l : ℕ). reads (labelNo s l)) (memoryOf ws)
 
 -- he doesn't read the starting label of the script that the text is that of
 abbrev pub StartUnread : (Label → Bool) → List ℕ → List ℕ → Type 0
-StartUnread reads sheet script = (s : Sheet) (p : Script) → IsSheet sheet s → IsScript (countsOf s) script p → ¬ (reads (startLabel s p .raw) ≡ true)
+StartUnread reads sheet script =
+    (s : Sheet) (p : Script) → IsSheet sheet s → IsScript (countsOf s) script p → ¬ (reads (startLabel s p .raw) ≡ true)
 
 -- What he is promised: what a group is, of the words that are shown. (That simp_view gives a group a view, or the same
 -- number, before and after is in Demand3, RoundView and StartUnseen.)
 pub record PromisedTo (reads : Label → Bool) (sheet : List ℕ) (s : Sheet) : Type 0 where
   -- demand 3: if two memories show him the same and both runs are done, what they leave shows him the same
-  pub kept : (script : List ℕ) (authority budget budget′ : ℕ) (memory memory′ : List ℕ) → shownBy s reads memory ≡ shownBy s reads memory′
+  pub kept : (script : List ℕ) (authority budget budget′ : ℕ) (memory memory′ : List ℕ)
+      → shownBy s reads memory ≡ shownBy s reads memory′
       → runOf sheet script memory authority budget .answer ≡ 0
       → runOf sheet script memory′ authority budget′ .answer ≡ 0
-      → shownBy s reads (runOf sheet script memory authority budget .memory) ≡ shownBy s reads (runOf sheet script memory′ authority budget′ .memory)
+      → shownBy s reads (runOf sheet script memory authority budget .memory)
+      ≡ shownBy s reads (runOf sheet script memory′ authority budget′ .memory)
   -- likewise a round, as RoundView (request (a))
-  pub round-kept : (gate : Gate) (scripts : List ℕ) (authority budget budget′ : ℕ) (memory memory′ : List ℕ) → shownBy s reads memory ≡ shownBy s reads memory′
+  pub round-kept : (gate : Gate) (scripts : List ℕ) (authority budget budget′ : ℕ) (memory memory′ : List ℕ)
+      → shownBy s reads memory ≡ shownBy s reads memory′
       → EachDone gate (roundBy gate sheet scripts memory authority budget)
       → EachDone gate (roundBy gate sheet scripts memory′ authority budget′)
-      → shownBy s reads (roundBy gate sheet scripts memory authority budget .memory) ≡ shownBy s reads (roundBy gate sheet scripts memory′ authority budget′ .memory)
+      → shownBy s reads (roundBy gate sheet scripts memory authority budget .memory)
+      ≡ shownBy s reads (roundBy gate sheet scripts memory′ authority budget′ .memory)
   -- a run of a script whose starting label he doesn't read, and a round of such, leave what he is shown, as StartUnseen
   -- (request (d))
   pub unseen : (script : List ℕ) → StartUnread reads sheet script → (authority budget : ℕ) (memory : List ℕ)
       → shownBy s reads (runOf sheet script memory authority budget .memory) ≡ shownBy s reads memory
-  pub round-unseen : (gate : Gate) (scripts : List ℕ) → EachOpen (StartUnread reads sheet) gate 0 (partsOf scripts) → (authority budget : ℕ) (memory : List ℕ)
+  pub round-unseen : (gate : Gate) (scripts : List ℕ) → EachOpen (StartUnread reads sheet) gate 0 (partsOf scripts)
+      → (authority budget : ℕ) (memory : List ℕ)
       → shownBy s reads (roundBy gate sheet scripts memory authority budget .memory) ≡ shownBy s reads memory
 
--- Whoever reads so is promised it, on any sheet. A group is shown what one is who reads as it does, by the sheet's rule,
--- and the starts that are hidden from it are those that he doesn't read. The run's authority reads by the sheet's rule,
--- and nothing is asked of that.
+-- Whoever reads so is promised it, on any sheet. A group is shown what one is who reads as it does, by the sheet's
+-- rule, and the starts that are hidden from it are those that he doesn't read. The run's authority reads by the sheet's
+-- rule, and nothing is asked of that.
 pub record DownwardSuffices : Type 0 where
-  pub promised : (reads : Label → Bool) → DownwardClosed reads → (sheet : List ℕ) (s : Sheet) → IsSheet sheet s → PromisedTo reads sheet s
-  pub to-groups : (s : Sheet) (g : ℕ) (ws : List ℕ) → shownBy s (readsUnder (s .reading) (s .principals) g) ws ≡ viewWords s g ws
+  pub promised : (reads : Label → Bool) → DownwardClosed reads → (sheet : List ℕ) (s : Sheet) → IsSheet sheet s
+      → PromisedTo reads sheet s
+  pub to-groups : (s : Sheet) (g : ℕ) (ws : List ℕ)
+      → shownBy s (readsUnder (s .reading) (s .principals) g) ws ≡ viewWords s g ws
   pub starts-of-groups : (sheet : List ℕ) (s : Sheet) → IsSheet sheet s → (g : ℕ) (script : List ℕ)
       → StartHidden sheet g script ↔ StartUnread (readsUnder (s .reading) (s .principals) g) sheet script

@@ -13,11 +13,14 @@ pub record EachDone (gate : Gate) (r : RanRound) : Type 0 where
   pub not-refused : r .answer ≡ 0
   pub each : (i : ℕ) → Open gate i → getD (r .answers) i 0 ≡ 0
 
--- Any sheet, scripts and authority, any two budgets, any two memories, any group, and any gate, the same in both rounds: if both memories give
--- the group the same view and each script is done in both rounds, the memories left behind give it the same view.
+-- Any sheet, scripts and authority, any two budgets, any two memories, any group, and any gate, the same in both
+-- rounds: if both memories give the group the same view and each script is done in both rounds, the memories left
+-- behind give it the same view.
 abbrev pub RoundView : Type 0
-RoundView = (gate : Gate) (sheet scripts : List ℕ) (authority budget budget′ group : ℕ) (memory memory′ view view′ : List ℕ)
+RoundView =
+    (gate : Gate) (sheet scripts : List ℕ) (authority budget budget′ group : ℕ) (memory memory′ view view′ : List ℕ)
     → SameView sheet group memory memory′ view view′
     → EachDone gate (roundBy gate sheet scripts memory authority budget)
     → EachDone gate (roundBy gate sheet scripts memory′ authority budget′)
-    → SameView sheet group (roundBy gate sheet scripts memory authority budget .memory) (roundBy gate sheet scripts memory′ authority budget′ .memory) view view′
+    → SameView sheet group (roundBy gate sheet scripts memory authority budget .memory)
+    (roundBy gate sheet scripts memory′ authority budget′ .memory) view view′

@@ -1,5 +1,5 @@
--- What simp_round must answer, by the papers and request (a): its numbers in the order judged, each with when it applies, and where none does, its
--- scripts in turn.
+-- What simp_round must answer, by the papers and request (a): its numbers in the order judged, each with when it
+-- applies, and where none does, its scripts in turn.
 use mathlib.Core.Logic.{_⊎_}
 use mathlib.Core.Path.{_≡_}
 use mathlib.Core.List.{List, [], _∷_}
@@ -9,7 +9,8 @@ use Rattle.numbers.specs.Rows.{Row, _when_, First}
 use Rattle.stages.specs.Answers.{Ran, refusedRun}
 use Rattle.scripts.specs.Parting.{partsOf, mostScripts}
 use Rattle.rounds.specs.Answers.{RanRound, refusedRound, Gate}
-use Rattle.simp.specs.Judgements.{NoSheet, Repeats, Strangers, NoScript, IllTyped, IllLabelled, OtherSize, IllFormed, Run}
+use Rattle.simp.specs.Judgements.{NoSheet, Repeats, Strangers, NoScript, IllTyped, IllLabelled, OtherSize}
+use Rattle.simp.specs.Judgements.{IllFormed, Run}
 
 -- ---- when each number applies
 
@@ -22,7 +23,8 @@ unfoldable pub OneOf : (List ℕ → Type 0) → List (List ℕ) → Type 0
 OneOf P [] = ⊥
 OneOf P (t ∷ ts) = P t ⊎ OneOf P ts
 
--- So 4, 5 and 6 are the lowest number over all scripts: 5 is given only where no script is refused by 4, and 6 only where none is by 4 or 5.
+-- So 4, 5 and 6 are the lowest number over all scripts: 5 is given only where no script is refused by 4, and 6 only
+-- where none is by 4 or 5.
 abbrev pub playedRows : List ℕ → List ℕ → List ℕ → List Row
 playedRows sheet scripts memory =
     4 when OneOf (NoScript sheet) (partsOf scripts)
@@ -42,11 +44,12 @@ roundRows sheet scripts memory authority =
 
 -- ---- the scripts in turn
 
--- Scripts in turn, from place i and a memory on, and the memory left after the last. `Turn` says of a place, its script and the memory before it
--- how the script went: what it answers and leaves; the next one starts from what it leaves.
+-- Scripts in turn, from place i and a memory on, and the memory left after the last. `Turn` says of a place, its script
+-- and the memory before it how the script went: what it answers and leaves; the next one starts from what it leaves.
 pub data InTurn {A : Type 0} (Turn : ℕ → A → List ℕ → Ran → Type 0) : ℕ → List ℕ → List A → List ℕ → Type 0 where
   no-turn : {i : ℕ} {memory : List ℕ} → InTurn Turn i memory [] memory
-  a-turn : {i : ℕ} {memory : List ℕ} {t : A} {ts : List A} {left : List ℕ} (r : Ran) → Turn i t memory r → InTurn Turn (suc i) (r .memory) ts left
+  a-turn : {i : ℕ} {memory : List ℕ} {t : A} {ts : List A} {left : List ℕ} (r : Ran) → Turn i t memory r
+      → InTurn Turn (suc i) (r .memory) ts left
       → InTurn Turn i memory (t ∷ ts) left
 
 -- The places of a round of n scripts: 32 for the answers and 32 for the steps, zero past the last script.
@@ -64,7 +67,8 @@ pub record InPlace (r : RanRound) (i : ℕ) (ran : Ran) : Type 0 where
 pub record Played (Turn : ℕ → List ℕ → List ℕ → Ran → Type 0) (scripts memory : List ℕ) (r : RanRound) : Type 0 where
   pub not-refused : r .answer ≡ 0
   pub places : Places (length (partsOf scripts)) r
-  pub in-turn : InTurn (λ i script before ran. InPlace r i ran × Turn i script before ran) 0 memory (partsOf scripts) (r .memory)
+  pub in-turn : InTurn (λ i script before ran. InPlace r i ran × Turn i script before ran) 0 memory
+      (partsOf scripts) (r .memory)
 
 -- the script in this place is open
 abbrev pub Open : Gate → ℕ → Type 0
@@ -75,11 +79,13 @@ unfoldable pub EachOpen : (List ℕ → Type 0) → Gate → ℕ → List (List 
 EachOpen P gate i [] = Unit {0}
 EachOpen P gate i (t ∷ ts) = (Open gate i → P t) × EachOpen P gate (suc i) ts
 
--- A script that isn't open is refused with its gate's number; one that is open goes as simp_run with the whole budget must (Judgements.antt).
+-- A script that isn't open is refused with its gate's number; one that is open goes as simp_run with the whole budget
+-- must (Judgements.antt).
 abbrev pub TurnGoes : Gate → List ℕ → ℕ → ℕ → ℕ → List ℕ → List ℕ → Ran → Type 0
 TurnGoes gate sheet authority budget i script memory r =
     ((¬ Open gate i) × (r ≡ refusedRun memory (gate i))) ⊎ (Open gate i × Run sheet script memory authority budget r)
 
 abbrev pub Round : Gate → List ℕ → List ℕ → List ℕ → ℕ → ℕ → RanRound → Type 0
 Round gate sheet scripts memory authority budget =
-    First (refusedRound memory) (Played (TurnGoes gate sheet authority budget) scripts memory) (roundRows sheet scripts memory authority)
+    First (refusedRound memory) (Played (TurnGoes gate sheet authority budget) scripts memory)
+    (roundRows sheet scripts memory authority)

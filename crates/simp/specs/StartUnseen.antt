@@ -1,4 +1,5 @@
--- A group that can't read a script's starting label is shown the same before and after it is run (request (d), buttons).
+-- A group that can't read a script's starting label is shown the same before and after it is run
+-- (request (d), buttons).
 use mathlib.Core.Path.{_≡_}
 use mathlib.Core.Bool.{true}
 use mathlib.Core.List.{List}
@@ -18,7 +19,8 @@ use Rattle.simp.specs.Rounds.{EachOpen}
 -- The group can't read the starting label of the script that the text is that of. (It is that of one at most, and of
 -- one if it is accepted.)
 abbrev pub StartHidden : List ℕ → ℕ → List ℕ → Type 0
-StartHidden sheet group script = (s : Sheet) (p : Script) → IsSheet sheet s → IsScript (countsOf s) script p → ¬ (readsStart s group p ≡ true)
+StartHidden sheet group script =
+    (s : Sheet) (p : Script) → IsSheet sheet s → IsScript (countsOf s) script p → ¬ (readsStart s group p ≡ true)
 
 -- so of each script that is open, the first of these being in place i
 abbrev pub HiddenFrom : List ℕ → ℕ → Gate → ℕ → List (List ℕ) → Type 0
@@ -28,12 +30,13 @@ HiddenFrom sheet group gate i ts = EachOpen (StartHidden sheet group) gate i ts
 -- before and after, word for word, whatever the call in between answers. Of a memory that gives no view it gives the
 -- same number both times, and the slice as it was.
 pub record StartUnseen : Type 0 where
-  -- a run of a script whose starting label the group can't read: done, stopped or refused. (A script that isn't accepted
-  -- is refused, so nothing is asked of that.)
+  -- a run of a script whose starting label the group can't read: done, stopped or refused. (A script that isn't
+  -- accepted is refused, so nothing is asked of that.)
   pub run : (sheet script : List ℕ) (group : ℕ) → StartHidden sheet group script
       → (authority budget : ℕ) (memory view : List ℕ)
       → viewOf sheet (runOf sheet script memory authority budget .memory) group view ≡ viewOf sheet memory group view
   -- a round whose open scripts are such: each done or stopped, or the round refused
   pub round : (sheet scripts : List ℕ) (group : ℕ) (gate : Gate) → HiddenFrom sheet group gate 0 (partsOf scripts)
       → (authority budget : ℕ) (memory view : List ℕ)
-      → viewOf sheet (roundBy gate sheet scripts memory authority budget .memory) group view ≡ viewOf sheet memory group view
+      → viewOf sheet (roundBy gate sheet scripts memory authority budget .memory) group view
+      ≡ viewOf sheet memory group view

@@ -24,4 +24,5 @@ pub record KeepingAnswer (s : Sheet) (p : Script) (r : TrustAnswer) : Type 0 whe
   pub its-keeping : (r .keeping ≡ 1) ↔ TrustKeeping s p
 
 abbrev pub Trust : List ℕ → List ℕ → TrustAnswer → Type 0
-Trust sheet script = First refusedTrust (λ r. OfScript sheet script (λ s p. KeepingAnswer s p r)) (checkRows sheet script)
+Trust sheet script =
+    First refusedTrust (λ r. OfScript sheet script (λ s p. KeepingAnswer s p r)) (checkRows sheet script)

@@ -16,7 +16,8 @@ use Rattle.simp.specs.RoundView.{EachDone}
 -- Two memories are alike in what is left on the sheet that the text is that of, once all locations and package contents
 -- whose labels the group of distrusted parties writes are blanked out. (It is that of one at most.)
 abbrev pub SameTrusted : List ℕ → ℕ → List ℕ → List ℕ → Type 0
-SameTrusted sheet group memory memory′ = (s : Sheet) → IsSheet sheet s → trustedWords s group memory ≡ trustedWords s group memory′
+SameTrusted sheet group memory memory′ =
+    (s : Sheet) → IsSheet sheet s → trustedWords s group memory ≡ trustedWords s group memory′
 
 -- simp_trust says that the script is accepted and trust-keeping. (1 stands beside no number but 0: `Demand1`.)
 abbrev pub SaidKeeping : List ℕ → List ℕ → Type 0
@@ -26,15 +27,18 @@ SaidKeeping sheet script = trustOf sheet script .keeping ≡ 1
 -- alike after, word for word. (A run that is done started from a well-formed memory: `Demand1`.)
 pub record TrustKept : Type 0 where
   -- done runs of the same accepted, trust-keeping script, wherever it starts
-  pub run : (sheet script : List ℕ) → SaidKeeping sheet script → (authority budget budget′ group : ℕ) (memory memory′ : List ℕ)
+  pub run : (sheet script : List ℕ) → SaidKeeping sheet script
+      → (authority budget budget′ group : ℕ) (memory memory′ : List ℕ)
       → SameTrusted sheet group memory memory′
       → runOf sheet script memory authority budget .answer ≡ 0
       → runOf sheet script memory′ authority budget′ .answer ≡ 0
-      → SameTrusted sheet group (runOf sheet script memory authority budget .memory) (runOf sheet script memory′ authority budget′ .memory)
+      → SameTrusted sheet group (runOf sheet script memory authority budget .memory)
+      (runOf sheet script memory′ authority budget′ .memory)
   -- rounds of the same scripts, whose open ones are such, and done in both
   pub round : (gate : Gate) (sheet scripts : List ℕ) → EachOpen (SaidKeeping sheet) gate 0 (partsOf scripts)
       → (authority budget budget′ group : ℕ) (memory memory′ : List ℕ)
       → SameTrusted sheet group memory memory′
       → EachDone gate (roundBy gate sheet scripts memory authority budget)
       → EachDone gate (roundBy gate sheet scripts memory′ authority budget′)
-      → SameTrusted sheet group (roundBy gate sheet scripts memory authority budget .memory) (roundBy gate sheet scripts memory′ authority budget′ .memory)
+      → SameTrusted sheet group (roundBy gate sheet scripts memory authority budget .memory)
+      (roundBy gate sheet scripts memory′ authority budget′ .memory)

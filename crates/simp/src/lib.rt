@@ -33,7 +33,8 @@ pub extern "C" fn simp_run(
     authority: Set,
     budget: u32,
 ) -> Outcome
-    ensures { λ r. ⌜ record { answer = r .answer; steps = r .steps; memory = now (memory .exit) } ≡ runOf (now (sheet .entry)) (now (script .entry)) (now (memory .entry)) authority budget ⌝ }
+    ensures { λ r. ⌜ record { answer = r .answer; steps = r .steps; memory = now (memory .exit) }
+        ≡ runOf (now (sheet .entry)) (now (script .entry)) (now (memory .entry)) authority budget ⌝ }
 {
     let mut table: [sheet::Word; sheet::WORDS] = [0; sheet::WORDS];
     let verdict = sheet_text::read(sheet, &mut table);
@@ -47,7 +48,8 @@ pub extern "C" fn simp_run(
 // What a group is shown of a memory. The view slice changes only if the answer is 0.
 #[no_mangle]
 pub extern "C" fn simp_view(sheet: &[u8], memory: &[u32], group: Set, view: &mut [u32]) -> u8
-    ensures { λ r. ⌜ record { answer = r; view = now (view .exit) } ≡ viewOf (now (sheet .entry)) (now (memory .entry)) group (now (view .entry)) ⌝ }
+    ensures { λ r. ⌜ record { answer = r; view = now (view .exit) }
+        ≡ viewOf (now (sheet .entry)) (now (memory .entry)) group (now (view .entry)) ⌝ }
 {
     let mut table: [sheet::Word; sheet::WORDS] = [0; sheet::WORDS];
     let verdict = sheet_text::read(sheet, &mut table);
@@ -58,8 +60,8 @@ pub extern "C" fn simp_view(sheet: &[u8], memory: &[u32], group: Set, view: &mut
     stages::view_on(&table, memory, group, view)
 }
 
-// Runs the scripts of a text one after another on a memory under an authority, each for at most `budget` steps. The memory changes only by the
-// scripts that are done, and by none if the round is refused.
+// Runs the scripts of a text one after another on a memory under an authority, each for at most `budget` steps. The
+// memory changes only by the scripts that are done, and by none if the round is refused.
 #[no_mangle]
 pub extern "C" fn simp_round(
     sheet: &[u8],
@@ -68,7 +70,8 @@ pub extern "C" fn simp_round(
     authority: Set,
     budget: u32,
 ) -> Round
-    ensures { λ r. ⌜ record { answer = r .answer; answers = r .answers; steps = r .steps; memory = now (memory .exit) } ≡ roundOf (now (sheet .entry)) (now (scripts .entry)) (now (memory .entry)) authority budget ⌝ }
+    ensures { λ r. ⌜ record { answer = r .answer; answers = r .answers; steps = r .steps; memory = now (memory .exit) }
+        ≡ roundOf (now (sheet .entry)) (now (scripts .entry)) (now (memory .entry)) authority budget ⌝ }
 {
     let mut table: [sheet::Word; sheet::WORDS] = [0; sheet::WORDS];
     let verdict = sheet_text::read(sheet, &mut table);
@@ -83,7 +86,8 @@ pub extern "C" fn simp_round(
 // only if the answer is 0, and there only in as many places as there are groups.
 #[no_mangle]
 pub extern "C" fn simp_groups(sheet: &[u8], label: u32, groups: &mut [Set]) -> Groups
-    ensures { λ r. ⌜ record { answer = r .answer; count = r .count; places = now (groups .exit) } ≡ groupsOf (now (sheet .entry)) label (now (groups .entry)) ⌝ }
+    ensures { λ r. ⌜ record { answer = r .answer; count = r .count; places = now (groups .exit) }
+        ≡ groupsOf (now (sheet .entry)) label (now (groups .entry)) ⌝ }
 {
     let mut table: [sheet::Word; sheet::WORDS] = [0; sheet::WORDS];
     let verdict = sheet_text::read(sheet, &mut table);
@@ -97,7 +101,8 @@ pub extern "C" fn simp_groups(sheet: &[u8], label: u32, groups: &mut [Set]) -> G
 // Whether a script is accepted on a sheet, and whether it is trust-keeping too: 1 or 0.
 #[no_mangle]
 pub extern "C" fn simp_trust(sheet: &[u8], script: &[u8]) -> Trust
-    ensures { λ r. ⌜ record { answer = r .answer; keeping = r .keeping } ≡ trustOf (now (sheet .entry)) (now (script .entry)) ⌝ }
+    ensures { λ r. ⌜ record { answer = r .answer; keeping = r .keeping }
+        ≡ trustOf (now (sheet .entry)) (now (script .entry)) ⌝ }
 {
     let mut table: [sheet::Word; sheet::WORDS] = [0; sheet::WORDS];
     let verdict = sheet_text::read(sheet, &mut table);

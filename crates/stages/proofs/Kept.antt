@@ -9,10 +9,13 @@ use Rattle.language.specs.Syntax.{Value, int, Expr, Cmd, Script}
 use Rattle.language.specs.World.{Mem}
 use Rattle.language.specs.Transition.{Out, done, spent, over, wrong, iterate}
 use Rattle.language.specs.Typing.{shape}
-use Rattle.language.proofs.Invariants.{UsesE, u-val, u-loc, u-var, u-plus, u-left, u-right, u-pack, u-unpack, u-pair, u-proj, Uses, u-skip, u-seq, u-assign, u-while, u-case, keeps, Fits, Anywhere, fits-kept}
+use Rattle.language.proofs.Invariants.{UsesE, u-val, u-loc, u-var, u-plus, u-left, u-right, u-pack, u-unpack, u-pair}
+use Rattle.language.proofs.Invariants.{u-proj, Uses, u-skip, u-seq, u-assign, u-while, u-case, keeps, Fits, Anywhere}
+use Rattle.language.proofs.Invariants.{fits-kept}
 use Rattle.language.proofs.Outcome.{fits-cmd}
 use Rattle.language.proofs.TypeSoundness.{type-soundness}
-use Rattle.script.specs.Lines.{SourceE, s-int, s-loc, s-var, s-plus, s-left, s-right, s-pack, s-unpack, s-pair, s-proj, Source, s-skip, s-seq, s-assign, s-while, s-case}
+use Rattle.script.specs.Lines.{SourceE, s-int, s-loc, s-var, s-plus, s-left, s-right, s-pack, s-unpack, s-pair, s-proj}
+use Rattle.script.specs.Lines.{Source, s-skip, s-seq, s-assign, s-while, s-case}
 use Rattle.script.specs.Names.{Counts, namedE, named}
 use Rattle.sheet.specs.Sheet.{Sheet, locationCount, labelCount}
 use Rattle.sheet.specs.Meaning.{shapesOf, worldOf, worldFor}
@@ -60,7 +63,8 @@ unfolding proper
 int-proper labels n = refl
 
 -- What a done run leaves is as the sheet declares it.
-pub left-declared : (s : Sheet) (c : Cmd) → Source c → named (countsOf s) 0 c ≡ true → shape (shapesOf s) [] c ≡ true → (authority b l : ℕ) (M M′ : Mem) → Declared s M
+pub left-declared : (s : Sheet) (c : Cmd) → Source c → named (countsOf s) 0 c ≡ true → shape (shapesOf s) [] c ≡ true
+    → (authority b l : ℕ) (M M′ : Mem) → Declared s M
     → iterate (worldOf s authority) b M c ≡ done M′ l → Declared s M′
 left-declared s c src names t authority b l M M′ d h =
     let W = worldOf s authority in
@@ -68,19 +72,25 @@ left-declared s c src names t authority b l M M′ d h =
     record {
       typed = type-soundness (shapesOf s) W (λ n. refl) .done-typed c t M (d .typed) b l M′ h;
       fitting = keeps Fits Anywhere fits-kept W b l M M′ c (fits-cmd (shapesOf s) [] c t) (d .fitting) h;
-      named = keeps (λ v. proper (labelCount s) v ≡ true) (λ n. n < labelCount s) (proper-kept (labelCount s)) W b l M M′ c
+      named =
+          keeps (λ v. proper (labelCount s) v ≡ true) (λ n. n < labelCount s) (proper-kept (labelCount s)) W b l M M′ c
           (uses (λ v. proper (labelCount s) v ≡ true) (int-proper (labelCount s)) k 0 src names) (d .named) h;
     }
 
 -- So a memory that isn't refused is left so, however the run ends.
-pub left-unrefused : (s : Sheet) (p : Script) → Source (p .command) → named (countsOf s) 0 (p .command) ≡ true → untyped s p ≡ 0
-    → (memory : List ℕ) (authority budget : ℕ) → memoryRefusal s memory ≡ 0 → memoryRefusal s (acceptedRun s memory authority budget p .memory) ≡ 0
+pub left-unrefused : (s : Sheet) (p : Script) → Source (p .command) → named (countsOf s) 0 (p .command) ≡ true
+    → untyped s p ≡ 0
+    → (memory : List ℕ) (authority budget : ℕ) → memoryRefusal s memory ≡ 0
+    → memoryRefusal s (acceptedRun s memory authority budget p .memory) ≡ 0
 unfolding ended
-left-unrefused s p src names t memory authority budget m = go (iterate (worldFor s authority p) budget (memoryOf memory) (p .command)) refl
+left-unrefused s p src names t memory authority budget m =
+    go (iterate (worldFor s authority p) budget (memoryOf memory) (p .command)) refl
   where
-    go : (o : Out) → iterate (worldFor s authority p) budget (memoryOf memory) (p .command) ≡ o → memoryRefusal s (ended (locationCount s) budget memory o .memory) ≡ 0
+    go : (o : Out) → iterate (worldFor s authority p) budget (memoryOf memory) (p .command) ≡ o
+        → memoryRefusal s (ended (locationCount s) budget memory o .memory) ≡ 0
     go (done M l) e =
-        memories-exactly s .accepted M (left-declared s (p .command) src names (accepted-shape s p t) authority budget l (memoryOf memory) M (memories-exactly s .values memory m) e)
+        memories-exactly s .accepted M (left-declared s (p .command) src names (accepted-shape s p t) authority budget l
+        (memoryOf memory) M (memories-exactly s .values memory m) e)
     go spent e = m
     go (over l) e = m
     go wrong e = m

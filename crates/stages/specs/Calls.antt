@@ -1,5 +1,6 @@
--- The calls on one script, and views, as functions of what they are given: the answer, the steps, and what every lent slice then holds.
--- The numbers are the scope's ("From the input", "From the state"); the first that applies, in the order judged, is given (simp, Judgements.antt).
+-- The calls on one script, and views, as functions of what they are given: the answer, the steps, and what every lent
+-- slice then holds. The numbers are the scope's ("From the input", "From the state"); the first that applies, in the
+-- order judged, is given (simp, Judgements.antt).
 use mathlib.Core.Bool.{cond}
 use mathlib.Core.List.{List}
 use mathlib.Core.Option.{Option, none, some}
@@ -19,7 +20,8 @@ use Rattle.memory.specs.Memory.{memoryOf, wordsOf, memoryRefusal}
 use Rattle.memory.specs.View.{viewWords, viewRefusal}
 use Rattle.stages.specs.Answers.{Ran, refusedRun, Viewed, refusedView, TrustAnswer, refusedTrust}
 
--- ---- in the order judged; `refuse` says what a number leads to. (7 and 8 are crate memory's: memoryRefusal, viewRefusal.)
+-- ---- in the order judged; `refuse` says what a number leads to. (7 and 8 are crate memory's:
+-- memoryRefusal, viewRefusal.)
 
 -- 1, 2
 unfoldable pub onSheet : {A : Type 0} → (ℕ → A) → Answer → (Sheet → A) → A

@@ -1,11 +1,12 @@
-// The stages of the calls, on the table of a sheet that isn't refused: each judges its numbers, in the order of the calls, and goes on
-// where none of them applies. The answers of the calls stand here.
+// The stages of the calls, on the table of a sheet that isn't refused: each judges its numbers, in the order of the
+// calls, and goes on where none of them applies. The answers of the calls stand here.
 ghost use mathlib.Core.Path.{_≡_};
 ghost use Rattle.sheet_text.specs.Verdict.{sheetNumber};
 ghost use Rattle.memory.specs.Verdict.{memoryNumber};
 ghost use Rattle.checker.specs.Verdict.{verdictNumber};
 ghost use Rattle.evaluator.specs.State.{stateNumber};
-ghost use Rattle.stages.specs.Internal.Stages.{Judges, JudgesTrust, NumbersScript, KeepsScript, RunsAccepted, ChecksOn, TrustsOn, RunsOn, ViewsOn};
+ghost use Rattle.stages.specs.Internal.Stages.{Judges, JudgesTrust, NumbersScript, KeepsScript, RunsAccepted};
+ghost use Rattle.stages.specs.Internal.Stages.{ChecksOn, TrustsOn, RunsOn, ViewsOn};
 use checker::Verdict;
 use evaluator::State;
 use script_text::Answer;
@@ -129,7 +130,8 @@ fn code_number(verdict: Verdict) -> u8
 // 4 where there is no script, 5 or 6 where it has no derivation, else 0; and whether there is one that is
 // trust-keeping.
 fn judge(script: Answer, code: &[u32], table: &[sheet::Word], start: u32) -> Judged
-    ensures { λ r. ⌜ Judges script (now (code .entry)) (now (table .entry)) start (r .number) × JudgesTrust script (now (code .entry)) (now (table .entry)) start (r .keeping) ⌝ }
+    ensures { λ r. ⌜ Judges script (now (code .entry)) (now (table .entry)) start (r .number)
+        × JudgesTrust script (now (code .entry)) (now (table .entry)) start (r .keeping) ⌝ }
 {
     let Answer::Read = script else {
         return Judged {
@@ -147,7 +149,8 @@ fn judge(script: Answer, code: &[u32], table: &[sheet::Word], start: u32) -> Jud
 
 // What is found of a script on the sheet of a table. The lent words hold its code where it is accepted.
 fn find(script: &[u8], table: &[sheet::Word], code: &mut [u32; script_text::WORDS]) -> Found
-    ensures { λ r. ⌜ NumbersScript (now (script .entry)) (now (table .entry)) (r .number) (r .count) (now (code .exit)) × KeepsScript (now (script .entry)) (now (table .entry)) (r .keeping) ⌝ }
+    ensures { λ r. ⌜ NumbersScript (now (script .entry)) (now (table .entry)) (r .number) (r .count) (now (code .exit))
+        × KeepsScript (now (script .entry)) (now (table .entry)) (r .keeping) ⌝ }
 {
     let read = script_text::read(script, table, code);
     let answer = read.answer;
@@ -161,13 +164,15 @@ fn find(script: &[u8], table: &[sheet::Word], code: &mut [u32; script_text::WORD
     }
 }
 
-// The number of a script on the sheet of a table: 4, 5 or 6, or 0 where it is accepted, and then the lent words hold its code.
+// The number of a script on the sheet of a table: 4, 5 or 6, or 0 where it is accepted, and then the lent
+// words hold its code.
 pub fn number_of(
     script: &[u8],
     table: &[sheet::Word],
     code: &mut [u32; script_text::WORDS],
 ) -> Numbered
-    ensures { λ r. ⌜ NumbersScript (now (script .entry)) (now (table .entry)) (r .number) (r .count) (now (code .exit)) ⌝ }
+    ensures { λ r. ⌜ NumbersScript (now (script .entry)) (now (table .entry)) (r .number) (r .count)
+        (now (code .exit)) ⌝ }
 {
     let found = find(script, table, code);
     Numbered {
@@ -184,7 +189,8 @@ pub fn run_accepted(
     authority: Set,
     budget: u32,
 ) -> Outcome
-    ensures { λ r. ⌜ RunsAccepted (now (code .entry)) (now (table .entry)) (now (memory .entry)) authority budget (record { answer = r .answer; steps = r .steps; memory = now (memory .exit) }) ⌝ }
+    ensures { λ r. ⌜ RunsAccepted (now (code .entry)) (now (table .entry)) (now (memory .entry)) authority budget
+        (record { answer = r .answer; steps = r .steps; memory = now (memory .exit) }) ⌝ }
 {
     let ran = interpreter::run(code, table, memory, authority, budget);
     let state = ran.state;
@@ -204,7 +210,8 @@ pub fn check_on(script: &[u8], table: &[sheet::Word]) -> u8
 
 // Checks a script on the sheet of a table, and says whether it is trust-keeping.
 pub fn trust_on(script: &[u8], table: &[sheet::Word]) -> Trust
-    ensures { λ r. ⌜ TrustsOn (now (script .entry)) (now (table .entry)) (record { answer = r .answer; keeping = r .keeping }) ⌝ }
+    ensures { λ r. ⌜ TrustsOn (now (script .entry)) (now (table .entry))
+        (record { answer = r .answer; keeping = r .keeping }) ⌝ }
 {
     let mut code = [0u32; script_text::WORDS];
     let found = find(script, table, &mut code);
@@ -225,7 +232,8 @@ pub fn run_on(
     authority: Set,
     budget: u32,
 ) -> Outcome
-    ensures { λ r. ⌜ RunsOn (now (script .entry)) (now (table .entry)) (now (memory .entry)) authority budget (record { answer = r .answer; steps = r .steps; memory = now (memory .exit) }) ⌝ }
+    ensures { λ r. ⌜ RunsOn (now (script .entry)) (now (table .entry)) (now (memory .entry)) authority budget
+        (record { answer = r .answer; steps = r .steps; memory = now (memory .exit) }) ⌝ }
 {
     if !sets::contained(authority, sheet::everyone(table)) {
         return refused(PRINCIPAL_UNKNOWN);
@@ -251,7 +259,8 @@ pub fn run_on(
 
 // Shows a group a memory on the sheet of a table.
 pub fn view_on(table: &[sheet::Word], memory: &[u32], group: Set, view: &mut [u32]) -> u8
-    ensures { λ r. ⌜ ViewsOn (now (table .entry)) (now (memory .entry)) group (now (view .entry)) r (now (view .exit)) ⌝ }
+    ensures { λ r. ⌜ ViewsOn (now (table .entry)) (now (memory .entry)) group (now (view .entry)) r
+        (now (view .exit)) ⌝ }
 {
     if !sets::contained(group, sheet::everyone(table)) {
         return PRINCIPAL_UNKNOWN;

@@ -12,7 +12,8 @@ use Rattle.text.specs.Theorems.{NumberExact}
 use Rattle.logic.proofs.BooleanLaws.{cases, cond-split}
 use Rattle.text.proofs.Readings.{ends-print, not-bad, got-same}
 use Rattle.text.proofs.Places.{Within}
-use Rattle.text.proofs.Numbers.{digit-in, digit-range, opens-none, opens-byte, digits-end, digits-over, digits-on, number-none, number-zero, number-on}
+use Rattle.text.proofs.Numbers.{digit-in, digit-range, opens-none, opens-byte, digits-end, digits-over}
+use Rattle.text.proofs.Numbers.{digits-on, number-none, number-zero, number-on}
 
 decimalOn-low : (k n : ℕ) → n < 10 → decimalOn (suc k) n ≡ (48 + n) ∷ []
 unfolding decimalOn
@@ -44,7 +45,8 @@ pub decimal-more : (n : ℕ) → 10 ≤ n → decimal n ≡ decimal (n / 10) ++ 
 unfolding decimal
 decimal-more n h =
     decimalOn-more n n h
-    ∙ ap (λ (l : List ℕ). l ++ (48 + n % 10) ∷ []) (decimalOn-same n (suc (n / 10)) (n / 10) (omega arith) (omega arith))
+    ∙ ap (λ (l : List ℕ). l ++ (48 + n % 10) ∷ [])
+    (decimalOn-same n (suc (n / 10)) (n / 10) (omega arith) (omega arith))
 
 -- one digit more
 pub decimal-step : (v d : ℕ) → 1 ≤ v → d < 10 → decimal (v * 10 + d) ≡ decimal v ++ (48 + d) ∷ []
@@ -54,7 +56,8 @@ decimal-step v d h l =
     decimal-more (v * 10 + d) (omega arith) ∙ rw (q, r)
 
 -- a digit at the front was taken in
-digits-split : (bound v c : ℕ) (t : List ℕ) (w : ℕ) (rest : List ℕ) → digit c ≡ true → digits bound v (c ∷ t) ≡ got w rest
+digits-split : (bound v c : ℕ) (t : List ℕ) (w : ℕ) (rest : List ℕ) → digit c ≡ true
+    → digits bound v (c ∷ t) ≡ got w rest
     → (v * 10 + (c - 48) ≤ bound) × (digits bound (v * 10 + (c - 48)) t ≡ got w rest)
 digits-split bound v c t w rest d e =
     cases (ltb bound (v * 10 + (c - 48)))
@@ -74,7 +77,8 @@ digits-sound bound (c ∷ t) v w rest h l e =
     let r = digit-range c p in
     let x = digits-split bound v c t w rest p e in
     let ih = digits-sound bound t (v * 10 + (c - 48)) w rest (omega arith) (x .0) (x .1) in
-    let st : decimal (v * 10 + (c - 48)) ≡ decimal v ++ (48 + (c - 48)) ∷ [] = decimal-step v (c - 48) h (omega arith) in
+    let st : decimal (v * 10 + (c - 48)) ≡ decimal v ++ (48 + (c - 48)) ∷ [] =
+    decimal-step v (c - 48) h (omega arith) in
     let byte : 48 + (c - 48) ≡ c = omega arith in
     (sym (append-assoc (decimal v) (c ∷ []) t) ∙ rw (← byte, ← st) (ih .0), ih .1, ih .2))
     (λ p.
@@ -84,7 +88,8 @@ digits-sound bound (c ∷ t) v w rest h l e =
     rw (← z .1, y) (refl, l, o))
 
 -- the same from the first digit on, which is no zero
-digits-first : (bound c : ℕ) (t : List ℕ) (w : ℕ) (rest : List ℕ) → digit c ≡ true → (c ≡ 48 → ⊥) → digits bound 0 (c ∷ t) ≡ got w rest
+digits-first : (bound c : ℕ) (t : List ℕ) (w : ℕ) (rest : List ℕ) → digit c ≡ true → (c ≡ 48 → ⊥)
+    → digits bound 0 (c ∷ t) ≡ got w rest
     → (c ∷ t ≡ decimal w ++ rest) × (w ≤ bound) × (opensDigit rest ≡ false)
 digits-first bound c t w rest p q e =
     let r = digit-range c p in
@@ -112,7 +117,8 @@ number-sound bound (c ∷ t) w rest e =
     (λ p x. not-bad w rest x) e
 
 -- what is printed is read
-number-digits : (bound k n : ℕ) (t : List ℕ) → n < k → 1 ≤ n → n ≤ bound → number bound (decimalOn k n ++ t) ≡ digits bound n t
+number-digits : (bound k n : ℕ) (t : List ℕ) → n < k → 1 ≤ n → n ≤ bound
+    → number bound (decimalOn k n ++ t) ≡ digits bound n t
 number-digits bound zero n t h l m = absurd (omega arith)
 number-digits bound (suc k) n t h l m =
     cases (ltb n 10)
@@ -127,13 +133,15 @@ number-digits bound (suc k) n t h l m =
     let v : n / 10 * 10 + (48 + n % 10 - 48) ≡ n = omega arith in
     rw (decimalOn-more k n ge, append-assoc)
     (number-digits bound k (n / 10) ((48 + n % 10) ∷ t) (omega arith) (omega arith) (omega arith)
-    ∙ digits-on bound (n / 10) (48 + n % 10) t (digit-in (48 + n % 10) (omega arith) (omega arith)) (omega arith) ∙ rw v))
+    ∙ digits-on bound (n / 10) (48 + n % 10) t (digit-in (48 + n % 10) (omega arith) (omega arith)) (omega arith)
+    ∙ rw v))
 
 number-positive : (bound n : ℕ) (t : List ℕ) → 1 ≤ n → n ≤ bound → number bound (decimal n ++ t) ≡ digits bound n t
 unfolding decimal
 number-positive bound n t h l = number-digits bound (suc n) n t (omega arith) h l
 
-pub number-print : (bound n : ℕ) (t : List ℕ) → n ≤ bound → opensDigit t ≡ false → number bound (decimal n ++ t) ≡ got n t
+pub number-print : (bound n : ℕ) (t : List ℕ) → n ≤ bound → opensDigit t ≡ false
+    → number bound (decimal n ++ t) ≡ got n t
 number-print bound n t h o =
     cases (eqb n 0)
     (λ z.

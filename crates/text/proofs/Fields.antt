@@ -1,4 +1,5 @@
--- Fields and line ends: each is read exactly where its printed form stands, and what an answer in a text says. Assumes nothing.
+-- Fields and line ends: each is read exactly where its printed form stands, and what an answer in a text says.
+-- Assumes nothing.
 use Prim.Native.Nat.{ℕ, _^_, _≤_, _<_}
 use native.Mathlib.Omega.{arith}
 use mathlib.Core.Path.{_≡_, refl, sym, ap, _∙_}
@@ -10,7 +11,8 @@ use Rattle.text.specs.Reading.{byte}
 use Rattle.text.specs.Reading.Read.{got, bad}
 use Rattle.text.specs.Number.{number, decimal, opensDigit}
 use Rattle.text.specs.Set.{setDigits, hexSet, hexForm}
-use Rattle.text.specs.Field.{numberField, setField, lineEnd, lastNumber, printNumberField, printSetField, printLineEnd}
+use Rattle.text.specs.Field.{numberField, setField, lineEnd, lastNumber, printNumberField, printSetField}
+use Rattle.text.specs.Field.{printLineEnd}
 use Rattle.text.specs.Internal.Place.{placedDecimal, placedSet, placedEnd}
 use Rattle.text.specs.Theorems.{NumberFieldExact, SetFieldExact, LineEndExact, LastNumberExact}
 use Rattle.text.specs.declared.Decimal.{Decimal}
@@ -19,7 +21,8 @@ use Rattle.text.specs.declared.Mask.{Mask}
 use Rattle.text.specs.declared.Mask.the-variants as mask
 use Rattle.text.specs.declared.Place.{Place}
 use Rattle.text.specs.declared.Place.the-variants as place
-use Rattle.text.proofs.Readings.{andThen-got, andThen-bad, andThen-split, byte-here, byte-sound, ends-print, got-same}
+use Rattle.text.proofs.Readings.{andThen-got, andThen-bad, andThen-split, byte-here, byte-sound, ends-print}
+use Rattle.text.proofs.Readings.{got-same}
 use Rattle.text.proofs.Places.{Within, decimal-at, decimal-bad, mask-at, mask-bad, place-at, place-bad}
 use Rattle.text.proofs.Numbers.{opens-byte, digit-low}
 use Rattle.text.proofs.Decimals.{number-sound, number-print, number-within}
@@ -68,12 +71,16 @@ number-field-sound bound t v u e =
     let r = number-sound bound w v u g in
     (byte-sound 9 t w x f ∙ rw (r .0), r .1, r .2)) e
 
-pub number-field-print : (bound v : ℕ) (u : List ℕ) → v ≤ bound → opensDigit u ≡ false → numberField bound (printNumberField v u) ≡ got v u
-number-field-print bound v u h o = number-field-on _ bound (decimal v ++ u) (byte-here 9 9 _ refl) ∙ number-print bound v u h o
+pub number-field-print : (bound v : ℕ) (u : List ℕ) → v ≤ bound → opensDigit u ≡ false
+    → numberField bound (printNumberField v u) ≡ got v u
+number-field-print bound v u h o =
+    number-field-on _ bound (decimal v ++ u) (byte-here 9 9 _ refl) ∙ number-print bound v u h o
 
 pub number-field-exact : NumberFieldExact
-number-field-exact bound v t rest =
-    (λ e. number-field-sound bound t v rest e, λ r. ap (numberField bound) (r .0) ∙ number-field-print bound v rest (r .1) (r .2))
+number-field-exact bound v t rest = (
+  λ e. number-field-sound bound t v rest e,
+  λ r. ap (numberField bound) (r .0) ∙ number-field-print bound v rest (r .1) (r .2),
+)
 
 pub last-number-sound : (bound : ℕ) (t : List ℕ) (v : ℕ) (u : List ℕ) → lastNumber bound t ≡ got v u
     → (t ≡ printNumberField v (printLineEnd u)) × (v ≤ bound)
@@ -86,15 +93,18 @@ last-number-sound bound t v u e =
     let y = number-field-sound bound t a w f in
     (y .0 ∙ rw (byte-sound 10 w r x g, z .0, z .1), rw (z .0) at (y .1)))) e
 
-pub last-number-print : (bound v : ℕ) (u : List ℕ) → v ≤ bound → lastNumber bound (printNumberField v (printLineEnd u)) ≡ got v u
+pub last-number-print : (bound v : ℕ) (u : List ℕ) → v ≤ bound
+    → lastNumber bound (printNumberField v (printLineEnd u)) ≡ got v u
 last-number-print bound v u h =
-    last-number-on _ bound v (10 ∷ u) (number-field-print bound v (10 ∷ u) h (opens-byte 10 u ∙ digit-low 10 (omega arith))) u (byte-here 10 10 u refl)
+    last-number-on _ bound v (10 ∷ u)
+    (number-field-print bound v (10 ∷ u) h (opens-byte 10 u ∙ digit-low 10 (omega arith))) u (byte-here 10 10 u refl)
 
 pub last-number-exact : LastNumberExact
 last-number-exact bound v t rest =
     (λ e. last-number-sound bound t v rest e, λ r. ap (lastNumber bound) (r .0) ∙ last-number-print bound v rest (r .1))
 
-pub set-field-sound : (t : List ℕ) (m : ℕ) (u : List ℕ) → setField t ≡ got m u → (t ≡ printSetField m u) × (m < 2 ^ width)
+pub set-field-sound : (t : List ℕ) (m : ℕ) (u : List ℕ) → setField t ≡ got m u
+    → (t ≡ printSetField m u) × (m < 2 ^ width)
 unfolding setField
 set-field-sound t m u e =
     andThen-split (byte 9 t) _ m u
@@ -120,50 +130,60 @@ set-field-within t m u e = ends-print t (9 ∷ hexForm setDigits m) u (set-field
 
 pub last-number-within : (bound : ℕ) (t : List ℕ) → Within t (lastNumber bound t)
 last-number-within bound t v u e =
-    ends-print t (9 ∷ (decimal v ++ (10 ∷ []))) u (last-number-sound bound t v u e .0 ∙ ap (_∷_ 9) (sym (append-assoc (decimal v) (10 ∷ []) u)))
+    ends-print t (9 ∷ (decimal v ++ (10 ∷ []))) u
+    (last-number-sound bound t v u e .0 ∙ ap (_∷_ 9) (sym (append-assoc (decimal v) (10 ∷ []) u)))
 
 -- what an answer at i in s says of the reading there
 module _ (s : List ℕ) (i : ℕ) where
-  pub byte-at : (b : ℕ) (r : Place) → r ≡ placedEnd s (byte b (drop i s)) → (p : ℕ) → r ≡ place.At p → (byte b (drop i s) ≡ got tt (drop p s)) × (p ≤ length s)
+  pub byte-at : (b : ℕ) (r : Place) → r ≡ placedEnd s (byte b (drop i s)) → (p : ℕ) → r ≡ place.At p
+      → (byte b (drop i s) ≡ got tt (drop p s)) × (p ≤ length s)
   byte-at b r e p g = place-at s i _ r (byte-within b (drop i s)) e p g
 
   pub byte-bad : (b : ℕ) (r : Place) → r ≡ placedEnd s (byte b (drop i s)) → r ≡ place.Refused → byte b (drop i s) ≡ bad
   byte-bad b r e g = place-bad s i _ r (byte-within b (drop i s)) e g
 
-  pub number-at : (bound : ℕ) (r : Decimal) → r ≡ placedDecimal s (number bound (drop i s)) → (v p : ℕ) → r ≡ decimal.At v p
+  pub number-at : (bound : ℕ) (r : Decimal) → r ≡ placedDecimal s (number bound (drop i s)) → (v p : ℕ)
+      → r ≡ decimal.At v p
       → (number bound (drop i s) ≡ got v (drop p s)) × (p ≤ length s) × (v ≤ bound)
   number-at bound r e v p g =
       let x = decimal-at s i _ r (number-within bound (drop i s)) e v p g in
       (x .0, x .1, number-sound bound _ v _ (x .0) .1)
 
-  pub number-bad : (bound : ℕ) (r : Decimal) → r ≡ placedDecimal s (number bound (drop i s)) → r ≡ decimal.Refused → number bound (drop i s) ≡ bad
+  pub number-bad : (bound : ℕ) (r : Decimal) → r ≡ placedDecimal s (number bound (drop i s)) → r ≡ decimal.Refused
+      → number bound (drop i s) ≡ bad
   number-bad bound r e g = decimal-bad s i _ r (number-within bound (drop i s)) e g
 
-  pub number-field-at : (bound : ℕ) (r : Decimal) → r ≡ placedDecimal s (numberField bound (drop i s)) → (v p : ℕ) → r ≡ decimal.At v p
+  pub number-field-at : (bound : ℕ) (r : Decimal) → r ≡ placedDecimal s (numberField bound (drop i s)) → (v p : ℕ)
+      → r ≡ decimal.At v p
       → (numberField bound (drop i s) ≡ got v (drop p s)) × (p ≤ length s) × (v ≤ bound)
   number-field-at bound r e v p g =
       let x = decimal-at s i _ r (number-field-within bound (drop i s)) e v p g in
       (x .0, x .1, number-field-sound bound _ v _ (x .0) .1)
 
-  pub number-field-bad : (bound : ℕ) (r : Decimal) → r ≡ placedDecimal s (numberField bound (drop i s)) → r ≡ decimal.Refused → numberField bound (drop i s) ≡ bad
+  pub number-field-bad : (bound : ℕ) (r : Decimal) → r ≡ placedDecimal s (numberField bound (drop i s))
+      → r ≡ decimal.Refused → numberField bound (drop i s) ≡ bad
   number-field-bad bound r e g = decimal-bad s i _ r (number-field-within bound (drop i s)) e g
 
-  pub last-number-at : (bound : ℕ) (r : Decimal) → r ≡ placedDecimal s (lastNumber bound (drop i s)) → (v p : ℕ) → r ≡ decimal.At v p
+  pub last-number-at : (bound : ℕ) (r : Decimal) → r ≡ placedDecimal s (lastNumber bound (drop i s)) → (v p : ℕ)
+      → r ≡ decimal.At v p
       → (lastNumber bound (drop i s) ≡ got v (drop p s)) × (p ≤ length s) × (v ≤ bound)
   last-number-at bound r e v p g =
       let x = decimal-at s i _ r (last-number-within bound (drop i s)) e v p g in
       (x .0, x .1, last-number-sound bound _ v _ (x .0) .1)
 
-  pub last-number-bad : (bound : ℕ) (r : Decimal) → r ≡ placedDecimal s (lastNumber bound (drop i s)) → r ≡ decimal.Refused → lastNumber bound (drop i s) ≡ bad
+  pub last-number-bad : (bound : ℕ) (r : Decimal) → r ≡ placedDecimal s (lastNumber bound (drop i s))
+      → r ≡ decimal.Refused → lastNumber bound (drop i s) ≡ bad
   last-number-bad bound r e g = decimal-bad s i _ r (last-number-within bound (drop i s)) e g
 
-  pub set-at : (r : Mask) → r ≡ placedSet s (hexSet (drop i s)) → (m p : ℕ) → r ≡ mask.At m p → (hexSet (drop i s) ≡ got m (drop p s)) × (p ≤ length s)
+  pub set-at : (r : Mask) → r ≡ placedSet s (hexSet (drop i s)) → (m p : ℕ) → r ≡ mask.At m p
+      → (hexSet (drop i s) ≡ got m (drop p s)) × (p ≤ length s)
   set-at r e m p g = mask-at s i _ r (set-within (drop i s)) e m p g
 
   pub set-bad : (r : Mask) → r ≡ placedSet s (hexSet (drop i s)) → r ≡ mask.Refused → hexSet (drop i s) ≡ bad
   set-bad r e g = mask-bad s i _ r (set-within (drop i s)) e g
 
-  pub set-field-at : (r : Mask) → r ≡ placedSet s (setField (drop i s)) → (m p : ℕ) → r ≡ mask.At m p → (setField (drop i s) ≡ got m (drop p s)) × (p ≤ length s)
+  pub set-field-at : (r : Mask) → r ≡ placedSet s (setField (drop i s)) → (m p : ℕ) → r ≡ mask.At m p
+      → (setField (drop i s) ≡ got m (drop p s)) × (p ≤ length s)
   set-field-at r e m p g = mask-at s i _ r (set-field-within (drop i s)) e m p g
 
   pub set-field-bad : (r : Mask) → r ≡ placedSet s (setField (drop i s)) → r ≡ mask.Refused → setField (drop i s) ≡ bad

@@ -1,4 +1,5 @@
--- The lines of a text, for any form of lines: the cases of reading, and that a text is read exactly if it is printed lines. Assumes nothing.
+-- The lines of a text, for any form of lines: the cases of reading, and that a text is read exactly if it is printed
+-- lines. Assumes nothing.
 use Prim.Native.Nat.{ℕ, zero, suc, _+_, _-_, _≤_, _<_}
 use native.Mathlib.Omega.{arith}
 use mathlib.Core.Path.{_≡_, refl, sym, ap, _∙_}
@@ -7,7 +8,8 @@ use mathlib.Core.Option.{Option, none, some}
 use lib.ListN.{length, drop, getD, length-append, drop-of-length-le}
 use Rattle.text.specs.Reading.{Read}
 use Rattle.text.specs.Reading.Read.{got, bad}
-use Rattle.text.specs.Lines.{front, onward, linesUpTo, allLines, printLines, AllGood, none-left, and-then, LineForm}
+use Rattle.text.specs.Lines.{front, onward, linesUpTo, allLines, printLines, AllGood, none-left, and-then}
+use Rattle.text.specs.Lines.{LineForm}
 use Rattle.text.specs.Theorems.{LinesExact, AllLinesExact}
 use Rattle.logic.proofs.OptionLaws.{none-some, some-path}
 use Rattle.text.proofs.Readings.{drop-step, not-bad, ends-print}
@@ -29,7 +31,8 @@ module _ {A : Type 0} (line : List ℕ → Read A) where
   unfolding linesUpTo onward
   lines-bad k b t e = rw e
 
-  lines-more : line [] ≡ bad → (k : ℕ) (t : List ℕ) (l : A) (u : List ℕ) → line t ≡ got l u → linesUpTo line (suc k) t ≡ front l (linesUpTo line k u)
+  lines-more : line [] ≡ bad → (k : ℕ) (t : List ℕ) (l : A) (u : List ℕ) → line t ≡ got l u
+      → linesUpTo line (suc k) t ≡ front l (linesUpTo line k u)
   unfolding linesUpTo onward
   lines-more n k [] l u e = not-bad l u (sym n ∙ e)
   lines-more n k (b ∷ t) l u e = rw e
@@ -40,7 +43,8 @@ module _ {A : Type 0} (line : List ℕ → Read A) where
     lines-at-end h = rw (drop-of-length-le s h) (lines-end (m - n))
 
     pub lines-at-full : i < length s → m ≤ n → linesUpTo line (m - n) (drop i s) ≡ none
-    lines-at-full h l = let z : m - n ≡ zero = omega arith in rw (z, drop-step s i h) (lines-full (getD s i 0) (drop (i + 1) s))
+    lines-at-full h l =
+        let z : m - n ≡ zero = omega arith in rw (z, drop-step s i h) (lines-full (getD s i 0) (drop (i + 1) s))
 
     module _ (l : n < m) where
       pub lines-at-bad : i < length s → line (drop i s) ≡ bad → linesUpTo line (m - n) (drop i s) ≡ none
@@ -67,14 +71,16 @@ module _ {A : Type 0} where
       at (some ms) h k = unfold front in g l u ms refl h (sym (some-path k))
   onward-split bad f ls g e = none-some e
 
-  onward-same : (x : Read A) (f g : List ℕ → Option (List A)) → ((l : A) (u : List ℕ) → x ≡ got l u → f u ≡ g u) → onward x f ≡ onward x g
+  onward-same : (x : Read A) (f g : List ℕ → Option (List A)) → ((l : A) (u : List ℕ) → x ≡ got l u → f u ≡ g u)
+      → onward x f ≡ onward x g
   unfolding onward
   onward-same (got l u) f g h = ap (front l) (h l u refl)
   onward-same bad f g h = refl
 
 -- ---- lines of a form
 
-module _ {A : Type 0} {line : List ℕ → Read A} {print : A → List ℕ → List ℕ} {Good : A → Type 0} (form : LineForm line print Good) where
+module _ {A : Type 0} {line : List ℕ → Read A} {print : A → List ℕ → List ℕ} {Good : A → Type 0}
+    (form : LineForm line print Good) where
   pub line-sound : (t : List ℕ) (l : A) (u : List ℕ) → line t ≡ got l u → (t ≡ print l u) × Good l
   line-sound t l u e = form .exact t l u .0 e
 
@@ -97,7 +103,8 @@ module _ {A : Type 0} {line : List ℕ → Read A} {print : A → List ℕ → L
       let r = line-sound t l u e in
       omega (arith, ap length (r .0 ∙ form .ahead l u), length-append (print l []) u, print-some l (r .1))
 
-  lines-sound : (k : ℕ) (t : List ℕ) (ls : List A) → linesUpTo line k t ≡ some ls → (t ≡ printLines print ls) × AllGood Good ls × (length ls ≤ k)
+  lines-sound : (k : ℕ) (t : List ℕ) (ls : List A) → linesUpTo line k t ≡ some ls
+      → (t ≡ printLines print ls) × AllGood Good ls × (length ls ≤ k)
   unfolding linesUpTo printLines
   lines-sound zero [] ls e = let y : ls ≡ [] = sym (some-path e) in rw y (refl, none-left, omega arith)
   lines-sound zero (b ∷ t) ls e = none-some e
@@ -109,12 +116,14 @@ module _ {A : Type 0} {line : List ℕ → Read A} {print : A → List ℕ → L
       let n = q .2 in
       rw z (r .0 ∙ ap (print l) (q .0), and-then (r .1) (q .1), omega arith)) e
 
-  lines-print : (k : ℕ) (ls : List A) → AllGood Good ls → length ls ≤ k → linesUpTo line k (printLines print ls) ≡ some ls
+  lines-print : (k : ℕ) (ls : List A) → AllGood Good ls → length ls ≤ k
+      → linesUpTo line k (printLines print ls) ≡ some ls
   unfolding printLines front
   lines-print k [] none-left h = lines-end line k
   lines-print zero (l ∷ ls) (and-then g r) h = absurd (omega arith)
   lines-print (suc k) (l ∷ ls) (and-then g r) h =
-      lines-more line (form .no-end) k _ l (printLines print ls) (line-print l (printLines print ls) g) ∙ rw (lines-print k ls r (omega arith))
+      lines-more line (form .no-end) k _ l (printLines print ls) (line-print l (printLines print ls) g)
+      ∙ rw (lines-print k ls r (omega arith))
 
   -- how many lines are allowed makes no difference where there are enough
   lines-enough : (k j : ℕ) (t : List ℕ) → length t ≤ k → length t ≤ j → linesUpTo line k t ≡ linesUpTo line j t
@@ -125,7 +134,8 @@ module _ {A : Type 0} {line : List ℕ → Read A} {print : A → List ℕ → L
   lines-enough (suc k) zero (b ∷ t) h i = absurd (omega arith)
   lines-enough (suc k) (suc j) (b ∷ t) h i =
       onward-same (line (b ∷ t)) _ _
-      (λ l u e. lines-enough k j u (omega (arith, line-shorter (b ∷ t) l u e)) (omega (arith, line-shorter (b ∷ t) l u e)))
+      (λ l u e. lines-enough k j u (omega (arith, line-shorter (b ∷ t) l u e))
+      (omega (arith, line-shorter (b ∷ t) l u e)))
 
   -- the cases of all lines
   pub all-none : allLines line [] ≡ some []
@@ -149,11 +159,13 @@ module _ {A : Type 0} {line : List ℕ → Read A} {print : A → List ℕ → L
   unfolding printLines front
   all-print [] none-left = all-none
   all-print (l ∷ ls) (and-then g r) =
-      all-more (print l (printLines print ls)) l (printLines print ls) (line-print l (printLines print ls) g) ∙ rw (all-print ls r)
+      all-more (print l (printLines print ls)) l (printLines print ls) (line-print l (printLines print ls) g)
+      ∙ rw (all-print ls r)
 
   pub lines-exact : LinesExact line print Good
   lines-exact k t ls = (λ e. lines-sound k t ls e, λ r. ap (linesUpTo line k) (r .0) ∙ lines-print k ls (r .1) (r .2))
 
   pub all-lines-exact : AllLinesExact line print Good
   unfolding allLines
-  all-lines-exact t ls = (λ e. let r = lines-sound (length t) t ls e in (r .0, r .1), λ r. ap (allLines line) (r .0) ∙ all-print ls (r .1))
+  all-lines-exact t ls =
+      (λ e. let r = lines-sound (length t) t ls e in (r .0, r .1), λ r. ap (allLines line) (r .0) ∙ all-print ls (r .1))

@@ -105,10 +105,12 @@ module _ (bound : ℕ) where
     pub number-at-long : getD s i 0 ≡ 48 → opensDigit (drop (i + 1) s) ≡ true → number bound (drop i s) ≡ bad
     number-at-long z o = rw (drop-step s i h) (number-long (getD s i 0) (drop (i + 1) s) z o)
 
-    pub number-at-zero : getD s i 0 ≡ 48 → opensDigit (drop (i + 1) s) ≡ false → number bound (drop i s) ≡ got 0 (drop (i + 1) s)
+    pub number-at-zero : getD s i 0 ≡ 48 → opensDigit (drop (i + 1) s) ≡ false
+        → number bound (drop i s) ≡ got 0 (drop (i + 1) s)
     number-at-zero z o = rw (drop-step s i h) (number-zero (getD s i 0) (drop (i + 1) s) z o)
 
-    pub number-at-on : opensDigit (drop i s) ≡ true → (getD s i 0 ≡ 48 → ⊥) → number bound (drop i s) ≡ digits bound 0 (drop i s)
+    pub number-at-on : opensDigit (drop i s) ≡ true → (getD s i 0 ≡ 48 → ⊥)
+        → number bound (drop i s) ≡ digits bound 0 (drop i s)
     number-at-on d z = rw (drop-step s i h) (number-on (getD s i 0) (drop (i + 1) s) (sym (opens-at s i h) ∙ d) z)
 
 -- where a digit stands, a byte that is none does not

@@ -21,7 +21,8 @@ Within {A} t x = (v : A) (u : List ℕ) → x ≡ got v u → IsEnd t u
 
 module _ {A R : Type 0} (at : A → ℕ → R) (none : R) (s : List ℕ) where
   -- the answer to a reading that is known
-  pub placed-got : (want : Read A) (v : A) (p : ℕ) → want ≡ got v (drop p s) → p ≤ length s → at v p ≡ placed at none s want
+  pub placed-got : (want : Read A) (v : A) (p : ℕ) → want ≡ got v (drop p s) → p ≤ length s
+      → at v p ≡ placed at none s want
   unfolding placed
   placed-got want v p e h = let z : length s - length (drop p s) ≡ p = omega (arith, length-drop p s) in rw (e, z)
 
@@ -60,7 +61,8 @@ module _ (s : List ℕ) (want : Read Unit) where
   place-none e = placed-bad (λ _ p. place.At p) place.Refused s want e
 
 -- what the answers of this crate say of what was to be read
-module _ (s : List ℕ) (i : ℕ) (want : Read ℕ) (r : Decimal) (w : Within (drop i s) want) (e : r ≡ placedDecimal s want) where
+module _ (s : List ℕ) (i : ℕ) (want : Read ℕ) (r : Decimal) (w : Within (drop i s) want)
+    (e : r ≡ placedDecimal s want) where
   pub decimal-at : (v p : ℕ) → r ≡ decimal.At v p → (want ≡ got v (drop p s)) × (p ≤ length s)
   decimal-at v p g =
       placed-split (λ v p. decimal.At v p) decimal.Refused s i want r w e
@@ -84,7 +86,8 @@ module _ (s : List ℕ) (i : ℕ) (want : Read ℕ) (r : Mask) (w : Within (drop
       placed-split (λ m p. mask.At m p) mask.Refused s i want r w e
       (λ m p x l y. let z : _≡_ {A = ℕ} 0 1 = cc in absurd (omega arith)) (λ x y. x)
 
-module _ (s : List ℕ) (i : ℕ) (want : Read Unit) (r : Place) (w : Within (drop i s) want) (e : r ≡ placedEnd s want) where
+module _ (s : List ℕ) (i : ℕ) (want : Read Unit) (r : Place) (w : Within (drop i s) want)
+    (e : r ≡ placedEnd s want) where
   pub place-at : (p : ℕ) → r ≡ place.At p → (want ≡ got tt (drop p s)) × (p ≤ length s)
   place-at p g =
       placed-split (λ _ p. place.At p) place.Refused s i want r w e

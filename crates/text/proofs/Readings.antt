@@ -1,4 +1,5 @@
--- Readings one after another, the byte at the front, and that what follows a reading is the end of the text. Assumes nothing.
+-- Readings one after another, the byte at the front, and that what follows a reading is the end of the text.
+-- Assumes nothing.
 use Prim.Native.Nat.{ℕ, _+_, _-_, _≤_, _<_}
 use native.Mathlib.Omega.{arith}
 use native.Mathlib.Numerals.{add-one}
@@ -90,13 +91,15 @@ ends-short t u e = omega (arith, length-drop (length t - length u) t, ap length 
 
 pub ends-trans : (t u w : List ℕ) → IsEnd t u → IsEnd u w → IsEnd t w
 ends-trans t u w e f =
-    let z : length t - length w ≡ length t - length u + (length u - length w) = omega (arith, ends-short t u e, ends-short u w f) in
+    let z : length t - length w ≡ length t - length u + (length u - length w) =
+    omega (arith, ends-short t u e, ends-short u w f) in
     rw (z, ← drop-drop (length u - length w) (length t - length u) t, e) f
 
 pub ends-drop : (s : List ℕ) (i : ℕ) → IsEnd s (drop i s)
 ends-drop s i =
     cases (leb i (length s))
-    (λ h. let l : i ≤ length s = leb-true _ _ h in let z : length s - length (drop i s) ≡ i = omega (arith, length-drop i s) in rw z)
+    (λ h. let l : i ≤ length s = leb-true _ _ h in let z : length s - length (drop i s) ≡ i =
+    omega (arith, length-drop i s) in rw z)
     (λ h.
     let l : length s < i = leb-false _ _ h in
     let n : drop i s ≡ [] = drop-of-length-le s {i = i} (omega arith) in

@@ -37,7 +37,8 @@ module _ (k v c d : ℕ) (t : List ℕ) (e : d ≡ hexDigit c) where
 -- the same at a place of a text, where i of n digits are read
 module _ (n i v : ℕ) (s : List ℕ) (p : ℕ) (l : i < n) where
   pub hex-at-end : length s ≤ p → hexDigits (n - i) v (drop p s) ≡ bad
-  hex-at-end h = let z : n - i ≡ suc (n - (i + 1)) = omega arith in rw (z, drop-of-length-le s h) (hex-short (n - (i + 1)) v)
+  hex-at-end h =
+      let z : n - i ≡ suc (n - (i + 1)) = omega arith in rw (z, drop-of-length-le s h) (hex-short (n - (i + 1)) v)
 
   module _ (h : p < length s) (d : ℕ) (e : d ≡ hexDigit (getD s p 0)) where
     pub hex-at-bad : 15 < d → hexDigits (n - i) v (drop p s) ≡ bad
@@ -70,7 +71,13 @@ digit-of-byte d h =
     simp (p, le-ltb (48 + d) 48 (omega arith), lt-ltb (48 + d) 58 (omega arith)) (omega arith))
     (λ p.
     let l : 10 ≤ d = ltb-false _ _ p in
-    simp (p, le-ltb (87 + d) 48 (omega arith), le-ltb (87 + d) 58 (omega arith), le-ltb (87 + d) 97 (omega arith), lt-ltb (87 + d) 103 (omega arith))
+    simp (
+      p,
+      le-ltb (87 + d) 48 (omega arith),
+      le-ltb (87 + d) 58 (omega arith),
+      le-ltb (87 + d) 97 (omega arith),
+      lt-ltb (87 + d) 103 (omega arith),
+    )
     (omega arith))
 
 byte-of-digit : (c d : ℕ) → hexDigit c ≡ d → d ≤ 15 → hexByte d ≡ c
@@ -78,20 +85,26 @@ unfolding hexByte hexDigit
 byte-of-digit c d e h =
     cond-split (ltb c 48) _ _ _ (λ p x. absurd (omega arith))
     (λ p. cond-split (ltb c 58) _ _ _
-    (λ q x. let l : 48 ≤ c = ltb-false _ _ p in let m : c < 58 = ltb-true _ _ q in rw (lt-ltb d 10 (omega arith)) (omega arith))
+    (λ q x. let l : 48 ≤ c = ltb-false _ _ p in
+    let m : c < 58 = ltb-true _ _ q in
+    rw (lt-ltb d 10 (omega arith)) (omega arith))
     (λ q. cond-split (ltb c 97) _ _ _ (λ o x. absurd (omega arith))
     (λ o. cond-split (ltb c 103) _ _ _
-    (λ r x. let l : 97 ≤ c = ltb-false _ _ o in let m : c < 103 = ltb-true _ _ r in rw (le-ltb d 10 (omega arith)) (omega arith))
+    (λ r x. let l : 97 ≤ c = ltb-false _ _ o in
+    let m : c < 103 = ltb-true _ _ r in
+    rw (le-ltb d 10 (omega arith)) (omega arith))
     (λ r x. absurd (omega arith))))) e
 
 -- the first of the digits that were read
 hex-split : {P : Type 0} (k v : ℕ) (t : List ℕ) (w : ℕ) (u : List ℕ)
-    → ((d : ℕ) (r : List ℕ) → t ≡ hexByte d ∷ r → d ≤ 15 → hexDigits k (v * 16 + d) r ≡ got w u → P) → hexDigits (suc k) v t ≡ got w u → P
+    → ((d : ℕ) (r : List ℕ) → t ≡ hexByte d ∷ r → d ≤ 15 → hexDigits k (v * 16 + d) r ≡ got w u → P)
+    → hexDigits (suc k) v t ≡ got w u → P
 unfolding hexDigits
 hex-split k v [] w u g e = not-bad w u e
 hex-split k v (c ∷ t) w u g e =
     cond-split (ltb 15 (hexDigit c)) _ _ _ (λ p x. not-bad w u x)
-    (λ p x. let l : hexDigit c ≤ 15 = ltb-false _ _ p in g (hexDigit c) t (rw (byte-of-digit c (hexDigit c) refl l) refl) l x) e
+    (λ p x. let l : hexDigit c ≤ 15 = ltb-false _ _ p in
+    g (hexDigit c) t (rw (byte-of-digit c (hexDigit c) refl l) refl) l x) e
 
 hex-byte : (k v d : ℕ) (t : List ℕ) → d < 16 → hexDigits (suc k) v (hexByte d ∷ t) ≡ hexDigits k (v * 16 + d) t
 hex-byte k v d t h = hex-on k v (hexByte d) d t (sym (digit-of-byte d h)) (omega arith)
@@ -108,9 +121,11 @@ hex-last (suc k) v (c ∷ t) = cases (ltb 15 (hexDigit c)) (λ e. rw e) (λ e. r
 pub length-form : (k m : ℕ) → length (hexForm k m) ≡ k
 unfolding hexForm
 length-form zero m = refl
-length-form (suc k) m = length-append (hexForm k (m / 16)) (hexByte (m % 16) ∷ []) ∙ omega (arith, length-form k (m / 16))
+length-form (suc k) m =
+    length-append (hexForm k (m / 16)) (hexByte (m % 16) ∷ []) ∙ omega (arith, length-form k (m / 16))
 
-pub digits-sound : (k : ℕ) (t : List ℕ) (w : ℕ) (u : List ℕ) → hexDigits k 0 t ≡ got w u → (t ≡ hexForm k w ++ u) × (w < 16 ^ k)
+pub digits-sound : (k : ℕ) (t : List ℕ) (w : ℕ) (u : List ℕ) → hexDigits k 0 t ≡ got w u
+    → (t ≡ hexForm k w ++ u) × (w < 16 ^ k)
 unfolding hexForm
 digits-sound zero t w u e = let q = got-same 0 w t u (sym (hex-done 0 t) ∙ e) in (q .1, omega (arith, q .0))
 digits-sound (suc k) t w u e =
@@ -131,12 +146,14 @@ digits-print (suc k) w u h =
     let front = digits-print k (w / 16) (hexByte (w % 16) ∷ u) (omega arith) in
     let whole : w / 16 * 16 + w % 16 ≡ w = omega arith in
     rw append-assoc
-    (hex-last k 0 _ ∙ rw front (hex-byte 0 (w / 16) (w % 16) u (omega arith) ∙ hex-done _ u ∙ ap (λ (x : ℕ). got x u) whole))
+    (hex-last k 0 _
+    ∙ rw front (hex-byte 0 (w / 16) (w % 16) u (omega arith) ∙ hex-done _ u ∙ ap (λ (x : ℕ). got x u) whole))
 
 -- ---- a set
 
 pub set-exact : SetExact
-set-exact m t rest = (λ e. digits-sound setDigits t m rest e, λ r. ap hexSet (r .0) ∙ digits-print setDigits m rest (r .1))
+set-exact m t rest =
+    (λ e. digits-sound setDigits t m rest e, λ r. ap hexSet (r .0) ∙ digits-print setDigits m rest (r .1))
 
 pub set-within : (t : List ℕ) → Within t (hexSet t)
 set-within t m u e = ends-print t (hexForm setDigits m) u (digits-sound setDigits t m u e .0)

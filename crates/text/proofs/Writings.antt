@@ -53,7 +53,8 @@ length-decimal v h = length-below 9 v (let z : 10 ^ 10 ≡ 10000000000 = refl in
 
 pub length-positive : (v : ℕ) → 1 ≤ length (decimal v)
 length-positive v =
-    cases (ltb v 10) (λ e. omega (arith, length-low v (ltb-true _ _ e))) (λ e. omega (arith, length-more v (ltb-false _ _ e)))
+    cases (ltb v 10) (λ e. omega (arith, length-low v (ltb-true _ _ e)))
+    (λ e. omega (arith, length-more v (ltb-false _ _ e)))
 
 -- where the bytes fit, and where not
 module _ (out : List ℕ) (at : ℕ) (bytes : List ℕ) where

@@ -39,8 +39,10 @@ pub data AllGood {A : Type 0} (Good : A → Type 0) : List A → Type 0 where
   none-left : AllGood Good []
   and-then : {l : A} {ls : List A} → Good l → AllGood Good ls → AllGood Good (l ∷ ls)
 
--- A line is read exactly where a good one stands printed, the end of the text is no line, and what follows a line is printed after it.
-pub record LineForm {A : Type 0} (line : List ℕ → Read A) (print : A → List ℕ → List ℕ) (Good : A → Type 0) : Type 0 where
+-- A line is read exactly where a good one stands printed, the end of the text is no line, and what follows a line is
+-- printed after it.
+pub record LineForm {A : Type 0} (line : List ℕ → Read A) (print : A → List ℕ → List ℕ)
+    (Good : A → Type 0) : Type 0 where
   pub exact : (t : List ℕ) (l : A) (u : List ℕ) → (line t ≡ got l u) ↔ ((t ≡ print l u) × Good l)
   pub no-end : line [] ≡ bad
   pub ahead : (l : A) (u : List ℕ) → print l u ≡ print l [] ++ u

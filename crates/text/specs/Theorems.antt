@@ -11,7 +11,8 @@ use Rattle.text.specs.Reading.{Read}
 use Rattle.text.specs.Reading.Read.{got}
 use Rattle.text.specs.Number.{number, decimal, opensDigit}
 use Rattle.text.specs.Set.{setDigits, hexSet, hexForm}
-use Rattle.text.specs.Field.{numberField, setField, lineEnd, lastNumber, printNumberField, printSetField, printLineEnd}
+use Rattle.text.specs.Field.{numberField, setField, lineEnd, lastNumber, printNumberField, printSetField}
+use Rattle.text.specs.Field.{printLineEnd}
 use Rattle.text.specs.Lines.{linesUpTo, allLines, printLines, AllGood}
 
 -- a number: its decimal form, not above the bound, with no digit after it
@@ -37,12 +38,14 @@ LineEndExact = (t rest : List ℕ) → (lineEnd t ≡ got tt rest) ↔ (t ≡ pr
 
 abbrev pub LastNumberExact : Type 0
 LastNumberExact =
-    (bound v : ℕ) (t rest : List ℕ) → (lastNumber bound t ≡ got v rest) ↔ ((t ≡ printNumberField v (printLineEnd rest)) × (v ≤ bound))
+    (bound v : ℕ) (t rest : List ℕ)
+    → (lastNumber bound t ≡ got v rest) ↔ ((t ≡ printNumberField v (printLineEnd rest)) × (v ≤ bound))
 
 -- lines, of a form: a text is read as at most k of them exactly if it is these printed one after another
 abbrev pub LinesExact : {A : Type 0} → (List ℕ → Read A) → (A → List ℕ → List ℕ) → (A → Type 0) → Type 0
 LinesExact {A} line print Good =
-    (k : ℕ) (t : List ℕ) (ls : List A) → (linesUpTo line k t ≡ some ls) ↔ ((t ≡ printLines print ls) × AllGood Good ls × (length ls ≤ k))
+    (k : ℕ) (t : List ℕ) (ls : List A)
+    → (linesUpTo line k t ≡ some ls) ↔ ((t ≡ printLines print ls) × AllGood Good ls × (length ls ≤ k))
 
 -- and as any number of them
 abbrev pub AllLinesExact : {A : Type 0} → (List ℕ → Read A) → (A → List ℕ → List ℕ) → (A → Type 0) → Type 0

@@ -123,7 +123,8 @@ pub fn number(s: &[u8], at: usize, bound: u32) -> Decimal
     }
 }
 
-// The value of a lowercase hexadecimal digit, 16 for any other byte. After b'9' comes b':', after b'f' b'g', and b'a' is 87 and 10.
+// The value of a lowercase hexadecimal digit, 16 for any other byte. After b'9' comes b':', after b'f' b'g', and
+// b'a' is 87 and 10.
 fn hex_digit(b: u8) -> Set
     ensures { λ r. ⌜ r ≡ hexDigit b ⌝ }
 {

@@ -13,13 +13,30 @@ copy-cell-spec = tie.close (tie.spec
     (λ c. sym (store-past _ _ _ (c .if1 .taken)))  -- returns
     (λ c κs. search needs)  -- clear-requires
     (λ c. search needs)  -- same-length
-    (λ c. copy-cell-past (c .before .before .before .before .before .before .before .args .work .now) (c .before .before .before .before .before .before .before .args .from) (c .before .before .before .before .before .before .before .args .to) _ (c .before .before .clear .ensures) (c .before .before .before .before .if2 .taken))  -- returns-2
-    (λ c. omega (arith, room-left (c .before .before .before .before .args .work .now) (c .before .before .before .before .args .to) (c .before .before .if1 .left)))  -- mul-slide
-    (λ c. omega (arith, room-left (c .before .before .before .before .args .work .now) (c .before .before .before .before .args .from) (c .before .if2 .left)))  -- mul-slide-2
+    (λ c. copy-cell-past (c .before .before .before .before .before .before .before .args .work .now)
+    (c .before .before .before .before .before .before .before .args .from)
+    (c .before .before .before .before .before .before .before .args .to) _ (c .before .before .clear .ensures)
+    (c .before .before .before .before .if2 .taken))  -- returns-2
+    (λ c. omega (
+      arith,
+      room-left (c .before .before .before .before .args .work .now) (c .before .before .before .before .args .to)
+          (c .before .before .if1 .left),
+    ))  -- mul-slide
+    (λ c. omega (
+      arith,
+      room-left (c .before .before .before .before .args .work .now) (c .before .before .before .before .args .from)
+          (c .before .if2 .left),
+    ))  -- mul-slide-2
     (λ c κs. (
-      room-left (c .before .before .before .before .args .work .now) (c .before .before .before .before .args .to) (c .before .before .if1 .left),
-      room-left (c .before .before .before .before .args .work .now) (c .before .before .before .before .args .from) (c .before .if2 .left),
+      room-left (c .before .before .before .before .args .work .now) (c .before .before .before .before .args .to)
+          (c .before .before .if1 .left),
+      room-left (c .before .before .before .before .args .work .now) (c .before .before .before .before .args .from)
+          (c .before .if2 .left),
       cells-apart (c .before .before .before .before .args .from) (c .before .before .before .before .args .to),
     ))  -- slide-requires
     (λ c. search needs)  -- same-length-2
-    (λ c. copy-cell-done (c .before .before .before .before .before .before .before .args .work .now) (c .before .before .before .before .before .before .before .args .from) (c .before .before .before .before .before .before .before .args .to) _ (c .before .before .slide .ensures) (c .before .before .before .before .if2 .left) (c .before .before .before .before .before .if1 .left)))  -- returns-3
+    (λ c. copy-cell-done (c .before .before .before .before .before .before .before .args .work .now)
+    (c .before .before .before .before .before .before .before .args .from)
+    (c .before .before .before .before .before .before .before .args .to) _ (c .before .before .slide .ensures)
+    (c .before .before .before .before .if2 .left)
+    (c .before .before .before .before .before .if1 .left)))  -- returns-3

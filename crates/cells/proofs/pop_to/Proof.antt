@@ -14,13 +14,36 @@ pop-to-spec = tie.close (tie.spec
     (λ c. search needs)  -- mul-start
     (λ c. search needs)  -- sub-slide
     (λ c κs. (
-      omega (arith, room-left (c .before .before .before .args .work .now) (c .before .before .before .args .k) (c .before .if1 .left)),
-      omega (arith, room-left (c .before .before .before .args .work .now) (c .before .before .before .args .k) (c .before .if1 .left)),
+      omega (
+        arith,
+        room-left (c .before .before .before .args .work .now) (c .before .before .before .args .k)
+            (c .before .if1 .left),
+      ),
+      omega (
+        arith,
+        room-left (c .before .before .before .args .work .now) (c .before .before .before .args .k)
+            (c .before .if1 .left),
+      ),
       inside-apart (c .before .before .before .args .k),
     ))  -- slide-requires
     (λ c. search needs)  -- sub-work
-    (λ c. omega (arith, room-left (c .before .before .before .before .before .before .args .work .now) (c .before .before .before .before .before .before .args .k) (c .before .before .before .before .if1 .left)))  -- add-work
-    (λ c. omega (arith, room-left (c .before .before .before .before .before .before .args .work .now) (c .before .before .before .before .before .before .args .k) (c .before .before .before .before .if1 .left)))  -- mul-work
-    (λ c. omega (arith, room-left (c .before .before .before .before .before .before .args .work .now) (c .before .before .before .before .before .before .args .k) (c .before .before .before .before .if1 .left), c .before .before .slide .kept .0))  -- slice-write-work
+    (λ c. omega (
+      arith,
+      room-left (c .before .before .before .before .before .before .args .work .now)
+          (c .before .before .before .before .before .before .args .k) (c .before .before .before .before .if1 .left),
+    ))  -- add-work
+    (λ c. omega (
+      arith,
+      room-left (c .before .before .before .before .before .before .args .work .now)
+          (c .before .before .before .before .before .before .args .k) (c .before .before .before .before .if1 .left),
+    ))  -- mul-work
+    (λ c. omega (
+      arith,
+      room-left (c .before .before .before .before .before .before .args .work .now)
+          (c .before .before .before .before .before .before .args .k) (c .before .before .before .before .if1 .left),
+      c .before .before .slide .kept .0,
+    ))  -- slice-write-work
     (λ c. search needs)  -- same-length
-    (λ c. pop-done (c .before .before .before .before .before .before .args .work .now) (c .before .before .before .before .before .before .args .k) (c .before .before .slide .last .0) _ (c .before .before .slide .ensures) refl (c .before .before .before .before .if1 .left)))  -- returns-2
+    (λ c. pop-done (c .before .before .before .before .before .before .args .work .now)
+    (c .before .before .before .before .before .before .args .k) (c .before .before .slide .last .0) _
+    (c .before .before .slide .ensures) refl (c .before .before .before .before .if1 .left)))  -- returns-2

@@ -27,12 +27,15 @@ pop-words-spec = tie.close (tie.spec
     (λ c.
     let turn = c .before .before .before .before .before in (
       search needs,
-      pop-next (turn .before .before .args .work .now) (turn .before .before .args .n) (turn .loop .left) (turn .loop .work) (turn .loop .inv .1)
+      pop-next (turn .before .before .args .work .now) (turn .before .before .args .n) (turn .loop .left)
+          (turn .loop .work) (turn .loop .inv .1)
           (c .before .before .pop-to .ensures) (omega arith) (turn .loop .inv .0),
       c .before .before .pop-to .kept .0 ∙ turn .loop .inv .2,
     ))  -- loop-again
     (λ c. c .before .loop .inv .2)  -- same-length
     (λ c.
-    let z : c .before .before .before .args .n - c .before .loop .left ≡ c .before .before .before .args .n = omega arith in
+    let z : c .before .before .before .args .n - c .before .loop .left ≡ c .before .before .before .args .n =
+    omega arith in
     c .before .loop .inv .1
-    ∙ ap (λ (i : ℕ). storeOf (c .before .before .before .args .work .now) 0 (popsOf i (loadOf (c .before .before .before .args .work .now) 0))) z))  -- returns
+    ∙ ap (λ (i : ℕ). storeOf (c .before .before .before .args .work .now) 0
+    (popsOf i (loadOf (c .before .before .before .args .work .now) 0))) z))  -- returns

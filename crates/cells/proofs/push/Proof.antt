@@ -1,4 +1,5 @@
--- `cells::push` meets its contract. The invariant: so many words are pushed along, and the next is held. Assumes nothing.
+-- `cells::push` meets its contract. The invariant: so many words are pushed along, and the next is held.
+-- Assumes nothing.
 use borrow.Author.Needs.{needs}
 use mathlib.Core.Path.{_≡_, refl, sym}
 use mathlib.Core.List.{_∷_}
@@ -14,7 +15,8 @@ use Rattle.cells.proofs.push.Tie as tie
 
 abbrev Inv-loop : tie.InvT-loop
 Inv-loop work₀ w held₀ i₀ work held i =
-    (i ≤ cell-words) × (work ≡ paste work₀ 0 (w ∷ work₀) i) × (held ≡ getD (w ∷ work₀) i 0) × (length work ≡ length work₀) × (cell-words ≤ length work₀)
+    (i ≤ cell-words) × (work ≡ paste work₀ 0 (w ∷ work₀) i) × (held ≡ getD (w ∷ work₀) i 0)
+    × (length work ≡ length work₀) × (cell-words ≤ length work₀)
 
 abbrev μ-loop : tie.MeasureT-loop
 μ-loop work₀ w held₀ i₀ work held i = cell-words - i
@@ -40,15 +42,20 @@ push-spec = tie.close (tie.spec
     (λ c. search needs)  -- loop-less
     (λ c. (
       search needs,
-      push-turn (c .before .before .before .before .args .work .now) (c .before .before .before .before .args .w) (c .before .before .loop .i) (c .before .before .loop .work)
-          (c .before .before .loop .inv .1) (omega arith) (c .before .before .loop .held) (c .before .before .loop .inv .2),
-      push-held (c .before .before .before .before .args .work .now) (c .before .before .before .before .args .w) (c .before .before .loop .i) (c .before .before .loop .work)
+      push-turn (c .before .before .before .before .args .work .now) (c .before .before .before .before .args .w)
+          (c .before .before .loop .i) (c .before .before .loop .work)
+          (c .before .before .loop .inv .1) (omega arith) (c .before .before .loop .held)
+          (c .before .before .loop .inv .2),
+      push-held (c .before .before .before .before .args .work .now) (c .before .before .before .before .args .w)
+          (c .before .before .loop .i) (c .before .before .loop .work)
           (c .before .before .loop .inv .1) (omega arith),
       simp
           length-set (omega arith),
       c .before .before .loop .inv .4,
     ))  -- loop-again
     (λ c. search needs)  -- same-length
-    (λ c. push-done (c .before .before .before .args .work .now) (c .before .before .before .args .w) (c .before .loop .work)
-    (copy-done (c .before .before .before .args .work .now) 0 (c .before .before .before .args .w ∷ c .before .before .before .args .work .now) (c .before .loop .i) 16
+    (λ c. push-done (c .before .before .before .args .work .now) (c .before .before .before .args .w)
+    (c .before .loop .work)
+    (copy-done (c .before .before .before .args .work .now) 0
+    (c .before .before .before .args .w ∷ c .before .before .before .args .work .now) (c .before .loop .i) 16
     (c .before .loop .work) (c .before .loop .inv .1) (omega arith)) (omega arith)))  -- returns-2

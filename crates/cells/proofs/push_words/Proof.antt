@@ -11,7 +11,8 @@ use Rattle.cells.proofs.push_words.Tie as tie
 
 abbrev Inv-loop : tie.InvT-loop
 Inv-loop work₀ words k₀ work k =
-    (k ≤ length words) × (work ≡ storeOf work₀ 0 (pushesOf (drop k words) (loadOf work₀ 0))) × (length work ≡ length work₀)
+    (k ≤ length words) × (work ≡ storeOf work₀ 0 (pushesOf (drop k words) (loadOf work₀ 0)))
+    × (length work ≡ length work₀)
 
 abbrev μ-loop : tie.MeasureT-loop
 μ-loop work₀ words k₀ work k = k
@@ -20,7 +21,11 @@ pub push-words-spec : {M : Type 1} → statement M
 push-words-spec = tie.close (tie.spec
     Inv-loop
     μ-loop
-    (λ c. (search needs, push-none (c .before .before .args .work .now) (c .before .before .args .words .now), refl))  -- loop-holds
+    (λ c. (
+      search needs,
+      push-none (c .before .before .args .work .now) (c .before .before .args .words .now),
+      refl,
+    ))  -- loop-holds
     (λ c. search needs)  -- sub-k
     (λ c. search needs)  -- mul-push
     (λ c. search needs)  -- shared-slice-read-push
@@ -30,11 +35,14 @@ push-words-spec = tie.close (tie.spec
     let turn = c .before .before .before .before .before .before in
     let a = turn .before .before .before .args in (
       search needs,
-      push-next (a .work .now) (a .words .now) (turn .loop .k) (turn .loop .work) (turn .loop .inv .1) (c .before .before .push .ensures) (omega arith) (turn .loop .inv .0),
+      push-next (a .work .now) (a .words .now) (turn .loop .k) (turn .loop .work) (turn .loop .inv .1)
+          (c .before .before .push .ensures) (omega arith) (turn .loop .inv .0),
       c .before .before .push .kept .0 ∙ turn .loop .inv .2,
     ))  -- loop-again
     (λ c. c .before .loop .inv .2)  -- same-length
     (λ c.
     let a = c .before .before .before .before .args in
     let z : c .before .loop .k ≡ 0 = omega arith in
-    c .before .loop .inv .1 ∙ ap (λ (i : ℕ). storeOf (a .work .now) 0 (pushesOf (drop i (a .words .now)) (loadOf (a .work .now) 0))) z))  -- returns
+    c .before .loop .inv .1
+    ∙ ap (λ (i : ℕ). storeOf (a .work .now) 0 (pushesOf (drop i (a .words .now)) (loadOf (a .work .now) 0)))
+    z))  -- returns

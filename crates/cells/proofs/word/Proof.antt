@@ -10,4 +10,5 @@ word-spec = tie.close (tie.spec
     (λ c. search needs)  -- mul-result
     (λ c. search needs)  -- shared-slice-read-result
     (λ c. search needs)  -- returns
-    (λ c. sym (List·getD-eq-default (c .before .args .work .now) 0 {n = c .before .args .at} (c .if1 .left))))  -- returns-2
+    (λ c.
+    sym (List·getD-eq-default (c .before .args .work .now) 0 {n = c .before .args .at} (c .if1 .left))))  -- returns-2

@@ -21,7 +21,8 @@ loadOf ws k = cond (ltb k (cellCount ws)) (cellOf ws k) (zeros cell-words)
 
 -- ws with cell k replaced; unchanged where there is no such cell
 unfoldable pub storeOf : List ℕ → ℕ → List ℕ → List ℕ
-storeOf ws k words = cond (ltb k (cellCount ws)) (take (cell-words * k) ws ++ (words ++ drop (cell-words * k + cell-words) ws)) ws
+storeOf ws k words =
+    cond (ltb k (cellCount ws)) (take (cell-words * k) ws ++ (words ++ drop (cell-words * k + cell-words) ws)) ws
 
 -- a word in front; the last word goes
 unfoldable pub pushOf : ℕ → List ℕ → List ℕ

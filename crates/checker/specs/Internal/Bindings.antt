@@ -1,4 +1,5 @@
--- What enclosing cases bind, as words: for each case the number of the type that it binds and the members of its label, outermost first.
+-- What enclosing cases bind, as words: for each case the number of the type that it binds and the members of its label,
+-- outermost first.
 use mathlib.Core.List.{List, [], _∷_}
 use Prim.Native.Nat.{ℕ, zero, suc, _+_, _*_, _-_, _%_}
 use mathlib.Core.Bool.{cond}

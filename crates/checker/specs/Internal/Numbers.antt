@@ -7,7 +7,8 @@ use lib.Dec.{eqb}
 use Rattle.labels.specs.declared.Label.{Label}
 use Rattle.labels.specs.Labels.{belowOf, joinOf, confidentialityOf, integrityOf, bottomOf}
 use Rattle.logic.specs.Booleans.{both}
-use Rattle.language.specs.Syntax.{Part, pick, Expr, val, loc, var, plus, left, right, pack, unpack, pairing, proj, Cmd, skip, seq, assign, while, case}
+use Rattle.language.specs.Syntax.{Part, pick, Expr, val, loc, var, plus, left, right, pack, unpack, pairing, proj, Cmd}
+use Rattle.language.specs.Syntax.{skip, seq, assign, while, case}
 use Rattle.language.specs.Declarations.{nth}
 use Rattle.language.specs.Typing.{Conditions}
 use Rattle.sheet.specs.Internal.TypeTest.{isSum, isPair}
@@ -52,8 +53,8 @@ unfoldable pub partNo : List ℕ → Part → Option ℕ → Option ℕ
 partNo t p none = none
 partNo t p (some n) = givenNo (isPair t n) (pick p (leftIn t n) (rightIn t n))
 
--- The number of an expression's type, if it has one; Γ holds the numbers of the types that enclosing cases bind, innermost
--- first. A script's only literals are integers.
+-- The number of an expression's type, if it has one; Γ holds the numbers of the types that enclosing cases bind,
+-- innermost first. A script's only literals are integers.
 unfoldable pub typeNo : List ℕ → List ℕ → Expr → Option ℕ
 typeNo t Γ (val v) = some 0
 typeNo t Γ (loc x) = some (typeIn t x)

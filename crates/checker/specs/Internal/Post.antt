@@ -39,9 +39,11 @@ pub record ChecksExpr (ws : List ℕ) (at : ℕ) (t s : List ℕ) (d : ℕ) (x :
   pub means : (e : Expr) (rest : List Line) → SourceE e → drop at ws ≡ code (exprLines e rest) → Room s d
       → Finds t (boundTypes s d) (boundLabels s d) e x × (drop (x .next) ws ≡ code rest)
 
--- r is what a plus, or otherwise a pair of type n, makes of its first operand x and of its second, which stands after it
+-- r is what a plus, or otherwise a pair of type n, makes of its first operand x and of its second,
+-- which stands after it
 abbrev pub ChecksSecond : List ℕ → List ℕ → List ℕ → ℕ → Bool → ℕ → Typed → Typed → Type 0
-ChecksSecond ws t s d plus n x r = (y : Typed) × ChecksExpr ws (x .next) t s d y × (r ≡ cond plus (plusTyped x y) (pairTyped t n x y))
+ChecksSecond ws t s d plus n x r =
+    (y : Typed) × ChecksExpr ws (x .next) t s d y × (r ≡ cond plus (plusTyped x y) (pairTyped t n x y))
 
 -- s′ has as many words as s, and binds what s binds for d cases
 pub record Kept (s s′ : List ℕ) (d : ℕ) : Type 0 where
@@ -58,19 +60,22 @@ pub record Passes (t Γ : List ℕ) (pc : ℕ) (Δ : List ℕ) (c : Cmd) (x : Pa
 pub record ChecksCmd (ws : List ℕ) (at : ℕ) (t s : List ℕ) (d pc : ℕ) (x : Passed) (s′ : List ℕ) : Type 0 where
   pub onward : at ≤ x .next
   pub kept : Kept s s′ d
-  pub means : (k : Counts) (c : Cmd) (rest : List Line) → Source c → drop at ws ≡ code (cmdLines c rest) → named k d c ≡ true → Room s d
+  pub means : (k : Counts) (c : Cmd) (rest : List Line) → Source c → drop at ws ≡ code (cmdLines c rest)
+      → named k d c ≡ true → Room s d
       → Passes t (boundTypes s d) pc (boundLabels s d) c x × (drop (x .next) ws ≡ code rest)
 
 -- r is the number of the verdict (`verdictNumber`: 0, 5 or 6). For the code and the start of a script whose command
 -- names what is there, with the table of a sheet of the right form that repeats nothing, it is the scope's number.
 pub record ChecksCode (ws t : List ℕ) (start r : ℕ) : Type 0 where
-  pub exact : (s : Sheet) → formed s ≡ true → repeats s ≡ false → t ≡ tableOf s → (k : Counts) (p : Script) → Source (p .command)
+  pub exact : (s : Sheet) → formed s ≡ true → repeats s ≡ false → t ≡ tableOf s → (k : Counts) (p : Script)
+      → Source (p .command)
       → named k 0 (p .command) ≡ true → ws ≡ code (cmdLines (p .command) []) → start ≡ startNo (p .opening .start)
       → r ≡ refusal (labelsOver (s .principals)) (declarationsOf s) p
 
 -- For such code and such a table r says whether the script is trust-keeping.
 pub record KeepsCode (ws t : List ℕ) (r : Bool) : Type 0 where
-  pub says : (s : Sheet) → formed s ≡ true → t ≡ tableOf s → (k : Counts) (p : Script) → Source (p .command) → named k 0 (p .command) ≡ true
+  pub says : (s : Sheet) → formed s ≡ true → t ≡ tableOf s → (k : Counts) (p : Script) → Source (p .command)
+      → named k 0 (p .command) ≡ true
       → ws ≡ code (cmdLines (p .command) []) → r ≡ trustKeeping (labelsOver (s .principals)) (declarationsOf s) p
 
 -- what is found of a script, by whether its types fit and whether its label conditions hold

@@ -15,7 +15,8 @@ returns c =
     let k = c .before .before .before in
     let s = k .before .before .before .before .args .s .now in
     let e = set-at s 0 _ (k .before .before .set .ensures) _ _ (k .m .given .1) in
-    sym (ap groupAnswer (only-whole _ s (k .m .given .0 .0) (k .m .given .0 .1 .0) (e .0) (sym (c .before .closes .ensures) ∙ c .if1 .taken)))
+    sym (ap groupAnswer (only-whole _ s (k .m .given .0 .0) (k .m .given .0 .1 .0) (e .0)
+    (sym (c .before .closes .ensures) ∙ c .if1 .taken)))
 
 returns-2 : tie.Need-returns-2
 unfolding groupOf Option·elim
@@ -23,7 +24,8 @@ returns-2 c =
     let k = c .before .before .before in
     let s = k .before .before .before .before .args .s .now in
     let e = set-at s 0 _ (k .before .before .set .ensures) _ _ (k .m .given .1) in
-    sym (ap groupAnswer (only-part _ s (k .m .given .0 .0) (k .m .given .0 .1 .0) (e .0) (sym (c .before .closes .ensures) ∙ c .if1 .left)))
+    sym (ap groupAnswer
+    (only-part _ s (k .m .given .0 .0) (k .m .given .0 .1 .0) (e .0) (sym (c .before .closes .ensures) ∙ c .if1 .left)))
 
 returns-3 : tie.Need-returns-3
 unfolding groupOf Option·elim

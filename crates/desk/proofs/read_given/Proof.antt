@@ -18,7 +18,8 @@ unfolding givenOf numberBy
 returns c =
     let g = c .before .before in
     let m = g .before .before .before in
-    rw (group-refused _ _ (g .group-line .ensures) (c .enum-told .given .1)) (given-is _ _ (m .read-memory .ensures) none _ refl)
+    rw (group-refused _ _ (g .group-line .ensures) (c .enum-told .given .1))
+    (given-is _ _ (m .read-memory .ensures) none _ refl)
 
 returns-2 : tie.Need-returns-2
 unfolding givenOf numberBy
@@ -26,7 +27,8 @@ returns-2 c =
     let k = c .before .before .before in
     let g = k .before .before in
     let m = g .before .before .before in
-    rw (group-read _ _ (g .group-line .ensures) _ (k .g .given .1)) (given-is _ _ (m .read-memory .ensures) (some _) _ (c .enum-told2 .given .1))
+    rw (group-read _ _ (g .group-line .ensures) _ (k .g .given .1))
+    (given-is _ _ (m .read-memory .ensures) (some _) _ (c .enum-told2 .given .1))
 
 returns-3 : tie.Need-returns-3
 unfolding givenOf numberBy
@@ -34,7 +36,8 @@ returns-3 c =
     let k = c .before .before .before in
     let g = k .before .before in
     let m = g .before .before .before in
-    rw (group-read _ _ (g .group-line .ensures) _ (k .g .given .1)) (given-is _ _ (m .read-memory .ensures) (some _) _ (c .enum-told3 .given .1))
+    rw (group-read _ _ (g .group-line .ensures) _ (k .g .given .1))
+    (given-is _ _ (m .read-memory .ensures) (some _) _ (c .enum-told3 .given .1))
 
 pub read-given-spec : {M : Type 1} → statement M
 read-given-spec = tie.close (tie.spec

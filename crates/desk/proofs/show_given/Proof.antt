@@ -14,7 +14,8 @@ use Rattle.desk.proofs.show_given.Statement.{statement}
 use Rattle.desk.proofs.show_given.Tie as tie
 
 slice-aggregate-simp-view : tie.Need-slice-aggregate-simp-view
-slice-aggregate-simp-view c = let t = c .before .before .before .before in sym (words-length (t .args .given) (t .pre .0))
+slice-aggregate-simp-view c =
+    let t = c .before .before .before .before in sym (words-length (t .args .given) (t .pre .0))
 
 slice-aggregate-simp-view-2 : tie.Need-slice-aggregate-simp-view-2
 slice-aggregate-simp-view-2 c =
@@ -25,13 +26,15 @@ array-share-prefix-view : tie.Need-array-share-prefix-view
 array-share-prefix-view c =
     let v = c .before .before .before in
     let t = v .before .before .before .before .before .before in
-    part-fits (t .args .given .count) (v .simp-view .last .1 .1 .1 .0) (replicate memoryWords 0) (v .simp-view .kept .1 .1 .1 .0) (t .pre .0 .few)
+    part-fits (t .args .given .count) (v .simp-view .last .1 .1 .1 .0) (replicate memoryWords 0)
+    (v .simp-view .kept .1 .1 .1 .0) (t .pre .0 .few)
 
 slice-aggregate-write-memory : tie.Need-slice-aggregate-write-memory
 slice-aggregate-write-memory c =
     let v = c .before .before .before .before in
     let t = v .before .before .before .before .before .before in
-    part-count (t .args .given .count) (v .simp-view .last .1 .1 .1 .0) (replicate memoryWords 0) (v .simp-view .kept .1 .1 .1 .0) (t .pre .0 .few)
+    part-count (t .args .given .count) (v .simp-view .last .1 .1 .1 .0) (replicate memoryWords 0)
+    (v .simp-view .kept .1 .1 .1 .0) (t .pre .0 .few)
 
 returns : tie.Need-returns
 returns c =
@@ -43,9 +46,12 @@ returns c =
     let x = v .simp-view .last .1 .1 .1 .0 in
     let n = part-length (g .count) x (replicate memoryWords 0) (v .simp-view .kept .1 .1 .1 .0) (t .pre .0 .few) in
     put-same _ _ _ _ _
-    (view-shown (t .args .sheet .now) g _ x (t .pre .0) (v .simp-view .ensures) _ (k .before .number .ensures) (k .if1 .taken))
-    (memory-puts (t .args .out .now) _ x _ _ (part-is (g .count) x (replicate memoryWords 0) (v .simp-view .kept .1 .1 .1 .0) (t .pre .0 .few))
-    (m .write-memory .ensures .0) (m .write-memory .ensures .1) (ap (λ (i : ℕ). i % cell-words) n ∙ t .pre .0 .whole) (omega (arith, t .pre .0 .few)) (omega (arith, t .pre .1)))
+    (view-shown (t .args .sheet .now) g _ x (t .pre .0) (v .simp-view .ensures) _ (k .before .number .ensures)
+    (k .if1 .taken))
+    (memory-puts (t .args .out .now) _ x _ _
+    (part-is (g .count) x (replicate memoryWords 0) (v .simp-view .kept .1 .1 .1 .0) (t .pre .0 .few))
+    (m .write-memory .ensures .0) (m .write-memory .ensures .1) (ap (λ (i : ℕ). i % cell-words) n ∙ t .pre .0 .whole)
+    (omega (arith, t .pre .0 .few)) (omega (arith, t .pre .1)))
 
 returns-2 : tie.Need-returns-2
 returns-2 c =
@@ -54,7 +60,8 @@ returns-2 c =
     let v = k .before .before .before in
     let t = v .before .before .before .before .before .before in
     put-same _ _ _ _ _
-    (view-number (t .args .sheet .now) (t .args .given) _ _ (t .pre .0) (v .simp-view .ensures) _ (k .before .number .ensures) (k .if1 .left))
+    (view-number (t .args .sheet .now) (t .args .given) _ _ (t .pre .0) (v .simp-view .ensures) _
+    (k .before .number .ensures) (k .if1 .left))
     (p .put-line .ensures)
 
 pub show-given-spec : {M : Type 1} → statement M

@@ -9,7 +9,8 @@ unfolding showHeld showParts
 returns c =
     let s = c .before .before in
     let t = s .before .before in
-    rw (← t .before .before .text-in .ensures, ← t .before .text-in2 .ensures, ← t .text-in3 .ensures) (s .show .ensures)
+    rw (← t .before .before .text-in .ensures, ← t .before .text-in2 .ensures, ← t .text-in3 .ensures)
+    (s .show .ensures)
 
 pub show-input-spec : {M : Type 1} → statement M
 show-input-spec = tie.close (tie.spec

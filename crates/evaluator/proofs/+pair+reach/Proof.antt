@@ -69,14 +69,23 @@ unfolding opKind
     (pair-at t)
     pair.Post
     (λ c. omega (arith, pair-within _ _ (c .before .before .pre .1)))  -- add-reach
-    (λ c κs. (omega (arith, pair-within _ _ (c .before .before .before .pre .1), c .before .before .before .pre .0), tt))  -- reach-requires
-    (λ c. laws.eval-pair-end refl (c .before .reach .ensures) (c .before .before .before .before .before .pre .1) (end-none _ (c .if1 .taken)))  -- returns
+    (λ c κs. (
+      omega (arith, pair-within _ _ (c .before .before .before .pre .1), c .before .before .before .pre .0),
+      tt,
+    ))  -- reach-requires
+    (λ c. laws.eval-pair-end refl (c .before .reach .ensures) (c .before .before .before .before .before .pre .1)
+    (end-none _ (c .if1 .taken)))  -- returns
     (λ c κs. search needs)  -- load-requires
     (λ c κs. search needs)  -- row-at-requires
     (λ c κs.
     let past = c .before .before .before .before .before .before .before in
     let start = past .before .before .before .before .before in (
-      omega (arith, pair-within _ _ (start .pre .1), start .pre .0, past .before .reach .ensures .forward (end-done _ (past .if1 .left))),
+      omega (
+        arith,
+        pair-within _ _ (start .pre .1),
+        start .pre .0,
+        past .before .reach .ensures .forward (end-done _ (past .if1 .left)),
+      ),
       rw (c .before .before .before .row-at .ensures) at (c .before .if2 .taken),
     ))  -- pair-requires
     (λ c κs. search needs)  -- pair-requires-2
@@ -84,18 +93,27 @@ unfolding opKind
     let second = c .before .before .before in
     let first = second .before .before .before .before .before in
     let past = first .before .before .before in
-    laws.eval-pair refl (past .before .reach .ensures) (past .before .before .before .before .before .pre .1) (end-done _ (past .if1 .left)) (first .load .ensures)
+    laws.eval-pair refl (past .before .reach .ensures) (past .before .before .before .before .before .pre .1)
+    (end-done _ (past .if1 .left)) (first .load .ensures)
     (second .pair .ensures) (c .pair2 .ensures))  -- returns-2
     (λ c κs.
     let past = c .before .before .before .before .before .before .before in
-    let start = past .before .before .before .before .before in
-    (omega (arith, pair-within _ _ (start .pre .1), start .pre .0, past .before .reach .ensures .forward (end-done _ (past .if1 .left))), tt))  -- reach-requires-2
+    let start = past .before .before .before .before .before in (
+      omega (
+        arith,
+        pair-within _ _ (start .pre .1),
+        start .pre .0,
+        past .before .reach .ensures .forward (end-done _ (past .if1 .left)),
+      ),
+      tt,
+    ))  -- reach-requires-2
     (λ c κs. search needs)  -- pair-requires-3
     (λ c.
     let second = c .before .before .before in
     let first = second .before .before .before .before .before in
     let past = first .before .before .before in
-    laws.eval-pair refl (past .before .reach .ensures) (past .before .before .before .before .before .pre .1) (end-done _ (past .if1 .left)) (first .load .ensures)
+    laws.eval-pair refl (past .before .reach .ensures) (past .before .before .before .before .before .pre .1)
+    (end-done _ (past .if1 .left)) (first .load .ensures)
     (second .reach2 .ensures) (c .pair3 .ensures)))  -- returns-3
     λ t. reach-lts.spec (
       row-at-reads.Asked,
@@ -119,24 +137,65 @@ unfolding opKind
     reach.Post
     (λ c κs. search needs)  -- row-at-requires
     (λ c κs. search needs)  -- literal-requires
-    (λ c. omega (arith, row-within _ _ (c .before .before .before .row-at .ensures) (omega (arith, c .before .before .match .keys1))))  -- add-result
+    (λ c. omega (
+      arith,
+      row-within _ _ (c .before .before .before .row-at .ensures) (omega (arith, c .before .before .match .keys1)),
+    ))  -- add-result
     (λ c κs. search needs)  -- location-requires
-    (λ c. omega (arith, row-within _ _ (c .before .before .before .row-at .ensures) (omega (arith, c .before .before .match .keys2))))  -- add-result-2
+    (λ c. omega (
+      arith,
+      row-within _ _ (c .before .before .before .row-at .ensures) (omega (arith, c .before .before .match .keys2)),
+    ))  -- add-result-2
     (λ c κs. search needs)  -- variable-requires
-    (λ c. omega (arith, row-within _ _ (c .before .before .before .row-at .ensures) (omega (arith, c .before .before .match .keys3))))  -- add-result-3
-    (λ c κs. (omega (arith, c .before .before .before .before .before .pre .0), rw (c .before .before .row-at .ensures) at (c .before .match .keys4)))  -- pair-requires
+    (λ c. omega (
+      arith,
+      row-within _ _ (c .before .before .before .row-at .ensures) (omega (arith, c .before .before .match .keys3)),
+    ))  -- add-result-3
+    (λ c κs. (
+      omega (arith, c .before .before .before .before .before .pre .0),
+      rw (c .before .before .row-at .ensures) at (c .before .match .keys4),
+    ))  -- pair-requires
     (λ c. omega (arith, row-within _ _ (c .before .before .before .row-at .ensures) (omega arith)))  -- add-reach
-    (λ c κs. (omega (arith, row-within _ _ (c .before .before .before .before .row-at .ensures) (omega arith)), tt))  -- reach-requires
+    (λ c κs. (
+      omega (arith, row-within _ _ (c .before .before .before .before .row-at .ensures) (omega arith)),
+      tt,
+    ))  -- reach-requires
     (λ c κs. search needs)  -- applied-requires
-    (λ c. laws.eval-one (c .before .before .before .before .before .before .before .before .row-at .ensures) (c .before .before .before .reach .ensures) (none-past 6 3 (c .before .before .before .before .before .before .before .match .rest .0) (c .before .before .before .before .before .before .if1 .left)) (omega (arith, c .before .before .before .before .before .if2 .taken)) (c .before .before .if3 .taken) (c .before .before .before .before .before .before .before .match .rest .1) (c .applied .ensures))  -- returns
-    (λ c. laws.eval-plus-end (c .before .before .before .before .before .before .before .row-at .ensures) (c .before .before .reach .ensures) (c .before .if3 .left) (end-none _ (c .if4 .taken)))  -- returns-2
+    (λ c. laws.eval-one (c .before .before .before .before .before .before .before .before .row-at .ensures)
+    (c .before .before .before .reach .ensures)
+    (none-past 6 3 (c .before .before .before .before .before .before .before .match .rest .0)
+    (c .before .before .before .before .before .before .if1 .left))
+    (omega (arith, c .before .before .before .before .before .if2 .taken)) (c .before .before .if3 .taken)
+    (c .before .before .before .before .before .before .before .match .rest .1) (c .applied .ensures))  -- returns
+    (λ c. laws.eval-plus-end (c .before .before .before .before .before .before .before .row-at .ensures)
+    (c .before .before .reach .ensures) (c .before .if3 .left) (end-none _ (c .if4 .taken)))  -- returns-2
     (λ c κs. search needs)  -- word-requires
-    (λ c κs. (omega (arith, row-within _ _ (c .before .before .before .before .before .before .before .before .before .before .before .row-at .ensures) (omega arith), c .before .before .before .before .before .before .reach .ensures .forward (end-done _ (c .before .before .before .before .if4 .left))), tt))  -- reach-requires-2
+    (λ c κs. (
+      omega (
+        arith,
+        row-within _ _
+            (c .before .before .before .before .before .before .before .before .before .before .before .row-at .ensures)
+            (omega arith),
+        c .before .before .before .before .before .before .reach .ensures .forward
+            (end-done _ (c .before .before .before .before .if4 .left)),
+      ),
+      tt,
+    ))  -- reach-requires-2
     (λ c κs. search needs)  -- applied-requires-2
-    (λ c. laws.eval-int (c .before .before .before .row-at .ensures) (c .before .before .match .keys1) (c .literal .ensures))  -- returns-3
-    (λ c. laws.eval-loc (c .before .before .before .row-at .ensures) (c .before .before .match .keys2) (c .location .ensures))  -- returns-4
-    (λ c. laws.eval-var (c .before .before .before .row-at .ensures) (c .before .before .match .keys3) (c .variable .ensures))  -- returns-5
+    (λ c. laws.eval-int (c .before .before .before .row-at .ensures) (c .before .before .match .keys1)
+    (c .literal .ensures))  -- returns-3
+    (λ c. laws.eval-loc (c .before .before .before .row-at .ensures) (c .before .before .match .keys2)
+    (c .location .ensures))  -- returns-4
+    (λ c. laws.eval-var (c .before .before .before .row-at .ensures) (c .before .before .match .keys3)
+    (c .variable .ensures))  -- returns-5
     (λ c. c .pair .ensures)  -- returns-6
-    (λ c. laws.eval-plus (c .before .before .before .before .before .before .before .before .before .before .before .before .before .before .row-at .ensures) (c .before .before .before .before .before .before .before .before .before .reach .ensures) (c .before .before .before .before .before .before .before .before .if3 .left) (end-done _ (c .before .before .before .before .before .before .before .if4 .left)) (c .before .before .before .before .word .ensures) (c .before .before .reach2 .ensures) (c .applied2 .ensures o-plus (c .before .before .before .before .before .before .before .before .if3 .left)))  -- returns-7
+    (λ c. laws.eval-plus (c .before .before .before .before .before .before .before .before .before .before .before
+    .before .before .before .row-at .ensures)
+    (c .before .before .before .before .before .before .before .before .before .reach .ensures)
+    (c .before .before .before .before .before .before .before .before .if3 .left)
+    (end-done _ (c .before .before .before .before .before .before .before .if4 .left))
+    (c .before .before .before .before .word .ensures) (c .before .before .reach2 .ensures) (c .applied2 .ensures o-plus
+    (c .before .before .before .before .before .before .before .before .if3 .left)))  -- returns-7
     (λ c. laws.eval-none (c .before .before .row-at .ensures) (λ h. omega (arith, h .0, c .if1 .taken)))  -- returns-8
-    (λ c. laws.eval-none (c .before .before .before .row-at .ensures) (λ h. omega (arith, h .1, c .if2 .left)))  -- returns-9
+    (λ c. laws.eval-none (c .before .before .before .row-at .ensures)
+    (λ h. omega (arith, h .1, c .if2 .left)))  -- returns-9

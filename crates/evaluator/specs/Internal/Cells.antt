@@ -1,6 +1,6 @@
 -- Where a run keeps its values: one list of cells (crate cells).
--- Cell 0 is the accumulator, the value of the expression just evaluated; cell d holds what the case at depth d binds; the
--- locations follow.
+-- Cell 0 is the accumulator, the value of the expression just evaluated; cell d holds what the case at depth d binds;
+-- the locations follow.
 use mathlib.Core.Path.{_≡_}
 use mathlib.Core.List.{List, [], _∷_}
 use Prim.Native.Nat.{ℕ, suc, _+_, _*_, _≤_, _<_}
@@ -24,7 +24,8 @@ workWords = cell-words * (firstLocation + maxLocations)
 -- The cells hold what the enclosing cases bind, the innermost at the given depth.
 pub data Binds (work : List ℕ) : ℕ → Env → Type 0 where
   bound-none : Binds work 0 []
-  bound-more : {depth : ℕ} {v : Value} {ρ : Env} → cellOf work (suc depth) ≡ cell v → Binds work depth ρ → Binds work (suc depth) (v ∷ ρ)
+  bound-more : {depth : ℕ} {v : Value} {ρ : Env} → cellOf work (suc depth) ≡ cell v → Binds work depth ρ
+      → Binds work (suc depth) (v ∷ ρ)
 
 -- The cells hold the memory M of so many locations, and the environment ρ.
 pub record CellsHold (work : List ℕ) (locations depth : ℕ) (M : Mem) (ρ : Env) : Type 0 where

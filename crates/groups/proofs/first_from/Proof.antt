@@ -23,7 +23,8 @@ in-width : (c : tie.In-loop Inv-loop μ-loop) → c .before .loop .group < 2 ^ w
 in-width c = omega (arith, c .loop-test .taken, c .before .before .pre .1)
 
 -- the group reads
-it-reads : (c : tie.Else1 Inv-loop μ-loop) → readsBy (c .before .before .before .before .args .readers) (c .before .before .before .loop .group) ≡ true
+it-reads : (c : tie.Else1 Inv-loop μ-loop)
+    → readsBy (c .before .before .before .before .args .readers) (c .before .before .before .loop .group) ≡ true
 it-reads c = sym (c .before .reads .ensures) ∙ not-false _ (c .if1 .left)
 
 returns : tie.Need-returns Inv-loop μ-loop
@@ -31,7 +32,8 @@ returns c =
     let e = c .before .before in
     let i = e .before .before in
     let s = i .before .before in
-    found-first _ _ (i .before .loop .inv) (readers-grow _) (s .pre .0) (i .loop-test .taken) (s .pre .1) (it-reads e) (c .before .needs-each .ensures) (c .if2 .taken)
+    found-first _ _ (i .before .loop .inv) (readers-grow _) (s .pre .0) (i .loop-test .taken) (s .pre .1) (it-reads e)
+    (c .before .needs-each .ensures) (c .if2 .taken)
 
 loop-again-2 : tie.Need-loop-again-2 Inv-loop μ-loop
 loop-again-2 c =
@@ -40,7 +42,8 @@ loop-again-2 c =
     let i = e .before .before in
     let s = i .before .before in
     rw (c .past-holders .ensures)
-    (past-on _ _ (i .before .loop .inv) (readers-grow _) (s .pre .0) (i .loop-test .taken) (s .pre .1) (it-reads e) (t .before .needs-each .ensures) (t .if2 .left))
+    (past-on _ _ (i .before .loop .inv) (readers-grow _) (s .pre .0) (i .loop-test .taken) (s .pre .1) (it-reads e)
+    (t .before .needs-each .ensures) (t .if2 .left))
 
 pub first-from-spec : {M : Type 1} → statement M
 first-from-spec = tie.close (tie.spec
@@ -51,7 +54,8 @@ first-from-spec = tie.close (tie.spec
     (λ c κs. search needs)  -- reads-requires
     (λ c. omega (arith, in-width (c .before .before)))  -- add-group
     (λ c. omega (arith, c .before .before .loop-test .taken))  -- loop-less
-    (λ c. silent-on _ _ (c .before .before .before .loop .inv) (sym (c .before .reads .ensures) ∙ not-true _ (c .if1 .taken)))  -- loop-again
+    (λ c. silent-on _ _ (c .before .before .before .loop .inv)
+    (sym (c .before .reads .ensures) ∙ not-true _ (c .if1 .taken)))  -- loop-again
     (λ c. omega (arith, in-width (c .before .before)))  -- cast-needs-each
     (λ c κs. search needs)  -- needs-each-requires
     returns

@@ -29,7 +29,8 @@ pub list-on-spec : {M : Type 1} → statement M
 list-on-spec = tie.close (tie.spec
     (λ c κs. search needs)  -- labels-requires
     (λ c κs. search needs)  -- refused-requires
-    (λ c. rw (c .refused .ensures) (lists-no-label _ _ _ (omega (arith, c .before .before .labels .ensures, c .before .if1 .taken))))  -- returns
+    (λ c. rw (c .refused .ensures)
+    (lists-no-label _ _ _ (omega (arith, c .before .before .labels .ensures, c .before .if1 .taken))))  -- returns
     (λ c κs. search needs)  -- readers-of-requires
     (λ c κs. search needs)  -- everyone-requires
     (λ c. search needs)  -- cast-end
@@ -37,9 +38,11 @@ list-on-spec = tie.close (tie.spec
     (λ c κs. in-width c)  -- count-requires
     (λ c. search needs)  -- cast-if2
     (λ c κs. search needs)  -- refused-requires-2
-    (λ c. rw (c .refused2 .ensures) (lists-few-places _ _ _ (counted (c .before .before)) (c .before .if2 .taken)))  -- returns-2
+    (λ c. rw (c .refused2 .ensures)
+    (lists-few-places _ _ _ (counted (c .before .before)) (c .before .if2 .taken)))  -- returns-2
     (λ c. search needs)  -- cast-list
-    (λ c κs. let n = c .before .before in (in-width (n .before), n .count .ensures, omega (arith, c .before .if2 .left)))  -- list-requires
+    (λ c κs. let n = c .before .before in
+    (in-width (n .before), n .count .ensures, omega (arith, c .before .if2 .left)))  -- list-requires
     (λ c. search needs)  -- same-length
     (λ c.
     let w = c .before .before in

@@ -25,8 +25,12 @@ needs-each-spec = tie.close (tie.spec
     μ-loop
     (λ c. (search needs, λ k l. absurd (not-suc-le-zero l)))  -- loop-holds
     (λ c κs. search needs)  -- reads-without-requires
-    (λ c. not-needs _ _ (c .before .before .before .loop .p) (search needs) (sym (c .before .reads-without .ensures) ∙ c .if1 .taken))  -- returns
+    (λ c. not-needs _ _ (c .before .before .before .loop .p) (search needs)
+    (sym (c .before .reads-without .ensures) ∙ c .if1 .taken))  -- returns
     (λ c. search needs)  -- add-p
     (λ c. search needs)  -- loop-less
-    (λ c. (search needs, below-more _ _ (c .before .before .before .loop .inv .1) (sym (c .before .reads-without .ensures) ∙ c .if1 .left)))  -- loop-again
+    (λ c. (
+      search needs,
+      below-more _ _ (c .before .before .before .loop .inv .1) (sym (c .before .reads-without .ensures) ∙ c .if1 .left),
+    ))  -- loop-again
     (λ c. needs-all _ _ (λ k l. c .before .loop .inv .1 k (omega arith))))  -- returns-2

@@ -13,13 +13,16 @@ reads-without-spec = tie.close (tie.spec
     (λ c.
     let m = c .before in
     let s = m .before in
-    no-member (readsBy (s .before .args .readers)) _ _ _ (s .single .ensures) (s .before .pre) _ (m .meets .ensures) (not-true _ (c .if1 .taken)))  -- returns
+    no-member (readsBy (s .before .args .readers)) _ _ _ (s .single .ensures) (s .before .pre) _ (m .meets .ensures)
+    (not-true _ (c .if1 .taken)))  -- returns
     (λ c.
     let m = c .before in
     let s = m .before in
-    member-le (readsBy (s .before .args .readers)) _ _ _ (s .single .ensures) (s .before .pre) _ (m .meets .ensures) (not-false _ (c .if1 .left)))  -- sub-reads
+    member-le (readsBy (s .before .args .readers)) _ _ _ (s .single .ensures) (s .before .pre) _ (m .meets .ensures)
+    (not-false _ (c .if1 .left)))  -- sub-reads
     (λ c κs. search needs)  -- reads-requires
     (λ c.
     let m = c .before .before in
     let s = m .before in
-    c .reads .ensures ∙ its-member (readsBy (s .before .args .readers)) _ _ _ (s .single .ensures) (s .before .pre) _ (m .meets .ensures) (not-false _ (c .before .if1 .left))))  -- returns-2
+    c .reads .ensures ∙ its-member (readsBy (s .before .args .readers)) _ _ _ (s .single .ensures) (s .before .pre) _
+    (m .meets .ensures) (not-false _ (c .before .if1 .left))))  -- returns-2

@@ -24,7 +24,8 @@ returns-2 c =
     let e = k .before in
     let s = e .before .before .before in
     let a = s .args in
-    let g = read-some (a .got) _ (toZ-ofZ _ (a .got) (s .fits .got)) (a .chunk .now) (e .if1 .left) _ (k .count .ensures .1) in
+    let g =
+    read-some (a .got) _ (toZ-ofZ _ (a .got) (s .fits .got)) (a .chunk .now) (e .if1 .left) _ (k .count .ensures .1) in
     let h = held (a .state) (a .buffer .now) in (
       sym (g .0),
       (

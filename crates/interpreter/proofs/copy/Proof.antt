@@ -19,7 +19,11 @@ pub copy-spec : {M : Type 1} → statement M
 copy-spec = tie.close (tie.spec
     Inv-loop
     μ-loop
-    (λ c. (search needs, paste-zero (c .args .dst .now) (c .args .to) (drop (c .args .from) (c .args .src .now)), refl))  -- loop-holds
+    (λ c. (
+      search needs,
+      paste-zero (c .args .dst .now) (c .args .to) (drop (c .args .from) (c .args .src .now)),
+      refl,
+    ))  -- loop-holds
     (λ c. search needs)  -- add-dst
     (λ c. search needs)  -- mul-dst
     (λ c. search needs)  -- shared-slice-read-dst
@@ -30,11 +34,15 @@ copy-spec = tie.close (tie.spec
     (λ c. search needs)  -- loop-less
     (λ c. (
       search needs,
-      copy-turn (c .before .before .before .args .dst .now) (c .before .before .before .args .src .now) (c .before .before .before .args .to)
-          (c .before .before .before .args .from) (c .before .before .loop .i) (c .before .before .loop .dst) (c .before .before .loop .inv .1) (omega arith) (omega arith),
+      copy-turn (c .before .before .before .args .dst .now) (c .before .before .before .args .src .now)
+          (c .before .before .before .args .to)
+          (c .before .before .before .args .from) (c .before .before .loop .i) (c .before .before .loop .dst)
+          (c .before .before .loop .inv .1) (omega arith) (omega arith),
       simp
           length-set (omega arith),
     ))  -- loop-again
     (λ c. search needs)  -- same-length
-    (λ c. copy-done (c .before .before .args .dst .now) (c .before .before .args .to) (drop (c .before .before .args .from) (c .before .before .args .src .now))
-    (c .before .loop .i) (c .before .before .args .n) (c .before .loop .dst) (c .before .loop .inv .1) (omega arith)))  -- returns
+    (λ c. copy-done (c .before .before .args .dst .now) (c .before .before .args .to)
+    (drop (c .before .before .args .from) (c .before .before .args .src .now))
+    (c .before .loop .i) (c .before .before .args .n) (c .before .loop .dst)
+    (c .before .loop .inv .1) (omega arith)))  -- returns

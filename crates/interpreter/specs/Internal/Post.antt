@@ -33,7 +33,8 @@ pub record CmdAt (p : Place) (k : Counts) (rest : List Line) (c : Cmd) : Type 0 
 
 -- ---- exec
 
--- Where a run that is done comes out: before the rest of the code, with so many locations and what the cases bind in the cells.
+-- Where a run that is done comes out: before the rest of the code, with so many locations and what the cases
+-- bind in the cells.
 pub record Target : Type 0 where
   pub code : List ℕ
   pub rest : List Line
@@ -42,13 +43,16 @@ pub record Target : Type 0 where
   pub env : Env
 
 abbrev pub target : Place → Context → List Line → Target
-target p C rest = record { code = p .code; rest = rest; locations = C .counts .locations; depth = p .depth; env = C .env }
+target p C rest =
+    record { code = p .code; rest = rest; locations = C .counts .locations; depth = p .depth; env = C .env }
 
--- How the run of a command ends, by its state's number: done, with the memory in the cells and the place after the command; the budget
--- used up; a value too long. Where no rule applies nothing is promised: no accepted script comes there.
+-- How the run of a command ends, by its state's number: done, with the memory in the cells and the place after
+-- the command; the budget used up; a value too long. Where no rule applies nothing is promised: no accepted
+-- script comes there.
 pub data Finishes (g : Target) (d : Stepped) (cells : List ℕ) : Out → Type 0 where
   finish-done : {M : Mem} {b : ℕ} → stateNumber (d .state) ≡ 0 → d .left ≡ b
-      → CellsHold cells (g .locations) (g .depth) M (g .env) → drop (d .next) (g .code) ≡ code (g .rest) → Finishes g d cells (done M b)
+      → CellsHold cells (g .locations) (g .depth) M (g .env) → drop (d .next) (g .code) ≡ code (g .rest)
+      → Finishes g d cells (done M b)
   finish-spent : stateNumber (d .state) ≡ 9 → d .left ≡ 0 → Finishes g d cells spent
   finish-over : {b : ℕ} → stateNumber (d .state) ≡ 10 → d .left ≡ b → Finishes g d cells (over b)
   finish-wrong : Finishes g d cells wrong
@@ -80,8 +84,8 @@ pub record Assigns (S : Setting) (p : Place) (fuel x : ℕ) (d : Stepped) (cells
       → ExprAt p (C .counts) rest e → x < C .counts .locations
       → Finishes (target p C rest) d cells (iterate (C .world) fuel M (close zero (C .env) (assign x e)))
 
--- What a guard or the expression of a case decides, as a transition: left or right, with the value inside and what is left of the
--- budget; no budget; a value too long, with what would have been left; no rule.
+-- What a guard or the expression of a case decides, as a transition: left or right, with the value inside and what is
+-- left of the budget; no budget; a value too long, with what would have been left; no rule.
 pub data Choice : Type 0 where
   to-left to-right : Value → ℕ → Choice
   no-budget : Choice

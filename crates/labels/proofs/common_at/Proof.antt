@@ -24,7 +24,8 @@ pub common-at-spec : {M : Type 1} → statement M
 common-at-spec = tie.close (tie.spec
     Inv-loop
     μ-loop
-    (λ c. let a = c .before .before .args in sym (common-none _ _ owners (omega arith) (set-past (now (a .table)) (a .at))))  -- returns
+    (λ c. let a = c .before .before .args in
+    sym (common-none _ _ owners (omega arith) (set-past (now (a .table)) (a .at))))  -- returns
     (λ c κs. search needs)  -- everyone-requires
     (λ c. (search needs, c .everyone .ensures ∙ common-start _))  -- loop-holds
     (λ c κs. search needs)  -- word-at-requires
@@ -36,6 +37,7 @@ common-at-spec = tie.close (tie.spec
     let a = l .before .before .before .before .args in (
       search needs,
       c .intersection .ensures
-          ∙ common-more _ _ (l .loop .inv .1) (c .before .word-at .ensures ∙ sym (set-there (now (a .table)) (a .at) (l .loop .owner) (omega arith))),
+          ∙ common-more _ _ (l .loop .inv .1)
+          (c .before .word-at .ensures ∙ sym (set-there (now (a .table)) (a .at) (l .loop .owner) (omega arith))),
     ))  -- loop-again
     (λ c. common-end _ _ _ (c .before .loop .inv) (c .loop-test .left)))  -- returns-2

@@ -15,9 +15,21 @@ pub label-at-spec : {M : Type 1} → statement M
 unfolding labelAt
 label-at-spec = tie.close (tie.spec
     (λ c κs. search needs)  -- there-requires
-    (λ c κs. let t = c in let a = t .before .before .before .args in let room : a .at + labelSize ≤ length (now (a .table)) = leb-true _ _ (sym (t .before .there .ensures) ∙ t .if1 .taken) in omega arith)  -- row-at-requires
-    (λ c. let t = c .before in let a = t .before .before .before .args in let room : a .at + labelSize ≤ length (now (a .table)) = leb-true _ _ (sym (t .before .there .ensures) ∙ t .if1 .taken) in omega arith)  -- add-row-at
-    (λ c κs. let t = c .before in let a = t .before .before .before .args in let room : a .at + labelSize ≤ length (now (a .table)) = leb-true _ _ (sym (t .before .there .ensures) ∙ t .if1 .taken) in omega arith)  -- row-at-requires-2
+    (λ c κs. let t = c in
+    let a = t .before .before .before .args in
+    let room : a .at + labelSize ≤ length (now (a .table)) =
+    leb-true _ _ (sym (t .before .there .ensures) ∙ t .if1 .taken) in
+    omega arith)  -- row-at-requires
+    (λ c. let t = c .before in
+    let a = t .before .before .before .args in
+    let room : a .at + labelSize ≤ length (now (a .table)) =
+    leb-true _ _ (sym (t .before .there .ensures) ∙ t .if1 .taken) in
+    omega arith)  -- add-row-at
+    (λ c κs. let t = c .before in
+    let a = t .before .before .before .args in
+    let room : a .at + labelSize ≤ length (now (a .table)) =
+    leb-true _ _ (sym (t .before .there .ensures) ∙ t .if1 .taken) in
+    omega arith)  -- row-at-requires-2
     (λ c. label-path _ _ (c .before .row-at .ensures) (c .row-at2 .ensures))  -- returns
     (λ c κs. search needs)  -- sets-at-requires
     (λ c κs. search needs)  -- sets-at-requires-2

@@ -27,7 +27,8 @@ abbrev μ-loop : tie.MeasureT-loop
 μ-loop table at n group o₀ o = n - o
 
 -- the test of place o, by what the word and the set's test gave
-tested : (t : List ℕ) (at o group w : ℕ) (b : Bool) → o < owners → w ≡ getD t (at + o) 0 → b ≡ meets group w → meets group (getD (setsAt t at) o 0) ≡ b
+tested : (t : List ℕ) (at o group w : ℕ) (b : Bool) → o < owners → w ≡ getD t (at + o) 0 → b ≡ meets group w
+    → meets group (getD (setsAt t at) o 0) ≡ b
 tested t at o group w b l e m = ap (meets group) (set-there t at o l ∙ sym e) ∙ sym m
 
 pub meets-at-spec : {M : Type 1} → statement M
@@ -36,7 +37,8 @@ meets-at-spec = tie.close (tie.spec
     μ-loop
     (λ c.
     let a = c .before .before .args in
-    sym (every-false _ _ owners (omega arith) (ap (meets (a .group)) (set-past (now (a .table)) (a .at)) ∙ meets-empty _)))  -- returns
+    sym (every-false _ _ owners (omega arith)
+    (ap (meets (a .group)) (set-past (now (a .table)) (a .at)) ∙ meets-empty _)))  -- returns
     (λ c. (search needs, λ k l. absurd (not-suc-le-zero l)))  -- loop-holds
     (λ c κs. search needs)  -- word-at-requires
     (λ c κs. search needs)  -- meets-requires
@@ -44,7 +46,8 @@ meets-at-spec = tie.close (tie.spec
     let l = c .before .before .before .before in
     let a = l .before .before .before .args in
     sym (every-false _ _ (l .loop .o) (omega arith)
-    (tested (now (a .table)) (a .at) (l .loop .o) (a .group) _ _ (omega arith) (c .before .before .word-at .ensures) (c .before .meets .ensures) ∙ not-true _ (c .if2 .taken))))  -- returns-2
+    (tested (now (a .table)) (a .at) (l .loop .o) (a .group) _ _ (omega arith) (c .before .before .word-at .ensures)
+    (c .before .meets .ensures) ∙ not-true _ (c .if2 .taken))))  -- returns-2
     (λ c. search needs)  -- add-o
     (λ c. search needs)  -- loop-less
     (λ c.
@@ -52,6 +55,7 @@ meets-at-spec = tie.close (tie.spec
     let a = l .before .before .before .args in (
       search needs,
       below-more _ _ (l .loop .inv .1)
-          (tested (now (a .table)) (a .at) (l .loop .o) (a .group) _ _ (omega arith) (c .before .before .word-at .ensures) (c .before .meets .ensures) ∙ not-false _ (c .if2 .left)),
+          (tested (now (a .table)) (a .at) (l .loop .o) (a .group) _ _ (omega arith)
+          (c .before .before .word-at .ensures) (c .before .meets .ensures) ∙ not-false _ (c .if2 .left)),
     ))  -- loop-again
     (λ c. sym (every-true _ _ (λ k l. c .before .loop .inv .1 k (omega arith)))))  -- returns-3

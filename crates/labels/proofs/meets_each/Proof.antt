@@ -29,13 +29,19 @@ meets-each-spec = tie.close (tie.spec
     (λ c.
     sym
     (every-false _ _ owners (omega arith)
-    (ap (meets (c .before .args .group)) (List·getD-eq-default (c .before .args .t1) 0 (search needs)) ∙ meets-empty _)))  -- returns
+    (ap (meets (c .before .args .group)) (List·getD-eq-default (c .before .args .t1) 0 (search needs))
+    ∙ meets-empty _)))  -- returns
     (λ c. (search needs, λ k l. absurd (not-suc-le-zero l)))  -- loop-holds
     (λ c. search needs)  -- mul-meets
     (λ c. search needs)  -- array-read-meets
     (λ c κs. search needs)  -- meets-requires
-    (λ c. sym (every-false _ _ (c .before .before .before .loop .o) (omega arith) (sym (c .before .meets .ensures) ∙ not-true _ (c .if2 .taken))))  -- returns-2
+    (λ c. sym (every-false _ _ (c .before .before .before .loop .o) (omega arith)
+    (sym (c .before .meets .ensures) ∙ not-true _ (c .if2 .taken))))  -- returns-2
     (λ c. search needs)  -- add-o
     (λ c. search needs)  -- loop-less
-    (λ c. (search needs, below-more _ _ (c .before .before .before .loop .inv .1) (sym (c .before .meets .ensures) ∙ not-false _ (c .if2 .left))))  -- loop-again
+    (λ c. (
+      search needs,
+      below-more _ _ (c .before .before .before .loop .inv .1)
+          (sym (c .before .meets .ensures) ∙ not-false _ (c .if2 .left)),
+    ))  -- loop-again
     (λ c. sym (every-true _ _ (λ k l. c .before .loop .inv .1 k (omega arith)))))  -- returns-3

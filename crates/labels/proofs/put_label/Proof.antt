@@ -15,9 +15,11 @@ use Rattle.labels.proofs.put_label.Tie as tie
 
 pub put-label-spec : {M : Type 1} → statement M
 put-label-spec = tie.close (tie.spec
-    (λ c. sym (put-short (now (c .before .before .args .table)) (c .before .before .args .at) (c .before .before .args .label) (omega arith)))  -- returns
+    (λ c. sym (put-short (now (c .before .before .args .table)) (c .before .before .args .at)
+    (c .before .before .args .label) (omega arith)))  -- returns
     (λ c. search needs)  -- sub-if2
-    (λ c. sym (put-short (now (c .before .before .before .args .table)) (c .before .before .before .args .at) (c .before .before .before .args .label) (omega arith)))  -- returns-2
+    (λ c. sym (put-short (now (c .before .before .before .args .table)) (c .before .before .before .args .at)
+    (c .before .before .before .args .label) (omega arith)))  -- returns-2
     (λ c κs. search needs)  -- put-sets-requires
     (λ c. search needs)  -- add-put-sets
     (λ c κs. search needs)  -- put-sets-requires-2

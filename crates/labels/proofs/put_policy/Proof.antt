@@ -13,12 +13,15 @@ use Rattle.labels.proofs.put_policy.Tie as tie
 
 pub put-policy-spec : {M : Type 1} → statement M
 put-policy-spec = tie.close (tie.spec
-    (λ c. sym (put-short (now (c .before .before .args .table)) (c .before .before .args .at) _ (omega arith)))  -- returns
+    (λ c.
+    sym (put-short (now (c .before .before .args .table)) (c .before .before .args .at) _ (omega arith)))  -- returns
     (λ c. search needs)  -- sub-if2
-    (λ c. sym (put-short (now (c .before .before .before .args .table)) (c .before .before .before .args .at) _ (omega arith)))  -- returns-2
+    (λ c. sym (put-short (now (c .before .before .before .args .table))
+    (c .before .before .before .args .at) _ (omega arith)))  -- returns-2
     (λ c.
     let a = c .before .before .before .before .args in
-    sym (put-policy-past (now (a .table)) (a .at) (omega arith) (a .owner) (a .readers) (a .writers) (omega arith)))  -- returns-3
+    sym (put-policy-past (now (a .table)) (a .at) (omega arith) (a .owner) (a .readers)
+    (a .writers) (omega arith)))  -- returns-3
     (λ c κs. search needs)  -- single-requires
     (λ c κs. search needs)  -- union-requires
     (λ c. search needs)  -- add-table
@@ -37,4 +40,5 @@ put-policy-spec = tie.close (tie.spec
     let a = s .before .before .before .before .before .args in
     let own = s .single .ensures ∙ restrict-single width (a .owner) (omega arith) in
     rw (c .before .union .ensures, c .union2 .ensures, own)
-    (sym (put-policy (now (a .table)) (a .at) (omega arith) (a .owner) (a .readers) (a .writers) (omega arith)))))  -- returns-4
+    (sym (put-policy (now (a .table)) (a .at) (omega arith) (a .owner) (a .readers) (a .writers)
+    (omega arith)))))  -- returns-4

@@ -44,4 +44,6 @@ put-sets-spec = tie.close (tie.spec
     (λ c. c .before .loop .inv .1)  -- same-length
     (λ c.
     let e : c .before .loop .o ≡ owners = omega arith in
-    c .before .loop .inv .2 ∙ ap (paste (now (c .before .before .args .table)) (c .before .before .args .at) (c .before .before .args .t3)) e))  -- returns
+    c .before .loop .inv .2
+    ∙ ap (paste (now (c .before .before .args .table)) (c .before .before .args .at) (c .before .before .args .t3))
+    e))  -- returns

@@ -14,4 +14,5 @@ integrity-spec = tie.close (tie.spec
     (λ c. search needs)  -- add-result
     (λ c. search needs)  -- cast-result
     (λ c. search needs)  -- shl-result
-    (λ c. shl-one 64 (maxLabels + c .before .args .l) (omega arith) ∙ sym (integrity-there (c .before .args .l) (omega arith))))  -- returns-2
+    (λ c. shl-one 64 (maxLabels + c .before .args .l) (omega arith)
+    ∙ sym (integrity-there (c .before .args .l) (omega arith))))  -- returns-2

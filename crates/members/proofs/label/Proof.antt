@@ -10,4 +10,5 @@ pub label-spec : {M : Type 1} → statement M
 label-spec = tie.close (tie.spec
     (λ c. sym (label-past (c .before .args .l) (omega arith)))  -- returns
     (λ c. search needs)  -- shl-result
-    (λ c. shl-one 64 (c .before .args .l) (omega arith) ∙ sym (label-there (c .before .args .l) (omega arith))))  -- returns-2
+    (λ c. shl-one 64 (c .before .args .l) (omega arith)
+    ∙ sym (label-there (c .before .args .l) (omega arith))))  -- returns-2

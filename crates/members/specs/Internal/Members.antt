@@ -1,5 +1,5 @@
--- A least label as the set of the labels that it is the join of: member l is label l of the table, member 32 + l is I of label l. The
--- empty set is bottom. Every least label is such a join, so that one number holds it.
+-- A least label as the set of the labels that it is the join of: member l is label l of the table, member 32 + l is I
+-- of label l. The empty set is bottom. Every least label is such a join, so that one number holds it.
 use mathlib.Core.Bool.{Bool, cond}
 use mathlib.Core.List.{List}
 use Prim.Native.Nat.{ℕ, zero, suc, _+_, _-_}

@@ -54,7 +54,8 @@ pub +has-type-spec : {M : Type 1} → statement M
 )
     (has-type-at t)
     has-type.Post
-    (λ c. let a = c .before .before .before .args in laws.type-past (a .table .now) (a .words .now) (a .ty) (a .at) (omega arith))  -- returns
+    (λ c. let a = c .before .before .before .args in
+    laws.type-past (a .table .now) (a .words .now) (a .ty) (a .at) (omega arith))  -- returns
     (λ c. search needs)
     (λ c. search needs)
     (λ c κs. search needs)
@@ -82,35 +83,45 @@ pub +has-type-spec : {M : Type 1} → statement M
     (λ c κs. search needs)  -- left-part-requires-2
     (λ c κs. (omega arith, tt))  -- has-type-requires-3
     (λ c. let a = c .before .before .before .before .before .before .before .before .before .before .args
-    in laws.type-pair (a .table .now) (a .words .now) (a .ty) (a .at) (omega arith) (c .before .before .before .before .before .match .keys6)
-    (both-off _ _ (sym (c .before .has-type3 .ensures ∙ ap (hasNo _ _) (c .before .before .left-part2 .ensures)) ∙ not-true _ (c .if5 .taken))
-    ∙ both-on _ _ (sym (c .before .before .before .before .is-pair .ensures) ∙ not-false _ (c .before .before .before .if4 .left))))  -- returns-5
+    in laws.type-pair (a .table .now) (a .words .now) (a .ty) (a .at) (omega arith)
+    (c .before .before .before .before .before .match .keys6)
+    (both-off _ _ (sym (c .before .has-type3 .ensures ∙ ap (hasNo _ _) (c .before .before .left-part2 .ensures))
+    ∙ not-true _ (c .if5 .taken))
+    ∙ both-on _ _ (sym (c .before .before .before .before .is-pair .ensures)
+    ∙ not-false _ (c .before .before .before .if4 .left))))  -- returns-5
     (λ c. search needs)  -- add-value-at
     (λ c κs. search needs)  -- value-at-requires
     (λ c κs. search needs)  -- right-part-requires-2
     (λ c κs. (omega (arith, c .before .value-at .ensures .forward), tt))  -- has-type-requires-4
     (λ c. let a = c .before .before .before .before .before .before .args
-    in c .one-more .ensures ∙ laws.type-numeral (a .table .now) (a .words .now) (a .ty) (a .at) (omega arith) num-int (c .before .match .keys1))  -- returns-6
+    in c .one-more .ensures ∙ laws.type-numeral (a .table .now) (a .words .now) (a .ty) (a .at) (omega arith) num-int
+    (c .before .match .keys1))  -- returns-6
     (λ c. let a = c .before .before .before .before .before .before .args
-    in c .one-more2 .ensures ∙ laws.type-numeral (a .table .now) (a .words .now) (a .ty) (a .at) (omega arith) num-err (c .before .match .keys2))
+    in c .one-more2 .ensures
+    ∙ laws.type-numeral (a .table .now) (a .words .now) (a .ty) (a .at) (omega arith) num-err (c .before .match .keys2))
     (λ c. let a = c .before .before .before .before .before .before .before .before .before .args
-    in laws.type-inl (a .table .now) (a .words .now) (a .ty) (a .at) (omega arith) (c .before .before .before .before .match .keys3)
+    in laws.type-inl (a .table .now) (a .words .now) (a .ty) (a .at) (omega arith)
+    (c .before .before .before .before .match .keys3)
     (c .has-type .ensures ∙ ap (hasNo _ _) (c .before .left-part .ensures)
     ∙ both-on _ _ (sym (c .before .before .before .is-sum .ensures) ∙ not-false _ (c .before .before .if2 .left))))
     (λ c. let a = c .before .before .before .before .before .before .before .before .before .args
-    in laws.type-inr (a .table .now) (a .words .now) (a .ty) (a .at) (omega arith) (c .before .before .before .before .match .keys4)
+    in laws.type-inr (a .table .now) (a .words .now) (a .ty) (a .at) (omega arith)
+    (c .before .before .before .before .match .keys4)
     (c .has-type2 .ensures ∙ ap (hasNo _ _) (c .before .right-part .ensures)
     ∙ both-on _ _ (sym (c .before .before .before .is-sum2 .ensures) ∙ not-false _ (c .before .before .if3 .left))))
     (λ c. let a = c .before .before .before .before .before .before .args
-    in c .one-more3 .ensures ∙ laws.type-pkg (a .table .now) (a .words .now) (a .ty) (a .at) (omega arith) (c .before .match .keys5))
+    in c .one-more3 .ensures
+    ∙ laws.type-pkg (a .table .now) (a .words .now) (a .ty) (a .at) (omega arith) (c .before .match .keys5))
     (λ c.
     let first = c .before .before .before .before in
     let pair = first .before .before in
     let a = pair .before .before .before .before .before .before .before .args in
     laws.type-pair (a .table .now) (a .words .now) (a .ty) (a .at) (omega arith) (pair .before .before .match .keys6)
     (c .has-type4 .ensures ∙ ap (hasNo _ _) (c .before .right-part2 .ensures)
-    ∙ ap (λ us. hasNo (a .table .now) (valueOf us) (rightIn (a .table .now) (a .ty))) (c .before .before .value-at .ensures .after)
-    ∙ both-on _ _ (sym (first .has-type3 .ensures ∙ ap (hasNo _ _) (first .before .left-part2 .ensures)) ∙ not-false _ (c .before .before .before .if5 .left))
+    ∙ ap (λ us. hasNo (a .table .now) (valueOf us) (rightIn (a .table .now) (a .ty)))
+    (c .before .before .value-at .ensures .after)
+    ∙ both-on _ _ (sym (first .has-type3 .ensures ∙ ap (hasNo _ _) (first .before .left-part2 .ensures))
+    ∙ not-false _ (c .before .before .before .if5 .left))
     ∙ both-on _ _ (sym (pair .before .is-pair .ensures) ∙ not-false _ (pair .if4 .left))))
     (λ c. let a = c .before .before .before .before .before .args
     in laws.type-none (a .table .now) (a .words .now) (a .ty) (a .at) (omega arith) (c .match .rest))

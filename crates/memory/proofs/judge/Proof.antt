@@ -21,7 +21,8 @@ abbrev μ-loop : tie.MeasureT-loop
 returns : tie.Need-returns Inv-loop μ-loop
 unfolding memoryNumber
 returns c =
-    let a = c .before .before .before .before .args in laws.refused-7 (a .table .now) (a .memory .now) (λ e. c .if1 .taken (omega (arith, c .before .locations .ensures)))
+    let a = c .before .before .before .before .args in
+    laws.refused-7 (a .table .now) (a .memory .now) (λ e. c .if1 .taken (omega (arith, c .before .locations .ensures)))
 
 loop-holds : tie.Need-loop-holds Inv-loop μ-loop
 unfolding memoryNumber
@@ -32,13 +33,17 @@ unfolding memoryNumber
 returns-2 c =
     let l = c .before .before .before in
     let a = l .before .before .before .before .before .args in
-    laws.refused-8 (a .table .now) (a .memory .now) (l .loop .x) (omega (arith, l .before .before .locations .ensures)) (omega (arith, l .before .before .locations .ensures))
+    laws.refused-8 (a .table .now) (a .memory .now) (l .loop .x) (omega (arith, l .before .before .locations .ensures))
+    (omega (arith, l .before .before .locations .ensures))
     (sym (c .before .location-holds .ensures) ∙ not-true _ (c .if2 .taken))
 
 loop-again : tie.Need-loop-again Inv-loop μ-loop
 unfolding memoryNumber
 loop-again c =
-    let l = c .before .before .before in (omega arith, below-more _ _ (l .loop .inv .1) (sym (c .before .location-holds .ensures) ∙ not-false _ (c .if2 .left)))
+    let l = c .before .before .before in (
+      omega arith,
+      below-more _ _ (l .loop .inv .1) (sym (c .before .location-holds .ensures) ∙ not-false _ (c .if2 .left)),
+    )
 
 returns-3 : tie.Need-returns-3 Inv-loop μ-loop
 unfolding memoryNumber

@@ -15,4 +15,5 @@ location-holds-spec = tie.close (tie.spec
     (λ c κs. search needs)
     (λ c κs. search needs)
     (λ c. let a = c .before .before .before .before .before .args
-    in laws.location-holds (a .table .now) (a .memory .now) (a .x) (c .before .location-type .ensures) (c .holds .ensures)))  -- returns
+    in laws.location-holds (a .table .now) (a .memory .now) (a .x) (c .before .location-type .ensures)
+    (c .holds .ensures)))  -- returns

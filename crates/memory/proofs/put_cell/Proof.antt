@@ -1,4 +1,5 @@
--- `memory::put_cell` meets its contract: the first i words are stored, and the others are as they were. Assumes nothing.
+-- `memory::put_cell` meets its contract: the first i words are stored, and the others are as they were.
+-- Assumes nothing.
 use borrow.Author.Needs.{needs}
 use mathlib.Core.Path.{_≡_, refl, sym, ap, _∙_}
 use mathlib.Core.List.{List}
@@ -12,7 +13,8 @@ use Rattle.memory.proofs.put_cell.Statement.{statement}
 use Rattle.memory.proofs.put_cell.Tie as tie
 
 abbrev Inv-loop : tie.InvT-loop
-Inv-loop shown₀ x cell start i₀ shown i = (i ≤ cell-words) × (length shown ≡ length shown₀) × (shown ≡ paste shown₀ (cell-words * x) cell i)
+Inv-loop shown₀ x cell start i₀ shown i =
+    (i ≤ cell-words) × (length shown ≡ length shown₀) × (shown ≡ paste shown₀ (cell-words * x) cell i)
 
 abbrev μ-loop : tie.MeasureT-loop
 μ-loop shown₀ x cell start i₀ shown i = cell-words - i
@@ -22,7 +24,8 @@ put-cell-spec = tie.close (tie.spec
     Inv-loop
     μ-loop
     (λ c. search needs)  -- mul-start
-    (λ c. let a = c .args in (search needs, refl, paste-zero (a .shown .now) (cell-words * a .x) (a .t3)))  -- loop-holds
+    (λ c. let a = c .args in
+    (search needs, refl, paste-zero (a .shown .now) (cell-words * a .x) (a .t3)))  -- loop-holds
     (λ c. search needs)
     (λ c. search needs)
     (λ c. search needs)

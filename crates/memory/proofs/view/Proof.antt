@@ -13,7 +13,8 @@ returns : tie.Need-returns
 unfolding memoryNumber
 returns c =
     let a = c .before .before .before .before .before .args in
-    let e = laws.view-7 (a .table .now) (a .memory .now) (length (a .shown .now)) (λ k. c .if1 .taken (omega (arith, c .before .locations .ensures))) in
+    let e = laws.view-7 (a .table .now) (a .memory .now) (length (a .shown .now))
+    (λ k. c .if1 .taken (omega (arith, c .before .locations .ensures))) in
     (e, laws.left-refused (a .table .now) (a .memory .now) (a .group) (a .shown .now) e (λ z. omega arith))
 
 returns-2 : tie.Need-returns-2
@@ -22,8 +23,12 @@ returns-2 c =
     let b = c .before .before in
     let a = b .before .before .before .before .before .args in
     let e = c .before .judge .ensures
-    ∙ laws.view-answer (a .table .now) (a .memory .now) (length (a .shown .now)) (omega (arith, b .before .locations .ensures)) in
-    (e, laws.left-refused (a .table .now) (a .memory .now) (a .group) (a .shown .now) e (not-accepted (c .before .judge .result) (c .match .keys2)))
+    ∙ laws.view-answer (a .table .now) (a .memory .now) (length (a .shown .now))
+    (omega (arith, b .before .locations .ensures)) in (
+      e,
+      laws.left-refused (a .table .now) (a .memory .now) (a .group) (a .shown .now) e
+          (not-accepted (c .before .judge .result) (c .match .keys2)),
+    )
 
 returns-3 : tie.Need-returns-3
 unfolding memoryNumber
@@ -34,8 +39,12 @@ returns-3 c =
     let a = b .before .before .before .before .before .args in
     let z = is-accepted (j .judge .result) (told .enum-told .given .1) in
     let e = j .judge .ensures
-    ∙ laws.view-answer (a .table .now) (a .memory .now) (length (a .shown .now)) (omega (arith, b .before .locations .ensures)) in
-    (sym z ∙ e, laws.left-shown (a .table .now) (a .memory .now) (a .group) (a .shown .now) e z (c .before .before .view-each .ensures))
+    ∙ laws.view-answer (a .table .now) (a .memory .now) (length (a .shown .now))
+    (omega (arith, b .before .locations .ensures)) in (
+      sym z ∙ e,
+      laws.left-shown (a .table .now) (a .memory .now) (a .group) (a .shown .now) e z
+          (c .before .before .view-each .ensures),
+    )
 
 pub view-spec : {M : Type 1} → statement M
 view-spec = tie.close (tie.spec
@@ -47,7 +56,9 @@ view-spec = tie.close (tie.spec
     (λ c. search needs)  -- enum-told
     returns-2
     (λ c κs.
-    let j = c .before .before .before in
-    (sym (j .judge .ensures) ∙ is-accepted (j .judge .result) (c .before .enum-told .given .1), omega (arith, j .before .before .locations .ensures)))  -- view-each-requires
+    let j = c .before .before .before in (
+      sym (j .judge .ensures) ∙ is-accepted (j .judge .result) (c .before .enum-told .given .1),
+      omega (arith, j .before .before .locations .ensures),
+    ))  -- view-each-requires
     (λ c. search needs)
     returns-3)

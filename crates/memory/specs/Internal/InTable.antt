@@ -44,8 +44,8 @@ viewRefusalIn t ws len = sliceRefusal (locationsIn t) (refusalIn t ws) len
 unfoldable pub viewLeavesIn : List ℕ → ℕ → List ℕ → List ℕ → List ℕ
 viewLeavesIn t g ws before = leaves (viewRefusalIn t ws (length before)) (viewIn t g ws) before
 
--- What the code reads from the table of a sheet is what the sheet says. `table-agrees` (proofs/Exactness.antt) shows it for every sheet
--- of the right form.
+-- What the code reads from the table of a sheet is what the sheet says. `table-agrees` (proofs/Exactness.antt) shows it
+-- for every sheet of the right form.
 pub record TableAgrees (s : Sheet) : Type 0 where
   pub refusal : (ws : List ℕ) → refusalIn (tableOf s) ws ≡ memoryRefusal s ws
   pub reads : (g l : ℕ) → readsIn (tableOf s) g l ≡ readsNo s g l

@@ -1,4 +1,5 @@
--- `memory_text::line_words` meets its contract: what is left to read from p with i words in the array is the whole line. Assumes nothing.
+-- `memory_text::line_words` meets its contract: what is left to read from p with i words in the array is the whole
+-- line. Assumes nothing.
 use Prim.Native.Nat.{_≤_, _-_}
 use mathlib.Core.Path.{_≡_, sym, ap, _∙_}
 use native.Mathlib.Omega.{arith}
@@ -23,11 +24,14 @@ abbrev μ-loop : tie.MeasureT-loop
 
 -- what is known where a word has been read
 known : (k : tie.After-v Inv-loop μ-loop)
-    → number most (drop (k .before .before .before .before .loop .p) (k .before .before .before .before .before .before .args .s .now))
-    ≡ got (k .v .given .0 .0) (drop (k .v .given .0 .1 .0) (k .before .before .before .before .before .before .args .s .now))
+    → number most (drop (k .before .before .before .before .loop .p)
+    (k .before .before .before .before .before .before .args .s .now))
+    ≡ got (k .v .given .0 .0)
+    (drop (k .v .given .0 .1 .0) (k .before .before .before .before .before .before .args .s .now))
 known k =
     let at = k .before .before .before .before in
-    number-at (at .before .before .args .s .now) (at .loop .p) most _ (k .before .before .number .ensures) _ _ (k .v .given .1) .0
+    number-at (at .before .before .args .s .now) (at .loop .p) most _ (k .before .before .number .ensures) _ _
+    (k .v .given .1) .0
 
 returns : tie.Need-returns Inv-loop μ-loop
 returns c =
@@ -36,7 +40,8 @@ returns c =
     let s = at .before .before .args .s .now in
     c .no-row .ensures s
     ∙ ap (placedRow (at .before .before .args .at) s)
-    (sym (rows.left-bad (at .loop .i) (at .loop .words) _ (n .before .loop-test .taken) (number-bad s (at .loop .p) most _ (n .number .ensures) (c .before .enum-told .given .1)))
+    (sym (rows.left-bad (at .loop .i) (at .loop .words) _ (n .before .loop-test .taken)
+    (number-bad s (at .loop .p) most _ (n .number .ensures) (c .before .enum-told .given .1)))
     ∙ at .loop .inv .1)
 
 returns-2 : tie.Need-returns-2 Inv-loop μ-loop
@@ -45,7 +50,8 @@ returns-2 c =
     let at = k .before .before .before .before in
     let s = at .before .before .args .s .now in
     c .no-row2 .ensures s
-    ∙ ap (placedRow (at .before .before .args .at) s) (sym (rows.left-end (at .loop .i) (at .loop .words) _ (k .before .before .before .loop-test .taken) _ s _ (known k) (c .before .if1 .taken)) ∙ at .loop .inv .1)
+    ∙ ap (placedRow (at .before .before .args .at) s) (sym (rows.left-end (at .loop .i) (at .loop .words) _
+    (k .before .before .before .loop-test .taken) _ s _ (known k) (c .before .if1 .taken)) ∙ at .loop .inv .1)
 
 returns-3 : tie.Need-returns-3 Inv-loop μ-loop
 returns-3 c =
@@ -55,7 +61,8 @@ returns-3 c =
     let s = at .before .before .args .s .now in
     c .no-row3 .ensures s
     ∙ ap (placedRow (at .before .before .args .at) s)
-    (sym (rows.left-zero (at .loop .i) (at .loop .words) _ (k .before .before .before .loop-test .taken) _ s _ (known k) (f .if1 .left) (c .before .before .if2 .taken)
+    (sym (rows.left-zero (at .loop .i) (at .loop .words) _ (k .before .before .before .loop-test .taken) _ s _ (known k)
+    (f .if1 .left) (c .before .before .if2 .taken)
     (c .before .if3 .taken))
     ∙ at .loop .inv .1)
 
@@ -67,7 +74,8 @@ returns-4 c =
     let s = at .before .before .args .s .now in
     placed-got _ _ s _ _ _
     (sym (at .loop .inv .1)
-    ∙ rows.left-last (at .loop .i) (at .loop .words) _ (k .before .before .before .loop-test .taken) _ s _ (known k) (f .if1 .left) (c .before .if2 .taken) (c .if3 .left))
+    ∙ rows.left-last (at .loop .i) (at .loop .words) _ (k .before .before .before .loop-test .taken) _ s _ (known k)
+    (f .if1 .left) (c .before .if2 .taken) (c .if3 .left))
     (omega arith)
 
 loop-again : tie.Need-loop-again Inv-loop μ-loop
@@ -77,7 +85,8 @@ loop-again c =
     let at = k .before .before .before .before in
     let s = at .before .before .args .s .now in (
       omega arith,
-      sym (rows.left-more (at .loop .i) (at .loop .words) _ (k .before .before .before .loop-test .taken) _ s _ (known k) (f .if1 .left) (c .if4 .taken))
+      sym (rows.left-more (at .loop .i) (at .loop .words) _ (k .before .before .before .loop-test .taken) _ s _
+          (known k) (f .if1 .left) (c .if4 .taken))
           ∙ at .loop .inv .1,
     )
 
@@ -89,7 +98,8 @@ returns-5 c =
     let s = at .before .before .args .s .now in
     c .no-row4 .ensures s
     ∙ ap (placedRow (at .before .before .args .at) s)
-    (sym (rows.left-other (at .loop .i) (at .loop .words) _ (k .before .before .before .loop-test .taken) _ s _ (known k) (f .if1 .left) (c .before .before .if2 .left)
+    (sym (rows.left-other (at .loop .i) (at .loop .words) _ (k .before .before .before .loop-test .taken) _ s _
+    (known k) (f .if1 .left) (c .before .before .if2 .left)
     (c .before .if4 .left))
     ∙ at .loop .inv .1)
 
@@ -97,7 +107,8 @@ returns-6 : tie.Need-returns-6 Inv-loop μ-loop
 returns-6 c =
     let at = c .before .before in
     let s = at .before .before .args .s .now in
-    c .no-row5 .ensures s ∙ ap (placedRow (at .before .before .args .at) s) (sym (rows.left-full (at .loop .i) (at .loop .words) _ (c .before .loop-test .left)) ∙ at .loop .inv .1)
+    c .no-row5 .ensures s ∙ ap (placedRow (at .before .before .args .at) s)
+    (sym (rows.left-full (at .loop .i) (at .loop .words) _ (c .before .loop-test .left)) ∙ at .loop .inv .1)
 
 pub line-words-spec : {M : Type 1} → statement M
 line-words-spec = tie.close (tie.spec

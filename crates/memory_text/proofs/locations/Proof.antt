@@ -1,4 +1,5 @@
--- `memory_text::locations` meets its contract: the table with what is left to read is the whole memory. Assumes nothing.
+-- `memory_text::locations` meets its contract: the table with what is left to read is the whole memory.
+-- Assumes nothing.
 use Prim.Native.Nat.{_≤_, _-_}
 use mathlib.Core.Path.{_≡_, refl, sym, _∙_}
 use native.Mathlib.Omega.{arith}
@@ -9,13 +10,15 @@ use Rattle.sheet.specs.Sheet.{maxLocations}
 use Rattle.memory_text.specs.Sizes.{memoryWords}
 use Rattle.memory_text.specs.Reading as spec
 use Rattle.memory_text.specs.Internal.Answers.{table}
-use Rattle.memory_text.proofs.Tables.{tabled, tabled-start, rest-done, rest-full, rest-bad, rest-more, row-on, row-off}
+use Rattle.memory_text.proofs.Tables.{tabled, tabled-start, rest-done, rest-full, rest-bad, rest-more, row-on}
+use Rattle.memory_text.proofs.Tables.{row-off}
 use Rattle.memory_text.proofs.locations.Statement.{statement}
 use Rattle.memory_text.proofs.locations.Tie as tie
 
 abbrev Inv-loop : tie.InvT-loop
 Inv-loop s words₀ n₀ at₀ words n at =
-    (n ≤ maxLocations) × (length words ≡ memoryWords) × (tabled n words (linesUpTo spec.location (maxLocations - n) (drop at s)) ≡ table (spec.locations maxLocations s))
+    (n ≤ maxLocations) × (length words ≡ memoryWords)
+    × (tabled n words (linesUpTo spec.location (maxLocations - n) (drop at s)) ≡ table (spec.locations maxLocations s))
 
 abbrev μ-loop : tie.MeasureT-loop
 μ-loop s words₀ n₀ at₀ words n at = maxLocations - n
@@ -25,7 +28,8 @@ returns c =
     let at = c .before .before .before in
     let s = at .before .before .args .s .now in
     c .no-memory .ensures
-    ∙ sym (rest-full (at .loop .n) (at .loop .words) s (at .loop .at) (c .before .before .loop-test .taken) (c .before .if1 .taken))
+    ∙ sym (rest-full (at .loop .n) (at .loop .words) s (at .loop .at) (c .before .before .loop-test .taken)
+    (c .before .if1 .taken))
     ∙ at .loop .inv .2
 
 loop-again : tie.Need-loop-again Inv-loop μ-loop
@@ -40,7 +44,8 @@ loop-again c =
       omega arith,
       st .kept .0 ∙ at .loop .inv .1,
       rw (st .ensures)
-          (sym (rest-more (at .loop .n) (at .loop .words) s (at .loop .at) (r .before .before .loop-test .taken) (r .before .if1 .left) (next .row .words) (next .at) read)
+          (sym (rest-more (at .loop .n) (at .loop .words) s (at .loop .at) (r .before .before .loop-test .taken)
+          (r .before .if1 .left) (next .row .words) (next .at) read)
           ∙ at .loop .inv .2),
     )
 
@@ -51,14 +56,16 @@ returns-2 c =
     let at = r .before .before .before in
     let s = at .before .before .args .s .now in
     c .no-memory2 .ensures
-    ∙ sym (rest-bad (at .loop .n) (at .loop .words) s (at .loop .at) (r .before .before .loop-test .taken) (r .before .if1 .left)
+    ∙ sym (rest-bad (at .loop .n) (at .loop .words) s (at .loop .at) (r .before .before .loop-test .taken)
+    (r .before .if1 .left)
     (row-off s (at .loop .at) _ (r .location-from .ensures) (told .enum-told2 .given .1)))
     ∙ at .loop .inv .2
 
 returns-3 : tie.Need-returns-3 Inv-loop μ-loop
 returns-3 c =
     let at = c .before in
-    sym (rest-done (at .loop .n) (at .loop .words) (at .before .before .args .s .now) (at .loop .at) (c .loop-test .left)) ∙ at .loop .inv .2
+    sym (rest-done (at .loop .n) (at .loop .words) (at .before .before .args .s .now) (at .loop .at)
+    (c .loop-test .left)) ∙ at .loop .inv .2
 
 pub locations-spec : {M : Type 1} → statement M
 locations-spec = tie.close (tie.spec

@@ -26,14 +26,16 @@ loop-again c =
     let a = at .before .args in (
       omega arith,
       simp length-set (at .loop .inv .1),
-      sym (store-more (at .loop .words) (a .at) (at .loop .i) (a .t3) (omega (arith, at .before .good .1 .1 .0 .1 .0 .1))) ∙ at .loop .inv .2,
+      sym (store-more (at .loop .words) (a .at) (at .loop .i) (a .t3)
+          (omega (arith, at .before .good .1 .1 .0 .1 .0 .1))) ∙ at .loop .inv .2,
     )
 
 returns : tie.Need-returns Inv-loop μ-loop
 returns c =
     let at = c .before in
     let a = at .before .args in
-    let done : drop (at .loop .i) (a .t3) ≡ [] = drop-of-length-le (a .t3) {i = at .loop .i} (omega (arith, at .before .good .1 .1 .0 .1 .0 .1)) in
+    let done : drop (at .loop .i) (a .t3) ≡ [] =
+    drop-of-length-le (a .t3) {i = at .loop .i} (omega (arith, at .before .good .1 .1 .0 .1 .0 .1)) in
     ap (sets (at .loop .words) (a .at + at .loop .i)) (sym done) ∙ at .loop .inv .2
 
 pub store-spec : {M : Type 1} → statement M

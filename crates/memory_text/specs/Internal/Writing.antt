@@ -12,7 +12,8 @@ pub record Used (ws : List ℕ) (from n : ℕ) : Type 0 where
   pub few : n ≤ cell-words
   pub kept : trim (take cell-words (drop from ws)) ≡ take n (drop from ws)
 
--- a form was written from `at` on, in at most `room` bytes: what follows it goes into the buffer as it is now, at its place
+-- a form was written from `at` on, in at most `room` bytes: what follows it goes into the buffer as it is
+-- now, at its place
 pub record Puts (form : List ℕ → List ℕ) (room : ℕ) (out : List ℕ) (at : ℕ) (now : List ℕ) (place : ℕ) : Type 0 where
   pub bytes : (t : List ℕ) → sets out at (form t) ≡ sets now place t
   pub reach : (t : List ℕ) → at + length (form t) ≡ place + length t

@@ -11,7 +11,8 @@ use Rattle.parts.proofs.feed.Tie as tie
 
 abbrev Inv-loop : tie.InvT-loop
 Inv-loop chunk buffer₀ last s₀ i₀ buffer s i =
-    (i ≤ length chunk) × (length buffer ≡ length buffer₀) × (fed last (held s buffer) (drop i chunk) ≡ fed last (held s₀ buffer₀) chunk)
+    (i ≤ length chunk) × (length buffer ≡ length buffer₀)
+    × (fed last (held s buffer) (drop i chunk) ≡ fed last (held s₀ buffer₀) chunk)
 
 abbrev μ-loop : tie.MeasureT-loop
 μ-loop chunk buffer₀ last s₀ i₀ buffer s i = length chunk - i
@@ -25,14 +26,17 @@ loop-again c =
       omega arith,
       st .step .kept .1 .1 .0 ∙ at .loop .inv .1,
       rw (st .step .ensures .0, st .step .ensures .1)
-          (sym (fed-more (a .last) (held (at .loop .s) (at .loop .buffer)) (a .chunk .now) (at .loop .i) (turn .loop-test .taken)) ∙ at .loop .inv .2),
+          (sym (fed-more (a .last) (held (at .loop .s) (at .loop .buffer)) (a .chunk .now) (at .loop .i)
+          (turn .loop-test .taken)) ∙ at .loop .inv .2),
     )
 
 returns : tie.Need-returns Inv-loop μ-loop
 returns c =
     let at = c .before in
     let a = at .before .before .before .args in
-    let e = sym (fed-done (a .last) (held (at .loop .s) (at .loop .buffer)) (a .chunk .now) (at .loop .i) (c .loop-test .left)) ∙ at .loop .inv .2 in
+    let e =
+    sym (fed-done (a .last) (held (at .loop .s) (at .loop .buffer)) (a .chunk .now) (at .loop .i) (c .loop-test .left))
+    ∙ at .loop .inv .2 in
     (ap (λ (h : Held). h .state) e, ap (λ (h : Held). h .buffer) e)
 
 pub feed-spec : {M : Type 1} → statement M

@@ -7,7 +7,8 @@ use Rattle.parts.proofs.parts_here.Tie as tie
 returns : tie.Need-returns
 returns c =
     let a = c .before .before .before .args in
-    sym (parting-empty (a .last) (a .state .text) (a .state .start) (a .b) (c .before .before .if1 .taken) (c .before .if2 .taken))
+    sym (parting-empty (a .last) (a .state .text) (a .state .start) (a .b) (c .before .before .if1 .taken)
+    (c .before .if2 .taken))
 
 returns-2 : tie.Need-returns-2
 returns-2 c =

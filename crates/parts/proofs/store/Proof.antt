@@ -29,7 +29,8 @@ returns-3 c =
 returns-4 : tie.Need-returns-4
 returns-4 c =
     let a = c .before .before .before .before .args in
-    let e = both (stored-room (a .state) (a .buffer .now) (a .b) (c .before .before .if1 .left) (c .before .if2 .left)) in
+    let e =
+    both (stored-room (a .state) (a .buffer .now) (a .b) (c .before .before .if1 .left) (c .before .if2 .left)) in
     (e .0, sym (set-out (a .buffer .now) _ (a .b) (c .if3 .left)) ∙ e .1)
 
 pub store-spec : {M : Type 1} → statement M

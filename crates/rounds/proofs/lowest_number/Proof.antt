@@ -1,4 +1,5 @@
--- `rounds::lowest_number` meets its contract: the lower of what was found and what is left to find is the lowest of all. Assumes nothing.
+-- `rounds::lowest_number` meets its contract: the lower of what was found and what is left to find is the lowest of
+-- all. Assumes nothing.
 use mathlib.Core.Path.{_≡_, refl, sym, ap, _∙_}
 use mathlib.Core.List.{List, []}
 use Prim.Native.Nat.{ℕ, _+_, _-_, _≤_}
@@ -20,7 +21,8 @@ use Rattle.rounds.proofs.lowest_number.Tie as tie
 abbrev Inv-loop : tie.InvT-loop
 Inv-loop scripts table ends number₀ i₀ at₀ number i at =
     StartsAt scripts i at
-    × ((s : Sheet) → TableOf table s → lower number (lowest (numberOf s) (partsAfter scripts at)) ≡ lowest (numberOf s) (partsOf scripts))
+    × ((s : Sheet) → TableOf table s
+    → lower number (lowest (numberOf s) (partsAfter scripts at)) ≡ lowest (numberOf s) (partsOf scripts))
 
 abbrev μ-loop : tie.MeasureT-loop
 μ-loop scripts table ends number₀ i₀ at₀ number i at = length scripts + 1 - at
@@ -30,11 +32,17 @@ loop-holds c = (first-starts _, λ s T. lower-right 0 _ refl ∙ ap (lowest (num
 
 -- the script that starts here, and its place
 here : (c : tie.In-loop Inv-loop μ-loop)
-    → PartAt (c .before .before .before .before .args .scripts .now) (c .before .loop .at) (getD (c .before .before .before .before .args .t2) (c .before .loop .i) 0)
-here c = script-at _ _ _ _ _ (c .before .before .before .before .pre) (c .before .loop .inv .0) (c .loop-test .taken) refl
+    → PartAt (c .before .before .before .before .args .scripts .now) (c .before .loop .at)
+    (getD (c .before .before .before .before .args .t2) (c .before .loop .i) 0)
+here c =
+    script-at _ _ _ _ _ (c .before .before .before .before .pre) (c .before .loop .inv .0) (c .loop-test .taken) refl
 
 placed : (c : tie.In-loop Inv-loop μ-loop) → c .before .loop .i + 1 ≤ 32
-placed c = omega (arith, place-at _ _ (c .before .loop .i) _ (c .before .before .before .before .pre) (c .before .loop .inv .0) (c .loop-test .taken))
+placed c = omega (
+  arith,
+  place-at _ _ (c .before .loop .i) _ (c .before .before .before .before .pre) (c .before .loop .inv .0)
+      (c .loop-test .taken),
+)
 
 loop-again : tie.Need-loop-again Inv-loop μ-loop
 loop-again c =
@@ -45,7 +53,9 @@ loop-again c =
       next-starts (at .loop .inv .0) p,
       λ s T.
           rw (c .lower .ensures, check .check-on .ensures .checked s T)
-          (sym (lowest-on (numberOf s) (at .loop .number) _ _) ∙ ap (λ (ts : List (List ℕ)). lower (at .loop .number) (lowest (numberOf s) ts)) (sym (p .parts)) ∙ at .loop .inv .1 s T),
+          (sym (lowest-on (numberOf s) (at .loop .number) _ _)
+          ∙ ap (λ (ts : List (List ℕ)). lower (at .loop .number) (lowest (numberOf s) ts)) (sym (p .parts))
+          ∙ at .loop .inv .1 s T),
     )
 
 returns : tie.Need-returns Inv-loop μ-loop
@@ -54,7 +64,8 @@ returns c =
     record {
       numbered = λ s T.
           sym (lower-left (at .loop .number) (lowest (numberOf s) []) (lowest-over (numberOf s)))
-          ∙ ap (λ (ts : List (List ℕ)). lower (at .loop .number) (lowest (numberOf s) ts)) (sym (none-left _ _ _ (at .loop .inv .0) (c .loop-test .left))) ∙ at .loop .inv .1 s T;
+          ∙ ap (λ (ts : List (List ℕ)). lower (at .loop .number) (lowest (numberOf s) ts))
+          (sym (none-left _ _ _ (at .loop .inv .0) (c .loop-test .left))) ∙ at .loop .inv .1 s T;
     }
 
 pub lowest-number-spec : {M : Type 1} → statement M
@@ -70,7 +81,8 @@ lowest-number-spec = tie.close (tie.spec
     (λ c κs. search needs)  -- check-on-requires
     (λ c κs. search needs)  -- lower-requires
     (λ c. omega (arith, placed (c .before .before .before)))  -- add-i
-    (λ c. let e = c .before .before .before in omega (arith, here e .inside, e .before .before .before .before .good .0))  -- add-at
+    (λ c. let e = c .before .before .before in
+    omega (arith, here e .inside, e .before .before .before .before .good .0))  -- add-at
     (λ c. omega (arith, here (c .before .before .before) .rises))  -- loop-less
     loop-again
     returns)

@@ -7,7 +7,8 @@ use Rattle.rounds.proofs.play.Statement.{statement}
 use Rattle.rounds.proofs.play.Tie as tie
 
 returns : tie.Need-returns
-returns c = rw (c .refused .ensures) (play-numbered _ _ _ _ _ _ (c .before .before .lowest-number .ensures) (c .before .if1 .taken))
+returns c = rw (c .refused .ensures)
+    (play-numbered _ _ _ _ _ _ (c .before .before .lowest-number .ensures) (c .before .if1 .taken))
 
 returns-2 : tie.Need-returns-2
 returns-2 c =
@@ -24,7 +25,8 @@ returns-3 c =
     let j = e .before in
     let n = j .before .before .before in
     play-runs _ _ _ _ _ _ (n .before .lowest-number .ensures) (n .if1 .left) _
-    (refusal-in _ _ _ (sym (e .if2 .left) ∙ j .memory-number .ensures ∙ j .before .judge .ensures)) (ran .run-each .ensures)
+    (refusal-in _ _ _ (sym (e .if2 .left) ∙ j .memory-number .ensures ∙ j .before .judge .ensures))
+    (ran .run-each .ensures)
 
 pub play-spec : {M : Type 1} → statement M
 play-spec = tie.close (tie.spec

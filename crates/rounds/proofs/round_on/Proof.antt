@@ -16,7 +16,8 @@ returns : tie.Need-returns
 returns c =
     let e = c .before .before in
     rw (c .refused .ensures)
-    (round-stranger _ _ _ _ _ (ap (within _) (sym (e .before .everyone .ensures)) ∙ sym (e .contained .ensures) ∙ not-true _ (c .before .if1 .taken)))
+    (round-stranger _ _ _ _ _ (ap (within _) (sym (e .before .everyone .ensures)) ∙ sym (e .contained .ensures)
+    ∙ not-true _ (c .before .if1 .taken)))
 
 returns-2 : tie.Need-returns-2
 returns-2 c =
@@ -24,14 +25,16 @@ returns-2 c =
     let e = n .before in
     rw (c .refused2 .ensures)
     (round-many _ _ _ _ _
-    (ap (within _) (sym (e .before .before .everyone .ensures)) ∙ sym (e .before .contained .ensures) ∙ not-false _ (e .if1 .left))
+    (ap (within _) (sym (e .before .before .everyone .ensures)) ∙ sym (e .before .contained .ensures)
+    ∙ not-false _ (e .if1 .left))
     (many-parts _ _ (ap (λ (p : Parts). p .count) (n .part .ensures)) (c .before .if2 .taken)))
 
 -- where the scripts were parted, and that each has a place
 abbrev the : tie.Else2 → tie.After-part
 the c = c .before .before .before
 
-few : (c : tie.Else2) → length (partsOf (the c .before .before .before .before .before .before .before .args .scripts .now)) ≤ mostScripts
+few : (c : tie.Else2)
+    → length (partsOf (the c .before .before .before .before .before .before .before .args .scripts .now)) ≤ mostScripts
 few c = few-parts _ _ (ap (λ (p : Parts). p .count) (the c .part .ensures)) (c .if2 .left)
 
 -- zeros in every place: open
@@ -47,7 +50,8 @@ returns-3 c =
     let n = the k in
     let e = n .before in
     round-played _ _ _ _ _
-    (ap (within _) (sym (e .before .before .everyone .ensures)) ∙ sym (e .before .contained .ensures) ∙ not-false _ (e .if1 .left))
+    (ap (within _) (sym (e .before .before .everyone .ensures)) ∙ sym (e .before .contained .ensures)
+    ∙ not-false _ (e .if1 .left))
     (few k) _ _ (λ i. every-zero mostScripts i) (p .play .ensures)
 
 pub round-on-spec : {M : Type 1} → statement M

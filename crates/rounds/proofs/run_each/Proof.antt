@@ -11,18 +11,26 @@ use Rattle.rounds.proofs.run_each.Tie as tie
 
 abbrev Inv-loop : tie.InvT-loop
 Inv-loop scripts table memory₀ authority budget ends gates answers₀ steps₀ i₀ at₀ memory answers steps i at =
-    StartsAt scripts i at × (length memory ≡ length memory₀) × Goes scripts gates table memory₀ authority budget i at answers steps memory
+    StartsAt scripts i at × (length memory ≡ length memory₀)
+    × Goes scripts gates table memory₀ authority budget i at answers steps memory
 
 abbrev μ-loop : tie.MeasureT-loop
-μ-loop scripts table memory₀ authority budget ends gates answers₀ steps₀ i₀ at₀ memory answers steps i at = length scripts + 1 - at
+μ-loop scripts table memory₀ authority budget ends gates answers₀ steps₀ i₀ at₀ memory answers steps i at =
+    length scripts + 1 - at
 
 -- the script that starts here, and its place
 here : (c : tie.In-loop Inv-loop μ-loop)
-    → PartAt (c .before .before .before .before .before .args .scripts .now) (c .before .loop .at) (getD (c .before .before .before .before .before .args .t2) (c .before .loop .i) 0)
-here c = script-at _ _ _ _ _ (c .before .before .before .before .before .pre) (c .before .loop .inv .0) (c .loop-test .taken) refl
+    → PartAt (c .before .before .before .before .before .args .scripts .now) (c .before .loop .at)
+    (getD (c .before .before .before .before .before .args .t2) (c .before .loop .i) 0)
+here c = script-at _ _ _ _ _ (c .before .before .before .before .before .pre) (c .before .loop .inv .0)
+    (c .loop-test .taken) refl
 
 placed : (c : tie.In-loop Inv-loop μ-loop) → c .before .loop .i + 1 ≤ 32
-placed c = omega (arith, place-at _ _ (c .before .loop .i) _ (c .before .before .before .before .before .pre) (c .before .loop .inv .0) (c .loop-test .taken))
+placed c = omega (
+  arith,
+  place-at _ _ (c .before .loop .i) _ (c .before .before .before .before .before .pre) (c .before .loop .inv .0)
+      (c .loop-test .taken),
+)
 
 -- where its turn began
 abbrev the : tie.After-slice-known2 Inv-loop μ-loop → tie.In-loop Inv-loop μ-loop
@@ -58,4 +66,5 @@ run-each-spec = tie.close (tie.spec
     (λ c. omega (arith, here (the c) .rises))  -- loop-less
     loop-again
     (λ c. c .before .loop .inv .1)  -- same-length
-    (λ c. goes-over _ _ _ _ _ _ _ _ _ _ _ (c .before .loop .inv .2) (none-left _ _ _ (c .before .loop .inv .0) (c .loop-test .left))))  -- returns
+    (λ c. goes-over _ _ _ _ _ _ _ _ _ _ _ (c .before .loop .inv .2)
+    (none-left _ _ _ (c .before .loop .inv .0) (c .loop-test .left))))  -- returns

@@ -9,7 +9,8 @@ returns : tie.Need-returns
 returns c =
     let ran = c .before .before in
     let rows = ran .before .before in
-    runs-script _ _ _ _ _ _ _ _ (rows .before .before .decode .ensures) (rows .rows .ensures) (ran .run-accepted .ensures)
+    runs-script _ _ _ _ _ _ _ _ (rows .before .before .decode .ensures) (rows .rows .ensures)
+    (ran .run-accepted .ensures)
 
 pub run-script-spec : {M : Type 1} → statement M
 run-script-spec = tie.close (tie.spec

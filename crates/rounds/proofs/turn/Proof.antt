@@ -8,7 +8,8 @@ returns : tie.Need-returns
 returns c = rw (c .refused .ensures) (turn-shut _ _ _ _ _ _ (c .before .if1 .taken))
 
 returns-2 : tie.Need-returns-2
-returns-2 c = turn-runs _ _ _ _ _ _ _ (c .before .before .before .before .if1 .left) (c .before .before .run-script .ensures)
+returns-2 c =
+    turn-runs _ _ _ _ _ _ _ (c .before .before .before .before .if1 .left) (c .before .before .run-script .ensures)
 
 pub turn-spec : {M : Type 1} → statement M
 turn-spec = tie.close (tie.spec

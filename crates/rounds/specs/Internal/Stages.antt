@@ -31,7 +31,8 @@ runOn s authority budget script memory =
 
 -- the script in place i by a gate, on a sheet that isn't refused
 abbrev pub turnOn : Gate → Sheet → ℕ → ℕ → ℕ → List ℕ → List ℕ → Ran
-turnOn gate s authority budget i script memory = unless (refusedRun memory) (gate i) (runOn s authority budget script memory)
+turnOn gate s authority budget i script memory =
+    unless (refusedRun memory) (gate i) (runOn s authority budget script memory)
 
 -- the gate that a number for each place stands for
 abbrev pub gateIn : List ℕ → Gate
@@ -60,11 +61,13 @@ pub record RunsScript (script t memory : List ℕ) (authority budget : ℕ) (r :
 -- the same by the number of its gate
 pub record RunsTurn (script : List ℕ) (number : ℕ) (t memory : List ℕ) (authority budget : ℕ) (r : Ran) : Type 0 where
   pub ran : (s : Sheet) → TableOf t s → strangers s authority ≡ 0 → numberOf s script ≡ 0 → memoryRefusal s memory ≡ 0
-      → (r ≡ unless (refusedRun memory) number (runOn s authority budget script memory)) × (memoryRefusal s (r .memory) ≡ 0)
+      → (r ≡ unless (refusedRun memory) number (runOn s authority budget script memory))
+      × (memoryRefusal s (r .memory) ≡ 0)
 
 pub record RunsEach (scripts gates t memory : List ℕ) (authority budget : ℕ) (r : RanRound) : Type 0 where
   pub done : r .answer ≡ 0
-  pub ran : (s : Sheet) → TableOf t s → strangers s authority ≡ 0 → lowest (numberOf s) (partsOf scripts) ≡ 0 → memoryRefusal s memory ≡ 0
+  pub ran : (s : Sheet) → TableOf t s → strangers s authority ≡ 0 → lowest (numberOf s) (partsOf scripts) ≡ 0
+      → memoryRefusal s memory ≡ 0
       → r ≡ ranOn (gateIn gates) s authority budget (partsOf scripts) memory
 
 -- Whatever the table is, a refused round has zeros in every place and leaves the memory.
@@ -73,7 +76,8 @@ SparesRound memory r = (r .answer ≡ 0 → ⊥) → r ≡ refusedRound memory (
 
 pub record Plays (scripts gates t memory : List ℕ) (authority budget : ℕ) (r : RanRound) : Type 0 where
   pub refused : SparesRound memory r
-  pub played : (s : Sheet) → TableOf t s → strangers s authority ≡ 0 → r ≡ playedOn (gateIn gates) s authority budget (partsOf scripts) memory
+  pub played : (s : Sheet) → TableOf t s → strangers s authority ≡ 0
+      → r ≡ playedOn (gateIn gates) s authority budget (partsOf scripts) memory
 
 pub record RoundsOn (scripts t memory : List ℕ) (authority budget : ℕ) (r : RanRound) : Type 0 where
   pub refused : SparesRound memory r

@@ -38,28 +38,70 @@ pub +skip-spec : {M : Type 1} → statement M
     skip.Post
     (λ c κs. search needs)  -- row-at-requires
     (λ c κs. search needs)  -- operands-requires
-    (λ c. omega (arith, line-in _ _ (c .before .before .row-at .ensures) (c .before .operands .ensures) (omega arith)))  -- add-result
-    (λ c. omega (arith, line-in _ _ (c .before .before .row-at .ensures) (c .before .operands .ensures) (omega arith)))  -- add-skip
-    (λ c κs. (omega (arith, line-in _ _ (c .before .before .row-at .ensures) (c .before .operands .ensures) (omega arith)), tt))  -- skip-requires
-    (λ c. omega (arith, line-in _ _ (c .before .before .row-at .ensures) (c .before .operands .ensures) (omega arith)))  -- add-skip-2
-    (λ c κs. (omega (arith, line-in _ _ (c .before .before .row-at .ensures) (c .before .operands .ensures) (omega arith)), tt))  -- skip-requires-2
-    (λ c κs. (omega (arith, line-in _ _ (c .before .before .before .row-at .ensures) (c .before .before .operands .ensures) (omega arith), c .skip2 .ensures .forward), tt))  -- skip-requires-3
-    (λ c. omega (arith, line-in _ _ (c .before .before .row-at .ensures) (c .before .operands .ensures) (omega arith)))  -- add-skip-3
-    (λ c κs. (omega (arith, line-in _ _ (c .before .before .row-at .ensures) (c .before .operands .ensures) (omega arith)), tt))  -- skip-requires-4
-    (λ c κs. (omega (arith, line-in _ _ (c .before .before .before .row-at .ensures) (c .before .before .operands .ensures) (omega arith), c .skip4 .ensures .forward), tt))  -- skip-requires-5
+    (λ c. omega (
+      arith,
+      line-in _ _ (c .before .before .row-at .ensures) (c .before .operands .ensures) (omega arith),
+    ))  -- add-result
+    (λ c. omega (
+      arith,
+      line-in _ _ (c .before .before .row-at .ensures) (c .before .operands .ensures) (omega arith),
+    ))  -- add-skip
+    (λ c κs. (
+      omega (arith, line-in _ _ (c .before .before .row-at .ensures) (c .before .operands .ensures) (omega arith)),
+      tt,
+    ))  -- skip-requires
+    (λ c. omega (
+      arith,
+      line-in _ _ (c .before .before .row-at .ensures) (c .before .operands .ensures) (omega arith),
+    ))  -- add-skip-2
+    (λ c κs. (
+      omega (arith, line-in _ _ (c .before .before .row-at .ensures) (c .before .operands .ensures) (omega arith)),
+      tt,
+    ))  -- skip-requires-2
     (λ c κs. (
       omega (
         arith,
-        line-in _ _ (c .before .before .before .before .row-at .ensures) (c .before .before .before .operands .ensures) (omega arith),
+        line-in _ _ (c .before .before .before .row-at .ensures) (c .before .before .operands .ensures) (omega arith),
+        c .skip2 .ensures .forward,
+      ),
+      tt,
+    ))  -- skip-requires-3
+    (λ c. omega (
+      arith,
+      line-in _ _ (c .before .before .row-at .ensures) (c .before .operands .ensures) (omega arith),
+    ))  -- add-skip-3
+    (λ c κs. (
+      omega (arith, line-in _ _ (c .before .before .row-at .ensures) (c .before .operands .ensures) (omega arith)),
+      tt,
+    ))  -- skip-requires-4
+    (λ c κs. (
+      omega (
+        arith,
+        line-in _ _ (c .before .before .before .row-at .ensures) (c .before .before .operands .ensures) (omega arith),
+        c .skip4 .ensures .forward,
+      ),
+      tt,
+    ))  -- skip-requires-5
+    (λ c κs. (
+      omega (
+        arith,
+        line-in _ _ (c .before .before .before .before .row-at .ensures)
+            (c .before .before .before .operands .ensures) (omega arith),
         c .before .skip4 .ensures .forward,
         c .skip5 .ensures .forward,
       ),
       tt,
     ))  -- skip-requires-6
-    (λ c. laws.skip-line _ _ (c .before .before .row-at .ensures) (c .before .operands .ensures) (c .match .keys1))  -- returns
-    (λ c. laws.skip-one _ _ (c .before .before .before .row-at .ensures) (c .before .before .operands .ensures) (c .before .match .keys2) (c .skip .ensures))  -- returns-2
-    (λ c. laws.skip-two _ _ (c .before .before .before .before .row-at .ensures) (c .before .before .before .operands .ensures) (c .before .before .match .keys3)
+    (λ c. laws.skip-line _ _ (c .before .before .row-at .ensures) (c .before .operands .ensures)
+    (c .match .keys1))  -- returns
+    (λ c. laws.skip-one _ _ (c .before .before .before .row-at .ensures) (c .before .before .operands .ensures)
+    (c .before .match .keys2) (c .skip .ensures))  -- returns-2
+    (λ c. laws.skip-two _ _ (c .before .before .before .before .row-at .ensures)
+    (c .before .before .before .operands .ensures) (c .before .before .match .keys3)
     (c .before .skip2 .ensures) (c .skip3 .ensures))  -- returns-3
-    (λ c. laws.skip-three _ _ (c .before .before .before .before .before .row-at .ensures) (c .before .before .before .before .operands .ensures)
-    (c .before .before .before .match .keys4) (c .before .before .skip4 .ensures) (c .before .skip5 .ensures) (c .skip6 .ensures))  -- returns-4
-    (λ c. laws.skip-none _ _ (c .before .before .row-at .ensures) (c .before .operands .ensures) (none-between 0 4 (c .match .rest) (omega arith)))  -- returns-5
+    (λ c. laws.skip-three _ _ (c .before .before .before .before .before .row-at .ensures)
+    (c .before .before .before .before .operands .ensures)
+    (c .before .before .before .match .keys4) (c .before .before .skip4 .ensures) (c .before .skip5 .ensures)
+    (c .skip6 .ensures))  -- returns-4
+    (λ c. laws.skip-none _ _ (c .before .before .row-at .ensures) (c .before .operands .ensures)
+    (none-between 0 4 (c .match .rest) (omega arith)))  -- returns-5

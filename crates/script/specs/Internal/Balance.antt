@@ -1,4 +1,5 @@
--- Lines that are as many as their kinds ask for. A text that isn't is no script's, and this is told before any walk over its lines.
+-- Lines that are as many as their kinds ask for. A text that isn't is no script's, and this is told before any
+-- walk over its lines.
 use mathlib.Core.Bool.{Bool, false}
 use mathlib.Core.List.{List, [], _∷_}
 use Prim.Native.Nat.{ℕ, zero, suc, _+_}

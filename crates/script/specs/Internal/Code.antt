@@ -6,7 +6,8 @@ use lib.Dec.{leb}
 use lib.ListN.{length, getD}
 use Rattle.language.specs.Syntax.{pick}
 use Rattle.script.specs.declared.Row.{Row}
-use Rattle.script.specs.Lines.{Line, l-skip, l-seq, l-assign, l-while, l-case, l-int, l-loc, l-var, l-plus, l-left, l-right, l-pack, l-unpack, l-pair, l-proj}
+use Rattle.script.specs.Lines.{Line, l-skip, l-seq, l-assign, l-while, l-case, l-int, l-loc, l-var, l-plus}
+use Rattle.script.specs.Lines.{l-left, l-right, l-pack, l-unpack, l-pair, l-proj}
 
 -- a row by its words
 abbrev pub rowWith : ℕ → ℕ → ℕ → Row
@@ -37,8 +38,10 @@ code (l ∷ ls) = rowOf l .kind ∷ rowOf l .a ∷ rowOf l .b ∷ code ls
 
 -- the row that starts at a word, if three words are there; else a row of kind 0, which no line has
 unfoldable pub rowAt : List ℕ → ℕ → Row
-rowAt ws at = cond (leb (at + 3) (length ws)) (rowWith (getD ws at 0) (getD ws (at + 1) 0) (getD ws (at + 2) 0)) (rowWith 0 0 0)
+rowAt ws at =
+    cond (leb (at + 3) (length ws)) (rowWith (getD ws at 0) (getD ws (at + 1) 0) (getD ws (at + 2) 0)) (rowWith 0 0 0)
 
--- The rows left from a word on. It is the measure of every walk over the code: each call stands at a later row than the one that made it.
+-- The rows left from a word on. It is the measure of every walk over the code: each call stands at a later row than the
+-- one that made it.
 abbrev pub rowsLeft : List ℕ → ℕ → ℕ
 rowsLeft ws at = (length ws - at) / 3

@@ -85,15 +85,18 @@ returns-6 t c =
 returns-7 : (t : ℕ) → scan-cmd-lts.Need-returns-7 (readings t) (scan-cmd-at t) scan-cmd.Post
 returns-7 t c = laws.scan-none (c .before .row-at .ensures) (λ h. none-between 1 5 (c .match .rest) (h .0) (h .1))
 
--- the calls of the five kinds, in order: room for the next row, and fewer rows left, with the return of a case that is too deep;
--- then a return for each kind and the others
+-- the calls of the five kinds, in order: room for the next row, and fewer rows left, with the return of a case that is
+-- too deep; then a return for each kind and the others
 pub +scan-cmd-spec : {M : Type 1} → statement M
 +scan-cmd-spec =
     close μ-scan-cmd λ t. scan-cmd-lts.spec (readings t) (scan-cmd-at t) scan-cmd.Post
     (λ c κs. search needs)  -- row-at-requires
     (λ c. omega (arith, row-within _ _ (c .before .row-at .ensures) (omega (arith, c .match .keys1))))  -- add-t16
     (λ c. omega (arith, row-within _ _ (c .before .row-at .ensures) (omega (arith, c .match .keys2))))  -- add-scan-cmd
-    (λ c κs. (omega (arith, row-within _ _ (c .before .row-at .ensures) (omega (arith, c .match .keys2))), tt))  -- scan-cmd-requires
+    (λ c κs. (
+      omega (arith, row-within _ _ (c .before .row-at .ensures) (omega (arith, c .match .keys2))),
+      tt,
+    ))  -- scan-cmd-requires
     (λ c κs.
     let within = row-within _ _ (c .before .before .row-at .ensures) (omega (arith, c .before .match .keys2)) in
     (omega (arith, within, c .scan-cmd .ensures .forward), tt))  -- scan-cmd-requires-2

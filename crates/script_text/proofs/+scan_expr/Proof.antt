@@ -90,10 +90,19 @@ pub +scan-expr-spec : {M : Type 1} → statement M
     (λ c κs. search needs)  -- row-at-requires
     (λ c. omega (arith, row-within _ _ (c .before .row-at .ensures) (omega (arith, c .match .keys1))))  -- add-t12
     (λ c κs. search needs)  -- is-location-requires
-    (λ c. omega (arith, row-within _ _ (c .before .before .row-at .ensures) (omega (arith, c .before .match .keys2))))  -- add-t14
+    (λ c. omega (
+      arith,
+      row-within _ _ (c .before .before .row-at .ensures) (omega (arith, c .before .match .keys2)),
+    ))  -- add-t14
     (λ c. omega (arith, row-within _ _ (c .before .row-at .ensures) (omega (arith, c .match .keys3))))  -- add-t16
-    (λ c. omega (arith, row-within _ _ (c .before .before .before .row-at .ensures) (omega (arith, c .before .if1 .left))))  -- add-scan-expr
-    (λ c κs. (omega (arith, row-within _ _ (c .before .before .before .row-at .ensures) (omega (arith, c .before .if1 .left))), tt))  -- scan-expr-requires
+    (λ c. omega (
+      arith,
+      row-within _ _ (c .before .before .before .row-at .ensures) (omega (arith, c .before .if1 .left)),
+    ))  -- add-scan-expr
+    (λ c κs. (
+      omega (arith, row-within _ _ (c .before .before .before .row-at .ensures) (omega (arith, c .before .if1 .left))),
+      tt,
+    ))  -- scan-expr-requires
     (λ c κs.
     let first = c .before in
     let kind = first .before .before in

@@ -21,7 +21,8 @@ loop-again c =
     let ws = test .before .before .before .before .args .code .now in (
       omega arith,
       omega (arith, c .operands .ensures, few-operands (c .before .row-at .result .kind)),
-      due-more ws (l .at) (c .before .row-at .ensures) (l .trees) (c .operands .result) (l .inv .2) (test .before .loop-test .taken) (test .if1 .left) (c .operands .ensures),
+      due-more ws (l .at) (c .before .row-at .ensures) (l .trees) (c .operands .result) (l .inv .2)
+          (test .before .loop-test .taken) (test .if1 .left) (c .operands .ensures),
     )
 
 pub balanced-spec : {M : Type 1} → statement M

@@ -19,7 +19,8 @@ few : (c : tie.After-known-told) → c .before .start .given .0 .1 .0 ≤ maxLin
 few c =
     let read = c .before .before .before in
     let test = read .before .before in
-    decode-after _ (sym (test .before .fits2 .ensures) ∙ not-false _ (test .if1 .left)) _ (read .opening .ensures) _ _ _ (c .before .start .given .1) .0
+    decode-after _ (sym (test .before .fits2 .ensures) ∙ not-false _ (test .if1 .left)) _ (read .opening .ensures) _ _ _
+    (c .before .start .given .1) .0
 
 returns-2 : tie.Need-returns-2
 returns-2 c =
@@ -27,7 +28,8 @@ returns-2 c =
     let read = start .before .before in
     let test = read .before .before in
     c .decode-lines .ensures
-    ∙ decode-after _ (sym (test .before .fits2 .ensures) ∙ not-false _ (test .if1 .left)) _ (read .opening .ensures) _ _ _ (start .start .given .1) .1
+    ∙ decode-after _ (sym (test .before .fits2 .ensures) ∙ not-false _ (test .if1 .left)) _
+    (read .opening .ensures) _ _ _ (start .start .given .1) .1
 
 returns-3 : tie.Need-returns-3
 returns-3 c =
@@ -35,7 +37,8 @@ returns-3 c =
     let read = told .before .before in
     let test = read .before .before in
     c .refused2 .ensures
-    ∙ sym (decode-refused _ (sym (test .before .fits2 .ensures) ∙ not-false _ (test .if1 .left)) _ (read .opening .ensures) (told .enum-told .given .1))
+    ∙ sym (decode-refused _ (sym (test .before .fits2 .ensures) ∙ not-false _ (test .if1 .left)) _
+    (read .opening .ensures) (told .enum-told .given .1))
 
 pub decode-spec : {M : Type 1} → statement M
 decode-spec = tie.close (tie.spec

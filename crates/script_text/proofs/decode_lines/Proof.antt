@@ -16,20 +16,26 @@ use Rattle.script_text.proofs.decode_lines.Tie as tie
 abbrev Inv-loop : tie.InvT-loop
 Inv-loop s from most start code₀ n₀ at₀ code n at =
     (n ≤ most) × (most ≤ maxLines) × (length code ≡ codeWords)
-    × (tabled start n code (linesUpTo lineOf (most - n) (drop at s)) ≡ codedLines start (linesUpTo lineOf most (drop from s)))
+    × (tabled start n code (linesUpTo lineOf (most - n) (drop at s))
+    ≡ codedLines start (linesUpTo lineOf most (drop from s)))
 
 abbrev μ-loop : tie.MeasureT-loop
 μ-loop s from most start code₀ n₀ at₀ code n at = most - n
 
 loop-holds : tie.Need-loop-holds Inv-loop μ-loop
 loop-holds c =
-    let pre = c .before .pre in
-    (omega arith, pre .0, ap length (pre .1) ∙ length-replicate {A = ℕ} codeWords 0, table-start _ _ _ _ (pre .0) (pre .1))
+    let pre = c .before .pre in (
+      omega arith,
+      pre .0,
+      ap length (pre .1) ∙ length-replicate {A = ℕ} codeWords 0,
+      table-start _ _ _ _ (pre .0) (pre .1),
+    )
 
 returns : tie.Need-returns Inv-loop μ-loop
 returns c =
     let full = c .before .before in
-    c .refused .ensures ∙ sym (table-full _ _ _ _ _ _ (full .before .loop-test .taken) (full .if1 .taken)) ∙ full .before .before .loop .inv .3
+    c .refused .ensures ∙ sym (table-full _ _ _ _ _ _ (full .before .loop-test .taken) (full .if1 .taken))
+    ∙ full .before .before .loop .inv .3
 
 loop-again : tie.Need-loop-again Inv-loop μ-loop
 loop-again c =
@@ -39,14 +45,16 @@ loop-again c =
       omega arith,
       inv .1,
       simp length-set (inv .2),
-      sym (table-more _ _ _ _ _ _ (in-loop .loop-test .taken) (row .before .if1 .left) _ (row .line-from .ensures) _ _ _ (c .before .read .given .1)) ∙ inv .3,
+      sym (table-more _ _ _ _ _ _ (in-loop .loop-test .taken) (row .before .if1 .left) _ (row .line-from .ensures) _ _ _
+          (c .before .read .given .1)) ∙ inv .3,
     )
 
 returns-2 : tie.Need-returns-2 Inv-loop μ-loop
 returns-2 c =
     let row = c .before .before .before .before in
     let in-loop = row .before .before in
-    let no = table-bad _ _ _ _ _ _ (in-loop .loop-test .taken) (row .before .if1 .left) _ (row .line-from .ensures) (c .before .before .enum-told .given .1) in
+    let no = table-bad _ _ _ _ _ _ (in-loop .loop-test .taken) (row .before .if1 .left) _ (row .line-from .ensures)
+    (c .before .before .enum-told .given .1) in
     c .refused2 .ensures ∙ sym no ∙ in-loop .before .loop .inv .3
 
 returns-3 : tie.Need-returns-3 Inv-loop μ-loop

@@ -7,7 +7,8 @@ use Rattle.script_text.proofs.one_operand.Tie as tie
 returns : tie.Need-returns
 returns c =
     let end = c .before .before .before in
-    λ f q. one-got _ (end .before .before .args .at) _ f _ _ _ (end .last-number .ensures) (c .before .a .given .1) (q _)
+    λ f q. one-got _ (end .before .before .args .at) _ f _ _ _ (end .last-number .ensures)
+    (c .before .a .given .1) (q _)
 
 returns-2 : tie.Need-returns-2
 returns-2 c =

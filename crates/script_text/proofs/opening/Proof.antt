@@ -17,7 +17,8 @@ returns-3 : tie.Need-returns-3
 returns-3 c =
     let read = c .before .before .before in
     let b = read .before in
-    opening-got _ (b .before .before .if1 .left) (b .if2 .left) _ (read .last-number .ensures) _ _ (c .before .l .given .1)
+    opening-got _ (b .before .before .if1 .left) (b .if2 .left) _ (read .last-number .ensures) _ _
+    (c .before .l .given .1)
 
 returns-4 : tie.Need-returns-4
 returns-4 c =

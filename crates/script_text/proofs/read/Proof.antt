@@ -12,7 +12,8 @@ returns c =
     let test = c .before .before .before in
     let rows = test .before in
     c .refused .ensures
-    ∙ read-no _ _ _ (rows .before .before .before .decode .ensures) _ (rows .rows .ensures) _ (test .whole .ensures) _ refl
+    ∙ read-no _ _ _ (rows .before .before .before .decode .ensures) _ (rows .rows .ensures) _
+    (test .whole .ensures) _ refl
     (both-no-left _ _ (not-true _ (c .before .before .if1 .taken)))
 
 returns-2 : tie.Need-returns-2
@@ -21,7 +22,8 @@ returns-2 c =
     let test = start .before .before in
     let rows = test .before in
     c .refused2 .ensures
-    ∙ read-no _ _ _ (rows .before .before .before .decode .ensures) _ (rows .rows .ensures) _ (test .whole .ensures) _ (start .is-start .ensures)
+    ∙ read-no _ _ _ (rows .before .before .before .decode .ensures) _ (rows .rows .ensures) _ (test .whole .ensures) _
+    (start .is-start .ensures)
     (both-no-right _ _ (not-true _ (c .before .before .if2 .taken)))
 
 returns-3 : tie.Need-returns-3
@@ -29,7 +31,8 @@ returns-3 c =
     let start = c .before in
     let test = start .before .before in
     let rows = test .before in
-    read-yes _ _ _ (rows .before .before .before .decode .ensures) _ (rows .rows .ensures) _ (test .whole .ensures) _ (start .is-start .ensures)
+    read-yes _ _ _ (rows .before .before .before .decode .ensures) _ (rows .rows .ensures) _ (test .whole .ensures) _
+    (start .is-start .ensures)
     (both-true (not-false _ (start .before .if1 .left)) (not-false _ (c .if2 .left)))
 
 pub read-spec : {M : Type 1} → statement M

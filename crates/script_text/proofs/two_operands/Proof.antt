@@ -9,7 +9,8 @@ returns c =
     let second = c .before .before .before in
     let first = second .before .before in
     let start = first .before .before .before .before in
-    λ f q. two-got _ (start .args .at) _ f _ (first .before .before .number-field .ensures) _ _ _ _ _ (first .a .given .1) (second .last-number .ensures) (c .before .b .given .1)
+    λ f q. two-got _ (start .args .at) _ f _ (first .before .before .number-field .ensures) _ _ _ _ _
+    (first .a .given .1) (second .last-number .ensures) (c .before .b .given .1)
     (q _ _)
 
 returns-2 : tie.Need-returns-2
@@ -17,7 +18,8 @@ returns-2 c =
     let second = c .before .before in
     let first = second .before .before in
     let start = first .before .before .before .before in
-    λ f q. two-open _ (start .args .at) 0 f _ (first .before .before .number-field .ensures) _ _ _ (first .a .given .1) (second .last-number .ensures) (c .enum-told .given .1)
+    λ f q. two-open _ (start .args .at) 0 f _ (first .before .before .number-field .ensures) _ _ _ (first .a .given .1)
+    (second .last-number .ensures) (c .enum-told .given .1)
 
 returns-3 : tie.Need-returns-3
 returns-3 c =

@@ -2,8 +2,10 @@
 -- The lines are taken from the last to the first, over a stack of what stands complete.
 use mathlib.Core.List.{List, [], _∷_}
 use mathlib.Core.Option.{Option, none, some}
-use Rattle.language.specs.Syntax.{int, Expr, val, loc, var, plus, left, right, pack, unpack, pairing, proj, Cmd, skip, seq, assign, while, case}
-use Rattle.script.specs.Lines.{Line, l-skip, l-seq, l-assign, l-while, l-case, l-int, l-loc, l-var, l-plus, l-left, l-right, l-pack, l-unpack, l-pair, l-proj}
+use Rattle.language.specs.Syntax.{int, Expr, val, loc, var, plus, left, right, pack, unpack, pairing, proj, Cmd, skip}
+use Rattle.language.specs.Syntax.{seq, assign, while, case}
+use Rattle.script.specs.Lines.{Line, l-skip, l-seq, l-assign, l-while, l-case, l-int, l-loc, l-var, l-plus, l-left}
+use Rattle.script.specs.Lines.{l-right, l-pack, l-unpack, l-pair, l-proj}
 
 pub data Tree : Type 0 where
   ex : Expr → Tree

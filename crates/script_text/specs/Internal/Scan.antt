@@ -15,11 +15,13 @@ use Rattle.script.specs.Names.{Counts, namedE, named}
 use Rattle.script_text.specs.declared.Scanned.{Scanned}
 use Rattle.script_text.specs.Script.{commandOf}
 
--- Whether a tree of a sort starts at a word, its names there, and where the next lines stand: it is found exactly if it is there.
+-- Whether a tree of a sort starts at a word, its names there, and where the next lines stand: it is found
+-- exactly if it is there.
 pub record Scans (s : Sort) (names : Tree s → Bool) (ws : List ℕ) (at : ℕ) (r : Scanned) : Type 0 where
   pub forward : at ≤ r .next
   pub sound : (ls : List Line) → drop at ws ≡ code ls → r .ok ≡ true
-      → (x : Tree s) × (rest : List Line) × SourceOf s x × (names x ≡ true) × (ls ≡ linesOf s x rest) × (drop (r .next) ws ≡ code rest)
+      → (x : Tree s) × (rest : List Line) × SourceOf s x × (names x ≡ true) × (ls ≡ linesOf s x rest)
+      × (drop (r .next) ws ≡ code rest)
   pub complete : (x : Tree s) (rest : List Line) → SourceOf s x → names x ≡ true → drop at ws ≡ code (linesOf s x rest)
       → (r .ok ≡ true) × (drop (r .next) ws ≡ code rest)
 

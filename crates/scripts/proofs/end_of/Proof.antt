@@ -17,12 +17,14 @@ abbrev μ-loop : tie.MeasureT-loop
 returns : tie.Need-returns Inv-loop μ-loop
 returns c =
     let at = c .before .before .before in
-    sym (walk-ends (at .before .args .text .now) (at .loop .at) (at .loop .start) (c .before .before .loop-test .taken) (c .if1 .taken)) ∙ at .loop .inv
+    sym (walk-ends (at .before .args .text .now) (at .loop .at) (at .loop .start) (c .before .before .loop-test .taken)
+    (c .if1 .taken)) ∙ at .loop .inv
 
 loop-again : tie.Need-loop-again Inv-loop μ-loop
 loop-again c =
     let at = c .before .before .before in
-    sym (walk-on (at .before .args .text .now) (at .loop .at) (at .loop .start) (c .before .before .loop-test .taken) (c .if1 .left)) ∙ at .loop .inv
+    sym (walk-on (at .before .args .text .now) (at .loop .at) (at .loop .start) (c .before .before .loop-test .taken)
+    (c .if1 .left)) ∙ at .loop .inv
 
 returns-2 : tie.Need-returns-2 Inv-loop μ-loop
 returns-2 c =

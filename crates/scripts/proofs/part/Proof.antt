@@ -6,20 +6,23 @@ use lib.ListN.{length, length-set}
 use lib.Seq.{sets}
 use borrow.Author.Needs.{needs}
 use Rattle.scripts.specs.Internal.Places.{partsAfter, endsFrom, keptEnds}
-use Rattle.scripts.proofs.Places.{PartAt, part-at, StartsAt, first-starts, first-kept, next-starts, next-kept, parted-all, parted-many}
+use Rattle.scripts.proofs.Places.{PartAt, part-at, StartsAt, first-starts, first-kept, next-starts, next-kept}
+use Rattle.scripts.proofs.Places.{parted-all, parted-many}
 use Rattle.scripts.proofs.part.Statement.{statement}
 use Rattle.scripts.proofs.part.Tie as tie
 
 abbrev Inv-loop : tie.InvT-loop
 Inv-loop text ends₀ count₀ at₀ ends count at =
-    (count ≤ 32) × (length ends ≡ 32) × StartsAt text count at × (sets ends count (endsFrom at (partsAfter text at)) ≡ keptEnds text)
+    (count ≤ 32) × (length ends ≡ 32) × StartsAt text count at
+    × (sets ends count (endsFrom at (partsAfter text at)) ≡ keptEnds text)
 
 abbrev μ-loop : tie.MeasureT-loop
 μ-loop text ends₀ count₀ at₀ ends count at = length text + 1 - at
 
 -- the script that starts here
 here : (c : tie.After-end-of Inv-loop μ-loop)
-    → PartAt (c .before .before .before .before .before .args .text .now) (c .before .before .before .loop .at) (c .end-of .result)
+    → PartAt (c .before .before .before .before .before .args .text .now) (c .before .before .before .loop .at)
+    (c .end-of .result)
 here c = part-at _ _ _ (c .before .before .loop-test .taken) (c .end-of .ensures)
 
 returns : tie.Need-returns Inv-loop μ-loop
@@ -51,4 +54,5 @@ part-spec = tie.close (tie.spec
     (λ c. omega (arith, here c .inside, c .before .before .before .before .before .good))  -- add-at
     (λ c. omega (arith, here c .rises))  -- loop-less
     loop-again
-    (λ c. let at = c .before in parted-all _ _ (at .loop .at) (at .loop .inv .2) (c .loop-test .left) (at .loop .ends) (at .loop .inv .0) (at .loop .inv .3)))  -- returns-2
+    (λ c. let at = c .before in parted-all _ _ (at .loop .at) (at .loop .inv .2) (c .loop-test .left) (at .loop .ends)
+    (at .loop .inv .0) (at .loop .inv .3)))  -- returns-2

@@ -11,4 +11,5 @@ single-spec = tie.close (tie.spec
     (λ c. sym (restrict-single-out width (c .before .args .p) (omega arith)))  -- returns
     (λ c. search needs)  -- cast-result
     (λ c. search needs)  -- shl-result
-    (λ c. shl-one width (c .before .args .p) (omega arith) ∙ sym (restrict-single width (c .before .args .p) (omega arith))))  -- returns-2
+    (λ c. shl-one width (c .before .args .p) (omega arith)
+    ∙ sym (restrict-single width (c .before .args .p) (omega arith))))  -- returns-2

@@ -10,4 +10,5 @@ below-spec = tie.close (tie.spec
     (λ c κs. search needs)  -- label-of-requires
     (λ c κs. search needs)  -- label-of-requires-2
     (λ c κs. search needs)  -- at-or-below-requires
-    (λ c. rw (c .at-or-below .ensures, c .before .label-of2 .ensures, c .before .before .label-of .ensures)))  -- returns
+    (λ c.
+    rw (c .at-or-below .ensures, c .before .label-of2 .ensures, c .before .before .label-of .ensures)))  -- returns

@@ -47,14 +47,16 @@ returns-3 c =
     let word = c .before .before in
     let past = word .before in
     rw (c .enum-told .given .1)
-    (is-sum (leb maxTypes (word .right-word .result)) ∙ sym (there _ Sum _ _ (word .right-word .ensures) (past .before .before .if1 .left) (rw (past .before .types .ensures) at (past .if2 .left))))
+    (is-sum (leb maxTypes (word .right-word .result)) ∙ sym (there _ Sum _ _ (word .right-word .ensures)
+    (past .before .before .if1 .left) (rw (past .before .types .ensures) at (past .if2 .left))))
 
 returns-4 : tie.Need-returns-4
 returns-4 c =
     let word = c .before .before in
     let past = word .before in
     rw (c .enum-told2 .given .1)
-    (is-pair _ ∙ sym (there _ Pair _ _ (word .right-word .ensures) (past .before .before .if1 .left) (rw (past .before .types .ensures) at (past .if2 .left))))
+    (is-pair _ ∙ sym (there _ Pair _ _ (word .right-word .ensures) (past .before .before .if1 .left)
+    (rw (past .before .types .ensures) at (past .if2 .left))))
 
 pub is-of-spec : {M : Type 1} → statement M
 is-of-spec = tie.close (tie.spec

@@ -16,7 +16,8 @@ returns c =
     let g = n .before .before .args .group in
     c .reads .ensures
     ∙ ap₂ (λ (k : ℕ) (a : Label). readsOf k g a) (n .principals .ensures)
-    (c .before .bottom .ensures ∙ sym (label-past _ _ (b .before .labels .ensures) (c .before .before .everyone .ensures) (b .if1 .taken)))
+    (c .before .bottom .ensures
+    ∙ sym (label-past _ _ (b .before .labels .ensures) (c .before .before .everyone .ensures) (b .if1 .taken)))
 
 returns-2 : tie.Need-returns-2
 unfolding readsOf labelAt
@@ -24,7 +25,8 @@ returns-2 c =
     let n = c .before .before .before in
     let g = n .before .before .args .group in
     c .meets-at .ensures
-    ∙ ap₂ (λ (k : ℕ) (a : Label). readsOf k g a) (n .principals .ensures) (sym (label-there _ _ (c .before .before .labels .ensures) (c .before .if1 .left)))
+    ∙ ap₂ (λ (k : ℕ) (a : Label). readsOf k g a) (n .principals .ensures)
+    (sym (label-there _ _ (c .before .before .labels .ensures) (c .before .if1 .left)))
 
 pub reads-pooled-spec : {M : Type 1} → statement M
 reads-pooled-spec = tie.close (tie.spec

@@ -13,14 +13,16 @@ returns c =
     let n = b .before .before in
     c .sole-readers .ensures
     ∙ ap₂ soleReadersOf (n .principals .ensures)
-    (c .before .bottom .ensures ∙ sym (label-past _ _ (b .before .labels .ensures) (c .before .before .everyone .ensures) (b .if1 .taken)))
+    (c .before .bottom .ensures
+    ∙ sym (label-past _ _ (b .before .labels .ensures) (c .before .before .everyone .ensures) (b .if1 .taken)))
 
 returns-2 : tie.Need-returns-2
 unfolding soleReadersOf labelAt
 returns-2 c =
     let n = c .before .before .before in
     c .common-at .ensures
-    ∙ ap₂ soleReadersOf (n .principals .ensures) (sym (label-there _ _ (c .before .before .labels .ensures) (c .before .if1 .left)))
+    ∙ ap₂ soleReadersOf (n .principals .ensures)
+    (sym (label-there _ _ (c .before .before .labels .ensures) (c .before .if1 .left)))
 
 pub sole-readers-spec : {M : Type 1} → statement M
 sole-readers-spec = tie.close (tie.spec

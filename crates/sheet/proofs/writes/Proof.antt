@@ -18,7 +18,8 @@ returns c =
     let g = n .before .before .args .group in
     c .writes .ensures
     ∙ ap₂ (λ (k : ℕ) (a : Label). writesOf k g a) (n .principals .ensures)
-    (c .before .bottom .ensures ∙ sym (label-past _ _ (b .before .labels .ensures) (c .before .before .everyone .ensures) (b .if1 .taken)))
+    (c .before .bottom .ensures
+    ∙ sym (label-past _ _ (b .before .labels .ensures) (c .before .before .everyone .ensures) (b .if1 .taken)))
 
 returns-2 : tie.Need-returns-2
 unfolding writesIn writesOf labelAt
@@ -26,7 +27,8 @@ returns-2 c =
     let n = c .before .before .before in
     let g = n .before .before .args .group in
     c .meets-at .ensures
-    ∙ ap₂ (λ (k : ℕ) (a : Label). writesOf k g a) (n .principals .ensures) (sym (label-there _ _ (c .before .before .labels .ensures) (c .before .if1 .left)))
+    ∙ ap₂ (λ (k : ℕ) (a : Label). writesOf k g a) (n .principals .ensures)
+    (sym (label-there _ _ (c .before .before .labels .ensures) (c .before .if1 .left)))
 
 pub writes-spec : {M : Type 1} → statement M
 writes-spec = tie.close (tie.spec

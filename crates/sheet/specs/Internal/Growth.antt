@@ -11,13 +11,31 @@ unfoldable pub bareSheet : ℕ → Sheet
 bareSheet n = record { principals = n; reading = Pooled; compounds = []; labels = []; locations = [] }
 
 unfoldable pub addReading : Sheet → Sheet
-addReading s = record { principals = s .principals; reading = Alone; compounds = s .compounds; labels = s .labels; locations = s .locations }
+addReading s = record {
+  principals = s .principals;
+  reading = Alone;
+  compounds = s .compounds;
+  labels = s .labels;
+  locations = s .locations;
+}
 
 unfoldable pub addCompound : Sheet → Compound → Sheet
-addCompound s x = record { principals = s .principals; reading = s .reading; compounds = s .compounds ++ (x ∷ []); labels = s .labels; locations = s .locations }
+addCompound s x = record {
+  principals = s .principals;
+  reading = s .reading;
+  compounds = s .compounds ++ (x ∷ []);
+  labels = s .labels;
+  locations = s .locations;
+}
 
 unfoldable pub addLabel : Sheet → Sheet
-addLabel s = record { principals = s .principals; reading = s .reading; compounds = s .compounds; labels = s .labels ++ ([] ∷ []); locations = s .locations }
+addLabel s = record {
+  principals = s .principals;
+  reading = s .reading;
+  compounds = s .compounds;
+  labels = s .labels ++ ([] ∷ []);
+  locations = s .locations;
+}
 
 -- a policy more at the last label
 unfoldable pub toLast : Policy → List (List Policy) → List (List Policy)
@@ -26,7 +44,19 @@ toLast p (ps ∷ []) = (ps ++ (p ∷ [])) ∷ []
 toLast p (ps ∷ qs ∷ pss) = ps ∷ toLast p (qs ∷ pss)
 
 unfoldable pub addPolicy : Sheet → Policy → Sheet
-addPolicy s p = record { principals = s .principals; reading = s .reading; compounds = s .compounds; labels = toLast p (s .labels); locations = s .locations }
+addPolicy s p = record {
+  principals = s .principals;
+  reading = s .reading;
+  compounds = s .compounds;
+  labels = toLast p (s .labels);
+  locations = s .locations;
+}
 
 unfoldable pub addLocation : Sheet → Location → Sheet
-addLocation s x = record { principals = s .principals; reading = s .reading; compounds = s .compounds; labels = s .labels; locations = s .locations ++ (x ∷ []) }
+addLocation s x = record {
+  principals = s .principals;
+  reading = s .reading;
+  compounds = s .compounds;
+  labels = s .labels;
+  locations = s .locations ++ (x ∷ []);
+}

@@ -1,4 +1,5 @@
--- What a group may do to the labels of a table, as one set of numbers: l where it writes label l, and 32 + l where it reads label l.
+-- What a group may do to the labels of a table, as one set of numbers: l where it writes label l, and 32 + l where
+-- it reads label l.
 use mathlib.Core.Bool.{Bool, cond}
 use mathlib.Core.List.{List}
 use Prim.Native.Nat.{ℕ, zero, suc, _+_, _-_}

@@ -16,8 +16,8 @@ use Rattle.sheet.specs.Internal.Tables.{principalsIn, readingIn, labelIn
 unfoldable pub readsBy : Readers → ℕ → Bool
 readsBy r g = every owners (λ (o : ℕ). meets g (getD (r .sets) o 0))
 
--- the sets that a group of n principals must meet to read a label: the readers of each owner; alone, in each place those
--- who are readers for every owner
+-- the sets that a group of n principals must meet to read a label: the readers of each owner; alone, in each place
+-- those who are readers for every owner
 unfoldable pub setsToMeet : Reading → ℕ → Label → List ℕ
 setsToMeet Pooled n a = a .readers
 setsToMeet Alone n a = replicate owners (soleReadersOf n a)

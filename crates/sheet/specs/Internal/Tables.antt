@@ -13,10 +13,12 @@ use Rattle.labels.specs.declared.Reading.the-variants.{Pooled, Alone}
 use Rattle.sheet.specs.declared.Kind.{Kind}
 use Rattle.sheet.specs.declared.Kind.the-variants.{Sum, Pair}
 use Rattle.sheet.specs.Padding.{padded}
-use Rattle.sheet.specs.Sheet.{Compound, Location, Sheet, typeCount, labelsOf, labelCount, locationCount, maxCompounds, maxLabels, maxLocations, givenSums}
+use Rattle.sheet.specs.Sheet.{Compound, Location, Sheet, typeCount, labelsOf, labelCount, locationCount}
+use Rattle.sheet.specs.Sheet.{maxCompounds, maxLabels, maxLocations, givenSums}
 
--- The table has words of counts, two words for each type and for each location, and the words of each label. These are the words
--- that the types, the locations and the labels have room in, where they start, and the number of words in all.
+-- The table has words of counts, two words for each type and for each location, and the words of each label.
+-- These are the words that the types, the locations and the labels have room in, where they start, and the number
+-- of words in all.
 abbrev pub maxTypes : ℕ
 maxTypes = 5 + maxCompounds
 
@@ -41,7 +43,8 @@ labelsBase = locationsBase + locationsRoom
 abbrev pub tableWords : ℕ
 tableWords = labelsBase + labelsRoom
 
--- where the number of principals, their set, the counts of types, of labels and of locations, and the rule of reading stand
+-- where the number of principals, their set, the counts of types, of labels and of locations, and the rule
+-- of reading stand
 abbrev pub principalsAt : ℕ
 principalsAt = 0
 
@@ -111,8 +114,10 @@ readingWord Alone = 1
 -- and its labels.
 unfoldable pub tableOf : Sheet → List ℕ
 tableOf s =
-    (s .principals ∷ everyone (s .principals) ∷ typeCount s ∷ labelCount s ∷ locationCount s ∷ readingWord (s .reading) ∷ 0 ∷ 0 ∷ [])
-    ++ (padded partsRoom (partWords (typeParts s)) ++ (padded locationsRoom (locationWords (s .locations)) ++ padded labelsRoom (labelsWords (labelsOf s))))
+    (s .principals ∷ everyone (s .principals) ∷ typeCount s ∷ labelCount s ∷ locationCount s
+    ∷ readingWord (s .reading) ∷ 0 ∷ 0 ∷ [])
+    ++ (padded partsRoom (partWords (typeParts s))
+    ++ (padded locationsRoom (locationWords (s .locations)) ++ padded labelsRoom (labelsWords (labelsOf s))))
 
 -- ---- what a table says. A number that names nothing has the parts, type and label 0, and the label bottom.
 

@@ -1,4 +1,5 @@
--- Whether a value has the type that a number names, by the table alone (the scope, "Memory", and the last test of an unpack).
+-- Whether a value has the type that a number names, by the table alone (the scope, "Memory", and the last
+-- test of an unpack).
 use mathlib.Core.Bool.{Bool, false}
 use mathlib.Core.List.{List}
 use Prim.Native.Nat.{ℕ}

@@ -11,17 +11,21 @@ use Rattle.labels.specs.declared.Label.{Label}
 use Rattle.labels.specs.declared.Reading.the-variants.{Alone}
 use Rattle.sheet.specs.declared.Kind.{Kind}
 use Rattle.sheet.specs.Sheet.{maxLabels, maxLocations}
-use Rattle.sheet.specs.Internal.Tables.{maxTypes, partsBase, locationsBase, partsPlace, rightWord, labelPlace, principalsAt, everyoneAt, typesAt, labelsAt, locationsAt, readingAt, readingWord, principalsIn, everyoneIn, labelsIn, labelIn}
+use Rattle.sheet.specs.Internal.Tables.{maxTypes, partsBase, locationsBase, partsPlace, rightWord, labelPlace}
+use Rattle.sheet.specs.Internal.Tables.{principalsAt, everyoneAt, typesAt, labelsAt, locationsAt, readingAt}
+use Rattle.sheet.specs.Internal.Tables.{readingWord, principalsIn, everyoneIn, labelsIn, labelIn}
 
 -- A number up to the most of anything that is counted, locations, so that it fits a word, however wide. The second word
 -- of a type is lower still.
 unfoldable pub low : ℕ → ℕ
 low n = n % (maxLocations + 1)
 
--- the number of principals, their set, the count of the five given types, and the parts of type 4; the others have the parts 0 0
+-- the number of principals, their set, the count of the five given types, and the parts of type 4; the others
+-- have the parts 0 0
 abbrev pub principalsPut : ℕ → List ℕ → List ℕ
 principalsPut n t =
-    set (set (set (set (set t principalsAt (low n)) everyoneAt (restrict width (everyone n))) typesAt 5) (partsPlace 4) 2) (partsPlace 4 + 1) 1
+    set (set (set (set (set t principalsAt (low n)) everyoneAt (restrict width (everyone n))) typesAt 5)
+    (partsPlace 4) 2) (partsPlace 4 + 1) 1
 
 -- the rule of the line `R 1`
 abbrev pub readingPut : List ℕ → List ℕ

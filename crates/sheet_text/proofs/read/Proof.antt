@@ -2,17 +2,22 @@
 use mathlib.Core.Path.{sym, _∙_}
 use Rattle.sheet_text.specs.Sheets.{sheetOf}
 use Rattle.sheet_text.specs.Internal.Decoded.{refusedBy}
-use Rattle.sheet_text.proofs.ReadLaws.{formed-read, counts-few, answer-malformed, answer-repeating, answer-accepted}
+use Rattle.sheet_text.proofs.ReadLaws.{formed-read, counts-few, answer-malformed, answer-repeating}
+use Rattle.sheet_text.proofs.ReadLaws.{answer-accepted}
 use borrow.Author.Needs.{needs}
 use Rattle.sheet_text.proofs.read.Statement.{statement}
 use Rattle.sheet_text.proofs.read.Tie as tie
 
 returns : tie.Need-returns
 unfolding sheetOf refusedBy
-returns c = let told = c .before in answer-malformed _ _ _ (told .before .before .draft-of .ensures) (told .enum-told2 .given .1)
+returns c =
+    let told = c .before in
+    answer-malformed _ _ _ (told .before .before .draft-of .ensures) (told .enum-told2 .given .1)
 
 repeats-requires : tie.Need-repeats-requires
-repeats-requires c κs = let told = c .before in counts-few _ _ _ (told .enum-told .given .1) _ (formed-read _) (told .before .before .draft-of .ensures)
+repeats-requires c κs =
+    let told = c .before in
+    counts-few _ _ _ (told .enum-told .given .1) _ (formed-read _) (told .before .before .draft-of .ensures)
 
 returns-2 : tie.Need-returns-2
 unfolding sheetOf refusedBy

@@ -1,4 +1,5 @@
--- From lines to the sheet, a line at a time: each is tested against the sheet so far, which refuses those that break the form.
+-- From lines to the sheet, a line at a time: each is tested against the sheet so far, which refuses those
+-- that break the form.
 use mathlib.Core.Bool.{Bool, true, false, cond}
 use mathlib.Core.List.{List, [], _∷_}
 use mathlib.Core.Option.{Option, none, some}
@@ -11,7 +12,8 @@ use Rattle.labels.specs.declared.Reading.{Reading}
 use Rattle.labels.specs.declared.Reading.the-variants.{Pooled, Alone}
 use Rattle.sheet.specs.declared.Kind.{Kind}
 use Rattle.sheet.specs.declared.Kind.the-variants.{Sum, Pair}
-use Rattle.sheet.specs.Sheet.{Sheet, typeCount, labelCount, locationCount, maxPrincipals, maxCompounds, maxLabels, maxLocations}
+use Rattle.sheet.specs.Sheet.{Sheet, typeCount, labelCount, locationCount, maxPrincipals, maxCompounds, maxLabels}
+use Rattle.sheet.specs.Sheet.{maxLocations}
 use Rattle.sheet.specs.Internal.Growth.{bareSheet, addReading, addCompound, addLabel, addPolicy, addLocation}
 use Rattle.sheet_text.specs.declared.line.Line.{Line}
 use Rattle.sheet_text.specs.declared.line.Line.the-variants.{P, R, T, Q, L, O, X}
@@ -57,7 +59,8 @@ labelFits s = both (eqb (locationCount s) 0) (ltb (labelCount s) maxLabels)
 unfoldable pub policyFits : Sheet → ℕ → ℕ → ℕ → Bool
 policyFits s o r w =
     both (both (eqb (locationCount s) 0) (ltb 0 (labelCount s)))
-    (both (both (leb (leastOwner s) o) (ltb o (s .principals))) (both (ltb r (2 ^ s .principals)) (ltb w (2 ^ s .principals))))
+    (both (both (leb (leastOwner s) o) (ltb o (s .principals)))
+    (both (ltb r (2 ^ s .principals)) (ltb w (2 ^ s .principals))))
 
 -- `X` with a type and a label that are there
 unfoldable pub locationFits : Sheet → ℕ → ℕ → Bool

@@ -7,7 +7,8 @@ use Prim.Native.Nat.{ℕ}
 use lib.Dec.{eqb, leb, ltb}
 use Rattle.logic.specs.Booleans.{both}
 use Rattle.sheet.specs.Sheet.{Sheet, formed, maxPrincipals, maxLabels, maxLocations}
-use Rattle.sheet.specs.Internal.Tables.{maxTypes, tableOf, principalsIn, everyoneIn, typesIn, labelsIn, locationsIn, readingIn}
+use Rattle.sheet.specs.Internal.Tables.{maxTypes, tableOf, principalsIn, everyoneIn, typesIn, labelsIn, locationsIn}
+use Rattle.sheet.specs.Internal.Tables.{readingIn}
 use Rattle.sheet_text.specs.declared.line.Line.{Line}
 use Rattle.sheet_text.specs.declared.draft.Draft.{Draft}
 use Rattle.sheet_text.specs.declared.draft.Draft.the-variants.{Formed, Refused}
@@ -45,7 +46,8 @@ principalsFit n t = both (leb 1 n) (leb n maxPrincipals)
 
 abbrev pub readingFitsIn : ℕ → List ℕ → Bool
 readingFitsIn k t =
-    both (isPooled (readingIn t)) (both (eqb k 1) (both (eqb (typesIn t) 5) (both (eqb (labelsIn t) 0) (eqb (locationsIn t) 0))))
+    both (isPooled (readingIn t))
+    (both (eqb k 1) (both (eqb (typesIn t) 5) (both (eqb (labelsIn t) 0) (eqb (locationsIn t) 0))))
 
 abbrev pub compoundFitsIn : ℕ → ℕ → List ℕ → Bool
 compoundFitsIn a b t =

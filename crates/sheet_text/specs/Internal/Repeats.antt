@@ -34,4 +34,5 @@ againIn t labels n i = anyFrom (sameIn t labels i) (i + 1) (n - (i + 1))
 
 -- a sum or a pair, the first of which is type 3, or a label comes again
 unfoldable pub repeatsIn : List ℕ → Bool
-repeatsIn t = either (anyFrom (againIn t false (typesIn t)) 3 (typesIn t - 3)) (anyFrom (againIn t true (labelsIn t)) 0 (labelsIn t - 0))
+repeatsIn t = either (anyFrom (againIn t false (typesIn t)) 3 (typesIn t - 3))
+    (anyFrom (againIn t true (labelsIn t)) 0 (labelsIn t - 0))

@@ -12,13 +12,15 @@ returns : tie.Need-returns
 unfolding groupsOf
 returns c =
     let k = c .before in
-    rw (c .refused .ensures) (sheet-refused (refusedGroups _) _ _ _ _ (k .before .before .read .ensures) (k .before .sheet-number .ensures) (k .if1 .taken))
+    rw (c .refused .ensures) (sheet-refused (refusedGroups _) _ _ _ _ (k .before .before .read .ensures)
+    (k .before .sheet-number .ensures) (k .if1 .taken))
 
 returns-2 : tie.Need-returns-2
 unfolding groupsOf
 returns-2 c =
     let k = c .before .before .before .before .before in
-    sheet-read _ _ _ _ _ (k .before .before .read .ensures) (k .before .sheet-number .ensures) _ (k .if1 .left) (c .before .before .list-on .ensures .listed)
+    sheet-read _ _ _ _ _ (k .before .before .read .ensures) (k .before .sheet-number .ensures) _ (k .if1 .left)
+    (c .before .before .list-on .ensures .listed)
 
 pub simp-groups-spec : {M : Type 1} → statement M
 simp-groups-spec = tie.close (tie.spec

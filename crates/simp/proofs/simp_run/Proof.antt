@@ -9,7 +9,8 @@ use Rattle.simp.proofs.simp_run.Tie as tie
 
 returns : tie.Need-returns
 unfolding runOf
-returns c = rw (c .refused .ensures) (sheet-refused _ _ _ _ _ (c .before .before .before .read .ensures) (c .before .before .sheet-number .ensures) (c .before .if1 .taken))
+returns c = rw (c .refused .ensures) (sheet-refused _ _ _ _ _ (c .before .before .before .read .ensures)
+    (c .before .before .sheet-number .ensures) (c .before .if1 .taken))
 
 slice-aggregate-run-on : tie.Need-slice-aggregate-run-on
 slice-aggregate-run-on c = sym (decoded-long _ _ (c .before .before .before .read .ensures))
@@ -18,7 +19,8 @@ returns-2 : tie.Need-returns-2
 unfolding runOf
 returns-2 c =
     let k = c .before .before .before .before .before in
-    sheet-read _ _ _ _ _ (k .before .before .read .ensures) (k .before .sheet-number .ensures) _ (k .if1 .left) (c .before .before .run-on .ensures .ran)
+    sheet-read _ _ _ _ _ (k .before .before .read .ensures) (k .before .sheet-number .ensures) _ (k .if1 .left)
+    (c .before .before .run-on .ensures .ran)
 
 pub simp-run-spec : {M : Type 1} → statement M
 simp-run-spec = tie.close (tie.spec

@@ -12,13 +12,15 @@ returns : tie.Need-returns
 unfolding trustOf
 returns c =
     let k = c .before in
-    rw (c .refused-trust .ensures) (sheet-refused refusedTrust _ _ _ _ (k .before .before .read .ensures) (k .before .sheet-number .ensures) (k .if1 .taken))
+    rw (c .refused-trust .ensures) (sheet-refused refusedTrust _ _ _ _ (k .before .before .read .ensures)
+    (k .before .sheet-number .ensures) (k .if1 .taken))
 
 returns-2 : tie.Need-returns-2
 unfolding trustOf
 returns-2 c =
     let k = c .before .before in
-    sheet-read refusedTrust _ _ _ _ (k .before .before .read .ensures) (k .before .sheet-number .ensures) _ (k .if1 .left) (c .trust-on .ensures .trusted)
+    sheet-read refusedTrust _ _ _ _ (k .before .before .read .ensures) (k .before .sheet-number .ensures) _
+    (k .if1 .left) (c .trust-on .ensures .trusted)
 
 pub simp-trust-spec : {M : Type 1} → statement M
 simp-trust-spec = tie.close (tie.spec

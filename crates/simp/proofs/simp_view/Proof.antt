@@ -9,7 +9,8 @@ use Rattle.simp.proofs.simp_view.Tie as tie
 
 returns : tie.Need-returns
 unfolding viewOf
-returns c = sheet-refused _ _ _ _ _ (c .before .before .read .ensures) (c .before .sheet-number .ensures) (c .if1 .taken)
+returns c =
+    sheet-refused _ _ _ _ _ (c .before .before .read .ensures) (c .before .sheet-number .ensures) (c .if1 .taken)
 
 slice-aggregate-view-on : tie.Need-slice-aggregate-view-on
 slice-aggregate-view-on c = sym (decoded-long _ _ (c .before .before .before .read .ensures))
@@ -18,7 +19,8 @@ returns-2 : tie.Need-returns-2
 unfolding viewOf
 returns-2 c =
     let k = c .before .before .before .before .before in
-    sheet-read _ _ _ _ _ (k .before .before .read .ensures) (k .before .sheet-number .ensures) _ (k .if1 .left) (c .before .before .view-on .ensures .viewed)
+    sheet-read _ _ _ _ _ (k .before .before .read .ensures) (k .before .sheet-number .ensures) _ (k .if1 .left)
+    (c .before .before .view-on .ensures .viewed)
 
 pub simp-view-spec : {M : Type 1} → statement M
 simp-view-spec = tie.close (tie.spec

@@ -9,4 +9,5 @@ run-accepted-spec = tie.close (tie.spec
     (λ c κs. search needs)  -- run-requires
     (λ c κs. search needs)  -- number-requires
     (λ c. search needs)  -- same-length
-    (λ c. rw (c .number .ensures) (runs-accepted _ _ _ _ _ _ _ _ (c .before .before .before .run .ensures))))  -- returns
+    (λ c. rw (c .number .ensures)
+    (runs-accepted _ _ _ _ _ _ _ _ (c .before .before .before .run .ensures))))  -- returns

@@ -11,7 +11,8 @@ returns : tie.Need-returns
 returns c =
     let e = c .before .before in
     rw (c .refused .ensures)
-    (run-stranger _ _ _ _ _ (ap (within _) (sym (e .before .everyone .ensures)) ∙ sym (e .contained .ensures) ∙ not-true _ (c .before .if1 .taken)))
+    (run-stranger _ _ _ _ _ (ap (within _) (sym (e .before .everyone .ensures)) ∙ sym (e .contained .ensures)
+    ∙ not-true _ (c .before .if1 .taken)))
 
 returns-2 : tie.Need-returns-2
 returns-2 c =
@@ -19,7 +20,8 @@ returns-2 c =
     let k = n .before .before in
     rw (c .refused2 .ensures)
     (run-numbered _ _ _ _ _
-    (ap (within _) (sym (k .before .before .everyone .ensures)) ∙ sym (k .before .contained .ensures) ∙ not-false _ (k .if1 .left))
+    (ap (within _) (sym (k .before .before .everyone .ensures)) ∙ sym (k .before .contained .ensures)
+    ∙ not-false _ (k .if1 .left))
     (n .number-of .ensures) (c .before .if2 .taken))
 
 returns-3 : tie.Need-returns-3
@@ -30,7 +32,8 @@ returns-3 c =
     let k = n .before .before in
     rw (c .refused3 .ensures)
     (run-refused _ _ _ _ _
-    (ap (within _) (sym (k .before .before .everyone .ensures)) ∙ sym (k .before .contained .ensures) ∙ not-false _ (k .if1 .left))
+    (ap (within _) (sym (k .before .before .everyone .ensures)) ∙ sym (k .before .contained .ensures)
+    ∙ not-false _ (k .if1 .left))
     (n .number-of .ensures) (m .if2 .left) _
     (refusal-in _ _ _ (j .memory-number .ensures ∙ j .before .judge .ensures)) (c .before .if3 .taken))
 
@@ -44,9 +47,11 @@ returns-4 c =
     let n = m .before .before in
     let k = n .before .before in
     run-ends _ _ _ _ _
-    (ap (within _) (sym (k .before .before .everyone .ensures)) ∙ sym (k .before .contained .ensures) ∙ not-false _ (k .if1 .left))
+    (ap (within _) (sym (k .before .before .everyone .ensures)) ∙ sym (k .before .contained .ensures)
+    ∙ not-false _ (k .if1 .left))
     (n .number-of .ensures) (m .if2 .left) _
-    (refusal-in _ _ _ (sym (e .if3 .left) ∙ j .memory-number .ensures ∙ j .before .judge .ensures)) (rows .rows .ensures) (r .run-accepted .ensures)
+    (refusal-in _ _ _ (sym (e .if3 .left) ∙ j .memory-number .ensures ∙ j .before .judge .ensures))
+    (rows .rows .ensures) (r .run-accepted .ensures)
 
 pub run-on-spec : {M : Type 1} → statement M
 run-on-spec = tie.close (tie.spec
@@ -62,7 +67,10 @@ run-on-spec = tie.close (tie.spec
     (λ c κs. search needs)  -- refused-requires-3
     (λ c. search needs)  -- same-length
     returns-3
-    (λ c. search (needs, code-whole (c .before .before .before .before .before .before .before .number-of .ensures)))  -- slice-aggregate-rows
+    (λ c. search (
+      needs,
+      code-whole (c .before .before .before .before .before .before .before .number-of .ensures),
+    ))  -- slice-aggregate-rows
     (λ c κs. search needs)  -- rows-requires
     (λ c κs. search needs)  -- run-accepted-requires
     (λ c. search needs)  -- same-length-2

@@ -34,11 +34,13 @@ pub record TableOf (t : List ℕ) (s : Sheet) : Type 0 where
 -- The text of the script was refused, or read, ws is its code, and start says where it starts.
 pub data CodeOf (s : Sheet) (ws : List ℕ) (start : ℕ) : Answer → Option Script → Type 0 where
   no-code : CodeOf s ws start Refused none
-  its-code : {p : Script} → Source (p .command) → named (countsOf s) 0 (p .command) ≡ true → ws ≡ code (cmdLines (p .command) [])
+  its-code : {p : Script} → Source (p .command) → named (countsOf s) 0 (p .command) ≡ true
+      → ws ≡ code (cmdLines (p .command) [])
       → start ≡ startNo (p .opening .start) → CodeOf s ws start Read (some p)
 
 pub record Judges (a : Answer) (ws t : List ℕ) (start r : ℕ) : Type 0 where
-  pub judged : (s : Sheet) → TableOf t s → (o : Option Script) → CodeOf s ws start a o → r ≡ onScript (λ k. k) o (untyped s)
+  pub judged : (s : Sheet) → TableOf t s → (o : Option Script) → CodeOf s ws start a o
+      → r ≡ onScript (λ k. k) o (untyped s)
 
 -- whether there is a script, and it is trust-keeping
 unfoldable pub keepingIn : Sheet → Option Script → Bool
@@ -60,7 +62,8 @@ pub record AcceptedCode (s : Sheet) (script ws : List ℕ) : Type 0 where
   pub typed : untyped s parsed ≡ 0
   pub lines : ws ≡ code (cmdLines (parsed .command) [])
 
--- r is the script's number, and count and words are what its reader leaves; where r is 0, that is the code of an accepted script.
+-- r is the script's number, and count and words are what its reader leaves; where r is 0, that is the code of an
+-- accepted script.
 pub record NumbersScript (script t : List ℕ) (r count : ℕ) (words : List ℕ) : Type 0 where
   pub count-is : count ≡ decodedScript (scriptOf (countsIn t) script) .count
   pub words-are : words ≡ decodedScript (scriptOf (countsIn t) script) .code
@@ -69,9 +72,11 @@ pub record NumbersScript (script t : List ℕ) (r count : ℕ) (words : List ℕ
 
 -- the run of an accepted script from a memory that isn't refused
 abbrev pub acceptedRun : Sheet → List ℕ → ℕ → ℕ → Script → Ran
-acceptedRun s memory authority budget p = ended (locationCount s) budget memory (iterate (worldFor s authority p) budget (memoryOf memory) (p .command))
+acceptedRun s memory authority budget p =
+    ended (locationCount s) budget memory (iterate (worldFor s authority p) budget (memoryOf memory) (p .command))
 
--- Whatever the table and the code are: the memory is untouched unless the answer is 0, and no more steps are taken than the budget has.
+-- Whatever the table and the code are: the memory is untouched unless the answer is 0, and no more steps are taken
+-- than the budget has.
 pub record Spares (memory : List ℕ) (budget : ℕ) (r : Ran) : Type 0 where
   pub untouched : (r .answer ≡ 0 → ⊥) → r .memory ≡ memory
   pub within : r .steps ≤ budget

@@ -1,11 +1,13 @@
--- `text::digits` meets its contract: what is left to read from i with v is what was to be read at the start. Assumes nothing.
+-- `text::digits` meets its contract: what is left to read from i with v is what was to be read at the start.
+-- Assumes nothing.
 use Prim.Native.Nat.{_≤_, _-_}
 use mathlib.Core.Path.{_≡_, refl, sym, _∙_}
 use native.Mathlib.Omega.{arith}
 use lib.ListN.{length, drop}
 use Rattle.text.specs.Number as spec
 use Rattle.text.proofs.Places.{decimal-got, decimal-none}
-use Rattle.text.proofs.Numbers.{digit-low, digit-high, digit-in, opens-at, opens-at-end, digits-end, digits-at-over, digits-at-on}
+use Rattle.text.proofs.Numbers.{digit-low, digit-high, digit-in, opens-at, opens-at-end, digits-end}
+use Rattle.text.proofs.Numbers.{digits-at-over, digits-at-on}
 use Rattle.text.proofs.digits.Statement.{statement}
 use Rattle.text.proofs.digits.Tie as tie
 
@@ -36,7 +38,8 @@ returns-3 c =
     let a = at .before .args in
     decimal-none _ _
     (sym (at .loop .inv .2)
-    ∙ digits-at-over (a .s .now) (at .loop .i) (omega arith) (a .bound) (at .loop .v) (digit-in _ (c .before .before .if1 .left) (c .before .if2 .left)) (omega arith))
+    ∙ digits-at-over (a .s .now) (at .loop .i) (omega arith) (a .bound) (at .loop .v)
+    (digit-in _ (c .before .before .if1 .left) (c .before .if2 .left)) (omega arith))
 
 loop-again : tie.Need-loop-again Inv-loop μ-loop
 loop-again c =
@@ -44,7 +47,8 @@ loop-again c =
     let a = at .before .args in (
       omega arith,
       omega arith,
-      sym (digits-at-on (a .s .now) (at .loop .i) (omega arith) (a .bound) (at .loop .v) (digit-in _ (c .before .before .if1 .left) (c .before .if2 .left)) (omega arith))
+      sym (digits-at-on (a .s .now) (at .loop .i) (omega arith) (a .bound) (at .loop .v)
+          (digit-in _ (c .before .before .if1 .left) (c .before .if2 .left)) (omega arith))
           ∙ at .loop .inv .2,
     )
 
@@ -53,7 +57,8 @@ returns-4 c =
     let at = c .before in
     let a = at .before .args in
     decimal-got _ _ _ _
-    (sym (at .loop .inv .2) ∙ digits-end (a .bound) (at .loop .v) _ (opens-at-end (a .s .now) (at .loop .i) (omega arith)))
+    (sym (at .loop .inv .2)
+    ∙ digits-end (a .bound) (at .loop .v) _ (opens-at-end (a .s .now) (at .loop .i) (omega arith)))
     (omega arith)
 
 pub digits-spec : {M : Type 1} → statement M

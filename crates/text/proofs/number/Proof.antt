@@ -20,14 +20,16 @@ returns : tie.Need-returns
 returns c =
     let k = c .before .before .before .before in
     let a = k .before .before .before .args in
-    decimal-none _ _ (number-at-long (a .bound) (a .s .now) (a .at) (inside k) (c .before .before .if2 .taken) (sym (c .before .digit-at2 .ensures) ∙ c .if3 .taken))
+    decimal-none _ _ (number-at-long (a .bound) (a .s .now) (a .at) (inside k) (c .before .before .if2 .taken)
+    (sym (c .before .digit-at2 .ensures) ∙ c .if3 .taken))
 
 returns-2 : tie.Need-returns-2
 returns-2 c =
     let k = c .before .before .before .before in
     let a = k .before .before .before .args in
     decimal-got _ _ _ _
-    (number-at-zero (a .bound) (a .s .now) (a .at) (inside k) (c .before .before .if2 .taken) (sym (c .before .digit-at2 .ensures) ∙ c .if3 .left))
+    (number-at-zero (a .bound) (a .s .now) (a .at) (inside k) (c .before .before .if2 .taken)
+    (sym (c .before .digit-at2 .ensures) ∙ c .if3 .left))
     (omega (arith, inside k))
 
 returns-3 : tie.Need-returns-3
@@ -35,7 +37,8 @@ returns-3 c =
     let k = c .before .before .before in
     let a = k .before .before .before .args in
     c .digits .ensures
-    ∙ ap (placedDecimal (a .s .now)) (sym (number-at-on (a .bound) (a .s .now) (a .at) (inside k) (sym (k .before .digit-at .ensures) ∙ k .if1 .taken) (c .before .if2 .left)))
+    ∙ ap (placedDecimal (a .s .now)) (sym (number-at-on (a .bound) (a .s .now) (a .at) (inside k)
+    (sym (k .before .digit-at .ensures) ∙ k .if1 .taken) (c .before .if2 .left)))
 
 returns-4 : tie.Need-returns-4
 returns-4 c =

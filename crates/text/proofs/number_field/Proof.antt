@@ -17,7 +17,8 @@ returns c =
 returns-2 : tie.Need-returns-2
 returns-2 c =
     let a = c .before .before .before .before .args in
-    decimal-none _ _ (number-field-none _ (a .bound) (byte-bad (a .s .now) (a .at) 9 _ (c .before .before .byte .ensures) (c .enum-told .given .1)))
+    decimal-none _ _ (number-field-none _ (a .bound)
+    (byte-bad (a .s .now) (a .at) 9 _ (c .before .before .byte .ensures) (c .enum-told .given .1)))
 
 pub number-field-spec : {M : Type 1} → statement M
 number-field-spec = tie.close (tie.spec

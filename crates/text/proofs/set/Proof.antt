@@ -1,4 +1,5 @@
--- `text::set` meets its contract: what is left to read from p with m is what was to be read at the start. Assumes nothing.
+-- `text::set` meets its contract: what is left to read from p with m is what was to be read at the start.
+-- Assumes nothing.
 use Prim.Native.Nat.{ℕ, _≤_, _<_, _-_, _^_}
 use mathlib.Core.Path.{_≡_, refl, sym, _∙_, ap}
 use native.Mathlib.Omega.{arith}
@@ -26,7 +27,8 @@ returns-2 : tie.Need-returns-2 Inv-loop μ-loop
 returns-2 c =
     let at = c .before .before in
     let s = at .before .before .before .args .s .now in
-    mask-none _ _ (sym (at .loop .inv .3) ∙ hex-at-end setDigits (at .loop .i) (at .loop .m) s (at .loop .p) (omega arith) (c .if2 .taken))
+    mask-none _ _ (sym (at .loop .inv .3)
+    ∙ hex-at-end setDigits (at .loop .i) (at .loop .m) s (at .loop .p) (omega arith) (c .if2 .taken))
 
 returns-3 : tie.Need-returns-3 Inv-loop μ-loop
 returns-3 c =
@@ -34,7 +36,8 @@ returns-3 c =
     let s = at .before .before .before .args .s .now in
     mask-none _ _
     (sym (at .loop .inv .3)
-    ∙ hex-at-bad setDigits (at .loop .i) (at .loop .m) s (at .loop .p) (omega arith) (omega arith) _ (c .before .hex-digit .ensures) (c .if3 .taken))
+    ∙ hex-at-bad setDigits (at .loop .i) (at .loop .m) s (at .loop .p) (omega arith) (omega arith) _
+    (c .before .hex-digit .ensures) (c .if3 .taken))
 
 mul-m : tie.Need-mul-m Inv-loop μ-loop
 mul-m c =
@@ -53,7 +56,8 @@ loop-again c =
       omega arith,
       omega arith,
       hex-grows (at .loop .i) (at .loop .m) _ (at .loop .inv .2) (c .if3 .left),
-      sym (hex-at-on setDigits (at .loop .i) (at .loop .m) s (at .loop .p) (omega arith) (omega arith) _ (c .before .hex-digit .ensures) (c .if3 .left))
+      sym (hex-at-on setDigits (at .loop .i) (at .loop .m) s (at .loop .p) (omega arith) (omega arith) _
+          (c .before .hex-digit .ensures) (c .if3 .left))
           ∙ at .loop .inv .3,
     )
 
@@ -62,7 +66,9 @@ returns-4 c =
     let at = c .before in
     let z : setDigits - at .loop .i ≡ 0 = omega arith in
     mask-got _ _ _ _
-    (sym (at .loop .inv .3) ∙ ap (λ (k : ℕ). hexDigits k (at .loop .m) (drop (at .loop .p) (at .before .before .before .args .s .now))) z ∙ hex-done _ _)
+    (sym (at .loop .inv .3)
+    ∙ ap (λ (k : ℕ). hexDigits k (at .loop .m) (drop (at .loop .p) (at .before .before .before .args .s .now))) z
+    ∙ hex-done _ _)
     (omega arith)
 
 pub set-spec : {M : Type 1} → statement M

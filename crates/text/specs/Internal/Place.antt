@@ -11,7 +11,8 @@ use Rattle.text.specs.declared.Mask.the-variants as mask
 use Rattle.text.specs.declared.Place.{Place}
 use Rattle.text.specs.declared.Place.the-variants as place
 
--- a reading in s as an answer: `at` of the value and of the place where what follows starts, or `none` (what follows is the end of s)
+-- a reading in s as an answer: `at` of the value and of the place where what follows starts, or `none` (what follows
+-- is the end of s)
 unfoldable pub placed : {A R : Type 0} → (A → ℕ → R) → R → List ℕ → Read A → R
 placed at none s (got v t) = at v (length s - length t)
 placed at none s bad = none

@@ -1,4 +1,5 @@
--- The proof of the cycle of calls {check_cmd}. The measure is the rows left; each return is a law of `CmdLaws`. Assumes nothing.
+-- The proof of the cycle of calls {check_cmd}. The measure is the rows left; each return is a law of `CmdLaws`.
+-- Assumes nothing.
 use borrow.Author.Needs.{needs}
 use Prim.Native.Nat.{ℕ, _<_}
 use native.Mathlib.Omega.{arith}
@@ -78,39 +79,53 @@ check-cmd-returns-2 t c =
 
 check-cmd-returns-3 : (t : ℕ) → check-cmd-lts.Need-returns-3 (check-cmd-calls t) (check-cmd-at t) check-cmd.Post
 check-cmd-returns-3 t c =
-    arm-seq (c .before .before .before .before .before .before .row-at .ensures) (c .before .before .before .before .before .match .keys2)
+    arm-seq (c .before .before .before .before .before .before .row-at .ensures)
+    (c .before .before .before .before .before .match .keys2)
     (c .before .before .before .check-cmd .ensures) (c .before .check-cmd2 .ensures) (c .of-seq .ensures)
 
 check-cmd-returns-4 : (t : ℕ) → check-cmd-lts.Need-returns-4 (check-cmd-calls t) (check-cmd-at t) check-cmd.Post
 check-cmd-returns-4 t c =
-    arm-assign (c .before .before .before .before .before .before .before .row-at .ensures) (c .before .before .check-expr .ensures)
+    arm-assign (c .before .before .before .before .before .before .before .row-at .ensures)
+    (c .before .before .check-expr .ensures)
     (c .before .match2 .keys1) (c .of-assign .ensures)
 
 check-cmd-returns-5 : (t : ℕ) → check-cmd-lts.Need-returns-5 (check-cmd-calls t) (check-cmd-at t) check-cmd.Post
 check-cmd-returns-5 t c =
-    arm-while (c .before .before .before .before .before .before .before .before .before .before .row-at .ensures) (c .before .before .before .before .before .check-expr .ensures)
-    (c .before .before .before .before .match2 .keys2) (c .before .before .before .join .ensures) (c .before .check-cmd3 .ensures) (c .of-while .ensures)
+    arm-while (c .before .before .before .before .before .before .before .before .before .before .row-at .ensures)
+    (c .before .before .before .before .before .check-expr .ensures)
+    (c .before .before .before .before .match2 .keys2) (c .before .before .before .join .ensures)
+    (c .before .check-cmd3 .ensures) (c .of-while .ensures)
 
 check-cmd-returns-6 : (t : ℕ) → check-cmd-lts.Need-returns-6 (check-cmd-calls t) (check-cmd-at t) check-cmd.Post
 check-cmd-returns-6 t c =
-    arm-case (c .before .before .before .before .before .before .before .before .before .before .before .before .before .before .before .before .before .before .before .row-at .ensures)
-    (c .before .before .before .before .before .before .before .before .before .before .before .before .before .before .check-expr .ensures)
-    (c .before .before .before .before .before .before .before .before .before .before .before .before .before .match2 .keys3)
+    arm-case (c .before .before .before .before .before .before .before .before .before .before .before .before .before
+    .before .before .before .before .before .before .row-at .ensures)
+    (c .before .before .before .before .before .before .before .before .before .before .before .before .before .before
+    .check-expr .ensures)
+    (c .before .before .before .before .before .before .before .before .before .before .before .before
+    .before .match2 .keys3)
     (c .before .before .before .before .before .before .before .before .before .before .before .before .if3 .left)
     (c .before .before .before .before .before .before .before .before .before .before .before .join2 .ensures)
-    (search (needs, c .before .before .before .before .before .before .before .before .before .left-part .ok)) (c .before .before .before .before .before .before .before .before .before .left-part .ensures)
-    (c .before .before .before .before .before .before .before .before .bind .ensures) (c .before .before .before .before .before .before .check-cmd4 .ensures)
-    (search (needs, c .before .before .before .before .right-part .ok)) (c .before .before .before .before .right-part .ensures) (c .before .before .before .bind2 .ensures) (c .before .check-cmd5 .ensures) (c .of-case .ensures)
+    (search (needs, c .before .before .before .before .before .before .before .before .before .left-part .ok))
+    (c .before .before .before .before .before .before .before .before .before .left-part .ensures)
+    (c .before .before .before .before .before .before .before .before .bind .ensures)
+    (c .before .before .before .before .before .before .check-cmd4 .ensures)
+    (search (needs, c .before .before .before .before .right-part .ok))
+    (c .before .before .before .before .right-part .ensures) (c .before .before .before .bind2 .ensures)
+    (c .before .check-cmd5 .ensures) (c .of-case .ensures)
 
 check-cmd-returns-7 : (t : ℕ) → check-cmd-lts.Need-returns-7 (check-cmd-calls t) (check-cmd-at t) check-cmd.Post
 check-cmd-returns-7 t c =
     arm-other (c .before .before .before .before .before .before .before .row-at .ensures)
-    (λ h. none-between 3 3 (c .before .match2 .rest) (none-past 1 2 (c .before .before .before .before .before .before .match .rest) (h .0)) (h .1)) (c .not-passed2 .ensures)
+    (λ h. none-between 3 3 (c .before .match2 .rest)
+    (none-past 1 2 (c .before .before .before .before .before .before .match .rest) (h .0)) (h .1))
+    (c .not-passed2 .ensures)
 
 check-cmd-returns-8 : (t : ℕ) → check-cmd-lts.Need-returns-8 (check-cmd-calls t) (check-cmd-at t) check-cmd.Post
 check-cmd-returns-8 t c =
     arm-other (c .before .before .before .row-at .ensures)
-    (λ h. ⊎-elim (λ w. omega (arith, h .0, w .taken)) (λ w. omega (arith, h .1, w .1 .left)) (c .before .if1 .came)) (c .not-passed3 .ensures)
+    (λ h. ⊎-elim (λ w. omega (arith, h .0, w .taken)) (λ w. omega (arith, h .1, w .1 .left)) (c .before .if1 .came))
+    (c .not-passed3 .ensures)
 
 pub +check-cmd-spec : {M : Type 1} → statement M
 +check-cmd-spec = close μ-check-cmd λ t. check-cmd-lts.spec (check-cmd-calls t)
@@ -120,7 +135,14 @@ pub +check-cmd-spec : {M : Type 1} → statement M
     (λ c. omega (arith, row-within _ _ (c .before .row-at .ensures) (omega (arith, c .match .keys1))))  -- add-of-skip
     (λ c κs. search needs)  -- of-skip-requires
     (λ c. omega (arith, row-within _ _ (c .before .row-at .ensures) (omega (arith, c .match .keys2))))  -- add-check-cmd
-    (λ c κs. (omega (arith, c .before .before .before .before .before .pre .0, row-within _ _ (c .before .before .row-at .ensures) (omega (arith, c .before .match .keys2))), tt))  -- check-cmd-requires
+    (λ c κs. (
+      omega (
+        arith,
+        c .before .before .before .before .before .pre .0,
+        row-within _ _ (c .before .before .row-at .ensures) (omega (arith, c .before .match .keys2)),
+      ),
+      tt,
+    ))  -- check-cmd-requires
     (λ c κs. let r = c .before .before .before .before in (
       omega (
         arith,
@@ -131,7 +153,10 @@ pub +check-cmd-spec : {M : Type 1} → statement M
       tt,
     ))  -- check-cmd-requires-2
     (λ c κs. search needs)  -- of-seq-requires
-    (λ c. omega (arith, row-within _ _ (c .before .before .before .row-at .ensures) (omega (arith, c .before .if1 .left))))  -- add-check-expr
+    (λ c. omega (
+      arith,
+      row-within _ _ (c .before .before .before .row-at .ensures) (omega (arith, c .before .if1 .left)),
+    ))  -- add-check-expr
     (λ c κs. search needs)  -- check-expr-requires
     (λ c κs. search needs)  -- of-assign-requires
     (λ c κs. search needs)  -- join-requires
@@ -152,26 +177,39 @@ pub +check-cmd-spec : {M : Type 1} → statement M
     (λ c κs. search needs)  -- left-part-requires
     (λ c κs. c .before .before .before .if3 .left)  -- bind-requires
     (λ c. omega (arith, c .before .before .before .before .before .if3 .left))  -- add-check-cmd-2
-    (λ c κs. let r = c .before .before .before .before .before .before .before .before .before .before .before .before in (
+    (λ c κs. let r =
+    c .before .before .before .before .before .before .before .before .before .before .before .before in (
       omega (
         arith,
         r .before .before .before .pre .0,
         row-within _ _ (r .row-at .ensures)
-            (omega (arith, c .before .before .before .before .before .before .before .before .before .before .if1 .left)),
+            (omega (
+              arith,
+              c .before .before .before .before .before .before .before .before .before .before .if1 .left,
+            )),
         c .before .before .before .before .before .before .before .check-expr .ensures .onward,
       ),
       tt,
     ))  -- check-cmd-requires-4
     (λ c κs. search needs)  -- right-part-requires
     (λ c κs. c .before .before .before .before .before .before .before .before .if3 .left)  -- bind-requires-2
-    (λ c. omega (arith, c .before .before .before .before .before .before .before .before .before .before .if3 .left))  -- add-check-cmd-3
-    (λ c κs. let r = c .before .before .before .before .before .before .before .before .before .before .before .before .before .before .before .before .before in (
+    (λ c. omega (
+      arith,
+      c .before .before .before .before .before .before .before .before .before .before .if3 .left,
+    ))  -- add-check-cmd-3
+    (λ c κs. let r = c .before .before .before .before .before .before .before .before .before .before .before .before
+    .before .before .before .before .before in (
       omega (
         arith,
         r .before .before .before .pre .0,
         row-within _ _ (r .row-at .ensures)
-            (omega (arith, c .before .before .before .before .before .before .before .before .before .before .before .before .before .before .before .if1 .left)),
-        c .before .before .before .before .before .before .before .before .before .before .before .before .check-expr .ensures .onward,
+            (omega (
+              arith,
+              c .before .before .before .before .before .before .before .before .before .before .before .before .before
+                  .before .before .if1 .left,
+            )),
+        c .before .before .before .before .before .before .before .before .before .before .before .before .check-expr
+            .ensures .onward,
         c .before .before .before .before .check-cmd4 .ensures .onward,
       ),
       tt,

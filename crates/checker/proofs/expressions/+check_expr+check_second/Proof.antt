@@ -7,7 +7,8 @@ use mathlib.Core.Logic.{⊎-elim}
 use Rattle.language.specs.Syntax.{first, second, pick}
 use Rattle.script.specs.Internal.Code.{rowsLeft}
 use Rattle.script.proofs.Rows.{row-within, none-past, none-between}
-use Rattle.checker.proofs.ExprLaws.{arm-int, arm-loc, arm-var, arm-plus, arm-left, arm-right, arm-pack, arm-unpack, arm-pair, arm-part, arm-other}
+use Rattle.checker.proofs.ExprLaws.{arm-int, arm-loc, arm-var, arm-plus, arm-left, arm-right, arm-pack}
+use Rattle.checker.proofs.ExprLaws.{arm-unpack, arm-pair, arm-part, arm-other}
 use borrow.Fn.Kinds.{In}
 use borrow.Fn.PlainCycle.{Measures, is, falls, and}
 use Rattle.checker.proofs.expressions.check_expr.Reads as check-expr
@@ -100,43 +101,51 @@ check-expr-returns-3 t c =
 check-expr-returns-4 : (t : ℕ) → check-expr-lts.Need-returns-4 (check-expr-calls t) (check-expr-at t) check-expr.Post
 check-expr-returns-4 t c =
     let two = c .check-second .ensures in
-    arm-plus (c .before .before .before .before .before .before .row-at .ensures) (c .before .before .check-expr .ensures) (c .before .match2 .keys1) (two .1) (two .2)
+    arm-plus (c .before .before .before .before .before .before .row-at .ensures)
+    (c .before .before .check-expr .ensures) (c .before .match2 .keys1) (two .1) (two .2)
 
 check-expr-returns-5 : (t : ℕ) → check-expr-lts.Need-returns-5 (check-expr-calls t) (check-expr-at t) check-expr.Post
 check-expr-returns-5 t c =
     let two = c .check-second2 .ensures in
-    arm-pair (c .before .before .before .before .before .before .row-at .ensures) (c .before .before .check-expr .ensures) (c .before .match2 .keys2) (two .1) (two .2)
+    arm-pair (c .before .before .before .before .before .before .row-at .ensures)
+    (c .before .before .check-expr .ensures) (c .before .match2 .keys2) (two .1) (two .2)
 
 check-expr-returns-6 : (t : ℕ) → check-expr-lts.Need-returns-6 (check-expr-calls t) (check-expr-at t) check-expr.Post
 check-expr-returns-6 t c =
-    arm-left (c .before .before .before .before .before .before .before .row-at .ensures) (c .before .before .before .check-expr .ensures)
+    arm-left (c .before .before .before .before .before .before .before .row-at .ensures)
+    (c .before .before .before .check-expr .ensures)
     (c .before .before .match2 .keys3) (c .before .left-part .ensures) (c .of-sum .ensures)
 
 check-expr-returns-7 : (t : ℕ) → check-expr-lts.Need-returns-7 (check-expr-calls t) (check-expr-at t) check-expr.Post
 check-expr-returns-7 t c =
-    arm-right (c .before .before .before .before .before .before .before .row-at .ensures) (c .before .before .before .check-expr .ensures)
+    arm-right (c .before .before .before .before .before .before .before .row-at .ensures)
+    (c .before .before .before .check-expr .ensures)
     (c .before .before .match2 .keys4) (c .before .right-part .ensures) (c .of-sum2 .ensures)
 
 check-expr-returns-8 : (t : ℕ) → check-expr-lts.Need-returns-8 (check-expr-calls t) (check-expr-at t) check-expr.Post
 check-expr-returns-8 t c =
-    arm-pack (c .before .before .before .before .before .before .row-at .ensures) (c .before .before .check-expr .ensures) (c .before .match2 .keys5)
+    arm-pack (c .before .before .before .before .before .before .row-at .ensures)
+    (c .before .before .check-expr .ensures) (c .before .match2 .keys5)
     (c .of-pack .ensures)
 
 check-expr-returns-9 : (t : ℕ) → check-expr-lts.Need-returns-9 (check-expr-calls t) (check-expr-at t) check-expr.Post
 check-expr-returns-9 t c =
-    arm-unpack (c .before .before .before .before .before .before .row-at .ensures) (c .before .before .check-expr .ensures) (c .before .match2 .keys6)
+    arm-unpack (c .before .before .before .before .before .before .row-at .ensures)
+    (c .before .before .check-expr .ensures) (c .before .match2 .keys6)
     (c .of-unpack .ensures)
 
 check-expr-returns-10 : (t : ℕ) → check-expr-lts.Need-returns-10 (check-expr-calls t) (check-expr-at t) check-expr.Post
 unfolding pick
 check-expr-returns-10 t c =
-    arm-part (c .before .before .before .before .before .before .before .row-at .ensures) (c .before .before .before .check-expr .ensures)
+    arm-part (c .before .before .before .before .before .before .before .row-at .ensures)
+    (c .before .before .before .check-expr .ensures)
     first (c .before .before .match2 .keys7) (c .before .left-part2 .ensures) (c .of-part .ensures)
 
 check-expr-returns-11 : (t : ℕ) → check-expr-lts.Need-returns-11 (check-expr-calls t) (check-expr-at t) check-expr.Post
 unfolding pick
 check-expr-returns-11 t c =
-    arm-part (c .before .before .before .before .before .before .before .row-at .ensures) (c .before .before .before .check-expr .ensures)
+    arm-part (c .before .before .before .before .before .before .before .row-at .ensures)
+    (c .before .before .before .check-expr .ensures)
     second (c .before .before .match2 .keys8) (c .before .right-part2 .ensures) (c .of-part2 .ensures)
 
 check-expr-returns-12 : (t : ℕ) → check-expr-lts.Need-returns-12 (check-expr-calls t) (check-expr-at t) check-expr.Post
@@ -144,14 +153,23 @@ check-expr-returns-12 t c =
     arm-other (c .before .before .before .before .before .before .row-at .ensures)
     (λ h.
     let r = c .before .match2 .rest in
-    none-between 9 8
-    ((((((((tt, r .0 .0 .0 .0 .0 .0 .0 .1), r .0 .0 .0 .0 .0 .1), r .0 .0 .0 .0 .1), r .0 .0 .0 .1), r .0 .0 .1), r .0 .0 .0 .0 .0 .0 .1), r .0 .1), r .1)
+    none-between 9 8 (
+      (
+        (
+          (((((tt, r .0 .0 .0 .0 .0 .0 .0 .1), r .0 .0 .0 .0 .0 .1), r .0 .0 .0 .0 .1), r .0 .0 .0 .1), r .0 .0 .1),
+          r .0 .0 .0 .0 .0 .0 .1,
+        ),
+        r .0 .1,
+      ),
+      r .1,
+    )
     (none-past 6 3 (c .before .before .before .before .before .match .rest) (h .0)) (h .1)) (c .no-type .ensures)
 
 check-expr-returns-13 : (t : ℕ) → check-expr-lts.Need-returns-13 (check-expr-calls t) (check-expr-at t) check-expr.Post
 check-expr-returns-13 t c =
     arm-other (c .before .before .before .row-at .ensures)
-    (λ h. ⊎-elim (λ w. omega (arith, h .0, w .taken)) (λ w. omega (arith, h .1, w .1 .left)) (c .before .if1 .came)) (c .no-type2 .ensures)
+    (λ h. ⊎-elim (λ w. omega (arith, h .0, w .taken)) (λ w. omega (arith, h .1, w .1 .left)) (c .before .if1 .came))
+    (c .no-type2 .ensures)
 
 -- What is known of the functions that `check_second` calls.
 abbrev check-second-calls : ℕ → check-second-lts.Claims
@@ -164,13 +182,21 @@ check-second-calls t = (
   of-pair-reads.Learnt,
 )
 
-check-second-returns : (t : ℕ) → check-second-lts.Need-returns (check-second-calls t) (check-second-at t) check-second.Post
-check-second-returns t c =
-    (c .before .before .check-expr .result, c .before .before .check-expr .ensures, rw (c .before .if1 .taken) (c .of-plus .ensures))
+check-second-returns : (t : ℕ)
+    → check-second-lts.Need-returns (check-second-calls t) (check-second-at t) check-second.Post
+check-second-returns t c = (
+  c .before .before .check-expr .result,
+  c .before .before .check-expr .ensures,
+  rw (c .before .if1 .taken) (c .of-plus .ensures),
+)
 
-check-second-returns-2 : (t : ℕ) → check-second-lts.Need-returns-2 (check-second-calls t) (check-second-at t) check-second.Post
-check-second-returns-2 t c =
-    (c .before .before .check-expr .result, c .before .before .check-expr .ensures, rw (c .before .if1 .left) (c .of-pair .ensures))
+check-second-returns-2 : (t : ℕ)
+    → check-second-lts.Need-returns-2 (check-second-calls t) (check-second-at t) check-second.Post
+check-second-returns-2 t c = (
+  c .before .before .check-expr .result,
+  c .before .before .check-expr .ensures,
+  rw (c .before .if1 .left) (c .of-pair .ensures),
+)
 
 pub +check-expr+check-second-spec : {M : Type 1} → statement M
 +check-expr+check-second-spec = close μ-check-expr μ-check-second (λ t. check-expr-lts.spec (check-expr-calls t)
@@ -179,14 +205,38 @@ pub +check-expr+check-second-spec : {M : Type 1} → statement M
     (λ c κs. search needs)  -- row-at-requires
     (λ c. omega (arith, row-within _ _ (c .before .row-at .ensures) (omega (arith, c .match .keys1))))  -- add-of-int
     (λ c κs. search needs)  -- of-int-requires
-    (λ c. omega (arith, row-within _ _ (c .before .row-at .ensures) (omega (arith, c .match .keys2))))  -- add-of-location
+    (λ c.
+    omega (arith, row-within _ _ (c .before .row-at .ensures) (omega (arith, c .match .keys2))))  -- add-of-location
     (λ c κs. search needs)  -- of-location-requires
-    (λ c. omega (arith, row-within _ _ (c .before .row-at .ensures) (omega (arith, c .match .keys3))))  -- add-of-variable
+    (λ c.
+    omega (arith, row-within _ _ (c .before .row-at .ensures) (omega (arith, c .match .keys3))))  -- add-of-variable
     (λ c κs. search needs)  -- of-variable-requires
-    (λ c. omega (arith, row-within _ _ (c .before .before .before .row-at .ensures) (omega (arith, c .before .if1 .left))))  -- add-check-expr
-    (λ c κs. (omega (arith, row-within _ _ (c .before .before .before .row-at .ensures) (omega (arith, c .before .if1 .left))), tt))  -- check-expr-requires
-    (λ c κs. (omega (arith, row-within _ _ (c .before .before .before .before .before .row-at .ensures) (omega (arith, c .before .before .before .if1 .left)), c .before .check-expr .ensures .onward), tt))  -- check-second-requires
-    (λ c κs. (omega (arith, row-within _ _ (c .before .before .before .before .before .row-at .ensures) (omega (arith, c .before .before .before .if1 .left)), c .before .check-expr .ensures .onward), tt))  -- check-second-requires-2
+    (λ c. omega (
+      arith,
+      row-within _ _ (c .before .before .before .row-at .ensures) (omega (arith, c .before .if1 .left)),
+    ))  -- add-check-expr
+    (λ c κs. (
+      omega (arith, row-within _ _ (c .before .before .before .row-at .ensures) (omega (arith, c .before .if1 .left))),
+      tt,
+    ))  -- check-expr-requires
+    (λ c κs. (
+      omega (
+        arith,
+        row-within _ _ (c .before .before .before .before .before .row-at .ensures)
+            (omega (arith, c .before .before .before .if1 .left)),
+        c .before .check-expr .ensures .onward,
+      ),
+      tt,
+    ))  -- check-second-requires
+    (λ c κs. (
+      omega (
+        arith,
+        row-within _ _ (c .before .before .before .before .before .row-at .ensures)
+            (omega (arith, c .before .before .before .if1 .left)),
+        c .before .check-expr .ensures .onward,
+      ),
+      tt,
+    ))  -- check-second-requires-2
     (λ c κs. search needs)  -- left-part-requires
     (λ c κs. search needs)  -- of-sum-requires
     (λ c κs. search needs)  -- right-part-requires

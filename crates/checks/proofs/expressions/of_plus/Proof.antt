@@ -7,7 +7,11 @@ use Rattle.checks.proofs.expressions.of_plus.Tie as tie
 
 returns : tie.Need-returns
 unfolding plusTyped both intersection
-returns c = rw (c .join .ensures, c .before .before .before .is-type2 .ensures, c .before .before .before .before .is-type .ensures)
+returns c = rw (
+  c .join .ensures,
+  c .before .before .before .is-type2 .ensures,
+  c .before .before .before .before .is-type .ensures,
+)
 
 pub of-plus-spec : {M : Type 1} → statement M
 of-plus-spec = tie.close (tie.spec

@@ -15,4 +15,7 @@ fail-spec = tie.close (tie.spec
     (λ c κs. search needs)  -- push-requires-2
     (λ c κs. search needs)  -- push-requires-3
     (λ c. after _ _ _ (pushOf 4) (length-push _ _ (length-push _ _ refl)) (after _ _ _ (pushOf 2) (length-push _ _ refl)
-    (after _ _ (zeros 16) (pushOf (c .before .before .before .before .before .before .before .before .args .e)) refl (c .before .before .before .before .before .before .clear .ensures) (c .before .before .before .before .push .ensures)) (c .before .before .push2 .ensures)) (c .push3 .ensures) ∙ ap (storeOf _ 0) (push-failure _)))  -- returns
+    (after _ _ (zeros 16) (pushOf (c .before .before .before .before .before .before .before .before .args .e)) refl
+    (c .before .before .before .before .before .before .clear .ensures)
+    (c .before .before .before .before .push .ensures)) (c .before .before .push2 .ensures)) (c .push3 .ensures)
+    ∙ ap (storeOf _ 0) (push-failure _)))  -- returns

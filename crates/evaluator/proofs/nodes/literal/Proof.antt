@@ -13,5 +13,7 @@ literal-spec = tie.close (tie.spec
     (λ c κs. search needs)  -- clear-requires
     (λ c κs. search needs)  -- push-requires
     (λ c κs. search needs)  -- push-requires-2
-    (λ c. after _ _ _ (pushOf 1) (length-push _ _ refl) (after _ _ (zeros 16) (pushOf (c .before .before .before .before .before .before .args .n)) refl (c .before .before .before .before .clear .ensures) (c .before .before .push .ensures)) (c .push2 .ensures)
+    (λ c. after _ _ _ (pushOf 1) (length-push _ _ refl)
+    (after _ _ (zeros 16) (pushOf (c .before .before .before .before .before .before .args .n)) refl
+    (c .before .before .before .before .clear .ensures) (c .before .before .push .ensures)) (c .push2 .ensures)
     ∙ ap (storeOf _ 0) (push-int _)))  -- returns

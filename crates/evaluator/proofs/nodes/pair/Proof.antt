@@ -12,19 +12,24 @@ use Rattle.evaluator.proofs.nodes.pair.Statement.{statement}
 use Rattle.evaluator.proofs.nodes.pair.Tie as tie
 
 returns-2 : tie.Need-returns-2
-returns-2 c = laws.pair-long (laws.end-done _ (c .before .before .before .if1 .left)) (c .before .value-end .ensures) refl (omega (arith, c .if2 .taken))
+returns-2 c = laws.pair-long (laws.end-done _ (c .before .before .before .if1 .left))
+    (c .before .value-end .ensures) refl (omega (arith, c .if2 .taken))
 
 returns-3 : tie.Need-returns-3
 returns-3 c =
     let ended = c .before .before .before .before .before in
-    laws.pair-long (laws.end-done _ (ended .before .before .if1 .left)) (ended .value-end .ensures) (c .before .value-end2 .ensures) (omega (arith, c .if3 .taken))
+    laws.pair-long (laws.end-done _ (ended .before .before .if1 .left)) (ended .value-end .ensures)
+    (c .before .value-end2 .ensures) (omega (arith, c .if3 .taken))
 
 returns-4 : tie.Need-returns-4
 returns-4 c =
     let past = c .before .before .before .before .before in
     let ended = past .before .before .before .before .before in
-    laws.pair-done (laws.end-done _ (ended .before .before .if1 .left)) (ended .value-end .ensures) (past .before .value-end2 .ensures) (omega (arith, past .if3 .left)) refl (sub-zero _)
-    (after _ _ _ (pushOf 6) (length-pushes (take (ended .value-end .result - 0) (ended .before .before .before .args .first .now)) _ (length-load _ _)) (c .before .before .push-words .ensures) (c .push .ensures))
+    laws.pair-done (laws.end-done _ (ended .before .before .if1 .left)) (ended .value-end .ensures)
+    (past .before .value-end2 .ensures) (omega (arith, past .if3 .left)) refl (sub-zero _)
+    (after _ _ _ (pushOf 6)
+    (length-pushes (take (ended .value-end .result - 0) (ended .before .before .before .args .first .now)) _
+    (length-load _ _)) (c .before .before .push-words .ensures) (c .push .ensures))
 
 pub pair-spec : {M : Type 1} → statement M
 pair-spec = tie.close (tie.spec

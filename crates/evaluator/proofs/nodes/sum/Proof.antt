@@ -10,4 +10,6 @@ sum-spec = tie.close (tie.spec
     (λ c κs. search needs)  -- word-requires
     (λ c κs. search needs)  -- wrapping-add-u32-requires
     (λ c κs. search needs)  -- literal-requires
-    (λ c. laws.sum-done (laws.end-done _ (c .before .before .before .before .before .before .if1 .left)) (c .before .before .before .word .ensures) (c .before .wrapping-add-u32 .ensures) (c .literal .ensures)))  -- returns-2
+    (λ c. laws.sum-done (laws.end-done _ (c .before .before .before .before .before .before .if1 .left))
+    (c .before .before .before .word .ensures) (c .before .wrapping-add-u32 .ensures)
+    (c .literal .ensures)))  -- returns-2

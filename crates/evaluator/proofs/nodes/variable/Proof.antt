@@ -12,5 +12,6 @@ pub variable-spec : {M : Type 1} → statement M
 variable-spec = tie.close (tie.spec
     (λ c. search needs)  -- sub-k
     (λ c κs. search needs)  -- copy-cell-requires
-    (λ c. c .copy-cell .ensures ∙ ap (λ (j : ℕ). storeOf (c .before .before .before .before .args .work .now) 0 (loadOf (c .before .before .before .before .args .work .now) j))
+    (λ c. c .copy-cell .ensures ∙ ap (λ (j : ℕ). storeOf (c .before .before .before .before .args .work .now) 0
+    (loadOf (c .before .before .before .before .args .work .now) j))
     (⊎-elim (λ w. w .1) (λ w. w .1 ∙ omega (arith, w .0 .left)) (c .before .before .before .if1 .came))))  -- returns

@@ -11,10 +11,12 @@ at-or-below-spec = tie.close (tie.spec
     (λ c κs. search needs)  -- contained-each-requires
     (λ c.
     let a = c .before .before .before .before .args in
-    sym (below-split (a .self) (a .other) ∙ both-no-left _ _ (sym (c .before .contained-each .ensures) ∙ not-true _ (c .if1 .taken))))  -- returns
+    sym (below-split (a .self) (a .other)
+    ∙ both-no-left _ _ (sym (c .before .contained-each .ensures) ∙ not-true _ (c .if1 .taken))))  -- returns
     (λ c κs. search needs)  -- contained-each-requires-2
     (λ c.
     let a = c .before .before .before .before .before .before .before .args in
     c .contained-each2 .ensures
     ∙ sym (below-split (a .self) (a .other)
-    ∙ both-yes-left _ _ (sym (c .before .before .before .before .contained-each .ensures) ∙ not-false _ (c .before .before .before .if1 .left)))))  -- returns-2
+    ∙ both-yes-left _ _ (sym (c .before .before .before .before .contained-each .ensures)
+    ∙ not-false _ (c .before .before .before .if1 .left)))))  -- returns-2

@@ -48,9 +48,11 @@ join-spec = tie.close (tie.spec
     let b = i .before .before .before .before .before .args .t2 in (
       search needs,
       fill-store _ _ _ _ (l .inv .1) (search needs)
-          (i .intersection .ensures ∙ ap (λ (x : ℕ). intersection x (readersOf b (l .o))) (fill-read _ _ _ _ (l .inv .1) (search needs))),
+          (i .intersection .ensures
+          ∙ ap (λ (x : ℕ). intersection x (readersOf b (l .o))) (fill-read _ _ _ _ (l .inv .1) (search needs))),
       fill-store _ _ _ _ (l .inv .2) (search needs)
-          (c .union .ensures ∙ ap (λ (x : ℕ). union x (writersOf b (l .o))) (fill-read _ _ _ _ (l .inv .2) (search needs))),
+          (c .union .ensures
+          ∙ ap (λ (x : ℕ). union x (writersOf b (l .o))) (fill-read _ _ _ _ (l .inv .2) (search needs))),
     ))  -- loop-again
     (λ c.
     let l = c .before .loop .inv in

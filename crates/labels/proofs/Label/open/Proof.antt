@@ -34,8 +34,11 @@ open-spec = tie.close (tie.spec
     let a = c .before .before .before .args in
     let l = c .before .before .loop in (
       search needs,
-      ⊎-elim (λ w. w .1 ∙ fill-store _ _ _ _ (l .inv .1) (omega arith) (sym (open-principal (a .n) (a .all) (l .o) (w .0 .taken))))
-          (λ w. w .1 ∙ fill-skip _ _ _ _ (l .inv .1) (omega arith) (own-at (l .o) (omega arith) ∙ sym (open-other (a .n) (a .all) (l .o) (w .0 .left))))
+      ⊎-elim (λ w. w .1
+          ∙ fill-store _ _ _ _ (l .inv .1) (omega arith) (sym (open-principal (a .n) (a .all) (l .o) (w .0 .taken))))
+          (λ w. w .1 ∙ fill-skip _ _ _ _ (l .inv .1) (omega arith)
+          (own-at (l .o) (omega arith) ∙ sym (open-other (a .n) (a .all) (l .o) (w .0 .left))))
           (c .if1 .came),
     ))  -- loop-again
-    (λ c. label-path _ _ refl (fill-end _ _ _ _ (c .before .loop .inv .1) owners (omega arith) (search needs))))  -- returns
+    (λ c. label-path _ _ refl
+    (fill-end _ _ _ _ (c .before .loop .inv .1) owners (omega arith) (search needs))))  -- returns

@@ -24,7 +24,8 @@ sole-readers-spec = tie.close (tie.spec
     μ-loop
     (λ c.
     let e : length (c .before .args .t1 .readers) ≡ owners = search needs in
-    sym (common-none _ _ owners (omega arith) (List·getD-eq-default (c .before .args .t1 .readers) 0 (omega arith))))  -- returns
+    sym (common-none _ _ owners (omega arith)
+    (List·getD-eq-default (c .before .args .t1 .readers) 0 (omega arith))))  -- returns
     (λ c κs. search needs)  -- everyone-requires
     (λ c. (search needs, c .everyone .ensures ∙ common-start _))  -- loop-holds
     (λ c. search needs)  -- mul-intersection
@@ -32,5 +33,8 @@ sole-readers-spec = tie.close (tie.spec
     (λ c κs. search needs)  -- intersection-requires
     (λ c. search needs)  -- add-o
     (λ c. search needs)  -- loop-less
-    (λ c. (search needs, c .intersection .ensures ∙ common-more _ _ (c .before .before .before .loop .inv .1) refl))  -- loop-again
+    (λ c. (
+      search needs,
+      c .intersection .ensures ∙ common-more _ _ (c .before .before .before .loop .inv .1) refl,
+    ))  -- loop-again
     (λ c. common-end _ _ _ (c .before .loop .inv) (c .loop-test .left)))  -- returns-2

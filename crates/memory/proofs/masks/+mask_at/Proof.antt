@@ -51,31 +51,39 @@ readings t = (
 -- what is left for the last call, by the kind
 last : (t : ℕ) (c : mask-at-lts.At-match-came (readings t) (mask-at-at t) mask-at.Post)
     → let a = c .before .before .before .before .before .before .args in
-    laws.Last (readsIn (a .table .now) (a .group)) (a .words .now) (a .at) (a .out .now) (a .to) (c .match .out) (c .match .last .next) (c .match .last .end)
+    laws.Last (readsIn (a .table .now) (a .group)) (a .words .now) (a .at) (a .out .now) (a .to) (c .match .out)
+    (c .match .last .next) (c .match .last .end)
 last t c =
     let h = c .before .before .if1 .left in
     ⊎-elim
-    (λ w. let e = w .2 .ensures in laws.last-as (w .5) (w .6) (e .1 .0) (e .1 .1) (laws.last-side _ _ _ _ _ (omega (arith, h)) to-left (w .0 .keys3) (e .0)))
+    (λ w. let e = w .2 .ensures in laws.last-as (w .5) (w .6) (e .1 .0) (e .1 .1)
+    (laws.last-side _ _ _ _ _ (omega (arith, h)) to-left (w .0 .keys3) (e .0)))
     (⊎-elim
-    (λ w. let e = w .2 .ensures in laws.last-as (w .5) (w .6) (e .1 .0) (e .1 .1) (laws.last-side _ _ _ _ _ (omega (arith, h)) to-right (w .0 .keys4) (e .0)))
+    (λ w. let e = w .2 .ensures in laws.last-as (w .5) (w .6) (e .1 .0) (e .1 .1)
+    (laws.last-side _ _ _ _ _ (omega (arith, h)) to-right (w .0 .keys4) (e .0)))
     (⊎-elim
-    (λ w. laws.last-as (w .7) (w .8) refl refl (laws.last-content _ _ _ _ _ (omega (arith, h)) (w .0 .keys5) (w .2 .ensures) (not-false _ (w .6 .left))))
-    (λ w. laws.last-as (w .9) (w .10) refl refl (laws.last-second _ _ _ _ _ (omega (arith, h)) (w .0 .keys6) (w .2 .ensures) (w .6 .ensures)))))
+    (λ w. laws.last-as (w .7) (w .8) refl refl
+    (laws.last-content _ _ _ _ _ (omega (arith, h)) (w .0 .keys5) (w .2 .ensures) (not-false _ (w .6 .left))))
+    (λ w. laws.last-as (w .9) (w .10) refl refl
+    (laws.last-second _ _ _ _ _ (omega (arith, h)) (w .0 .keys6) (w .2 .ensures) (w .6 .ensures)))))
     (c .match .came)
 
 pub +mask-at-spec : {M : Type 1} → statement M
 +mask-at-spec = close μ-mask-at λ t. mask-at-lts.spec (readings t) (mask-at-at t) mask-at.Post
     (λ c κs. search needs)  -- mask-blank-requires
     (λ c. search needs)  -- same-length
-    (λ c. let b = c .before .before .mask-blank .ensures in laws.mask-past _ _ _ _ _ (omega arith) (b .0) (b .1 .0) (b .1 .1))  -- returns
+    (λ c. let b = c .before .before .mask-blank .ensures in
+    laws.mask-past _ _ _ _ _ (omega arith) (b .0) (b .1 .0) (b .1 .1))  -- returns
     (λ c. search needs)  -- mul-match
     (λ c. search needs)  -- shared-slice-read-match
     (λ c κs. search needs)  -- mask-number-requires
     (λ c. search needs)  -- same-length-2
-    (λ c. laws.mask-numeral _ _ _ _ _ (omega arith) num-int (c .before .before .before .before .match .keys1) (c .before .before .mask-number .ensures _))  -- returns-2
+    (λ c. laws.mask-numeral _ _ _ _ _ (omega arith) num-int (c .before .before .before .before .match .keys1)
+    (c .before .before .mask-number .ensures _))  -- returns-2
     (λ c κs. search needs)  -- mask-number-requires-2
     (λ c. search needs)  -- same-length-3
-    (λ c. laws.mask-numeral _ _ _ _ _ (omega arith) num-err (c .before .before .before .before .match .keys2) (c .before .before .mask-number2 .ensures _))  -- returns-3
+    (λ c. laws.mask-numeral _ _ _ _ _ (omega arith) num-err (c .before .before .before .before .match .keys2)
+    (c .before .before .mask-number2 .ensures _))  -- returns-3
     (λ c. search needs)  -- add-mask-word
     (λ c κs. search needs)  -- mask-word-requires
     (λ c. search needs)  -- add-mask-word-2
@@ -84,7 +92,8 @@ pub +mask-at-spec : {M : Type 1} → statement M
     (λ c. search needs)  -- add-second
     (λ c κs. search needs)  -- mask-label-requires
     (λ c. search needs)  -- same-length-4
-    (λ c. laws.mask-closed _ _ _ _ _ (omega arith) (c .before .before .before .before .before .before .match .keys5) (c .before .before .before .before .mask-label .ensures)
+    (λ c. laws.mask-closed _ _ _ _ _ (omega arith) (c .before .before .before .before .before .before .match .keys5)
+    (c .before .before .before .before .mask-label .ensures)
     (not-true _ (c .if2 .taken)))  -- returns-4
     (λ c. search needs)  -- add-t32
     (λ c. search needs)  -- add-t33
@@ -96,10 +105,12 @@ pub +mask-at-spec : {M : Type 1} → statement M
     (λ c κs. search needs)  -- mask-blank-requires-2
     (λ c. search needs)  -- same-length-5
     (λ c. let b = c .before .before .mask-blank2 .ensures in
-    laws.mask-none _ _ _ _ _ (omega arith) (c .before .before .before .before .match .rest) (b .0) (b .1 .0) (b .1 .1))  -- returns-5
+    laws.mask-none _ _ _ _ _ (omega arith) (c .before .before .before .before .match .rest) (b .0)
+    (b .1 .0) (b .1 .1))  -- returns-5
     (λ c κs.
     let l = last t (c .before) in
     let pre = c .before .before .before .before .before .before .before .pre in
     (omega (arith, l .later, pre .0), omega (arith, l .room, pre .1)))  -- mask-at-requires-2
-    (λ c. laws.same-length _ _ _ _ (last t (c .before .before .before .before) .whole _ _ _ (c .before .before .mask-at2 .ensures)))  -- same-length-6
+    (λ c. laws.same-length _ _ _ _
+    (last t (c .before .before .before .before) .whole _ _ _ (c .before .before .mask-at2 .ensures)))  -- same-length-6
     (λ c. last t (c .before .before .before .before) .whole _ _ _ (c .before .before .mask-at2 .ensures))  -- returns-6

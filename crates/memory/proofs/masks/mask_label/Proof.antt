@@ -13,13 +13,16 @@ returns c =
 returns-2 : tie.Need-returns-2
 returns-2 c =
     laws.opens-shown _ _ _ _ _ (omega arith) (sym (c .before .reads .ensures) ∙ c .if2 .taken)
-    (c .before .before .before .before .before .before .before .before .before .before .store .ensures) (c .before .before .before .before .before .store2 .ensures)
+    (c .before .before .before .before .before .before .before .before .before .before .store .ensures)
+    (c .before .before .before .before .before .store2 .ensures)
 
 returns-3 : tie.Need-returns-3
 returns-3 c =
     let r = c .before .before .before .before .before .before .before in
-    laws.opens-hidden _ _ _ _ _ (omega arith) (sym (r .reads .ensures) ∙ c .before .before .before .before .before .before .if2 .left)
-    (r .before .before .before .before .before .before .before .before .before .store .ensures) (r .before .before .before .before .store2 .ensures)
+    laws.opens-hidden _ _ _ _ _ (omega arith)
+    (sym (r .reads .ensures) ∙ c .before .before .before .before .before .before .if2 .left)
+    (r .before .before .before .before .before .before .before .before .before .store .ensures)
+    (r .before .before .before .before .store2 .ensures)
     (c .before .before .store3 .ensures) refl (c .before .before .before .before .value-at .ensures)
 
 pub mask-label-spec : {M : Type 1} → statement M

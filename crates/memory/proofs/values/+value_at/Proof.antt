@@ -63,11 +63,14 @@ pub +value-at-spec : {M : Type 1} → statement M
     (λ c κs. (omega (arith, c .value-at4 .ensures .forward), tt))  -- value-at-requires-5
     (λ c κs. search needs)  -- pair-of-requires
     (λ c. search needs)  -- add-t20
-    (λ c. laws.walk-numeral _ _ _ (omega arith) num-int (c .before .match .keys1) (c .integer-at .ensures _))  -- returns-2
+    (λ c. laws.walk-numeral _ _ _ (omega arith) num-int (c .before .match .keys1)
+    (c .integer-at .ensures _))  -- returns-2
     (λ c. laws.walk-numeral _ _ _ (omega arith) num-err (c .before .match .keys2) (c .error-at .ensures _))
     (λ c. laws.walk-side _ _ _ (omega arith) to-left (c .before .match .keys3) (c .value-at .ensures))
     (λ c. laws.walk-side _ _ _ (omega arith) to-right (c .before .match .keys4) (c .value-at2 .ensures))
-    (λ c. laws.walk-pkg _ _ _ (omega arith) (c .before .before .match .keys5) (c .package-at .ensures (c .before .value-at3 .ensures)))
+    (λ c. laws.walk-pkg _ _ _ (omega arith) (c .before .before .match .keys5)
+    (c .package-at .ensures (c .before .value-at3 .ensures)))
     (λ c. rw (c .pair-of .ensures)
-    (laws.walk-pair _ _ _ (omega arith) (c .before .before .before .match .keys6) (c .before .before .value-at4 .ensures) (c .before .value-at5 .ensures)))
+    (laws.walk-pair _ _ _ (omega arith) (c .before .before .before .match .keys6)
+    (c .before .before .value-at4 .ensures) (c .before .value-at5 .ensures)))
     (λ c. laws.walk-none _ _ _ (omega arith) (c .match .rest))

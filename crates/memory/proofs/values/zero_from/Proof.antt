@@ -11,7 +11,8 @@ use Rattle.memory.proofs.values.zero_from.Statement.{statement}
 use Rattle.memory.proofs.values.zero_from.Tie as tie
 
 abbrev Inv-loop : tie.InvT-loop
-Inv-loop words at i₀ i = equalWords (zeros (length words - i)) (drop i words) ≡ equalWords (zeros (length words - at)) (drop at words)
+Inv-loop words at i₀ i =
+    equalWords (zeros (length words - i)) (drop i words) ≡ equalWords (zeros (length words - at)) (drop at words)
 
 abbrev μ-loop : tie.MeasureT-loop
 μ-loop words at i₀ i = length words - i
@@ -23,8 +24,12 @@ zero-from-spec = tie.close (tie.spec
     (λ c. refl)  -- loop-holds
     (λ c. search needs)
     (λ c. search needs)
-    (λ c. let l = c .before .before .before in sym (zero-fail (l .before .args .words .now) (l .loop .i) (omega arith) (c .if1 .taken)) ∙ l .loop .inv)  -- returns
+    (λ c. let l = c .before .before .before in
+    sym (zero-fail (l .before .args .words .now) (l .loop .i) (omega arith) (c .if1 .taken)) ∙ l .loop .inv)  -- returns
     (λ c. search needs)
     (λ c. search needs)
-    (λ c. let l = c .before .before .before in sym (zero-turn (l .before .args .words .now) (l .loop .i) (omega arith) (c .if1 .left)) ∙ l .loop .inv)  -- loop-again
-    (λ c. let l = c .before in sym (zero-end (l .before .args .words .now) (l .loop .i) (omega arith)) ∙ l .loop .inv))  -- returns-2
+    (λ c. let l = c .before .before .before in
+    sym (zero-turn (l .before .args .words .now) (l .loop .i) (omega arith) (c .if1 .left))
+    ∙ l .loop .inv)  -- loop-again
+    (λ c. let l = c .before in
+    sym (zero-end (l .before .args .words .now) (l .loop .i) (omega arith)) ∙ l .loop .inv))  -- returns-2

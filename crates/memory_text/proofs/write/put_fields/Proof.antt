@@ -4,7 +4,8 @@ use mathlib.Core.Path.{_≡_, refl, _∙_}
 use native.Mathlib.Omega.{arith}
 use borrow.Author.Needs.{needs}
 use lib.ListN.{length}
-use Rattle.memory_text.proofs.Writes.{Goes, goes-start, goes-done, goes-same, fieldsFrom, fields-done, field-goes}
+use Rattle.memory_text.proofs.Writes.{Goes, goes-start, goes-done, goes-same, fieldsFrom, fields-done}
+use Rattle.memory_text.proofs.Writes.{field-goes}
 use Rattle.memory_text.proofs.write.put_fields.Statement.{statement}
 use Rattle.memory_text.proofs.write.put_fields.Tie as tie
 
@@ -22,10 +23,17 @@ loop-again c =
     let b = n .before .before .before .before .before in
     let at = b .before .before .before in
     let a = at .before .before .before .args in
-    let w = field-goes _ (a .words .now) (a .to) (at .loop .i) _ _ (at .loop .out) (at .loop .p) _ _ _ _ (at .loop .inv .4) (b .put-byte .ensures .0) (b .put-byte .ensures .1)
-    (n .put-number .ensures .0) (n .put-number .ensures .1) (b .put-byte .kept .0) (b .before .before .loop-test .taken) (omega arith)
-    (omega (arith, n .before .shared-slice-known2 .given (at .loop .i))) (omega arith) in
-    (omega arith, omega arith, n .put-number .kept .0 ∙ b .put-byte .kept .0 ∙ at .loop .inv .2, omega (arith, w .1), w .0)
+    let w = field-goes _ (a .words .now) (a .to) (at .loop .i) _ _ (at .loop .out) (at .loop .p) _ _ _ _
+    (at .loop .inv .4) (b .put-byte .ensures .0) (b .put-byte .ensures .1)
+    (n .put-number .ensures .0) (n .put-number .ensures .1) (b .put-byte .kept .0)
+    (b .before .before .loop-test .taken) (omega arith)
+    (omega (arith, n .before .shared-slice-known2 .given (at .loop .i))) (omega arith) in (
+      omega arith,
+      omega arith,
+      n .put-number .kept .0 ∙ b .put-byte .kept .0 ∙ at .loop .inv .2,
+      omega (arith, w .1),
+      w .0,
+    )
 
 returns : tie.Need-returns Inv-loop μ-loop
 returns c =

@@ -11,7 +11,8 @@ returns c =
     let b = c .before .before in
     let u = b .before .before .before in
     let a = u .before .before .before .args in
-    empty-puts (a .words .now) (a .from) _ _ _ _ _ (u .used .ensures) (b .before .before .if1 .taken) (b .put-byte .ensures .0) (b .put-byte .ensures .1) (omega arith)
+    empty-puts (a .words .now) (a .from) _ _ _ _ _ (u .used .ensures) (b .before .before .if1 .taken)
+    (b .put-byte .ensures .0) (b .put-byte .ensures .1) (omega arith)
 
 put-fields-requires : tie.Need-put-fields-requires
 put-fields-requires c κs =
@@ -20,7 +21,8 @@ put-fields-requires c κs =
     let a = u .before .before .before .args in
     let few = u .used .ensures .few in
     let some = n .before .before .before .if1 .left in
-    let p = number-reach _ _ _ _ (n .put-number .ensures .0) (omega (arith, n .before .shared-slice-known2 .given (a .from))) (omega arith) in
+    let p = number-reach _ _ _ _ (n .put-number .ensures .0)
+    (omega (arith, n .before .shared-slice-known2 .given (a .from))) (omega arith) in
     (omega arith, omega arith, omega (arith, p, n .put-number .kept .0))
 
 returns-2 : tie.Need-returns-2
@@ -31,8 +33,10 @@ returns-2 c =
     let u = n .before .before .before .before in
     let a = u .before .before .before .args in
     line-puts (a .words .now) (a .from) _ _ _ _ _ _ _ _ _ (u .used .ensures) (n .before .before .before .if1 .left)
-    (n .put-number .ensures .0) (n .put-number .ensures .1) (f .put-fields .ensures) (b .put-byte2 .ensures .0) (b .put-byte2 .ensures .1)
-    (f .put-fields .kept .1 .1 .1 .0 ∙ n .put-number .kept .0) (omega arith) (omega (arith, n .before .shared-slice-known2 .given (a .from))) (omega arith)
+    (n .put-number .ensures .0) (n .put-number .ensures .1) (f .put-fields .ensures) (b .put-byte2 .ensures .0)
+    (b .put-byte2 .ensures .1)
+    (f .put-fields .kept .1 .1 .1 .0 ∙ n .put-number .kept .0) (omega arith)
+    (omega (arith, n .before .shared-slice-known2 .given (a .from))) (omega arith)
 
 pub put-line-spec : {M : Type 1} → statement M
 put-line-spec = tie.close (tie.spec

@@ -10,7 +10,8 @@ use Rattle.memory_text.proofs.write.used.Statement.{statement}
 use Rattle.memory_text.proofs.write.used.Tie as tie
 
 abbrev Inv-loop : tie.InvT-loop
-Inv-loop words from n₀ n = (n ≤ cell-words) × (trim (take cell-words (drop from words)) ≡ trim (take n (drop from words)))
+Inv-loop words from n₀ n =
+    (n ≤ cell-words) × (trim (take cell-words (drop from words)) ≡ trim (take n (drop from words)))
 
 abbrev μ-loop : tie.MeasureT-loop
 μ-loop words from n₀ n = n
@@ -31,8 +32,10 @@ loop-again c =
     let at = c .before .before .before in
     let a = at .before .args in
     let n = at .loop .n in
-    let z : n - 1 + 1 ≡ n = omega arith in
-    (omega arith, at .loop .inv .1 ∙ (rw z at (trim-dropped (a .words .now) (a .from) (n - 1) (omega arith) (c .if1 .left))))
+    let z : n - 1 + 1 ≡ n = omega arith in (
+      omega arith,
+      at .loop .inv .1 ∙ (rw z at (trim-dropped (a .words .now) (a .from) (n - 1) (omega arith) (c .if1 .left))),
+    )
 
 returns-2 : tie.Need-returns-2 Inv-loop μ-loop
 unfolding trim

@@ -1,17 +1,20 @@
--- `memory_text::write::write_memory` meets its contract: the lines from the n-th location on are left to write. Assumes nothing.
+-- `memory_text::write::write_memory` meets its contract: the lines from the n-th location on are left to write.
+-- Assumes nothing.
 use Prim.Native.Nat.{_≤_, _*_, _-_}
 use mathlib.Core.Path.{_≡_, refl, sym, _∙_}
 use native.Mathlib.Omega.{arith}
 use lib.ListN.{length}
 use Rattle.memory_text.specs.Sizes.{lineRoom}
 use Rattle.memory_text.specs.Printing.{lines, memoryText}
-use Rattle.memory_text.proofs.Writes.{Goes, linesFrom, lines-start, lines-goes, lines-done, printed-all, printed-part, printed-small}
+use Rattle.memory_text.proofs.Writes.{Goes, linesFrom, lines-start, lines-goes, lines-done, printed-all}
+use Rattle.memory_text.proofs.Writes.{printed-part, printed-small}
 use Rattle.memory_text.proofs.write.write_memory.Statement.{statement}
 use Rattle.memory_text.proofs.write.write_memory.Tie as tie
 
 abbrev Inv-loop : tie.InvT-loop
 Inv-loop words out₀ count n₀ at₀ out n at =
-    (n ≤ count) × (length out ≡ length out₀) × (at ≤ lineRoom * n) × Goes (λ t. lines count words) (linesFrom words count n) out₀ 0 out at
+    (n ≤ count) × (length out ≡ length out₀) × (at ≤ lineRoom * n)
+    × Goes (λ t. lines count words) (linesFrom words count n) out₀ 0 out at
 
 abbrev μ-loop : tie.MeasureT-loop
 μ-loop words out₀ count n₀ at₀ out n at = count - n
@@ -35,7 +38,8 @@ loop-again c =
       omega arith,
       l .put-line .kept .1 .1 .0 ∙ at .loop .inv .1,
       omega arith,
-      lines-goes _ (a .words .now) _ (at .loop .n) _ _ _ _ _ _ (at .loop .inv .3) (l .before .before .loop-test .taken) (l .put-line .ensures),
+      lines-goes _ (a .words .now) _ (at .loop .n) _ _ _ _ _ _ (at .loop .inv .3) (l .before .before .loop-test .taken)
+          (l .put-line .ensures),
     )
 
 returns-3 : tie.Need-returns-3 Inv-loop μ-loop

@@ -10,7 +10,8 @@ use Rattle.sheet.proofs.powers.powers.Statement.{statement}
 use Rattle.sheet.proofs.powers.powers.Tie as tie
 
 abbrev Inv-loop : tie.InvT-loop
-Inv-loop table group there n out₀ l₀ out l = (l ≤ n) × (n ≤ 32) × (n ≡ labelsHeld table) × (out ≡ powersUpTo table group l)
+Inv-loop table group there n out₀ l₀ out l =
+    (l ≤ n) × (n ≤ 32) × (n ≡ labelsHeld table) × (out ≡ powersUpTo table group l)
 
 abbrev μ-loop : tie.MeasureT-loop
 μ-loop table group there n out₀ l₀ out l = n - l
@@ -20,7 +21,8 @@ unfolding powersUpTo
 loop-holds c =
     let t = c .before .before .before .args .table .now in
     let is : c .if1 .n ≡ labelsHeld t =
-    ⊎-elim (λ w. w .1 ∙ held-all t (c .before .labels .ensures) (w .0 .taken)) (λ w. w .1 ∙ held-most t (c .before .labels .ensures) (w .0 .left))
+    ⊎-elim (λ w. w .1 ∙ held-all t (c .before .labels .ensures) (w .0 .taken))
+    (λ w. w .1 ∙ held-most t (c .before .labels .ensures) (w .0 .left))
     (c .if1 .came) in
     (search needs, omega (arith, held-few t), is, refl)
 

@@ -13,5 +13,6 @@ with-power-spec = tie.close (tie.spec
     (λ c κs. search needs)  -- has-power-requires
     (λ c. search needs)  -- shl-result
     (λ c. let a = c .before .before .before .args in
-    ap (union (a .powers)) (shl-one 64 (a .p) (c .before .before .before .pre)) ∙ power-more _ _ (a .powers) (a .p) (c .before .has-power .ensures) (c .if1 .taken))  -- returns
+    ap (union (a .powers)) (shl-one 64 (a .p) (c .before .before .before .pre))
+    ∙ power-more _ _ (a .powers) (a .p) (c .before .has-power .ensures) (c .if1 .taken))  -- returns
     (λ c. power-same _ _ _ _ (c .before .has-power .ensures) (c .if1 .left)))  -- returns-2

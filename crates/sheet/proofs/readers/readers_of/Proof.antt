@@ -11,5 +11,7 @@ readers-of-spec = tie.close (tie.spec
     (λ c κs. search needs)  -- label-of-requires
     (λ c. search needs)  -- enum-told-2
     (λ c κs. search needs)  -- sole-readers-requires
-    (λ c. pooled-sets _ (c .before .before .before .before .reading .ensures) _ (c .before .before .enum-told .given .1) (c .before .label-of .ensures))  -- returns
-    (λ c. alone-sets _ (c .before .before .before .reading .ensures) _ (c .before .enum-told2 .given .1) (c .sole-readers .ensures)))  -- returns-2
+    (λ c. pooled-sets _ (c .before .before .before .before .reading .ensures) _ (c .before .before .enum-told .given .1)
+    (c .before .label-of .ensures))  -- returns
+    (λ c. alone-sets _ (c .before .before .before .reading .ensures) _ (c .before .enum-told2 .given .1)
+    (c .sole-readers .ensures)))  -- returns-2

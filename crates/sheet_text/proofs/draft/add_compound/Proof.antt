@@ -12,7 +12,8 @@ returns c = passed-over _ _ _ (sym (c .before .compound-fits .ensures) ∙ not-t
 returns-2 : tie.Need-returns-2
 returns-2 c =
     let here = c .before .before in
-    taken _ _ _ (sym (here .before .compound-fits .ensures) ∙ not-false _ (here .if1 .left)) _ (c .add-compound .ensures)
+    taken _ _ _ (sym (here .before .compound-fits .ensures) ∙ not-false _ (here .if1 .left)) _
+    (c .add-compound .ensures)
 
 pub add-compound-spec : {M : Type 1} → statement M
 add-compound-spec = tie.close (tie.spec

@@ -12,7 +12,8 @@ returns c = passed-over _ _ _ (sym (c .before .location-fits .ensures) ∙ not-t
 returns-2 : tie.Need-returns-2
 returns-2 c =
     let here = c .before .before in
-    taken _ _ _ (sym (here .before .location-fits .ensures) ∙ not-false _ (here .if1 .left)) _ (c .add-location .ensures)
+    taken _ _ _ (sym (here .before .location-fits .ensures) ∙ not-false _ (here .if1 .left)) _
+    (c .add-location .ensures)
 
 pub add-location-spec : {M : Type 1} → statement M
 add-location-spec = tie.close (tie.spec

@@ -18,7 +18,8 @@ use Rattle.sheet_text.proofs.draft.begin.Tie as tie
 -- another line than `P`, by the number of its variant
 begin-other : (l : Line) → OneOf (1 ∷ 2 ∷ 3 ∷ 4 ∷ 5 ∷ 6 ∷ []) (tagOf the-type l) → begin l ≡ none
 unfolding begin
-begin-other (P n) h = absurd (⊎-elim (λ e. omega arith) (⊎-elim (λ e. omega arith) (⊎-elim (λ e. omega arith) (⊎-elim (λ e. omega arith) (⊎-elim (λ e. omega arith) (λ e. omega arith))))) h)
+begin-other (P n) h = absurd (⊎-elim (λ e. omega arith) (⊎-elim (λ e. omega arith)
+    (⊎-elim (λ e. omega arith) (⊎-elim (λ e. omega arith) (⊎-elim (λ e. omega arith) (λ e. omega arith))))) h)
 begin-other (R k) h = refl
 begin-other (T a b) h = refl
 begin-other (Q a b) h = refl
@@ -30,7 +31,8 @@ returns : tie.Need-returns
 returns c = holds-none _ _ (sym (begin-other _ (c .match .keys2)))
 
 returns-2 : tie.Need-returns-2
-returns-2 c = rw (c .drafted .ensures, c .before .before .before .before .line .given .1) (begin-holds _ _ (c .before .before .before .before .before .before .pre) _ _ (c .before .set-principals .ensures))
+returns-2 c = rw (c .drafted .ensures, c .before .before .before .before .line .given .1)
+    (begin-holds _ _ (c .before .before .before .before .before .before .pre) _ _ (c .before .set-principals .ensures))
 
 pub begin-spec : {M : Type 1} → statement M
 begin-spec = tie.close (tie.spec

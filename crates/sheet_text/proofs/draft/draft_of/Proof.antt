@@ -15,15 +15,18 @@ returns c =
 returns-2 : tie.Need-returns-2
 returns-2 c =
     let s = c .before .before .before .before .before .before .before .before .before .before .before .args .s .now in
-    let fits = sym (c .before .before .before .before .before .before .before .before .before .fits2 .ensures) ∙ not-false _
+    let fits =
+    sym (c .before .before .before .before .before .before .before .before .before .fits2 .ensures) ∙ not-false _
     (c .before .before .before .before .before .before .before .before .if1 .left) in
-    let l = line-found s 0 _ (c .before .before .before .before .before .before .before .line-from .ensures) _ (c .before .before .before .before .before .read .given .1) in
+    let l = line-found s 0 _ (c .before .before .before .before .before .before .before .line-from .ensures) _
+    (c .before .before .before .before .before .read .given .1) in
     rw (← sheet-first s _ _ fits (l .0)) (c .follow .ensures _ (formed-begun _) (c .before .before .begin .ensures))
 
 returns-3 : tie.Need-returns-3
 returns-3 c =
     let s = c .before .before .before .before .before .before .args .s .now in
-    let fits = sym (c .before .before .before .before .fits2 .ensures) ∙ not-false _ (c .before .before .before .if1 .left) in
+    let fits =
+    sym (c .before .before .before .before .fits2 .ensures) ∙ not-false _ (c .before .before .before .if1 .left) in
     let missed = line-missed s 0 _ (c .before .before .line-from .ensures) (c .enum-told .given .1) in
     holds-none _ _ (sheet-none s fits missed)
 

@@ -19,7 +19,8 @@ use Rattle.sheet_text.proofs.draft.follow.Tie as tie
 abbrev Inv-loop : tie.InvT-loop
 Inv-loop s from table₀ d₀ at₀ table d at =
     (o : Option Sheet) → FormedIf o → DraftHolds o d₀ table₀
-    → (o′ : Option Sheet) × FormedIf o′ × DraftHolds o′ d table × (stepsRead o′ (linesOf (drop at s)) ≡ stepsRead o (linesOf (drop from s)))
+    → (o′ : Option Sheet) × FormedIf o′ × DraftHolds o′ d table
+    × (stepsRead o′ (linesOf (drop at s)) ≡ stepsRead o (linesOf (drop from s)))
 
 abbrev μ-loop : tie.MeasureT-loop
 μ-loop s from table₀ d₀ at₀ table d at = length s - at
@@ -32,7 +33,8 @@ found : (k : tie.After-read Inv-loop μ-loop)
     (lineOf (drop (at .loop .at) s) ≡ got (k .read .given .0 .0) (drop (next .at) s)) × (next .at ≤ length s)
 found k =
     let at = k .before .before .before .before in
-    line-found (at .before .before .args .s .now) (at .loop .at) _ (k .before .before .line-from .ensures) _ (k .read .given .1)
+    line-found (at .before .before .args .s .now) (at .loop .at) _ (k .before .before .line-from .ensures) _
+    (k .read .given .1)
 
 loop-less : tie.Need-loop-less Inv-loop μ-loop
 loop-less c =

@@ -6,7 +6,12 @@ use Rattle.sheet_text.proofs.draft.policy_fits.Tie as tie
 
 returns : tie.Need-returns
 unfolding both
-returns c = rw (c .principals .ensures, c .before .labels .ensures, c .before .before .locations .ensures, c .before .before .before .everyone .ensures)
+returns c = rw (
+  c .principals .ensures,
+  c .before .labels .ensures,
+  c .before .before .locations .ensures,
+  c .before .before .before .everyone .ensures,
+)
 
 pub policy-fits-spec : {M : Type 1} → statement M
 policy-fits-spec = tie.close (tie.spec

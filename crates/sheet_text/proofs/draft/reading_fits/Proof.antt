@@ -10,7 +10,13 @@ unfolding both isPooled
 returns c =
     let r = c .before .before in
     let t = r .before in
-    rw (← r .reading .ensures, c .enum-told .given .1, t .types .ensures, t .before .locations .ensures, t .before .before .labels .ensures)
+    rw (
+      ← r .reading .ensures,
+      c .enum-told .given .1,
+      t .types .ensures,
+      t .before .locations .ensures,
+      t .before .before .labels .ensures,
+    )
 
 returns-2 : tie.Need-returns-2
 unfolding both isPooled

@@ -1,6 +1,7 @@
 -- `sheet_text::draft::step` meets its contract. Assumes nothing.
 use Rattle.sheet_text.specs.Internal.Building.{addLine}
-use Rattle.sheet_text.proofs.DraftLaws.{step-refused, step-made, no-principals, reading-holds, compound-holds, label-holds, policy-holds, location-holds}
+use Rattle.sheet_text.proofs.DraftLaws.{step-refused, step-made, no-principals, reading-holds, compound-holds}
+use Rattle.sheet_text.proofs.DraftLaws.{label-holds, policy-holds, location-holds}
 use borrow.Author.Needs.{needs}
 use Rattle.sheet_text.proofs.draft.step.Statement.{statement}
 use Rattle.sheet_text.proofs.draft.step.Tie as tie
@@ -10,7 +11,8 @@ returns c = λ o f e. step-refused _ _ o _ _ (c .enum-told .given .1) e
 
 returns-2 : tie.Need-returns-2
 returns-2 c =
-    λ o f e. step-made _ _ o _ _ _ _ _ (c .before .before .before .d .given .1) (c .enum-told2 .given .1) f e (λ s fm k t. no-principals s _ _)
+    λ o f e. step-made _ _ o _ _ _ _ _ (c .before .before .before .d .given .1) (c .enum-told2 .given .1) f e
+    (λ s fm k t. no-principals s _ _)
 
 returns-3 : tie.Need-returns-3
 returns-3 c =
@@ -22,13 +24,15 @@ returns-4 : tie.Need-returns-4
 returns-4 c =
     let read = c .before .before .before .before in
     λ o f e. step-made _ _ o _ _ _ _ _ (read .before .before .before .d .given .1) (read .line2 .given .1) f e
-    (λ s fm k t. rw (c .drafted2 .ensures) (unfold addLine in (compound-holds s fm _ t _ _ _ _ _ (c .before .add-compound .ensures))))
+    (λ s fm k t. rw (c .drafted2 .ensures)
+    (unfold addLine in (compound-holds s fm _ t _ _ _ _ _ (c .before .add-compound .ensures))))
 
 returns-5 : tie.Need-returns-5
 returns-5 c =
     let read = c .before .before .before .before in
     λ o f e. step-made _ _ o _ _ _ _ _ (read .before .before .before .d .given .1) (read .line3 .given .1) f e
-    (λ s fm k t. rw (c .drafted3 .ensures) (unfold addLine in (compound-holds s fm _ t _ _ _ _ _ (c .before .add-compound2 .ensures))))
+    (λ s fm k t. rw (c .drafted3 .ensures)
+    (unfold addLine in (compound-holds s fm _ t _ _ _ _ _ (c .before .add-compound2 .ensures))))
 
 returns-6 : tie.Need-returns-6
 returns-6 c =

@@ -12,14 +12,16 @@ returns : tie.Need-returns
 unfolding numberRest
 returns c =
     let a = c .before .before .before .before .before .before .args in
-    let f = last-number-at (a .s .now) (a .at) most _ (c .before .before .before .before .last-number .ensures) _ _ (c .before .before .n .given .1) in
+    let f = last-number-at (a .s .now) (a .at) most _ (c .before .before .before .before .last-number .ensures) _ _
+    (c .before .before .n .given .1) in
     rw (c .line-of-one .ensures) (found-got _ _ _ _ (andThen-got _ _ _ _ (f .0)) (f .1))
 
 returns-2 : tie.Need-returns-2
 unfolding numberRest
 returns-2 c =
     let a = c .before .before .before .before .args in
-    found-none _ _ (andThen-bad _ _ (last-number-bad (a .s .now) (a .at) most _ (c .before .before .last-number .ensures) (c .enum-told .given .1)))
+    found-none _ _ (andThen-bad _ _
+    (last-number-bad (a .s .now) (a .at) most _ (c .before .before .last-number .ensures) (c .enum-told .given .1)))
 
 pub number-rest-spec : {M : Type 1} → statement M
 number-rest-spec = tie.close (tie.spec

@@ -1,4 +1,5 @@
--- `sheet_text::repeat::again` meets its contract: what is left to look for is what was to be looked for at the start. Assumes nothing.
+-- `sheet_text::repeat::again` meets its contract: what is left to look for is what was to be looked for at the start.
+-- Assumes nothing.
 use mathlib.Core.Path.{_≡_, refl, sym, _∙_}
 use Prim.Native.Nat.{_-_}
 use native.Mathlib.Omega.{arith}
@@ -9,7 +10,8 @@ use Rattle.sheet_text.proofs.repeat.again.Statement.{statement}
 use Rattle.sheet_text.proofs.repeat.again.Tie as tie
 
 abbrev Inv-loop : tie.InvT-loop
-Inv-loop table labels i from n j₀ j = anyFrom (sameIn table labels i) j (n - j) ≡ anyFrom (sameIn table labels i) from (n - from)
+Inv-loop table labels i from n j₀ j =
+    anyFrom (sameIn table labels i) j (n - j) ≡ anyFrom (sameIn table labels i) from (n - from)
 
 abbrev μ-loop : tie.MeasureT-loop
 μ-loop table labels i from n j₀ j = n - j
@@ -18,14 +20,16 @@ returns : tie.Need-returns Inv-loop μ-loop
 returns c =
     let at = c .before .before .before in
     let a = at .before .args in
-    sym (any-here (sameIn (a .table .now) (a .labels) (a .i)) (at .loop .j) (a .n) (c .before .before .loop-test .taken) (sym (c .before .same .ensures) ∙ c .if1 .taken)) ∙
+    sym (any-here (sameIn (a .table .now) (a .labels) (a .i)) (at .loop .j) (a .n) (c .before .before .loop-test .taken)
+    (sym (c .before .same .ensures) ∙ c .if1 .taken)) ∙
     at .loop .inv
 
 loop-again : tie.Need-loop-again Inv-loop μ-loop
 loop-again c =
     let at = c .before .before .before in
     let a = at .before .args in
-    sym (any-on (sameIn (a .table .now) (a .labels) (a .i)) (at .loop .j) (a .n) (c .before .before .loop-test .taken) (sym (c .before .same .ensures) ∙ c .if1 .left)) ∙
+    sym (any-on (sameIn (a .table .now) (a .labels) (a .i)) (at .loop .j) (a .n) (c .before .before .loop-test .taken)
+    (sym (c .before .same .ensures) ∙ c .if1 .left)) ∙
     at .loop .inv
 
 returns-2 : tie.Need-returns-2 Inv-loop μ-loop

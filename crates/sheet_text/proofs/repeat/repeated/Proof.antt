@@ -1,4 +1,5 @@
--- `sheet_text::repeat::repeated` meets its contract: what is left to look for is what was to be looked for at the start. Assumes nothing.
+-- `sheet_text::repeat::repeated` meets its contract: what is left to look for is what was to be looked for at the
+-- start. Assumes nothing.
 use mathlib.Core.Path.{_≡_, refl, sym, _∙_}
 use Prim.Native.Nat.{_-_}
 use native.Mathlib.Omega.{arith}
@@ -9,7 +10,8 @@ use Rattle.sheet_text.proofs.repeat.repeated.Statement.{statement}
 use Rattle.sheet_text.proofs.repeat.repeated.Tie as tie
 
 abbrev Inv-loop : tie.InvT-loop
-Inv-loop table labels from n i₀ i = anyFrom (againIn table labels n) i (n - i) ≡ anyFrom (againIn table labels n) from (n - from)
+Inv-loop table labels from n i₀ i =
+    anyFrom (againIn table labels n) i (n - i) ≡ anyFrom (againIn table labels n) from (n - from)
 
 abbrev μ-loop : tie.MeasureT-loop
 μ-loop table labels from n i₀ i = n - i
@@ -19,7 +21,8 @@ unfolding againIn
 returns c =
     let at = c .before .before .before in
     let a = at .before .args in
-    sym (any-here (againIn (a .table .now) (a .labels) (a .n)) (at .loop .i) (a .n) (c .before .before .loop-test .taken) (sym (c .before .again .ensures) ∙ c .if1 .taken)) ∙
+    sym (any-here (againIn (a .table .now) (a .labels) (a .n)) (at .loop .i) (a .n)
+    (c .before .before .loop-test .taken) (sym (c .before .again .ensures) ∙ c .if1 .taken)) ∙
     at .loop .inv
 
 loop-again : tie.Need-loop-again Inv-loop μ-loop
@@ -27,7 +30,8 @@ unfolding againIn
 loop-again c =
     let at = c .before .before .before in
     let a = at .before .args in
-    sym (any-on (againIn (a .table .now) (a .labels) (a .n)) (at .loop .i) (a .n) (c .before .before .loop-test .taken) (sym (c .before .again .ensures) ∙ c .if1 .left)) ∙
+    sym (any-on (againIn (a .table .now) (a .labels) (a .n)) (at .loop .i) (a .n) (c .before .before .loop-test .taken)
+    (sym (c .before .again .ensures) ∙ c .if1 .left)) ∙
     at .loop .inv
 
 returns-2 : tie.Need-returns-2 Inv-loop μ-loop

@@ -18,7 +18,8 @@ returns : tie.Need-returns
 returns c =
     let b = c .before in
     c .same-words .ensures
-    ∙ same-labels-at _ _ _ _ _ _ (b .before .label-place .ensures) (b .label-place2 .ensures) (b .before .before .if1 .taken)
+    ∙ same-labels-at _ _ _ _ _ _ (b .before .label-place .ensures) (b .label-place2 .ensures)
+    (b .before .before .if1 .taken)
 
 same-words-requires-2 : tie.Need-same-words-requires-2
 same-words-requires-2 c κs =
@@ -32,7 +33,8 @@ returns-2 : tie.Need-returns-2
 returns-2 c =
     let b = c .before in
     c .same-words2 .ensures
-    ∙ same-types-at _ _ _ _ _ _ (b .before .parts-place .ensures) (b .parts-place2 .ensures) (b .before .before .if1 .left)
+    ∙ same-types-at _ _ _ _ _ _ (b .before .parts-place .ensures) (b .parts-place2 .ensures)
+    (b .before .before .if1 .left)
 
 pub same-spec : {M : Type 1} → statement M
 same-spec = tie.close (tie.spec

@@ -22,10 +22,12 @@ abbrev μ-loop : tie.MeasureT-loop
 
 returns : tie.Need-returns Inv-loop μ-loop
 unfolding sameWords
-returns c = sym (every-false _ _ (c .before .before .before .before .loop .k) (omega arith) (ne-eqb _ _ (c .if1 .taken)))
+returns c =
+    sym (every-false _ _ (c .before .before .before .before .loop .k) (omega arith) (ne-eqb _ _ (c .if1 .taken)))
 
 loop-again : tie.Need-loop-again Inv-loop μ-loop
-loop-again c = (search needs, below-more _ _ (c .before .before .before .before .loop .inv .1) (eq-eqb _ _ (c .if1 .left)))
+loop-again c =
+    (search needs, below-more _ _ (c .before .before .before .before .loop .inv .1) (eq-eqb _ _ (c .if1 .left)))
 
 returns-2 : tie.Need-returns-2 Inv-loop μ-loop
 unfolding sameWords

@@ -94,7 +94,8 @@ put-digits-slice-write-out-2 : (t : ℕ) → put-digits-lts.Need-slice-write-out
 put-digits-slice-write-out-2 t c =
     omega (
       arith,
-      laws.length-more (c .before .before .before .before .before .before .args .v) (c .before .before .before .before .if1 .left),
+      laws.length-more (c .before .before .before .before .before .before .args .v)
+          (c .before .before .before .before .if1 .left),
       c .before .before .put-digits .kept .0,
       c .before .before .put-digits .ensures .0,
     )
@@ -106,7 +107,8 @@ put-digits-add-result-2 : (t : ℕ) → put-digits-lts.Need-add-result-2 (
 put-digits-add-result-2 t c =
     omega (
       arith,
-      laws.length-more (c .before .before .before .before .before .before .args .v) (c .before .before .before .before .if1 .left),
+      laws.length-more (c .before .before .before .before .before .before .args .v)
+          (c .before .before .before .before .if1 .left),
       c .before .before .put-digits .ensures .0,
     )
 
@@ -124,7 +126,8 @@ put-digits-returns-2 : (t : ℕ) → put-digits-lts.Need-returns-2 (
 put-digits-returns-2 t c = (
   omega (
     arith,
-    laws.length-more (c .before .before .before .before .before .before .args .v) (c .before .before .before .before .if1 .left),
+    laws.length-more (c .before .before .before .before .before .before .args .v)
+        (c .before .before .before .before .if1 .left),
     c .before .before .put-digits .ensures .0,
   ),
   rw (c .before .before .put-digits .ensures .0, c .before .before .put-digits .ensures .1)

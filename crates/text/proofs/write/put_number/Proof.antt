@@ -8,8 +8,10 @@ use Rattle.text.proofs.write.put_number.Tie as tie
 
 returns : tie.Need-returns
 returns c =
-    let a = c .before .before .args in
-    (sym (reached-none _ _ _ (omega (arith, length-positive (a .v)))), sym (written-none _ _ _ (omega (arith, length-positive (a .v)))))
+    let a = c .before .before .args in (
+      sym (reached-none _ _ _ (omega (arith, length-positive (a .v)))),
+      sym (written-none _ _ _ (omega (arith, length-positive (a .v)))),
+    )
 
 returns-2 : tie.Need-returns-2
 returns-2 c = (sym (reached-none _ _ _ (omega arith)), sym (written-none _ _ _ (omega arith)))

@@ -1,4 +1,4 @@
--- What is bound at a place is read back, and the places below it stay. Assumes nothing.
+-- What is bound at a place is read back, and the places below it stay.
 use mathlib.Core.Path.{_≡_, refl, ap, ap₂, _∙_}
 use mathlib.Core.Bool.{Bool, true, false, cond}
 use mathlib.Core.Option.{none, some}

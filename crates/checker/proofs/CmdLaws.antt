@@ -1,4 +1,4 @@
--- What each arm of `check_cmd` shows. Assumes nothing.
+-- What each arm of `check_cmd` shows.
 use mathlib.Core.Path.{_≡_, refl, ap, _∙_}
 use mathlib.Core.Bool.{Bool, true, false}
 use mathlib.Core.List.{List, _∷_}

@@ -1,4 +1,4 @@
--- What each arm of `check_expr` shows. Assumes nothing.
+-- What each arm of `check_expr` shows.
 use mathlib.Core.Path.{_≡_, refl, sym}
 use mathlib.Core.Bool.{Bool, true, false}
 use mathlib.Core.List.{List, [], _∷_}

@@ -1,4 +1,4 @@
--- What holds of lines, a set of two facts: each by itself. Assumes nothing.
+-- What holds of lines, a set of two facts: each by itself.
 use mathlib.Core.Path.{_≡_, refl, ap, ap₂, _∙_}
 use mathlib.Core.Bool.{Bool, true, false, not}
 use Prim.Native.Nat.{ℕ}

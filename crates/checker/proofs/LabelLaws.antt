@@ -1,4 +1,4 @@
--- Least labels over the table are the least labels over the sheet's declarations. Assumes nothing.
+-- Least labels over the table are the least labels over the sheet's declarations.
 use mathlib.Core.Path.{_≡_, refl, sym, ap, ap₂, _∙_}
 use mathlib.Core.Bool.{true}
 use mathlib.Core.List.{List, []}

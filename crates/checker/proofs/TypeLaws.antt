@@ -1,5 +1,4 @@
 -- Typing by number is typing: over the table of a sheet that repeats nothing, the number found is that of the type.
--- Assumes nothing.
 use mathlib.Core.Path.{_≡_, refl, sym, ap, _∙_}
 use mathlib.Core.Bool.{Bool, true, false, cond, false≢true}
 use mathlib.Core.Option.{Option, none, some}

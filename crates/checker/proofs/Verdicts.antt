@@ -1,4 +1,4 @@
--- The answer of the code is the scope's number, and says which derivations there are. Assumes nothing.
+-- The answer of the code is the scope's number, and says which derivations there are.
 use mathlib.Core.Path.{_≡_, refl, sym, ap, ap₂, _∙_}
 use mathlib.Core.Bool.{Bool, true, false, cond}
 use mathlib.Core.List.{List, []}

@@ -1,4 +1,4 @@
--- A group is read exactly where its printed form is the text. Assumes nothing.
+-- A group is read exactly where its printed form is the text.
 use Prim.Native.Nat.{ℕ, suc, _+_, _≤_}
 use native.Mathlib.Omega.{arith}
 use mathlib.Core.Path.{_≡_, refl, ap}

@@ -1,4 +1,4 @@
--- A text of one field, as the code reads it. Assumes nothing.
+-- A text of one field, as the code reads it.
 use Prim.Native.Nat.{ℕ, _+_, _-_, _≤_, _<_}
 use native.Mathlib.Omega.{arith}
 use mathlib.Core.Path.{_≡_, refl, sym, ap, _∙_}

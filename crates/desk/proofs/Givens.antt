@@ -1,4 +1,4 @@
--- What is taken from the texts of a memory and a group, as the code reads them. Assumes nothing.
+-- What is taken from the texts of a memory and a group, as the code reads them.
 use Prim.Native.Nat.{ℕ, _*_, _-_, _/_}
 use native.Mathlib.Omega.{arith}
 use mathlib.Core.Path.{_≡_, refl}

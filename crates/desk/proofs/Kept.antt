@@ -1,4 +1,4 @@
--- What is kept of the texts is enough. Assumes nothing.
+-- What is kept of the texts is enough.
 use Prim.Native.Nat.{ℕ, _+_, _*_, _≤_, _<_}
 use native.Mathlib.Omega.{arith}
 use mathlib.Core.Path.{_≡_, refl, sym, ap, _∙_}

@@ -1,5 +1,4 @@
 -- Show gives its numbers in their order: its table against that of the view which it prints (demand 2).
--- Assumes nothing.
 use Prim.Native.Nat.{ℕ}
 use mathlib.Core.Path.{_≡_, refl, sym, ap, _∙_, subst}
 use mathlib.Core.Logic.{_⊎_, inl, inr, ⊎-elim}

@@ -1,4 +1,4 @@
--- What is put into the buffer. Assumes nothing.
+-- What is put into the buffer.
 use Prim.Native.Nat.{ℕ, _+_, _%_, _≤_, _<_}
 use native.Mathlib.Omega.{arith}
 use mathlib.Core.Path.{_≡_, refl, sym, ap, _∙_}

@@ -1,4 +1,4 @@
--- The texts of an input, taken out of its buffer one by one. Assumes nothing.
+-- The texts of an input, taken out of its buffer one by one.
 use Prim.Native.Nat.{ℕ, _*_}
 use native.Mathlib.Omega.{arith}
 use mathlib.Core.Path.{_≡_, ap, _∙_}

@@ -1,4 +1,4 @@
--- The view of a memory text, as the code makes it. Assumes nothing.
+-- The view of a memory text, as the code makes it.
 use Prim.Native.Nat.{ℕ, zero, suc, _≤_}
 use native.Mathlib.Nat.{le-of-suc-le-suc, not-suc-le-zero}
 use mathlib.Core.Path.{_≡_, sym, ap, _∙_, refl}

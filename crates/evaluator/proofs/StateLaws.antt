@@ -1,5 +1,4 @@
 -- What the cells hold, after the accumulator, a location or a binding changes.
--- Assumes nothing.
 use mathlib.Core.Path.{_≡_, refl, ap, subst, _∙_}
 use mathlib.Core.Bool.{Bool, true, false, cond}
 use mathlib.Core.List.{List, _∷_}

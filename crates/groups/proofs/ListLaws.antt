@@ -1,5 +1,4 @@
 -- The list of smallest groups: what stands in it, that it rises, that there is no other, and that it says who reads.
--- Assumes nothing.
 use mathlib.Core.Logic.{_⊎_, inl, inr, ⊎-elim}
 use mathlib.Core.Path.{_≡_, refl, sym, ap₂, _∙_}
 use mathlib.Core.Bool.{true, false}

@@ -1,5 +1,4 @@
--- What the loops keep: the walk to the next smallest group, the count of those found, and the places written. Assumes
--- nothing.
+-- What the loops keep: the walk to the next smallest group, the count of those found, and the places written.
 use mathlib.Core.Path.{_≡_, refl, sym, ap, _∙_}
 use mathlib.Core.Bool.{Bool, true, false}
 use mathlib.Core.List.{List, [], _∷_, _++_}

@@ -1,4 +1,4 @@
--- The numbers from a group on that all hold it. Assumes nothing.
+-- The numbers from a group on that all hold it.
 use mathlib.Core.Path.{_≡_, refl, sym, ap, ap₂, _∙_}
 use mathlib.Core.Bool.{true}
 use Prim.Native.Nat.{ℕ, zero, suc, _+_, _*_, _-_, _/_, _%_, _^_, _≤_, _<_}

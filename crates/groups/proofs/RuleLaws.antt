@@ -1,4 +1,4 @@
--- The sheet's rule of reading. Assumes nothing.
+-- The sheet's rule of reading.
 use Rattle.sheet.proofs.ReaderLaws.{reads-more}
 use Rattle.groups.specs.Theorems.{ReadingGrows}
 

@@ -1,5 +1,4 @@
 -- Where a group reads only through a member who reads by himself, the smallest groups are the single readers.
--- Assumes nothing.
 use mathlib.Core.Path.{_≡_, sym, ap, _∙_}
 use mathlib.Core.Bool.{true}
 use mathlib.Core.List.{List}

@@ -1,4 +1,4 @@
--- The stage of simp_groups on the table of a sheet. Assumes nothing.
+-- The stage of simp_groups on the table of a sheet.
 use mathlib.Core.Path.{_≡_, refl, sym, ap, ap₂, _∙_, fun-ext}
 use mathlib.Core.List.{List, _++_}
 use Prim.Native.Nat.{ℕ, _+_, _^_, _≤_, _<_}

@@ -1,4 +1,4 @@
--- The walk through the groups: what is left of the list at each of its steps. Assumes nothing.
+-- The walk through the groups: what is left of the list at each of its steps.
 use mathlib.Core.Path.{_≡_, sym, ap, _∙_}
 use mathlib.Core.Bool.{true, false}
 use mathlib.Core.List.{List, [], _∷_}

@@ -1,5 +1,4 @@
 -- A whole run: the memory copied into the cells, the script's command, and the memory copied back.
--- Assumes nothing.
 use mathlib.Core.Path.{_≡_, refl, sym, ap, subst, _∙_}
 use mathlib.Core.Bool.{true}
 use mathlib.Core.List.{List, [], _++_, append-nil, append-assoc}

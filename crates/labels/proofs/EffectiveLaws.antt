@@ -1,5 +1,4 @@
 -- Effective labels: what each place of one holds, and which operations keep a label effective.
--- Assumes nothing.
 use mathlib.Core.Path.{_≡_}
 use mathlib.Core.Bool.{true}
 use Prim.Native.Nat.{ℕ, _<_, _≤_}

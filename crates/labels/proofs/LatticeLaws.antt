@@ -1,5 +1,4 @@
 -- The labels of n principals are a security lattice, which is trivial for one principal only.
--- Assumes nothing.
 use mathlib.Core.Path.{_≡_, refl, sym, ap, _∙_}
 use mathlib.Core.Bool.{true, Bool-set}
 use mathlib.Core.HLevel.{isProp→PathP}

@@ -1,5 +1,4 @@
 -- The order of labels, equality, and the join as least upper bound. Each law goes owner by owner.
--- Assumes nothing.
 use mathlib.Core.Path.{_≡_, sym, _∙_, subst}
 use mathlib.Core.Bool.{true}
 use mathlib.Core.List.{List}

@@ -1,5 +1,4 @@
 -- A loop that tests every owner to the end: at its start, a turn more, at its end.
--- Assumes nothing.
 use mathlib.Core.Path.{_≡_, refl, ap, _∙_}
 use mathlib.Core.Bool.{Bool, true}
 use Prim.Native.Nat.{ℕ, _+_, _<_, _≤_}

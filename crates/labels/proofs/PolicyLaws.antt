@@ -1,5 +1,4 @@
 -- Labels made from policies: the sets of each owner, and that the labels are effective.
--- Assumes nothing.
 use mathlib.Core.Path.{_≡_, _∙_}
 use mathlib.Core.Bool.{true}
 use mathlib.Core.List.{List, [], _∷_}

@@ -1,5 +1,4 @@
 -- Who reads a label by himself: a group reads alone exactly if it meets these.
--- Assumes nothing.
 use mathlib.Core.Path.{_≡_, refl, sym, ap, _∙_}
 use mathlib.Core.Bool.{Bool, true}
 use Prim.Native.Nat.{ℕ, zero, suc, _+_, _<_, _≤_}

@@ -1,5 +1,5 @@
 -- Labels in a table of words: one that stands there is read back, one is stored where it fits, and so is a policy, in
--- place. Assumes nothing.
+-- place.
 use mathlib.Core.Path.{_≡_, refl, sym, ap, ap₂, _∙_, subst}
 use mathlib.Core.Bool.{true}
 use mathlib.Core.Logic.{_≢_}

@@ -1,5 +1,5 @@
 -- Label conditions that a function carries to other label conditions: the least labels go along, and the tests stay the
--- same. Assumes nothing.
+-- same.
 use mathlib.Core.Path.{_≡_, refl, ap, ap₂, _∙_}
 use mathlib.Core.List.{List, [], _∷_, map}
 use Prim.Native.Nat.{ℕ, zero, suc}

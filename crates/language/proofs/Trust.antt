@@ -1,5 +1,4 @@
--- Conditions that ask more of unpacks: passing them is passing both tests, and the tests go along with labels. Assumes
--- nothing.
+-- Conditions that ask more of unpacks: passing them is passing both tests, and the tests go along with labels.
 use mathlib.Core.Path.{_≡_, refl, sym, ap, ap₂, _∙_}
 use mathlib.Core.Bool.{Bool}
 use mathlib.Core.List.{List, [], _∷_, map}

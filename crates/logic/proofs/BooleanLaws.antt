@@ -1,5 +1,4 @@
 -- Laws of the truth values: their cases, when two are equal, `both` and `either`.
--- Assumes nothing.
 use mathlib.Core.Path.{_≡_, refl, sym, ap, _∙_, subst}
 use mathlib.Core.Bool.{Bool, true, false, not, cond}
 use lib.Dec.{T}

@@ -1,5 +1,5 @@
 -- Testing C of the join of the members against C of a label: the same as testing bottom and each member by itself,
--- and of the members only the labels, since C of I of a label is bottom. Assumes nothing.
+-- and of the members only the labels, since C of I of a label is bottom.
 use mathlib.Core.Path.{_≡_, refl, sym, ap, ap₂, _∙_}
 use mathlib.Core.Bool.{Bool, true, false, cond}
 use mathlib.Core.List.{List}

@@ -1,4 +1,4 @@
--- How much of a label flows: each answer, and what it says. Assumes nothing.
+-- How much of a label flows: each answer, and what it says.
 use mathlib.Core.Path.{_≡_, refl, sym}
 use mathlib.Core.Bool.{Bool, true, false}
 use mathlib.Core.List.{List}

@@ -1,4 +1,4 @@
--- What a set of members stands for: a union the join, {l} label l. Assumes nothing.
+-- What a set of members stands for: a union the join, {l} label l.
 use mathlib.Core.Path.{_≡_, refl, sym, ap, _∙_}
 use mathlib.Core.Bool.{Bool, true, false, cond}
 use mathlib.Core.List.{List}

@@ -1,5 +1,5 @@
 -- Laws of locations' words joined: one location's words, all of them, and a loop that stores them one location after
--- the other. Assumes nothing.
+-- the other.
 use mathlib.Core.Path.{_≡_, refl, sym, ap, ap₂, _∙_}
 use mathlib.Core.List.{List, [], _∷_, _++_, append-assoc, append-nil}
 use Prim.Native.Nat.{ℕ, zero, suc, _+_, _*_, _≤_, _<_}

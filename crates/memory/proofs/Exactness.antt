@@ -1,4 +1,4 @@
--- The theorems of specs/Theorems. Assumes nothing.
+-- The theorems of specs/Theorems.
 use mathlib.Core.Logic.{_↔_}
 use mathlib.Core.Path.{_≡_, sym, ap, ap₂, _∙_, fun-ext}
 use mathlib.Core.Bool.{Bool, true}

@@ -1,4 +1,4 @@
--- Laws of the words of a package's head: what is read of them, and stored. Assumes nothing.
+-- Laws of the words of a package's head: what is read of them, and stored.
 use mathlib.Core.Path.{_≡_, refl}
 use mathlib.Core.List.{List, [], _∷_, _++_}
 use Prim.Native.Nat.{ℕ, suc, _+_, _≤_, _<_}

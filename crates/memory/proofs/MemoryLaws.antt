@@ -1,6 +1,5 @@
 -- Laws of a memory whose words are well-formed, over the number of locations and labels and the test of each location's
 -- value: its values, and its words from its values.
--- Assumes nothing.
 use mathlib.Core.Path.{_≡_, refl, sym, ap, _∙_}
 use mathlib.Core.Bool.{Bool, true, false, cond}
 use mathlib.Core.List.{List}

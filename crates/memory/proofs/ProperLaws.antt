@@ -1,5 +1,4 @@
 -- A run keeps values proper: what evaluation makes of proper values is proper.
--- Assumes nothing.
 use mathlib.Core.Path.{_≡_, refl}
 use mathlib.Core.Bool.{true}
 use Prim.Native.Nat.{ℕ, _<_}

@@ -1,5 +1,4 @@
 -- Laws of refusals 7 and 8, by the table.
--- Assumes nothing.
 use mathlib.Core.Path.{_≡_, refl, _∙_}
 use mathlib.Core.Bool.{Bool, true, false}
 use mathlib.Core.List.{List}

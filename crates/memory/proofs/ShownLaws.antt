@@ -1,5 +1,4 @@
 -- Laws of the loop that stores a view, and of what a call leaves, by the table.
--- Assumes nothing.
 use mathlib.Core.Path.{_≡_, sym, ap, _∙_}
 use mathlib.Core.Bool.{Bool}
 use mathlib.Core.List.{List, _++_}

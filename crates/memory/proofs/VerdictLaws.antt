@@ -1,4 +1,4 @@
--- What a match on a verdict tells of its number. Assumes nothing.
+-- What a match on a verdict tells of its number.
 use mathlib.Core.Path.{_≡_, ap}
 use mathlib.Core.Logic.{inl, inr}
 use mathlib.Core.List.{[], _∷_}

@@ -1,5 +1,4 @@
 -- Reading words gives back the value that they are the words of, and no other words are read as that value.
--- Assumes nothing.
 use mathlib.Core.Path.{_≡_, refl, sym, ap, _∙_, subst}
 use mathlib.Core.Bool.{Bool, true, false, cond}
 use mathlib.Core.List.{List, [], _∷_, _++_}

@@ -1,4 +1,4 @@
--- Memory texts by computing. Assumes nothing.
+-- Memory texts by computing.
 use Prim.Native.Nat.{ℕ, _+_}
 use mathlib.Core.Path.{_≡_, refl}
 use mathlib.Core.List.{List, [], _∷_, _++_}

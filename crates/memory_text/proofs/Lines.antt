@@ -1,4 +1,4 @@
--- A location is read exactly where its line stands. Assumes nothing.
+-- A location is read exactly where its line stands.
 use Prim.Native.Nat.{ℕ, zero, suc, _+_, _*_, _≤_}
 use native.Mathlib.Omega.{arith}
 use mathlib.Core.Path.{_≡_, refl, sym, ap, _∙_}

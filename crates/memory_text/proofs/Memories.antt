@@ -1,4 +1,4 @@
--- A memory is read exactly where its text stands. Assumes nothing.
+-- A memory is read exactly where its text stands.
 use Prim.Native.Nat.{ℕ, zero, suc, _*_, _/_, _≤_}
 use native.Mathlib.Omega.{arith}
 use mathlib.Core.Path.{_≡_, refl, ap, _∙_}

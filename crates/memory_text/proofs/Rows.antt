@@ -1,4 +1,4 @@
--- A location's line as the code reads it: words into an array, and rows into a table. Assumes nothing.
+-- A location's line as the code reads it: words into an array, and rows into a table.
 use Prim.Native.Nat.{ℕ, suc, _+_, _-_, _≤_, _<_}
 use native.Mathlib.Omega.{arith}
 use native.Mathlib.Numerals.{add-one}

@@ -1,4 +1,4 @@
--- The table of a memory as the code fills it, location by location. Assumes nothing.
+-- The table of a memory as the code fills it, location by location.
 use Prim.Native.Nat.{ℕ, suc, _+_, _*_, _-_, _/_, _≤_, _<_}
 use native.Mathlib.Omega.{arith}
 use mathlib.Core.Path.{_≡_, refl, ap}

@@ -1,4 +1,4 @@
--- Words with the zeros at their end dropped, and put back. Assumes nothing.
+-- Words with the zeros at their end dropped, and put back.
 use Prim.Native.Nat.{ℕ, zero, suc, _-_, _≤_}
 use native.Mathlib.Omega.{arith}
 use mathlib.Core.Path.{_≡_, refl, sym, ap, _∙_}

@@ -1,4 +1,4 @@
--- Writing a memory: how many words a line keeps, and forms written one after another. Assumes nothing.
+-- Writing a memory: how many words a line keeps, and forms written one after another.
 use Prim.Native.Nat.{ℕ, suc, _+_, _*_, _-_, _/_, _%_, _≤_, _<_}
 use native.Mathlib.Omega.{arith}
 use native.Mathlib.Numerals.{add-one}

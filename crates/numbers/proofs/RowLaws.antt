@@ -1,4 +1,4 @@
--- What holds of every table of numbers, by induction over its rows. Assumes nothing.
+-- What holds of every table of numbers, by induction over its rows.
 use mathlib.Core.Logic.{_↔_, inl, inr, ⊎-elim}
 use mathlib.Core.Path.{_≡_, refl, sym, ap, _∙_, subst}
 use mathlib.Core.Bool.{Bool, true, false, cond, true≢false}

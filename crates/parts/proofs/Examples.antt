@@ -1,4 +1,4 @@
--- Inputs of a few bytes, parted by computing. Assumes nothing.
+-- Inputs of a few bytes, parted by computing.
 use Prim.Native.Nat.{ℕ}
 use mathlib.Core.Path.{_≡_, refl}
 use mathlib.Core.List.{List, [], _∷_}

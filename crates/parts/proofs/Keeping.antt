@@ -1,4 +1,4 @@
--- The buffer holds what is kept of each text. Assumes nothing.
+-- The buffer holds what is kept of each text.
 use Prim.Native.Nat.{ℕ, suc, _+_, _*_, _≤_, _<_}
 use native.Mathlib.Omega.{arith}
 use mathlib.Core.Path.{_≡_, refl, sym, ap, _∙_}

@@ -1,4 +1,4 @@
--- Where the bytes of a text stand in the buffer. Assumes nothing.
+-- Where the bytes of a text stand in the buffer.
 use Prim.Native.Nat.{ℕ, _+_, _*_, _-_, _≤_, _<_}
 use native.Mathlib.Omega.{arith}
 use native.Mathlib.Numerals.{add-one}

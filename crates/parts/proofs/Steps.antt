@@ -1,4 +1,4 @@
--- One law for each case of a step, of the code and of the definition. Assumes nothing.
+-- One law for each case of a step, of the code and of the definition.
 use Prim.Native.Nat.{ℕ, _+_, _*_, _≤_, _<_}
 use mathlib.Core.Path.{_≡_, refl}
 use mathlib.Core.Bool.{Bool, true, false}

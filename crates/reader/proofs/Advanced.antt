@@ -9,7 +9,6 @@
 --     function                    the MIR
 --     advances                    the function meets its contract, where the callee does.
 --     advanced                    the same of its entry in a program's table
--- Assumes nothing.
 use mathlib.Core.Path.{_≡_, refl, sym, ap, _∙_, subst}
 use Prim.Native.Nat.{ℕ, _<_, _^_}
 use mathlib.Core.List.{List, [], _∷_}

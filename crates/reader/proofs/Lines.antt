@@ -5,7 +5,6 @@
 --     found-mir, next-mir                  their MIR types.
 --     what-typed, found-typed, next-typed  a machine value of each has the MIR type
 --     found-shut, next-shut                what the fields own together is what the struct owns
--- Assumes nothing.
 use mathlib.Core.Path.{_≡_, sym, subst}
 use Prim.Native.Nat.{ℕ}
 use mathlib.Core.List.{List, [], _∷_, _++_}

@@ -7,7 +7,6 @@
 --               reader, `from-at` and `from-clauses`
 --     resumes   the function meets its contract, where the callee does.
 --     resumed   the same of its entry in a program's table
--- Assumes nothing.
 use mathlib.Core.Path.{_≡_, refl, ap}
 use Prim.Native.Nat.{ℕ, _<_, _^_}
 use mathlib.Core.List.{List, [], _∷_}

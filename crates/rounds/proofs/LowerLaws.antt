@@ -1,4 +1,4 @@
--- The lower of two numbers, and the lowest over all scripts. Assumes nothing.
+-- The lower of two numbers, and the lowest over all scripts.
 use mathlib.Core.Path.{_≡_, refl, sym}
 use mathlib.Core.List.{List, [], _∷_}
 use Prim.Native.Nat.{ℕ, zero, suc, _≤_, _<_}

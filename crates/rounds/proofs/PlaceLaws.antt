@@ -1,4 +1,4 @@
--- What runs answer, stored place by place. Assumes nothing.
+-- What runs answer, stored place by place.
 use mathlib.Core.Path.{_≡_, refl, ap}
 use mathlib.Core.List.{List, [], _∷_, map}
 use Prim.Native.Nat.{ℕ, suc, _+_, _≤_}

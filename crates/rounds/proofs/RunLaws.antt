@@ -1,4 +1,4 @@
--- One script of a round after another. Assumes nothing.
+-- One script of a round after another.
 use mathlib.Core.Path.{_≡_, refl, sym, ap, _∙_}
 use mathlib.Core.List.{List, []}
 use mathlib.Core.Option.{Option, none, some}

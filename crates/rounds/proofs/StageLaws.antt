@@ -1,4 +1,4 @@
--- The stages of a round: what each leaves, from what it calls. Assumes nothing.
+-- The stages of a round: what each leaves, from what it calls.
 use mathlib.Core.Path.{_≡_, refl, sym, ap, _∙_}
 use mathlib.Core.Bool.{true, false}
 use mathlib.Core.List.{List, [], _∷_}

@@ -1,4 +1,4 @@
--- The lines of an expression or a command are balanced, and how many operands balanced lines have. Assumes nothing.
+-- The lines of an expression or a command are balanced, and how many operands balanced lines have.
 use mathlib.Core.Path.{_≡_, refl, ap, _∙_}
 use mathlib.Core.Bool.{Bool, true}
 use mathlib.Core.List.{List, [], _∷_}

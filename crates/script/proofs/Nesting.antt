@@ -1,4 +1,4 @@
--- A script has a line more than its innermost tree stands deep, at least. Assumes nothing.
+-- A script has a line more than its innermost tree stands deep, at least.
 use mathlib.Core.List.{List}
 use Prim.Native.Nat.{_+_, _<_}
 use native.Mathlib.Omega.{arith}

@@ -1,5 +1,5 @@
 -- What a line makes of its operands, and what follows it: one table of the kinds, and a law for a line with no operand,
--- one, two or three. Assumes nothing.
+-- one, two or three.
 use mathlib.Core.Path.{_≡_, refl, sym}
 use mathlib.Core.List.{List, [], _∷_}
 use Prim.Native.Nat.{ℕ, zero, suc, _+_, _≤_, _<_}

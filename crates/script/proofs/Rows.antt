@@ -1,4 +1,4 @@
--- What stands at a word of a script's code: the row of each kind of line. Assumes nothing.
+-- What stands at a word of a script's code: the row of each kind of line.
 use mathlib.Core.Path.{_≡_, refl, sym, ap, _∙_}
 use mathlib.Core.Logic.{_⊎_}
 use mathlib.Core.Bool.{Bool, true, false}

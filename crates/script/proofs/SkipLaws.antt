@@ -1,5 +1,4 @@
 -- Skipping the lines of an expression or a command: as many operands as its line has.
--- Assumes nothing.
 use mathlib.Core.Path.{_≡_, refl, sym, subst, _∙_}
 use mathlib.Core.List.{List}
 use Prim.Native.Nat.{ℕ, _+_, _≤_, _<_}

@@ -1,4 +1,4 @@
--- Telling whether lines are as many as their kinds ask for, row by row. Assumes nothing.
+-- Telling whether lines are as many as their kinds ask for, row by row.
 use mathlib.Core.Path.{_≡_, refl, sym, ap, _∙_}
 use mathlib.Core.Bool.{Bool, true, false}
 use mathlib.Core.List.{List, [], _∷_}

@@ -1,4 +1,4 @@
--- The code of lines, filled in line by line. Assumes nothing.
+-- The code of lines, filled in line by line.
 use mathlib.Core.Path.{_≡_, refl, ap}
 use mathlib.Core.List.{List, [], _∷_}
 use mathlib.Core.Option.{Option, none, some}

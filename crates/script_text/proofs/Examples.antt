@@ -1,4 +1,4 @@
--- Scripts that are read and texts that are refused, by computing. Assumes nothing.
+-- Scripts that are read and texts that are refused, by computing.
 use mathlib.Core.Path.{_≡_, refl}
 use mathlib.Core.Bool.{true, false}
 use mathlib.Core.List.{List, [], _∷_}

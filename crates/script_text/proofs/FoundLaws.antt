@@ -1,4 +1,4 @@
--- From the answers of the line reader back to what was read, and from a reading to its answer. Assumes nothing.
+-- From the answers of the line reader back to what was read, and from a reading to its answer.
 use mathlib.Core.Path.{_≡_, refl, sym, ap, _∙_}
 use mathlib.Core.List.{List}
 use Prim.Native.Nat.{ℕ, _+_, _≤_, _<_}

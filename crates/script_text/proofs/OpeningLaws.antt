@@ -1,4 +1,4 @@
--- An opening is read exactly where its printed form stands; and what the code answers to it. Assumes nothing.
+-- An opening is read exactly where its printed form stands; and what the code answers to it.
 use mathlib.Core.Path.{_≡_, refl, sym, ap, _∙_}
 use mathlib.Core.Bool.{true, false}
 use mathlib.Core.List.{List, [], _∷_, _++_, append-assoc}

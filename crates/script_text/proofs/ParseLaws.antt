@@ -1,4 +1,4 @@
--- Parsing and printing in prefix order are inverse. Assumes nothing.
+-- Parsing and printing in prefix order are inverse.
 use mathlib.Core.Path.{_≡_, refl, ap, _∙_}
 use mathlib.Core.List.{List, [], _∷_}
 use mathlib.Core.Option.{Option, none, some}

@@ -1,4 +1,4 @@
--- The answer of the reader is that of the script of the text, and what its code then holds. Assumes nothing.
+-- The answer of the reader is that of the script of the text, and what its code then holds.
 use mathlib.Core.Path.{_≡_, refl, sym, ap, _∙_}
 use mathlib.Core.Bool.{Bool, true, false}
 use mathlib.Core.List.{List, []}

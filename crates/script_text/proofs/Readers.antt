@@ -1,4 +1,4 @@
--- What a reader of a script reads at a byte, for the walks over a reader. Assumes nothing.
+-- What a reader of a script reads at a byte, for the walks over a reader.
 use mathlib.Core.Path.{refl}
 use Rattle.reader.proofs.Lines.{anywhere, Lines}
 use Rattle.script_text.specs.declared.Reached.{Reached}

@@ -1,5 +1,4 @@
 -- An expression or a command is found at a row exactly if its lines stand there: a law for each number of operands.
--- Assumes nothing.
 use mathlib.Core.Path.{_≡_, refl, sym, ap, _∙_}
 use mathlib.Core.Logic.{_⊎_, inl, inr}
 use mathlib.Core.Bool.{Bool, true, false}

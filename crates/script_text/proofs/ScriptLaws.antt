@@ -1,5 +1,4 @@
--- The script is read exactly if the text is the printed form of an opening and a command within the bounds. Assumes
--- nothing.
+-- The script is read exactly if the text is the printed form of an opening and a command within the bounds.
 use mathlib.Core.Path.{_≡_, refl, sym, ap, _∙_}
 use mathlib.Core.Bool.{true}
 use mathlib.Core.List.{List, []}

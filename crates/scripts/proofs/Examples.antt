@@ -1,4 +1,4 @@
--- Texts of a few bytes, parted by computing. Assumes nothing.
+-- Texts of a few bytes, parted by computing.
 use mathlib.Core.Path.{_≡_, refl}
 use mathlib.Core.List.{[], _∷_}
 use Rattle.logic.specs.Booleans.{both}

@@ -1,4 +1,4 @@
--- Where the parts of a text stand in it. Assumes nothing.
+-- Where the parts of a text stand in it.
 use Prim.Native.Nat.{ℕ, suc, _+_, _-_, _≤_, _<_, min}
 use native.Mathlib.Omega.{arith}
 use native.Mathlib.Numerals.{add-one}

@@ -1,5 +1,4 @@
 -- The masks are sets of principals.
--- Assumes nothing.
 use Rattle.sets.specs.Meaning.{MasksAreSets}
 use Rattle.sets.proofs.SetLaws.{member-ext, member-union, member-intersection, within-intro, within-elim}
 use Rattle.sets.proofs.SetLaws.{meets-intro, meets-elim, member-single, member-single-self, member-everyone}

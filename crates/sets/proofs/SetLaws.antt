@@ -1,6 +1,5 @@
 -- Masks against sets of principals: what union, intersection, containment, {p} and the first n principals have as
 -- members. No law names a width.
--- Assumes nothing.
 use mathlib.Core.Path.{_≡_, refl, sym, ap, ap₂, _∙_, subst}
 use mathlib.Core.Bool.{Bool, true, false, not, cond}
 use Prim.Native.Nat.{ℕ, zero, suc, _+_, _*_, _/_, _%_, _^_, _<_, _≤_, _-_, min, max}

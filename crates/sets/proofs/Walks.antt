@@ -1,5 +1,5 @@
 -- Laws of `every`, `any` and `tab`, for loops that test one place a turn or fill one; and of stores, one run after
--- another. Assumes nothing.
+-- another.
 use mathlib.Core.Path.{_≡_, refl, sym, ap, ap₂, _∙_}
 use mathlib.Core.Bool.{Bool, true, false}
 use mathlib.Core.List.{List, [], _∷_, _++_}

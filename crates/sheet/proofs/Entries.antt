@@ -1,4 +1,4 @@
--- Reading an entry or a label of a table, within its list and past it. Assumes nothing.
+-- Reading an entry or a label of a table, within its list and past it.
 use mathlib.Core.Path.{_≡_}
 use mathlib.Core.List.{List}
 use Prim.Native.Nat.{ℕ, _+_, _*_, _<_, _≤_}

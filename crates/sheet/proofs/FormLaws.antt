@@ -1,5 +1,4 @@
 -- What a sheet of the right form satisfies, fact by fact.
--- Assumes nothing.
 use mathlib.Core.Path.{_≡_, refl}
 use mathlib.Core.Bool.{true}
 use mathlib.Core.List.{List, [], _∷_}

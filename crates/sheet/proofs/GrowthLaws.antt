@@ -1,4 +1,4 @@
--- Lists that grow at their end: an entry more, or a policy of the last label. Assumes nothing.
+-- Lists that grow at their end: an entry more, or a policy of the last label.
 use mathlib.Core.Path.{_≡_, refl, ap}
 use mathlib.Core.List.{List, [], _∷_, _++_}
 use Prim.Native.Nat.{suc, _+_, _≤_}

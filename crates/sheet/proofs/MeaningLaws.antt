@@ -1,6 +1,5 @@
 -- The labels of n principals are a lattice as typing needs it, what a sheet declares are its labels, and its table says
 -- the same of them; equal numbers and equal meaning agree.
--- Assumes nothing.
 use mathlib.Core.Path.{_≡_, refl, ap₂}
 use mathlib.Core.Bool.{Bool, true, false}
 use Prim.Native.Nat.{ℕ}

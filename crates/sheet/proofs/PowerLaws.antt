@@ -1,4 +1,4 @@
--- What a set of powers says of a label is what the table says. Assumes nothing.
+-- What a set of powers says of a label is what the table says.
 use mathlib.Core.Path.{_≡_, refl, sym, ap, _∙_}
 use mathlib.Core.Bool.{Bool, true, false, cond}
 use mathlib.Core.List.{List}

@@ -1,5 +1,5 @@
 -- Who reads a label, by the sheet's rule: that it grows with the group, that nobody is not enough, and that the
--- label's readers, fetched once, go by it. Assumes nothing.
+-- label's readers, fetched once, go by it.
 use mathlib.Core.Path.{_≡_, sym, ap, _∙_, subst}
 use mathlib.Core.Bool.{Bool, true, false}
 use mathlib.Core.List.{List}

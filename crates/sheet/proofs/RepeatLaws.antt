@@ -1,5 +1,4 @@
 -- What no repeat means: entries that are the same stand at the same place.
--- Assumes nothing.
 use mathlib.Core.Path.{_≡_, refl, sym}
 use mathlib.Core.Bool.{Bool, true, false}
 use mathlib.Core.List.{List, [], _∷_, _++_}

@@ -1,4 +1,4 @@
--- The table of a sheet with something more, by the words that are stored. Assumes nothing.
+-- The table of a sheet with something more, by the words that are stored.
 use mathlib.Core.Path.{_≡_, refl, sym, ap, ap₂, _∙_}
 use mathlib.Core.Bool.{true}
 use mathlib.Core.List.{List, [], _∷_, _++_, append-assoc, append-nil, map, map-append}

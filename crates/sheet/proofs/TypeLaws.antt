@@ -1,6 +1,5 @@
 -- The types that numbers name: the given ones, and each sum and pair by its parts; without repeats equal types have
 -- equal numbers.
--- Assumes nothing.
 use mathlib.Core.Path.{_≡_, refl, sym, ap₂, _∙_}
 use mathlib.Core.Bool.{true, false}
 use mathlib.Core.List.{List, [], _∷_, _++_}

@@ -1,4 +1,4 @@
--- Lines are those of a sheet of the right form exactly if a sheet can be built from them. Assumes nothing.
+-- Lines are those of a sheet of the right form exactly if a sheet can be built from them.
 use mathlib.Core.Path.{_≡_, refl, sym, ap, _∙_}
 use mathlib.Core.Bool.{Bool, true, cond}
 use mathlib.Core.List.{List, [], _∷_}

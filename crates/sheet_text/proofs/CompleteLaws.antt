@@ -1,4 +1,4 @@
--- From the lines of a sheet of the right form that sheet is built. Assumes nothing.
+-- From the lines of a sheet of the right form that sheet is built.
 use mathlib.Core.Path.{_≡_, refl, sym, ap, _∙_}
 use mathlib.Core.Bool.{Bool, true, cond}
 use mathlib.Core.List.{List, [], _∷_, _++_, append-assoc, append-nil}

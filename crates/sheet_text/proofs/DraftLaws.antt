@@ -1,4 +1,4 @@
--- What the code holds of a sheet after a line more, from what it held before. Assumes nothing.
+-- What the code holds of a sheet after a line more, from what it held before.
 use mathlib.Core.Path.{_≡_, refl, sym, ap, _∙_}
 use mathlib.Core.Bool.{Bool, true, false, cond}
 use mathlib.Core.List.{List, []}

@@ -1,4 +1,4 @@
--- The sheet of the scope's cases, as its text is read; and texts that are refused. Assumes nothing.
+-- The sheet of the scope's cases, as its text is read; and texts that are refused.
 use mathlib.Core.Path.{_≡_, refl}
 use mathlib.Core.Bool.{true}
 use mathlib.Core.List.{List, [], _∷_, map}

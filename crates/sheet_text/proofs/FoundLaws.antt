@@ -1,4 +1,4 @@
--- From an answer in a text back to the line that was read, and from a line to its answer. Assumes nothing.
+-- From an answer in a text back to the line that was read, and from a line to its answer.
 use mathlib.Core.Path.{_≡_, refl, ap, _∙_}
 use mathlib.Core.List.{List, _∷_}
 use Prim.Native.Nat.{ℕ, _+_, _≤_, _<_}

@@ -1,4 +1,4 @@
--- Lists that grow at their end: a sum, a label, a policy of the last label or a location more. Assumes nothing.
+-- Lists that grow at their end: a sum, a label, a policy of the last label or a location more.
 use mathlib.Core.Path.{_≡_, refl, ap}
 use mathlib.Core.Bool.{true}
 use mathlib.Core.List.{List, [], _∷_, _++_}

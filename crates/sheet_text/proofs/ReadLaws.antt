@@ -1,4 +1,4 @@
--- From the lines of a text to its answer, a line at a time. Assumes nothing.
+-- From the lines of a text to its answer, a line at a time.
 use mathlib.Core.Path.{_≡_, refl, sym, ap, _∙_}
 use mathlib.Core.Bool.{true, false}
 use mathlib.Core.List.{List, [], _∷_}

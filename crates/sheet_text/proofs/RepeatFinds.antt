@@ -1,4 +1,4 @@
--- A table repeats a type or a label exactly if its sheet does. Assumes nothing.
+-- A table repeats a type or a label exactly if its sheet does.
 use mathlib.Core.Path.{_≡_, refl, sym, ap, ap₂, _∙_}
 use mathlib.Core.Bool.{Bool, true, false}
 use mathlib.Core.List.{List, [], _∷_, _++_}

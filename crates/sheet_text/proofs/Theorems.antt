@@ -1,4 +1,4 @@
--- Each answer is given exactly to the texts that it is for. Assumes nothing.
+-- Each answer is given exactly to the texts that it is for.
 use mathlib.Core.Path.{_≡_, refl, sym, ap, _∙_}
 use mathlib.Core.Bool.{true, false}
 use mathlib.Core.List.{List}

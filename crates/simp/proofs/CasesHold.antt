@@ -1,4 +1,4 @@
--- The starred cases hold, by computing; the one that is spent for every budget by induction over it. Assumes nothing.
+-- The starred cases hold, by computing; the one that is spent for every budget by induction over it.
 use mathlib.Core.Path.{_≡_, refl, ap}
 use Prim.Native.Nat.{ℕ, zero, suc}
 use Rattle.language.specs.Syntax.{int, val, left, Cmd, skip, seq, while, size}

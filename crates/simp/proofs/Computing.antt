@@ -1,5 +1,4 @@
 -- The definitions that the cases compute with, by crate: to unfold `text-used` is to unfold all that its line names.
--- Assumes nothing.
 use Rattle.text.specs.Field as field
 use Rattle.text.specs.Lines as text-lines
 use Rattle.text.specs.Number as number

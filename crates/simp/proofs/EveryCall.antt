@@ -1,4 +1,4 @@
--- Demands 1 and 2, of every call. Assumes nothing.
+-- Demands 1 and 2, of every call.
 use mathlib.Core.Path.{refl, sym, ap, _∙_}
 use Prim.Native.Nat.{ℕ}
 use Rattle.stages.specs.Answers.{Ran, refusedRun, Viewed, refusedView}

@@ -1,4 +1,4 @@
--- Demand 1 of the calls on one script, read off their tables: what each leaves and answers. Assumes nothing.
+-- Demand 1 of the calls on one script, read off their tables: what each leaves and answers.
 use mathlib.Core.Path.{_≡_, refl, ap}
 use mathlib.Core.List.{List, [], _∷_}
 use Prim.Native.Nat.{ℕ}

@@ -1,4 +1,4 @@
--- Demands 1 and 2 of simp_groups, and what it lists. Assumes nothing.
+-- Demands 1 and 2 of simp_groups, and what it lists.
 use mathlib.Core.Logic.{_⊎_, _↔_, inl, inr, ⊎-elim}
 use mathlib.Core.Path.{_≡_, refl, sym, ap, _∙_, subst}
 use mathlib.Core.List.{List, [], _∷_, _++_}

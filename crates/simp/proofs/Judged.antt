@@ -1,5 +1,5 @@
 -- The stages of a call's function against the rows of its table: each stage judges its rows, and goes on where none of
--- them applies. Assumes nothing.
+-- them applies.
 use mathlib.Core.Logic.{_⊎_, inl, inr, ⊎-elim}
 use mathlib.Core.Path.{_≡_, refl, sym, _∙_, subst}
 use mathlib.Core.Bool.{Bool, true, false, cond}

@@ -1,4 +1,4 @@
--- The lowest number over several scripts, as a stage of a call. Assumes nothing.
+-- The lowest number over several scripts, as a stage of a call.
 use mathlib.Core.Logic.{_⊎_, inl, inr, ⊎-elim}
 use mathlib.Core.Path.{_≡_, refl, ap, _∙_}
 use mathlib.Core.List.{List, [], _∷_, _++_}

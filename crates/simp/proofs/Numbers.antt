@@ -1,4 +1,4 @@
--- No number applies: what the stages of a call then come to. Assumes nothing.
+-- No number applies: what the stages of a call then come to.
 use mathlib.Core.Path.{_≡_}
 use mathlib.Core.Bool.{true}
 use mathlib.Core.List.{List, []}

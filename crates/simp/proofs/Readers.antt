@@ -1,5 +1,5 @@
 -- Who reads with a label every label below it by readers alone is an observer of a sheet's labels: noninterference and
--- confinement for him. A group is such a one, by both rules of reading. Assumes nothing.
+-- confinement for him. A group is such a one, by both rules of reading.
 use mathlib.Core.Path.{_≡_, refl, sym, ap, _∙_, subst₂, fun-ext}
 use mathlib.Core.Bool.{Bool, true, false}
 use mathlib.Core.List.{[]}

@@ -1,5 +1,5 @@
 -- The rule of reading decides who reads and nothing else; and what the view promises, to everyone whose reading is
--- closed downward. Assumes nothing.
+-- closed downward.
 use mathlib.Core.Path.{_≡_, refl, sym, ap, _∙_, subst}
 use mathlib.Core.Bool.{Bool, true}
 use mathlib.Core.List.{List}

@@ -1,4 +1,4 @@
--- Demands 1 and 2 of a round. Assumes nothing.
+-- Demands 1 and 2 of a round.
 use mathlib.Core.Logic.{_↔_, inl, inr, ⊎-elim}
 use mathlib.Core.Path.{_≡_, refl, sym, _∙_, subst}
 use mathlib.Core.List.{List, [], _∷_}

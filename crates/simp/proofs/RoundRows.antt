@@ -1,4 +1,4 @@
--- The stages of a round against the rows of its table. Assumes nothing.
+-- The stages of a round against the rows of its table.
 use mathlib.Core.Logic.{inl, inr}
 use mathlib.Core.Path.{_≡_, refl, subst}
 use mathlib.Core.Bool.{true, false}

@@ -1,5 +1,5 @@
 -- Two rounds of the same scripts, each script done in both: what a script of a kind keeps between two memories, rounds
--- of such scripts keep. One round: what each of its scripts leaves as it is, it leaves. Assumes nothing.
+-- of such scripts keep. One round: what each of its scripts leaves as it is, it leaves.
 use mathlib.Core.Path.{_≡_, refl, sym, ap, _∙_, subst}
 use mathlib.Core.List.{List, [], _∷_, map}
 use Prim.Native.Nat.{ℕ, suc, _+_}

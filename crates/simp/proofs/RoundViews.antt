@@ -1,5 +1,4 @@
 -- What a group is shown after a round follows from what it is shown before: each script is an instance of demand 3.
--- Assumes nothing.
 use mathlib.Core.Path.{_≡_, refl}
 use mathlib.Core.List.{List}
 use Prim.Native.Nat.{ℕ}

@@ -1,4 +1,4 @@
--- Demand 2 of the calls on one script: each answers what the papers say. Assumes nothing.
+-- Demand 2 of the calls on one script: each answers what the papers say.
 use mathlib.Core.Logic.{_↔_}
 use mathlib.Core.Path.{_≡_, refl, sym, ap, _∙_, subst}
 use mathlib.Core.Bool.{true}

@@ -1,4 +1,4 @@
--- From the answer of the sheet's reader to that of a call. Assumes nothing.
+-- From the answer of the sheet's reader to that of a call.
 use mathlib.Core.Path.{_≡_, refl, sym, ap, _∙_}
 use mathlib.Core.List.{List}
 use Prim.Native.Nat.{ℕ}

@@ -1,4 +1,4 @@
--- Demand 3, from noninterference of the language. Assumes nothing.
+-- Demand 3, from noninterference of the language.
 use mathlib.Core.Path.{_≡_, refl, sym, ap, _∙_, subst}
 use mathlib.Core.Bool.{Bool}
 use mathlib.Core.List.{List}

@@ -1,4 +1,4 @@
--- Demands 1 and 2 of simp_trust. Assumes nothing.
+-- Demands 1 and 2 of simp_trust.
 use mathlib.Core.Logic.{_↔_}
 use mathlib.Core.Path.{_≡_, refl, sym, _∙_, subst}
 use mathlib.Core.Bool.{Bool, true, false, cond}

@@ -1,4 +1,4 @@
--- What is alike in what is left stays so, where a group is distrusted: an instance of noninterference. Assumes nothing.
+-- What is alike in what is left stays so, where a group is distrusted: an instance of noninterference.
 use mathlib.Core.Path.{_≡_, subst}
 use mathlib.Core.List.{List}
 use Prim.Native.Nat.{ℕ}

@@ -1,5 +1,5 @@
 -- Who sees the labels that a group of distrusted parties doesn't write is an observer of a sheet's labels:
--- noninterference for it, of accepted, trust-keeping scripts. Assumes nothing.
+-- noninterference for it, of accepted, trust-keeping scripts.
 use mathlib.Core.Path.{_≡_, refl, ap, _∙_, fun-ext}
 use mathlib.Core.Bool.{Bool, true, not}
 use mathlib.Core.List.{[]}

@@ -1,4 +1,4 @@
--- Scripts in turn, and the places of a round. Assumes nothing.
+-- Scripts in turn, and the places of a round.
 use mathlib.Core.Path.{_≡_, refl, sym, ap, _∙_, subst}
 use mathlib.Core.List.{List, [], _∷_, _++_, map}
 use Prim.Native.Nat.{ℕ, zero, suc, _+_, _-_, _≤_, _<_}

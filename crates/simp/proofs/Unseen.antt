@@ -1,5 +1,4 @@
 -- A group that can't read a script's starting label is shown the same before and after: an instance of confinement.
--- Assumes nothing.
 use mathlib.Core.Path.{_≡_, sym, ap, _∙_}
 use mathlib.Core.List.{List}
 use Prim.Native.Nat.{ℕ}

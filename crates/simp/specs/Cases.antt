@@ -358,8 +358,8 @@ cases =
     ∷ trusts twoPackages "" 4 0
     ∷ trusts "P 1\nL\nL\n" "s\n" 2 0
     ∷ trusts "" "s\n" 1 0
-    -- where principal 1, who writes location 0 alone, is distrusted: by an accepted script that isn't trust-keeping two
-    -- memories that are alike in what is left come to differ in it; by a trust-keeping one they stay alike
+    -- Principal 1 is distrusted. It writes location 0 and no other, so two memories that differ there are alike in what
+    -- is left. An accepted script that isn't trust-keeping makes them differ in it; a trust-keeping one doesn't.
     ∷ distrusts twoPackages "= 2\nu 5 1\nx 0\n" 0b01 0b10 (packages 5 9 (4 ∷ 2 ∷ 1 ∷ []))
     (packagesTrusted 9 (4 ∷ 2 ∷ 1 ∷ [])) (packagesTrusted 9 (3 ∷ 1 ∷ 5 ∷ []))
     ∷ distrusts twoPackages "= 2\nu 5 1\nx 0\n" 0b01 0b10 (packages 7 9 (4 ∷ 2 ∷ 1 ∷ []))
@@ -378,8 +378,9 @@ cases =
     (filledRows ((5 ∷ 1 ∷ 1 ∷ 5 ∷ []) ∷ (5 ∷ 0 ∷ 1 ∷ 8 ∷ []) ∷ (4 ∷ 2 ∷ 1 ∷ []) ∷ []))
     (filledRows ([] ∷ (5 ∷ 0 ∷ 0 ∷ []) ∷ (4 ∷ 2 ∷ 1 ∷ []) ∷ []))
     (filledRows ([] ∷ (5 ∷ 0 ∷ 0 ∷ []) ∷ (4 ∷ 2 ∷ 2 ∷ []) ∷ []))
-    -- writing decides, not reading: principal 1 reads both of these and writes the second alone, both together write
-    -- both; and it writes every location of the scope's sheet, though it doesn't read label 2
+    -- What counts is who writes, not who reads. Principal 1 reads both of these locations and writes only the second;
+    -- both principals together write both. On the scope's sheet principal 1 writes every location, though it doesn't
+    -- read label 2.
     ∷ distrusts twoStarts "s\n" 0 0b10 (filledRows ((1 ∷ 5 ∷ []) ∷ (1 ∷ 7 ∷ []) ∷ []))
     (filledRows ((1 ∷ 5 ∷ []) ∷ [] ∷ [])) (filledRows ((1 ∷ 5 ∷ []) ∷ [] ∷ []))
     ∷ distrusts twoStarts "s\n" 0 0b11 (filledRows ((1 ∷ 5 ∷ []) ∷ (1 ∷ 7 ∷ []) ∷ [])) (filledRows ([] ∷ [] ∷ []))

@@ -24,7 +24,7 @@ use Rattle.simp.specs.Groups.{groupRows, Groups}
 use Rattle.simp.specs.Trust.{Trust}
 
 -- The run was started and reached skip within the budget, and these are the words of the memory that it reached,
--- after so many steps.
+-- after so many steps. (That no value was too long on the way, else the answer is 10, is said by `Ends`.)
 pub record Finished (sheet script memory : List ℕ) (authority budget steps : ℕ) (left : List ℕ) : Type 0 where
   pub its-sheet : Sheet
   pub its-script : Script

@@ -58,35 +58,35 @@ OfScript sheet script P = OfSheet sheet (λ s. (p : Script) × IsScript (countsO
 
 -- ---- when each number applies
 
--- 1
+-- 1: it is the text of no sheet.
 abbrev pub NoSheet : List ℕ → Type 0
 NoSheet sheet = (s : Sheet) → ¬ IsSheet sheet s
 
--- 2
+-- 2: the sheet repeats a type or a label.
 abbrev pub Repeats : List ℕ → Type 0
 Repeats sheet = OfSheet sheet (λ s. repeats s ≡ true)
 
--- 3
+-- 3: somebody in the group is no principal of the sheet.
 abbrev pub Strangers : List ℕ → ℕ → Type 0
 Strangers sheet group = OfSheet sheet (λ s. ¬ Principals s group)
 
--- 4
+-- 4: it is the text of no script on this sheet.
 abbrev pub NoScript : List ℕ → List ℕ → Type 0
 NoScript sheet script = OfSheet sheet (λ s. (p : Script) → ¬ IsScript (countsOf s) script p)
 
--- 5
+-- 5: even with every label condition struck out the script has no derivation.
 abbrev pub IllTyped : List ℕ → List ℕ → Type 0
 IllTyped sheet script = OfScript sheet script (λ s p. ¬ TypableUnlabelled s p)
 
--- 6
+-- 6: the script has no derivation. This is so where 5 applies, too; 5 comes before it in the order.
 abbrev pub IllLabelled : List ℕ → List ℕ → Type 0
 IllLabelled sheet script = OfScript sheet script (λ s p. ¬ Typable s p)
 
--- 7
+-- 7: the slice has another size.
 abbrev pub OtherSize : List ℕ → List ℕ → Type 0
 OtherSize sheet words = OfSheet sheet (λ s. ¬ Sized s words)
 
--- 8
+-- 8: the memory is not well-formed.
 abbrev pub IllFormed : List ℕ → List ℕ → Type 0
 IllFormed sheet memory = OfSheet sheet (λ s. wellFormed s memory ≡ false)
 

@@ -68,7 +68,7 @@ abbrev pub shownBy : Sheet → (Label → Bool) → List ℕ → List ℕ
 shownBy s reads ws = viewBy (locationCount s) (λ (x : ℕ). reads (labelNo s (locationNo s x .label)))
     (λ (l : ℕ). reads (labelNo s l)) (memoryOf ws)
 
--- he doesn't read the starting label of the script that the text is that of
+-- he doesn't read the label that the script with this text starts at
 abbrev pub StartUnread : (Label → Bool) → List ℕ → List ℕ → Type 0
 StartUnread reads sheet script =
     (s : Sheet) (p : Script) → IsSheet sheet s → IsScript (countsOf s) script p → ¬ (reads (startLabel s p .raw) ≡ true)

@@ -16,8 +16,8 @@ use Rattle.rounds.specs.Answers.{Gate}
 use Rattle.rounds.specs.Calls.{roundBy}
 use Rattle.simp.specs.Rounds.{EachOpen}
 
--- The group can't read the starting label of the script that the text is that of. (It is that of one at most, and of
--- one if it is accepted.)
+-- The group can't read the label that the script starts at: the script that has the second text, on the sheet that has
+-- the first. (At most one sheet and one script have these texts; there is one of each if the script is accepted.)
 abbrev pub StartHidden : List ℕ → ℕ → List ℕ → Type 0
 StartHidden sheet group script =
     (s : Sheet) (p : Script) → IsSheet sheet s → IsScript (countsOf s) script p → ¬ (readsStart s group p ≡ true)

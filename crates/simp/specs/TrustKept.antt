@@ -1,5 +1,5 @@
--- What distrusted parties can write doesn't reach what is kept from them by done runs of accepted, trust-keeping
--- scripts (request (e), kept from tampering).
+-- Done runs of accepted, trust-keeping scripts carry nothing from what distrusted parties can write into the rest of
+-- the memory (request (e), kept from tampering).
 use mathlib.Core.Path.{_≡_}
 use mathlib.Core.List.{List}
 use Prim.Native.Nat.{ℕ}
@@ -13,8 +13,8 @@ use Rattle.rounds.specs.Calls.{roundBy}
 use Rattle.simp.specs.Rounds.{EachOpen}
 use Rattle.simp.specs.RoundView.{EachDone}
 
--- Two memories are alike in what is left on the sheet that the text is that of, once all locations and package contents
--- whose labels the group of distrusted parties writes are blanked out. (It is that of one at most.)
+-- The group of distrusted parties writes some labels. With the locations and the package contents of these labels
+-- blanked out, the two memories are equal, on the sheet that has this text. (At most one sheet has it.)
 abbrev pub SameTrusted : List ℕ → ℕ → List ℕ → List ℕ → Type 0
 SameTrusted sheet group memory memory′ =
     (s : Sheet) → IsSheet sheet s → trustedWords s group memory ≡ trustedWords s group memory′

@@ -1,4 +1,4 @@
--- A done run of an accepted script leaves values as the sheet declares them. Assumes nothing.
+-- A done run of an accepted script leaves values as the sheet declares them.
 use mathlib.Core.Path.{_≡_, refl}
 use mathlib.Core.Bool.{true}
 use mathlib.Core.List.{List, []}

@@ -1,4 +1,4 @@
--- A number is read exactly where its decimal form stands. Assumes nothing.
+-- A number is read exactly where its decimal form stands.
 use Prim.Native.Nat.{ℕ, zero, suc, _+_, _*_, _-_, _/_, _%_, _≤_, _<_}
 use native.Mathlib.Omega.{arith}
 use mathlib.Core.Path.{_≡_, refl, sym, ap, _∙_}

@@ -1,4 +1,4 @@
--- The forms on a few texts, by computing. Assumes nothing.
+-- The forms on a few texts, by computing.
 use mathlib.Core.Path.{_≡_, refl}
 use mathlib.Core.Bool.{true, false}
 use mathlib.Core.List.{[], _∷_}

@@ -1,5 +1,4 @@
 -- Fields and line ends: each is read exactly where its printed form stands, and what an answer in a text says.
--- Assumes nothing.
 use Prim.Native.Nat.{ℕ, _^_, _≤_, _<_}
 use native.Mathlib.Omega.{arith}
 use mathlib.Core.Path.{_≡_, refl, sym, ap, _∙_}

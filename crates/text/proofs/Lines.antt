@@ -1,5 +1,5 @@
 -- The lines of a text, for any form of lines: the cases of reading, and that a text is read exactly if it is printed
--- lines. Assumes nothing.
+-- lines.
 use Prim.Native.Nat.{ℕ, zero, suc, _+_, _-_, _≤_, _<_}
 use native.Mathlib.Omega.{arith}
 use mathlib.Core.Path.{_≡_, refl, sym, ap, _∙_}

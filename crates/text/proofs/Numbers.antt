@@ -1,4 +1,4 @@
--- The cases of digits and numbers, on a list and at a place of a text. Assumes nothing.
+-- The cases of digits and numbers, on a list and at a place of a text.
 use Prim.Native.Nat.{ℕ, _+_, _*_, _-_, _≤_, _<_}
 use native.Mathlib.Omega.{arith}
 use mathlib.Core.Path.{_≡_, refl, sym, ap, _∙_}

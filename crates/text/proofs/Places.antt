@@ -1,4 +1,4 @@
--- From an answer in a text back to the reading, and from a reading to its answer. Assumes nothing.
+-- From an answer in a text back to the reading, and from a reading to its answer.
 use Prim.Native.Nat.{ℕ, _-_, _≤_}
 use native.Mathlib.Omega.{arith}
 use mathlib.Core.Path.{_≡_, refl, sym, ap}

@@ -1,5 +1,4 @@
 -- Readings one after another, the byte at the front, and that what follows a reading is the end of the text.
--- Assumes nothing.
 use Prim.Native.Nat.{ℕ, _+_, _-_, _≤_, _<_}
 use native.Mathlib.Omega.{arith}
 use native.Mathlib.Numerals.{add-one}

@@ -1,4 +1,4 @@
--- The cases of hexadecimal digits, and that a set is read exactly where its digits stand. Assumes nothing.
+-- The cases of hexadecimal digits, and that a set is read exactly where its digits stand.
 use Prim.Native.Nat.{ℕ, zero, suc, _+_, _*_, _-_, _/_, _%_, _^_, _≤_, _<_}
 use native.Mathlib.Omega.{arith}
 use native.Mathlib.Nat.{lt-of-lt-of-le, pow-le-pow-right}

@@ -1,4 +1,4 @@
--- Bytes in a buffer: one run after another, how long a number is, and where the bytes fit. Assumes nothing.
+-- Bytes in a buffer: one run after another, how long a number is, and where the bytes fit.
 use Prim.Native.Nat.{ℕ, zero, suc, _+_, _-_, _/_, _%_, _^_, _≤_, _<_}
 use native.Mathlib.Omega.{arith}
 use mathlib.Core.Path.{_≡_, refl, sym, ap, _∙_}

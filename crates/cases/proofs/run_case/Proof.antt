@@ -1,4 +1,4 @@
--- `cases::run_case` meets its contract: the words of the locations that are read are there. Assumes nothing.
+-- `cases::run_case` meets its contract: the words of the locations that are read are there.
 use borrow.Author.Needs.{needs}
 use mathlib.Core.Path.{sym}
 use native.Mathlib.Omega.{arith}

@@ -1,4 +1,4 @@
--- `cells::clear` meets its contract. The invariant: so many words are zeros. Assumes nothing.
+-- `cells::clear` meets its contract. The invariant: so many words are zeros.
 use borrow.Author.Needs.{needs}
 use mathlib.Core.Path.{_≡_, refl, sym}
 use Prim.Native.Nat.{_*_, _-_, _≤_}

@@ -1,4 +1,4 @@
--- `cells::copy_cell` meets its contract. Assumes nothing.
+-- `cells::copy_cell` meets its contract.
 use borrow.Author.Needs.{needs}
 use mathlib.Core.Path.{sym}
 use native.Mathlib.Omega.{arith}

@@ -1,4 +1,4 @@
--- `cells::cut` meets its contract. The invariant: so many words from n on are zeros. Assumes nothing.
+-- `cells::cut` meets its contract. The invariant: so many words from n on are zeros.
 use borrow.Author.Needs.{needs}
 use mathlib.Core.Path.{_≡_, refl, sym}
 use Prim.Native.Nat.{_-_, _≤_}

@@ -1,4 +1,4 @@
--- `cells::load` meets its contract. The invariant: so many words are copied. Assumes nothing.
+-- `cells::load` meets its contract. The invariant: so many words are copied.
 use borrow.Author.Needs.{needs}
 use mathlib.Core.Path.{_≡_, refl, sym}
 use Prim.Native.Nat.{_-_, _≤_}

@@ -1,4 +1,4 @@
--- `cells::pop_to` meets its contract. Assumes nothing.
+-- `cells::pop_to` meets its contract.
 use borrow.Author.Needs.{needs}
 use mathlib.Core.Path.{sym, refl}
 use native.Mathlib.Omega.{arith}

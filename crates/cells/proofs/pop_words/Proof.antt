@@ -1,4 +1,4 @@
--- `cells::pop_words` meets its contract. The invariant: all but `left` words are popped. Assumes nothing.
+-- `cells::pop_words` meets its contract. The invariant: all but `left` words are popped.
 use borrow.Author.Needs.{needs}
 use mathlib.Core.Path.{_≡_, refl, ap, _∙_}
 use Prim.Native.Nat.{ℕ, _-_, _≤_}

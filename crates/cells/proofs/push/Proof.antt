@@ -1,5 +1,4 @@
 -- `cells::push` meets its contract. The invariant: so many words are pushed along, and the next is held.
--- Assumes nothing.
 use borrow.Author.Needs.{needs}
 use mathlib.Core.Path.{_≡_, refl, sym}
 use mathlib.Core.List.{_∷_}

@@ -1,4 +1,4 @@
--- `cells::push_words` meets its contract. The invariant: the words from k on are pushed. Assumes nothing.
+-- `cells::push_words` meets its contract. The invariant: the words from k on are pushed.
 use borrow.Author.Needs.{needs}
 use mathlib.Core.Path.{_≡_, refl, ap, _∙_}
 use Prim.Native.Nat.{ℕ, _≤_}

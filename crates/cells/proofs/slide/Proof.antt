@@ -1,4 +1,4 @@
--- `cells::slide` meets its contract. The invariant: so many words are copied. Assumes nothing.
+-- `cells::slide` meets its contract. The invariant: so many words are copied.
 use borrow.Author.Needs.{needs}
 use mathlib.Core.Path.{_≡_, refl}
 use Prim.Native.Nat.{_-_, _≤_}

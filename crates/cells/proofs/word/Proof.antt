@@ -1,4 +1,4 @@
--- `cells::word` meets its contract. Assumes nothing.
+-- `cells::word` meets its contract.
 use borrow.Author.Needs.{needs}
 use mathlib.Core.Path.{sym}
 use lib.ListN.{List·getD-eq-default}

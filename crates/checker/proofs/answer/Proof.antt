@@ -1,4 +1,4 @@
--- `checker::answer` meets its contract. Assumes nothing.
+-- `checker::answer` meets its contract.
 use Rattle.checker.specs.Internal.Post.{verdictOf}
 use Rattle.checker.proofs.answer.Statement.{statement}
 use Rattle.checker.proofs.answer.Tie as tie

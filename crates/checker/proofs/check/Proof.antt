@@ -1,4 +1,4 @@
--- `checker::check` meets its contract. Assumes nothing.
+-- `checker::check` meets its contract.
 use mathlib.Core.Path.{ap, _∙_}
 use native.Mathlib.Omega.{arith}
 use Rattle.checker.specs.Internal.Post.{verdictOf}

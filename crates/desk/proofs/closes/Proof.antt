@@ -1,4 +1,4 @@
--- `desk::closes` meets its contract: one law for each way out. Assumes nothing.
+-- `desk::closes` meets its contract: one law for each way out.
 use borrow.Author.Needs.{needs}
 use Rattle.desk.proofs.Fields.{closed-past, closed-other, closed-here}
 use Rattle.desk.proofs.closes.Statement.{statement}

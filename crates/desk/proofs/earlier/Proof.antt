@@ -1,4 +1,4 @@
--- `desk::earlier` meets its contract. Assumes nothing.
+-- `desk::earlier` meets its contract.
 use borrow.Author.Needs.{needs}
 use borrow.Author.Tests.{lt-ltb, le-ltb}
 use Rattle.desk.specs.Numbers.{earlier}

@@ -1,4 +1,4 @@
--- `desk::first` meets its contract. Assumes nothing.
+-- `desk::first` meets its contract.
 use mathlib.Core.Path.{sym, refl}
 use native.Mathlib.Omega.{arith}
 use lib.Seq.{take-all, length-take-le}

@@ -1,4 +1,4 @@
--- `desk::group_line` meets its contract. Assumes nothing.
+-- `desk::group_line` meets its contract.
 use mathlib.Core.Path.{sym, ap, _∙_}
 use mathlib.Core.Option.{Option·elim}
 use borrow.Author.Needs.{needs}

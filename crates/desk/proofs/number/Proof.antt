@@ -1,4 +1,4 @@
--- `desk::number` meets its contract. Assumes nothing.
+-- `desk::number` meets its contract.
 use borrow.Author.Needs.{needs}
 use borrow.Author.Tests.{eq-eqb, ne-eqb}
 use Rattle.desk.specs.Numbers.{asText}

@@ -1,4 +1,4 @@
--- `desk::place` meets its contract. Assumes nothing.
+-- `desk::place` meets its contract.
 use mathlib.Core.Path.{sym, ap}
 use borrow.Author.Tests.{ne-eqb}
 use Rattle.desk.specs.Numbers.{order, placeOf}

@@ -1,4 +1,4 @@
--- `desk::put_line` meets its contract. Assumes nothing.
+-- `desk::put_line` meets its contract.
 use native.Mathlib.Omega.{arith}
 use borrow.Author.Needs.{needs}
 use Rattle.desk.proofs.Outputs.{line-puts}

@@ -1,4 +1,4 @@
--- `desk::read_given` meets its contract. Assumes nothing.
+-- `desk::read_given` meets its contract.
 use borrow.Author.Needs.{needs}
 use native.Mathlib.Omega.{arith}
 use mathlib.Core.Path.{refl}

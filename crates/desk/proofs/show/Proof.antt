@@ -1,4 +1,4 @@
--- `desk::show` meets its contract. Assumes nothing.
+-- `desk::show` meets its contract.
 use borrow.Author.Needs.{needs}
 use native.Mathlib.Omega.{arith}
 use Rattle.desk.specs.Show.{showOf}

@@ -1,4 +1,4 @@
--- `desk::show_given` meets its contract. Assumes nothing.
+-- `desk::show_given` meets its contract.
 use mathlib.Core.Path.{sym, ap, _∙_}
 use native.Mathlib.Omega.{arith}
 use borrow.Author.Needs.{needs}

@@ -1,4 +1,4 @@
--- `desk::show_input` meets its contract. Assumes nothing.
+-- `desk::show_input` meets its contract.
 use borrow.Author.Needs.{needs}
 use Rattle.desk.specs.Inputs.{showParts, showHeld}
 use Rattle.desk.proofs.show_input.Statement.{statement}

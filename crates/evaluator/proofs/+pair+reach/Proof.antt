@@ -1,5 +1,5 @@
 -- The proof of the cycle of calls {pair, reach}. The measure is the rows left, twice; `reach` lies above `pair`, which
--- it calls at its own row. Each return is a law. Assumes nothing.
+-- it calls at its own row. Each return is a law.
 use borrow.Author.Needs.{needs}
 use mathlib.Core.Path.{_≡_, refl}
 use mathlib.Core.List.{List}

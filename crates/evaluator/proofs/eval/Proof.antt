@@ -1,4 +1,4 @@
--- `evaluator::eval` meets its contract. Assumes nothing.
+-- `evaluator::eval` meets its contract.
 use borrow.Author.Needs.{needs}
 use Rattle.evaluator.proofs.EvalLaws as laws
 use Rattle.evaluator.proofs.eval.Statement.{statement}

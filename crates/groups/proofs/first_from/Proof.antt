@@ -1,4 +1,4 @@
--- The loop: the walk has come to this group. Assumes nothing.
+-- The loop: the walk has come to this group.
 use mathlib.Core.Path.{_≡_, sym, _∙_}
 use mathlib.Core.Bool.{true}
 use Prim.Native.Nat.{_-_, _^_, _<_}

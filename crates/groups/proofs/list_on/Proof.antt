@@ -1,4 +1,4 @@
--- `groups::list_on` meets its contract. Assumes nothing.
+-- `groups::list_on` meets its contract.
 use mathlib.Core.Path.{ap}
 use Prim.Native.Nat.{ℕ, _+_, _^_, _≤_}
 use native.Mathlib.Omega.{arith}

@@ -1,4 +1,4 @@
--- The loop: the group doesn't read without any one of its members below p. Assumes nothing.
+-- The loop: the group doesn't read without any one of its members below p.
 use mathlib.Core.Path.{_≡_, sym, _∙_}
 use mathlib.Core.Bool.{false}
 use Prim.Native.Nat.{ℕ, _-_, _≤_, _<_}

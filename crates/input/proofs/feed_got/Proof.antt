@@ -1,4 +1,4 @@
--- `input::feed_got` meets its contract: nothing was read, or the bytes were. Assumes nothing.
+-- `input::feed_got` meets its contract: nothing was read, or the bytes were.
 use borrow.Author.Needs.{needs}
 use mathlib.Core.Path.{sym, ap, _∙_}
 use mathlib.Core.List.{List}

@@ -1,4 +1,4 @@
--- `input::read_texts` meets its contract: what was fed in each turn is one input. Assumes nothing.
+-- `input::read_texts` meets its contract: what was fed in each turn is one input.
 use borrow.Author.Needs.{needs}
 use mathlib.Core.Path.{_≡_, refl, ap, _∙_}
 use mathlib.Core.List.{[]}

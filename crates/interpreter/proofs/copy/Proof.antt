@@ -1,4 +1,4 @@
--- `interpreter::copy` meets its contract. The invariant: so many words are copied. Assumes nothing.
+-- `interpreter::copy` meets its contract. The invariant: so many words are copied.
 use borrow.Author.Needs.{needs}
 use mathlib.Core.Path.{_≡_, refl}
 use Prim.Native.Nat.{_-_, _≤_}

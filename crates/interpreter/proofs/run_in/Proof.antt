@@ -1,4 +1,4 @@
--- `interpreter::run_in` meets its contract. Assumes nothing.
+-- `interpreter::run_in` meets its contract.
 use borrow.Author.Needs.{needs}
 use native.Mathlib.Omega.{arith}
 use Rattle.evaluator.proofs.NumberLaws.{not-done, is-done}

@@ -1,5 +1,4 @@
 -- The loop: what the sets below o have in common. Past the last owner there is no set.
--- Assumes nothing.
 use denote.Ref.{now}
 use mathlib.Core.Path.{_≡_, sym, _∙_}
 use Prim.Native.Nat.{ℕ, _≤_, _-_}

@@ -1,5 +1,4 @@
 -- The loop: whether each set of x below o is contained in that of y.
--- Assumes nothing.
 use mathlib.Core.Bool.{Bool}
 use mathlib.Core.List.{List}
 use Prim.Native.Nat.{ℕ, _-_}

@@ -1,5 +1,4 @@
 -- The loop: the group meets each set below o. Past the last owner there is no set to meet.
--- Assumes nothing.
 use denote.Ref.{now}
 use lib.ListN.{getD}
 use mathlib.Core.Path.{ap, _≡_, sym, _∙_}

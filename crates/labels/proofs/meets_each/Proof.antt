@@ -1,5 +1,4 @@
 -- The loop: the group meets each set below o. Past the last owner there is no set to meet.
--- Assumes nothing.
 use lib.ListN.{List·getD-eq-default, getD}
 use Rattle.sets.proofs.SetLaws.{meets-empty}
 use mathlib.Core.Path.{ap, _≡_, sym, _∙_}

@@ -1,4 +1,4 @@
--- `labels::put_policy` meets its contract. Assumes nothing.
+-- `labels::put_policy` meets its contract.
 use denote.Ref.{now}
 use mathlib.Core.Path.{sym, _∙_}
 use Prim.Native.Nat.{_+_}

@@ -1,5 +1,4 @@
 -- The loop: the first o sets stand in the table, and the other words are as they were.
--- Assumes nothing.
 use denote.Ref.{now}
 use mathlib.Core.Path.{_≡_, refl, sym, ap, _∙_}
 use mathlib.Core.List.{List}

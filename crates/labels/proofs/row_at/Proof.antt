@@ -1,4 +1,4 @@
--- `labels::row_at`: the places below o hold the words of the table. Assumes nothing.
+-- `labels::row_at`: the places below o hold the words of the table.
 use mathlib.Core.Path.{_≡_, refl}
 use Prim.Native.Nat.{ℕ, _≤_, _+_, _-_}
 use native.Mathlib.Omega.{arith}

@@ -1,5 +1,4 @@
 -- The loop: the places below o hold the words of the table.
--- Assumes nothing.
 use native.Mathlib.Nat.{add-assoc}
 use denote.Ref.{now}
 use mathlib.Core.Path.{sym, _≡_, ap, _∙_}

@@ -1,4 +1,4 @@
--- `labels::there` meets its contract. Assumes nothing.
+-- `labels::there` meets its contract.
 use denote.Ref.{now}
 use mathlib.Core.Path.{_≡_, sym}
 use Prim.Native.Nat.{ℕ, _+_, _-_, _≤_}

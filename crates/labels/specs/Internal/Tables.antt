@@ -1,5 +1,4 @@
 -- Labels in a table of words: the sets of readers of one label, owner by owner, then its sets of writers.
--- Assumes nothing.
 use mathlib.Core.Bool.{cond}
 use mathlib.Core.List.{List, _++_}
 use Prim.Native.Nat.{ℕ, _+_}

@@ -1,4 +1,4 @@
--- `members::flows` meets its contract. Assumes nothing.
+-- `members::flows` meets its contract.
 use mathlib.Core.Path.{sym, _∙_}
 use borrow.Author.Tests.{not-true, not-false}
 use Rattle.members.proofs.FlowLaws.{is-whole, is-none, is-neither, is-confidentiality}

@@ -1,4 +1,4 @@
--- `members::whole_flows` meets its contract. Assumes nothing.
+-- `members::whole_flows` meets its contract.
 use mathlib.Core.Path.{ap₂, _∙_}
 use Rattle.labels.specs.Labels.{belowOf}
 use Rattle.members.specs.Internal.Members.{wholeFlows}

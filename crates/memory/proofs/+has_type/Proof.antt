@@ -1,4 +1,4 @@
--- The type test over a value's words meets its contract; the measure is the words left. Assumes nothing.
+-- The type test over a value's words meets its contract; the measure is the words left.
 use borrow.Author.Needs.{needs}
 use mathlib.Core.Path.{sym, ap, _∙_}
 use Prim.Native.Nat.{ℕ, _<_, _-_}

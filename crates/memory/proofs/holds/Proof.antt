@@ -1,4 +1,4 @@
--- `memory::holds` meets its contract. Assumes nothing.
+-- `memory::holds` meets its contract.
 use borrow.Author.Needs.{needs}
 use mathlib.Core.Path.{sym, _∙_}
 use borrow.Author.Tests.{not-true, not-false}

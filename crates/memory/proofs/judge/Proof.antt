@@ -1,4 +1,4 @@
--- `memory::judge` meets its contract: the locations passed hold values as declared. Assumes nothing.
+-- `memory::judge` meets its contract: the locations passed hold values as declared.
 use borrow.Author.Needs.{needs}
 use mathlib.Core.Path.{_≡_, sym, _∙_}
 use mathlib.Core.Bool.{true}

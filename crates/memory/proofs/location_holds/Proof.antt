@@ -1,4 +1,4 @@
--- `memory::location_holds` meets its contract. Assumes nothing.
+-- `memory::location_holds` meets its contract.
 use borrow.Author.Needs.{needs}
 use Rattle.memory.proofs.RefusalLaws as laws
 use Rattle.memory.proofs.location_holds.Statement.{statement}

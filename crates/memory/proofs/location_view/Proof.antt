@@ -1,4 +1,4 @@
--- `memory::location_view` meets its contract. Assumes nothing.
+-- `memory::location_view` meets its contract.
 use borrow.Author.Needs.{needs}
 use Rattle.memory.proofs.ViewLaws.{hidden-view, shown-view}
 use Rattle.memory.proofs.location_view.Statement.{statement}

@@ -1,4 +1,4 @@
--- `memory::one_more` meets its contract. Assumes nothing.
+-- `memory::one_more` meets its contract.
 use borrow.Author.Needs.{needs}
 use Prim.Native.Nat.{_+_}
 use native.Mathlib.Omega.{arith}

@@ -1,5 +1,4 @@
 -- `memory::put_cell` meets its contract: the first i words are stored, and the others are as they were.
--- Assumes nothing.
 use borrow.Author.Needs.{needs}
 use mathlib.Core.Path.{_≡_, refl, sym, ap, _∙_}
 use mathlib.Core.List.{List}

@@ -1,4 +1,4 @@
--- `memory::value_end` meets its contract. Assumes nothing.
+-- `memory::value_end` meets its contract.
 use borrow.Author.Needs.{needs}
 use Rattle.memory.proofs.WalkLaws.{walk-end}
 use Rattle.memory.proofs.value_end.Statement.{statement}

@@ -1,4 +1,4 @@
--- `memory::view` meets its contract. Assumes nothing.
+-- `memory::view` meets its contract.
 use borrow.Author.Needs.{needs}
 use mathlib.Core.Path.{sym, _∙_}
 use native.Mathlib.Omega.{arith}

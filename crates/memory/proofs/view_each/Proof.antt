@@ -1,4 +1,4 @@
--- `memory::view_each` meets its contract: the first x locations are stored, and the rest is as it was. Assumes nothing.
+-- `memory::view_each` meets its contract: the first x locations are stored, and the rest is as it was.
 use borrow.Author.Needs.{needs}
 use mathlib.Core.Path.{_≡_, refl, _∙_}
 use mathlib.Core.List.{_++_}

@@ -1,5 +1,5 @@
 -- `memory_text::line_words` meets its contract: what is left to read from p with i words in the array is the whole
--- line. Assumes nothing.
+-- line.
 use Prim.Native.Nat.{_≤_, _-_}
 use mathlib.Core.Path.{_≡_, sym, ap, _∙_}
 use native.Mathlib.Omega.{arith}

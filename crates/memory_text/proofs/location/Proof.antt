@@ -1,4 +1,4 @@
--- `memory_text::location` meets its contract. Assumes nothing.
+-- `memory_text::location` meets its contract.
 use mathlib.Core.Path.{sym, ap, _∙_}
 use borrow.Author.Needs.{needs}
 use Rattle.text.proofs.Places.{placed-got}

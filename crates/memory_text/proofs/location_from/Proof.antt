@@ -1,5 +1,5 @@
 -- `memory_text::location_from` meets its contract: it makes a reader, and gives what `next_location` reads and the byte
--- that is then reached. Assumes nothing.
+-- that is then reached.
 use Rattle.reader.proofs.Resumed.{resumed}
 use Rattle.memory_text.specs.Internal.Answers.{locationAt}
 use Rattle.memory_text.proofs.Readers.{lines}

@@ -1,5 +1,5 @@
 -- `memory_text::next_location` meets its contract: it takes the reader apart, calls `location` and gives the reader
--- after its line. Assumes nothing.
+-- after its line.
 use Rattle.reader.proofs.Advanced.{advanced}
 use Rattle.memory_text.specs.Internal.Answers.{locationAt}
 use Rattle.memory_text.proofs.Readers.{lines}

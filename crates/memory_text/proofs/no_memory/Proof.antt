@@ -1,4 +1,4 @@
--- `memory_text::no_memory` meets its contract. Assumes nothing.
+-- `memory_text::no_memory` meets its contract.
 use mathlib.Core.Path.{refl}
 use Rattle.memory_text.specs.Internal.Answers.{table}
 use Rattle.memory_text.proofs.no_memory.Statement.{statement}

@@ -1,4 +1,4 @@
--- `memory_text::no_row` meets its contract. Assumes nothing.
+-- `memory_text::no_row` meets its contract.
 use Rattle.text.proofs.Places.{placed-bad}
 use mathlib.Core.Path.{refl}
 use Rattle.memory_text.proofs.no_row.Statement.{statement}

@@ -1,4 +1,4 @@
--- `memory_text::read_memory` meets its contract. Assumes nothing.
+-- `memory_text::read_memory` meets its contract.
 use mathlib.Core.Path.{sym, _∙_}
 use borrow.Author.Needs.{needs}
 use Rattle.memory_text.proofs.Tables.{memory-fits, memory-long}

@@ -1,4 +1,4 @@
--- `parts::begin` meets its contract. Assumes nothing.
+-- `parts::begin` meets its contract.
 use mathlib.Core.Path.{refl}
 use Rattle.parts.specs.Feeding.{beginning}
 use Rattle.parts.proofs.begin.Statement.{statement}

@@ -1,4 +1,4 @@
--- `parts::parts_here` meets its contract: one law for each way out. Assumes nothing.
+-- `parts::parts_here` meets its contract: one law for each way out.
 use mathlib.Core.Path.{sym}
 use Rattle.parts.proofs.Steps.{parting-inside, parting-other, parting-empty}
 use Rattle.parts.proofs.parts_here.Statement.{statement}

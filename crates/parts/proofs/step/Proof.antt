@@ -1,4 +1,4 @@
--- `parts::step` meets its contract. Assumes nothing.
+-- `parts::step` meets its contract.
 use mathlib.Core.Path.{sym, ap, _∙_}
 use native.Mathlib.Omega.{arith}
 use borrow.Author.Needs.{needs}

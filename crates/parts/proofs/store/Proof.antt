@@ -1,4 +1,4 @@
--- `parts::store` meets its contract: one law for each way out. Assumes nothing.
+-- `parts::store` meets its contract: one law for each way out.
 use mathlib.Core.Path.{_≡_, sym, ap, _∙_}
 use borrow.Author.Needs.{needs}
 use lib.Seq.{set-out}

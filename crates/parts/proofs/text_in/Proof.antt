@@ -1,4 +1,4 @@
--- `parts::text_in` meets its contract: one law for each way out. Assumes nothing.
+-- `parts::text_in` meets its contract: one law for each way out.
 use mathlib.Core.Path.{_≡_}
 use native.Mathlib.Omega.{arith}
 use borrow.Author.Needs.{needs}

@@ -1,4 +1,4 @@
--- `rounds::lower` meets its contract: one law for each way out. Assumes nothing.
+-- `rounds::lower` meets its contract: one law for each way out.
 use mathlib.Core.Path.{sym}
 use Rattle.rounds.proofs.LowerLaws.{lower-left, lower-right, lower-first, lower-second}
 use Rattle.rounds.proofs.lower.Statement.{statement}

@@ -1,4 +1,4 @@
--- `rounds::play` meets its contract: one law for each way out. Assumes nothing.
+-- `rounds::play` meets its contract: one law for each way out.
 use mathlib.Core.Path.{sym, _∙_}
 use Rattle.stages.proofs.StageLaws.{refusal-in}
 use Rattle.rounds.proofs.StageLaws.{play-numbered, play-refused, play-runs}

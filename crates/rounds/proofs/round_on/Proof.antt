@@ -1,4 +1,4 @@
--- `rounds::round_on` meets its contract: one law for each way out. Assumes nothing.
+-- `rounds::round_on` meets its contract: one law for each way out.
 use mathlib.Core.Path.{_≡_, refl, sym, ap, _∙_}
 use Prim.Native.Nat.{ℕ, zero, suc, _≤_}
 use lib.ListN.{length, getD, replicate}

@@ -1,4 +1,4 @@
--- `rounds::run_each` meets its contract: the rest of the round, placed from here on, is the whole. Assumes nothing.
+-- `rounds::run_each` meets its contract: the rest of the round, placed from here on, is the whole.
 use mathlib.Core.Path.{_≡_, refl, _∙_}
 use Prim.Native.Nat.{_+_, _-_, _≤_}
 use native.Mathlib.Omega.{arith}

@@ -1,4 +1,4 @@
--- `rounds::run_script` meets its contract. Assumes nothing.
+-- `rounds::run_script` meets its contract.
 use Rattle.script_text.proofs.ReadLaws.{decoded-whole}
 use Rattle.rounds.proofs.RunLaws.{runs-script}
 use borrow.Author.Needs.{needs}

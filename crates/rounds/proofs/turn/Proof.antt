@@ -1,4 +1,4 @@
--- `rounds::turn` meets its contract. Assumes nothing.
+-- `rounds::turn` meets its contract.
 use Rattle.rounds.proofs.RunLaws.{turn-runs, turn-shut}
 use borrow.Author.Needs.{needs}
 use Rattle.rounds.proofs.turn.Statement.{statement}

@@ -1,4 +1,4 @@
--- `script::skip` meets its contract. The measure is the rows left. Each return is a law. Assumes nothing.
+-- `script::skip` meets its contract. The measure is the rows left. Each return is a law.
 use borrow.Author.Needs.{needs}
 use Prim.Native.Nat.{ℕ, _<_}
 use native.Mathlib.Omega.{arith}

@@ -1,4 +1,4 @@
--- `script::operands` meets its contract. Assumes nothing.
+-- `script::operands` meets its contract.
 use mathlib.Core.Path.{sym, ap}
 use Rattle.script.specs.Internal.Pieces.{operandCount}
 use Rattle.script.proofs.Rows.{none-between}

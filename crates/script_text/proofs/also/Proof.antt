@@ -1,4 +1,4 @@
--- `script_text::also` meets its contract. Assumes nothing.
+-- `script_text::also` meets its contract.
 use Rattle.logic.specs.Booleans.{both}
 use Rattle.script_text.proofs.also.Statement.{statement}
 use Rattle.script_text.proofs.also.Tie as tie

@@ -1,4 +1,4 @@
--- The loop: the lines from `at` on are to be those of so many trees. Assumes nothing.
+-- The loop: the lines from `at` on are to be those of so many trees.
 use mathlib.Core.Path.{refl}
 use Prim.Native.Nat.{_+_, _-_, _≤_}
 use native.Mathlib.Omega.{arith}

@@ -1,4 +1,4 @@
--- `script_text::bare_line` meets its contract. Assumes nothing.
+-- `script_text::bare_line` meets its contract.
 use borrow.Author.Needs.{needs}
 use Rattle.script_text.proofs.FoundLaws.{bare-got, bare-none}
 use Rattle.script_text.proofs.bare_line.Statement.{statement}

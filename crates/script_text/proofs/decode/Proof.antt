@@ -1,4 +1,4 @@
--- `script_text::decode` meets its contract. Assumes nothing.
+-- `script_text::decode` meets its contract.
 use Prim.Native.Nat.{_≤_}
 use mathlib.Core.Path.{refl, sym, _∙_}
 use native.Mathlib.Omega.{arith}

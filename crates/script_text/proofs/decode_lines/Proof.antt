@@ -1,4 +1,4 @@
--- `script_text::decode_lines` meets its contract. Assumes nothing.
+-- `script_text::decode_lines` meets its contract.
 use Prim.Native.Nat.{ℕ, _-_, _≤_}
 use mathlib.Core.Path.{_≡_, sym, ap, _∙_}
 use native.Mathlib.Omega.{arith}

@@ -1,4 +1,4 @@
--- `script_text::is_start` meets its contract. Assumes nothing.
+-- `script_text::is_start` meets its contract.
 use borrow.Author.Needs.{needs}
 use borrow.Author.Tests.{eq-eqb, ne-eqb}
 use Rattle.logic.specs.Booleans.{either}

@@ -1,4 +1,4 @@
--- `script_text::line_at` meets its contract. Assumes nothing.
+-- `script_text::line_at` meets its contract.
 use mathlib.Core.Path.{refl, ap}
 use borrow.Author.Needs.{needs}
 use Rattle.language.specs.Syntax.{first, second, pick}

@@ -1,5 +1,5 @@
 -- `script_text::line_from` meets its contract: it makes a reader, and gives what `next_line` reads and the byte that is
--- then reached. Assumes nothing.
+-- then reached.
 use Rattle.reader.proofs.Resumed.{resumed}
 use Rattle.script_text.specs.Internal.Placed.{lineAt}
 use Rattle.script_text.proofs.Readers.{lines}

@@ -1,4 +1,4 @@
--- `script_text::names_there` meets its contract. Assumes nothing.
+-- `script_text::names_there` meets its contract.
 use borrow.Author.Needs.{needs}
 use Rattle.logic.specs.Booleans.{both, either}
 use Rattle.script_text.specs.Internal.Scan.{namesThere}

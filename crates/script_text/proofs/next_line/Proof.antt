@@ -1,5 +1,5 @@
 -- `script_text::next_line` meets its contract: it takes the reader apart, calls `read_line` and gives the reader after
--- the line. Assumes nothing.
+-- the line.
 use Rattle.reader.proofs.Advanced.{advanced}
 use Rattle.script_text.specs.Internal.Placed.{lineAt}
 use Rattle.script_text.proofs.Readers.{lines}

@@ -1,4 +1,4 @@
--- `script_text::one_operand` meets its contract. Assumes nothing.
+-- `script_text::one_operand` meets its contract.
 use borrow.Author.Needs.{needs}
 use Rattle.script_text.proofs.FoundLaws.{one-got, one-none}
 use Rattle.script_text.proofs.one_operand.Statement.{statement}

@@ -1,4 +1,4 @@
--- `script_text::opening` meets its contract. Assumes nothing.
+-- `script_text::opening` meets its contract.
 use borrow.Author.Needs.{needs}
 use Rattle.sheet.specs.Internal.Starts.{startNo}
 use Rattle.script_text.proofs.OpeningLaws.{opening-empty, opening-other, opening-got, opening-bad}

@@ -1,4 +1,4 @@
--- `script_text::read` meets its contract. Assumes nothing.
+-- `script_text::read` meets its contract.
 use mathlib.Core.Path.{refl, _∙_}
 use borrow.Author.Needs.{needs}
 use borrow.Author.Tests.{not-true, not-false}

@@ -1,4 +1,4 @@
--- `script_text::read_line` meets its contract. Assumes nothing.
+-- `script_text::read_line` meets its contract.
 use mathlib.Core.Path.{sym, ap, _∙_}
 use borrow.Author.Needs.{needs}
 use Rattle.script_text.specs.Internal.Placed.{reached}

@@ -1,4 +1,4 @@
--- `script_text::refused` meets its contract. Assumes nothing.
+-- `script_text::refused` meets its contract.
 use mathlib.Core.Path.{refl}
 use Rattle.sheet.specs.Internal.Starts.{startNo}
 use Rattle.script_text.specs.Internal.Decoded.{noCode}

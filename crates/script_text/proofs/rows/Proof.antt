@@ -1,4 +1,4 @@
--- `script_text::rows` meets its contract. Assumes nothing.
+-- `script_text::rows` meets its contract.
 use Prim.Native.Nat.{_*_}
 use mathlib.Core.Path.{sym}
 use native.Mathlib.Omega.{arith}

@@ -1,4 +1,4 @@
--- `script_text::two_operands` meets its contract. Assumes nothing.
+-- `script_text::two_operands` meets its contract.
 use borrow.Author.Needs.{needs}
 use Rattle.script_text.proofs.FoundLaws.{two-got, two-open, two-none}
 use Rattle.script_text.proofs.two_operands.Statement.{statement}

@@ -1,4 +1,4 @@
--- `script_text::whole` meets its contract. Assumes nothing.
+-- `script_text::whole` meets its contract.
 use borrow.Author.Needs.{needs}
 use borrow.Author.Tests.{not-true}
 use Rattle.script_text.proofs.ReadLaws.{whole-unbalanced, whole-found, whole-none}

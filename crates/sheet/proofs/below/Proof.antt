@@ -1,4 +1,4 @@
--- `sheet::below` meets its contract. Assumes nothing.
+-- `sheet::below` meets its contract.
 use borrow.Author.Needs.{needs}
 use Rattle.sheet.specs.Internal.Tables.{belowIn}
 use Rattle.sheet.proofs.below.Statement.{statement}

@@ -1,4 +1,4 @@
--- `sheet::is_of` meets its contract. Assumes nothing.
+-- `sheet::is_of` meets its contract.
 use mathlib.Core.Path.{_≡_, refl, sym, _∙_}
 use mathlib.Core.Bool.{Bool, true, false, not, cond}
 use mathlib.Core.List.{List}

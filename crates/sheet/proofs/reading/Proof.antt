@@ -1,4 +1,4 @@
--- `sheet::reading` meets its contract. Assumes nothing.
+-- `sheet::reading` meets its contract.
 use borrow.Author.Needs.{needs}
 use borrow.Author.Tests.{ne-eqb}
 use Rattle.sheet.specs.Internal.Tables.{readingIn}

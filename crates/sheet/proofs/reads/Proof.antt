@@ -1,4 +1,4 @@
--- `sheet::reads` meets its contract: by the rule that is found. Assumes nothing.
+-- `sheet::reads` meets its contract: by the rule that is found.
 use Rattle.sheet.proofs.ReaderLaws.{pooled-reads, alone-reads}
 use borrow.Author.Needs.{needs}
 use Rattle.sheet.proofs.reads.Statement.{statement}

@@ -1,4 +1,4 @@
--- `sheet::sole_readers` meets its contract. Assumes nothing.
+-- `sheet::sole_readers` meets its contract.
 use mathlib.Core.Path.{sym, ap₂, _∙_}
 use borrow.Author.Needs.{needs}
 use Rattle.labels.specs.Internal.Tables.{labelAt}

@@ -1,4 +1,4 @@
--- `sheet::writes` meets its contract. Assumes nothing.
+-- `sheet::writes` meets its contract.
 use mathlib.Core.Path.{sym, ap₂, _∙_}
 use borrow.Author.Needs.{needs}
 use Prim.Native.Nat.{ℕ}

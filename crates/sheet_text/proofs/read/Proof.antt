@@ -1,4 +1,4 @@
--- `sheet_text::read` meets its contract. Assumes nothing.
+-- `sheet_text::read` meets its contract.
 use mathlib.Core.Path.{sym, _∙_}
 use Rattle.sheet_text.specs.Sheets.{sheetOf}
 use Rattle.sheet_text.specs.Internal.Decoded.{refusedBy}

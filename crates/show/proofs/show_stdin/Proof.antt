@@ -1,5 +1,4 @@
 -- `show::show_stdin` meets its contract: what the buffer holds of the input is what the output is made of.
--- Assumes nothing.
 use borrow.Author.Needs.{needs}
 use Rattle.desk.proofs.Parts.{put-shown}
 use Rattle.show.proofs.show_stdin.Statement.{statement}

@@ -1,4 +1,4 @@
--- `stages::check_on` meets its contract. Assumes nothing.
+-- `stages::check_on` meets its contract.
 use borrow.Author.Needs.{needs}
 use Rattle.stages.proofs.check_on.Statement.{statement}
 use Rattle.stages.proofs.check_on.Tie as tie

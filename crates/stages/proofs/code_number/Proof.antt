@@ -1,4 +1,4 @@
--- `stages::code_number` meets its contract. Assumes nothing.
+-- `stages::code_number` meets its contract.
 use mathlib.Core.Path.{sym, ap}
 use borrow.Author.Needs.{needs}
 use Rattle.checker.specs.Verdict.{verdictNumber}

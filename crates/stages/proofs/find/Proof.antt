@@ -1,4 +1,4 @@
--- `stages::find` meets its contract. Assumes nothing.
+-- `stages::find` meets its contract.
 use Rattle.stages.proofs.StageLaws.{numbers-script, keeps-script}
 use borrow.Author.Needs.{needs}
 use Rattle.stages.proofs.find.Statement.{statement}

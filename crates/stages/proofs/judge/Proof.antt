@@ -1,4 +1,4 @@
--- `stages::judge` meets its contract. Assumes nothing.
+-- `stages::judge` meets its contract.
 use Rattle.stages.proofs.StageLaws.{judge-refused, judge-read, trust-refused, trust-read}
 use borrow.Author.Needs.{needs}
 use Rattle.stages.proofs.judge.Statement.{statement}

@@ -1,4 +1,4 @@
--- `stages::memory_number` meets its contract. Assumes nothing.
+-- `stages::memory_number` meets its contract.
 use mathlib.Core.Path.{sym, ap}
 use borrow.Author.Needs.{needs}
 use Rattle.memory.specs.Verdict.{memoryNumber}

@@ -1,4 +1,4 @@
--- `stages::number` meets its contract. Assumes nothing.
+-- `stages::number` meets its contract.
 use mathlib.Core.Path.{sym, ap}
 use borrow.Author.Needs.{needs}
 use Rattle.evaluator.specs.State.{stateNumber}

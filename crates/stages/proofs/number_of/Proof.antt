@@ -1,4 +1,4 @@
--- `stages::number_of` meets its contract. Assumes nothing.
+-- `stages::number_of` meets its contract.
 use borrow.Author.Needs.{needs}
 use Rattle.stages.proofs.number_of.Statement.{statement}
 use Rattle.stages.proofs.number_of.Tie as tie

@@ -1,4 +1,4 @@
--- `stages::run_accepted` meets its contract. Assumes nothing.
+-- `stages::run_accepted` meets its contract.
 use Rattle.stages.proofs.StageLaws.{runs-accepted}
 use borrow.Author.Needs.{needs}
 use Rattle.stages.proofs.run_accepted.Statement.{statement}

@@ -1,4 +1,4 @@
--- `stages::run_on` meets its contract. Assumes nothing.
+-- `stages::run_on` meets its contract.
 use mathlib.Core.Path.{sym, ap, _∙_}
 use borrow.Author.Tests.{not-true, not-false}
 use Rattle.sets.specs.Sets.{within}

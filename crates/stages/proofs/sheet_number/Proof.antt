@@ -1,4 +1,4 @@
--- `stages::sheet_number` meets its contract. Assumes nothing.
+-- `stages::sheet_number` meets its contract.
 use mathlib.Core.Path.{sym, ap}
 use borrow.Author.Needs.{needs}
 use Rattle.sheet_text.specs.Verdict.{sheetNumber}

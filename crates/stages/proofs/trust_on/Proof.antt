@@ -1,4 +1,4 @@
--- `stages::trust_on` meets its contract. Assumes nothing.
+-- `stages::trust_on` meets its contract.
 use Rattle.stages.proofs.StageLaws.{trust-numbered, trust-accepted}
 use borrow.Author.Needs.{needs}
 use Rattle.stages.proofs.trust_on.Statement.{statement}

@@ -1,4 +1,4 @@
--- `text::byte` meets its contract. Assumes nothing.
+-- `text::byte` meets its contract.
 use native.Mathlib.Omega.{arith}
 use borrow.Author.Needs.{needs}
 use Rattle.text.proofs.Readings.{byte-at-end, byte-at-here, byte-at-other}

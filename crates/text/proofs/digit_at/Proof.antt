@@ -1,4 +1,4 @@
--- `text::digit_at` meets its contract. Assumes nothing.
+-- `text::digit_at` meets its contract.
 use native.Mathlib.Omega.{arith}
 use mathlib.Core.Path.{_∙_, sym}
 use borrow.Author.Needs.{needs}

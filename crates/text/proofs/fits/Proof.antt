@@ -1,4 +1,4 @@
--- `text::fits` meets its contract. Assumes nothing.
+-- `text::fits` meets its contract.
 use mathlib.Core.Path.{refl}
 use Rattle.text.specs.Reading.{fits}
 use Rattle.text.proofs.fits.Statement.{statement}

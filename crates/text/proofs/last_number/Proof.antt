@@ -1,4 +1,4 @@
--- `text::last_number` meets its contract. Assumes nothing.
+-- `text::last_number` meets its contract.
 use mathlib.Core.Path.{_≡_}
 use lib.ListN.{drop}
 use borrow.Author.Needs.{needs}

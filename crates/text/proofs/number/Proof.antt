@@ -1,4 +1,4 @@
--- `text::number` meets its contract. Assumes nothing.
+-- `text::number` meets its contract.
 use Prim.Native.Nat.{_<_}
 use native.Mathlib.Omega.{arith}
 use mathlib.Core.Path.{sym, ap, _∙_}

@@ -1,4 +1,4 @@
--- `text::set_field` meets its contract. Assumes nothing.
+-- `text::set_field` meets its contract.
 use mathlib.Core.Path.{sym, ap, _∙_}
 use borrow.Author.Needs.{needs}
 use Rattle.text.specs.Internal.Place.{placedSet}

@@ -1,5 +1,4 @@
 -- The proof of the cycle of calls {check_cmd}. The measure is the rows left; each return is a law of `CmdLaws`.
--- Assumes nothing.
 use borrow.Author.Needs.{needs}
 use Prim.Native.Nat.{ℕ, _<_}
 use native.Mathlib.Omega.{arith}

@@ -1,5 +1,5 @@
 -- The proof of the cycle of calls {check_expr, check_second}. The measure is the rows left, twice; `check_second` lies
--- between its caller and the operand that it checks. Each return is a law of `ExprLaws`. Assumes nothing.
+-- between its caller and the operand that it checks. Each return is a law of `ExprLaws`.
 use borrow.Author.Needs.{needs}
 use Prim.Native.Nat.{ℕ, _+_, _*_, _<_}
 use native.Mathlib.Omega.{arith}

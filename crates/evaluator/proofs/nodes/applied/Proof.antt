@@ -1,4 +1,4 @@
--- `evaluator::nodes::applied` meets its contract. Assumes nothing.
+-- `evaluator::nodes::applied` meets its contract.
 use borrow.Author.Needs.{needs}
 use Rattle.language.specs.Syntax.{first, second, pick}
 use Rattle.evaluator.specs.Internal.Nodes.{o-plus, o-left, o-right, o-pack, o-unpack, o-part, partBy, opKind}

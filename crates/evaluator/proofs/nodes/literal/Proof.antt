@@ -1,4 +1,4 @@
--- `evaluator::nodes::literal` meets its contract. Assumes nothing.
+-- `evaluator::nodes::literal` meets its contract.
 use borrow.Author.Needs.{needs}
 use mathlib.Core.Path.{refl, ap, _∙_}
 use Rattle.memory.specs.Words.{zeros}

@@ -1,4 +1,4 @@
--- `evaluator::nodes::pack` meets its contract. Assumes nothing.
+-- `evaluator::nodes::pack` meets its contract.
 use borrow.Author.Needs.{needs}
 use borrow.Author.Tests.{not-true, not-false}
 use mathlib.Core.Path.{refl}

@@ -1,4 +1,4 @@
--- `evaluator::nodes::pair` meets its contract. Assumes nothing.
+-- `evaluator::nodes::pair` meets its contract.
 use borrow.Author.Needs.{needs}
 use mathlib.Core.Path.{refl}
 use Prim.Native.Nat.{_-_}

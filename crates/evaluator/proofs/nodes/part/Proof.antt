@@ -1,4 +1,4 @@
--- `evaluator::nodes::part` meets its contract. Assumes nothing.
+-- `evaluator::nodes::part` meets its contract.
 use borrow.Author.Needs.{needs}
 use mathlib.Core.Path.{refl}
 use Rattle.cells.specs.Internal.Cells.{cutOf}

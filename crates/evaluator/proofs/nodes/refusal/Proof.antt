@@ -1,4 +1,4 @@
--- `evaluator::nodes::refusal` meets its contract. Assumes nothing.
+-- `evaluator::nodes::refusal` meets its contract.
 use borrow.Author.Needs.{needs}
 use mathlib.Core.Path.{sym, ap, _∙_}
 use Rattle.sheet.specs.Internal.TypeTest.{hasNo}

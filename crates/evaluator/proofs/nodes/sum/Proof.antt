@@ -1,4 +1,4 @@
--- `evaluator::nodes::sum` meets its contract. Assumes nothing.
+-- `evaluator::nodes::sum` meets its contract.
 use borrow.Author.Needs.{needs}
 use Rattle.evaluator.proofs.NodeLaws as laws
 use Rattle.evaluator.proofs.nodes.sum.Statement.{statement}

@@ -1,4 +1,4 @@
--- `evaluator::nodes::tagged` meets its contract. Assumes nothing.
+-- `evaluator::nodes::tagged` meets its contract.
 use borrow.Author.Needs.{needs}
 use mathlib.Core.Path.{refl}
 use Rattle.evaluator.proofs.NodeLaws as laws

@@ -1,4 +1,4 @@
--- `evaluator::nodes::unpack` meets its contract. Assumes nothing.
+-- `evaluator::nodes::unpack` meets its contract.
 use borrow.Author.Needs.{needs}
 use mathlib.Core.Path.{refl}
 use Rattle.cells.specs.Internal.Cells.{pushOf, popOf}

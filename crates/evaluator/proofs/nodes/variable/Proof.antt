@@ -1,4 +1,4 @@
--- `evaluator::nodes::variable` meets its contract. Assumes nothing.
+-- `evaluator::nodes::variable` meets its contract.
 use borrow.Author.Needs.{needs}
 use mathlib.Core.Path.{ap, _∙_}
 use mathlib.Core.Logic.{⊎-elim}

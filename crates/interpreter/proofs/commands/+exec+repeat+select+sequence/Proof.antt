@@ -1,7 +1,6 @@
 -- The proof of the cycle of calls {exec, repeat, select, sequence}. The measure is the rows left, twice; `exec` lies
 -- above the others, which it calls at its own row. Each return is a law. The loop's invariant: no round ended before
 -- the loop's own line, and what the loop ends with from here, it ends with from the start.
--- Assumes nothing.
 use borrow.Author.Needs.{needs}
 use borrow.Author.Tests.{not-true, not-false}
 use mathlib.Core.Path.{_≡_, refl}

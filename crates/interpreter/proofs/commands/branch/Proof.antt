@@ -1,4 +1,4 @@
--- `interpreter::commands::branch` meets its contract. Assumes nothing.
+-- `interpreter::commands::branch` meets its contract.
 use borrow.Author.Needs.{needs}
 use native.Mathlib.Numerals.{add-one}
 use Rattle.evaluator.proofs.NumberLaws.{not-done, is-done}

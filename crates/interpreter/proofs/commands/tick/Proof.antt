@@ -1,4 +1,4 @@
--- `interpreter::commands::tick` meets its contract. Assumes nothing.
+-- `interpreter::commands::tick` meets its contract.
 use borrow.Author.Needs.{needs}
 use Rattle.evaluator.proofs.NumberLaws.{not-done, is-done}
 use Rattle.interpreter.proofs.ExecLaws as laws

@@ -1,5 +1,4 @@
 -- The loop: whether this label's readers contain the other's, for each owner below o.
--- Assumes nothing.
 use mathlib.Core.Path.{sym, _∙_}
 use mathlib.Core.Bool.{Bool}
 use Prim.Native.Nat.{ℕ, _-_}

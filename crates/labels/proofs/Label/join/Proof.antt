@@ -1,5 +1,4 @@
 -- The loop: the places below o hold the join of the two labels, and the others are as they were.
--- Assumes nothing.
 use mathlib.Core.Path.{_≡_, ap, _∙_}
 use Prim.Native.Nat.{ℕ, _≤_, _-_}
 use native.Mathlib.Omega.{arith}

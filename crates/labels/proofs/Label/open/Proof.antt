@@ -1,5 +1,4 @@
 -- The loop: the places below o hold the open label's writers, and the others are those of bottom.
--- Assumes nothing.
 use Rattle.labels.proofs.OrderLaws.{label-path}
 use Rattle.labels.proofs.PartLaws.{own-at}
 use Rattle.labels.proofs.EffectiveLaws.{open-principal, open-other}

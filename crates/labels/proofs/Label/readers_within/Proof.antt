@@ -1,5 +1,4 @@
 -- The loop: whether the readers of each owner below o are among those of bottom.
--- Assumes nothing.
 use mathlib.Core.Path.{sym, ap, _∙_}
 use mathlib.Core.Bool.{Bool}
 use Prim.Native.Nat.{ℕ, _-_}

@@ -1,5 +1,4 @@
 -- The loop: what the readers of the owners below o have in common. Past the last owner there is no reader.
--- Assumes nothing.
 use mathlib.Core.Path.{_≡_, refl, sym, _∙_}
 use Prim.Native.Nat.{_≤_, _-_}
 use native.Mathlib.Omega.{arith}

@@ -1,4 +1,4 @@
--- Storing a masked value's words meets its contract; the measure is the words left. Assumes nothing.
+-- Storing a masked value's words meets its contract; the measure is the words left.
 use borrow.Author.Needs.{needs}
 use mathlib.Core.Logic.{⊎-elim}
 use mathlib.Core.Path.{refl}

@@ -1,4 +1,4 @@
--- `memory::masks::mask_label` meets its contract. Assumes nothing.
+-- `memory::masks::mask_label` meets its contract.
 use borrow.Author.Needs.{needs}
 use mathlib.Core.Path.{refl, sym, _∙_}
 use native.Mathlib.Omega.{arith}

@@ -1,4 +1,4 @@
--- `memory::mask_number` meets its contract. Assumes nothing.
+-- `memory::mask_number` meets its contract.
 use borrow.Author.Needs.{needs}
 use mathlib.Core.Path.{refl}
 use native.Mathlib.Omega.{arith}

@@ -1,4 +1,4 @@
--- `memory::store` meets its contract. Assumes nothing.
+-- `memory::store` meets its contract.
 use borrow.Author.Needs.{needs}
 use mathlib.Core.Path.{sym}
 use lib.Seq.{set-out}

@@ -1,4 +1,4 @@
--- The walk over a value's words meets its contract; the measure is the words left. Assumes nothing.
+-- The walk over a value's words meets its contract; the measure is the words left.
 use borrow.Author.Needs.{needs}
 use Prim.Native.Nat.{ℕ, _<_, _-_}
 use native.Mathlib.Omega.{arith}

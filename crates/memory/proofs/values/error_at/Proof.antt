@@ -1,4 +1,4 @@
--- `memory::error_at` meets its contract. Assumes nothing.
+-- `memory::error_at` meets its contract.
 use borrow.Author.Needs.{needs}
 use native.Mathlib.Omega.{arith}
 use Rattle.language.specs.Syntax.{err}

@@ -1,4 +1,4 @@
--- `memory::integer_at` meets its contract. Assumes nothing.
+-- `memory::integer_at` meets its contract.
 use borrow.Author.Needs.{needs}
 use mathlib.Core.Path.{refl}
 use native.Mathlib.Omega.{arith}

@@ -1,4 +1,4 @@
--- `memory::is_error` meets its contract. Assumes nothing.
+-- `memory::is_error` meets its contract.
 use borrow.Author.Tests.{lt-leb, le-leb}
 use Rattle.logic.proofs.BooleanLaws.{both-off, both-on}
 use Rattle.memory.proofs.values.is_error.Statement.{statement}

@@ -1,4 +1,4 @@
--- `memory::package_at` meets its contract. Assumes nothing.
+-- `memory::package_at` meets its contract.
 use borrow.Author.Needs.{needs}
 use native.Mathlib.Omega.{arith}
 use borrow.Author.Tests.{lt-ltb, le-ltb}

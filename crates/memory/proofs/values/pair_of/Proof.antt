@@ -1,4 +1,4 @@
--- `memory::values::pair_of` meets its contract. Assumes nothing.
+-- `memory::values::pair_of` meets its contract.
 use mathlib.Core.Path.{refl}
 use Rattle.logic.specs.Booleans.{both}
 use Rattle.memory.proofs.values.pair_of.Statement.{statement}

@@ -1,4 +1,4 @@
--- `memory::zero_from` meets its contract: each turn leaves the test of the words from i on. Assumes nothing.
+-- `memory::zero_from` meets its contract: each turn leaves the test of the words from i on.
 use borrow.Author.Needs.{needs}
 use mathlib.Core.Path.{_≡_, refl, sym, _∙_}
 use Prim.Native.Nat.{_-_}

@@ -1,4 +1,4 @@
--- `memory_text::write::put_line` meets its contract. Assumes nothing.
+-- `memory_text::write::put_line` meets its contract.
 use mathlib.Core.Path.{_∙_}
 use native.Mathlib.Omega.{arith}
 use borrow.Author.Needs.{needs}

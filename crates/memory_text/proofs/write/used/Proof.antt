@@ -1,4 +1,4 @@
--- `memory_text::write::used` meets its contract: the words after the first n are zeros. Assumes nothing.
+-- `memory_text::write::used` meets its contract: the words after the first n are zeros.
 use Prim.Native.Nat.{_≤_, _+_, _-_}
 use mathlib.Core.Path.{_≡_, refl, _∙_}
 use native.Mathlib.Omega.{arith}

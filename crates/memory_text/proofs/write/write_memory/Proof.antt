@@ -1,5 +1,4 @@
 -- `memory_text::write::write_memory` meets its contract: the lines from the n-th location on are left to write.
--- Assumes nothing.
 use Prim.Native.Nat.{_≤_, _*_, _-_}
 use mathlib.Core.Path.{_≡_, refl, sym, _∙_}
 use native.Mathlib.Omega.{arith}

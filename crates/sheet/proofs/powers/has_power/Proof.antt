@@ -1,4 +1,4 @@
--- `sheet::powers::has_power` meets its contract. Assumes nothing.
+-- `sheet::powers::has_power` meets its contract.
 use mathlib.Core.Path.{_∙_}
 use borrow.Author.Needs.{needs}
 use native.Mathlib.Omega.{arith}

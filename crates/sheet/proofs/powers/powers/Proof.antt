@@ -1,4 +1,4 @@
--- `sheet::powers::powers` meets its contract. The loop: `out` has the powers over the labels below l. Assumes nothing.
+-- `sheet::powers::powers` meets its contract. The loop: `out` has the powers over the labels below l.
 use mathlib.Core.Path.{_≡_, refl, ap, _∙_}
 use mathlib.Core.Logic.{⊎-elim}
 use Prim.Native.Nat.{ℕ, _+_, _≤_, _-_}

@@ -1,4 +1,4 @@
--- `sheet::powers::with_power` meets its contract. Assumes nothing.
+-- `sheet::powers::with_power` meets its contract.
 use mathlib.Core.Path.{ap, _∙_}
 use borrow.Author.Needs.{needs}
 use Rattle.sets.specs.Sets.{union}

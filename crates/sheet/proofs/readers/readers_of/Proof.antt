@@ -1,4 +1,4 @@
--- `sheet::readers::readers_of` meets its contract: by the rule that is found. Assumes nothing.
+-- `sheet::readers::readers_of` meets its contract: by the rule that is found.
 use Rattle.sheet.proofs.ReaderLaws.{pooled-sets, alone-sets}
 use borrow.Author.Needs.{needs}
 use Rattle.sheet.proofs.readers.readers_of.Statement.{statement}

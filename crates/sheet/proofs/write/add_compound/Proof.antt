@@ -1,4 +1,4 @@
--- `sheet::write::add_compound` meets its contract. Assumes nothing.
+-- `sheet::write::add_compound` meets its contract.
 use borrow.Author.Needs.{needs}
 use Rattle.sheet.proofs.write.add_compound.Statement.{statement}
 use Rattle.sheet.proofs.write.add_compound.Tie as tie

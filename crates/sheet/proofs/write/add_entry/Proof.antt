@@ -1,4 +1,4 @@
--- `sheet::write::add_entry` meets its contract. Assumes nothing.
+-- `sheet::write::add_entry` meets its contract.
 use borrow.Author.Tests.{le-ltb, lt-ltb}
 use Rattle.sheet.specs.Internal.Writers.{entryPut}
 use borrow.Author.Needs.{needs}

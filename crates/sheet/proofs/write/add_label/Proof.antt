@@ -1,4 +1,4 @@
--- `sheet::write::add_label` meets its contract. Assumes nothing.
+-- `sheet::write::add_label` meets its contract.
 use borrow.Author.Tests.{le-ltb, lt-ltb}
 use Rattle.sheet.specs.Internal.Writers.{openPut}
 use borrow.Author.Needs.{needs}

@@ -1,4 +1,4 @@
--- `sheet::write::add_policy` meets its contract. Assumes nothing.
+-- `sheet::write::add_policy` meets its contract.
 use denote.Ref.{now}
 use mathlib.Core.Path.{refl}
 use Prim.Native.Nat.{_-_}

@@ -1,4 +1,4 @@
--- `sheet::write::low` meets its contract. Assumes nothing.
+-- `sheet::write::low` meets its contract.
 use mathlib.Core.Path.{refl}
 use Rattle.sheet.specs.Internal.Writers.{low}
 use borrow.Author.Needs.{needs}

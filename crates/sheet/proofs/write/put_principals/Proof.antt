@@ -1,4 +1,4 @@
--- `sheet::write::put_principals` meets its contract. Assumes nothing.
+-- `sheet::write::put_principals` meets its contract.
 use borrow.Author.Needs.{needs}
 use Rattle.sheet.proofs.write.put_principals.Statement.{statement}
 use Rattle.sheet.proofs.write.put_principals.Tie as tie

@@ -1,4 +1,4 @@
--- `sheet::write::put_reading` meets its contract. Assumes nothing.
+-- `sheet::write::put_reading` meets its contract.
 use mathlib.Core.Path.{refl}
 use Rattle.sheet.specs.Internal.Tables.{readingWord}
 use borrow.Author.Needs.{needs}

@@ -1,4 +1,4 @@
--- `sheet::write::right_word` meets its contract. Assumes nothing.
+-- `sheet::write::right_word` meets its contract.
 use Rattle.sheet.specs.Internal.Tables.{rightWord}
 use borrow.Author.Needs.{needs}
 use Rattle.sheet.proofs.write.right_word.Statement.{statement}

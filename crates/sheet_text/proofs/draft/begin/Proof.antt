@@ -1,4 +1,4 @@
--- `sheet_text::draft::begin` meets its contract. Assumes nothing.
+-- `sheet_text::draft::begin` meets its contract.
 use mathlib.Core.Path.{_≡_, refl, sym}
 use mathlib.Core.Logic.{⊎-elim}
 use mathlib.Core.List.{[], _∷_}

@@ -1,4 +1,4 @@
--- `sheet_text::draft::draft_of` meets its contract. Assumes nothing.
+-- `sheet_text::draft::draft_of` meets its contract.
 use mathlib.Core.Path.{sym, _∙_}
 use borrow.Author.Tests.{not-true, not-false}
 use Rattle.sheet_text.proofs.FoundLaws.{line-found, line-missed}

@@ -1,4 +1,4 @@
--- `sheet_text::draft::drafted` meets its contract. Assumes nothing.
+-- `sheet_text::draft::drafted` meets its contract.
 use Rattle.sheet_text.specs.Internal.Drafts.{draftIf}
 use Rattle.sheet_text.proofs.draft.drafted.Statement.{statement}
 use Rattle.sheet_text.proofs.draft.drafted.Tie as tie

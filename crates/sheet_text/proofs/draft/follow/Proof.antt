@@ -1,4 +1,4 @@
--- `sheet_text::draft::follow` meets its contract. Assumes nothing.
+-- `sheet_text::draft::follow` meets its contract.
 use mathlib.Core.Path.{_≡_, refl, _∙_}
 use mathlib.Core.Option.{Option}
 use Prim.Native.Nat.{_-_, _≤_}

@@ -1,4 +1,4 @@
--- `sheet_text::draft::reading_fits` meets its contract. Assumes nothing.
+-- `sheet_text::draft::reading_fits` meets its contract.
 use Rattle.logic.specs.Booleans.{both}
 use Rattle.sheet_text.specs.Internal.Building.{isPooled}
 use borrow.Author.Needs.{needs}

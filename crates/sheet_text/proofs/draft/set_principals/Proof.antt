@@ -1,4 +1,4 @@
--- `sheet_text::draft::set_principals` meets its contract. Assumes nothing.
+-- `sheet_text::draft::set_principals` meets its contract.
 use borrow.Author.Tests.{not-true, not-false}
 use Rattle.logic.specs.Booleans.{both}
 use Rattle.sheet_text.proofs.DraftLaws.{passed-over, taken}

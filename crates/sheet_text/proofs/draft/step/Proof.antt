@@ -1,4 +1,4 @@
--- `sheet_text::draft::step` meets its contract. Assumes nothing.
+-- `sheet_text::draft::step` meets its contract.
 use Rattle.sheet_text.specs.Internal.Building.{addLine}
 use Rattle.sheet_text.proofs.DraftLaws.{step-refused, step-made, no-principals, reading-holds, compound-holds}
 use Rattle.sheet_text.proofs.DraftLaws.{label-holds, policy-holds, location-holds}

@@ -1,4 +1,4 @@
--- `sheet_text::line::label_rest` meets its contract. Assumes nothing.
+-- `sheet_text::line::label_rest` meets its contract.
 use Rattle.text.proofs.Readings.{andThen-got, andThen-bad}
 use Rattle.text.proofs.Fields.{byte-at, byte-bad}
 use Rattle.sheet_text.specs.Reading.{labelRest}

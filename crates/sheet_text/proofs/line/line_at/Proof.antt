@@ -1,4 +1,4 @@
--- `sheet_text::line::line_at` meets its contract. Assumes nothing.
+-- `sheet_text::line::line_at` meets its contract.
 use mathlib.Core.Path.{sym, ap, _∙_}
 use Rattle.sheet_text.specs.Internal.Placed.{placedLine, lineOfOne, lineBy}
 use Rattle.sheet_text.proofs.FoundLaws.{found-none, line-past, line-principals, line-reading, line-sum}

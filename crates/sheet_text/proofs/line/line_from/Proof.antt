@@ -1,5 +1,5 @@
 -- `sheet_text::line::line_from` meets its contract: it makes a reader, and gives what `next_line` reads and the byte
--- that is then reached. Assumes nothing.
+-- that is then reached.
 use Rattle.reader.proofs.Resumed.{resumed}
 use Rattle.sheet_text.specs.Internal.Placed.{lineAt}
 use Rattle.sheet_text.proofs.Readers.{lines}

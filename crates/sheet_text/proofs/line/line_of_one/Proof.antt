@@ -1,4 +1,4 @@
--- `sheet_text::line::line_of_one` meets its contract. Assumes nothing.
+-- `sheet_text::line::line_of_one` meets its contract.
 use borrow.Author.Tests.{ne-eqb}
 use Rattle.sheet_text.specs.Internal.Placed.{lineOfOne}
 use Rattle.sheet_text.proofs.line.line_of_one.Statement.{statement}

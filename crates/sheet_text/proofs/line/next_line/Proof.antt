@@ -1,5 +1,5 @@
 -- `sheet_text::line::next_line` meets its contract: it takes the reader apart, calls `read_line` and gives the reader
--- after the line. Assumes nothing.
+-- after the line.
 use Rattle.reader.proofs.Advanced.{advanced}
 use Rattle.sheet_text.specs.Internal.Placed.{lineAt}
 use Rattle.sheet_text.proofs.Readers.{lines}

@@ -1,4 +1,4 @@
--- `sheet_text::line::number_rest` meets its contract. Assumes nothing.
+-- `sheet_text::line::number_rest` meets its contract.
 use Rattle.text.specs.Number.{most}
 use Rattle.text.proofs.Readings.{andThen-got, andThen-bad}
 use Rattle.text.proofs.Fields.{last-number-at, last-number-bad}

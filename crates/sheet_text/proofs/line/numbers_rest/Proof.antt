@@ -1,4 +1,4 @@
--- `sheet_text::line::numbers_rest` meets its contract. Assumes nothing.
+-- `sheet_text::line::numbers_rest` meets its contract.
 use mathlib.Core.Path.{_≡_, _∙_}
 use lib.ListN.{drop}
 use Rattle.text.specs.Reading.Read.{got}

@@ -1,4 +1,4 @@
--- `sheet_text::line::policy_rest` meets its contract. Assumes nothing.
+-- `sheet_text::line::policy_rest` meets its contract.
 use mathlib.Core.Path.{_≡_, _∙_}
 use mathlib.Core.List.{List}
 use Prim.Native.Nat.{ℕ}

@@ -1,4 +1,4 @@
--- `sheet_text::line::read_line` meets its contract. Assumes nothing.
+-- `sheet_text::line::read_line` meets its contract.
 use mathlib.Core.Path.{sym, ap, _∙_}
 use borrow.Author.Needs.{needs}
 use Rattle.sheet_text.specs.Internal.Placed.{reached}

@@ -1,5 +1,4 @@
 -- `sheet_text::repeat::again` meets its contract: what is left to look for is what was to be looked for at the start.
--- Assumes nothing.
 use mathlib.Core.Path.{_≡_, refl, sym, _∙_}
 use Prim.Native.Nat.{_-_}
 use native.Mathlib.Omega.{arith}

@@ -1,5 +1,5 @@
 -- `sheet_text::repeat::repeated` meets its contract: what is left to look for is what was to be looked for at the
--- start. Assumes nothing.
+-- start.
 use mathlib.Core.Path.{_≡_, refl, sym, _∙_}
 use Prim.Native.Nat.{_-_}
 use native.Mathlib.Omega.{arith}

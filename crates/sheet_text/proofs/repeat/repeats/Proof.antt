@@ -1,4 +1,4 @@
--- `sheet_text::repeat::repeats` meets its contract. Assumes nothing.
+-- `sheet_text::repeat::repeats` meets its contract.
 use mathlib.Core.Path.{sym, _∙_}
 use Rattle.sheet_text.proofs.RepeatFinds.{repeats-type, repeats-label}
 use borrow.Author.Needs.{needs}

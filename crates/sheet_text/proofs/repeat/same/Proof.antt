@@ -1,4 +1,4 @@
--- `sheet_text::repeat::same` meets its contract. Assumes nothing.
+-- `sheet_text::repeat::same` meets its contract.
 use mathlib.Core.Path.{_∙_}
 use native.Mathlib.Omega.{arith}
 use Rattle.sheet_text.proofs.RepeatFinds.{few-labels, few-types, same-labels-at, same-types-at}

@@ -1,4 +1,4 @@
--- `sheet_text::repeat::same_words` meets its contract: the words before k are the same. Assumes nothing.
+-- `sheet_text::repeat::same_words` meets its contract: the words before k are the same.
 use mathlib.Core.Path.{_≡_, sym}
 use mathlib.Core.Bool.{true}
 use Prim.Native.Nat.{ℕ, _+_, _-_, _<_, _≤_}

@@ -1,4 +1,4 @@
--- `text::write::put_digits` meets its contract; the number falls at each call. Assumes nothing.
+-- `text::write::put_digits` meets its contract; the number falls at each call.
 use Prim.Native.Nat.{ℕ, _<_}
 use native.Mathlib.Omega.{arith}
 use lib.ListN.{length-set}

@@ -1,4 +1,4 @@
--- `text::write::put_byte` meets its contract. Assumes nothing.
+-- `text::write::put_byte` meets its contract.
 use native.Mathlib.Omega.{arith}
 use mathlib.Core.Path.{sym}
 use borrow.Author.Needs.{needs}

@@ -1,4 +1,4 @@
--- `text::write::put_number` meets its contract. Assumes nothing.
+-- `text::write::put_number` meets its contract.
 use native.Mathlib.Omega.{arith}
 use mathlib.Core.Path.{sym, _∙_}
 use borrow.Author.Needs.{needs}

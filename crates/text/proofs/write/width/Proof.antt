@@ -1,5 +1,4 @@
 -- `text::write::width` meets its contract: what is counted and the digits left are the digits of v, and one.
--- Assumes nothing.
 use Prim.Native.Nat.{_+_}
 use mathlib.Core.Path.{_≡_}
 use native.Mathlib.Omega.{arith}

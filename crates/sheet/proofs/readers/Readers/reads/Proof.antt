@@ -1,4 +1,4 @@
--- The loop: whether the group meets the readers of each owner below o. Assumes nothing.
+-- The loop: whether the group meets the readers of each owner below o.
 use mathlib.Core.Path.{_≡_, refl, ap, _∙_}
 use mathlib.Core.Bool.{Bool}
 use mathlib.Core.List.{List}

@@ -61,8 +61,8 @@ pub record Promises : Type 1 where
   -- What the view promises, noninterference of runs and rounds and that a start that isn't read isn't seen, rests on
   -- one fact about reading: it is promised to everyone who reads with a label every label below it by readers alone.
   pub downward-suffices : DownwardSuffices
-  -- The scope's starred cases, its two of long values, rounds, smallest groups, starting labels, trust-keeping scripts,
-  -- pairs and one reader by himself, in one table.
+  -- The scope's starred cases, its two of long values, and those of each request: rounds, smallest groups, starting
+  -- labels, trust-keeping scripts, pairs and one reader by himself, each in a table of its own.
   pub cases-hold : CasesHold
   -- Of any table of refusal numbers: the first that applies is given, and it settles the whole answer; there is exactly
   -- one answer where it is settled which row applies first, and there is exactly one where none applies.

@@ -133,6 +133,12 @@ unfolding calls.onSheet calls.unless calls.strangers calls.onScript calls.untype
     texts.bytes
 simp-used = tt
 
+-- what a check, a run, a view and an answer of simp_trust compute with
+unfoldable pub calls-used : Unit {0}
+unfolding logic-used text-used sets-used labels-used language-used script-used sheet-used sheet-text-used
+    script-text-used memory-used simp-used
+calls-used = tt
+
 unfoldable pub rounds-used : Unit {0}
 unfolding parting.toFirst parting.partsFrom parting.partsOf
     round-answers.leftBy round-answers.allOpen
@@ -144,9 +150,3 @@ unfoldable pub groups-used : Unit {0}
 unfolding listing.isSmallest listing.smallestFrom listing.smallestOf
     group-calls.groupsFor group-calls.groupsRefusal group-calls.groupsOn group-calls.groupsOf
 groups-used = tt
-
-unfoldable pub all-used : Unit {0}
-unfolding logic-used text-used sets-used labels-used language-used script-used sheet-used sheet-text-used
-    script-text-used memory-used simp-used rounds-used
-    groups-used
-all-used = tt

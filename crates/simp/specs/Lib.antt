@@ -1,4 +1,12 @@
 pub mod Texts
+pub mod CaseKinds
+pub mod ScopeCases
+pub mod RoundCases
+pub mod GroupCases
+pub mod StartCases
+pub mod TrustCases
+pub mod PairCases
+pub mod ReaderCases
 pub mod Cases
 pub mod Judgements
 pub mod Rounds

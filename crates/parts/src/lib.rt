@@ -4,7 +4,7 @@ ghost use Rattle.parts.specs.Parts.{parting};
 ghost use Rattle.parts.specs.Feeding.{held, beginning, stored, stepped, fed, textHeld};
 
 // One byte more than a text may have.
-pub const KEEP: usize = 16385;
+pub const KEEP: usize = text::LIMIT + 1;
 
 // The most texts that a state holds.
 pub const TEXTS: usize = 8;
@@ -13,7 +13,7 @@ pub const TEXTS: usize = 8;
 pub struct State {
     pub text: usize,
     pub start: bool,
-    pub kept: [usize; 8],
+    pub kept: [usize; TEXTS],
 }
 
 // Before the first byte.
@@ -23,7 +23,7 @@ pub fn begin() -> State
     State {
         text: 0,
         start: true,
-        kept: [0usize; 8],
+        kept: [0usize; TEXTS],
     }
 }
 

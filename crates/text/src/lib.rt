@@ -18,7 +18,7 @@ pub const MOST: u32 = 4294967295;
 const SET_DIGITS: usize = sets::WIDTH / 4;
 
 // The longest text, in bytes.
-const LIMIT: usize = 16384;
+pub const LIMIT: usize = 16384;
 
 // A number and the place after it, or a refusal.
 pub enum Decimal {

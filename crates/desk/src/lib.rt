@@ -62,11 +62,11 @@ fn place(k: u8) -> u8
     ensures { λ r. ⌜ r ≡ placeOf order k ⌝ }
 {
     match k {
-        1 => 0,
-        2 => 1,
-        3 => 2,
-        7 => 3,
-        8 => 4,
+        stages::SHEET_MALFORMED => 0,
+        stages::SHEET_REPEATS => 1,
+        stages::PRINCIPAL_UNKNOWN => 2,
+        stages::SLICE_SIZE => 3,
+        stages::MEMORY_ILL_FORMED => 4,
         _ => 5,
     }
 }
@@ -83,8 +83,8 @@ fn earlier(a: u8, b: u8) -> u8
 fn number(answer: u8, other: u8) -> u8
     ensures { λ r. ⌜ r ≡ earlierOf (asText answer) other ⌝ }
 {
-    if answer == 7 {
-        return earlier(8, other);
+    if answer == stages::SLICE_SIZE {
+        return earlier(stages::MEMORY_ILL_FORMED, other);
     }
     earlier(answer, other)
 }
@@ -102,7 +102,7 @@ fn read_given(memory: &[u8], group: &[u8]) -> Given
             words,
             count,
             group: 0,
-            other: 3,
+            other: stages::PRINCIPAL_UNKNOWN,
         };
     };
     let answer = m.answer;
@@ -111,13 +111,13 @@ fn read_given(memory: &[u8], group: &[u8]) -> Given
             words,
             count,
             group: g,
-            other: 0,
+            other: stages::DONE,
         },
         Answer::Refused => Given {
             words,
             count,
             group: g,
-            other: 8,
+            other: stages::MEMORY_ILL_FORMED,
         },
     }
 }
@@ -141,7 +141,7 @@ fn show_given(sheet: &[u8], given: Given, out: &mut [u8]) -> usize
     let n = given.count;
     let answer = simp::simp_view(sheet, &words[..n], given.group, &mut view[..n]);
     let k = number(answer, given.other);
-    if k == 0 {
+    if k == stages::DONE {
         return memory_text::write::write_memory(&view[..n], out);
     }
     put_line(out, k as u32)

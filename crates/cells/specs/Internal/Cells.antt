@@ -26,7 +26,7 @@ storeOf ws k words =
 
 -- a word in front; the last word goes
 unfoldable pub pushOf : ℕ → List ℕ → List ℕ
-pushOf w ws = w ∷ take 15 ws
+pushOf w ws = w ∷ take (cell-words - 1) ws
 
 -- words in front, in their order; as many go at the end
 unfoldable pub pushesOf : List ℕ → List ℕ → List ℕ

@@ -6,4 +6,5 @@ pub mod RuleLaws
 pub mod SingleLaws
 pub mod WalkLaws
 pub mod LoopLaws
+pub mod ReaderLaws
 pub mod StageLaws

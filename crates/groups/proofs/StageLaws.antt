@@ -8,20 +8,21 @@ use lib.ListN.{length, drop}
 use borrow.Author.Tests.{lt-ltb, le-ltb, le-leb, lt-leb}
 use Rattle.logic.specs.Booleans.{both}
 use Rattle.sets.specs.Sets.{everyone}
-use Rattle.sheet.specs.declared.readers.Readers.{Readers}
 use Rattle.sheet.specs.Sheet.{Sheet, labelCount}
 use Rattle.sheet.specs.Meaning.{readsNo}
 use Rattle.sheet.specs.Internal.Tables.{everyoneIn, labelsIn}
-use Rattle.sheet.specs.Internal.Readers.{readsBy, readersIn}
 use Rattle.sheet.proofs.TableLaws.{everyone-in, labels-in}
-use Rattle.sheet.proofs.ReaderLaws.{nobody-reads, readers-of-label}
+use Rattle.sheet.proofs.ReaderLaws.{nobody-reads}
 use Rattle.stages.specs.Calls.{unless}
 use Rattle.stages.specs.Internal.Stages.{TableOf}
+use Rattle.groups.specs.declared.readers.Readers.{Readers}
 use Rattle.groups.specs.Smallest.{ReadingRule}
 use Rattle.groups.specs.Answers.{refusedGroups, grouped}
 use Rattle.groups.specs.Calls.{groupsFor, groupsRefusal, groupsOn}
+use Rattle.groups.specs.Internal.Readers.{readsBy, readersIn}
 use Rattle.groups.specs.Internal.Walk.{smallestUpTo}
 use Rattle.groups.specs.Internal.Stages.{ListsOn}
+use Rattle.groups.proofs.ReaderLaws.{readers-of-label}
 use Rattle.groups.proofs.WalkLaws.{from-one}
 
 -- ---- on a sheet

@@ -1,15 +1,18 @@
 // The smallest groups that read a label. The groups are gone through rising as numbers, and counted before the first
 // is written; to be written they are gone through again, up to the last.
+mod readers; // readers.rt: who reads a label
+
 ghost use mathlib.Core.Path.{_≡_};
 ghost use Prim.Native.Nat.{_≤_, _<_, _^_};
 ghost use lib.ListN.{length};
 ghost use Rattle.sets.specs.Sets.{width};
-ghost use Rattle.sheet.specs.Internal.Readers.{readsBy};
 ghost use Rattle.groups.specs.Answers.{grouped};
+ghost use Rattle.groups.specs.Internal.Readers.{readsBy};
 ghost use Rattle.groups.specs.Internal.Walk.{pastHolders, readsWithout, needsEach, smallestUpTo, FirstFrom};
 ghost use Rattle.groups.specs.Internal.Stages.{ListsOn};
+use crate::readers::Readers;
+use crate::readers::readers_of;
 use sets::Set;
-use sheet::readers::Readers;
 
 // The answer where the label isn't on the sheet, or there are fewer places than groups.
 pub const NOT_LISTED: u8 = 12;
@@ -126,7 +129,7 @@ pub fn list_on(table: &[sheet::Word], l: u32, groups: &mut [Set]) -> Groups
     if sheet::labels(table) <= l {
         return refused(NOT_LISTED);
     }
-    let readers = sheet::readers::readers_of(table, l);
+    let readers = readers_of(table, l);
     let end = sheet::everyone(table) as u32 + 1;
     let found = count(readers, end);
     if groups.len() < found as usize {

@@ -5,5 +5,4 @@ pub mod Growth
 pub mod Writers
 pub mod TypeTest
 pub mod Powers
-pub mod Readers
 pub mod Starts

@@ -1,6 +1,5 @@
 // The decoded sheet: a table of words, and what it says of types, locations and labels.
 pub mod powers; // powers.rt: what a group may do to the labels
-pub mod readers; // readers.rt: who reads a label
 pub mod write; // write.rt: what is stored where the sheet grows
 
 ghost use mathlib.Core.Path.{_≡_};
@@ -261,7 +260,7 @@ fn reads_pooled(table: &[Word], group: Set, l: u32) -> bool
 }
 
 // The principals who read label l by themselves.
-fn sole_readers(table: &[Word], l: u32) -> Set
+pub fn sole_readers(table: &[Word], l: u32) -> Set
     ensures { λ r. ⌜ r ≡ soleReadersOf (principalsIn (now (table .entry))) (labelIn (now (table .entry)) l) ⌝ }
 {
     let n = principals(table) as usize;

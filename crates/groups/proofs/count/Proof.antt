@@ -1,7 +1,7 @@
 -- The loop: what was found and what is left to find is all there is.
 use Prim.Native.Nat.{_-_, _<_}
 use native.Mathlib.Omega.{arith}
-use Rattle.sheet.specs.Internal.Readers.{readsBy}
+use Rattle.groups.specs.Internal.Readers.{readsBy}
 use Rattle.groups.proofs.PastLaws.{past-rises}
 use Rattle.groups.proofs.WalkLaws.{left-over}
 use Rattle.groups.proofs.LoopLaws.{Counts, counts-first, counts-over, counts-on, counts-few}

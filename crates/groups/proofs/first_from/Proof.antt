@@ -5,8 +5,8 @@ use Prim.Native.Nat.{_-_, _^_, _<_}
 use native.Mathlib.Omega.{arith}
 use borrow.Author.Tests.{not-true, not-false}
 use Rattle.sets.specs.Sets.{width}
-use Rattle.sheet.specs.Internal.Readers.{readsBy}
-use Rattle.sheet.proofs.ReaderLaws.{readers-grow}
+use Rattle.groups.specs.Internal.Readers.{readsBy}
+use Rattle.groups.proofs.ReaderLaws.{readers-grow}
 use Rattle.groups.proofs.PastLaws.{past-rises}
 use Rattle.groups.proofs.LoopLaws.{CameTo, came-first, none-first, silent-on, found-first, past-on}
 use borrow.Author.Needs.{needs}

@@ -2,7 +2,7 @@
 use Prim.Native.Nat.{_-_, _<_}
 use native.Mathlib.Omega.{arith}
 use lib.ListN.{length}
-use Rattle.sheet.specs.Internal.Readers.{readsBy}
+use Rattle.groups.specs.Internal.Readers.{readsBy}
 use Rattle.groups.proofs.LoopLaws.{Writes, one-more, writes-first, writes-over, writes-on}
 use Rattle.groups.proofs.list.Statement.{statement}
 use Rattle.groups.proofs.list.Tie as tie

@@ -6,7 +6,7 @@ use native.Mathlib.Nat.{not-suc-le-zero}
 use native.Mathlib.Omega.{arith}
 use borrow.Author.Count.{below-more}
 use Rattle.sets.specs.Sets.{width}
-use Rattle.sheet.specs.Internal.Readers.{readsBy}
+use Rattle.groups.specs.Internal.Readers.{readsBy}
 use Rattle.groups.specs.Internal.Walk.{readsWithout}
 use Rattle.groups.proofs.SmallestLaws.{needs-all, not-needs}
 use borrow.Author.Needs.{needs}

@@ -1,6 +1,6 @@
 use mathlib.Core.Path.{_∙_}
 use borrow.Author.Tests.{not-true, not-false}
-use Rattle.sheet.specs.Internal.Readers.{readsBy}
+use Rattle.groups.specs.Internal.Readers.{readsBy}
 use Rattle.groups.proofs.SmallestLaws.{no-member, member-le, its-member}
 use borrow.Author.Needs.{needs}
 use Rattle.groups.proofs.reads_without.Statement.{statement}

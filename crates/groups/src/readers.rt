@@ -1,21 +1,20 @@
 // Who reads a label, by the sheet's rule of reading: fetched once, for a call that asks it of many groups.
 ghost use mathlib.Core.Path.{_≡_};
-ghost use Rattle.sheet.specs.Internal.Readers.{readsBy, readersIn};
-use crate::Word;
+ghost use Rattle.groups.specs.Internal.Readers.{readsBy, readersIn};
 use labels::OWNERS;
 use labels::Reading;
 use sets::Set;
 
 // The sets that a group meets if it reads. Pooled: the readers of each owner; a place that has no principal holds
 // everyone, whom each group meets that reads. Alone: in each place those who read by themselves.
-pub struct Readers {
-    pub sets: [Set; OWNERS],
+pub(crate) struct Readers {
+    pub(crate) sets: [Set; OWNERS],
 }
 
 impl Readers {
     // Whether a group meets each of the sets. All places are tested, since a loop that always goes to its end
     // takes fewer instructions than one that may stop.
-    pub fn reads(self, group: Set) -> bool
+    pub(crate) fn reads(self, group: Set) -> bool
         ensures { λ r. ⌜ r ≡ readsBy self group ⌝ }
     {
         let sets = self.sets;
@@ -28,17 +27,17 @@ impl Readers {
 }
 
 // Who reads label l.
-pub fn readers_of(table: &[Word], l: u32) -> Readers
+pub(crate) fn readers_of(table: &[sheet::Word], l: u32) -> Readers
     ensures { λ r. ⌜ r ≡ readersIn (now (table .entry)) l ⌝ }
 {
-    match crate::reading(table) {
+    match sheet::reading(table) {
         Reading::Pooled => {
-            let label = crate::label_of(table, l);
+            let label = sheet::label_of(table, l);
             let sets = label.readers;
             Readers { sets }
         }
         Reading::Alone => Readers {
-            sets: [crate::sole_readers(table, l); OWNERS],
+            sets: [sheet::sole_readers(table, l); OWNERS],
         },
     }
 }

@@ -1,8 +1,8 @@
--- `sheet::readers::readers_of` meets its contract: by the rule that is found.
-use Rattle.sheet.proofs.ReaderLaws.{pooled-sets, alone-sets}
+-- `groups::readers::readers_of` meets its contract: by the rule that is found.
+use Rattle.groups.proofs.ReaderLaws.{pooled-sets, alone-sets}
 use borrow.Author.Needs.{needs}
-use Rattle.sheet.proofs.readers.readers_of.Statement.{statement}
-use Rattle.sheet.proofs.readers.readers_of.Tie as tie
+use Rattle.groups.proofs.readers.readers_of.Statement.{statement}
+use Rattle.groups.proofs.readers.readers_of.Tie as tie
 
 pub readers-of-spec : {M : Type 1} → statement M
 readers-of-spec = tie.close (tie.spec

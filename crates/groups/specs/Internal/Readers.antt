@@ -9,8 +9,8 @@ use Rattle.labels.specs.Internal.Sole.{soleReadersOf}
 use Rattle.labels.specs.declared.Label.{Label}
 use Rattle.labels.specs.declared.Reading.{Reading}
 use Rattle.labels.specs.declared.Reading.the-variants.{Pooled, Alone}
-use Rattle.sheet.specs.declared.readers.Readers.{Readers}
 use Rattle.sheet.specs.Internal.Tables.{principalsIn, readingIn, labelIn}
+use Rattle.groups.specs.declared.readers.Readers.{Readers}
 
 -- the group g reads
 unfoldable pub readsBy : Readers → ℕ → Bool

@@ -9,10 +9,10 @@ use Rattle.logic.specs.Booleans.{both}
 use Rattle.sets.specs.Sets.{meets, every}
 use Rattle.sets.proofs.Walks.{every-more}
 use Rattle.labels.specs.Labels.{owners}
-use Rattle.sheet.specs.Internal.Readers.{readsBy}
+use Rattle.groups.specs.Internal.Readers.{readsBy}
 use borrow.Author.Needs.{needs}
-use Rattle.sheet.proofs.readers.Readers.reads.Statement.{statement}
-use Rattle.sheet.proofs.readers.Readers.reads.Tie as tie
+use Rattle.groups.proofs.readers.Readers.reads.Statement.{statement}
+use Rattle.groups.proofs.readers.Readers.reads.Tie as tie
 
 abbrev Test : ℕ → List ℕ → ℕ → Bool
 Test group sets k = meets group (getD sets k 0)

@@ -16,15 +16,15 @@ use Rattle.script_text.proofs.ScriptLaws.{counts-table}
 use Rattle.script_text.proofs.ReadLaws.{script-coded}
 use Rattle.memory.specs.Memory.{memoryRefusal}
 use Rattle.stages.specs.Answers.{Ran, refusedRun}
-use Rattle.stages.specs.Calls.{unless, strangers, onScript, untyped, numberOf}
-use Rattle.stages.specs.Internal.Stages.{TableOf, AcceptedCode, acceptedRun, RunsAccepted}
+use Rattle.stages.specs.Calls.{unless, strangers, onScript, untyped, numberOf, acceptedRun, runOn}
+use Rattle.stages.specs.Internal.Stages.{TableOf, AcceptedCode, RunsAccepted}
 use Rattle.stages.proofs.StageLaws.{goes, stops, accepted-code}
 use Rattle.stages.proofs.Kept.{left-unrefused}
 use Rattle.scripts.specs.Parting.{partsOf, mostScripts}
 use Rattle.scripts.specs.Internal.Places.{partsAfter}
 use Rattle.scripts.proofs.Places.{PartAt, part-at, parts-all, StartsAt, has-place, kept-end}
 use Rattle.rounds.specs.Calls.{lowest}
-use Rattle.rounds.specs.Internal.Stages.{Parted, runOn, turnOn, gateIn, ranOn, RunsScript, RunsTurn, RunsEach}
+use Rattle.rounds.specs.Internal.Stages.{Parted, turnOn, gateIn, ranOn, RunsScript, RunsTurn, RunsEach}
 use Rattle.rounds.proofs.LowerLaws.{lower-none, lowest-more}
 use Rattle.rounds.proofs.PlaceLaws.{rest, rest-more, rest-over, rest-all}
 
@@ -33,7 +33,7 @@ use Rattle.rounds.proofs.PlaceLaws.{rest, rest-more, rest-over, rest-al
 -- an accepted script on a memory that isn't refused: no number refuses its run
 run-on-accepted : (s : Sheet) (authority budget : ℕ) (script memory ws : List ℕ) (a : AcceptedCode s script ws)
     → strangers s authority ≡ 0 → memoryRefusal s memory ≡ 0
-    → runOn s authority budget script memory ≡ acceptedRun s memory authority budget (a .parsed)
+    → runOn s script memory authority budget ≡ acceptedRun s memory authority budget (a .parsed)
 unfolding onScript
 run-on-accepted s authority budget script memory ws a g m =
     goes (refusedRun memory) (strangers s authority) _ g

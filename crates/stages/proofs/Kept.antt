@@ -24,8 +24,7 @@ use Rattle.memory.specs.Memory.{memoryOf, proper, memoryRefusal}
 use Rattle.memory.specs.Theorems.{Declared}
 use Rattle.memory.proofs.Exactness.{memories-exactly}
 use Rattle.memory.proofs.ProperLaws.{proper-kept}
-use Rattle.stages.specs.Calls.{untyped, ended}
-use Rattle.stages.specs.Internal.Stages.{acceptedRun}
+use Rattle.stages.specs.Calls.{untyped, ended, acceptedRun}
 use Rattle.stages.proofs.StageLaws.{accepted-shape}
 
 -- A script uses integers alone, and packs at labels of the sheet.

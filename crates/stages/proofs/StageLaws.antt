@@ -34,10 +34,11 @@ use Rattle.memory.proofs.MemoryLaws.{unrefused-length, unrefused-formed}
 use Rattle.checker.specs.Internal.Post.{ChecksCode, KeepsCode}
 use Rattle.interpreter.specs.Internal.Run.{RunLeaves, Runs}
 use Rattle.stages.specs.Answers.{Ran, refusedRun, refusedView, refusedTrust}
-use Rattle.stages.specs.Calls.{unless, strangers, onScript, untyped, numberOf, ended, keepingBit, trustOn}
+use Rattle.stages.specs.Calls.{unless, strangers, onScript, untyped, numberOf, ended, acceptedRun, keepingBit}
+use Rattle.stages.specs.Calls.{trustOn}
 use Rattle.stages.specs.Internal.Stages.{TableOf, CodeOf, no-code, its-code, Judges, keepingIn, JudgesTrust}
-use Rattle.stages.specs.Internal.Stages.{KeepsScript, AcceptedCode, NumbersScript, acceptedRun, Spares}
-use Rattle.stages.specs.Internal.Stages.{RunsAccepted, TrustsOn, RunsOn, ViewsOn}
+use Rattle.stages.specs.Internal.Stages.{KeepsScript, AcceptedCode, NumbersScript, Spares, RunsAccepted}
+use Rattle.stages.specs.Internal.Stages.{TrustsOn, RunsOn, ViewsOn}
 
 -- ---- the code of a script
 

@@ -65,15 +65,24 @@ ended n budget memory spent = record { answer = 9; steps = budget; memory = memo
 ended n budget memory (over left) = record { answer = 10; steps = budget - left; memory = memory }
 ended n budget memory wrong = record { answer = 9; steps = budget; memory = memory }
 
--- simp_run
-unfoldable pub runOf : List ℕ → List ℕ → List ℕ → ℕ → ℕ → Ran
-runOf sheet script memory authority budget =
-    onSheet (refusedRun memory) (sheetOf sheet) (λ s.
+-- The run of an accepted script from a memory that isn't refused.
+abbrev pub acceptedRun : Sheet → List ℕ → ℕ → ℕ → Script → Ran
+acceptedRun s memory authority budget p =
+    ended (locationCount s) budget memory (iterate (worldFor s authority p) budget (memoryOf memory) (p .command))
+
+-- A run on a sheet that isn't refused.
+abbrev pub runOn : Sheet → List ℕ → List ℕ → ℕ → ℕ → Ran
+runOn s script memory authority budget =
     unless (refusedRun memory) (strangers s authority) (
     onScript (refusedRun memory) (scriptOf (countsOf s) script) (λ p.
     unless (refusedRun memory) (untyped s p) (
     unless (refusedRun memory) (memoryRefusal s memory) (
-    ended (locationCount s) budget memory (iterate (worldFor s authority p) budget (memoryOf memory) (p .command)))))))
+    acceptedRun s memory authority budget p))))
+
+-- simp_run
+unfoldable pub runOf : List ℕ → List ℕ → List ℕ → ℕ → ℕ → Ran
+runOf sheet script memory authority budget =
+    onSheet (refusedRun memory) (sheetOf sheet) (λ s. runOn s script memory authority budget)
 
 -- simp_view
 unfoldable pub viewOf : List ℕ → List ℕ → ℕ → List ℕ → Viewed

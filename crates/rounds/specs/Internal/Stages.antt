@@ -4,12 +4,10 @@ use mathlib.Core.List.{List}
 use Prim.Native.Nat.{ℕ, _≤_}
 use lib.ListN.{length, getD}
 use Rattle.sheet.specs.Sheet.{Sheet}
-use Rattle.script_text.specs.Counts.{countsOf}
-use Rattle.script_text.specs.Script.{scriptOf}
 use Rattle.memory.specs.Memory.{memoryRefusal}
 use Rattle.stages.specs.Answers.{Ran, refusedRun}
-use Rattle.stages.specs.Calls.{unless, strangers, onScript, untyped, numberOf}
-use Rattle.stages.specs.Internal.Stages.{TableOf, acceptedRun, Spares}
+use Rattle.stages.specs.Calls.{unless, strangers, numberOf, runOn}
+use Rattle.stages.specs.Internal.Stages.{TableOf, Spares}
 use Rattle.scripts.specs.Parting.{partsOf, mostScripts}
 use Rattle.scripts.specs.Internal.Places.{keptEnds}
 use Rattle.rounds.specs.Answers.{RanRound, refusedRound, roundFrom, Gate, allOpen}
@@ -20,19 +18,10 @@ pub record Parted (scripts ends : List ℕ) : Type 0 where
   pub few : length (partsOf scripts) ≤ mostScripts
   pub kept : ends ≡ keptEnds scripts
 
--- simp_run on a sheet that isn't refused
-abbrev pub runOn : Sheet → ℕ → ℕ → List ℕ → List ℕ → Ran
-runOn s authority budget script memory =
-    unless (refusedRun memory) (strangers s authority) (
-    onScript (refusedRun memory) (scriptOf (countsOf s) script) (λ c.
-    unless (refusedRun memory) (untyped s c) (
-    unless (refusedRun memory) (memoryRefusal s memory) (
-    acceptedRun s memory authority budget c))))
-
 -- the script in place i by a gate, on a sheet that isn't refused
 abbrev pub turnOn : Gate → Sheet → ℕ → ℕ → ℕ → List ℕ → List ℕ → Ran
 turnOn gate s authority budget i script memory =
-    unless (refusedRun memory) (gate i) (runOn s authority budget script memory)
+    unless (refusedRun memory) (gate i) (runOn s script memory authority budget)
 
 -- the gate that a number for each place stands for
 abbrev pub gateIn : List ℕ → Gate
@@ -56,12 +45,12 @@ pub record NumbersAll (scripts t : List ℕ) (r : ℕ) : Type 0 where
 pub record RunsScript (script t memory : List ℕ) (authority budget : ℕ) (r : Ran) : Type 0 where
   pub spares : Spares memory budget r
   pub ran : (s : Sheet) → TableOf t s → strangers s authority ≡ 0 → numberOf s script ≡ 0 → memoryRefusal s memory ≡ 0
-      → (r ≡ runOn s authority budget script memory) × (memoryRefusal s (r .memory) ≡ 0)
+      → (r ≡ runOn s script memory authority budget) × (memoryRefusal s (r .memory) ≡ 0)
 
 -- the same by the number of its gate
 pub record RunsTurn (script : List ℕ) (number : ℕ) (t memory : List ℕ) (authority budget : ℕ) (r : Ran) : Type 0 where
   pub ran : (s : Sheet) → TableOf t s → strangers s authority ≡ 0 → numberOf s script ≡ 0 → memoryRefusal s memory ≡ 0
-      → (r ≡ unless (refusedRun memory) number (runOn s authority budget script memory))
+      → (r ≡ unless (refusedRun memory) number (runOn s script memory authority budget))
       × (memoryRefusal s (r .memory) ≡ 0)
 
 pub record RunsEach (scripts gates t memory : List ℕ) (authority budget : ℕ) (r : RanRound) : Type 0 where

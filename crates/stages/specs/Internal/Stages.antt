@@ -6,24 +6,23 @@ use mathlib.Core.Option.{Option, none, some}
 use Prim.Native.Nat.{ℕ, _*_, _≤_}
 use lib.ListN.{length, take}
 use Rattle.language.specs.Syntax.{Script}
-use Rattle.language.specs.Transition.{iterate}
 use Rattle.language.specs.Trust.{trustKeeping}
 use Rattle.script.specs.Lines.{Source, cmdLines}
 use Rattle.script.specs.Internal.Code.{code}
 use Rattle.script.specs.Names.{named}
-use Rattle.sheet.specs.Sheet.{Sheet, formed, repeats, locationCount}
+use Rattle.sheet.specs.Sheet.{Sheet, formed, repeats}
 use Rattle.sheet.specs.Internal.Tables.{tableOf}
 use Rattle.sheet.specs.Internal.Starts.{startNo}
-use Rattle.sheet.specs.Meaning.{labelsOver, declarationsOf, worldFor}
+use Rattle.sheet.specs.Meaning.{labelsOver, declarationsOf}
 use Rattle.script_text.specs.Counts.{countsOf}
 use Rattle.script_text.specs.Script.{scriptOf}
 use Rattle.script_text.specs.Internal.Decoded.{countsIn, decodedScript}
 use Rattle.script_text.specs.declared.Answer.{Answer}
 use Rattle.script_text.specs.declared.Answer.the-variants.{Read, Refused}
-use Rattle.memory.specs.Memory.{memoryOf, memoryRefusal}
+use Rattle.memory.specs.Memory.{memoryRefusal}
 use Rattle.memory.specs.View.{viewWords, viewRefusal}
-use Rattle.stages.specs.Answers.{Ran, refusedRun, refusedView, TrustAnswer}
-use Rattle.stages.specs.Calls.{unless, strangers, onScript, untyped, numberOf, ended, trustOn}
+use Rattle.stages.specs.Answers.{Ran, refusedView, TrustAnswer}
+use Rattle.stages.specs.Calls.{unless, strangers, onScript, untyped, numberOf, acceptedRun, runOn, trustOn}
 
 -- t is the table of the sheet s, which is of the form and repeats nothing
 pub record TableOf (t : List ℕ) (s : Sheet) : Type 0 where
@@ -70,11 +69,6 @@ pub record NumbersScript (script t : List ℕ) (r count : ℕ) (words : List ℕ
   pub numbered : (s : Sheet) → TableOf t s → r ≡ numberOf s script
   pub accepted : (s : Sheet) → TableOf t s → r ≡ 0 → AcceptedCode s script (take (count * 3) words)
 
--- the run of an accepted script from a memory that isn't refused
-abbrev pub acceptedRun : Sheet → List ℕ → ℕ → ℕ → Script → Ran
-acceptedRun s memory authority budget p =
-    ended (locationCount s) budget memory (iterate (worldFor s authority p) budget (memoryOf memory) (p .command))
-
 -- Whatever the table and the code are: the memory is untouched unless the answer is 0, and no more steps are taken
 -- than the budget has.
 pub record Spares (memory : List ℕ) (budget : ℕ) (r : Ran) : Type 0 where
@@ -95,12 +89,7 @@ pub record TrustsOn (script t : List ℕ) (r : TrustAnswer) : Type 0 where
 
 pub record RunsOn (script t memory : List ℕ) (authority budget : ℕ) (r : Ran) : Type 0 where
   pub spares : Spares memory budget r
-  pub ran : (s : Sheet) → TableOf t s
-      → r ≡ unless (refusedRun memory) (strangers s authority) (
-      onScript (refusedRun memory) (scriptOf (countsOf s) script) (λ p.
-      unless (refusedRun memory) (untyped s p) (
-      unless (refusedRun memory) (memoryRefusal s memory) (
-      acceptedRun s memory authority budget p))))
+  pub ran : (s : Sheet) → TableOf t s → r ≡ runOn s script memory authority budget
 
 pub record ViewsOn (t memory : List ℕ) (group : ℕ) (view : List ℕ) (answer : ℕ) (left : List ℕ) : Type 0 where
   pub untouched : (answer ≡ 0 → ⊥) → left ≡ view

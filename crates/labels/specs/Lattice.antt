@@ -91,7 +91,7 @@ ClosedBelow =
 abbrev pub ReadingDownward : Type 0
 ReadingDownward = (rule : Reading) (n : ℕ) → n ≤ owners → (g : ℕ) → DownwardClosed (readsUnder rule n g)
 
--- Request (g)'s own sentence: who reads a label reads every label below it, by both rules.
+-- Request (g)'s own sentence: who reads a label reads every label below it, by both rules, of up to 16 principals.
 abbrev pub ReadsBelow : Type 0
 ReadsBelow = (rule : Reading) (n : ℕ) → n ≤ owners → (g : ℕ) (a b : Label)
     → belowOf a b ≡ true → readsUnder rule n g b ≡ true → readsUnder rule n g a ≡ true

@@ -88,6 +88,7 @@ LeastLabel {L} 𝓛 D = (Γ : List (LabelledType L)) (e : Expr) (τ : Ty) (ℓ :
     ↔ (Typed 𝓛 D Γ e τ (least (conditions 𝓛 D) (labelsBound Γ) e)
     × (𝓛 .leq (least (conditions 𝓛 D) (labelsBound Γ) e) ℓ ≡ true))
 
+-- of any labels with these laws, whatever is declared
 abbrev pub LeastLabels : Type 1
 LeastLabels = (L : Type 0) (𝓛 : Labels L) → LeastLabelLaws 𝓛 → (D : Declarations L) → LeastLabel 𝓛 D
 

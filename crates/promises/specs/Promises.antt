@@ -72,8 +72,8 @@ pub record Promises : Type 1 where
   -- The functions agree with the figures; runs are determinate, sound and end as the figures have it; typing is exact;
   -- the paper's theorems 1 and 2, noninterference, of one expression and of one command; confinement.
   pub theorems : Theorems
-  -- The scope's least label of an expression is the least that figure 4 gives it: it is typed at a label exactly if it
-  -- is at the least one, and that is at or below the label.
+  -- The scope's least label of an expression is the least that figure 4 gives it: figure 4 gives the expression a type
+  -- at a label exactly if it gives it that type at the least label, and the least label is at or below that label.
   pub least-labels : LeastLabels
   -- A command passes stricter conditions on unpacks exactly if it passes the conditions and each of its unpacks the
   -- test besides; so trust-keeping is what noninterference asks for where a group is distrusted.
@@ -101,7 +101,7 @@ pub record Promises : Type 1 where
   pub closed-below : ClosedBelow
   -- Every group reads so, by the scope's rule and where one reads by himself.
   pub reading-downward : ReadingDownward
-  -- Who reads a label reads every label below it, by both rules.
+  -- Who reads a label reads every label below it, by both rules, of up to 16 principals.
   pub reads-below : ReadsBelow
   -- Where one reads by himself, a group reads exactly if a member does as a group of one; it reads no more than by the
   -- scope's rule, a group of one as much, and the empty group nothing.

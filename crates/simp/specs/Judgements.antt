@@ -2,9 +2,9 @@
 -- holds where none does. (Of a round Rounds.antt says it, of smallest groups Groups.antt, of trust-keeping
 -- scripts Trust.antt.)
 -- The demands say that the calls answer so.
--- `wellFormed`, `memoryOf`, `wordsOf` and `viewWords` are crate memory's: its theorems MemoryExactly and ViewExactly
--- say that a memory is well-formed exactly if it is the words of values as declared, and that views are equal exactly
--- if the masked values are.
+-- `wellFormed`, `memoryOf`, `wordsOf` and `viewWords` are crate memory's: its theorems MemoriesExactly and ViewsExactly
+-- say that a memory of the right size is well-formed exactly if it is the words of values as declared, and that views
+-- of such memories are equal exactly if the masked values are.
 use mathlib.Core.Logic.{_⊎_}
 use mathlib.Core.Path.{_≡_}
 use mathlib.Core.Bool.{true, false}
@@ -66,7 +66,7 @@ NoSheet sheet = (s : Sheet) → ¬ IsSheet sheet s
 abbrev pub Repeats : List ℕ → Type 0
 Repeats sheet = OfSheet sheet (λ s. repeats s ≡ true)
 
--- 3: somebody in the group is no principal of the sheet.
+-- 3: somebody in the authority or the group is no principal of the sheet.
 abbrev pub Strangers : List ℕ → ℕ → Type 0
 Strangers sheet group = OfSheet sheet (λ s. ¬ Principals s group)
 
@@ -82,7 +82,7 @@ IllTyped sheet script = OfScript sheet script (λ s p. ¬ TypableUnlabelled s p)
 abbrev pub IllLabelled : List ℕ → List ℕ → Type 0
 IllLabelled sheet script = OfScript sheet script (λ s p. ¬ Typable s p)
 
--- 7: the slice has another size.
+-- 7: the slice isn't 16 words for each location.
 abbrev pub OtherSize : List ℕ → List ℕ → Type 0
 OtherSize sheet words = OfSheet sheet (λ s. ¬ Sized s words)
 

@@ -13,8 +13,9 @@ use Rattle.rounds.specs.Calls.{roundBy}
 use Rattle.simp.specs.Rounds.{EachOpen}
 use Rattle.simp.specs.RoundView.{EachDone}
 
--- The group of distrusted parties writes some labels. With the locations and the package contents of these labels
--- blanked out, the two memories are equal, on the sheet that has this text. (At most one sheet has it.)
+-- With all locations and package contents blanked out whose labels the group of distrusted parties writes, the two
+-- memories are equal, on the sheet that has this text. (At most one sheet has it; where none has, this holds of any
+-- two.)
 abbrev pub SameTrusted : List ℕ → ℕ → List ℕ → List ℕ → Type 0
 SameTrusted sheet group memory memory′ =
     (s : Sheet) → IsSheet sheet s → trustedWords s group memory ≡ trustedWords s group memory′

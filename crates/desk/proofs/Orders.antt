@@ -10,6 +10,7 @@ use Rattle.text.specs.Reading.Read.{got, bad}
 use Rattle.text.proofs.Readings.{not-bad}
 use Rattle.logic.proofs.OptionLaws.{none-some}
 use Rattle.numbers.specs.Rows.{Row, _when_, numbers, First}
+use Rattle.numbers.specs.Calls.{AnswerBy}
 use Rattle.numbers.proofs.RowLaws.{exactly}
 use Rattle.memory.specs.View.{viewWords}
 use Rattle.memory_text.specs.Printing.{memoryText}
@@ -18,7 +19,7 @@ use Rattle.memory_text.specs.Theorems.{IsMemory}
 use Rattle.memory_text.proofs.Memories.{memory-exact, memory-sound}
 use Rattle.stages.specs.Answers.{Viewed, refusedView}
 use Rattle.stages.specs.Calls.{viewOf}
-use Rattle.simp.specs.Judgements.{OfSheet, Strangers, OtherSize, IllFormed, View}
+use Rattle.simp.specs.Judgements.{OfSheet, Strangers, OtherSize, IllFormed, viewTable}
 use Rattle.simp.proofs.Judged.{its}
 use Rattle.simp.proofs.SecondDemand.{view-exactly}
 use Rattle.desk.specs.Fields.{groupOf}
@@ -26,7 +27,7 @@ use Rattle.desk.specs.Numbers.{placeOf, earlier, unread, asText}
 use Rattle.desk.specs.Given.{wordsRead, givenFrom, givenOf}
 use Rattle.desk.specs.Output.{numberLine}
 use Rattle.desk.specs.Show.{viewText, viewed, showOf}
-use Rattle.desk.specs.Order.{IsGroup, OfGroup, OfMemory, NoGroup, NoMemory, showRows, Shown}
+use Rattle.desk.specs.Order.{IsGroup, OfGroup, OfMemory, NoGroup, NoMemory, showRows, showTable}
 use Rattle.desk.specs.Theorems.{SameOrder, ShowInOrder}
 use Rattle.desk.proofs.Exact.{group-exact}
 use Rattle.desk.proofs.Givens.{given-words}
@@ -90,7 +91,7 @@ module _ (sheet text group ws : List ℕ) (g : ℕ) where
   unfolding First
   on-sheet o m k = go (view-exactly sheet ws g zeros view .0 refl)
     where
-      go : View sheet ws g zeros view → Said (showRows sheet text group) (unread o m)
+      go : AnswerBy (viewTable sheet ws g zeros) view → Said (showRows sheet text group) (unread o m)
       go (inl (a, e)) = inl (a, ap (said (unread o m)) e ∙ sheet-first o m .0)
       go (inr (n, inl (a, e))) = inr (n, inl (a, ap (said (unread o m)) e ∙ sheet-first o m .1))
       go (inr (n, inr (l, h))) = inr (n, inr (l, k h))
@@ -150,7 +151,7 @@ module _ (sheet text group : List ℕ) where
   show-by = rw (given-words (memory text) (groupOf group))
 
   by-texts : (o : Option ℕ) → groupOf group ≡ o → (m : Read (List ℕ)) → memory text ≡ m
-      → Shown sheet text group (printed o m)
+      → AnswerBy (showTable sheet text group) (printed o m)
   unfolding wordsRead unread
   by-texts none e m q =
       on-sheet sheet text group (wordsRead m) 0 none m

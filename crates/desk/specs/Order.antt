@@ -6,7 +6,8 @@ use mathlib.Core.Path.{_≡_}
 use mathlib.Core.List.{List, [], _∷_, _++_}
 use Rattle.sets.specs.Sets.{width}
 use Rattle.text.specs.Set.{setDigits, hexForm}
-use Rattle.numbers.specs.Rows.{Row, _when_, First}
+use Rattle.numbers.specs.Rows.{Row, _when_}
+use Rattle.numbers.specs.Calls.{Table}
 use Rattle.memory.specs.View.{viewWords}
 use Rattle.memory_text.specs.Printing.{memoryText}
 use Rattle.memory_text.specs.Theorems.{IsMemory}
@@ -48,8 +49,10 @@ showRows sheet text group =
     ∷ []
 
 -- the number alone, or the view, written as a memory text is
-abbrev pub Shown : List ℕ → List ℕ → List ℕ → List ℕ → Type 0
-Shown sheet text group =
-    First numberLine
-    (λ out. OfSheet sheet (λ s. OfGroup group (λ g. OfMemory text (λ ws. out ≡ memoryText (viewWords s g ws)))))
-    (showRows sheet text group)
+abbrev pub showTable : List ℕ → List ℕ → List ℕ → Table (List ℕ)
+showTable sheet text group = record {
+  rows = showRows sheet text group;
+  refuse = numberLine;
+  Else = λ out.
+      OfSheet sheet (λ s. OfGroup group (λ g. OfMemory text (λ ws. out ≡ memoryText (viewWords s g ws))));
+}

@@ -6,13 +6,14 @@ use mathlib.Core.List.{List}
 use mathlib.Core.Option.{some}
 use lib.ListN.{length, take}
 use Rattle.numbers.specs.Rows.{numbers}
+use Rattle.numbers.specs.Calls.{AnswerBy}
 use Rattle.simp.specs.Judgements.{viewRows}
 use Rattle.parts.specs.Parts.{keep}
 use Rattle.parts.specs.Feeding.{beginning, held, fed}
 use Rattle.desk.specs.Fields.{groupOf}
 use Rattle.desk.specs.Numbers.{order}
 use Rattle.desk.specs.Show.{showOf}
-use Rattle.desk.specs.Order.{IsGroup, Shown}
+use Rattle.desk.specs.Order.{IsGroup, showTable}
 use Rattle.desk.specs.Inputs.{shownFor, showHeld}
 
 -- a group is four digits and byte 10
@@ -25,7 +26,8 @@ SameOrder = (sheet memory : List ℕ) (group : ℕ) (view : List ℕ) → order 
 
 -- Show prints exactly what its table has: the first number that applies, or the view.
 abbrev pub ShowInOrder : Type 0
-ShowInOrder = (sheet text group out : List ℕ) → (showOf sheet text group ≡ out) ↔ Shown sheet text group out
+ShowInOrder = (sheet text group out : List ℕ)
+    → (showOf sheet text group ≡ out) ↔ AnswerBy (showTable sheet text group) out
 
 -- What is kept of the texts is enough: a text that is too long is refused as itself.
 abbrev pub KeptEnough : Type 0

@@ -7,7 +7,9 @@ use Prim.Native.Nat.{ℕ}
 use borrow.Author.Tests.{eq-eqb}
 use lib.Dec.{eqb}
 use Rattle.numbers.specs.Rows.{Row, _when_, numbers, None, First, Among, here, later, FirstToApply, GivenInOrder}
-use Rattle.numbers.specs.Theorems.{InOrder, refuses, none-applies, Settled, ExactlyOneAnswer, EveryTable}
+use Rattle.numbers.specs.Calls.{Call}
+use Rattle.numbers.specs.Theorems.{InOrder, refuses, none-applies, FirstThatAppliesIsGiven, Settled}
+use Rattle.numbers.specs.Theorems.{ExactlyOneAnswer, Orderly, DemandByTable, EveryTable}
 
 -- a row that does not apply, before one that does
 below : {P : Type 0} {rows : List Row} {j : ℕ} (k : ℕ) → ¬ P → FirstToApply rows j → FirstToApply ((k when P) ∷ rows) j
@@ -84,12 +86,45 @@ one-answer A refuse Else rows s e =
           (λ n d x. (λ z. subst Else z d, λ d′. sym (e n .2 (f .0) d) ∙ e n .2 x d′)) (f .1) r .1,
     )
 
+-- ---- every call
+
+first-given : FirstThatAppliesIsGiven
+first-given A refuse number Else rows h =
+    by-rows refuse Else (λ r. GivenInOrder rows (number r)) rows
+    (λ k i g. subst (GivenInOrder rows) (sym (h .of-refusal k))
+    (record { refused = λ _. g; not-refused = λ n. absurd (n i) }))
+    (λ r n e. record { refused = λ i. absurd (h .of-others r e i); not-refused = λ _. n })
+
+-- a number among the first, or among the last, is among all
+among-first : {k : ℕ} {ns : List ℕ} (ms : List ℕ) → Among ns k → Among (ns ++ ms) k
+among-first ms here = here
+among-first ms (later i) = later (among-first ms i)
+
+among-last : {k : ℕ} (ns : List ℕ) {ms : List ℕ} → Among ms k → Among (ns ++ ms) k
+among-last [] i = i
+among-last (n ∷ ns) i = later (among-last ns i)
+
+by-its-table : DemandByTable
+by-its-table A c o b =
+    let refuse = c .table .refuse in
+    let Else = c .table .Else in
+    let rows = c .table .rows in
+    let h = o .numbered in
+    record {
+      order = first-given A refuse (c .number) Else rows h (c .gives) b;
+      by-table = b;
+      one-of = by-rows refuse Else (λ r. Among (c .others ++ numbers rows) (c .number r)) rows
+          (λ k i g. subst (Among (c .others ++ numbers rows)) (sym (h .of-refusal k)) (among-last (c .others) i))
+          (λ r n e. among-first (numbers rows) (o .of-others r e)) (c .gives) b;
+      refused = by-rows refuse Else (λ r. Among (numbers rows) (c .number r) → r ≡ refuse (c .number r)) rows
+          (λ k i g j. sym (ap refuse (h .of-refusal k))) (λ r n e j. absurd (h .of-others r e j)) (c .gives) b;
+      kept = by-rows refuse Else (λ r. ¬ (c .number r ≡ 0) → c .leaves r ≡ c .lent) rows
+          (λ k i g n. o .refusal-keeps k) (λ r n e. o .stop-keeps r e) (c .gives) b;
+    }
+
 pub every-table : EveryTable
 every-table = record {
-  first-that-applies = λ A refuse number Else rows h. by-rows refuse Else (λ r. GivenInOrder rows (number r)) rows
-      (λ k i g. subst (GivenInOrder rows) (sym (h .of-refusal k))
-      (record { refused = λ _. g; not-refused = λ n. absurd (n i) }))
-      (λ r n e. record { refused = λ i. absurd (h .of-others r e i); not-refused = λ _. n });
+  first-that-applies = first-given;
   answers-in-order = λ A refuse Else rows r. (
     by-rows refuse Else (InOrder refuse Else rows) rows (λ k i g. refuses g) (λ x n e. none-applies n e) r,
     judged refuse Else,
@@ -97,6 +132,7 @@ every-table = record {
   refused-by-a-number =
       λ A refuse Else rows. by-rows refuse Else _ rows (λ k i g. inl (k, i, refl)) (λ r n e. inr (n, e));
   exactly-one-answer = one-answer;
+  demand-by-table = by-its-table;
 }
 
 -- ---- the numbers of a table
@@ -114,7 +150,40 @@ not-one n (later {y = y} {xs = xs} i) h e = not-one n i (rest (eqb y n) h) e
     rest true d = absurd (true≢false (sym d))
     rest false d = d
 
--- a number among the first is among all
-pub among-more : {k : ℕ} {ns : List ℕ} (ms : List ℕ) → Among ns k → Among (ns ++ ms) k
-among-more ms here = here
-among-more ms (later i) = later (among-more ms i)
+-- the lists have no number in common, by computing
+abbrev pub apart : List ℕ → List ℕ → Bool
+apart [] ms = true
+apart (n ∷ ns) ms = cond (free n ms) (apart ns ms) false
+
+not-both : {k : ℕ} (ns ms : List ℕ) → apart ns ms ≡ true → Among ns k → ¬ Among ms k
+not-both (n ∷ ns) ms h here = both (free n ms) refl h
+  where
+    both : (b : Bool) → free n ms ≡ b → cond b (apart ns ms) false ≡ true → ¬ Among ms n
+    both true e d j = not-one n j e refl
+    both false e d j = true≢false (sym d)
+not-both (n ∷ ns) ms h (later i) = not-both ns ms (rest (free n ms) h) i
+  where
+    rest : (b : Bool) → cond b (apart ns ms) false ≡ true → apart ns ms ≡ true
+    rest true d = d
+    rest false d = absurd (true≢false (sym d))
+
+module _ {A : Type 0} (c : Call A) (a : apart (c .others) (numbers (c .table .rows)) ≡ true)
+    (of-refusal : (k : ℕ) → c .number (c .table .refuse k) ≡ k)
+    (keeps : (k : ℕ) → c .leaves (c .table .refuse k) ≡ c .lent) where
+  -- the others and the table have no number in common
+  pub orderly : ((r : A) → c .table .Else r → Among (c .others) (c .number r))
+      → ((r : A) → c .table .Else r → ¬ (c .number r ≡ 0) → c .leaves r ≡ c .lent) → Orderly c
+  orderly others stops = record {
+    numbered = record {
+      of-refusal = of-refusal;
+      of-others = λ r e. not-both (c .others) (numbers (c .table .rows)) a (others r e);
+    };
+    of-others = others;
+    refusal-keeps = keeps;
+    stop-keeps = stops;
+  }
+
+  -- and the number is 0 wherever no row applies
+  pub orderly-done : Among (c .others) 0 → ((r : A) → c .table .Else r → c .number r ≡ 0) → Orderly c
+  orderly-done z done =
+      orderly (λ r e. subst (Among (c .others)) (sym (done r e)) z) (λ r e n. absurd (n (done r e)))

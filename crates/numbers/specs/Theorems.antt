@@ -6,6 +6,7 @@ use mathlib.Core.Path.{_≡_}
 use mathlib.Core.List.{List, [], _∷_}
 use Prim.Native.Nat.{ℕ}
 use Rattle.numbers.specs.Rows.{Row, _when_, numbers, None, First, Among, FirstToApply, GivenInOrder}
+use Rattle.numbers.specs.Calls.{Call, AnswerBy, Demand1Of}
 
 -- A refusal has the number that it is by; an answer where no row applies has none of the table's numbers.
 pub record Numbered {A : Type 0} (refuse : ℕ → A) (number : A → ℕ) (Else : A → Type 0) (rows : List Row) : Type 0 where
@@ -51,9 +52,21 @@ ExactlyOneAnswer =
     (A : Type 0) (refuse : ℕ → A) (Else : A → Type 0) (rows : List Row) → Settled rows → (None rows → ExactlyOne Else)
     → ExactlyOne (First refuse Else rows)
 
+-- The answers that a call's table allows have their numbers, and write nothing unless the number is 0.
+pub record Orderly {A : Type 0} (c : Call A) : Type 0 where
+  pub numbered : Numbered (c .table .refuse) (c .number) (c .table .Else) (c .table .rows)
+  pub of-others : (r : A) → c .table .Else r → Among (c .others) (c .number r)
+  pub refusal-keeps : (k : ℕ) → c .leaves (c .table .refuse k) ≡ c .lent
+  pub stop-keeps : (r : A) → c .table .Else r → ¬ (c .number r ≡ 0) → c .leaves r ≡ c .lent
+
+-- Demand 1 of every call follows from its table, if the call answers by it.
+abbrev pub DemandByTable : Type 1
+DemandByTable = (A : Type 0) (c : Call A) → Orderly c → AnswerBy (c .table) (c .gives) → Demand1Of c
+
 -- All of it.
 pub record EveryTable : Type 1 where
   pub first-that-applies : FirstThatAppliesIsGiven
   pub answers-in-order : AnswersInOrder
   pub refused-by-a-number : RefusedByANumber
   pub exactly-one-answer : ExactlyOneAnswer
+  pub demand-by-table : DemandByTable

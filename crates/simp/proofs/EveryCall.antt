@@ -1,54 +1,88 @@
 -- Demands 1 and 2, of every call.
-use mathlib.Core.Path.{refl, sym, ap, _∙_}
+use mathlib.Core.Path.{refl, ap}
+use mathlib.Core.List.{List}
 use Prim.Native.Nat.{ℕ}
-use Rattle.stages.specs.Answers.{Ran, refusedRun, Viewed, refusedView}
-use Rattle.stages.specs.Calls.{checkOf}
-use Rattle.numbers.specs.Rows.{numbers}
-use Rattle.numbers.proofs.RowLaws.{not-one, exactly, every-table}
-use Rattle.simp.specs.Judgements.{checkRows, runRows, viewRows}
-use Rattle.simp.specs.Demands.{Demand1, Demand2}
-use Rattle.simp.proofs.SecondDemand.{checked, run-ends, run-exactly, view-exactly}
-use Rattle.simp.proofs.FirstDemand.{finished, starts, run-answers, check-answers, view-answers, past-8}
-use Rattle.simp.proofs.RoundDemands.{round-demand-1, round-exactly}
-use Rattle.simp.proofs.GroupDemands.{groups-demand-1, groups-exactly}
-use Rattle.simp.proofs.TrustDemands.{trust-demand-1, trust-exactly}
+use Rattle.stages.specs.Answers.{Viewed}
+use Rattle.rounds.specs.Answers.{Gate, allOpen}
+use Rattle.numbers.specs.Rows.{numbers, here}
+use Rattle.numbers.specs.Calls.{Call, Demand1Of, Demand2Of}
+use Rattle.numbers.specs.Theorems.{Orderly}
+use Rattle.numbers.proofs.RowLaws.{orderly, orderly-done, every-table}
+use Rattle.simp.specs.Demands.{checkCall, runCall, viewCall, roundCall, groupsCall, trustCall, Demand1, Demand2}
+use Rattle.simp.proofs.SecondDemand.{check-exactly, run-ends, run-exactly, view-exactly}
+use Rattle.simp.proofs.FirstDemand.{finished, starts, ended, past-refusals, run-answers}
+use Rattle.simp.proofs.RoundDemands.{round-exactly, round-played}
+use Rattle.simp.proofs.GroupDemands.{groups-exactly}
+use Rattle.simp.proofs.TrustDemands.{trust-exactly, as-check}
 
-pub demand-1 : Demand1
+-- demand 1 of a call of which demand 2 is known
+by-second : {A : Type 0} (c : Call A) → Orderly c → Demand2Of c → Demand1Of c
+by-second {A} c o d = every-table .demand-by-table A c o (d (c .gives) .0 refl)
+
+-- ---- the answers that each table allows
+
+checks : (sheet script : List ℕ) → Orderly (checkCall sheet script)
 unfolding numbers
-demand-1 = record {
-  check-order = λ sheet script.
-      every-table .first-that-applies ℕ (λ k. k) (λ k. k) _ (checkRows sheet script)
-      (record { of-refusal = λ k. refl; of-others = λ r e i. not-one 0 i refl e }) _ (checked sheet script);
-  run-order = λ sheet script memory authority budget.
-      every-table .first-that-applies Ran (refusedRun memory) (λ r. r .answer) _ (runRows sheet script memory authority)
-      (record { of-refusal = λ k. refl; of-others = λ r e. past-8 (e .2 .2) }) _
-      (run-exactly sheet script memory authority budget _ .0 refl);
-  view-order = λ sheet memory group view.
-      every-table .first-that-applies Viewed (refusedView view) (λ v. v .answer) _ (viewRows sheet memory group view)
-      (record { of-refusal = λ k. refl; of-others = λ v e i. not-one 0 i refl (ap (λ (x : Viewed). x .answer) (e .2)) })
-      _
-      (view-exactly sheet memory group view _ .0 refl);
-  check-number = checked;
-  run-number = λ sheet script memory authority budget. run-exactly sheet script memory authority budget _ .0 refl;
-  view-number = λ sheet memory group view. view-exactly sheet memory group view _ .0 refl;
-  run-finished = λ sheet script memory authority budget h.
-      let st = starts sheet script memory authority budget h in
-      finished (st .2) (run-ends (st .2) budget) h;
-  check-answers = check-answers;
-  run-answers = run-answers;
-  view-answers = view-answers;
-  round = round-demand-1;
-  groups = groups-demand-1;
-  trust = trust-demand-1;
-}
+checks sheet script = orderly-done (checkCall sheet script) refl (λ k. refl) (λ k. refl) here (λ r e. e)
+
+runs : (sheet script memory : List ℕ) (authority budget : ℕ) → Orderly (runCall sheet script memory authority budget)
+unfolding numbers
+runs sheet script memory authority budget =
+    orderly (runCall sheet script memory authority budget) refl (λ k. refl) (λ k. refl)
+    (λ r e. past-refusals (e .2 .2)) (λ r e. ended (e .2 .2) .kept)
+
+views : (sheet memory : List ℕ) (group : ℕ) (view : List ℕ) → Orderly (viewCall sheet memory group view)
+unfolding numbers
+views sheet memory group view =
+    orderly-done (viewCall sheet memory group view) refl (λ k. refl) (λ k. refl) here
+    (λ v e. ap (λ (x : Viewed). x .answer) (e .2))
+
+rounds : (gate : Gate) (sheet scripts memory : List ℕ) (authority budget : ℕ)
+    → Orderly (roundCall gate sheet scripts memory authority budget)
+unfolding numbers
+rounds gate sheet scripts memory authority budget =
+    orderly-done (roundCall gate sheet scripts memory authority budget) refl (λ k. refl) (λ k. refl) here
+    (λ r p. p .not-refused)
+
+groups : (sheet : List ℕ) (l : ℕ) (places : List ℕ) → Orderly (groupsCall sheet l places)
+unfolding numbers
+groups sheet l places =
+    orderly-done (groupsCall sheet l places) refl (λ k. refl) (λ k. refl) here (λ r o. o .2 .2 .not-refused)
+
+trusts : (sheet script : List ℕ) → Orderly (trustCall sheet script)
+unfolding numbers
+trusts sheet script =
+    orderly-done (trustCall sheet script) refl (λ k. refl) (λ k. refl) here (λ r o. o .2 .2 .not-refused)
+
+-- ---- the demands
 
 pub demand-2 : Demand2
 demand-2 = record {
-  check = λ sheet script. exactly (λ k. k) _ _ (checkOf sheet script) (checkRows sheet script)
-      (λ n z r. (λ e. sym e ∙ z, λ y. z ∙ sym y)) (checked sheet script);
+  check = check-exactly;
   run = run-exactly;
   view = view-exactly;
   round = round-exactly;
   groups = groups-exactly;
   trust = trust-exactly;
+}
+
+pub demand-1 : Demand1
+unfolding allOpen
+demand-1 = record {
+  check = λ sheet script. by-second _ (checks sheet script) (check-exactly sheet script);
+  run = λ sheet script memory authority budget.
+      by-second _ (runs sheet script memory authority budget) (run-exactly sheet script memory authority budget);
+  view = λ sheet memory group view. by-second _ (views sheet memory group view) (view-exactly sheet memory group view);
+  round = λ gate sheet scripts memory authority budget.
+      by-second _ (rounds gate sheet scripts memory authority budget)
+      (round-exactly gate sheet scripts memory authority budget);
+  groups = λ sheet l places. by-second _ (groups sheet l places) (groups-exactly sheet l places);
+  trust = λ sheet script. by-second _ (trusts sheet script) (trust-exactly sheet script);
+  run-answers = run-answers;
+  run-finished = λ sheet script memory authority budget h.
+      let st = starts sheet script memory authority budget h in
+      finished (st .2) (run-ends (st .2) budget) h;
+  round-played = round-played;
+  all-open = λ i. refl;
+  trust-as-check = as-check;
 }

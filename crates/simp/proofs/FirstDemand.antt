@@ -1,17 +1,17 @@
 -- Demand 1 of the calls on one script, read off their tables: what each leaves and answers.
-use mathlib.Core.Path.{_≡_, refl, ap}
+use mathlib.Core.Path.{_≡_, refl}
 use mathlib.Core.List.{List, [], _∷_}
 use Prim.Native.Nat.{ℕ}
 use native.Mathlib.Omega.{arith}
 use Rattle.sheet.specs.Sheet.{Sheet}
 use Rattle.language.specs.Syntax.{Script}
 use Rattle.stages.specs.Answers.{Ran, refusedRun, Viewed, refusedView}
-use Rattle.stages.specs.Calls.{checkOf, runOf, viewOf}
+use Rattle.stages.specs.Calls.{runOf, viewOf}
 use Rattle.numbers.specs.Rows.{numbers, Among, here, later}
-use Rattle.simp.specs.Judgements.{checkRows, Started, Ends, ends-0, ends-9, ends-10, runRows, viewRows}
-use Rattle.simp.specs.Demands.{Finished, RunAnswers, ViewAnswers}
-use Rattle.numbers.proofs.RowLaws.{by-rows, not-one, among-more}
-use Rattle.simp.proofs.SecondDemand.{checked, Starts, run-starts, run-exactly, Shows, view-shows, view-exactly}
+use Rattle.simp.specs.Judgements.{Started, Ends, ends-0, ends-9, ends-10, runRows, viewRows}
+use Rattle.simp.specs.Demands.{Finished, RunAnswers}
+use Rattle.numbers.proofs.RowLaws.{by-rows, not-one}
+use Rattle.simp.proofs.SecondDemand.{Starts, run-starts, run-exactly, Shows, view-shows}
 
 module _ {memory : List ℕ} {budget : ℕ} where
   pub finished : {sheet script : List ℕ} {authority : ℕ} {s : Sheet} {p : Script} {r : Ran}
@@ -25,32 +25,24 @@ module _ {memory : List ℕ} {budget : ℕ} where
   pub ended : {authority : ℕ} {s : Sheet} {p : Script} {r : Ran} → Ends s p memory authority budget r
       → RunAnswers memory budget r
   ended (ends-0 k t n) = record {
-    number = here;
     kept = λ h. absurd (h refl);
-    no-steps = λ h j i. absurd (h refl);
     all-steps = λ h. absurd (omega arith);
     fewer-steps = λ h. absurd (omega arith);
   }
   ended (ends-9 t n l) = record {
-    number = later (later (later (later (later (later (later (later (later here))))))));
     kept = λ h. refl;
-    no-steps = λ h j i. absurd (j refl);
     all-steps = λ h. refl;
     fewer-steps = λ h. absurd (omega arith);
   }
   ended (ends-10 k t n l) = record {
-    number = later (later (later (later (later (later (later (later (later (later here)))))))));
     kept = λ h. refl;
-    no-steps = λ h j i. absurd (i refl);
     all-steps = λ h. absurd (omega arith);
     fewer-steps = λ h. k;
   }
 
   refused : (k : ℕ) → Among (1 ∷ 2 ∷ 3 ∷ 4 ∷ 5 ∷ 6 ∷ 7 ∷ 8 ∷ []) k → RunAnswers memory budget (refusedRun memory k)
   refused k i = record {
-    number = later (among-more (9 ∷ 10 ∷ []) i);
     kept = λ h. refl;
-    no-steps = λ h j l. refl;
     all-steps = λ h. absurd (not-one 9 i refl h);
     fewer-steps = λ h. absurd (not-one 10 i refl h);
   }
@@ -80,25 +72,9 @@ run-answers sheet script memory authority budget =
     (λ k i g. refused k i) (λ r n e. ended (e .2 .2)) _
     (run-exactly sheet script memory authority budget _ .0 refl)
 
-pub check-answers : (sheet script : List ℕ) → Among (0 ∷ 1 ∷ 2 ∷ 4 ∷ 5 ∷ 6 ∷ []) (checkOf sheet script)
-unfolding numbers
-check-answers sheet script = by-rows (λ k. k) _ (Among (0 ∷ 1 ∷ 2 ∷ 4 ∷ 5 ∷ 6 ∷ [])) (checkRows sheet script)
-    (λ k i g. later i) (λ r n e. rw e here) _ (checked sheet script)
-
-pub view-answers : (sheet memory : List ℕ) (group : ℕ) (view : List ℕ)
-    → ViewAnswers view (viewOf sheet memory group view)
-unfolding numbers
-view-answers sheet memory group view =
-    by-rows (refusedView view) _ (ViewAnswers view) (viewRows sheet memory group view)
-    (λ k i g. record { number = later i; kept = λ h. refl })
-    (λ v n e. let z : v .answer ≡ 0 = ap (λ (x : Viewed). x .answer) (e .2) in
-    record { number = rw z here; kept = λ h. absurd (h z) })
-    _ (view-exactly sheet memory group view _ .0 refl)
-
--- the numbers past the table of a run
-pub past-8 : {s : Sheet} {p : Script} {memory : List ℕ} {authority budget : ℕ} {r : Ran}
-    → Ends s p memory authority budget r
-    → ¬ Among (1 ∷ 2 ∷ 3 ∷ 4 ∷ 5 ∷ 6 ∷ 7 ∷ 8 ∷ []) (r .answer)
-past-8 (ends-0 k t n) i = not-one 0 i refl refl
-past-8 (ends-9 t n l) i = not-one 9 i refl refl
-past-8 (ends-10 k t n l) i = not-one 10 i refl refl
+-- a run that started answers 0, 9 or 10
+pub past-refusals : {s : Sheet} {p : Script} {memory : List ℕ} {authority budget : ℕ} {r : Ran}
+    → Ends s p memory authority budget r → Among (0 ∷ 9 ∷ 10 ∷ []) (r .answer)
+past-refusals (ends-0 k t n) = here
+past-refusals (ends-9 t n l) = later here
+past-refusals (ends-10 k t n l) = later (later here)

@@ -1,5 +1,5 @@
--- Demands 1 and 2 of simp_groups, and what it lists.
-use mathlib.Core.Logic.{_⊎_, _↔_, inl, inr, ⊎-elim}
+-- Demand 2 of simp_groups, and what it lists.
+use mathlib.Core.Logic.{_⊎_, inl, inr, ⊎-elim}
 use mathlib.Core.Path.{_≡_, refl, sym, ap, _∙_, subst}
 use mathlib.Core.List.{List, [], _∷_, _++_}
 use Prim.Native.Nat.{ℕ, _+_, _-_, _≤_, _<_}
@@ -17,12 +17,13 @@ use Rattle.groups.specs.Calls.{groupsFor, groupsOn, groupsOf}
 use Rattle.groups.proofs.ListLaws.{groups-exact, readers-hold-one}
 use Rattle.groups.proofs.RuleLaws.{reading-grows}
 use Rattle.groups.proofs.StageLaws.{no-label, few-places, all-placed}
-use Rattle.numbers.specs.Rows.{numbers, _when_, First, here, later}
-use Rattle.numbers.proofs.RowLaws.{by-rows, not-one, exactly, every-table}
+use Rattle.numbers.specs.Rows.{numbers, _when_, First}
+use Rattle.numbers.specs.Calls.{Demand2Of}
+use Rattle.numbers.proofs.RowLaws.{by-rows, not-one, exactly}
 use Rattle.simp.specs.Judgements.{OnSheet}
-use Rattle.simp.specs.Groups.{SmallestOn, NoLabel, FewPlaces, groupRows, Handed, Groups}
+use Rattle.simp.specs.Groups.{SmallestOn, NoLabel, FewPlaces, groupRows, Handed}
 use Rattle.simp.specs.SmallestGroups.{SmallestGroups}
-use Rattle.simp.specs.Demands.{GroupAnswers, GroupsDemand1}
+use Rattle.simp.specs.Demands.{groupsCall}
 use Rattle.simp.proofs.Judged.{read, its, past-2}
 
 -- ---- the groups of a label
@@ -107,8 +108,7 @@ module _ (sheet : List ℕ) (l : ℕ) (places : List ℕ) where
   unfolding groupsOf onSheet
   listed-so h = rw (read (h .on-sheet)) (all-placed (h .its-sheet) l places (h .there) (h .enough))
 
-pub groups-exactly : (sheet : List ℕ) (l : ℕ) (places : List ℕ) (r : Grouped)
-    → (groupsOf sheet l places ≡ r) ↔ Groups sheet l places r
+pub groups-exactly : (sheet : List ℕ) (l : ℕ) (places : List ℕ) → Demand2Of (groupsCall sheet l places)
 groups-exactly sheet l places =
     exactly (refusedGroups places) _ _ (groupsOf sheet l places) (groupRows sheet l places)
     (λ n h r.
@@ -129,27 +129,6 @@ groups-exactly sheet l places =
           listed-so sheet l places h ∙ ap (grouped places) (sym (no-others s l hs g)) ∙ sym (handed-so places hs z),
     ))
     (lists sheet l places)
-
-group-answers : (sheet : List ℕ) (l : ℕ) (places : List ℕ) → GroupAnswers places (groupsOf sheet l places)
-unfolding numbers
-group-answers sheet l places =
-    by-rows (refusedGroups places) _ (GroupAnswers places) (groupRows sheet l places)
-    (λ k i g. record { number = later i; kept = λ n. refl; no-count = λ n. refl })
-    (λ r n o.
-    let z = o .2 .2 .not-refused in
-    record { number = rw z here; kept = λ m. absurd (m z); no-count = λ m. absurd (m z) })
-    _ (groups-exactly sheet l places _ .0 refl)
-
-pub groups-demand-1 : GroupsDemand1
-unfolding numbers
-groups-demand-1 = record {
-  order = λ sheet l places.
-      every-table .first-that-applies Grouped (refusedGroups places) (λ r. r .answer) _ (groupRows sheet l places)
-      (record { of-refusal = λ k. refl; of-others = λ r o i. not-one 0 i refl (o .2 .2 .not-refused) }) _
-      (groups-exactly sheet l places _ .0 refl);
-  number = λ sheet l places. groups-exactly sheet l places _ .0 refl;
-  answers = group-answers;
-}
 
 -- ---- what is listed
 

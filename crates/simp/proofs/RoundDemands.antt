@@ -5,7 +5,7 @@ use mathlib.Core.List.{List, [], _∷_}
 use mathlib.Core.Option.{Option, none, some}
 use Prim.Native.Nat.{ℕ, zero, suc, _≤_}
 use native.Mathlib.Omega.{arith}
-use lib.ListN.{length, getD, replicate}
+use lib.ListN.{length}
 use Rattle.language.specs.Syntax.{Script}
 use Rattle.sheet.specs.Sheet.{Sheet, locationCount}
 use Rattle.script_text.specs.Counts.{countsOf}
@@ -19,21 +19,20 @@ use Rattle.stages.specs.Calls.{unless, onScript, untyped, numberOf, runOf}
 use Rattle.stages.proofs.StageLaws.{stops}
 use Rattle.stages.proofs.Kept.{left-unrefused}
 use Rattle.scripts.specs.Parting.{partsOf, mostScripts}
-use Rattle.rounds.specs.Answers.{RanRound, refusedRound, leftBy, roundFrom, Gate, allOpen}
+use Rattle.rounds.specs.Answers.{RanRound, refusedRound, leftBy, roundFrom, Gate}
 use Rattle.rounds.specs.Calls.{lowest, runEach, turnOf, roundBy}
 use Rattle.rounds.proofs.LowerLaws.{lower-none, lowest-more}
 use Rattle.rounds.proofs.PlaceLaws.{each-length}
-use Rattle.numbers.specs.Rows.{numbers, Among, here, later}
-use Rattle.numbers.proofs.RowLaws.{by-rows, not-one, exactly, every-table}
-use Rattle.simp.specs.Judgements.{OnSheet, Principals, Typable, Started, Ends, ends-0, ends-9, ends-10}
-use Rattle.simp.specs.Rounds.{roundRows, InTurn, no-turn, a-turn, Places, Played, Open, TurnGoes, Round}
-use Rattle.simp.specs.Demands.{RoundAnswers, ScriptAnswers, RoundDemand1}
+use Rattle.numbers.specs.Calls.{Demand2Of}
+use Rattle.numbers.proofs.RowLaws.{exactly}
+use Rattle.simp.specs.Judgements.{OnSheet, Principals, Typable, Started}
+use Rattle.simp.specs.Rounds.{roundRows, InTurn, no-turn, a-turn, Places, Played, Open, TurnGoes}
+use Rattle.simp.specs.Demands.{ScriptAnswers, roundCall}
 use Rattle.simp.proofs.Numbers.{typable-0, 0-typable}
 use Rattle.simp.proofs.SecondDemand.{started-run, run-ends, run-exactly}
-use Rattle.simp.proofs.FirstDemand.{finished, run-answers}
+use Rattle.simp.proofs.FirstDemand.{finished, run-answers, past-refusals}
 use Rattle.simp.proofs.RoundRows.{RoundStarts, round-starts, round-started, started-round}
-use Rattle.simp.proofs.Turns.{zeros-at, turns-map, turns-placed, placed-turns, round-placed, round-places}
-use Rattle.simp.proofs.Turns.{round-is}
+use Rattle.simp.proofs.Turns.{turns-map, turns-placed, placed-turns, round-placed, round-places, round-is}
 
 -- ---- a turn, by its gate
 
@@ -77,13 +76,6 @@ accepted-script {s = s} script h n = go (scriptOf (countsOf s) script) refl n
         → (p : Script) × IsScript (countsOf s) script p × Typable s p
     go none e z = absurd (omega arith)
     go (some p) e z = (p, script-exact s (h .form .is-formed) script p .0 e, 0-typable s p z)
-
--- a run that started answers 0, 9 or 10
-past-refusals : {s : Sheet} {p : Script} {memory : List ℕ} {authority budget : ℕ} {r : Ran}
-    → Ends s p memory authority budget r → Among (0 ∷ 9 ∷ 10 ∷ []) (r .answer)
-past-refusals (ends-0 k t n) = here
-past-refusals (ends-9 t n l) = later here
-past-refusals (ends-10 k t n l) = later (later here)
 
 module _ (gate : Gate) {sheet : List ℕ} {s : Sheet} (authority budget : ℕ) (h : OnSheet sheet s)
     (a : Principals s authority) where
@@ -178,8 +170,8 @@ module _ (gate : Gate) (sheet scripts memory : List ℕ) (authority budget : ℕ
         ∙ sym (round-is memory runs few-runs r (p .not-refused)
         (subst (λ (n : ℕ). Places n r) (sym as-many) (p .places)) (q .0) (q .1))
 
-  round-goes : (r : RanRound) → (R ≡ r) ↔ Round gate sheet scripts memory authority budget r
-  round-goes =
+  pub round-exactly : Demand2Of (roundCall gate sheet scripts memory authority budget)
+  round-exactly =
       exactly (refusedRound memory) _ _ R (roundRows sheet scripts memory authority)
       (λ n st r. (
         λ e. subst (Played (TurnGoes gate sheet authority budget) scripts memory) e
@@ -189,49 +181,8 @@ module _ (gate : Gate) (sheet scripts memory : List ℕ) (authority budget : ℕ
       ))
       (round-starts gate sheet scripts memory authority budget)
 
-  zero-places : (i : ℕ) → getD (replicate {A = ℕ} mostScripts 0) i 0 ≡ 0
-  zero-places i = zeros-at mostScripts i
-
-  -- a refused round
-  refused-answers : (k : ℕ) → Among (1 ∷ 2 ∷ 3 ∷ 11 ∷ 4 ∷ 5 ∷ 6 ∷ 7 ∷ 8 ∷ []) k
-      → RoundAnswers scripts memory (refusedRound memory k)
-  refused-answers k i = record {
-    number = later i;
-    kept = λ n. refl;
-    zeros = λ n j. (zero-places j, zero-places j);
-    places = record { answer-places = refl; step-places = refl; past-last = λ j l. (zero-places j, zero-places j) };
-  }
-
-  round-answers : RoundAnswers scripts memory R
-  unfolding numbers
-  round-answers =
-      by-rows (refusedRound memory) _ (RoundAnswers scripts memory) (roundRows sheet scripts memory authority)
-      (λ k i g. refused-answers k i)
-      (λ r n p. record {
-        number = rw (p .not-refused) here;
-        kept = λ z. absurd (z (p .not-refused));
-        zeros = λ z. absurd (z (p .not-refused));
-        places = p .places;
-      })
-      _ (round-goes _ .0 refl)
-
-pub round-exactly : (gate : Gate) (sheet scripts memory : List ℕ) (authority budget : ℕ) (r : RanRound)
-    → (roundBy gate sheet scripts memory authority budget ≡ r) ↔ Round gate sheet scripts memory authority budget r
-round-exactly = round-goes
-
-pub round-demand-1 : RoundDemand1
-unfolding numbers allOpen
-round-demand-1 = record {
-  order = λ gate sheet scripts memory authority budget.
-      every-table .first-that-applies RanRound (refusedRound memory) (λ r. r .answer) _
-      (roundRows sheet scripts memory authority)
-      (record { of-refusal = λ k. refl; of-others = λ r p i. not-one 0 i refl (p .not-refused) }) _
-      (round-exactly gate sheet scripts memory authority budget _ .0 refl);
-  number =
-      λ gate sheet scripts memory authority budget. round-exactly gate sheet scripts memory authority budget _ .0 refl;
-  played = λ gate sheet scripts memory authority budget h.
-      played-so gate sheet scripts memory authority budget (round-started gate sheet scripts memory authority budget h)
-      (ScriptAnswers gate sheet authority budget) (λ j t m r g. g .1);
-  answers = round-answers;
-  all-open = λ i. refl;
-}
+  -- each script of a round that isn't refused went so in its turn
+  pub round-played : R .answer ≡ 0 → Played (ScriptAnswers gate sheet authority budget) scripts memory R
+  round-played h =
+      played-so (round-started gate sheet scripts memory authority budget h) (ScriptAnswers gate sheet authority budget)
+      (λ j t m r g. g .1)

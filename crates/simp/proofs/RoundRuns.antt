@@ -14,7 +14,8 @@ use Rattle.simp.specs.Rounds.{Open, EachOpen}
 use Rattle.simp.specs.RoundView.{EachDone}
 use Rattle.simp.proofs.RoundRows.{round-started, started-round}
 use Rattle.simp.proofs.Turns.{padded-place}
-use Rattle.simp.proofs.RoundDemands.{by-zero, turn-open, turn-closed, by-gate, round-demand-1}
+use Rattle.simp.proofs.RoundDemands.{by-zero, turn-open, turn-closed, by-gate}
+use Rattle.simp.proofs.EveryCall.{demand-1}
 
 -- what scripts answer from place i on
 abbrev answered : List Ran → List ℕ
@@ -121,4 +122,4 @@ module _ {A : Type 0} (look : List ℕ → A) (sheet : List ℕ) (authority budg
       let e = started-round gate sheet scripts memory authority budget
       (round-started gate sheet scripts memory authority budget z) in
       ap (λ (r : RanRound). look (r .memory)) e ∙ each-leaves 0 memory (partsOf scripts) p)
-      (λ n. ap look (round-demand-1 .answers gate sheet scripts memory authority budget .kept n))
+      (λ n. ap look (demand-1 .round gate sheet scripts memory authority budget .kept n))

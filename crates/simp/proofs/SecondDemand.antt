@@ -18,8 +18,10 @@ use Rattle.memory.proofs.Exactness.{memories-exactly}
 use Rattle.stages.specs.Answers.{Ran, refusedRun, Viewed, refusedView}
 use Rattle.stages.specs.Calls.{onSheet, unless, onScript, untyped, numberOf, checkOf, ended, runOf, viewOf}
 use Rattle.numbers.specs.Rows.{First}
-use Rattle.simp.specs.Judgements.{OnSheet, Principals, Sized, Checked, Started, Ends, ends-0, ends-9, ends-10}
-use Rattle.simp.specs.Judgements.{runRows, Run, viewRows, View}
+use Rattle.numbers.specs.Calls.{AnswerBy, Demand2Of}
+use Rattle.simp.specs.Judgements.{OnSheet, Principals, Sized, Started, Ends, ends-0, ends-9, ends-10}
+use Rattle.simp.specs.Judgements.{checkRows, checkTable, runRows, viewRows}
+use Rattle.simp.specs.Demands.{checkCall, runCall, viewCall}
 use Rattle.simp.proofs.Numbers.{no-strangers, typable-0, typable-shape, sized-0, view-sized}
 use Rattle.numbers.proofs.RowLaws.{exactly}
 use Rattle.simp.proofs.Judged.{read, parsed, its, their, past-all, past-2, past-3, past-4, past-6, past-8}
@@ -32,13 +34,18 @@ unfolding unless
 unless-0 zero = refl
 unless-0 (suc k) = refl
 
-pub checked : (sheet script : List ℕ) → Checked sheet script (checkOf sheet script)
+checked : (sheet script : List ℕ) → AnswerBy (checkTable sheet script) (checkOf sheet script)
 unfolding checkOf numberOf
 checked sheet script =
     past-2 (λ k. k) (λ r. r ≡ 0) sheet _ _ λ s h.
     past-4 (λ k. k) (λ r. r ≡ 0) h _ script _ λ p i.
     subst (First (λ k. k) (λ r. r ≡ 0) _) (unless-0 (untyped s p))
     (past-6 (λ k. k) (λ r. r ≡ 0) h _ script p 0 i λ t. past-all (λ k. k) (λ r. r ≡ 0) refl)
+
+pub check-exactly : (sheet script : List ℕ) → Demand2Of (checkCall sheet script)
+check-exactly sheet script =
+    exactly (λ k. k) _ _ (checkOf sheet script) (checkRows sheet script) (λ n z r. (λ e. sym e ∙ z, λ y. z ∙ sym y))
+    (checked sheet script)
 
 -- ---- run
 
@@ -122,8 +129,8 @@ module _ {sheet script memory : List ℕ} {authority : ℕ} {s : Sheet} {p : Scr
       ran (done M′ (budget - k)) (ends-done z t n)
       ∙ ap (λ (j : ℕ). record { answer = 0; steps = j; memory = wordsOf (locationCount s) M′ }) y
 
-pub run-exactly : (sheet script memory : List ℕ) (authority budget : ℕ) (r : Ran)
-    → (runOf sheet script memory authority budget ≡ r) ↔ Run sheet script memory authority budget r
+pub run-exactly : (sheet script memory : List ℕ) (authority budget : ℕ)
+    → Demand2Of (runCall sheet script memory authority budget)
 run-exactly sheet script memory authority budget =
     exactly (refusedRun memory) _ _ (runOf sheet script memory authority budget) (runRows sheet script memory authority)
     (λ n (s, p, st) r. (
@@ -167,8 +174,8 @@ shown-view {sheet} {memory} {group} {view} h =
       sized-0 s memory (h .sized) (h .well-formed),
     ) refl
 
-pub view-exactly : (sheet memory : List ℕ) (group : ℕ) (view : List ℕ) (v : Viewed)
-    → (viewOf sheet memory group view ≡ v) ↔ View sheet memory group view v
+pub view-exactly : (sheet memory : List ℕ) (group : ℕ) (view : List ℕ)
+    → Demand2Of (viewCall sheet memory group view)
 view-exactly sheet memory group view =
     exactly (refusedView view) _ _ (viewOf sheet memory group view) (viewRows sheet memory group view)
     (λ n h v. (

@@ -1,4 +1,4 @@
--- Demands 1 and 2 of simp_trust.
+-- Demand 2 of simp_trust, and that its number is that of simp_check.
 use mathlib.Core.Logic.{_↔_}
 use mathlib.Core.Path.{_≡_, refl, sym, _∙_, subst}
 use mathlib.Core.Bool.{Bool, true, false, cond}
@@ -18,11 +18,12 @@ use Rattle.script_text.specs.Theorems.{IsScript}
 use Rattle.stages.specs.Answers.{TrustAnswer, refusedTrust}
 use Rattle.stages.specs.Calls.{onSheet, unless, onScript, untyped, numberOf, checkOf, keepingBit, trustOn, trustOf}
 use Rattle.numbers.specs.Rows.{numbers, Among, here, later, First}
-use Rattle.numbers.proofs.RowLaws.{by-rows, not-one, exactly, every-table}
+use Rattle.numbers.specs.Calls.{Demand2Of}
+use Rattle.numbers.proofs.RowLaws.{by-rows, exactly}
 use Rattle.simp.specs.Judgements.{OnSheet, OfScript, Typable, checkRows}
-use Rattle.simp.specs.Trust.{TrustKeeping, KeepingAnswer, Trust}
+use Rattle.simp.specs.Trust.{TrustKeeping, KeepingAnswer}
 use Rattle.simp.specs.TrustKept.{SaidKeeping}
-use Rattle.simp.specs.Demands.{TrustAnswers, TrustDemand1}
+use Rattle.simp.specs.Demands.{trustCall}
 use Rattle.simp.proofs.Numbers.{typable-0}
 use Rattle.simp.proofs.Judged.{read, parsed, their, past-all, past-2, past-4, past-6}
 
@@ -90,7 +91,7 @@ module _ (s : Sheet) (p : Script) where
 
 -- ---- demands
 
-pub trust-exactly : (sheet script : List ℕ) (r : TrustAnswer) → (trustOf sheet script ≡ r) ↔ Trust sheet script r
+pub trust-exactly : (sheet script : List ℕ) → Demand2Of (trustCall sheet script)
 trust-exactly sheet script =
     exactly refusedTrust _ _ (trustOf sheet script) (checkRows sheet script)
     (λ n a r.
@@ -103,7 +104,7 @@ trust-exactly sheet script =
     (accepts sheet script)
 
 -- its number is that of simp_check
-as-check : (sheet script : List ℕ) → trustOf sheet script .answer ≡ checkOf sheet script
+pub as-check : (sheet script : List ℕ) → trustOf sheet script .answer ≡ checkOf sheet script
 unfolding trustOf trustOn checkOf numberOf onSheet onScript unless
 as-check sheet script = on (sheetOf sheet)
   where
@@ -124,29 +125,6 @@ as-check sheet script = on (sheetOf sheet)
     on malformed = refl
     on repeating = refl
     on (accepted s) = scripted s (scriptOf (countsOf s) script)
-
-trust-answers : (sheet script : List ℕ) → TrustAnswers sheet script (trustOf sheet script)
-unfolding numbers
-trust-answers sheet script =
-    by-rows refusedTrust _ (λ r. r .answer ≡ checkOf sheet script → TrustAnswers sheet script r)
-    (checkRows sheet script)
-    (λ k i g e. record { number = later i; as-check = e; keeping-bit = here; no-keeping = λ n. refl })
-    (λ r n o e.
-    let says = o .2 .2 in
-    let z = says .not-refused in
-    record { number = rw z here; as-check = e; keeping-bit = says .one-or-none; no-keeping = λ m. absurd (m z) })
-    _ (trust-exactly sheet script _ .0 refl) (as-check sheet script)
-
-pub trust-demand-1 : TrustDemand1
-unfolding numbers
-trust-demand-1 = record {
-  order = λ sheet script.
-      every-table .first-that-applies TrustAnswer refusedTrust (λ r. r .answer) _ (checkRows sheet script)
-      (record { of-refusal = λ k. refl; of-others = λ r o i. not-one 0 i refl (o .2 .2 .not-refused) }) _
-      (trust-exactly sheet script _ .0 refl);
-  number = λ sheet script. trust-exactly sheet script _ .0 refl;
-  answers = trust-answers;
-}
 
 -- a script of which simp_trust says that it is accepted and trust-keeping is
 pub said-so : (sheet script : List ℕ) → SaidKeeping sheet script → OfScript sheet script TrustKeeping

@@ -9,7 +9,8 @@ use Rattle.sheet.specs.Sheet.{Sheet, labelCount}
 use Rattle.sheet.specs.Meaning.{readsNo}
 use Rattle.groups.specs.Smallest.{ListsSmallest}
 use Rattle.groups.specs.Answers.{Grouped, refusedGroups}
-use Rattle.numbers.specs.Rows.{Row, _when_, First}
+use Rattle.numbers.specs.Rows.{Row, _when_}
+use Rattle.numbers.specs.Calls.{Table}
 use Rattle.simp.specs.Judgements.{OfSheet, NoSheet, Repeats}
 
 -- These are the smallest groups that read label l of a sheet: all of them, each once, rising as numbers.
@@ -45,7 +46,9 @@ pub record Handed (places gs : List ℕ) (r : Grouped) : Type 0 where
   pub first-places : (i : ℕ) → i < length gs → getD (r .places) i 0 ≡ getD gs i 0
   pub rest-kept : (i : ℕ) → length gs ≤ i → getD (r .places) i 0 ≡ getD places i 0
 
-abbrev pub Groups : List ℕ → ℕ → List ℕ → Grouped → Type 0
-Groups sheet l places =
-    First (refusedGroups places) (λ r. OfSheet sheet (λ s. (gs : List ℕ) × SmallestOn s l gs × Handed places gs r))
-    (groupRows sheet l places)
+abbrev pub groupTable : List ℕ → ℕ → List ℕ → Table Grouped
+groupTable sheet l places = record {
+  rows = groupRows sheet l places;
+  refuse = refusedGroups places;
+  Else = λ r. OfSheet sheet (λ s. (gs : List ℕ) × SmallestOn s l gs × Handed places gs r);
+}

@@ -1,6 +1,6 @@
--- What each call must answer, by the papers: its numbers in the order judged, each with when it applies, and what
--- holds where none does. (Of a round Rounds.antt says it, of smallest groups Groups.antt, of trust-keeping
--- scripts Trust.antt.)
+-- What each call must answer, by the papers, as a table (crate numbers): its numbers in the order judged, each with
+-- when it applies, and what holds where none does. (Of a round Rounds.antt says it, of smallest groups Groups.antt, of
+-- trust-keeping scripts Trust.antt.)
 -- The demands say that the calls answer so.
 -- `wellFormed`, `memoryOf`, `wordsOf` and `viewWords` are crate memory's: its theorems MemoriesExactly and ViewsExactly
 -- say that a memory of the right size is well-formed exactly if it is the words of values as declared, and that views
@@ -26,7 +26,8 @@ use Rattle.script_text.specs.Theorems.{IsScript}
 use Rattle.memory.specs.Memory.{memoryOf, wordsOf, wellFormed}
 use Rattle.memory.specs.View.{viewWords}
 use Rattle.stages.specs.Answers.{Ran, refusedRun, Viewed, refusedView}
-use Rattle.numbers.specs.Rows.{Row, _when_, First}
+use Rattle.numbers.specs.Rows.{Row, _when_}
+use Rattle.numbers.specs.Calls.{Table}
 
 -- ---- of a sheet s and a script p
 
@@ -101,8 +102,8 @@ checkRows sheet script =
     ∷ 6 when IllLabelled sheet script
     ∷ []
 
-abbrev pub Checked : List ℕ → List ℕ → ℕ → Type 0
-Checked sheet script = First (λ k. k) (λ r. r ≡ 0) (checkRows sheet script)
+abbrev pub checkTable : List ℕ → List ℕ → Table ℕ
+checkTable sheet script = record { rows = checkRows sheet script; refuse = λ k. k; Else = λ r. r ≡ 0 }
 
 -- ---- simp_run
 
@@ -136,10 +137,12 @@ pub data Ends (s : Sheet) (p : Script) (memory : List ℕ) (authority budget : �
       → LongStep (worldFor s authority p) M′ c′ → NoneLong (worldFor s authority p) k (memoryOf memory) (p .command)
       → Ends s p memory authority budget (record { answer = 10; steps = k; memory = memory })
 
-abbrev pub Run : List ℕ → List ℕ → List ℕ → ℕ → ℕ → Ran → Type 0
-Run sheet script memory authority budget =
-    First (refusedRun memory) (λ r. OfScript sheet script (λ s p. Ends s p memory authority budget r))
-    (runRows sheet script memory authority)
+abbrev pub runTable : List ℕ → List ℕ → List ℕ → ℕ → ℕ → Table Ran
+runTable sheet script memory authority budget = record {
+  rows = runRows sheet script memory authority;
+  refuse = refusedRun memory;
+  Else = λ r. OfScript sheet script (λ s p. Ends s p memory authority budget r);
+}
 
 -- ---- simp_view
 
@@ -152,10 +155,12 @@ viewRows sheet memory group view =
     ∷ 8 when IllFormed sheet memory
     ∷ []
 
-abbrev pub View : List ℕ → List ℕ → ℕ → List ℕ → Viewed → Type 0
-View sheet memory group view =
-    First (refusedView view) (λ v. OfSheet sheet (λ s. v ≡ record { answer = 0; view = viewWords s group memory }))
-    (viewRows sheet memory group view)
+abbrev pub viewTable : List ℕ → List ℕ → ℕ → List ℕ → Table Viewed
+viewTable sheet memory group view = record {
+  rows = viewRows sheet memory group view;
+  refuse = refusedView view;
+  Else = λ v. OfSheet sheet (λ s. v ≡ record { answer = 0; view = viewWords s group memory });
+}
 
 -- ---- no number applies, said of the sheet and the script
 

@@ -5,12 +5,13 @@ use mathlib.Core.Path.{_≡_}
 use mathlib.Core.List.{List, [], _∷_}
 use Prim.Native.Nat.{ℕ, suc, _≤_, _<_}
 use lib.ListN.{length, getD}
-use Rattle.numbers.specs.Rows.{Row, _when_, First}
+use Rattle.numbers.specs.Rows.{Row, _when_}
+use Rattle.numbers.specs.Calls.{Table, AnswerBy}
 use Rattle.stages.specs.Answers.{Ran, refusedRun}
 use Rattle.scripts.specs.Parting.{partsOf, mostScripts}
 use Rattle.rounds.specs.Answers.{RanRound, refusedRound, Gate}
 use Rattle.simp.specs.Judgements.{NoSheet, Repeats, Strangers, NoScript, IllTyped, IllLabelled, OtherSize}
-use Rattle.simp.specs.Judgements.{IllFormed, Run}
+use Rattle.simp.specs.Judgements.{IllFormed, runTable}
 
 -- ---- when each number applies
 
@@ -83,9 +84,12 @@ EachOpen P gate i (t ∷ ts) = (Open gate i → P t) × EachOpen P gate (suc i) 
 -- must (Judgements.antt).
 abbrev pub TurnGoes : Gate → List ℕ → ℕ → ℕ → ℕ → List ℕ → List ℕ → Ran → Type 0
 TurnGoes gate sheet authority budget i script memory r =
-    ((¬ Open gate i) × (r ≡ refusedRun memory (gate i))) ⊎ (Open gate i × Run sheet script memory authority budget r)
+    ((¬ Open gate i) × (r ≡ refusedRun memory (gate i)))
+    ⊎ (Open gate i × AnswerBy (runTable sheet script memory authority budget) r)
 
-abbrev pub Round : Gate → List ℕ → List ℕ → List ℕ → ℕ → ℕ → RanRound → Type 0
-Round gate sheet scripts memory authority budget =
-    First (refusedRound memory) (Played (TurnGoes gate sheet authority budget) scripts memory)
-    (roundRows sheet scripts memory authority)
+abbrev pub roundTable : Gate → List ℕ → List ℕ → List ℕ → ℕ → ℕ → Table RanRound
+roundTable gate sheet scripts memory authority budget = record {
+  rows = roundRows sheet scripts memory authority;
+  refuse = refusedRound memory;
+  Else = Played (TurnGoes gate sheet authority budget) scripts memory;
+}

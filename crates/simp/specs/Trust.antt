@@ -10,7 +10,8 @@ use Rattle.language.specs.Trust.{trustKeeping}
 use Rattle.sheet.specs.Sheet.{Sheet}
 use Rattle.sheet.specs.Meaning.{labelsOver, declarationsOf}
 use Rattle.stages.specs.Answers.{TrustAnswer, refusedTrust}
-use Rattle.numbers.specs.Rows.{Among, First}
+use Rattle.numbers.specs.Rows.{Among}
+use Rattle.numbers.specs.Calls.{Table}
 use Rattle.simp.specs.Judgements.{OfScript, checkRows}
 
 -- Each unpack's operand has a least label at or below the wanted label, writers as well as readers.
@@ -23,6 +24,9 @@ pub record KeepingAnswer (s : Sheet) (p : Script) (r : TrustAnswer) : Type 0 whe
   pub one-or-none : Among (0 ∷ 1 ∷ []) (r .keeping)
   pub its-keeping : (r .keeping ≡ 1) ↔ TrustKeeping s p
 
-abbrev pub Trust : List ℕ → List ℕ → TrustAnswer → Type 0
-Trust sheet script =
-    First refusedTrust (λ r. OfScript sheet script (λ s p. KeepingAnswer s p r)) (checkRows sheet script)
+abbrev pub trustTable : List ℕ → List ℕ → Table TrustAnswer
+trustTable sheet script = record {
+  rows = checkRows sheet script;
+  refuse = refusedTrust;
+  Else = λ r. OfScript sheet script (λ s p. KeepingAnswer s p r);
+}

@@ -1,10 +1,10 @@
 -- The loop: `out` is the join of the members below p, and `rest` has those from p on.
-use mathlib.Core.Path.{_≡_, sym, ap₂, _∙_}
+use mathlib.Core.Path.{_≡_, sym, ap, ap₂, _∙_}
 use mathlib.Core.Logic.{⊎-elim}
 use Prim.Native.Nat.{_≤_, _<_, _-_}
 use native.Mathlib.Omega.{arith}
 use borrow.Author.Tests.{eq-eqb, ne-eqb}
-use Rattle.labels.specs.Labels.{joinOf}
+use Rattle.labels.specs.Labels.{joinOf, bottomOf}
 use Rattle.members.specs.Internal.Members.{joinUpTo, maxMembers, joinIn}
 use Rattle.members.proofs.MemberLaws.{Rest, rest-all, rest-first, rest-more, rest-below, rest-none, up-to-with}
 use Rattle.members.proofs.MemberLaws.{up-to-without, up-to-end}
@@ -21,7 +21,7 @@ abbrev μ-loop : tie.MeasureT-loop
 
 loop-holds : tie.Need-loop-holds Inv-loop μ-loop
 unfolding joinUpTo
-loop-holds c = (search needs, cc, rest-all _)
+loop-holds c = (search needs, c .bottom .ensures ∙ ap bottomOf (c .before .everyone .ensures), rest-all _)
 
 loop-again : tie.Need-loop-again Inv-loop μ-loop
 loop-again c =

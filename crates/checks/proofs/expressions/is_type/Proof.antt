@@ -1,3 +1,4 @@
+use mathlib.Core.Path.{refl}
 use Rattle.logic.specs.Booleans.{both}
 use Rattle.checks.specs.Internal.Nodes.{isType}
 use Rattle.checks.proofs.expressions.is_type.Statement.{statement}
@@ -5,7 +6,7 @@ use Rattle.checks.proofs.expressions.is_type.Tie as tie
 
 returns : tie.Need-returns
 unfolding isType both
-returns c = cc
+returns c = refl
 
 pub is-type-spec : {M : Type 1} → statement M
 is-type-spec = tie.close (tie.spec

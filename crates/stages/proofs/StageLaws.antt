@@ -14,7 +14,7 @@ use Rattle.language.specs.Typing.{shape}
 use Rattle.language.proofs.Exactness.{script-iff, exactness}
 use Rattle.language.proofs.TypeSoundness.{type-soundness}
 use Rattle.sheet.specs.Sheet.{Sheet, locationCount}
-use Rattle.sets.specs.Sets.{within, everyone}
+use Rattle.sets.specs.Sets.{within}
 use Rattle.sheet.specs.Internal.Tables.{everyoneIn}
 use Rattle.sheet.proofs.TableLaws.{everyone-in}
 use Rattle.sheet.specs.Meaning.{labelsOver, declarationsOf, shapesOf, worldFor}
@@ -28,17 +28,17 @@ use Rattle.script_text.proofs.ScriptLaws.{counts-table}
 use Rattle.script_text.proofs.ReadLaws.{read-split, read-whole}
 use Rattle.memory.specs.Memory.{memoryOf, wellFormed, memoryRefusal}
 use Rattle.memory.specs.View.{viewWords, viewRefusal}
-use Rattle.memory.specs.Internal.InTable.{viewIn, leaves, viewLeaves, refusalIn, viewRefusalIn, viewLeavesIn}
+use Rattle.memory.specs.Internal.InTable.{viewIn, leaves, refusalIn, viewRefusalIn, viewLeavesIn}
 use Rattle.memory.proofs.Exactness.{memories-exactly, table-agrees}
 use Rattle.memory.proofs.MemoryLaws.{unrefused-length, unrefused-formed}
 use Rattle.checker.specs.Internal.Post.{ChecksCode, KeepsCode}
 use Rattle.interpreter.specs.Internal.Run.{RunLeaves, Runs}
-use Rattle.stages.specs.Answers.{Ran, refusedRun, refusedView, refusedTrust}
+use Rattle.stages.specs.Answers.{Ran, refusedRun, Viewed, refusedView, refusedTrust}
 use Rattle.stages.specs.Calls.{unless, strangers, onScript, untyped, numberOf, ended, acceptedRun, keepingBit}
 use Rattle.stages.specs.Calls.{trustOn}
 use Rattle.stages.specs.Internal.Stages.{TableOf, CodeOf, no-code, its-code, Judges, keepingIn, JudgesTrust}
 use Rattle.stages.specs.Internal.Stages.{KeepsScript, AcceptedCode, NumbersScript, Spares, RunsAccepted}
-use Rattle.stages.specs.Internal.Stages.{TrustsOn, RunsOn, ViewsOn}
+use Rattle.stages.specs.Internal.Stages.{TrustsOn, RunsOn, strangersIn, viewedIn}
 
 -- ---- the code of a script
 
@@ -215,14 +215,21 @@ runs-accepted ws t memory authority budget state steps left r = record {
 
 -- ---- principals
 
--- the test on the table's set of all principals
+-- by the test on the table's set of all principals
+pub strangers-by : (t : List ℕ) (g : ℕ) (b : Bool) → within g (everyoneIn t) ≡ b → strangersIn t g ≡ cond b 0 3
+unfolding strangersIn
+strangers-by t g b h = ap (λ (x : Bool). cond x 0 3) h
+
+-- on the table of a sheet they are the sheet's
+pub strangers-same : (t : List ℕ) (s : Sheet) (g : ℕ) → TableOf t s → strangersIn t g ≡ strangers s g
+unfolding strangersIn strangers
+strangers-same t s g T =
+    ap (λ (u : List ℕ). cond (within g (everyoneIn u)) 0 3) (T .words)
+    ∙ ap (λ (x : ℕ). cond (within g x) 0 3) (everyone-in s (T .form))
+
 pub strangers-in : (t : List ℕ) (s : Sheet) (g : ℕ) (b : Bool) → TableOf t s → within g (everyoneIn t) ≡ b
     → strangers s g ≡ cond b 0 3
-unfolding strangers
-strangers-in t s g b T h =
-    let e : everyoneIn t ≡ everyone (s .principals) =
-    ap (λ (u : List ℕ). everyoneIn u) (T .words) ∙ everyone-in s (T .form) in
-    ap (λ (x : ℕ). cond (within g x) 0 3) (sym e) ∙ ap (λ (x : Bool). cond x 0 3) h
+strangers-in t s g b T h = sym (strangers-same t s g T) ∙ strangers-by t g b h
 
 pub unless-3 : {A : Type 0} (refuse : ℕ → A) (t : List ℕ) (s : Sheet) (g : ℕ) (go : A) → TableOf t s
     → within g (everyoneIn t) ≡ false
@@ -308,33 +315,25 @@ left-by zero out view = refl
 left-by (suc k) out view = rw (ne-eqb (suc k) 0 (λ e. omega arith)) refl
 
 pub view-stranger : (t memory : List ℕ) (group : ℕ) (view : List ℕ) → within group (everyoneIn t) ≡ false
-    → ViewsOn t memory group view 3 view
-view-stranger t memory group view h =
-    record { untouched = λ n. refl; viewed = λ s T. sym (unless-3 (refusedView view) t s group _ T h) }
-
--- a refused view leaves the slice
-kept : (out view : List ℕ) (k : ℕ) → (k ≡ 0 → ⊥) → leaves k out view ≡ view
-unfolding leaves
-kept out view k n = rw (ne-eqb k 0 n)
+    → refusedView view 3 ≡ viewedIn t memory group view
+unfolding viewedIn unless
+view-stranger t memory group view h = rw (strangers-by t group false h) refl
 
 pub view-known : (t memory : List ℕ) (group : ℕ) (view : List ℕ) (r : ℕ) (left : List ℕ)
     → within group (everyoneIn t) ≡ true
     → r ≡ viewRefusalIn t memory (length view) → left ≡ viewLeavesIn t group memory view
-    → ViewsOn t memory group view r left
-unfolding viewLeaves viewLeavesIn
-view-known t memory group view r left h p q = record {
-  untouched = λ n. q ∙ kept (viewIn t group memory) view (viewRefusalIn t memory (length view)) (λ z. n (p ∙ z));
-  viewed = on;
-}
-  where
-    on : (s : Sheet) → TableOf t s → record { answer = r; view = left }
-        ≡ unless (refusedView view) (strangers s group) (unless (refusedView view) (viewRefusal s memory (length view))
-        (record { answer = 0; view = viewWords s group memory }))
-    on s T =
-        let a = table-agrees s (T .form) in
-        let e : r ≡ viewRefusal s memory (length view) = p
-        ∙ ap (λ (u : List ℕ). viewRefusalIn u memory (length view)) (T .words) ∙ a .view-refusal memory (length view) in
-        let f : left ≡ viewLeaves s group memory view =
-        q ∙ ap (λ (u : List ℕ). viewLeavesIn u group memory view) (T .words) ∙ a .view-leaves group memory view in
-        rw (e, f) (left-by (viewRefusal s memory (length view)) (viewWords s group memory) view)
-        ∙ sym (not-3 (refusedView view) t s group _ T h)
+    → record { answer = r; view = left } ≡ viewedIn t memory group view
+unfolding viewedIn viewLeavesIn
+view-known t memory group view r left h p q =
+    rw (p, q) (left-by (viewRefusalIn t memory (length view)) (viewIn t group memory) view)
+    ∙ sym (goes (refusedView view) (strangersIn t group) _ (strangers-by t group true h))
+
+-- on the table of a sheet it is that of simp_view on the sheet
+pub view-in : (t memory : List ℕ) (group : ℕ) (view : List ℕ) (r : Viewed) → r ≡ viewedIn t memory group view
+    → (s : Sheet) → TableOf t s
+    → r ≡ unless (refusedView view) (strangers s group) (unless (refusedView view) (viewRefusal s memory (length view))
+    (record { answer = 0; view = viewWords s group memory }))
+unfolding viewedIn
+view-in t memory group view r e s T =
+    let a = table-agrees s (T .form) in
+    e ∙ rw (strangers-same t s group T, T .words, a .view-refusal memory (length view), a .view group memory) refl

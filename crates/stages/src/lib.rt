@@ -6,7 +6,7 @@ ghost use Rattle.memory.specs.Verdict.{memoryNumber};
 ghost use Rattle.checker.specs.Verdict.{verdictNumber};
 ghost use Rattle.evaluator.specs.State.{stateNumber};
 ghost use Rattle.stages.specs.Internal.Stages.{Judges, JudgesTrust, NumbersScript, KeepsScript, RunsAccepted};
-ghost use Rattle.stages.specs.Internal.Stages.{ChecksOn, TrustsOn, RunsOn, ViewsOn};
+ghost use Rattle.stages.specs.Internal.Stages.{ChecksOn, TrustsOn, RunsOn, viewedIn};
 use checker::Verdict;
 use evaluator::State;
 use script_text::Answer;
@@ -259,8 +259,8 @@ pub fn run_on(
 
 // Shows a group a memory on the sheet of a table.
 pub fn view_on(table: &[sheet::Word], memory: &[u32], group: Set, view: &mut [u32]) -> u8
-    ensures { λ r. ⌜ ViewsOn (now (table .entry)) (now (memory .entry)) group (now (view .entry)) r
-        (now (view .exit)) ⌝ }
+    ensures { λ r. ⌜ record { answer = r; view = now (view .exit) }
+        ≡ viewedIn (now (table .entry)) (now (memory .entry)) group (now (view .entry)) ⌝ }
 {
     if !sets::contained(group, sheet::everyone(table)) {
         return PRINCIPAL_UNKNOWN;

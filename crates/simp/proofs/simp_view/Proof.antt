@@ -2,6 +2,7 @@
 use mathlib.Core.Path.{sym}
 use Rattle.sheet_text.proofs.ReadLaws.{decoded-long}
 use Rattle.stages.specs.Calls.{viewOf}
+use Rattle.stages.proofs.StageLaws.{view-in}
 use Rattle.simp.proofs.SheetLaws.{sheet-refused, sheet-read}
 use borrow.Author.Needs.{needs}
 use Rattle.simp.proofs.simp_view.Statement.{statement}
@@ -20,7 +21,7 @@ unfolding viewOf
 returns-2 c =
     let k = c .before .before .before .before .before in
     sheet-read _ _ _ _ _ (k .before .before .read .ensures) (k .before .sheet-number .ensures) _ (k .if1 .left)
-    (c .before .before .view-on .ensures .viewed)
+    (view-in _ _ _ _ _ (c .before .before .view-on .ensures))
 
 pub simp-view-spec : {M : Type 1} → statement M
 simp-view-spec = tie.close (tie.spec

@@ -1,17 +1,19 @@
--- What the stages of a call ensure, on a sheet that isn't refused and whose table is given.
+-- What the stages of a call ensure, on the table that they are given: for any table, and where it is that of a sheet
+-- that isn't refused.
 use mathlib.Core.Path.{_≡_}
-use mathlib.Core.Bool.{Bool, true, false}
+use mathlib.Core.Bool.{Bool, true, false, cond}
 use mathlib.Core.List.{List, []}
 use mathlib.Core.Option.{Option, none, some}
 use Prim.Native.Nat.{ℕ, _*_, _≤_}
 use lib.ListN.{length, take}
+use Rattle.sets.specs.Sets.{within}
 use Rattle.language.specs.Syntax.{Script}
 use Rattle.language.specs.Trust.{trustKeeping}
 use Rattle.script.specs.Lines.{Source, cmdLines}
 use Rattle.script.specs.Internal.Code.{code}
 use Rattle.script.specs.Names.{named}
 use Rattle.sheet.specs.Sheet.{Sheet, formed, repeats}
-use Rattle.sheet.specs.Internal.Tables.{tableOf}
+use Rattle.sheet.specs.Internal.Tables.{tableOf, everyoneIn}
 use Rattle.sheet.specs.Internal.Starts.{startNo}
 use Rattle.sheet.specs.Meaning.{labelsOver, declarationsOf}
 use Rattle.script_text.specs.Counts.{countsOf}
@@ -20,9 +22,9 @@ use Rattle.script_text.specs.Internal.Decoded.{countsIn, decodedScript}
 use Rattle.script_text.specs.declared.Answer.{Answer}
 use Rattle.script_text.specs.declared.Answer.the-variants.{Read, Refused}
 use Rattle.memory.specs.Memory.{memoryRefusal}
-use Rattle.memory.specs.View.{viewWords, viewRefusal}
-use Rattle.stages.specs.Answers.{Ran, refusedView, TrustAnswer}
-use Rattle.stages.specs.Calls.{unless, strangers, onScript, untyped, numberOf, acceptedRun, runOn, trustOn}
+use Rattle.memory.specs.Internal.InTable.{viewIn, viewRefusalIn}
+use Rattle.stages.specs.Answers.{Ran, Viewed, refusedView, TrustAnswer}
+use Rattle.stages.specs.Calls.{unless, onScript, untyped, numberOf, acceptedRun, runOn, trustOn}
 
 -- t is the table of the sheet s, which is of the form and repeats nothing
 pub record TableOf (t : List ℕ) (s : Sheet) : Type 0 where
@@ -91,10 +93,15 @@ pub record RunsOn (script t memory : List ℕ) (authority budget : ℕ) (r : Ran
   pub spares : Spares memory budget r
   pub ran : (s : Sheet) → TableOf t s → r ≡ runOn s script memory authority budget
 
-pub record ViewsOn (t memory : List ℕ) (group : ℕ) (view : List ℕ) (answer : ℕ) (left : List ℕ) : Type 0 where
-  pub untouched : (answer ≡ 0 → ⊥) → left ≡ view
-  pub viewed : (s : Sheet) → TableOf t s
-      → record { answer = answer; view = left }
-      ≡ unless (refusedView view) (strangers s group) (
-      unless (refusedView view) (viewRefusal s memory (length view)) (
-      record { answer = 0; view = viewWords s group memory }))
+-- ---- by what a table says, whatever its words are
+
+-- 3: the group holds a principal that isn't in the table's set of all
+unfoldable pub strangersIn : List ℕ → ℕ → ℕ
+strangersIn t group = cond (within group (everyoneIn t)) 0 3
+
+-- a view, in the order of simp_view
+unfoldable pub viewedIn : List ℕ → List ℕ → ℕ → List ℕ → Viewed
+viewedIn t memory group view =
+    unless (refusedView view) (strangersIn t group) (
+    unless (refusedView view) (viewRefusalIn t memory (length view)) (
+    record { answer = 0; view = viewIn t group memory }))

@@ -9,7 +9,7 @@ ghost use Rattle.sets.specs.Sets.{width};
 ghost use Rattle.groups.specs.Answers.{grouped};
 ghost use Rattle.groups.specs.Internal.Readers.{readsBy};
 ghost use Rattle.groups.specs.Internal.Walk.{pastHolders, readsWithout, needsEach, smallestUpTo, FirstFrom};
-ghost use Rattle.groups.specs.Internal.Stages.{ListsOn};
+ghost use Rattle.groups.specs.Internal.Stages.{groupsIn};
 use crate::readers::Readers;
 use crate::readers::readers_of;
 use sets::Set;
@@ -123,8 +123,8 @@ fn list(readers: Readers, end: u32, found: usize, groups: &mut [Set])
 
 // Lists the smallest groups that read label l on the sheet of a table.
 pub fn list_on(table: &[sheet::Word], l: u32, groups: &mut [Set]) -> Groups
-    ensures { λ r. ⌜ ListsOn (now (table .entry)) l (now (groups .entry))
-        (record { answer = r .answer; count = r .count; places = now (groups .exit) }) ⌝ }
+    ensures { λ r. ⌜ record { answer = r .answer; count = r .count; places = now (groups .exit) }
+        ≡ groupsIn (now (table .entry)) l (now (groups .entry)) ⌝ }
 {
     if sheet::labels(table) <= l {
         return refused(NOT_LISTED);

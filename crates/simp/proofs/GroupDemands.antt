@@ -16,7 +16,7 @@ use Rattle.groups.specs.Answers.{Grouped, refusedGroups, grouped}
 use Rattle.groups.specs.Calls.{groupsFor, groupsOn, groupsOf}
 use Rattle.groups.proofs.ListLaws.{groups-exact, readers-hold-one}
 use Rattle.groups.proofs.RuleLaws.{reading-grows}
-use Rattle.groups.proofs.StageLaws.{no-label, few-places, all-placed}
+use Rattle.groups.proofs.StageLaws.{groups-by, no-label, few-places, all-placed}
 use Rattle.numbers.specs.Rows.{numbers, _when_, First}
 use Rattle.numbers.specs.Calls.{Demand2Of}
 use Rattle.numbers.proofs.RowLaws.{by-rows, not-one, exactly}
@@ -89,7 +89,7 @@ module _ (sheet : List ℕ) (l : ℕ) (places : List ℕ) where
       by-below l (labelCount s)
       (λ m.
       by-below (length places) (length (groupsFor s l))
-      (λ k. inl (inr (s, h .form, (groupsFor s l, its-groups s l, k)), few-places s l places m k))
+      (λ k. inl (inr (s, h .form, (groupsFor s l, its-groups s l, k)), groups-by s l places ∙ few-places _ l _ _ m k))
       (λ k. inr (
         ⊎-elim (λ o. let z = its (λ (s : Sheet). labelCount s ≤ l) (h .form) o in omega arith)
             (λ o.
@@ -98,7 +98,7 @@ module _ (sheet : List ℕ) (l : ℕ) (places : List ℕ) where
             omega (arith, ap length (no-others s l gs g))),
         record { its-sheet = s; on-sheet = h; there = m; enough = k },
       )))
-      (λ m. inl (inl (s, h .form, m), no-label s l places m))
+      (λ m. inl (inl (s, h .form, m), groups-by s l places ∙ no-label _ l _ _ m))
 
   lists : First R E (groupRows sheet l places) (groupsOf sheet l places)
   unfolding groupsOf
@@ -106,7 +106,8 @@ module _ (sheet : List ℕ) (l : ℕ) (places : List ℕ) where
 
   listed-so : (h : Lists sheet l places) → groupsOf sheet l places ≡ grouped places (groupsFor (h .its-sheet) l)
   unfolding groupsOf onSheet
-  listed-so h = rw (read (h .on-sheet)) (all-placed (h .its-sheet) l places (h .there) (h .enough))
+  listed-so h =
+      rw (read (h .on-sheet)) (groups-by (h .its-sheet) l places ∙ all-placed _ l _ _ (h .there) (h .enough))
 
 pub groups-exactly : (sheet : List ℕ) (l : ℕ) (places : List ℕ) → Demand2Of (groupsCall sheet l places)
 groups-exactly sheet l places =

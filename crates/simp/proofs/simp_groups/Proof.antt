@@ -3,6 +3,7 @@ use mathlib.Core.Path.{sym}
 use Rattle.sheet_text.proofs.ReadLaws.{decoded-long}
 use Rattle.groups.specs.Answers.{refusedGroups}
 use Rattle.groups.specs.Calls.{groupsOf}
+use Rattle.groups.proofs.StageLaws.{groups-in}
 use Rattle.simp.proofs.SheetLaws.{sheet-refused, sheet-read}
 use borrow.Author.Needs.{needs}
 use Rattle.simp.proofs.simp_groups.Statement.{statement}
@@ -20,7 +21,7 @@ unfolding groupsOf
 returns-2 c =
     let k = c .before .before .before .before .before in
     sheet-read _ _ _ _ _ (k .before .before .read .ensures) (k .before .sheet-number .ensures) _ (k .if1 .left)
-    (c .before .before .list-on .ensures .listed)
+    (groups-in _ _ _ _ (c .before .before .list-on .ensures))
 
 pub simp-groups-spec : {M : Type 1} → statement M
 simp-groups-spec = tie.close (tie.spec

@@ -6,10 +6,11 @@ use mathlib.Core.List.{List, [], _∷_, _++_}
 use Prim.Native.Nat.{ℕ}
 use borrow.Author.Tests.{eq-eqb}
 use lib.Dec.{eqb}
+use lib.ListN.{getD}
 use Rattle.numbers.specs.Rows.{Row, _when_, numbers, None, First, Among, here, later, FirstToApply, GivenInOrder}
-use Rattle.numbers.specs.Calls.{Call}
+use Rattle.numbers.specs.Calls.{Table, AnswerBy}
 use Rattle.numbers.specs.Theorems.{InOrder, refuses, none-applies, FirstThatAppliesIsGiven, Settled}
-use Rattle.numbers.specs.Theorems.{ExactlyOneAnswer, Orderly, DemandByTable, EveryTable}
+use Rattle.numbers.specs.Theorems.{ExactlyOneAnswer, DemandByTable, EveryTable}
 
 -- a row that does not apply, before one that does
 below : {P : Type 0} {rows : List Row} {j : ℕ} (k : ℕ) → ¬ P → FirstToApply rows j → FirstToApply ((k when P) ∷ rows) j
@@ -61,10 +62,11 @@ module _ {A : Type 0} (refuse : ℕ → A) (Else : A → Type 0) where
   past-all r [] n e = e
   past-all r ((j when Q) ∷ rows) n e = inr (n .0, past-all r rows (n .1) e)
 
-  judged : {rows : List Row} {r : A} → InOrder refuse Else rows r → First refuse Else rows r
-  judged (refuses {k} g) = subst (λ (rs : List Row). First refuse Else rs (refuse k)) (sym (g .order))
-      (at-row k (g .after) (g .applies) (g .before) (g .none-before))
-  judged {rows} (none-applies {r} n e) = past-all r rows n e
+judged : {A : Type 0} (T : Table A) {r : A} → InOrder T r → AnswerBy T r
+judged T (refuses {k} g) =
+    subst (λ (rows : List Row). First (T .refuse) (T .Else) rows (T .refuse k)) (sym (g .order))
+    (at-row (T .refuse) (T .Else) k (g .after) (g .applies) (g .before) (g .none-before))
+judged T (none-applies {r} n e) = past-all (T .refuse) (T .Else) r (T .rows) n e
 
 -- ---- one answer
 
@@ -78,59 +80,54 @@ some-answer refuse Else ((k when P) ∷ rows) (inr (n, s)) e =
     let f = some-answer refuse Else rows s (λ m. e (n, m)) in (f .0, inr (n, f .1))
 
 one-answer : ExactlyOneAnswer
-one-answer A refuse Else rows s e =
-    let f = some-answer refuse Else rows s (λ n. (e n .0, e n .1)) in (
+one-answer A T s e =
+    let f = some-answer (T .refuse) (T .Else) (T .rows) s (λ n. (e n .0, e n .1)) in (
       f .0,
       f .1,
-      λ r. exactly refuse Else Else (f .0) rows
-          (λ n d x. (λ z. subst Else z d, λ d′. sym (e n .2 (f .0) d) ∙ e n .2 x d′)) (f .1) r .1,
+      λ r. exactly (T .refuse) (T .Else) (T .Else) (f .0) (T .rows)
+          (λ n d x. (λ z. subst (T .Else) z d, λ d′. sym (e n .2 (f .0) d) ∙ e n .2 x d′)) (f .1) r .1,
     )
 
--- ---- every call
+-- ---- every table
+
+-- what holds of each refusal, and of each answer where none applies, holds of the answer by the table
+by-table {ℓ} : {A : Type 0} (T : Table A) (Q : A → Type ℓ)
+    → ((k : ℕ) → Among (numbers (T .rows)) k → FirstToApply (T .rows) k → Q (T .refuse k))
+    → ((r : A) → None (T .rows) → T .Else r → Q r)
+    → (r : A) → AnswerBy T r → Q r
+by-table T Q = by-rows (T .refuse) (T .Else) Q (T .rows)
 
 first-given : FirstThatAppliesIsGiven
-first-given A refuse number Else rows h =
-    by-rows refuse Else (λ r. GivenInOrder rows (number r)) rows
-    (λ k i g. subst (GivenInOrder rows) (sym (h .of-refusal k))
+first-given A T number h =
+    by-table T (λ r. GivenInOrder (T .rows) (number r))
+    (λ k i g. subst (GivenInOrder (T .rows)) (sym (h .of-refusal k))
     (record { refused = λ _. g; not-refused = λ n. absurd (n i) }))
-    (λ r n e. record { refused = λ i. absurd (h .of-others r e i); not-refused = λ _. n })
-
--- a number among the first, or among the last, is among all
-among-first : {k : ℕ} {ns : List ℕ} (ms : List ℕ) → Among ns k → Among (ns ++ ms) k
-among-first ms here = here
-among-first ms (later i) = later (among-first ms i)
-
-among-last : {k : ℕ} (ns : List ℕ) {ms : List ℕ} → Among ms k → Among (ns ++ ms) k
-among-last [] i = i
-among-last (n ∷ ns) i = later (among-last ns i)
+    (λ r n e. record { refused = λ i. absurd (h .not-of-table r e i); not-refused = λ _. n })
 
 by-its-table : DemandByTable
 by-its-table A c o b =
-    let refuse = c .table .refuse in
-    let Else = c .table .Else in
-    let rows = c .table .rows in
+    let T = c .table in
     let h = o .numbered in
     record {
-      order = first-given A refuse (c .number) Else rows h (c .gives) b;
+      order = first-given A T (c .number) h (c .gives) b;
       by-table = b;
-      one-of = by-rows refuse Else (λ r. Among (c .others ++ numbers rows) (c .number r)) rows
-          (λ k i g. subst (Among (c .others ++ numbers rows)) (sym (h .of-refusal k)) (among-last (c .others) i))
-          (λ r n e. among-first (numbers rows) (o .of-others r e)) (c .gives) b;
-      refused = by-rows refuse Else (λ r. Among (numbers rows) (c .number r) → r ≡ refuse (c .number r)) rows
-          (λ k i g j. sym (ap refuse (h .of-refusal k))) (λ r n e j. absurd (h .of-others r e j)) (c .gives) b;
-      kept = by-rows refuse Else (λ r. ¬ (c .number r ≡ 0) → c .leaves r ≡ c .lent) rows
-          (λ k i g n. o .refusal-keeps k) (λ r n e. o .stop-keeps r e) (c .gives) b;
+      one-of = by-table T (λ r. Among (c .may-give) (c .number r))
+          (λ k i g. subst (Among (c .may-give)) (sym (h .of-refusal k)) (o .table-given k i))
+          (λ r n e. o .else-given r e) (c .gives) b;
+      whole-refusal = by-table T (λ r. Among (numbers (T .rows)) (c .number r) → r ≡ T .refuse (c .number r))
+          (λ k i g j. sym (ap (T .refuse) (h .of-refusal k))) (λ r n e j. absurd (h .not-of-table r e j)) (c .gives) b;
+      zero = by-table T (λ r. Among (numbers (T .rows)) (c .number r) → (i : ℕ) → getD (c .besides r) i 0 ≡ 0)
+          (λ k i g j. o .refusal-zero k) (λ r n e j. absurd (h .not-of-table r e j)) (c .gives) b;
+      kept = by-table T (λ r. ¬ (c .number r ≡ 0) → c .leaves r ≡ c .lent)
+          (λ k i g n. o .refusal-keeps k) (λ r n e. o .else-keeps r e) (c .gives) b;
     }
 
 pub every-table : EveryTable
 every-table = record {
   first-that-applies = first-given;
-  answers-in-order = λ A refuse Else rows r. (
-    by-rows refuse Else (InOrder refuse Else rows) rows (λ k i g. refuses g) (λ x n e. none-applies n e) r,
-    judged refuse Else,
-  );
-  refused-by-a-number =
-      λ A refuse Else rows. by-rows refuse Else _ rows (λ k i g. inl (k, i, refl)) (λ r n e. inr (n, e));
+  answers-in-order =
+      λ A T r. (by-table T (InOrder T) (λ k i g. refuses g) (λ x n e. none-applies n e) r, judged T);
+  refused-by-a-number = λ A T. by-table T _ (λ k i g. inl (k, i, refl)) (λ r n e. inr (n, e));
   exactly-one-answer = one-answer;
   demand-by-table = by-its-table;
 }
@@ -149,41 +146,3 @@ not-one n (later {y = y} {xs = xs} i) h e = not-one n i (rest (eqb y n) h) e
     rest : (b : Bool) → cond b false (free n xs) ≡ true → free n xs ≡ true
     rest true d = absurd (true≢false (sym d))
     rest false d = d
-
--- the lists have no number in common, by computing
-abbrev pub apart : List ℕ → List ℕ → Bool
-apart [] ms = true
-apart (n ∷ ns) ms = cond (free n ms) (apart ns ms) false
-
-not-both : {k : ℕ} (ns ms : List ℕ) → apart ns ms ≡ true → Among ns k → ¬ Among ms k
-not-both (n ∷ ns) ms h here = both (free n ms) refl h
-  where
-    both : (b : Bool) → free n ms ≡ b → cond b (apart ns ms) false ≡ true → ¬ Among ms n
-    both true e d j = not-one n j e refl
-    both false e d j = true≢false (sym d)
-not-both (n ∷ ns) ms h (later i) = not-both ns ms (rest (free n ms) h) i
-  where
-    rest : (b : Bool) → cond b (apart ns ms) false ≡ true → apart ns ms ≡ true
-    rest true d = d
-    rest false d = absurd (true≢false (sym d))
-
-module _ {A : Type 0} (c : Call A) (a : apart (c .others) (numbers (c .table .rows)) ≡ true)
-    (of-refusal : (k : ℕ) → c .number (c .table .refuse k) ≡ k)
-    (keeps : (k : ℕ) → c .leaves (c .table .refuse k) ≡ c .lent) where
-  -- the others and the table have no number in common
-  pub orderly : ((r : A) → c .table .Else r → Among (c .others) (c .number r))
-      → ((r : A) → c .table .Else r → ¬ (c .number r ≡ 0) → c .leaves r ≡ c .lent) → Orderly c
-  orderly others stops = record {
-    numbered = record {
-      of-refusal = of-refusal;
-      of-others = λ r e. not-both (c .others) (numbers (c .table .rows)) a (others r e);
-    };
-    of-others = others;
-    refusal-keeps = keeps;
-    stop-keeps = stops;
-  }
-
-  -- and the number is 0 wherever no row applies
-  pub orderly-done : Among (c .others) 0 → ((r : A) → c .table .Else r → c .number r ≡ 0) → Orderly c
-  orderly-done z done =
-      orderly (λ r e. subst (Among (c .others)) (sym (done r e)) z) (λ r e n. absurd (n (done r e)))

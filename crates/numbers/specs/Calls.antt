@@ -1,9 +1,10 @@
--- A call, and what is demanded of it: stated once, for every call. A call is said on what it is given, so that what
--- every call is given stands in front of it.
+-- A call, and the first two demands of it: stated once, for every call. A `Call` is a call on one input; the demands
+-- ask it for every input (simp, Demands.antt).
 use mathlib.Core.Logic.{_↔_}
 use mathlib.Core.Path.{_≡_}
-use mathlib.Core.List.{List, _++_}
+use mathlib.Core.List.{List}
 use Prim.Native.Nat.{ℕ}
+use lib.ListN.{getD}
 use Rattle.numbers.specs.Rows.{Row, numbers, First, Among, GivenInOrder}
 
 -- What a call must answer. An answer is what is handed back, with what every lent slice then holds.
@@ -22,29 +23,32 @@ AnswerBy T r = First (T .refuse) (T .Else) (T .rows) r
 -- A call: what it must answer, and what it does answer.
 pub record Call (A : Type 0) : Type 1 where
   pub table : Table A
-  -- the number of an answer
+  -- the numbers that it may give: 0, those of its table, and of a run 9 and 10
+  pub may-give : List ℕ
+  -- of an answer: its number; what it says besides (steps, a count, places); and what it leaves in the slice that the
+  -- call may write
   pub number : A → ℕ
-  -- the numbers of answers where no row applies: 0, and of a run 9 and 10
-  pub others : List ℕ
-  -- the slice that it is lent to write: what that held, and holds after an answer (none for a call that is lent none)
-  pub lent : List ℕ
+  pub besides : A → List ℕ
   pub leaves : A → List ℕ
-  -- what it answers: the function that the call's contract equates it with
+  -- what that slice held; empty where the call is lent none
+  pub lent : List ℕ
+  -- what the call answers: the function that its contract equates it with
   pub gives : A
 
 -- Demand 1 of a call.
 pub record Demand1Of {A : Type 0} (c : Call A) : Type 1 where
-  -- the number given applies, and none that comes before it in the order does; where none of the table is given, none
-  -- applies
+  -- the number given applies, and none that comes before it in the order does; where no number of the table is given,
+  -- none applies
   pub order : GivenInOrder (c .table .rows) (c .number (c .gives))
   -- the whole answer is as the table has it
   pub by-table : AnswerBy (c .table) (c .gives)
-  -- the number is one of the others, or of the table
-  pub one-of : Among (c .others ++ numbers (c .table .rows)) (c .number (c .gives))
-  -- beside a number of the table the answer is the refusal with it, and nothing else
-  pub refused : Among (numbers (c .table .rows)) (c .number (c .gives))
+  -- the number is one that the call may give
+  pub one-of : Among (c .may-give) (c .number (c .gives))
+  -- beside a number of the table the whole answer is the refusal with it, and what it says besides is zero
+  pub whole-refusal : Among (numbers (c .table .rows)) (c .number (c .gives))
       → c .gives ≡ c .table .refuse (c .number (c .gives))
-  -- unless the answer is 0, the lent slice holds what it held
+  pub zero : Among (numbers (c .table .rows)) (c .number (c .gives)) → (i : ℕ) → getD (c .besides (c .gives)) i 0 ≡ 0
+  -- unless the number is 0, the lent slice holds what it held
   pub kept : ¬ (c .number (c .gives) ≡ 0) → c .leaves (c .gives) ≡ c .lent
 
 -- Demand 2 of a call: it answers exactly what its table says. So there is one answer by its table, the call's.

@@ -1,5 +1,5 @@
--- A call's refusals as a table: its numbers, each with when it applies, in the order judged. The first that applies is
--- given. A number has its place in the table and no size: nothing here compares two numbers but for being equal.
+-- A call's refusals as rows: its numbers, each with when it applies, in the order judged. The first that applies is
+-- given. A number has its place among the rows and no size: nothing here compares two numbers but for being equal.
 use mathlib.Core.Logic.{_⊎_}
 use mathlib.Core.Path.{_≡_}
 use mathlib.Core.List.{List, [], _∷_, _++_}
@@ -10,7 +10,7 @@ infix 68 _when_
 pub data Row : Type 1 where
   _when_ : ℕ → Type 0 → Row
 
--- the numbers of a table, in their order
+-- the numbers of the rows, in their order
 unfoldable pub numbers : List Row → List ℕ
 numbers [] = []
 numbers ((k when P) ∷ rows) = k ∷ numbers rows
@@ -20,7 +20,7 @@ unfoldable pub None : List Row → Type 0
 None [] = Unit {0}
 None ((k when P) ∷ rows) = (¬ P) × None rows
 
--- r is the answer by this table: what the first row that applies refuses with; where none applies, an answer
+-- r is the answer by these rows: what the first row that applies refuses with; where none applies, an answer
 -- as `Else` has it.
 unfoldable pub First : {A : Type 0} → (ℕ → A) → (A → Type 0) → List Row → A → Type 0
 First refuse Else [] r = Else r
@@ -40,7 +40,7 @@ pub record FirstToApply (rows : List Row) (k : ℕ) : Type 1 where
   pub applies : Condition
   pub none-before : None before
 
--- n is as the table has it: one of its numbers, which applies while none that comes before it in the order does; or
+-- n is as the rows have it: one of their numbers, which applies while none that comes before it in the order does; or
 -- none of them, and none applies.
 pub record GivenInOrder (rows : List Row) (n : ℕ) : Type 1 where
   pub refused : Among (numbers rows) n → FirstToApply rows n

@@ -1,40 +1,37 @@
--- What is claimed of every table, as types; each call is an instance. The proofs stand in proofs/RowLaws.antt.
--- `refuse k` is the whole answer of a call that refuses with k, `number r` the number of the answer r, and `Else` holds
--- of the answers that are right where no row applies.
+-- What is claimed of every table and of every call, as types; each call is an instance. The proofs stand in
+-- proofs/RowLaws.antt.
 use mathlib.Core.Logic.{_↔_, _⊎_}
 use mathlib.Core.Path.{_≡_}
 use mathlib.Core.List.{List, [], _∷_}
 use Prim.Native.Nat.{ℕ}
-use Rattle.numbers.specs.Rows.{Row, _when_, numbers, None, First, Among, FirstToApply, GivenInOrder}
-use Rattle.numbers.specs.Calls.{Call, AnswerBy, Demand1Of}
+use lib.ListN.{getD}
+use Rattle.numbers.specs.Rows.{Row, _when_, numbers, None, Among, FirstToApply, GivenInOrder}
+use Rattle.numbers.specs.Calls.{Table, AnswerBy, Call, Demand1Of}
 
 -- A refusal has the number that it is by; an answer where no row applies has none of the table's numbers.
-pub record Numbered {A : Type 0} (refuse : ℕ → A) (number : A → ℕ) (Else : A → Type 0) (rows : List Row) : Type 0 where
-  pub of-refusal : (k : ℕ) → number (refuse k) ≡ k
-  pub of-others : (r : A) → Else r → ¬ Among (numbers rows) (number r)
+pub record Numbered {A : Type 0} (T : Table A) (number : A → ℕ) : Type 0 where
+  pub of-refusal : (k : ℕ) → number (T .refuse k) ≡ k
+  pub not-of-table : (r : A) → T .Else r → ¬ Among (numbers (T .rows)) (number r)
 
 -- The number given applies, and none that comes before it in the order does; where none is given, none applies.
 abbrev pub FirstThatAppliesIsGiven : Type 1
-FirstThatAppliesIsGiven = (A : Type 0) (refuse : ℕ → A) (number : A → ℕ) (Else : A → Type 0) (rows : List Row)
-    → Numbered refuse number Else rows
-    → (r : A) → First refuse Else rows r → GivenInOrder rows (number r)
+FirstThatAppliesIsGiven = (A : Type 0) (T : Table A) (number : A → ℕ) → Numbered T number
+    → (r : A) → AnswerBy T r → GivenInOrder (T .rows) (number r)
 
--- The answer refuses with the first number that applies, or none applies and it is as `Else` has it.
-pub data InOrder {A : Type 0} (refuse : ℕ → A) (Else : A → Type 0) (rows : List Row) : A → Type 1 where
-  refuses : {k : ℕ} → FirstToApply rows k → InOrder refuse Else rows (refuse k)
-  none-applies : {r : A} → None rows → Else r → InOrder refuse Else rows r
+-- The answer refuses with the first number that applies, or none applies and it is right where none does.
+pub data InOrder {A : Type 0} (T : Table A) : A → Type 1 where
+  refuses : {k : ℕ} → FirstToApply (T .rows) k → InOrder T (T .refuse k)
+  none-applies : {r : A} → None (T .rows) → T .Else r → InOrder T r
 
--- The same of whole answers: `First` is neither more nor less.
+-- The same of whole answers: `AnswerBy` is neither more nor less.
 abbrev pub AnswersInOrder : Type 1
-AnswersInOrder = (A : Type 0) (refuse : ℕ → A) (Else : A → Type 0) (rows : List Row) (r : A)
-    → First refuse Else rows r ↔ InOrder refuse Else rows r
+AnswersInOrder = (A : Type 0) (T : Table A) (r : A) → AnswerBy T r ↔ InOrder T r
 
 -- A refusal is by one of the table's numbers, and the number settles all of the answer: what `refuse` leaves as it
 -- was is as it was.
 abbrev pub RefusedByANumber : Type 1
-RefusedByANumber =
-    (A : Type 0) (refuse : ℕ → A) (Else : A → Type 0) (rows : List Row) (r : A) → First refuse Else rows r
-    → ((k : ℕ) × Among (numbers rows) k × (r ≡ refuse k)) ⊎ (None rows × Else r)
+RefusedByANumber = (A : Type 0) (T : Table A) (r : A) → AnswerBy T r
+    → ((k : ℕ) × Among (numbers (T .rows)) k × (r ≡ T .refuse k)) ⊎ (None (T .rows) × T .Else r)
 
 -- It is settled which row is the first to apply, or that none does.
 unfoldable pub Settled : List Row → Type 0
@@ -49,15 +46,17 @@ ExactlyOne {A} P = (r : A) × P r × ((r′ : A) → P r′ → r ≡ r′)
 -- where none applies.
 abbrev pub ExactlyOneAnswer : Type 1
 ExactlyOneAnswer =
-    (A : Type 0) (refuse : ℕ → A) (Else : A → Type 0) (rows : List Row) → Settled rows → (None rows → ExactlyOne Else)
-    → ExactlyOne (First refuse Else rows)
+    (A : Type 0) (T : Table A) → Settled (T .rows) → (None (T .rows) → ExactlyOne (T .Else)) → ExactlyOne (AnswerBy T)
 
--- The answers that a call's table allows have their numbers, and write nothing unless the number is 0.
+-- The answers that a call's table allows have numbers that it may give; a refusal says nothing besides; and what isn't
+-- numbered 0 writes nothing.
 pub record Orderly {A : Type 0} (c : Call A) : Type 0 where
-  pub numbered : Numbered (c .table .refuse) (c .number) (c .table .Else) (c .table .rows)
-  pub of-others : (r : A) → c .table .Else r → Among (c .others) (c .number r)
+  pub numbered : Numbered (c .table) (c .number)
+  pub table-given : (k : ℕ) → Among (numbers (c .table .rows)) k → Among (c .may-give) k
+  pub else-given : (r : A) → c .table .Else r → Among (c .may-give) (c .number r)
+  pub refusal-zero : (k i : ℕ) → getD (c .besides (c .table .refuse k)) i 0 ≡ 0
   pub refusal-keeps : (k : ℕ) → c .leaves (c .table .refuse k) ≡ c .lent
-  pub stop-keeps : (r : A) → c .table .Else r → ¬ (c .number r ≡ 0) → c .leaves r ≡ c .lent
+  pub else-keeps : (r : A) → c .table .Else r → ¬ (c .number r ≡ 0) → c .leaves r ≡ c .lent
 
 -- Demand 1 of every call follows from its table, if the call answers by it.
 abbrev pub DemandByTable : Type 1

@@ -1,58 +1,59 @@
 -- Demands 1 and 2, of every call.
 use mathlib.Core.Path.{refl, ap}
-use mathlib.Core.List.{List}
-use Prim.Native.Nat.{ℕ}
+use mathlib.Core.List.{List, [], _∷_}
+use Prim.Native.Nat.{ℕ, _+_}
 use Rattle.stages.specs.Answers.{Viewed}
+use Rattle.scripts.specs.Parting.{mostScripts}
 use Rattle.rounds.specs.Answers.{Gate, allOpen}
 use Rattle.numbers.specs.Rows.{numbers, here}
-use Rattle.numbers.specs.Calls.{Call, Demand1Of, Demand2Of}
 use Rattle.numbers.specs.Theorems.{Orderly}
-use Rattle.numbers.proofs.RowLaws.{orderly, orderly-done, every-table}
+use Rattle.numbers.proofs.CallLaws.{orderly, orderly-done, by-second}
 use Rattle.simp.specs.Demands.{checkCall, runCall, viewCall, roundCall, groupsCall, trustCall, Demand1, Demand2}
 use Rattle.simp.proofs.SecondDemand.{check-exactly, run-ends, run-exactly, view-exactly}
 use Rattle.simp.proofs.FirstDemand.{finished, starts, ended, past-refusals, run-answers}
-use Rattle.simp.proofs.RoundDemands.{round-exactly, round-played}
+use Rattle.simp.proofs.RoundDemands.{round-exactly, round-played, all-places}
+use Rattle.simp.proofs.Turns.{zeros-at}
 use Rattle.simp.proofs.GroupDemands.{groups-exactly}
 use Rattle.simp.proofs.TrustDemands.{trust-exactly, as-check}
 
--- demand 1 of a call of which demand 2 is known
-by-second : {A : Type 0} (c : Call A) → Orderly c → Demand2Of c → Demand1Of c
-by-second {A} c o d = every-table .demand-by-table A c o (d (c .gives) .0 refl)
-
--- ---- the answers that each table allows
+-- ---- the answers that each table allows: their numbers, and what a refusal says and writes
 
 checks : (sheet script : List ℕ) → Orderly (checkCall sheet script)
 unfolding numbers
-checks sheet script = orderly-done (checkCall sheet script) refl (λ k. refl) (λ k. refl) here (λ r e. e)
+checks sheet script =
+    orderly-done (checkCall sheet script) (0 ∷ []) refl refl refl (λ k. refl) (λ k. zeros-at 0) (λ k. refl) here
+    (λ r e. e)
 
 runs : (sheet script memory : List ℕ) (authority budget : ℕ) → Orderly (runCall sheet script memory authority budget)
 unfolding numbers
 runs sheet script memory authority budget =
-    orderly (runCall sheet script memory authority budget) refl (λ k. refl) (λ k. refl)
-    (λ r e. past-refusals (e .2 .2)) (λ r e. ended (e .2 .2) .kept)
+    orderly (runCall sheet script memory authority budget) (0 ∷ 9 ∷ 10 ∷ []) refl refl refl (λ k. refl)
+    (λ k. zeros-at 1) (λ k. refl) (λ r e. past-refusals (e .2 .2)) (λ r e. ended (e .2 .2) .kept)
 
 views : (sheet memory : List ℕ) (group : ℕ) (view : List ℕ) → Orderly (viewCall sheet memory group view)
 unfolding numbers
 views sheet memory group view =
-    orderly-done (viewCall sheet memory group view) refl (λ k. refl) (λ k. refl) here
-    (λ v e. ap (λ (x : Viewed). x .answer) (e .2))
+    orderly-done (viewCall sheet memory group view) (0 ∷ []) refl refl refl (λ k. refl) (λ k. zeros-at 0) (λ k. refl)
+    here (λ v e. ap (λ (x : Viewed). x .answer) (e .2))
 
 rounds : (gate : Gate) (sheet scripts memory : List ℕ) (authority budget : ℕ)
     → Orderly (roundCall gate sheet scripts memory authority budget)
 unfolding numbers
 rounds gate sheet scripts memory authority budget =
-    orderly-done (roundCall gate sheet scripts memory authority budget) refl (λ k. refl) (λ k. refl) here
-    (λ r p. p .not-refused)
+    orderly-done (roundCall gate sheet scripts memory authority budget) (0 ∷ []) refl refl refl (λ k. refl)
+    (λ k. zeros-at (mostScripts + mostScripts)) (λ k. refl) here (λ r p. p .not-refused)
 
 groups : (sheet : List ℕ) (l : ℕ) (places : List ℕ) → Orderly (groupsCall sheet l places)
 unfolding numbers
 groups sheet l places =
-    orderly-done (groupsCall sheet l places) refl (λ k. refl) (λ k. refl) here (λ r o. o .2 .2 .not-refused)
+    orderly-done (groupsCall sheet l places) (0 ∷ []) refl refl refl (λ k. refl) (λ k. zeros-at 1) (λ k. refl) here
+    (λ r o. o .2 .2 .not-refused)
 
 trusts : (sheet script : List ℕ) → Orderly (trustCall sheet script)
 unfolding numbers
 trusts sheet script =
-    orderly-done (trustCall sheet script) refl (λ k. refl) (λ k. refl) here (λ r o. o .2 .2 .not-refused)
+    orderly-done (trustCall sheet script) (0 ∷ []) refl refl refl (λ k. refl) (λ k. zeros-at 1) (λ k. refl) here
+    (λ r o. o .2 .2 .not-refused)
 
 -- ---- the demands
 
@@ -83,6 +84,7 @@ demand-1 = record {
       let st = starts sheet script memory authority budget h in
       finished (st .2) (run-ends (st .2) budget) h;
   round-played = round-played;
+  round-places = all-places;
   all-open = λ i. refl;
   trust-as-check = as-check;
 }

@@ -1,4 +1,4 @@
--- Demand 1 of the calls on one script, read off their tables: what each leaves and answers.
+-- What a run leaves, read off its table; a done run has started, and a view that is handed out is refused by nothing.
 use mathlib.Core.Path.{_≡_, refl}
 use mathlib.Core.List.{List, [], _∷_}
 use Prim.Native.Nat.{ℕ}

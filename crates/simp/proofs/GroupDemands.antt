@@ -21,7 +21,7 @@ use Rattle.numbers.specs.Rows.{numbers, _when_, First}
 use Rattle.numbers.specs.Calls.{Demand2Of}
 use Rattle.numbers.proofs.RowLaws.{by-rows, not-one, exactly}
 use Rattle.simp.specs.Judgements.{OnSheet}
-use Rattle.simp.specs.Groups.{SmallestOn, NoLabel, FewPlaces, groupRows, Handed}
+use Rattle.simp.specs.Groups.{SmallestOn, NoLabel, FewPlaces, groupsRows, Handed}
 use Rattle.simp.specs.SmallestGroups.{SmallestGroups}
 use Rattle.simp.specs.Demands.{groupsCall}
 use Rattle.simp.proofs.Judged.{read, its, past-2}
@@ -100,7 +100,7 @@ module _ (sheet : List ℕ) (l : ℕ) (places : List ℕ) where
       )))
       (λ m. inl (inl (s, h .form, m), groups-by s l places ∙ no-label _ l _ _ m))
 
-  lists : First R E (groupRows sheet l places) (groupsOf sheet l places)
+  lists : First R E (groupsRows sheet l places) (groupsOf sheet l places)
   unfolding groupsOf
   lists = past-2 R E sheet _ _ past-12
 
@@ -111,7 +111,7 @@ module _ (sheet : List ℕ) (l : ℕ) (places : List ℕ) where
 
 pub groups-exactly : (sheet : List ℕ) (l : ℕ) (places : List ℕ) → Demand2Of (groupsCall sheet l places)
 groups-exactly sheet l places =
-    exactly (refusedGroups places) _ _ (groupsOf sheet l places) (groupRows sheet l places)
+    exactly (refusedGroups places) _ _ (groupsOf sheet l places) (groupsRows sheet l places)
     (λ n h r.
     let s : Sheet = h .its-sheet in
     let gs : List ℕ = groupsFor s l in (
@@ -138,7 +138,7 @@ listing : (sheet : List ℕ) (l : ℕ) (places : List ℕ) → groupsOf sheet l 
 unfolding numbers
 listing sheet l places z =
     by-rows (refusedGroups places) (λ _. Lists sheet l places) (λ r. r .answer ≡ 0 → Lists sheet l places)
-    (groupRows sheet l places)
+    (groupsRows sheet l places)
     (λ k i g e. absurd (not-one 0 i refl e)) (λ r n h e. h) _ (lists sheet l places) z
 
 pub smallest-groups : SmallestGroups

@@ -24,7 +24,7 @@ use Rattle.rounds.specs.Calls.{lowest, runEach, turnOf, roundBy}
 use Rattle.rounds.proofs.LowerLaws.{lower-none, lowest-more}
 use Rattle.rounds.proofs.PlaceLaws.{each-length}
 use Rattle.numbers.specs.Calls.{Demand2Of}
-use Rattle.numbers.proofs.RowLaws.{exactly}
+use Rattle.numbers.proofs.RowLaws.{by-rows, exactly}
 use Rattle.simp.specs.Judgements.{OnSheet, Principals, Typable, Started}
 use Rattle.simp.specs.Rounds.{roundRows, InTurn, no-turn, a-turn, Places, Played, Open, TurnGoes}
 use Rattle.simp.specs.Demands.{ScriptAnswers, roundCall}
@@ -32,7 +32,8 @@ use Rattle.simp.proofs.Numbers.{typable-0, 0-typable}
 use Rattle.simp.proofs.SecondDemand.{started-run, run-ends, run-exactly}
 use Rattle.simp.proofs.FirstDemand.{finished, run-answers, past-refusals}
 use Rattle.simp.proofs.RoundRows.{RoundStarts, round-starts, round-started, started-round}
-use Rattle.simp.proofs.Turns.{turns-map, turns-placed, placed-turns, round-placed, round-places, round-is}
+use Rattle.simp.proofs.Turns.{zeros-at, turns-map, turns-placed, placed-turns, round-placed, round-places}
+use Rattle.simp.proofs.Turns.{round-is}
 
 -- ---- a turn, by its gate
 
@@ -105,7 +106,7 @@ module _ (gate : Gate) {sheet : List ℕ} {s : Sheet} (authority budget : ℕ) (
           (run-answers sheet script memory authority budget);
       finished = λ o.
           rw (turn-open gate sheet authority budget i script memory o) (finished its-start (run-ends its-start budget));
-      closed = turn-closed gate sheet authority budget i script memory;
+      closed = λ n. rw (turn-closed gate sheet authority budget i script memory n) (refl, refl, refl);
     }
 
     -- it leaves a memory that isn't refused
@@ -180,6 +181,17 @@ module _ (gate : Gate) (sheet scripts memory : List ℕ) (authority budget : ℕ
         so-played st r,
       ))
       (round-starts gate sheet scripts memory authority budget)
+
+  -- a round has its places, refused or not
+  pub all-places : Places (length (partsOf scripts)) R
+  all-places =
+      by-rows (refusedRound memory) _ (Places (length (partsOf scripts))) (roundRows sheet scripts memory authority)
+      (λ k i g. record {
+        answer-places = refl;
+        step-places = refl;
+        past-last = λ j l. (zeros-at mostScripts j, zeros-at mostScripts j);
+      })
+      (λ r n p. p .places) _ (round-exactly _ .0 refl)
 
   -- each script of a round that isn't refused went so in its turn
   pub round-played : R .answer ≡ 0 → Played (ScriptAnswers gate sheet authority budget) scripts memory R

@@ -1,15 +1,17 @@
 -- The three demands, stated of the definitions that the contracts equate the calls with.
 use mathlib.Core.Path.{_≡_}
-use mathlib.Core.List.{List, [], _∷_}
+use mathlib.Core.List.{List, [], _∷_, _++_}
 use Prim.Native.Nat.{ℕ, _≤_, _<_}
+use lib.ListN.{length}
 use Rattle.language.specs.Syntax.{skip, Script}
 use Rattle.language.specs.World.{Mem}
 use Rattle.language.specs.Figures.{Steps}
 use Rattle.sheet.specs.Sheet.{Sheet, locationCount}
 use Rattle.sheet.specs.Meaning.{worldFor}
 use Rattle.memory.specs.Memory.{memoryOf, wordsOf}
-use Rattle.stages.specs.Answers.{Ran, refusedRun, Viewed, TrustAnswer}
+use Rattle.stages.specs.Answers.{Ran, Viewed, TrustAnswer}
 use Rattle.stages.specs.Calls.{checkOf, runOf, viewOf, trustOf}
+use Rattle.scripts.specs.Parting.{partsOf}
 use Rattle.rounds.specs.Answers.{RanRound, Gate, allOpen}
 use Rattle.rounds.specs.Calls.{roundBy}
 use Rattle.groups.specs.Answers.{Grouped}
@@ -17,12 +19,12 @@ use Rattle.groups.specs.Calls.{groupsOf}
 use Rattle.numbers.specs.Rows.{Among}
 use Rattle.numbers.specs.Calls.{Call, Demand1Of, Demand2Of}
 use Rattle.simp.specs.Judgements.{Started, checkTable, runTable, viewTable}
-use Rattle.simp.specs.Rounds.{Played, Open, roundTable}
-use Rattle.simp.specs.Groups.{groupTable}
+use Rattle.simp.specs.Rounds.{Places, Played, Open, roundTable}
+use Rattle.simp.specs.Groups.{groupsTable}
 use Rattle.simp.specs.Trust.{trustTable}
 
--- The run was started and reached skip within the budget, and these are the words of the memory that it reached,
--- after so many steps. (That no value was too long on the way, else the answer is 10, is said by `Ends`.)
+-- The run started and reached skip within the budget, after so many steps, and these are the words of the memory that
+-- it reached. (`Ends` says besides that no value on the way was too long, which is 10.)
 pub record Finished (sheet script memory : List ℕ) (authority budget steps : ℕ) (left : List ℕ) : Type 0 where
   pub its-sheet : Sheet
   pub its-script : Script
@@ -32,8 +34,8 @@ pub record Finished (sheet script memory : List ℕ) (authority budget steps : �
   pub words : left ≡ wordsOf (locationCount its-sheet) reached
   pub in-budget : steps ≤ budget
 
--- What a run leaves and how many steps it has, whatever it is given: the memory as it was, unless it is done; beside 9
--- as many steps as the budget, beside 10 fewer (how many, `Ends` says).
+-- What a run leaves, and its steps where it stops, whatever it is given: the memory as it was, unless it is done;
+-- beside 9 as many steps as the budget, beside 10 fewer (how many, `Ends` says).
 pub record RunAnswers (memory : List ℕ) (budget : ℕ) (r : Ran) : Type 0 where
   pub kept : ¬ (r .answer ≡ 0) → r .memory ≡ memory
   pub all-steps : r .answer ≡ 9 → r .steps ≡ budget
@@ -47,7 +49,7 @@ pub record ScriptAnswers (gate : Gate) (sheet : List ℕ) (authority budget i : 
   pub its-number : Open gate i → Among (0 ∷ 9 ∷ 10 ∷ []) (r .answer)
   pub as-run : Open gate i → RunAnswers memory budget r
   pub finished : Open gate i → r .answer ≡ 0 → Finished sheet script memory authority budget (r .steps) (r .memory)
-  pub closed : ¬ Open gate i → r ≡ refusedRun memory (gate i)
+  pub closed : ¬ Open gate i → (r .answer ≡ gate i) × (r .steps ≡ 0) × (r .memory ≡ memory)
 
 -- ---- the calls, each with its table (Judgements.antt, Rounds.antt, Groups.antt, Trust.antt) and the function that its
 -- contract equates it with
@@ -55,30 +57,33 @@ pub record ScriptAnswers (gate : Gate) (sheet : List ℕ) (authority budget i : 
 abbrev pub checkCall : List ℕ → List ℕ → Call ℕ
 checkCall sheet script = record {
   table = checkTable sheet script;
+  may-give = 0 ∷ 1 ∷ 2 ∷ 4 ∷ 5 ∷ 6 ∷ [];
   number = λ r. r;
-  others = 0 ∷ [];
-  lent = [];
+  besides = λ r. [];
   leaves = λ r. [];
+  lent = [];
   gives = checkOf sheet script;
 }
 
 abbrev pub runCall : List ℕ → List ℕ → List ℕ → ℕ → ℕ → Call Ran
 runCall sheet script memory authority budget = record {
   table = runTable sheet script memory authority budget;
+  may-give = 0 ∷ 1 ∷ 2 ∷ 3 ∷ 4 ∷ 5 ∷ 6 ∷ 7 ∷ 8 ∷ 9 ∷ 10 ∷ [];
   number = λ r. r .answer;
-  others = 0 ∷ 9 ∷ 10 ∷ [];
-  lent = memory;
+  besides = λ r. r .steps ∷ [];
   leaves = λ r. r .memory;
+  lent = memory;
   gives = runOf sheet script memory authority budget;
 }
 
 abbrev pub viewCall : List ℕ → List ℕ → ℕ → List ℕ → Call Viewed
 viewCall sheet memory group view = record {
   table = viewTable sheet memory group view;
+  may-give = 0 ∷ 1 ∷ 2 ∷ 3 ∷ 7 ∷ 8 ∷ [];
   number = λ v. v .answer;
-  others = 0 ∷ [];
-  lent = view;
+  besides = λ v. [];
   leaves = λ v. v .view;
+  lent = view;
   gives = viewOf sheet memory group view;
 }
 
@@ -86,40 +91,43 @@ viewCall sheet memory group view = record {
 abbrev pub roundCall : Gate → List ℕ → List ℕ → List ℕ → ℕ → ℕ → Call RanRound
 roundCall gate sheet scripts memory authority budget = record {
   table = roundTable gate sheet scripts memory authority budget;
+  may-give = 0 ∷ 1 ∷ 2 ∷ 3 ∷ 11 ∷ 4 ∷ 5 ∷ 6 ∷ 7 ∷ 8 ∷ [];
   number = λ r. r .answer;
-  others = 0 ∷ [];
-  lent = memory;
+  besides = λ r. r .answers ++ r .steps;
   leaves = λ r. r .memory;
+  lent = memory;
   gives = roundBy gate sheet scripts memory authority budget;
 }
 
 abbrev pub groupsCall : List ℕ → ℕ → List ℕ → Call Grouped
 groupsCall sheet l places = record {
-  table = groupTable sheet l places;
+  table = groupsTable sheet l places;
+  may-give = 0 ∷ 1 ∷ 2 ∷ 12 ∷ [];
   number = λ r. r .answer;
-  others = 0 ∷ [];
-  lent = places;
+  besides = λ r. r .count ∷ [];
   leaves = λ r. r .places;
+  lent = places;
   gives = groupsOf sheet l places;
 }
 
 abbrev pub trustCall : List ℕ → List ℕ → Call TrustAnswer
 trustCall sheet script = record {
   table = trustTable sheet script;
+  may-give = 0 ∷ 1 ∷ 2 ∷ 4 ∷ 5 ∷ 6 ∷ [];
   number = λ r. r .answer;
-  others = 0 ∷ [];
-  lent = [];
+  besides = λ r. r .keeping ∷ [];
   leaves = λ r. [];
+  lent = [];
   gives = trustOf sheet script;
 }
 
 -- ---- the demands
 
--- Demand 1. Each call gives the first number that applies, in their fixed order; its number is 0, of a run also 9 or
--- 10, or one of its table's. Beside one of these the answer is the call's `refuse`, which is otherwise zero or no, and
--- unless the number is 0 no lent slice is written (Demand1Of). After any call the lent memory holds the finished run's
--- values or exactly what it held before. That a call ends is proved with each function; simp_check and simp_trust are
--- lent nothing to write, and simp_view is lent its memory for reading.
+-- Demand 1. The number of each call is one of its table's, the first that applies, in their fixed order; or it is 0, of
+-- a run also 9 or 10, and then none applies. Beside a number of the table the answer is the refusal with it, zero or no
+-- in all else; and unless the number is 0 the call writes to no lent slice (Demand1Of). After any call the lent memory
+-- holds the finished run's values or exactly what it held before. That a call ends is proved with each function;
+-- simp_check and simp_trust are lent nothing to write, and simp_view is lent its memory for reading.
 pub record Demand1 : Type 1 where
   pub check : (sheet script : List ℕ) → Demand1Of (checkCall sheet script)
   pub run : (sheet script memory : List ℕ) (authority budget : ℕ)
@@ -142,6 +150,9 @@ pub record Demand1 : Type 1 where
       → roundBy gate sheet scripts memory authority budget .answer ≡ 0
       → Played (ScriptAnswers gate sheet authority budget) scripts memory
       (roundBy gate sheet scripts memory authority budget)
+  -- it has 32 places for the answers and 32 for the steps, also where it is refused, zero past the last script
+  pub round-places : (gate : Gate) (sheet scripts memory : List ℕ) (authority budget : ℕ)
+      → Places (length (partsOf scripts)) (roundBy gate sheet scripts memory authority budget)
   -- simp_round shuts no script out
   pub all-open : (i : ℕ) → Open allOpen i
   -- the number of simp_trust is that of simp_check

@@ -27,8 +27,8 @@ NoLabel sheet l = OfSheet sheet (λ s. labelCount s ≤ l)
 abbrev pub FewPlaces : List ℕ → ℕ → List ℕ → Type 0
 FewPlaces sheet l places = OfSheet sheet (λ s. (gs : List ℕ) × SmallestOn s l gs × (length places < length gs))
 
-abbrev pub groupRows : List ℕ → ℕ → List ℕ → List Row
-groupRows sheet l places =
+abbrev pub groupsRows : List ℕ → ℕ → List ℕ → List Row
+groupsRows sheet l places =
     1 when NoSheet sheet
     ∷ 2 when Repeats sheet
     ∷ 12 when (NoLabel sheet l ⊎ FewPlaces sheet l places)
@@ -46,9 +46,9 @@ pub record Handed (places gs : List ℕ) (r : Grouped) : Type 0 where
   pub first-places : (i : ℕ) → i < length gs → getD (r .places) i 0 ≡ getD gs i 0
   pub rest-kept : (i : ℕ) → length gs ≤ i → getD (r .places) i 0 ≡ getD places i 0
 
-abbrev pub groupTable : List ℕ → ℕ → List ℕ → Table Grouped
-groupTable sheet l places = record {
-  rows = groupRows sheet l places;
+abbrev pub groupsTable : List ℕ → ℕ → List ℕ → Table Grouped
+groupsTable sheet l places = record {
+  rows = groupsRows sheet l places;
   refuse = refusedGroups places;
   Else = λ r. OfSheet sheet (λ s. (gs : List ℕ) × SmallestOn s l gs × Handed places gs r);
 }

@@ -79,7 +79,7 @@ NoScript sheet script = OfSheet sheet (λ s. (p : Script) → ¬ IsScript (count
 abbrev pub IllTyped : List ℕ → List ℕ → Type 0
 IllTyped sheet script = OfScript sheet script (λ s p. ¬ TypableUnlabelled s p)
 
--- 6: the script has no derivation. This is so where 5 applies, too; 5 comes before it in the order.
+-- 6: the script has no derivation. (Where 5 applies it has none either; 5 comes first, and is given.)
 abbrev pub IllLabelled : List ℕ → List ℕ → Type 0
 IllLabelled sheet script = OfScript sheet script (λ s p. ¬ Typable s p)
 

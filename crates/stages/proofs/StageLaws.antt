@@ -1,9 +1,10 @@
 -- The stages of a call: what each leaves, from what it calls.
+use mathlib.Core.Logic.{_⊎_, inl, inr}
 use mathlib.Core.Path.{_≡_, refl, sym, ap, _∙_}
 use mathlib.Core.Bool.{Bool, true, false, cond}
 use mathlib.Core.List.{List, []}
 use mathlib.Core.Option.{Option, none, some}
-use Prim.Native.Nat.{ℕ, zero, suc, _*_}
+use Prim.Native.Nat.{ℕ, zero, suc, _*_, _≤_}
 use native.Mathlib.Omega.{arith}
 use borrow.Author.Tests.{ne-eqb}
 use mir.Val.{boolByte}
@@ -23,7 +24,7 @@ use Rattle.script_text.specs.declared.Answer.{Answer}
 use Rattle.script_text.specs.declared.Answer.the-variants.{Read, Refused}
 use Rattle.script_text.specs.Counts.{countsOf}
 use Rattle.script_text.specs.Script.{scriptOf}
-use Rattle.script_text.specs.Internal.Decoded.{Decoded, codeWords, countsIn, decodedScript}
+use Rattle.script_text.specs.Internal.Decoded.{Decoded, codeWords, countsIn, noCode, coded, decodedScript}
 use Rattle.script_text.proofs.ScriptLaws.{counts-table}
 use Rattle.script_text.proofs.ReadLaws.{read-split, read-whole}
 use Rattle.memory.specs.Memory.{memoryOf, wellFormed, memoryRefusal}
@@ -31,14 +32,21 @@ use Rattle.memory.specs.View.{viewWords, viewRefusal}
 use Rattle.memory.specs.Internal.InTable.{viewIn, leaves, refusalIn, viewRefusalIn, viewLeavesIn}
 use Rattle.memory.proofs.Exactness.{memories-exactly, table-agrees}
 use Rattle.memory.proofs.MemoryLaws.{unrefused-length, unrefused-formed}
+use Rattle.checker.specs.declared.Verdict.{Verdict}
+use Rattle.checker.specs.declared.Verdict.the-variants.{Accepted, IllTyped, IllLabelled}
+use Rattle.checker.specs.Verdict.{verdictNumber}
 use Rattle.checker.specs.Internal.Post.{ChecksCode, KeepsCode}
+use Rattle.evaluator.specs.declared.State.{State}
+use Rattle.evaluator.specs.declared.State.the-variants.{Done}
+use Rattle.evaluator.specs.State.{stateNumber}
 use Rattle.interpreter.specs.Internal.Run.{RunLeaves, Runs}
 use Rattle.stages.specs.Answers.{Ran, refusedRun, Viewed, refusedView, refusedTrust}
 use Rattle.stages.specs.Calls.{unless, strangers, onScript, untyped, numberOf, ended, acceptedRun, keepingBit}
 use Rattle.stages.specs.Calls.{trustOn}
 use Rattle.stages.specs.Internal.Stages.{TableOf, CodeOf, no-code, its-code, Judges, keepingIn, JudgesTrust}
 use Rattle.stages.specs.Internal.Stages.{KeepsScript, AcceptedCode, NumbersScript, Spares, RunsAccepted}
-use Rattle.stages.specs.Internal.Stages.{TrustsOn, RunsOn, strangersIn, viewedIn}
+use Rattle.stages.specs.Internal.Stages.{TrustsOn, RunsOn, OfVerdict, OfState, strangersIn, judgedNumber}
+use Rattle.stages.specs.Internal.Stages.{numberIn, trustIn, runIn, viewedIn}
 
 -- ---- the code of a script
 
@@ -69,57 +77,93 @@ accepted-code t script ws p e w s T z = go (code-of t script ws p e w s T) refl 
 
 -- ---- judging
 
+-- 0 is that of the verdict that accepts
+pub accepted-verdict : OfVerdict 0
+unfolding verdictNumber
+accepted-verdict = (Accepted, refl)
+
+-- one that refuses isn't below 4
+pub refusing-verdict : {k : ℕ} → OfVerdict k → (k ≡ 0) ⊎ (4 ≤ k)
+unfolding verdictNumber
+refusing-verdict (Accepted, e) = inl e
+refusing-verdict (IllTyped, e) = inr (omega arith)
+refusing-verdict (IllLabelled, e) = inr (omega arith)
+
 pub judge-refused : (ws t : List ℕ) (start : ℕ) (a : Answer) → a ≡ Refused → Judges a ws t start 4
-unfolding onScript
-judge-refused ws t start a e = rw e (record { judged = λ s T o C. go s C })
+unfolding onScript judgedNumber
+judge-refused ws t start a e = rw e (record { judged = λ s T o C. go s C; in-table = (0, accepted-verdict, refl) })
   where
     go : (s : Sheet) {o : Option Script} → CodeOf s ws start Refused o → 4 ≡ onScript (λ k. k) o (untyped s)
     go s no-code = refl
 
-pub judge-read : (ws t : List ℕ) (start : ℕ) (a : Answer) (r : ℕ) → a ≡ Read → ChecksCode ws t start r
-    → Judges a ws t start r
-unfolding onScript untyped
-judge-read ws t start a r i x = rw i (record { judged = λ s T o C. go s T C })
+pub judge-read : (ws t : List ℕ) (start : ℕ) (a : Answer) (v : Verdict) → a ≡ Read
+    → ChecksCode ws t start (verdictNumber v) → Judges a ws t start (verdictNumber v)
+unfolding onScript untyped judgedNumber
+judge-read ws t start a v i x =
+    rw i (record { judged = λ s T o C. go s T C; in-table = (verdictNumber v, (v, refl), refl) })
   where
     go : (s : Sheet) → TableOf t s → {o : Option Script} → CodeOf s ws start Read o
-        → r ≡ onScript (λ k. k) o (untyped s)
+        → verdictNumber v ≡ onScript (λ k. k) o (untyped s)
     go s T (its-code {p = p} src nm w st) = x .exact s (T .form) (T .once) (T .words) (countsOf s) p src nm w st
 
 -- no script is trust-keeping, or the one that was read
 pub trust-refused : (ws t : List ℕ) (start : ℕ) (a : Answer) → a ≡ Refused → JudgesTrust a ws t start false
 unfolding keepingIn onScript
-trust-refused ws t start a e = rw e (record { judged = λ s T o C. go s C })
+trust-refused ws t start a e = rw e (record { judged = λ s T o C. go s C; no-script = λ _. refl })
   where
     go : (s : Sheet) {o : Option Script} → CodeOf s ws start Refused o → false ≡ keepingIn s o
     go s no-code = refl
 
+-- what was read isn't refused
+not-refused : Read ≡ Refused → ⊥
+unfolding judgedNumber
+not-refused e = omega (arith, ap (λ (a : Answer). judgedNumber a 0) e)
+
 pub trust-read : (ws t : List ℕ) (start : ℕ) (a : Answer) (r : Bool) → a ≡ Read → KeepsCode ws t r
     → JudgesTrust a ws t start r
 unfolding keepingIn onScript
-trust-read ws t start a r i x = rw i (record { judged = λ s T o C. go s T C })
+trust-read ws t start a r i x =
+    rw i (record { judged = λ s T o C. go s T C; no-script = λ e. absurd (not-refused e) })
   where
     go : (s : Sheet) → TableOf t s → {o : Option Script} → CodeOf s ws start Read o → r ≡ keepingIn s o
     go s T (its-code {p = p} src nm w st) = x .says s (T .form) (T .words) (countsOf s) p src nm w
+
+-- the answer of the reader, by whether there is a script
+answered : (o : Option Script) (v : ℕ) → judgedNumber (decodedScript o .answer) v ≡ onScript (λ k. k) o (λ _. v)
+unfolding judgedNumber decodedScript noCode coded onScript
+answered none v = refl
+answered (some p) v = refl
+
+none-refused : decodedScript none .answer ≡ Refused
+unfolding decodedScript noCode
+none-refused = refl
 
 -- what the judgement of a script's code says of the script
 pub numbers-script : (t script ws : List ℕ) (p : Decoded) (r : ℕ) → p ≡ decodedScript (scriptOf (countsIn t) script)
     → ws ≡ take (p .count * 3) (p .code)
     → Judges (p .answer) ws t (p .start) r → NumbersScript script t r (p .count) (p .code)
-unfolding numberOf
+unfolding numberOf numberIn
 numbers-script t script ws p r e w j =
     let numbered : (s : Sheet) → TableOf t s → r ≡ numberOf s script =
     λ s T. j .judged s T _ (code-of t script ws p e w s T) in
+    let (v, of, is) = j .in-table in
     record {
       count-is = ap (λ (d : Decoded). d .count) e;
       words-are = ap (λ (d : Decoded). d .code) e;
       numbered = numbered;
       accepted = λ s T z. accepted-code t script (take (p .count * 3) (p .code)) p e refl s T (sym (numbered s T) ∙ z);
+      in-table = (v, of, is ∙ ap (λ (d : Decoded). judgedNumber (d .answer) v) e ∙ answered _ v);
     }
 
 pub keeps-script : (t script ws : List ℕ) (p : Decoded) (r : Bool) → p ≡ decodedScript (scriptOf (countsIn t) script)
     → ws ≡ take (p .count * 3) (p .code)
     → JudgesTrust (p .answer) ws t (p .start) r → KeepsScript script t r
-keeps-script t script ws p r e w j = record { says = λ s T. j .judged s T _ (code-of t script ws p e w s T) }
+keeps-script t script ws p r e w j = record {
+  says = λ s T. j .judged s T _ (code-of t script ws p e w s T);
+  no-script = λ n.
+      j .no-script (ap (λ (d : Decoded). d .answer) e ∙ ap (λ (o : Option Script). decodedScript o .answer) n
+      ∙ none-refused);
+}
 
 -- the table's refusal of a memory is the sheet's
 pub refusal-in : (t memory : List ℕ) (a : ℕ) → a ≡ refusalIn t memory → (s : Sheet) → TableOf t s
@@ -146,6 +190,21 @@ pub goes : {A : Type 0} (refuse : ℕ → A) (k : ℕ) (go : A) → k ≡ 0 → 
 unfolding unless
 goes refuse k go e = rw e refl
 
+-- a script's number that is not 0 refuses, whatever is done with an accepted script
+number-stops : {A : Type 0} (refuse : ℕ → A) (o : Option Script) (number : Script → ℕ) (go : Script → A) (k : ℕ)
+    → k ≡ onScript (λ k. k) o number → (k ≡ 0 → ⊥)
+    → refuse k ≡ onScript refuse o (λ p. unless refuse (number p) (go p))
+unfolding onScript
+number-stops refuse none number go k e n = ap refuse e
+number-stops refuse (some p) number go k e n = ap refuse e ∙ sym (stops refuse (number p) _ (λ w. n (e ∙ w)))
+
+-- and 0 goes on
+number-goes : {A : Type 0} (refuse : ℕ → A) (o : Option Script) (number : ℕ) (go : A)
+    → 0 ≡ onScript (λ k. k) o (λ _. number) → onScript refuse o (λ _. unless refuse number go) ≡ go
+unfolding onScript
+number-goes refuse none number go e = absurd (omega arith)
+number-goes refuse (some p) number go e = goes refuse number go (sym e)
+
 -- ---- trust
 
 byte-is : (b : Bool) → boolByte b ≡ cond b 1 0
@@ -155,26 +214,29 @@ byte-is false = refl
 module _ (script t : List ℕ) {number count : ℕ} {words : List ℕ} (n : NumbersScript script t number count words) where
   -- 4, 5 and 6
   pub trust-numbered : (number ≡ 0 → ⊥) → TrustsOn script t (refusedTrust number)
-  unfolding trustOn numberOf onScript
-  trust-numbered z =
-      record { no-keeping = λ m. refl; trusted = λ s T. go s (scriptOf (countsOf s) script) (n .numbered s T) }
-    where
-      go : (s : Sheet) (o : Option Script) → number ≡ onScript (λ k. k) o (untyped s)
-          → refusedTrust number ≡ onScript refusedTrust o
-          (λ p. unless refusedTrust (untyped s p) (record { answer = 0; keeping = keepingBit s p }))
-      go s none e = ap refusedTrust e
-      go s (some p) e = ap refusedTrust e ∙ sym (stops refusedTrust (untyped s p) _ (λ w. z (e ∙ w)))
+  unfolding trustOn numberOf trustIn numberIn
+  trust-numbered z = let (v, of, is) = n .in-table in record {
+    no-keeping = λ m. refl;
+    trusted = λ s T. number-stops refusedTrust _ (untyped s) _ number (n .numbered s T) z;
+    in-table = (v, of, false, number-stops refusedTrust _ (λ _. v) _ number is z);
+  }
 
   pub trust-accepted : (r : Bool) → number ≡ 0 → KeepsScript script t r
       → TrustsOn script t (record { answer = 0; keeping = boolByte r })
-  unfolding trustOn keepingBit keepingIn onScript
-  trust-accepted r z k = record {
+  unfolding trustOn keepingBit keepingIn onScript trustIn numberIn
+  trust-accepted r z k = let (v, of, is) = n .in-table in record {
     no-keeping = λ m. absurd (m refl);
     trusted = λ s T.
         let a = n .accepted s T z in
         let e = k .says s T in
         rw (a .is-its, byte-is r)
         (rw (rw (a .is-its) at e) (sym (goes refusedTrust (untyped s (a .parsed)) _ (a .typed))));
+    in-table = (
+      v,
+      of,
+      r,
+      rw (byte-is r) (sym (number-goes refusedTrust (scriptOf (countsIn t) script) v _ (sym z ∙ is))),
+    );
   }
 
 -- an accepted script passes the test on types
@@ -200,17 +262,18 @@ ends s memory authority budget p u m state steps left wrong e h =
     (accepted-shape s p u) (memoryOf memory)
     (memories-exactly s .values memory m .typed) budget e)
 
-pub runs-accepted : (ws t memory : List ℕ) (authority budget state steps : ℕ) (left : List ℕ)
-    → Runs ws t memory authority budget state steps left
-    → RunsAccepted ws t memory authority budget (record { answer = state; steps = steps; memory = left })
+pub runs-accepted : (ws t memory : List ℕ) (authority budget : ℕ) (state : State) (steps : ℕ) (left : List ℕ)
+    → Runs ws t memory authority budget (stateNumber state) steps left
+    → RunsAccepted ws t memory authority budget (record { answer = stateNumber state; steps = steps; memory = left })
 unfolding memoryRefusal
 runs-accepted ws t memory authority budget state steps left r = record {
   spares = record { untouched = r .untouched; within = r .within };
   ran = λ s T script a z.
-      ends s memory authority budget (a .parsed) (a .typed) z state steps left _ refl
+      ends s memory authority budget (a .parsed) (a .typed) z (stateNumber state) steps left _ refl
       (r .means s (countsOf s) (a .parsed .command) (T .form) (T .words) refl refl (a .source) (a .names) (a .lines)
       (unrefused-length (locationCount s) (wellFormed s memory) memory z)
       (unrefused-formed (locationCount s) (wellFormed s memory) memory z));
+  in-table = (state, refl);
 }
 
 -- ---- principals
@@ -231,79 +294,109 @@ pub strangers-in : (t : List ℕ) (s : Sheet) (g : ℕ) (b : Bool) → TableOf t
     → strangers s g ≡ cond b 0 3
 strangers-in t s g b T h = sym (strangers-same t s g T) ∙ strangers-by t g b h
 
+-- a stranger stops the call, by the table
+pub stops-3 : {A : Type 0} (refuse : ℕ → A) (t : List ℕ) (g : ℕ) (go : A) → within g (everyoneIn t) ≡ false
+    → unless refuse (strangersIn t g) go ≡ refuse 3
+unfolding unless
+stops-3 refuse t g go h = rw (strangers-by t g false h) refl
+
 pub unless-3 : {A : Type 0} (refuse : ℕ → A) (t : List ℕ) (s : Sheet) (g : ℕ) (go : A) → TableOf t s
     → within g (everyoneIn t) ≡ false
     → unless refuse (strangers s g) go ≡ refuse 3
-unfolding unless
-unless-3 refuse t s g go T h = rw (strangers-in t s g false T h) refl
+unless-3 refuse t s g go T h =
+    ap (λ (k : ℕ). unless refuse k go) (sym (strangers-same t s g T)) ∙ stops-3 refuse t g go h
 
 pub not-3 : {A : Type 0} (refuse : ℕ → A) (t : List ℕ) (s : Sheet) (g : ℕ) (go : A) → TableOf t s
     → within g (everyoneIn t) ≡ true
     → unless refuse (strangers s g) go ≡ go
 not-3 refuse t s g go T h = goes refuse (strangers s g) go (strangers-in t s g true T h)
 
-module _ (script t memory : List ℕ) (authority budget : ℕ) where
-  -- what is left to do where no principal is strange
-  onward : Sheet → Ran
-  onward s =
-      onScript (refusedRun memory) (scriptOf (countsOf s) script) (λ c.
-      unless (refusedRun memory) (untyped s c) (
-      unless (refusedRun memory) (memoryRefusal s memory) (
-      acceptedRun s memory authority budget c)))
-
+module _ (memory : List ℕ) (budget : ℕ) where
   -- a refused run takes no step and leaves the memory
   refusal-spares : (k : ℕ) → Spares memory budget (refusedRun memory k)
   refusal-spares k = record { untouched = λ n. refl; within = omega arith }
 
-  pub run-stranger : within authority (everyoneIn t) ≡ false
-      → RunsOn script t memory authority budget (refusedRun memory 3)
-  run-stranger h =
-      record { spares = refusal-spares 3; ran = λ s T. sym (unless-3 (refusedRun memory) t s authority _ T h) }
+  -- what may stand for a run that isn't reached
+  pub unreached : Spares memory budget (refusedRun memory 0) × OfState 0
+  unfolding stateNumber
+  unreached = (refusal-spares 0, (Done, refl))
+
+module _ (script t memory : List ℕ) (authority budget : ℕ) where
+  abbrev R : ℕ → Ran
+  R = refusedRun memory
+
+  -- what is left to do where no principal is strange: on a sheet, and on any table
+  onward : Sheet → Ran
+  onward s =
+      onScript R (scriptOf (countsOf s) script) (λ c.
+      unless R (untyped s c) (
+      unless R (memoryRefusal s memory) (
+      acceptedRun s memory authority budget c)))
+
+  onwardIn : ℕ → Ran → Ran
+  onwardIn v run = onScript R (scriptOf (countsIn t) script) (λ _. unless R v (unless R (refusalIn t memory) run))
+
+  pub run-stranger : within authority (everyoneIn t) ≡ false → RunsOn script t memory authority budget (R 3)
+  unfolding runIn
+  run-stranger h = let (kept, of) = unreached memory budget in record {
+    spares = refusal-spares memory budget 3;
+    ran = λ s T. sym (unless-3 R t s authority _ T h);
+    in-table = (0, accepted-verdict, R 0, kept, of, sym (stops-3 R t authority _ h));
+  }
 
   module _ (h : within authority (everyoneIn t) ≡ true) where
     by-onward : (r : Ran) → Spares memory budget r → ((s : Sheet) → TableOf t s → r ≡ onward s)
+        → (v : ℕ) → OfVerdict v → (run : Ran) → Spares memory budget run × OfState (run .answer) → r ≡ onwardIn v run
         → RunsOn script t memory authority budget r
-    unfolding onward
-    by-onward r k f = record { spares = k; ran = λ s T. f s T ∙ sym (not-3 (refusedRun memory) t s authority _ T h) }
+    unfolding onward onwardIn runIn
+    by-onward r k f v of run m e = record {
+      spares = k;
+      ran = λ s T. f s T ∙ sym (not-3 R t s authority _ T h);
+      in-table =
+          (v, of, run, m .0, m .1, e ∙ sym (goes R (strangersIn t authority) _ (strangers-by t authority true h)));
+    }
 
     module _ {number count : ℕ} {words : List ℕ} (n : NumbersScript script t number count words) where
       -- 4, 5 and 6
-      pub run-numbered : (number ≡ 0 → ⊥) → RunsOn script t memory authority budget (refusedRun memory number)
-      unfolding onward numberOf onScript
+      pub run-numbered : (number ≡ 0 → ⊥) → RunsOn script t memory authority budget (R number)
+      unfolding onward onwardIn numberOf numberIn
       run-numbered z =
-          by-onward _ (refusal-spares number) (λ s T. go s (scriptOf (countsOf s) script) (n .numbered s T))
-        where
-          go : (s : Sheet) (o : Option Script) → number ≡ onScript (λ k. k) o (untyped s)
-              → refusedRun memory number
-              ≡ onScript (refusedRun memory) o (λ c. unless (refusedRun memory) (untyped s c) (
-              unless (refusedRun memory) (memoryRefusal s memory) (acceptedRun s memory authority budget c)))
-          go s none e = ap (refusedRun memory) e
-          go s (some c) e = ap (refusedRun memory) e ∙ sym (stops (refusedRun memory) (untyped s c) _ (λ w. z (e ∙ w)))
+          let (v, of, is) = n .in-table in
+          by-onward _ (refusal-spares memory budget number)
+          (λ s T. number-stops R _ (untyped s) _ number (n .numbered s T) z)
+          v of (R 0) (unreached memory budget) (number-stops R _ (λ _. v) _ number is z)
 
       module _ (z : number ≡ 0) where
         -- an accepted script: what is left to do is by the memory alone
         by-memory : (s : Sheet) (T : TableOf t s)
-            → onward s ≡ unless (refusedRun memory) (memoryRefusal s memory)
+            → onward s ≡ unless R (memoryRefusal s memory)
             (acceptedRun s memory authority budget (n .accepted s T z .parsed))
         unfolding onward onScript
-        by-memory s T =
-            let a = n .accepted s T z in rw (a .is-its) (goes (refusedRun memory) (untyped s (a .parsed)) _ (a .typed))
+        by-memory s T = let a = n .accepted s T z in rw (a .is-its) (goes R (untyped s (a .parsed)) _ (a .typed))
+
+        by-memory-in : (run : Ran) → onwardIn (n .in-table .0) run ≡ unless R (refusalIn t memory) run
+        unfolding onwardIn numberIn
+        by-memory-in run = number-goes R _ (n .in-table .0) _ (sym z ∙ n .in-table .2)
 
         -- 7 and 8
-        pub run-refused : (k : ℕ) → ((s : Sheet) → TableOf t s → k ≡ memoryRefusal s memory) → (k ≡ 0 → ⊥)
-            → RunsOn script t memory authority budget (refusedRun memory k)
+        pub run-refused : (k : ℕ) → k ≡ refusalIn t memory → (k ≡ 0 → ⊥) → RunsOn script t memory authority budget (R k)
         run-refused k m w =
-            by-onward _ (refusal-spares k) (λ s T. ap (refusedRun memory) (m s T)
-            ∙ sym (by-memory s T ∙ stops (refusedRun memory) (memoryRefusal s memory) _ (λ v. w (m s T ∙ v))))
+            let m′ = refusal-in t memory k m in
+            by-onward _ (refusal-spares memory budget k) (λ s T. ap R (m′ s T)
+            ∙ sym (by-memory s T ∙ stops R (memoryRefusal s memory) _ (λ v. w (m′ s T ∙ v))))
+            (n .in-table .0) (n .in-table .1) (R 0) (unreached memory budget)
+            (ap R m ∙ sym (by-memory-in (R 0) ∙ stops R (refusalIn t memory) _ (λ v. w (m ∙ v))))
 
-        pub run-ends : {ws : List ℕ} (r : Ran) → ((s : Sheet) → TableOf t s → 0 ≡ memoryRefusal s memory)
-            → ws ≡ take (count * 3) words
+        pub run-ends : {ws : List ℕ} (r : Ran) → 0 ≡ refusalIn t memory → ws ≡ take (count * 3) words
             → RunsAccepted ws t memory authority budget r → RunsOn script t memory authority budget r
         run-ends r m e ran =
+            let m′ = refusal-in t memory 0 m in
             by-onward r (ran .spares) (λ s T.
             let ran′ = rw e at ran in
-            ran′ .ran s T script (n .accepted s T z) (sym (m s T))
-            ∙ sym (by-memory s T ∙ goes (refusedRun memory) (memoryRefusal s memory) _ (sym (m s T))))
+            ran′ .ran s T script (n .accepted s T z) (sym (m′ s T))
+            ∙ sym (by-memory s T ∙ goes R (memoryRefusal s memory) _ (sym (m′ s T))))
+            (n .in-table .0) (n .in-table .1) r (ran .spares, ran .in-table)
+            (sym (by-memory-in r ∙ goes R (refusalIn t memory) _ (sym m)))
 
 -- ---- viewing
 
@@ -316,8 +409,8 @@ left-by (suc k) out view = rw (ne-eqb (suc k) 0 (λ e. omega arith)) refl
 
 pub view-stranger : (t memory : List ℕ) (group : ℕ) (view : List ℕ) → within group (everyoneIn t) ≡ false
     → refusedView view 3 ≡ viewedIn t memory group view
-unfolding viewedIn unless
-view-stranger t memory group view h = rw (strangers-by t group false h) refl
+unfolding viewedIn
+view-stranger t memory group view h = sym (stops-3 (refusedView view) t group _ h)
 
 pub view-known : (t memory : List ℕ) (group : ℕ) (view : List ℕ) (r : ℕ) (left : List ℕ)
     → within group (everyoneIn t) ≡ true

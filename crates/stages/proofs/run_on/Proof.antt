@@ -2,7 +2,7 @@
 use mathlib.Core.Path.{sym, ap, _∙_}
 use borrow.Author.Tests.{not-true, not-false}
 use Rattle.sets.specs.Sets.{within}
-use Rattle.stages.proofs.StageLaws.{code-whole, refusal-in, run-stranger, run-numbered, run-refused, run-ends}
+use Rattle.stages.proofs.StageLaws.{code-whole, run-stranger, run-numbered, run-refused, run-ends}
 use borrow.Author.Needs.{needs}
 use Rattle.stages.proofs.run_on.Statement.{statement}
 use Rattle.stages.proofs.run_on.Tie as tie
@@ -35,7 +35,7 @@ returns-3 c =
     (ap (within _) (sym (k .before .before .everyone .ensures)) ∙ sym (k .before .contained .ensures)
     ∙ not-false _ (k .if1 .left))
     (n .number-of .ensures) (m .if2 .left) _
-    (refusal-in _ _ _ (j .memory-number .ensures ∙ j .before .judge .ensures)) (c .before .if3 .taken))
+    (j .memory-number .ensures ∙ j .before .judge .ensures) (c .before .if3 .taken))
 
 returns-4 : tie.Need-returns-4
 returns-4 c =
@@ -50,7 +50,7 @@ returns-4 c =
     (ap (within _) (sym (k .before .before .everyone .ensures)) ∙ sym (k .before .contained .ensures)
     ∙ not-false _ (k .if1 .left))
     (n .number-of .ensures) (m .if2 .left) _
-    (refusal-in _ _ _ (sym (e .if3 .left) ∙ j .memory-number .ensures ∙ j .before .judge .ensures))
+    (sym (e .if3 .left) ∙ j .memory-number .ensures ∙ j .before .judge .ensures)
     (rows .rows .ensures) (r .run-accepted .ensures)
 
 pub run-on-spec : {M : Type 1} → statement M

@@ -1,12 +1,20 @@
 -- The lower of two numbers, and the lowest over all scripts.
-use mathlib.Core.Path.{_≡_, refl, sym}
+use mathlib.Core.Logic.{_⊎_, inl, inr, ⊎-elim}
+use mathlib.Core.Path.{_≡_, refl, sym, ap, _∙_}
 use mathlib.Core.List.{List, [], _∷_}
+use mathlib.Core.Option.{Option, none, some}
 use Prim.Native.Nat.{ℕ, zero, suc, _≤_, _<_}
 use native.Mathlib.Omega.{arith}
 use lib.Dec.{leb}
 use borrow.Author.Tests.{leb-true, leb-false, le-leb, lt-leb}
 use Rattle.logic.proofs.BooleanLaws.{cases}
+use Rattle.sets.proofs.Walks.{by-below}
+use Rattle.language.specs.Syntax.{Script}
+use Rattle.stages.specs.Calls.{onScript}
+use Rattle.stages.specs.Internal.Stages.{OfVerdict, numberIn}
+use Rattle.stages.proofs.StageLaws.{refusing-verdict}
 use Rattle.rounds.specs.Calls.{lower, lowest}
+use Rattle.rounds.specs.Internal.Stages.{lowestIn}
 
 -- 0 is none
 pub lower-right : (j k : ℕ) → j ≡ 0 → lower j k ≡ k
@@ -62,6 +70,25 @@ lower-assoc (suc i) (suc j) (suc k) =
     (λ q. rw (q, p) refl)
     (λ q. let m : k < j = leb-false _ _ q in let n : k < i = omega arith in rw (q, lt-leb i k n) refl)))
 
+-- it is one of the two, whichever stands first
+pub lower-one : (j k : ℕ) → (lower j k ≡ j) ⊎ (lower j k ≡ k)
+unfolding lower
+lower-one zero k = inr refl
+lower-one (suc j) zero = inl refl
+lower-one (suc j) (suc k) = cases (leb j k) (λ p. inl (rw p refl)) (λ p. inr (rw p refl))
+
+lower-swap : (j k : ℕ) → lower j k ≡ lower k j
+lower-swap zero k = lower-right 0 k refl ∙ sym (lower-left k 0 refl)
+lower-swap (suc j) zero = lower-left (suc j) 0 refl ∙ sym (lower-right 0 (suc j) refl)
+lower-swap (suc j) (suc k) =
+    let some : (i : ℕ) → ¬ (suc i ≡ 0) = λ i w. omega arith in
+    by-below (suc j) (suc k)
+    (λ l. lower-first (suc j) (suc k) (some j) (omega arith) ∙ sym (lower-second (suc k) (suc j) (some j) l))
+    (λ l.
+    by-below (suc k) (suc j)
+    (λ m. lower-second (suc j) (suc k) (some k) m ∙ sym (lower-first (suc k) (suc j) (some k) l))
+    (λ m. let e : j ≡ k = omega arith in rw e refl))
+
 -- ---- over all scripts
 
 module _ (number : List ℕ → ℕ) where
@@ -78,3 +105,39 @@ module _ (number : List ℕ → ℕ) where
       → lower k (lowest number (t ∷ ts)) ≡ lower (lower k (number t)) (lowest number ts)
   unfolding lowest
   lowest-on k t ts = sym (lower-assoc k (number t) (lowest number ts))
+
+-- ---- by a table
+
+-- the lower of two verdicts' numbers is one
+pub lower-verdict : (j k : ℕ) → OfVerdict j → OfVerdict k → OfVerdict (lower j k)
+lower-verdict j k (v, e) (w, f) = ⊎-elim (λ p. (v, p ∙ e)) (λ p. (w, p ∙ f)) (lower-one j k)
+
+-- 4 is lower than each of them
+by-verdict : (o : Option Script) (v : ℕ) → OfVerdict v
+    → onScript (λ k. k) o (λ _. v) ≡ lower (onScript (λ k. k) o (λ _. 0)) v
+unfolding onScript
+by-verdict none v of =
+    sym (⊎-elim (λ z. lower-left 4 v z) (λ l. lower-first 4 v (λ w. omega arith) l) (refusing-verdict of))
+by-verdict (some p) v of = sym (lower-right 0 v refl)
+
+module _ (t : List ℕ) where
+  pub lowest-in-first : (ts : List (List ℕ)) → lower 0 (lowest (numberIn 0 t) ts) ≡ lowestIn 0 t ts
+  unfolding lowestIn
+  lowest-in-first ts = lower-swap 0 (lowest (numberIn 0 t) ts)
+
+  -- one script more, of which a verdict w is found
+  pub lowest-in-on : (k v w : ℕ) → OfVerdict w → (script : List ℕ) (ts here all : List (List ℕ)) → here ≡ script ∷ ts
+      → lower k (lowest (numberIn 0 t) here) ≡ lowestIn v t all
+      → lower (lower k (numberIn w t script)) (lowest (numberIn 0 t) ts) ≡ lowestIn (lower v w) t all
+  unfolding lowestIn numberIn
+  lowest-in-on k v w of script ts here all p e =
+      let n : ℕ = numberIn 0 t script in
+      let left : ℕ = lowest (numberIn 0 t) ts in
+      ap (λ (m : ℕ). lower (lower k m) left) (by-verdict _ w of)
+      ∙ ap (λ (m : ℕ). lower m left) (sym (lower-assoc k n w))
+      ∙ lower-assoc (lower k n) w left
+      ∙ ap (lower (lower k n)) (lower-swap w left)
+      ∙ sym (lower-assoc (lower k n) left w)
+      ∙ ap (λ (m : ℕ). lower m w) (sym (lowest-on (numberIn 0 t) k script ts)
+      ∙ ap (λ (us : List (List ℕ)). lower k (lowest (numberIn 0 t) us)) (sym p) ∙ e)
+      ∙ lower-assoc (lowest (numberIn 0 t) all) v w

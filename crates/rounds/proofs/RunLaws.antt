@@ -18,7 +18,7 @@ use Rattle.memory.specs.Memory.{memoryRefusal}
 use Rattle.stages.specs.Answers.{Ran, refusedRun}
 use Rattle.stages.specs.Calls.{unless, strangers, onScript, untyped, numberOf, acceptedRun, runOn}
 use Rattle.stages.specs.Internal.Stages.{TableOf, AcceptedCode, RunsAccepted}
-use Rattle.stages.proofs.StageLaws.{goes, stops, accepted-code}
+use Rattle.stages.proofs.StageLaws.{goes, stops, accepted-code, unreached}
 use Rattle.stages.proofs.Kept.{left-unrefused}
 use Rattle.scripts.specs.Parting.{partsOf, mostScripts}
 use Rattle.scripts.specs.Internal.Places.{partsAfter}
@@ -67,6 +67,7 @@ runs-script script t memory ws authority budget p r e w ran = record {
         q ∙ sym (run-on-accepted s authority budget script memory ws a g m),
         rw q (left-unrefused s (a .parsed) (a .source) (a .names) (a .typed) memory authority budget m),
       );
+  in-table = ran .in-table;
 }
 
 -- its turn: run where its gate has no number, else refused with it
@@ -74,12 +75,17 @@ pub turn-runs : (script t memory : List ℕ) (authority budget number : ℕ) (r 
     → RunsScript script t memory authority budget r
     → RunsTurn script number t memory authority budget r
 unfolding unless
-turn-runs script t memory authority budget number r z ran = rw z (record { ran = ran .ran })
+turn-runs script t memory authority budget number r z ran =
+    rw z (record { ran = ran .ran; in-table = (r, ran .spares, ran .in-table, refl) })
 
 pub turn-shut : (script t memory : List ℕ) (authority budget number : ℕ) → ¬ (number ≡ 0)
     → RunsTurn script number t memory authority budget (refusedRun memory number)
 turn-shut script t memory authority budget number z =
-    record { ran = λ s T g n m. (sym (stops (refusedRun memory) number _ z), m) }
+    let (spares, of) = unreached memory budget in
+    record {
+      ran = λ s T g n m. (sym (stops (refusedRun memory) number _ z), m);
+      in-table = (refusedRun memory 0, spares, of, sym (stops (refusedRun memory) number _ z));
+    }
 
 -- ---- all of them
 

@@ -10,14 +10,17 @@ use Rattle.sheet.specs.Sheet.{Sheet}
 use Rattle.sheet.specs.Internal.Tables.{everyoneIn}
 use Rattle.sheet_text.specs.Sheets.{accepted, sheetOf}
 use Rattle.memory.specs.Memory.{memoryRefusal}
+use Rattle.memory.specs.Internal.InTable.{refusalIn}
 use Rattle.stages.specs.Answers.{Ran}
 use Rattle.stages.specs.Calls.{onSheet, unless, strangers, numberOf, runOf}
-use Rattle.stages.specs.Internal.Stages.{TableOf}
-use Rattle.stages.proofs.StageLaws.{stops, goes, strangers-in, unless-3, not-3}
+use Rattle.stages.specs.Internal.Stages.{TableOf, strangersIn}
+use Rattle.stages.proofs.StageLaws.{accepted-verdict, refusal-in, stops, goes, strangers-by, strangers-in, stops-3}
+use Rattle.stages.proofs.StageLaws.{unless-3, not-3}
 use Rattle.scripts.specs.Parting.{partsOf, mostScripts}
 use Rattle.rounds.specs.Answers.{RanRound, refusedRound, Gate, allOpen}
 use Rattle.rounds.specs.Calls.{tooMany, lowest, runEach, turnOf, playedOf}
-use Rattle.rounds.specs.Internal.Stages.{turnOn, gateIn, ranOn, playedOn, NumbersAll, RunsEach, Plays, RoundsOn}
+use Rattle.rounds.specs.Internal.Stages.{turnOn, gateIn, ranOn, playedOn, lowestIn, playedIn, roundIn}
+use Rattle.rounds.specs.Internal.Stages.{NumbersAll, RunsEach, Plays, RoundsOn}
 
 -- ---- gates
 
@@ -51,10 +54,13 @@ module _ (scripts gates t memory : List ℕ) (authority budget : ℕ) where
   module _ {number : ℕ} (n : NumbersAll scripts t number) where
     -- 4, 5 and 6
     pub play-numbered : (number ≡ 0 → ⊥) → Plays scripts gates t memory authority budget (R number)
-    play-numbered z = record {
+    unfolding playedIn
+    play-numbered z = let (v, of, is) = n .in-table in record {
       refused = λ v. refl;
       played = λ s T g. ap R (n .numbered s T)
           ∙ sym (stops R (lowest (numberOf s) (partsOf scripts)) _ (λ w. z (n .numbered s T ∙ w)));
+      in-table =
+          (v, of, R 0, refl, ap R is ∙ sym (stops R (lowestIn v t (partsOf scripts)) _ (λ w. z (is ∙ w))));
     }
 
     module _ (z : number ≡ 0) where
@@ -66,21 +72,40 @@ module _ (scripts gates t memory : List ℕ) (authority budget : ℕ) where
           ≡ unless R (memoryRefusal s memory) (ranOn (gateIn gates) s authority budget (partsOf scripts) memory)
       by-memory s T = goes R (lowest (numberOf s) (partsOf scripts)) _ (all-accepted s T)
 
+      by-memory-in : (run : RanRound)
+          → playedIn (n .in-table .0) run t (partsOf scripts) memory ≡ unless R (refusalIn t memory) run
+      unfolding playedIn
+      by-memory-in run = goes R (lowestIn (n .in-table .0) t (partsOf scripts)) _ (sym (n .in-table .2) ∙ z)
+
       -- 7 and 8
-      pub play-refused : (k : ℕ) → ((s : Sheet) → TableOf t s → k ≡ memoryRefusal s memory) → (k ≡ 0 → ⊥)
+      pub play-refused : (k : ℕ) → k ≡ refusalIn t memory → (k ≡ 0 → ⊥)
           → Plays scripts gates t memory authority budget (R k)
-      play-refused k m w = record {
+      play-refused k m w = let m′ = refusal-in t memory k m in record {
         refused = λ v. refl;
-        played = λ s T g. ap R (m s T) ∙ sym (by-memory s T ∙ stops R (memoryRefusal s memory) _ (λ v. w (m s T ∙ v)));
+        played = λ s T g. ap R (m′ s T)
+            ∙ sym (by-memory s T ∙ stops R (memoryRefusal s memory) _ (λ v. w (m′ s T ∙ v)));
+        in-table = (
+          n .in-table .0,
+          n .in-table .1,
+          R 0,
+          refl,
+          ap R m ∙ sym (by-memory-in (R 0) ∙ stops R (refusalIn t memory) _ (λ v. w (m ∙ v))),
+        );
       }
 
-      pub play-runs : (r : RanRound) → ((s : Sheet) → TableOf t s → 0 ≡ memoryRefusal s memory)
-          → RunsEach scripts gates t memory authority budget r
+      pub play-runs : (r : RanRound) → 0 ≡ refusalIn t memory → RunsEach scripts gates t memory authority budget r
           → Plays scripts gates t memory authority budget r
-      play-runs r m ran = record {
+      play-runs r m ran = let m′ = refusal-in t memory 0 m in record {
         refused = λ v. absurd (v (ran .done));
-        played = λ s T g. ran .ran s T g (all-accepted s T) (sym (m s T))
-            ∙ sym (by-memory s T ∙ goes R (memoryRefusal s memory) _ (sym (m s T)));
+        played = λ s T g. ran .ran s T g (all-accepted s T) (sym (m′ s T))
+            ∙ sym (by-memory s T ∙ goes R (memoryRefusal s memory) _ (sym (m′ s T)));
+        in-table = (
+          n .in-table .0,
+          n .in-table .1,
+          r,
+          ran .done,
+          sym (by-memory-in r ∙ goes R (refusalIn t memory) _ (sym m)),
+        );
       }
 
 -- ---- 3 and 11
@@ -88,27 +113,43 @@ module _ (scripts gates t memory : List ℕ) (authority budget : ℕ) where
 module _ (scripts t memory : List ℕ) (authority budget : ℕ) where
   pub round-stranger : within authority (everyoneIn t) ≡ false
       → RoundsOn scripts t memory authority budget (refusedRound memory 3)
-  round-stranger h =
-      record { refused = λ v. refl; played = λ s T. sym (unless-3 (refusedRound memory) t s authority _ T h) }
+  unfolding roundIn
+  round-stranger h = record {
+    refused = λ v. refl;
+    played = λ s T. sym (unless-3 (refusedRound memory) t s authority _ T h);
+    in-table =
+        (0, accepted-verdict, refusedRound memory 0, refl, sym (stops-3 (refusedRound memory) t authority _ h));
+  }
 
   module _ (h : within authority (everyoneIn t) ≡ true) where
+    known : {A : Type 0} (refuse : ℕ → A) (go : A) → unless refuse (strangersIn t authority) go ≡ go
+    known refuse go = goes refuse (strangersIn t authority) go (strangers-by t authority true h)
+
     pub round-many : mostScripts < length (partsOf scripts)
         → RoundsOn scripts t memory authority budget (refusedRound memory 11)
-    unfolding tooMany unless
+    unfolding tooMany unless roundIn
     round-many l = record {
       refused = λ v. refl;
       played = λ s T. sym (not-3 (refusedRound memory) t s authority _ T h ∙ rw (lt-ltb _ _ l) refl);
+      in-table = (
+        0,
+        accepted-verdict,
+        refusedRound memory 0,
+        refl,
+        sym (known (refusedRound memory) _ ∙ rw (lt-ltb _ _ l) refl),
+      );
     }
 
     pub round-played : length (partsOf scripts) ≤ mostScripts → (gates : List ℕ) (r : RanRound)
         → ((i : ℕ) → gateIn gates i ≡ 0) → Plays scripts gates t memory authority budget r
         → RoundsOn scripts t memory authority budget r
-    unfolding tooMany unless
-    round-played l gates r o p = record {
+    unfolding tooMany unless roundIn
+    round-played l gates r o p = let (v, of, run, z, is) = p .in-table in record {
       refused = p .refused;
       played = λ s T. p .played s T (strangers-in t s authority true T h) ∙ played-same (gateIn gates)
           allOpen s authority budget (partsOf scripts) memory (λ i. o i ∙ sym (always-open i))
           ∙ sym (not-3 (refusedRound memory) t s authority _ T h ∙ rw (le-ltb _ _ l) refl);
+      in-table = (v, of, run, z, is ∙ sym (known (refusedRound memory) _ ∙ rw (le-ltb _ _ l) refl));
     }
 
 -- ---- the sheet of a text

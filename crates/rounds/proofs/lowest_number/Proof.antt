@@ -7,12 +7,15 @@ use native.Mathlib.Omega.{arith}
 use lib.ListN.{length, getD}
 use Rattle.sheet.specs.Sheet.{Sheet}
 use Rattle.stages.specs.Calls.{numberOf}
-use Rattle.stages.specs.Internal.Stages.{TableOf}
+use Rattle.stages.specs.Internal.Stages.{TableOf, OfVerdict, numberIn}
+use Rattle.stages.proofs.StageLaws.{accepted-verdict}
 use Rattle.scripts.specs.Parting.{partsOf}
 use Rattle.scripts.specs.Internal.Places.{partsAfter}
 use Rattle.scripts.proofs.Places.{PartAt, StartsAt, parts-all, first-starts, next-starts, none-left}
 use Rattle.rounds.specs.Calls.{lower, lowest}
-use Rattle.rounds.proofs.LowerLaws.{lower-left, lower-right, lowest-over, lowest-on}
+use Rattle.rounds.specs.Internal.Stages.{lowestIn}
+use Rattle.rounds.proofs.LowerLaws.{lower-left, lower-right, lowest-over, lowest-on, lower-verdict}
+use Rattle.rounds.proofs.LowerLaws.{lowest-in-first, lowest-in-on}
 use Rattle.rounds.proofs.RunLaws.{script-at, place-at}
 use borrow.Author.Needs.{needs}
 use Rattle.rounds.proofs.lowest_number.Statement.{statement}
@@ -23,12 +26,18 @@ Inv-loop scripts table ends number₀ i₀ at₀ number i at =
     StartsAt scripts i at
     × ((s : Sheet) → TableOf table s
     → lower number (lowest (numberOf s) (partsAfter scripts at)) ≡ lowest (numberOf s) (partsOf scripts))
+    × ((v : ℕ) × OfVerdict v
+    × (lower number (lowest (numberIn 0 table) (partsAfter scripts at)) ≡ lowestIn v table (partsOf scripts)))
 
 abbrev μ-loop : tie.MeasureT-loop
 μ-loop scripts table ends number₀ i₀ at₀ number i at = length scripts + 1 - at
 
 loop-holds : tie.Need-loop-holds Inv-loop μ-loop
-loop-holds c = (first-starts _, λ s T. lower-right 0 _ refl ∙ ap (lowest (numberOf s)) (parts-all _))
+loop-holds c = (
+  first-starts _,
+  λ s T. lower-right 0 _ refl ∙ ap (lowest (numberOf s)) (parts-all _),
+  (0, accepted-verdict, lowest-in-first _ _ ∙ ap (lowestIn 0 _) (parts-all _)),
+)
 
 -- the script that starts here, and its place
 here : (c : tie.In-loop Inv-loop μ-loop)
@@ -49,6 +58,8 @@ loop-again c =
     let check = c .before in
     let e = check .before .before in
     let at = e .before in
+    let (v, of, is) = at .loop .inv .2 in
+    let (w, of-w, is-w) = check .check-on .ensures .in-table in
     let p = here e in (
       next-starts (at .loop .inv .0) p,
       λ s T.
@@ -56,16 +67,26 @@ loop-again c =
           (sym (lowest-on (numberOf s) (at .loop .number) _ _)
           ∙ ap (λ (ts : List (List ℕ)). lower (at .loop .number) (lowest (numberOf s) ts)) (sym (p .parts))
           ∙ at .loop .inv .1 s T),
+      (
+        lower v w,
+        lower-verdict v w of of-w,
+        rw (c .lower .ensures, is-w)
+            (lowest-in-on _ (at .loop .number) v w of-w _ _ _ _ (p .parts) is),
+      ),
     )
 
 returns : tie.Need-returns Inv-loop μ-loop
 returns c =
     let at = c .before in
+    let over : (number : List ℕ → ℕ) → at .loop .number
+    ≡ lower (at .loop .number) (lowest number (partsAfter _ (at .loop .at))) =
+    λ number. sym (lower-left (at .loop .number) (lowest number []) (lowest-over number))
+    ∙ ap (λ (ts : List (List ℕ)). lower (at .loop .number) (lowest number ts))
+    (sym (none-left _ _ _ (at .loop .inv .0) (c .loop-test .left))) in
+    let (v, of, is) = at .loop .inv .2 in
     record {
-      numbered = λ s T.
-          sym (lower-left (at .loop .number) (lowest (numberOf s) []) (lowest-over (numberOf s)))
-          ∙ ap (λ (ts : List (List ℕ)). lower (at .loop .number) (lowest (numberOf s) ts))
-          (sym (none-left _ _ _ (at .loop .inv .0) (c .loop-test .left))) ∙ at .loop .inv .1 s T;
+      numbered = λ s T. over (numberOf s) ∙ at .loop .inv .1 s T;
+      in-table = (v, of, over (numberIn 0 _) ∙ is);
     }
 
 pub lowest-number-spec : {M : Type 1} → statement M

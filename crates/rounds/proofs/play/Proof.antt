@@ -1,6 +1,5 @@
 -- `rounds::play` meets its contract: one law for each way out.
 use mathlib.Core.Path.{sym, _∙_}
-use Rattle.stages.proofs.StageLaws.{refusal-in}
 use Rattle.rounds.proofs.StageLaws.{play-numbered, play-refused, play-runs}
 use borrow.Author.Needs.{needs}
 use Rattle.rounds.proofs.play.Statement.{statement}
@@ -16,7 +15,7 @@ returns-2 c =
     let n = j .before .before .before in
     rw (c .refused2 .ensures)
     (play-refused _ _ _ _ _ _ (n .before .lowest-number .ensures) (n .if1 .left) _
-    (refusal-in _ _ _ (j .memory-number .ensures ∙ j .before .judge .ensures)) (c .before .if2 .taken))
+    (j .memory-number .ensures ∙ j .before .judge .ensures) (c .before .if2 .taken))
 
 returns-3 : tie.Need-returns-3
 returns-3 c =
@@ -25,7 +24,7 @@ returns-3 c =
     let j = e .before in
     let n = j .before .before .before in
     play-runs _ _ _ _ _ _ (n .before .lowest-number .ensures) (n .if1 .left) _
-    (refusal-in _ _ _ (sym (e .if2 .left) ∙ j .memory-number .ensures ∙ j .before .judge .ensures))
+    (sym (e .if2 .left) ∙ j .memory-number .ensures ∙ j .before .judge .ensures)
     (ran .run-each .ensures)
 
 pub play-spec : {M : Type 1} → statement M

@@ -1,17 +1,19 @@
--- What the stages of a round ensure, on a sheet that isn't refused and whose table is given.
+-- What the stages of a round ensure, on the table that they are given: for any table, and where it is that of a sheet
+-- that isn't refused.
 use mathlib.Core.Path.{_≡_}
 use mathlib.Core.List.{List}
 use Prim.Native.Nat.{ℕ, _≤_}
 use lib.ListN.{length, getD}
 use Rattle.sheet.specs.Sheet.{Sheet}
 use Rattle.memory.specs.Memory.{memoryRefusal}
+use Rattle.memory.specs.Internal.InTable.{refusalIn}
 use Rattle.stages.specs.Answers.{Ran, refusedRun}
 use Rattle.stages.specs.Calls.{unless, strangers, numberOf, runOn}
-use Rattle.stages.specs.Internal.Stages.{TableOf, Spares}
+use Rattle.stages.specs.Internal.Stages.{TableOf, Spares, OfVerdict, OfState, strangersIn, numberIn}
 use Rattle.scripts.specs.Parting.{partsOf, mostScripts}
 use Rattle.scripts.specs.Internal.Places.{keptEnds}
 use Rattle.rounds.specs.Answers.{RanRound, refusedRound, roundFrom, Gate, allOpen}
-use Rattle.rounds.specs.Calls.{tooMany, lowest, runEach}
+use Rattle.rounds.specs.Calls.{tooMany, lower, lowest, runEach}
 
 -- each script of a text has a place, and there its end is kept
 pub record Parted (scripts ends : List ℕ) : Type 0 where
@@ -38,20 +40,45 @@ playedOn gate s authority budget ts memory =
     unless (refusedRound memory) (memoryRefusal s memory) (
     ranOn gate s authority budget ts memory))
 
+-- ---- By what a table says, whatever its words are. Free is what is found where the table is no sheet's: the number of
+-- a verdict, and the round that is run.
+
+-- 4 where one of them is no script, else the verdict's number
+unfoldable pub lowestIn : ℕ → List ℕ → List (List ℕ) → ℕ
+lowestIn verdict t ts = lower (lowest (numberIn 0 t) ts) verdict
+
+-- a round past 3 and 11
+unfoldable pub playedIn : ℕ → RanRound → List ℕ → List (List ℕ) → List ℕ → RanRound
+playedIn verdict run t ts memory =
+    unless (refusedRound memory) (lowestIn verdict t ts) (
+    unless (refusedRound memory) (refusalIn t memory) run)
+
+unfoldable pub roundIn : ℕ → RanRound → List ℕ → List (List ℕ) → List ℕ → ℕ → RanRound
+roundIn verdict run t ts memory authority =
+    unless (refusedRound memory) (strangersIn t authority) (
+    unless (refusedRound memory) (tooMany ts) (
+    playedIn verdict run t ts memory))
+
+-- ---- what the functions ensure
+
 pub record NumbersAll (scripts t : List ℕ) (r : ℕ) : Type 0 where
   pub numbered : (s : Sheet) → TableOf t s → r ≡ lowest (numberOf s) (partsOf scripts)
+  pub in-table : (verdict : ℕ) × OfVerdict verdict × (r ≡ lowestIn verdict t (partsOf scripts))
 
 -- An accepted script, on a memory that isn't refused: its run, and the memory that it leaves isn't refused either.
 pub record RunsScript (script t memory : List ℕ) (authority budget : ℕ) (r : Ran) : Type 0 where
   pub spares : Spares memory budget r
   pub ran : (s : Sheet) → TableOf t s → strangers s authority ≡ 0 → numberOf s script ≡ 0 → memoryRefusal s memory ≡ 0
       → (r ≡ runOn s script memory authority budget) × (memoryRefusal s (r .memory) ≡ 0)
+  pub in-table : OfState (r .answer)
 
 -- the same by the number of its gate
 pub record RunsTurn (script : List ℕ) (number : ℕ) (t memory : List ℕ) (authority budget : ℕ) (r : Ran) : Type 0 where
   pub ran : (s : Sheet) → TableOf t s → strangers s authority ≡ 0 → numberOf s script ≡ 0 → memoryRefusal s memory ≡ 0
       → (r ≡ unless (refusedRun memory) number (runOn s script memory authority budget))
       × (memoryRefusal s (r .memory) ≡ 0)
+  pub in-table : (run : Ran) × Spares memory budget run × OfState (run .answer)
+      × (r ≡ unless (refusedRun memory) number run)
 
 pub record RunsEach (scripts gates t memory : List ℕ) (authority budget : ℕ) (r : RanRound) : Type 0 where
   pub done : r .answer ≡ 0
@@ -67,6 +94,8 @@ pub record Plays (scripts gates t memory : List ℕ) (authority budget : ℕ) (r
   pub refused : SparesRound memory r
   pub played : (s : Sheet) → TableOf t s → strangers s authority ≡ 0
       → r ≡ playedOn (gateIn gates) s authority budget (partsOf scripts) memory
+  pub in-table : (verdict : ℕ) × OfVerdict verdict × (run : RanRound) × (run .answer ≡ 0)
+      × (r ≡ playedIn verdict run t (partsOf scripts) memory)
 
 pub record RoundsOn (scripts t memory : List ℕ) (authority budget : ℕ) (r : RanRound) : Type 0 where
   pub refused : SparesRound memory r
@@ -74,3 +103,5 @@ pub record RoundsOn (scripts t memory : List ℕ) (authority budget : ℕ) (r : 
       → r ≡ unless (refusedRound memory) (strangers s authority) (
       unless (refusedRound memory) (tooMany (partsOf scripts)) (
       playedOn allOpen s authority budget (partsOf scripts) memory))
+  pub in-table : (verdict : ℕ) × OfVerdict verdict × (run : RanRound) × (run .answer ≡ 0)
+      × (r ≡ roundIn verdict run t (partsOf scripts) memory authority)

@@ -1,5 +1,5 @@
 // Runs the cases of the scope that are not in the proved table, and prints each one's name and what it gives.
-use desk::PLACES;
+use desk::OUTPUT_ROOM;
 use libc::STDOUT_FILENO;
 use sets::Set;
 
@@ -22,7 +22,7 @@ fn print_outcome(answer: u8, steps: u32) {
 }
 
 fn print_memory(words: &[u32]) {
-    let mut out = [0u8; PLACES];
+    let mut out = [0u8; OUTPUT_ROOM];
     let n = memory_text::write::write_memory(words, &mut out);
     print(&out, n);
 }
@@ -46,7 +46,7 @@ fn run_case(name: &[u8], sheet: &[u8], script: &[u8], memory: &[u8], authority: 
 // The view of the memory of a text.
 fn show_case(name: &[u8], sheet: &[u8], memory: &[u8], group: &[u8]) {
     print_name(name);
-    let mut out = [0u8; PLACES];
+    let mut out = [0u8; OUTPUT_ROOM];
     let n = desk::show(sheet, memory, group, &mut out);
     print(&out, n);
 }

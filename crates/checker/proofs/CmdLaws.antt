@@ -15,7 +15,7 @@ use Rattle.language.specs.Syntax.{Expr, Cmd, skip, seq, assign, while, case}
 use Rattle.language.specs.Typing.{least, flow}
 use Rattle.language.specs.Trust.{keeps}
 use Rattle.script.specs.declared.Row.{Row}
-use Rattle.script.specs.Lines.{Line, cmdLines}
+use Rattle.script.specs.Lines.{ScriptLine, cmdLines}
 use Rattle.script.specs.Internal.Code.{code, rowAt}
 use Rattle.script.specs.Names.{Counts, maxDepth, namedE, named}
 use Rattle.script.specs.Internal.Pieces.{Sort, command}
@@ -32,7 +32,7 @@ use Rattle.checker.specs.Internal.Post.{Finds, Room, ChecksExpr, Kept, P
 use Rattle.checker.proofs.BindingLaws.{kept-same, kept-twice, kept-fewer, bind-kept, bind-type, bind-label}
 use Rattle.members.specs.Internal.Members.{wholeFlows}
 use Rattle.members.proofs.MemberLaws.{union-below}
-use Rattle.members.proofs.FlowLaws.{first-alone}
+use Rattle.members.proofs.FlowLaws.{first-wholly}
 use Rattle.checker.proofs.HoldLaws.{both-hold, first-held, second-kept}
 use Rattle.checker.proofs.ExprLaws.{is-type}
 
@@ -64,7 +64,7 @@ module _ (t Γ : List ℕ) (pc : ℕ) (Δ : List ℕ) where
     pass-assign n = record {
       typed-is = rw (← p .type-is, is-type x _);
       flow-is = rw (← union-below t (least (conditionsOn t) Δ e) pc (labelIn t (homeIn t n)), ← p .label-is)
-          (first-held (x .holds) _ (p .flow-is) (first-alone t (union (x .label) pc) (homeIn t n)));
+          (first-held (x .holds) _ (p .flow-is) (first-wholly t (union (x .label) pc) (homeIn t n)));
       keeping-is = second-kept (x .holds) _ (p .keeping-is);
     }
 
@@ -130,14 +130,14 @@ pass-bound t {s} {s′} d n a e k small h l lab p =
     }
 
 -- x is what is found of c, if its names are there, and rest stands after it
-abbrev Done : List ℕ → List ℕ → List ℕ → ℕ → ℕ → Counts → List Line → Passed → Cmd → Type 0
+abbrev Done : List ℕ → List ℕ → List ℕ → ℕ → ℕ → Counts → List ScriptLine → Passed → Cmd → Type 0
 Done ws t s d pc k rest x c =
     named k d c ≡ true → Passes t (boundTypes s d) pc (boundLabels s d) c x × (drop (x .next) ws ≡ code rest)
 
 module _ {ws : List ℕ} {at : ℕ} {t s : List ℕ} {d pc : ℕ} {row : Row} (q : row ≡ rowAt ws at) where
   by-node : {ss : List Sort} {j : ℕ} {f : Makes ss Cmd} (x : Passed) → Node command ss j (row .a) (row .b) f
       → row .kind ≡ j → at ≤ x .next
-      → {s′ : List ℕ} → Kept s s′ d → ((k : Counts) → Room s d → (rest : List Line)
+      → {s′ : List ℕ} → Kept s s′ d → ((k : Counts) → Room s d → (rest : List ScriptLine)
       → OfOperands ws at rest command ss f (λ more. more) (Done ws t s d pc k rest x))
       → ChecksCmd ws at t s d pc x s′
   by-node x n h g same m = record {

@@ -13,7 +13,7 @@ use Rattle.language.specs.Syntax.{int, Part, pick, Expr, val, loc, var, plus, l
 use Rattle.language.specs.Typing.{orElse, least, flowE}
 use Rattle.language.specs.Trust.{keepsE}
 use Rattle.script.specs.declared.Row.{Row}
-use Rattle.script.specs.Lines.{Line, exprLines}
+use Rattle.script.specs.Lines.{ScriptLine, exprLines}
 use Rattle.script.specs.Internal.Code.{code, rowAt}
 use Rattle.script.specs.Internal.Pieces.{Sort, expression}
 use Rattle.script.proofs.Rows.{row-of, KindOf, not-here}
@@ -22,7 +22,7 @@ use Rattle.script.proofs.Nodes.{n-proj, OfOperands, of-operands}
 use Rattle.sheet.specs.Internal.Tables.{leftIn, rightIn}
 use Rattle.sheet.specs.Internal.TypeTest.{isPair}
 use Rattle.members.specs.Internal.Members.{wholeFlows, confidentialityFlows}
-use Rattle.members.proofs.FlowLaws.{first-alone, first-tells, second-tells}
+use Rattle.members.proofs.FlowLaws.{first-wholly, first-tells, second-tells}
 use Rattle.checks.specs.declared.Typed.{Typed}
 use Rattle.checker.specs.Internal.Numbers.{isNo, someNo, leftIsNo, rightIsNo, pairIsNo, partNo, givenNo, typeNo}
 use Rattle.checker.specs.Internal.Bindings.{boundType, boundLabel, boundTypes, boundLabels}
@@ -104,7 +104,7 @@ module _ (t Γ Δ : List ℕ) where
     find-pack l = record {
       type-is = rw (← p .type-is, some-type x);
       label-is = refl;
-      flow-is = rw (← p .label-is) (first-held (x .holds) _ (p .flow-is) (first-alone t (x .label) l));
+      flow-is = rw (← p .label-is) (first-held (x .holds) _ (p .flow-is) (first-wholly t (x .label) l));
       keeping-is = second-kept (x .holds) _ (p .keeping-is);
     }
 
@@ -161,13 +161,14 @@ find-var t s d i next room = on (decLt i d)
 -- ---- the arms: the row at `at`, what the operands' checks ensure, and what the node gives
 
 -- x is what is found of e, and rest stands after it
-abbrev Done : List ℕ → List ℕ → List ℕ → ℕ → List Line → Typed → Expr → Type 0
+abbrev Done : List ℕ → List ℕ → List ℕ → ℕ → List ScriptLine → Typed → Expr → Type 0
 Done ws t s d rest x e = Finds t (boundTypes s d) (boundLabels s d) e x × (drop (x .next) ws ≡ code rest)
 
 module _ {ws : List ℕ} {at : ℕ} {t s : List ℕ} {d : ℕ} {row : Row} (q : row ≡ rowAt ws at) where
   by-node : {ss : List Sort} {k : ℕ} {f : Makes ss Expr} (x : Typed) → Node expression ss k (row .a) (row .b) f
       → row .kind ≡ k → at ≤ x .next
-      → (Room s d → (rest : List Line) → OfOperands ws at rest expression ss f (λ more. more) (Done ws t s d rest x))
+      → (Room s d → (rest : List ScriptLine)
+      → OfOperands ws at rest expression ss f (λ more. more) (Done ws t s d rest x))
       → ChecksExpr ws at t s d x
   by-node x n h g m = record {
     onward = g;

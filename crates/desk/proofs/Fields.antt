@@ -14,7 +14,7 @@ use Rattle.text.proofs.Readings.{drop-step}
 use Rattle.logic.proofs.BooleanLaws.{cases}
 use Rattle.desk.specs.declared.Group.{Group}
 use Rattle.desk.specs.declared.Group.the-variants as group
-use Rattle.desk.specs.Internal.Post.{groupAnswer}
+use Rattle.desk.specs.Internal.Post.{parsedGroup}
 use Rattle.desk.specs.Fields.{closed, onlyField}
 use Rattle.logic.specs.Booleans.{both}
 
@@ -56,12 +56,12 @@ unfolding onlyField
 only-none field e = rw e
 
 -- what the code's answer says of the text
-pub group-read : (o : Option ℕ) (r : Group) → r ≡ groupAnswer o → (v : ℕ) → r ≡ group.Read v → o ≡ some v
+pub group-read : (o : Option ℕ) (r : Group) → r ≡ parsedGroup o → (v : ℕ) → r ≡ group.Read v → o ≡ some v
 unfolding Option·elim
 group-read none r e v q = let z : _≡_ {A = ℕ} 0 1 = cc in absurd (omega arith)
 group-read (some w) r e v q = let z : w ≡ v = cc in ap some z
 
-pub group-refused : (o : Option ℕ) (r : Group) → r ≡ groupAnswer o → r ≡ group.Refused → o ≡ none
+pub group-refused : (o : Option ℕ) (r : Group) → r ≡ parsedGroup o → r ≡ group.Refused → o ≡ none
 unfolding Option·elim
 group-refused none r e q = refl
 group-refused (some w) r e q = let z : _≡_ {A = ℕ} 0 1 = cc in absurd (omega arith)

@@ -9,11 +9,11 @@ use lib.Seq.{take-at, length-take-le}
 use Rattle.text.specs.Reading.{Read}
 use Rattle.text.specs.Reading.Read.{got, bad}
 use Rattle.memory_text.specs.declared.Memory.{Memory}
-use Rattle.memory_text.specs.declared.Answer.{Answer}
-use Rattle.memory_text.specs.declared.Answer.the-variants.{Read as Taken, Refused}
+use Rattle.memory_text.specs.declared.Parsed.{Parsed}
+use Rattle.memory_text.specs.declared.Parsed.the-variants.{Read as Taken, Refused}
 use Rattle.sheet.specs.Padding.{padded}
 use Rattle.memory_text.specs.Reading.{memory}
-use Rattle.memory_text.specs.Internal.Answers.{table, memoryAnswer}
+use Rattle.memory_text.specs.Internal.Answers.{table, parsedMemory}
 use Rattle.memory_text.proofs.Memories.{memory-sound}
 use Rattle.language.specs.World.{cell-words}
 use Rattle.memory_text.specs.Sizes.{memoryWords}
@@ -51,22 +51,22 @@ unfolding givenFrom padded
 given-words m g = take-at (wordsRead m) (replicate (memoryWords - length (wordsRead m)) 0) (length (wordsRead m)) refl
 
 -- the number of a text that isn't of its form, by the code's answers
-unfoldable pub numberBy : Option ℕ → Answer → ℕ
+unfoldable pub numberBy : Option ℕ → Parsed → ℕ
 numberBy none _ = 3
 numberBy (some _) Taken = 0
 numberBy (some _) Refused = 8
 
-number-is : (o : Option ℕ) (want : Read (List ℕ)) → numberBy o (table want .answer) ≡ unread o want
+number-is : (o : Option ℕ) (want : Read (List ℕ)) → numberBy o (table want .parsed) ≡ unread o want
 unfolding numberBy table unread
 number-is none want = refl
 number-is (some g) (got ws r) = refl
 number-is (some g) bad = refl
 
-pub given-is : (text : List ℕ) (m : Memory) → m ≡ memoryAnswer text → (o : Option ℕ) (a : Answer) → m .answer ≡ a
+pub given-is : (text : List ℕ) (m : Memory) → m ≡ parsedMemory text → (o : Option ℕ) (a : Parsed) → m .parsed ≡ a
     → _≡_ {A = Given}
     (record { words = m .words; count = m .count * cell-words; group = Option·getD o 0; other = numberBy o a })
     (givenFrom (memory text) o)
-unfolding givenFrom memoryAnswer table wordsRead padded
+unfolding givenFrom parsedMemory table wordsRead padded
 given-is text m em o a e = rw (← e, em, number-is o (memory text)) (go (memory text) refl)
   where
     go : (want : Read (List ℕ)) → memory text ≡ want

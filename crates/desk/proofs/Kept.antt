@@ -14,14 +14,14 @@ use Rattle.text.specs.Set.{setDigits}
 use Rattle.logic.proofs.BooleanLaws.{cases}
 use Rattle.parts.specs.Parts.{keep, textOf, keptOf}
 use Rattle.parts.specs.Feeding.{beginning, Held, held, fed, textHeld}
-use Rattle.parts.proofs.Keeping.{holds-parts}
+use Rattle.parts.proofs.Keeping.{holds-texts}
 use Rattle.sheet_text.specs.Sheets.{sheetRead, sheetOf}
 use Rattle.memory_text.specs.Reading.{memory}
 use Rattle.stages.specs.Calls.{viewOf}
 use Rattle.desk.specs.Fields.{groupOf}
 use Rattle.desk.specs.Given.{givenOf}
 use Rattle.desk.specs.Show.{viewed, showOf}
-use Rattle.desk.specs.Inputs.{showParts, shownFor, showHeld}
+use Rattle.desk.specs.Inputs.{showTexts, shownFor, showHeld}
 use Rattle.desk.specs.Theorems.{KeptEnough, ShowsInput}
 use Rattle.desk.proofs.Exact.{group-length}
 
@@ -71,13 +71,13 @@ module _ (buffer input : List ℕ) (long : 3 * keep ≤ length buffer) where
   abbrev filled : Held
   filled = fed 2 (held beginning buffer) input
 
-  part-kept : (i : ℕ) → i ≤ 2 → textHeld (filled .state) (filled .buffer) i ≡ take keep (textOf 2 i input)
+  text-kept : (i : ℕ) → i ≤ 2 → textHeld (filled .state) (filled .buffer) i ≡ take keep (textOf 2 i input)
   unfolding keptOf
-  part-kept i h = holds-parts 2 buffer input (omega arith) long i h
+  text-kept i h = holds-texts 2 buffer input (omega arith) long i h
 
 pub shows-input : ShowsInput
-unfolding showHeld shownFor showParts
+unfolding showHeld shownFor showTexts
 shows-input buffer input l =
-    let part = part-kept buffer input l in
-    rw (part 0 (omega arith), part 1 (omega arith), part 2 (omega arith))
+    let text = text-kept buffer input l in
+    rw (text 0 (omega arith), text 1 (omega arith), text 2 (omega arith))
     (kept-enough (textOf 2 0 input) (textOf 2 1 input) (textOf 2 2 input))

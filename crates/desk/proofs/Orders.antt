@@ -23,7 +23,7 @@ use Rattle.simp.specs.Judgements.{OfSheet, Strangers, OtherSize, IllFormed, vie
 use Rattle.simp.proofs.Judged.{its}
 use Rattle.simp.proofs.SecondDemand.{view-exactly}
 use Rattle.desk.specs.Fields.{groupOf}
-use Rattle.desk.specs.Numbers.{placeOf, earlier, unread, asText}
+use Rattle.desk.specs.Numbers.{rankOf, earlier, unread, asText}
 use Rattle.desk.specs.Given.{wordsRead, givenFrom, givenOf}
 use Rattle.desk.specs.Output.{numberLine}
 use Rattle.desk.specs.Show.{viewText, viewed, showOf}
@@ -81,7 +81,7 @@ module _ (sheet text group ws : List ℕ) (g : ℕ) where
   sheet-first : (o : Option ℕ) (m : Read (List ℕ))
       → (said (unread o m) (refusedView zeros 1) ≡ numberLine 1)
       × (said (unread o m) (refusedView zeros 2) ≡ numberLine 2)
-  unfolding viewText earlier placeOf asText unread
+  unfolding viewText earlier rankOf asText unread
   sheet-first none m = (refl, refl)
   sheet-first (some a) bad = (refl, refl)
   sheet-first (some a) (got us r) = (refl, refl)
@@ -98,7 +98,7 @@ module _ (sheet text group ws : List ℕ) (g : ℕ) where
 
   -- a group that isn't of its form
   no-group : NoGroup group → Seen past-2 → Said (group-rows sheet text group) 3
-  unfolding First viewText earlier placeOf asText
+  unfolding First viewText earlier rankOf asText
   no-group n (inl (a, e)) = inl (inl n, ap (said 3) e)
   no-group n (inr (m, inl (a, e))) = inl (inl n, ap (said 3) e)
   no-group n (inr (m, inr (l, inl (a, e)))) = inl (inl n, ap (said 3) e)
@@ -107,7 +107,7 @@ module _ (sheet text group ws : List ℕ) (g : ℕ) where
   -- a group that is
   module _ (i : IsGroup group g) where
     three-first : (m : Read (List ℕ)) → said (unread (some g) m) (refusedView zeros 3) ≡ numberLine 3
-    unfolding viewText earlier placeOf asText unread
+    unfolding viewText earlier rankOf asText unread
     three-first bad = refl
     three-first (got us r) = refl
 
@@ -121,14 +121,14 @@ module _ (sheet text group ws : List ℕ) (g : ℕ) where
 
     -- a memory that isn't of its form
     no-memory : NoMemory text → Seen past-3 → Said (memory-rows sheet text group) 8
-    unfolding First viewText earlier placeOf asText
+    unfolding First viewText earlier rankOf asText
     no-memory n (inl (a, e)) = inl (inl n, ap (said 8) e)
     no-memory n (inr (m, inl (a, e))) = inl (inl n, ap (said 8) e)
     no-memory n (inr (m, inr (l, h))) = inl (inl n, ap (said 8) (h .2))
 
     -- and one that is
     on-memory : IsMemory text ws → Seen past-3 → Said (memory-rows sheet text group) 0
-    unfolding First viewText earlier placeOf asText
+    unfolding First viewText earlier rankOf asText
     on-memory j (inl (inl a, e)) = inl (inr (ws, j, inl a), ap (said 0) e)
     on-memory j (inl (inr (s, f, a), e)) =
         inl (inr (ws, j, inl (s, f, λ z. a (length-replicate {A = ℕ} (length ws) 0 ∙ z))), ap (said 0) e)

@@ -14,16 +14,16 @@ use Rattle.memory_text.specs.Internal.Answers.{printedLength, printed}
 use Rattle.memory_text.proofs.Writes.{goes-start, goes-put, printed-all}
 use Rattle.language.specs.World.{cell-words}
 use Rattle.memory_text.specs.Sizes.{memoryWords, memoryRoom}
-use Rattle.desk.specs.Output.{places, numberLine, put, putLength}
+use Rattle.desk.specs.Output.{outputRoom, numberLine, put, putLength}
 use Rattle.desk.specs.Internal.Post.{PutAll}
 
 -- whether the buffer has room
 module _ (out bytes now : List ℕ) (r : ℕ) where
-  pub put-all : places ≤ length out → PutAll out bytes now r → (r ≡ putLength out bytes) × (now ≡ put out bytes)
+  pub put-all : outputRoom ≤ length out → PutAll out bytes now r → (r ≡ putLength out bytes) × (now ≡ put out bytes)
   unfolding put putLength
   put-all h p = rw (le-leb _ _ h) (p .length-is, p .held)
 
-pub put-none : (out bytes : List ℕ) → length out < places → (0 ≡ putLength out bytes) × (out ≡ put out bytes)
+pub put-none : (out bytes : List ℕ) → length out < outputRoom → (0 ≡ putLength out bytes) × (out ≡ put out bytes)
 unfolding put putLength
 put-none out bytes h = rw (lt-leb _ _ h) (refl, refl)
 
@@ -59,14 +59,14 @@ put-same out bytes bytes′ now r e p = rw e at p
 
 -- the first n places of w, replaced by as many
 module _ (n : ℕ) (x w : List ℕ) (e : length x ≡ length (take n w)) (h : n ≤ length w) where
-  pub part-length : length x ≡ n
-  part-length = e ∙ length-take-le n w h
+  pub front-length : length x ≡ n
+  front-length = e ∙ length-take-le n w h
 
-  pub part-is : take n (x ++ drop n w) ≡ x
-  part-is = take-at x (drop n w) n part-length
+  pub front-is : take n (x ++ drop n w) ≡ x
+  front-is = take-at x (drop n w) n front-length
 
-  pub part-fits : n ≤ length (x ++ drop n w)
-  part-fits = omega (arith, length-append x (drop n w), part-length)
+  pub front-fits : n ≤ length (x ++ drop n w)
+  front-fits = omega (arith, length-append x (drop n w), front-length)
 
-  pub part-count : n ≡ length (take n (x ++ drop n w))
-  part-count = sym (length-take-le n (x ++ drop n w) part-fits)
+  pub front-count : n ≡ length (take n (x ++ drop n w))
+  front-count = sym (length-take-le n (x ++ drop n w) front-fits)

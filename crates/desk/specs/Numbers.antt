@@ -13,13 +13,13 @@ abbrev pub order : List ℕ
 order = 1 ∷ 2 ∷ 3 ∷ 7 ∷ 8 ∷ []
 
 -- the place of a number in an order; what isn't in it, such as 0, which is no number, comes after all of it
-unfoldable pub placeOf : List ℕ → ℕ → ℕ
-placeOf [] k = 0
-placeOf (n ∷ ns) k = cond (eqb k n) 0 (suc (placeOf ns k))
+unfoldable pub rankOf : List ℕ → ℕ → ℕ
+rankOf [] k = 0
+rankOf (n ∷ ns) k = cond (eqb k n) 0 (suc (rankOf ns k))
 
 -- b where it comes before a in the order, else a
 unfoldable pub earlier : ℕ → ℕ → ℕ
-earlier a b = cond (ltb (placeOf order b) (placeOf order a)) b a
+earlier a b = cond (ltb (rankOf order b) (rankOf order a)) b a
 
 -- 3 where the text of the group isn't of its form, else 8 where that of the memory isn't, else 0
 unfoldable pub unread : Option ℕ → Read (List ℕ) → ℕ

@@ -10,8 +10,8 @@ use Rattle.text.specs.Field.{printLineEnd}
 use Rattle.memory_text.specs.Sizes.{memoryRoom}
 
 -- a line for each of the most locations; a number and the end of its line take less
-abbrev pub places : ℕ
-places = memoryRoom
+abbrev pub outputRoom : ℕ
+outputRoom = memoryRoom
 
 -- the number alone, with the end of its line
 unfoldable pub numberLine : ℕ → List ℕ
@@ -19,7 +19,7 @@ numberLine k = decimal k ++ printLineEnd []
 
 -- what the buffer then holds, and how many bytes were put
 unfoldable pub put : List ℕ → List ℕ → List ℕ
-put out bytes = cond (leb places (length out)) (sets out 0 bytes) out
+put out bytes = cond (leb outputRoom (length out)) (sets out 0 bytes) out
 
 unfoldable pub putLength : List ℕ → List ℕ → ℕ
-putLength out bytes = cond (leb places (length out)) (length bytes) 0
+putLength out bytes = cond (leb outputRoom (length out)) (length bytes) 0

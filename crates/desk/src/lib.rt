@@ -1,5 +1,5 @@
 // What the program show prints, made from the texts that it is given.
-use memory_text::Answer;
+use memory_text::Parsed;
 use parts::State;
 use sets::Set;
 use text::Mask;
@@ -7,15 +7,15 @@ ghost use mathlib.Core.Path.{_≡_};
 ghost use Prim.Native.Nat.{_≤_};
 ghost use lib.ListN.{length, take, drop};
 ghost use Rattle.desk.specs.Fields.{closed, groupOf};
-ghost use Rattle.desk.specs.Numbers.{order, placeOf, earlier as earlierOf, asText};
+ghost use Rattle.desk.specs.Numbers.{order, rankOf, earlier as earlierOf, asText};
 ghost use Rattle.desk.specs.Given.{givenOf};
-ghost use Rattle.desk.specs.Internal.Post.{Whole, PutAll, groupAnswer};
+ghost use Rattle.desk.specs.Internal.Post.{Whole, PutAll, parsedGroup};
 ghost use Rattle.desk.specs.Show.{viewed, showOf};
 ghost use Rattle.desk.specs.Inputs.{showHeld};
-ghost use Rattle.desk.specs.Output.{places, numberLine, put, putLength};
+ghost use Rattle.desk.specs.Output.{outputRoom, numberLine, put, putLength};
 
 // The places that a buffer must have for what is printed: a line for each of the most locations.
-pub const PLACES: usize = memory_text::LOCATIONS * memory_text::write::LINE;
+pub const OUTPUT_ROOM: usize = memory_text::LOCATIONS * memory_text::write::LINE;
 
 // A group, or the refusal of a text that isn't of its form.
 pub enum Group {
@@ -47,7 +47,7 @@ fn closes(s: &[u8], p: usize) -> bool
 
 // The group of a text: a set and byte 10.
 fn group_line(s: &[u8]) -> Group
-    ensures { λ r. ⌜ r ≡ groupAnswer (groupOf (now (s .entry))) ⌝ }
+    ensures { λ r. ⌜ r ≡ parsedGroup (groupOf (now (s .entry))) ⌝ }
 {
     if let Mask::At(m, p) = text::set(s, 0) {
         if closes(s, p) {
@@ -58,8 +58,8 @@ fn group_line(s: &[u8]) -> Group
 }
 
 // The place of a number in the order of a view's table, 1 2 3 7 8; what isn't in it comes after all of it.
-fn place(k: u8) -> u8
-    ensures { λ r. ⌜ r ≡ placeOf order k ⌝ }
+fn rank(k: u8) -> u8
+    ensures { λ r. ⌜ r ≡ rankOf order k ⌝ }
 {
     match k {
         stages::SHEET_MALFORMED => 0,
@@ -75,7 +75,7 @@ fn place(k: u8) -> u8
 fn earlier(a: u8, b: u8) -> u8
     ensures { λ r. ⌜ r ≡ earlierOf a b ⌝ }
 {
-    if place(b) < place(a) { b } else { a }
+    if rank(b) < rank(a) { b } else { a }
 }
 
 // The number to print: the view's answer or `other`, whichever comes first in the order. A memory text with another
@@ -105,15 +105,15 @@ fn read_given(memory: &[u8], group: &[u8]) -> Given
             other: stages::PRINCIPAL_UNKNOWN,
         };
     };
-    let answer = m.answer;
-    match answer {
-        Answer::Read => Given {
+    let parsed = m.parsed;
+    match parsed {
+        Parsed::Read => Given {
             words,
             count,
             group: g,
             other: stages::DONE,
         },
-        Answer::Refused => Given {
+        Parsed::Refused => Given {
             words,
             count,
             group: g,
@@ -133,7 +133,7 @@ fn put_line(out: &mut [u8], n: u32) -> usize
 
 // The view, or the number.
 fn show_given(sheet: &[u8], given: Given, out: &mut [u8]) -> usize
-    requires { ⌜ Whole given × (places ≤ length (now out)) ⌝ }
+    requires { ⌜ Whole given × (outputRoom ≤ length (now out)) ⌝ }
     ensures { λ r. ⌜ PutAll (now (out .entry)) (viewed (now (sheet .entry)) given) (now (out .exit)) r ⌝ }
 {
     let words = given.words;
@@ -148,14 +148,14 @@ fn show_given(sheet: &[u8], given: Given, out: &mut [u8]) -> usize
 }
 
 // What show prints, at the start of a buffer; its length. Nothing is written, and the answer is 0, where the buffer has
-// fewer than PLACES places.
+// fewer than OUTPUT_ROOM places.
 pub fn show(sheet: &[u8], memory: &[u8], group: &[u8], out: &mut [u8]) -> usize
     ensures { λ r. ⌜ r ≡ putLength (now (out .entry))
         (showOf (now (sheet .entry)) (now (memory .entry)) (now (group .entry))) ⌝ }
     ensures { λ _. ⌜ now (out .exit)
         ≡ put (now (out .entry)) (showOf (now (sheet .entry)) (now (memory .entry)) (now (group .entry))) ⌝ }
 {
-    if out.len() < PLACES {
+    if out.len() < OUTPUT_ROOM {
         return 0;
     }
     show_given(sheet, read_given(memory, group), out)

@@ -13,7 +13,7 @@ use Rattle.language.specs.Evaluation.{Res, ok, long, stuck, bind, fit, add, pac
 use Rattle.logic.proofs.BooleanLaws.{both-left, both-right}
 use Rattle.sheet.specs.Internal.Tables.{labelsIn}
 use Rattle.sheet.specs.Internal.Powers.{mayWrite}
-use Rattle.script.specs.Lines.{Line, SourceE, exprLines}
+use Rattle.script.specs.Lines.{ScriptLine, SourceE, exprLines}
 use Rattle.script.specs.Internal.Code.{rowAt}
 use Rattle.script.specs.Names.{Counts, namedE}
 use Rattle.script.specs.declared.Row.{Row}
@@ -38,7 +38,7 @@ use Rattle.evaluator.proofs.NodeLaws.{end-done, end-none, load-here, se
 use Rattle.evaluator.proofs.StateLaws.{cell-in, room-here, holds-kept, bound-answers}
 
 -- the row that was read is that of the expression
-pub row-of : {p : Place} {row : Row} {k : Counts} {rest : List Line} {e : Expr} (kind : ℕ)
+pub row-of : {p : Place} {row : Row} {k : Counts} {rest : List ScriptLine} {e : Expr} (kind : ℕ)
     → row ≡ rowAt (p .code) (p .at) → row .kind ≡ kind
     → ExprAt p k rest e → ExprRow (p .code) (p .at) rest kind (row .a) (row .b) e
 row-of {p} {rest = rest} {e = e} kind r q x = rows.row-of (p .code) (p .at) expression e rest r q (x .source) (x .lines)
@@ -54,7 +54,7 @@ abbrev after : Place → Result → Place
 after p v = moved p (v .next) (v .cells)
 
 -- what an evaluation promises of one expression
-abbrev Means : Place → Context → Mem → Expr → List Line → Result → Type 0
+abbrev Means : Place → Context → Mem → Expr → List ScriptLine → Result → Type 0
 Means p C M e rest r = Answers (eval (C .world) (C .env) M e) (p .code) rest r
 
 pub held-after : {S : Setting} {p q : Place} {C : Context} {M : Mem} → StandsFor S p C M
@@ -65,7 +65,7 @@ held-after {q = q} h e d =
 
 -- ---- the kinds, each matched at its number
 
-module _ {S : Setting} (p : Place) {C : Context} {M : Mem} (held : StandsFor S p C M) {rest : List Line}
+module _ {S : Setting} (p : Place) {C : Context} {M : Mem} (held : StandsFor S p C M) {rest : List ScriptLine}
     (cells : List ℕ) where
   int-case : {a b : ℕ} {e : Expr} → ExprRow (p .code) (p .at) rest 6 a b e → cellOf cells accumulator ≡ cell (int a)
       → Means p C M e rest (reached (p .at + 3) cells)
@@ -113,14 +113,14 @@ module _ {S : Setting} (p : Place) {v : Result} (x : Evals S (operand p) v) {C :
   room-after : cell-words ≤ length (v .cells)
   room-after = room-here (holds-kept (held .cells) (v .cells) (x .kept))
 
-  one-operand : {e : Expr} {rest : List Line} {r : Result} {Q : Type 0} (f : Value → Res)
+  one-operand : {e : Expr} {rest : List ScriptLine} {r : Result} {Q : Type 0} (f : Value → Res)
       → ExprAt (operand p) (C .counts) rest e → Applies v r Q → Turns f v r
       → Answers (bind (eval (C .world) (C .env) M e) f) (p .code) rest r
   one-operand {e} {rest} f here y u =
       let m = x .means C M e rest operand-held here in
       (u _ room-after (m .0), λ z. ap (λ (n : ℕ). drop n (p .code)) (y .same-place z) ∙ m .1 (y .through z))
 
-  module _ {rest : List Line} {r : Result} {Q : Type 0} (y : Applies v r Q) where
+  module _ {rest : List ScriptLine} {r : Result} {Q : Type 0} (y : Applies v r Q) where
     left-case : {a b : ℕ} {e : Expr} → ExprRow (p .code) (p .at) rest 10 a b e → namedE (C .counts) (p .depth) e ≡ true
         → Turns (λ u. fit (inl u)) v r → Means p C M e rest r
     unfolding eval namedE
@@ -157,7 +157,8 @@ module _ {S : Setting} (p : Place) {v : Result} (x : Evals S (operand p) v) {C :
     part-case first (at-first s h) n u = one-operand (partOf first) (record { source = s; names = n; lines = h }) y u
     part-case second (at-second s h) n u = one-operand (partOf second) (record { source = s; names = n; lines = h }) y u
 
-  module _ (rest : List Line) {e : Expr} (f : Expr) (here : ExprAt (operand p) (C .counts) (exprLines f rest) e) where
+  module _ (rest : List ScriptLine) {e : Expr} (f : Expr)
+      (here : ExprAt (operand p) (C .counts) (exprLines f rest) e) where
     -- two operands, the first of which has no value
     two-end : (k : Value → Res) → (v .state ≡ 0 → ⊥) → Answers (bind (eval (C .world) (C .env) M e) k) (p .code) rest v
     two-end k z =
@@ -179,7 +180,7 @@ module _ {S : Setting} (p : Place) {v : Result} (x : Evals S (operand p) v) {C :
           λ q. ap (λ (i : ℕ). drop i (p .code)) (y .same-place q) ∙ m′ .1 (y .through q),
         )
 
-  module _ {rest : List Line} where
+  module _ {rest : List ScriptLine} where
     plus-end-case : {a b : ℕ} {e : Expr} → ExprRow (p .code) (p .at) rest 9 a b e
         → namedE (C .counts) (p .depth) e ≡ true → (v .state ≡ 0 → ⊥)
         → Means p C M e rest v
@@ -262,12 +263,12 @@ module _ {S : Setting} {p : Place} {row : Row} (r : row ≡ rowAt (p .code) (p .
   module _ {v : Result} (x : Evals S (operand p) v) where
     -- a line with two operands, the first of which has no value, and the first of which has one
     eval-end : (v .state ≡ 0 → ⊥)
-        → ((C : Context) (M : Mem) (e : Expr) (rest : List Line) → StandsFor S p C M → ExprAt p (C .counts) rest e
+        → ((C : Context) (M : Mem) (e : Expr) (rest : List ScriptLine) → StandsFor S p C M → ExprAt p (C .counts) rest e
         → Means p C M e rest v) → Evals S p v
     eval-end z m = record { forward = λ q. absurd (z q); kept = x .kept; means = m }
 
     eval-two : {w u : Result} {Q : Type 0} → v .state ≡ 0 → Evals S (after p v) w → Applies w u Q
-        → ((C : Context) (M : Mem) (e : Expr) (rest : List Line)
+        → ((C : Context) (M : Mem) (e : Expr) (rest : List ScriptLine)
         → StandsFor S p C M → ExprAt p (C .counts) rest e → Means p C M e rest u) → Evals S p u
     eval-two z x′ y m =
         record {
@@ -296,7 +297,8 @@ module _ {S : Setting} {p : Place} {row : Row} (r : row ≡ rowAt (p .code) (p .
     module _ {u : Result} where
       -- a line with one operand
       eval-by : {Q : Type 0} → Applies v u Q
-          → ((C : Context) (M : Mem) (e : Expr) (rest : List Line) → StandsFor S p C M → ExprAt p (C .counts) rest e
+          → ((C : Context) (M : Mem) (e : Expr) (rest : List ScriptLine) → StandsFor S p C M
+          → ExprAt p (C .counts) rest e
           → Means p C M e rest u) → Evals S p u
       eval-by y m = record {
         forward = λ z. omega (arith, x .forward (y .through z), y .same-place z);

@@ -14,7 +14,7 @@ use Rattle.logic.proofs.BooleanLaws.{absurd-false, cases, both-left, both-right
 use Rattle.sets.specs.Sets.{within, everyone}
 use Rattle.sets.proofs.Walks.{every-fails}
 use Rattle.sets.proofs.SetLaws.{within-refl, within-trans, within-le, within-everyone}
-use Rattle.groups.specs.Smallest.{ReadingRule, Smallest, Listed, ListsSmallest}
+use Rattle.groups.specs.Smallest.{AccessStructure, Smallest, Listed, ListsSmallest}
 use Rattle.groups.specs.Listing.{isSmallest, smallestFrom, smallestOf}
 use Rattle.groups.specs.Theorems.{GroupsExact, ReadersHoldOne}
 use Rattle.groups.proofs.SmallestLaws.{smallest-iff}
@@ -77,7 +77,7 @@ same-rising (x ∷ xs) (y ∷ ys) r q f g =
 
 -- ---- the list of smallest groups
 
-module _ (reads : ReadingRule) where
+module _ (reads : AccessStructure) where
   pub from-on : (k g : ℕ) → isSmallest reads g ≡ true → smallestFrom reads (suc k) g ≡ g ∷ smallestFrom reads k (suc g)
   unfolding smallestFrom
   from-on k g e = rw e refl
@@ -126,7 +126,7 @@ below-all : (n g : ℕ) → within g (everyone n) ≡ true → g < 2 ^ n
 unfolding everyone
 below-all n g w = omega (arith, within-le g (everyone n) w, pow-pos n)
 
-lists : (n : ℕ) (reads : ReadingRule) → ListsSmallest n reads (smallestOf n reads)
+lists : (n : ℕ) (reads : AccessStructure) → ListsSmallest n reads (smallestOf n reads)
 unfolding smallestOf
 lists n reads = record {
   listed = λ g. (
@@ -148,7 +148,7 @@ groups-exact = record {
 -- ---- who reads
 
 -- a group that reads and isn't smallest holds a lower one that reads
-reads-lower : (reads : ReadingRule) (g : ℕ) → reads g ≡ true → isSmallest reads g ≡ false
+reads-lower : (reads : AccessStructure) (g : ℕ) → reads g ≡ true → isSmallest reads g ≡ false
     → (h : ℕ) × (h < g) × (within h g ≡ true) × (reads h ≡ true)
 unfolding isSmallest
 reads-lower reads g r f =
@@ -157,7 +157,7 @@ reads-lower reads g r f =
     (h, l, both-left (within h g) (reads h) b, both-right (within h g) (reads h) b)
 
 -- so it holds one that is smallest
-holds-smallest : (reads : ReadingRule) (most g : ℕ) → g ≤ most → reads g ≡ true
+holds-smallest : (reads : AccessStructure) (most g : ℕ) → g ≤ most → reads g ≡ true
     → (h : ℕ) × (within h g ≡ true) × Smallest reads h
 holds-smallest reads zero g l r =
     cases (isSmallest reads g) (λ t. (g, within-refl g, smallest-iff reads g .0 t))

@@ -11,7 +11,7 @@ use lib.Seq.{sets, sets-eq}
 use Rattle.logic.proofs.BooleanLaws.{both-on}
 use Rattle.sets.specs.Sets.{width}
 use Rattle.sets.proofs.Walks.{by-below}
-use Rattle.groups.specs.Smallest.{ReadingRule, Grows}
+use Rattle.groups.specs.Smallest.{AccessStructure, Grows}
 use Rattle.groups.specs.Listing.{isSmallest}
 use Rattle.groups.specs.Internal.Walk.{pastHolders, needsEach, smallestUpTo, FirstFrom}
 use Rattle.groups.proofs.SmallestLaws.{silent-not, one-less}
@@ -22,7 +22,7 @@ empty : (gs : List ℕ) → length gs ≡ 0 → gs ≡ []
 empty [] e = refl
 empty (g ∷ gs) e = absurd (omega arith)
 
-module _ (reads : ReadingRule) (end : ℕ) where
+module _ (reads : AccessStructure) (end : ℕ) where
   abbrev left : ℕ → List ℕ
   left from = smallestUpTo reads end from
 

@@ -10,25 +10,25 @@ use Rattle.logic.proofs.BooleanLaws.{bool-ext}
 use Rattle.sets.specs.Sets.{within, meets, everyone, every}
 use Rattle.sets.proofs.Walks.{by-below, every-true, every-at}
 use Rattle.sets.proofs.SetLaws.{within-trans, meets-mono, meets-grows}
-use Rattle.labels.specs.Labels.{owners, readersOf, readsOf, readsUnder, effective}
-use Rattle.labels.specs.declared.Reading.{Reading}
-use Rattle.labels.specs.declared.Reading.the-variants.{Pooled, Alone}
+use Rattle.labels.specs.Labels.{owners, readersOf, readsPooledOf, readsUnder, effective}
+use Rattle.labels.specs.declared.Rule.{Rule}
+use Rattle.labels.specs.declared.Rule.the-variants.{Pooled, Alone}
 use Rattle.labels.specs.Internal.Sole.{soleReadersOf}
 use Rattle.labels.specs.declared.Label.{Label}
 use Rattle.labels.proofs.EffectiveLaws.{closed-other, effective-fits}
 use Rattle.labels.proofs.SoleLaws.{meets-sole}
 use Rattle.sheet.specs.Sheet.{Sheet, labelNo, formed}
 use Rattle.sheet.specs.Meaning.{readsNo}
-use Rattle.sheet.specs.Internal.Tables.{tableOf, principalsIn, readingIn, labelIn}
+use Rattle.sheet.specs.Internal.Tables.{tableOf, principalsIn, ruleIn, labelIn}
 use Rattle.sheet.proofs.FormLaws.{formed-facts}
-use Rattle.sheet.proofs.TableLaws.{principals-in, reading-in}
+use Rattle.sheet.proofs.TableLaws.{principals-in, rule-in}
 use Rattle.sheet.proofs.LabelLaws.{label-no-effective, label-in}
 use Rattle.groups.specs.declared.readers.Readers.{Readers}
 use Rattle.groups.specs.Internal.Readers.{readsBy, setsToMeet, readersIn}
 
 -- ---- out of a table, by the rule that is found in it
 
-module _ (t : List ℕ) {rule : Reading} (found : rule ≡ readingIn t) (l : ℕ) where
+module _ (t : List ℕ) {rule : Rule} (found : rule ≡ ruleIn t) (l : ℕ) where
   pub pooled-sets : rule ≡ Pooled → {a : Label} → a ≡ labelIn t l → record { sets = a .readers } ≡ readersIn t l
   unfolding readersIn setsToMeet
   pooled-sets is e = rw (← found, is, e)
@@ -47,8 +47,8 @@ readers-grow r g h w e = every-true owners _ (λ o l. meets-grows g h (getD (r .
 
 -- a place that has no principal is met by each group that meets the readers of an owner
 whole : (n : ℕ) (a : Label) → effective n a ≡ true → 1 ≤ n → n ≤ owners → (g : ℕ)
-    → every owners (λ (o : ℕ). meets g (readersOf a o)) ≡ readsOf n g a
-unfolding readsOf
+    → every owners (λ (o : ℕ). meets g (readersOf a o)) ≡ readsPooledOf n g a
+unfolding readsPooledOf
 whole n a e p f g = bool-ext _ _ (λ t. every-true n _ (λ o l. every-at owners _ t o (lt-of-lt-of-le l f)))
     (λ t. every-true owners _ (λ o l. at t o l))
   where
@@ -71,7 +71,7 @@ same-sets x g =
     (λ t. every-true owners _ (λ o l. rw (at o l) t))
 
 -- the sets that a group must meet, by either rule
-meets-to-read : (rule : Reading) (n : ℕ) (a : Label) → effective n a ≡ true → 1 ≤ n → n ≤ owners → (g : ℕ)
+meets-to-read : (rule : Rule) (n : ℕ) (a : Label) → effective n a ≡ true → 1 ≤ n → n ≤ owners → (g : ℕ)
     → every owners (λ (o : ℕ). meets g (getD (setsToMeet rule n a) o 0)) ≡ readsUnder rule n g a
 unfolding setsToMeet readsUnder
 meets-to-read Pooled n a e p f g = whole n a e p f g
@@ -82,6 +82,6 @@ pub readers-of-label : (s : Sheet) → formed s ≡ true → (l g : ℕ) → rea
 unfolding readsBy readersIn
 readers-of-label s f l g =
     let z = formed-facts s f in
-    rw (reading-in s f, principals-in s f, label-in s f l)
-    (meets-to-read (s .reading) (s .principals) (labelNo s l) (label-no-effective s f l) (z .some-principal)
+    rw (rule-in s f, principals-in s f, label-in s f l)
+    (meets-to-read (s .rule) (s .principals) (labelNo s l) (label-no-effective s f l) (z .some-principal)
     (z .few-principals) g)

@@ -11,14 +11,14 @@ use Rattle.sets.proofs.SetLaws.{within-antisym, within-elim, single-within, sin
 use Rattle.sets.proofs.SetLaws.{member-single-self, member-everyone}
 use Rattle.sheet.specs.Meaning.{readsNo}
 use Rattle.sheet.proofs.ReaderLaws.{read-by-one}
-use Rattle.groups.specs.Smallest.{ReadingRule, Smallest, Listed, ListsSmallest}
+use Rattle.groups.specs.Smallest.{AccessStructure, Smallest, Listed, ListsSmallest}
 use Rattle.groups.specs.Theorems.{SingleReaders}
 
 -- a group that reads has a member who does
-abbrev ThroughOne : ReadingRule → Type 0
+abbrev ThroughOne : AccessStructure → Type 0
 ThroughOne reads = (g : ℕ) → reads g ≡ true → (p : ℕ) × (member p g ≡ true) × (reads (single p) ≡ true)
 
-module _ (reads : ReadingRule) (through : ThroughOne reads) where
+module _ (reads : AccessStructure) (through : ThroughOne reads) where
   smallest-single : (g : ℕ) → Smallest reads g → (p : ℕ) × (g ≡ single p) × (reads (single p) ≡ true)
   smallest-single g h =
       let (p, m, r) = through g (h .itself) in
@@ -49,7 +49,7 @@ module _ (reads : ReadingRule) (through : ThroughOne reads) where
 
 pub single-readers : SingleReaders
 single-readers s f alone l gs ls g =
-    let reads : ReadingRule = λ (g : ℕ). readsNo s g l in
+    let reads : AccessStructure = λ (g : ℕ). readsNo s g l in
     let through = read-by-one s f alone l in (
       listed-single reads through (s .principals) gs ls g,
       λ (p, h, e, r). single-listed reads through (s .principals) gs ls g p h e r,

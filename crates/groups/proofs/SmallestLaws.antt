@@ -14,7 +14,7 @@ use Rattle.sets.specs.Sets.{width, member, within, meets, single, restrict}
 use Rattle.sets.proofs.Walks.{every-true, every-at, every-false, by-below}
 use Rattle.sets.proofs.SetLaws.{within-intro, within-elim, within-le, single-within, member-single, member-single-self}
 use Rattle.sets.proofs.SetLaws.{member-beyond, member-difference, lacks-member, meets-single, restrict-single}
-use Rattle.groups.specs.Smallest.{ReadingRule, Smallest, Grows}
+use Rattle.groups.specs.Smallest.{AccessStructure, Smallest, Grows}
 use Rattle.groups.specs.Listing.{isSmallest}
 use Rattle.groups.specs.Internal.Walk.{readsWithout, needsEach}
 
@@ -32,7 +32,7 @@ no-yes e = rw e refl
 part-below : (h g : ℕ) → within h g ≡ true → ¬ (h ≡ g) → h < g
 part-below h g w n = by-below h g (λ l. l) (λ l. absurd (n (omega (arith, within-le h g w))))
 
-module _ (reads : ReadingRule) where
+module _ (reads : AccessStructure) where
   pub smallest-iff : (g : ℕ) → (isSmallest reads g ≡ true) ↔ Smallest reads g
   unfolding isSmallest
   smallest-iff g = (
@@ -102,7 +102,7 @@ module _ (reads : ReadingRule) where
 
 -- ---- a group without one of its members
 
-module _ (reads : ReadingRule) (g p m : ℕ) (is : m ≡ restrict width (single p)) (l : p < width) (b : Bool)
+module _ (reads : AccessStructure) (g p m : ℕ) (is : m ≡ restrict width (single p)) (l : p < width) (b : Bool)
     (met : b ≡ meets g m) where
   meets-member : b ≡ member p g
   meets-member = met ∙ ap (meets g) (is ∙ restrict-single width p l) ∙ meets-single g p
@@ -121,7 +121,7 @@ module _ (reads : ReadingRule) (g p m : ℕ) (is : m ≡ restrict width (single 
 
 -- ---- member by member
 
-module _ (reads : ReadingRule) (g : ℕ) where
+module _ (reads : AccessStructure) (g : ℕ) where
   pub needs-all : ((p : ℕ) → p < width → readsWithout reads g p ≡ false) → true ≡ needsEach reads g
   unfolding needsEach
   needs-all f = sym (every-true width _ (λ p l. yes-no (f p l)))

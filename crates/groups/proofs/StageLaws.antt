@@ -16,7 +16,7 @@ use Rattle.sheet.proofs.ReaderLaws.{nobody-reads}
 use Rattle.stages.specs.Calls.{unless}
 use Rattle.stages.specs.Internal.Stages.{TableOf}
 use Rattle.groups.specs.declared.readers.Readers.{Readers}
-use Rattle.groups.specs.Smallest.{ReadingRule}
+use Rattle.groups.specs.Smallest.{AccessStructure}
 use Rattle.groups.specs.Answers.{Grouped, refusedGroups, grouped}
 use Rattle.groups.specs.Calls.{groupsFor, groupsRefusal, groupsOn}
 use Rattle.groups.specs.Internal.Readers.{readsBy, readersIn}
@@ -61,7 +61,7 @@ module _ {t : List ℕ} {s : Sheet} (T : TableOf t s) where
       ap (λ (x : List ℕ). readsBy (readersIn x l)) (T .words) ∙ fun-ext (readers-of-label s (T .form) l) in
       let last : everyoneIn t ≡ everyone n = ap everyoneIn (T .words) ∙ everyone-in s (T .form) in
       let top : everyoneIn t + 1 ≡ 2 ^ n = omega (arith, pow-pos n) in
-      ap₂ (λ (reads : ReadingRule) (k : ℕ). smallestUpTo reads k 1) rule top
+      ap₂ (λ (reads : AccessStructure) (k : ℕ). smallestUpTo reads k 1) rule top
       ∙ sym (from-one (λ (g : ℕ). readsNo s g l) n (nobody-reads s (T .form) l))
 
 -- so the list is that of simp_groups on the sheet

@@ -7,14 +7,14 @@ use native.Mathlib.Omega.{arith}
 use lib.ListN.{length}
 use Rattle.logic.proofs.BooleanLaws.{cases}
 use Rattle.sets.proofs.Walks.{by-below}
-use Rattle.groups.specs.Smallest.{ReadingRule}
+use Rattle.groups.specs.Smallest.{AccessStructure}
 use Rattle.groups.specs.Listing.{isSmallest, smallestFrom, smallestOf}
 use Rattle.groups.specs.Internal.Walk.{pastHolders, smallestUpTo}
 use Rattle.groups.proofs.SmallestLaws.{holder-not, silent-not}
 use Rattle.groups.proofs.PastLaws.{past-rises, past-holds}
 use Rattle.groups.proofs.ListLaws.{from-on, from-off, from-over}
 
-module _ (reads : ReadingRule) (end : ℕ) where
+module _ (reads : AccessStructure) (end : ℕ) where
   abbrev left : ℕ → List ℕ
   left from = smallestUpTo reads end from
 
@@ -59,19 +59,19 @@ module _ (reads : ReadingRule) (end : ℕ) where
   walk-past g p r f = left-step g f ∙ left-past g p r
 
 -- of k numbers no more are smallest than k
-length-from : (reads : ReadingRule) (k g : ℕ) → length (smallestFrom reads k g) ≤ k
+length-from : (reads : AccessStructure) (k g : ℕ) → length (smallestFrom reads k g) ≤ k
 length-from reads zero g = rw (from-over reads g) (omega arith)
 length-from reads (suc k) g =
     let i = length-from reads k (suc g) in
     cases (isSmallest reads g) (λ t. rw (from-on reads k g t) (suc-le-suc i))
     (λ f. rw (from-off reads k g f) (omega arith))
 
-pub left-few : (reads : ReadingRule) (end : ℕ) → length (smallestUpTo reads end 1) ≤ end
+pub left-few : (reads : AccessStructure) (end : ℕ) → length (smallestUpTo reads end 1) ≤ end
 unfolding smallestUpTo
 left-few reads end = omega (arith, length-from reads (end - 1) 1)
 
 -- where the empty group doesn't read, the walk begins at 1
-pub from-one : (reads : ReadingRule) (n : ℕ) → reads 0 ≡ false → smallestOf n reads ≡ smallestUpTo reads (2 ^ n) 1
+pub from-one : (reads : AccessStructure) (n : ℕ) → reads 0 ≡ false → smallestOf n reads ≡ smallestUpTo reads (2 ^ n) 1
 unfolding smallestOf smallestUpTo
 from-one reads n f =
     let z : 2 ^ n - 0 ≡ 2 ^ n = omega arith in

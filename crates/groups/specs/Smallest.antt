@@ -8,11 +8,11 @@ use lib.ListN.{length, getD}
 use Rattle.sets.specs.Sets.{within, everyone}
 
 -- A rule of reading, of one label: whether a group reads it.
-abbrev pub ReadingRule : Type 0
-ReadingRule = ℕ → Bool
+abbrev pub AccessStructure : Type 0
+AccessStructure = ℕ → Bool
 
 -- The group reads while none of its proper subsets does.
-pub record Smallest (reads : ReadingRule) (g : ℕ) : Type 0 where
+pub record Smallest (reads : AccessStructure) (g : ℕ) : Type 0 where
   pub itself : reads g ≡ true
   pub no-less : (h : ℕ) → within h g ≡ true → ¬ (h ≡ g) → reads h ≡ false
 
@@ -21,10 +21,10 @@ abbrev pub Listed : ℕ → List ℕ → Type 0
 Listed g gs = (i : ℕ) × (i < length gs) × (getD gs i 0 ≡ g)
 
 -- The list has the smallest groups of n principals: all of them and no other, rising as numbers, so each once.
-pub record ListsSmallest (n : ℕ) (reads : ReadingRule) (gs : List ℕ) : Type 0 where
+pub record ListsSmallest (n : ℕ) (reads : AccessStructure) (gs : List ℕ) : Type 0 where
   pub listed : (g : ℕ) → Listed g gs ↔ ((within g (everyone n) ≡ true) × Smallest reads g)
   pub rising : (i j : ℕ) → i < j → j < length gs → getD gs i 0 < getD gs j 0
 
 -- The rule grows with the group: a group that reads still reads with more members.
-abbrev pub Grows : ReadingRule → Type 0
+abbrev pub Grows : AccessStructure → Type 0
 Grows reads = (g h : ℕ) → within g h ≡ true → reads g ≡ true → reads h ≡ true

@@ -6,22 +6,22 @@ use mathlib.Core.Bool.{true}
 use mathlib.Core.List.{List}
 use Prim.Native.Nat.{ℕ, _<_}
 use Rattle.sets.specs.Sets.{within, single, everyone}
-use Rattle.labels.specs.declared.Reading.the-variants.{Alone}
+use Rattle.labels.specs.declared.Rule.the-variants.{Alone}
 use Rattle.sheet.specs.Sheet.{Sheet, formed}
 use Rattle.sheet.specs.Meaning.{readsNo}
-use Rattle.groups.specs.Smallest.{ReadingRule, Listed, ListsSmallest, Grows}
+use Rattle.groups.specs.Smallest.{AccessStructure, Listed, ListsSmallest, Grows}
 use Rattle.groups.specs.Listing.{smallestOf}
 
 -- The function lists the smallest groups, of any number of principals and by any rule at all; and there is no other
 -- such list.
 pub record GroupsExact : Type 0 where
-  pub lists : (n : ℕ) (reads : ReadingRule) → ListsSmallest n reads (smallestOf n reads)
-  pub no-other : (n : ℕ) (reads : ReadingRule) (gs : List ℕ) → ListsSmallest n reads gs → gs ≡ smallestOf n reads
+  pub lists : (n : ℕ) (reads : AccessStructure) → ListsSmallest n reads (smallestOf n reads)
+  pub no-other : (n : ℕ) (reads : AccessStructure) (gs : List ℕ) → ListsSmallest n reads gs → gs ≡ smallestOf n reads
 
 -- By a rule that grows with the group, the list says who reads: a group of the n principals reads exactly if it holds
 -- a listed one.
 abbrev pub ReadersHoldOne : Type 0
-ReadersHoldOne = (n : ℕ) (reads : ReadingRule) → Grows reads → (gs : List ℕ) → ListsSmallest n reads gs → (g : ℕ)
+ReadersHoldOne = (n : ℕ) (reads : AccessStructure) → Grows reads → (gs : List ℕ) → ListsSmallest n reads gs → (g : ℕ)
     → within g (everyone n) ≡ true
     → (reads g ≡ true) ↔ ((h : ℕ) × Listed h gs × (within h g ≡ true))
 
@@ -32,6 +32,6 @@ ReadingGrows = (s : Sheet) (l : ℕ) → Grows (λ (g : ℕ). readsNo s g l)
 -- Where one reads by himself (request (g)), the smallest groups are the single readers: {p} for each principal p who
 -- reads. There may be none.
 abbrev pub SingleReaders : Type 0
-SingleReaders = (s : Sheet) → formed s ≡ true → s .reading ≡ Alone → (l : ℕ) (gs : List ℕ)
+SingleReaders = (s : Sheet) → formed s ≡ true → s .rule ≡ Alone → (l : ℕ) (gs : List ℕ)
     → ListsSmallest (s .principals) (λ (g : ℕ). readsNo s g l) gs
     → (g : ℕ) → Listed g gs ↔ ((p : ℕ) × (p < s .principals) × (g ≡ single p) × (readsNo s (single p) l ≡ true))

@@ -2,7 +2,7 @@
 ghost use mathlib.Core.Path.{_≡_};
 ghost use Rattle.groups.specs.Internal.Readers.{readsBy, readersIn};
 use labels::OWNERS;
-use labels::Reading;
+use labels::Rule;
 use sets::Set;
 
 // The sets that a group meets if it reads. Pooled: the readers of each owner; a place that has no principal holds
@@ -30,13 +30,13 @@ impl Readers {
 pub(crate) fn readers_of(table: &[sheet::Word], l: u32) -> Readers
     ensures { λ r. ⌜ r ≡ readersIn (now (table .entry)) l ⌝ }
 {
-    match sheet::reading(table) {
-        Reading::Pooled => {
+    match sheet::rule(table) {
+        Rule::Pooled => {
             let label = sheet::label_of(table, l);
             let sets = label.readers;
             Readers { sets }
         }
-        Reading::Alone => Readers {
+        Rule::Alone => Readers {
             sets: [sheet::sole_readers(table, l); OWNERS],
         },
     }

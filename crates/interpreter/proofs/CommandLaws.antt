@@ -13,7 +13,7 @@ use Rattle.language.specs.Evaluation.{Res, ok, long, stuck, eval}
 use Rattle.language.specs.Transition.{branch, branchV, Out, done, spent, over, wrong}
 use Rattle.logic.proofs.BooleanLaws.{both-left, both-right}
 use Rattle.language.proofs.Interpreter.{go, andThen, spend, go-skip, go-seq, go-case, go-while}
-use Rattle.script.specs.Lines.{Line, SourceE, Source, exprLines, cmdLines}
+use Rattle.script.specs.Lines.{ScriptLine, SourceE, Source, exprLines, cmdLines}
 use Rattle.script.specs.Internal.Code.{code, rowAt}
 use Rattle.script.specs.Names.{Counts, named}
 use Rattle.script.specs.declared.Row.{Row}
@@ -39,7 +39,7 @@ use Rattle.evaluator.proofs.EvalLaws.{moved, operand, held-after}
 use Rattle.interpreter.proofs.ExecLaws.{ticked-then, ends-there, goes-on}
 
 -- the row that was read is that of the command
-cmd-row-of : {p : Place} {row : Row} {k : Counts} {rest : List Line} {c : Cmd} (kind : ℕ)
+cmd-row-of : {p : Place} {row : Row} {k : Counts} {rest : List ScriptLine} {c : Cmd} (kind : ℕ)
     → row ≡ rowAt (p .code) (p .at) → row .kind ≡ kind
     → CmdAt p k rest c → CmdRow (p .code) (p .at) rest kind (row .a) (row .b) c
 cmd-row-of {p} {rest = rest} {c = c} kind r q x = row-of (p .code) (p .at) command c rest r q (x .source) (x .lines)
@@ -57,14 +57,14 @@ inside p n cells = record { code = p .code; at = n; depth = suc (p .depth); cell
 
 -- what `Execs` says, by that run
 module _ {S : Setting} {p : Place} {fuel : ℕ} {d : Stepped} {cells : List ℕ} where
-  runs : Execs S p fuel d cells → (C : Context) (M : Mem) (c : Cmd) (rest : List Line) → StandsFor S p C M
+  runs : Execs S p fuel d cells → (C : Context) (M : Mem) (c : Cmd) (rest : List ScriptLine) → StandsFor S p C M
       → CmdAt p (C .counts) rest c
       → Finishes (target p C rest) d cells (ran C c M fuel)
   unfolding go
   runs x C M c rest held here = x .means C M c rest held here
 
   by-runs : p .at ≤ d .next → d .left ≤ fuel
-      → ((C : Context) (M : Mem) (c : Cmd) (rest : List Line) → StandsFor S p C M → CmdAt p (C .counts) rest c
+      → ((C : Context) (M : Mem) (c : Cmd) (rest : List ScriptLine) → StandsFor S p C M → CmdAt p (C .counts) rest c
       → Finishes (target p C rest) d cells (ran C c M fuel))
       → Execs S p fuel d cells
   unfolding go
@@ -93,7 +93,7 @@ chosen-is l r (suc b) (ok blank) = refl
 chosen-is l r (suc b) long = refl
 chosen-is l r (suc b) stuck = refl
 
-module _ {t : Target} {g : Decided} {ws : List ℕ} {mid : List Line} {seen : List ℕ} (l : Value → ℕ → Out) where
+module _ {t : Target} {g : Decided} {ws : List ℕ} {mid : List ScriptLine} {seen : List ℕ} (l : Value → ℕ → Out) where
   -- a guard that doesn't go on
   stops : {M : Mem} {c : Choice} {cells : List ℕ} (next : ℕ) → g .on ≡ false → Chooses ws mid g seen c
       → CellsHold cells (t .locations) (t .depth) M (t .env)
@@ -129,7 +129,7 @@ module _ {ws : List ℕ} {at body last : ℕ} where
   stops-after (past-body k) b l = omega (arith, k .forward)
   stops-after (at-last f) b l = l
 
-  stops-at : (c : Cmd) (rest : List Line) {end : ℕ} → Stops ws at body last end → Source c
+  stops-at : (c : Cmd) (rest : List ScriptLine) {end : ℕ} → Stops ws at body last end → Source c
       → ((last ≡ at → ⊥) → drop last ws ≡ code rest)
       → drop body ws ≡ code (cmdLines c rest) → drop end ws ≡ code rest
   stops-at c rest (past-body k) s l b = k .means _ _ (a-command s) b
@@ -139,7 +139,8 @@ module _ {ws : List ℕ} {at body last : ℕ} where
 pub record Rounds (S : Setting) (p : Place) (fuel last : ℕ) (d : Stepped) (cells : List ℕ) : Type 0 where
   pub forward : p .at ≤ d .next
   pub spends : d .left ≤ fuel
-  pub means : (C : Context) (M : Mem) (c : Cmd) (rest : List Line) → StandsFor S p C M → CmdAt p (C .counts) rest c
+  pub means : (C : Context) (M : Mem) (c : Cmd) (rest : List ScriptLine) → StandsFor S p C M
+      → CmdAt p (C .counts) rest c
       → ((last ≡ p .at → ⊥) → drop last (p .code) ≡ code rest) → Finishes (target p C rest) d cells (ran C c M fuel)
 
 module _ {S : Setting} {p : Place} {fuel : ℕ} {d : Stepped} {cells : List ℕ} where
@@ -166,14 +167,14 @@ module _ {S : Setting} (p : Place) {C : Context} {M : Mem} (held : StandsFor S p
   operand-held : StandsFor S (operand p) C M
   operand-held = held-after held refl refl
 
-  skip-case : {fuel : ℕ} {rest : List Line} {a b : ℕ} {c : Cmd} → CmdRow (p .code) (p .at) rest 1 a b c
+  skip-case : {fuel : ℕ} {rest : List ScriptLine} {a b : ℕ} {c : Cmd} → CmdRow (p .code) (p .at) rest 1 a b c
       → Finishes (target p C rest) (record { state = Done; left = fuel; next = p .at + 3 }) (p .cells) (ran C c M fuel)
   unfolding stateNumber
   skip-case {fuel} (at-skip h) = rw (go-skip (C .world) (C .env) M fuel) (finish-done refl refl (held .cells) h)
 
   -- a command that stands after the line of `;`
   module _ {fuel : ℕ} {d t : Stepped} {cells : List ℕ} (x : Execs S (operand p) fuel d cells) (y : Ticks d t) where
-    first-ends : (c d : Cmd) (rest : List Line) → Source c → named (C .counts) (p .depth) c ≡ true
+    first-ends : (c d : Cmd) (rest : List ScriptLine) → Source c → named (C .counts) (p .depth) c ≡ true
         → drop (p .at + 3) (p .code) ≡ code (cmdLines c (cmdLines d rest))
         → Finishes (target p C (cmdLines d rest)) t cells (ticked (ran C c M fuel))
     first-ends c d rest s n h =
@@ -182,14 +183,14 @@ module _ {S : Setting} (p : Place) {C : Context} {M : Mem} (held : StandsFor S p
     seq-is : (c d : Cmd) → ran C (seq c d) M fuel ≡ andThen (ticked (ran C c M fuel)) (λ M′ b. ran C d M′ b)
     seq-is c d = go-seq (C .world) (C .env) M c d fuel ∙ ticked-then (ran C c M fuel) (λ M′ b. ran C d M′ b)
 
-    seq-end-case : {rest : List Line} {a b : ℕ} {c : Cmd} → CmdRow (p .code) (p .at) rest 2 a b c
+    seq-end-case : {rest : List ScriptLine} {a b : ℕ} {c : Cmd} → CmdRow (p .code) (p .at) rest 2 a b c
         → named (C .counts) (p .depth) c ≡ true
         → (stateNumber (t .state) ≡ 0 → ⊥) → Finishes (target p C rest) t cells (ran C c M fuel)
     unfolding named
     seq-end-case {rest} (at-seq {c = c} {d = d} s r h) n z =
         rw (seq-is c d) (ends-there (λ M′ b. ran C d M′ b) (t .next) z (first-ends c d rest s (both-left _ _ n) h))
 
-    seq-case : {rest : List Line} {a b : ℕ} {c : Cmd} {r : Stepped} {cells′ : List ℕ}
+    seq-case : {rest : List ScriptLine} {a b : ℕ} {c : Cmd} {r : Stepped} {cells′ : List ℕ}
         → CmdRow (p .code) (p .at) rest 2 a b c
         → named (C .counts) (p .depth) c ≡ true → stateNumber (t .state) ≡ 0
         → Execs S (moved p (t .next) cells) (t .left) r cells′
@@ -201,7 +202,7 @@ module _ {S : Setting} (p : Place) {C : Context} {M : Mem} (held : StandsFor S p
         (λ M′ held′ q. runs u C M′ d rest (record { tells = held .tells; labels = held .labels; cells = held′ })
         (record { source = s′; names = both-right _ _ n; lines = q })))
 
-  assign-case : {fuel : ℕ} {rest : List Line} {a b : ℕ} {c : Cmd} {d : Stepped} {cells : List ℕ}
+  assign-case : {fuel : ℕ} {rest : List ScriptLine} {a b : ℕ} {c : Cmd} {d : Stepped} {cells : List ℕ}
       → CmdRow (p .code) (p .at) rest 3 a b c → named (C .counts) (p .depth) c ≡ true
       → Assigns S (operand p) fuel a d cells → Finishes (target p C rest) d cells (ran C c M fuel)
   unfolding named go
@@ -221,7 +222,7 @@ module _ {S : Setting} (p : Place) {C : Context} {M : Mem} (held : StandsFor S p
     while-is e c = go-while (C .world) (C .env) M e c fuel
         ∙ chosen-is (round e c) (λ v b. done M b) fuel (eval (C .world) (C .env) M e)
 
-    module _ (e : Expr) (c : Cmd) (rest : List Line) (s : SourceE e) (r : Source c)
+    module _ (e : Expr) (c : Cmd) (rest : List ScriptLine) (s : SourceE e) (r : Source c)
         (n : named (C .counts) (p .depth) (while e c) ≡ true)
         (h : drop (p .at + 3) (p .code) ≡ code (exprLines e (cmdLines c rest))) where
       guard-chooses : Chooses (p .code) (cmdLines c rest) g cells (choice fuel (eval (C .world) (C .env) M e))
@@ -256,7 +257,8 @@ module _ {S : Setting} (p : Place) {C : Context} {M : Mem} (held : StandsFor S p
             u .means C M′ (while e c) rest (record { tells = held .tells; labels = held .labels; cells = held′ })
             (record { source = here .source; names = here .names; lines = here .lines }) (λ f. q)))
 
-    while-stop-case : {rest : List Line} {a b : ℕ} {c : Cmd} {last end : ℕ} → CmdRow (p .code) (p .at) rest 4 a b c
+    while-stop-case : {rest : List ScriptLine} {a b : ℕ} {c : Cmd} {last end : ℕ}
+        → CmdRow (p .code) (p .at) rest 4 a b c
         → named (C .counts) (p .depth) c ≡ true
         → g .on ≡ false → Stops (p .code) (p .at) (g .next) last end
         → ((last ≡ p .at → ⊥) → drop last (p .code) ≡ code rest)
@@ -268,7 +270,7 @@ module _ {S : Setting} (p : Place) {C : Context} {M : Mem} (held : StandsFor S p
 
     module _ {d t : Stepped} {cells′ : List ℕ} (o : g .on ≡ true)
         (x : Execs S (moved p (g .next) cells) (g .left) d cells′) (y′ : Ticks d t) where
-      while-end-case : {rest : List Line} {a b : ℕ} {c : Cmd} → CmdRow (p .code) (p .at) rest 4 a b c
+      while-end-case : {rest : List ScriptLine} {a b : ℕ} {c : Cmd} → CmdRow (p .code) (p .at) rest 4 a b c
           → named (C .counts) (p .depth) c ≡ true
           → (stateNumber (t .state) ≡ 0 → ⊥) → Finishes (target p C rest) t cells′ (ran C c M fuel)
       while-end-case {rest} (at-while {e = e} {c = c} s r h) n z =
@@ -276,7 +278,7 @@ module _ {S : Setting} (p : Place) {C : Context} {M : Mem} (held : StandsFor S p
           (turns-on (round e c) (λ v b. done M b) (y .settled o) o (guard-chooses e c rest s r n h)
           (λ v b. round-stops e c rest s r n h x y′ b v z))
 
-      while-again-case : {rest : List Line} {a b : ℕ} {c : Cmd} {u : Stepped} {cells″ : List ℕ}
+      while-again-case : {rest : List ScriptLine} {a b : ℕ} {c : Cmd} {u : Stepped} {cells″ : List ℕ}
           → CmdRow (p .code) (p .at) rest 4 a b c
           → CmdAt p (C .counts) rest c → stateNumber (t .state) ≡ 0
           → Rounds S (moved p (p .at) cells′) (t .left) (t .next) u cells″
@@ -295,7 +297,7 @@ module _ {S : Setting} (p : Place) {C : Context} {M : Mem} (held : StandsFor S p
         go-case (C .world) (C .env) M e c d fuel
         ∙ chosen-is (λ v b. ran (bound C v) c M b) (λ v b. ran (bound C v) d M b) fuel (eval (C .world) (C .env) M e)
 
-    enters : (rest : List Line) {e : Expr} {c d : Cmd} → SourceE e → Source c
+    enters : (rest : List ScriptLine) {e : Expr} {c d : Cmd} → SourceE e → Source c
         → named (C .counts) (p .depth) (case e c d) ≡ true
         → drop (p .at + 3) (p .code) ≡ code (exprLines e (cmdLines c (cmdLines d rest)))
         → Enters (target p C rest) M (record { on-left = c; on-right = d }) t cells
@@ -316,7 +318,7 @@ module _ {S : Setting} (p : Place) {C : Context} {M : Mem} (held : StandsFor S p
     case-end-at l r at z (enters-long s f) = finish-over s f
     case-end-at l r at z enters-stuck = finish-wrong
 
-    case-end-case : {rest : List Line} {a b : ℕ} {c : Cmd} → CmdRow (p .code) (p .at) rest 5 a b c
+    case-end-case : {rest : List ScriptLine} {a b : ℕ} {c : Cmd} → CmdRow (p .code) (p .at) rest 5 a b c
         → named (C .counts) (p .depth) c ≡ true
         → (stateNumber (t .state) ≡ 0 → ⊥)
         → Finishes (target p C rest) (record { state = t .state; left = t .left; next = p .at }) cells (ran C c M fuel)
@@ -325,7 +327,7 @@ module _ {S : Setting} (p : Place) {C : Context} {M : Mem} (held : StandsFor S p
 
     module _ {d : Stepped} {cells′ : List ℕ} (x : Execs S (inside p (t .start) cells) (t .left) d cells′) where
       -- the branch's run, seen from outside of the case
-      leaves : {rest mid : List Line} {v : Value} {o : Out} {end : ℕ}
+      leaves : {rest mid : List ScriptLine} {v : Value} {o : Out} {end : ℕ}
           → (drop (d .next) (p .code) ≡ code mid → drop end (p .code) ≡ code rest)
           → Finishes (target (inside p (t .start) cells) (bound C v) mid) d cells′ o
           → Finishes (target p C rest) (record { state = d .state; left = d .left; next = end }) cells′ o
@@ -335,7 +337,8 @@ module _ {S : Setting} (p : Place) {C : Context} {M : Mem} (held : StandsFor S p
       leaves e finish-wrong = finish-wrong
 
       -- a branch is run
-      branch-runs : {rest : List Line} {end : ℕ} (v : Value) (c : Cmd) (mid : List Line) (b : ℕ) → t .left ≡ b
+      branch-runs : {rest : List ScriptLine} {end : ℕ} (v : Value) (c : Cmd) (mid : List ScriptLine) (b : ℕ)
+          → t .left ≡ b
           → Source c → named (C .counts) (suc (p .depth)) c ≡ true
           → CellsHold cells (C .counts .locations) (suc (p .depth)) M (v ∷ C .env)
           → drop (t .start) (p .code) ≡ code (cmdLines c mid)
@@ -348,7 +351,7 @@ module _ {S : Setting} (p : Place) {C : Context} {M : Mem} (held : StandsFor S p
           (leaves e (runs x (bound C v) M c mid (record { tells = held .tells; labels = held .labels; cells = b′ })
           (record { source = s; names = n; lines = h })))
 
-      case-at : {rest : List Line} {cs : Branching} {c : Choice} {on : Bool} {end : ℕ} → Source (cs .on-left)
+      case-at : {rest : List ScriptLine} {cs : Branching} {c : Choice} {on : Bool} {end : ℕ} → Source (cs .on-left)
           → Source (cs .on-right)
           → named (C .counts) (suc (p .depth)) (cs .on-left) ≡ true
           → named (C .counts) (suc (p .depth)) (cs .on-right) ≡ true
@@ -366,7 +369,8 @@ module _ {S : Setting} (p : Place) {C : Context} {M : Mem} (held : StandsFor S p
       case-at s s′ n n′ z i k (enters-long q f) = absurd (omega arith)
       case-at s s′ n n′ z i k enters-stuck = finish-wrong
 
-      case-case : {rest : List Line} {a b : ℕ} {c : Cmd} {on : Bool} {end : ℕ} → CmdRow (p .code) (p .at) rest 5 a b c
+      case-case : {rest : List ScriptLine} {a b : ℕ} {c : Cmd} {on : Bool} {end : ℕ}
+          → CmdRow (p .code) (p .at) rest 5 a b c
           → named (C .counts) (p .depth) c ≡ true
           → stateNumber (t .state) ≡ 0 → t .on ≡ on → Ends (p .code) (d .next) on end
           → Finishes (target p C rest) (record { state = d .state; left = d .left; next = end }) cells′ (ran C c M fuel)

@@ -11,7 +11,7 @@ use Rattle.language.specs.Substitution.{update}
 use Rattle.language.specs.Evaluation.{Res, ok, long, stuck, eval}
 use Rattle.language.specs.Transition.{Out, done, spent, over, wrong}
 use Rattle.language.proofs.Interpreter.{go, andThen, spend, assigned, go-assign}
-use Rattle.script.specs.Lines.{Line, Source, cmdLines}
+use Rattle.script.specs.Lines.{ScriptLine, Source, cmdLines}
 use Rattle.script.specs.Internal.Code.{code}
 use Rattle.script.specs.Internal.Pieces.{a-command}
 use Rattle.script.specs.Names.{maxDepth}
@@ -143,7 +143,7 @@ assign-done-at g x v (suc b) stuck f z a l held n e = finish-wrong
 
 module _ {S : Setting} {p : Place} {fuel x : ℕ} where
   assign-by : {d : Stepped} {cells : List ℕ} → p .at ≤ d .next → d .left ≤ fuel
-      → ((C : Context) (M : Mem) (e : Expr) (rest : List Line) → StandsFor S p C M → ExprAt p (C .counts) rest e
+      → ((C : Context) (M : Mem) (e : Expr) (rest : List ScriptLine) → StandsFor S p C M → ExprAt p (C .counts) rest e
       → x < C .counts .locations
       → Finishes (target p C rest) d cells (assignedTo M x fuel (eval (C .world) (C .env) M e)))
       → Assigns S p fuel x d cells
@@ -179,7 +179,8 @@ module _ {S : Setting} {p : Place} {fuel x : ℕ} where
 
 -- ---- decide
 
-decide-fail-at : {ws : List ℕ} {rest : List Line} {s : State} {cells : List ℕ} (at fuel : ℕ) (r : Res) → (fuel ≡ 0 → ⊥)
+decide-fail-at : {ws : List ℕ} {rest : List ScriptLine} {s : State} {cells : List ℕ} (at fuel : ℕ) (r : Res)
+    → (fuel ≡ 0 → ⊥)
     → (stateNumber s ≡ 0 → ⊥)
     → Yields r (stateNumber s) (cellOf cells accumulator)
     → Chooses ws rest (record { state = s; left = fuel; next = at; on = false }) cells (choice fuel r)
@@ -228,7 +229,7 @@ pub data Side : ℕ → Bool → Type 0 where
   side-left : Side 3 true
   side-right : Side 4 false
 
-module _ {ws : List ℕ} {rest : List Line} {cells : List ℕ} where
+module _ {ws : List ℕ} {rest : List ScriptLine} {cells : List ℕ} where
   chooses-side : {next b : ℕ} (v : Value) {n : ℕ} {on : Bool} → Side n on → Kind n v → cellOf cells accumulator ≡ cell v
       → drop next ws ≡ code rest
       → Chooses ws rest (record { state = Done; left = b; next = next; on = on }) cells (choiceV b v)
@@ -248,7 +249,7 @@ module _ {ws : List ℕ} {rest : List Line} {cells : List ℕ} where
   chooses-none b v is-blank n3 n4 = is-stuck
 
 -- a decision, by the value that was found
-decided : {ws : List ℕ} {rest : List Line} {g : Decided} (v : Result) (fuel : ℕ) (r : Res) → (fuel ≡ 0 → ⊥)
+decided : {ws : List ℕ} {rest : List ScriptLine} {g : Decided} (v : Result) (fuel : ℕ) (r : Res) → (fuel ≡ 0 → ⊥)
     → v .state ≡ 0 → Gives r v
     → ((b : ℕ) (u : Value) → fuel ≡ suc b → cellOf (v .cells) accumulator ≡ cell u
     → Chooses ws rest g (v .cells) (choiceV b u))
@@ -307,7 +308,8 @@ starts-after : {ws : List ℕ} {first start : ℕ} {on : Bool} → Starts ws fir
 starts-after at-first = omega arith
 starts-after (at-second k) = k .forward
 
-module _ {t : Target} {M : Mem} {cs : Branching} {g : Decided} {ws : List ℕ} {mid : List Line} {cells : List ℕ} where
+module _ {t : Target} {M : Mem} {cs : Branching} {g : Decided} {ws : List ℕ} {mid : List ScriptLine}
+    {cells : List ℕ} where
   enters-past : {c : Choice} (at : ℕ) → (stateNumber (g .state) ≡ 0 → ⊥) → Chooses ws mid g cells c
       → Enters t M cs (record { state = g .state; left = g .left; start = at; on = false }) cells c
   enters-past at z (goes-left s l o e n) = absurd (z s)

@@ -10,18 +10,18 @@ use Rattle.sets.proofs.Walks.{every-true, every-at, any-true, any-at}
 use Rattle.sets.proofs.SetLaws.{member-empty, within-elim, meets-mono, meets-grows, meets-intro, meets-elim}
 use Rattle.sets.proofs.SetLaws.{member-single, member-single-self}
 use Rattle.labels.specs.declared.Label.{Label}
-use Rattle.labels.specs.declared.Reading.{Reading}
-use Rattle.labels.specs.declared.Reading.the-variants.{Pooled, Alone}
-use Rattle.labels.specs.Labels.{owners, readersOf, writersOf, belowOf, confidentialityOf, integrityOf, readsOf}
-use Rattle.labels.specs.Labels.{writesOf, readsAloneOf, readsUnder}
+use Rattle.labels.specs.declared.Rule.{Rule}
+use Rattle.labels.specs.declared.Rule.the-variants.{Pooled, Alone}
+use Rattle.labels.specs.Labels.{owners, readersOf, writersOf, belowOf, confidentialityOf, integrityOf}
+use Rattle.labels.specs.Labels.{readsPooledOf, writesOf, readsAloneOf, readsUnder}
 use Rattle.labels.specs.Lattice.{EmptyGroups, ClosedBelow, ReadingDownward, ReadsBelow, TwoRules}
 use Rattle.labels.proofs.OrderLaws.{below-at}
 use Rattle.labels.proofs.PartLaws.{C-mono}
 
 -- who reads a label reads every label below it
-pub reads-down : (n : ℕ) → n ≤ owners → (g : ℕ) (a b : Label) → belowOf a b ≡ true → readsOf n g b ≡ true
-    → readsOf n g a ≡ true
-unfolding readsOf
+pub reads-down : (n : ℕ) → n ≤ owners → (g : ℕ) (a b : Label) → belowOf a b ≡ true → readsPooledOf n g b ≡ true
+    → readsPooledOf n g a ≡ true
+unfolding readsPooledOf
 reads-down n e g a b h r =
     every-true n _ (λ o l.
     meets-mono g (readersOf b o) (readersOf a o) (below-at a b h o (lt-of-lt-of-le l e) .0) (every-at n _ r o l))
@@ -37,8 +37,9 @@ writes-up n e g a b h w =
 -- reading depends on C alone, writing on I alone: who reads B reads A where C(A) ≤ C(B), and who writes A writes B
 -- where I(A) ≤ I(B)
 pub reads-down-C : (n : ℕ) → n ≤ owners → (g : ℕ) (a b : Label)
-    → belowOf (confidentialityOf a) (confidentialityOf b) ≡ true → readsOf n g b ≡ true → readsOf n g a ≡ true
-unfolding readsOf confidentialityOf
+    → belowOf (confidentialityOf a) (confidentialityOf b) ≡ true → readsPooledOf n g b ≡ true
+    → readsPooledOf n g a ≡ true
+unfolding readsPooledOf confidentialityOf
 reads-down-C n e g a b h r = reads-down n e g (confidentialityOf a) (confidentialityOf b) h r
 
 pub writes-up-I : (n : ℕ) → n ≤ owners → (g all : ℕ) (a b : Label)
@@ -47,13 +48,14 @@ unfolding writesOf integrityOf
 writes-up-I n e g all a b h w = writes-up n e g (integrityOf all a) (integrityOf all b) h w
 
 -- a group that reads still reads with more members
-pub reads-grow : (n : ℕ) (a : Label) (g h : ℕ) → within g h ≡ true → readsOf n g a ≡ true → readsOf n h a ≡ true
-unfolding readsOf
+pub reads-grow : (n : ℕ) (a : Label) (g h : ℕ) → within g h ≡ true → readsPooledOf n g a ≡ true
+    → readsPooledOf n h a ≡ true
+unfolding readsPooledOf
 reads-grow n a g h w r = every-true n _ (λ o l. meets-grows g h (readersOf a o) w (every-at n _ r o l))
 
 -- the empty group reads nothing and writes nothing
 pub empty-groups : EmptyGroups
-unfolding readsOf writesOf every meets both
+unfolding readsPooledOf writesOf every meets both
 empty-groups zero h a = absurd (not-suc-le-zero h)
 empty-groups (suc n) h a = (refl, refl)
 
@@ -98,8 +100,8 @@ alone-down-C n e g a b h r = alone-down n e g (confidentialityOf a) (confidentia
 
 -- a member by himself
 alone-one : (n g : ℕ) (a : Label) → readsAloneOf n g a ≡ true
-    → (p : ℕ) × (p < width) × (member p g ≡ true) × (readsOf n (single p) a ≡ true)
-unfolding readsOf
+    → (p : ℕ) × (p < width) × (member p g ≡ true) × (readsPooledOf n (single p) a ≡ true)
+unfolding readsPooledOf
 alone-one n g a r =
     let (p, k) = alone-member n g a r in (
       p,
@@ -108,9 +110,9 @@ alone-one n g a r =
       every-true n _ (λ o l. meets-intro (single p) (readersOf a o) p (member-single-self p) (k .each o l)),
     )
 
-one-alone : (n g : ℕ) (a : Label) (p : ℕ) → p < width → member p g ≡ true → readsOf n (single p) a ≡ true
+one-alone : (n g : ℕ) (a : Label) (p : ℕ) → p < width → member p g ≡ true → readsPooledOf n (single p) a ≡ true
     → readsAloneOf n g a ≡ true
-unfolding readsOf
+unfolding readsPooledOf
 one-alone n g a p l m r =
     member-alone n g a p (record {
       low = l;
@@ -119,8 +121,8 @@ one-alone n g a p l m r =
           rw (← member-single q p i) j;
     })
 
-alone-pooled : (n g : ℕ) (a : Label) → readsAloneOf n g a ≡ true → readsOf n g a ≡ true
-unfolding readsOf
+alone-pooled : (n g : ℕ) (a : Label) → readsAloneOf n g a ≡ true → readsPooledOf n g a ≡ true
+unfolding readsPooledOf
 alone-pooled n g a r =
     let (p, k) = alone-member n g a r in
     every-true n _ (λ o l. meets-intro g (readersOf a o) p (k .among) (k .each o l))
@@ -138,13 +140,13 @@ reading-downward Alone n e g a b h r = alone-down-C n e g a b h r
 pub reads-below : ReadsBelow
 reads-below rule n e g = closed-below (readsUnder rule n g) (reading-downward rule n e g)
 
-pub rule-grows : (rule : Reading) (n : ℕ) (a : Label) (g h : ℕ) → within g h ≡ true → readsUnder rule n g a ≡ true
+pub rule-grows : (rule : Rule) (n : ℕ) (a : Label) (g h : ℕ) → within g h ≡ true → readsUnder rule n g a ≡ true
     → readsUnder rule n h a ≡ true
 unfolding readsUnder
 rule-grows Pooled n a g h w r = reads-grow n a g h w r
 rule-grows Alone n a g h w r = alone-grow n a g h w r
 
-empty-reads : (rule : Reading) (n : ℕ) → 1 ≤ n → (a : Label) → readsUnder rule n 0 a ≡ false
+empty-reads : (rule : Rule) (n : ℕ) → 1 ≤ n → (a : Label) → readsUnder rule n 0 a ≡ false
 unfolding readsUnder
 empty-reads Pooled n h a = empty-groups n h a .0
 empty-reads Alone n h a = not-so _ (λ r. let (p, k) = alone-member n 0 a r in fails (member-empty p) (k .among))

@@ -9,8 +9,8 @@ use lib.ListN.{length, getD, replicate, set}
 use Rattle.logic.specs.Booleans.{both}
 use Rattle.sets.specs.Sets.{width, member, union, intersection, within, meets, single, everyone, every, any, tab}
 use Rattle.labels.specs.declared.Label.{Label}
-use Rattle.labels.specs.declared.Reading.{Reading}
-use Rattle.labels.specs.declared.Reading.the-variants.{Pooled, Alone}
+use Rattle.labels.specs.declared.Rule.{Rule}
+use Rattle.labels.specs.declared.Rule.the-variants.{Pooled, Alone}
 
 -- the number of owners that a label has room for
 abbrev pub owners : ℕ
@@ -115,22 +115,22 @@ topOf n = record { readers = tab owners (closedAt n); writers = tab owners (open
 -- ---- reading and writing
 
 -- a group reads A, by the scope's rule: for every owner below n it holds at least one effective reader
-unfoldable pub readsOf : ℕ → ℕ → Label → Bool
-readsOf n g a = every n (λ (o : ℕ). meets g (readersOf a o))
+unfoldable pub readsPooledOf : ℕ → ℕ → Label → Bool
+readsPooledOf n g a = every n (λ (o : ℕ). meets g (readersOf a o))
 
 -- a group writes A: likewise over writers
 unfoldable pub writesOf : ℕ → ℕ → Label → Bool
 writesOf n g a = every n (λ (o : ℕ). meets g (writersOf a o))
 
--- ---- the rule of reading (request (g)), the enum `Reading` in src/lib.rt: `Pooled`, as above, or `Alone`
+-- ---- the rule of reading (request (g)), the enum `Rule` in src/lib.rt: `Pooled`, as above, or `Alone`
 
 -- a group reads A alone: one of its members is by himself an effective reader for every owner below n
 unfoldable pub readsAloneOf : ℕ → ℕ → Label → Bool
 readsAloneOf n g a = any width (λ (p : ℕ). both (member p g) (every n (λ (o : ℕ). member p (readersOf a o))))
 
 -- a group reads A, by the rule
-unfoldable pub readsUnder : Reading → ℕ → ℕ → Label → Bool
-readsUnder Pooled n g a = readsOf n g a
+unfoldable pub readsUnder : Rule → ℕ → ℕ → Label → Bool
+readsUnder Pooled n g a = readsPooledOf n g a
 readsUnder Alone n g a = readsAloneOf n g a
 
 -- ---- effective labels

@@ -15,9 +15,9 @@ use Prim.Native.Nat.{ℕ, _≤_, _<_}
 use Rattle.logic.specs.Booleans.{both}
 use Rattle.sets.specs.Sets.{width, member, single, everyone}
 use Rattle.labels.specs.declared.Label.{Label}
-use Rattle.labels.specs.declared.Reading.{Reading}
+use Rattle.labels.specs.declared.Rule.{Rule}
 use Rattle.labels.specs.Labels.{owners, Policy, labelOf, policiesOn, belowOf, joinOf, confidentialityOf}
-use Rattle.labels.specs.Labels.{integrityOf, bottomOf, topOf, readsOf, writesOf, readsAloneOf, readsUnder}
+use Rattle.labels.specs.Labels.{integrityOf, bottomOf, topOf, readsPooledOf, writesOf, readsAloneOf, readsUnder}
 use Rattle.labels.specs.Labels.{effective}
 
 pub record SecurityLattice (n : ℕ) : Type 0 where
@@ -50,7 +50,7 @@ pub record SecurityLattice (n : ℕ) : Type 0 where
   -- reading by the scope's rule depends on C and goes down (by both rules: ReadingDownward); writing depends on I and
   -- goes up
   pub reads-down : (g : ℕ) (a b : Label) → belowOf (confidentialityOf a) (confidentialityOf b) ≡ true
-      → readsOf n g b ≡ true → readsOf n g a ≡ true
+      → readsPooledOf n g b ≡ true → readsPooledOf n g a ≡ true
   pub writes-up : (g : ℕ) (a b : Label)
       → belowOf (integrityOf (everyone n) a) (integrityOf (everyone n) b) ≡ true → writesOf n g a ≡ true
       → writesOf n g b ≡ true
@@ -71,7 +71,7 @@ OneLabel = (a b : Label) → effective 1 a ≡ true → effective 1 b ≡ true �
 -- where there is a principal, the empty group reads nothing by the scope's rule (by both rules: TwoRules), and writes
 -- nothing
 abbrev pub EmptyGroups : Type 0
-EmptyGroups = (n : ℕ) → 1 ≤ n → (a : Label) → (readsOf n 0 a ≡ false) × (writesOf n 0 a ≡ false)
+EmptyGroups = (n : ℕ) → 1 ≤ n → (a : Label) → (readsPooledOf n 0 a ≡ false) × (writesOf n 0 a ≡ false)
 
 -- ---- both rules of reading (request (g))
 
@@ -89,23 +89,24 @@ ClosedBelow =
 -- Every group reads so, by both rules. What the view promises rests on this and on nothing else about reading
 -- (simp/ReadingRules).
 abbrev pub ReadingDownward : Type 0
-ReadingDownward = (rule : Reading) (n : ℕ) → n ≤ owners → (g : ℕ) → DownwardClosed (readsUnder rule n g)
+ReadingDownward = (rule : Rule) (n : ℕ) → n ≤ owners → (g : ℕ) → DownwardClosed (readsUnder rule n g)
 
 -- Request (g)'s own sentence: who reads a label reads every label below it, by both rules, of up to 16 principals.
 abbrev pub ReadsBelow : Type 0
-ReadsBelow = (rule : Reading) (n : ℕ) → n ≤ owners → (g : ℕ) (a b : Label)
+ReadsBelow = (rule : Rule) (n : ℕ) → n ≤ owners → (g : ℕ) (a b : Label)
     → belowOf a b ≡ true → readsUnder rule n g b ≡ true → readsUnder rule n g a ≡ true
 
 -- The rules compared.
 pub record TwoRules : Type 0 where
   -- a group reads alone exactly if one of its members, as a group of one, reads by the scope's rule
   pub one-reader : (n g : ℕ) (a : Label)
-      → (readsAloneOf n g a ≡ true) ↔ ((p : ℕ) × (p < width) × (member p g ≡ true) × (readsOf n (single p) a ≡ true))
+      → (readsAloneOf n g a ≡ true)
+      ↔ ((p : ℕ) × (p < width) × (member p g ≡ true) × (readsPooledOf n (single p) a ≡ true))
   -- so it reads no more than by the scope's rule, and a group of one as much
-  pub no-more : (n g : ℕ) (a : Label) → readsAloneOf n g a ≡ true → readsOf n g a ≡ true
-  pub of-one : (n p : ℕ) → p < width → (a : Label) → readsAloneOf n (single p) a ≡ readsOf n (single p) a
+  pub no-more : (n g : ℕ) (a : Label) → readsAloneOf n g a ≡ true → readsPooledOf n g a ≡ true
+  pub of-one : (n p : ℕ) → p < width → (a : Label) → readsAloneOf n (single p) a ≡ readsPooledOf n (single p) a
   -- where there is a principal, the empty group reads nothing by either
-  pub of-none : (rule : Reading) (n : ℕ) → 1 ≤ n → (a : Label) → readsUnder rule n 0 a ≡ false
+  pub of-none : (rule : Rule) (n : ℕ) → 1 ≤ n → (a : Label) → readsUnder rule n 0 a ≡ false
 
 -- the label of policies that name only the n principals is effective
 abbrev pub PoliciesEffective : Type 0

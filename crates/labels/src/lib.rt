@@ -6,7 +6,7 @@ ghost use lib.ListN.{length, getD};
 ghost use lib.Seq.{paste};
 ghost use Rattle.sets.specs.Sets.{within, meets, every};
 ghost use Rattle.labels.specs.Labels.{owners, openOf, policyOf, belowOf, joinOf, confidentialityOf, integrityOf};
-ghost use Rattle.labels.specs.Labels.{bottomOf, readsOf, writesOf};
+ghost use Rattle.labels.specs.Labels.{bottomOf, readsPooledOf, writesOf};
 ghost use Rattle.labels.specs.Internal.Tables.{labelSize, setsAt, labelAt, labelPut};
 ghost use Rattle.labels.specs.Internal.Sole.{commonOf, soleReadersOf};
 use sets::Set;
@@ -19,7 +19,7 @@ pub const LABEL_SIZE: usize = 2 * OWNERS;
 
 // The rule of reading: for each owner one of a group's members is a reader, or one of its members is a reader for every
 // owner.
-pub enum Reading {
+pub enum Rule {
     Pooled,
     Alone,
 }
@@ -149,8 +149,8 @@ impl Label {
     }
 
     // Whether a group holds a reader for each owner below n.
-    pub fn reads(self, n: usize, group: Set) -> bool
-        ensures { λ r. ⌜ r ≡ readsOf n group self ⌝ }
+    pub fn reads_pooled(self, n: usize, group: Set) -> bool
+        ensures { λ r. ⌜ r ≡ readsPooledOf n group self ⌝ }
     {
         let readers = self.readers;
         meets_each(readers, n, group)

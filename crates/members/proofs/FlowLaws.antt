@@ -15,14 +15,14 @@ bits-first c true h = sym (h refl)
 bits-first true false h = refl
 bits-first false false h = refl
 
-bits-alone : (c w : Bool) → member 0 (flowBits true c w) ≡ w
+bits-wholly : (c w : Bool) → member 0 (flowBits true c w) ≡ w
 unfolding flowBits member
-bits-alone c true = refl
-bits-alone c false = refl
+bits-wholly c true = refl
+bits-wholly c false = refl
 
-bits-second : (alone c w : Bool) → member 1 (flowBits alone c w) ≡ w
+bits-second : (wholly c w : Bool) → member 1 (flowBits wholly c w) ≡ w
 unfolding flowBits member
-bits-second alone c true = refl
+bits-second wholly c true = refl
 bits-second true c false = refl
 bits-second false true false = refl
 bits-second false false false = refl
@@ -34,29 +34,29 @@ module _ (t : List ℕ) (m l : ℕ) where
   whole-conf = C-mono _ _
 
   -- each answer
-  module _ (alone : Bool) where
-    pub is-whole : wholeFlows t m l ≡ true → 0b11 ≡ flowsIn t m l alone
+  module _ (wholly : Bool) where
+    pub is-whole : wholeFlows t m l ≡ true → 0b11 ≡ flowsIn t m l wholly
     unfolding flowsIn flowBits
     is-whole w = rw w refl
 
-    pub is-none : alone ≡ true → wholeFlows t m l ≡ false → 0 ≡ flowsIn t m l alone
+    pub is-none : wholly ≡ true → wholeFlows t m l ≡ false → 0 ≡ flowsIn t m l wholly
     unfolding flowsIn flowBits
     is-none a w = rw (w, a) refl
 
-    pub is-neither : alone ≡ false → confidentialityFlows t m l ≡ false → 0 ≡ flowsIn t m l alone
+    pub is-neither : wholly ≡ false → confidentialityFlows t m l ≡ false → 0 ≡ flowsIn t m l wholly
     unfolding flowsIn flowBits
     is-neither a c = rw (not-so _ (λ w. fails c (whole-conf w)), a, c) refl
 
-    pub is-confidentiality : alone ≡ false → confidentialityFlows t m l ≡ true → wholeFlows t m l ≡ false
-        → 1 ≡ flowsIn t m l alone
+    pub is-confidentiality : wholly ≡ false → confidentialityFlows t m l ≡ true → wholeFlows t m l ≡ false
+        → 1 ≡ flowsIn t m l wholly
     unfolding flowsIn flowBits
     is-confidentiality a c w = rw (w, a, c) refl
 
 -- what an answer says
 module _ (t : List ℕ) (m l : ℕ) where
-  pub first-alone : member 0 (flowsIn t m l true) ≡ wholeFlows t m l
+  pub first-wholly : member 0 (flowsIn t m l true) ≡ wholeFlows t m l
   unfolding flowsIn
-  first-alone = bits-alone _ _
+  first-wholly = bits-wholly _ _
 
   pub first-tells : member 0 (flowsIn t m l false) ≡ confidentialityFlows t m l
   unfolding flowsIn

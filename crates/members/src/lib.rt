@@ -111,10 +111,10 @@ fn whole_flows(table: &[sheet::Word], members: Members, l: u32) -> bool
 }
 
 // How much of the join of the members is at or below label l. Where the whole is asked for `alone`, C isn't tested.
-pub fn flows(table: &[sheet::Word], members: Members, l: u32, alone: bool) -> u8
-    ensures { λ r. ⌜ r ≡ flowsIn (now (table .entry)) members l alone ⌝ }
+pub fn flows(table: &[sheet::Word], members: Members, l: u32, wholly: bool) -> u8
+    ensures { λ r. ⌜ r ≡ flowsIn (now (table .entry)) members l wholly ⌝ }
 {
-    if alone {
+    if wholly {
         if whole_flows(table, members, l) {
             return WHOLE;
         }

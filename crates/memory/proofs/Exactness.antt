@@ -158,10 +158,10 @@ module _ (s : Sheet) (sees shows : ℕ → Bool) where
       λ e. view-of-masks (locationCount s) sees shows (memoryOf ws) (memoryOf us) (λ x l. e x),
     )
 
-  words-left : (M N : Mem) → Declared s M → Declared s N → ((x : ℕ) → Masked M x ≡ Masked N x)
+  same-of-values : (M N : Mem) → Declared s M → Declared s N → ((x : ℕ) → Masked M x ≡ Masked N x)
       → Shown (memoryOf (wordsOf (locationCount s) M)) ≡ Shown (memoryOf (wordsOf (locationCount s) N))
   unfolding maskMem
-  words-left M N d e h =
+  same-of-values M N d e h =
       view-of-masks (locationCount s) sees shows _ _
       (λ x l. ap (λ v. seen (sees x) (mask shows v)) (declared-back s M d x l) ∙ h x
       ∙ ap (λ v. seen (sees x) (mask shows v))
@@ -169,13 +169,17 @@ module _ (s : Sheet) (sees shows : ℕ → Bool) where
 
 pub masks-exactly : MasksExactly
 masks-exactly s sees shows =
-    record { same-words = same-words s sees shows; words-left = words-left s sees shows; no-longer = mask-size shows }
+    record {
+      same-words = same-words s sees shows;
+      same-of-values = same-of-values s sees shows;
+      no-longer = mask-size shows;
+    }
 
 pub views-exactly : ViewsExactly
 unfolding viewWords
 views-exactly s g =
     let m = masks-exactly s (seesNo s g) (readsNo s g) in
-    record { same-view = m .same-words; same-left = m .words-left; no-longer = m .no-longer }
+    record { same-view = m .same-words; same-of-values = m .same-of-values; no-longer = m .no-longer }
 
 -- ---- the table
 

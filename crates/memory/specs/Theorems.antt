@@ -50,7 +50,7 @@ pub record ViewExactly (s : Sheet) (g : ℕ) : Type 0 where
       → (viewWords s g ws ≡ viewWords s g us)
       ↔ ((x : ℕ)
       → maskMem (seesNo s g) (readsNo s g) (memoryOf ws) x ≡ maskMem (seesNo s g) (readsNo s g) (memoryOf us) x)
-  pub same-left : (M N : Mem) → Declared s M → Declared s N
+  pub same-of-values : (M N : Mem) → Declared s M → Declared s N
       → ((x : ℕ) → maskMem (seesNo s g) (readsNo s g) M x ≡ maskMem (seesNo s g) (readsNo s g) N x)
       → viewWords s g (wordsOf (locationCount s) M) ≡ viewWords s g (wordsOf (locationCount s) N)
   pub no-longer : (v : Value) → size (mask (readsNo s g) v) ≤ size v
@@ -65,7 +65,7 @@ pub record MaskExactly (s : Sheet) (sees shows : ℕ → Bool) : Type 0 where
   pub same-words : (ws us : List ℕ) → memoryRefusal s ws ≡ 0 → memoryRefusal s us ≡ 0
       → (viewBy (locationCount s) sees shows (memoryOf ws) ≡ viewBy (locationCount s) sees shows (memoryOf us))
       ↔ ((x : ℕ) → maskMem sees shows (memoryOf ws) x ≡ maskMem sees shows (memoryOf us) x)
-  pub words-left : (M N : Mem) → Declared s M → Declared s N
+  pub same-of-values : (M N : Mem) → Declared s M → Declared s N
       → ((x : ℕ) → maskMem sees shows M x ≡ maskMem sees shows N x)
       → viewBy (locationCount s) sees shows (memoryOf (wordsOf (locationCount s) M))
       ≡ viewBy (locationCount s) sees shows (memoryOf (wordsOf (locationCount s) N))

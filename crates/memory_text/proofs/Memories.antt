@@ -9,7 +9,7 @@ use lib.Seq.{take-at, drop-at, length-take-le}
 use borrow.Author.Tests.{le-leb}
 use Rattle.text.specs.Reading.{limit, fits}
 use Rattle.text.specs.Reading.Read.{got}
-use Rattle.text.specs.Lines.{linesUpTo, printLines, AllGood, none-left, and-then}
+use Rattle.text.specs.Lines.{linesUpTo, printLines, AllGood, empty-good, and-then}
 use Rattle.logic.proofs.BooleanLaws.{cond-split}
 use Rattle.text.proofs.Readings.{not-bad, got-same}
 use Rattle.text.proofs.Lines.{lines-exact}
@@ -26,17 +26,17 @@ use Rattle.memory_text.proofs.Lines.{Row, memory-lines, length-line}
 
 joined-length : (rs : List (List ℕ)) → AllGood Row rs → length (allWords rs) ≡ cell-words * length rs
 unfolding allWords
-joined-length [] none-left = refl
+joined-length [] empty-good = refl
 joined-length (row ∷ rs) (and-then g e) = length-append row (allWords rs) ∙ omega (arith, g .0, joined-length rs e)
 
 joined-words : (rs : List (List ℕ)) → AllGood Row rs → Words (allWords rs)
 unfolding allWords Words
-joined-words [] none-left = tt
+joined-words [] empty-good = tt
 joined-words (row ∷ rs) (and-then g e) = words-append row (allWords rs) (g .1) (joined-words rs e)
 
 rows-joined : (rs : List (List ℕ)) → AllGood Row rs → rows (length rs) (allWords rs) ≡ rs
 unfolding allWords rows
-rows-joined [] none-left = refl
+rows-joined [] empty-good = refl
 rows-joined (row ∷ rs) (and-then g e) =
     rw (take-at row (allWords rs) cell-words (g .0), drop-at row (allWords rs) cell-words (g .0))
     (ap (_∷_ row) (rows-joined rs e))
@@ -55,7 +55,7 @@ rows-length (suc j) ws = ap suc (rows-length j (drop cell-words ws))
 rows-good : (j : ℕ) (ws : List ℕ) → length ws ≡ cell-words * j → Words ws
     → AllGood Row (rows j ws) × (allWords (rows j ws) ≡ ws)
 unfolding rows allWords
-rows-good zero [] n h = (none-left, refl)
+rows-good zero [] n h = (empty-good, refl)
 rows-good zero (w ∷ ws) n h = absurd (omega arith)
 rows-good (suc j) ws n h =
     let s = words-split ws h in

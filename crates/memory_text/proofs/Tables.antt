@@ -17,12 +17,12 @@ use Rattle.language.specs.World.{cell-words}
 use Rattle.sheet.specs.Sheet.{maxLocations}
 use Rattle.memory_text.specs.Sizes.{memoryWords}
 use Rattle.memory_text.specs.declared.Memory.{Memory}
-use Rattle.memory_text.specs.declared.Answer.the-variants as answer
+use Rattle.memory_text.specs.declared.Parsed.the-variants as parsed
 use Rattle.memory_text.specs.declared.Reached.{Reached}
 use Rattle.sheet.specs.Padding.{padded}
 use Rattle.sheet.proofs.Words.{length-padded}
 use Rattle.memory_text.specs.Reading.{location, allWords, wordsOfRows, locations, memory}
-use Rattle.memory_text.specs.Internal.Answers.{locationAt, table, memoryAnswer}
+use Rattle.memory_text.specs.Internal.Answers.{locationAt, table, parsedMemory}
 use Rattle.memory_text.proofs.Lines.{memory-lines}
 use Rattle.memory_text.proofs.Memories.{rows-sound, memory-sound}
 
@@ -30,7 +30,7 @@ use Rattle.memory_text.proofs.Memories.{rows-sound, memory-sound}
 unfoldable pub tabled : ℕ → List ℕ → Option (List (List ℕ)) → Memory
 tabled n words none = table bad
 tabled n words (some rs) =
-    record { answer = answer.Read; count = n + length rs; words = sets words (n * cell-words) (allWords rs) }
+    record { parsed = parsed.Read; count = n + length rs; words = sets words (n * cell-words) (allWords rs) }
 
 pub tabled-start : (t : List ℕ)
     → tabled 0 (replicate memoryWords 0) (linesUpTo location maxLocations t) ≡ table (locations maxLocations t)
@@ -60,7 +60,7 @@ tabled-front n words row (some rs) e =
 -- what is left at a place of a text
 module _ (n : ℕ) (words s : List ℕ) (i : ℕ) where
   pub rest-done : length s ≤ i → tabled n words (linesUpTo location (maxLocations - n) (drop i s))
-      ≡ record { answer = answer.Read; count = n; words = words }
+      ≡ record { parsed = parsed.Read; count = n; words = words }
   unfolding tabled allWords
   rest-done h = let z : n + 0 ≡ n = omega arith in rw (lines-at-end location maxLocations n s i h, z)
 
@@ -85,43 +85,43 @@ module _ (n : ℕ) (words s : List ℕ) (i : ℕ) where
 
 -- what the answer for a line says of the line
 module _ (s : List ℕ) (i : ℕ) (r : Reached) (e : r ≡ locationAt s i) where
-  pub row-on : r .row .answer ≡ answer.Read → location (drop i s) ≡ got (r .row .words) (drop (r .at) s)
+  pub row-on : r .row .parsed ≡ parsed.Read → location (drop i s) ≡ got (r .row .words) (drop (r .at) s)
   row-on o =
       placed-split _ _ s i _ r (line-within memory-lines (drop i s)) e
       (λ row p x l y. rw y x)
-      (λ x y. let f : r .row .answer ≡ answer.Refused = ap (λ (q : Reached). q .row .answer) y in
+      (λ x y. let f : r .row .parsed ≡ parsed.Refused = ap (λ (q : Reached). q .row .parsed) y in
       let z : _≡_ {A = ℕ} 0 1 = cc in
       absurd (omega arith))
 
-  pub row-off : r .row .answer ≡ answer.Refused → location (drop i s) ≡ bad
+  pub row-off : r .row .parsed ≡ parsed.Refused → location (drop i s) ≡ bad
   row-off o =
       placed-split _ _ s i _ r (line-within memory-lines (drop i s)) e
-      (λ row p x l y. let f : r .row .answer ≡ answer.Read = ap (λ (q : Reached). q .row .answer) y in
+      (λ row p x l y. let f : r .row .parsed ≡ parsed.Read = ap (λ (q : Reached). q .row .parsed) y in
       let z : _≡_ {A = ℕ} 0 1 = cc in
       absurd (omega arith))
       (λ x y. x)
 
 -- a text that fits, and one that is too long
 module _ (t : List ℕ) where
-  pub memory-fits : fits t ≡ true → memoryAnswer t ≡ table (locations maxLocations t)
-  unfolding memoryAnswer memory
+  pub memory-fits : fits t ≡ true → parsedMemory t ≡ table (locations maxLocations t)
+  unfolding parsedMemory memory
   memory-fits e = rw e
 
-  pub memory-long : fits t ≡ false → memoryAnswer t ≡ table bad
-  unfolding memoryAnswer memory
+  pub memory-long : fits t ≡ false → parsedMemory t ≡ table bad
+  unfolding parsedMemory memory
   memory-long e = rw e
 
 -- what is read: at most 64 locations, and the words of so many
-pub memory-few : (t : List ℕ) (m : Memory) → m ≡ memoryAnswer t → m .count * cell-words ≤ memoryWords
-unfolding memoryAnswer table
+pub memory-few : (t : List ℕ) (m : Memory) → m ≡ parsedMemory t → m .count * cell-words ≤ memoryWords
+unfolding parsedMemory table
 memory-few t m e = rw e (go (memory t) refl)
   where
     go : (want : Read (List ℕ)) → memory t ≡ want → table want .count * cell-words ≤ memoryWords
     go (got ws r) q = omega (arith, memory-sound ws t r q .1 .most-locations)
     go bad q = omega arith
 
-pub memory-full : (t : List ℕ) (m : Memory) → m ≡ memoryAnswer t → length (m .words) ≡ memoryWords
-unfolding memoryAnswer table
+pub memory-full : (t : List ℕ) (m : Memory) → m ≡ parsedMemory t → length (m .words) ≡ memoryWords
+unfolding parsedMemory table
 memory-full t m e = rw e (go (memory t) refl)
   where
     go : (want : Read (List ℕ)) → memory t ≡ want → length (table want .words) ≡ memoryWords

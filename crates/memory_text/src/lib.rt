@@ -14,7 +14,7 @@ ghost use Rattle.text.specs.Reading.Read.{bad};
 ghost use Rattle.language.specs.World.{cell-words};
 ghost use Rattle.sheet.specs.Sheet.{maxLocations};
 ghost use Rattle.memory_text.specs.Reading.{filledLine, locations as locationsOf};
-ghost use Rattle.memory_text.specs.Internal.Answers.{placedRow, locationAt, table, memoryAnswer};
+ghost use Rattle.memory_text.specs.Internal.Answers.{placedRow, locationAt, table, parsedMemory};
 
 // The most locations of a sheet.
 pub const LOCATIONS: usize = sheet::MOST_LOCATIONS as usize;
@@ -23,21 +23,21 @@ pub const LOCATIONS: usize = sheet::MOST_LOCATIONS as usize;
 pub const WORDS: usize = LOCATIONS * CELL;
 
 // Whether a line or a text is read, or refused.
-pub enum Answer {
+pub enum Parsed {
     Read,
     Refused,
 }
 
 // The number of locations and their words, 16 for each, with zeros after them; or a refusal, with none.
 pub struct Memory {
-    pub answer: Answer,
+    pub parsed: Parsed,
     pub count: usize,
     pub words: [u32; WORDS],
 }
 
 // The words of a location; or a refusal, with zeros.
 pub struct Row {
-    pub answer: Answer,
+    pub parsed: Parsed,
     pub words: [u32; CELL],
 }
 
@@ -58,7 +58,7 @@ fn no_row(at: usize) -> Reached
     ensures { λ r. ⌜ ((s : List ℕ) → r ≡ placedRow at s bad) ⌝ }
 {
     let row = Row {
-        answer: Answer::Refused,
+        parsed: Parsed::Refused,
         words: [0u32; CELL],
     };
     Reached { row, at }
@@ -85,7 +85,7 @@ fn line_words(s: &[u8], at: usize) -> Reached
                 return no_row(at);
             }
             let row = Row {
-                answer: Answer::Read,
+                parsed: Parsed::Read,
                 words,
             };
             return Reached { row, at: q + 1 };
@@ -107,7 +107,7 @@ fn location(s: &[u8], at: usize) -> Reached
     match text::line_end(s, at) {
         Place::At(p) => {
             let row = Row {
-                answer: Answer::Read,
+                parsed: Parsed::Read,
                 words: [0u32; CELL],
             };
             Reached { row, at: p }
@@ -160,7 +160,7 @@ fn no_memory() -> Memory
     ensures { λ r. ⌜ r ≡ table bad ⌝ }
 {
     Memory {
-        answer: Answer::Refused,
+        parsed: Parsed::Refused,
         count: 0,
         words: [0u32; WORDS],
     }
@@ -179,21 +179,21 @@ fn locations(s: &[u8]) -> Memory
         }
         let next = location_from(s, at);
         let row = next.row;
-        let answer = row.answer;
-        match answer {
-            Answer::Read => {
+        let parsed = row.parsed;
+        match parsed {
+            Parsed::Read => {
                 let line = row.words;
                 store(&mut words, n * CELL, line);
                 n += 1;
                 at = next.at;
             }
-            Answer::Refused => {
+            Parsed::Refused => {
                 return no_memory();
             }
         }
     }
     Memory {
-        answer: Answer::Read,
+        parsed: Parsed::Read,
         count: n,
         words,
     }
@@ -201,7 +201,7 @@ fn locations(s: &[u8]) -> Memory
 
 // The memory that a text holds.
 pub fn read_memory(s: &[u8]) -> Memory
-    ensures { λ r. ⌜ r ≡ memoryAnswer (now (s .entry)) ⌝ }
+    ensures { λ r. ⌜ r ≡ parsedMemory (now (s .entry)) ⌝ }
 {
     if text::fits(s) {
         locations(s)

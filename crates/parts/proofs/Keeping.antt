@@ -12,7 +12,7 @@ use borrow.Author.Tests.{ltb-true, ltb-false, eqb-true, eqb-false}
 use Rattle.logic.proofs.BooleanLaws.{cases}
 use Rattle.parts.specs.Parts.{parting, byteIf, textFrom, textOf, keep, keptOf}
 use Rattle.parts.specs.Feeding.{texts, beginning, Held, held, count, turned, stored, fed, textHeld}
-use Rattle.parts.specs.Theorems.{HoldsParts}
+use Rattle.parts.specs.Theorems.{HoldsTexts}
 use Rattle.parts.proofs.Steps.{parting-below, stored-full, stored-room, stepped-on, stepped-in, from-next}
 use Rattle.parts.proofs.Steps.{from-same}
 use Rattle.parts.proofs.Places.{place-same, place-other}
@@ -25,12 +25,12 @@ record Sound (last : ℕ) (h : Held) : Type 0 where
   long : suc last * keep ≤ length (h .buffer)
 
 -- what is held of text i
-abbrev part : Held → ℕ → List ℕ
-part h i = textHeld (h .state) (h .buffer) i
+abbrev heldText : Held → ℕ → List ℕ
+heldText h i = textHeld (h .state) (h .buffer) i
 
-part-few : (last : ℕ) (h : Held) → Sound last h → (i : ℕ) → length (part h i) ≤ keep
+held-text-few : (last : ℕ) (h : Held) → Sound last h → (i : ℕ) → length (heldText h i) ≤ keep
 unfolding textHeld
-part-few last h s i = omega (arith, length-take (count (h .state) i) (drop (i * keep) (h .buffer)), s .few i)
+held-text-few last h s i = omega (arith, length-take (count (h .state) i) (drop (i * keep) (h .buffer)), s .few i)
 
 sound-turned : (last : ℕ) (h : Held) → Sound last h → h .state .text < last → Sound last (turned h)
 unfolding turned
@@ -82,11 +82,11 @@ module _ (last : ℕ) (h : Held) (s : Sound last h) (b : ℕ) (below : last < te
       by-room (λ g. (g .state .text ≡ j) × (g .state .start ≡ eqb b 10)) (λ l. (refl, refl)) (λ l. (refl, refl))
 
   -- of the text itself, with whatever follows
-  part-mine : (t : List ℕ) → take keep (part (stored h b) j ++ t) ≡ take keep (part h j ++ (b ∷ t))
+  held-text-mine : (t : List ℕ) → take keep (heldText (stored h b) j ++ t) ≡ take keep (heldText h j ++ (b ∷ t))
   unfolding textHeld
-  part-mine t =
+  held-text-mine t =
       let xs = take n (drop (j * keep) (h .buffer)) in
-      by-room (λ g. take keep (part g j ++ t) ≡ take keep (part h j ++ (b ∷ t)))
+      by-room (λ g. take keep (heldText g j ++ t) ≡ take keep (heldText h j ++ (b ∷ t)))
       (λ l. rw (getD-set-same (h .state .kept) j (n + 1) 0 placed)
       (rw (place-same (h .buffer) (j * keep) n b (omega (arith, s .inside, s .long)))
       (ap (take keep) (append-assoc xs (b ∷ []) t))))
@@ -102,30 +102,30 @@ module _ (last : ℕ) (h : Held) (s : Sound last h) (b : ℕ) (below : last < te
       take-append-le keep xs t d ∙ sym (take-append-le keep xs (b ∷ t) d))
 
   -- of another text
-  part-other : (i : ℕ) → (j ≡ i → ⊥) → part (stored h b) i ≡ part h i
+  held-text-other : (i : ℕ) → (j ≡ i → ⊥) → heldText (stored h b) i ≡ heldText h i
   unfolding textHeld
-  part-other i d = by-room (λ g. part g i ≡ part h i)
+  held-text-other i d = by-room (λ g. heldText g i ≡ heldText h i)
       (λ l. rw (getD-set-other (h .state .kept) j i (n + 1) 0 (λ q. d (sym q)))
       (place-other (h .buffer) i j (count (h .state) i) n b d (s .few i) l))
       (λ l. refl)
 
-  part-stored : (i : ℕ) (t : List ℕ)
-      → take keep (part (stored h b) i ++ t) ≡ take keep (part h i ++ byteIf (eqb j i) b t)
+  held-text-stored : (i : ℕ) (t : List ℕ)
+      → take keep (heldText (stored h b) i ++ t) ≡ take keep (heldText h i ++ byteIf (eqb j i) b t)
   unfolding byteIf
-  part-stored i t =
+  held-text-stored i t =
       cases (eqb j i)
-      (λ e. let q : j ≡ i = eqb-true _ _ e in rw (e, ← q) (part-mine t))
-      (λ e. rw (e, part-other i (eqb-false _ _ e)))
+      (λ e. let q : j ≡ i = eqb-true _ _ e in rw (e, ← q) (held-text-mine t))
+      (λ e. rw (e, held-text-other i (eqb-false _ _ e)))
 
 -- what is held of text i, and then its bytes in the rest of the input
 abbrev upto : ℕ → ℕ → Held → List ℕ → List ℕ
-upto last i h t = take keep (part h i ++ textFrom last i (h .state .text) (h .state .start) t)
+upto last i h t = take keep (heldText h i ++ textFrom last i (h .state .text) (h .state .start) t)
 
 upto-turned : (last i : ℕ) (h : Held) (b : ℕ) (t : List ℕ) → parting last (h .state .text) (h .state .start) b ≡ true
     → upto last i (turned h) t ≡ upto last i h (b ∷ t)
 unfolding turned textHeld
 upto-turned last i h b t e =
-    ap (λ (u : List ℕ). take keep (part h i ++ u)) (sym (from-next last i (h .state .text) (h .state .start) b t e))
+    ap (λ (u : List ℕ). take keep (heldText h i ++ u)) (sym (from-next last i (h .state .text) (h .state .start) b t e))
 
 upto-stored : (last i : ℕ) (h : Held) (b : ℕ) (t : List ℕ) → Sound last h → last < texts
     → parting last (h .state .text) (h .state .start) b ≡ false
@@ -133,23 +133,25 @@ upto-stored : (last i : ℕ) (h : Held) (b : ℕ) (t : List ℕ) → Sound last 
 upto-stored last i h b t s l e =
     let q = stored-start last h s b l in
     rw (q .0, q .1)
-    (part-stored last h s b l i (textFrom last i (h .state .text) (eqb b 10) t)
-    ∙ ap (λ (u : List ℕ). take keep (part h i ++ u)) (sym (from-same last i (h .state .text) (h .state .start) b t e)))
+    (held-text-stored last h s b l i (textFrom last i (h .state .text) (eqb b 10) t)
+    ∙ ap (λ (u : List ℕ). take keep (heldText h i ++ u))
+    (sym (from-same last i (h .state .text) (h .state .start) b t e)))
 
 held-after : (last i : ℕ) → last < texts → (t : List ℕ) (h : Held) → Sound last h
-    → part (fed last h t) i ≡ upto last i h t
+    → heldText (fed last h t) i ≡ upto last i h t
 unfolding fed textFrom
 held-after last i l [] h s =
-    sym (take-all keep (part h i ++ []) (rw (append-nil (part h i)) (part-few last h s i)) ∙ append-nil (part h i))
+    sym (take-all keep (heldText h i ++ []) (rw (append-nil (heldText h i)) (held-text-few last h s i))
+    ∙ append-nil (heldText h i))
 held-after last i l (b ∷ t) h s =
     cases (parting last (h .state .text) (h .state .start) b)
     (λ e.
-    ap (λ (g : Held). part (fed last g t) i) (stepped-on last h b e)
+    ap (λ (g : Held). heldText (fed last g t) i) (stepped-on last h b e)
     ∙ held-after last i l t (turned h)
     (sound-turned last h s (parting-below last (h .state .text) (h .state .start) b e))
     ∙ upto-turned last i h b t e)
     (λ e.
-    ap (λ (g : Held). part (fed last g t) i) (stepped-in last h b e)
+    ap (λ (g : Held). heldText (fed last g t) i) (stepped-in last h b e)
     ∙ held-after last i l t (stored h b) (sound-stored last h s b l)
     ∙ upto-stored last i h b t s l e)
 
@@ -166,12 +168,12 @@ unfolding beginning
 sound-beginning last buffer l =
     record { inside = omega arith; places = refl; few = λ i. omega (arith, none-kept i); long = l }
 
-part-beginning : (buffer : List ℕ) (i : ℕ) → part (held beginning buffer) i ≡ []
+held-text-beginning : (buffer : List ℕ) (i : ℕ) → heldText (held beginning buffer) i ≡ []
 unfolding textHeld
-part-beginning buffer i = rw (none-kept i)
+held-text-beginning buffer i = rw (none-kept i)
 
-pub holds-parts : HoldsParts
+pub holds-texts : HoldsTexts
 unfolding keptOf textOf beginning
-holds-parts last buffer input l long i _ =
+holds-texts last buffer input l long i _ =
     held-after last i l input (held beginning buffer) (sound-beginning last buffer long)
-    ∙ ap (λ (u : List ℕ). take keep (u ++ textFrom last i 0 true input)) (part-beginning buffer i)
+    ∙ ap (λ (u : List ℕ). take keep (u ++ textFrom last i 0 true input)) (held-text-beginning buffer i)

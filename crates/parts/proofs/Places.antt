@@ -50,6 +50,6 @@ module _ (s : State) (buffer : List ℕ) (i : ℕ) where
       take-all (length buffer - i * keep) (drop (i * keep) buffer) (omega (arith, length-drop (i * keep) buffer))
       ∙ sym (take-all (count s i) (drop (i * keep) buffer) (omega (arith, length-drop (i * keep) buffer)))
 
-  pub text-part : take (i * keep + count s i - i * keep) (drop (i * keep) buffer) ≡ textHeld s buffer i
+  pub text-held : take (i * keep + count s i - i * keep) (drop (i * keep) buffer) ≡ textHeld s buffer i
   unfolding textHeld
-  text-part = let z : i * keep + count s i - i * keep ≡ count s i = omega arith in rw z
+  text-held = let z : i * keep + count s i - i * keep ≡ count s i = omega arith in rw z

@@ -33,8 +33,8 @@ abbrev pub Chunks : Type 0
 Chunks = (last : ℕ) (h : Held) (xs ys : List ℕ) → fed last h (xs ++ ys) ≡ fed last (fed last h xs) ys
 
 -- A buffer that is long enough then holds what is kept of each text.
-abbrev pub HoldsParts : Type 0
-HoldsParts =
+abbrev pub HoldsTexts : Type 0
+HoldsTexts =
     (last : ℕ) (buffer input : List ℕ) → last < texts → suc last * keep ≤ length buffer → (i : ℕ) → i ≤ last
     → let h = fed last (held beginning buffer) input in
     textHeld (h .state) (h .buffer) i ≡ keptOf last i input

@@ -27,13 +27,13 @@ use Rattle.simp.proofs.Unseen.{start-unseen}
 use Rattle.simp.proofs.TrustKept.{trust-kept}
 use Rattle.simp.proofs.ReadingRules.{only-reading, downward-suffices}
 use Rattle.simp.proofs.CasesHold.{cases-hold}
-use Rattle.scripts.proofs.Joined.{parts-exact}
+use Rattle.scripts.proofs.Joined.{parting-exact}
 use Rattle.groups.proofs.ListLaws.{groups-exact, readers-hold-one}
 use Rattle.groups.proofs.RuleLaws.{reading-grows}
 use Rattle.groups.proofs.SingleLaws.{single-readers}
 use Rattle.parts.proofs.Apart.{joined-apart, missing-empty}
 use Rattle.parts.proofs.Steps.{chunks}
-use Rattle.parts.proofs.Keeping.{holds-parts}
+use Rattle.parts.proofs.Keeping.{holds-texts}
 use Rattle.desk.proofs.Exact.{group-exact}
 use Rattle.desk.proofs.Orders.{same-order, show-in-order}
 use Rattle.desk.proofs.Kept.{kept-enough, shows-input}
@@ -87,7 +87,7 @@ promises = record {
   malformed-exact = malformed-exact;
   one-sheet = one-sheet;
   script-exact = script-exact;
-  parts-exact = parts-exact;
+  parting-exact = parting-exact;
   memory-exact = memory-exact;
   words-exactly = words-exactly;
   cell-exactly = cell-exactly;
@@ -97,7 +97,7 @@ promises = record {
   joined-apart = joined-apart;
   missing-empty = missing-empty;
   chunks = chunks;
-  holds-parts = holds-parts;
+  holds-texts = holds-texts;
   group-exact = group-exact;
   same-order = same-order;
   show-in-order = show-in-order;

@@ -24,9 +24,9 @@ use Rattle.simp.specs.StartUnseen.{StartUnseen}
 use Rattle.simp.specs.TrustKept.{TrustKept}
 use Rattle.simp.specs.ReadingRules.{OnlyReading, DownwardSuffices}
 use Rattle.simp.specs.Cases.{CasesHold}
-use Rattle.scripts.specs.Theorems.{PartsExact}
+use Rattle.scripts.specs.Theorems.{PartingExact}
 use Rattle.groups.specs.Theorems.{GroupsExact, ReadersHoldOne, ReadingGrows, SingleReaders}
-use Rattle.parts.specs.Theorems.{JoinedApart, MissingEmpty, Chunks, HoldsParts}
+use Rattle.parts.specs.Theorems.{JoinedApart, MissingEmpty, Chunks, HoldsTexts}
 use Rattle.desk.specs.Theorems.{GroupExact, SameOrder, ShowInOrder, KeptEnough, ShowsInput}
 
 pub record Promises : Type 1 where
@@ -160,7 +160,7 @@ pub record Promises : Type 1 where
   pub script-exact : ScriptExact
   -- The scripts of a text are these exactly where no line of them is empty and the text is these,
   -- joined by empty lines.
-  pub parts-exact : PartsExact
+  pub parting-exact : PartingExact
   -- A memory text is read exactly where it is the printed form of a memory.
   pub memory-exact : MemoryExact
   -- ---- Memories and views
@@ -185,7 +185,7 @@ pub record Promises : Type 1 where
   -- Chunks fed one after another are their concatenation.
   pub chunks : Chunks
   -- A buffer that is long enough holds what is kept of each text.
-  pub holds-parts : HoldsParts
+  pub holds-texts : HoldsTexts
   -- A group is four digits and byte 10.
   pub group-exact : GroupExact
   -- The list by which show orders the refusals is the order of a view's table.

@@ -10,7 +10,7 @@ use Rattle.text.proofs.Writings.{sets-zeros}
 use Rattle.sheet.specs.Padding.{padded}
 use Rattle.stages.specs.Answers.{Ran}
 use Rattle.scripts.specs.Parting.{mostScripts}
-use Rattle.rounds.specs.Answers.{RanRound, leftBy, roundFrom}
+use Rattle.rounds.specs.Answers.{RanRound, memoryAfter, roundFrom}
 use Rattle.rounds.specs.Calls.{runEach}
 
 -- as many runs as scripts
@@ -29,19 +29,19 @@ module _ (run : ℕ → List ℕ → List ℕ → Ran) where
         answer = 0;
         answers = sets answers i (map (λ r. r .answer) rs);
         steps = sets steps i (map (λ r. r .steps) rs);
-        memory = leftBy memory rs;
+        memory = memoryAfter memory rs;
       }
 
   pub rest-more : (i : ℕ) (answers steps memory : List ℕ) (t : List ℕ) (ts : List (List ℕ))
       → rest i answers steps memory (t ∷ ts)
       ≡ rest (i + 1) (set answers i (run i t memory .answer)) (set steps i (run i t memory .steps))
       (run i t memory .memory) ts
-  unfolding rest runEach leftBy
+  unfolding rest runEach memoryAfter
   rest-more i answers steps memory t ts = rw (add-one i) refl
 
   pub rest-over : (i : ℕ) (answers steps memory : List ℕ)
       → rest i answers steps memory [] ≡ record { answer = 0; answers = answers; steps = steps; memory = memory }
-  unfolding rest runEach leftBy
+  unfolding rest runEach memoryAfter
   rest-over i answers steps memory = refl
 
   pub rest-all : (memory : List ℕ) (ts : List (List ℕ)) → length ts ≤ mostScripts

@@ -20,9 +20,9 @@ use Rattle.stages.specs.Calls.{unless, strangers, onScript, untyped, numberOf, 
 use Rattle.stages.specs.Internal.Stages.{TableOf, AcceptedCode, RunsAccepted}
 use Rattle.stages.proofs.StageLaws.{goes, stops, accepted-code, unreached}
 use Rattle.stages.proofs.Kept.{left-unrefused}
-use Rattle.scripts.specs.Parting.{partsOf, mostScripts}
-use Rattle.scripts.specs.Internal.Places.{partsAfter}
-use Rattle.scripts.proofs.Places.{PartAt, part-at, parts-all, StartsAt, has-place, kept-end}
+use Rattle.scripts.specs.Parting.{scriptTexts, mostScripts}
+use Rattle.scripts.specs.Internal.Places.{scriptTextsAfter}
+use Rattle.scripts.proofs.Places.{TextAt, text-at, texts-all, StartsAt, has-place, kept-end}
 use Rattle.rounds.specs.Calls.{lowest}
 use Rattle.rounds.specs.Internal.Stages.{Parted, turnOn, gateIn, ranOn, RunsScript, RunsTurn, RunsEach}
 use Rattle.rounds.proofs.LowerLaws.{lower-none, lowest-more}
@@ -91,9 +91,9 @@ turn-shut script t memory authority budget number z =
 
 -- The script that starts at a place: where its end is kept, and that it has a place itself.
 pub script-at : (scripts ends : List ℕ) (i at end : ℕ) → Parted scripts ends → StartsAt scripts i at
-    → at ≤ length scripts → end ≡ getD ends i 0 → PartAt scripts at end
+    → at ≤ length scripts → end ≡ getD ends i 0 → TextAt scripts at end
 script-at scripts ends i at end h s l e =
-    part-at scripts at end l (e ∙ ap (λ (es : List ℕ). getD es i 0) (h .kept) ∙ kept-end scripts i at s (h .few) l)
+    text-at scripts at end l (e ∙ ap (λ (es : List ℕ). getD es i 0) (h .kept) ∙ kept-end scripts i at s (h .few) l)
 
 pub place-at : (scripts ends : List ℕ) (i at : ℕ) → Parted scripts ends → StartsAt scripts i at → at ≤ length scripts
     → i < mostScripts
@@ -103,47 +103,48 @@ module _ (scripts gates t memory₀ : List ℕ) (authority budget : ℕ) where
   -- Where no number refuses the round: at place i, with the scripts from `at` on left, the rest of the
   -- round is the whole.
   pub record Going (s : Sheet) (i at : ℕ) (answers steps memory : List ℕ) : Type 0 where
-    pub accepted : lowest (numberOf s) (partsAfter scripts at) ≡ 0
+    pub accepted : lowest (numberOf s) (scriptTextsAfter scripts at) ≡ 0
     pub unrefused : memoryRefusal s memory ≡ 0
-    pub whole : rest (turnOn (gateIn gates) s authority budget) i answers steps memory (partsAfter scripts at)
-        ≡ ranOn (gateIn gates) s authority budget (partsOf scripts) memory₀
+    pub whole : rest (turnOn (gateIn gates) s authority budget) i answers steps memory (scriptTextsAfter scripts at)
+        ≡ ranOn (gateIn gates) s authority budget (scriptTexts scripts) memory₀
 
   -- on every sheet of the table on which no number refuses it
   abbrev pub Goes : ℕ → ℕ → List ℕ → List ℕ → List ℕ → Type 0
   Goes i at answers steps memory =
-      (s : Sheet) → TableOf t s → strangers s authority ≡ 0 → lowest (numberOf s) (partsOf scripts) ≡ 0
+      (s : Sheet) → TableOf t s → strangers s authority ≡ 0 → lowest (numberOf s) (scriptTexts scripts) ≡ 0
       → memoryRefusal s memory₀ ≡ 0
       → Going s i at answers steps memory
 
-  pub goes-first : length (partsOf scripts) ≤ mostScripts
+  pub goes-first : length (scriptTexts scripts) ≤ mostScripts
       → Goes 0 0 (replicate mostScripts 0) (replicate mostScripts 0) memory₀
   goes-first l s T g n m = record {
-    accepted = rw (parts-all scripts) n;
+    accepted = rw (texts-all scripts) n;
     unrefused = m;
-    whole = rw (parts-all scripts) (rest-all (turnOn (gateIn gates) s authority budget) memory₀ (partsOf scripts) l);
+    whole =
+        rw (texts-all scripts) (rest-all (turnOn (gateIn gates) s authority budget) memory₀ (scriptTexts scripts) l);
   }
 
   pub goes-on : (i at end : ℕ) (answers steps memory : List ℕ) (r : Ran) → Goes i at answers steps memory
-      → PartAt scripts at end
+      → TextAt scripts at end
       → RunsTurn (take (end - at) (drop at scripts)) (getD gates i 0) t memory authority budget r
       → Goes (i + 1) (end + 1) (set answers i (r .answer)) (set steps i (r .steps)) (r .memory)
   goes-on i at end answers steps memory r k p ran s T g n m =
       let h = k s T g n m in
       let script : List ℕ = take (end - at) (drop at scripts) in
-      let left = partsAfter scripts (end + 1) in
+      let left = scriptTextsAfter scripts (end + 1) in
       let z = lower-none (numberOf s script) (lowest (numberOf s) left)
-      (sym (lowest-more (numberOf s) script left) ∙ ap (lowest (numberOf s)) (sym (p .parts)) ∙ h .accepted) in
+      (sym (lowest-more (numberOf s) script left) ∙ ap (lowest (numberOf s)) (sym (p .texts)) ∙ h .accepted) in
       let q = ran .ran s T g (z .0) (h .unrefused) in
       record {
         accepted = z .1;
         unrefused = q .1;
         whole = rw (q .0)
             (sym (rest-more (turnOn (gateIn gates) s authority budget) i answers steps memory script left)
-            ∙ ap (rest (turnOn (gateIn gates) s authority budget) i answers steps memory) (sym (p .parts)) ∙ h .whole);
+            ∙ ap (rest (turnOn (gateIn gates) s authority budget) i answers steps memory) (sym (p .texts)) ∙ h .whole);
       }
 
   pub goes-over : (i at : ℕ) (answers steps memory : List ℕ) → Goes i at answers steps memory
-      → partsAfter scripts at ≡ []
+      → scriptTextsAfter scripts at ≡ []
       → RunsEach scripts gates t memory₀ authority budget
       (record { answer = 0; answers = answers; steps = steps; memory = memory })
   goes-over i at answers steps memory k l = record {

@@ -16,7 +16,7 @@ use Rattle.stages.specs.Calls.{onSheet, unless, strangers, numberOf, runOf}
 use Rattle.stages.specs.Internal.Stages.{TableOf, strangersIn}
 use Rattle.stages.proofs.StageLaws.{accepted-verdict, refusal-in, stops, goes, strangers-by, strangers-in, stops-3}
 use Rattle.stages.proofs.StageLaws.{unless-3, not-3}
-use Rattle.scripts.specs.Parting.{partsOf, mostScripts}
+use Rattle.scripts.specs.Parting.{scriptTexts, mostScripts}
 use Rattle.rounds.specs.Answers.{RanRound, refusedRound, Gate, allOpen}
 use Rattle.rounds.specs.Calls.{tooMany, lowest, runEach, turnOf, playedOf}
 use Rattle.rounds.specs.Internal.Stages.{turnOn, gateIn, ranOn, playedOn, lowestIn, playedIn, roundIn}
@@ -58,24 +58,24 @@ module _ (scripts gates t memory : List ℕ) (authority budget : ℕ) where
     play-numbered z = let (v, of, is) = n .in-table in record {
       refused = λ v. refl;
       played = λ s T g. ap R (n .numbered s T)
-          ∙ sym (stops R (lowest (numberOf s) (partsOf scripts)) _ (λ w. z (n .numbered s T ∙ w)));
+          ∙ sym (stops R (lowest (numberOf s) (scriptTexts scripts)) _ (λ w. z (n .numbered s T ∙ w)));
       in-table =
-          (v, of, R 0, refl, ap R is ∙ sym (stops R (lowestIn v t (partsOf scripts)) _ (λ w. z (is ∙ w))));
+          (v, of, R 0, refl, ap R is ∙ sym (stops R (lowestIn v t (scriptTexts scripts)) _ (λ w. z (is ∙ w))));
     }
 
     module _ (z : number ≡ 0) where
-      all-accepted : (s : Sheet) → TableOf t s → lowest (numberOf s) (partsOf scripts) ≡ 0
+      all-accepted : (s : Sheet) → TableOf t s → lowest (numberOf s) (scriptTexts scripts) ≡ 0
       all-accepted s T = sym (n .numbered s T) ∙ z
 
       by-memory : (s : Sheet) → TableOf t s
-          → playedOn (gateIn gates) s authority budget (partsOf scripts) memory
-          ≡ unless R (memoryRefusal s memory) (ranOn (gateIn gates) s authority budget (partsOf scripts) memory)
-      by-memory s T = goes R (lowest (numberOf s) (partsOf scripts)) _ (all-accepted s T)
+          → playedOn (gateIn gates) s authority budget (scriptTexts scripts) memory
+          ≡ unless R (memoryRefusal s memory) (ranOn (gateIn gates) s authority budget (scriptTexts scripts) memory)
+      by-memory s T = goes R (lowest (numberOf s) (scriptTexts scripts)) _ (all-accepted s T)
 
       by-memory-in : (run : RanRound)
-          → playedIn (n .in-table .0) run t (partsOf scripts) memory ≡ unless R (refusalIn t memory) run
+          → playedIn (n .in-table .0) run t (scriptTexts scripts) memory ≡ unless R (refusalIn t memory) run
       unfolding playedIn
-      by-memory-in run = goes R (lowestIn (n .in-table .0) t (partsOf scripts)) _ (sym (n .in-table .2) ∙ z)
+      by-memory-in run = goes R (lowestIn (n .in-table .0) t (scriptTexts scripts)) _ (sym (n .in-table .2) ∙ z)
 
       -- 7 and 8
       pub play-refused : (k : ℕ) → k ≡ refusalIn t memory → (k ≡ 0 → ⊥)
@@ -125,7 +125,7 @@ module _ (scripts t memory : List ℕ) (authority budget : ℕ) where
     known : {A : Type 0} (refuse : ℕ → A) (go : A) → unless refuse (strangersIn t authority) go ≡ go
     known refuse go = goes refuse (strangersIn t authority) go (strangers-by t authority true h)
 
-    pub round-many : mostScripts < length (partsOf scripts)
+    pub round-many : mostScripts < length (scriptTexts scripts)
         → RoundsOn scripts t memory authority budget (refusedRound memory 11)
     unfolding tooMany unless roundIn
     round-many l = record {
@@ -140,14 +140,14 @@ module _ (scripts t memory : List ℕ) (authority budget : ℕ) where
       );
     }
 
-    pub round-played : length (partsOf scripts) ≤ mostScripts → (gates : List ℕ) (r : RanRound)
+    pub round-played : length (scriptTexts scripts) ≤ mostScripts → (gates : List ℕ) (r : RanRound)
         → ((i : ℕ) → gateIn gates i ≡ 0) → Plays scripts gates t memory authority budget r
         → RoundsOn scripts t memory authority budget r
     unfolding tooMany unless roundIn
     round-played l gates r o p = let (v, of, run, z, is) = p .in-table in record {
       refused = p .refused;
       played = λ s T. p .played s T (strangers-in t s authority true T h) ∙ played-same (gateIn gates)
-          allOpen s authority budget (partsOf scripts) memory (λ i. o i ∙ sym (always-open i))
+          allOpen s authority budget (scriptTexts scripts) memory (λ i. o i ∙ sym (always-open i))
           ∙ sym (not-3 (refusedRound memory) t s authority _ T h ∙ rw (le-ltb _ _ l) refl);
       in-table = (v, of, run, z, is ∙ sym (known (refusedRound memory) _ ∙ rw (le-ltb _ _ l) refl));
     }
@@ -177,7 +177,8 @@ module _ (gate : Gate) (sheet : List ℕ) (s : Sheet) (e : sheetOf sheet ≡ acc
 module _ (sheet : List ℕ) (s : Sheet) (e : sheetOf sheet ≡ accepted s) (authority budget : ℕ) where
   pub round-of : (scripts t memory : List ℕ) (r : RanRound) → RoundsOn scripts t memory authority budget r → TableOf t s
       → r
-      ≡ unless (refusedRound memory) (strangers s authority) (unless (refusedRound memory) (tooMany (partsOf scripts)) (
-      playedOf allOpen sheet s (partsOf scripts) memory authority budget))
+      ≡ unless (refusedRound memory) (strangers s authority)
+      (unless (refusedRound memory) (tooMany (scriptTexts scripts)) (
+      playedOf allOpen sheet s (scriptTexts scripts) memory authority budget))
   round-of scripts t memory r h T =
-      h .played s T ∙ rw (played-on allOpen sheet s e authority budget (partsOf scripts) memory) refl
+      h .played s T ∙ rw (played-on allOpen sheet s e authority budget (scriptTexts scripts) memory) refl

@@ -20,9 +20,9 @@ refusedRound memory k =
     record { answer = k; answers = replicate mostScripts 0; steps = replicate mostScripts 0; memory = memory }
 
 -- the memory that the last of several runs leaves
-unfoldable pub leftBy : List ℕ → List Ran → List ℕ
-leftBy memory [] = memory
-leftBy memory (r ∷ rs) = leftBy (r .memory) rs
+unfoldable pub memoryAfter : List ℕ → List Ran → List ℕ
+memoryAfter memory [] = memory
+memoryAfter memory (r ∷ rs) = memoryAfter (r .memory) rs
 
 -- the round of these runs from a memory: 0, zeros in the places past the last, and the memory as the last leaves it
 abbrev pub roundFrom : List ℕ → List Ran → RanRound
@@ -30,7 +30,7 @@ roundFrom memory rs = record {
   answer = 0;
   answers = padded mostScripts (map (λ r. r .answer) rs);
   steps = padded mostScripts (map (λ r. r .steps) rs);
-  memory = leftBy memory rs;
+  memory = memoryAfter memory rs;
 }
 
 -- Which scripts of a round may run: the number that the script in a place gets instead of a run, or 0 where it is open.

@@ -9,7 +9,7 @@ use Rattle.sheet_text.specs.Sheets.{sheetOf}
 use Rattle.memory.specs.Memory.{memoryRefusal}
 use Rattle.stages.specs.Answers.{Ran, refusedRun}
 use Rattle.stages.specs.Calls.{onSheet, unless, strangers, numberOf, runOf}
-use Rattle.scripts.specs.Parting.{partsOf, mostScripts}
+use Rattle.scripts.specs.Parting.{scriptTexts, mostScripts}
 use Rattle.rounds.specs.Answers.{RanRound, refusedRound, roundFrom, Gate, allOpen}
 
 -- 11: more scripts than places
@@ -50,8 +50,8 @@ unfoldable pub roundBy : Gate → List ℕ → List ℕ → List ℕ → ℕ →
 roundBy gate sheet scripts memory authority budget =
     onSheet (refusedRound memory) (sheetOf sheet) (λ s.
     unless (refusedRound memory) (strangers s authority) (
-    unless (refusedRound memory) (tooMany (partsOf scripts)) (
-    playedOf gate sheet s (partsOf scripts) memory authority budget)))
+    unless (refusedRound memory) (tooMany (scriptTexts scripts)) (
+    playedOf gate sheet s (scriptTexts scripts) memory authority budget)))
 
 -- simp_round
 abbrev pub roundOf : List ℕ → List ℕ → List ℕ → ℕ → ℕ → RanRound

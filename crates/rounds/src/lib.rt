@@ -184,9 +184,9 @@ pub fn round_on(
     if !sets::contained(authority, sheet::everyone(table)) {
         return refused(stages::PRINCIPAL_UNKNOWN);
     }
-    let parts = scripts::part(scripts);
-    let ends = parts.ends;
-    if MOST_SCRIPTS < parts.count {
+    let parting = scripts::part(scripts);
+    let ends = parting.ends;
+    if MOST_SCRIPTS < parting.count {
         return refused(TOO_MANY_SCRIPTS);
     }
     play(

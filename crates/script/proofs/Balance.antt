@@ -9,13 +9,13 @@ use lib.ListN.{length}
 use Rattle.logic.proofs.BooleanLaws.{absurd-false}
 use Rattle.language.specs.Syntax.{Part, first, second, pick, Expr, val, loc, var, plus, left, right, pack, unpack}
 use Rattle.language.specs.Syntax.{pairing, proj, Cmd, skip, seq, assign, while, case}
-use Rattle.script.specs.Lines.{Line, l-proj, exprLines, cmdLines}
+use Rattle.script.specs.Lines.{ScriptLine, l-proj, exprLines, cmdLines}
 use Rattle.script.specs.Internal.Code.{rowOf}
 use Rattle.script.specs.Internal.Pieces.{operandCount}
 use Rattle.script.specs.Internal.Balance.{lineOperands, closes, allOperands}
 
 -- the trees after a line of so many operands: with a sum by which the walk goes on
-after : (n k m : ℕ) (ls : List Line) {b : Bool} → n + k ≡ m → closes m ls ≡ b → closes (n + k) ls ≡ b
+after : (n k m : ℕ) (ls : List ScriptLine) {b : Bool} → n + k ≡ m → closes m ls ≡ b → closes (n + k) ls ≡ b
 after n k m ls e h = ap (λ (i : ℕ). closes i ls) e ∙ h
 
 -- the line of each part has one operand
@@ -24,7 +24,7 @@ unfolding operandCount rowOf pick
 proj-operands first = refl
 proj-operands second = refl
 
-pub expr-closes : (e : Expr) (n : ℕ) (rest : List Line) → closes (suc n) (exprLines e rest) ≡ closes n rest
+pub expr-closes : (e : Expr) (n : ℕ) (rest : List ScriptLine) → closes (suc n) (exprLines e rest) ≡ closes n rest
 unfolding exprLines closes operandCount rowOf
 expr-closes (val v) n rest = after n 0 n rest (omega arith) refl
 expr-closes (loc x) n rest = after n 0 n rest (omega arith) refl
@@ -42,7 +42,7 @@ expr-closes (pairing t a b) n rest =
 expr-closes (proj p a) n rest =
     after n (lineOperands (l-proj p)) (suc n) (exprLines a rest) (omega (arith, proj-operands p)) (expr-closes a n rest)
 
-pub cmd-closes : (c : Cmd) (n : ℕ) (rest : List Line) → closes (suc n) (cmdLines c rest) ≡ closes n rest
+pub cmd-closes : (c : Cmd) (n : ℕ) (rest : List ScriptLine) → closes (suc n) (cmdLines c rest) ≡ closes n rest
 unfolding cmdLines closes operandCount rowOf
 cmd-closes skip n rest = after n 0 n rest (omega arith) refl
 cmd-closes (seq a b) n rest =
@@ -60,7 +60,7 @@ cmd-closes (case e a b) n rest =
 -- The lines of n trees have as many operands as lines, but for n. So where a call of a walk over the lines stands in an
 -- operand of a line, that line has taken as many lines as it has operands: two for a command around a command, one for
 -- an expression around another.
-pub closed-operands : (n : ℕ) (ls : List Line) → closes n ls ≡ true → allOperands ls + n ≡ length ls
+pub closed-operands : (n : ℕ) (ls : List ScriptLine) → closes n ls ≡ true → allOperands ls + n ≡ length ls
 unfolding closes allOperands
 closed-operands n [] h = omega (arith, eqb-true n 0 h)
 closed-operands zero (l ∷ ls) h = absurd (absurd-false h)

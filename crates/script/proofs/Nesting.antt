@@ -5,10 +5,10 @@ use native.Mathlib.Omega.{arith}
 use lib.ListN.{length}
 use Rattle.language.specs.Syntax.{Expr, val, loc, var, plus, left, right, pack, unpack, pairing, proj, Cmd, skip, seq}
 use Rattle.language.specs.Syntax.{assign, while, case}
-use Rattle.script.specs.Lines.{Line, exprLines, cmdLines}
+use Rattle.script.specs.Lines.{ScriptLine, exprLines, cmdLines}
 use Rattle.script.specs.Internal.Nesting.{exprNesting, cmdNesting}
 
-pub expr-nesting : (e : Expr) (rest : List Line) → exprNesting e + length rest < length (exprLines e rest)
+pub expr-nesting : (e : Expr) (rest : List ScriptLine) → exprNesting e + length rest < length (exprLines e rest)
 unfolding exprNesting exprLines
 expr-nesting (val v) rest = omega arith
 expr-nesting (loc x) rest = omega arith
@@ -21,7 +21,7 @@ expr-nesting (unpack t l a) rest = omega (arith, expr-nesting a rest)
 expr-nesting (pairing t a b) rest = omega (arith, expr-nesting a (exprLines b rest), expr-nesting b rest)
 expr-nesting (proj p a) rest = omega (arith, expr-nesting a rest)
 
-pub cmd-nesting : (c : Cmd) (rest : List Line) → cmdNesting c + length rest < length (cmdLines c rest)
+pub cmd-nesting : (c : Cmd) (rest : List ScriptLine) → cmdNesting c + length rest < length (cmdLines c rest)
 unfolding cmdNesting cmdLines
 cmd-nesting skip rest = omega arith
 cmd-nesting (seq a b) rest = omega (arith, cmd-nesting a (cmdLines b rest), cmd-nesting b rest)

@@ -8,7 +8,7 @@ use lib.ListN.{length, drop, List·getD-eq-default}
 use Rattle.language.specs.Syntax.{int, Part, first, second, pick, val, loc, var, plus, left, right, pack, unpack}
 use Rattle.language.specs.Syntax.{pairing, proj, skip, seq, assign, while, case}
 use Rattle.script.specs.declared.Row.{Row}
-use Rattle.script.specs.Lines.{Line, l-skip, l-seq, l-assign, l-while, l-case, l-int, l-loc, l-var, l-plus}
+use Rattle.script.specs.Lines.{ScriptLine, l-skip, l-seq, l-assign, l-while, l-case, l-int, l-loc, l-var, l-plus}
 use Rattle.script.specs.Lines.{l-left, l-right, l-pack, l-unpack, l-pair, l-proj, s-int, s-loc, s-var, s-plus}
 use Rattle.script.specs.Lines.{s-left, s-right, s-pack, s-unpack, s-pair, s-proj, s-skip, s-seq, s-assign}
 use Rattle.script.specs.Lines.{s-while, s-case, integerOf, exprLines, cmdLines}
@@ -21,7 +21,7 @@ use Rattle.script.proofs.Rows.{row-of, row-within}
 
 -- ---- a line by the words of its row
 
-pub data View : ℕ → ℕ → ℕ → Line → Type 0 where
+pub data View : ℕ → ℕ → ℕ → ScriptLine → Type 0 where
   v-skip : View 1 0 0 l-skip
   v-seq : View 2 0 0 l-seq
   v-assign : {x : ℕ} → View 3 x 0 (l-assign x)
@@ -39,7 +39,7 @@ pub data View : ℕ → ℕ → ℕ → Line → Type 0 where
   v-first : View 15 0 0 (l-proj first)
   v-second : View 16 0 0 (l-proj second)
 
-pub view : (l : Line) → View (rowOf l .kind) (rowOf l .a) (rowOf l .b) l
+pub view : (l : ScriptLine) → View (rowOf l .kind) (rowOf l .a) (rowOf l .b) l
 unfolding rowOf pick
 view l-skip = v-skip
 view l-seq = v-seq
@@ -94,11 +94,12 @@ pub no-node : {s : Sort} {ss : List Sort} {a b : ℕ} {f : Makes ss (Tree s)} �
 no-node = elim [ ]
 
 -- a line and its operands are the lines of what it makes of them
-abbrev pub Made : (s : Sort) (ss : List Sort) → Makes ss (Tree s) → (List Line → List Line) → Type 0
-Made s [] x lines = SourceOf s x × ((rest : List Line) → lines rest ≡ linesOf s x rest)
+abbrev pub Made : (s : Sort) (ss : List Sort) → Makes ss (Tree s) → (List ScriptLine → List ScriptLine) → Type 0
+Made s [] x lines = SourceOf s x × ((rest : List ScriptLine) → lines rest ≡ linesOf s x rest)
 Made s (t ∷ ss) f lines = (x : Tree t) → SourceOf t x → Made s ss (f x) (λ rest. lines (linesOf t x rest))
 
-pub made : {s : Sort} {ss : List Sort} {k a b : ℕ} {f : Makes ss (Tree s)} {l : Line} → Node s ss k a b f → View k a b l
+pub made : {s : Sort} {ss : List Sort} {k a b : ℕ} {f : Makes ss (Tree s)} {l : ScriptLine} → Node s ss k a b f
+    → View k a b l
     → Made s ss f (λ rest. l ∷ rest)
 unfolding exprLines cmdLines integerOf
 made n-skip v-skip = (s-skip, λ rest. refl)
@@ -118,9 +119,9 @@ made n-pair v-pair = λ e u f v. (s-pair u v, λ rest. refl)
 made n-first v-first = λ e u. (s-proj u, λ rest. refl)
 made n-second v-second = λ e u. (s-proj u, λ rest. refl)
 
-module _ (ws : List ℕ) (at : ℕ) (rest : List Line) where
+module _ (ws : List ℕ) (at : ℕ) (rest : List ScriptLine) where
   -- P holds of what is made of trees whose lines stand one after another behind the line
-  abbrev pub OfOperands : (s : Sort) (ss : List Sort) → Makes ss (Tree s) → (List Line → List Line)
+  abbrev pub OfOperands : (s : Sort) (ss : List Sort) → Makes ss (Tree s) → (List ScriptLine → List ScriptLine)
       → (Tree s → Type 0) → Type 0
   OfOperands s [] x lines P = drop (at + 3) ws ≡ code (lines rest) → P x
   OfOperands s (t ∷ ss) f lines P =
@@ -156,14 +157,14 @@ operands-none (suc k) f =
     let g : suc k < 17 → ⊥ = f (omega arith) in sym (List·getD-eq-default operandCounts 4 {n = suc k} (omega arith))
 
 module _ (ws : List ℕ) (at : ℕ) where
-  pub data Parts (rest : List Line) : ℕ → Type 0 where
+  pub data Parts (rest : List ScriptLine) : ℕ → Type 0 where
     no-parts : drop (at + 3) ws ≡ code rest → Parts rest 0
-    one-part : {ls : List Line} → Piece ls rest → drop (at + 3) ws ≡ code ls → Parts rest 1
-    two-parts : {ls mid : List Line} → Piece ls mid → Piece mid rest → drop (at + 3) ws ≡ code ls → Parts rest 2
-    three-parts : {ls mid end : List Line} → Piece ls mid → Piece mid end → Piece end rest
+    one-part : {ls : List ScriptLine} → Piece ls rest → drop (at + 3) ws ≡ code ls → Parts rest 1
+    two-parts : {ls mid : List ScriptLine} → Piece ls mid → Piece mid rest → drop (at + 3) ws ≡ code ls → Parts rest 2
+    three-parts : {ls mid end : List ScriptLine} → Piece ls mid → Piece mid end → Piece end rest
         → drop (at + 3) ws ≡ code ls → Parts rest 3
 
-  row-parts : {rest : List Line} {s : Sort} {k a b : ℕ} {x : Tree s} → RowOf ws at rest s k a b x
+  row-parts : {rest : List ScriptLine} {s : Sort} {k a b : ℕ} {x : Tree s} → RowOf ws at rest s k a b x
       → Parts rest (operandCount k)
   unfolding operandCount
   row-parts (at-skip h) = no-parts h
@@ -184,12 +185,12 @@ module _ (ws : List ℕ) (at : ℕ) where
   row-parts (at-second s h) = one-part (an-expression s) h
 
   -- what follows the row that was read, where a piece starts
-  pub parts : {ls rest : List Line} {row : Row} → row ≡ rowAt ws at → Piece ls rest → drop at ws ≡ code ls
+  pub parts : {ls rest : List ScriptLine} {row : Row} → row ≡ rowAt ws at → Piece ls rest → drop at ws ≡ code ls
       → Parts rest (operandCount (row .kind))
   parts {rest = rest} q (an-expression {e} s) h = row-parts (row-of ws at expression e rest q refl s h)
   parts {rest = rest} q (a-command {c} s) h = row-parts (row-of ws at command c rest q refl s h)
 
-  pub few-parts : {rest : List Line} {n : ℕ} → Parts rest n → n < 4
+  pub few-parts : {rest : List ScriptLine} {n : ℕ} → Parts rest n → n < 4
   few-parts (no-parts h) = omega arith
   few-parts (one-part p h) = omega arith
   few-parts (two-parts p q h) = omega arith

@@ -14,9 +14,9 @@ use lib.Seq.{getD-drop, drop-drop}
 use Rattle.language.specs.Syntax.{int, Part, pick, Expr, val, loc, var, plus, left, right, pack, unpack, pairing, proj}
 use Rattle.language.specs.Syntax.{Cmd, skip, seq, assign, while, case}
 use Rattle.script.specs.declared.Row.{Row}
-use Rattle.script.specs.Lines.{Line, SourceE, s-int, s-loc, s-var, s-plus, s-left, s-right, s-pack, s-unpack}
-use Rattle.script.specs.Lines.{s-pair, s-proj, Source, s-skip, s-seq, s-assign, s-while, s-case, integerOf}
-use Rattle.script.specs.Lines.{exprLines, cmdLines}
+use Rattle.script.specs.Lines.{ScriptLine, SourceE, s-int, s-loc, s-var, s-plus, s-left, s-right, s-pack}
+use Rattle.script.specs.Lines.{s-unpack, s-pair, s-proj, Source, s-skip, s-seq, s-assign, s-while, s-case}
+use Rattle.script.specs.Lines.{integerOf, exprLines, cmdLines}
 use Rattle.script.specs.Internal.Code.{rowWith, rowOf, code, rowAt}
 use Rattle.script.specs.Internal.Pieces.{Sort, expression, command, Tree, SourceOf, linesOf}
 
@@ -42,7 +42,7 @@ row-within ws at q h = on (leb (at + 3) (length ws)) refl
 -- ---- the row of a tree, by its kind: its words, its parts, and what stands after it
 
 module _ (ws : List ℕ) (at : ℕ) where
-  pub data RowOf (rest : List Line) : (s : Sort) → ℕ → ℕ → ℕ → Tree s → Type 0 where
+  pub data RowOf (rest : List ScriptLine) : (s : Sort) → ℕ → ℕ → ℕ → Tree s → Type 0 where
     at-skip : drop (at + 3) ws ≡ code rest → RowOf rest command 1 0 0 skip
     at-seq : {c d : Cmd} → Source c → Source d → drop (at + 3) ws ≡ code (cmdLines c (cmdLines d rest))
         → RowOf rest command 2 0 0 (seq c d)
@@ -73,10 +73,10 @@ module _ (ws : List ℕ) (at : ℕ) where
     at-second : {e : Expr} → SourceE e → drop (at + 3) ws ≡ code (exprLines e rest)
         → RowOf rest expression 16 0 0 (proj Part.second e)
 
-  abbrev pub ExprRow : List Line → ℕ → ℕ → ℕ → Expr → Type 0
+  abbrev pub ExprRow : List ScriptLine → ℕ → ℕ → ℕ → Expr → Type 0
   ExprRow rest = RowOf rest expression
 
-  abbrev pub CmdRow : List Line → ℕ → ℕ → ℕ → Cmd → Type 0
+  abbrev pub CmdRow : List ScriptLine → ℕ → ℕ → ℕ → Cmd → Type 0
   CmdRow rest = RowOf rest command
 
   -- a family over the three words of the row holds of the row that is read
@@ -91,7 +91,7 @@ module _ (ws : List ℕ) (at : ℕ) where
       let e2 : getD ws (at + 2) 0 ≡ b = sym (getD-drop at ws 2 0) ∙ ap (λ (l : List ℕ). getD l 2 0) h in
       rw (row-there ws at n, e0, e1, e2) (p (sym (drop-drop 3 at ws) ∙ ap (λ (l : List ℕ). drop 3 l) h))
 
-  expr-row : {rest : List Line} {e : Expr} → SourceE e → drop at ws ≡ code (exprLines e rest)
+  expr-row : {rest : List ScriptLine} {e : Expr} → SourceE e → drop at ws ≡ code (exprLines e rest)
       → ExprRow rest (rowAt ws at .kind) (rowAt ws at .a) (rowAt ws at .b) e
   unfolding exprLines code rowOf integerOf pick
   expr-row {rest} s-int h = row-read (ExprRow rest) _ _ _ _ _ h at-int
@@ -106,7 +106,7 @@ module _ (ws : List ℕ) (at : ℕ) where
   expr-row {rest} (s-proj {p = Part.first} s) h = row-read (ExprRow rest) _ _ _ _ _ h (at-first s)
   expr-row {rest} (s-proj {p = Part.second} s) h = row-read (ExprRow rest) _ _ _ _ _ h (at-second s)
 
-  cmd-row : {rest : List Line} {c : Cmd} → Source c → drop at ws ≡ code (cmdLines c rest)
+  cmd-row : {rest : List ScriptLine} {c : Cmd} → Source c → drop at ws ≡ code (cmdLines c rest)
       → CmdRow rest (rowAt ws at .kind) (rowAt ws at .a) (rowAt ws at .b) c
   unfolding cmdLines code rowOf
   cmd-row {rest} s-skip h = row-read (CmdRow rest) _ _ _ _ _ h at-skip
@@ -115,19 +115,19 @@ module _ (ws : List ℕ) (at : ℕ) where
   cmd-row {rest} (s-while s r) h = row-read (CmdRow rest) _ _ _ _ _ h (at-while s r)
   cmd-row {rest} (s-case s p q) h = row-read (CmdRow rest) _ _ _ _ _ h (at-case s p q)
 
-  tree-row : (s : Sort) (x : Tree s) (rest : List Line) → SourceOf s x → drop at ws ≡ code (linesOf s x rest)
+  tree-row : (s : Sort) (x : Tree s) (rest : List ScriptLine) → SourceOf s x → drop at ws ≡ code (linesOf s x rest)
       → RowOf rest s (rowAt ws at .kind) (rowAt ws at .a) (rowAt ws at .b) x
   tree-row expression e rest u h = expr-row u h
   tree-row command c rest u h = cmd-row u h
 
   -- the row that was read is that of the tree whose lines stand there
-  pub row-of : (s : Sort) (x : Tree s) (rest : List Line) {row : Row} {k : ℕ} → row ≡ rowAt ws at
+  pub row-of : (s : Sort) (x : Tree s) (rest : List ScriptLine) {row : Row} {k : ℕ} → row ≡ rowAt ws at
       → row .kind ≡ k → SourceOf s x
       → drop at ws ≡ code (linesOf s x rest) → RowOf rest s k (row .a) (row .b) x
   row-of s x rest q h u w = rw (← q, h) at (tree-row s x rest u w)
 
   -- the row where lines stand is that of the first, and the others stand after it
-  pub line-there : (l : Line) (ls : List Line) → drop at ws ≡ code (l ∷ ls)
+  pub line-there : (l : ScriptLine) (ls : List ScriptLine) → drop at ws ≡ code (l ∷ ls)
       → (rowAt ws at ≡ rowOf l) × (drop (at + 3) ws ≡ code ls)
   unfolding code
   line-there l ls g =
@@ -148,7 +148,7 @@ abbrev pub KindOf : Sort → ℕ → Type 0
 KindOf command k = (1 ≤ k) × (k < 6)
 KindOf expression k = (6 ≤ k) × (k < 17)
 
-row-kind : {ws : List ℕ} {at : ℕ} {rest : List Line} {s : Sort} {k a b : ℕ} {x : Tree s}
+row-kind : {ws : List ℕ} {at : ℕ} {rest : List ScriptLine} {s : Sort} {k a b : ℕ} {x : Tree s}
     → RowOf ws at rest s k a b x → KindOf s k
 row-kind (at-skip h) = (omega arith, omega arith)
 row-kind (at-seq s r h) = (omega arith, omega arith)
@@ -168,7 +168,7 @@ row-kind (at-first s h) = (omega arith, omega arith)
 row-kind (at-second s h) = (omega arith, omega arith)
 
 -- no tree starts where the row's kind is none of its sort's
-pub not-here : (s : Sort) (x : Tree s) (rest : List Line) (ws : List ℕ) (at : ℕ) {row : Row} → row ≡ rowAt ws at
+pub not-here : (s : Sort) (x : Tree s) (rest : List ScriptLine) (ws : List ℕ) (at : ℕ) {row : Row} → row ≡ rowAt ws at
     → (KindOf s (row .kind) → ⊥)
     → SourceOf s x → drop at ws ≡ code (linesOf s x rest) → ⊥
 not-here s x rest ws at q f u w = f (row-kind (row-of ws at s x rest q refl u w))

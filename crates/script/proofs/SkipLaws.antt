@@ -4,7 +4,7 @@ use mathlib.Core.List.{List}
 use Prim.Native.Nat.{ℕ, _+_, _≤_, _<_}
 use native.Mathlib.Omega.{arith}
 use lib.ListN.{length, drop}
-use Rattle.script.specs.Lines.{Line}
+use Rattle.script.specs.Lines.{ScriptLine}
 use Rattle.script.specs.Internal.Code.{code, rowAt}
 use Rattle.script.specs.Internal.Pieces.{operandCount}
 use Rattle.script.specs.declared.Row.{Row}
@@ -17,7 +17,8 @@ module _ (ws : List ℕ) (at : ℕ) {row : Row} {n : ℕ} (r : row ≡ rowAt ws 
   pub line-in : n < 4 → at + 3 ≤ length ws
   line-in l = counted-within ws at r (omega arith)
 
-  by-parts : {m next : ℕ} → n ≡ m → at ≤ next → ((rest : List Line) → Parts ws at rest m → drop next ws ≡ code rest)
+  by-parts : {m next : ℕ} → n ≡ m → at ≤ next
+      → ((rest : List ScriptLine) → Parts ws at rest m → drop next ws ≡ code rest)
       → Skips ws at next
   by-parts e f p =
       record {
@@ -28,26 +29,26 @@ module _ (ws : List ℕ) (at : ℕ) {row : Row} {n : ℕ} (r : row ≡ rowAt ws 
   pub skip-line : n ≡ 0 → Skips ws at (at + 3)
   skip-line e = by-parts e (omega arith) one
     where
-      one : (rest : List Line) → Parts ws at rest 0 → drop (at + 3) ws ≡ code rest
+      one : (rest : List ScriptLine) → Parts ws at rest 0 → drop (at + 3) ws ≡ code rest
       one rest (no-parts h) = h
 
   pub skip-one : {next : ℕ} → n ≡ 1 → Skips ws (at + 3) next → Skips ws at next
   skip-one {next} e s = by-parts e (omega (arith, s .forward)) one
     where
-      one : (rest : List Line) → Parts ws at rest 1 → drop next ws ≡ code rest
+      one : (rest : List ScriptLine) → Parts ws at rest 1 → drop next ws ≡ code rest
       one rest (one-part {ls = ls} p h) = s .means ls rest p h
 
   pub skip-two : {second next : ℕ} → n ≡ 2 → Skips ws (at + 3) second → Skips ws second next → Skips ws at next
   skip-two {second} {next} e s t = by-parts e (omega (arith, s .forward, t .forward)) two
     where
-      two : (rest : List Line) → Parts ws at rest 2 → drop next ws ≡ code rest
+      two : (rest : List ScriptLine) → Parts ws at rest 2 → drop next ws ≡ code rest
       two rest (two-parts {ls = ls} {mid = mid} p q h) = t .means mid rest q (s .means ls mid p h)
 
   pub skip-three : {second third next : ℕ} → n ≡ 3 → Skips ws (at + 3) second → Skips ws second third
       → Skips ws third next → Skips ws at next
   skip-three {second} {third} {next} e s t u = by-parts e (omega (arith, s .forward, t .forward, u .forward)) three
     where
-      three : (rest : List Line) → Parts ws at rest 3 → drop next ws ≡ code rest
+      three : (rest : List ScriptLine) → Parts ws at rest 3 → drop next ws ≡ code rest
       three rest (three-parts {ls = ls} {mid = mid} {end = end} p q x h) =
           u .means end rest x (t .means mid end q (s .means ls mid p h))
 

@@ -7,16 +7,16 @@ use Rattle.language.specs.Syntax.{Value, int, err, inl, inr, pkg, pair, blank, 
 use Rattle.language.specs.Syntax.{right, pack, unpack, pairing, proj, Cmd, skip, seq, assign, while, case, Opening}
 
 -- One line of each kind, with its operands' numbers; `l-proj` is the line of a first part and that of a second.
-pub data Line : Type 0 where
-  l-skip l-seq : Line
-  l-assign : ℕ → Line
-  l-while l-case : Line
-  l-int l-loc l-var : ℕ → Line
-  l-plus : Line
-  l-left l-right l-pack : ℕ → Line
-  l-unpack : ℕ → ℕ → Line
-  l-pair : ℕ → Line
-  l-proj : Part → Line
+pub data ScriptLine : Type 0 where
+  l-skip l-seq : ScriptLine
+  l-assign : ℕ → ScriptLine
+  l-while l-case : ScriptLine
+  l-int l-loc l-var : ℕ → ScriptLine
+  l-plus : ScriptLine
+  l-left l-right l-pack : ℕ → ScriptLine
+  l-unpack : ℕ → ℕ → ScriptLine
+  l-pair : ℕ → ScriptLine
+  l-proj : Part → ScriptLine
 
 -- An expression as a script has it: its only values are integers.
 pub data SourceE : Expr → Type 0 where
@@ -50,7 +50,7 @@ integerOf (pair v w) = 0
 integerOf blank = 0
 
 -- The lines of an expression in prefix order, then rest.
-unfoldable pub exprLines : Expr → List Line → List Line
+unfoldable pub exprLines : Expr → List ScriptLine → List ScriptLine
 exprLines (val v) rest = l-int (integerOf v) ∷ rest
 exprLines (loc x) rest = l-loc x ∷ rest
 exprLines (var d) rest = l-var d ∷ rest
@@ -63,7 +63,7 @@ exprLines (pairing t a b) rest = l-pair t ∷ exprLines a (exprLines b rest)
 exprLines (proj p a) rest = l-proj p ∷ exprLines a rest
 
 -- The lines of a command in prefix order, then rest.
-unfoldable pub cmdLines : Cmd → List Line → List Line
+unfoldable pub cmdLines : Cmd → List ScriptLine → List ScriptLine
 cmdLines skip rest = l-skip ∷ rest
 cmdLines (seq a b) rest = l-seq ∷ cmdLines a (cmdLines b rest)
 cmdLines (assign x e) rest = l-assign x ∷ exprLines e rest

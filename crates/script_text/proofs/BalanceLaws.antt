@@ -9,7 +9,7 @@ use borrow.Author.Tests.{leb-true}
 use Rattle.logic.specs.Booleans.{both}
 use Rattle.logic.proofs.BooleanLaws.{both-left, both-right}
 use lib.ListN.{length, getD, drop, length-drop, drop-of-length-le}
-use Rattle.script.specs.Lines.{Line}
+use Rattle.script.specs.Lines.{ScriptLine}
 use Rattle.script.specs.declared.Row.{Row}
 use Rattle.script.specs.Internal.Code.{code, rowAt}
 use Rattle.script.specs.Internal.Pieces.{operandCounts, operandCount}
@@ -36,23 +36,24 @@ module _ (ws : List ℕ) (at : ℕ) where
   -- The lines from a word on are those of n trees exactly if all lines are those of one.
   abbrev pub Due : ℕ → Type 0
   Due n =
-      (ls : List Line) → ws ≡ code ls → (rest : List Line) × (drop at ws ≡ code rest) × (closes 1 ls ≡ closes n rest)
+      (ls : List ScriptLine) → ws ≡ code ls
+      → (rest : List ScriptLine) × (drop at ws ≡ code rest) × (closes 1 ls ≡ closes n rest)
 
   -- a line stands where words are left
-  first-line : (rest : List Line) → at < length ws → drop at ws ≡ code rest
-      → (l : Line) × (ls : List Line) × (rest ≡ l ∷ ls)
+  first-line : (rest : List ScriptLine) → at < length ws → drop at ws ≡ code rest
+      → (l : ScriptLine) × (ls : List ScriptLine) × (rest ≡ l ∷ ls)
   unfolding code
   first-line [] h e = absurd (omega (arith, length-drop at ws, ap length e))
   first-line (l ∷ ls) h e = (l, ls, refl)
 
-  pub due-none : Due 0 → at < length ws → (ls : List Line) → ws ≡ code ls → false ≡ closes 1 ls
+  pub due-none : Due 0 → at < length ws → (ls : List ScriptLine) → ws ≡ code ls → false ≡ closes 1 ls
   unfolding closes
   due-none o h ls e =
       let r = o ls e in
       let f = first-line (r .0) h (r .1) in
       sym (r .2 ∙ ap (closes 0) (f .2))
 
-  pub due-end : (n : ℕ) → Due n → length ws ≤ at → (ls : List Line) → ws ≡ code ls → eqb n 0 ≡ closes 1 ls
+  pub due-end : (n : ℕ) → Due n → length ws ≤ at → (ls : List ScriptLine) → ws ≡ code ls → eqb n 0 ≡ closes 1 ls
   unfolding closes
   due-end n o h ls e =
       let r = o ls e in
@@ -65,8 +66,8 @@ module _ (ws : List ℕ) (at : ℕ) {row : Row} (q : row ≡ rowAt ws at) where
   unfolding closes
   due-more n k o h z e ls w = on n z (o ls w)
     where
-      on : (j : ℕ) → (j ≡ 0 → ⊥) → (rest : List Line) × (drop at ws ≡ code rest) × (closes 1 ls ≡ closes j rest)
-          → (rest : List Line) × (drop (at + 3) ws ≡ code rest) × (closes 1 ls ≡ closes (j - 1 + k) rest)
+      on : (j : ℕ) → (j ≡ 0 → ⊥) → (rest : List ScriptLine) × (drop at ws ≡ code rest) × (closes 1 ls ≡ closes j rest)
+          → (rest : List ScriptLine) × (drop (at + 3) ws ≡ code rest) × (closes 1 ls ≡ closes (j - 1 + k) rest)
       on zero n r = absurd (n refl)
       on (suc j) n r =
           let f = first-line ws at (r .0) h (r .1) in

@@ -9,13 +9,13 @@ use lib.Seq.{sets}
 use Rattle.text.specs.Lines.{front, linesUpTo}
 use Rattle.text.proofs.Writings.{sets-zeros}
 use Rattle.text.proofs.Lines.{lines-at-end, lines-at-full, lines-at-bad, lines-at-more, lines-exact}
-use Rattle.script.specs.Lines.{Line}
+use Rattle.script.specs.Lines.{ScriptLine}
 use Rattle.script.specs.Names.{maxLines}
 use Rattle.script.specs.Internal.Code.{rowOf, code}
 use Rattle.sheet.specs.Padding.{padded}
 use Rattle.script_text.specs.declared.LineRead.the-variants as read
 use Rattle.script_text.specs.declared.Reached.{Reached}
-use Rattle.script_text.specs.declared.Answer.the-variants as answer
+use Rattle.script_text.specs.declared.ParsedScript.the-variants as parsed
 use Rattle.script_text.specs.Reading.{lineOf}
 use Rattle.script_text.specs.Internal.Decoded.{Decoded, codeWords, noCode, coded, codedLines}
 use Rattle.script_text.specs.Internal.Placed.{lineAt}
@@ -24,13 +24,13 @@ use Rattle.script_text.proofs.FoundLaws.{found-at, found-none}
 
 -- ---- three words a line
 
-pub code-length : (ls : List Line) → length (code ls) ≡ length ls * 3
+pub code-length : (ls : List ScriptLine) → length (code ls) ≡ length ls * 3
 unfolding code
 code-length [] = refl
 code-length (l ∷ ls) = omega (arith, code-length ls)
 
 -- only no lines have no code
-pub code-empty : (ls : List Line) → code ls ≡ [] → ls ≡ []
+pub code-empty : (ls : List ScriptLine) → code ls ≡ [] → ls ≡ []
 unfolding code
 code-empty [] h = refl
 code-empty (l ∷ ls) h = absurd (omega (arith, ap length h))
@@ -42,14 +42,14 @@ abbrev pub put : List ℕ → ℕ → ℕ → ℕ → ℕ → List ℕ
 put w n k a b = set (set (set w (n * 3) k) (n * 3 + 1) a) (n * 3 + 2) b
 
 -- n lines after a start, and further ones
-unfoldable pub tabled : ℕ → ℕ → List ℕ → Option (List Line) → Decoded
+unfoldable pub tabled : ℕ → ℕ → List ℕ → Option (List ScriptLine) → Decoded
 tabled start n w none = noCode
 tabled start n w (some ls) =
-    record { answer = answer.Read; count = n + length ls; start = start; code = sets w (n * 3) (code ls) }
+    record { parsed = parsed.Read; count = n + length ls; start = start; code = sets w (n * 3) (code ls) }
 
 -- ---- the table of a text's lines, from line n and byte `at` on
 
-tabled-front : (start n : ℕ) (w : List ℕ) (l : Line) (o : Option (List Line))
+tabled-front : (start n : ℕ) (w : List ℕ) (l : ScriptLine) (o : Option (List ScriptLine))
     → tabled start n w (front l o) ≡ tabled start (n + 1) (put w n (rowOf l .kind) (rowOf l .a) (rowOf l .b)) o
 unfolding tabled front code
 tabled-front start n w l none = refl
@@ -64,7 +64,7 @@ tabled-front start n w l (some ls) =
 module _ (start m n : ℕ) (w : List ℕ) (s : List ℕ) (at : ℕ) where
   pub table-done : length s ≤ at
       → tabled start n w (linesUpTo lineOf (m - n) (drop at s))
-      ≡ record { answer = answer.Read; count = n; start = start; code = w }
+      ≡ record { parsed = parsed.Read; count = n; start = start; code = w }
   unfolding tabled code
   table-done h = let z : n + 0 ≡ n = omega arith in rw (lines-at-end lineOf m n s at h, z)
 
@@ -90,7 +90,7 @@ pub table-start : (start m : ℕ) (w t : List ℕ) → m ≤ maxLines → w ≡ 
 unfolding tabled codedLines coded padded
 table-start start m w t h e = let z : m - 0 ≡ m = omega arith in rw (e, z) (go (linesUpTo lineOf m t) refl)
   where
-    go : (o : Option (List Line)) → linesUpTo lineOf m t ≡ o
+    go : (o : Option (List ScriptLine)) → linesUpTo lineOf m t ≡ o
         → tabled start 0 (replicate codeWords 0) o ≡ codedLines start o
     go none e = refl
     go (some ls) e =

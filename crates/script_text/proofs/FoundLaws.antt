@@ -19,7 +19,7 @@ use Rattle.text.proofs.Places.{placed-got, placed-bad, placed-split}
 use Rattle.text.proofs.Fields.{byte-at, byte-bad, number-field-at, number-field-bad, last-number-at, last-number-bad}
 use Rattle.text.proofs.Lines.{line-within}
 use Rattle.script.specs.declared.Row.{Row}
-use Rattle.script.specs.Lines.{Line}
+use Rattle.script.specs.Lines.{ScriptLine}
 use Rattle.script.specs.Internal.Code.{rowOf}
 use Rattle.script_text.specs.declared.Found.{Found}
 use Rattle.script_text.specs.declared.Found.the-variants as found
@@ -30,31 +30,32 @@ use Rattle.script_text.specs.Internal.Placed.{placedLine, reached, lineA
 use Rattle.script_text.proofs.LineLaws.{script-lines}
 
 -- the answer to a line that was read
-found-got : (s : List ℕ) (want : Read Line) (l : Line) (k a b p : ℕ) → rowOf l ≡ record { kind = k; a = a; b = b }
+found-got : (s : List ℕ) (want : Read ScriptLine) (l : ScriptLine) (k a b p : ℕ)
+    → rowOf l ≡ record { kind = k; a = a; b = b }
     → want ≡ got l (drop p s) → p ≤ length s → found.At k a b p ≡ placedLine s want
 found-got s want l k a b p q e h =
     sym (ap (λ (r : Row). found.At (r .kind) (r .a) (r .b) p) q)
     ∙ placed-got (λ l p. found.At (rowOf l .kind) (rowOf l .a) (rowOf l .b) p) found.Refused s want l p e h
 
-found-bad : (s : List ℕ) (want : Read Line) → want ≡ bad → found.Refused ≡ placedLine s want
+found-bad : (s : List ℕ) (want : Read ScriptLine) → want ≡ bad → found.Refused ≡ placedLine s want
 found-bad s want e = placed-bad (λ l p. found.At (rowOf l .kind) (rowOf l .a) (rowOf l .b) p) found.Refused s want e
 
 -- ---- a line of each form
 
 module _ (s : List ℕ) (i k : ℕ) where
-  pub bare-got : (l : Line) (r : Place) (p : ℕ) → r ≡ placedEnd s (lineEnd (drop i s)) → r ≡ place.At p
+  pub bare-got : (l : ScriptLine) (r : Place) (p : ℕ) → r ≡ placedEnd s (lineEnd (drop i s)) → r ≡ place.At p
       → rowOf l ≡ record { kind = k; a = 0; b = 0 } → found.At k 0 0 p ≡ placedLine s (operandsOf (bare l) (drop i s))
   unfolding operandsOf
   bare-got l r p e g q =
       let x = byte-at s i 10 r e p g in
       found-got s _ l k 0 0 p q (andThen-got _ _ tt _ (x .0)) (x .1)
 
-  pub bare-none : (l : Line) (r : Place) → r ≡ placedEnd s (lineEnd (drop i s)) → r ≡ place.Refused
+  pub bare-none : (l : ScriptLine) (r : Place) → r ≡ placedEnd s (lineEnd (drop i s)) → r ≡ place.Refused
       → found.Refused ≡ placedLine s (operandsOf (bare l) (drop i s))
   unfolding operandsOf
   bare-none l r e g = found-bad s _ (andThen-bad _ _ (byte-bad s i 10 r e g))
 
-  pub one-got : (f : ℕ → Line) (r : Decimal) (a p : ℕ) → r ≡ placedDecimal s (lastNumber most (drop i s))
+  pub one-got : (f : ℕ → ScriptLine) (r : Decimal) (a p : ℕ) → r ≡ placedDecimal s (lastNumber most (drop i s))
       → r ≡ decimal.At a p
       → rowOf (f a) ≡ record { kind = k; a = a; b = 0 }
       → found.At k a 0 p ≡ placedLine s (operandsOf (one f) (drop i s))
@@ -63,12 +64,13 @@ module _ (s : List ℕ) (i k : ℕ) where
       let x = last-number-at s i most r e a p g in
       found-got s _ (f a) k a 0 p q (andThen-got _ _ a _ (x .0)) (x .1)
 
-  pub one-none : (f : ℕ → Line) (r : Decimal) → r ≡ placedDecimal s (lastNumber most (drop i s)) → r ≡ decimal.Refused
+  pub one-none : (f : ℕ → ScriptLine) (r : Decimal) → r ≡ placedDecimal s (lastNumber most (drop i s))
+      → r ≡ decimal.Refused
       → found.Refused ≡ placedLine s (operandsOf (one f) (drop i s))
   unfolding operandsOf
   one-none f r e g = found-bad s _ (andThen-bad _ _ (last-number-bad s i most r e g))
 
-  module _ (f : ℕ → ℕ → Line) (r : Decimal) (e : r ≡ placedDecimal s (numberField most (drop i s))) where
+  module _ (f : ℕ → ℕ → ScriptLine) (r : Decimal) (e : r ≡ placedDecimal s (numberField most (drop i s))) where
     pub two-got : (a b p q : ℕ) (t : Decimal) → r ≡ decimal.At a p → t ≡ placedDecimal s (lastNumber most (drop p s))
         → t ≡ decimal.At b q
         → rowOf (f a b) ≡ record { kind = k; a = a; b = b }
@@ -140,7 +142,7 @@ module _ (s : List ℕ) (i : ℕ) where
 
 module _ (s : List ℕ) (i : ℕ) (r : Reached) (e : r ≡ lineAt s i) where
   line-split : {P : Type 0}
-      → ((l : Line) (p : ℕ) → lineOf (drop i s) ≡ got l (drop p s) → p ≤ length s
+      → ((l : ScriptLine) (p : ℕ) → lineOf (drop i s) ≡ got l (drop p s) → p ≤ length s
       → r ≡ record { read = read.Line (rowOf l .kind) (rowOf l .a) (rowOf l .b); at = p } → P)
       → (lineOf (drop i s) ≡ bad → r ≡ record { read = read.Refused; at = i } → P) → P
   unfolding reached
@@ -150,7 +152,8 @@ module _ (s : List ℕ) (i : ℕ) (r : Reached) (e : r ≡ lineAt s i) where
       (λ l p x h y. f l p x h (e ∙ ap (reached i) y)) (λ x y. g x (e ∙ ap (reached i) y))
 
   pub found-at : {P : Type 0} (k a b : ℕ) → r .read ≡ read.Line k a b
-      → ((l : Line) → lineOf (drop i s) ≡ got l (drop (r .at) s) → r .at ≤ length s → rowOf l .kind ≡ k → rowOf l .a ≡ a
+      → ((l : ScriptLine) → lineOf (drop i s) ≡ got l (drop (r .at) s) → r .at ≤ length s → rowOf l .kind ≡ k
+      → rowOf l .a ≡ a
       → rowOf l .b ≡ b → P) → P
   found-at k a b g f = line-split
       (λ l p x h y. let z : p ≡ r .at = cc in f l (rw z at x) (rw z at h) (cc) (cc) (cc))

@@ -13,8 +13,8 @@ use Rattle.text.specs.Lines.{AllGood, LineForm}
 use Rattle.text.proofs.Readings.{not-bad, got-same, andThen-got, andThen-split, byte-here, byte-sound}
 use Rattle.text.proofs.Fields.{number-field-sound, number-field-print, last-number-sound, last-number-print}
 use Rattle.language.specs.Syntax.{Part, first, second, pick}
-use Rattle.script.specs.Lines.{Line, l-skip, l-seq, l-assign, l-while, l-case, l-int, l-loc, l-var, l-plus, l-left}
-use Rattle.script.specs.Lines.{l-right, l-pack, l-unpack, l-pair, l-proj}
+use Rattle.script.specs.Lines.{ScriptLine, l-skip, l-seq, l-assign, l-while, l-case, l-int, l-loc, l-var, l-plus}
+use Rattle.script.specs.Lines.{l-left, l-right, l-pack, l-unpack, l-pair, l-proj}
 use Rattle.script.specs.Internal.Code.{rowOf}
 use Rattle.script_text.specs.Bytes.{lineBytes}
 use Rattle.script_text.specs.Reading.{Form, bare, one, two, other, formOf, operandsOf, lineOf}
@@ -58,10 +58,10 @@ form-of b =
     f-other)))))))))))))))
 
 -- both operands are numbers of 32 bits
-abbrev pub Fits : Line → Type 0
+abbrev pub Fits : ScriptLine → Type 0
 Fits l = (rowOf l .a ≤ most) × (rowOf l .b ≤ most)
 
-abbrev pub AllFit : List Line → Type 0
+abbrev pub AllFit : List ScriptLine → Type 0
 AllFit ls = AllGood Fits ls
 
 -- what is not there is such a number
@@ -69,14 +69,14 @@ no-operand : 0 ≤ most
 no-operand = omega arith
 
 -- what is read of a line of each form
-bare-sound : (m l : Line) (t u : List ℕ) → operandsOf (bare m) t ≡ got l u → (t ≡ printLineEnd u) × (m ≡ l)
+bare-sound : (m l : ScriptLine) (t u : List ℕ) → operandsOf (bare m) t ≡ got l u → (t ≡ printLineEnd u) × (m ≡ l)
 unfolding operandsOf
 bare-sound m l t u e =
     andThen-split (lineEnd t) _ l u
     (λ x w f g. let s = got-same m l w u g in (byte-sound 10 t w x f ∙ ap printLineEnd (s .1), s .0)) e
 
-module _ (l : Line) (t u : List ℕ) (P : Type 0) where
-  one-sound : (f : ℕ → Line) → operandsOf (one f) t ≡ got l u
+module _ (l : ScriptLine) (t u : List ℕ) (P : Type 0) where
+  one-sound : (f : ℕ → ScriptLine) → operandsOf (one f) t ≡ got l u
       → ((a : ℕ) → t ≡ printNumberField a (printLineEnd u) → a ≤ most → f a ≡ l → P) → P
   unfolding operandsOf
   one-sound f e g =
@@ -86,7 +86,7 @@ module _ (l : Line) (t u : List ℕ) (P : Type 0) where
       let n = last-number-sound most t a w x in
       g a (n .0 ∙ ap (λ v. printNumberField a (printLineEnd v)) (s .1)) (n .1) (s .0)) e
 
-  two-sound : (f : ℕ → ℕ → Line) → operandsOf (two f) t ≡ got l u
+  two-sound : (f : ℕ → ℕ → ScriptLine) → operandsOf (two f) t ≡ got l u
       → ((a b : ℕ) → t ≡ printNumberField a (printNumberField b (printLineEnd u)) → a ≤ most → b ≤ most → f a b ≡ l → P)
       → P
   unfolding operandsOf
@@ -100,7 +100,7 @@ module _ (l : Line) (t u : List ℕ) (P : Type 0) where
       g a b (m .0 ∙ ap (printNumberField a) (n .0 ∙ ap (λ r. printNumberField b (printLineEnd r)) (s .1))) (m .1)
       (n .1) (s .0))) e
 
-formed-sound : {b : ℕ} {f : Form} (l : Line) (t u : List ℕ) → Formed b f → operandsOf f t ≡ got l u
+formed-sound : {b : ℕ} {f : Form} (l : ScriptLine) (t u : List ℕ) → Formed b f → operandsOf f t ≡ got l u
     → (b ∷ t ≡ lineBytes l u) × Fits l
 unfolding lineBytes rowOf
 formed-sound l t u f-skip e = let r = bare-sound _ l t u e in rw (← r .1, r .0) (refl, (no-operand, no-operand))
@@ -120,7 +120,7 @@ formed-sound l t u f-pair e = one-sound l t u _ _ e (λ a x h y. rw (← y, x) (
 formed-sound l t u f-unpack e = two-sound l t u _ _ e (λ a b x h k y. rw (← y, x) (refl, (h, k)))
 formed-sound l t u f-other e = unfold operandsOf in not-bad l u e
 
-line-sound : (t : List ℕ) (l : Line) (u : List ℕ) → lineOf t ≡ got l u → (t ≡ lineBytes l u) × Fits l
+line-sound : (t : List ℕ) (l : ScriptLine) (u : List ℕ) → lineOf t ≡ got l u → (t ≡ lineBytes l u) × Fits l
 unfolding lineOf
 line-sound [] l u e = not-bad l u e
 line-sound (b ∷ t) l u e = formed-sound l t u (form-of b) e
@@ -128,22 +128,23 @@ line-sound (b ∷ t) l u e = formed-sound l t u (form-of b) e
 -- ---- printed lines are read
 
 module _ (u : List ℕ) where
-  bare-print : (l : Line) → operandsOf (bare l) (printLineEnd u) ≡ got l u
+  bare-print : (l : ScriptLine) → operandsOf (bare l) (printLineEnd u) ≡ got l u
   unfolding operandsOf
   bare-print l = andThen-got _ _ tt u (byte-here 10 10 u refl)
 
-  one-print : (f : ℕ → Line) (a : ℕ) → a ≤ most → operandsOf (one f) (printNumberField a (printLineEnd u)) ≡ got (f a) u
+  one-print : (f : ℕ → ScriptLine) (a : ℕ) → a ≤ most
+      → operandsOf (one f) (printNumberField a (printLineEnd u)) ≡ got (f a) u
   unfolding operandsOf
   one-print f a h = andThen-got _ _ a u (last-number-print most a u h)
 
-  two-print : (f : ℕ → ℕ → Line) (a b : ℕ) → a ≤ most → b ≤ most
+  two-print : (f : ℕ → ℕ → ScriptLine) (a b : ℕ) → a ≤ most → b ≤ most
       → operandsOf (two f) (printNumberField a (printNumberField b (printLineEnd u))) ≡ got (f a b) u
   unfolding operandsOf opensDigit digit both
   two-print f a b h k =
       andThen-got _ _ a _ (number-field-print most a (printNumberField b (printLineEnd u)) h refl)
       ∙ andThen-got _ _ b u (last-number-print most b u k)
 
-line-print : (l : Line) (u : List ℕ) → Fits l → lineOf (lineBytes l u) ≡ got l u
+line-print : (l : ScriptLine) (u : List ℕ) → Fits l → lineOf (lineBytes l u) ≡ got l u
 unfolding lineBytes lineOf formOf rowOf pick
 line-print l-skip u h = bare-print u l-skip
 line-print l-seq u h = bare-print u l-seq
@@ -165,7 +166,7 @@ line-print (l-proj second) u h = bare-print u (l-proj second)
 -- ---- the form of lines
 
 -- a line's bytes come before what follows it
-line-before : (l : Line) (u : List ℕ) → lineBytes l u ≡ lineBytes l [] ++ u
+line-before : (l : ScriptLine) (u : List ℕ) → lineBytes l u ≡ lineBytes l [] ++ u
 unfolding lineBytes
 line-before l-skip u = refl
 line-before l-seq u = refl

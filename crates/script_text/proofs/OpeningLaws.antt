@@ -22,7 +22,7 @@ use Rattle.text.proofs.Fields.{last-number-at, last-number-bad, last-number-sou
 use Rattle.logic.proofs.BooleanLaws.{cond-split}
 use Rattle.logic.proofs.OptionLaws.{none-some, some-path}
 use Rattle.language.specs.Syntax.{Cmd, skip, seq, assign, while, case, Opening}
-use Rattle.script.specs.Lines.{Line, cmdLines, startLines, openingLines}
+use Rattle.script.specs.Lines.{ScriptLine, cmdLines, startLines, openingLines}
 use Rattle.script.specs.Names.{maxLines}
 use Rattle.sheet.specs.Internal.Starts.{startNo}
 use Rattle.script_text.specs.Bytes.{lineBytes, linesBytes, startBytes, openingBytes}
@@ -170,7 +170,7 @@ module _ (s : List ℕ) where
   -- ---- what follows from an answer
 
   -- the lines after an opening, with its start
-  coded-after : (o : Opening) (ls : Option (List Line))
+  coded-after : (o : Opening) (ls : Option (List ScriptLine))
       → codedText (writtenWith o ls) ≡ codedLines (startNo (o .start)) ls
   unfolding codedText codedLines writtenWith
   coded-after o none = refl

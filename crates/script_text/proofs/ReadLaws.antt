@@ -11,7 +11,7 @@ use lib.Seq.{take-at}
 use borrow.Author.Tests.{leb-true, le-leb, ne-eqb}
 use Rattle.logic.specs.Booleans.{both, either}
 use Rattle.language.specs.Syntax.{Cmd, Opening, Script}
-use Rattle.script.specs.Lines.{Line, Source, cmdLines}
+use Rattle.script.specs.Lines.{ScriptLine, Source, cmdLines}
 use Rattle.script.specs.Internal.Code.{code}
 use Rattle.script.specs.Internal.Balance.{closes}
 use Rattle.script.proofs.Balance.{cmd-closes}
@@ -21,7 +21,7 @@ use Rattle.sheet.specs.Padding.{padded}
 use Rattle.sheet.specs.Internal.Starts.{startNo}
 use Rattle.sheet.proofs.Words.{length-padded}
 use Rattle.script_text.specs.Internal.Decoded.{Decoded, codeWords, noCode, coded, codedText, decodedScript}
-use Rattle.script_text.specs.declared.Answer.the-variants as answer
+use Rattle.script_text.specs.declared.ParsedScript.the-variants as parsed
 use Rattle.script_text.specs.declared.Scanned.{Scanned}
 use Rattle.script_text.specs.Reading.{Written, writtenOf}
 use Rattle.script_text.specs.Internal.Parse.{stackOf, onlyCommand, parse}
@@ -52,7 +52,7 @@ is-some o c e = rw e
 
 module _ (k : Counts) (ws : List ℕ) (r : Scanned) (s : ScansCmd k 0 ws 0 r) where
   -- the lines are those of a command exactly if one was found and it ends where the code does
-  whole-complete : (ls : List Line) → ws ≡ code ls → isSome (commandOf k ls) ≡ true
+  whole-complete : (ls : List ScriptLine) → ws ≡ code ls → isSome (commandOf k ls) ≡ true
       → (r .ok ≡ true) × (length ws ≤ r .next)
   unfolding code
   whole-complete ls h t =
@@ -61,7 +61,8 @@ module _ (k : Counts) (ws : List ℕ) (r : Scanned) (s : ScansCmd k 0 ws 0 r) wh
       let e = s .complete (o .0) [] (c .1) (c .2) (h ∙ ap code (c .0)) in
       (e .0, omega (arith, length-drop (r .next) ws, ap length (e .1)))
 
-  whole-sound : (ls : List Line) → ws ≡ code ls → r .ok ≡ true → length ws ≤ r .next → isSome (commandOf k ls) ≡ true
+  whole-sound : (ls : List ScriptLine) → ws ≡ code ls → r .ok ≡ true → length ws ≤ r .next
+      → isSome (commandOf k ls) ≡ true
   whole-sound ls h t l =
       let f = s .sound ls h t in
       let e : f .1 ≡ [] = code-empty (f .1) (sym (f .5) ∙ drop-of-length-le ws l) in
@@ -89,7 +90,7 @@ whole-unbalanced k ws b f e ls h = on (isSome (commandOf k ls)) refl
 
 -- ---- the code of lines, filled up with zeros
 
-coded-code : (ls : List Line) → take (length ls * 3) (padded codeWords (code ls)) ≡ code ls
+coded-code : (ls : List ScriptLine) → take (length ls * 3) (padded codeWords (code ls)) ≡ code ls
 unfolding padded
 coded-code ls = take-at (code ls) _ (length ls * 3) (code-length ls)
 
@@ -154,9 +155,9 @@ module _ (k : Counts) (t : List ℕ) (s : Decoded) (e : s ≡ codedText (written
 
 -- the answer r is a refusal, or the code of the text's script and its start
 pub read-split : {P : Type 0} (k : Counts) (t : List ℕ) (r : Decoded) → r ≡ decodedScript (scriptOf k t)
-    → (scriptOf k t ≡ none → r .answer ≡ answer.Refused → P)
+    → (scriptOf k t ≡ none → r .parsed ≡ parsed.Refused → P)
     → ((p : Script) → scriptOf k t ≡ some p → Source (p .command) → named k 0 (p .command) ≡ true
-    → r .answer ≡ answer.Read
+    → r .parsed ≡ parsed.Read
     → take (r .count * 3) (r .code) ≡ code (cmdLines (p .command) []) → r .start ≡ startNo (p .opening .start) → P)
     → P
 unfolding decodedScript coded noCode
@@ -178,7 +179,7 @@ read-whole k t r e = ap (λ (d : Decoded). length (d .code)) e ∙ go (scriptOf 
     go : (o : Option Script) → scriptOf k t ≡ o → length (decodedScript o .code) ≡ codeWords
     go none x = length-replicate {A = ℕ} codeWords 0
     go (some p) x =
-        let ls : List Line = cmdLines (p .command) [] in
+        let ls : List ScriptLine = cmdLines (p .command) [] in
         length-padded codeWords (code ls) (omega (arith, code-length ls, script-sound k t p x .few))
 
 -- also where the lines are no script's

@@ -13,7 +13,7 @@ use Rattle.logic.specs.Booleans.{both, either}
 use Rattle.logic.proofs.BooleanLaws.{both-assoc, both-left, both-right, both-true}
 use Rattle.language.specs.Syntax.{case}
 use Rattle.script.specs.declared.Row.{Row}
-use Rattle.script.specs.Lines.{Line}
+use Rattle.script.specs.Lines.{ScriptLine}
 use Rattle.script.specs.Internal.Code.{rowOf, code, rowAt}
 use Rattle.script.specs.Internal.Pieces.{Sort, expression, command, Tree, SourceOf, linesOf}
 use Rattle.script.specs.Names.{Counts, maxDepth, namedE, named}
@@ -33,7 +33,8 @@ pub both-tests : (t l : Bool) (a : Scanned) {b r : Scanned} → b ≡ record { o
 both-tests t l a g h = h ∙ rw (g, both-assoc t l (a .ok))
 
 -- the lines of a tree, then others
-lines-then : (s : Sort) (x : Tree s) {ls mid end : List Line} → ls ≡ linesOf s x mid → mid ≡ end → ls ≡ linesOf s x end
+lines-then : (s : Sort) (x : Tree s) {ls mid end : List ScriptLine} → ls ≡ linesOf s x mid → mid ≡ end
+    → ls ≡ linesOf s x end
 lines-then s x p q = p ∙ ap (linesOf s x) q
 
 -- a tree that is found, with a test beside it
@@ -55,10 +56,11 @@ module _ {s : Sort} {names : Tree s → Bool} {ws : List ℕ} {at : ℕ} {row : 
   -- what the answer r must say of a line of a kind
   by-node : {ss : List Sort} {k : ℕ} {f : Makes ss (Tree s)} (r : Scanned) → Node s ss k (row .a) (row .b) f
       → row .kind ≡ k → at ≤ r .next
-      → ((l : Line) (ls : List Line) → Made s ss f (λ rest. l ∷ rest) → drop (at + 3) ws ≡ code ls → r .ok ≡ true
-      → (x : Tree s) × (rest : List Line) × SourceOf s x × (names x ≡ true) × (l ∷ ls ≡ linesOf s x rest)
+      → ((l : ScriptLine) (ls : List ScriptLine) → Made s ss f (λ rest. l ∷ rest) → drop (at + 3) ws ≡ code ls
+      → r .ok ≡ true
+      → (x : Tree s) × (rest : List ScriptLine) × SourceOf s x × (names x ≡ true) × (l ∷ ls ≡ linesOf s x rest)
       × (drop (r .next) ws ≡ code rest))
-      → ((rest : List Line) → OfOperands ws at rest s ss f (λ more. more)
+      → ((rest : List ScriptLine) → OfOperands ws at rest s ss f (λ more. more)
       (λ x. names x ≡ true → (r .ok ≡ true) × (drop (r .next) ws ≡ code rest)))
       → Scans s names ws at r
   by-node r n k g sound complete =
@@ -99,7 +101,7 @@ module _ {s : Sort} {names : Tree s → Bool} {ws : List ℕ} {at : ℕ} {row : 
         g .1,
         z .0,
         i _ ∙ both-true (sym p ∙ both-left _ _ t) (g .3),
-        ap (λ (v : List Line). l ∷ v) (g .4) ∙ z .1 (g .1),
+        ap (λ (v : List ScriptLine). l ∷ v) (g .4) ∙ z .1 (g .1),
         g .5,
       ))
       (λ rest x u h m.
@@ -122,7 +124,7 @@ module _ {s : Sort} {names : Tree s → Bool} {ws : List ℕ} {at : ℕ} {row : 
         g′ .1,
         z .0,
         i _ _ ∙ both-true (g .3) (g′ .3),
-        ap (λ (w : List Line). l ∷ w) (lines-then t (g .0) (g .4) (g′ .4)) ∙ z .1 (g′ .1),
+        ap (λ (w : List ScriptLine). l ∷ w) (lines-then t (g .0) (g .4) (g′ .4)) ∙ z .1 (g′ .1),
         g′ .5,
       ))
       (λ rest x u y w h m.
@@ -227,7 +229,8 @@ module _ (k : Counts) (d : ℕ) {ws : List ℕ} {at : ℕ} {row : Row} (q : row 
         z .1,
         w .0,
         both-true (x .3) (both-true (lt-ltb _ _ h) (both-true (y .3) (z .3))),
-        ap (λ (v : List Line). l ∷ v) (lines-then expression (x .0) (x .4) (lines-then command (y .0) (y .4) (z .4)))
+        ap (λ (v : List ScriptLine). l ∷ v)
+            (lines-then expression (x .0) (x .4) (lines-then command (y .0) (y .4) (z .4)))
             ∙ w .1 (z .1),
         z .5,
       ))

@@ -11,15 +11,15 @@ use borrow.Author.Tests.{ltb-true, leb-true, le-leb}
 use Rattle.text.specs.Reading.{Read, fits, limit}
 use Rattle.text.specs.Reading.Read.{got, bad}
 use Rattle.text.specs.Number.{most}
-use Rattle.text.specs.Lines.{none-left, and-then, linesUpTo}
+use Rattle.text.specs.Lines.{empty-good, and-then, linesUpTo}
 use Rattle.logic.proofs.OptionLaws.{none-some, some-path}
 use Rattle.text.proofs.Lines.{lines-exact}
 use Rattle.language.specs.Syntax.{Expr, Cmd, Opening, Script}
 use Rattle.logic.proofs.BooleanLaws.{both-left, both-right, cond-split}
-use Rattle.script.specs.Lines.{Line, l-skip, l-seq, l-assign, l-while, l-case, l-int, l-loc, l-var, l-plus, l-left}
-use Rattle.script.specs.Lines.{l-right, l-pack, l-unpack, l-pair, l-proj, SourceE, s-int, s-loc, s-var, s-plus, s-left}
-use Rattle.script.specs.Lines.{s-right, s-pack, s-unpack, s-pair, s-proj, Source, s-skip, s-seq, s-assign, s-while}
-use Rattle.script.specs.Lines.{s-case, integerOf, exprLines, cmdLines, openingLines}
+use Rattle.script.specs.Lines.{ScriptLine, l-skip, l-seq, l-assign, l-while, l-case, l-int, l-loc, l-var, l-plus}
+use Rattle.script.specs.Lines.{l-left, l-right, l-pack, l-unpack, l-pair, l-proj, SourceE, s-int, s-loc, s-var, s-plus}
+use Rattle.script.specs.Lines.{s-left, s-right, s-pack, s-unpack, s-pair, s-proj, Source, s-skip, s-seq, s-assign}
+use Rattle.script.specs.Lines.{s-while, s-case, integerOf, exprLines, cmdLines, openingLines}
 use Rattle.script.specs.Internal.Code.{rowOf}
 use Rattle.script.specs.Names.{Counts, maxDepth, namedE, named, namedStart, namedOpening, maxLines}
 use Rattle.sheet.specs.Sheet.{Sheet, labelCount, locationCount, formed, maxLabels}
@@ -49,7 +49,7 @@ small : (x n : ℕ) → ltb x n ≡ true → n ≤ most + 1 → x ≤ most
 small x n h l = omega (arith, ltb-true x n h)
 
 module _ (k : Counts) (narrow : Narrow k) where
-  fit-expr : {e : Expr} {rest : List Line} (d : ℕ) → SourceE e → d ≤ maxDepth → namedE k d e ≡ true → AllFit rest
+  fit-expr : {e : Expr} {rest : List ScriptLine} (d : ℕ) → SourceE e → d ≤ maxDepth → namedE k d e ≡ true → AllFit rest
       → AllFit (exprLines e rest)
   unfolding exprLines namedE integerOf rowOf
   fit-expr d (s-int {n = n}) h m r = and-then {l = l-int n} (small n (2 ^ 32) m (omega arith), omega arith) r
@@ -80,7 +80,7 @@ module _ (k : Counts) (narrow : Narrow k) where
       (fit-expr d s h (both-left _ _ m) (fit-expr d q h (both-right _ _ m) r))
   fit-expr d (s-proj {p = p} s) h n r = and-then {l = l-proj p} (omega arith, omega arith) (fit-expr d s h n r)
 
-  fit-cmd : {c : Cmd} {rest : List Line} (d : ℕ) → Source c → d ≤ maxDepth → named k d c ≡ true → AllFit rest
+  fit-cmd : {c : Cmd} {rest : List ScriptLine} (d : ℕ) → Source c → d ≤ maxDepth → named k d c ≡ true → AllFit rest
       → AllFit (cmdLines c rest)
   unfolding cmdLines named rowOf
   fit-cmd d s-skip h n r = and-then {l = l-skip} (omega arith, omega arith) r
@@ -102,7 +102,7 @@ module _ (k : Counts) (narrow : Narrow k) where
 
 -- ---- the command of lines
 
-pub command-sound : (k : Counts) (ls : List Line) (c : Cmd) → commandOf k ls ≡ some c
+pub command-sound : (k : Counts) (ls : List ScriptLine) (c : Cmd) → commandOf k ls ≡ some c
     → (ls ≡ cmdLines c []) × Source c × (named k 0 c ≡ true)
 unfolding commandOf
 command-sound k ls c e = go (parse ls) refl e
@@ -124,7 +124,8 @@ command-lines k c s n = rw (parse-lines s, n)
 
 -- a script that is read names only what is there
 pub script-split : {P : Type 0} (k : Counts) (w : Option Written) (p : Script)
-    → ((ls : List Line) → w ≡ some (record { opening = p .opening; lines = ls }) → commandOf k ls ≡ some (p .command)
+    → ((ls : List ScriptLine) → w ≡ some (record { opening = p .opening; lines = ls })
+    → commandOf k ls ≡ some (p .command)
     → namedOpening k (p .opening) ≡ true → P)
     → scriptRead k w ≡ some p → P
 unfolding scriptRead scriptWith
@@ -153,7 +154,7 @@ unfolding writtenOf fits linesAfter writtenWith
 written-sound t w e =
     cond-split (leb (length t) limit) _ _ _ (λ f x. after (openingOf t) refl (leb-true _ _ f) x) (λ f x. none-some x) e
   where
-    lines : (o : Opening) (u : List ℕ) → openingOf t ≡ got o u → length t ≤ limit → (ls : Option (List Line))
+    lines : (o : Opening) (u : List ℕ) → openingOf t ≡ got o u → length t ≤ limit → (ls : Option (List ScriptLine))
         → linesUpTo lineOf (maxLines - openingLines o) u ≡ ls → writtenWith o ls ≡ some w → IsWritten t w
     lines o u z l none y h = none-some h
     lines o u z l (some ls) y h =
@@ -191,7 +192,7 @@ script-sound k t p e =
     let r = written-sound t _ x in
     let q = command-sound k ls (p .command) y in
     record {
-      printed = r .printed ∙ ap (λ (z : List Line). openingBytes (p .opening) (linesBytes z)) (q .0);
+      printed = r .printed ∙ ap (λ (z : List ScriptLine). openingBytes (p .opening) (linesBytes z)) (q .0);
       source = q .1;
       opened-there = n;
       named-there = q .2;
@@ -209,7 +210,7 @@ pub script-print : (k : Counts) → Narrow k → k .labels ≤ maxLabels → (t 
     → scriptOf k t ≡ some p
 unfolding scriptOf scriptRead scriptWith
 script-print k w m t p s =
-    let f = fit-cmd k w 0 (s .source) (omega arith) (s .named-there) none-left in
+    let f = fit-cmd k w 0 (s .source) (omega arith) (s .named-there) empty-good in
     let l : length (scriptBytes p) ≤ limit = rw (s .printed) at (s .short) in
     rw (
       s .printed,

@@ -6,11 +6,11 @@ use Prim.Native.Nat.{ℕ}
 use Rattle.text.specs.Field.{printNumberField, printLineEnd}
 use Rattle.text.specs.Lines.{printLines}
 use Rattle.language.specs.Syntax.{pick, Opening, Script}
-use Rattle.script.specs.Lines.{Line, cmdLines, l-skip, l-seq, l-assign, l-while, l-case, l-int, l-loc, l-var, l-plus}
-use Rattle.script.specs.Lines.{l-left, l-right, l-pack, l-unpack, l-pair, l-proj}
+use Rattle.script.specs.Lines.{ScriptLine, cmdLines, l-skip, l-seq, l-assign, l-while, l-case, l-int, l-loc, l-var}
+use Rattle.script.specs.Lines.{l-plus, l-left, l-right, l-pack, l-unpack, l-pair, l-proj}
 
 -- The bytes of a line, then rest. The kinds are s ; = w c i x v + l r k u p f g.
-unfoldable pub lineBytes : Line → List ℕ → List ℕ
+unfoldable pub lineBytes : ScriptLine → List ℕ → List ℕ
 lineBytes l-skip rest = 115 ∷ printLineEnd rest
 lineBytes l-seq rest = 59 ∷ printLineEnd rest
 lineBytes (l-assign x) rest = 61 ∷ printNumberField x (printLineEnd rest)
@@ -28,7 +28,7 @@ lineBytes (l-pair t) rest = 112 ∷ printNumberField t (printLineEnd rest)
 lineBytes (l-proj p) rest = pick p 102 103 ∷ printLineEnd rest
 
 -- the bytes of a command's lines
-abbrev pub linesBytes : List Line → List ℕ
+abbrev pub linesBytes : List ScriptLine → List ℕ
 linesBytes ls = printLines lineBytes ls
 
 -- The bytes of a start, and of an opening with it, then rest (request (d)). Its line begins with byte 98, b.

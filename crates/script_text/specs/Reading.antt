@@ -11,16 +11,16 @@ use Rattle.text.specs.Number.{most}
 use Rattle.text.specs.Field.{numberField, lineEnd, lastNumber}
 use Rattle.text.specs.Lines.{linesUpTo}
 use Rattle.language.specs.Syntax.{first, second, Opening}
-use Rattle.script.specs.Lines.{Line, openingLines, l-skip, l-seq, l-assign, l-while, l-case, l-int, l-loc, l-var}
+use Rattle.script.specs.Lines.{ScriptLine, openingLines, l-skip, l-seq, l-assign, l-while, l-case, l-int, l-loc, l-var}
 use Rattle.script.specs.Lines.{l-plus, l-left, l-right, l-pack, l-unpack, l-pair, l-proj}
 use Rattle.script.specs.Names.{maxLines}
 use Rattle.sheet.specs.Sheet.{maxLabels}
 
 -- The form of a kind of line: no operand, one or two numbers; or there is no such kind.
 pub data Form : Type 0 where
-  bare : Line → Form
-  one : (ℕ → Line) → Form
-  two : (ℕ → ℕ → Line) → Form
+  bare : ScriptLine → Form
+  one : (ℕ → ScriptLine) → Form
+  two : (ℕ → ℕ → ScriptLine) → Form
   other : Form
 
 -- the form of the lines whose first field is the byte b
@@ -44,14 +44,14 @@ formOf b =
     (cond (eqb b 103) (bare (l-proj second)) other)))))))))))))))
 
 -- what is left of a line of a form: its operands and its end
-unfoldable pub operandsOf : Form → List ℕ → Read Line
+unfoldable pub operandsOf : Form → List ℕ → Read ScriptLine
 operandsOf (bare l) t = andThen (lineEnd t) (λ _ u. got l u)
 operandsOf (one f) t = andThen (lastNumber most t) (λ a u. got (f a) u)
 operandsOf (two f) t = andThen (numberField most t) (λ a u. andThen (lastNumber most u) (λ b w. got (f a b) w))
 operandsOf other t = bad
 
 -- the line at the front of a text
-unfoldable pub lineOf : List ℕ → Read Line
+unfoldable pub lineOf : List ℕ → Read ScriptLine
 lineOf [] = bad
 lineOf (b ∷ t) = operandsOf (formOf b) t
 
@@ -72,9 +72,9 @@ openingOf t = andThen (startRead t) (λ x u. got (record { start = x }) u)
 -- What is written in a script: its opening, and its command's lines, whatever they say.
 pub record Written : Type 0 where
   pub opening : Opening
-  pub lines : List Line
+  pub lines : List ScriptLine
 
-unfoldable pub writtenWith : Opening → Option (List Line) → Option Written
+unfoldable pub writtenWith : Opening → Option (List ScriptLine) → Option Written
 writtenWith o none = none
 writtenWith o (some ls) = some (record { opening = o; lines = ls })
 

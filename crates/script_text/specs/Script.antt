@@ -4,7 +4,7 @@ use mathlib.Core.List.{List}
 use mathlib.Core.Option.{Option, none, some}
 use Prim.Native.Nat.{ℕ}
 use Rattle.language.specs.Syntax.{Cmd, Opening, Script}
-use Rattle.script.specs.Lines.{Line}
+use Rattle.script.specs.Lines.{ScriptLine}
 use Rattle.script.specs.Names.{Counts, named, namedOpening}
 use Rattle.script_text.specs.Reading.{Written, writtenOf}
 use Rattle.script_text.specs.Internal.Parse.{parse}
@@ -15,7 +15,7 @@ namedOnly k none = none
 namedOnly k (some c) = cond (named k 0 c) (some c) none
 
 -- the command of lines
-unfoldable pub commandOf : Counts → List Line → Option Cmd
+unfoldable pub commandOf : Counts → List ScriptLine → Option Cmd
 commandOf k ls = namedOnly k (parse ls)
 
 -- an opening that names only what is there, and a command

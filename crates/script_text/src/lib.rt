@@ -5,7 +5,7 @@ ghost use lib.Dec.{eqb, ltb};
 ghost use lib.ListN.{take, drop, replicate};
 ghost use Rattle.logic.specs.Booleans.{both, either};
 ghost use Rattle.text.specs.Lines.{linesUpTo};
-ghost use Rattle.script.specs.Lines.{Line};
+ghost use Rattle.script.specs.Lines.{ScriptLine};
 ghost use Rattle.script.specs.Names.{maxLines};
 ghost use Rattle.script.specs.Internal.Code.{rowOf};
 ghost use Rattle.sheet.specs.Sheet.{maxLabels};
@@ -59,7 +59,7 @@ const NO_START: u32 = sheet::MOST_LABELS;
 const LAST_LABEL: u32 = sheet::MOST_LABELS - 1;
 
 // Whether a text was read as a script, or refused.
-pub enum Answer {
+pub enum ParsedScript {
     Read,
     Refused,
 }
@@ -67,7 +67,7 @@ pub enum Answer {
 // The answer to a text, how many lines its command has, and the number of the label that it starts at: 0 and NO_START
 // where it was refused.
 pub struct ReadScript {
-    pub answer: Answer,
+    pub parsed: ParsedScript,
     pub count: usize,
     pub start: u32,
 }
@@ -110,7 +110,7 @@ struct Scanned {
 
 // The end of a line of a kind without operands.
 fn bare_line(s: &[u8], at: usize, kind: u32) -> Found
-    ensures { λ r. ⌜ ((l : Line) → rowOf l ≡ record { kind = kind; a = 0; b = 0 }
+    ensures { λ r. ⌜ ((l : ScriptLine) → rowOf l ≡ record { kind = kind; a = 0; b = 0 }
         → r ≡ placedLine (now (s .entry)) (operandsOf (bare l) (drop at (now (s .entry))))) ⌝ }
 {
     match line_end(s, at) {
@@ -121,7 +121,7 @@ fn bare_line(s: &[u8], at: usize, kind: u32) -> Found
 
 // One operand, and the end of the line.
 fn one_operand(s: &[u8], at: usize, kind: u32) -> Found
-    ensures { λ r. ⌜ ((f : ℕ → Line) → ((a : ℕ) → rowOf (f a) ≡ record { kind = kind; a = a; b = 0 })
+    ensures { λ r. ⌜ ((f : ℕ → ScriptLine) → ((a : ℕ) → rowOf (f a) ≡ record { kind = kind; a = a; b = 0 })
         → r ≡ placedLine (now (s .entry)) (operandsOf (one f) (drop at (now (s .entry))))) ⌝ }
 {
     match last_number(s, at, MOST) {
@@ -132,7 +132,7 @@ fn one_operand(s: &[u8], at: usize, kind: u32) -> Found
 
 // Two operands, and the end of the line.
 fn two_operands(s: &[u8], at: usize, kind: u32) -> Found
-    ensures { λ r. ⌜ ((f : ℕ → ℕ → Line) → ((a b : ℕ) → rowOf (f a b) ≡ record { kind = kind; a = a; b = b })
+    ensures { λ r. ⌜ ((f : ℕ → ℕ → ScriptLine) → ((a b : ℕ) → rowOf (f a b) ≡ record { kind = kind; a = a; b = b })
         → r ≡ placedLine (now (s .entry)) (operandsOf (two f) (drop at (now (s .entry))))) ⌝ }
 {
     match number_field(s, at, MOST) {
@@ -218,12 +218,12 @@ fn line_from(text: &[u8], at: usize) -> Reached
 
 // The answer to a text that is refused, with zeros for its code.
 fn refused(code: &mut [u32; WORDS]) -> ReadScript
-    ensures { λ r. ⌜ record { answer = r .answer; count = r .count; start = r .start; code = now (code .exit) }
+    ensures { λ r. ⌜ record { parsed = r .parsed; count = r .count; start = r .start; code = now (code .exit) }
         ≡ noCode ⌝ }
 {
     *code = [0u32; WORDS];
     ReadScript {
-        answer: Answer::Refused,
+        parsed: ParsedScript::Refused,
         count: 0,
         start: NO_START,
     }
@@ -255,7 +255,7 @@ fn decode_lines(
     code: &mut [u32; WORDS],
 ) -> ReadScript
     requires { ⌜ (most ≤ maxLines) × (now code ≡ replicate codeWords 0) ⌝ }
-    ensures { λ r. ⌜ record { answer = r .answer; count = r .count; start = r .start; code = now (code .exit) }
+    ensures { λ r. ⌜ record { parsed = r .parsed; count = r .count; start = r .start; code = now (code .exit) }
         ≡ codedLines start (linesUpTo lineOf most (drop from (now (s .entry)))) ⌝ }
 {
     let mut n: usize = 0;
@@ -280,7 +280,7 @@ fn decode_lines(
         }
     }
     ReadScript {
-        answer: Answer::Read,
+        parsed: ParsedScript::Read,
         count: n,
         start,
     }
@@ -289,7 +289,7 @@ fn decode_lines(
 // Fills the lent words with the code of the lines after a text's opening, whatever they say: the code of a script, if
 // the text is that of one. The opening's line is one of the lines that a script may have.
 pub fn decode(s: &[u8], code: &mut [u32; WORDS]) -> ReadScript
-    ensures { λ r. ⌜ record { answer = r .answer; count = r .count; start = r .start; code = now (code .exit) }
+    ensures { λ r. ⌜ record { parsed = r .parsed; count = r .count; start = r .start; code = now (code .exit) }
         ≡ codedText (writtenOf (now (s .entry))) ⌝ }
 {
     if !fits(s) {
@@ -489,7 +489,7 @@ fn whole(code: &[u32], table: &[sheet::Word]) -> bool
 
 // Fills the lent words with the code of a script on a sheet's table; refused, and zeros, where 4 applies.
 pub fn read(text: &[u8], table: &[sheet::Word], code: &mut [u32; WORDS]) -> ReadScript
-    ensures { λ r. ⌜ record { answer = r .answer; count = r .count; start = r .start; code = now (code .exit) }
+    ensures { λ r. ⌜ record { parsed = r .parsed; count = r .count; start = r .start; code = now (code .exit) }
         ≡ decodedScript (scriptOf (countsIn (now (table .entry))) (now (text .entry))) ⌝ }
 {
     let s = decode(text, code);

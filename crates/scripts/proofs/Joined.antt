@@ -10,8 +10,8 @@ use Rattle.logic.specs.Booleans.{both}
 use Rattle.logic.proofs.BooleanLaws.{cases, both-left, both-right, both-true, absurd-false}
 use Rattle.parts.specs.Parts.{noEmptyLine, lineEnded, joined}
 use Rattle.parts.specs.Theorems.{AllWhole}
-use Rattle.scripts.specs.Parting.{toFirst, partsFrom, partsOf}
-use Rattle.scripts.specs.Theorems.{PartsExact}
+use Rattle.scripts.specs.Parting.{toFirst, scriptTextsFrom, scriptTexts}
+use Rattle.scripts.specs.Theorems.{PartingExact}
 
 -- whole texts and a last one, without empty lines; the first of them goes on from `start`
 Whole : Bool → List (List ℕ) → List ℕ → Type 0
@@ -30,19 +30,19 @@ no-parting start b t e = (inside (both start (eqb b 10)) (both-left _ _ e), both
     inside true h = absurd (absurd-false h)
     inside false h = refl
 
-parted-last : (start : Bool) (end : List ℕ) → noEmptyLine start end ≡ true → partsFrom start end ≡ end ∷ []
-unfolding partsFrom toFirst
+parted-last : (start : Bool) (end : List ℕ) → noEmptyLine start end ≡ true → scriptTextsFrom start end ≡ end ∷ []
+unfolding scriptTextsFrom toFirst
 parted-last start [] e = refl
 parted-last start (b ∷ t) e = let h = no-parting start b t e in rw (h .0, parted-last (eqb b 10) t (h .1)) refl
 
 parted-next : (start : Bool) (t u : List ℕ) → noEmptyLine start t ≡ true → lineEnded start t ≡ true
-    → partsFrom start (t ++ (10 ∷ u)) ≡ t ∷ partsFrom true u
-unfolding partsFrom toFirst lineEnded both
+    → scriptTextsFrom start (t ++ (10 ∷ u)) ≡ t ∷ scriptTextsFrom true u
+unfolding scriptTextsFrom toFirst lineEnded both
 parted-next start [] u e f = rw f refl
 parted-next start (b ∷ t) u e f = let h = no-parting start b t e in rw (h .0, parted-next (eqb b 10) t u (h .1) f) refl
 
 parted : (start : Bool) (ts : List (List ℕ)) (end : List ℕ) → Whole start ts end
-    → partsFrom start (joined ts end) ≡ ts ++ (end ∷ [])
+    → scriptTextsFrom start (joined ts end) ≡ ts ++ (end ∷ [])
 unfolding joined Whole
 parted start [] end w = parted-last start end w
 parted start (t ∷ ts) end w =
@@ -50,59 +50,59 @@ parted start (t ∷ ts) end w =
 
 -- ---- what is parted is joined so
 
-record Parts (start : Bool) (text : List ℕ) : Type 0 where
+record Texts (start : Bool) (text : List ℕ) : Type 0 where
   before : List (List ℕ)
   end : List ℕ
-  parts : partsFrom start text ≡ before ++ (end ∷ [])
+  texts : scriptTextsFrom start text ≡ before ++ (end ∷ [])
   text-is : text ≡ joined before end
   whole : Whole start before end
 
 -- an empty line in front
-behind-empty : (start : Bool) (b : ℕ) (t : List ℕ) → both start (eqb b 10) ≡ true → Parts true t → Parts start (b ∷ t)
-unfolding partsFrom joined Whole noEmptyLine lineEnded
+behind-empty : (start : Bool) (b : ℕ) (t : List ℕ) → both start (eqb b 10) ≡ true → Texts true t → Texts start (b ∷ t)
+unfolding scriptTextsFrom joined Whole noEmptyLine lineEnded
 behind-empty start b t e p =
     let q : b ≡ 10 = eqb-true _ _ (both-right _ _ e) in
     record {
       before = [] ∷ p .before;
       end = p .end;
-      parts = rw e (ap (λ (ps : List (List ℕ)). [] ∷ ps) (p .parts));
+      texts = rw e (ap (λ (ps : List (List ℕ)). [] ∷ ps) (p .texts));
       text-is = rw q (ap (λ (u : List ℕ). 10 ∷ u) (p .text-is));
       whole = (refl, both-left _ _ e, p .whole);
     }
 
 -- another byte in front
-behind-byte : (start : Bool) (b : ℕ) (t : List ℕ) → both start (eqb b 10) ≡ false → Parts (eqb b 10) t
-    → Parts start (b ∷ t)
-unfolding partsFrom joined Whole noEmptyLine lineEnded toFirst
-behind-byte start b t e p = go (p .before) (p .parts) (p .text-is) (p .whole)
+behind-byte : (start : Bool) (b : ℕ) (t : List ℕ) → both start (eqb b 10) ≡ false → Texts (eqb b 10) t
+    → Texts start (b ∷ t)
+unfolding scriptTextsFrom joined Whole noEmptyLine lineEnded toFirst
+behind-byte start b t e p = go (p .before) (p .texts) (p .text-is) (p .whole)
   where
     more : (u : List ℕ) → noEmptyLine (eqb b 10) u ≡ true
         → both (not (both start (eqb b 10))) (noEmptyLine (eqb b 10) u) ≡ true
     more u h = both-true (rw e refl) h
 
-    go : (ts : List (List ℕ)) → partsFrom (eqb b 10) t ≡ ts ++ (p .end ∷ []) → t ≡ joined ts (p .end)
-        → Whole (eqb b 10) ts (p .end) → Parts start (b ∷ t)
+    go : (ts : List (List ℕ)) → scriptTextsFrom (eqb b 10) t ≡ ts ++ (p .end ∷ []) → t ≡ joined ts (p .end)
+        → Whole (eqb b 10) ts (p .end) → Texts start (b ∷ t)
     go [] d i w = record {
       before = [];
       end = b ∷ p .end;
-      parts = rw (e, d) refl;
+      texts = rw (e, d) refl;
       text-is = ap (λ (u : List ℕ). b ∷ u) i;
       whole = more (p .end) w;
     }
     go (u ∷ ts) d i w = record {
       before = (b ∷ u) ∷ ts;
       end = p .end;
-      parts = rw (e, d) refl;
+      texts = rw (e, d) refl;
       text-is = ap (λ (v : List ℕ). b ∷ v) i;
       whole = (more u (w .0), w .1, w .2);
     }
 
-its-parts : (start : Bool) (text : List ℕ) → Parts start text
-unfolding partsFrom joined Whole noEmptyLine
-its-parts start [] = record { before = []; end = []; parts = refl; text-is = refl; whole = refl }
-its-parts start (b ∷ t) =
-    cases (both start (eqb b 10)) (λ e. behind-empty start b t e (its-parts true t))
-    (λ e. behind-byte start b t e (its-parts (eqb b 10) t))
+its-texts : (start : Bool) (text : List ℕ) → Texts start text
+unfolding scriptTextsFrom joined Whole noEmptyLine
+its-texts start [] = record { before = []; end = []; texts = refl; text-is = refl; whole = refl }
+its-texts start (b ∷ t) =
+    cases (both start (eqb b 10)) (λ e. behind-empty start b t e (its-texts true t))
+    (λ e. behind-byte start b t e (its-texts (eqb b 10) t))
 
 -- ---- in one way
 
@@ -132,24 +132,24 @@ unfolding Whole AllWhole
 whole-all [] end a e = e
 whole-all (t ∷ ts) end a e = (a .0 .no-empty, a .0 .whole, whole-all ts end (a .1) e)
 
-joined-so : (text : List ℕ) (ts : List (List ℕ)) (end : List ℕ) → partsOf text ≡ ts ++ (end ∷ [])
+joined-so : (text : List ℕ) (ts : List (List ℕ)) (end : List ℕ) → scriptTexts text ≡ ts ++ (end ∷ [])
     → (text ≡ joined ts end) × AllWhole ts × (noEmptyLine true end ≡ true)
-unfolding partsOf
+unfolding scriptTexts
 joined-so text ts end h =
-    let p = its-parts true text in
-    let o = last-one (p .before) ts (p .end) end (sym (p .parts) ∙ h) in
+    let p = its-texts true text in
+    let o = last-one (p .before) ts (p .end) end (sym (p .texts) ∙ h) in
     let w = all-whole ts end (rw (← o .0, ← o .1) (p .whole)) in
     (p .text-is ∙ rw (o .0, o .1) refl, w .0, w .1)
 
 parted-so : (text : List ℕ) (ts : List (List ℕ)) (end : List ℕ)
     → (text ≡ joined ts end) × AllWhole ts × (noEmptyLine true end ≡ true)
-    → partsOf text ≡ ts ++ (end ∷ [])
-unfolding partsOf
-parted-so text ts end (i, a, e) = ap (partsFrom true) i ∙ parted true ts end (whole-all ts end a e)
+    → scriptTexts text ≡ ts ++ (end ∷ [])
+unfolding scriptTexts
+parted-so text ts end (i, a, e) = ap (scriptTextsFrom true) i ∙ parted true ts end (whole-all ts end a e)
 
-pub parts-exact : PartsExact
-unfolding partsOf
-parts-exact = record {
+pub parting-exact : PartingExact
+unfolding scriptTexts
+parting-exact = record {
   exact = λ text ts end. (joined-so text ts end, parted-so text ts end);
-  some-part = λ text. let p = its-parts true text in (p .before, p .end, p .parts);
+  some-last = λ text. let p = its-texts true text in (p .before, p .end, p .texts);
 }

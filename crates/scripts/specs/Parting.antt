@@ -12,13 +12,14 @@ toFirst b (p ∷ ps) = (b ∷ p) ∷ ps
 
 -- The parts of what is left of a text; `start`: a line starts here. Every line without a byte parts, and its end
 -- belongs to no part.
-unfoldable pub partsFrom : Bool → List ℕ → List (List ℕ)
-partsFrom start [] = [] ∷ []
-partsFrom start (b ∷ t) = cond (both start (eqb b 10)) ([] ∷ partsFrom true t) (toFirst b (partsFrom (eqb b 10) t))
+unfoldable pub scriptTextsFrom : Bool → List ℕ → List (List ℕ)
+scriptTextsFrom start [] = [] ∷ []
+scriptTextsFrom start (b ∷ t) =
+    cond (both start (eqb b 10)) ([] ∷ scriptTextsFrom true t) (toFirst b (scriptTextsFrom (eqb b 10) t))
 
 -- the scripts of a text: one more than it has empty lines
-unfoldable pub partsOf : List ℕ → List (List ℕ)
-partsOf text = partsFrom true text
+unfoldable pub scriptTexts : List ℕ → List (List ℕ)
+scriptTexts text = scriptTextsFrom true text
 
 -- the most scripts of a round
 abbrev pub mostScripts : ℕ

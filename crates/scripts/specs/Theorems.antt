@@ -6,12 +6,12 @@ use mathlib.Core.Bool.{true}
 use mathlib.Core.List.{List, [], _∷_, _++_}
 use Rattle.parts.specs.Parts.{noEmptyLine, joined}
 use Rattle.parts.specs.Theorems.{AllWhole}
-use Rattle.scripts.specs.Parting.{partsOf}
+use Rattle.scripts.specs.Parting.{scriptTexts}
 
 -- A text is parted so exactly if it is the parts joined by empty lines: each but the last of whole lines, and no
 -- line of any empty.
-pub record PartsExact : Type 0 where
+pub record PartingExact : Type 0 where
   pub exact : (text : List ℕ) (ts : List (List ℕ)) (end : List ℕ)
-      → (partsOf text ≡ ts ++ (end ∷ [])) ↔ ((text ≡ joined ts end) × AllWhole ts × (noEmptyLine true end ≡ true))
+      → (scriptTexts text ≡ ts ++ (end ∷ [])) ↔ ((text ≡ joined ts end) × AllWhole ts × (noEmptyLine true end ≡ true))
   -- every text has a last part
-  pub some-part : (text : List ℕ) → (ts : List (List ℕ)) × (end : List ℕ) × (partsOf text ≡ ts ++ (end ∷ []))
+  pub some-last : (text : List ℕ) → (ts : List (List ℕ)) × (end : List ℕ) × (scriptTexts text ≡ ts ++ (end ∷ []))

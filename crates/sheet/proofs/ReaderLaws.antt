@@ -9,9 +9,9 @@ use borrow.Author.Tests.{ltb-true}
 use Rattle.sets.specs.Sets.{member, within, meets, single, everyone}
 use Rattle.sets.proofs.Walks.{every-true, every-at}
 use Rattle.sets.proofs.SetLaws.{within-elim, meets-intro, meets-elim, member-single-self, member-everyone}
-use Rattle.labels.specs.Labels.{readersOf, readsOf, readsUnder}
-use Rattle.labels.specs.declared.Reading.{Reading}
-use Rattle.labels.specs.declared.Reading.the-variants.{Pooled, Alone}
+use Rattle.labels.specs.Labels.{readersOf, readsPooledOf, readsUnder}
+use Rattle.labels.specs.declared.Rule.{Rule}
+use Rattle.labels.specs.declared.Rule.the-variants.{Pooled, Alone}
 use Rattle.labels.specs.Internal.Sole.{soleReadersOf}
 use Rattle.labels.proofs.EffectiveLaws.{effective-fits}
 use Rattle.labels.proofs.ReadingLaws.{rule-grows, two-rules, alone-member, member-alone}
@@ -19,17 +19,17 @@ use Rattle.labels.proofs.SoleLaws.{meets-sole}
 use Rattle.sheet.specs.Sheet.{Sheet, labelNo, formed}
 use Rattle.sheet.specs.Meaning.{readsNo}
 use Rattle.sheet.specs.Theorems.{ReadingOnSheets}
-use Rattle.sheet.specs.Internal.Tables.{principalsIn, readingIn, labelIn, readsIn}
+use Rattle.sheet.specs.Internal.Tables.{principalsIn, ruleIn, labelIn, readsIn}
 use Rattle.sheet.proofs.FormLaws.{formed-facts}
 use Rattle.sheet.proofs.LabelLaws.{label-no-effective}
 
 -- ---- the sheet's rule
 
 pub reads-more : (s : Sheet) (l g h : ℕ) → within g h ≡ true → readsNo s g l ≡ true → readsNo s h l ≡ true
-reads-more s l = rule-grows (s .reading) (s .principals) (labelNo s l)
+reads-more s l = rule-grows (s .rule) (s .principals) (labelNo s l)
 
 pub nobody-reads : (s : Sheet) → formed s ≡ true → (l : ℕ) → readsNo s 0 l ≡ false
-nobody-reads s f l = two-rules .of-none (s .reading) (s .principals) (formed-facts s f .some-principal) (labelNo s l)
+nobody-reads s f l = two-rules .of-none (s .rule) (s .principals) (formed-facts s f .some-principal) (labelNo s l)
 
 -- a reader for an owner is one of the principals
 reader-low : (s : Sheet) → formed s ≡ true → (l o p : ℕ) → o < s .principals
@@ -42,7 +42,7 @@ reader-low s f l o p h m =
     (sym (member-everyone p n) ∙ within-elim (readersOf (labelNo s l) o) (everyone n) (fit .readers-in) p m)
 
 pub reading-on-sheets : ReadingOnSheets
-unfolding readsUnder readsOf
+unfolding readsUnder readsPooledOf
 reading-on-sheets s f g l =
     let z = formed-facts s f in
     let n = s .principals in
@@ -62,11 +62,11 @@ reading-on-sheets s f g l =
       );
     }
   where
-    by : {rule : Reading} → s .reading ≡ rule → readsNo s g l ≡ readsUnder rule (s .principals) g (labelNo s l)
-    by e = ap (λ (r : Reading). readsUnder r (s .principals) g (labelNo s l)) e
+    by : {rule : Rule} → s .rule ≡ rule → readsNo s g l ≡ readsUnder rule (s .principals) g (labelNo s l)
+    by e = ap (λ (r : Rule). readsUnder r (s .principals) g (labelNo s l)) e
 
 -- where one reads by himself, a group that reads has a member who reads
-pub read-by-one : (s : Sheet) → formed s ≡ true → s .reading ≡ Alone → (l g : ℕ) → readsNo s g l ≡ true
+pub read-by-one : (s : Sheet) → formed s ≡ true → s .rule ≡ Alone → (l g : ℕ) → readsNo s g l ≡ true
     → (p : ℕ) × (member p g ≡ true) × (readsNo s (single p) l ≡ true)
 read-by-one s f e l g r =
     let (p, m, h) = reading-on-sheets s f g l .alone e .0 r in
@@ -74,9 +74,9 @@ read-by-one s f e l g r =
 
 -- ---- what a table says, by the rule that is found in it
 
-module _ (t : List ℕ) {rule : Reading} (found : rule ≡ readingIn t) (l : ℕ) where
+module _ (t : List ℕ) {rule : Rule} (found : rule ≡ ruleIn t) (l : ℕ) where
   module _ (is : rule ≡ Pooled) where
-    pub pooled-reads : (g : ℕ) {b : Bool} → b ≡ readsOf (principalsIn t) g (labelIn t l) → b ≡ readsIn t g l
+    pub pooled-reads : (g : ℕ) {b : Bool} → b ≡ readsPooledOf (principalsIn t) g (labelIn t l) → b ≡ readsIn t g l
     unfolding readsIn readsUnder
     pooled-reads g e = rw (← found, is) e
 

@@ -25,10 +25,10 @@ use Rattle.sheet.specs.Padding.{padded}
 use Rattle.sheet.specs.Internal.Tables.{maxTypes, partsRoom, locationsRoom, labelsRoom, partsBase, locationsBase}
 use Rattle.sheet.specs.Internal.Tables.{partsPlace, labelPlace, tableWords, typesAt, labelsAt, locationsAt}
 use Rattle.sheet.specs.Internal.Tables.{entryWords, partWords, locationWords, labelsWords, tableOf, labelIn}
-use Rattle.sheet.specs.Internal.Tables.{rightWord, givenParts, typeParts, readingWord}
-use Rattle.sheet.specs.Internal.Growth.{bareSheet, addReading, addCompound, addLabel, toLast, addPolicy}
+use Rattle.sheet.specs.Internal.Tables.{rightWord, givenParts, typeParts, ruleWord}
+use Rattle.sheet.specs.Internal.Growth.{bareSheet, addRule, addCompound, addLabel, toLast, addPolicy}
 use Rattle.sheet.specs.Internal.Growth.{addLocation}
-use Rattle.sheet.specs.Internal.Writers.{low, principalsPut, readingPut, entryPut, compoundPut, locationPut}
+use Rattle.sheet.specs.Internal.Writers.{low, principalsPut, rulePut, entryPut, compoundPut, locationPut}
 use Rattle.sheet.specs.Internal.Writers.{labelSet, openPut, policyPut}
 use Rattle.sheet.proofs.FormLaws.{formed-facts, type-count, parts-count}
 use Rattle.sheet.proofs.Words.{length-padded, length-entries}
@@ -103,7 +103,7 @@ module _ {A : Type 0} (first second : A → ℕ) where
 -- the words of a heading, then others
 headed : Sheet → ℕ → ℕ → ℕ → List ℕ → List ℕ
 headed s types labels locations ws =
-    s .principals ∷ everyone (s .principals) ∷ types ∷ labels ∷ locations ∷ readingWord (s .reading) ∷ 0 ∷ 0 ∷ ws
+    s .principals ∷ everyone (s .principals) ∷ types ∷ labels ∷ locations ∷ ruleWord (s .rule) ∷ 0 ∷ 0 ∷ ws
 
 -- an entry is stored where there is room
 entry-put : (base count most a b n : ℕ) (t : List ℕ) → getD t count 0 ≡ n → n < most → most ≤ maxLocations
@@ -339,11 +339,11 @@ module _ (s : Sheet) (fm : formed s ≡ true) where
 
 pub principals-put : (n : ℕ) → n ≤ maxPrincipals → principalsPut n (replicate tableWords 0) ≡ tableOf (bareSheet n)
 unfolding tableOf bareSheet typeCount labelCount locationCount labelsOf typeParts givenParts padded entryWords rightWord
-    labelsWords readingWord
+    labelsWords ruleWord
 principals-put n few = rw (low-count n (omega arith), restrict-everyone width n (omega arith))
 
 -- ---- the rule of reading
 
-pub reading-put : (s : Sheet) → readingPut (tableOf s) ≡ tableOf (addReading s)
-unfolding tableOf addReading typeCount labelCount locationCount labelsOf typeParts
-reading-put s = refl
+pub rule-put : (s : Sheet) → rulePut (tableOf s) ≡ tableOf (addRule s)
+unfolding tableOf addRule typeCount labelCount locationCount labelsOf typeParts
+rule-put s = refl

@@ -11,8 +11,8 @@ use Rattle.logic.proofs.BooleanLaws.{bool-ext}
 use native.Mathlib.Omega.{arith}
 use lib.ListN.{length, getD, length-append}
 use Rattle.sets.specs.Sets.{everyone}
-use Rattle.labels.specs.declared.Reading.{Reading}
-use Rattle.labels.specs.declared.Reading.the-variants.{Pooled, Alone}
+use Rattle.labels.specs.declared.Rule.{Rule}
+use Rattle.labels.specs.declared.Rule.the-variants.{Pooled, Alone}
 use Rattle.sheet.specs.declared.Kind.{Kind}
 use Rattle.sheet.specs.declared.Kind.the-variants.{Sum, Pair}
 use Rattle.sheet.specs.Sheet.{Compound, Location, Sheet, typeCount, labelsOf, labelCount, locationNo}
@@ -20,7 +20,7 @@ use Rattle.sheet.specs.Sheet.{locationCount, formed, sameKind}
 use Rattle.sheet.specs.Padding.{padded}
 use Rattle.sheet.specs.Internal.Tables.{partsRoom, locationsRoom, labelsRoom, partsBase, locationsBase}
 use Rattle.sheet.specs.Internal.Tables.{labelsBase, partWords, locationWords, labelsWords, tableOf, principalsIn}
-use Rattle.sheet.specs.Internal.Tables.{everyoneIn, typesIn, labelsIn, locationsIn, readingWord, readingIn}
+use Rattle.sheet.specs.Internal.Tables.{everyoneIn, typesIn, labelsIn, locationsIn, ruleWord, ruleIn}
 use Rattle.sheet.specs.Internal.Tables.{entryIn, leftIn, rightWordIn, rightIn, kindIn, typeIn, homeIn, maxTypes}
 use Rattle.sheet.specs.Internal.Tables.{rightWord, noParts, typeParts, partsNo}
 use Rattle.sheet.proofs.FormLaws.{Formed, formed-facts, type-count, parts-count, parts-there}
@@ -49,11 +49,11 @@ module _ (s : Sheet) (fm : formed s ≡ true) where
   unfolding tableOf
   locations-in = refl
 
-  pub reading-in : readingIn (tableOf s) ≡ s .reading
-  unfolding tableOf readingIn readingWord
-  reading-in = of (s .reading)
+  pub rule-in : ruleIn (tableOf s) ≡ s .rule
+  unfolding tableOf ruleIn ruleWord
+  rule-in = of (s .rule)
     where
-      of : (r : Reading) → cond (eqb (readingWord r) 0) Pooled Alone ≡ r
+      of : (r : Rule) → cond (eqb (ruleWord r) 0) Pooled Alone ≡ r
       of Pooled = refl
       of Alone = refl
 
@@ -61,7 +61,7 @@ module _ (s : Sheet) (fm : formed s ≡ true) where
 
 unfoldable pub heading : Sheet → List ℕ
 heading s = s .principals ∷ everyone (s .principals) ∷ typeCount s ∷ labelCount s ∷ locationCount s
-    ∷ readingWord (s .reading) ∷ 0 ∷ 0 ∷ []
+    ∷ ruleWord (s .rule) ∷ 0 ∷ 0 ∷ []
 
 unfoldable pub partBlock : Sheet → List ℕ
 partBlock s = padded partsRoom (partWords (typeParts s))

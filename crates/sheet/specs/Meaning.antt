@@ -57,14 +57,14 @@ belowNo s l m = belowOf (labelNo s l) (labelNo s m)
 
 -- whether a group reads a label, by the sheet's rule, and whether it writes it, by the label's number
 abbrev pub readsNo : Sheet → ℕ → ℕ → Bool
-readsNo s g l = readsUnder (s .reading) (s .principals) g (labelNo s l)
+readsNo s g l = readsUnder (s .rule) (s .principals) g (labelNo s l)
 
 abbrev pub writesNo : Sheet → ℕ → ℕ → Bool
 writesNo s g l = writesOf (s .principals) g (labelNo s l)
 
 -- whether a group reads the label that a script starts at, by the sheet's rule
 abbrev pub readsStart : Sheet → ℕ → Script → Bool
-readsStart s g p = readsUnder (s .reading) (s .principals) g (startLabel s p .raw)
+readsStart s g p = readsUnder (s .rule) (s .principals) g (startLabel s p .raw)
 
 -- what a run under an authority rests on
 abbrev pub worldOf : Sheet → ℕ → World

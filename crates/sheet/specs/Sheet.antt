@@ -9,7 +9,7 @@ use Rattle.logic.specs.Booleans.{both, either}
 use Rattle.sets.specs.Sets.{everyone}
 use Rattle.labels.specs.Labels.{Policy, policy, labelOf, bottomOf, sameOf}
 use Rattle.labels.specs.declared.Label.{Label}
-use Rattle.labels.specs.declared.Reading.{Reading}
+use Rattle.labels.specs.declared.Rule.{Rule}
 use Rattle.sheet.specs.declared.Kind.{Kind}
 use Rattle.sheet.specs.declared.Kind.the-variants.{Sum, Pair}
 use Rattle.language.specs.Syntax.{Ty, t-int, t-err, t-pkg, t-sum, t-pair}
@@ -30,7 +30,7 @@ pub record Location : Type 0 where
 -- labels as `L` with the policies of its `O` lines, the `X` lines.
 pub record Sheet : Type 0 where
   pub principals : ℕ
-  pub reading : Reading
+  pub rule : Rule
   pub compounds : List Compound
   pub labels : List (List Policy)
   pub locations : List Location

@@ -7,7 +7,7 @@ use mathlib.Core.Bool.{true, false}
 use Prim.Native.Nat.{ℕ, _<_}
 use Rattle.sets.specs.Sets.{member}
 use Rattle.labels.specs.Labels.{readersOf, effective}
-use Rattle.labels.specs.declared.Reading.the-variants.{Pooled, Alone}
+use Rattle.labels.specs.declared.Rule.the-variants.{Pooled, Alone}
 use Rattle.language.specs.Labels.{LeastLabelLaws}
 use Rattle.sheet.specs.Sheet.{Sheet, tyOf, typeCount, labelNo, labelCount, locationNo, formed, repeats}
 use Rattle.sheet.specs.Meaning.{labelsOver, declarationsOf, readsNo}
@@ -38,10 +38,10 @@ NumbersAgreeOnSheets = (s : Sheet) → formed s ≡ true → repeats s ≡ false
 -- Whether a group reads label l (the scope, and request (g)). Pooled: for every owner one of its members is an
 -- effective reader. Alone: one of its members is an effective reader for every owner.
 pub record ReadingMeans (s : Sheet) (g l : ℕ) : Type 0 where
-  pub pooled : s .reading ≡ Pooled
+  pub pooled : s .rule ≡ Pooled
       → (readsNo s g l ≡ true)
       ↔ ((o : ℕ) → o < s .principals → (p : ℕ) × (member p g ≡ true) × (member p (readersOf (labelNo s l) o) ≡ true))
-  pub alone : s .reading ≡ Alone
+  pub alone : s .rule ≡ Alone
       → (readsNo s g l ≡ true)
       ↔ ((p : ℕ) × (member p g ≡ true) × ((o : ℕ) → o < s .principals → member p (readersOf (labelNo s l) o) ≡ true))
 

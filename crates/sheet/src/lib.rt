@@ -6,14 +6,14 @@ ghost use mathlib.Core.Path.{_≡_};
 ghost use lib.ListN.{getD};
 ghost use Rattle.sheet.specs.Internal.Tables.{partsPlace, labelPlace, entryIn, principalsIn, everyoneIn, typesIn};
 ghost use Rattle.sheet.specs.Internal.Tables.{labelsIn, locationsIn, leftIn, rightIn, typeIn, rightWordIn};
-ghost use Rattle.sheet.specs.Internal.Tables.{homeIn, labelIn, belowIn, readingIn, readsIn, writesIn};
-ghost use Rattle.labels.specs.Labels.{readsOf};
+ghost use Rattle.sheet.specs.Internal.Tables.{homeIn, labelIn, belowIn, ruleIn, readsIn, writesIn};
+ghost use Rattle.labels.specs.Labels.{readsPooledOf};
 ghost use Rattle.labels.specs.Internal.Sole.{soleReadersOf};
 ghost use Rattle.sheet.specs.Internal.TypeTest.{isOf, isSum, isPair};
 use labels::LABEL_SIZE;
 use labels::Label;
 use labels::OWNERS;
-use labels::Reading;
+use labels::Rule;
 use sets::Set;
 
 // The two kinds of types that a sheet makes of others.
@@ -48,7 +48,7 @@ const LABEL_COUNT: usize = 3;
 
 const LOCATION_COUNT: usize = 4;
 
-const READING: usize = 5;
+const RULE_PLACE: usize = 5;
 
 // The words of the two rules.
 const POOLED: Word = 0;
@@ -138,13 +138,13 @@ pub fn locations(table: &[Word]) -> u32
 }
 
 // The rule of reading.
-pub fn reading(table: &[Word]) -> Reading
-    ensures { λ r. ⌜ r ≡ readingIn (now (table .entry)) ⌝ }
+pub fn rule(table: &[Word]) -> Rule
+    ensures { λ r. ⌜ r ≡ ruleIn (now (table .entry)) ⌝ }
 {
-    if word(table, READING) == POOLED {
-        Reading::Pooled
+    if word(table, RULE_PLACE) == POOLED {
+        Rule::Pooled
     } else {
-        Reading::Alone
+        Rule::Alone
     }
 }
 
@@ -250,11 +250,11 @@ pub fn below(table: &[Word], l: u32, m: u32) -> bool
 
 // Whether a group reads label l by what its members may read together.
 fn reads_pooled(table: &[Word], group: Set, l: u32) -> bool
-    ensures { λ r. ⌜ r ≡ readsOf (principalsIn (now (table .entry))) group (labelIn (now (table .entry)) l) ⌝ }
+    ensures { λ r. ⌜ r ≡ readsPooledOf (principalsIn (now (table .entry))) group (labelIn (now (table .entry)) l) ⌝ }
 {
     let n = principals(table) as usize;
     if labels(table) <= l {
-        return Label::bottom(everyone(table)).reads(n, group);
+        return Label::bottom(everyone(table)).reads_pooled(n, group);
     }
     labels::meets_at(table, LABELS + LABEL_SIZE * (l as usize), n, group)
 }
@@ -274,9 +274,9 @@ pub fn sole_readers(table: &[Word], l: u32) -> Set
 pub fn reads(table: &[Word], group: Set, l: u32) -> bool
     ensures { λ r. ⌜ r ≡ readsIn (now (table .entry)) group l ⌝ }
 {
-    match reading(table) {
-        Reading::Pooled => reads_pooled(table, group, l),
-        Reading::Alone => sets::meets(group, sole_readers(table, l)),
+    match rule(table) {
+        Rule::Pooled => reads_pooled(table, group, l),
+        Rule::Alone => sets::meets(group, sole_readers(table, l)),
     }
 }
 

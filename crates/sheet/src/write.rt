@@ -3,7 +3,7 @@
 ghost use mathlib.Core.Path.{_≡_};
 ghost use Prim.Native.Nat.{_+_, _*_, _<_, _≤_};
 ghost use Rattle.sheet.specs.Internal.Tables.{tableWords, rightWord};
-ghost use Rattle.sheet.specs.Internal.Writers.{low, principalsPut, readingPut, entryPut, compoundPut};
+ghost use Rattle.sheet.specs.Internal.Writers.{low, principalsPut, rulePut, entryPut, compoundPut};
 ghost use Rattle.sheet.specs.Internal.Writers.{locationPut, openPut, policyPut};
 use super::ALONE;
 use super::ERROR;
@@ -20,7 +20,7 @@ use super::PARTS;
 use super::PKG;
 use super::PKG_OR_ERROR;
 use super::PRINCIPAL_COUNT;
-use super::READING;
+use super::RULE_PLACE;
 use super::TYPE_COUNT;
 use super::WORDS;
 use super::Word;
@@ -52,10 +52,10 @@ pub fn put_principals(table: &mut [Word; WORDS], n: u32)
 }
 
 // The rule of the line `R 1`.
-pub fn put_reading(table: &mut [Word; WORDS])
-    ensures { λ _. ⌜ now (table .exit) ≡ readingPut (now (table .entry)) ⌝ }
+pub fn put_rule(table: &mut [Word; WORDS])
+    ensures { λ _. ⌜ now (table .exit) ≡ rulePut (now (table .entry)) ⌝ }
 {
-    table[READING] = ALONE;
+    table[RULE_PLACE] = ALONE;
 }
 
 // An entry of two words behind those from `base` on, of which there are at most `most` and as many as the word at

@@ -12,24 +12,24 @@ use lib.Pow.{pow-mono}
 use borrow.Author.Tests.{le-leb, ltb-true, leb-true, eqb-true}
 use Rattle.logic.specs.Booleans.{both}
 use Rattle.logic.proofs.BooleanLaws.{absurd-false, both-left, both-right, both-true, cond-split}
-use Rattle.text.specs.Lines.{none-left, and-then}
+use Rattle.text.specs.Lines.{empty-good, and-then}
 use Rattle.logic.proofs.OptionLaws.{none-some, some-path}
 use Rattle.sets.specs.Sets.{width}
 use Rattle.labels.specs.Labels.{policy}
-use Rattle.labels.specs.declared.Reading.{Reading}
-use Rattle.labels.specs.declared.Reading.the-variants.{Pooled, Alone}
+use Rattle.labels.specs.declared.Rule.{Rule}
+use Rattle.labels.specs.declared.Rule.the-variants.{Pooled, Alone}
 use Rattle.sheet.specs.Internal.Tables.{typeParts}
 use Rattle.sheet.specs.declared.Kind.{Kind}
 use Rattle.sheet.specs.declared.Kind.the-variants.{Sum, Pair}
 use Rattle.sheet.specs.Sheet.{Compound, Location, Sheet, typeCount, labelCount, locationCount, earlierTypes, rising}
 use Rattle.sheet.specs.Sheet.{eachRising, eachNamed, maxPrincipals, maxCompounds, maxLabels, maxLocations, formed}
 use Rattle.sheet.proofs.FormLaws.{Formed, formed-facts, type-count}
-use Rattle.sheet_text.specs.declared.line.Line.{Line}
-use Rattle.sheet_text.specs.declared.line.Line.the-variants.{P, R, T, Q, L, O, X}
-use Rattle.sheet_text.specs.Lines.{readingLines, typeLine, compoundLine, policyLine, locationLine, each}
+use Rattle.sheet_text.specs.declared.line.SheetLine.{SheetLine}
+use Rattle.sheet_text.specs.declared.line.SheetLine.the-variants.{P, R, T, Q, L, O, X}
+use Rattle.sheet_text.specs.Lines.{ruleLines, typeLine, compoundLine, policyLine, locationLine, each}
 use Rattle.sheet_text.specs.Lines.{labelLines, linesThen, sheetLines}
-use Rattle.sheet.specs.Internal.Growth.{bareSheet, addReading, addCompound, addLabel, addPolicy, addLocation}
-use Rattle.sheet_text.specs.Internal.Building.{leastOwner, isPooled, readingFits, compoundFits, labelFits}
+use Rattle.sheet.specs.Internal.Growth.{bareSheet, addRule, addCompound, addLabel, addPolicy, addLocation}
+use Rattle.sheet_text.specs.Internal.Building.{leastOwner, isPooled, ruleFits, compoundFits, labelFits}
 use Rattle.sheet_text.specs.Internal.Building.{policyFits, locationFits, begin, addType, addLine, addLineOn}
 use Rattle.sheet_text.specs.Internal.Building.{addLines, build}
 use Rattle.sheet_text.proofs.LineLaws.{Fits, AllFit, type-line-fits}
@@ -47,8 +47,8 @@ formed-made s f =
 
 -- ---- a line that is taken is the next one of the new sheet, which is of the right form
 
-pub record Taken (s : Sheet) (l : Line) (s′ : Sheet) : Type 0 where
-  pub next : (rest : List Line) → linesThen s′ rest ≡ linesThen s (l ∷ rest)
+pub record Taken (s : Sheet) (l : SheetLine) (s′ : Sheet) : Type 0 where
+  pub next : (rest : List SheetLine) → linesThen s′ rest ≡ linesThen s (l ∷ rest)
   pub right : formed s′ ≡ true
   pub fits : Fits l
 
@@ -63,26 +63,26 @@ no-labels s e = no-entries (s .labels) (eqb-true _ _ e)
 pub no-compounds : (s : Sheet) → eqb (length (s .compounds)) 0 ≡ true → s .compounds ≡ []
 no-compounds s e = no-entries (s .compounds) (eqb-true _ _ e)
 
-is-pooled : (r : Reading) → isPooled r ≡ true → r ≡ Pooled
+is-pooled : (r : Rule) → isPooled r ≡ true → r ≡ Pooled
 unfolding isPooled
 is-pooled Pooled e = refl
 is-pooled Alone e = absurd (absurd-false e)
 
 -- the lines before the types, then rest
-abbrev opening : Sheet → List Line → List Line
-opening s rest = P (s .principals) ∷ readingLines (s .reading) rest
+abbrev opening : Sheet → List SheetLine → List SheetLine
+opening s rest = P (s .principals) ∷ ruleLines (s .rule) rest
 
 module _ (s : Sheet) (fm : formed s ≡ true) where
   facts : Formed s
   facts = formed-facts s fm
 
-  take-reading : (k : ℕ) → readingFits s k ≡ true → Taken s (R k) (addReading s)
-  unfolding readingFits addReading linesThen readingLines each labelLines formed typeCount labelCount Fits
-  take-reading k e =
+  take-rule : (k : ℕ) → ruleFits s k ≡ true → Taken s (R k) (addRule s)
+  unfolding ruleFits addRule linesThen ruleLines each labelLines formed typeCount labelCount Fits
+  take-rule k e =
       let rest = both-right _ _ e in
       let bare = both-right _ _ rest in
       let one : k ≡ 1 = eqb-true _ _ (both-left _ _ rest) in
-      let r = is-pooled (s .reading) (both-left _ _ e) in
+      let r = is-pooled (s .rule) (both-left _ _ e) in
       let c = no-compounds s (both-left _ _ bare) in
       let l = no-labels s (both-left _ _ (both-right _ _ bare)) in
       let x0 = no-locations s (both-right _ _ (both-right _ _ bare)) in
@@ -226,10 +226,10 @@ type-sound : (s : Sheet) (k : Kind) (a b : ℕ) (s′ : Sheet) → formed s ≡ 
 unfolding addType
 type-sound s k a b s′ fm e = taken-if (compoundFits s a b) _ s′ (λ h q. rw (← q) (take-compound s fm k a b h)) e
 
-pub step-sound : (s : Sheet) (l : Line) (s′ : Sheet) → formed s ≡ true → addLine s l ≡ some s′ → Taken s l s′
+pub step-sound : (s : Sheet) (l : SheetLine) (s′ : Sheet) → formed s ≡ true → addLine s l ≡ some s′ → Taken s l s′
 unfolding addLine typeLine
 step-sound s (P n) s′ fm e = none-some e
-step-sound s (R k) s′ fm e = taken-if (readingFits s k) _ s′ (λ h q. rw (← q) (take-reading s fm k h)) e
+step-sound s (R k) s′ fm e = taken-if (ruleFits s k) _ s′ (λ h q. rw (← q) (take-rule s fm k h)) e
 step-sound s (T a b) s′ fm e = type-sound s Sum a b s′ fm e
 step-sound s (Q a b) s′ fm e = type-sound s Pair a b s′ fm e
 step-sound s L s′ fm e = taken-if (labelFits s) _ s′ (λ h k. rw (← k) (take-label s fm h)) e
@@ -253,16 +253,16 @@ blank-formed n h k =
       locations-named = refl;
     })
 
-pub record Begun (l : Line) (s : Sheet) : Type 0 where
-  pub next : (rest : List Line) → linesThen s rest ≡ l ∷ rest
+pub record Begun (l : SheetLine) (s : Sheet) : Type 0 where
+  pub next : (rest : List SheetLine) → linesThen s rest ≡ l ∷ rest
   pub right : formed s ≡ true
   pub fits : Fits l
 
 blank-begun : (n : ℕ) → 1 ≤ n → n ≤ maxPrincipals → Begun (P n) (bareSheet n)
-unfolding linesThen bareSheet readingLines each labelLines Fits
+unfolding linesThen bareSheet ruleLines each labelLines Fits
 blank-begun n h k = record { next = λ rest. refl; right = blank-formed n h k; fits = omega arith }
 
-pub begin-sound : (l : Line) (s : Sheet) → begin l ≡ some s → Begun l s
+pub begin-sound : (l : SheetLine) (s : Sheet) → begin l ≡ some s → Begun l s
 unfolding begin
 begin-sound (P n) s e =
     taken-if (both (leb 1 n) (leb n maxPrincipals)) (bareSheet n) s
@@ -276,15 +276,15 @@ begin-sound (X t l) s e = none-some e
 
 -- ---- lines that a sheet can be built from are those of a sheet of the right form
 
-pub steps-none : (ls : List Line) → addLines none ls ≡ none
+pub steps-none : (ls : List SheetLine) → addLines none ls ≡ none
 unfolding addLines addLineOn
 steps-none [] = refl
 steps-none (l ∷ ls) = steps-none ls
 
-pub steps-sound : (ls : List Line) (s s′ : Sheet) → formed s ≡ true → addLines (some s) ls ≡ some s′
+pub steps-sound : (ls : List SheetLine) (s s′ : Sheet) → formed s ≡ true → addLines (some s) ls ≡ some s′
     → (linesThen s′ [] ≡ linesThen s ls) × (formed s′ ≡ true) × AllFit ls
 unfolding addLines addLineOn
-steps-sound [] s s′ fm e = let k : s′ ≡ s = sym (some-path e) in rw k (refl, fm, none-left)
+steps-sound [] s s′ fm e = let k : s′ ≡ s = sym (some-path e) in rw k (refl, fm, empty-good)
 steps-sound (l ∷ ls) s s′ fm e = at (λ s₁ h. steps-sound ls s₁ s′ h) (addLine s l) refl e
   where
     at : ((s₁ : Sheet) → formed s₁ ≡ true → addLines (some s₁) ls ≡ some s′
@@ -297,7 +297,8 @@ steps-sound (l ∷ ls) s s′ fm e = at (λ s₁ h. steps-sound ls s₁ s′ h) 
         let r = rest s₁ (t .right) k in
         (r .0 ∙ t .next ls, r .1, and-then (t .fits) (r .2))
 
-pub build-sound : (ls : List Line) (s : Sheet) → build ls ≡ some s → (ls ≡ sheetLines s) × (formed s ≡ true) × AllFit ls
+pub build-sound : (ls : List SheetLine) (s : Sheet) → build ls ≡ some s
+    → (ls ≡ sheetLines s) × (formed s ≡ true) × AllFit ls
 unfolding build sheetLines
 build-sound [] s e = none-some e
 build-sound (l ∷ ls) s e = at (begin l) refl e

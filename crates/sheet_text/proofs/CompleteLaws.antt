@@ -11,18 +11,18 @@ use borrow.Author.Tests.{lt-ltb, le-leb, ltb-true}
 use Rattle.logic.specs.Booleans.{both}
 use Rattle.logic.proofs.BooleanLaws.{both-left, both-right, both-true}
 use Rattle.labels.specs.Labels.{Policy, policy}
-use Rattle.labels.specs.declared.Reading.{Reading}
-use Rattle.labels.specs.declared.Reading.the-variants.{Pooled, Alone}
+use Rattle.labels.specs.declared.Rule.{Rule}
+use Rattle.labels.specs.declared.Rule.the-variants.{Pooled, Alone}
 use Rattle.sheet.specs.declared.Kind.{Kind}
 use Rattle.sheet.specs.declared.Kind.the-variants.{Sum, Pair}
 use Rattle.sheet.specs.Sheet.{Compound, Location, Sheet, typeCount, labelCount, locationCount, earlierTypes, rising}
 use Rattle.sheet.specs.Sheet.{eachRising, eachNamed, maxCompounds, maxLabels, maxLocations, formed}
 use Rattle.sheet.proofs.FormLaws.{formed-facts, type-count}
-use Rattle.sheet_text.specs.declared.line.Line.{Line}
-use Rattle.sheet_text.specs.Lines.{readingLines, typeLine, compoundLine, policyLine, locationLine, each}
+use Rattle.sheet_text.specs.declared.line.SheetLine.{SheetLine}
+use Rattle.sheet_text.specs.Lines.{ruleLines, typeLine, compoundLine, policyLine, locationLine, each}
 use Rattle.sheet_text.specs.Lines.{labelLines, linesThen, sheetLines}
-use Rattle.sheet.specs.Internal.Growth.{bareSheet, addReading, addCompound, addLabel, addPolicy, addLocation}
-use Rattle.sheet_text.specs.Internal.Building.{leastAfter, leastOwner, isPooled, readingFits, compoundFits}
+use Rattle.sheet.specs.Internal.Growth.{bareSheet, addRule, addCompound, addLabel, addPolicy, addLocation}
+use Rattle.sheet_text.specs.Internal.Building.{leastAfter, leastOwner, isPooled, ruleFits, compoundFits}
 use Rattle.sheet_text.specs.Internal.Building.{labelFits, policyFits, locationFits, begin, addType, addLine}
 use Rattle.sheet_text.specs.Internal.Building.{addLineOn, addLines, build}
 use Rattle.sheet.proofs.GrowthLaws.{length-more, toLast-more}
@@ -33,10 +33,10 @@ passes : (c : Bool) (s s′ : Sheet) → c ≡ true → s ≡ s′ → cond c (s
 passes c s s′ h e = rw h (ap some e)
 
 -- lines that each make a list of the sheet one longer
-module _ {A : Type 0} (line : A → Line) (sheet : List A → Sheet) (Good : List A → List A → Type 0)
+module _ {A : Type 0} (line : A → SheetLine) (sheet : List A → Sheet) (Good : List A → List A → Type 0)
     (grow : (ys : List A) (xs : List A) (y : A) → Good xs (y ∷ ys)
     → (addLine (sheet xs) (line y) ≡ some (sheet (xs ++ (y ∷ [])))) × Good (xs ++ (y ∷ [])) ys) where
-  steps-each : (ys xs : List A) (rest : List Line) → Good xs ys
+  steps-each : (ys xs : List A) (rest : List SheetLine) → Good xs ys
       → addLines (some (sheet xs)) (each line ys rest) ≡ addLines (some (sheet (xs ++ ys))) rest
   unfolding each addLines addLineOn
   steps-each [] xs rest g = ap (λ (zs : List A). addLines (some (sheet zs)) rest) (sym (append-nil xs))
@@ -45,17 +45,17 @@ module _ {A : Type 0} (line : A → Line) (sheet : List A → Sheet) (Good : Lis
       ap (λ (o : Option Sheet). addLines o (each line ys rest)) e ∙ steps-each ys (xs ++ (y ∷ [])) rest h
       ∙ ap (λ (zs : List A). addLines (some (sheet zs)) rest) (append-assoc xs (y ∷ []) ys)
 
-abbrev sheetAt : ℕ → Reading → List Compound → List (List Policy) → List Location → Sheet
-sheetAt n rule ss pss xs = record { principals = n; reading = rule; compounds = ss; labels = pss; locations = xs }
+abbrev sheetAt : ℕ → Rule → List Compound → List (List Policy) → List Location → Sheet
+sheetAt n rule ss pss xs = record { principals = n; rule = rule; compounds = ss; labels = pss; locations = xs }
 
 -- ---- the rule of reading
 
-reading-built : (n : ℕ) (rule : Reading) (rest : List Line)
-    → addLines (some (sheetAt n Pooled [] [] [])) (readingLines rule rest)
+rule-built : (n : ℕ) (rule : Rule) (rest : List SheetLine)
+    → addLines (some (sheetAt n Pooled [] [] [])) (ruleLines rule rest)
     ≡ addLines (some (sheetAt n rule [] [] [])) rest
-unfolding readingLines addLines addLineOn addLine readingFits isPooled addReading both labelCount locationCount
-reading-built n Pooled rest = refl
-reading-built n Alone rest = refl
+unfolding ruleLines addLines addLineOn addLine ruleFits isPooled addRule both labelCount locationCount
+rule-built n Pooled rest = refl
+rule-built n Alone rest = refl
 
 -- ---- types
 
@@ -70,7 +70,7 @@ unfolding addLine addType typeLine
 add-type s Sum a b = refl
 add-type s Pair a b = refl
 
-type-built : (n : ℕ) (rule : Reading) (ys xs : List Compound) (y : Compound) → GoodTypes xs (y ∷ ys)
+type-built : (n : ℕ) (rule : Rule) (ys xs : List Compound) (y : Compound) → GoodTypes xs (y ∷ ys)
     → (addLine (sheetAt n rule xs [] []) (compoundLine y) ≡ some (sheetAt n rule (xs ++ (y ∷ [])) [] []))
     × GoodTypes (xs ++ (y ∷ [])) ys
 unfolding earlierTypes compoundLine compoundFits addCompound labelCount locationCount
@@ -96,7 +96,7 @@ type-built n rule ys xs y g =
 abbrev GoodPolicies : ℕ → List Policy → List Policy → Type 0
 GoodPolicies n qs ps = rising n (leastAfter 0 qs) ps ≡ true
 
-policy-built : (n : ℕ) (rule : Reading) (ss : List Compound) (done : List (List Policy)) (ps qs : List Policy)
+policy-built : (n : ℕ) (rule : Rule) (ss : List Compound) (done : List (List Policy)) (ps qs : List Policy)
     (p : Policy) → GoodPolicies n qs (p ∷ ps)
     → (addLine (sheetAt n rule ss (done ++ (qs ∷ [])) []) (policyLine p)
     ≡ some (sheetAt n rule ss (done ++ ((qs ++ (p ∷ [])) ∷ [])) []))
@@ -115,7 +115,7 @@ policy-built n rule ss done ps qs (policy o r w) g =
 
 -- ---- labels
 
-labels-built : (n : ℕ) (rule : Reading) (ss : List Compound) (pss done : List (List Policy)) (rest : List Line)
+labels-built : (n : ℕ) (rule : Rule) (ss : List Compound) (pss done : List (List Policy)) (rest : List SheetLine)
     → length done + length pss ≤ maxLabels → eachRising n pss ≡ true
     → addLines (some (sheetAt n rule ss done [])) (labelLines pss rest)
     ≡ addLines (some (sheetAt n rule ss (done ++ pss) [])) rest
@@ -138,7 +138,7 @@ labels-built n rule ss (ps ∷ pss) done rest few e =
 abbrev GoodLocations : ℕ → ℕ → List Location → List Location → Type 0
 GoodLocations types labels xs ys = (length xs + length ys ≤ maxLocations) × (eachNamed types labels ys ≡ true)
 
-location-built : (n : ℕ) (rule : Reading) (ss : List Compound) (pss : List (List Policy))
+location-built : (n : ℕ) (rule : Rule) (ss : List Compound) (pss : List (List Policy))
     (ys xs : List Location) (y : Location)
     → GoodLocations (typeCount (sheetAt n rule ss pss [])) (length pss) xs (y ∷ ys)
     → (addLine (sheetAt n rule ss pss xs) (locationLine y) ≡ some (sheetAt n rule ss pss (xs ++ (y ∷ []))))
@@ -161,15 +161,15 @@ pub build-complete : (s : Sheet) → formed s ≡ true → build (sheetLines s) 
 unfolding build sheetLines linesThen begin bareSheet addLines labelCount
 build-complete s fm =
     let n = s .principals in
-    let rule = s .reading in
+    let rule = s .rule in
     let f = formed-facts s fm in
     let count = type-count s in
     let count′ = type-count (sheetAt n rule (s .compounds) (s .labels) []) in
     let types : typeCount s ≡ typeCount (sheetAt n rule (s .compounds) (s .labels) []) = omega arith in
     let lines = each compoundLine (s .compounds) (labelLines (s .labels) (each locationLine (s .locations) [])) in
-    ap (λ (o : Option Sheet). addLines o (readingLines rule lines))
+    ap (λ (o : Option Sheet). addLines o (ruleLines rule lines))
     (passes _ _ _ (both-true (le-leb _ _ (f .some-principal)) (le-leb _ _ (f .few-principals))) refl)
-    ∙ reading-built n rule lines
+    ∙ rule-built n rule lines
     ∙ steps-each compoundLine (λ xs. sheetAt n rule xs [] []) GoodTypes (type-built n rule) (s .compounds) []
     (labelLines (s .labels) (each locationLine (s .locations) []))
     (omega (arith, f .few-compounds), f .compounds-earlier)

@@ -18,20 +18,20 @@ use Rattle.labels.specs.Labels.{policy}
 use Rattle.sheet.specs.declared.Kind.{Kind}
 use Rattle.sheet.specs.Sheet.{Compound, Sheet, typeCount, labelCount, maxPrincipals, maxCompounds, formed}
 use Rattle.sheet.specs.Internal.Tables.{maxTypes, tableWords, tableOf}
-use Rattle.sheet.specs.Internal.Growth.{bareSheet, addReading, addCompound, addLabel, toLast, addPolicy, addLocation}
-use Rattle.sheet.specs.Internal.Writers.{principalsPut, readingPut, compoundPut, openPut, policyPut, locationPut}
+use Rattle.sheet.specs.Internal.Growth.{bareSheet, addRule, addCompound, addLabel, toLast, addPolicy, addLocation}
+use Rattle.sheet.specs.Internal.Writers.{principalsPut, rulePut, compoundPut, openPut, policyPut, locationPut}
 use Rattle.sheet.proofs.FormLaws.{formed-facts, type-count}
-use Rattle.sheet.proofs.TableLaws.{types-in, labels-in, locations-in, principals-in, everyone-in, reading-in}
+use Rattle.sheet.proofs.TableLaws.{types-in, labels-in, locations-in, principals-in, everyone-in, rule-in}
 use Rattle.sheet.proofs.GrowthLaws.{toLast-more, labels-split}
-use Rattle.sheet.proofs.TableGrowth.{compound-put, open-put, policy-put, location-put, principals-put, reading-put}
-use Rattle.sheet_text.specs.declared.line.Line.{Line}
-use Rattle.sheet_text.specs.declared.line.Line.the-variants.{P, R, L, O, X}
+use Rattle.sheet.proofs.TableGrowth.{compound-put, open-put, policy-put, location-put, principals-put, rule-put}
+use Rattle.sheet_text.specs.declared.line.SheetLine.{SheetLine}
+use Rattle.sheet_text.specs.declared.line.SheetLine.the-variants.{P, R, L, O, X}
 use Rattle.sheet_text.specs.declared.draft.Draft.{Draft}
 use Rattle.sheet_text.specs.declared.draft.Draft.the-variants.{Formed, Refused}
-use Rattle.sheet_text.specs.Internal.Building.{lastOf, leastAfter, leastOwner, readingFits, compoundFits}
+use Rattle.sheet_text.specs.Internal.Building.{lastOf, leastAfter, leastOwner, ruleFits, compoundFits}
 use Rattle.sheet_text.specs.Internal.Building.{labelFits, policyFits, locationFits, begin, addType, addLine}
 use Rattle.sheet_text.specs.Internal.Building.{addLineOn}
-use Rattle.sheet_text.specs.Internal.Drafts.{draftIf, DraftHolds, FormedIf, Stores, principalsFit, readingFitsIn}
+use Rattle.sheet_text.specs.Internal.Drafts.{draftIf, DraftHolds, FormedIf, Stores, principalsFit, ruleFitsIn}
 use Rattle.sheet_text.specs.Internal.Drafts.{compoundFitsIn, labelFitsIn, policyFitsIn, locationFitsIn}
 use Rattle.logic.proofs.OptionLaws.{none-some}
 use Rattle.sheet_text.proofs.GrowthLaws.{last-more, least-more}
@@ -62,9 +62,9 @@ module _ (s : Sheet) (fm : formed s ≡ true) where
       (λ e. let h : typeCount s ≡ 5 = eqb-true _ _ e in let k : length (s .compounds) ≡ 0 = omega arith in eq-eqb _ _ k)
       (λ e. let h : length (s .compounds) ≡ 0 = eqb-true _ _ e in let k : typeCount s ≡ 5 = omega arith in eq-eqb _ _ k)
 
-  reading-fits-in : (k : ℕ) → readingFitsIn k (tableOf s) ≡ readingFits s k
-  unfolding readingFits
-  reading-fits-in k = rw (reading-in s fm, labels-in s fm, locations-in s fm, types-in s fm, types-none-in)
+  rule-fits-in : (k : ℕ) → ruleFitsIn k (tableOf s) ≡ ruleFits s k
+  unfolding ruleFits
+  rule-fits-in k = rw (rule-in s fm, labels-in s fm, locations-in s fm, types-in s fm, types-none-in)
 
   label-fits-in : labelFitsIn (tableOf s) ≡ labelFits s
   unfolding labelFits
@@ -121,13 +121,13 @@ least-none s e = rw e
 
 -- ---- what a line that passes its test stores
 
-reading-stored : (s : Sheet) (k : ℕ) → readingFits s k ≡ true
-    → (0 ≡ leastOwner (addReading s)) × (readingPut (tableOf s) ≡ tableOf (addReading s))
-unfolding readingFits
-reading-stored s k f = (
-  least-none (addReading s)
-      (unfold addReading in (no-labels s (both-left _ _ (both-right _ _ (both-right _ _ (both-right _ _ f)))))),
-  reading-put s,
+rule-stored : (s : Sheet) (k : ℕ) → ruleFits s k ≡ true
+    → (0 ≡ leastOwner (addRule s)) × (rulePut (tableOf s) ≡ tableOf (addRule s))
+unfolding ruleFits
+rule-stored s k f = (
+  least-none (addRule s)
+      (unfold addRule in (no-labels s (both-left _ _ (both-right _ _ (both-right _ _ (both-right _ _ f)))))),
+  rule-put s,
 )
 
 module _ (s : Sheet) (fm : formed s ≡ true) where
@@ -181,12 +181,12 @@ module _ (s : Sheet) (fm : formed s ≡ true) where
 
 -- what was stored in the table of a sheet
 module _ (s : Sheet) (fm : formed s ≡ true) (t : List ℕ) (e : t ≡ tableOf s) (ok : Bool) (u : List ℕ) where
-  pub reading-holds : (k : ℕ) → Stores (readingFitsIn k) readingPut t ok u
+  pub rule-holds : (k : ℕ) → Stores (ruleFitsIn k) rulePut t ok u
       → DraftHolds (addLine s (R k)) (draftIf ok 0) u
   unfolding addLine
-  reading-holds k made =
-      holds-if (readingFits s k) _ (readingFitsIn k) readingPut (tableOf s) u ok 0 (rw e at made)
-      (reading-fits-in s fm k) (λ f. reading-stored s k f)
+  rule-holds k made =
+      holds-if (ruleFits s k) _ (ruleFitsIn k) rulePut (tableOf s) u ok 0 (rw e at made)
+      (rule-fits-in s fm k) (λ f. rule-stored s k f)
 
   pub compound-holds : (k : Kind) (a b : ℕ) → Stores (compoundFitsIn a b) (compoundPut k a b) t ok u
       → DraftHolds (addType s k a b) (draftIf ok 0) u
@@ -235,14 +235,14 @@ begin-holds n t e ok u made =
 
 -- ---- the sheet so far stays of the right form
 
-pub formed-begun : (l : Line) → FormedIf (begin l)
+pub formed-begun : (l : SheetLine) → FormedIf (begin l)
 formed-begun l = at (begin l) refl
   where
     at : (o : Option Sheet) → begin l ≡ o → FormedIf o
     at none e = unfold FormedIf in tt
     at (some s) e = unfold FormedIf in (begin-sound l s e .right)
 
-pub formed-stepped : (o : Option Sheet) (l : Line) → FormedIf o → FormedIf (addLineOn o l)
+pub formed-stepped : (o : Option Sheet) (l : SheetLine) → FormedIf o → FormedIf (addLineOn o l)
 unfolding addLineOn
 formed-stepped none l f = f
 formed-stepped (some s) l f = at (addLine s l) refl
@@ -264,14 +264,15 @@ refused-formed d k h e = let z : _≡_ {A = ℕ} 0 1 = cc in absurd (omega arith
 
 module _ (d : Draft) (t : List ℕ) where
   -- a refusal stays one
-  pub step-refused : (o : Option Sheet) (l : Line) (u : List ℕ) → d ≡ Refused → DraftHolds o d t
+  pub step-refused : (o : Option Sheet) (l : SheetLine) (u : List ℕ) → d ≡ Refused → DraftHolds o d t
       → DraftHolds (addLineOn o l) Refused u
   unfolding DraftHolds addLineOn
   step-refused none l u h e = refl
   step-refused (some s) l u h e = refused-formed d _ h (e .0)
 
   -- what is made of the sheet by the line
-  pub step-made : (o : Option Sheet) (l l′ : Line) (r : Draft) (u : List ℕ) (k : ℕ) → d ≡ Formed k → l ≡ l′ → FormedIf o
+  pub step-made : (o : Option Sheet) (l l′ : SheetLine) (r : Draft) (u : List ℕ) (k : ℕ) → d ≡ Formed k → l ≡ l′
+      → FormedIf o
       → DraftHolds o d t
       → ((s : Sheet) → formed s ≡ true → k ≡ leastOwner s → t ≡ tableOf s → DraftHolds (addLine s l′) r u)
       → DraftHolds (addLineOn o l) r u

@@ -12,25 +12,26 @@ use Rattle.text.specs.Set.{hexDigit, hexDigits, hexByte, hexForm}
 use Rattle.text.specs.Field.{numberField, setField, lastNumber}
 use Rattle.text.specs.Lines.{front, onward, linesUpTo, allLines, printLines}
 use Rattle.labels.specs.Labels.{policy, openAt, openOf, policyOf, withPolicies, labelOf, sameAt, sameOf}
-use Rattle.labels.specs.declared.Reading.the-variants.{Pooled}
+use Rattle.labels.specs.declared.Rule.the-variants.{Pooled}
 use Rattle.sheet.specs.Internal.Tables.{givenParts, typeParts}
 use Rattle.sheet.specs.declared.Kind.the-variants.{Sum}
 use Rattle.sheet.specs.Sheet.{Sheet, typeCount, labelsOf, labelCount, locationCount, earlierTypes, rising, eachRising}
 use Rattle.sheet.specs.Sheet.{eachNamed, formed, among, repeated, sameKind, sameCompound, repeats}
-use Rattle.sheet_text.specs.Lines.{readingLines, typeLine, compoundLine, policyLine, locationLine, each}
+use Rattle.sheet_text.specs.Lines.{ruleLines, typeLine, compoundLine, policyLine, locationLine, each}
 use Rattle.sheet_text.specs.Lines.{labelLines, linesThen, sheetLines, lineBytes, sheetBytes}
 use Rattle.sheet_text.specs.Reading.{numberRest, numbersRest, labelRest, policyRest, lineOf}
-use Rattle.sheet.specs.Internal.Growth.{bareSheet, addReading, addCompound, addLabel, toLast, addPolicy, addLocation}
-use Rattle.sheet_text.specs.Internal.Building.{lastOf, leastAfter, leastOwner, isPooled, readingFits}
+use Rattle.sheet.specs.Internal.Growth.{bareSheet, addRule, addCompound, addLabel, toLast, addPolicy, addLocation}
+use Rattle.sheet_text.specs.Internal.Building.{lastOf, leastAfter, leastOwner, isPooled, ruleFits}
 use Rattle.sheet_text.specs.Internal.Building.{compoundFits, labelFits, policyFits, locationFits, begin, addType}
 use Rattle.sheet_text.specs.Internal.Building.{addLine, addLineOn, addLines, build}
-use Rattle.sheet_text.specs.Sheets.{buildRead, sheetRead, Answer, malformed, repeating, accepted, judged, sheetOf}
+use Rattle.sheet_text.specs.Sheets.{buildRead, sheetRead, ParsedSheet, malformed, repeating, accepted, judged}
+use Rattle.sheet_text.specs.Sheets.{sheetOf}
 
 caseSheet : Sheet
 caseSheet =
     record {
       principals = 3;
-      reading = Pooled;
+      rule = Pooled;
       compounds = record { kind = Sum; left = 0; right = 1 } ∷ [];
       labels = [] ∷ (policy 0 0 0 ∷ []) ∷ (policy 0 0 7 ∷ []) ∷ [];
       locations =
@@ -72,18 +73,19 @@ texts =
     ∷ (80 ∷ 9 ∷ 50 ∷ 10 ∷ 84 ∷ 9 ∷ 48 ∷ 9 ∷ 52 ∷ 50 ∷ 57 ∷ 52 ∷ 57 ∷ 54 ∷ 55 ∷ 50 ∷ 57 ∷ 54 ∷ 10 ∷ [])
     ∷ []
 
-answers : List Answer
-answers = accepted caseSheet ∷ malformed ∷ malformed ∷ repeating ∷ repeating ∷ replicate 13 malformed
+parsedTexts : List ParsedSheet
+parsedTexts = accepted caseSheet ∷ malformed ∷ malformed ∷ repeating ∷ repeating ∷ replicate 13 malformed
 
 case-printed : sheetBytes caseSheet ≡ caseText
-unfolding caseSheet caseText sheetBytes printLines lineBytes sheetLines linesThen readingLines each labelLines typeLine
+unfolding caseSheet caseText sheetBytes printLines lineBytes sheetLines linesThen ruleLines each labelLines typeLine
     compoundLine policyLine locationLine decimal decimalOn hexForm hexByte
 case-printed = refl
 
-texts-read : map sheetOf texts ≡ answers
-unfolding caseSheet caseText texts answers sheetOf judged sheetRead buildRead build addLines addLineOn addLine addType
-    begin isPooled readingFits compoundFits labelFits policyFits locationFits leastOwner leastAfter lastOf bareSheet
-    addReading addCompound addLabel addPolicy toLast addLocation allLines linesUpTo onward front lineOf numberRest
+texts-read : map sheetOf texts ≡ parsedTexts
+unfolding caseSheet caseText texts parsedTexts sheetOf judged sheetRead buildRead build addLines addLineOn addLine
+    addType
+    begin isPooled ruleFits compoundFits labelFits policyFits locationFits leastOwner leastAfter lastOf bareSheet
+    addRule addCompound addLabel addPolicy toLast addLocation allLines linesUpTo onward front lineOf numberRest
     numbersRest labelRest policyRest andThen byte fits digit opensDigit
     digits number hexDigit hexDigits numberField setField lastNumber both either union every tab single everyone openAt
     openOf policyOf withPolicies labelOf sameAt sameOf

@@ -10,8 +10,8 @@ use Rattle.text.specs.Reading.Read.{got, bad}
 use Rattle.text.proofs.Readings.{drop-step}
 use Rattle.text.proofs.Places.{placed-got, placed-bad, placed-split}
 use Rattle.text.proofs.Lines.{line-within, line-shorter}
-use Rattle.sheet_text.specs.declared.line.Line.{Line}
-use Rattle.sheet_text.specs.declared.line.Line.the-variants.{P, R, T, Q, X}
+use Rattle.sheet_text.specs.declared.line.SheetLine.{SheetLine}
+use Rattle.sheet_text.specs.declared.line.SheetLine.the-variants.{P, R, T, Q, X}
 use Rattle.sheet_text.specs.declared.line.LineRead.the-variants as read
 use Rattle.sheet_text.specs.declared.line.Reached.{Reached}
 use Rattle.sheet_text.specs.declared.line.Found.the-variants as found
@@ -21,8 +21,8 @@ use Rattle.sheet_text.proofs.LineLaws.{sheet-lines}
 
 -- ---- answers
 
-module _ (s : List ℕ) (want : Read Line) where
-  pub found-got : (l : Line) (p : ℕ) → want ≡ got l (drop p s) → p ≤ length s → found.At l p ≡ placedLine s want
+module _ (s : List ℕ) (want : Read SheetLine) where
+  pub found-got : (l : SheetLine) (p : ℕ) → want ≡ got l (drop p s) → p ≤ length s → found.At l p ≡ placedLine s want
   found-got l p e h = placed-got (λ l p. found.At l p) found.Refused s want l p e h
 
   pub found-none : want ≡ bad → found.Refused ≡ placedLine s want
@@ -30,7 +30,7 @@ module _ (s : List ℕ) (want : Read Line) where
 
 -- what an answer at i in s says of the line there
 module _ (s : List ℕ) (i : ℕ) (r : Reached) (e : r ≡ lineAt s i) where
-  line-split : {P : Type 0} → ((l : Line) (p : ℕ) → lineOf (drop i s) ≡ got l (drop p s) → p ≤ length s
+  line-split : {P : Type 0} → ((l : SheetLine) (p : ℕ) → lineOf (drop i s) ≡ got l (drop p s) → p ≤ length s
       → r ≡ record { read = read.Line l; at = p } → P)
       → (lineOf (drop i s) ≡ bad → r ≡ record { read = read.Refused; at = i } → P) → P
   unfolding reached
@@ -39,7 +39,7 @@ module _ (s : List ℕ) (i : ℕ) (r : Reached) (e : r ≡ lineAt s i) where
       (line-within sheet-lines (drop i s)) refl
       (λ l p x h y. f l p x h (e ∙ ap (reached i) y)) (λ x y. g x (e ∙ ap (reached i) y))
 
-  pub line-found : (l : Line) → r .read ≡ read.Line l
+  pub line-found : (l : SheetLine) → r .read ≡ read.Line l
       → (lineOf (drop i s) ≡ got l (drop (r .at) s)) × (r .at ≤ length s)
   line-found l g = line-split
       (λ l′ p x h y. let a : l′ ≡ l = cc in rw (y, ← a) (x, h))
@@ -49,7 +49,8 @@ module _ (s : List ℕ) (i : ℕ) (r : Reached) (e : r ≡ lineAt s i) where
   line-missed g = line-split (λ l p x h y. let z : _≡_ {A = ℕ} 0 1 = cc in absurd (omega arith)) (λ x y. x)
 
 -- the place after a line is past the line's own
-pub line-onward : (s : List ℕ) (i : ℕ) (l : Line) (p : ℕ) → lineOf (drop i s) ≡ got l (drop p s) → p ≤ length s → i < p
+pub line-onward : (s : List ℕ) (i : ℕ) (l : SheetLine) (p : ℕ) → lineOf (drop i s) ≡ got l (drop p s) → p ≤ length s
+    → i < p
 line-onward s i l p e h =
     omega (arith, line-shorter sheet-lines (drop i s) l (drop p s) e, length-drop i s, length-drop p s)
 
@@ -68,9 +69,9 @@ module _ (s : List ℕ) (i : ℕ) where
     unfolding lineOf
     line-principals e = line-at-first 80 e
 
-    pub line-reading : getD s i 0 ≡ 82 → lineOf (drop i s) ≡ numberRest R (drop (i + 1) s)
+    pub line-rule : getD s i 0 ≡ 82 → lineOf (drop i s) ≡ numberRest R (drop (i + 1) s)
     unfolding lineOf
-    line-reading e = line-at-first 82 e
+    line-rule e = line-at-first 82 e
 
     pub line-sum : getD s i 0 ≡ 84 → lineOf (drop i s) ≡ numbersRest T (drop (i + 1) s)
     unfolding lineOf

@@ -10,8 +10,8 @@ use borrow.Author.Tests.{lt-ltb}
 use Rattle.logic.proofs.BooleanLaws.{both-left, both-right, both-true}
 use Rattle.labels.specs.Labels.{Policy, policy}
 use Rattle.sheet.specs.Sheet.{Compound, Location, earlierTypes, rising, eachRising, eachNamed}
-use Rattle.sheet_text.specs.declared.line.Line.{Line}
-use Rattle.sheet_text.specs.declared.line.Line.the-variants.{L}
+use Rattle.sheet_text.specs.declared.line.SheetLine.{SheetLine}
+use Rattle.sheet_text.specs.declared.line.SheetLine.the-variants.{L}
 use Rattle.sheet_text.specs.Lines.{policyLine, each, labelLines}
 use Rattle.sheet.specs.Internal.Growth.{toLast}
 use Rattle.sheet_text.specs.Internal.Building.{lastOf, leastAfter}
@@ -22,19 +22,19 @@ no-entries (x ∷ xs) h = absurd (omega arith)
 
 -- ---- lines
 
-pub each-more : {A : Type 0} (line : A → Line) (xs : List A) (x : A) (rest : List Line)
+pub each-more : {A : Type 0} (line : A → SheetLine) (xs : List A) (x : A) (rest : List SheetLine)
     → each line (xs ++ (x ∷ [])) rest ≡ each line xs (line x ∷ rest)
 unfolding each
 each-more line [] x rest = refl
 each-more line (y ∷ xs) x rest = ap (_∷_ (line y)) (each-more line xs x rest)
 
-pub labels-more : (pss : List (List Policy)) (rest : List Line)
+pub labels-more : (pss : List (List Policy)) (rest : List SheetLine)
     → labelLines (pss ++ ([] ∷ [])) rest ≡ labelLines pss (L ∷ rest)
 unfolding labelLines each
 labels-more [] rest = refl
 labels-more (ps ∷ pss) rest = ap (λ ls. L ∷ each policyLine ps ls) (labels-more pss rest)
 
-pub policies-more : (p : Policy) (pss : List (List Policy)) (rest : List Line) → 1 ≤ length pss
+pub policies-more : (p : Policy) (pss : List (List Policy)) (rest : List SheetLine) → 1 ≤ length pss
     → labelLines (toLast p pss) rest ≡ labelLines pss (policyLine p ∷ rest)
 unfolding labelLines toLast
 policies-more p [] rest h = absurd (omega arith)

@@ -14,8 +14,8 @@ use Rattle.logic.proofs.BooleanLaws.{cond-split}
 use Rattle.text.proofs.Readings.{not-bad, got-same, andThen-got, andThen-split, byte-here, byte-sound}
 use Rattle.text.proofs.Fields.{number-field-sound, number-field-print, last-number-sound, last-number-print}
 use Rattle.text.proofs.Fields.{set-field-sound, set-field-print}
-use Rattle.sheet_text.specs.declared.line.Line.{Line}
-use Rattle.sheet_text.specs.declared.line.Line.the-variants.{P, R, T, Q, L, O, X}
+use Rattle.sheet_text.specs.declared.line.SheetLine.{SheetLine}
+use Rattle.sheet_text.specs.declared.line.SheetLine.the-variants.{P, R, T, Q, L, O, X}
 use Rattle.sheet.specs.declared.Kind.{Kind}
 use Rattle.sheet.specs.declared.Kind.the-variants.{Sum, Pair}
 use Rattle.sheet_text.specs.Lines.{typeLine, lineBytes}
@@ -23,7 +23,7 @@ use Rattle.sheet_text.specs.Reading.{numberRest, numbersRest, labelRest,
 use Rattle.logic.specs.Booleans.{both}
 
 -- the numbers of a line are of 32 bits, and its sets have room in a set
-unfoldable pub Fits : Line → Type 0
+unfoldable pub Fits : SheetLine → Type 0
 Fits (P n) = n ≤ most
 Fits (R k) = k ≤ most
 Fits (T a b) = (a ≤ most) × (b ≤ most)
@@ -35,7 +35,7 @@ Fits (X t l) = (t ≤ most) × (l ≤ most)
 -- ---- what is read stands there, printed
 
 -- The lines of one number that begin with a letter: how they are printed, and that they fit where their number does.
-record Number (letter : ℕ) (f : ℕ → Line) : Type 0 where
+record Number (letter : ℕ) (f : ℕ → SheetLine) : Type 0 where
   bytes : (n : ℕ) (u : List ℕ) → lineBytes (f n) u ≡ letter ∷ printNumberField n (printLineEnd u)
   fit : (n : ℕ) → n ≤ most → Fits (f n)
 
@@ -43,11 +43,11 @@ principals : Number 80 P
 unfolding lineBytes Fits
 principals = record { bytes = λ n u. refl; fit = λ n h. h }
 
-reading : Number 82 R
+rule : Number 82 R
 unfolding lineBytes Fits
-reading = record { bytes = λ n u. refl; fit = λ n h. h }
+rule = record { bytes = λ n u. refl; fit = λ n h. h }
 
-number-sound : {letter : ℕ} {f : ℕ → Line} → Number letter f → (t : List ℕ) (l : Line) (u : List ℕ)
+number-sound : {letter : ℕ} {f : ℕ → SheetLine} → Number letter f → (t : List ℕ) (l : SheetLine) (u : List ℕ)
     → numberRest f t ≡ got l u
     → (letter ∷ t ≡ lineBytes l u) × Fits l
 unfolding numberRest
@@ -59,7 +59,7 @@ number-sound {letter} {f} n t l u e =
     rw (← s .0, ← s .1) (ap (_∷_ letter) (x .0) ∙ sym (n .bytes a v), n .fit a (x .1))) e
 
 -- The lines of two numbers that begin with a letter: how they are printed, and that they fit where their numbers do.
-record Numbers (letter : ℕ) (f : ℕ → ℕ → Line) : Type 0 where
+record Numbers (letter : ℕ) (f : ℕ → ℕ → SheetLine) : Type 0 where
   bytes : (a b : ℕ) (u : List ℕ)
       → lineBytes (f a b) u ≡ letter ∷ printNumberField a (printNumberField b (printLineEnd u))
   fit : (a b : ℕ) → a ≤ most → b ≤ most → Fits (f a b)
@@ -76,7 +76,7 @@ locations : Numbers 88 X
 unfolding lineBytes Fits
 locations = record { bytes = λ a b u. refl; fit = λ a b h k. (h, k) }
 
-numbers-sound : {letter : ℕ} {f : ℕ → ℕ → Line} → Numbers letter f → (t : List ℕ) (l : Line) (u : List ℕ)
+numbers-sound : {letter : ℕ} {f : ℕ → ℕ → SheetLine} → Numbers letter f → (t : List ℕ) (l : SheetLine) (u : List ℕ)
     → numbersRest f t ≡ got l u
     → (letter ∷ t ≡ lineBytes l u) × Fits l
 unfolding numbersRest
@@ -92,13 +92,13 @@ numbers-sound {letter} {f} n t l u e =
       ← s .1,
     ) (ap (_∷_ letter) (x .0 ∙ ap (printNumberField a) (y .0)) ∙ sym (n .bytes a b w), n .fit a b (x .1) (y .1)))) e
 
-label-sound : (t : List ℕ) (l : Line) (u : List ℕ) → labelRest t ≡ got l u → (76 ∷ t ≡ lineBytes l u) × Fits l
+label-sound : (t : List ℕ) (l : SheetLine) (u : List ℕ) → labelRest t ≡ got l u → (76 ∷ t ≡ lineBytes l u) × Fits l
 unfolding labelRest lineBytes Fits
 label-sound t l u e =
     andThen-split (lineEnd t) _ l u
     (λ x v f g. let s = got-same L l v u g in rw (← s .0, ← s .1) (ap (_∷_ 76) (byte-sound 10 t v x f), tt)) e
 
-policy-sound : (t : List ℕ) (l : Line) (u : List ℕ) → policyRest t ≡ got l u → (79 ∷ t ≡ lineBytes l u) × Fits l
+policy-sound : (t : List ℕ) (l : SheetLine) (u : List ℕ) → policyRest t ≡ got l u → (79 ∷ t ≡ lineBytes l u) × Fits l
 unfolding policyRest lineBytes Fits
 policy-sound t l u e =
     andThen-split (numberField most t) _ l u
@@ -116,12 +116,12 @@ policy-sound t l u e =
       (a .1, b .1, c .1),
     ))))) e
 
-line-sound : (t : List ℕ) (l : Line) (u : List ℕ) → lineOf t ≡ got l u → (t ≡ lineBytes l u) × Fits l
+line-sound : (t : List ℕ) (l : SheetLine) (u : List ℕ) → lineOf t ≡ got l u → (t ≡ lineBytes l u) × Fits l
 unfolding lineOf
 line-sound [] l u e = not-bad l u e
 line-sound (b ∷ t) l u e =
     cond-split (eqb b 80) _ _ _ (λ h x. first 80 h (number-sound principals t l u x))
-    (λ _. cond-split (eqb b 82) _ _ _ (λ h x. first 82 h (number-sound reading t l u x))
+    (λ _. cond-split (eqb b 82) _ _ _ (λ h x. first 82 h (number-sound rule t l u x))
     (λ _. cond-split (eqb b 84) _ _ _ (λ h x. first 84 h (numbers-sound sums t l u x))
     (λ _. cond-split (eqb b 81) _ _ _ (λ h x. first 81 h (numbers-sound pairs t l u x))
     (λ _. cond-split (eqb b 76) _ _ _ (λ h x. first 76 h (label-sound t l u x))
@@ -134,14 +134,14 @@ line-sound (b ∷ t) l u e =
 
 -- ---- what is printed is read
 
-numbers-print : (f : ℕ → ℕ → Line) (a b : ℕ) (u : List ℕ) → a ≤ most → b ≤ most
+numbers-print : (f : ℕ → ℕ → SheetLine) (a b : ℕ) (u : List ℕ) → a ≤ most → b ≤ most
     → numbersRest f (printNumberField a (printNumberField b (printLineEnd u))) ≡ got (f a b) u
 unfolding numbersRest opensDigit digit both
 numbers-print f a b u h k =
     andThen-got _ _ a _ (number-field-print most a (printNumberField b (printLineEnd u)) h refl)
     ∙ andThen-got _ _ b u (last-number-print most b u k)
 
-line-print : (l : Line) (u : List ℕ) → Fits l → lineOf (lineBytes l u) ≡ got l u
+line-print : (l : SheetLine) (u : List ℕ) → Fits l → lineOf (lineBytes l u) ≡ got l u
 unfolding lineBytes lineOf Fits numberRest labelRest policyRest opensDigit digit both
 line-print (P n) u h = andThen-got _ _ n u (last-number-print most n u h)
 line-print (R k) u h = andThen-got _ _ k u (last-number-print most k u h)
@@ -163,11 +163,11 @@ type-line-fits Pair = pairs .fit
 
 -- ---- the form of lines
 
-abbrev pub AllFit : List Line → Type 0
+abbrev pub AllFit : List SheetLine → Type 0
 AllFit ls = AllGood Fits ls
 
 -- a line's bytes come before what follows it
-bytes-front : (l : Line) (u : List ℕ) → lineBytes l u ≡ lineBytes l [] ++ u
+bytes-front : (l : SheetLine) (u : List ℕ) → lineBytes l u ≡ lineBytes l [] ++ u
 unfolding lineBytes
 bytes-front (P n) u = simp append-assoc
 bytes-front (R k) u = simp append-assoc

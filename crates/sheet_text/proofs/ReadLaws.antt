@@ -15,12 +15,13 @@ use Rattle.sheet.specs.Internal.Tables.{maxTypes, tableWords, typesIn, labelsIn
 use Rattle.sheet.proofs.FormLaws.{formed-facts, type-count}
 use Rattle.sheet.proofs.TableLaws.{types-in, labels-in}
 use Rattle.sheet.proofs.TableGrowth.{table-long}
-use Rattle.sheet_text.specs.declared.line.Line.{Line}
+use Rattle.sheet_text.specs.declared.line.SheetLine.{SheetLine}
 use Rattle.sheet_text.specs.declared.draft.Draft.{Draft}
 use Rattle.sheet_text.specs.declared.draft.Draft.the-variants.{Formed, Refused}
 use Rattle.sheet_text.specs.Reading.{lineOf, linesOf}
 use Rattle.sheet_text.specs.Internal.Building.{begin, addLineOn, addLines, build}
-use Rattle.sheet_text.specs.Sheets.{buildRead, sheetRead, Answer, malformed, repeating, accepted, judged, sheetOf}
+use Rattle.sheet_text.specs.Sheets.{buildRead, sheetRead, ParsedSheet, malformed, repeating, accepted, judged}
+use Rattle.sheet_text.specs.Sheets.{sheetOf}
 use Rattle.sheet_text.specs.declared.Verdict.the-variants.{Accepted, Malformed, Repeats}
 use Rattle.sheet_text.specs.Internal.Decoded.{Decoded, refusedBy, decodedSheet}
 use Rattle.sheet_text.specs.Internal.Drafts.{DraftHolds, FormedIf, stepsRead}
@@ -32,14 +33,14 @@ use Rattle.sheet_text.proofs.Theorems.{sheet-in-sound, accepted-exact}
 
 -- ---- the lines that are left, at a place of a text
 
-steps-front : (o : Option Sheet) (l : Line) (ls : Option (List Line))
+steps-front : (o : Option Sheet) (l : SheetLine) (ls : Option (List SheetLine))
     → stepsRead o (front l ls) ≡ stepsRead (addLineOn o l) ls
 unfolding stepsRead front addLines
 steps-front o l none = refl
 steps-front o l (some ls) = refl
 
 module _ (o : Option Sheet) (s : List ℕ) (i : ℕ) where
-  pub steps-on : (l : Line) (p : ℕ) → lineOf (drop i s) ≡ got l (drop p s)
+  pub steps-on : (l : SheetLine) (p : ℕ) → lineOf (drop i s) ≡ got l (drop p s)
       → stepsRead (addLineOn o l) (linesOf (drop p s)) ≡ stepsRead o (linesOf (drop i s))
   steps-on l p e =
       sym (ap (stepsRead o) (all-more sheet-lines (drop i s) l (drop p s) e) ∙ steps-front o l (linesOf (drop p s)))
@@ -55,7 +56,7 @@ module _ (o : Option Sheet) (s : List ℕ) (i : ℕ) where
 
 -- ---- the sheet of a text
 
-build-front : (l : Line) (ls : Option (List Line)) → stepsRead (begin l) ls ≡ buildRead (front l ls)
+build-front : (l : SheetLine) (ls : Option (List SheetLine)) → stepsRead (begin l) ls ≡ buildRead (front l ls)
 unfolding stepsRead buildRead front build
 build-front l none = refl
 build-front l (some ls) = refl
@@ -65,7 +66,7 @@ module _ (t : List ℕ) where
   unfolding sheetRead
   sheet-long f = rw f
 
-  pub sheet-first : (l : Line) (u : List ℕ) → fits t ≡ true → lineOf t ≡ got l u
+  pub sheet-first : (l : SheetLine) (u : List ℕ) → fits t ≡ true → lineOf t ≡ got l u
       → stepsRead (begin l) (linesOf u) ≡ sheetRead t
   unfolding sheetRead
   sheet-first l u f e = rw (f, all-more sheet-lines t l u e) (build-front l (linesOf u))
@@ -87,11 +88,11 @@ module _ (t : List ℕ) where
 -- ---- the answer
 
 module _ (d : Draft) (t : List ℕ) where
-  pub answer-malformed : (o : Option Sheet) → DraftHolds o d t → d ≡ Refused
+  pub parsed-malformed : (o : Option Sheet) → DraftHolds o d t → d ≡ Refused
       → refusedBy Malformed ≡ decodedSheet (judged o)
   unfolding DraftHolds decodedSheet judged
-  answer-malformed none e h = refl
-  answer-malformed (some s) e h = refused-formed d _ h (e .0)
+  parsed-malformed none e h = refl
+  parsed-malformed (some s) e h = refused-formed d _ h (e .0)
 
   module _ (k : ℕ) (h : d ≡ Formed k) where
     -- a table of a sheet of the right form has few types and labels
@@ -105,17 +106,17 @@ module _ (d : Draft) (t : List ℕ) where
         let labels : labelCount s ≤ maxLabels = unfold labelCount in (facts .few-labels) in
         rw (e .1, types-in s f, labels-in s f) (types, labels)
 
-    pub answer-repeating : (o : Option Sheet) → FormedIf o → DraftHolds o d t → repeatsIn t ≡ true
+    pub parsed-repeating : (o : Option Sheet) → FormedIf o → DraftHolds o d t → repeatsIn t ≡ true
         → refusedBy Repeats ≡ decodedSheet (judged o)
     unfolding DraftHolds decodedSheet judged FormedIf
-    answer-repeating none f e r = refused-formed d k e h
-    answer-repeating (some s) f e r = rw (sym (repeats-in s f) ∙ ap repeatsIn (sym (e .1)) ∙ r)
+    parsed-repeating none f e r = refused-formed d k e h
+    parsed-repeating (some s) f e r = rw (sym (repeats-in s f) ∙ ap repeatsIn (sym (e .1)) ∙ r)
 
-    pub answer-accepted : (o : Option Sheet) → FormedIf o → DraftHolds o d t → repeatsIn t ≡ false
+    pub parsed-accepted : (o : Option Sheet) → FormedIf o → DraftHolds o d t → repeatsIn t ≡ false
         → record { verdict = Accepted; table = t } ≡ decodedSheet (judged o)
     unfolding DraftHolds decodedSheet judged FormedIf
-    answer-accepted none f e r = refused-formed d k e h
-    answer-accepted (some s) f e r =
+    parsed-accepted none f e r = refused-formed d k e h
+    parsed-accepted (some s) f e r =
         rw (sym (repeats-in s f) ∙ ap repeatsIn (sym (e .1)) ∙ r)
         (ap (λ (t : List ℕ). record { verdict = Accepted; table = t }) (e .1))
 
@@ -123,7 +124,7 @@ module _ (d : Draft) (t : List ℕ) where
 pub decoded-long : (t : List ℕ) (d : Decoded) → d ≡ decodedSheet (sheetOf t) → length (d .table) ≡ tableWords
 decoded-long t d e = ap (λ (x : Decoded). length (x .table)) e ∙ at (sheetOf t) refl
   where
-    at : (a : Answer) → sheetOf t ≡ a → length (decodedSheet a .table) ≡ tableWords
+    at : (a : ParsedSheet) → sheetOf t ≡ a → length (decodedSheet a .table) ≡ tableWords
     at malformed p = unfold decodedSheet refusedBy in (length-replicate {A = ℕ} tableWords 0)
     at repeating p = unfold decodedSheet refusedBy in (length-replicate {A = ℕ} tableWords 0)
     at (accepted s) p = unfold decodedSheet in (table-long s (accepted-exact t s .0 p .0 .is-formed))

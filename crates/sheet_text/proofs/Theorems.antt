@@ -14,10 +14,11 @@ use Rattle.logic.proofs.OptionLaws.{none-some, some-path}
 use Rattle.logic.proofs.BooleanLaws.{cond-split}
 use Rattle.text.proofs.Lines.{all-lines-exact}
 use Rattle.sheet.specs.Sheet.{Sheet, repeats}
-use Rattle.sheet_text.specs.declared.line.Line.{Line}
+use Rattle.sheet_text.specs.declared.line.SheetLine.{SheetLine}
 use Rattle.sheet_text.specs.Lines.{sheetLines, lineBytes, sheetBytes}
 use Rattle.sheet_text.specs.Reading.{linesOf}
-use Rattle.sheet_text.specs.Sheets.{buildRead, sheetRead, Answer, malformed, repeating, accepted, judged, sheetOf}
+use Rattle.sheet_text.specs.Sheets.{buildRead, sheetRead, ParsedSheet, malformed, repeating, accepted, judged}
+use Rattle.sheet_text.specs.Sheets.{sheetOf}
 use Rattle.sheet_text.specs.Theorems.{IsSheet, AcceptedExact, RepeatingExact, MalformedExact, OneSheet}
 use Rattle.sheet_text.proofs.LineLaws.{sheet-lines}
 use Rattle.sheet_text.proofs.BuildLaws.{build-sound}
@@ -25,7 +26,7 @@ use Rattle.sheet_text.proofs.CompleteLaws.{build-complete}
 
 -- ---- texts of the form
 
-build-in-sound : (t : List ℕ) (s : Sheet) (o : Option (List Line)) → linesOf t ≡ o → length t ≤ limit
+build-in-sound : (t : List ℕ) (s : Sheet) (o : Option (List SheetLine)) → linesOf t ≡ o → length t ≤ limit
     → buildRead o ≡ some s → IsSheet t s
 unfolding buildRead sheetBytes
 build-in-sound t s none e h k = none-some k
@@ -62,7 +63,7 @@ unfolding judged
 judged-again s e = rw e
 
 -- a sheet that is judged is refused for its repeats, or accepted
-pub judged-split : {P : Type 0} (o : Option Sheet) (x : Answer) → judged o ≡ x
+pub judged-split : {P : Type 0} (o : Option Sheet) (x : ParsedSheet) → judged o ≡ x
     → (o ≡ none → x ≡ malformed → P)
     → ((s : Sheet) → o ≡ some s → repeats s ≡ true → x ≡ repeating → P)
     → ((s : Sheet) → o ≡ some s → repeats s ≡ false → x ≡ accepted s → P) → P

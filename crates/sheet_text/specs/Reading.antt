@@ -9,29 +9,29 @@ use Rattle.text.specs.Reading.Read.{got, bad}
 use Rattle.text.specs.Number.{most}
 use Rattle.text.specs.Field.{numberField, setField, lineEnd, lastNumber}
 use Rattle.text.specs.Lines.{allLines}
-use Rattle.sheet_text.specs.declared.line.Line.{Line}
-use Rattle.sheet_text.specs.declared.line.Line.the-variants.{P, R, T, Q, L, O, X}
+use Rattle.sheet_text.specs.declared.line.SheetLine.{SheetLine}
+use Rattle.sheet_text.specs.declared.line.SheetLine.the-variants.{P, R, T, Q, L, O, X}
 
 -- what follows the letter of each line
 
 -- one number, which makes a line by f
-unfoldable pub numberRest : (ℕ → Line) → List ℕ → Read Line
+unfoldable pub numberRest : (ℕ → SheetLine) → List ℕ → Read SheetLine
 numberRest f t = andThen (lastNumber most t) (λ n u. got (f n) u)
 
 -- two numbers, which make a line by f
-unfoldable pub numbersRest : (ℕ → ℕ → Line) → List ℕ → Read Line
+unfoldable pub numbersRest : (ℕ → ℕ → SheetLine) → List ℕ → Read SheetLine
 numbersRest f t = andThen (numberField most t) (λ a u. andThen (lastNumber most u) (λ b v. got (f a b) v))
 
-unfoldable pub labelRest : List ℕ → Read Line
+unfoldable pub labelRest : List ℕ → Read SheetLine
 labelRest t = andThen (lineEnd t) (λ _ u. got L u)
 
-unfoldable pub policyRest : List ℕ → Read Line
+unfoldable pub policyRest : List ℕ → Read SheetLine
 policyRest t =
     andThen (numberField most t)
     (λ o u. andThen (setField u) (λ r v. andThen (setField v) (λ w x. andThen (lineEnd x) (λ _ y. got (O o r w) y))))
 
 -- the line at the front of a text
-unfoldable pub lineOf : List ℕ → Read Line
+unfoldable pub lineOf : List ℕ → Read SheetLine
 lineOf [] = bad
 lineOf (b ∷ t) =
     cond (eqb b 80) (numberRest P t)
@@ -43,5 +43,5 @@ lineOf (b ∷ t) =
     (cond (eqb b 88) (numbersRest X t) bad))))))
 
 -- the lines of a text
-abbrev pub linesOf : List ℕ → Option (List Line)
+abbrev pub linesOf : List ℕ → Option (List SheetLine)
 linesOf t = allLines lineOf t

@@ -6,11 +6,11 @@ use mathlib.Core.Option.{Option, none, some}
 use Prim.Native.Nat.{ℕ}
 use Rattle.text.specs.Reading.{fits}
 use Rattle.sheet.specs.Sheet.{Sheet, repeats}
-use Rattle.sheet_text.specs.declared.line.Line.{Line}
+use Rattle.sheet_text.specs.declared.line.SheetLine.{SheetLine}
 use Rattle.sheet_text.specs.Reading.{linesOf}
 use Rattle.sheet_text.specs.Internal.Building.{build}
 
-unfoldable pub buildRead : Option (List Line) → Option Sheet
+unfoldable pub buildRead : Option (List SheetLine) → Option Sheet
 buildRead none = none
 buildRead (some ls) = build ls
 
@@ -19,14 +19,14 @@ unfoldable pub sheetRead : List ℕ → Option Sheet
 sheetRead t = cond (fits t) (buildRead (linesOf t)) none
 
 -- what a text is: refusal 1, refusal 2, or a sheet
-pub data Answer : Type 0 where
-  malformed : Answer
-  repeating : Answer
-  accepted : Sheet → Answer
+pub data ParsedSheet : Type 0 where
+  malformed : ParsedSheet
+  repeating : ParsedSheet
+  accepted : Sheet → ParsedSheet
 
-unfoldable pub judged : Option Sheet → Answer
+unfoldable pub judged : Option Sheet → ParsedSheet
 judged none = malformed
 judged (some s) = cond (repeats s) repeating (accepted s)
 
-unfoldable pub sheetOf : List ℕ → Answer
+unfoldable pub sheetOf : List ℕ → ParsedSheet
 sheetOf t = judged (sheetRead t)

@@ -4,17 +4,17 @@ ghost use mathlib.Core.Option.{Option};
 ghost use lib.ListN.{drop, replicate};
 ghost use Rattle.sheet.specs.Sheet.{Sheet};
 ghost use Rattle.sheet.specs.Internal.Tables.{tableWords};
-ghost use Rattle.sheet.specs.Internal.Writers.{principalsPut, readingPut, compoundPut, openPut, policyPut, locationPut};
+ghost use Rattle.sheet.specs.Internal.Writers.{principalsPut, rulePut, compoundPut, openPut, policyPut, locationPut};
 ghost use Rattle.sheet_text.specs.Internal.Building.{begin, addLineOn};
 ghost use Rattle.sheet_text.specs.Sheets.{sheetRead};
 ghost use Rattle.sheet_text.specs.Reading.{linesOf};
 ghost use Rattle.sheet_text.specs.Internal.Drafts.{draftIf, DraftHolds, FormedIf, stepsRead, Stores};
-ghost use Rattle.sheet_text.specs.Internal.Drafts.{principalsFit, readingFitsIn, compoundFitsIn, labelFitsIn};
+ghost use Rattle.sheet_text.specs.Internal.Drafts.{principalsFit, ruleFitsIn, compoundFitsIn, labelFitsIn};
 ghost use Rattle.sheet_text.specs.Internal.Drafts.{policyFitsIn, locationFitsIn};
-use super::line::Line;
 use super::line::LineRead;
+use super::line::SheetLine;
 use super::line::line_from;
-use labels::Reading;
+use labels::Rule;
 use sets::Set;
 use sheet::GIVEN_TYPES;
 use sheet::Kind;
@@ -47,14 +47,14 @@ fn drafted(fits: bool, least: u32) -> Draft
 }
 
 // Whether a rule of reading may come next: reading alone, right after the principals.
-fn reading_fits(table: &[Word], rule: u32) -> bool
-    ensures { λ r. ⌜ r ≡ readingFitsIn rule (now (table .entry)) ⌝ }
+fn rule_fits(table: &[Word], rule: u32) -> bool
+    ensures { λ r. ⌜ r ≡ ruleFitsIn rule (now (table .entry)) ⌝ }
 {
     let empty = (sheet::labels(table) == 0) & (sheet::locations(table) == 0);
     let bare = (sheet::types(table) == GIVEN_TYPES) & empty;
-    match sheet::reading(table) {
-        Reading::Pooled => (rule == RULE) & bare,
-        Reading::Alone => false,
+    match sheet::rule(table) {
+        Rule::Pooled => (rule == RULE) & bare,
+        Rule::Alone => false,
     }
 }
 
@@ -109,13 +109,13 @@ fn set_principals(table: &mut [Word; WORDS], n: u32) -> bool
 }
 
 // The rule of the line `R 1`.
-fn set_reading(table: &mut [Word; WORDS], rule: u32) -> bool
-    ensures { λ r. ⌜ Stores (readingFitsIn rule) readingPut (now (table .entry)) r (now (table .exit)) ⌝ }
+fn set_rule(table: &mut [Word; WORDS], rule: u32) -> bool
+    ensures { λ r. ⌜ Stores (ruleFitsIn rule) rulePut (now (table .entry)) r (now (table .exit)) ⌝ }
 {
-    if !reading_fits(table, rule) {
+    if !rule_fits(table, rule) {
         return false;
     }
-    sheet::write::put_reading(table);
+    sheet::write::put_rule(table);
     true
 }
 
@@ -166,18 +166,18 @@ fn add_location(table: &mut [Word; WORDS], ty: u32, label: u32) -> bool
 }
 
 // The sheet after a first line, from a table of zeros.
-fn begin(table: &mut [Word; WORDS], line: Line) -> Draft
+fn begin(table: &mut [Word; WORDS], line: SheetLine) -> Draft
     requires { ⌜ now table ≡ replicate tableWords 0 ⌝ }
     ensures { λ r. ⌜ DraftHolds (begin line) r (now (table .exit)) ⌝ }
 {
-    let Line::P(n) = line else {
+    let SheetLine::P(n) = line else {
         return Draft::Refused;
     };
     drafted(set_principals(table, n), 0)
 }
 
 // The sheet after a further line.
-fn step(d: Draft, table: &mut [Word; WORDS], line: Line) -> Draft
+fn step(d: Draft, table: &mut [Word; WORDS], line: SheetLine) -> Draft
     ensures { λ r. ⌜ ((o : Option Sheet) → FormedIf o → DraftHolds o d (now (table .entry))
         → DraftHolds (addLineOn o line) r (now (table .exit))) ⌝ }
 {
@@ -185,16 +185,16 @@ fn step(d: Draft, table: &mut [Word; WORDS], line: Line) -> Draft
         return Draft::Refused;
     };
     match line {
-        Line::P(_) => Draft::Refused,
-        Line::R(rule) => drafted(set_reading(table, rule), 0),
-        Line::T(a, b) => drafted(add_compound(table, Kind::Sum, a, b), 0),
-        Line::Q(a, b) => drafted(add_compound(table, Kind::Pair, a, b), 0),
-        Line::L => drafted(add_label(table), 0),
-        Line::O(owner, readers, writers) => {
+        SheetLine::P(_) => Draft::Refused,
+        SheetLine::R(rule) => drafted(set_rule(table, rule), 0),
+        SheetLine::T(a, b) => drafted(add_compound(table, Kind::Sum, a, b), 0),
+        SheetLine::Q(a, b) => drafted(add_compound(table, Kind::Pair, a, b), 0),
+        SheetLine::L => drafted(add_label(table), 0),
+        SheetLine::O(owner, readers, writers) => {
             let fits = add_policy(table, least, owner, readers, writers);
             drafted(fits, owner % MOST_PRINCIPALS + 1)
         }
-        Line::X(ty, label) => drafted(add_location(table, ty, label), least),
+        SheetLine::X(ty, label) => drafted(add_location(table, ty, label), least),
     }
 }
 

@@ -16,7 +16,7 @@ use text::set_field;
 
 // A line of a sheet, by its first byte: `P n`, `R rule`, `T a b`, `Q a b`, `L`, `O owner readers writers`,
 // `X type label`.
-pub enum Line {
+pub enum SheetLine {
     P(u32),
     R(u32),
     T(u32, u32),
@@ -28,13 +28,13 @@ pub enum Line {
 
 // A line and the place after it, or a refusal.
 enum Found {
-    At(Line, usize),
+    At(SheetLine, usize),
     Refused,
 }
 
 // What stands at a byte: a line, or a refusal.
 pub enum LineRead {
-    Line(Line),
+    Line(SheetLine),
     Refused,
 }
 
@@ -51,12 +51,12 @@ pub struct Next<'a> {
 }
 
 // The line of one number by its letter: the principals, or otherwise the rule of reading.
-fn line_of_one(letter: u8, n: u32) -> Line
+fn line_of_one(letter: u8, n: u32) -> SheetLine
     ensures { λ r. ⌜ r ≡ lineOfOne letter n ⌝ }
 {
     match letter {
-        b'P' => Line::P(n),
-        _ => Line::R(n),
+        b'P' => SheetLine::P(n),
+        _ => SheetLine::R(n),
     }
 }
 
@@ -71,13 +71,13 @@ fn number_rest(s: &[u8], at: usize, letter: u8) -> Found
 }
 
 // The line of two numbers by its letter: a sum, a pair, or otherwise a location.
-fn line_by(letter: u8, a: u32, b: u32) -> Line
+fn line_by(letter: u8, a: u32, b: u32) -> SheetLine
     ensures { λ r. ⌜ r ≡ lineBy letter a b ⌝ }
 {
     match letter {
-        b'T' => Line::T(a, b),
-        b'Q' => Line::Q(a, b),
-        _ => Line::X(a, b),
+        b'T' => SheetLine::T(a, b),
+        b'Q' => SheetLine::Q(a, b),
+        _ => SheetLine::X(a, b),
     }
 }
 
@@ -99,7 +99,7 @@ fn label_rest(s: &[u8], at: usize) -> Found
     ensures { λ r. ⌜ r ≡ placedLine (now (s .entry)) (labelRest (drop at (now (s .entry)))) ⌝ }
 {
     match line_end(s, at) {
-        Place::At(p) => Found::At(Line::L, p),
+        Place::At(p) => Found::At(SheetLine::L, p),
         Place::Refused => Found::Refused,
     }
 }
@@ -118,7 +118,7 @@ fn policy_rest(s: &[u8], at: usize) -> Found
         return Found::Refused;
     };
     match line_end(s, r) {
-        Place::At(e) => Found::At(Line::O(owner, readers, writers), e),
+        Place::At(e) => Found::At(SheetLine::O(owner, readers, writers), e),
         Place::Refused => Found::Refused,
     }
 }

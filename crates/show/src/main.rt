@@ -1,6 +1,6 @@
 // Takes a sheet, a memory and a group on standard input, parted by empty lines, and prints the view or the
 // number of the refusal.
-use desk::PLACES;
+use desk::OUTPUT_ROOM;
 use libc::STDOUT_FILENO;
 use parts::KEEP;
 ghost use Rattle.desk.specs.Inputs.{shownFor, PutFor};
@@ -15,7 +15,7 @@ fn show_stdin(out: &mut [u8]) -> usize
 }
 
 fn main() {
-    let mut out = [0u8; PLACES];
+    let mut out = [0u8; OUTPUT_ROOM];
     let n = show_stdin(&mut out);
     io::write_all(STDOUT_FILENO, desk::first(&out, n));
 }

@@ -63,7 +63,8 @@ unfolding labels.own labels.openAt labels.openOf labels.policyOf labels.withPoli
     labels.policiesOn labels.belowAt
     labels.belowOf labels.sameAt labels.sameOf labels.joinOf labels.confidentialityOf labels.integrityOf
     labels.bottomOf labels.closedAt
-    labels.topOf labels.readsOf labels.writesOf labels.readsAloneOf labels.readsUnder labels.wholeOf labels.effective
+    labels.topOf labels.readsPooledOf labels.writesOf labels.readsAloneOf labels.readsUnder labels.wholeOf
+    labels.effective
 labels-used = tt
 
 unfoldable pub language-used : Unit {0}
@@ -93,13 +94,13 @@ unfolding meaning.effectiveIf meaning.effectively
     sheet.among sheet.repeated
     sheet.sameKind sheet.sameCompound sheet.compoundOf sheet.repeats
     padding.padded
-    growth.bareSheet growth.addReading growth.addCompound growth.addLabel growth.toLast growth.addPolicy
+    growth.bareSheet growth.addRule growth.addCompound growth.addLabel growth.toLast growth.addPolicy
     growth.addLocation
 sheet-used = tt
 
 unfoldable pub sheet-text-used : Unit {0}
 unfolding building.lastOf building.leastAfter
-    building.leastOwner building.isPooled building.readingFits building.compoundFits building.labelFits
+    building.leastOwner building.isPooled building.ruleFits building.compoundFits building.labelFits
     building.policyFits building.locationFits building.begin building.addType
     building.addLine
     building.addLineOn building.addLines building.build
@@ -140,8 +141,8 @@ unfolding logic-used text-used sets-used labels-used language-used script-used s
 calls-used = tt
 
 unfoldable pub rounds-used : Unit {0}
-unfolding parting.toFirst parting.partsFrom parting.partsOf
-    round-answers.leftBy round-answers.allOpen
+unfolding parting.toFirst parting.scriptTextsFrom parting.scriptTexts
+    round-answers.memoryAfter round-answers.allOpen
     round-calls.tooMany round-calls.lower round-calls.lowest round-calls.runEach round-calls.turnOf round-calls.playedOf
     round-calls.roundBy
 rounds-used = tt

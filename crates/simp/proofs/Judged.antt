@@ -14,7 +14,7 @@ use Rattle.language.proofs.Exactness.{shape-iff, script-iff}
 use Rattle.sheet.specs.Sheet.{Sheet, repeats}
 use Rattle.sheet.specs.Meaning.{labelsOver, declarationsOf}
 use Rattle.sheet.proofs.MeaningLaws.{least-label-laws}
-use Rattle.sheet_text.specs.Sheets.{Answer, malformed, repeating, accepted, sheetOf}
+use Rattle.sheet_text.specs.Sheets.{ParsedSheet, malformed, repeating, accepted, sheetOf}
 use Rattle.sheet_text.specs.Theorems.{IsSheet}
 use Rattle.sheet_text.proofs.Theorems.{accepted-exact, repeating-exact, malformed-exact, one-sheet}
 use Rattle.script_text.specs.Counts.{countsOf}
@@ -69,7 +69,7 @@ module _ {A : Type 0} (refuse : ℕ → A) (Else : A → Type 0) where
   unfolding First onSheet
   past-2 sheet rows go k = on (sheetOf sheet) refl
     where
-      on : (a : Answer) → sheetOf sheet ≡ a
+      on : (a : ParsedSheet) → sheetOf sheet ≡ a
           → First refuse Else (1 when NoSheet sheet ∷ 2 when Repeats sheet ∷ rows) (onSheet refuse a go)
       on malformed e = inl (malformed-exact sheet .0 e, refl)
       on repeating e = let r = repeating-exact sheet .0 e in inr (λ n. n (r .0) (r .1), inl (r, refl))

@@ -111,10 +111,10 @@ module _ (s : Sheet) (fm : formed s ≡ true) (reads : Label → Bool) (down : D
 -- A group, by the sheet's rule.
 module _ (s : Sheet) (fm : formed s ≡ true) (group : ℕ) where
   abbrev groupReads : Label → Bool
-  groupReads = readsUnder (s .reading) (s .principals) group
+  groupReads = readsUnder (s .rule) (s .principals) group
 
   group-downward : DownwardClosed groupReads
-  group-downward = reading-downward (s .reading) (s .principals) (formed-facts s fm .few-principals) group
+  group-downward = reading-downward (s .rule) (s .principals) (formed-facts s fm .few-principals) group
 
   pub shown-kept : (p : Script) → Typable s p → (authority b b′ l l′ : ℕ) (M N M′ N′ : Mem)
       → ((x : ℕ) → maskMem (seesNo s group) (readsNo s group) M x ≡ maskMem (seesNo s group) (readsNo s group) N x)

@@ -17,7 +17,7 @@ use Rattle.memory.specs.Memory.{memoryOf, asDeclared, wellFormed, memoryRefusal
 use Rattle.memory.specs.View.{seesNo, viewWords, trustedLabelNo, trustedLocationNo, trustedWords}
 use Rattle.memory.proofs.Exactness.{memories-exactly, masks-exactly}
 use Rattle.stages.specs.Calls.{runOf}
-use Rattle.scripts.specs.Parting.{partsOf}
+use Rattle.scripts.specs.Parting.{scriptTexts}
 use Rattle.simp.specs.Judgements.{Started}
 use Rattle.simp.specs.ReadingRules.{OnlyReading, shownBy, StartUnread, PromisedTo, DownwardSuffices}
 use Rattle.simp.proofs.SecondDemand.{declared, by-figures}
@@ -70,7 +70,7 @@ module _ (reads : Label → Bool) (down : DownwardClosed reads) (sheet : List �
       let masks = confined-by s (st .on-sheet .form .is-formed) reads down p (st .typable) hidden authority (run .0)
       (memoryOf memory) (ran .reached) skip (run .1) in
       ap (shownBy s reads) (ran .words)
-      ∙ masks-exactly s (seesBy s reads) (showsBy s reads) .words-left (ran .reached) (memoryOf memory)
+      ∙ masks-exactly s (seesBy s reads) (showsBy s reads) .same-of-values (ran .reached) (memoryOf memory)
       (done-declared st ran) (declared st) masks
       ∙ ap (shownBy s reads) (memories-exactly s .words memory (started st))
 
@@ -104,7 +104,7 @@ module _ (reads : Label → Bool) (down : DownwardClosed reads) (sheet : List �
       round-kept = λ gate scripts authority b b′ m m′.
           rounds-keep gate sheet authority b b′ (λ u v. shownBy s reads u ≡ shownBy s reads v) (λ t. Unit {0})
           (λ t u v _. kept authority b b′ t u v)
-          scripts m m′ (of-each gate (λ t. tt) 0 (partsOf scripts));
+          scripts m m′ (of-each gate (λ t. tt) 0 (scriptTexts scripts));
       unseen = λ script unread authority b m. unseen authority b script m unread;
       round-unseen = λ gate scripts unread authority b m.
           round-leaves (shownBy s reads) sheet authority b (StartUnread reads sheet)
@@ -118,10 +118,10 @@ downward-suffices = record {
   to-groups = λ s g ws. refl;
   starts-of-groups = λ sheet s i g script. (
     λ h s′ p i′ j r.
-        h s′ p i′ j (subst (λ (z : Sheet). readsUnder (z .reading) (z .principals) g (startLabel s′ p .raw) ≡ true)
+        h s′ p i′ j (subst (λ (z : Sheet). readsUnder (z .rule) (z .principals) g (startLabel s′ p .raw) ≡ true)
         (one-sheet sheet s s′ i i′) r),
     λ h s′ p i′ j r.
-        h s′ p i′ j (subst (λ (z : Sheet). readsUnder (z .reading) (z .principals) g (startLabel s′ p .raw) ≡ true)
+        h s′ p i′ j (subst (λ (z : Sheet). readsUnder (z .rule) (z .principals) g (startLabel s′ p .raw) ≡ true)
         (one-sheet sheet s′ s i′ i) r),
   );
 }

@@ -18,8 +18,8 @@ use Rattle.stages.specs.Answers.{Ran, refusedRun}
 use Rattle.stages.specs.Calls.{unless, onScript, untyped, numberOf, runOf}
 use Rattle.stages.proofs.StageLaws.{stops}
 use Rattle.stages.proofs.Kept.{left-unrefused}
-use Rattle.scripts.specs.Parting.{partsOf, mostScripts}
-use Rattle.rounds.specs.Answers.{RanRound, refusedRound, leftBy, roundFrom, Gate}
+use Rattle.scripts.specs.Parting.{scriptTexts, mostScripts}
+use Rattle.rounds.specs.Answers.{RanRound, refusedRound, memoryAfter, roundFrom, Gate}
 use Rattle.rounds.specs.Calls.{lowest, runEach, turnOf, roundBy}
 use Rattle.rounds.proofs.LowerLaws.{lower-none, lowest-more}
 use Rattle.rounds.proofs.PlaceLaws.{each-length}
@@ -122,8 +122,8 @@ module _ (gate : Gate) {sheet : List ℕ} {s : Sheet} (authority budget : ℕ) (
 
   turns : (i : ℕ) (memory : List ℕ) (ts : List (List ℕ)) → lowest (numberOf s) ts ≡ 0 → memoryRefusal s memory ≡ 0
       → InTurn (λ j t m r. (r ≡ turn j t m) × ScriptAnswers gate sheet authority budget j t m r) i memory ts
-      (leftBy memory (runEach turn i memory ts))
-  unfolding runEach leftBy
+      (memoryAfter memory (runEach turn i memory ts))
+  unfolding runEach memoryAfter
   turns i memory [] n m = no-turn
   turns i memory (t ∷ ts) n m =
       let z = lower-none (numberOf s t) (lowest (numberOf s) ts) (sym (lowest-more (numberOf s) t ts) ∙ n) in
@@ -137,11 +137,11 @@ module _ (gate : Gate) (sheet scripts memory : List ℕ) (authority budget : ℕ
   R = roundBy gate sheet scripts memory authority budget
 
   abbrev runs : List Ran
-  runs = runEach (turnOf gate sheet authority budget) 0 memory (partsOf scripts)
+  runs = runEach (turnOf gate sheet authority budget) 0 memory (scriptTexts scripts)
 
   module _ (st : RoundStarts sheet scripts memory authority) where
-    as-many : length runs ≡ length (partsOf scripts)
-    as-many = each-length (turnOf gate sheet authority budget) 0 memory (partsOf scripts)
+    as-many : length runs ≡ length (scriptTexts scripts)
+    as-many = each-length (turnOf gate sheet authority budget) 0 memory (scriptTexts scripts)
 
     few-runs : length runs ≤ mostScripts
     few-runs = omega (arith, as-many, st .few)
@@ -157,7 +157,7 @@ module _ (gate : Gate) (sheet scripts memory : List ℕ) (authority budget : ℕ
           places = rw (← as-many) (round-places memory runs few-runs);
           in-turn = turns-placed (turnOf gate sheet authority budget) (roundFrom memory runs) P
               (turns-map (λ j t m r g. (g .0, f j t m r g))
-              (turns gate authority budget (st .on-sheet) (st .principals) 0 memory (partsOf scripts) (st .accepted)
+              (turns gate authority budget (st .on-sheet) (st .principals) 0 memory (scriptTexts scripts) (st .accepted)
               (st .unrefused)))
               (round-placed memory runs few-runs);
         })
@@ -183,9 +183,9 @@ module _ (gate : Gate) (sheet scripts memory : List ℕ) (authority budget : ℕ
       (round-starts gate sheet scripts memory authority budget)
 
   -- a round has its places, refused or not
-  pub all-places : Places (length (partsOf scripts)) R
+  pub all-places : Places (length (scriptTexts scripts)) R
   all-places =
-      by-rows (refusedRound memory) _ (Places (length (partsOf scripts))) (roundRows sheet scripts memory authority)
+      by-rows (refusedRound memory) _ (Places (length (scriptTexts scripts))) (roundRows sheet scripts memory authority)
       (λ k i g. record {
         answer-places = refl;
         step-places = refl;

@@ -12,7 +12,7 @@ use Rattle.logic.proofs.BooleanLaws.{cases}
 use Rattle.sheet.specs.Sheet.{Sheet}
 use Rattle.memory.specs.Memory.{memoryRefusal}
 use Rattle.stages.specs.Calls.{onSheet, unless, untyped, numberOf}
-use Rattle.scripts.specs.Parting.{partsOf, mostScripts}
+use Rattle.scripts.specs.Parting.{scriptTexts, mostScripts}
 use Rattle.rounds.specs.Answers.{RanRound, refusedRound, roundFrom, Gate}
 use Rattle.rounds.specs.Calls.{tooMany, lowest, runEach, turnOf, playedOf, roundBy}
 use Rattle.numbers.specs.Rows.{Row, _when_, First, numbers}
@@ -53,13 +53,13 @@ module _ {A : Type 0} (refuse : ℕ → A) (Else : A → Type 0) where
 
   -- 11
   past-11 : (scripts : List ℕ) (rows : List Row) (go : A)
-      → (length (partsOf scripts) ≤ mostScripts → First refuse Else rows go)
-      → First refuse Else (11 when TooMany scripts ∷ rows) (unless refuse (tooMany (partsOf scripts)) go)
+      → (length (scriptTexts scripts) ≤ mostScripts → First refuse Else rows go)
+      → First refuse Else (11 when TooMany scripts ∷ rows) (unless refuse (tooMany (scriptTexts scripts)) go)
   unfolding First unless tooMany
   past-11 scripts rows go k =
-      cases (ltb mostScripts (length (partsOf scripts)))
+      cases (ltb mostScripts (length (scriptTexts scripts)))
       (λ e. rw e (inl (ltb-true _ _ e, refl)))
-      (λ e. let l : length (partsOf scripts) ≤ mostScripts = ltb-false _ _ e in rw e (inr (λ m. omega arith, k l)))
+      (λ e. let l : length (scriptTexts scripts) ≤ mostScripts = ltb-false _ _ e in rw e (inr (λ m. omega arith, k l)))
 
 -- ---- none applies
 
@@ -67,8 +67,8 @@ pub record RoundStarts (sheet scripts memory : List ℕ) (authority : ℕ) : Typ
   pub its-sheet : Sheet
   pub on-sheet : OnSheet sheet its-sheet
   pub principals : Principals its-sheet authority
-  pub few : length (partsOf scripts) ≤ mostScripts
-  pub accepted : lowest (numberOf its-sheet) (partsOf scripts) ≡ 0
+  pub few : length (scriptTexts scripts) ≤ mostScripts
+  pub accepted : lowest (numberOf its-sheet) (scriptTexts scripts) ≡ 0
   pub unrefused : memoryRefusal its-sheet memory ≡ 0
 
 module _ (gate : Gate) (sheet scripts memory : List ℕ) (authority budget : ℕ) where
@@ -82,7 +82,7 @@ module _ (gate : Gate) (sheet scripts memory : List ℕ) (authority budget : ℕ
       past-2 R E sheet _ _ λ s h.
       past-3 R E h _ authority _ λ a.
       past-11 R E scripts _ _ λ f.
-      past-scripts R E h _ (partsOf scripts) _ λ n.
+      past-scripts R E h _ (scriptTexts scripts) _ λ n.
       past-8 R E h _ memory _ λ z w.
       past-all R E
       (record { its-sheet = s; on-sheet = h; principals = a; few = f; accepted = n; unrefused = sized-0 s memory z w })
@@ -99,7 +99,7 @@ module _ (gate : Gate) (sheet scripts memory : List ℕ) (authority budget : ℕ
   -- and is then refused by no number
   pub started-round : RoundStarts sheet scripts memory authority
       → roundBy gate sheet scripts memory authority budget
-      ≡ roundFrom memory (runEach (turnOf gate sheet authority budget) 0 memory (partsOf scripts))
+      ≡ roundFrom memory (runEach (turnOf gate sheet authority budget) 0 memory (scriptTexts scripts))
   unfolding roundBy playedOf onSheet unless tooMany
   started-round st =
       rw (

@@ -7,8 +7,8 @@ use native.Mathlib.Omega.{arith}
 use lib.ListN.{getD}
 use Rattle.stages.specs.Answers.{Ran}
 use Rattle.stages.specs.Calls.{runOf}
-use Rattle.scripts.specs.Parting.{partsOf, mostScripts}
-use Rattle.rounds.specs.Answers.{RanRound, leftBy, Gate}
+use Rattle.scripts.specs.Parting.{scriptTexts, mostScripts}
+use Rattle.rounds.specs.Answers.{RanRound, memoryAfter, Gate}
 use Rattle.rounds.specs.Calls.{runEach, turnOf, roundBy}
 use Rattle.simp.specs.Rounds.{Open, EachOpen}
 use Rattle.simp.specs.RoundView.{EachDone}
@@ -25,9 +25,9 @@ answered rs = map (λ r. r .answer) rs
 module _ (gate : Gate) (sheet scripts memory : List ℕ) (authority budget : ℕ)
     (h : EachDone gate (roundBy gate sheet scripts memory authority budget)) where
   abbrev runs : List Ran
-  runs = runEach (turnOf gate sheet authority budget) 0 memory (partsOf scripts)
+  runs = runEach (turnOf gate sheet authority budget) 0 memory (scriptTexts scripts)
 
-  is-runs : roundBy gate sheet scripts memory authority budget .memory ≡ leftBy memory runs
+  is-runs : roundBy gate sheet scripts memory authority budget .memory ≡ memoryAfter memory runs
   is-runs = ap (λ (r : RanRound). r .memory)
       (started-round gate sheet scripts memory authority budget
       (round-started gate sheet scripts memory authority budget (h .not-refused)))
@@ -69,8 +69,8 @@ module _ (gate : Gate) (sheet : List ℕ) (authority budget budget′ : ℕ) (Sa
   each-kept : (i : ℕ) (m m′ : List ℕ) (ts : List (List ℕ)) → EachOpen P gate i ts → Same m m′
       → ((j : ℕ) → Open gate (i + j) → getD (answered (runEach one i m ts)) j 0 ≡ 0)
       → ((j : ℕ) → Open gate (i + j) → getD (answered (runEach two i m′ ts)) j 0 ≡ 0)
-      → Same (leftBy m (runEach one i m ts)) (leftBy m′ (runEach two i m′ ts))
-  unfolding runEach leftBy EachOpen
+      → Same (memoryAfter m (runEach one i m ts)) (memoryAfter m′ (runEach two i m′ ts))
+  unfolding runEach memoryAfter EachOpen
   each-kept i m m′ [] p h d d′ = h
   each-kept i m m′ (t ∷ ts) p h d d′ =
       let here : i ≡ i + 0 = omega arith in
@@ -79,14 +79,14 @@ module _ (gate : Gate) (sheet : List ℕ) (authority budget budget′ : ℕ) (Sa
       (turn-kept i t m m′ (p .0) h (λ o. d 0 (subst (Open gate) here o)) (λ o. d′ 0 (subst (Open gate) here o)))
       (λ j o. d (suc j) (subst (Open gate) (next j) o)) (λ j o. d′ (suc j) (subst (Open gate) (next j) o))
 
-  pub rounds-keep : (scripts memory memory′ : List ℕ) → EachOpen P gate 0 (partsOf scripts) → Same memory memory′
+  pub rounds-keep : (scripts memory memory′ : List ℕ) → EachOpen P gate 0 (scriptTexts scripts) → Same memory memory′
       → EachDone gate (roundBy gate sheet scripts memory authority budget)
       → EachDone gate (roundBy gate sheet scripts memory′ authority budget′)
       → Same (roundBy gate sheet scripts memory authority budget .memory)
       (roundBy gate sheet scripts memory′ authority budget′ .memory)
   rounds-keep scripts memory memory′ p h d d′ =
       rw (is-runs gate sheet scripts memory authority budget d, is-runs gate sheet scripts memory′ authority budget′ d′)
-      (each-kept 0 memory memory′ (partsOf scripts) p h
+      (each-kept 0 memory memory′ (scriptTexts scripts) p h
       (each-done gate sheet scripts memory authority budget d)
       (each-done gate sheet scripts memory′ authority budget′ d′))
 
@@ -108,18 +108,18 @@ module _ {A : Type 0} (look : List ℕ → A) (sheet : List ℕ) (authority budg
       (λ n. rw (turn-closed gate sheet authority budget i t m n) refl)
 
   each-leaves : (i : ℕ) (m : List ℕ) (ts : List (List ℕ)) → EachOpen P gate i ts
-      → look (leftBy m (runEach (turnOf gate sheet authority budget) i m ts)) ≡ look m
-  unfolding runEach leftBy EachOpen
+      → look (memoryAfter m (runEach (turnOf gate sheet authority budget) i m ts)) ≡ look m
+  unfolding runEach memoryAfter EachOpen
   each-leaves i m [] p = refl
   each-leaves i m (t ∷ ts) p =
       each-leaves (suc i) (turnOf gate sheet authority budget i t m .memory) ts (p .1) ∙ turn-leaves i t m (p .0)
 
-  pub round-leaves : (scripts memory : List ℕ) → EachOpen P gate 0 (partsOf scripts)
+  pub round-leaves : (scripts memory : List ℕ) → EachOpen P gate 0 (scriptTexts scripts)
       → look (roundBy gate sheet scripts memory authority budget .memory) ≡ look memory
   round-leaves scripts memory p =
       by-zero (roundBy gate sheet scripts memory authority budget .answer)
       (λ z.
       let e = started-round gate sheet scripts memory authority budget
       (round-started gate sheet scripts memory authority budget z) in
-      ap (λ (r : RanRound). look (r .memory)) e ∙ each-leaves 0 memory (partsOf scripts) p)
+      ap (λ (r : RanRound). look (r .memory)) e ∙ each-leaves 0 memory (scriptTexts scripts) p)
       (λ n. ap look (demand-1 .round gate sheet scripts memory authority budget .kept n))

@@ -3,7 +3,7 @@ use mathlib.Core.Path.{_≡_, refl}
 use mathlib.Core.List.{List}
 use Prim.Native.Nat.{ℕ}
 use Rattle.stages.specs.Calls.{onSheet, onScript, numberOf, checkOf, runOf}
-use Rattle.scripts.specs.Parting.{partsOf}
+use Rattle.scripts.specs.Parting.{scriptTexts}
 use Rattle.simp.specs.Demands.{SameView}
 use Rattle.simp.specs.RoundView.{RoundView}
 use Rattle.simp.proofs.Numbers.{typable-0}
@@ -29,4 +29,4 @@ round-view gate sheet scripts authority budget budget′ group memory memory′ 
     rounds-keep gate sheet authority budget budget′ (λ m m′. SameView sheet group m m′ view view′) (λ t. Unit {0})
     (λ t m m′ _ h z z′.
     demand-3 sheet t (done-accepted sheet t m authority budget z) authority budget budget′ group m m′ view view′ h z z′)
-    scripts memory memory′ (of-each gate (λ t. tt) 0 (partsOf scripts))
+    scripts memory memory′ (of-each gate (λ t. tt) 0 (scriptTexts scripts))

@@ -4,7 +4,7 @@ use mathlib.Core.List.{List}
 use Prim.Native.Nat.{ℕ}
 use native.Mathlib.Omega.{arith}
 use Rattle.sheet.specs.Sheet.{Sheet}
-use Rattle.sheet_text.specs.Sheets.{Answer, malformed, repeating, accepted, sheetOf}
+use Rattle.sheet_text.specs.Sheets.{ParsedSheet, malformed, repeating, accepted, sheetOf}
 use Rattle.sheet_text.specs.Verdict.{sheetNumber}
 use Rattle.sheet_text.specs.Internal.Decoded.{Decoded, refusedBy, decodedSheet}
 use Rattle.sheet_text.proofs.Theorems.{accepted-exact}
@@ -12,7 +12,7 @@ use Rattle.stages.specs.Calls.{onSheet}
 use Rattle.stages.specs.Internal.Stages.{TableOf}
 
 module _ {A : Type 0} (refuse : ℕ → A) (go : Sheet → A) where
-  refused-by : (a : Answer) → (sheetNumber (decodedSheet a .verdict) ≡ 0 → ⊥)
+  refused-by : (a : ParsedSheet) → (sheetNumber (decodedSheet a .verdict) ≡ 0 → ⊥)
       → refuse (sheetNumber (decodedSheet a .verdict)) ≡ onSheet refuse a go
   unfolding onSheet decodedSheet refusedBy sheetNumber
   refused-by malformed n = refl
@@ -35,10 +35,10 @@ module _ {A : Type 0} (refuse : ℕ → A) (go : Sheet → A) where
     unfolding onSheet decodedSheet refusedBy sheetNumber
     sheet-read-of r z k = on (sheetOf sheet) refl
       where
-        zero-of : (a : Answer) → sheetOf sheet ≡ a → sheetNumber (decodedSheet a .verdict) ≡ 0
+        zero-of : (a : ParsedSheet) → sheetOf sheet ≡ a → sheetNumber (decodedSheet a .verdict) ≡ 0
         zero-of a p = sym (ap (λ (x : Decoded). sheetNumber (x .verdict)) (e ∙ ap decodedSheet p)) ∙ sym is ∙ z
 
-        on : (a : Answer) → sheetOf sheet ≡ a → r ≡ onSheet refuse a go
+        on : (a : ParsedSheet) → sheetOf sheet ≡ a → r ≡ onSheet refuse a go
         on malformed p = absurd (omega (arith, zero-of malformed p))
         on repeating p = absurd (omega (arith, zero-of repeating p))
         on (accepted s) p =

@@ -125,7 +125,8 @@ words-kept {m = m} {m′ = m′} runs sees shows kept h =
     let ran′ = runs .ran′ in
     let before = exact .same-words m m′ (started (runs .one)) (started (runs .two)) .0 h in
     rw (ran .words, ran′ .words)
-    (exact .words-left (ran .reached) (ran′ .reached) (done-declared (runs .one) ran) (done-declared (runs .two) ran′)
+    (exact .same-of-values (ran .reached) (ran′ .reached) (done-declared (runs .one) ran)
+    (done-declared (runs .two) ran′)
     (kept (memoryOf m) (memoryOf m′) (ran .reached) (ran′ .reached) (ran .rest) (ran′ .rest) before
     (ran .run) (ran′ .run)))
 
@@ -188,6 +189,7 @@ demand-3 sheet script k authority b b′ group m m′ v v′ same r r′ =
     record {
       shown = ap (λ (z : Viewed). z .answer) e;
       shown′ = ap (λ (z : Viewed). z .answer) e′;
-      same = ap (λ (z : Viewed). z .view) e ∙ views-exactly s group .same-left (ran .reached) (ran′ .reached) d d′ after
+      same = ap (λ (z : Viewed). z .view) e
+          ∙ views-exactly s group .same-of-values (ran .reached) (ran′ .reached) d d′ after
           ∙ sym (ap (λ (z : Viewed). z .view) e′);
     }

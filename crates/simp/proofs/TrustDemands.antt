@@ -11,7 +11,7 @@ use Rattle.language.specs.Syntax.{Script}
 use Rattle.language.specs.Trust.{trustKeeping}
 use Rattle.sheet.specs.Sheet.{Sheet}
 use Rattle.sheet.specs.Meaning.{labelsOver, declarationsOf}
-use Rattle.sheet_text.specs.Sheets.{Answer, malformed, repeating, accepted, sheetOf}
+use Rattle.sheet_text.specs.Sheets.{ParsedSheet, malformed, repeating, accepted, sheetOf}
 use Rattle.script_text.specs.Counts.{countsOf}
 use Rattle.script_text.specs.Script.{scriptOf}
 use Rattle.script_text.specs.Theorems.{IsScript}
@@ -120,7 +120,7 @@ as-check sheet script = on (sheetOf sheet)
     scripted s none = refl
     scripted s (some p) = numbered s p (untyped s p)
 
-    on : (a : Answer)
+    on : (a : ParsedSheet)
         → onSheet refusedTrust a (λ s. trustOn s script) .answer ≡ onSheet (λ k. k) a (λ s. numberOf s script)
     on malformed = refl
     on repeating = refl

@@ -13,7 +13,7 @@ use Rattle.sheet.specs.Padding.{padded}
 use Rattle.sheet.proofs.Words.{length-padded}
 use Rattle.stages.specs.Answers.{Ran, refusedRun}
 use Rattle.scripts.specs.Parting.{mostScripts}
-use Rattle.rounds.specs.Answers.{RanRound, leftBy, roundFrom}
+use Rattle.rounds.specs.Answers.{RanRound, memoryAfter, roundFrom}
 use Rattle.rounds.specs.Calls.{runEach}
 use Rattle.simp.specs.Rounds.{InTurn, no-turn, a-turn, Places, InPlace}
 
@@ -50,8 +50,8 @@ padded-is n xs ws l e h =
 -- ---- turns
 
 pub turns-map : {P Q : ℕ → List ℕ → List ℕ → Ran → Type 0} → ((i : ℕ) (t m : List ℕ) (r : Ran) → P i t m r → Q i t m r)
-    → {i : ℕ} {memory : List ℕ} {ts : List (List ℕ)} {left : List ℕ} → InTurn P i memory ts left
-    → InTurn Q i memory ts left
+    → {i : ℕ} {memory : List ℕ} {ts : List (List ℕ)} {after : List ℕ} → InTurn P i memory ts after
+    → InTurn Q i memory ts after
 turns-map f no-turn = no-turn
 turns-map f (a-turn r p rest) = a-turn r (f _ _ _ _ p) (turns-map f rest)
 
@@ -82,9 +82,9 @@ module _ (run : ℕ → List ℕ → List ℕ → Ran) where
   module _ (R : RanRound) where
     -- turns whose runs stand in their places
     pub turns-placed : (P : ℕ → List ℕ → List ℕ → Ran → Type 0) {i : ℕ} {memory : List ℕ}
-        {ts : List (List ℕ)} {left : List ℕ}
-        → InTurn (λ j t m r. (r ≡ run j t m) × P j t m r) i memory ts left → PlacedFrom R i (runEach run i memory ts)
-        → InTurn (λ j t m r. InPlace R j r × P j t m r) i memory ts left
+        {ts : List (List ℕ)} {after : List ℕ}
+        → InTurn (λ j t m r. (r ≡ run j t m) × P j t m r) i memory ts after → PlacedFrom R i (runEach run i memory ts)
+        → InTurn (λ j t m r. InPlace R j r × P j t m r) i memory ts after
     unfolding runEach
     turns-placed P no-turn p = no-turn
     turns-placed P (a-turn {i} {memory} {t} {ts} r (e, q) rest) p =
@@ -93,15 +93,15 @@ module _ (run : ℕ → List ℕ → List ℕ → Ran) where
         (turns-placed P rest (placed-rest R i r (runEach run (suc i) (r .memory) ts) p′))
 
     -- and what they say of their runs
-    pub placed-turns : {i : ℕ} {memory : List ℕ} {ts : List (List ℕ)} {left : List ℕ}
-        → InTurn (λ j t m r. InPlace R j r × (r ≡ run j t m)) i memory ts left
-        → PlacedFrom R i (runEach run i memory ts) × (left ≡ leftBy memory (runEach run i memory ts))
-    unfolding runEach leftBy
+    pub placed-turns : {i : ℕ} {memory : List ℕ} {ts : List (List ℕ)} {after : List ℕ}
+        → InTurn (λ j t m r. InPlace R j r × (r ≡ run j t m)) i memory ts after
+        → PlacedFrom R i (runEach run i memory ts) × (after ≡ memoryAfter memory (runEach run i memory ts))
+    unfolding runEach memoryAfter
     placed-turns no-turn = ((λ j l. absurd (omega arith)), refl)
-    placed-turns (a-turn {i} {memory} {t} {ts} {left} r (q, e) rest) =
+    placed-turns (a-turn {i} {memory} {t} {ts} {after} r (q, e) rest) =
         let h = placed-turns rest in
         subst (λ (x : Ran). PlacedFrom R i (x ∷ runEach run (suc i) (x .memory) ts)
-        × (left ≡ leftBy (x .memory) (runEach run (suc i) (x .memory) ts))) e
+        × (after ≡ memoryAfter (x .memory) (runEach run (suc i) (x .memory) ts))) e
         (placed-more R i r (runEach run (suc i) (r .memory) ts) q (h .0), h .1)
 
 -- ---- a round of runs
@@ -135,7 +135,7 @@ module _ (memory : List ℕ) (rs : List Ran) (few : length rs ≤ mostScripts) w
 
   -- and there is no other with these places
   pub round-is : (R : RanRound) → R .answer ≡ 0 → Places (length rs) R → PlacedFrom R 0 rs
-      → R .memory ≡ leftBy memory rs → R ≡ roundFrom memory rs
+      → R .memory ≡ memoryAfter memory rs → R ≡ roundFrom memory rs
   round-is R a p q m =
       let here : (f : Ran → ℕ) → f nothing ≡ 0 → (ws : List ℕ)
       → ((j : ℕ) → j < length rs → getD ws j 0 ≡ f (getD rs j nothing))

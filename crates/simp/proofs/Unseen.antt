@@ -49,7 +49,7 @@ module _ (sheet : List ℕ) (group : ℕ) (authority budget : ℕ) (view : List 
       let masks = shown-confined s (st .on-sheet .form .is-formed) group p (st .typable)
       (hidden s p (st .on-sheet .form) (st .of-script)) authority (run .0)
       (memoryOf memory) (ran .reached) skip (run .1) in
-      let same = views-exactly s group .same-left (ran .reached) (memoryOf memory) d (declared st) masks in
+      let same = views-exactly s group .same-of-values (ran .reached) (memoryOf memory) d (declared st) masks in
       let back = memories-exactly s .words memory (started st) in
       viewed-alike group left memory view (st .on-sheet)
       (ap (memoryRefusal s) (ran .words) ∙ memories-exactly s .accepted (ran .reached) d ∙ sym (started st))

@@ -4,8 +4,8 @@ use mathlib.Core.Bool.{Bool}
 use mathlib.Core.List.{List, [], _∷_, _++_}
 use Prim.Native.Nat.{ℕ, zero, suc}
 use Prim.Native.String.{String}
-use Rattle.labels.specs.Labels.{Policy, policy, labelOf, readsOf, writesOf, readsUnder}
-use Rattle.labels.specs.declared.Reading.the-variants.{Alone}
+use Rattle.labels.specs.Labels.{Policy, policy, labelOf, readsPooledOf, writesOf, readsUnder}
+use Rattle.labels.specs.declared.Rule.the-variants.{Alone}
 use Rattle.sheet.specs.Padding.{padded}
 use Rattle.sheet_text.specs.Sheets.{sheetOf}
 use Rattle.memory.specs.View.{trustedWords}
@@ -41,7 +41,7 @@ trustedOn on group m = onSheet (λ k. []) (sheetOf (bytes on)) (λ s. trustedWor
 
 pub data Case : Type 0 where
   -- of four principals, whether a group reads, by the scope's rule, or writes the label with these policies
-  reads writes : List Policy → ℕ → Bool → Case
+  readsPooled writes : List Policy → ℕ → Bool → Case
   -- likewise, whether a group reads it by the rule of request (g)
   readsAlone : List Policy → ℕ → Bool → Case
   -- a script, and what checking it answers
@@ -76,31 +76,31 @@ abbrev pub largest : ℕ
 largest = 4294967295
 
 unfoldable pub Holds : Case → Type 0
-Holds (reads ps g b) = readsOf 4 g (labelOf 4 ps) ≡ b
+Holds (readsPooled ps g b) = readsPooledOf 4 g (labelOf 4 ps) ≡ b
 Holds (readsAlone ps g b) = readsUnder Alone 4 g (labelOf 4 ps) ≡ b
 Holds (writes ps g b) = writesOf 4 g (labelOf 4 ps) ≡ b
 Holds (checks script answer) = checkOf (bytes sheet) (bytes script) ≡ answer
 Holds (checksOn on script answer) = checkOf (bytes on) (bytes script) ≡ answer
 Holds (checksLong opening n last answer) =
     checkOf (bytes sheet) (bytes opening ++ (times n ";\n" ++ (times n "s\n" ++ bytes last))) ≡ answer
-Holds (runs script m authority steps left) =
-    runOf (bytes sheet) (bytes script) m authority largest ≡ record { answer = 0; steps = steps; memory = left }
+Holds (runs script m authority steps after) =
+    runOf (bytes sheet) (bytes script) m authority largest ≡ record { answer = 0; steps = steps; memory = after }
 Holds (spends script m authority) =
     (budget : ℕ)
     → runOf (bytes sheet) (bytes script) m authority budget ≡ record { answer = 9; steps = budget; memory = m }
 Holds (answers script answer steps) =
     runOf (bytes nested) (bytes script) [] 0 largest ≡ record { answer = answer; steps = steps; memory = [] }
-Holds (runsOn on script m authority answer steps left) =
-    runOf (bytes on) (bytes script) m authority largest ≡ record { answer = answer; steps = steps; memory = left }
+Holds (runsOn on script m authority answer steps after) =
+    runOf (bytes on) (bytes script) m authority largest ≡ record { answer = answer; steps = steps; memory = after }
 Holds (views on group m shown) = viewOf (bytes on) m group m ≡ record { answer = 0; view = shown }
-Holds (rounds on scripts m budget answer each steps left) =
+Holds (rounds on scripts m budget answer each steps after) =
     roundOf (bytes on) (parted scripts) m 0 budget
-    ≡ record { answer = answer; answers = padded mostScripts each; steps = padded mostScripts steps; memory = left }
+    ≡ record { answer = answer; answers = padded mostScripts each; steps = padded mostScripts steps; memory = after }
 Holds (trusts on script answer keeping) =
     trustOf (bytes on) (bytes script) ≡ record { answer = answer; keeping = keeping }
-Holds (distrusts on script authority group m left after) =
+Holds (distrusts on script authority group m trusted trusted′) =
     let r = runOf (bytes on) (bytes script) m authority largest in
-    (trustedOn on group m ≡ left) × (r .answer ≡ 0) × (trustedOn on group (r .memory) ≡ after)
+    (trustedOn on group m ≡ trusted) × (r .answer ≡ 0) × (trustedOn on group (r .memory) ≡ trusted′)
 Holds (groups on l places answer count after) =
     groupsOf (bytes on) l places ≡ record { answer = answer; count = count; places = after }
 

@@ -11,7 +11,7 @@ use Rattle.sheet.specs.Meaning.{worldFor}
 use Rattle.memory.specs.Memory.{memoryOf, wordsOf}
 use Rattle.stages.specs.Answers.{Ran, Viewed, TrustAnswer}
 use Rattle.stages.specs.Calls.{checkOf, runOf, viewOf, trustOf}
-use Rattle.scripts.specs.Parting.{partsOf}
+use Rattle.scripts.specs.Parting.{scriptTexts}
 use Rattle.rounds.specs.Answers.{RanRound, Gate, allOpen}
 use Rattle.rounds.specs.Calls.{roundBy}
 use Rattle.groups.specs.Answers.{Grouped}
@@ -25,13 +25,13 @@ use Rattle.simp.specs.Trust.{trustTable}
 
 -- The run started and reached skip within the budget, after so many steps, and these are the words of the memory that
 -- it reached. (`Ends` says besides that no value on the way was too long, which is 10.)
-pub record Finished (sheet script memory : List ℕ) (authority budget steps : ℕ) (left : List ℕ) : Type 0 where
+pub record Finished (sheet script memory : List ℕ) (authority budget steps : ℕ) (after : List ℕ) : Type 0 where
   pub its-sheet : Sheet
   pub its-script : Script
   pub reached : Mem
   pub started : Started sheet script memory authority its-sheet its-script
   pub run : Steps (worldFor its-sheet authority its-script) steps (memoryOf memory) (its-script .command) reached skip
-  pub words : left ≡ wordsOf (locationCount its-sheet) reached
+  pub words : after ≡ wordsOf (locationCount its-sheet) reached
   pub in-budget : steps ≤ budget
 
 -- What a run leaves, and its steps where it stops, whatever it is given: the memory as it was, unless it is done;
@@ -152,7 +152,7 @@ pub record Demand1 : Type 1 where
       (roundBy gate sheet scripts memory authority budget)
   -- it has 32 places for the answers and 32 for the steps, also where it is refused, zero past the last script
   pub round-places : (gate : Gate) (sheet scripts memory : List ℕ) (authority budget : ℕ)
-      → Places (length (partsOf scripts)) (roundBy gate sheet scripts memory authority budget)
+      → Places (length (scriptTexts scripts)) (roundBy gate sheet scripts memory authority budget)
   -- simp_round shuts no script out
   pub all-open : (i : ℕ) → Open allOpen i
   -- the number of simp_trust is that of simp_check

@@ -7,7 +7,7 @@ use mathlib.Core.Bool.{Bool, true}
 use mathlib.Core.List.{List}
 use Prim.Native.Nat.{ℕ}
 use Rattle.labels.specs.declared.Label.{Label}
-use Rattle.labels.specs.declared.Reading.{Reading}
+use Rattle.labels.specs.declared.Rule.{Rule}
 use Rattle.labels.specs.Labels.{readsUnder}
 use Rattle.labels.specs.Lattice.{DownwardClosed}
 use Rattle.language.specs.Syntax.{Script}
@@ -21,7 +21,7 @@ use Rattle.script_text.specs.Theorems.{IsScript}
 use Rattle.memory.specs.Memory.{memoryOf, memoryRefusal}
 use Rattle.memory.specs.View.{viewBy, viewWords, trustedWords}
 use Rattle.stages.specs.Calls.{runOf}
-use Rattle.scripts.specs.Parting.{partsOf}
+use Rattle.scripts.specs.Parting.{scriptTexts}
 use Rattle.rounds.specs.Answers.{Gate}
 use Rattle.rounds.specs.Calls.{roundBy}
 use Rattle.simp.specs.Rounds.{EachOpen}
@@ -31,10 +31,10 @@ use Rattle.simp.specs.StartUnseen.{StartHidden}
 -- ---- the rule decides who reads, and nothing else
 
 -- the sheet with this rule, otherwise the same
-abbrev pub ruled : Reading → Sheet → Sheet
+abbrev pub ruled : Rule → Sheet → Sheet
 ruled rule s = record {
   principals = s .principals;
-  reading = rule;
+  rule = rule;
   compounds = s .compounds;
   labels = s .labels;
   locations = s .locations;
@@ -42,24 +42,24 @@ ruled rule s = record {
 
 pub record OnlyReading : Type 0 where
   -- who writes a label, so what a pack does and what is left where a group is distrusted
-  pub writing : (rule : Reading) (s : Sheet) (g l : ℕ) → writesNo (ruled rule s) g l ≡ writesNo s g l
-  pub distrusting : (rule : Reading) (s : Sheet) (g : ℕ) (ws : List ℕ)
+  pub writing : (rule : Rule) (s : Sheet) (g l : ℕ) → writesNo (ruled rule s) g l ≡ writesNo s g l
+  pub distrusting : (rule : Rule) (s : Sheet) (g : ℕ) (ws : List ℕ)
       → trustedWords (ruled rule s) g ws ≡ trustedWords s g ws
   -- which sheets, scripts and memories are refused, and which scripts are trust-keeping
-  pub sheets : (rule : Reading) (s : Sheet) → (formed (ruled rule s) ≡ formed s) × (repeats (ruled rule s) ≡ repeats s)
-  pub names : (rule : Reading) (s : Sheet) → countsOf (ruled rule s) ≡ countsOf s
-  pub typing : (rule : Reading) (s : Sheet) (p : Script)
+  pub sheets : (rule : Rule) (s : Sheet) → (formed (ruled rule s) ≡ formed s) × (repeats (ruled rule s) ≡ repeats s)
+  pub names : (rule : Rule) (s : Sheet) → countsOf (ruled rule s) ≡ countsOf s
+  pub typing : (rule : Rule) (s : Sheet) (p : Script)
       → refusal (labelsOver (s .principals)) (declarationsOf (ruled rule s)) p
       ≡ refusal (labelsOver (s .principals)) (declarationsOf s) p
-  pub keeping : (rule : Reading) (s : Sheet) (p : Script)
+  pub keeping : (rule : Rule) (s : Sheet) (p : Script)
       → trustKeeping (labelsOver (s .principals)) (declarationsOf (ruled rule s)) p
       ≡ trustKeeping (labelsOver (s .principals)) (declarationsOf s) p
-  pub memories : (rule : Reading) (s : Sheet) (ws : List ℕ) → memoryRefusal (ruled rule s) ws ≡ memoryRefusal s ws
+  pub memories : (rule : Rule) (s : Sheet) (ws : List ℕ) → memoryRefusal (ruled rule s) ws ≡ memoryRefusal s ws
   -- what a run goes by, but for who reads; and the label that a script starts at
-  pub runs : (rule : Reading) (s : Sheet) (authority : ℕ) (p : Script) → let w = worldFor s authority p in
+  pub runs : (rule : Rule) (s : Sheet) (authority : ℕ) (p : Script) → let w = worldFor s authority p in
       worldFor (ruled rule s) authority p
       ≡ record { ty = w .ty; below = w .below; reads = readsNo (ruled rule s) authority; writes = w .writes }
-  pub starts : (rule : Reading) (s : Sheet) (p : Script) → startLabel (ruled rule s) p ≡ startLabel s p
+  pub starts : (rule : Rule) (s : Sheet) (p : Script) → startLabel (ruled rule s) p ≡ startLabel s p
 
 -- ---- what the view promises rests on one fact about reading
 
@@ -94,7 +94,7 @@ pub record PromisedTo (reads : Label → Bool) (sheet : List ℕ) (s : Sheet) : 
   -- (request (d))
   pub unseen : (script : List ℕ) → StartUnread reads sheet script → (authority budget : ℕ) (memory : List ℕ)
       → shownBy s reads (runOf sheet script memory authority budget .memory) ≡ shownBy s reads memory
-  pub round-unseen : (gate : Gate) (scripts : List ℕ) → EachOpen (StartUnread reads sheet) gate 0 (partsOf scripts)
+  pub round-unseen : (gate : Gate) (scripts : List ℕ) → EachOpen (StartUnread reads sheet) gate 0 (scriptTexts scripts)
       → (authority budget : ℕ) (memory : List ℕ)
       → shownBy s reads (roundBy gate sheet scripts memory authority budget .memory) ≡ shownBy s reads memory
 
@@ -105,6 +105,6 @@ pub record DownwardSuffices : Type 0 where
   pub promised : (reads : Label → Bool) → DownwardClosed reads → (sheet : List ℕ) (s : Sheet) → IsSheet sheet s
       → PromisedTo reads sheet s
   pub to-groups : (s : Sheet) (g : ℕ) (ws : List ℕ)
-      → shownBy s (readsUnder (s .reading) (s .principals) g) ws ≡ viewWords s g ws
+      → shownBy s (readsUnder (s .rule) (s .principals) g) ws ≡ viewWords s g ws
   pub starts-of-groups : (sheet : List ℕ) (s : Sheet) → IsSheet sheet s → (g : ℕ) (script : List ℕ)
-      → StartHidden sheet g script ↔ StartUnread (readsUnder (s .reading) (s .principals) g) sheet script
+      → StartHidden sheet g script ↔ StartUnread (readsUnder (s .rule) (s .principals) g) sheet script

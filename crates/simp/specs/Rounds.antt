@@ -8,7 +8,7 @@ use lib.ListN.{length, getD}
 use Rattle.numbers.specs.Rows.{Row, _when_}
 use Rattle.numbers.specs.Calls.{Table, AnswerBy}
 use Rattle.stages.specs.Answers.{Ran, refusedRun}
-use Rattle.scripts.specs.Parting.{partsOf, mostScripts}
+use Rattle.scripts.specs.Parting.{scriptTexts, mostScripts}
 use Rattle.rounds.specs.Answers.{RanRound, refusedRound, Gate}
 use Rattle.simp.specs.Judgements.{NoSheet, Repeats, Strangers, NoScript, IllTyped, IllLabelled, OtherSize}
 use Rattle.simp.specs.Judgements.{IllFormed, runTable}
@@ -17,7 +17,7 @@ use Rattle.simp.specs.Judgements.{IllFormed, runTable}
 
 -- 11
 abbrev pub TooMany : List ℕ → Type 0
-TooMany scripts = mostScripts < length (partsOf scripts)
+TooMany scripts = mostScripts < length (scriptTexts scripts)
 
 -- P holds of one of the scripts
 unfoldable pub OneOf : (List ℕ → Type 0) → List (List ℕ) → Type 0
@@ -28,9 +28,9 @@ OneOf P (t ∷ ts) = P t ⊎ OneOf P ts
 -- where none is by 4 or 5.
 abbrev pub playedRows : List ℕ → List ℕ → List ℕ → List Row
 playedRows sheet scripts memory =
-    4 when OneOf (NoScript sheet) (partsOf scripts)
-    ∷ 5 when OneOf (IllTyped sheet) (partsOf scripts)
-    ∷ 6 when OneOf (IllLabelled sheet) (partsOf scripts)
+    4 when OneOf (NoScript sheet) (scriptTexts scripts)
+    ∷ 5 when OneOf (IllTyped sheet) (scriptTexts scripts)
+    ∷ 6 when OneOf (IllLabelled sheet) (scriptTexts scripts)
     ∷ 7 when OtherSize sheet memory
     ∷ 8 when IllFormed sheet memory
     ∷ []
@@ -49,9 +49,9 @@ roundRows sheet scripts memory authority =
 -- and the memory before it how the script went: what it answers and leaves; the next one starts from what it leaves.
 pub data InTurn {A : Type 0} (Turn : ℕ → A → List ℕ → Ran → Type 0) : ℕ → List ℕ → List A → List ℕ → Type 0 where
   no-turn : {i : ℕ} {memory : List ℕ} → InTurn Turn i memory [] memory
-  a-turn : {i : ℕ} {memory : List ℕ} {t : A} {ts : List A} {left : List ℕ} (r : Ran) → Turn i t memory r
-      → InTurn Turn (suc i) (r .memory) ts left
-      → InTurn Turn i memory (t ∷ ts) left
+  a-turn : {i : ℕ} {memory : List ℕ} {t : A} {ts : List A} {after : List ℕ} (r : Ran) → Turn i t memory r
+      → InTurn Turn (suc i) (r .memory) ts after
+      → InTurn Turn i memory (t ∷ ts) after
 
 -- The places of a round of n scripts: 32 for the answers and 32 for the steps, zero past the last script.
 pub record Places (n : ℕ) (r : RanRound) : Type 0 where
@@ -67,9 +67,9 @@ pub record InPlace (r : RanRound) (i : ℕ) (ran : Ran) : Type 0 where
 -- A round that isn't refused: its scripts went so, in turn, from the lent memory to the memory that is left.
 pub record Played (Turn : ℕ → List ℕ → List ℕ → Ran → Type 0) (scripts memory : List ℕ) (r : RanRound) : Type 0 where
   pub not-refused : r .answer ≡ 0
-  pub places : Places (length (partsOf scripts)) r
+  pub places : Places (length (scriptTexts scripts)) r
   pub in-turn : InTurn (λ i script before ran. InPlace r i ran × Turn i script before ran) 0 memory
-      (partsOf scripts) (r .memory)
+      (scriptTexts scripts) (r .memory)
 
 -- the script in this place is open
 abbrev pub Open : Gate → ℕ → Type 0

@@ -2,8 +2,8 @@
 use mathlib.Core.Bool.{true, false}
 use mathlib.Core.List.{List, [], _∷_}
 use Prim.Native.Nat.{ℕ}
-use Rattle.simp.specs.CaseKinds.{Case, reads, writes, checks, runs, spends, answers, twoPolicies, readersOnly}
-use Rattle.simp.specs.CaseKinds.{fourLocations, before}
+use Rattle.simp.specs.CaseKinds.{Case, readsPooled, writes, checks, runs, spends, answers, twoPolicies}
+use Rattle.simp.specs.CaseKinds.{readersOnly, fourLocations, before}
 
 -- after the pack
 unfoldable pub afterPack : List ℕ
@@ -15,13 +15,13 @@ afterUnpack words = fourLocations (1 ∷ 5 ∷ []) (1 ∷ 62 ∷ []) (3 ∷ 5 �
 
 unfoldable pub starredCases : List Case
 starredCases =
-    reads twoPolicies 0b0001 true
+    readsPooled twoPolicies 0b0001 true
     ∷ writes twoPolicies 0b0001 false
-    ∷ reads twoPolicies 0b1000 false
+    ∷ readsPooled twoPolicies 0b1000 false
     ∷ writes twoPolicies 0b1000 false
-    ∷ reads twoPolicies 0b1001 true
+    ∷ readsPooled twoPolicies 0b1001 true
     ∷ writes twoPolicies 0b1001 true
-    ∷ reads readersOnly 0b1100 true
+    ∷ readsPooled readersOnly 0b1100 true
     ∷ checks "= 0\nx 1\n" 6
     ∷ checks "= 1\nx 0\n" 0
     ∷ checks "= 0\nx 2\n" 5

@@ -11,7 +11,7 @@ use Rattle.sheet_text.specs.Theorems.{IsSheet}
 use Rattle.script_text.specs.Counts.{countsOf}
 use Rattle.script_text.specs.Theorems.{IsScript}
 use Rattle.stages.specs.Calls.{runOf, viewOf}
-use Rattle.scripts.specs.Parting.{partsOf}
+use Rattle.scripts.specs.Parting.{scriptTexts}
 use Rattle.rounds.specs.Answers.{Gate}
 use Rattle.rounds.specs.Calls.{roundBy}
 use Rattle.simp.specs.Rounds.{EachOpen}
@@ -36,7 +36,7 @@ pub record StartUnseen : Type 0 where
       → (authority budget : ℕ) (memory view : List ℕ)
       → viewOf sheet (runOf sheet script memory authority budget .memory) group view ≡ viewOf sheet memory group view
   -- a round whose open scripts are such: each done or stopped, or the round refused
-  pub round : (sheet scripts : List ℕ) (group : ℕ) (gate : Gate) → HiddenFrom sheet group gate 0 (partsOf scripts)
+  pub round : (sheet scripts : List ℕ) (group : ℕ) (gate : Gate) → HiddenFrom sheet group gate 0 (scriptTexts scripts)
       → (authority budget : ℕ) (memory view : List ℕ)
       → viewOf sheet (roundBy gate sheet scripts memory authority budget .memory) group view
       ≡ viewOf sheet memory group view

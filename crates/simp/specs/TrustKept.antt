@@ -7,7 +7,7 @@ use Rattle.sheet.specs.Sheet.{Sheet}
 use Rattle.sheet_text.specs.Theorems.{IsSheet}
 use Rattle.memory.specs.View.{trustedWords}
 use Rattle.stages.specs.Calls.{runOf, trustOf}
-use Rattle.scripts.specs.Parting.{partsOf}
+use Rattle.scripts.specs.Parting.{scriptTexts}
 use Rattle.rounds.specs.Answers.{Gate}
 use Rattle.rounds.specs.Calls.{roundBy}
 use Rattle.simp.specs.Rounds.{EachOpen}
@@ -36,7 +36,7 @@ pub record TrustKept : Type 0 where
       → SameTrusted sheet group (runOf sheet script memory authority budget .memory)
       (runOf sheet script memory′ authority budget′ .memory)
   -- rounds of the same scripts, whose open ones are such, and done in both
-  pub round : (gate : Gate) (sheet scripts : List ℕ) → EachOpen (SaidKeeping sheet) gate 0 (partsOf scripts)
+  pub round : (gate : Gate) (sheet scripts : List ℕ) → EachOpen (SaidKeeping sheet) gate 0 (scriptTexts scripts)
       → (authority budget budget′ group : ℕ) (memory memory′ : List ℕ)
       → SameTrusted sheet group memory memory′
       → EachDone gate (roundBy gate sheet scripts memory authority budget)

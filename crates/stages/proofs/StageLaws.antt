@@ -20,8 +20,8 @@ use Rattle.sheet.specs.Internal.Tables.{everyoneIn}
 use Rattle.sheet.proofs.TableLaws.{everyone-in}
 use Rattle.sheet.specs.Meaning.{labelsOver, declarationsOf, shapesOf, worldFor}
 use Rattle.sheet.proofs.MeaningLaws.{least-label-laws}
-use Rattle.script_text.specs.declared.Answer.{Answer}
-use Rattle.script_text.specs.declared.Answer.the-variants.{Read, Refused}
+use Rattle.script_text.specs.declared.ParsedScript.{ParsedScript}
+use Rattle.script_text.specs.declared.ParsedScript.the-variants.{Read, Refused}
 use Rattle.script_text.specs.Counts.{countsOf}
 use Rattle.script_text.specs.Script.{scriptOf}
 use Rattle.script_text.specs.Internal.Decoded.{Decoded, codeWords, countsIn, noCode, coded, decodedScript}
@@ -52,7 +52,7 @@ use Rattle.stages.specs.Internal.Stages.{numberIn, trustIn, runIn, viewe
 
 pub code-of : (t script ws : List ℕ) (p : Decoded) → p ≡ decodedScript (scriptOf (countsIn t) script)
     → ws ≡ take (p .count * 3) (p .code)
-    → (s : Sheet) → TableOf t s → CodeOf s ws (p .start) (p .answer) (scriptOf (countsOf s) script)
+    → (s : Sheet) → TableOf t s → CodeOf s ws (p .start) (p .parsed) (scriptOf (countsOf s) script)
 code-of t script ws p e w s T =
     let k : countsIn t ≡ countsOf s = ap countsIn (T .words) ∙ counts-table s in
     let e′ : p ≡ decodedScript (scriptOf (countsOf s) script) =
@@ -68,7 +68,7 @@ pub accepted-code : (t script ws : List ℕ) (p : Decoded) → p ≡ decodedScri
 unfolding numberOf onScript
 accepted-code t script ws p e w s T z = go (code-of t script ws p e w s T) refl z
   where
-    go : {a : Answer} {o : Option Script} → CodeOf s ws (p .start) a o → scriptOf (countsOf s) script ≡ o
+    go : {a : ParsedScript} {o : Option Script} → CodeOf s ws (p .start) a o → scriptOf (countsOf s) script ≡ o
         → onScript (λ k. k) o (untyped s) ≡ 0
         → AcceptedCode s script ws
     go no-code i n = absurd (omega arith)
@@ -89,14 +89,14 @@ refusing-verdict (Accepted, e) = inl e
 refusing-verdict (IllTyped, e) = inr (omega arith)
 refusing-verdict (IllLabelled, e) = inr (omega arith)
 
-pub judge-refused : (ws t : List ℕ) (start : ℕ) (a : Answer) → a ≡ Refused → Judges a ws t start 4
+pub judge-refused : (ws t : List ℕ) (start : ℕ) (a : ParsedScript) → a ≡ Refused → Judges a ws t start 4
 unfolding onScript judgedNumber
 judge-refused ws t start a e = rw e (record { judged = λ s T o C. go s C; in-table = (0, accepted-verdict, refl) })
   where
     go : (s : Sheet) {o : Option Script} → CodeOf s ws start Refused o → 4 ≡ onScript (λ k. k) o (untyped s)
     go s no-code = refl
 
-pub judge-read : (ws t : List ℕ) (start : ℕ) (a : Answer) (v : Verdict) → a ≡ Read
+pub judge-read : (ws t : List ℕ) (start : ℕ) (a : ParsedScript) (v : Verdict) → a ≡ Read
     → ChecksCode ws t start (verdictNumber v) → Judges a ws t start (verdictNumber v)
 unfolding onScript untyped judgedNumber
 judge-read ws t start a v i x =
@@ -107,7 +107,7 @@ judge-read ws t start a v i x =
     go s T (its-code {p = p} src nm w st) = x .exact s (T .form) (T .once) (T .words) (countsOf s) p src nm w st
 
 -- no script is trust-keeping, or the one that was read
-pub trust-refused : (ws t : List ℕ) (start : ℕ) (a : Answer) → a ≡ Refused → JudgesTrust a ws t start false
+pub trust-refused : (ws t : List ℕ) (start : ℕ) (a : ParsedScript) → a ≡ Refused → JudgesTrust a ws t start false
 unfolding keepingIn onScript
 trust-refused ws t start a e = rw e (record { judged = λ s T o C. go s C; no-script = λ _. refl })
   where
@@ -117,9 +117,9 @@ trust-refused ws t start a e = rw e (record { judged = λ s T o C. go s C; no-sc
 -- what was read isn't refused
 not-refused : Read ≡ Refused → ⊥
 unfolding judgedNumber
-not-refused e = omega (arith, ap (λ (a : Answer). judgedNumber a 0) e)
+not-refused e = omega (arith, ap (λ (a : ParsedScript). judgedNumber a 0) e)
 
-pub trust-read : (ws t : List ℕ) (start : ℕ) (a : Answer) (r : Bool) → a ≡ Read → KeepsCode ws t r
+pub trust-read : (ws t : List ℕ) (start : ℕ) (a : ParsedScript) (r : Bool) → a ≡ Read → KeepsCode ws t r
     → JudgesTrust a ws t start r
 unfolding keepingIn onScript
 trust-read ws t start a r i x =
@@ -128,20 +128,20 @@ trust-read ws t start a r i x =
     go : (s : Sheet) → TableOf t s → {o : Option Script} → CodeOf s ws start Read o → r ≡ keepingIn s o
     go s T (its-code {p = p} src nm w st) = x .says s (T .form) (T .words) (countsOf s) p src nm w
 
--- the answer of the reader, by whether there is a script
-answered : (o : Option Script) (v : ℕ) → judgedNumber (decodedScript o .answer) v ≡ onScript (λ k. k) o (λ _. v)
+-- what the reader found, by whether there is a script
+parsed-number : (o : Option Script) (v : ℕ) → judgedNumber (decodedScript o .parsed) v ≡ onScript (λ k. k) o (λ _. v)
 unfolding judgedNumber decodedScript noCode coded onScript
-answered none v = refl
-answered (some p) v = refl
+parsed-number none v = refl
+parsed-number (some p) v = refl
 
-none-refused : decodedScript none .answer ≡ Refused
+none-refused : decodedScript none .parsed ≡ Refused
 unfolding decodedScript noCode
 none-refused = refl
 
 -- what the judgement of a script's code says of the script
 pub numbers-script : (t script ws : List ℕ) (p : Decoded) (r : ℕ) → p ≡ decodedScript (scriptOf (countsIn t) script)
     → ws ≡ take (p .count * 3) (p .code)
-    → Judges (p .answer) ws t (p .start) r → NumbersScript script t r (p .count) (p .code)
+    → Judges (p .parsed) ws t (p .start) r → NumbersScript script t r (p .count) (p .code)
 unfolding numberOf numberIn
 numbers-script t script ws p r e w j =
     let numbered : (s : Sheet) → TableOf t s → r ≡ numberOf s script =
@@ -152,16 +152,16 @@ numbers-script t script ws p r e w j =
       words-are = ap (λ (d : Decoded). d .code) e;
       numbered = numbered;
       accepted = λ s T z. accepted-code t script (take (p .count * 3) (p .code)) p e refl s T (sym (numbered s T) ∙ z);
-      in-table = (v, of, is ∙ ap (λ (d : Decoded). judgedNumber (d .answer) v) e ∙ answered _ v);
+      in-table = (v, of, is ∙ ap (λ (d : Decoded). judgedNumber (d .parsed) v) e ∙ parsed-number _ v);
     }
 
 pub keeps-script : (t script ws : List ℕ) (p : Decoded) (r : Bool) → p ≡ decodedScript (scriptOf (countsIn t) script)
     → ws ≡ take (p .count * 3) (p .code)
-    → JudgesTrust (p .answer) ws t (p .start) r → KeepsScript script t r
+    → JudgesTrust (p .parsed) ws t (p .start) r → KeepsScript script t r
 keeps-script t script ws p r e w j = record {
   says = λ s T. j .judged s T _ (code-of t script ws p e w s T);
   no-script = λ n.
-      j .no-script (ap (λ (d : Decoded). d .answer) e ∙ ap (λ (o : Option Script). decodedScript o .answer) n
+      j .no-script (ap (λ (d : Decoded). d .parsed) e ∙ ap (λ (o : Option Script). decodedScript o .parsed) n
       ∙ none-refused);
 }
 

@@ -13,7 +13,7 @@ use Rattle.language.specs.Typing.{refusal}
 use Rattle.language.specs.Trust.{trustKeeping}
 use Rattle.sheet.specs.Sheet.{Sheet, locationCount}
 use Rattle.sheet.specs.Meaning.{labelsOver, declarationsOf, worldFor}
-use Rattle.sheet_text.specs.Sheets.{Answer, malformed, repeating, accepted, sheetOf}
+use Rattle.sheet_text.specs.Sheets.{ParsedSheet, malformed, repeating, accepted, sheetOf}
 use Rattle.script_text.specs.Counts.{countsOf}
 use Rattle.script_text.specs.Script.{scriptOf}
 use Rattle.memory.specs.Memory.{memoryOf, wordsOf, memoryRefusal}
@@ -24,7 +24,7 @@ use Rattle.stages.specs.Answers.{Ran, refusedRun, Viewed, refusedView, T
 -- memoryRefusal, viewRefusal.)
 
 -- 1, 2
-unfoldable pub onSheet : {A : Type 0} → (ℕ → A) → Answer → (Sheet → A) → A
+unfoldable pub onSheet : {A : Type 0} → (ℕ → A) → ParsedSheet → (Sheet → A) → A
 onSheet refuse malformed go = refuse 1
 onSheet refuse repeating go = refuse 2
 onSheet refuse (accepted s) go = go s
@@ -60,9 +60,9 @@ checkOf sheet script = onSheet (λ k. k) (sheetOf sheet) (λ s. numberOf s scrip
 -- A run on n locations that ended so. Done, it leaves the words of its last memory; else the memory is as it was.
 -- (`wrong` is no outcome of an accepted script: crate language's TypeSoundness.)
 unfoldable pub ended : ℕ → ℕ → List ℕ → Out → Ran
-ended n budget memory (done M left) = record { answer = 0; steps = budget - left; memory = wordsOf n M }
+ended n budget memory (done M rest) = record { answer = 0; steps = budget - rest; memory = wordsOf n M }
 ended n budget memory spent = record { answer = 9; steps = budget; memory = memory }
-ended n budget memory (over left) = record { answer = 10; steps = budget - left; memory = memory }
+ended n budget memory (over rest) = record { answer = 10; steps = budget - rest; memory = memory }
 ended n budget memory wrong = record { answer = 9; steps = budget; memory = memory }
 
 -- The run of an accepted script from a memory that isn't refused.

@@ -9,7 +9,7 @@ ghost use Rattle.stages.specs.Internal.Stages.{Judges, JudgesTrust, Numb
 ghost use Rattle.stages.specs.Internal.Stages.{ChecksOn, TrustsOn, RunsOn, viewedIn};
 use checker::Verdict;
 use evaluator::State;
-use script_text::Answer;
+use script_text::ParsedScript;
 use sets::Set;
 
 // The answers. 0 is done, or accepted, or shown; the others refuse.
@@ -129,11 +129,11 @@ fn code_number(verdict: Verdict) -> u8
 
 // 4 where there is no script, 5 or 6 where it has no derivation, else 0; and whether there is one that is
 // trust-keeping.
-fn judge(script: Answer, code: &[u32], table: &[sheet::Word], start: u32) -> Judged
+fn judge(script: ParsedScript, code: &[u32], table: &[sheet::Word], start: u32) -> Judged
     ensures { λ r. ⌜ Judges script (now (code .entry)) (now (table .entry)) start (r .number)
         × JudgesTrust script (now (code .entry)) (now (table .entry)) start (r .keeping) ⌝ }
 {
-    let Answer::Read = script else {
+    let ParsedScript::Read = script else {
         return Judged {
             number: SCRIPT_MALFORMED,
             keeping: false,
@@ -153,10 +153,10 @@ fn find(script: &[u8], table: &[sheet::Word], code: &mut [u32; script_text::WORD
         × KeepsScript (now (script .entry)) (now (table .entry)) (r .keeping) ⌝ }
 {
     let read = script_text::read(script, table, code);
-    let answer = read.answer;
+    let parsed = read.parsed;
     let count = read.count;
     let start = read.start;
-    let judged = judge(answer, script_text::rows(code, count), table, start);
+    let judged = judge(parsed, script_text::rows(code, count), table, start);
     Found {
         number: judged.number,
         keeping: judged.keeping,

@@ -8,7 +8,7 @@ use mathlib.Core.Option.{Option, none, some}
 use lib.ListN.{length, drop, getD, length-append, drop-of-length-le}
 use Rattle.text.specs.Reading.{Read}
 use Rattle.text.specs.Reading.Read.{got, bad}
-use Rattle.text.specs.Lines.{front, onward, linesUpTo, allLines, printLines, AllGood, none-left, and-then}
+use Rattle.text.specs.Lines.{front, onward, linesUpTo, allLines, printLines, AllGood, empty-good, and-then}
 use Rattle.text.specs.Lines.{LineForm}
 use Rattle.text.specs.Theorems.{LinesExact, AllLinesExact}
 use Rattle.logic.proofs.OptionLaws.{none-some, some-path}
@@ -106,9 +106,9 @@ module _ {A : Type 0} {line : List ℕ → Read A} {print : A → List ℕ → L
   lines-sound : (k : ℕ) (t : List ℕ) (ls : List A) → linesUpTo line k t ≡ some ls
       → (t ≡ printLines print ls) × AllGood Good ls × (length ls ≤ k)
   unfolding linesUpTo printLines
-  lines-sound zero [] ls e = let y : ls ≡ [] = sym (some-path e) in rw y (refl, none-left, omega arith)
+  lines-sound zero [] ls e = let y : ls ≡ [] = sym (some-path e) in rw y (refl, empty-good, omega arith)
   lines-sound zero (b ∷ t) ls e = none-some e
-  lines-sound (suc k) [] ls e = let y : ls ≡ [] = sym (some-path e) in rw y (refl, none-left, omega arith)
+  lines-sound (suc k) [] ls e = let y : ls ≡ [] = sym (some-path e) in rw y (refl, empty-good, omega arith)
   lines-sound (suc k) (b ∷ t) ls e =
       onward-split (line (b ∷ t)) _ ls (λ l u ms x y z.
       let r = line-sound (b ∷ t) l u x in
@@ -119,7 +119,7 @@ module _ {A : Type 0} {line : List ℕ → Read A} {print : A → List ℕ → L
   lines-print : (k : ℕ) (ls : List A) → AllGood Good ls → length ls ≤ k
       → linesUpTo line k (printLines print ls) ≡ some ls
   unfolding printLines front
-  lines-print k [] none-left h = lines-end line k
+  lines-print k [] empty-good h = lines-end line k
   lines-print zero (l ∷ ls) (and-then g r) h = absurd (omega arith)
   lines-print (suc k) (l ∷ ls) (and-then g r) h =
       lines-more line (form .no-end) k _ l (printLines print ls) (line-print l (printLines print ls) g)
@@ -157,7 +157,7 @@ module _ {A : Type 0} {line : List ℕ → Read A} {print : A → List ℕ → L
 
   all-print : (ls : List A) → AllGood Good ls → allLines line (printLines print ls) ≡ some ls
   unfolding printLines front
-  all-print [] none-left = all-none
+  all-print [] empty-good = all-none
   all-print (l ∷ ls) (and-then g r) =
       all-more (print l (printLines print ls)) l (printLines print ls) (line-print l (printLines print ls) g)
       ∙ rw (all-print ls r)

@@ -36,7 +36,7 @@ printLines print (l ∷ ls) = print l (printLines print ls)
 
 -- all lines are good
 pub data AllGood {A : Type 0} (Good : A → Type 0) : List A → Type 0 where
-  none-left : AllGood Good []
+  empty-good : AllGood Good []
   and-then : {l : A} {ls : List A} → Good l → AllGood Good ls → AllGood Good (l ∷ ls)
 
 -- A line is read exactly where a good one stands printed, the end of the text is no line, and what follows a line is

@@ -8,7 +8,7 @@ use Rattle.sets.specs.Sets.{member}
 use Rattle.language.specs.Syntax.{Expr, Cmd, Script}
 use Rattle.language.specs.Typing.{least, flowE, flow, refusal}
 use Rattle.language.specs.Trust.{keepsE, keeps, trustKeeping}
-use Rattle.script.specs.Lines.{Line, SourceE, exprLines, Source, cmdLines}
+use Rattle.script.specs.Lines.{ScriptLine, SourceE, exprLines, Source, cmdLines}
 use Rattle.script.specs.Internal.Code.{code}
 use Rattle.script.specs.Names.{Counts, maxDepth, named}
 use Rattle.sheet.specs.Sheet.{Sheet, formed, repeats}
@@ -36,7 +36,7 @@ Room s d = (d ≤ maxDepth) × (bindingsSize ≤ length s)
 
 pub record ChecksExpr (ws : List ℕ) (at : ℕ) (t s : List ℕ) (d : ℕ) (x : Typed) : Type 0 where
   pub onward : at ≤ x .next
-  pub means : (e : Expr) (rest : List Line) → SourceE e → drop at ws ≡ code (exprLines e rest) → Room s d
+  pub means : (e : Expr) (rest : List ScriptLine) → SourceE e → drop at ws ≡ code (exprLines e rest) → Room s d
       → Finds t (boundTypes s d) (boundLabels s d) e x × (drop (x .next) ws ≡ code rest)
 
 -- r is what a plus, or otherwise a pair of type n, makes of its first operand x and of its second,
@@ -60,7 +60,7 @@ pub record Passes (t Γ : List ℕ) (pc : ℕ) (Δ : List ℕ) (c : Cmd) (x : Pa
 pub record ChecksCmd (ws : List ℕ) (at : ℕ) (t s : List ℕ) (d pc : ℕ) (x : Passed) (s′ : List ℕ) : Type 0 where
   pub onward : at ≤ x .next
   pub kept : Kept s s′ d
-  pub means : (k : Counts) (c : Cmd) (rest : List Line) → Source c → drop at ws ≡ code (cmdLines c rest)
+  pub means : (k : Counts) (c : Cmd) (rest : List ScriptLine) → Source c → drop at ws ≡ code (cmdLines c rest)
       → named k d c ≡ true → Room s d
       → Passes t (boundTypes s d) pc (boundLabels s d) c x × (drop (x .next) ws ≡ code rest)
 

@@ -3,7 +3,7 @@ use mathlib.Core.Path.{sym, ap, _∙_}
 use mathlib.Core.Option.{Option·elim}
 use borrow.Author.Needs.{needs}
 use Rattle.text.proofs.Fields.{set-at, set-bad}
-use Rattle.desk.specs.Internal.Post.{groupAnswer}
+use Rattle.desk.specs.Internal.Post.{parsedGroup}
 use Rattle.desk.specs.Fields.{groupOf}
 use Rattle.desk.proofs.Fields.{only-whole, only-part, only-none}
 use Rattle.desk.proofs.group_line.Statement.{statement}
@@ -15,7 +15,7 @@ returns c =
     let k = c .before .before .before in
     let s = k .before .before .before .before .args .s .now in
     let e = set-at s 0 _ (k .before .before .set .ensures) _ _ (k .m .given .1) in
-    sym (ap groupAnswer (only-whole _ s (k .m .given .0 .0) (k .m .given .0 .1 .0) (e .0)
+    sym (ap parsedGroup (only-whole _ s (k .m .given .0 .0) (k .m .given .0 .1 .0) (e .0)
     (sym (c .before .closes .ensures) ∙ c .if1 .taken)))
 
 returns-2 : tie.Need-returns-2
@@ -24,7 +24,7 @@ returns-2 c =
     let k = c .before .before .before in
     let s = k .before .before .before .before .args .s .now in
     let e = set-at s 0 _ (k .before .before .set .ensures) _ _ (k .m .given .1) in
-    sym (ap groupAnswer
+    sym (ap parsedGroup
     (only-part _ s (k .m .given .0 .0) (k .m .given .0 .1 .0) (e .0) (sym (c .before .closes .ensures) ∙ c .if1 .left)))
 
 returns-3 : tie.Need-returns-3
@@ -32,7 +32,7 @@ unfolding groupOf Option·elim
 returns-3 c =
     let k = c .before .before in
     let s = k .before .before .args .s .now in
-    sym (ap groupAnswer (only-none _ (set-bad s 0 _ (k .set .ensures) (c .enum-told .given .1))))
+    sym (ap parsedGroup (only-none _ (set-bad s 0 _ (k .set .ensures) (c .enum-told .given .1))))
 
 pub group-line-spec : {M : Type 1} → statement M
 group-line-spec = tie.close (tie.spec

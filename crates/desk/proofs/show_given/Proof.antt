@@ -7,7 +7,7 @@ use lib.ListN.{replicate}
 use lib.Seq.{length-take-le}
 use Rattle.memory_text.specs.Sizes.{memoryWords}
 use Rattle.language.specs.World.{cell-words}
-use Rattle.desk.proofs.Outputs.{put-same, part-length, part-is, part-fits, part-count, memory-puts}
+use Rattle.desk.proofs.Outputs.{put-same, front-length, front-is, front-fits, front-count, memory-puts}
 use Rattle.desk.proofs.Givens.{words-length}
 use Rattle.desk.proofs.Shows.{view-shown, view-number}
 use Rattle.desk.proofs.show_given.Statement.{statement}
@@ -26,14 +26,14 @@ array-share-prefix-view : tie.Need-array-share-prefix-view
 array-share-prefix-view c =
     let v = c .before .before .before in
     let t = v .before .before .before .before .before .before in
-    part-fits (t .args .given .count) (v .simp-view .last .1 .1 .1 .0) (replicate memoryWords 0)
+    front-fits (t .args .given .count) (v .simp-view .last .1 .1 .1 .0) (replicate memoryWords 0)
     (v .simp-view .kept .1 .1 .1 .0) (t .pre .0 .few)
 
 slice-aggregate-write-memory : tie.Need-slice-aggregate-write-memory
 slice-aggregate-write-memory c =
     let v = c .before .before .before .before in
     let t = v .before .before .before .before .before .before in
-    part-count (t .args .given .count) (v .simp-view .last .1 .1 .1 .0) (replicate memoryWords 0)
+    front-count (t .args .given .count) (v .simp-view .last .1 .1 .1 .0) (replicate memoryWords 0)
     (v .simp-view .kept .1 .1 .1 .0) (t .pre .0 .few)
 
 returns : tie.Need-returns
@@ -44,12 +44,12 @@ returns c =
     let t = v .before .before .before .before .before .before in
     let g = t .args .given in
     let x = v .simp-view .last .1 .1 .1 .0 in
-    let n = part-length (g .count) x (replicate memoryWords 0) (v .simp-view .kept .1 .1 .1 .0) (t .pre .0 .few) in
+    let n = front-length (g .count) x (replicate memoryWords 0) (v .simp-view .kept .1 .1 .1 .0) (t .pre .0 .few) in
     put-same _ _ _ _ _
     (view-shown (t .args .sheet .now) g _ x (t .pre .0) (v .simp-view .ensures) _ (k .before .number .ensures)
     (k .if1 .taken))
     (memory-puts (t .args .out .now) _ x _ _
-    (part-is (g .count) x (replicate memoryWords 0) (v .simp-view .kept .1 .1 .1 .0) (t .pre .0 .few))
+    (front-is (g .count) x (replicate memoryWords 0) (v .simp-view .kept .1 .1 .1 .0) (t .pre .0 .few))
     (m .write-memory .ensures .0) (m .write-memory .ensures .1) (ap (λ (i : ℕ). i % cell-words) n ∙ t .pre .0 .whole)
     (omega (arith, t .pre .0 .few)) (omega (arith, t .pre .1)))
 

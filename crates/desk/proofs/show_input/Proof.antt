@@ -1,11 +1,11 @@
 -- `desk::show_input` meets its contract.
 use borrow.Author.Needs.{needs}
-use Rattle.desk.specs.Inputs.{showParts, showHeld}
+use Rattle.desk.specs.Inputs.{showTexts, showHeld}
 use Rattle.desk.proofs.show_input.Statement.{statement}
 use Rattle.desk.proofs.show_input.Tie as tie
 
 returns : tie.Need-returns
-unfolding showHeld showParts
+unfolding showHeld showTexts
 returns c =
     let s = c .before .before in
     let t = s .before .before in

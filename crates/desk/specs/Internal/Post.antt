@@ -12,8 +12,8 @@ use Rattle.desk.specs.declared.Group.{Group}
 use Rattle.desk.specs.declared.Group.the-variants as group
 
 -- what a group's text is answered with
-abbrev pub groupAnswer : Option ℕ → Group
-groupAnswer o = Option·elim o group.Refused (λ m. group.Read m)
+abbrev pub parsedGroup : Option ℕ → Group
+parsedGroup o = Option·elim o group.Refused (λ m. group.Read m)
 
 -- whole locations, at most 64
 pub record Whole (g : Given) : Type 0 where

@@ -9,7 +9,7 @@ use Rattle.language.specs.World.{Mem, cell-words}
 use Rattle.language.specs.Substitution.{Env, close}
 use Rattle.language.specs.Evaluation.{Res, ok, long, stuck, eval}
 use Rattle.language.specs.Transition.{Out, done, spent, over, wrong, iterate}
-use Rattle.script.specs.Lines.{Line, Source, cmdLines}
+use Rattle.script.specs.Lines.{ScriptLine, Source, cmdLines}
 use Rattle.script.specs.Internal.Code.{code}
 use Rattle.script.specs.Names.{Counts, named, maxDepth}
 use Rattle.memory.specs.Words.{cell}
@@ -26,7 +26,7 @@ use Rattle.interpreter.specs.declared.commands.Taken.{Taken}
 -- ---- places in the code
 
 -- A command stands at a place, then the rest; it names only what is there.
-pub record CmdAt (p : Place) (k : Counts) (rest : List Line) (c : Cmd) : Type 0 where
+pub record CmdAt (p : Place) (k : Counts) (rest : List ScriptLine) (c : Cmd) : Type 0 where
   pub source : Source c
   pub names : named k (p .depth) c ≡ true
   pub lines : drop (p .at) (p .code) ≡ code (cmdLines c rest)
@@ -37,12 +37,12 @@ pub record CmdAt (p : Place) (k : Counts) (rest : List Line) (c : Cmd) : Type 0 
 -- bind in the cells.
 pub record Target : Type 0 where
   pub code : List ℕ
-  pub rest : List Line
+  pub rest : List ScriptLine
   pub locations : ℕ
   pub depth : ℕ
   pub env : Env
 
-abbrev pub target : Place → Context → List Line → Target
+abbrev pub target : Place → Context → List ScriptLine → Target
 target p C rest =
     record { code = p .code; rest = rest; locations = C .counts .locations; depth = p .depth; env = C .env }
 
@@ -60,7 +60,8 @@ pub data Finishes (g : Target) (d : Stepped) (cells : List ℕ) : Out → Type 0
 pub record Execs (S : Setting) (p : Place) (fuel : ℕ) (d : Stepped) (cells : List ℕ) : Type 0 where
   pub forward : p .at ≤ d .next
   pub spends : d .left ≤ fuel
-  pub means : (C : Context) (M : Mem) (c : Cmd) (rest : List Line) → StandsFor S p C M → CmdAt p (C .counts) rest c
+  pub means : (C : Context) (M : Mem) (c : Cmd) (rest : List ScriptLine) → StandsFor S p C M
+      → CmdAt p (C .counts) rest c
       → Finishes (target p C rest) d cells (iterate (C .world) fuel M (close zero (C .env) c))
 
 -- the transition after a run that is done
@@ -80,7 +81,7 @@ pub record Ticks (d t : Stepped) : Type 0 where
 pub record Assigns (S : Setting) (p : Place) (fuel x : ℕ) (d : Stepped) (cells : List ℕ) : Type 0 where
   pub forward : p .at ≤ d .next
   pub spends : d .left ≤ fuel
-  pub means : (C : Context) (M : Mem) (e : Expr) (rest : List Line) → StandsFor S p C M
+  pub means : (C : Context) (M : Mem) (e : Expr) (rest : List ScriptLine) → StandsFor S p C M
       → ExprAt p (C .counts) rest e → x < C .counts .locations
       → Finishes (target p C rest) d cells (iterate (C .world) fuel M (close zero (C .env) (assign x e)))
 
@@ -108,7 +109,7 @@ choice (suc b) long = choice-long b
 choice (suc b) stuck = choice-stuck
 
 -- State 0, with `on` for left; the value in the accumulator, and the place after the expression.
-pub data Chooses (ws : List ℕ) (rest : List Line) (g : Decided) (cells : List ℕ) : Choice → Type 0 where
+pub data Chooses (ws : List ℕ) (rest : List ScriptLine) (g : Decided) (cells : List ℕ) : Choice → Type 0 where
   goes-left : {v : Value} {b : ℕ} → stateNumber (g .state) ≡ 0 → g .left ≡ b → g .on ≡ true
       → cellOf cells accumulator ≡ cell (inl v) → drop (g .next) ws ≡ code rest → Chooses ws rest g cells (to-left v b)
   goes-right : {v : Value} {b : ℕ} → stateNumber (g .state) ≡ 0 → g .left ≡ b → g .on ≡ false
@@ -123,7 +124,8 @@ pub record Decides (S : Setting) (p : Place) (fuel : ℕ) (g : Decided) (cells :
   pub settled : g .on ≡ true → stateNumber (g .state) ≡ 0
   pub falls : g .on ≡ true → g .left < fuel
   pub kept : drop cell-words cells ≡ drop cell-words (p .cells)
-  pub means : (C : Context) (M : Mem) (e : Expr) (rest : List Line) → StandsFor S p C M → ExprAt p (C .counts) rest e
+  pub means : (C : Context) (M : Mem) (e : Expr) (rest : List ScriptLine) → StandsFor S p C M
+      → ExprAt p (C .counts) rest e
       → Chooses (p .code) rest g cells (choice fuel (eval (C .world) (C .env) M e))
 
 -- The branches of a case, for a left and for a right.
@@ -148,7 +150,7 @@ pub record Branches (S : Setting) (p : Place) (fuel : ℕ) (t : Taken) (cells : 
   pub forward : p .at ≤ t .start
   pub spends : t .left ≤ fuel
   pub shallow : stateNumber (t .state) ≡ 0 → p .depth < maxDepth
-  pub means : (C : Context) (M : Mem) (e : Expr) (cs : Branching) (rest : List Line) → StandsFor S p C M
+  pub means : (C : Context) (M : Mem) (e : Expr) (cs : Branching) (rest : List ScriptLine) → StandsFor S p C M
       → ExprAt p (C .counts) (cmdLines (cs .on-left) (cmdLines (cs .on-right) rest)) e
       → Source (cs .on-left) → p .depth < maxDepth
       → Enters (target p C rest) M cs t cells (choice fuel (eval (C .world) (C .env) M e))

@@ -43,8 +43,8 @@ confidentialityFlows t m l = belowOf (confidentialityOf (joinIn t m)) (confident
 
 -- two bits: bit 1 for the whole; bit 0 for C, or for the whole too where that is asked for alone
 unfoldable pub flowBits : Bool → Bool → Bool → ℕ
-flowBits alone C whole = cond whole 0b11 (cond alone 0b00 (cond C 0b01 0b00))
+flowBits wholly C whole = cond whole 0b11 (cond wholly 0b00 (cond C 0b01 0b00))
 
 -- how much of that label is at or below label l
 unfoldable pub flowsIn : List ℕ → ℕ → ℕ → Bool → ℕ
-flowsIn t m l alone = flowBits alone (confidentialityFlows t m l) (wholeFlows t m l)
+flowsIn t m l wholly = flowBits wholly (confidentialityFlows t m l) (wholeFlows t m l)

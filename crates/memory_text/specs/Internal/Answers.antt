@@ -12,7 +12,7 @@ use Rattle.language.specs.World.{cell-words}
 use Rattle.memory_text.specs.Sizes.{lineRoom}
 use Rattle.memory_text.specs.Sizes.{memoryWords}
 use Rattle.memory_text.specs.declared.Memory.{Memory}
-use Rattle.memory_text.specs.declared.Answer.the-variants as answer
+use Rattle.memory_text.specs.declared.Parsed.the-variants as parsed
 use Rattle.memory_text.specs.declared.Reached.{Reached}
 use Rattle.memory_text.specs.Printing.{memoryText}
 use Rattle.sheet.specs.Padding.{padded}
@@ -22,8 +22,8 @@ use Rattle.logic.specs.Booleans.{both}
 -- a location that is read in s at byte i, with the place after it; after a refusal, i itself
 abbrev pub placedRow : ℕ → List ℕ → Read (List ℕ) → Reached
 placedRow i s want =
-    placed (λ ws p. record { row = record { answer = answer.Read; words = ws }; at = p })
-    (record { row = record { answer = answer.Refused; words = replicate cell-words 0 }; at = i }) s want
+    placed (λ ws p. record { row = record { parsed = parsed.Read; words = ws }; at = p })
+    (record { row = record { parsed = parsed.Refused; words = replicate cell-words 0 }; at = i }) s want
 
 -- the location whose line stands at byte i of s
 abbrev pub locationAt : List ℕ → ℕ → Reached
@@ -31,11 +31,11 @@ locationAt s i = placedRow i s (location (drop i s))
 
 -- the number of locations and their words, with zeros up to 64 locations, or the refusal
 unfoldable pub table : Read (List ℕ) → Memory
-table (got ws _) = record { answer = answer.Read; count = length ws / cell-words; words = padded memoryWords ws }
-table bad = record { answer = answer.Refused; count = 0; words = replicate memoryWords 0 }
+table (got ws _) = record { parsed = parsed.Read; count = length ws / cell-words; words = padded memoryWords ws }
+table bad = record { parsed = parsed.Refused; count = 0; words = replicate memoryWords 0 }
 
-unfoldable pub memoryAnswer : List ℕ → Memory
-memoryAnswer t = table (memory t)
+unfoldable pub parsedMemory : List ℕ → Memory
+parsedMemory t = table (memory t)
 
 -- 16 words for each location, and 176 bytes of buffer for its line
 abbrev pub printable : List ℕ → List ℕ → Bool

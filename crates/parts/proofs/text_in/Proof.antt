@@ -3,7 +3,7 @@ use mathlib.Core.Path.{_≡_}
 use native.Mathlib.Omega.{arith}
 use borrow.Author.Needs.{needs}
 use lib.ListN.{length}
-use Rattle.parts.proofs.Places.{text-past, text-beyond, text-rest, text-part}
+use Rattle.parts.proofs.Places.{text-past, text-beyond, text-rest, text-held}
 use Rattle.parts.proofs.text_in.Statement.{statement}
 use Rattle.parts.proofs.text_in.Tie as tie
 
@@ -24,7 +24,7 @@ returns-3 c =
     text-rest (a .state) (a .buffer .now) (a .i) (c .before .before .if2 .left) (omega (arith, c .before .if3 .taken))
 
 returns-4 : tie.Need-returns-4
-returns-4 c = let a = c .before .before .before .before .before .args in text-part (a .state) (a .buffer .now) (a .i)
+returns-4 c = let a = c .before .before .before .before .before .args in text-held (a .state) (a .buffer .now) (a .i)
 
 pub text-in-spec : {M : Type 1} → statement M
 text-in-spec = tie.close (tie.spec

@@ -9,9 +9,9 @@ use Rattle.sheet.specs.Sheet.{Sheet}
 use Rattle.stages.specs.Calls.{numberOf}
 use Rattle.stages.specs.Internal.Stages.{TableOf, OfVerdict, numberIn}
 use Rattle.stages.proofs.StageLaws.{accepted-verdict}
-use Rattle.scripts.specs.Parting.{partsOf}
-use Rattle.scripts.specs.Internal.Places.{partsAfter}
-use Rattle.scripts.proofs.Places.{PartAt, StartsAt, parts-all, first-starts, next-starts, none-left}
+use Rattle.scripts.specs.Parting.{scriptTexts}
+use Rattle.scripts.specs.Internal.Places.{scriptTextsAfter}
+use Rattle.scripts.proofs.Places.{TextAt, StartsAt, texts-all, first-starts, next-starts, none-left}
 use Rattle.rounds.specs.Calls.{lower, lowest}
 use Rattle.rounds.specs.Internal.Stages.{lowestIn}
 use Rattle.rounds.proofs.LowerLaws.{lower-left, lower-right, lowest-over, lowest-on, lower-verdict}
@@ -25,9 +25,9 @@ abbrev Inv-loop : tie.InvT-loop
 Inv-loop scripts table ends number₀ i₀ at₀ number i at =
     StartsAt scripts i at
     × ((s : Sheet) → TableOf table s
-    → lower number (lowest (numberOf s) (partsAfter scripts at)) ≡ lowest (numberOf s) (partsOf scripts))
+    → lower number (lowest (numberOf s) (scriptTextsAfter scripts at)) ≡ lowest (numberOf s) (scriptTexts scripts))
     × ((v : ℕ) × OfVerdict v
-    × (lower number (lowest (numberIn 0 table) (partsAfter scripts at)) ≡ lowestIn v table (partsOf scripts)))
+    × (lower number (lowest (numberIn 0 table) (scriptTextsAfter scripts at)) ≡ lowestIn v table (scriptTexts scripts)))
 
 abbrev μ-loop : tie.MeasureT-loop
 μ-loop scripts table ends number₀ i₀ at₀ number i at = length scripts + 1 - at
@@ -35,13 +35,13 @@ abbrev μ-loop : tie.MeasureT-loop
 loop-holds : tie.Need-loop-holds Inv-loop μ-loop
 loop-holds c = (
   first-starts _,
-  λ s T. lower-right 0 _ refl ∙ ap (lowest (numberOf s)) (parts-all _),
-  (0, accepted-verdict, lowest-in-first _ _ ∙ ap (lowestIn 0 _) (parts-all _)),
+  λ s T. lower-right 0 _ refl ∙ ap (lowest (numberOf s)) (texts-all _),
+  (0, accepted-verdict, lowest-in-first _ _ ∙ ap (lowestIn 0 _) (texts-all _)),
 )
 
 -- the script that starts here, and its place
 here : (c : tie.In-loop Inv-loop μ-loop)
-    → PartAt (c .before .before .before .before .args .scripts .now) (c .before .loop .at)
+    → TextAt (c .before .before .before .before .args .scripts .now) (c .before .loop .at)
     (getD (c .before .before .before .before .args .t2) (c .before .loop .i) 0)
 here c =
     script-at _ _ _ _ _ (c .before .before .before .before .pre) (c .before .loop .inv .0) (c .loop-test .taken) refl
@@ -65,13 +65,13 @@ loop-again c =
       λ s T.
           rw (c .lower .ensures, check .check-on .ensures .checked s T)
           (sym (lowest-on (numberOf s) (at .loop .number) _ _)
-          ∙ ap (λ (ts : List (List ℕ)). lower (at .loop .number) (lowest (numberOf s) ts)) (sym (p .parts))
+          ∙ ap (λ (ts : List (List ℕ)). lower (at .loop .number) (lowest (numberOf s) ts)) (sym (p .texts))
           ∙ at .loop .inv .1 s T),
       (
         lower v w,
         lower-verdict v w of of-w,
         rw (c .lower .ensures, is-w)
-            (lowest-in-on _ (at .loop .number) v w of-w _ _ _ _ (p .parts) is),
+            (lowest-in-on _ (at .loop .number) v w of-w _ _ _ _ (p .texts) is),
       ),
     )
 
@@ -79,7 +79,7 @@ returns : tie.Need-returns Inv-loop μ-loop
 returns c =
     let at = c .before in
     let over : (number : List ℕ → ℕ) → at .loop .number
-    ≡ lower (at .loop .number) (lowest number (partsAfter _ (at .loop .at))) =
+    ≡ lower (at .loop .number) (lowest number (scriptTextsAfter _ (at .loop .at))) =
     λ number. sym (lower-left (at .loop .number) (lowest number []) (lowest-over number))
     ∙ ap (λ (ts : List (List ℕ)). lower (at .loop .number) (lowest number ts))
     (sym (none-left _ _ _ (at .loop .inv .0) (c .loop-test .left))) in

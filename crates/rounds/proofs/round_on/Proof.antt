@@ -4,9 +4,9 @@ use Prim.Native.Nat.{ℕ, zero, suc, _≤_}
 use lib.ListN.{length, getD, replicate}
 use borrow.Author.Tests.{not-true, not-false}
 use Rattle.sets.specs.Sets.{within}
-use Rattle.scripts.specs.declared.Parts.{Parts}
-use Rattle.scripts.specs.Parting.{partsOf, mostScripts}
-use Rattle.scripts.proofs.Places.{few-parts, many-parts}
+use Rattle.scripts.specs.declared.Parting.{Parting}
+use Rattle.scripts.specs.Parting.{scriptTexts, mostScripts}
+use Rattle.scripts.proofs.Places.{few-scripts, many-scripts}
 use Rattle.rounds.proofs.StageLaws.{round-stranger, round-many, round-played}
 use borrow.Author.Needs.{needs}
 use Rattle.rounds.proofs.round_on.Statement.{statement}
@@ -27,15 +27,16 @@ returns-2 c =
     (round-many _ _ _ _ _
     (ap (within _) (sym (e .before .before .everyone .ensures)) ∙ sym (e .before .contained .ensures)
     ∙ not-false _ (e .if1 .left))
-    (many-parts _ _ (ap (λ (p : Parts). p .count) (n .part .ensures)) (c .before .if2 .taken)))
+    (many-scripts _ _ (ap (λ (p : Parting). p .count) (n .part .ensures)) (c .before .if2 .taken)))
 
 -- where the scripts were parted, and that each has a place
 abbrev the : tie.Else2 → tie.After-part
 the c = c .before .before .before
 
 few : (c : tie.Else2)
-    → length (partsOf (the c .before .before .before .before .before .before .before .args .scripts .now)) ≤ mostScripts
-few c = few-parts _ _ (ap (λ (p : Parts). p .count) (the c .part .ensures)) (c .if2 .left)
+    → length
+    (scriptTexts (the c .before .before .before .before .before .before .before .args .scripts .now)) ≤ mostScripts
+few c = few-scripts _ _ (ap (λ (p : Parting). p .count) (the c .part .ensures)) (c .if2 .left)
 
 -- zeros in every place: open
 every-zero : (n i : ℕ) → _≡_ {A = ℕ} (getD (replicate n 0) i 0) 0
@@ -67,7 +68,7 @@ round-on-spec = tie.close (tie.spec
     let n = the (c .before) in
     record {
       few = few (c .before);
-      kept = ap (λ (p : Parts). p .ends) (n .part .ensures);
+      kept = ap (λ (p : Parting). p .ends) (n .part .ensures);
     })  -- play-requires
     (λ c. search needs)  -- same-length
     returns-3)

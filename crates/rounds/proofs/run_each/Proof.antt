@@ -3,7 +3,7 @@ use mathlib.Core.Path.{_≡_, refl, _∙_}
 use Prim.Native.Nat.{_+_, _-_, _≤_}
 use native.Mathlib.Omega.{arith}
 use lib.ListN.{length, getD}
-use Rattle.scripts.proofs.Places.{PartAt, StartsAt, first-starts, next-starts, none-left}
+use Rattle.scripts.proofs.Places.{TextAt, StartsAt, first-starts, next-starts, none-left}
 use Rattle.rounds.proofs.RunLaws.{script-at, place-at, Goes, goes-first, goes-on, goes-over}
 use borrow.Author.Needs.{needs}
 use Rattle.rounds.proofs.run_each.Statement.{statement}
@@ -20,7 +20,7 @@ abbrev μ-loop : tie.MeasureT-loop
 
 -- the script that starts here, and its place
 here : (c : tie.In-loop Inv-loop μ-loop)
-    → PartAt (c .before .before .before .before .before .args .scripts .now) (c .before .loop .at)
+    → TextAt (c .before .before .before .before .before .args .scripts .now) (c .before .loop .at)
     (getD (c .before .before .before .before .before .args .t2) (c .before .loop .i) 0)
 here c = script-at _ _ _ _ _ (c .before .before .before .before .before .pre) (c .before .loop .inv .0)
     (c .loop-test .taken) refl

@@ -10,14 +10,14 @@ use Rattle.memory.specs.Internal.InTable.{refusalIn}
 use Rattle.stages.specs.Answers.{Ran, refusedRun}
 use Rattle.stages.specs.Calls.{unless, strangers, numberOf, runOn}
 use Rattle.stages.specs.Internal.Stages.{TableOf, Spares, OfVerdict, OfState, strangersIn, numberIn}
-use Rattle.scripts.specs.Parting.{partsOf, mostScripts}
+use Rattle.scripts.specs.Parting.{scriptTexts, mostScripts}
 use Rattle.scripts.specs.Internal.Places.{keptEnds}
 use Rattle.rounds.specs.Answers.{RanRound, refusedRound, roundFrom, Gate, allOpen}
 use Rattle.rounds.specs.Calls.{tooMany, lower, lowest, runEach}
 
 -- each script of a text has a place, and there its end is kept
 pub record Parted (scripts ends : List ℕ) : Type 0 where
-  pub few : length (partsOf scripts) ≤ mostScripts
+  pub few : length (scriptTexts scripts) ≤ mostScripts
   pub kept : ends ≡ keptEnds scripts
 
 -- the script in place i by a gate, on a sheet that isn't refused
@@ -62,8 +62,8 @@ roundIn verdict run t ts memory authority =
 -- ---- what the functions ensure
 
 pub record NumbersAll (scripts t : List ℕ) (r : ℕ) : Type 0 where
-  pub numbered : (s : Sheet) → TableOf t s → r ≡ lowest (numberOf s) (partsOf scripts)
-  pub in-table : (verdict : ℕ) × OfVerdict verdict × (r ≡ lowestIn verdict t (partsOf scripts))
+  pub numbered : (s : Sheet) → TableOf t s → r ≡ lowest (numberOf s) (scriptTexts scripts)
+  pub in-table : (verdict : ℕ) × OfVerdict verdict × (r ≡ lowestIn verdict t (scriptTexts scripts))
 
 -- An accepted script, on a memory that isn't refused: its run, and the memory that it leaves isn't refused either.
 pub record RunsScript (script t memory : List ℕ) (authority budget : ℕ) (r : Ran) : Type 0 where
@@ -82,9 +82,9 @@ pub record RunsTurn (script : List ℕ) (number : ℕ) (t memory : List ℕ) (au
 
 pub record RunsEach (scripts gates t memory : List ℕ) (authority budget : ℕ) (r : RanRound) : Type 0 where
   pub done : r .answer ≡ 0
-  pub ran : (s : Sheet) → TableOf t s → strangers s authority ≡ 0 → lowest (numberOf s) (partsOf scripts) ≡ 0
+  pub ran : (s : Sheet) → TableOf t s → strangers s authority ≡ 0 → lowest (numberOf s) (scriptTexts scripts) ≡ 0
       → memoryRefusal s memory ≡ 0
-      → r ≡ ranOn (gateIn gates) s authority budget (partsOf scripts) memory
+      → r ≡ ranOn (gateIn gates) s authority budget (scriptTexts scripts) memory
 
 -- Whatever the table is, a refused round has zeros in every place and leaves the memory.
 abbrev pub SparesRound : List ℕ → RanRound → Type 0
@@ -93,15 +93,15 @@ SparesRound memory r = (r .answer ≡ 0 → ⊥) → r ≡ refusedRound memory (
 pub record Plays (scripts gates t memory : List ℕ) (authority budget : ℕ) (r : RanRound) : Type 0 where
   pub refused : SparesRound memory r
   pub played : (s : Sheet) → TableOf t s → strangers s authority ≡ 0
-      → r ≡ playedOn (gateIn gates) s authority budget (partsOf scripts) memory
+      → r ≡ playedOn (gateIn gates) s authority budget (scriptTexts scripts) memory
   pub in-table : (verdict : ℕ) × OfVerdict verdict × (run : RanRound) × (run .answer ≡ 0)
-      × (r ≡ playedIn verdict run t (partsOf scripts) memory)
+      × (r ≡ playedIn verdict run t (scriptTexts scripts) memory)
 
 pub record RoundsOn (scripts t memory : List ℕ) (authority budget : ℕ) (r : RanRound) : Type 0 where
   pub refused : SparesRound memory r
   pub played : (s : Sheet) → TableOf t s
       → r ≡ unless (refusedRound memory) (strangers s authority) (
-      unless (refusedRound memory) (tooMany (partsOf scripts)) (
-      playedOn allOpen s authority budget (partsOf scripts) memory))
+      unless (refusedRound memory) (tooMany (scriptTexts scripts)) (
+      playedOn allOpen s authority budget (scriptTexts scripts) memory))
   pub in-table : (verdict : ℕ) × OfVerdict verdict × (run : RanRound) × (run .answer ≡ 0)
-      × (r ≡ roundIn verdict run t (partsOf scripts) memory authority)
+      × (r ≡ roundIn verdict run t (scriptTexts scripts) memory authority)

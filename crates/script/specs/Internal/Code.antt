@@ -6,7 +6,7 @@ use lib.Dec.{leb}
 use lib.ListN.{length, getD}
 use Rattle.language.specs.Syntax.{pick}
 use Rattle.script.specs.declared.Row.{Row}
-use Rattle.script.specs.Lines.{Line, l-skip, l-seq, l-assign, l-while, l-case, l-int, l-loc, l-var, l-plus}
+use Rattle.script.specs.Lines.{ScriptLine, l-skip, l-seq, l-assign, l-while, l-case, l-int, l-loc, l-var, l-plus}
 use Rattle.script.specs.Lines.{l-left, l-right, l-pack, l-unpack, l-pair, l-proj}
 
 -- a row by its words
@@ -14,7 +14,7 @@ abbrev pub rowWith : ℕ → ℕ → ℕ → Row
 rowWith k a b = record { kind = k; a = a; b = b }
 
 -- the row of a line
-unfoldable pub rowOf : Line → Row
+unfoldable pub rowOf : ScriptLine → Row
 rowOf l-skip = rowWith 1 0 0
 rowOf l-seq = rowWith 2 0 0
 rowOf (l-assign x) = rowWith 3 x 0
@@ -32,7 +32,7 @@ rowOf (l-pair t) = rowWith 14 t 0
 rowOf (l-proj p) = rowWith (pick p 15 16) 0 0
 
 -- the code of lines
-unfoldable pub code : List Line → List ℕ
+unfoldable pub code : List ScriptLine → List ℕ
 code [] = []
 code (l ∷ ls) = rowOf l .kind ∷ rowOf l .a ∷ rowOf l .b ∷ code ls
 

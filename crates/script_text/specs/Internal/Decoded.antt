@@ -5,15 +5,15 @@ use mathlib.Core.Option.{Option, none, some}
 use Prim.Native.Nat.{ℕ, _*_}
 use lib.ListN.{length, replicate}
 use Rattle.language.specs.Syntax.{Script}
-use Rattle.script.specs.Lines.{Line, cmdLines}
+use Rattle.script.specs.Lines.{ScriptLine, cmdLines}
 use Rattle.script.specs.Internal.Code.{code}
 use Rattle.script.specs.Names.{Counts, maxLines}
 use Rattle.sheet.specs.Padding.{padded}
 use Rattle.sheet.specs.Internal.Starts.{startNo}
 use Rattle.sheet.specs.Internal.Tables.{typesIn, labelsIn, locationsIn}
 use Rattle.script_text.specs.Reading.{Written}
-use Rattle.script_text.specs.declared.Answer.{Answer}
-use Rattle.script_text.specs.declared.Answer.the-variants as answer
+use Rattle.script_text.specs.declared.ParsedScript.{ParsedScript}
+use Rattle.script_text.specs.declared.ParsedScript.the-variants as parsed
 
 -- how many types, labels and locations there are by what a table says
 abbrev pub countsIn : List ℕ → Counts
@@ -26,20 +26,20 @@ codeWords = 3 * maxLines
 -- The answer to a text, how many lines its command has, the number of the label that it starts at, and what the lent
 -- words then hold.
 pub record Decoded : Type 0 where
-  pub answer : Answer
+  pub parsed : ParsedScript
   pub count : ℕ
   pub start : ℕ
   pub code : List ℕ
 
 -- the answer to a refused text
 unfoldable pub noCode : Decoded
-noCode = record { answer = answer.Refused; count = 0; start = startNo none; code = replicate codeWords 0 }
+noCode = record { parsed = parsed.Refused; count = 0; start = startNo none; code = replicate codeWords 0 }
 
 -- the answer to lines after a start: how many they are, and their code
-unfoldable pub coded : ℕ → List Line → Decoded
-coded start ls = record { answer = answer.Read; count = length ls; start = start; code = padded codeWords (code ls) }
+unfoldable pub coded : ℕ → List ScriptLine → Decoded
+coded start ls = record { parsed = parsed.Read; count = length ls; start = start; code = padded codeWords (code ls) }
 
-unfoldable pub codedLines : ℕ → Option (List Line) → Decoded
+unfoldable pub codedLines : ℕ → Option (List ScriptLine) → Decoded
 codedLines start none = noCode
 codedLines start (some ls) = coded start ls
 

@@ -4,8 +4,8 @@ use mathlib.Core.List.{List, [], _∷_}
 use mathlib.Core.Option.{Option, none, some}
 use Rattle.language.specs.Syntax.{int, Expr, val, loc, var, plus, left, right, pack, unpack, pairing, proj, Cmd, skip}
 use Rattle.language.specs.Syntax.{seq, assign, while, case}
-use Rattle.script.specs.Lines.{Line, l-skip, l-seq, l-assign, l-while, l-case, l-int, l-loc, l-var, l-plus, l-left}
-use Rattle.script.specs.Lines.{l-right, l-pack, l-unpack, l-pair, l-proj}
+use Rattle.script.specs.Lines.{ScriptLine, l-skip, l-seq, l-assign, l-while, l-case, l-int, l-loc, l-var, l-plus}
+use Rattle.script.specs.Lines.{l-left, l-right, l-pack, l-unpack, l-pair, l-proj}
 
 pub data Tree : Type 0 where
   ex : Expr → Tree
@@ -27,7 +27,7 @@ popC (ex e ∷ st) k = none
 popC (cm c ∷ st) k = k c st
 
 -- a line takes its operands from the stack and leaves its expression or command there
-unfoldable pub onStack : Line → Stack → Option Stack
+unfoldable pub onStack : ScriptLine → Stack → Option Stack
 onStack l-skip st = some (cm skip ∷ st)
 onStack l-seq st = popC st (λ a u. popC u (λ b w. some (cm (seq a b) ∷ w)))
 onStack (l-assign x) st = popE st (λ e u. some (cm (assign x e) ∷ u))
@@ -44,11 +44,11 @@ onStack (l-unpack t l) st = popE st (λ a u. some (ex (unpack t l a) ∷ u))
 onStack (l-pair t) st = popE st (λ a u. popE u (λ b w. some (ex (pairing t a b) ∷ w)))
 onStack (l-proj p) st = popE st (λ a u. some (ex (proj p a) ∷ u))
 
-unfoldable pub pushOn : Line → Option Stack → Option Stack
+unfoldable pub pushOn : ScriptLine → Option Stack → Option Stack
 pushOn l none = none
 pushOn l (some st) = onStack l st
 
-unfoldable pub stackOf : List Line → Option Stack
+unfoldable pub stackOf : List ScriptLine → Option Stack
 stackOf [] = some []
 stackOf (l ∷ ls) = pushOn l (stackOf ls)
 
@@ -60,5 +60,5 @@ onlyCommand (some (ex e ∷ st)) = none
 onlyCommand (some (cm c ∷ [])) = some c
 onlyCommand (some (cm c ∷ x ∷ st)) = none
 
-unfoldable pub parse : List Line → Option Cmd
+unfoldable pub parse : List ScriptLine → Option Cmd
 parse ls = onlyCommand (stackOf ls)

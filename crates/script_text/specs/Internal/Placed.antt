@@ -5,7 +5,7 @@ use lib.ListN.{drop}
 use Rattle.text.specs.Reading.{Read}
 use Rattle.text.specs.Internal.Place.{placed}
 use Rattle.language.specs.Syntax.{Opening}
-use Rattle.script.specs.Lines.{Line, openingLines}
+use Rattle.script.specs.Lines.{ScriptLine, openingLines}
 use Rattle.script.specs.Internal.Code.{rowOf}
 use Rattle.sheet.specs.Internal.Starts.{startNo}
 use Rattle.script_text.specs.declared.Found.{Found}
@@ -17,7 +17,7 @@ use Rattle.script_text.specs.declared.Opened.the-variants as opened
 use Rattle.script_text.specs.Reading.{lineOf}
 
 -- a line that is read in s, with its place
-abbrev pub placedLine : List ℕ → Read Line → Found
+abbrev pub placedLine : List ℕ → Read ScriptLine → Found
 placedLine s want = placed (λ l p. found.At (rowOf l .kind) (rowOf l .a) (rowOf l .b) p) found.Refused s want
 
 -- what is read at byte i, and the byte after it; after a refusal, i itself

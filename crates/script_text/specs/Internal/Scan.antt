@@ -7,7 +7,7 @@ use Prim.Native.Nat.{ℕ, _≤_}
 use lib.Dec.{eqb, ltb}
 use lib.ListN.{drop}
 use Rattle.logic.specs.Booleans.{both, either}
-use Rattle.script.specs.Lines.{Line}
+use Rattle.script.specs.Lines.{ScriptLine}
 use Rattle.script.specs.Internal.Code.{code}
 use Rattle.script.specs.Internal.Balance.{closes}
 use Rattle.script.specs.Internal.Pieces.{Sort, expression, command, Tree, SourceOf, linesOf}
@@ -19,10 +19,11 @@ use Rattle.script_text.specs.Script.{commandOf}
 -- exactly if it is there.
 pub record Scans (s : Sort) (names : Tree s → Bool) (ws : List ℕ) (at : ℕ) (r : Scanned) : Type 0 where
   pub forward : at ≤ r .next
-  pub sound : (ls : List Line) → drop at ws ≡ code ls → r .ok ≡ true
-      → (x : Tree s) × (rest : List Line) × SourceOf s x × (names x ≡ true) × (ls ≡ linesOf s x rest)
+  pub sound : (ls : List ScriptLine) → drop at ws ≡ code ls → r .ok ≡ true
+      → (x : Tree s) × (rest : List ScriptLine) × SourceOf s x × (names x ≡ true) × (ls ≡ linesOf s x rest)
       × (drop (r .next) ws ≡ code rest)
-  pub complete : (x : Tree s) (rest : List Line) → SourceOf s x → names x ≡ true → drop at ws ≡ code (linesOf s x rest)
+  pub complete : (x : Tree s) (rest : List ScriptLine) → SourceOf s x → names x ≡ true
+      → drop at ws ≡ code (linesOf s x rest)
       → (r .ok ≡ true) × (drop (r .next) ws ≡ code rest)
 
 -- an expression below d cases, all of whose names are there
@@ -42,7 +43,7 @@ namesThere k kind a b =
 
 -- whether lines are as many as their kinds ask for
 abbrev pub Balanced : List ℕ → Bool → Type 0
-Balanced ws r = (ls : List Line) → ws ≡ code ls → r ≡ closes 1 ls
+Balanced ws r = (ls : List ScriptLine) → ws ≡ code ls → r ≡ closes 1 ls
 
 unfoldable pub isSome : {A : Type 0} → Option A → Bool
 isSome none = false
@@ -50,4 +51,4 @@ isSome (some x) = true
 
 -- whether the code is that of one command whose names are there
 abbrev pub Whole : Counts → List ℕ → Bool → Type 0
-Whole k ws r = (ls : List Line) → ws ≡ code ls → r ≡ isSome (commandOf k ls)
+Whole k ws r = (ls : List ScriptLine) → ws ≡ code ls → r ≡ isSome (commandOf k ls)

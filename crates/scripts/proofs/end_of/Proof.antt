@@ -3,13 +3,13 @@ use Prim.Native.Nat.{_+_, _-_}
 use mathlib.Core.Path.{_≡_, refl, sym, _∙_}
 use borrow.Author.Needs.{needs}
 use lib.ListN.{length, drop}
-use Rattle.scripts.specs.Internal.Places.{partLength, partEnd}
+use Rattle.scripts.specs.Internal.Places.{scriptLength, scriptEnd}
 use Rattle.scripts.proofs.Places.{walk-ends, walk-on, walk-over}
 use Rattle.scripts.proofs.end_of.Statement.{statement}
 use Rattle.scripts.proofs.end_of.Tie as tie
 
 abbrev Inv-loop : tie.InvT-loop
-Inv-loop text from at₀ start₀ at start = at + partLength start (drop at text) ≡ partEnd text from
+Inv-loop text from at₀ start₀ at start = at + scriptLength start (drop at text) ≡ scriptEnd text from
 
 abbrev μ-loop : tie.MeasureT-loop
 μ-loop text from at₀ start₀ at start = length text - at
@@ -32,7 +32,7 @@ returns-2 c =
     sym (walk-over (at .before .args .text .now) (at .loop .at) (at .loop .start) (c .loop-test .left)) ∙ at .loop .inv
 
 pub end-of-spec : {M : Type 1} → statement M
-unfolding partEnd
+unfolding scriptEnd
 end-of-spec = tie.close (tie.spec
     Inv-loop
     μ-loop

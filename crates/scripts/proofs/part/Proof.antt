@@ -5,8 +5,8 @@ use native.Mathlib.Omega.{arith}
 use lib.ListN.{length, length-set}
 use lib.Seq.{sets}
 use borrow.Author.Needs.{needs}
-use Rattle.scripts.specs.Internal.Places.{partsAfter, endsFrom, keptEnds}
-use Rattle.scripts.proofs.Places.{PartAt, part-at, StartsAt, first-starts, first-kept, next-starts, next-kept}
+use Rattle.scripts.specs.Internal.Places.{scriptTextsAfter, endsFrom, keptEnds}
+use Rattle.scripts.proofs.Places.{TextAt, text-at, StartsAt, first-starts, first-kept, next-starts, next-kept}
 use Rattle.scripts.proofs.Places.{parted-all, parted-many}
 use Rattle.scripts.proofs.part.Statement.{statement}
 use Rattle.scripts.proofs.part.Tie as tie
@@ -14,16 +14,16 @@ use Rattle.scripts.proofs.part.Tie as tie
 abbrev Inv-loop : tie.InvT-loop
 Inv-loop text ends₀ count₀ at₀ ends count at =
     (count ≤ 32) × (length ends ≡ 32) × StartsAt text count at
-    × (sets ends count (endsFrom at (partsAfter text at)) ≡ keptEnds text)
+    × (sets ends count (endsFrom at (scriptTextsAfter text at)) ≡ keptEnds text)
 
 abbrev μ-loop : tie.MeasureT-loop
 μ-loop text ends₀ count₀ at₀ ends count at = length text + 1 - at
 
 -- the script that starts here
 here : (c : tie.After-end-of Inv-loop μ-loop)
-    → PartAt (c .before .before .before .before .before .args .text .now) (c .before .before .before .loop .at)
+    → TextAt (c .before .before .before .before .before .args .text .now) (c .before .before .before .loop .at)
     (c .end-of .result)
-here c = part-at _ _ _ (c .before .before .loop-test .taken) (c .end-of .ensures)
+here c = text-at _ _ _ (c .before .before .loop-test .taken) (c .end-of .ensures)
 
 returns : tie.Need-returns Inv-loop μ-loop
 returns c =

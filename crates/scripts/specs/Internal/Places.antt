@@ -6,20 +6,20 @@ use lib.Dec.{eqb, leb}
 use lib.ListN.{length, drop, replicate}
 use lib.Seq.{sets}
 use Rattle.logic.specs.Booleans.{both}
-use Rattle.scripts.specs.Parting.{partsOf, mostScripts}
+use Rattle.scripts.specs.Parting.{scriptTexts, mostScripts}
 
 -- how many bytes there are up to the next empty line, or to the end; `start`: a line starts here
-unfoldable pub partLength : Bool → List ℕ → ℕ
-partLength start [] = 0
-partLength start (b ∷ t) = cond (both start (eqb b 10)) 0 (suc (partLength (eqb b 10) t))
+unfoldable pub scriptLength : Bool → List ℕ → ℕ
+scriptLength start [] = 0
+scriptLength start (b ∷ t) = cond (both start (eqb b 10)) 0 (suc (scriptLength (eqb b 10) t))
 
 -- where the part that starts at `from` ends
-unfoldable pub partEnd : List ℕ → ℕ → ℕ
-partEnd text from = from + partLength true (drop from text)
+unfoldable pub scriptEnd : List ℕ → ℕ → ℕ
+scriptEnd text from = from + scriptLength true (drop from text)
 
 -- the parts that start at `from` and later: none past the end of the text
-unfoldable pub partsAfter : List ℕ → ℕ → List (List ℕ)
-partsAfter text from = cond (leb from (length text)) (partsOf (drop from text)) []
+unfoldable pub scriptTextsAfter : List ℕ → ℕ → List (List ℕ)
+scriptTextsAfter text from = cond (leb from (length text)) (scriptTexts (drop from text)) []
 
 -- where parts end that follow one another from a place on, with one byte between two
 unfoldable pub endsFrom : ℕ → List (List ℕ) → List ℕ
@@ -28,8 +28,8 @@ endsFrom at (p ∷ ps) = (at + length p) ∷ endsFrom (at + length p + 1) ps
 
 -- the ends of a text's parts, those that have a place; zeros in the places past the last
 unfoldable pub keptEnds : List ℕ → List ℕ
-keptEnds text = sets (replicate mostScripts 0) 0 (endsFrom 0 (partsOf text))
+keptEnds text = sets (replicate mostScripts 0) 0 (endsFrom 0 (scriptTexts text))
 
 -- how many parts a text has, counted up to one more than have a place
-unfoldable pub partsCounted : List ℕ → ℕ
-partsCounted text = min (suc mostScripts) (length (partsOf text))
+unfoldable pub scriptsCounted : List ℕ → ℕ
+scriptsCounted text = min (suc mostScripts) (length (scriptTexts text))

@@ -3,7 +3,7 @@ use mathlib.Core.Path.{sym, ap₂, _∙_}
 use borrow.Author.Needs.{needs}
 use Prim.Native.Nat.{ℕ}
 use Rattle.labels.specs.Internal.Tables.{labelAt}
-use Rattle.labels.specs.Labels.{readsOf}
+use Rattle.labels.specs.Labels.{readsPooledOf}
 use Rattle.labels.specs.declared.Label.{Label}
 use Rattle.sheet.proofs.Entries.{label-there, label-past}
 use Rattle.sheet.proofs.reads_pooled.Statement.{statement}
@@ -14,18 +14,18 @@ returns c =
     let b = c .before .before .before in
     let n = b .before .before in
     let g = n .before .before .args .group in
-    c .reads .ensures
-    ∙ ap₂ (λ (k : ℕ) (a : Label). readsOf k g a) (n .principals .ensures)
+    c .reads-pooled .ensures
+    ∙ ap₂ (λ (k : ℕ) (a : Label). readsPooledOf k g a) (n .principals .ensures)
     (c .before .bottom .ensures
     ∙ sym (label-past _ _ (b .before .labels .ensures) (c .before .before .everyone .ensures) (b .if1 .taken)))
 
 returns-2 : tie.Need-returns-2
-unfolding readsOf labelAt
+unfolding readsPooledOf labelAt
 returns-2 c =
     let n = c .before .before .before in
     let g = n .before .before .args .group in
     c .meets-at .ensures
-    ∙ ap₂ (λ (k : ℕ) (a : Label). readsOf k g a) (n .principals .ensures)
+    ∙ ap₂ (λ (k : ℕ) (a : Label). readsPooledOf k g a) (n .principals .ensures)
     (sym (label-there _ _ (c .before .before .labels .ensures) (c .before .if1 .left)))
 
 pub reads-pooled-spec : {M : Type 1} → statement M
@@ -35,7 +35,7 @@ reads-pooled-spec = tie.close (tie.spec
     (λ c κs. search needs)  -- labels-requires
     (λ c κs. search needs)  -- everyone-requires
     (λ c κs. search needs)  -- bottom-requires
-    (λ c κs. search needs)  -- reads-requires
+    (λ c κs. search needs)  -- reads-pooled-requires
     returns
     (λ c. search needs)  -- mul-meets-at
     (λ c. search needs)  -- add-meets-at

@@ -3,17 +3,17 @@
 use mathlib.Core.List.{List, [], _∷_, _++_}
 use Prim.Native.Nat.{ℕ}
 use Rattle.labels.specs.Labels.{Policy}
-use Rattle.labels.specs.declared.Reading.the-variants.{Pooled, Alone}
+use Rattle.labels.specs.declared.Rule.the-variants.{Pooled, Alone}
 use Rattle.sheet.specs.Sheet.{Compound, Location, Sheet}
 
 -- a sheet of n principals with nothing else
 unfoldable pub bareSheet : ℕ → Sheet
-bareSheet n = record { principals = n; reading = Pooled; compounds = []; labels = []; locations = [] }
+bareSheet n = record { principals = n; rule = Pooled; compounds = []; labels = []; locations = [] }
 
-unfoldable pub addReading : Sheet → Sheet
-addReading s = record {
+unfoldable pub addRule : Sheet → Sheet
+addRule s = record {
   principals = s .principals;
-  reading = Alone;
+  rule = Alone;
   compounds = s .compounds;
   labels = s .labels;
   locations = s .locations;
@@ -22,7 +22,7 @@ addReading s = record {
 unfoldable pub addCompound : Sheet → Compound → Sheet
 addCompound s x = record {
   principals = s .principals;
-  reading = s .reading;
+  rule = s .rule;
   compounds = s .compounds ++ (x ∷ []);
   labels = s .labels;
   locations = s .locations;
@@ -31,7 +31,7 @@ addCompound s x = record {
 unfoldable pub addLabel : Sheet → Sheet
 addLabel s = record {
   principals = s .principals;
-  reading = s .reading;
+  rule = s .rule;
   compounds = s .compounds;
   labels = s .labels ++ ([] ∷ []);
   locations = s .locations;
@@ -46,7 +46,7 @@ toLast p (ps ∷ qs ∷ pss) = ps ∷ toLast p (qs ∷ pss)
 unfoldable pub addPolicy : Sheet → Policy → Sheet
 addPolicy s p = record {
   principals = s .principals;
-  reading = s .reading;
+  rule = s .rule;
   compounds = s .compounds;
   labels = toLast p (s .labels);
   locations = s .locations;
@@ -55,7 +55,7 @@ addPolicy s p = record {
 unfoldable pub addLocation : Sheet → Location → Sheet
 addLocation s x = record {
   principals = s .principals;
-  reading = s .reading;
+  rule = s .rule;
   compounds = s .compounds;
   labels = s .labels;
   locations = s .locations ++ (x ∷ []);

@@ -8,8 +8,8 @@ use Rattle.sets.specs.Sets.{everyone}
 use Rattle.labels.specs.Labels.{bottomOf, belowOf, readsUnder, writesOf}
 use Rattle.labels.specs.Internal.Tables.{labelSize, labelWords, labelAt}
 use Rattle.labels.specs.declared.Label.{Label}
-use Rattle.labels.specs.declared.Reading.{Reading}
-use Rattle.labels.specs.declared.Reading.the-variants.{Pooled, Alone}
+use Rattle.labels.specs.declared.Rule.{Rule}
+use Rattle.labels.specs.declared.Rule.the-variants.{Pooled, Alone}
 use Rattle.sheet.specs.declared.Kind.{Kind}
 use Rattle.sheet.specs.declared.Kind.the-variants.{Sum, Pair}
 use Rattle.sheet.specs.Padding.{padded}
@@ -60,8 +60,8 @@ labelsAt = 3
 abbrev pub locationsAt : ℕ
 locationsAt = 4
 
-abbrev pub readingAt : ℕ
-readingAt = 5
+abbrev pub ruleAt : ℕ
+ruleAt = 5
 
 -- where the parts of type i, and the words of label l, start
 abbrev pub partsPlace : ℕ → ℕ
@@ -106,16 +106,16 @@ unfoldable pub partsNo : Sheet → ℕ → Compound
 partsNo s t = getD (typeParts s) t noParts
 
 -- the word of a rule of reading
-unfoldable pub readingWord : Reading → ℕ
-readingWord Pooled = 0
-readingWord Alone = 1
+unfoldable pub ruleWord : Rule → ℕ
+ruleWord Pooled = 0
+ruleWord Alone = 1
 
 -- The table of a sheet: eight words, of the counts and the rule, then the kinds and parts of its types, its locations
 -- and its labels.
 unfoldable pub tableOf : Sheet → List ℕ
 tableOf s =
     (s .principals ∷ everyone (s .principals) ∷ typeCount s ∷ labelCount s ∷ locationCount s
-    ∷ readingWord (s .reading) ∷ 0 ∷ 0 ∷ [])
+    ∷ ruleWord (s .rule) ∷ 0 ∷ 0 ∷ [])
     ++ (padded partsRoom (partWords (typeParts s))
     ++ (padded locationsRoom (locationWords (s .locations)) ++ padded labelsRoom (labelsWords (labelsOf s))))
 
@@ -137,8 +137,8 @@ abbrev pub locationsIn : List ℕ → ℕ
 locationsIn t = getD t locationsAt 0
 
 -- the rule of reading
-unfoldable pub readingIn : List ℕ → Reading
-readingIn t = cond (eqb (getD t readingAt 0) 0) Pooled Alone
+unfoldable pub ruleIn : List ℕ → Rule
+ruleIn t = cond (eqb (getD t ruleAt 0) 0) Pooled Alone
 
 -- the word of entry i in a list of count entries of two words that starts at base; 0 past its last entry
 unfoldable pub entryIn : List ℕ → ℕ → ℕ → ℕ → ℕ
@@ -176,7 +176,7 @@ belowIn t l m = belowOf (labelIn t l) (labelIn t m)
 
 -- the group g reads label l, by the rule, and writes it
 unfoldable pub readsIn : List ℕ → ℕ → ℕ → Bool
-readsIn t g l = readsUnder (readingIn t) (principalsIn t) g (labelIn t l)
+readsIn t g l = readsUnder (ruleIn t) (principalsIn t) g (labelIn t l)
 
 unfoldable pub writesIn : List ℕ → ℕ → ℕ → Bool
 writesIn t g l = writesOf (principalsIn t) g (labelIn t l)

@@ -8,12 +8,12 @@ use Rattle.sets.specs.Sets.{width, everyone, restrict}
 use Rattle.labels.specs.Labels.{openOf, policyOf}
 use Rattle.labels.specs.Internal.Tables.{labelPut}
 use Rattle.labels.specs.declared.Label.{Label}
-use Rattle.labels.specs.declared.Reading.the-variants.{Alone}
+use Rattle.labels.specs.declared.Rule.the-variants.{Alone}
 use Rattle.sheet.specs.declared.Kind.{Kind}
 use Rattle.sheet.specs.Sheet.{maxLabels, maxLocations}
 use Rattle.sheet.specs.Internal.Tables.{maxTypes, partsBase, locationsBase, partsPlace, rightWord, labelPlace}
-use Rattle.sheet.specs.Internal.Tables.{principalsAt, everyoneAt, typesAt, labelsAt, locationsAt, readingAt}
-use Rattle.sheet.specs.Internal.Tables.{readingWord, principalsIn, everyoneIn, labelsIn, labelIn}
+use Rattle.sheet.specs.Internal.Tables.{principalsAt, everyoneAt, typesAt, labelsAt, locationsAt, ruleAt}
+use Rattle.sheet.specs.Internal.Tables.{ruleWord, principalsIn, everyoneIn, labelsIn, labelIn}
 
 -- A number up to the most of anything that is counted, locations, so that it fits a word, however wide. The second word
 -- of a type is lower still.
@@ -28,8 +28,8 @@ principalsPut n t =
     (partsPlace 4) 2) (partsPlace 4 + 1) 1
 
 -- the rule of the line `R 1`
-abbrev pub readingPut : List ℕ → List ℕ
-readingPut t = set t readingAt (readingWord Alone)
+abbrev pub rulePut : List ℕ → List ℕ
+rulePut t = set t ruleAt (ruleWord Alone)
 
 -- the entry a b behind those from base on, of which there are at most `most` and as many as the word at `count` says
 unfoldable pub entryPut : ℕ → ℕ → ℕ → ℕ → ℕ → List ℕ → List ℕ

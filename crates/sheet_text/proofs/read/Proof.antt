@@ -2,8 +2,8 @@
 use mathlib.Core.Path.{sym, _∙_}
 use Rattle.sheet_text.specs.Sheets.{sheetOf}
 use Rattle.sheet_text.specs.Internal.Decoded.{refusedBy}
-use Rattle.sheet_text.proofs.ReadLaws.{formed-read, counts-few, answer-malformed, answer-repeating}
-use Rattle.sheet_text.proofs.ReadLaws.{answer-accepted}
+use Rattle.sheet_text.proofs.ReadLaws.{formed-read, counts-few, parsed-malformed, parsed-repeating}
+use Rattle.sheet_text.proofs.ReadLaws.{parsed-accepted}
 use borrow.Author.Needs.{needs}
 use Rattle.sheet_text.proofs.read.Statement.{statement}
 use Rattle.sheet_text.proofs.read.Tie as tie
@@ -12,7 +12,7 @@ returns : tie.Need-returns
 unfolding sheetOf refusedBy
 returns c =
     let told = c .before in
-    answer-malformed _ _ _ (told .before .before .draft-of .ensures) (told .enum-told2 .given .1)
+    parsed-malformed _ _ _ (told .before .before .draft-of .ensures) (told .enum-told2 .given .1)
 
 repeats-requires : tie.Need-repeats-requires
 repeats-requires c κs =
@@ -24,7 +24,7 @@ unfolding sheetOf refusedBy
 returns-2 c =
     let repeats = c .before .before in
     let told = repeats .before .before in
-    answer-repeating _ _ _ (told .enum-told .given .1) _ (formed-read _) (told .before .before .draft-of .ensures)
+    parsed-repeating _ _ _ (told .enum-told .given .1) _ (formed-read _) (told .before .before .draft-of .ensures)
     (sym (repeats .repeats .ensures) ∙ c .before .if1 .taken)
 
 returns-3 : tie.Need-returns-3
@@ -32,7 +32,7 @@ unfolding sheetOf
 returns-3 c =
     let repeats = c .before in
     let told = repeats .before .before in
-    answer-accepted _ _ _ (told .enum-told .given .1) _ (formed-read _) (told .before .before .draft-of .ensures)
+    parsed-accepted _ _ _ (told .enum-told .given .1) _ (formed-read _) (told .before .before .draft-of .ensures)
     (sym (repeats .repeats .ensures) ∙ c .if1 .left)
 
 pub read-spec : {M : Type 1} → statement M

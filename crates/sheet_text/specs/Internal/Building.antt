@@ -8,15 +8,15 @@ use lib.Dec.{eqb, leb, ltb}
 use lib.ListN.{length}
 use Rattle.logic.specs.Booleans.{both}
 use Rattle.labels.specs.Labels.{Policy, policy}
-use Rattle.labels.specs.declared.Reading.{Reading}
-use Rattle.labels.specs.declared.Reading.the-variants.{Pooled, Alone}
+use Rattle.labels.specs.declared.Rule.{Rule}
+use Rattle.labels.specs.declared.Rule.the-variants.{Pooled, Alone}
 use Rattle.sheet.specs.declared.Kind.{Kind}
 use Rattle.sheet.specs.declared.Kind.the-variants.{Sum, Pair}
 use Rattle.sheet.specs.Sheet.{Sheet, typeCount, labelCount, locationCount, maxPrincipals, maxCompounds, maxLabels}
 use Rattle.sheet.specs.Sheet.{maxLocations}
-use Rattle.sheet.specs.Internal.Growth.{bareSheet, addReading, addCompound, addLabel, addPolicy, addLocation}
-use Rattle.sheet_text.specs.declared.line.Line.{Line}
-use Rattle.sheet_text.specs.declared.line.Line.the-variants.{P, R, T, Q, L, O, X}
+use Rattle.sheet.specs.Internal.Growth.{bareSheet, addRule, addCompound, addLabel, addPolicy, addLocation}
+use Rattle.sheet_text.specs.declared.line.SheetLine.{SheetLine}
+use Rattle.sheet_text.specs.declared.line.SheetLine.the-variants.{P, R, T, Q, L, O, X}
 
 -- ---- which line may come next
 
@@ -35,14 +35,14 @@ unfoldable pub leastOwner : Sheet → ℕ
 leastOwner s = leastAfter 0 (lastOf (s .labels))
 
 -- no `R` came
-unfoldable pub isPooled : Reading → Bool
+unfoldable pub isPooled : Rule → Bool
 isPooled Pooled = true
 isPooled Alone = false
 
 -- `R 1` right after `P`
-unfoldable pub readingFits : Sheet → ℕ → Bool
-readingFits s k =
-    both (isPooled (s .reading))
+unfoldable pub ruleFits : Sheet → ℕ → Bool
+ruleFits s k =
+    both (isPooled (s .rule))
     (both (eqb k 1) (both (eqb (length (s .compounds)) 0) (both (eqb (labelCount s) 0) (eqb (locationCount s) 0))))
 
 -- `T` and `Q` before any `L` or `X`, of earlier types
@@ -69,7 +69,7 @@ locationFits s t l = both (ltb (locationCount s) maxLocations) (both (ltb t (typ
 -- ---- the sheet of lines
 
 -- the sheet after a first line, which is `P`
-unfoldable pub begin : Line → Option Sheet
+unfoldable pub begin : SheetLine → Option Sheet
 begin (P n) = cond (both (leb 1 n) (leb n maxPrincipals)) (some (bareSheet n)) none
 begin (R k) = none
 begin (T a b) = none
@@ -83,23 +83,23 @@ unfoldable pub addType : Sheet → Kind → ℕ → ℕ → Option Sheet
 addType s k a b = cond (compoundFits s a b) (some (addCompound s (record { kind = k; left = a; right = b }))) none
 
 -- the sheet after a further line
-unfoldable pub addLine : Sheet → Line → Option Sheet
+unfoldable pub addLine : Sheet → SheetLine → Option Sheet
 addLine s (P n) = none
-addLine s (R k) = cond (readingFits s k) (some (addReading s)) none
+addLine s (R k) = cond (ruleFits s k) (some (addRule s)) none
 addLine s (T a b) = addType s Sum a b
 addLine s (Q a b) = addType s Pair a b
 addLine s L = cond (labelFits s) (some (addLabel s)) none
 addLine s (O o r w) = cond (policyFits s o r w) (some (addPolicy s (policy o r w))) none
 addLine s (X t l) = cond (locationFits s t l) (some (addLocation s (record { type = t; label = l }))) none
 
-unfoldable pub addLineOn : Option Sheet → Line → Option Sheet
+unfoldable pub addLineOn : Option Sheet → SheetLine → Option Sheet
 addLineOn none l = none
 addLineOn (some s) l = addLine s l
 
-unfoldable pub addLines : Option Sheet → List Line → Option Sheet
+unfoldable pub addLines : Option Sheet → List SheetLine → Option Sheet
 addLines o [] = o
 addLines o (l ∷ ls) = addLines (addLineOn o l) ls
 
-unfoldable pub build : List Line → Option Sheet
+unfoldable pub build : List SheetLine → Option Sheet
 build [] = none
 build (l ∷ ls) = addLines (begin l) ls

@@ -8,8 +8,8 @@ use lib.Dec.{eqb, leb, ltb}
 use Rattle.logic.specs.Booleans.{both}
 use Rattle.sheet.specs.Sheet.{Sheet, formed, maxPrincipals, maxLabels, maxLocations}
 use Rattle.sheet.specs.Internal.Tables.{maxTypes, tableOf, principalsIn, everyoneIn, typesIn, labelsIn, locationsIn}
-use Rattle.sheet.specs.Internal.Tables.{readingIn}
-use Rattle.sheet_text.specs.declared.line.Line.{Line}
+use Rattle.sheet.specs.Internal.Tables.{ruleIn}
+use Rattle.sheet_text.specs.declared.line.SheetLine.{SheetLine}
 use Rattle.sheet_text.specs.declared.draft.Draft.{Draft}
 use Rattle.sheet_text.specs.declared.draft.Draft.the-variants.{Formed, Refused}
 use Rattle.sheet_text.specs.Internal.Building.{leastOwner, isPooled, addLines}
@@ -30,7 +30,7 @@ FormedIf none = Unit
 FormedIf (some s) = formed s ≡ true
 
 -- the sheet after further lines, if they could be read
-unfoldable pub stepsRead : Option Sheet → Option (List Line) → Option Sheet
+unfoldable pub stepsRead : Option Sheet → Option (List SheetLine) → Option Sheet
 stepsRead o none = none
 stepsRead o (some ls) = addLines o ls
 
@@ -39,14 +39,14 @@ pub record Stores (fits : List ℕ → Bool) (stored : List ℕ → List ℕ) (t
   pub answer : ok ≡ fits t
   pub table : u ≡ cond (fits t) (stored t) t
 
--- ---- the tests of `begin`, `readingFits`, `compoundFits`, `labelFits`, `policyFits` and `locationFits`
+-- ---- the tests of `begin`, `ruleFits`, `compoundFits`, `labelFits`, `policyFits` and `locationFits`
 
 abbrev pub principalsFit : ℕ → List ℕ → Bool
 principalsFit n t = both (leb 1 n) (leb n maxPrincipals)
 
-abbrev pub readingFitsIn : ℕ → List ℕ → Bool
-readingFitsIn k t =
-    both (isPooled (readingIn t))
+abbrev pub ruleFitsIn : ℕ → List ℕ → Bool
+ruleFitsIn k t =
+    both (isPooled (ruleIn t))
     (both (eqb k 1) (both (eqb (typesIn t) 5) (both (eqb (labelsIn t) 0) (eqb (locationsIn t) 0))))
 
 abbrev pub compoundFitsIn : ℕ → ℕ → List ℕ → Bool

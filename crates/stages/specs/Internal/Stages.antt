@@ -19,8 +19,8 @@ use Rattle.sheet.specs.Meaning.{labelsOver, declarationsOf}
 use Rattle.script_text.specs.Counts.{countsOf}
 use Rattle.script_text.specs.Script.{scriptOf}
 use Rattle.script_text.specs.Internal.Decoded.{countsIn, decodedScript}
-use Rattle.script_text.specs.declared.Answer.{Answer}
-use Rattle.script_text.specs.declared.Answer.the-variants.{Read, Refused}
+use Rattle.script_text.specs.declared.ParsedScript.{ParsedScript}
+use Rattle.script_text.specs.declared.ParsedScript.the-variants.{Read, Refused}
 use Rattle.memory.specs.Memory.{memoryRefusal}
 use Rattle.memory.specs.Internal.InTable.{refusalIn, viewIn, viewRefusalIn}
 use Rattle.checker.specs.declared.Verdict.{Verdict}
@@ -37,7 +37,7 @@ pub record TableOf (t : List ℕ) (s : Sheet) : Type 0 where
   pub words : t ≡ tableOf s
 
 -- The text of the script was refused, or read, ws is its code, and start says where it starts.
-pub data CodeOf (s : Sheet) (ws : List ℕ) (start : ℕ) : Answer → Option Script → Type 0 where
+pub data CodeOf (s : Sheet) (ws : List ℕ) (start : ℕ) : ParsedScript → Option Script → Type 0 where
   no-code : CodeOf s ws start Refused none
   its-code : {p : Script} → Source (p .command) → named (countsOf s) 0 (p .command) ≡ true
       → ws ≡ code (cmdLines (p .command) [])
@@ -58,7 +58,7 @@ unfoldable pub strangersIn : List ℕ → ℕ → ℕ
 strangersIn t group = cond (within group (everyoneIn t)) 0 3
 
 -- 4 where the text was refused, else the verdict's number
-unfoldable pub judgedNumber : Answer → ℕ → ℕ
+unfoldable pub judgedNumber : ParsedScript → ℕ → ℕ
 judgedNumber Refused verdict = 4
 judgedNumber Read verdict = verdict
 
@@ -90,7 +90,7 @@ viewedIn t memory group view =
 
 -- ---- what the functions ensure
 
-pub record Judges (a : Answer) (ws t : List ℕ) (start r : ℕ) : Type 0 where
+pub record Judges (a : ParsedScript) (ws t : List ℕ) (start r : ℕ) : Type 0 where
   pub judged : (s : Sheet) → TableOf t s → (o : Option Script) → CodeOf s ws start a o
       → r ≡ onScript (λ k. k) o (untyped s)
   pub in-table : (verdict : ℕ) × OfVerdict verdict × (r ≡ judgedNumber a verdict)
@@ -99,7 +99,7 @@ pub record Judges (a : Answer) (ws t : List ℕ) (start r : ℕ) : Type 0 where
 unfoldable pub keepingIn : Sheet → Option Script → Bool
 keepingIn s o = onScript (λ k. false) o (λ p. trustKeeping (labelsOver (s .principals)) (declarationsOf s) p)
 
-pub record JudgesTrust (a : Answer) (ws t : List ℕ) (start : ℕ) (r : Bool) : Type 0 where
+pub record JudgesTrust (a : ParsedScript) (ws t : List ℕ) (start : ℕ) (r : Bool) : Type 0 where
   pub judged : (s : Sheet) → TableOf t s → (o : Option Script) → CodeOf s ws start a o → r ≡ keepingIn s o
   pub no-script : a ≡ Refused → r ≡ false
 

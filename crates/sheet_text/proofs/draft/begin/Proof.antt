@@ -6,9 +6,9 @@ use mathlib.Core.Option.{none}
 use native.Mathlib.Omega.{arith}
 use denote.Enum.Declared.{tagOf}
 use types.Run.{OneOf}
-use Rattle.sheet_text.specs.declared.line.Line.{Line}
-use Rattle.sheet_text.specs.declared.line.Line.the-variants.{P, R, T, Q, L, O, X}
-use Rattle.sheet_text.proofs.line.Line.{the-type}
+use Rattle.sheet_text.specs.declared.line.SheetLine.{SheetLine}
+use Rattle.sheet_text.specs.declared.line.SheetLine.the-variants.{P, R, T, Q, L, O, X}
+use Rattle.sheet_text.proofs.line.SheetLine.{the-type}
 use Rattle.sheet_text.specs.Internal.Building.{begin}
 use Rattle.sheet_text.proofs.DraftLaws.{begin-holds, holds-none}
 use borrow.Author.Needs.{needs}
@@ -16,7 +16,7 @@ use Rattle.sheet_text.proofs.draft.begin.Statement.{statement}
 use Rattle.sheet_text.proofs.draft.begin.Tie as tie
 
 -- another line than `P`, by the number of its variant
-begin-other : (l : Line) → OneOf (1 ∷ 2 ∷ 3 ∷ 4 ∷ 5 ∷ 6 ∷ []) (tagOf the-type l) → begin l ≡ none
+begin-other : (l : SheetLine) → OneOf (1 ∷ 2 ∷ 3 ∷ 4 ∷ 5 ∷ 6 ∷ []) (tagOf the-type l) → begin l ≡ none
 unfolding begin
 begin-other (P n) h = absurd (⊎-elim (λ e. omega arith) (⊎-elim (λ e. omega arith)
     (⊎-elim (λ e. omega arith) (⊎-elim (λ e. omega arith) (⊎-elim (λ e. omega arith) (λ e. omega arith))))) h)

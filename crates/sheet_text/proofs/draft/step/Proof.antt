@@ -1,6 +1,6 @@
 -- `sheet_text::draft::step` meets its contract.
 use Rattle.sheet_text.specs.Internal.Building.{addLine}
-use Rattle.sheet_text.proofs.DraftLaws.{step-refused, step-made, no-principals, reading-holds, compound-holds}
+use Rattle.sheet_text.proofs.DraftLaws.{step-refused, step-made, no-principals, rule-holds, compound-holds}
 use Rattle.sheet_text.proofs.DraftLaws.{label-holds, policy-holds, location-holds}
 use borrow.Author.Needs.{needs}
 use Rattle.sheet_text.proofs.draft.step.Statement.{statement}
@@ -18,7 +18,7 @@ returns-3 : tie.Need-returns-3
 returns-3 c =
     let read = c .before .before .before .before in
     λ o f e. step-made _ _ o _ _ _ _ _ (read .before .before .before .d .given .1) (read .line .given .1) f e
-    (λ s fm k t. rw (c .drafted .ensures) (reading-holds s fm _ t _ _ _ (c .before .set-reading .ensures)))
+    (λ s fm k t. rw (c .drafted .ensures) (rule-holds s fm _ t _ _ _ (c .before .set-rule .ensures)))
 
 returns-4 : tie.Need-returns-4
 returns-4 c =
@@ -59,7 +59,7 @@ step-spec = tie.close (tie.spec
     returns
     (λ c. search needs)  -- enum-told-2
     (λ c. search needs)  -- enum-known-line
-    (λ c κs. search needs)  -- set-reading-requires
+    (λ c κs. search needs)  -- set-rule-requires
     (λ c κs. search needs)  -- drafted-requires
     (λ c. search needs)  -- enum-known-line-2
     (λ c κs. search needs)  -- add-compound-requires

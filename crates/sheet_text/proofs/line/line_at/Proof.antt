@@ -1,7 +1,7 @@
 -- `sheet_text::line::line_at` meets its contract.
 use mathlib.Core.Path.{sym, ap, _∙_}
 use Rattle.sheet_text.specs.Internal.Placed.{placedLine, lineOfOne, lineBy}
-use Rattle.sheet_text.proofs.FoundLaws.{found-none, line-past, line-principals, line-reading, line-sum}
+use Rattle.sheet_text.proofs.FoundLaws.{found-none, line-past, line-principals, line-rule, line-sum}
 use Rattle.sheet_text.proofs.FoundLaws.{line-pair, line-label, line-policy, line-location, line-other}
 use borrow.Author.Needs.{needs}
 use Rattle.sheet_text.proofs.line.line_at.Statement.{statement}
@@ -24,7 +24,7 @@ unfolding lineOfOne
 returns-3 c =
     let a = c .before .before .before .before .before .args in
     c .number-rest2 .ensures ∙ ap (placedLine (a .s .now))
-    (sym (line-reading (a .s .now) (a .at) (c .before .before .before .if1 .left) (c .before .match .keys2)))
+    (sym (line-rule (a .s .now) (a .at) (c .before .before .before .if1 .left) (c .before .match .keys2)))
 
 returns-4 : tie.Need-returns-4
 unfolding lineBy

@@ -1,9 +1,9 @@
--- `sheet_text::draft::reading_fits` meets its contract.
+-- `sheet_text::draft::rule_fits` meets its contract.
 use Rattle.logic.specs.Booleans.{both}
 use Rattle.sheet_text.specs.Internal.Building.{isPooled}
 use borrow.Author.Needs.{needs}
-use Rattle.sheet_text.proofs.draft.reading_fits.Statement.{statement}
-use Rattle.sheet_text.proofs.draft.reading_fits.Tie as tie
+use Rattle.sheet_text.proofs.draft.rule_fits.Statement.{statement}
+use Rattle.sheet_text.proofs.draft.rule_fits.Tie as tie
 
 returns : tie.Need-returns
 unfolding both isPooled
@@ -11,7 +11,7 @@ returns c =
     let r = c .before .before in
     let t = r .before in
     rw (
-      ← r .reading .ensures,
+      ← r .rule .ensures,
       c .enum-told .given .1,
       t .types .ensures,
       t .before .locations .ensures,
@@ -20,14 +20,14 @@ returns c =
 
 returns-2 : tie.Need-returns-2
 unfolding both isPooled
-returns-2 c = rw (← c .before .before .reading .ensures, c .enum-told2 .given .1)
+returns-2 c = rw (← c .before .before .rule .ensures, c .enum-told2 .given .1)
 
-pub reading-fits-spec : {M : Type 1} → statement M
-reading-fits-spec = tie.close (tie.spec
+pub rule-fits-spec : {M : Type 1} → statement M
+rule-fits-spec = tie.close (tie.spec
     (λ c κs. search needs)  -- labels-requires
     (λ c κs. search needs)  -- locations-requires
     (λ c κs. search needs)  -- types-requires
-    (λ c κs. search needs)  -- reading-requires
+    (λ c κs. search needs)  -- rule-requires
     (λ c. search needs)  -- enum-told
     (λ c. search needs)  -- enum-told-2
     returns

@@ -109,11 +109,11 @@ pub record Promises : Type 1 where
   pub two-rules : TwoRules
   -- The label of policies that name only the n principals is effective.
   pub policies-effective : PoliciesEffective
-  -- By any rule of reading, the smallest groups are those of one list.
+  -- Of any access structure the smallest groups are those of one list.
   pub groups-exact : GroupsExact
-  -- By a rule that grows with the group, a group reads exactly if it holds a listed one.
+  -- Of an access structure that grows with the group, a group reads exactly if it holds a listed one.
   pub readers-hold-one : ReadersHoldOne
-  -- The sheet's rule of reading grows with the group.
+  -- By the sheet's rule of reading, who reads a label grows with the group.
   pub reading-grows : ReadingGrows
   -- Where one reads by himself, the smallest groups are the single readers.
   pub single-readers : SingleReaders
@@ -178,7 +178,7 @@ pub record Promises : Type 1 where
   pub masks-exactly : MasksExactly
   -- ---- The programs
 
-  -- Texts of whole lines, no line of them empty, and a last text, joined by empty lines, are the parts of the whole.
+  -- Texts of whole lines, no line of them empty, and a last text, joined by empty lines, are parted into these again.
   pub joined-apart : JoinedApart
   -- Missing texts are empty.
   pub missing-empty : MissingEmpty

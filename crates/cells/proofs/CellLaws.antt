@@ -372,7 +372,7 @@ cut-done ws n out e h l =
     (sym (take-take n 16 ws (omega arith)) ∙ ap (take n) (sym (load-first ws l)))
     ∙ sym (store-there ws 0 (cutOf n (loadOf ws 0)) l)
 
--- nothing is left to cut
+-- nothing is still to be cut
 pub cut-none : (ws : List ℕ) (n : ℕ) → cell-words ≤ n → ws ≡ storeOf ws 0 (cutOf n (loadOf ws 0))
 unfolding cutOf
 cut-none ws n h =

@@ -12,7 +12,8 @@ use Rattle.text.specs.Reading.Read.{got, bad}
 abbrev pub order : List ℕ
 order = 1 ∷ 2 ∷ 3 ∷ 7 ∷ 8 ∷ []
 
--- the place of a number in an order; what isn't in it, such as 0, which is no number, comes after all of it
+-- the rank of a number in an order, 0 for the first; what isn't in it, such as 0, which is no number, comes after all
+-- of it
 unfoldable pub rankOf : List ℕ → ℕ → ℕ
 rankOf [] k = 0
 rankOf (n ∷ ns) k = cond (eqb k n) 0 (suc (rankOf ns k))

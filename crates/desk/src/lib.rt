@@ -14,7 +14,7 @@ ghost use Rattle.desk.specs.Show.{viewed, showOf};
 ghost use Rattle.desk.specs.Inputs.{showHeld};
 ghost use Rattle.desk.specs.Output.{outputRoom, numberLine, put, putLength};
 
-// The places that a buffer must have for what is printed: a line for each of the most locations.
+// The room that a buffer must have for what is printed: a line for each of the most locations.
 pub const OUTPUT_ROOM: usize = memory_text::LOCATIONS * memory_text::write::LINE;
 
 // A group, or the refusal of a text that isn't of its form.
@@ -57,7 +57,7 @@ fn group_line(s: &[u8]) -> Group
     Group::Refused
 }
 
-// The place of a number in the order of a view's table, 1 2 3 7 8; what isn't in it comes after all of it.
+// The rank of a number in the order of a view's table, 1 2 3 7 8; what isn't in it comes after all of it.
 fn rank(k: u8) -> u8
     ensures { λ r. ⌜ r ≡ rankOf order k ⌝ }
 {

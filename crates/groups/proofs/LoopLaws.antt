@@ -28,7 +28,7 @@ module _ (reads : AccessStructure) (end : ℕ) where
 
   -- ---- the walk
 
-  -- from a group on it has come to g: the same is left from either
+  -- from a group on it has come to g: the same is to come from either
   pub record CameTo (from g : ℕ) : Type 0 where
     pub not-before : from ≤ g
     pub same : left from ≡ left g
@@ -71,7 +71,7 @@ module _ (reads : AccessStructure) (end : ℕ) where
 
   -- ---- the count
 
-  -- what was found and what is left from a group on is all there is
+  -- what was found and what is to come from a group on is all there is
   pub record Counts (found from : ℕ) : Type 0 where
     pub some : 1 ≤ from
     pub all : found + length (left from) ≡ length (left 1)
@@ -97,7 +97,7 @@ module _ (reads : AccessStructure) (end : ℕ) where
 
   -- ---- the places
 
-  -- what is left, written from place i on, makes the whole
+  -- the rest, written from place i on, makes the whole
   pub record Writes (before now : List ℕ) (i from : ℕ) : Type 0 where
     pub counts : Counts i from
     pub as-long : length now ≡ length before

@@ -1,4 +1,4 @@
--- Smallest groups of one rule of reading: the test against what it means, and the test by single members.
+-- Smallest groups of one access structure: the test against what it means, and the test by single members.
 use mathlib.Core.Logic.{_↔_}
 use mathlib.Core.Path.{_≡_, refl, sym, ap, _∙_}
 use mathlib.Core.Bool.{Bool, true, false, not}

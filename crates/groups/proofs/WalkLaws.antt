@@ -1,4 +1,4 @@
--- The walk through the groups: what is left of the list at each of its steps.
+-- The walk through the groups: the rest of the list at each of its steps.
 use mathlib.Core.Path.{_≡_, sym, ap, _∙_}
 use mathlib.Core.Bool.{true, false}
 use mathlib.Core.List.{List, [], _∷_}
@@ -49,12 +49,12 @@ module _ (reads : AccessStructure) (end : ℕ) where
       (λ z. omega arith))
       ∙ ap left (omega (arith, past-rises g))
 
-  -- a group that is smallest is the first of what is left
+  -- a group that is smallest is the first of the rest
   pub walk-found : (g : ℕ) → 1 ≤ g → g < end → reads g ≡ true → isSmallest reads g ≡ true
       → left g ≡ g ∷ left (pastHolders g)
   walk-found g p l r t = left-found g l t ∙ ap (λ (gs : List ℕ). g ∷ gs) (left-past g p r)
 
-  -- after one that reads and isn't, the same is left
+  -- after one that reads and isn't, the rest is the same
   pub walk-past : (g : ℕ) → 1 ≤ g → reads g ≡ true → isSmallest reads g ≡ false → left g ≡ left (pastHolders g)
   walk-past g p r f = left-step g f ∙ left-past g p r
 

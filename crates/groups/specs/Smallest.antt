@@ -1,4 +1,4 @@
--- The smallest groups that read (request (b), "Who together can read this?"), over any rule of reading.
+-- The smallest groups that read (request (b), "Who together can read this?"), over any access structure.
 use mathlib.Core.Logic.{_↔_}
 use mathlib.Core.Path.{_≡_}
 use mathlib.Core.Bool.{Bool, true, false}
@@ -7,7 +7,7 @@ use Prim.Native.Nat.{ℕ, _<_}
 use lib.ListN.{length, getD}
 use Rattle.sets.specs.Sets.{within, everyone}
 
--- A rule of reading, of one label: whether a group reads it.
+-- An access structure, the field's term: of one label, which groups read it.
 abbrev pub AccessStructure : Type 0
 AccessStructure = ℕ → Bool
 
@@ -25,6 +25,6 @@ pub record ListsSmallest (n : ℕ) (reads : AccessStructure) (gs : List ℕ) : T
   pub listed : (g : ℕ) → Listed g gs ↔ ((within g (everyone n) ≡ true) × Smallest reads g)
   pub rising : (i j : ℕ) → i < j → j < length gs → getD gs i 0 < getD gs j 0
 
--- The rule grows with the group: a group that reads still reads with more members.
+-- It grows with the group: a group that reads still reads with more members.
 abbrev pub Grows : AccessStructure → Type 0
 Grows reads = (g h : ℕ) → within g h ≡ true → reads g ≡ true → reads h ≡ true

@@ -12,20 +12,20 @@ use Rattle.sheet.specs.Meaning.{readsNo}
 use Rattle.groups.specs.Smallest.{AccessStructure, Listed, ListsSmallest, Grows}
 use Rattle.groups.specs.Listing.{smallestOf}
 
--- The function lists the smallest groups, of any number of principals and by any rule at all; and there is no other
+-- The function lists the smallest groups, of any number of principals and any access structure; and there is no other
 -- such list.
 pub record GroupsExact : Type 0 where
   pub lists : (n : ℕ) (reads : AccessStructure) → ListsSmallest n reads (smallestOf n reads)
   pub no-other : (n : ℕ) (reads : AccessStructure) (gs : List ℕ) → ListsSmallest n reads gs → gs ≡ smallestOf n reads
 
--- By a rule that grows with the group, the list says who reads: a group of the n principals reads exactly if it holds
--- a listed one.
+-- Of one that grows with the group, the list says who reads: a group of the n principals reads exactly if it holds a
+-- listed one.
 abbrev pub ReadersHoldOne : Type 0
 ReadersHoldOne = (n : ℕ) (reads : AccessStructure) → Grows reads → (gs : List ℕ) → ListsSmallest n reads gs → (g : ℕ)
     → within g (everyone n) ≡ true
     → (reads g ≡ true) ↔ ((h : ℕ) × Listed h gs × (within h g ≡ true))
 
--- The sheet's rule of reading grows with the group.
+-- By the sheet's rule of reading, who reads a label grows with the group.
 abbrev pub ReadingGrows : Type 0
 ReadingGrows = (s : Sheet) (l : ℕ) → Grows (λ (g : ℕ). readsNo s g l)
 

@@ -1,4 +1,4 @@
--- What a read left, and one input after another.
+-- What a read put into its chunk, and one input after another.
 use Prim.Native.Nat.{ℕ, zero, suc, min}
 use native.Mathlib.Nat.{zero-min, min-zero, suc-min-suc}
 use native.Mathlib.Omega.{arith}

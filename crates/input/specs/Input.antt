@@ -1,5 +1,5 @@
 -- What is fed of standard input. Libc's contract of read tells how many bytes it may answer and nothing of the bytes
--- themselves, so that no contract can say which input was read: only what is fed of what one read left, and that some
+-- themselves, so that no contract can say which input was read: only what is fed of one read's bytes, and that some
 -- input was fed whole.
 use Prim.Native.Nat.{ℕ}
 use mathlib.Core.Path.{_≡_}

@@ -11,7 +11,7 @@ struct Turn {
     state: State,
 }
 
-// Feeds what a read with the answer `got` left in its chunk.
+// Feeds what a read with the answer `got` put into its chunk.
 fn feed_got(state: State, chunk: &[u8], got: isize, buffer: &mut [u8], last: usize) -> Turn
     ensures { λ r. ⌜ r .more ≡ goesOn got ⌝ }
     ensures { λ r. ⌜ r .state

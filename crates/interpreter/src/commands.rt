@@ -7,7 +7,7 @@ use script::ROW;
 use script::skip;
 use sheet::powers::Powers;
 
-// Done: skip is reached, with so much of the budget left, and the command's lines end at `next`.
+// Done: skip is reached, with this rest of the budget, and the command's lines end at `next`.
 pub(crate) struct Stepped {
     pub(crate) state: State,
     pub(crate) left: u32,

@@ -114,7 +114,7 @@ topOf n = record { readers = tab owners (closedAt n); writers = tab owners (open
 
 -- ---- reading and writing
 
--- a group reads A, by the scope's rule: for every owner below n it holds at least one effective reader
+-- a group reads A by the pooled rule, the scope's: for every owner below n it holds at least one effective reader
 unfoldable pub readsPooledOf : ℕ → ℕ → Label → Bool
 readsPooledOf n g a = every n (λ (o : ℕ). meets g (readersOf a o))
 

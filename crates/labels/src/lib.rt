@@ -148,7 +148,7 @@ impl Label {
         within
     }
 
-    // Whether a group holds a reader for each owner below n.
+    // Whether a group reads by the pooled rule: it holds a reader for each owner below n.
     pub fn reads_pooled(self, n: usize, group: Set) -> bool
         ensures { λ r. ⌜ r ≡ readsPooledOf n group self ⌝ }
     {
@@ -193,7 +193,7 @@ pub fn label_at(table: &[Set], at: usize) -> Label
     Label { readers, writers }
 }
 
-// Stores the words of a label from `at` on; the table is left as it is where they don't fit.
+// Stores the words of a label from `at` on; the table stays as it is where they don't fit.
 pub fn put_label(table: &mut [Set], at: usize, label: Label)
     ensures { λ _. ⌜ now (table .exit) ≡ labelPut (now (table .entry)) at label ⌝ }
 {
@@ -209,7 +209,7 @@ pub fn put_label(table: &mut [Set], at: usize, label: Label)
     put_sets(table, at + OWNERS, writers);
 }
 
-// A policy of an owner for the label whose words start at `at`, stored in place; the table is left as it is where the
+// A policy of an owner for the label whose words start at `at`, stored in place; the table stays as it is where the
 // label's words don't fit, or where it has no place for that owner.
 pub fn put_policy(table: &mut [Set], at: usize, owner: usize, readers: Set, writers: Set)
     ensures { λ _. ⌜ now (table .exit)

@@ -28,7 +28,7 @@ unfoldable pub spend : ℕ → (ℕ → Out) → Out
 spend zero f = spent
 spend (suc b) f = f b
 
--- go on with the value of an expression; b is what is left after the transition
+-- go on with the value of an expression; b is the rest of the budget after the transition
 unfoldable pub assigned : (Value → Out) → ℕ → Res → Out
 assigned f b (ok v) = f v
 assigned f b long = over (suc b)

@@ -33,8 +33,8 @@ pub record Determinacy (W : World) : Type 0 where
   pub one-end : (j k : ℕ) (M M₁ M₂ : Mem) (c : Cmd) → Steps W j M c M₁ skip → Steps W k M c M₂ skip
       → (j ≡ k) × (M₁ ≡ M₂)
 
--- How a run within the budget b ends, by the figures: skip is reached after k transitions, and l is left; it is not
--- reached after b; a step within the budget, after k transitions, meets a value that is too long. The scope's
+-- How a run within the budget b ends, by the figures: skip is reached after k transitions, and l is the rest; it is
+-- not reached after b; a step within the budget, after k transitions, meets a value that is too long. The scope's
 -- numbers 0, 9 and 10.
 pub data RunEnds (W : World) (b : ℕ) (M : Mem) (c : Cmd) : Out → Type 0 where
   ends-done : {k l : ℕ} {M′ : Mem} → k + l ≡ b → Steps W k M c M′ skip → NoneLong W k M c → RunEnds W b M c (done M′ l)

@@ -50,9 +50,9 @@ step W M (assign x e) = at-assign M x (eval W [] M e)
 step W M (while e c) = branch (λ v. to M (seq c (while e c))) (λ v. to M skip) too-long no-rule (eval W [] M e)
 step W M (case e a b) = branch (λ v. to M (inst v a)) (λ v. to M (inst v b)) too-long no-rule (eval W [] M e)
 
--- How a run within a budget ends: skip is reached, with the memory and what is left of the budget; the budget is
--- used up before; a step within it meets a value that is too long, with what is left of the budget before that step;
--- no rule applies.
+-- How a run within a budget ends: skip is reached, with the memory and the rest of the budget; the budget is used up
+-- before; a step within it meets a value that is too long, with the rest of the budget before that step; no rule
+-- applies.
 pub data Out : Type 0 where
   done : Mem → ℕ → Out
   spent : Out
@@ -66,11 +66,11 @@ after r k o w M b (to M′ c′) = r M′ c′
 after r k o w M b too-long = o
 after r k o w M b no-rule = w
 
--- Transitions from M, c, at most b of them; k goes on from skip with what is left of the budget.
+-- Transitions from M, c, at most b of them; k goes on from skip with the rest of the budget.
 unfoldable pub run : ℕ → World → (Mem → ℕ → Out) → Mem → Cmd → Out
 run zero W k M c = after (λ M′ c′. spent) k spent spent M zero (step W M c)
 run (suc b) W k M c = after (λ M′ c′. run b W k M′ c′) k (over (suc b)) wrong M (suc b) (step W M c)
 
--- A run from M, c within the budget b. The steps taken are b less what is left.
+-- A run from M, c within the budget b. The steps taken are b less its rest.
 unfoldable pub iterate : World → ℕ → Mem → Cmd → Out
 iterate W b M c = run b W done M c

@@ -146,7 +146,7 @@ module _ (t : List ℕ) where
       on (yes k) f = let e : p ≡ suc n = omega arith in rw e refl
       on (no k) f = rw (h n (omega arith)) (f (omega arith))
 
--- ---- what is left of the members m, from p on
+-- ---- the rest of the members m, from p on
 
 -- bit q of rest is member p + q
 abbrev pub Rest : ℕ → ℕ → ℕ → Type 0

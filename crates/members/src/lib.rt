@@ -18,8 +18,8 @@ const LABELS: u32 = sheet::MOST_LABELS;
 // Sets of labels alone are the numbers below this one.
 const PAST_LABELS: Members = 1 << LABELS;
 
-// How much of a least label is at or below another: nothing, C of it alone, all of it. Bit 1 tells it of the whole, bit
-// 0 of C, or of the whole too where that is asked for alone.
+// How much of a least label is at or below another: nothing, only C of it, all of it. Bit 1 tells it of the whole, bit
+// 0 of C, or of the whole too where only that is asked for.
 const NOTHING: u8 = 0;
 
 const CONFIDENTIALITY: u8 = 1;
@@ -110,7 +110,8 @@ fn whole_flows(table: &[sheet::Word], members: Members, l: u32) -> bool
     lower.at_or_below(upper)
 }
 
-// How much of the join of the members is at or below label l. Where the whole is asked for `alone`, C isn't tested.
+// How much of the join of the members is at or below label l. `wholly`: only the whole is asked for, and C
+// isn't tested.
 pub fn flows(table: &[sheet::Word], members: Members, l: u32, wholly: bool) -> u8
     ensures { λ r. ⌜ r ≡ flowsIn (now (table .entry)) members l wholly ⌝ }
 {

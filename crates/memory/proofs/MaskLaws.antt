@@ -206,7 +206,7 @@ module _ (shows : ℕ → Bool) (ws out : List ℕ) (to at : ℕ) (h : at < leng
 
 -- ---- the last part of a value
 
--- What is left of the value that starts at `at` is its last part, which starts at `next` and is to be stored in `mid`
+-- The rest of the value that starts at `at` is its last part, which starts at `next` and is to be stored in `mid`
 -- from `end` on.
 pub record Last (shows : ℕ → Bool) (ws : List ℕ) (at : ℕ) (out : List ℕ) (to : ℕ) (mid : List ℕ)
     (next end : ℕ) : Type 0 where

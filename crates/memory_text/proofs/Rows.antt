@@ -26,7 +26,7 @@ unfolding andThen
 stored-cons array i v (got vs u) = rw (add-one i)
 stored-cons array i v bad = refl
 
--- what is left to read of a line of which i words are in the array
+-- what is still to be read of a line of which i words are in the array
 unfoldable pub left : ℕ → List ℕ → List ℕ → Read (List ℕ)
 left i array t = andThen (words (cell-words - i) t) (stored array i)
 
@@ -59,7 +59,7 @@ module _ (i : ℕ) (array t : List ℕ) (h : i < cell-words) where
 
   -- a word is read and q is the place after it
   module _ (v : ℕ) (s : List ℕ) (q : ℕ) (e : number most t ≡ got v (drop q s)) where
-    -- what is left once it is known how the line goes on
+    -- the rest, once it is known how the line goes on
     left-on : left i array t ≡ andThen (following v (drop q s) (λ w. words (cell-words - (i + 1)) w)) (stored array i)
     unfolding left
     left-on =
@@ -92,7 +92,7 @@ module _ (i : ℕ) (array t : List ℕ) (h : i < cell-words) where
       left-other b c =
           left-on ∙ andThen-bad _ _ (rw (drop-step s q l) (lines.following-other v _ (getD s q 0) (drop (q + 1) s) b c))
 
--- a row stored word by word: what is left to store from i on
+-- a row stored word by word: what is still to be stored from i on
 pub store-more : (l : List ℕ) (at i : ℕ) (row : List ℕ) → i < length row
     → sets l (at + i) (drop i row) ≡ sets (set l (at + i) (getD row i 0)) (at + (i + 1)) (drop (i + 1) row)
 store-more l at i row h =

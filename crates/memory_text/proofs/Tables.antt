@@ -57,7 +57,7 @@ tabled-front n words row (some rs) e =
     let p : n * cell-words + length row ≡ (n + 1) * cell-words = omega arith in
     rw (c, sets-append words (n * cell-words) row (allWords rs), p)
 
--- what is left at a place of a text
+-- the rest of a text at a place
 module _ (n : ℕ) (words s : List ℕ) (i : ℕ) where
   pub rest-done : length s ≤ i → tabled n words (linesUpTo location (maxLocations - n) (drop i s))
       ≡ record { parsed = parsed.Read; count = n; words = words }

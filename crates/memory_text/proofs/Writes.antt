@@ -36,7 +36,7 @@ pub take-step : (ws : List ℕ) (i k : ℕ) → i < length ws
     → take (k + 1) (drop i ws) ≡ getD ws i 0 ∷ take k (drop (i + 1) ws)
 take-step ws i k h = rw (add-one k, drop-step ws i h)
 
--- of a whole form from `at` on, what is left goes into the buffer as it is now
+-- of a whole form from `at` on, the rest goes into the buffer as it is now
 pub record Goes (whole rest : List ℕ → List ℕ) (out : List ℕ) (at : ℕ) (now : List ℕ) (place : ℕ) : Type 0 where
   pub bytes : (t : List ℕ) → sets out at (whole t) ≡ sets now place (rest t)
   pub reach : (t : List ℕ) → at + length (whole t) ≡ place + length (rest t)
@@ -46,7 +46,7 @@ goes-start form out at = record { bytes = λ t. refl; reach = λ t. refl }
 
 module _ (whole rest : List ℕ → List ℕ) (out : List ℕ) (at : ℕ) (now : List ℕ) (place : ℕ)
     (g : Goes whole rest out at now place) where
-  -- the bytes at the front of what is left are written
+  -- the bytes at the front of the rest are written
   pub goes-put : (left : List ℕ → List ℕ) (bytes now′ : List ℕ) (place′ : ℕ) → ((t : List ℕ) → rest t ≡ bytes ++ left t)
       → place + length bytes ≤ length now → place′ ≡ reached now place bytes → now′ ≡ written now place bytes
       → Goes whole left out at now′ place′
@@ -64,7 +64,7 @@ module _ (whole rest : List ℕ → List ℕ) (out : List ℕ) (at : ℕ) (now :
     reach = λ t. g .reach t ∙ ap (λ (l : List ℕ). place + length l) (e t);
   }
 
-  -- a form at the front of what is left is written
+  -- a form at the front of the rest is written
   goes-form : (left form : List ℕ → List ℕ) (room : ℕ) (now′ : List ℕ) (place′ : ℕ)
       → ((t : List ℕ) → rest t ≡ form (left t))
       → Puts form room now place now′ place′ → Goes whole left out at now′ place′

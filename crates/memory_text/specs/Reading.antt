@@ -44,7 +44,7 @@ unfoldable pub allWords : List (List ℕ) → List ℕ
 allWords [] = []
 allWords (row ∷ rows) = row ++ allWords rows
 
--- those of a whole text, after which nothing is left
+-- those of a whole text, after which nothing follows
 unfoldable pub wordsOfRows : Option (List (List ℕ)) → Read (List ℕ)
 wordsOfRows none = bad
 wordsOfRows (some rows) = got (allWords rows) []

@@ -1,4 +1,4 @@
--- Texts that are joined by empty lines are the parts of the whole.
+-- Texts that are joined by empty lines are parted into these again.
 use Prim.Native.Nat.{ℕ, zero, suc, _+_, _≤_, _<_}
 use native.Mathlib.Omega.{arith}
 use mathlib.Core.Path.{_≡_, refl, sym, ap, _∙_}

@@ -15,7 +15,7 @@ parting last j start b = both start (both (eqb b 10) (ltb j last))
 unfoldable pub byteIf : Bool → ℕ → List ℕ → List ℕ
 byteIf mine b t = cond mine (b ∷ t) t
 
--- The bytes of text i in what is left of the input, where text j goes on; `start`: a line starts here.
+-- The bytes of text i in the rest of the input, where text j goes on; `start`: a line starts here.
 unfoldable pub textFrom : ℕ → ℕ → ℕ → Bool → List ℕ → List ℕ
 textFrom last i j start [] = []
 textFrom last i j start (b ∷ t) =

@@ -1,4 +1,4 @@
--- What is shown of the parts of an input.
+-- What is shown of the texts of an input.
 use Prim.Native.Nat.{ℕ, suc, _*_, _≤_, _<_}
 use mathlib.Core.Path.{_≡_}
 use mathlib.Core.Bool.{true}
@@ -16,8 +16,8 @@ unfoldable pub AllWhole : List (List ℕ) → Type 0
 AllWhole [] = Unit {0}
 AllWhole (t ∷ ts) = Lines t × AllWhole ts
 
--- Texts without empty lines, joined by empty lines, are the parts of the whole; empty lines in the last
--- text belong to it.
+-- Texts without empty lines, joined by empty lines, are parted into these again; empty lines in the last text belong
+-- to it.
 abbrev pub JoinedApart : Type 0
 JoinedApart = (ts : List (List ℕ)) (end : List ℕ) → AllWhole ts → (i : ℕ)
     → textOf (length ts) i (joined ts end) ≡ getD (ts ++ (end ∷ [])) i []

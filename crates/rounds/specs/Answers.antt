@@ -19,7 +19,7 @@ abbrev pub refusedRound : List ℕ → ℕ → RanRound
 refusedRound memory k =
     record { answer = k; answers = replicate mostScripts 0; steps = replicate mostScripts 0; memory = memory }
 
--- the memory that the last of several runs leaves
+-- the memory after several runs in turn: that of the last, or where there is none, the one before them
 unfoldable pub memoryAfter : List ℕ → List Ran → List ℕ
 memoryAfter memory [] = memory
 memoryAfter memory (r ∷ rs) = memoryAfter (r .memory) rs

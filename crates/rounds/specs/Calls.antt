@@ -27,8 +27,8 @@ unfoldable pub lowest : (List ℕ → ℕ) → List (List ℕ) → ℕ
 lowest number [] = 0
 lowest number (t ∷ ts) = lower (number t) (lowest number ts)
 
--- Scripts in turn, the first of them in place i, each from the memory that the one before it left. `run`: of the script
--- in a place, from a memory.
+-- Scripts in turn, the first of them in place i, each from the memory after the one before it. `run`: of the script in
+-- a place, from a memory.
 unfoldable pub runEach : {A : Type 0} → (ℕ → A → List ℕ → Ran) → ℕ → List ℕ → List A → List Ran
 runEach run i memory [] = []
 runEach run i memory (t ∷ ts) = let r = run i t memory in r ∷ runEach run (suc i) (r .memory) ts

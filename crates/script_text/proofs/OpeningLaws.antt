@@ -47,7 +47,7 @@ opening-few o = go (o .start)
 
 -- ---- reading
 
--- the text is as it was, or an opening line stands before what is left
+-- the text is as it was, or an opening line stands before the rest
 unstarted : (t : List ℕ) (x : Option ℕ) (u : List ℕ) → got none t ≡ got x u → (t ≡ startBytes x u) × Low x
 unfolding startBytes
 unstarted t none u e = (got-same none none t u e .1, tt)

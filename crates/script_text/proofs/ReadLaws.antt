@@ -1,4 +1,4 @@
--- The answer of the reader is that of the script of the text, and what its code then holds.
+-- A text is parsed to its script, and the lent words then hold its code.
 use mathlib.Core.Path.{_≡_, refl, sym, ap, _∙_}
 use mathlib.Core.Bool.{Bool, true, false}
 use mathlib.Core.List.{List, []}
@@ -112,7 +112,7 @@ pub script-coded : (k : Counts) (t : List ℕ) (p : Script) → scriptOf k t ≡
 unfolding scriptOf
 script-coded k t p e = coded-script k (writtenOf t) (is-some _ p e)
 
--- ---- the answer
+-- ---- what a text is parsed to
 
 -- what is tested of a start that is read is whether it is there
 start-tested : (k : Counts) (x : Option ℕ) → Low x
@@ -153,7 +153,7 @@ module _ (k : Counts) (t : List ℕ) (s : Decoded) (e : s ≡ codedText (written
 
 -- ---- what callers rest on
 
--- the answer r is a refusal, or the code of the text's script and its start
+-- r is a refusal, or the code of the text's script and its start
 pub read-split : {P : Type 0} (k : Counts) (t : List ℕ) (r : Decoded) → r ≡ decodedScript (scriptOf k t)
     → (scriptOf k t ≡ none → r .parsed ≡ parsed.Refused → P)
     → ((p : Script) → scriptOf k t ≡ some p → Source (p .command) → named k 0 (p .command) ≡ true

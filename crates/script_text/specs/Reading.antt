@@ -43,7 +43,7 @@ formOf b =
     (cond (eqb b 102) (bare (l-proj first))
     (cond (eqb b 103) (bare (l-proj second)) other)))))))))))))))
 
--- what is left of a line of a form: its operands and its end
+-- the rest of a line of a form: its operands and its end
 unfoldable pub operandsOf : Form → List ℕ → Read ScriptLine
 operandsOf (bare l) t = andThen (lineEnd t) (λ _ u. got l u)
 operandsOf (one f) t = andThen (lastNumber most t) (λ a u. got (f a) u)

@@ -64,8 +64,8 @@ pub enum ParsedScript {
     Refused,
 }
 
-// The answer to a text, how many lines its command has, and the number of the label that it starts at: 0 and NO_START
-// where it was refused.
+// Whether a text was read, how many lines its command has, and the number of the label that it starts at: 0 and
+// NO_START where it was refused.
 pub struct ReadScript {
     pub parsed: ParsedScript,
     pub count: usize,
@@ -216,7 +216,7 @@ fn line_from(text: &[u8], at: usize) -> Reached
     }
 }
 
-// The answer to a text that is refused, with zeros for its code.
+// What a refused text is parsed to, with zeros for its code.
 fn refused(code: &mut [u32; WORDS]) -> ReadScript
     ensures { λ r. ⌜ record { parsed = r .parsed; count = r .count; start = r .start; code = now (code .exit) }
         ≡ noCode ⌝ }

@@ -1,4 +1,4 @@
--- A text is its parts joined by empty lines, and parted in no other way.
+-- A text is its scripts' texts joined by empty lines, and parted in no other way.
 use Prim.Native.Nat.{ℕ}
 use native.Mathlib.Omega.{arith}
 use mathlib.Core.Path.{_≡_, refl, sym, ap, _∙_}

@@ -1,4 +1,4 @@
--- Where the parts of a text stand in it.
+-- Where the scripts of a text stand in it.
 use Prim.Native.Nat.{ℕ, suc, _+_, _-_, _≤_, _<_, min}
 use native.Mathlib.Omega.{arith}
 use native.Mathlib.Numerals.{add-one}
@@ -18,9 +18,9 @@ use Rattle.scripts.specs.Parting.{toFirst, scriptTextsFrom, scriptTexts,
 use Rattle.scripts.specs.Internal.Places.{scriptLength, scriptEnd, scriptTextsAfter, endsFrom, keptEnds}
 use Rattle.scripts.specs.Internal.Places.{scriptsCounted}
 
--- ---- the first part of a text, and the others
+-- ---- the first script of a text, and the others
 
--- the parts after the first n bytes and the byte that parts
+-- the texts after the first n bytes and the byte that parts
 others : List ℕ → ℕ → List (List ℕ)
 others t n = cond (ltb n (length t)) (scriptTextsFrom true (drop (suc n) t)) []
 
@@ -79,7 +79,7 @@ pub texts-all : (text : List ℕ) → scriptTextsAfter text 0 ≡ scriptTexts te
 unfolding scriptTextsAfter
 texts-all text = rw (le-leb 0 (length text) (omega arith)) refl
 
--- ---- from part to part
+-- ---- from script to script
 
 -- Part n starts at a place: those before it and those from it on are all, and so are their ends. Past the
 -- last, none is left.
@@ -101,7 +101,7 @@ unfolding keptEnds
 first-kept text = rw (texts-all text) refl
 
 module _ {text : List ℕ} {n at end : ℕ} (s : StartsAt text n at) (p : TextAt text at end) where
-  -- its end, and those of the parts after it
+  -- its end, and those of the scripts after it
   its-ends : endsFrom at (scriptTextsAfter text at) ≡ end ∷ endsFrom (end + 1) (scriptTextsAfter text (end + 1))
   unfolding endsFrom
   its-ends =
@@ -129,7 +129,7 @@ module _ {text : List ℕ} {n at end : ℕ} (s : StartsAt text n at) (p : TextAt
   pub has-place : n < length (scriptTexts text)
   has-place = omega (arith, ap length (p .texts), s .counted)
 
--- the end of a part, as it is kept
+-- the end of a script, as it is kept
 module _ (text : List ℕ) (n at : ℕ) (s : StartsAt text n at) (few : length (scriptTexts text) ≤ mostScripts)
     (l : at ≤ length text) where
   ends-length : (k : ℕ) (ps : List (List ℕ)) → length (endsFrom k ps) ≡ length ps
@@ -156,7 +156,7 @@ module _ (text : List ℕ) (n at : ℕ) (s : StartsAt text n at) (few : length (
       ∙ sym (getD-drop n (endsFrom 0 (scriptTexts text)) 0 0)
       ∙ ap (λ (es : List ℕ). getD es 0 0) (sym (s .ends) ∙ its-ends s p))
 
--- past the last part, the ends are all
+-- past the last script, the ends are all
 module _ (text : List ℕ) (n at : ℕ) (s : StartsAt text n at) (l : length text < at) where
   pub none-left : scriptTextsAfter text at ≡ []
   none-left = texts-past text at l
@@ -179,7 +179,7 @@ sets-past : (vs es : List ℕ) (n : ℕ) → length es ≤ n → sets es n vs �
 sets-past [] es n l = refl
 sets-past (v ∷ vs) es n l = rw (set-out es n v l) (sets-past vs es (suc n) (omega arith))
 
--- a part more than have a place
+-- a script more than have a place
 module _ (text : List ℕ) (n at : ℕ) (s : StartsAt text n at) (l : at ≤ length text) where
   pub parted-many : (es : List ℕ) → length es ≡ mostScripts → n ≡ mostScripts
       → sets es n (endsFrom at (scriptTextsAfter text at)) ≡ keptEnds text
@@ -202,7 +202,7 @@ pub many-scripts : (text : List ℕ) (n : ℕ) → n ≡ scriptsCounted text →
 unfolding scriptsCounted
 many-scripts text n e l = omega arith
 
--- ---- the walk to a part's end
+-- ---- the walk to a script's end
 
 module _ (text : List ℕ) (at : ℕ) (start : Bool) where
   -- a byte, by whether it ends an empty line

@@ -248,7 +248,7 @@ pub fn below(table: &[Word], l: u32, m: u32) -> bool
     lower.at_or_below(upper)
 }
 
-// Whether a group reads label l by what its members may read together.
+// Whether a group reads label l by the pooled rule.
 fn reads_pooled(table: &[Word], group: Set, l: u32) -> bool
     ensures { λ r. ⌜ r ≡ readsPooledOf (principalsIn (now (table .entry))) group (labelIn (now (table .entry)) l) ⌝ }
 {

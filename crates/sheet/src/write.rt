@@ -1,5 +1,5 @@
 // What is stored in a table where its sheet grows, a line at a time, each behind what is there. A table without room
-// for more is left as it is. That what a line names is there is for the caller to see.
+// for more stays as it is. That what a line names is there is for the caller to see.
 ghost use mathlib.Core.Path.{_≡_};
 ghost use Prim.Native.Nat.{_+_, _*_, _<_, _≤_};
 ghost use Rattle.sheet.specs.Internal.Tables.{tableWords, rightWord};

@@ -46,10 +46,10 @@ caseText =
     ∷ 79 ∷ 9 ∷ 48 ∷ 9 ∷ 48 ∷ 48 ∷ 48 ∷ 48 ∷ 9 ∷ 48 ∷ 48 ∷ 48 ∷ 55 ∷ 10
     ∷ 88 ∷ 9 ∷ 48 ∷ 9 ∷ 48 ∷ 10 ∷ 88 ∷ 9 ∷ 48 ∷ 9 ∷ 50 ∷ 10 ∷ 88 ∷ 9 ∷ 52 ∷ 9 ∷ 48 ∷ 10 ∷ 88 ∷ 9 ∷ 53 ∷ 9 ∷ 50 ∷ 10 ∷ []
 
--- texts and their answers: the sheet; no text; a last line without its end; a type again; a label again, once as
--- everybody listed; an owner again; a label that isn't there; `T` after `L`; 0 principals; 17; a needless zero; a tab
--- more; byte 13 before byte 10; a byte above 127; a type that comes later; a set with a principal that isn't there; a
--- set in capitals; 4294967296 for a type
+-- texts and what they are parsed to: the sheet; no text; a last line without its end; a type again; a label again, once
+-- as everybody listed; an owner again; a label that isn't there; `T` after `L`; 0 principals; 17; a needless zero; a
+-- tab more; byte 13 before byte 10; a byte above 127; a type that comes later; a set with a principal that isn't there;
+-- a set in capitals; 4294967296 for a type
 texts : List (List ℕ)
 texts =
     caseText

@@ -1,4 +1,4 @@
--- From the lines of a text to its answer, a line at a time.
+-- From the lines of a text to what it is parsed to, a line at a time.
 use mathlib.Core.Path.{_≡_, refl, sym, ap, _∙_}
 use mathlib.Core.Bool.{true, false}
 use mathlib.Core.List.{List, [], _∷_}
@@ -31,7 +31,7 @@ use Rattle.sheet_text.proofs.DraftLaws.{refused-formed}
 use Rattle.sheet_text.proofs.RepeatFinds.{repeats-in}
 use Rattle.sheet_text.proofs.Theorems.{sheet-in-sound, accepted-exact}
 
--- ---- the lines that are left, at a place of a text
+-- ---- the lines to come, at a place of a text
 
 steps-front : (o : Option Sheet) (l : SheetLine) (ls : Option (List SheetLine))
     → stepsRead o (front l ls) ≡ stepsRead (addLineOn o l) ls
@@ -85,7 +85,7 @@ module _ (t : List ℕ) where
       at none e = unfold FormedIf in tt
       at (some s) e = unfold FormedIf in (sheet-in-sound t s e .is-formed)
 
--- ---- the answer
+-- ---- what a text is parsed to
 
 module _ (d : Draft) (t : List ℕ) where
   pub parsed-malformed : (o : Option Sheet) → DraftHolds o d t → d ≡ Refused

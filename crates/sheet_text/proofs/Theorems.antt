@@ -1,4 +1,4 @@
--- Each answer is given exactly to the texts that it is for.
+-- Exactly which texts are parsed to what.
 use mathlib.Core.Path.{_≡_, refl, sym, ap, _∙_}
 use mathlib.Core.Bool.{true, false}
 use mathlib.Core.List.{List}
@@ -52,7 +52,7 @@ sheet-in-print t s i =
     let l = all-lines-exact sheet-lines t (sheetLines s) .1 (i .printed, fit) in
     rw (le-leb _ _ (i .short), l) b
 
--- ---- answers
+-- ---- what texts are parsed to
 
 pub judged-once : (s : Sheet) → repeats s ≡ false → judged (some s) ≡ accepted s
 unfolding judged

@@ -18,7 +18,7 @@ buildRead (some ls) = build ls
 unfoldable pub sheetRead : List ℕ → Option Sheet
 sheetRead t = cond (fits t) (buildRead (linesOf t)) none
 
--- what a text is: refusal 1, refusal 2, or a sheet
+-- what a text is parsed to: refusal 1, refusal 2, or a sheet
 pub data ParsedSheet : Type 0 where
   malformed : ParsedSheet
   repeating : ParsedSheet

@@ -1,4 +1,4 @@
--- What is shown of sheets: each answer is given exactly to the texts that it is for.
+-- What is shown of sheets: exactly which texts are parsed to what.
 use mathlib.Core.Path.{_≡_}
 use mathlib.Core.Bool.{true, false}
 use mathlib.Core.Logic.{_↔_}

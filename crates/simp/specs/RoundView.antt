@@ -14,8 +14,8 @@ pub record EachDone (gate : Gate) (r : RanRound) : Type 0 where
   pub each : (i : ℕ) → Open gate i → getD (r .answers) i 0 ≡ 0
 
 -- Any sheet, scripts and authority, any two budgets, any two memories, any group, and any gate, the same in both
--- rounds: if both memories give the group the same view and each script is done in both rounds, the memories left
--- behind give it the same view.
+-- rounds: if both memories give the group the same view and each script is done in both rounds, the memories
+-- after them give it the same view.
 abbrev pub RoundView : Type 0
 RoundView =
     (gate : Gate) (sheet scripts : List ℕ) (authority budget budget′ group : ℕ) (memory memory′ view view′ : List ℕ)

@@ -76,7 +76,7 @@ left-declared s c src names t authority b l M M′ d h =
           (uses (λ v. proper (labelCount s) v ≡ true) (int-proper (labelCount s)) k 0 src names) (d .named) h;
     }
 
--- So a memory that isn't refused is left so, however the run ends.
+-- So a memory that isn't refused stays so, however the run ends.
 pub left-unrefused : (s : Sheet) (p : Script) → Source (p .command) → named (countsOf s) 0 (p .command) ≡ true
     → untyped s p ≡ 0
     → (memory : List ℕ) (authority budget : ℕ) → memoryRefusal s memory ≡ 0

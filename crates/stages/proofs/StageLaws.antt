@@ -367,7 +367,7 @@ module _ (script t memory : List ℕ) (authority budget : ℕ) where
           v of (R 0) (unreached memory budget) (number-stops R _ (λ _. v) _ number is z)
 
       module _ (z : number ≡ 0) where
-        -- an accepted script: what is left to do is by the memory alone
+        -- an accepted script: what is still to be done is by the memory alone
         by-memory : (s : Sheet) (T : TableOf t s)
             → onward s ≡ unless R (memoryRefusal s memory)
             (acceptedRun s memory authority budget (n .accepted s T z .parsed))

@@ -1,4 +1,4 @@
--- A reading goes over what is left of a text, a list of bytes, and hands back a value and the rest.
+-- A reading goes over a text, or the rest of one, as a list of bytes, and hands back a value and what follows it.
 use Prim.Native.Nat.{ℕ}
 use mathlib.Core.Bool.{Bool, cond}
 use mathlib.Core.List.{List, [], _∷_}

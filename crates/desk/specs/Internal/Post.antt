@@ -11,7 +11,7 @@ use Rattle.desk.specs.declared.Given.{Given}
 use Rattle.desk.specs.declared.Group.{Group}
 use Rattle.desk.specs.declared.Group.the-variants as group
 
--- what a group's text is answered with
+-- what a group's text is parsed to
 abbrev pub parsedGroup : Option ℕ → Group
 parsedGroup o = Option·elim o group.Refused (λ m. group.Read m)
 

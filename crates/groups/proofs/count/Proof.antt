@@ -1,4 +1,4 @@
--- The loop: what was found and what is left to find is all there is.
+-- The loop: what was found and what is still to be found is all there is.
 use Prim.Native.Nat.{_-_, _<_}
 use native.Mathlib.Omega.{arith}
 use Rattle.groups.specs.Internal.Readers.{readsBy}

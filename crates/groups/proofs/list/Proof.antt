@@ -1,4 +1,4 @@
--- The loop: what is left to write, written from here on, makes the whole.
+-- The loop: what is still to be written, written from here on, makes the whole.
 use Prim.Native.Nat.{_-_, _<_}
 use native.Mathlib.Omega.{arith}
 use lib.ListN.{length}

@@ -1,4 +1,4 @@
--- `input::feed_some` meets its contract: what the read left was fed.
+-- `input::feed_some` meets its contract: what the read put was fed.
 use borrow.Author.Needs.{needs}
 use Rattle.input.proofs.Inputs.{after-chunk}
 use Rattle.input.proofs.feed_some.Statement.{statement}

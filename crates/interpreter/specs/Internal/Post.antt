@@ -85,8 +85,8 @@ pub record Assigns (S : Setting) (p : Place) (fuel x : ℕ) (d : Stepped) (cells
       → ExprAt p (C .counts) rest e → x < C .counts .locations
       → Finishes (target p C rest) d cells (iterate (C .world) fuel M (close zero (C .env) (assign x e)))
 
--- What a guard or the expression of a case decides, as a transition: left or right, with the value inside and what is
--- left of the budget; no budget; a value too long, with what would have been left; no rule.
+-- What a guard or the expression of a case decides, as a transition: left or right, with the value inside and the
+-- rest of the budget; no budget; a value too long, with what the rest would have been; no rule.
 pub data Choice : Type 0 where
   to-left to-right : Value → ℕ → Choice
   no-budget : Choice

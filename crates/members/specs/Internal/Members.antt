@@ -41,7 +41,7 @@ wholeFlows t m l = belowOf (joinIn t m) (labelIn t l)
 unfoldable pub confidentialityFlows : List ℕ → ℕ → ℕ → Bool
 confidentialityFlows t m l = belowOf (confidentialityOf (joinIn t m)) (confidentialityOf (labelIn t l))
 
--- two bits: bit 1 for the whole; bit 0 for C, or for the whole too where that is asked for alone
+-- two bits: bit 1 for the whole; bit 0 for C, or for the whole too where only that is asked for (`wholly`)
 unfoldable pub flowBits : Bool → Bool → Bool → ℕ
 flowBits wholly C whole = cond whole 0b11 (cond wholly 0b00 (cond C 0b01 0b00))
 

@@ -1,4 +1,4 @@
--- `memory_text::line_words` meets its contract: what is left to read from p with i words in the array is the whole
+-- `memory_text::line_words` meets its contract: what is still to be read from p with i words in the array is the whole
 -- line.
 use Prim.Native.Nat.{_≤_, _-_}
 use mathlib.Core.Path.{_≡_, sym, ap, _∙_}

@@ -1,4 +1,4 @@
--- `memory_text::locations` meets its contract: the table with what is left to read is the whole memory.
+-- `memory_text::locations` meets its contract: the table with what is still to be read is the whole memory.
 use Prim.Native.Nat.{_≤_, _-_}
 use mathlib.Core.Path.{_≡_, refl, sym, _∙_}
 use native.Mathlib.Omega.{arith}

@@ -1,4 +1,4 @@
--- `memory_text::store` meets its contract: what is left to store from i on is the whole row.
+-- `memory_text::store` meets its contract: what is still to be stored from i on is the whole row.
 use Prim.Native.Nat.{_≤_, _-_, _+_}
 use mathlib.Core.Path.{_≡_, refl, sym, ap, _∙_}
 use mathlib.Core.List.{[]}

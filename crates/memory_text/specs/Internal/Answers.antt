@@ -1,4 +1,4 @@
--- What the code answers and what it leaves in a lent buffer.
+-- What the code parses a text to, and what it puts into a lent buffer.
 use Prim.Native.Nat.{ℕ, _/_, _%_}
 use mathlib.Core.Bool.{Bool, cond}
 use mathlib.Core.List.{List}

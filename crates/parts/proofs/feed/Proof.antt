@@ -1,4 +1,4 @@
--- `parts::feed` meets its contract: feeding what is left of the chunk is feeding the whole.
+-- `parts::feed` meets its contract: feeding the rest of the chunk is feeding the whole.
 use Prim.Native.Nat.{_≤_, _-_}
 use mathlib.Core.Path.{_≡_, refl, sym, ap, _∙_}
 use native.Mathlib.Omega.{arith}

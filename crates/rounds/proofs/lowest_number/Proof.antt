@@ -1,5 +1,5 @@
--- `rounds::lowest_number` meets its contract: the lower of what was found and what is left to find is the lowest of
--- all.
+-- `rounds::lowest_number` meets its contract: the lower of what was found and what is still to be found is the lowest
+-- of all.
 use mathlib.Core.Path.{_≡_, refl, sym, ap, _∙_}
 use mathlib.Core.List.{List, []}
 use Prim.Native.Nat.{ℕ, _+_, _-_, _≤_}

@@ -12,7 +12,7 @@ use Rattle.script_text.proofs.CodeLaws.{tabled, table-start, table-done
 use Rattle.script_text.proofs.decode_lines.Statement.{statement}
 use Rattle.script_text.proofs.decode_lines.Tie as tie
 
--- what is left to decode gives the code of all lines from the first on
+-- what is still to be decoded gives the code of all lines from the first on
 abbrev Inv-loop : tie.InvT-loop
 Inv-loop s from most start code₀ n₀ at₀ code n at =
     (n ≤ most) × (most ≤ maxLines) × (length code ≡ codeWords)

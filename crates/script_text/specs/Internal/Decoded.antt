@@ -1,4 +1,4 @@
--- What the code answers to a script's text: how many lines its command has, where it starts, and the words of the
+-- What the code parses a script's text to: how many lines its command has, where it starts, and the words of the
 -- lines' code.
 use mathlib.Core.List.{List, []}
 use mathlib.Core.Option.{Option, none, some}
@@ -23,7 +23,7 @@ countsIn t = record { types = typesIn t; labels = labelsIn t; locations = locati
 abbrev pub codeWords : ℕ
 codeWords = 3 * maxLines
 
--- The answer to a text, how many lines its command has, the number of the label that it starts at, and what the lent
+-- Whether a text is read, how many lines its command has, the number of the label that it starts at, and what the lent
 -- words then hold.
 pub record Decoded : Type 0 where
   pub parsed : ParsedScript
@@ -31,11 +31,11 @@ pub record Decoded : Type 0 where
   pub start : ℕ
   pub code : List ℕ
 
--- the answer to a refused text
+-- that of a refused text
 unfoldable pub noCode : Decoded
 noCode = record { parsed = parsed.Refused; count = 0; start = startNo none; code = replicate codeWords 0 }
 
--- the answer to lines after a start: how many they are, and their code
+-- that of lines after a start: how many they are, and their code
 unfoldable pub coded : ℕ → List ScriptLine → Decoded
 coded start ls = record { parsed = parsed.Read; count = length ls; start = start; code = padded codeWords (code ls) }
 
@@ -43,12 +43,12 @@ unfoldable pub codedLines : ℕ → Option (List ScriptLine) → Decoded
 codedLines start none = noCode
 codedLines start (some ls) = coded start ls
 
--- the answer to what is written in a text
+-- that of what is written in a text
 unfoldable pub codedText : Option Written → Decoded
 codedText none = noCode
 codedText (some w) = coded (startNo (w .opening .start)) (w .lines)
 
--- The answer to a script.
+-- That of a script.
 unfoldable pub decodedScript : Option Script → Decoded
 decodedScript none = noCode
 decodedScript (some p) = coded (startNo (p .opening .start)) (cmdLines (p .command) [])

@@ -1,4 +1,4 @@
--- `scripts::end_of` meets its contract: what is left of the walk from here is the walk from the start.
+-- `scripts::end_of` meets its contract: the rest of the walk from here is the walk from the start.
 use Prim.Native.Nat.{_+_, _-_}
 use mathlib.Core.Path.{_≡_, refl, sym, _∙_}
 use borrow.Author.Needs.{needs}

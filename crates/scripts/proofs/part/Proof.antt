@@ -1,4 +1,4 @@
--- `scripts::part` meets its contract: what is kept, with the ends that are left, is all.
+-- `scripts::part` meets its contract: what is kept, with the ends to come, is all.
 use mathlib.Core.Path.{_≡_, refl, _∙_}
 use Prim.Native.Nat.{_+_, _-_, _≤_}
 use native.Mathlib.Omega.{arith}

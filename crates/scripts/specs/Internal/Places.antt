@@ -1,4 +1,4 @@
--- Where the parts of a text stand in it.
+-- Where the scripts of a text stand in it.
 use Prim.Native.Nat.{ℕ, suc, _+_, min}
 use mathlib.Core.Bool.{Bool, true, cond}
 use mathlib.Core.List.{List, [], _∷_}
@@ -13,23 +13,23 @@ unfoldable pub scriptLength : Bool → List ℕ → ℕ
 scriptLength start [] = 0
 scriptLength start (b ∷ t) = cond (both start (eqb b 10)) 0 (suc (scriptLength (eqb b 10) t))
 
--- where the part that starts at `from` ends
+-- where the script that starts at `from` ends
 unfoldable pub scriptEnd : List ℕ → ℕ → ℕ
 scriptEnd text from = from + scriptLength true (drop from text)
 
--- the parts that start at `from` and later: none past the end of the text
+-- the texts of the scripts that start at `from` and later: none past the end of the text
 unfoldable pub scriptTextsAfter : List ℕ → ℕ → List (List ℕ)
 scriptTextsAfter text from = cond (leb from (length text)) (scriptTexts (drop from text)) []
 
--- where parts end that follow one another from a place on, with one byte between two
+-- where texts end that follow one another from byte `at` on, with one byte between two
 unfoldable pub endsFrom : ℕ → List (List ℕ) → List ℕ
 endsFrom at [] = []
 endsFrom at (p ∷ ps) = (at + length p) ∷ endsFrom (at + length p + 1) ps
 
--- the ends of a text's parts, those that have a place; zeros in the places past the last
+-- the ends of a text's scripts, of those that have a place; zeros in the places past the last
 unfoldable pub keptEnds : List ℕ → List ℕ
 keptEnds text = sets (replicate mostScripts 0) 0 (endsFrom 0 (scriptTexts text))
 
--- how many parts a text has, counted up to one more than have a place
+-- how many scripts a text has, counted up to one more than have a place
 unfoldable pub scriptsCounted : List ℕ → ℕ
 scriptsCounted text = min (suc mostScripts) (length (scriptTexts text))

@@ -1,4 +1,4 @@
--- What is stored in a table where its sheet grows. A table without room for more is left as it is.
+-- What is stored in a table where its sheet grows. A table without room for more stays as it is.
 use mathlib.Core.Bool.{cond}
 use mathlib.Core.List.{List}
 use Prim.Native.Nat.{ℕ, _+_, _*_, _-_, _%_}

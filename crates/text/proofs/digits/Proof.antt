@@ -1,4 +1,4 @@
--- `text::digits` meets its contract: what is left to read from i with v is what was to be read at the start.
+-- `text::digits` meets its contract: what is still to be read from i with v is what was to be read at the start.
 use Prim.Native.Nat.{_≤_, _-_}
 use mathlib.Core.Path.{_≡_, refl, sym, _∙_}
 use native.Mathlib.Omega.{arith}

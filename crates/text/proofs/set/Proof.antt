@@ -1,4 +1,4 @@
--- `text::set` meets its contract: what is left to read from p with m is what was to be read at the start.
+-- `text::set` meets its contract: what is still to be read from p with m is what was to be read at the start.
 use Prim.Native.Nat.{ℕ, _≤_, _<_, _-_, _^_}
 use mathlib.Core.Path.{_≡_, refl, sym, _∙_, ap}
 use native.Mathlib.Omega.{arith}

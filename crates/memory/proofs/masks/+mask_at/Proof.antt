@@ -48,7 +48,7 @@ readings t = (
   mask-at.Post,
 )
 
--- what is left for the last call, by the kind
+-- what is for the last call to do, by the kind
 last : (t : ℕ) (c : mask-at-lts.At-match-came (readings t) (mask-at-at t) mask-at.Post)
     → let a = c .before .before .before .before .before .before .args in
     laws.Last (readsIn (a .table .now) (a .group)) (a .words .now) (a .at) (a .out .now) (a .to) (c .match .out)

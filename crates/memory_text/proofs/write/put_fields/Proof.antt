@@ -1,4 +1,4 @@
--- `memory_text::write::put_fields` meets its contract: the fields from i on are left to write.
+-- `memory_text::write::put_fields` meets its contract: the fields from i on are still to be written.
 use Prim.Native.Nat.{_≤_, _+_, _*_, _-_}
 use mathlib.Core.Path.{_≡_, refl, _∙_}
 use native.Mathlib.Omega.{arith}

@@ -1,4 +1,4 @@
--- `memory_text::write::write_memory` meets its contract: the lines from the n-th location on are left to write.
+-- `memory_text::write::write_memory` meets its contract: the lines from the n-th location on are still to be written.
 use Prim.Native.Nat.{_≤_, _*_, _-_}
 use mathlib.Core.Path.{_≡_, refl, sym, _∙_}
 use native.Mathlib.Omega.{arith}

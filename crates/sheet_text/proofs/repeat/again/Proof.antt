@@ -1,4 +1,5 @@
--- `sheet_text::repeat::again` meets its contract: what is left to look for is what was to be looked for at the start.
+-- `sheet_text::repeat::again` meets its contract: what is still to be looked for is what was to be looked for at the
+-- start.
 use mathlib.Core.Path.{_≡_, refl, sym, _∙_}
 use Prim.Native.Nat.{_-_}
 use native.Mathlib.Omega.{arith}

@@ -1,4 +1,4 @@
--- `sheet_text::repeat::repeated` meets its contract: what is left to look for is what was to be looked for at the
+-- `sheet_text::repeat::repeated` meets its contract: what is still to be looked for is what was to be looked for at the
 -- start.
 use mathlib.Core.Path.{_≡_, refl, sym, _∙_}
 use Prim.Native.Nat.{_-_}

@@ -19,7 +19,7 @@ use Rattle.simp.specs.Texts.{bytes}
 unfoldable pub sheet : String
 sheet = "P 3\nT 0 1\nL\nL\nO 0 0000 0000\nL\nO 0 0000 0007\nX 0 0\nX 0 2\nX 4 0\nX 5 2\n"
 
--- no location, and fourteen sums from type 5 on, each with the one before it on its left, the first with int+int
+-- no location, and fourteen sums, types 5 to 18: each has the type before it on its left, the first int+int
 unfoldable pub nested : String
 nested =
     "P 1\nT 3 0\nT 5 0\nT 6 0\nT 7 0\nT 8 0\nT 9 0\nT 10 0\nT 11 0\nT 12 0\nT 13 0\nT 14 0\nT 15 0\nT 16 0\nT 17 0\n"
@@ -40,15 +40,15 @@ unfoldable pub trustedOn : String → ℕ → List ℕ → List ℕ
 trustedOn on group m = onSheet (λ k. []) (sheetOf (bytes on)) (λ s. trustedWords s group m)
 
 pub data Case : Type 0 where
-  -- of four principals, whether a group reads, by the scope's rule, or writes the label with these policies
+  -- of four principals, whether a group reads by the pooled rule, or writes, the label with these policies
   readsPooled writes : List Policy → ℕ → Bool → Case
-  -- likewise, whether a group reads it by the rule of request (g)
+  -- likewise, whether one of the group's members reads it by himself
   readsAlone : List Policy → ℕ → Bool → Case
   -- a script, and what checking it answers
   checks : String → ℕ → Case
   -- a sheet, a script, and what checking it answers
   checksOn : String → String → ℕ → Case
-  -- a text, then so many sequences and as many skips, then a last command, and what checking this script answers
+  -- an opening, so many `;` and as many `s`, and a last command: together a script; and what checking it answers
   checksLong : String → ℕ → String → ℕ → Case
   -- a script, a memory and an authority; the steps of the run, which is done, and the memory that it leaves
   runs : String → List ℕ → ℕ → ℕ → List ℕ → Case
@@ -65,8 +65,8 @@ pub data Case : Type 0 where
   rounds : String → List String → List ℕ → ℕ → ℕ → List ℕ → List ℕ → List ℕ → Case
   -- a sheet, a script, and what simp_trust answers: the number, and 1 if the script is accepted and trust-keeping
   trusts : String → String → ℕ → ℕ → Case
-  -- a sheet, a script, an authority, a group of distrusted parties and a memory: what is left of the memory where the
-  -- group is distrusted, and what is left of it so after the run, which is done
+  -- a sheet, a script, an authority, a group of distrusted parties and a memory: what is left of the memory, and what
+  -- is left of the one after the run, which is done
   distrusts : String → String → ℕ → ℕ → List ℕ → List ℕ → List ℕ → Case
   -- a sheet, a label and places: what simp_groups answers, how many groups, and what the places then hold
   groups : String → ℕ → List ℕ → ℕ → ℕ → List ℕ → Case

@@ -9,8 +9,8 @@ twoLabels = "P 4\nL\nL\nO 0 0004 0000\nO 1 0008 0000\n"
 
 unfoldable pub groupCases : List Case
 groupCases =
-    -- smallest groups: of {0: 2; 1: 3} those of one of 0 and 2 and one of 1 and 3, rising, and the place after them
-    -- is kept; of a label without policies each principal by itself, into as many places
+    -- of {0: 2; 1: 3}: 0 or 2, together with 1 or 3; the groups rise, and the place after them is kept. Of a label
+    -- without policies: each principal by itself, into as many places as there are groups
     groups twoLabels 1 (7 ∷ 7 ∷ 7 ∷ 7 ∷ 7 ∷ []) 0 4 (0b0011 ∷ 0b0110 ∷ 0b1001 ∷ 0b1100 ∷ 7 ∷ [])
     ∷ groups twoLabels 0 (7 ∷ 7 ∷ 7 ∷ 7 ∷ []) 0 4 (0b0001 ∷ 0b0010 ∷ 0b0100 ∷ 0b1000 ∷ [])
     -- a place too few, a label too many, a sheet without labels

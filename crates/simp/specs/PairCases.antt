@@ -11,8 +11,8 @@ unfoldable pub pairTypes : String
 pairTypes =
     "P 2\nQ 2 0\nQ 0 0\nT 6 1\nQ 3 7\nQ 0 7\nQ 2 7\nQ 7 0\nL\nL\nO 0 0000 0000\nX 5 0\nX 0 1\nX 0 0\nX 7 1\nX 6 0\nX 5 1\n"
 
--- int*int in 5 words, two of them in 11, and with these for their first part type 8, of at most 16 words, and type 10,
--- of at most 17; an integer, and a pair of type 8
+-- Type 5 is int*int, of 5 words, and type 6 a pair of two of them, of 11. Types 8 and 10 are pairs with type 6 for
+-- their first part, of at most 16 and 17 words. An integer, and a pair of type 8.
 unfoldable pub longPairs : String
 longPairs = "P 1\nQ 0 0\nQ 5 5\nT 3 0\nQ 6 7\nT 7 0\nQ 6 9\nL\nX 0 0\nX 8 0\n"
 
@@ -38,8 +38,8 @@ pairs a n s p = filledRows (a ∷ (1 ∷ 62 ∷ []) ∷ n ∷ s ∷ p ∷ (6 ∷
 unfoldable pub firstOf : List ℕ → List ℕ
 firstOf a = pairs a (1 ∷ 7 ∷ []) (4 ∷ 2 ∷ 1 ∷ []) (6 ∷ 1 ∷ 1 ∷ 1 ∷ 2 ∷ [])
 
--- the same with the pair of a package at label 1, whose content these words are, and of 5 in location 0, and other
--- words in location 3
+-- the same with other words in location 3, and in location 0 the pair of a package of label 1, with these words for its
+-- content, and 5
 unfoldable pub pairOf : List ℕ → List ℕ → List ℕ
 pairOf content s = pairs (6 ∷ 5 ∷ 1 ∷ content ++ (1 ∷ 5 ∷ [])) (1 ∷ 7 ∷ []) s (6 ∷ 1 ∷ 1 ∷ 1 ∷ 2 ∷ [])
 
@@ -57,8 +57,8 @@ longWith n = filledRows ((1 ∷ n ∷ []) ∷ (6 ∷ 6 ∷ 6 ∷ 1 ∷ 0 ∷ 1 �
 
 unfoldable pub pairCases : List Case
 pairCases =
-    -- pairs: `Q` is no repeat of the same `T`, a given type included, but of itself; its types come before it, and it
-    -- before the labels; there are 27 of both together
+    -- a `Q` repeats a `Q` of the same types and no `T`, a given sum included; its types come before it, and it comes
+    -- before the labels; there are at most 27 of both together
     checksOn "P 1\nT 0 1\nQ 0 1\n" "s\n" 0
     ∷ checksOn "P 1\nQ 0 0\nQ 2 1\nQ 1 2\n" "s\n" 0
     ∷ checksOn "P 1\nQ 0 1\nT 0 1\nQ 0 1\n" "s\n" 2
@@ -68,7 +68,7 @@ pairCases =
     ∷ checksOn "P 1\nL\nQ 0 0\n" "s\n" 1
     ∷ checksOn mostTypes "s\n" 0
     ∷ checksOn tooManyTypes "s\n" 1
-    -- a pair's label is the join: of the second operand and of the first; a part has the label of the whole
+    -- a pair's label is the join of its operands', the second's and the first's; a part has the label of the whole
     ∷ checksOn pairTypes "= 4\np 6\nx 2\nx 2\n" 0
     ∷ checksOn pairTypes "= 4\np 6\nx 2\nx 1\n" 6
     ∷ checksOn pairTypes "= 4\np 6\nx 1\nx 2\n" 6
@@ -78,8 +78,8 @@ pairCases =
     -- a starting label asks the same of pairs
     ∷ checksOn pairTypes "b 1\n= 4\np 6\ni 1\ni 2\n" 6
     ∷ checksOn pairTypes "b 1\n= 1\ng\np 6\ni 1\ni 2\n" 0
-    -- types: `p` names a pair, whose parts its operands are of; `f` and `g` take a pair; `l`, `r` and `u` name a sum,
-    -- and `c` and `w` take a sum
+    -- types: `p` names a pair type, and its operands are of that type's parts; `f` and `g` take a pair; `l`, `r` and
+    -- `u` name a sum, and `c` and `w` take one
     ∷ checksOn pairTypes "= 4\np 3\ni 1\ni 2\n" 5
     ∷ checksOn pairTypes "= 4\np 6\ni 1\nf\nx 0\n" 5
     ∷ checksOn pairTypes "= 4\np 6\nf\nx 0\ni 1\n" 5
@@ -123,7 +123,7 @@ pairCases =
     ∷ runsOn pairTypes "s\n" (firstOf (6 ∷ 5 ∷ 1 ∷ 1 ∷ 9 ∷ [])) 0 8 0 (firstOf (6 ∷ 5 ∷ 1 ∷ 1 ∷ 9 ∷ []))
     ∷ runsOn pairTypes "s\n" (firstOf (6 ∷ 5 ∷ 1 ∷ 1 ∷ 9 ∷ 1 ∷ 5 ∷ 1 ∷ [])) 0 8 0
     (firstOf (6 ∷ 5 ∷ 1 ∷ 1 ∷ 9 ∷ 1 ∷ 5 ∷ 1 ∷ []))
-    -- a pair of 16 words fits, one of 17 gives 10, also where a part of it is wanted alone
+    -- a pair of 16 words fits, one of 17 gives 10, also where only a part of it is wanted
     ∷ runsOn longPairs "= 1\np 8\np 6\np 5\ni 1\ni 2\np 5\ni 3\ni 4\nl 7\nl 3\ni 5\n" (longWith 0) 0 0 1
     (filledRows ((1 ∷ 0 ∷ []) ∷ (6 ∷ 6 ∷ 6 ∷ 1 ∷ 1 ∷ 1 ∷ 2 ∷ 6 ∷ 1 ∷ 3 ∷ 1 ∷ 4 ∷ 3 ∷ 3 ∷ 1 ∷ 5 ∷ []) ∷ []))
     ∷ runsOn longPairs "= 0\nf\ng\nf\np 8\np 6\np 5\ni 1\ni 2\np 5\ni 3\ni 4\nl 7\nl 3\ni 5\n"

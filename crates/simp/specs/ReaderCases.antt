@@ -42,8 +42,8 @@ packageShown = filledRows ((1 ∷ 5 ∷ []) ∷ [] ∷ (5 ∷ 1 ∷ 0 ∷ []) �
 
 unfoldable pub readerCases : List Case
 readerCases =
-    -- one reader by himself: {2,3} doesn't read {0: 2; 1: 3}, nor do all four; of the other label 0 and 1 are such
-    -- readers; nobody reads nothing
+    -- {2,3} doesn't read {0: 2; 1: 3}, nor do all four together; of the other label 0 is a reader by himself, and so is
+    -- 1; of a label without policies everyone is; the empty group reads nothing
     readsAlone readersOnly 0b1100 false
     ∷ readsAlone readersOnly 0b1111 false
     ∷ readsAlone twoPolicies 0b0001 true
@@ -53,7 +53,7 @@ readerCases =
     ∷ readsAlone twoPolicies 0b0000 false
     ∷ readsAlone [] 0b0100 true
     ∷ readsAlone [] 0b0000 false
-    -- `R 1` right after `P`, once; what follows it is as without it
+    -- `R 1` stands right after `P`, once; the lines after it are as without it
     ∷ checksOn "P 4\nR 1\n" "s\n" 0
     ∷ checksOn "P 4\nR 1\nT 0 1\nL\nX 5 0\n" "= 0\nl 5\ni 1\n" 0
     ∷ checksOn "P 4\nR 1\nT 0 0\n" "s\n" 2
@@ -79,10 +79,11 @@ readerCases =
     (filledRows ([] ∷ [] ∷ [] ∷ [] ∷ [] ∷ []))
     ∷ views lastReader 0b1000000000000000 (filledRows ((1 ∷ 5 ∷ []) ∷ [])) (filledRows ((1 ∷ 5 ∷ []) ∷ []))
     ∷ views lastReader 0b0111111111111111 (filledRows ((1 ∷ 5 ∷ []) ∷ [])) (filledRows ([] ∷ []))
-    -- a group sees what some member reads, label by label: of a package one member the location, another the content
+    -- a group sees what one or another of its members reads: here one reads a package's location, another its content
     ∷ views eachHisOwn 0b11 (filledRows ((5 ∷ 1 ∷ 1 ∷ 9 ∷ []) ∷ [])) (filledRows ((5 ∷ 1 ∷ 1 ∷ 9 ∷ []) ∷ []))
     ∷ views eachHisOwn 0b01 (filledRows ((5 ∷ 1 ∷ 1 ∷ 9 ∷ []) ∷ [])) (filledRows ((5 ∷ 1 ∷ 0 ∷ []) ∷ []))
-    -- an unpack follows it, for the wanted label, also where the package's is below it and read; one member is enough
+    -- an unpack asks it of the wanted label, even where the package's own is below that and is read; one member who
+    -- reads is enough
     ∷ runsOn together "= 3\nu 5 1\nx 2\n" (withPackage (1 ∷ 9 ∷ []) (4 ∷ 2 ∷ 3 ∷ []) (4 ∷ 2 ∷ 1 ∷ [])) 0b1100 0 1
     (withPackage (1 ∷ 9 ∷ []) (3 ∷ 1 ∷ 9 ∷ []) (4 ∷ 2 ∷ 1 ∷ []))
     ∷ runsOn byHimself "= 3\nu 5 1\nx 2\n" (withPackage (1 ∷ 9 ∷ []) (4 ∷ 2 ∷ 3 ∷ []) (4 ∷ 2 ∷ 1 ∷ [])) 0b1100 0 1
@@ -93,7 +94,7 @@ readerCases =
     (filledRows ((5 ∷ 0 ∷ 1 ∷ 9 ∷ []) ∷ (4 ∷ 2 ∷ 1 ∷ []) ∷ []))
     ∷ runsOn belowByHimself "= 1\nu 5 0\nx 0\n" (filledRows ((5 ∷ 0 ∷ 1 ∷ 9 ∷ []) ∷ (4 ∷ 2 ∷ 3 ∷ []) ∷ [])) 0b0100 0 1
     (filledRows ((5 ∷ 0 ∷ 1 ∷ 9 ∷ []) ∷ (3 ∷ 1 ∷ 9 ∷ []) ∷ []))
-    -- writing stays: 0 and 1 write label 1 together, neither by himself, in a pack and where they are distrusted
+    -- writing stays pooled: 0 and 1 write label 1 together and neither by himself, in a pack and where distrusted
     ∷ runsOn byHimself "= 4\nk 1\ni 9\n" (withPackage (1 ∷ 9 ∷ []) (4 ∷ 2 ∷ 1 ∷ []) (4 ∷ 2 ∷ 3 ∷ [])) 0b0011 0 1
     (withPackage (1 ∷ 9 ∷ []) (4 ∷ 2 ∷ 1 ∷ []) (3 ∷ 5 ∷ 1 ∷ 1 ∷ 9 ∷ []))
     ∷ runsOn byHimself "= 4\nk 1\ni 9\n" (withPackage (1 ∷ 9 ∷ []) (4 ∷ 2 ∷ 1 ∷ []) (4 ∷ 2 ∷ 3 ∷ [])) 0b0001 0 1
@@ -105,7 +106,8 @@ readerCases =
     (filledRows ([] ∷ (1 ∷ 62 ∷ []) ∷ [] ∷ (4 ∷ 2 ∷ 1 ∷ []) ∷ [] ∷ []))
     ∷ trusts byHimself "= 3\nu 5 1\nx 2\n" 0 0
     ∷ trusts byHimself "= 4\nk 1\ni 9\n" 0 1
-    -- smallest groups are the single readers: none, which need no place; each of four; two, for one place too few
+    -- the smallest groups are the single readers: none, so that no place is needed; each of four; two, into two places,
+    -- and into one, which is too few
     ∷ groups byHimself 1 (7 ∷ 7 ∷ []) 0 0 (7 ∷ 7 ∷ [])
     ∷ groups byHimself 1 [] 0 0 []
     ∷ groups byHimself 0 (7 ∷ 7 ∷ 7 ∷ 7 ∷ 7 ∷ []) 0 4 (0b0001 ∷ 0b0010 ∷ 0b0100 ∷ 0b1000 ∷ 7 ∷ [])

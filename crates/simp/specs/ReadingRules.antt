@@ -40,25 +40,32 @@ ruled rule s = record {
   locations = s .locations;
 }
 
+-- What is the same on a sheet with another rule.
 pub record OnlyReading : Type 0 where
-  -- who writes a label, so what a pack does and what is left where a group is distrusted
+  -- who writes a label
   pub writing : (rule : Rule) (s : Sheet) (g l : ℕ) → writesNo (ruled rule s) g l ≡ writesNo s g l
+  -- what is left of a memory where a group is distrusted
   pub distrusting : (rule : Rule) (s : Sheet) (g : ℕ) (ws : List ℕ)
       → trustedWords (ruled rule s) g ws ≡ trustedWords s g ws
-  -- which sheets, scripts and memories are refused, and which scripts are trust-keeping
+  -- whether it is of the right form, and whether it repeats something (1 and 2)
   pub sheets : (rule : Rule) (s : Sheet) → (formed (ruled rule s) ≡ formed s) × (repeats (ruled rule s) ≡ repeats s)
+  -- how much there is to name (4)
   pub names : (rule : Rule) (s : Sheet) → countsOf (ruled rule s) ≡ countsOf s
+  -- which scripts have a derivation (5 and 6)
   pub typing : (rule : Rule) (s : Sheet) (p : Script)
       → refusal (labelsOver (s .principals)) (declarationsOf (ruled rule s)) p
       ≡ refusal (labelsOver (s .principals)) (declarationsOf s) p
+  -- which scripts are trust-keeping
   pub keeping : (rule : Rule) (s : Sheet) (p : Script)
       → trustKeeping (labelsOver (s .principals)) (declarationsOf (ruled rule s)) p
       ≡ trustKeeping (labelsOver (s .principals)) (declarationsOf s) p
+  -- which memories are refused (7 and 8)
   pub memories : (rule : Rule) (s : Sheet) (ws : List ℕ) → memoryRefusal (ruled rule s) ws ≡ memoryRefusal s ws
-  -- what a run goes by, but for who reads; and the label that a script starts at
+  -- what a run rests on, but for who reads: that is by the other rule
   pub runs : (rule : Rule) (s : Sheet) (authority : ℕ) (p : Script) → let w = worldFor s authority p in
       worldFor (ruled rule s) authority p
       ≡ record { ty = w .ty; below = w .below; reads = readsNo (ruled rule s) authority; writes = w .writes }
+  -- the label that a script starts at
   pub starts : (rule : Rule) (s : Sheet) (p : Script) → startLabel (ruled rule s) p ≡ startLabel s p
 
 -- ---- what the view promises rests on one fact about reading
@@ -73,8 +80,8 @@ abbrev pub StartUnread : (Label → Bool) → List ℕ → List ℕ → Type 0
 StartUnread reads sheet script =
     (s : Sheet) (p : Script) → IsSheet sheet s → IsScript (countsOf s) script p → ¬ (reads (startLabel s p .raw) ≡ true)
 
--- What he is promised: what a group is, of the words that are shown. (That simp_view gives a group a view, or the same
--- number, before and after is in Demand3, RoundView and StartUnseen.)
+-- What is promised to him of the words that he is shown: the same as to a group. (Demand3, RoundView and StartUnseen
+-- say besides that simp_view gives a group its view before and after, or the same number.)
 pub record PromisedTo (reads : Label → Bool) (sheet : List ℕ) (s : Sheet) : Type 0 where
   -- demand 3: if two memories show him the same and both runs are done, what they leave shows him the same
   pub kept : (script : List ℕ) (authority budget budget′ : ℕ) (memory memory′ : List ℕ)
@@ -90,17 +97,17 @@ pub record PromisedTo (reads : Label → Bool) (sheet : List ℕ) (s : Sheet) : 
       → EachDone gate (roundBy gate sheet scripts memory′ authority budget′)
       → shownBy s reads (roundBy gate sheet scripts memory authority budget .memory)
       ≡ shownBy s reads (roundBy gate sheet scripts memory′ authority budget′ .memory)
-  -- a run of a script whose starting label he doesn't read, and a round of such, leave what he is shown, as StartUnseen
-  -- (request (d))
+  -- a run of a script whose starting label he doesn't read leaves what he is shown as it was, and so does a round of
+  -- such scripts, as StartUnseen (request (d))
   pub unseen : (script : List ℕ) → StartUnread reads sheet script → (authority budget : ℕ) (memory : List ℕ)
       → shownBy s reads (runOf sheet script memory authority budget .memory) ≡ shownBy s reads memory
   pub round-unseen : (gate : Gate) (scripts : List ℕ) → EachOpen (StartUnread reads sheet) gate 0 (scriptTexts scripts)
       → (authority budget : ℕ) (memory : List ℕ)
       → shownBy s reads (roundBy gate sheet scripts memory authority budget .memory) ≡ shownBy s reads memory
 
--- Whoever reads so is promised it, on any sheet. A group is shown what one is who reads as it does, by the sheet's
--- rule, and the starts that are hidden from it are those that he doesn't read. The run's authority reads by the sheet's
--- rule, and nothing is asked of that.
+-- It is promised to everyone who reads with a label every label below it, on any sheet. A group is shown what he is who
+-- reads the labels that it reads by the sheet's rule, and the starts hidden from it are those that he doesn't read.
+-- (The run's authority reads by the sheet's rule; of that nothing is asked.)
 pub record DownwardSuffices : Type 0 where
   pub promised : (reads : Label → Bool) → DownwardClosed reads → (sheet : List ℕ) (s : Sheet) → IsSheet sheet s
       → PromisedTo reads sheet s

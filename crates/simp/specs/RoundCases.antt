@@ -10,14 +10,15 @@ beforeWith n = fourLocations (1 ∷ n ∷ []) (1 ∷ 62 ∷ []) (4 ∷ 2 ∷ 1 �
 
 unfoldable pub roundCases : List Case
 roundCases =
-    -- rounds: 32 scripts, each adding 1 to location 0, one after another; 33 are refused
+    -- 32 scripts, each of which adds 1 to location 0; 33 are refused
     rounds sheet (replicate 32 "= 0\n+\nx 0\ni 1\n") before 1 0 [] (replicate 32 1) (beforeWith 37)
     ∷ rounds sheet (replicate 33 "= 0\n+\nx 0\ni 1\n") before 1 11 [] [] before
-    -- a 4 behind a 6 refuses the round by 4, and an empty line at the end is an empty script
+    -- a script with number 4 after one with 6 refuses the round by 4; after an empty line at the end comes an empty
+    -- script, which has 4
     ∷ rounds sheet ("= 0\ni 6\n" ∷ "= 0\nx 1\n" ∷ "= 0\n" ∷ []) before 1 4 [] [] before
     ∷ rounds sheet ("= 0\ni 6\n" ∷ "= 0\nx 1\n" ∷ []) before 1 6 [] [] before
     ∷ rounds sheet ("= 0\ni 6\n" ∷ "" ∷ []) before 1 4 [] [] before
-    -- a script that stops leaves the memory as the one before it did, and the round goes on with the whole budget
+    -- a script that stops, by 9 or by 10, leaves the memory as it was; the next one has the whole budget
     ∷ rounds sheet ("= 0\ni 6\n" ∷ ";\n= 0\ni 70\nw\nl 3\ni 1\ns\n" ∷ "= 0\n+\nx 0\ni 1\n" ∷ []) before 3 0
     (0 ∷ 9 ∷ 0 ∷ []) (1 ∷ 3 ∷ 1 ∷ []) (beforeWith 7)
     ∷ rounds nested

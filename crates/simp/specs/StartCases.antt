@@ -9,23 +9,23 @@ afterStart = fourLocations (1 ∷ 5 ∷ []) (1 ∷ 7 ∷ []) (4 ∷ 2 ∷ 1 ∷ 
 
 unfoldable pub startCases : List Case
 startCases =
-    -- starting labels: what is assigned lies at or above the start, after a `;` and in a loop too
+    -- what is assigned must lie at or above the start, after a `;` and in a loop too
     checks "b 2\n= 0\ni 1\n" 6
     ∷ checks "b 2\n= 1\ni 1\n" 0
     ∷ checks "b 1\n= 0\ni 1\n" 6
     ∷ checks "b 1\n= 1\ni 1\n" 0
     ∷ checks "b 2\n;\n= 1\ni 1\n= 0\ni 1\n" 6
     ∷ checks "b 2\n;\n;\ns\ns\nw\nl 3\ni 1\n= 0\ni 1\n" 6
-    -- a start above the location by writers alone; a start that is bottom asks what none does
+    -- a start that is above the location by its writers alone; a start at bottom, which asks as much as no start
     ∷ checksOn twoStarts "b 1\n= 0\ni 1\n" 6
     ∷ checksOn twoStarts "b 0\n= 0\ni 1\n" 0
     ∷ checksOn twoStarts "= 0\ni 1\n" 0
     ∷ checksOn twoStarts "b 0\n= 0\nx 1\n" 6
     ∷ checksOn twoStarts "= 0\nx 1\n" 6
-    -- it takes no step
+    -- a start takes no step
     ∷ runs "b 2\n= 1\ni 7\n" before 0b000 1 afterStart
-    -- a label that isn't on the sheet, the last of any sheet's or past it; no command after it; twice; not first; no
-    -- label
+    -- refused: a label that isn't on this sheet, or can't be on any; no command after the start; a second start; a
+    -- start that isn't first; a start without label
     ∷ checks "b 3\n= 1\ni 1\n" 4
     ∷ checks "b 31\n= 1\ni 1\n" 4
     ∷ checks "b 32\n= 1\ni 1\n" 4
@@ -36,7 +36,7 @@ startCases =
     ∷ checks "= 1\ni 1\nb 2\n" 4
     ∷ checks ";\nb 2\n= 1\ni 1\ns\n" 4
     ∷ checks "b\n= 1\ni 1\n" 4
-    -- it is one of 512 lines: 511 and it are accepted, 512 without it, and not 512 with it
+    -- a start is one of the 512 lines: 511 more are accepted, 512 without it are, and 512 more aren't
     ∷ checksLong "b 2\n" 255 "s\n" 0
     ∷ checksLong "" 255 "= 1\ni 1\n" 0
     ∷ checksLong "b 2\n" 255 "= 1\ni 1\n" 4

@@ -16,13 +16,13 @@ use Rattle.rounds.specs.Answers.{Gate}
 use Rattle.rounds.specs.Calls.{roundBy}
 use Rattle.simp.specs.Rounds.{EachOpen}
 
--- The group can't read the label that the script starts at: the script that has the second text, on the sheet that has
--- the first. (At most one sheet and one script have these texts; there is one of each if the script is accepted.)
+-- The group can't read the label that the script starts at. (One sheet and one script at most have these texts. If the
+-- script is accepted there are such; where there are none, this holds.)
 abbrev pub StartHidden : List ℕ → ℕ → List ℕ → Type 0
 StartHidden sheet group script =
     (s : Sheet) (p : Script) → IsSheet sheet s → IsScript (countsOf s) script p → ¬ (readsStart s group p ≡ true)
 
--- so of each script that is open, the first of these being in place i
+-- the same of each open script, the first of these texts being in place i
 abbrev pub HiddenFrom : List ℕ → ℕ → Gate → ℕ → List (List ℕ) → Type 0
 HiddenFrom sheet group gate i ts = EachOpen (StartHidden sheet group) gate i ts
 
@@ -30,12 +30,12 @@ HiddenFrom sheet group gate i ts = EachOpen (StartHidden sheet group) gate i ts
 -- before and after, word for word, whatever the call in between answers. Of a memory that gives no view it gives the
 -- same number both times, and the slice as it was.
 pub record StartUnseen : Type 0 where
-  -- a run of a script whose starting label the group can't read: done, stopped or refused. (A script that isn't
-  -- accepted is refused, so nothing is asked of that.)
+  -- a run of a script whose starting label the group can't read: done, stopped or refused. (Whether the script is
+  -- accepted isn't asked: one that isn't is refused.)
   pub run : (sheet script : List ℕ) (group : ℕ) → StartHidden sheet group script
       → (authority budget : ℕ) (memory view : List ℕ)
       → viewOf sheet (runOf sheet script memory authority budget .memory) group view ≡ viewOf sheet memory group view
-  -- a round whose open scripts are such: each done or stopped, or the round refused
+  -- a round whose open scripts all start so: each done or stopped, or the round refused
   pub round : (sheet scripts : List ℕ) (group : ℕ) (gate : Gate) → HiddenFrom sheet group gate 0 (scriptTexts scripts)
       → (authority budget : ℕ) (memory view : List ℕ)
       → viewOf sheet (roundBy gate sheet scripts memory authority budget .memory) group view

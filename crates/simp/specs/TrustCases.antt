@@ -19,10 +19,10 @@ packagesTrusted n words = filledRows ([] ∷ (5 ∷ 1 ∷ 1 ∷ n ∷ []) ∷ wo
 
 unfoldable pub trustCases : List Case
 trustCases =
-    -- trust-keeping: an unpack whose operand lies at or below the wanted label; not by readers alone
+    -- trust-keeping: the unpack's operand lies at or below the wanted label, by writers too; not if by readers alone
     trusts twoPackages "= 2\nu 5 1\nx 1\n" 0 1
     ∷ trusts twoPackages "= 2\nu 5 1\nx 0\n" 0 0
-    -- writers strictly within those of the wanted label
+    -- the operand's writers may be fewer than those of the wanted label
     ∷ trusts twoPackages "c\nk 1\nx 1\nc\nu 5 0\nv 0\ns\ns\ns\n" 0 1
     -- each unpack counts: the first, the last, one in either branch, in a loop, in a case's expression, under a left, a
     -- right and a pack, and one of a bound value
@@ -42,7 +42,7 @@ trustCases =
     -- of two bound values the outer and the inner one
     ∷ trusts twoPackages "c\nk 0\nx 0\nc\nk 1\nx 1\nc\nu 5 1\nv 1\ns\ns\ns\ns\n" 0 0
     ∷ trusts twoPackages "c\nk 0\nx 0\nc\nk 1\nx 1\nc\nu 5 1\nv 0\ns\ns\ns\ns\n" 0 1
-    -- none to count; a guard and a starting label ask nothing of unpacks; a script that is refused
+    -- a script without unpack; guards and starting labels, which ask nothing of an unpack; refused scripts
     ∷ trusts twoPackages "s\n" 0 1
     ∷ trusts twoPackages "c\nk 0\nx 0\nc\nu 5 1\nx 1\ns\ns\ns\n" 0 1
     ∷ trusts twoPackages "b 0\nc\nu 5 1\nx 1\ns\ns\n" 0 1
@@ -81,7 +81,8 @@ trustCases =
     ∷ distrusts twoStarts "s\n" 0 0b11 (filledRows ((1 ∷ 5 ∷ []) ∷ (1 ∷ 7 ∷ []) ∷ [])) (filledRows ([] ∷ [] ∷ []))
     (filledRows ([] ∷ [] ∷ []))
     ∷ distrusts sheet "s\n" 0 0b010 before (fourLocations [] [] [] []) (fourLocations [] [] [] [])
-    -- who writes all leaves nothing, nobody blanks nothing; a content inside one that is left is blanked
+    -- where someone who writes all is distrusted nothing is left, and where nobody is, all; a content is blanked inside
+    -- one that is left
     ∷ distrusts twoPackages "s\n" 0 0b01 (packages 5 9 (4 ∷ 2 ∷ 1 ∷ [])) (filledRows ([] ∷ [] ∷ [] ∷ []))
     (filledRows ([] ∷ [] ∷ [] ∷ []))
     ∷ distrusts twoPackages "s\n" 0 0b00 (packages 5 9 (4 ∷ 2 ∷ 1 ∷ [])) (packages 5 9 (4 ∷ 2 ∷ 1 ∷ []))

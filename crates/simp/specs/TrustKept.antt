@@ -1,5 +1,5 @@
--- Done runs of accepted, trust-keeping scripts carry nothing from what distrusted parties can write into the rest of
--- the memory (request (e), kept from tampering).
+-- Kept from tampering (request (e)): by done runs of accepted, trust-keeping scripts nothing that distrusted parties
+-- can write reaches what is left of the memory.
 use mathlib.Core.Path.{_≡_}
 use mathlib.Core.List.{List}
 use Prim.Native.Nat.{ℕ}
@@ -13,9 +13,8 @@ use Rattle.rounds.specs.Calls.{roundBy}
 use Rattle.simp.specs.Rounds.{EachOpen}
 use Rattle.simp.specs.RoundView.{EachDone}
 
--- With all locations and package contents blanked out whose labels the group of distrusted parties writes, the two
--- memories are equal, on the sheet that has this text. (At most one sheet has it; where none has, this holds of any
--- two.)
+-- The two memories are alike in what is left: equal once all locations and package contents are blanked out whose
+-- labels the distrusted group writes. (The text is that of one sheet at most; if of none, any two are alike.)
 abbrev pub SameTrusted : List ℕ → ℕ → List ℕ → List ℕ → Type 0
 SameTrusted sheet group memory memory′ =
     (s : Sheet) → IsSheet sheet s → trustedWords s group memory ≡ trustedWords s group memory′
@@ -24,8 +23,9 @@ SameTrusted sheet group memory memory′ =
 abbrev pub SaidKeeping : List ℕ → List ℕ → Type 0
 SaidKeeping sheet script = trustOf sheet script .keeping ≡ 1
 
--- Any sheet, any group of distrusted parties, any authority, any two budgets, any two memories: what is alike before is
--- alike after, word for word. (A run that is done started from a well-formed memory: `Demand1`.)
+-- Any sheet, any group of distrusted parties, any authority, any two budgets, any two memories: if they are alike in
+-- what is left, so are the memories after the runs, word for word. (A done run started from a well-formed memory:
+-- `Demand1`.)
 pub record TrustKept : Type 0 where
   -- done runs of the same accepted, trust-keeping script, wherever it starts
   pub run : (sheet script : List ℕ) → SaidKeeping sheet script
@@ -35,7 +35,7 @@ pub record TrustKept : Type 0 where
       → runOf sheet script memory′ authority budget′ .answer ≡ 0
       → SameTrusted sheet group (runOf sheet script memory authority budget .memory)
       (runOf sheet script memory′ authority budget′ .memory)
-  -- rounds of the same scripts, whose open ones are such, and done in both
+  -- rounds of the same scripts: each open one is accepted and trust-keeping, and is done in both
   pub round : (gate : Gate) (sheet scripts : List ℕ) → EachOpen (SaidKeeping sheet) gate 0 (scriptTexts scripts)
       → (authority budget budget′ group : ℕ) (memory memory′ : List ℕ)
       → SameTrusted sheet group memory memory′

@@ -45,7 +45,7 @@ roundRows sheet scripts memory authority =
 
 -- ---- the scripts in turn
 
--- Scripts in turn, from place i and a memory on, and the memory left after the last. `Turn` says of a place, its script
+-- Scripts in turn, from place i and a memory on, and the memory after the last. `Turn` says of a place, its script
 -- and the memory before it how the script went: what it answers and leaves; the next one starts from what it leaves.
 pub data InTurn {A : Type 0} (Turn : ℕ → A → List ℕ → Ran → Type 0) : ℕ → List ℕ → List A → List ℕ → Type 0 where
   no-turn : {i : ℕ} {memory : List ℕ} → InTurn Turn i memory [] memory
@@ -64,7 +64,7 @@ pub record InPlace (r : RanRound) (i : ℕ) (ran : Ran) : Type 0 where
   pub its-answer : getD (r .answers) i 0 ≡ ran .answer
   pub its-steps : getD (r .steps) i 0 ≡ ran .steps
 
--- A round that isn't refused: its scripts went so, in turn, from the lent memory to the memory that is left.
+-- A round that isn't refused: its scripts went so, in turn, from the lent memory to the memory after the last.
 pub record Played (Turn : ℕ → List ℕ → List ℕ → Ran → Type 0) (scripts memory : List ℕ) (r : RanRound) : Type 0 where
   pub not-refused : r .answer ≡ 0
   pub places : Places (length (scriptTexts scripts)) r

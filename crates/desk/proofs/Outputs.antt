@@ -13,7 +13,7 @@ use Rattle.memory_text.specs.Printing.{memoryText}
 use Rattle.memory_text.specs.Internal.Answers.{printedLength, printed}
 use Rattle.memory_text.proofs.Writes.{goes-start, goes-put, printed-all}
 use Rattle.language.specs.World.{cell-words}
-use Rattle.memory_text.specs.Sizes.{memoryWords, memoryRoom}
+use Rattle.memory_text.specs.Sizes.{memoryWords, wordRoom, memoryRoom}
 use Rattle.desk.specs.Output.{outputRoom, numberLine, put, putLength}
 use Rattle.desk.specs.Internal.Post.{PutAll}
 
@@ -31,7 +31,7 @@ put-none out bytes h = rw (lt-leb _ _ h) (refl, refl)
 pub line-puts : (out : List ℕ) (n : ℕ) (o₁ : List ℕ) (p : ℕ) (o₂ : List ℕ) (r : ℕ)
     → p ≡ reached out 0 (decimal n) → o₁ ≡ written out 0 (decimal n)
     → r ≡ reached o₁ p (10 ∷ []) → o₂ ≡ written o₁ p (10 ∷ [])
-    → length o₁ ≡ length out → n ≤ most → 11 ≤ length out → PutAll out (numberLine n) o₂ r
+    → length o₁ ≡ length out → n ≤ most → wordRoom ≤ length out → PutAll out (numberLine n) o₂ r
 unfolding numberLine
 line-puts out n o₁ p o₂ r ep e₁ er e₂ l m h =
     let d = length-decimal n m in

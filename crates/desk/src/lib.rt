@@ -6,6 +6,7 @@ use text::Mask;
 ghost use mathlib.Core.Path.{_≡_};
 ghost use Prim.Native.Nat.{_≤_};
 ghost use lib.ListN.{length, take, drop};
+ghost use Rattle.memory_text.specs.Sizes.{wordRoom};
 ghost use Rattle.desk.specs.Fields.{closed, groupOf};
 ghost use Rattle.desk.specs.Numbers.{order, rankOf, earlier as earlierOf, asText};
 ghost use Rattle.desk.specs.Given.{givenOf};
@@ -124,7 +125,7 @@ fn read_given(memory: &[u8], group: &[u8]) -> Given
 
 // A number and the end of its line, at the start of a buffer; their length.
 fn put_line(out: &mut [u8], n: u32) -> usize
-    requires { ⌜ 11 ≤ length (now out) ⌝ }
+    requires { ⌜ wordRoom ≤ length (now out) ⌝ }
     ensures { λ r. ⌜ PutAll (now (out .entry)) (numberLine n) (now (out .exit)) r ⌝ }
 {
     let p = text::write::put_number(out, 0, n);

@@ -19,7 +19,7 @@ use Rattle.text.proofs.Numbers.{digit-low, opens-none, opens-byte, number-none,
 use Rattle.text.proofs.Decimals.{number-sound, number-print, opens-decimal}
 use Rattle.text.proofs.Writings.{length-decimal}
 use Rattle.language.specs.World.{cell-words}
-use Rattle.memory_text.specs.Sizes.{lineRoom}
+use Rattle.memory_text.specs.Sizes.{wordRoom, lineRoom}
 use Rattle.memory_text.specs.Printing.{consTrimmed, trim, fields, line, rowLine}
 use Rattle.sheet.specs.Padding.{padded}
 use Rattle.sheet.proofs.Words.{length-padded}
@@ -213,8 +213,8 @@ location-print row u n h = go (trim row) refl
         ∙ andThen-got _ _ (v ∷ vs) u (words-print cell-words v vs u l w k)
         ∙ ap (λ (l : List ℕ). got l u) (ap (padded cell-words) (sym e) ∙ trimming.padded-trim row cell-words n)
 
--- a line of words takes at most 11 bytes for each word
-length-fields : (vs t : List ℕ) → Words vs → length (fields vs t) ≤ 11 * length vs + length t
+-- a line of words takes at most `wordRoom` bytes for each word
+length-fields : (vs t : List ℕ) → Words vs → length (fields vs t) ≤ wordRoom * length vs + length t
 unfolding fields Words
 length-fields [] t h = omega arith
 length-fields (v ∷ vs) t h =

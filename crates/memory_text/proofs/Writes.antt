@@ -15,7 +15,7 @@ use Rattle.text.proofs.Writings.{sets-append, written-fits, reached-fits, lengt
 use Rattle.language.specs.World.{cell-words}
 use Rattle.memory_text.specs.Printing.{trim, fields, line, rows, lines, memoryText}
 use Rattle.memory_text.specs.Internal.Answers.{printedLength, printed}
-use Rattle.memory_text.specs.Sizes.{lineRoom}
+use Rattle.memory_text.specs.Sizes.{wordRoom, lineRoom}
 use Rattle.memory_text.specs.Internal.Writing.{Used, Puts}
 use Rattle.memory_text.proofs.Trimming.{trim-zeros, trim-last}
 use Rattle.logic.specs.Booleans.{both}
@@ -114,8 +114,8 @@ pub field-goes : (whole : List ℕ → List ℕ) (ws : List ℕ) (to i : ℕ) (o
     (now₁ : List ℕ) (q : ℕ) (now₂ : List ℕ) (r : ℕ) → Goes whole (fieldsFrom ws to i) out at now p
     → q ≡ reached now p (9 ∷ []) → now₁ ≡ written now p (9 ∷ [])
     → r ≡ reached now₁ q (decimal (getD ws i 0)) → now₂ ≡ written now₁ q (decimal (getD ws i 0))
-    → length now₁ ≡ length now → i < to → to ≤ length ws → getD ws i 0 ≤ most → p + 11 ≤ length now
-    → Goes whole (fieldsFrom ws to (i + 1)) out at now₂ r × (r ≤ p + 11)
+    → length now₁ ≡ length now → i < to → to ≤ length ws → getD ws i 0 ≤ most → p + wordRoom ≤ length now
+    → Goes whole (fieldsFrom ws to (i + 1)) out at now₂ r × (r ≤ p + wordRoom)
 field-goes whole ws to i out at now p now₁ q now₂ r g eq e₁ er e₂ n h l m room =
     let d = length-decimal (getD ws i 0) m in
     let q′ : q ≡ p + 1 = eq ∙ reached-fits now p (9 ∷ []) (omega arith) in
@@ -167,7 +167,7 @@ pub line-puts : (ws : List ℕ) (from n : ℕ) (out : List ℕ) (at : ℕ) (o₁
     (o₃ : List ℕ) (r : ℕ)
     → Used ws from n → (n ≡ 0 → ⊥)
     → p ≡ reached out at (decimal (getD ws from 0)) → o₁ ≡ written out at (decimal (getD ws from 0))
-    → Puts (fieldsFrom ws (from + n) (from + 1)) (11 * (from + n - (from + 1))) o₁ p o₂ q
+    → Puts (fieldsFrom ws (from + n) (from + 1)) (wordRoom * (from + n - (from + 1))) o₁ p o₂ q
     → r ≡ reached o₂ q (10 ∷ []) → o₃ ≡ written o₂ q (10 ∷ [])
     → length o₂ ≡ length out → from + cell-words ≤ length ws → getD ws from 0 ≤ most → at + lineRoom ≤ length out
     → Puts (lineAt ws from) lineRoom out at o₃ r

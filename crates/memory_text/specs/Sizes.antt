@@ -7,9 +7,13 @@ use Rattle.sheet.specs.Sheet.{maxLocations}
 abbrev pub memoryWords : ℕ
 memoryWords = maxLocations * cell-words
 
--- the bytes of the longest line: ten digits and a tab, or the line's end, for each word
+-- the bytes of the longest word: ten digits and a tab, or the line's end
+abbrev pub wordRoom : ℕ
+wordRoom = 11
+
+-- the bytes of the longest line
 abbrev pub lineRoom : ℕ
-lineRoom = 11 * cell-words
+lineRoom = wordRoom * cell-words
 
 -- the bytes of so many lines
 abbrev pub memoryRoom : ℕ

@@ -8,11 +8,14 @@ ghost use lib.ListN.{length, take, drop};
 ghost use Rattle.language.specs.World.{cell-words};
 ghost use Rattle.memory_text.specs.Printing.{trim, fields, line};
 ghost use Rattle.memory_text.specs.Internal.Answers.{printedLength, printed};
-ghost use Rattle.memory_text.specs.Sizes.{lineRoom};
+ghost use Rattle.memory_text.specs.Sizes.{wordRoom, lineRoom};
 ghost use Rattle.memory_text.specs.Internal.Writing.{Used, Puts};
 
-// The bytes of the longest line: ten digits and a tab, or the line's end, for each word.
-pub const LINE: usize = 11 * CELL;
+// The bytes of the longest word: ten digits and a tab, or the line's end.
+const WORD: usize = 11;
+
+// The bytes of the longest line.
+pub const LINE: usize = WORD * CELL;
 
 // How many of the 16 words from `from` on are printed: those up to the last that is not zero.
 fn used(words: &[u32], from: usize) -> usize
@@ -32,8 +35,8 @@ fn used(words: &[u32], from: usize) -> usize
 
 // The words from `from` to `to`, each after a tab; the place after them.
 fn put_fields(words: &[u32], from: usize, to: usize, out: &mut [u8], at: usize) -> usize
-    requires { ⌜ (from ≤ to) × (to ≤ length (now words)) × (at + 11 * (to - from) ≤ length (now out)) ⌝ }
-    ensures { λ r. ⌜ Puts (fields (take (to - from) (drop from (now (words .entry))))) (11 * (to - from))
+    requires { ⌜ (from ≤ to) × (to ≤ length (now words)) × (at + wordRoom * (to - from) ≤ length (now out)) ⌝ }
+    ensures { λ r. ⌜ Puts (fields (take (to - from) (drop from (now (words .entry))))) (wordRoom * (to - from))
         (now (out .entry)) at (now (out .exit)) r ⌝ }
 {
     let mut i = from;

@@ -4,6 +4,7 @@ use mathlib.Core.Path.{_≡_, refl, _∙_}
 use native.Mathlib.Omega.{arith}
 use borrow.Author.Needs.{needs}
 use lib.ListN.{length}
+use Rattle.memory_text.specs.Sizes.{wordRoom}
 use Rattle.memory_text.proofs.Writes.{Goes, goes-start, goes-done, goes-same, fieldsFrom, fields-done}
 use Rattle.memory_text.proofs.Writes.{field-goes}
 use Rattle.memory_text.proofs.write.put_fields.Statement.{statement}
@@ -11,7 +12,7 @@ use Rattle.memory_text.proofs.write.put_fields.Tie as tie
 
 abbrev Inv-loop : tie.InvT-loop
 Inv-loop words from to out₀ at i₀ p₀ out i p =
-    (from ≤ i) × (i ≤ to) × (length out ≡ length out₀) × (p + 11 * (to - i) ≤ at + 11 * (to - from))
+    (from ≤ i) × (i ≤ to) × (length out ≡ length out₀) × (p + wordRoom * (to - i) ≤ at + wordRoom * (to - from))
     × Goes (fieldsFrom words to from) (fieldsFrom words to i) out₀ at out p
 
 abbrev μ-loop : tie.MeasureT-loop

@@ -58,9 +58,16 @@ in-all (n ∷ ns) ms h (later i) = in-all ns ms (rest (free n ms) h) i
 
 -- ---- calls
 
--- A call whose answers have one of the numbers ns where no row applies: these and the table's are apart, and it may
--- give all of them.
-module _ {A : Type 0} (c : Call A) (ns : List ℕ) (a : apart ns (numbers (c .table .rows)) ≡ true)
+-- a number that is 0, 9 or 10 isn't another
+another : {k : ℕ} → Among (0 ∷ 9 ∷ 10 ∷ []) k → ¬ (k ≡ 0) → ¬ (k ≡ 9) → ¬ (k ≡ 10) → ⊥
+another here x y z = x refl
+another (later here) x y z = y refl
+another (later (later here)) x y z = z refl
+
+-- A call whose answers have one of the numbers ns, of 0, 9 and 10, where no row applies: these and the table's are
+-- apart, and it may give all of them.
+module _ {A : Type 0} (c : Call A) (ns : List ℕ) (of-three : all-in ns (0 ∷ 9 ∷ 10 ∷ []) ≡ true)
+    (a : apart ns (numbers (c .table .rows)) ≡ true)
     (given : all-in ns (c .may-give) ≡ true) (table : all-in (numbers (c .table .rows)) (c .may-give) ≡ true)
     (of-refusal : (k : ℕ) → c .number (c .table .refuse k) ≡ k)
     (zero : (k i : ℕ) → getD (c .besides (c .table .refuse k)) i 0 ≡ 0)
@@ -75,6 +82,7 @@ module _ {A : Type 0} (c : Call A) (ns : List ℕ) (a : apart ns (numbers (c .ta
     table-given = λ k. in-all (numbers (c .table .rows)) (c .may-give) table;
     else-given = λ r e. in-all ns (c .may-give) given (else r e);
     refusal-zero = zero;
+    else-zero = λ r e x y z. absurd (another (in-all ns (0 ∷ 9 ∷ 10 ∷ []) of-three (else r e)) x y z);
     refusal-keeps = keeps;
     else-keeps = stops;
   }

@@ -116,8 +116,9 @@ by-its-table A c o b =
           (λ r n e. o .else-given r e) (c .gives) b;
       whole-refusal = by-table T (λ r. Among (numbers (T .rows)) (c .number r) → r ≡ T .refuse (c .number r))
           (λ k i g j. sym (ap (T .refuse) (h .of-refusal k))) (λ r n e j. absurd (h .not-of-table r e j)) (c .gives) b;
-      zero = by-table T (λ r. Among (numbers (T .rows)) (c .number r) → (i : ℕ) → getD (c .besides r) i 0 ≡ 0)
-          (λ k i g j. o .refusal-zero k) (λ r n e j. absurd (h .not-of-table r e j)) (c .gives) b;
+      zero = by-table T (λ r. ¬ (c .number r ≡ 0) → ¬ (c .number r ≡ 9) → ¬ (c .number r ≡ 10)
+          → (i : ℕ) → getD (c .besides r) i 0 ≡ 0)
+          (λ k i g x y z. o .refusal-zero k) (λ r n e. o .else-zero r e) (c .gives) b;
       kept = by-table T (λ r. ¬ (c .number r ≡ 0) → c .leaves r ≡ c .lent)
           (λ k i g n. o .refusal-keeps k) (λ r n e. o .else-keeps r e) (c .gives) b;
     }

@@ -7,7 +7,7 @@ use Prim.Native.Nat.{ℕ}
 use lib.ListN.{getD}
 use Rattle.numbers.specs.Rows.{Row, numbers, First, Among, GivenInOrder}
 
--- What a call must answer. An answer is what is handed back, with what every lent slice then holds.
+-- What a call must answer. An answer is what is handed back, with what the slice that the call may write then holds.
 pub record Table (A : Type 0) : Type 1 where
   -- its refusals, in the order judged
   pub rows : List Row
@@ -25,8 +25,8 @@ pub record Call (A : Type 0) : Type 1 where
   pub table : Table A
   -- the numbers that it may give: 0, those of its table, and of a run 9 and 10
   pub may-give : List ℕ
-  -- of an answer: its number; what it says besides (steps, a count, places); and what it leaves in the slice that the
-  -- call may write
+  -- of an answer: its number; what is handed back besides (steps, a count, keeping, a round's numbers and steps); and
+  -- what it leaves in the slice that the call may write
   pub number : A → ℕ
   pub besides : A → List ℕ
   pub leaves : A → List ℕ
@@ -44,10 +44,12 @@ pub record Demand1Of {A : Type 0} (c : Call A) : Type 1 where
   pub by-table : AnswerBy (c .table) (c .gives)
   -- the number is one that the call may give
   pub one-of : Among (c .may-give) (c .number (c .gives))
-  -- beside a number of the table the whole answer is the refusal with it, and what it says besides is zero
+  -- beside a number of the table the whole answer is the refusal with it
   pub whole-refusal : Among (numbers (c .table .rows)) (c .number (c .gives))
       → c .gives ≡ c .table .refuse (c .number (c .gives))
-  pub zero : Among (numbers (c .table .rows)) (c .number (c .gives)) → (i : ℕ) → getD (c .besides (c .gives)) i 0 ≡ 0
+  -- beside a number other than 0, 9 and 10 all else that is handed back is zero (request (a))
+  pub zero : ¬ (c .number (c .gives) ≡ 0) → ¬ (c .number (c .gives) ≡ 9) → ¬ (c .number (c .gives) ≡ 10)
+      → (i : ℕ) → getD (c .besides (c .gives)) i 0 ≡ 0
   -- unless the number is 0, the lent slice holds what it held
   pub kept : ¬ (c .number (c .gives) ≡ 0) → c .leaves (c .gives) ≡ c .lent
 

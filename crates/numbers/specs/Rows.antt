@@ -1,5 +1,5 @@
 -- A call's refusals as rows: its numbers, each with when it applies, in the order judged. The first that applies is
--- given. A number has its place among the rows and no size: nothing here compares two numbers but for being equal.
+-- given. A number has its rank among the rows and no size: nothing here compares two numbers but for being equal.
 use mathlib.Core.Logic.{_⊎_}
 use mathlib.Core.Path.{_≡_}
 use mathlib.Core.List.{List, [], _∷_, _++_}

@@ -27,8 +27,8 @@ pub data InOrder {A : Type 0} (T : Table A) : A → Type 1 where
 abbrev pub AnswersInOrder : Type 1
 AnswersInOrder = (A : Type 0) (T : Table A) (r : A) → AnswerBy T r ↔ InOrder T r
 
--- A refusal is by one of the table's numbers, and the number settles all of the answer: what `refuse` leaves as it
--- was is as it was.
+-- A refusal is by one of the table's numbers, and the number settles all of the answer: so a slice that `refuse` leaves
+-- untouched is untouched.
 abbrev pub RefusedByANumber : Type 1
 RefusedByANumber = (A : Type 0) (T : Table A) (r : A) → AnswerBy T r
     → ((k : ℕ) × Among (numbers (T .rows)) k × (r ≡ T .refuse k)) ⊎ (None (T .rows) × T .Else r)
@@ -48,17 +48,19 @@ abbrev pub ExactlyOneAnswer : Type 1
 ExactlyOneAnswer =
     (A : Type 0) (T : Table A) → Settled (T .rows) → (None (T .rows) → ExactlyOne (T .Else)) → ExactlyOne (AnswerBy T)
 
--- The answers that a call's table allows have numbers that it may give; a refusal says nothing besides; and what isn't
--- numbered 0 writes nothing.
+-- A call fits its table: the answers that this allows have numbers that the call may give; they say nothing besides,
+-- unless the number is 0, 9 or 10; and they write nothing, unless it is 0.
 pub record Orderly {A : Type 0} (c : Call A) : Type 0 where
   pub numbered : Numbered (c .table) (c .number)
   pub table-given : (k : ℕ) → Among (numbers (c .table .rows)) k → Among (c .may-give) k
   pub else-given : (r : A) → c .table .Else r → Among (c .may-give) (c .number r)
   pub refusal-zero : (k i : ℕ) → getD (c .besides (c .table .refuse k)) i 0 ≡ 0
+  pub else-zero : (r : A) → c .table .Else r → ¬ (c .number r ≡ 0) → ¬ (c .number r ≡ 9) → ¬ (c .number r ≡ 10)
+      → (i : ℕ) → getD (c .besides r) i 0 ≡ 0
   pub refusal-keeps : (k : ℕ) → c .leaves (c .table .refuse k) ≡ c .lent
   pub else-keeps : (r : A) → c .table .Else r → ¬ (c .number r ≡ 0) → c .leaves r ≡ c .lent
 
--- Demand 1 of every call follows from its table, if the call answers by it.
+-- Demand 1 of every call that fits its table and answers by it.
 abbrev pub DemandByTable : Type 1
 DemandByTable = (A : Type 0) (c : Call A) → Orderly c → AnswerBy (c .table) (c .gives) → Demand1Of c
 

@@ -65,8 +65,8 @@ pub record Promises : Type 1 where
   -- labels, trust-keeping scripts, pairs and one reader by himself, each in a table of its own.
   pub cases-hold : CasesHold
   -- Of any table of refusal numbers: the first that applies is given, and it settles the whole answer; there is exactly
-  -- one answer where it is settled which row applies first, and there is exactly one where none applies. Demand 1 of
-  -- any call follows from its table.
+  -- one answer where it is settled which row applies first, and there is exactly one where none applies. Demand 1
+  -- holds of any call that fits its table and answers by it.
   pub every-table : EveryTable
   -- ---- The language
 

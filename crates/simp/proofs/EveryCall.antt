@@ -14,45 +14,45 @@ use Rattle.simp.proofs.FirstDemand.{finished, starts, ended, past-refus
 use Rattle.simp.proofs.RoundDemands.{round-exactly, round-played, all-places}
 use Rattle.simp.proofs.Turns.{zeros-at}
 use Rattle.simp.proofs.GroupDemands.{groups-exactly}
-use Rattle.simp.proofs.TrustDemands.{trust-exactly, as-check}
+use Rattle.simp.proofs.TrustDemands.{trust-exactly, as-check, one-bit}
 
 -- ---- the answers that each table allows: their numbers, and what a refusal says and writes
 
 checks : (sheet script : List ℕ) → Orderly (checkCall sheet script)
 unfolding numbers
 checks sheet script =
-    orderly-done (checkCall sheet script) (0 ∷ []) refl refl refl (λ k. refl) (λ k. zeros-at 0) (λ k. refl) here
+    orderly-done (checkCall sheet script) (0 ∷ []) refl refl refl refl (λ k. refl) (λ k. zeros-at 0) (λ k. refl) here
     (λ r e. e)
 
 runs : (sheet script memory : List ℕ) (authority budget : ℕ) → Orderly (runCall sheet script memory authority budget)
 unfolding numbers
 runs sheet script memory authority budget =
-    orderly (runCall sheet script memory authority budget) (0 ∷ 9 ∷ 10 ∷ []) refl refl refl (λ k. refl)
+    orderly (runCall sheet script memory authority budget) (0 ∷ 9 ∷ 10 ∷ []) refl refl refl refl (λ k. refl)
     (λ k. zeros-at 1) (λ k. refl) (λ r e. past-refusals (e .2 .2)) (λ r e. ended (e .2 .2) .kept)
 
 views : (sheet memory : List ℕ) (group : ℕ) (view : List ℕ) → Orderly (viewCall sheet memory group view)
 unfolding numbers
 views sheet memory group view =
-    orderly-done (viewCall sheet memory group view) (0 ∷ []) refl refl refl (λ k. refl) (λ k. zeros-at 0) (λ k. refl)
-    here (λ v e. ap (λ (x : Viewed). x .answer) (e .2))
+    orderly-done (viewCall sheet memory group view) (0 ∷ []) refl refl refl refl (λ k. refl) (λ k. zeros-at 0)
+    (λ k. refl) here (λ v e. ap (λ (x : Viewed). x .answer) (e .2))
 
 rounds : (gate : Gate) (sheet scripts memory : List ℕ) (authority budget : ℕ)
     → Orderly (roundCall gate sheet scripts memory authority budget)
 unfolding numbers
 rounds gate sheet scripts memory authority budget =
-    orderly-done (roundCall gate sheet scripts memory authority budget) (0 ∷ []) refl refl refl (λ k. refl)
+    orderly-done (roundCall gate sheet scripts memory authority budget) (0 ∷ []) refl refl refl refl (λ k. refl)
     (λ k. zeros-at (mostScripts + mostScripts)) (λ k. refl) here (λ r p. p .not-refused)
 
 groups : (sheet : List ℕ) (l : ℕ) (places : List ℕ) → Orderly (groupsCall sheet l places)
 unfolding numbers
 groups sheet l places =
-    orderly-done (groupsCall sheet l places) (0 ∷ []) refl refl refl (λ k. refl) (λ k. zeros-at 1) (λ k. refl) here
+    orderly-done (groupsCall sheet l places) (0 ∷ []) refl refl refl refl (λ k. refl) (λ k. zeros-at 1) (λ k. refl) here
     (λ r o. o .2 .2 .not-refused)
 
 trusts : (sheet script : List ℕ) → Orderly (trustCall sheet script)
 unfolding numbers
 trusts sheet script =
-    orderly-done (trustCall sheet script) (0 ∷ []) refl refl refl (λ k. refl) (λ k. zeros-at 1) (λ k. refl) here
+    orderly-done (trustCall sheet script) (0 ∷ []) refl refl refl refl (λ k. refl) (λ k. zeros-at 1) (λ k. refl) here
     (λ r o. o .2 .2 .not-refused)
 
 -- ---- the demands
@@ -87,4 +87,5 @@ demand-1 = record {
   round-places = all-places;
   all-open = λ i. refl;
   trust-as-check = as-check;
+  trust-bit = one-bit;
 }

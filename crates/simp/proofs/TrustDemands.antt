@@ -1,4 +1,4 @@
--- Demand 2 of simp_trust, and that its number is that of simp_check.
+-- Demand 2 of simp_trust; its number is that of simp_check, and keeping is 0 or 1.
 use mathlib.Core.Logic.{_↔_}
 use mathlib.Core.Path.{_≡_, refl, sym, _∙_, subst}
 use mathlib.Core.Bool.{Bool, true, false, cond}
@@ -125,6 +125,12 @@ as-check sheet script = on (sheetOf sheet)
     on malformed = refl
     on repeating = refl
     on (accepted s) = scripted s (scriptOf (countsOf s) script)
+
+-- keeping is 0 or 1
+pub one-bit : (sheet script : List ℕ) → Among (0 ∷ 1 ∷ []) (trustOf sheet script .keeping)
+one-bit sheet script =
+    by-rows refusedTrust _ (λ r. Among (0 ∷ 1 ∷ []) (r .keeping)) (checkRows sheet script)
+    (λ k i g. here) (λ r n o. o .2 .2 .one-or-none) _ (trust-exactly sheet script _ .0 refl)
 
 -- a script of which simp_trust says that it is accepted and trust-keeping is
 pub said-so : (sheet script : List ℕ) → SaidKeeping sheet script → OfScript sheet script TrustKeeping

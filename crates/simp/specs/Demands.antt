@@ -24,7 +24,7 @@ use Rattle.simp.specs.Groups.{groupsTable}
 use Rattle.simp.specs.Trust.{trustTable}
 
 -- The run started and reached skip within the budget, after so many steps, and these are the words of the memory that
--- it reached. (`Ends` says besides that no value on the way was too long, which is 10.)
+-- it reached. (`Ends` says besides that no value on the way was too long: that would be 10.)
 pub record Finished (sheet script memory : List ℕ) (authority budget steps : ℕ) (after : List ℕ) : Type 0 where
   pub its-sheet : Sheet
   pub its-script : Script
@@ -124,8 +124,8 @@ trustCall sheet script = record {
 -- ---- the demands
 
 -- Demand 1. The number of each call is one of its table's, the first that applies, in their fixed order; or it is 0, of
--- a run also 9 or 10, and then none applies. Beside a number of the table the answer is the refusal with it, zero or no
--- in all else; and unless the number is 0 the call writes to no lent slice (Demand1Of). After any call the lent memory
+-- a run also 9 or 10, and then none applies. Beside a number other than 0, 9 and 10 all else that is handed back is
+-- zero or no; and unless the number is 0 the call writes to no lent slice (Demand1Of). After any call the lent memory
 -- holds the finished run's values or exactly what it held before. That a call ends is proved with each function;
 -- simp_check and simp_trust are lent nothing to write, and simp_view is lent its memory for reading.
 pub record Demand1 : Type 1 where
@@ -155,8 +155,9 @@ pub record Demand1 : Type 1 where
       → Places (length (scriptTexts scripts)) (roundBy gate sheet scripts memory authority budget)
   -- simp_round shuts no script out
   pub all-open : (i : ℕ) → Open allOpen i
-  -- the number of simp_trust is that of simp_check
+  -- the number of simp_trust is that of simp_check, and keeping is 0 or 1
   pub trust-as-check : (sheet script : List ℕ) → trustOf sheet script .answer ≡ checkOf sheet script
+  pub trust-bit : (sheet script : List ℕ) → Among (0 ∷ 1 ∷ []) (trustOf sheet script .keeping)
 
 -- Demand 2. Each call answers exactly what the papers say: the numbers in their order, acceptance by the typing
 -- rules, the memory and the step count of the evaluation rules, the smallest groups, and whether a script is

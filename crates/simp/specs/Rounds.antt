@@ -24,8 +24,8 @@ unfoldable pub OneOf : (List ℕ → Type 0) → List (List ℕ) → Type 0
 OneOf P [] = ⊥
 OneOf P (t ∷ ts) = P t ⊎ OneOf P ts
 
--- So 4, 5 and 6 are the lowest number over all scripts: 5 is given only where no script is refused by 4, and 6 only
--- where none is by 4 or 5.
+-- 4, 5 and 6 apply where they apply to one of the scripts. So the lowest number over all scripts is given: 5 only where
+-- no script is refused by 4, and 6 only where none is by 4 or 5.
 abbrev pub playedRows : List ℕ → List ℕ → List ℕ → List Row
 playedRows sheet scripts memory =
     4 when OneOf (NoScript sheet) (scriptTexts scripts)

@@ -41,7 +41,7 @@ playedOn gate s authority budget ts memory =
     ranOn gate s authority budget ts memory))
 
 -- ---- By what a table says, whatever its words are. Free is what is found where the table is no sheet's: the number of
--- a verdict, and the round that is run.
+-- a verdict, and the round that is run, whose answer is 0.
 
 -- 4 where one of them is no script, else the verdict's number
 unfoldable pub lowestIn : ℕ → List ℕ → List (List ℕ) → ℕ
@@ -53,6 +53,7 @@ playedIn verdict run t ts memory =
     unless (refusedRound memory) (lowestIn verdict t ts) (
     unless (refusedRound memory) (refusalIn t memory) run)
 
+-- a round, as roundBy has it on a sheet
 unfoldable pub roundIn : ℕ → RanRound → List ℕ → List (List ℕ) → List ℕ → ℕ → RanRound
 roundIn verdict run t ts memory authority =
     unless (refusedRound memory) (strangersIn t authority) (

@@ -44,7 +44,7 @@ pub data CodeOf (s : Sheet) (ws : List ℕ) (start : ℕ) : ParsedScript → Opt
       → start ≡ startNo (p .opening .start) → CodeOf s ws start Read (some p)
 
 -- ---- By what a table says, whatever its words are. Free is what the checker and a run find where the table is no
--- sheet's: the number of a verdict, whether a script is keeping, and the run.
+-- sheet's: the number of a verdict, whether a script is trust-keeping, and the run.
 
 -- the number of one of the three verdicts, and of one of the four states in which a run ends
 abbrev pub OfVerdict : ℕ → Type 0

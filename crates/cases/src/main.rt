@@ -1,4 +1,6 @@
 // Runs the cases of the scope that are not in the proved table, and prints each one's name and what it gives.
+#![tactic(auto)]
+
 use desk::OUTPUT_ROOM;
 use libc::STDOUT_FILENO;
 use sets::Set;

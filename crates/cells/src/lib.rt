@@ -1,4 +1,6 @@
 // Cells of 16 words, one after another, of which the first is the accumulator: moved, pushed and popped in place.
+#![tactic(auto)]
+
 ghost use Rattle.std.specs.Prelude.{◌≡◌, ◌⊎◌, ◌+◌, ◌≤◌, length, drop, get_or};
 ghost use Rattle.language.specs.World.{cell_words};
 ghost use Rattle.memory.specs.Words.{zeros};

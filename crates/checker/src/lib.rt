@@ -1,4 +1,6 @@
 // The checker over the lines of a script: types by their numbers, labels by sets of them, with the sheet's table.
+#![tactic(auto)]
+
 mod bindings; // bindings.rt: what enclosing cases bind
 mod expressions; // expressions.rt: types and least labels of expressions
 mod commands; // commands.rt: commands

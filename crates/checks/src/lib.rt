@@ -1,4 +1,6 @@
 // What checking one line of a script gives, from what checking its operands gave.
+#![tactic(auto)]
+
 pub mod expressions; // expressions.rt: an expression's type and least label
 pub mod commands; // commands.rt: whether a command passes
 
@@ -14,7 +16,7 @@ pub const ALL: u8 = 3;
 
 // What is found of an expression: its type, if it has one; what holds of its lines; its least label; and the word after
 // its lines.
-#[derive(Drop)]
+#[derive(Clone, Copy)]
 pub struct Typed {
     pub ty: u32,
     pub typed: bool,

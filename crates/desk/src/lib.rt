@@ -1,4 +1,6 @@
 // What the program show prints, made from the texts that it is given.
+#![tactic(auto)]
+
 ghost use Rattle.std.specs.Prelude.{◌≡◌, ◌≤◌, length, take, drop};
 ghost use Rattle.memory_text.specs.Sizes.{word_room};
 ghost use Rattle.desk.specs.Fields.{closed, group_of};

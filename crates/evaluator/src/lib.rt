@@ -1,4 +1,6 @@
 // Evaluation of expressions over the lines (the paper, figure 2), in cells of words.
+#![tactic(auto)]
+
 mod nodes; // nodes.rt: a value made of one or two others, in the accumulator
 
 ghost use Rattle.std.specs.Prelude.{◌≡◌};
@@ -20,7 +22,7 @@ pub const WORK: usize = MEMORY + CELL * (sheet::MOST_LOCATIONS as usize);
 
 // How an evaluation or a run ends: done, the budget used up, a value too long; or, on words that are no script's code
 // or no sheet's memory, that no rule applies.
-#[derive(Drop)]
+#[derive(Clone, Copy)]
 pub enum State {
     Done,
     Spent,

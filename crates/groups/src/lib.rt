@@ -1,5 +1,7 @@
 // The smallest groups that read a label. The groups are gone through rising as numbers, and counted before the first
 // is written; to be written they are gone through again, up to the last.
+#![tactic(auto)]
+
 mod readers; // readers.rt: who reads a label
 
 ghost use Rattle.std.specs.Prelude.{◌≡◌, ◌≤◌, ◌<◌, ◌^◌, length};

@@ -7,7 +7,7 @@ use sets::Set;
 
 // The sets that a group meets if it reads. Pooled: the readers of each owner; a place that has no principal holds
 // everyone, whom each group meets that reads. Alone: in each place those who read by themselves.
-#[derive(Drop)]
+#[derive(Clone, Copy)]
 pub(crate) struct Readers {
     pub(crate) sets: [Set; OWNERS],
 }

@@ -1,4 +1,6 @@
 // Standard input, read to its end chunk by chunk.
+#![tactic(auto)]
+
 ghost use Rattle.std.specs.Prelude.{◌≡◌};
 ghost use Rattle.parts.specs.Feeding.{held, beginning, fed};
 ghost use Rattle.input.specs.Input.{got_bytes, goes_on, After};

@@ -1,4 +1,6 @@
 // Runs of decoded scripts over the lines (the paper, figure 3).
+#![tactic(auto)]
+
 mod commands; // commands.rt: commands
 
 ghost use Rattle.std.specs.Prelude.{◌≡◌, ◌+◌, ◌≤◌, length, drop};

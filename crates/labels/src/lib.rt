@@ -1,4 +1,6 @@
 // Labels in effective form, by value: for each owner a set of readers and a set of writers.
+#![tactic(auto)]
+
 ghost use Rattle.std.specs.Prelude.{◌≡◌, ◌+◌, ◌≤◌, leb, length, get_or};
 ghost use Rattle.std.proofs.Math.Seq.{paste};
 ghost use Rattle.sets.specs.Sets.{within, meets, every};
@@ -23,7 +25,7 @@ pub enum Rule {
     Alone,
 }
 
-#[derive(Drop)]
+#[derive(Clone, Copy)]
 pub struct Label {
     pub readers: [Set; OWNERS],
     pub writers: [Set; OWNERS],

@@ -1,1 +1,2 @@
 // Truth values: the definitions and their laws. There is no code.
+#![tactic(auto)]

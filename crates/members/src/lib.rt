@@ -1,6 +1,8 @@
 // A least label as the set of the labels that it is the join of: bit l is label l of the table, bit 32 + l is I of
 // label l, and the empty set is bottom. Labels are fetched where they are compared, so that no frame of the
 // recursion holds one.
+#![tactic(auto)]
+
 ghost use Rattle.std.specs.Prelude.{◌≡◌};
 ghost use Rattle.sets.specs.Sets.{union};
 ghost use Rattle.members.specs.Internal.Members.{label_member, integrity_member, member_in, join_in, whole_flows};

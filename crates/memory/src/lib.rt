@@ -1,4 +1,6 @@
 // Values as words, well-formed memories, and what a group is shown of a memory.
+#![tactic(auto)]
+
 mod values; // values.rt: the words of a value
 mod masks; // masks.rt: what a group is shown of a value
 

@@ -1,4 +1,6 @@
 // A memory as text: read into words here, written from them in write.rt.
+#![tactic(auto)]
+
 pub mod write; // write.rt: a memory into a buffer
 
 ghost use Rattle.std.specs.Prelude.{◌≡◌, List, ℕ, ◌+◌, ◌≤◌, length, drop};

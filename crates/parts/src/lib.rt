@@ -1,4 +1,6 @@
 // Standard input as several texts parted by empty lines, taken chunk by chunk into one lent buffer.
+#![tactic(auto)]
+
 ghost use Rattle.std.specs.Prelude.{◌≡◌};
 ghost use Rattle.parts.specs.Parts.{parting};
 ghost use Rattle.parts.specs.Feeding.{held, beginning, stored, stepped, fed, text_held};
@@ -10,7 +12,7 @@ pub const KEEP: usize = text::LIMIT + 1;
 pub const TEXTS: usize = 8;
 
 // Which text goes on, whether a line starts there, and how many bytes are kept of each text.
-#[derive(Drop)]
+#[derive(Clone, Copy)]
 pub struct State {
     pub text: usize,
     pub start: bool,

@@ -1,1 +1,2 @@
 // Every promise of the project in one list, and its proofs. There is no code.
+#![tactic(auto)]

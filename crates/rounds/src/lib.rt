@@ -1,6 +1,8 @@
 // A round: the scripts of one text, one after another on one memory. Every script is checked before the first
 // runs; each is then decoded once more and run, so that one decoded script at a time is on the stack, and none
 // is checked twice.
+#![tactic(auto)]
+
 ghost use Rattle.std.specs.Prelude.{◌≡◌, replicate};
 ghost use Rattle.scripts.specs.Parting.{most_scripts};
 ghost use Rattle.rounds.specs.Calls.{lower as lowerOf};

@@ -1,4 +1,6 @@
 // The code of a script: rows of three words, one for each line.
+#![tactic(auto)]
+
 ghost use Rattle.std.specs.Prelude.{◌≡◌};
 ghost use Rattle.script.specs.Internal.Code.{row_at};
 ghost use Rattle.script.specs.Internal.Pieces.{operand_count};

@@ -1,4 +1,6 @@
 // From a script's bytes to its code, three words a line; everything that is no script is refused.
+#![tactic(auto)]
+
 ghost use Rattle.std.specs.Prelude.{◌≡◌, ℕ, ◌*◌, ◌≤◌, eqb, ltb, take, drop, replicate};
 ghost use Rattle.logic.specs.Booleans.{both, either};
 ghost use Rattle.text.specs.Lines.{lines_up_to};

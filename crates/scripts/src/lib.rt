@@ -1,5 +1,7 @@
 // Several scripts in one text, parted by its empty lines. A script is the bytes from where it starts to its end; the
 // next one starts after the byte that ends the empty line, and past the end of the text there is none.
+#![tactic(auto)]
+
 ghost use Rattle.std.specs.Prelude.{◌≡◌};
 ghost use Rattle.scripts.specs.Internal.Places.{script_end, scripts_counted, kept_ends};
 

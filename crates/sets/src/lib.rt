@@ -1,4 +1,6 @@
 // Sets of principals as masks: bit p of a set is principal p.
+#![tactic(auto)]
+
 ghost use Rattle.std.specs.Prelude.{◌≡◌};
 ghost use Rattle.sets.specs.Sets.{width, union, intersection, within, meets, single, everyone, restrict};
 

@@ -1,4 +1,6 @@
 // The decoded sheet: a table of words, and what it says of types, locations and labels.
+#![tactic(auto)]
+
 pub mod powers; // powers.rt: what a group may do to the labels
 pub mod write; // write.rt: what is stored where the sheet grows
 

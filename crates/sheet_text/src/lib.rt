@@ -1,4 +1,6 @@
 // From a sheet's bytes to its table; a text that is no sheet of the right form, or one that repeats, is refused.
+#![tactic(auto)]
+
 mod line; // line.rt: from bytes to lines
 mod draft; // draft.rt: from lines to the table
 mod repeat; // repeat.rt: whether a table repeats a type or a label

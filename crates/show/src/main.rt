@@ -1,5 +1,7 @@
 // Takes a sheet, a memory and a group on standard input, parted by empty lines, and prints the view or the
 // number of the refusal.
+#![tactic(auto)]
+
 ghost use Rattle.desk.specs.Inputs.{shown_for, PutFor};
 
 use desk::OUTPUT_ROOM;

@@ -1,5 +1,7 @@
 // SImp scripts on a sheet: the calls that firmware and the desk programs make.
 // Each settles every input; what they answer is defined in crates stages, rounds and groups, specs/Calls.antt.
+#![tactic(auto)]
+
 ghost use Rattle.std.specs.Prelude.{◌≡◌};
 ghost use Rattle.stages.specs.Calls.{check_of, run_of, view_of, trust_of};
 ghost use Rattle.rounds.specs.Calls.{round_of};

@@ -1,5 +1,7 @@
 // The stages of the calls, on the table of a sheet that isn't refused: each judges its numbers, in the order of the
 // calls, and goes on where none of them applies. The answers of the calls stand here.
+#![tactic(auto)]
+
 ghost use Rattle.std.specs.Prelude.{◌≡◌};
 ghost use Rattle.sheet_text.specs.Verdict.{sheet_number};
 ghost use Rattle.memory.specs.Verdict.{memory_number};

@@ -1,4 +1,6 @@
 // From bytes to fields: the forms that the three texts are made of, read at a place of a text.
+#![tactic(auto)]
+
 pub mod write; // write.rt: numbers and bytes into a buffer
 
 ghost use Rattle.std.specs.Prelude.{◌≡◌, ◌≤◌, length, drop};

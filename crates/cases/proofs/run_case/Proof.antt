@@ -7,25 +7,25 @@ use Rattle.memory_text.proofs.Tables.{memory-few, memory_full}
 use Rattle.cases.proofs.run_case.Statement.{statement}
 use Rattle.cases.proofs.run_case.Tie as tie
 
-mul-n : tie.Need-overflow-mul-n
-mul-n c = omega (arith, memory-few _ _ c.before.before.read-memory.ensures)
+overflow_mul-n : tie.Need-overflow_mul-n
+overflow_mul-n c = omega (arith, memory-few _ _ c.read_memory-m.ensures)
 
-array-borrow-prefix-words : tie.Need-array-borrow-prefix-words
-array-borrow-prefix-words c =
-    let e = c.before.before.read-memory.ensures in
+slice_bounds-words-end : tie.Need-slice_bounds-words-end
+slice_bounds-words-end c =
+    let e = c.read_memory-m.ensures in
     omega (arith, memory-few _ _ e, memory_full _ _ e)
 
-slice-aggregate-print-run : tie.Need-slice-aggregate-print-run
-slice-aggregate-print-run c =
-    let e = c.before.before.before.read-memory.ensures in
+slice_bounds-print_run-end : tie.Need-slice_bounds-print_run-end
+slice_bounds-print_run-end c =
+    let e = c.read_memory-m.ensures in
     sym (length-take-le _ _ (omega (arith, memory-few _ _ e, memory_full _ _ e)))
 
 pub run_case_spec : {M : Type 1} → statement M
 run_case_spec = tie.close (tie.spec
-    (λ c κs. search rules)  -- print-name-requires
-    (λ c κs. search rules)  -- read-memory-requires
-    mul-n
-    array-borrow-prefix-words
-    slice-aggregate-print-run
-    (λ c κs. search rules)  -- print-run-requires
+    (λ c κs. search rules)  -- print_name-requires
+    (λ c κs. search rules)  -- read_memory-m-requires
+    overflow_mul-n
+    slice_bounds-words-end
+    slice_bounds-print_run-end
+    (λ c κs. search rules)  -- print_run-requires
     (λ c. search rules))  -- returns

@@ -10,33 +10,33 @@ use Rattle.cells.proofs.copy_cell.Tie as tie
 pub copy_cell_spec : {M : Type 1} → statement M
 unfolding cell_count
 copy_cell_spec = tie.close (tie.spec
-    (λ c. sym (store_past _ _ _ c.if1.true))  -- returns
+    (λ c. sym (store_past _ _ _ c.if-work-to.true))  -- returns-then-work-to
     (λ c κs. search rules)  -- clear-requires
-    (λ c. search rules)  -- same-length
-    (λ c. copy_cell_past c.before.before.before.before.before.before.before.args.work.now
-    c.before.before.before.before.before.before.before.args.from
-    c.before.before.before.before.before.before.before.args.to _ c.before.before.clear.ensures
-    c.before.before.before.before.if2.true)  -- returns-2
+    (λ c. search rules)  -- shape_of-work-then-work-from
+    (λ c. copy_cell_past c.args.work.now
+    c.args.from
+    c.args.to _ c.clear.ensures
+    c.if-work-from.true)  -- returns-then-work-from
     (λ c. omega (
       arith,
-      room_left c.before.before.before.before.args.work.now c.before.before.before.before.args.to
-          c.before.before.if1.false,
-    ))  -- mul-slide
+      room_left c.args.work.now c.args.to
+          c.if-work-to.false,
+    ))  -- overflow_mul-to
     (λ c. omega (
       arith,
-      room_left c.before.before.before.before.args.work.now c.before.before.before.before.args.from
-          c.before.if2.false,
-    ))  -- mul-slide-2
+      room_left c.args.work.now c.args.from
+          c.if-work-from.false,
+    ))  -- overflow_mul-from
     (λ c κs. (
-      room_left c.before.before.before.before.args.work.now c.before.before.before.before.args.to
-          c.before.before.if1.false,
-      room_left c.before.before.before.before.args.work.now c.before.before.before.before.args.from
-          c.before.if2.false,
-      cells-apart c.before.before.before.before.args.from c.before.before.before.before.args.to,
+      room_left c.args.work.now c.args.to
+          c.if-work-to.false,
+      room_left c.args.work.now c.args.from
+          c.if-work-from.false,
+      cells-apart c.args.from c.args.to,
     ))  -- slide-requires
-    (λ c. search rules)  -- same-length-2
-    (λ c. copy_cell_done c.before.before.before.before.before.before.before.args.work.now
-    c.before.before.before.before.before.before.before.args.from
-    c.before.before.before.before.before.before.before.args.to _ c.before.before.slide.ensures
-    c.before.before.before.before.if2.false
-    c.before.before.before.before.before.if1.false))  -- returns-3
+    (λ c. search rules)  -- shape_of-work
+    (λ c. copy_cell_done c.args.work.now
+    c.args.from
+    c.args.to _ c.slide.ensures
+    c.if-work-from.false
+    c.if-work-to.false))  -- returns

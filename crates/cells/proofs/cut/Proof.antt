@@ -12,50 +12,50 @@ use Rattle.cells.proofs.CellLaws.{room_left, store_past, clear_turn, copy_done, 
 use Rattle.cells.proofs.cut.Statement.{statement}
 use Rattle.cells.proofs.cut.Tie as tie
 
-abbrev invariant-loop : tie.invariant-loop
-invariant-loop work₀ n i₀ i-end work i =
+abbrev invariant-loop-i : tie.invariant-loop-i
+invariant-loop-i work₀ n i₀ i-end work i =
     (i ≤ cell_words - n) × (work ≡ paste work₀ n (zeros (cell_words - n)) i) × (length work ≡ length work₀)
 
-abbrev decreases-loop : tie.decreases-loop
-decreases-loop work₀ n i₀ i-end work i = cell_words - n - i
+abbrev decreases-loop-i : tie.decreases-loop-i
+decreases-loop-i work₀ n i₀ i-end work i = cell_words - n - i
 
 pub cut_spec : {M : Type 1} → statement M
 unfolding cell_count
 cut_spec = tie.close (tie.spec
-    invariant-loop
-    decreases-loop
-    (λ c. sym (store_past _ _ _ (omega arith)))  -- returns
-    (λ c. cut_none _ _ c.if2.true)  -- returns-2
-    (λ c. search rules)  -- sub-i-end
+    invariant-loop-i
+    decreases-loop-i
+    (λ c. sym (store_past _ _ _ (omega arith)))  -- returns-then-work-eq0
+    (λ c. cut_none _ _ c.if-n-ge-CELL.true)  -- returns-then-n-ge-CELL
+    (λ c. search rules)  -- overflow_sub-i-end
     (λ c. (
       search rules,
-      paste-zero c.before.before.args.work.now c.before.before.args.n
-          (zeros (16 - c.before.before.args.n)),
+      paste-zero c.args.work.now c.args.n
+          (zeros (16 - c.args.n)),
       refl,
-    ))  -- loop-holds
-    (λ c. search rules)  -- add-work
-    (λ c. search rules)  -- mul-work
+    ))  -- loop-i-init
+    (λ c. search rules)  -- overflow_add-work
+    (λ c. search rules)  -- offset_bounds-work-n
     (λ c. omega (
       arith,
-      room_left c.before.before.before.before.args.work.now 0 (omega arith),
-      c.before.loop.invariant.2,
-    ))  -- slice-write-work
-    (λ c. search rules)  -- add-i
-    (λ c. search rules)  -- loop-less
+      room_left c.args.work.now 0 (omega arith),
+      c.loop-i.invariant.2,
+    ))  -- bounds-work-n
+    (λ c. search rules)  -- overflow_step-i
+    (λ c. search rules)  -- loop-i-smaller
     (λ c. (
       search rules,
-      clear_turn c.before.before.before.before.args.work.now c.before.before.before.before.args.n
-          (16 - c.before.before.before.before.args.n)
-          c.before.loop.i c.before.loop.work c.before.loop.invariant.1 (omega arith)
-          (omega (arith, room_left c.before.before.before.before.args.work.now 0 (omega arith))),
+      clear_turn c.args.work.now c.args.n
+          (16 - c.args.n)
+          c.loop-i.i c.loop-i.work c.loop-i.invariant.1 (omega arith)
+          (omega (arith, room_left c.args.work.now 0 (omega arith))),
       simp
           length-set (omega arith),
-    ))  -- loop-again
-    (λ c. search rules)  -- same-length
-    (λ c. cut_done c.before.before.before.before.args.work.now c.before.before.before.before.args.n
-    c.before.loop.work
-    (copy_done c.before.before.before.before.args.work.now c.before.before.before.before.args.n
-    (zeros (16 - c.before.before.before.before.args.n))
-    c.before.loop.i (16 - c.before.before.before.before.args.n) c.before.loop.work
-    c.before.loop.invariant.1 (omega arith))
-    c.before.before.if2.false (omega arith)))  -- returns-3
+    ))  -- loop-i-preserved
+    (λ c. search rules)  -- shape_of-work
+    (λ c. cut_done c.args.work.now c.args.n
+    c.loop-i.work
+    (copy_done c.args.work.now c.args.n
+    (zeros (16 - c.args.n))
+    c.loop-i.i (16 - c.args.n) c.loop-i.work
+    c.loop-i.invariant.1 (omega arith))
+    c.if-n-ge-CELL.false (omega arith)))  -- returns

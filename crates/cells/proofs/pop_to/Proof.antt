@@ -10,40 +10,40 @@ use Rattle.cells.proofs.pop_to.Tie as tie
 pub pop_to_spec : {M : Type 1} → statement M
 unfolding cell_count
 pop_to_spec = tie.close (tie.spec
-    (λ c. sym (store_past _ _ _ c.if1.true))  -- returns
-    (λ c. search rules)  -- mul-start
-    (λ c. search rules)  -- sub-slide
+    (λ c. sym (store_past _ _ _ c.if-work-k.true))  -- returns-then-work-k
+    (λ c. search rules)  -- overflow_mul-start
+    (λ c. search rules)  -- overflow_sub-slide
     (λ c κs. (
       omega (
         arith,
-        room_left c.before.before.before.args.work.now c.before.before.before.args.k
-            c.before.if1.false,
+        room_left c.args.work.now c.args.k
+            c.if-work-k.false,
       ),
       omega (
         arith,
-        room_left c.before.before.before.args.work.now c.before.before.before.args.k
-            c.before.if1.false,
+        room_left c.args.work.now c.args.k
+            c.if-work-k.false,
       ),
-      inside_apart c.before.before.before.args.k,
+      inside_apart c.args.k,
     ))  -- slide-requires
-    (λ c. search rules)  -- sub-work
+    (λ c. search rules)  -- overflow_sub-work
     (λ c. omega (
       arith,
-      room_left c.before.before.before.before.before.before.args.work.now
-          c.before.before.before.before.before.before.args.k c.before.before.before.before.if1.false,
-    ))  -- add-work
+      room_left c.args.work.now
+          c.args.k c.if-work-k.false,
+    ))  -- overflow_add-work
     (λ c. omega (
       arith,
-      room_left c.before.before.before.before.before.before.args.work.now
-          c.before.before.before.before.before.before.args.k c.before.before.before.before.if1.false,
-    ))  -- mul-work
+      room_left c.args.work.now
+          c.args.k c.if-work-k.false,
+    ))  -- offset_bounds-work-start
     (λ c. omega (
       arith,
-      room_left c.before.before.before.before.before.before.args.work.now
-          c.before.before.before.before.before.before.args.k c.before.before.before.before.if1.false,
-      c.before.before.slide.auto.0,
-    ))  -- slice-write-work
-    (λ c. search rules)  -- same-length
-    (λ c. pop_done c.before.before.before.before.before.before.args.work.now
-    c.before.before.before.before.before.before.args.k c.before.before.slide.new.0 _
-    c.before.before.slide.ensures refl c.before.before.before.before.if1.false))  -- returns-2
+      room_left c.args.work.now
+          c.args.k c.if-work-k.false,
+      c.slide.auto.0,
+    ))  -- bounds-work-start
+    (λ c. search rules)  -- shape_of-work
+    (λ c. pop_done c.args.work.now
+    c.args.k c.slide.new.0 _
+    c.slide.ensures refl c.if-work-k.false))  -- returns

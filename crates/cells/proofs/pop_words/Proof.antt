@@ -9,33 +9,33 @@ use Rattle.cells.proofs.CellLaws.{pop_none, pop_next}
 use Rattle.cells.proofs.pop_words.Statement.{statement}
 use Rattle.cells.proofs.pop_words.Tie as tie
 
-abbrev invariant-loop : tie.invariant-loop
-invariant-loop work₀ n left₀ work left =
+abbrev invariant-loop-left : tie.invariant-loop-left
+invariant-loop-left work₀ n left₀ work left =
     (left ≤ n) × (work ≡ store_of work₀ 0 (pops_of (n - left) (load_of work₀ 0))) × (length work ≡ length work₀)
 
-abbrev decreases-loop : tie.decreases-loop
-decreases-loop work₀ n left₀ work left = left
+abbrev decreases-loop-left : tie.decreases-loop-left
+decreases-loop-left work₀ n left₀ work left = left
 
 pub pop_words_spec : {M : Type 1} → statement M
 pop_words_spec = tie.close (tie.spec
-    invariant-loop
-    decreases-loop
-    (λ c. (search rules, pop_none _ _, refl))  -- loop-holds
-    (λ c. search rules)  -- sub-left
-    (λ c κs. search rules)  -- pop-to-requires
-    (λ c. search rules)  -- loop-less
+    invariant-loop-left
+    decreases-loop-left
+    (λ c. (search rules, pop_none _ _, refl))  -- loop-left-init
+    (λ c. search rules)  -- overflow_sub-left
+    (λ c κs. search rules)  -- pop_to-requires
+    (λ c. search rules)  -- loop-left-smaller
     (λ c.
     let turn = c.before.before.before.before.before in (
       search rules,
-      pop_next turn.before.before.args.work.now turn.before.before.args.n turn.loop.left
-          turn.loop.work turn.loop.invariant.1
-          c.before.before.pop-to.ensures (omega arith) turn.loop.invariant.0,
-      c.before.before.pop-to.auto.0 ∙ turn.loop.invariant.2,
-    ))  -- loop-again
-    (λ c. c.before.loop.invariant.2)  -- same-length
+      pop_next turn.args.work.now turn.args.n turn.loop-left.left
+          turn.loop-left.work turn.loop-left.invariant.1
+          c.pop_to.ensures (omega arith) turn.loop-left.invariant.0,
+      c.pop_to.auto.0 ∙ turn.loop-left.invariant.2,
+    ))  -- loop-left-preserved
+    (λ c. c.loop-left.invariant.2)  -- shape_of-work
     (λ c.
-    let z : c.before.before.before.args.n - c.before.loop.left ≡ c.before.before.before.args.n =
+    let z : c.args.n - c.loop-left.left ≡ c.args.n =
     omega arith in
-    c.before.loop.invariant.1
-    ∙ ap (λ (i : ℕ). store_of c.before.before.before.args.work.now 0
-    (pops_of i (load_of c.before.before.before.args.work.now 0))) z))  -- returns
+    c.loop-left.invariant.1
+    ∙ ap (λ (i : ℕ). store_of c.args.work.now 0
+    (pops_of i (load_of c.args.work.now 0))) z))  -- returns

@@ -12,49 +12,49 @@ use Rattle.cells.proofs.CellLaws.{room_left, store_past, push_turn, push_held, p
 use Rattle.cells.proofs.push.Statement.{statement}
 use Rattle.cells.proofs.push.Tie as tie
 
-abbrev invariant-loop : tie.invariant-loop
-invariant-loop work₀ w held₀ i₀ work held i =
+abbrev invariant-loop-i : tie.invariant-loop-i
+invariant-loop-i work₀ w held₀ i₀ work held i =
     (i ≤ cell_words) × (work ≡ paste work₀ 0 (w ∷ work₀) i) × (held ≡ get_or (w ∷ work₀) i 0)
     × (length work ≡ length work₀) × (cell_words ≤ length work₀)
 
-abbrev decreases-loop : tie.decreases-loop
-decreases-loop work₀ w held₀ i₀ work held i = cell_words - i
+abbrev decreases-loop-i : tie.decreases-loop-i
+decreases-loop-i work₀ w held₀ i₀ work held i = cell_words - i
 
 pub push_spec : {M : Type 1} → statement M
 unfolding cell_count
 push_spec = tie.close (tie.spec
-    invariant-loop
-    decreases-loop
-    (λ c. sym (store_past _ _ _ (omega arith)))  -- returns
+    invariant-loop-i
+    decreases-loop-i
+    (λ c. sym (store_past _ _ _ (omega arith)))  -- returns-then-work-eq0
     (λ c. (
       search rules,
-      paste-zero c.before.args.work.now 0 (c.before.args.w ∷ c.before.args.work.now),
+      paste-zero c.args.work.now 0 (c.args.w ∷ c.args.work.now),
       refl,
       refl,
-      omega (arith, room_left c.before.args.work.now 0 (omega arith)),
-    ))  -- loop-holds
-    (λ c. search rules)  -- mul-old
-    (λ c. search rules)  -- slice-read-old
-    (λ c. search rules)  -- mul-work
-    (λ c. search rules)  -- slice-write-work
-    (λ c. search rules)  -- add-i
-    (λ c. search rules)  -- loop-less
+      omega (arith, room_left c.args.work.now 0 (omega arith)),
+    ))  -- loop-i-init
+    (λ c. search rules)  -- offset_bounds-work-i
+    (λ c. search rules)  -- bounds-work-i
+    (λ c. search rules)  -- offset_bounds-work-i-in-loop-i
+    (λ c. search rules)  -- bounds-work-i-in-loop-i
+    (λ c. search rules)  -- overflow_step-i
+    (λ c. search rules)  -- loop-i-smaller
     (λ c. (
       search rules,
-      push_turn c.before.before.before.before.args.work.now c.before.before.before.before.args.w
-          c.before.before.loop.i c.before.before.loop.work
-          c.before.before.loop.invariant.1 (omega arith) c.before.before.loop.held
-          c.before.before.loop.invariant.2,
-      push_held c.before.before.before.before.args.work.now c.before.before.before.before.args.w
-          c.before.before.loop.i c.before.before.loop.work
-          c.before.before.loop.invariant.1 (omega arith),
+      push_turn c.args.work.now c.args.w
+          c.loop-i.i c.loop-i.work
+          c.loop-i.invariant.1 (omega arith) c.loop-i.held
+          c.loop-i.invariant.2,
+      push_held c.args.work.now c.args.w
+          c.loop-i.i c.loop-i.work
+          c.loop-i.invariant.1 (omega arith),
       simp
           length-set (omega arith),
-      c.before.before.loop.invariant.4,
-    ))  -- loop-again
-    (λ c. search rules)  -- same-length
-    (λ c. push_done c.before.before.before.args.work.now c.before.before.before.args.w
-    c.before.loop.work
-    (copy_done c.before.before.before.args.work.now 0
-    (c.before.before.before.args.w ∷ c.before.before.before.args.work.now) c.before.loop.i 16
-    c.before.loop.work c.before.loop.invariant.1 (omega arith)) (omega arith)))  -- returns-2
+      c.loop-i.invariant.4,
+    ))  -- loop-i-preserved
+    (λ c. search rules)  -- shape_of-work
+    (λ c. push_done c.args.work.now c.args.w
+    c.loop-i.work
+    (copy_done c.args.work.now 0
+    (c.args.w ∷ c.args.work.now) c.loop-i.i 16
+    c.loop-i.work c.loop-i.invariant.1 (omega arith)) (omega arith)))  -- returns

@@ -7,8 +7,8 @@ use Rattle.cells.proofs.word.Tie as tie
 
 pub word_spec : {M : Type 1} → statement M
 word_spec = tie.close (tie.spec
-    (λ c. search rules)  -- mul-result
-    (λ c. search rules)  -- shared-slice-read-result
-    (λ c. search rules)  -- returns
+    (λ c. search rules)  -- offset_bounds-work-at
+    (λ c. search rules)  -- bounds-work-at
+    (λ c. search rules)  -- returns-then-at-work
     (λ c.
-    sym (get_or-eq_default c.before.args.work.now 0 {n = c.before.args.at} c.if1.false)))  -- returns-2
+    sym (get_or-eq_default c.args.work.now 0 {n = c.args.at} c.if-at-work.false)))  -- returns-else-at-work

@@ -6,6 +6,6 @@ use Rattle.checker.proofs.answer.Tie as tie
 pub answer_spec : {M : Type 1} → statement M
 unfolding verdict_of
 answer_spec = tie.close (tie.spec
-    (λ c. rw (c.before.if1.true, c.if2.true))  -- returns
-    (λ c. rw (c.before.if1.true, c.if2.false))  -- returns-2
-    (λ c. rw c.if1.false))  -- returns-3
+    (λ c. rw (c.if-typed.true, c.if-flow.true))  -- returns-then-flow
+    (λ c. rw (c.if-typed.true, c.if-flow.false))  -- returns-else-flow
+    (λ c. rw c.if-typed.false))  -- returns-else-typed

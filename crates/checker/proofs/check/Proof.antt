@@ -11,15 +11,15 @@ use Rattle.checker.proofs.check.Tie as tie
 returns : tie.Need-returns
 returns c =
     let x = c.before.before.before in
-    let a = x.before.before.before.before.before.args in (
-      check-answers a.code.now a.table.now a.start x.before.label.ensures x.check-cmd.ensures
-          (c.before.answer.ensures ∙ ap (verdict_of _) (first_holds _)) (omega arith),
-      check_keeps a.code.now a.table.now x.check-cmd.ensures (second_holds _) (omega arith),
+    let a = x.args in (
+      check-answers a.code.now a.table.now a.start x.label.ensures x.check_cmd-x.ensures
+          (c.answer.ensures ∙ ap (verdict_of _) (first_holds _)) (omega arith),
+      check_keeps a.code.now a.table.now x.check_cmd-x.ensures (second_holds _) (omega arith),
     )
 
 pub check_spec : {M : Type 1} → statement M
 check_spec = tie.close (tie.spec
     (λ c κs. search rules)  -- label-requires
-    (λ c κs. search rules)  -- check-cmd-requires
+    (λ c κs. search rules)  -- check_cmd-x-requires
     (λ c κs. search rules)  -- answer-requires
     returns)

@@ -5,17 +5,17 @@ use Rattle.desk.specs.Numbers.{earlier}
 use Rattle.desk.proofs.earlier.Statement.{statement}
 use Rattle.desk.proofs.earlier.Tie as tie
 
-returns : tie.Need-returns
+returns-then-rank : tie.Need-returns-then-rank
 unfolding earlier
-returns c = rw (← c.before.before.rank.ensures, ← c.before.rank2.ensures, lt-ltb _ _ c.if1.true)
+returns-then-rank c = rw (← c.rank.ensures, ← c.rank-2.ensures, lt-ltb _ _ c.if-rank.true)
 
-returns-2 : tie.Need-returns-2
+returns-else-rank : tie.Need-returns-else-rank
 unfolding earlier
-returns-2 c = rw (← c.before.before.rank.ensures, ← c.before.rank2.ensures, le-ltb _ _ c.if1.false)
+returns-else-rank c = rw (← c.rank.ensures, ← c.rank-2.ensures, le-ltb _ _ c.if-rank.false)
 
 pub earlier_spec : {M : Type 1} → statement M
 earlier_spec = tie.close (tie.spec
     (λ c κs. search rules)  -- rank-requires
     (λ c κs. search rules)  -- rank-requires-2
-    returns
-    returns-2)
+    returns-then-rank
+    returns-else-rank)

@@ -5,14 +5,14 @@ use lib.Seq.{take_all, length-take-le}
 use Rattle.desk.proofs.first.Statement.{statement}
 use Rattle.desk.proofs.first.Tie as tie
 
-returns : tie.Need-returns
-returns c = let a = c.before.args in sym (take_all a.n a.out.now (omega arith))
+returns-then-out-n : tie.Need-returns-then-out-n
+returns-then-out-n c = let a = c.args in sym (take_all a.n a.out.now (omega arith))
 
-slice-aggregate-result : tie.Need-slice-aggregate-result
-slice-aggregate-result c = let a = c.before.before.args in sym (length-take-le a.n a.out.now (omega arith))
+slice_bounds-result-end : tie.Need-slice_bounds-result-end
+slice_bounds-result-end c = let a = c.before.before.args in sym (length-take-le a.n a.out.now (omega arith))
 
 pub first_spec : {M : Type 1} → statement M
 first_spec = tie.close (tie.spec
-    returns
-    slice-aggregate-result
-    (λ c. refl))  -- returns-2
+    returns-then-out-n
+    slice_bounds-result-end
+    (λ c. refl))  -- returns

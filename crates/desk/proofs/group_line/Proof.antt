@@ -9,37 +9,37 @@ use Rattle.desk.proofs.Fields.{only_whole, only_part, only_none}
 use Rattle.desk.proofs.group_line.Statement.{statement}
 use Rattle.desk.proofs.group_line.Tie as tie
 
-returns : tie.Need-returns
+returns-then-closes : tie.Need-returns-then-closes
 unfolding group_of Option-elim
-returns c =
-    let k = c.before.before.before in
-    let s = k.before.before.before.before.args.s.now in
-    let e = set_at s 0 _ k.before.before.set.ensures _ _ k.m.given.1 in
-    sym (ap parsed_group (only_whole _ s k.m.given.0.0 k.m.given.0.1.0 e.0
-    (sym c.before.closes.ensures ∙ c.if1.true)))
-
-returns-2 : tie.Need-returns-2
-unfolding group_of Option-elim
-returns-2 c =
-    let k = c.before.before.before in
-    let s = k.before.before.before.before.args.s.now in
-    let e = set_at s 0 _ k.before.before.set.ensures _ _ k.m.given.1 in
-    sym (ap parsed_group
-    (only_part _ s k.m.given.0.0 k.m.given.0.1.0 e.0 (sym c.before.closes.ensures ∙ c.if1.false)))
-
-returns-3 : tie.Need-returns-3
-unfolding group_of Option-elim
-returns-3 c =
+returns-then-closes c =
     let k = c.before.before in
-    let s = k.before.before.args.s.now in
-    sym (ap parsed_group (only_none _ (set-bad s 0 _ k.set.ensures c.enum_told.given.1)))
+    let s = k.args.s.now in
+    let e = set_at s 0 _ k.set.ensures _ _ k.in-At.is in
+    sym (ap parsed_group (only_whole _ s k.in-At.m k.in-At.p e.0
+    (sym c.closes.ensures ∙ c.if-closes.true)))
+
+returns-else-closes : tie.Need-returns-else-closes
+unfolding group_of Option-elim
+returns-else-closes c =
+    let k = c.before.before in
+    let s = k.args.s.now in
+    let e = set_at s 0 _ k.set.ensures _ _ k.in-At.is in
+    sym (ap parsed_group
+    (only_part _ s k.in-At.m k.in-At.p e.0 (sym c.closes.ensures ∙ c.if-closes.false)))
+
+returns-in_default : tie.Need-returns-in_default
+unfolding group_of Option-elim
+returns-in_default c =
+    let k = c.before in
+    let s = k.args.s.now in
+    sym (ap parsed_group (only_none _ (set-bad s 0 _ k.set.ensures c.in_default.is)))
 
 pub group_line_spec : {M : Type 1} → statement M
 group_line_spec = tie.close (tie.spec
     (λ c κs. search rules)  -- set-requires
-    (λ c. search rules)  -- enum-known-m
+    (λ c. search rules)  -- enum_known-m
     (λ c κs. search rules)  -- closes-requires
-    returns
-    (λ c. search rules)  -- enum_told
-    returns-2
-    returns-3)
+    returns-then-closes
+    (λ c. search rules)  -- enum_told-1
+    returns-else-closes
+    returns-in_default)

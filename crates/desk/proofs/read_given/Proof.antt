@@ -10,44 +10,44 @@ use Rattle.desk.proofs.Givens.{number_by, given_is}
 use Rattle.desk.proofs.read_given.Statement.{statement}
 use Rattle.desk.proofs.read_given.Tie as tie
 
-mul-count : tie.Need-overflow-mul-count
-mul-count c = omega (arith, memory-few _ _ c.before.before.read-memory.ensures)
+overflow_mul-count : tie.Need-overflow_mul-count
+overflow_mul-count c = omega (arith, memory-few _ _ c.read_memory-m.ensures)
 
-returns : tie.Need-returns
+returns-in_default : tie.Need-returns-in_default
 unfolding given_of number_by
-returns c =
-    let g = c.before.before in
+returns-in_default c =
+    let g = c.before in
     let m = g.before.before.before in
-    rw (group_refused _ _ g.group-line.ensures c.enum_told.given.1)
-    (given_is _ _ m.read-memory.ensures none _ refl)
+    rw (group_refused _ _ g.group_line.ensures c.in_default.is)
+    (given_is _ _ m.read_memory-m.ensures none _ refl)
 
-returns-2 : tie.Need-returns-2
+returns-in-Read-parsed : tie.Need-returns-in-Read-parsed
 unfolding given_of number_by
-returns-2 c =
-    let k = c.before.before.before in
-    let g = k.before.before in
-    let m = g.before.before.before in
-    rw (group_read _ _ g.group-line.ensures _ k.g.given.1)
-    (given_is _ _ m.read-memory.ensures (some _) _ c.enum-told2.given.1)
+returns-in-Read-parsed c =
+    let k = c.before in
+    let g = k in
+    let m = g.before in
+    rw (group_read _ _ g.group_line.ensures _ k.in-Read.is)
+    (given_is _ _ m.read_memory-m.ensures (some _) _ c.in-Read-parsed.is)
 
-returns-3 : tie.Need-returns-3
+returns-in-Refused : tie.Need-returns-in-Refused
 unfolding given_of number_by
-returns-3 c =
-    let k = c.before.before.before in
-    let g = k.before.before in
-    let m = g.before.before.before in
-    rw (group_read _ _ g.group-line.ensures _ k.g.given.1)
-    (given_is _ _ m.read-memory.ensures (some _) _ c.enum-told3.given.1)
+returns-in-Refused c =
+    let k = c.before in
+    let g = k in
+    let m = g.before in
+    rw (group_read _ _ g.group_line.ensures _ k.in-Read.is)
+    (given_is _ _ m.read_memory-m.ensures (some _) _ c.in-Refused.is)
 
 pub read_given_spec : {M : Type 1} → statement M
 read_given_spec = tie.close (tie.spec
-    (λ c κs. search rules)  -- read-memory-requires
-    mul-count
-    (λ c κs. search rules)  -- group-line-requires
-    (λ c. search rules)  -- enum-known-g
-    (λ c. search rules)  -- enum_told
-    returns
-    (λ c. search rules)  -- enum-told-2
-    (λ c. search rules)  -- enum-told-3
-    returns-2
-    returns-3)
+    (λ c κs. search rules)  -- read_memory-m-requires
+    overflow_mul-count
+    (λ c κs. search rules)  -- group_line-requires
+    (λ c. search rules)  -- enum_known-g
+    (λ c. search rules)  -- enum_told-1
+    returns-in_default
+    (λ c. search rules)  -- enum_told-in-Read-parsed
+    (λ c. search rules)  -- enum_told-in-Refused
+    returns-in-Read-parsed
+    returns-in-Refused)

@@ -7,26 +7,26 @@ use Rattle.desk.proofs.Givens.{given_whole}
 use Rattle.desk.proofs.show.Statement.{statement}
 use Rattle.desk.proofs.show.Tie as tie
 
-returns : tie.Need-returns
-returns c = put_none c.before.before.before.before.before.args.out.now _ c.if1.true
+returns-then-out-lt-OUTPUT_ROOM : tie.Need-returns-then-out-lt-OUTPUT_ROOM
+returns-then-out-lt-OUTPUT_ROOM c = put_none c.args.out.now _ c.if-out-lt-OUTPUT_ROOM.true
 
-show-given-requires : tie.Need-show-given-requires
-show-given-requires c κs =
+show_given-requires : tie.Need-show_given-requires
+show_given-requires c κs =
     let g = c.before in
-    (given_whole _ _ _ g.read-given.ensures, omega (arith, g.before.if1.false))
+    (given_whole _ _ _ g.read_given.ensures, omega (arith, g.if-out-lt-OUTPUT_ROOM.false))
 
-returns-2 : tie.Need-returns-2
+returns : tie.Need-returns
 unfolding show_of
-returns-2 c =
+returns c =
     let s = c.before.before in
     let g = s.before.before in
-    let a = g.before.before.before.before.before.before.args in
-    put_all a.out.now _ _ _ g.before.if1.false (rw (← g.read-given.ensures) s.show-given.ensures)
+    let a = g.args in
+    put_all a.out.now _ _ _ g.if-out-lt-OUTPUT_ROOM.false (rw (← g.read_given.ensures) s.show_given.ensures)
 
 pub show_spec : {M : Type 1} → statement M
 show_spec = tie.close (tie.spec
-    returns
-    (λ c κs. search rules)  -- read-given-requires
-    show-given-requires
-    (λ c. search rules)  -- same-length
-    returns-2)
+    returns-then-out-lt-OUTPUT_ROOM
+    (λ c κs. search rules)  -- read_given-requires
+    show_given-requires
+    (λ c. search rules)  -- shape_of-out
+    returns)

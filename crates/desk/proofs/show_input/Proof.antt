@@ -9,14 +9,14 @@ unfolding show_held show_texts
 returns c =
     let s = c.before.before in
     let t = s.before.before in
-    rw (← t.before.before.text_in.ensures, ← t.before.text-in2.ensures, ← t.text-in3.ensures)
+    rw (← t.text_in-sheet.ensures, ← t.text_in-memory.ensures, ← t.text_in-group.ensures)
     s.show.ensures
 
 pub show_input_spec : {M : Type 1} → statement M
 show_input_spec = tie.close (tie.spec
-    (λ c κs. search rules)  -- text_in-requires
-    (λ c κs. search rules)  -- text_in-requires-2
-    (λ c κs. search rules)  -- text_in-requires-3
+    (λ c κs. search rules)  -- text_in-sheet-requires
+    (λ c κs. search rules)  -- text_in-memory-requires
+    (λ c κs. search rules)  -- text_in-group-requires
     (λ c κs. search rules)  -- show-requires
-    (λ c. search rules)  -- same-length
+    (λ c. search rules)  -- shape_of-out
     returns)

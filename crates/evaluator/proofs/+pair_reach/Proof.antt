@@ -63,15 +63,15 @@ unfolding op_kind
 )
     (pair_at t)
     pair.Post
-    (λ c. omega (arith, pair_within _ _ c.before.before.requires.1))  -- add-reach
+    (λ c. omega (arith, pair_within _ _ c.before.before.requires.1))  -- overflow_add-at
     (λ c κs. (
-      omega (arith, pair_within _ _ c.before.before.before.requires.1, c.before.before.before.requires.0),
+      omega (arith, pair_within _ _ c.requires.1, c.requires.0),
       tt,
-    ))  -- reach-requires
-    (λ c. laws.eval-pair_end refl c.before.reach.ensures c.before.before.before.before.before.requires.1
-    (end_none _ c.if1.true))  -- returns
-    (λ c κs. search rules)  -- load-requires
-    (λ c κs. search rules)  -- row-at-requires
+    ))  -- reach-v-requires
+    (λ c. laws.eval-pair_end refl c.reach-v.ensures c.requires.1
+    (end_none _ c.if-v-le-TOO_LONG.true))  -- returns-then-v-le-TOO_LONG
+    (λ c κs. search rules)  -- load-first-requires
+    (λ c κs. search rules)  -- row_at-next-requires
     (λ c κs.
     let past = c.before.before.before.before.before.before.before in
     let start = past.before.before.before.before.before in (
@@ -79,37 +79,37 @@ unfolding op_kind
         arith,
         pair_within _ _ start.requires.1,
         start.requires.0,
-        past.before.reach.ensures.forward (end_done _ past.if1.false),
+        past.reach-v.ensures.forward (end_done _ past.if-v-le-TOO_LONG.false),
       ),
-      rw c.before.before.before.row_at.ensures at c.before.if2.true,
-    ))  -- pair-requires
+      rw c.row_at-next.ensures at c.if-next-eq-PAIR.true,
+    ))  -- pair-w-requires
+    (λ c κs. search rules)  -- pair-requires
+    (λ c.
+    let second = c.before.before.before in
+    let first = second.before.before.before.before.before in
+    let past = first.before.before.before in
+    laws.eval-pair refl past.reach-v.ensures past.requires.1
+    (end_done _ past.if-v-le-TOO_LONG.false) first.load-first.ensures
+    second.pair-w.ensures c.pair.ensures)  -- returns-then-next-eq-PAIR
+    (λ c κs.
+    let past = c.before.before.before.before.before.before.before in
+    let start = past.before.before.before.before.before in (
+      omega (
+        arith,
+        pair_within _ _ start.requires.1,
+        start.requires.0,
+        past.reach-v.ensures.forward (end_done _ past.if-v-le-TOO_LONG.false),
+      ),
+      tt,
+    ))  -- reach-w-requires
     (λ c κs. search rules)  -- pair-requires-2
     (λ c.
     let second = c.before.before.before in
     let first = second.before.before.before.before.before in
     let past = first.before.before.before in
-    laws.eval-pair refl past.before.reach.ensures past.before.before.before.before.before.requires.1
-    (end_done _ past.if1.false) first.load.ensures
-    second.pair.ensures c.pair2.ensures)  -- returns-2
-    (λ c κs.
-    let past = c.before.before.before.before.before.before.before in
-    let start = past.before.before.before.before.before in (
-      omega (
-        arith,
-        pair_within _ _ start.requires.1,
-        start.requires.0,
-        past.before.reach.ensures.forward (end_done _ past.if1.false),
-      ),
-      tt,
-    ))  -- reach-requires-2
-    (λ c κs. search rules)  -- pair-requires-3
-    (λ c.
-    let second = c.before.before.before in
-    let first = second.before.before.before.before.before in
-    let past = first.before.before.before in
-    laws.eval-pair refl past.before.reach.ensures past.before.before.before.before.before.requires.1
-    (end_done _ past.if1.false) first.load.ensures
-    second.reach2.ensures c.pair3.ensures))  -- returns-3
+    laws.eval-pair refl past.reach-v.ensures past.requires.1
+    (end_done _ past.if-v-le-TOO_LONG.false) first.load-first.ensures
+    second.reach-w.ensures c.pair-2.ensures))  -- returns
     λ t. reach-lts.spec (
       row-at-reads.Asked,
       row-at-reads.Learnt,
@@ -130,66 +130,66 @@ unfolding op_kind
     )
     (reach_at t)
     reach.Post
-    (λ c κs. search rules)  -- row-at-requires
+    (λ c κs. search rules)  -- row_at-next-requires
     (λ c κs. search rules)  -- literal-requires
     (λ c. omega (
       arith,
-      row_within _ _ c.before.before.before.row_at.ensures (omega (arith, c.before.before.match.keys1)),
-    ))  -- add-result
+      row_within _ _ c.row_at-row.ensures (omega (arith, c.in-6.is)),
+    ))  -- overflow_add-result
     (λ c κs. search rules)  -- location-requires
     (λ c. omega (
       arith,
-      row_within _ _ c.before.before.before.row_at.ensures (omega (arith, c.before.before.match.keys2)),
-    ))  -- add-result-2
+      row_within _ _ c.row_at-row.ensures (omega (arith, c.in-7.is)),
+    ))  -- overflow_add-result-in-7
     (λ c κs. search rules)  -- variable-requires
     (λ c. omega (
       arith,
-      row_within _ _ c.before.before.before.row_at.ensures (omega (arith, c.before.before.match.keys3)),
-    ))  -- add-result-3
+      row_within _ _ c.row_at-row.ensures (omega (arith, c.in-8.is)),
+    ))  -- overflow_add-result-in-8
     (λ c κs. (
-      omega (arith, c.before.before.before.before.before.requires.0),
-      rw c.before.before.row_at.ensures at c.before.match.keys4,
+      omega (arith, c.requires.0),
+      rw c.row_at-row.ensures at c.in-14.is,
     ))  -- pair-requires
-    (λ c. omega (arith, row_within _ _ c.before.before.before.row_at.ensures (omega arith)))  -- add-reach
+    (λ c. omega (arith, row_within _ _ c.row_at-row.ensures (omega arith)))  -- overflow_add-at
     (λ c κs. (
-      omega (arith, row_within _ _ c.before.before.before.before.row_at.ensures (omega arith)),
+      omega (arith, row_within _ _ c.row_at-row.ensures (omega arith)),
       tt,
-    ))  -- reach-requires
+    ))  -- reach-v-requires
     (λ c κs. search rules)  -- applied-requires
-    (λ c. laws.eval-one c.before.before.before.before.before.before.before.before.row_at.ensures
-    c.before.before.before.reach.ensures
-    (none_past 6 3 c.before.before.before.before.before.before.before.match.rest.0
-    c.before.before.before.before.before.before.if1.false)
-    (omega (arith, c.before.before.before.before.before.if2.true)) c.before.before.if3.true
-    c.before.before.before.before.before.before.before.match.rest.1 c.applied.ensures)  -- returns
-    (λ c. laws.eval-plus_end c.before.before.before.before.before.before.before.row_at.ensures
-    c.before.before.reach.ensures c.before.if3.false (end_none _ c.if4.true))  -- returns-2
-    (λ c κs. search rules)  -- word-requires
+    (λ c. laws.eval-one c.row_at-row.ensures
+    c.reach-v.ensures
+    (none_past 6 3 c.in_default-1.rest.0
+    c.if-kind-lt6.false)
+    (omega (arith, c.in-9.if-kind-lt17-own.true)) c.if-kind-ne-PLUS.true
+    c.in_default-1.rest.1 c.applied.ensures)  -- returns-then-kind-ne-PLUS
+    (λ c. laws.eval-plus_end c.row_at-row.ensures
+    c.reach-v.ensures c.if-kind-ne-PLUS.false (end_none _ c.if-v-le-TOO_LONG.true))  -- returns-then-v-le-TOO_LONG
+    (λ c κs. search rules)  -- word-n-requires
     (λ c κs. (
       omega (
         arith,
         row_within _ _
-            c.before.before.before.before.before.before.before.before.before.before.before.row_at.ensures
+            c.row_at-row.ensures
             (omega arith),
-        c.before.before.before.before.before.before.reach.ensures.forward
-            (end_done _ c.before.before.before.before.if4.false),
+        c.reach-v.ensures.forward
+            (end_done _ c.if-v-le-TOO_LONG.false),
       ),
       tt,
-    ))  -- reach-requires-2
-    (λ c κs. search rules)  -- applied-requires-2
-    (λ c. laws.eval-int c.before.before.before.row_at.ensures c.before.before.match.keys1
-    c.literal.ensures)  -- returns-3
-    (λ c. laws.eval-loc c.before.before.before.row_at.ensures c.before.before.match.keys2
-    c.location.ensures)  -- returns-4
-    (λ c. laws.eval-var c.before.before.before.row_at.ensures c.before.before.match.keys3
-    c.variable.ensures)  -- returns-5
-    (λ c. c.pair.ensures)  -- returns-6
-    (λ c. laws.eval-plus c.before.before.before.before.before.before.before.before.before.before.before.before.before.before.row_at.ensures
-    c.before.before.before.before.before.before.before.before.before.reach.ensures
-    c.before.before.before.before.before.before.before.before.if3.false
-    (end_done _ c.before.before.before.before.before.before.before.if4.false)
-    c.before.before.before.before.word.ensures c.before.before.reach2.ensures (c.applied2.ensures o_plus
-    c.before.before.before.before.before.before.before.before.if3.false))  -- returns-7
-    (λ c. laws.eval_none c.before.before.row_at.ensures (λ h. omega (arith, h.0, c.if1.true)))  -- returns-8
-    (λ c. laws.eval_none c.before.before.before.row_at.ensures
-    (λ h. omega (arith, h.1, c.if2.false)))  -- returns-9
+    ))  -- reach-w-requires
+    (λ c κs. search rules)  -- applied-requires-in-9
+    (λ c. laws.eval-int c.row_at-row.ensures c.in-6.is
+    c.literal.ensures)  -- returns-in-6
+    (λ c. laws.eval-loc c.row_at-row.ensures c.in-7.is
+    c.location.ensures)  -- returns-in-7
+    (λ c. laws.eval-var c.row_at-row.ensures c.in-8.is
+    c.variable.ensures)  -- returns-in-8
+    (λ c. c.pair.ensures)  -- returns-in-14
+    (λ c. laws.eval-plus c.row_at-row.ensures
+    c.reach-v.ensures
+    c.if-kind-ne-PLUS.false
+    (end_done _ c.if-v-le-TOO_LONG.false)
+    c.word-n.ensures c.reach-w.ensures (c.applied-in-9.ensures o_plus
+    c.if-kind-ne-PLUS.false))  -- returns-else-v-le-TOO_LONG
+    (λ c. laws.eval_none c.row_at-row.ensures (λ h. omega (arith, h.0, c.in_default.if-kind-lt6-own.true)))  -- returns-in_default
+    (λ c. laws.eval_none c.row_at-row.ensures
+    (λ h. omega (arith, h.1, c.if-kind-lt17.if-kind-lt17-own.false)))  -- returns-in_default-2

@@ -6,7 +6,7 @@ use Rattle.evaluator.proofs.eval.Tie as tie
 
 pub eval_spec : {M : Type 1} → statement M
 eval_spec = tie.close (tie.spec
-    (λ c κs. search rules)  -- reach-requires
-    (λ c. laws.eval-no_rule c.match.keys1 c.before.reach.ensures)  -- returns
-    (λ c. laws.eval-too_long c.match.keys2 c.before.reach.ensures)  -- returns-2
-    (λ c. laws.eval_done c.match.rest.0.1 c.match.rest.1 c.before.reach.ensures))  -- returns-3
+    (λ c κs. search rules)  -- reach-next-requires
+    (λ c. laws.eval-no_rule c.in-0.is c.reach-next.ensures)  -- returns-in-0
+    (λ c. laws.eval-too_long c.in-1.is c.reach-next.ensures)  -- returns-in-1
+    (λ c. laws.eval_done c.in_default.in_default-own.rest.0.1 c.in_default.in_default-own.rest.1 c.reach-next.ensures))  -- returns-in_default

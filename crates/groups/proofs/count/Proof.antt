@@ -8,48 +8,48 @@ use Rattle.groups.proofs.LoopLaws.{Counts, counts_first, counts_over, counts-on,
 use Rattle.groups.proofs.count.Statement.{statement}
 use Rattle.groups.proofs.count.Tie as tie
 
-abbrev invariant-loop : tie.invariant-loop
-invariant-loop readers end found₀ from₀ found from = Counts (reads_by readers) end found from
+abbrev invariant-loop-from : tie.invariant-loop-from
+invariant-loop-from readers end found₀ from₀ found from = Counts (reads_by readers) end found from
 
-abbrev decreases-loop : tie.decreases-loop
-decreases-loop readers end found₀ from₀ found from = end - from
+abbrev decreases-loop-from : tie.decreases-loop-from
+decreases-loop-from readers end found₀ from₀ found from = end - from
 
 -- a group was found
-below_end : (c : tie.Else1 invariant-loop decreases-loop)
-    → c.before.first-from.result < c.before.before.before.before.args.end
-below_end c = omega (arith, c.if1.false)
+below_end : (c : tie.Else-group-end invariant-loop-from decreases-loop-from)
+    → c.first_from-group.result < c.args.end
+below_end c = omega (arith, c.if-group-end.false)
 
 pub count_spec : {M : Type 1} → statement M
 count_spec = tie.close (tie.spec
-    invariant-loop
-    decreases-loop
-    (λ c. counts_first _ _)  -- loop-holds
-    (λ c κs. (c.before.loop.invariant.some, c.before.before.requires))  -- first-from-requires
-    (λ c. counts_over _ _ c.before.before.before.loop.invariant
-    (c.before.first-from.ensures.none c.if1.true))  -- returns
+    invariant-loop-from
+    decreases-loop-from
+    (λ c. counts_first _ _)  -- loop-from-init
+    (λ c κs. (c.loop-from.invariant.some, c.requires))  -- first_from-group-requires
+    (λ c. counts_over _ _ c.loop-from.invariant
+    (c.first_from-group.ensures.none c.if-group-end.true))  -- returns-then-group-end
     (λ c.
     let f = c.before in
     omega (
       arith,
-      counts-few _ _ f.before.before.loop.invariant f.first-from.ensures (below_end c),
-      f.before.before.before.requires,
-    ))  -- add-found
+      counts-few _ _ f.loop-from.invariant f.first_from-group.ensures (below_end c),
+      f.requires,
+    ))  -- overflow_add-found
     (λ c κs.
     let f = c.before in (
-      omega (arith, f.first-from.ensures.not_before, f.before.before.loop.invariant.some),
-      omega (arith, below_end c, f.before.before.before.requires),
-    ))  -- past-holders-requires
+      omega (arith, f.first_from-group.ensures.not_before, f.loop-from.invariant.some),
+      omega (arith, below_end c, f.requires),
+    ))  -- past_holders-from-requires
     (λ c.
     let f = c.before.before in
     omega (
       arith,
-      c.past-holders.ensures,
-      past_rises f.first-from.result,
-      f.first-from.ensures.not_before,
-      f.before.loop-test.true,
-    ))  -- loop-less
+      c.past_holders-from.ensures,
+      past_rises f.first_from-group.result,
+      f.first_from-group.ensures.not_before,
+      f.loop-from-test.true,
+    ))  -- loop-from-smaller
     (λ c.
     let f = c.before.before in
-    rw c.past-holders.ensures
-    (counts-on _ _ f.before.before.loop.invariant f.first-from.ensures (below_end c.before)))  -- loop-again
-    (λ c. counts_over _ _ c.before.loop.invariant (left_over _ _ _ c.loop-test.false)))  -- returns-2
+    rw c.past_holders-from.ensures
+    (counts-on _ _ f.loop-from.invariant f.first_from-group.ensures (below_end c.before)))  -- loop-from-preserved
+    (λ c. counts_over _ _ c.loop-from.invariant (left_over _ _ _ c.loop-from-test.false)))  -- returns

@@ -13,57 +13,57 @@ use borrow.Author.Rules.{rules}
 use Rattle.groups.proofs.first_from.Statement.{statement}
 use Rattle.groups.proofs.first_from.Tie as tie
 
-abbrev invariant-loop : tie.invariant-loop
-invariant-loop readers end from group₀ group = CameTo (reads_by readers) end from group
+abbrev invariant-loop-group : tie.invariant-loop-group
+invariant-loop-group readers end from group₀ group = CameTo (reads_by readers) end from group
 
-abbrev decreases-loop : tie.decreases-loop
-decreases-loop readers end from group₀ group = end - group
+abbrev decreases-loop-group : tie.decreases-loop-group
+decreases-loop-group readers end from group₀ group = end - group
 
-in_width : (c : tie.In-loop invariant-loop decreases-loop) → c.before.loop.group < 2 ^ width
-in_width c = omega (arith, c.loop-test.true, c.before.before.requires.1)
+in_width : (c : tie.In-loop-group invariant-loop-group decreases-loop-group) → c.loop-group.group < 2 ^ width
+in_width c = omega (arith, c.loop-group-test.true, c.requires.1)
 
 -- the group reads
-it_reads : (c : tie.Else1 invariant-loop decreases-loop)
-    → reads_by c.before.before.before.before.args.readers c.before.before.before.loop.group ≡ true
-it_reads c = sym c.before.reads.ensures ∙ not-false _ c.if1.false
+it_reads : (c : tie.Else-not-reads invariant-loop-group decreases-loop-group)
+    → reads_by c.args.readers c.loop-group.group ≡ true
+it_reads c = sym c.reads.ensures ∙ not-false _ c.if-not-reads.false
 
-returns : tie.Need-returns invariant-loop decreases-loop
-returns c =
+returns-then-needs_each : tie.Need-returns-then-needs_each invariant-loop-group decreases-loop-group
+returns-then-needs_each c =
     let e = c.before.before in
     let i = e.before.before in
     let s = i.before.before in
-    found_first _ _ i.before.loop.invariant (readers_grow _) s.requires.0 i.loop-test.true s.requires.1 (it_reads e)
-    c.before.needs-each.ensures c.if2.true
+    found_first _ _ i.loop-group.invariant (readers_grow _) s.requires.0 i.loop-group-test.true s.requires.1 (it_reads e)
+    c.needs_each.ensures c.if-needs_each.true
 
-loop-again-2 : tie.Need-loop-preserved-2 invariant-loop decreases-loop
-loop-again-2 c =
+loop-group-preserved : tie.Need-loop-group-preserved invariant-loop-group decreases-loop-group
+loop-group-preserved c =
     let t = c.before in
     let e = t.before.before in
     let i = e.before.before in
     let s = i.before.before in
-    rw c.past-holders.ensures
-    (past-on _ _ i.before.loop.invariant (readers_grow _) s.requires.0 i.loop-test.true s.requires.1 (it_reads e)
-    t.before.needs-each.ensures t.if2.false)
+    rw c.past_holders-group.ensures
+    (past-on _ _ i.loop-group.invariant (readers_grow _) s.requires.0 i.loop-group-test.true s.requires.1 (it_reads e)
+    t.needs_each.ensures t.if-needs_each.false)
 
 pub first_from_spec : {M : Type 1} → statement M
 first_from_spec = tie.close (tie.spec
-    invariant-loop
-    decreases-loop
-    (λ c. came_first _ _ _)  -- loop-holds
-    (λ c. omega (arith, in_width c))  -- cast-reads
+    invariant-loop-group
+    decreases-loop-group
+    (λ c. came_first _ _ _)  -- loop-group-init
+    (λ c. omega (arith, in_width c))  -- overflow_cast-group
     (λ c κs. search rules)  -- reads-requires
-    (λ c. omega (arith, in_width c.before.before))  -- add-group
-    (λ c. omega (arith, c.before.before.loop-test.true))  -- loop-less
-    (λ c. silent_on _ _ c.before.before.before.loop.invariant
-    (sym c.before.reads.ensures ∙ not-true _ c.if1.true))  -- loop-again
-    (λ c. omega (arith, in_width c.before.before))  -- cast-needs-each
-    (λ c κs. search rules)  -- needs-each-requires
-    returns
+    (λ c. omega (arith, in_width c.before.before))  -- overflow_add-group
+    (λ c. omega (arith, c.loop-group-test.true))  -- loop-group-smaller-then-not-reads
+    (λ c. silent_on _ _ c.loop-group.invariant
+    (sym c.reads.ensures ∙ not-true _ c.if-not-reads.true))  -- loop-group-preserved-then-not-reads
+    (λ c. omega (arith, in_width c.before.before))  -- overflow_cast-group-in-loop-group
+    (λ c κs. search rules)  -- needs_each-requires
+    returns-then-needs_each
     (λ c κs.
     let i = c.before.before.before.before in
-    (omega (arith, i.before.loop.invariant.not_before, i.before.before.requires.0), in_width i))  -- past-holders-requires
+    (omega (arith, i.loop-group.invariant.not_before, i.requires.0), in_width i))  -- past_holders-group-requires
     (λ c.
     let i = c.before.before.before.before.before in
-    omega (arith, c.past-holders.ensures, past_rises i.before.loop.group, i.loop-test.true))  -- loop-less-2
-    loop-again-2
-    (λ c. none_first _ _ c.before.loop.invariant c.loop-test.false))  -- returns-2
+    omega (arith, c.past_holders-group.ensures, past_rises i.loop-group.group, i.loop-group-test.true))  -- loop-group-smaller
+    loop-group-preserved
+    (λ c. none_first _ _ c.loop-group.invariant c.loop-group-test.false))  -- returns

@@ -9,6 +9,6 @@ use Rattle.groups.proofs.past_holders.Tie as tie
 pub past_holders_spec : {M : Type 1} → statement M
 unfolding past_holders union
 past_holders_spec = tie.close (tie.spec
-    (λ c. search rules)  -- sub-result
-    (λ c. omega (arith, past_bound width c.args.group c.requires.0 c.requires.1))  -- add-result
+    (λ c. search rules)  -- overflow_sub-result
+    (λ c. omega (arith, past_bound width c.args.group c.requires.0 c.requires.1))  -- overflow_add-result
     (λ c. search rules))  -- returns

@@ -9,16 +9,16 @@ use Rattle.input.proofs.Inputs.{read_none, read_some}
 use Rattle.input.proofs.feed_got.Statement.{statement}
 use Rattle.input.proofs.feed_got.Tie as tie
 
-returns : tie.Need-returns
+returns-then-got-le0 : tie.Need-returns-then-got-le0
 unfolding fed
-returns c =
+returns-then-got-le0 c =
     let s = c.before.before.before in
     let a = s.args in
-    let n = read_none a.got _ (to_z-of_z _ a.got s.ranges.got) a.chunk.now c.if1.true in
+    let n = read_none a.got _ (to_z-of_z _ a.got s.ranges.got) a.chunk.now c.if-got-le0.true in
     (sym n.0, (rw n.1, rw n.1))
 
-returns-2 : tie.Need-returns-2
-returns-2 c =
+returns : tie.Need-returns
+returns c =
     let f = c.before.before in
     let k = f.before.before.before in
     let e = k.before in
@@ -29,16 +29,16 @@ returns-2 c =
     let h = held a.state a.buffer.now in (
       sym g.0,
       (
-        f.feed.ensures.0 ∙ ap (λ (l : List ℕ). (fed a.last h l).state) g.1,
-        f.feed.ensures.1 ∙ ap (λ (l : List ℕ). (fed a.last h l).buffer) g.1,
+        f.feed-next.ensures.0 ∙ ap (λ (l : List ℕ). (fed a.last h l).state) g.1,
+        f.feed-next.ensures.1 ∙ ap (λ (l : List ℕ). (fed a.last h l).buffer) g.1,
       ),
     )
 
 pub feed_got_spec : {M : Type 1} → statement M
 feed_got_spec = tie.close (tie.spec
-    returns
-    (λ c κs. search rules)  -- count-requires
-    (λ c. search rules)  -- slice-aggregate-feed
-    (λ c κs. search rules)  -- feed-requires
-    (λ c. search rules)  -- same-length
-    returns-2)
+    returns-then-got-le0
+    (λ c κs. search rules)  -- count-n-requires
+    (λ c. search rules)  -- slice_bounds-feed-end
+    (λ c κs. search rules)  -- feed-next-requires
+    (λ c. search rules)  -- shape_of-buffer
+    returns)

@@ -5,14 +5,14 @@ use Rattle.input.proofs.feed_some.Statement.{statement}
 use Rattle.input.proofs.feed_some.Tie as tie
 
 returns : tie.Need-returns
-returns c = let f = c.before.before.feed-got.ensures in after_chunk _ _ _ _ _ f.1.0 f.1.1
+returns c = let f = c.feed_got.ensures in after_chunk _ _ _ _ _ f.1.0 f.1.1
 
 pub feed_some_spec : {M : Type 1} → statement M
 feed_some_spec = tie.close (tie.spec
-    (λ c κs. search rules)  -- buffer-requires
-    (λ c. search rules)  -- slice-aggregate-read
-    (λ c κs. search rules)  -- read-requires
-    (λ c. search rules)  -- slice-aggregate-feed-got
-    (λ c κs. search rules)  -- feed-got-requires
-    (λ c. search rules)  -- same-length
+    (λ c κs. search rules)  -- buffer-chunk-requires
+    (λ c. search rules)  -- slice_bounds-read-end
+    (λ c κs. search rules)  -- read-got-requires
+    (λ c. search rules)  -- slice_bounds-feed_got-end
+    (λ c κs. search rules)  -- feed_got-requires
+    (λ c. search rules)  -- shape_of-buffer
     returns)

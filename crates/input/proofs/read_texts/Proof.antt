@@ -10,44 +10,44 @@ use Rattle.input.proofs.Inputs.{after_more}
 use Rattle.input.proofs.read_texts.Statement.{statement}
 use Rattle.input.proofs.read_texts.Tie as tie
 
-abbrev invariant-loop : tie.invariant-loop
-invariant-loop buffer₀ last state₀ turns₀ buffer state turns =
+abbrev invariant-loop-turns : tie.invariant-loop-turns
+invariant-loop-turns buffer₀ last state₀ turns₀ buffer state turns =
     (length buffer ≡ length buffer₀) × After last (held beginning buffer₀) (held state buffer)
 
-abbrev decreases-loop : tie.decreases-loop
-decreases-loop buffer₀ last state₀ turns₀ buffer state turns = turns
+abbrev decreases-loop-turns : tie.decreases-loop-turns
+decreases-loop-turns buffer₀ last state₀ turns₀ buffer state turns = turns
 
-loop-holds : tie.Need-loop-init invariant-loop decreases-loop
+loop-turns-init : tie.Need-loop-turns-init invariant-loop-turns decreases-loop-turns
 unfolding fed
-loop-holds c = (refl, ([], ap (λ (s : State). held s c.before.before.args.buffer.now) c.begin.ensures))
+loop-turns-init c = (refl, ([], ap (λ (s : State). held s c.args.buffer.now) c.begin-state.ensures))
 
-same_length : tie.Need-same-length invariant-loop decreases-loop
-same_length c =
+shape_of-buffer-then-not-turn : tie.Need-shape_of-buffer-then-not-turn invariant-loop-turns decreases-loop-turns
+shape_of-buffer-then-not-turn c =
     let f = c.before.before.before.before.before in
-    f.feed-some.auto.1.0 ∙ f.before.before.before.loop.invariant.0
+    f.feed_some-turn.auto.1.0 ∙ f.loop-turns.invariant.0
 
-returns : tie.Need-returns invariant-loop decreases-loop
-returns c =
+returns-then-not-turn : tie.Need-returns-then-not-turn invariant-loop-turns decreases-loop-turns
+returns-then-not-turn c =
     let f = c.before.before.before.before.before in
-    after_more _ _ _ _ f.before.before.before.loop.invariant.1 f.feed-some.ensures
+    after_more _ _ _ _ f.loop-turns.invariant.1 f.feed_some-turn.ensures
 
-loop-again : tie.Need-loop-preserved invariant-loop decreases-loop
-loop-again c =
+loop-turns-preserved : tie.Need-loop-turns-preserved invariant-loop-turns decreases-loop-turns
+loop-turns-preserved c =
     let f = c.before.before.before.before.before in
     let at = f.before.before.before in
-    (f.feed-some.auto.1.0 ∙ at.loop.invariant.0, after_more _ _ _ _ at.loop.invariant.1 f.feed-some.ensures)
+    (f.feed_some-turn.auto.1.0 ∙ at.loop-turns.invariant.0, after_more _ _ _ _ at.loop-turns.invariant.1 f.feed_some-turn.ensures)
 
 pub read_texts_spec : {M : Type 1} → statement M
 read_texts_spec = tie.close (tie.spec
-    invariant-loop
-    decreases-loop
-    (λ c κs. search rules)  -- begin-requires
-    loop-holds
-    (λ c κs. search rules)  -- feed-some-requires
-    same_length
-    returns
-    (λ c. search rules)  -- sub-turns
-    (λ c. search rules)  -- loop-less
-    loop-again
-    (λ c. c.before.loop.invariant.0)  -- same-length-2
-    (λ c. c.before.loop.invariant.1))  -- returns-2
+    invariant-loop-turns
+    decreases-loop-turns
+    (λ c κs. search rules)  -- begin-state-requires
+    loop-turns-init
+    (λ c κs. search rules)  -- feed_some-turn-requires
+    shape_of-buffer-then-not-turn
+    returns-then-not-turn
+    (λ c. search rules)  -- overflow_sub-turns
+    (λ c. search rules)  -- loop-turns-smaller
+    loop-turns-preserved
+    (λ c. c.loop-turns.invariant.0)  -- shape_of-buffer
+    (λ c. c.loop-turns.invariant.1))  -- returns

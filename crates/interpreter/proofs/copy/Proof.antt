@@ -9,40 +9,40 @@ use Rattle.cells.proofs.CellLaws.{copy_turn, copy_done}
 use Rattle.interpreter.proofs.copy.Statement.{statement}
 use Rattle.interpreter.proofs.copy.Tie as tie
 
-abbrev invariant-loop : tie.invariant-loop
-invariant-loop dst₀ to src from n i₀ dst i = (i ≤ n) × (dst ≡ paste dst₀ to (drop from src) i) × (length dst ≡ length dst₀)
+abbrev invariant-loop-i : tie.invariant-loop-i
+invariant-loop-i dst₀ to src from n i₀ dst i = (i ≤ n) × (dst ≡ paste dst₀ to (drop from src) i) × (length dst ≡ length dst₀)
 
-abbrev decreases-loop : tie.decreases-loop
-decreases-loop dst₀ to src from n i₀ dst i = n - i
+abbrev decreases-loop-i : tie.decreases-loop-i
+decreases-loop-i dst₀ to src from n i₀ dst i = n - i
 
 pub copy_spec : {M : Type 1} → statement M
 copy_spec = tie.close (tie.spec
-    invariant-loop
-    decreases-loop
+    invariant-loop-i
+    decreases-loop-i
     (λ c. (
       search rules,
       paste-zero c.args.dst.now c.args.to (drop c.args.from c.args.src.now),
       refl,
-    ))  -- loop-holds
-    (λ c. search rules)  -- add-dst
-    (λ c. search rules)  -- mul-dst
-    (λ c. search rules)  -- shared-slice-read-dst
-    (λ c. search rules)  -- add-dst-2
-    (λ c. search rules)  -- mul-dst-2
-    (λ c. search rules)  -- slice-write-dst
-    (λ c. search rules)  -- add-i
-    (λ c. search rules)  -- loop-less
+    ))  -- loop-i-init
+    (λ c. search rules)  -- overflow_add-dst
+    (λ c. search rules)  -- offset_bounds-src-from
+    (λ c. search rules)  -- bounds-src-from
+    (λ c. search rules)  -- overflow_add-dst-in-loop-i
+    (λ c. search rules)  -- offset_bounds-dst-to
+    (λ c. search rules)  -- bounds-dst-to
+    (λ c. search rules)  -- overflow_step-i
+    (λ c. search rules)  -- loop-i-smaller
     (λ c. (
       search rules,
-      copy_turn c.before.before.before.args.dst.now c.before.before.before.args.src.now
-          c.before.before.before.args.to
-          c.before.before.before.args.from c.before.before.loop.i c.before.before.loop.dst
-          c.before.before.loop.invariant.1 (omega arith) (omega arith),
+      copy_turn c.args.dst.now c.args.src.now
+          c.args.to
+          c.args.from c.loop-i.i c.loop-i.dst
+          c.loop-i.invariant.1 (omega arith) (omega arith),
       simp
           length-set (omega arith),
-    ))  -- loop-again
-    (λ c. search rules)  -- same-length
-    (λ c. copy_done c.before.before.args.dst.now c.before.before.args.to
-    (drop c.before.before.args.from c.before.before.args.src.now)
-    c.before.loop.i c.before.before.args.n c.before.loop.dst
-    c.before.loop.invariant.1 (omega arith)))  -- returns
+    ))  -- loop-i-preserved
+    (λ c. search rules)  -- shape_of-dst
+    (λ c. copy_done c.args.dst.now c.args.to
+    (drop c.args.from c.args.src.now)
+    c.loop-i.i c.args.n c.loop-i.dst
+    c.loop-i.invariant.1 (omega arith)))  -- returns

@@ -6,40 +6,40 @@ use Rattle.interpreter.proofs.RunLaws as laws
 use Rattle.interpreter.proofs.run_in.Statement.{statement}
 use Rattle.interpreter.proofs.run_in.Tie as tie
 
-returns : tie.Need-returns
-returns c = laws.run_large (omega arith)
+returns-then-n : tie.Need-returns-then-n
+returns-then-n c = laws.run_large (omega arith)
 
-returns-2 : tie.Need-returns-2
-returns-2 c =
+returns-in_default : tie.Need-returns-in_default
+returns-in_default c =
     let ran = c.before.before in
     let copied = ran.before.before.before in
     let start = copied.before.before.before.before.before.before.before in
     laws.run_kept _ start.args.work.now start.args.memory.now start.requires copied.copy.ensures
-    ran.before.before.powers.ensures ran.exec.ensures (not_done _ c.before.match.keys2)
+    ran.powers-powers.ensures ran.exec-d.ensures (not_done _ c.in_default.in_default-own.keys2)
 
-returns-3 : tie.Need-returns-3
-returns-3 c =
+returns : tie.Need-returns
+returns c =
     let back = c.before.before.before in
     let told = back.before.before.before.before in
-    let ran = told.before.before in
+    let ran = told.before in
     let copied = ran.before.before.before in
     let start = copied.before.before.before.before.before.before.before in
     laws.run_done _ start.args.work.now start.args.memory.now start.requires copied.copy.ensures
-    ran.before.before.powers.ensures ran.exec.ensures (is_done _ told.enum_told.given.1)
-    back.copy2.auto.0 back.copy2.ensures
+    ran.powers-powers.ensures ran.exec-d.ensures (is_done _ told.in-Done.is)
+    back.copy-2.auto.0 back.copy-2.ensures
 
 pub run_in_spec : {M : Type 1} → statement M
 run_in_spec = tie.close (tie.spec
-    (λ c. search rules)  -- sub-if1
-    returns
+    (λ c. search rules)  -- overflow_sub-t-11
+    returns-then-n
     (λ c κs. search rules)  -- copy-requires
-    (λ c κs. search rules)  -- powers-requires
-    (λ c κs. search rules)  -- exec-requires
-    (λ c. search rules)  -- enum_told
-    (λ c. c.before.before.exec.ensures.spends)  -- sub-t20
-    (λ c. search rules)  -- same-length
-    returns-2
+    (λ c κs. search rules)  -- powers-powers-requires
+    (λ c κs. search rules)  -- exec-d-requires
+    (λ c. search rules)  -- enum_told-1
+    (λ c. c.exec-d.ensures.spends)  -- overflow_sub-result
+    (λ c. search rules)  -- shape_of-memory-in_default
+    returns-in_default
     (λ c κs. search rules)  -- copy-requires-2
-    (λ c. c.before.before.before.before.before.before.before.before.before.exec.ensures.spends)  -- sub-t26
-    (λ c. search rules)  -- same-length-2
-    returns-3)
+    (λ c. c.exec-d.ensures.spends)  -- overflow_sub-result-2
+    (λ c. search rules)  -- shape_of-memory
+    returns)

@@ -12,30 +12,30 @@ use borrow.Author.Rules.{rules}
 use Rattle.labels.proofs.common_at.Statement.{statement}
 use Rattle.labels.proofs.common_at.Tie as tie
 
-abbrev invariant-loop : tie.invariant-loop
-invariant-loop table at n common₀ o₀ common o = (o ≤ n) × (common ≡ common_of o (λ (k : ℕ). get_or (sets_at table at) k 0))
+abbrev invariant-loop-owner : tie.invariant-loop-owner
+invariant-loop-owner table at n common₀ o₀ common o = (o ≤ n) × (common ≡ common_of o (λ (k : ℕ). get_or (sets_at table at) k 0))
 
-abbrev decreases-loop : tie.decreases-loop
-decreases-loop table at n common₀ o₀ common o = n - o
+abbrev decreases-loop-owner : tie.decreases-loop-owner
+decreases-loop-owner table at n common₀ o₀ common o = n - o
 
 pub common_at_spec : {M : Type 1} → statement M
 common_at_spec = tie.close (tie.spec
-    invariant-loop
-    decreases-loop
-    (λ c. let a = c.before.before.args in
-    sym (common_none _ _ owners (omega arith) (set_past a.table.now a.at)))  -- returns
-    (λ c κs. search rules)  -- everyone-requires
-    (λ c. (search rules, c.everyone.ensures ∙ common_start _))  -- loop-holds
-    (λ c κs. search rules)  -- word-at-requires
-    (λ c κs. search rules)  -- intersection-requires
-    (λ c. search rules)  -- add-owner
-    (λ c. search rules)  -- loop-less
+    invariant-loop-owner
+    decreases-loop-owner
+    (λ c. let a = c.args in
+    sym (common_none _ _ owners (omega arith) (set_past a.table.now a.at)))  -- returns-then-n-gt-OWNERS
+    (λ c κs. search rules)  -- everyone-common-requires
+    (λ c. (search rules, c.everyone-common.ensures ∙ common_start _))  -- loop-owner-init
+    (λ c κs. search rules)  -- word_at-requires
+    (λ c κs. search rules)  -- intersection-common-requires
+    (λ c. search rules)  -- overflow_step-owner
+    (λ c. search rules)  -- loop-owner-smaller
     (λ c.
     let l = c.before.before.before in
-    let a = l.before.before.before.before.args in (
+    let a = l.args in (
       search rules,
-      c.intersection.ensures
-          ∙ common_more _ _ l.loop.invariant.1
-          (c.before.word_at.ensures ∙ sym (set_there a.table.now a.at l.loop.owner (omega arith))),
-    ))  -- loop-again
-    (λ c. common_end _ _ _ c.before.loop.invariant c.loop-test.false))  -- returns-2
+      c.intersection-common.ensures
+          ∙ common_more _ _ l.loop-owner.invariant.1
+          (c.word_at.ensures ∙ sym (set_there a.table.now a.at l.loop-owner.owner (omega arith))),
+    ))  -- loop-owner-preserved
+    (λ c. common_end _ _ _ c.loop-owner.invariant c.loop-owner-test.false))  -- returns

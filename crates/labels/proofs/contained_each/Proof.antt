@@ -14,30 +14,30 @@ use Rattle.labels.proofs.contained_each.Tie as tie
 abbrev Test : List ℕ → List ℕ → ℕ → Bool
 Test x y k = within (get_or x k 0) (get_or y k 0)
 
-abbrev invariant-loop : tie.invariant-loop
-invariant-loop x y all₀ o₀ all o = Tested (Test x y) o all
+abbrev invariant-loop-o : tie.invariant-loop-o
+invariant-loop-o x y all₀ o₀ all o = Tested (Test x y) o all
 
-abbrev decreases-loop : tie.decreases-loop
-decreases-loop x y all₀ o₀ all o = owners - o
+abbrev decreases-loop-o : tie.decreases-loop-o
+decreases-loop-o x y all₀ o₀ all o = owners - o
 
-loop-again : tie.Need-loop-preserved invariant-loop decreases-loop
+loop-o-preserved : tie.Need-loop-o-preserved invariant-loop-o decreases-loop-o
 unfolding both
-loop-again c =
-    let l = c.before.before.loop in
-    let a = c.before.before.before.args in
-    tested_more (Test a.t1 a.t2) l.o l.invariant (search rules) c.contained.ensures
+loop-o-preserved c =
+    let l = c.loop-o in
+    let a = c.args in
+    tested_more (Test a.x a.y) l.o l.invariant (search rules) c.contained-all.ensures
 
 pub contained_each_spec : {M : Type 1} → statement M
 contained_each_spec = tie.close (tie.spec
-    invariant-loop
-    decreases-loop
-    (λ c. tested_none _)  -- loop-holds
-    (λ c. search rules)  -- mul-contained
-    (λ c. search rules)  -- array-read-contained
-    (λ c. search rules)  -- mul-contained-2
-    (λ c. search rules)  -- array-read-contained-2
-    (λ c κs. search rules)  -- contained-requires
-    (λ c. search rules)  -- add-o
-    (λ c. search rules)  -- loop-less
-    loop-again
-    (λ c. tested_all _ _ c.before.loop.invariant c.loop-test.false))  -- returns
+    invariant-loop-o
+    decreases-loop-o
+    (λ c. tested_none _)  -- loop-o-init
+    (λ c. search rules)  -- offset_bounds-x-o
+    (λ c. search rules)  -- bounds-x-o
+    (λ c. search rules)  -- offset_bounds-y-o
+    (λ c. search rules)  -- bounds-y-o
+    (λ c κs. search rules)  -- contained-all-requires
+    (λ c. search rules)  -- overflow_step-o
+    (λ c. search rules)  -- loop-o-smaller
+    loop-o-preserved
+    (λ c. tested_all _ _ c.loop-o.invariant c.loop-o-test.false))  -- returns

@@ -15,24 +15,24 @@ unfolding label_at
 label_at_spec = tie.close (tie.spec
     (λ c κs. search rules)  -- there-requires
     (λ c κs. let t = c in
-    let a = t.before.before.before.args in
+    let a = t.args in
     let room : a.at + label_size ≤ length a.table.now =
-    leb-true _ _ (sym t.before.there.ensures ∙ t.if1.true) in
-    omega arith)  -- row-at-requires
+    leb-true _ _ (sym t.there.ensures ∙ t.if-there.true) in
+    omega arith)  -- row_at-readers-requires
     (λ c. let t = c.before in
-    let a = t.before.before.before.args in
+    let a = t.args in
     let room : a.at + label_size ≤ length a.table.now =
-    leb-true _ _ (sym t.before.there.ensures ∙ t.if1.true) in
-    omega arith)  -- add-row-at
+    leb-true _ _ (sym t.there.ensures ∙ t.if-there.true) in
+    omega arith)  -- overflow_add-at
     (λ c κs. let t = c.before in
-    let a = t.before.before.before.args in
+    let a = t.args in
     let room : a.at + label_size ≤ length a.table.now =
-    leb-true _ _ (sym t.before.there.ensures ∙ t.if1.true) in
-    omega arith)  -- row-at-requires-2
-    (λ c. label_path _ _ c.before.row_at.ensures c.row-at2.ensures)  -- returns
-    (λ c κs. search rules)  -- sets-at-requires
-    (λ c κs. search rules)  -- sets-at-requires-2
+    leb-true _ _ (sym t.there.ensures ∙ t.if-there.true) in
+    omega arith)  -- row_at-writers-requires
+    (λ c. label_path _ _ c.row_at-readers.ensures c.row_at-writers.ensures)  -- returns-then-there
+    (λ c κs. search rules)  -- sets_at-readers-requires
+    (λ c κs. search rules)  -- sets_at-writers-requires
     (λ c.
-    let a = c.before.before.before.before.before.args in
-    label_path _ _ (c.before.sets-at.ensures ∙ ap (sets_at a.table.now) (add-zero a.at))
-    c.sets-at2.ensures))  -- returns-2
+    let a = c.args in
+    label_path _ _ (c.sets_at-readers.ensures ∙ ap (sets_at a.table.now) (add-zero a.at))
+    c.sets_at-writers.ensures))  -- returns

@@ -18,11 +18,11 @@ use borrow.Author.Rules.{rules}
 use Rattle.labels.proofs.meets_at.Statement.{statement}
 use Rattle.labels.proofs.meets_at.Tie as tie
 
-abbrev invariant-loop : tie.invariant-loop
-invariant-loop table at n group o₀ o = (o ≤ n) × ((k : ℕ) → k < o → meets group (get_or (sets_at table at) k 0) ≡ true)
+abbrev invariant-loop-o : tie.invariant-loop-o
+invariant-loop-o table at n group o₀ o = (o ≤ n) × ((k : ℕ) → k < o → meets group (get_or (sets_at table at) k 0) ≡ true)
 
-abbrev decreases-loop : tie.decreases-loop
-decreases-loop table at n group o₀ o = n - o
+abbrev decreases-loop-o : tie.decreases-loop-o
+decreases-loop-o table at n group o₀ o = n - o
 
 -- the test of place o, by what the word and the set's test gave
 tested : (t : List ℕ) (at o group w : ℕ) (b : Bool) → o < owners → w ≡ get_or t (at + o) 0 → b ≡ meets group w
@@ -31,29 +31,29 @@ tested t at o group w b l e m = ap (meets group) (set_there t at o l ∙ sym e) 
 
 pub meets_at_spec : {M : Type 1} → statement M
 meets_at_spec = tie.close (tie.spec
-    invariant-loop
-    decreases-loop
+    invariant-loop-o
+    decreases-loop-o
     (λ c.
-    let a = c.before.before.args in
+    let a = c.args in
     sym (every_false _ _ owners (omega arith)
-    (ap (meets a.group) (set_past a.table.now a.at) ∙ meets_empty _)))  -- returns
-    (λ c. (search rules, λ k l. absurd (not-suc-le-zero l)))  -- loop-holds
-    (λ c κs. search rules)  -- word-at-requires
+    (ap (meets a.group) (set_past a.table.now a.at) ∙ meets_empty _)))  -- returns-then-n-gt-OWNERS
+    (λ c. (search rules, λ k l. absurd (not-suc-le-zero l)))  -- loop-o-init
+    (λ c κs. search rules)  -- word_at-requires
     (λ c κs. search rules)  -- meets-requires
     (λ c.
     let l = c.before.before.before.before in
-    let a = l.before.before.before.args in
-    sym (every_false _ _ l.loop.o (omega arith)
-    (tested a.table.now a.at l.loop.o a.group _ _ (omega arith) c.before.before.word_at.ensures
-    c.before.meets.ensures ∙ not-true _ c.if2.true)))  -- returns-2
-    (λ c. search rules)  -- add-o
-    (λ c. search rules)  -- loop-less
+    let a = l.args in
+    sym (every_false _ _ l.loop-o.o (omega arith)
+    (tested a.table.now a.at l.loop-o.o a.group _ _ (omega arith) c.word_at.ensures
+    c.meets.ensures ∙ not-true _ c.if-not-meets.true)))  -- returns-then-not-meets
+    (λ c. search rules)  -- overflow_step-o
+    (λ c. search rules)  -- loop-o-smaller
     (λ c.
     let l = c.before.before.before.before in
-    let a = l.before.before.before.args in (
+    let a = l.args in (
       search rules,
-      below_more _ _ l.loop.invariant.1
-          (tested a.table.now a.at l.loop.o a.group _ _ (omega arith)
-          c.before.before.word_at.ensures c.before.meets.ensures ∙ not-false _ c.if2.false),
-    ))  -- loop-again
-    (λ c. sym (every_true _ _ (λ k l. c.before.loop.invariant.1 k (omega arith)))))  -- returns-3
+      below_more _ _ l.loop-o.invariant.1
+          (tested a.table.now a.at l.loop-o.o a.group _ _ (omega arith)
+          c.word_at.ensures c.meets.ensures ∙ not-false _ c.if-not-meets.false),
+    ))  -- loop-o-preserved
+    (λ c. sym (every_true _ _ (λ k l. c.loop-o.invariant.1 k (omega arith)))))  -- returns

@@ -15,32 +15,32 @@ use borrow.Author.Rules.{rules}
 use Rattle.labels.proofs.meets_each.Statement.{statement}
 use Rattle.labels.proofs.meets_each.Tie as tie
 
-abbrev invariant-loop : tie.invariant-loop
-invariant-loop n group held o₀ o = (o ≤ n) × ((k : ℕ) → k < o → meets group (get_or held k 0) ≡ true)
+abbrev invariant-loop-o : tie.invariant-loop-o
+invariant-loop-o n group held o₀ o = (o ≤ n) × ((k : ℕ) → k < o → meets group (get_or held k 0) ≡ true)
 
-abbrev decreases-loop : tie.decreases-loop
-decreases-loop n group held o₀ o = n - o
+abbrev decreases-loop-o : tie.decreases-loop-o
+decreases-loop-o n group held o₀ o = n - o
 
 pub meets_each_spec : {M : Type 1} → statement M
 meets_each_spec = tie.close (tie.spec
-    invariant-loop
-    decreases-loop
+    invariant-loop-o
+    decreases-loop-o
     (λ c.
     sym
     (every_false _ _ owners (omega arith)
-    (ap (meets c.before.args.group) (get_or-eq_default c.before.args.t1 0 (search rules))
-    ∙ meets_empty _)))  -- returns
-    (λ c. (search rules, λ k l. absurd (not-suc-le-zero l)))  -- loop-holds
-    (λ c. search rules)  -- mul-meets
-    (λ c. search rules)  -- array-read-meets
+    (ap (meets c.args.group) (get_or-eq_default c.args.held 0 (search rules))
+    ∙ meets_empty _)))  -- returns-then-n-gt-OWNERS
+    (λ c. (search rules, λ k l. absurd (not-suc-le-zero l)))  -- loop-o-init
+    (λ c. search rules)  -- offset_bounds-held-o
+    (λ c. search rules)  -- bounds-held-o
     (λ c κs. search rules)  -- meets-requires
-    (λ c. sym (every_false _ _ c.before.before.before.loop.o (omega arith)
-    (sym c.before.meets.ensures ∙ not-true _ c.if2.true)))  -- returns-2
-    (λ c. search rules)  -- add-o
-    (λ c. search rules)  -- loop-less
+    (λ c. sym (every_false _ _ c.loop-o.o (omega arith)
+    (sym c.meets.ensures ∙ not-true _ c.if-not-meets.true)))  -- returns-then-not-meets
+    (λ c. search rules)  -- overflow_step-o
+    (λ c. search rules)  -- loop-o-smaller
     (λ c. (
       search rules,
-      below_more _ _ c.before.before.before.loop.invariant.1
-          (sym c.before.meets.ensures ∙ not-false _ c.if2.false),
-    ))  -- loop-again
-    (λ c. sym (every_true _ _ (λ k l. c.before.loop.invariant.1 k (omega arith)))))  -- returns-3
+      below_more _ _ c.loop-o.invariant.1
+          (sym c.meets.ensures ∙ not-false _ c.if-not-meets.false),
+    ))  -- loop-o-preserved
+    (λ c. sym (every_true _ _ (λ k l. c.loop-o.invariant.1 k (omega arith)))))  -- returns

@@ -14,21 +14,21 @@ use Rattle.labels.proofs.put_label.Tie as tie
 
 pub put_label_spec : {M : Type 1} → statement M
 put_label_spec = tie.close (tie.spec
-    (λ c. sym (put-short c.before.before.args.table.now c.before.before.args.at
-    c.before.before.args.label (omega arith)))  -- returns
-    (λ c. search rules)  -- sub-if2
-    (λ c. sym (put-short c.before.before.before.args.table.now c.before.before.before.args.at
-    c.before.before.before.args.label (omega arith)))  -- returns-2
-    (λ c κs. search rules)  -- put-sets-requires
-    (λ c. search rules)  -- add-put-sets
-    (λ c κs. search rules)  -- put-sets-requires-2
-    (λ c. search rules)  -- same-length
+    (λ c. sym (put-short c.args.table.now c.args.at
+    c.args.label (omega arith)))  -- returns-then-at-table
+    (λ c. search rules)  -- overflow_sub-table
+    (λ c. sym (put-short c.args.table.now c.args.at
+    c.args.label (omega arith)))  -- returns-then-table-at-lt-LABEL_SIZE
+    (λ c κs. search rules)  -- put_sets-requires
+    (λ c. search rules)  -- overflow_add-at
+    (λ c κs. search rules)  -- put_sets-requires-2
+    (λ c. search rules)  -- shape_of-table
     (λ c.
     let first = c.before.before.before.before.before.before in
-    let a = first.before.before.before.before.before.before.before.args in
+    let a = first.args in
     let r : length a.label.readers ≡ owners = search rules in
     let w : length a.label.writers ≡ owners = search rules in
     let room : a.at + label_size ≤ length a.table.now = omega arith in
-    c.before.before.put-sets2.ensures
-    ∙ ap (λ (t : List ℕ). paste t (a.at + owners) a.label.writers owners) first.put-sets.ensures
-    ∙ put_rows a.table.now a.at a.label (whole_intro a.label r w) room))  -- returns-3
+    c.put_sets-2.ensures
+    ∙ ap (λ (t : List ℕ). paste t (a.at + owners) a.label.writers owners) first.put_sets.ensures
+    ∙ put_rows a.table.now a.at a.label (whole_intro a.label r w) room))  -- returns

@@ -13,31 +13,31 @@ use Rattle.labels.proofs.put_policy.Tie as tie
 pub put_policy_spec : {M : Type 1} → statement M
 put_policy_spec = tie.close (tie.spec
     (λ c.
-    sym (put-short c.before.before.args.table.now c.before.before.args.at _ (omega arith)))  -- returns
-    (λ c. search rules)  -- sub-if2
-    (λ c. sym (put-short c.before.before.before.args.table.now
-    c.before.before.before.args.at _ (omega arith)))  -- returns-2
+    sym (put-short c.args.table.now c.args.at _ (omega arith)))  -- returns-then-at-table
+    (λ c. search rules)  -- overflow_sub-table
+    (λ c. sym (put-short c.args.table.now
+    c.args.at _ (omega arith)))  -- returns-then-table-at-lt-LABEL_SIZE
     (λ c.
-    let a = c.before.before.before.before.args in
+    let a = c.args in
     sym (put-policy_past a.table.now a.at (omega arith) a.owner a.readers
-    a.writers (omega arith)))  -- returns-3
-    (λ c κs. search rules)  -- single-requires
+    a.writers (omega arith)))  -- returns-then-owner-ge-OWNERS
+    (λ c κs. search rules)  -- single-own-requires
     (λ c κs. search rules)  -- union-requires
-    (λ c. search rules)  -- add-table
-    (λ c. search rules)  -- mul-table
-    (λ c. search rules)  -- slice-write-table
+    (λ c. search rules)  -- overflow_add-table
+    (λ c. search rules)  -- offset_bounds-table-at
+    (λ c. search rules)  -- bounds-table-at
     (λ c κs. search rules)  -- union-requires-2
-    (λ c. search rules)  -- add-table-2
-    (λ c. search rules)  -- add-table-3
-    (λ c. search rules)  -- mul-table-2
+    (λ c. search rules)  -- overflow_add-table-2
+    (λ c. search rules)  -- overflow_add-table-3
+    (λ c. search rules)  -- offset_bounds-table-at-2
     (λ c.
-    let a = c.before.before.before.before.before.before.before.args in
-    lt-length-set a.table.now (a.at + a.owner) c.before.union.result (omega arith))  -- slice-write-table-2
-    (λ c. search rules)  -- same-length
+    let a = c.args in
+    lt-length-set a.table.now (a.at + a.owner) c.union.result (omega arith))  -- bounds-table-at-2
+    (λ c. search rules)  -- shape_of-table
     (λ c.
     let s = c.before.before in
-    let a = s.before.before.before.before.before.args in
-    let own = s.single.ensures ∙ restrict_single width a.owner (omega arith) in
-    rw (c.before.union.ensures, c.union2.ensures, own)
+    let a = s.args in
+    let own = s.single-own.ensures ∙ restrict_single width a.owner (omega arith) in
+    rw (c.union.ensures, c.union-2.ensures, own)
     (sym (put-policy a.table.now a.at (omega arith) a.owner a.readers a.writers
-    (omega arith)))))  -- returns-4
+    (omega arith)))))  -- returns

@@ -11,37 +11,37 @@ use borrow.Author.Rules.{rules}
 use Rattle.labels.proofs.put_sets.Statement.{statement}
 use Rattle.labels.proofs.put_sets.Tie as tie
 
-abbrev invariant-loop : tie.invariant-loop
-invariant-loop table₀ at row o₀ table o = (o ≤ owners) × (length table ≡ length table₀) × (table ≡ paste table₀ at row o)
+abbrev invariant-loop-o : tie.invariant-loop-o
+invariant-loop-o table₀ at row o₀ table o = (o ≤ owners) × (length table ≡ length table₀) × (table ≡ paste table₀ at row o)
 
-abbrev decreases-loop : tie.decreases-loop
-decreases-loop table₀ at row o₀ table o = owners - o
+abbrev decreases-loop-o : tie.decreases-loop-o
+decreases-loop-o table₀ at row o₀ table o = owners - o
 
 pub put_sets_spec : {M : Type 1} → statement M
 put_sets_spec = tie.close (tie.spec
-    invariant-loop
-    decreases-loop
-    (λ c. (search rules, refl, paste-zero c.args.table.now c.args.at c.args.t3))  -- loop-holds
-    (λ c. search rules)  -- mul-table
-    (λ c. search rules)  -- array-read-table
-    (λ c. search rules)  -- add-table
-    (λ c. search rules)  -- mul-table-2
-    (λ c. search rules)  -- slice-write-table
-    (λ c. search rules)  -- add-o
-    (λ c. search rules)  -- loop-less
+    invariant-loop-o
+    decreases-loop-o
+    (λ c. (search rules, refl, paste-zero c.args.table.now c.args.at c.args.row))  -- loop-o-init
+    (λ c. search rules)  -- offset_bounds-row-o
+    (λ c. search rules)  -- bounds-row-o
+    (λ c. search rules)  -- overflow_add-table
+    (λ c. search rules)  -- offset_bounds-table-at
+    (λ c. search rules)  -- bounds-table-at
+    (λ c. search rules)  -- overflow_step-o
+    (λ c. search rules)  -- loop-o-smaller
     (λ c.
-    let a = c.before.before.args in
-    let o = c.before.loop.o in
-    let short : o < length a.t3 = search rules in (
+    let a = c.args in
+    let o = c.loop-o.o in
+    let short : o < length a.row = search rules in (
       search rules,
-      simp length-set c.before.loop.invariant.1,
-      ap (λ (l : List ℕ). set l (a.at + o) (get_or a.t3 o 0)) c.before.loop.invariant.2
-          ∙ paste-suc a.table.now a.at a.t3 o 0 (omega arith) short
-          ∙ ap (paste a.table.now a.at a.t3) (sym (add-one o)),
-    ))  -- loop-again
-    (λ c. c.before.loop.invariant.1)  -- same-length
+      simp length-set c.loop-o.invariant.1,
+      ap (λ (l : List ℕ). set l (a.at + o) (get_or a.row o 0)) c.loop-o.invariant.2
+          ∙ paste-suc a.table.now a.at a.row o 0 (omega arith) short
+          ∙ ap (paste a.table.now a.at a.row) (sym (add-one o)),
+    ))  -- loop-o-preserved
+    (λ c. c.loop-o.invariant.1)  -- shape_of-table
     (λ c.
-    let e : c.before.loop.o ≡ owners = omega arith in
-    c.before.loop.invariant.2
-    ∙ ap (paste c.before.before.args.table.now c.before.before.args.at c.before.before.args.t3)
+    let e : c.loop-o.o ≡ owners = omega arith in
+    c.loop-o.invariant.2
+    ∙ ap (paste c.args.table.now c.args.at c.args.row)
     e))  -- returns

@@ -10,24 +10,24 @@ use borrow.Author.Rules.{rules}
 use Rattle.labels.proofs.row_at.Statement.{statement}
 use Rattle.labels.proofs.row_at.Tie as tie
 
-abbrev invariant-loop : tie.invariant-loop
-invariant-loop table at out₀ o₀ out o = (o ≤ owners) × (out ≡ filled (λ (k : ℕ). get_or table (at + k) 0) o out₀)
+abbrev invariant-loop-o : tie.invariant-loop-o
+invariant-loop-o table at out₀ o₀ out o = (o ≤ owners) × (out ≡ filled (λ (k : ℕ). get_or table (at + k) 0) o out₀)
 
-abbrev decreases-loop : tie.decreases-loop
-decreases-loop table at out₀ o₀ out o = owners - o
+abbrev decreases-loop-o : tie.decreases-loop-o
+decreases-loop-o table at out₀ o₀ out o = owners - o
 
 pub row_at_spec : {M : Type 1} → statement M
 unfolding sets_at
 row_at_spec = tie.close (tie.spec
-    invariant-loop
-    decreases-loop
-    (λ c. (search rules, filled_none _ _))  -- loop-holds
-    (λ c. search rules)  -- add-out
-    (λ c. search rules)  -- mul-out
-    (λ c. search rules)  -- shared-slice-read-out
-    (λ c. search rules)  -- mul-out-2
-    (λ c. search rules)  -- array-write-out
-    (λ c. search rules)  -- add-o
-    (λ c. search rules)  -- loop-less
-    (λ c. (search rules, fill_store _ _ _ _ c.before.before.loop.invariant.1 (omega arith) refl))  -- loop-again
-    (λ c. fill_end _ _ _ _ c.before.loop.invariant.1 owners (omega arith) (search rules)))  -- returns
+    invariant-loop-o
+    decreases-loop-o
+    (λ c. (search rules, filled_none _ _))  -- loop-o-init
+    (λ c. search rules)  -- overflow_add-out
+    (λ c. search rules)  -- offset_bounds-table-at
+    (λ c. search rules)  -- bounds-table-at
+    (λ c. search rules)  -- offset_bounds-out-o
+    (λ c. search rules)  -- bounds-out-o
+    (λ c. search rules)  -- overflow_step-o
+    (λ c. search rules)  -- loop-o-smaller
+    (λ c. (search rules, fill_store _ _ _ _ c.loop-o.invariant.1 (omega arith) refl))  -- loop-o-preserved
+    (λ c. fill_end _ _ _ _ c.loop-o.invariant.1 owners (omega arith) (search rules)))  -- returns

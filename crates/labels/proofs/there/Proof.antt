@@ -19,7 +19,7 @@ same at n h = bool_ext (leb at (n - label_size)) (leb (at + label_size) n)
 
 pub there_spec : {M : Type 1} → statement M
 there_spec = tie.close (tie.spec
-    (λ c. let a = c.before.args in
-    sym (lt-leb (a.at + label_size) (length a.table.now) (omega arith)))  -- returns
-    (λ c. search rules)  -- sub-result
-    (λ c. let a = c.before.args in same a.at (length a.table.now) (omega arith)))  -- returns-2
+    (λ c. let a = c.args in
+    sym (lt-leb (a.at + label_size) (length a.table.now) (omega arith)))  -- returns-then-table-lt-LABEL_SIZE
+    (λ c. search rules)  -- overflow_sub-result
+    (λ c. let a = c.args in same a.at (length a.table.now) (omega arith)))  -- returns

@@ -7,10 +7,10 @@ use Rattle.labels.proofs.word_at.Tie as tie
 
 pub word_at_spec : {M : Type 1} → statement M
 word_at_spec = tie.close (tie.spec
-    (λ c. sym (get_or-eq_default c.before.args.table.now 0 (omega arith)))  -- returns
-    (λ c. search rules)  -- sub-if2
-    (λ c. sym (get_or-eq_default c.before.before.args.table.now 0 (omega arith)))  -- returns-2
-    (λ c. search rules)  -- add-result
-    (λ c. search rules)  -- mul-result
-    (λ c. search rules)  -- shared-slice-read-result
-    (λ c. search rules))  -- returns-3
+    (λ c. sym (get_or-eq_default c.args.table.now 0 (omega arith)))  -- returns-then-at-table
+    (λ c. search rules)  -- overflow_sub-table
+    (λ c. sym (get_or-eq_default c.args.table.now 0 (omega arith)))  -- returns-then-k-table
+    (λ c. search rules)  -- overflow_add-result
+    (λ c. search rules)  -- offset_bounds-table-at
+    (λ c. search rules)  -- bounds-table-at
+    (λ c. search rules))  -- returns

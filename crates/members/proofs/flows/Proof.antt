@@ -6,33 +6,33 @@ use borrow.Author.Rules.{rules}
 use Rattle.members.proofs.flows.Statement.{statement}
 use Rattle.members.proofs.flows.Tie as tie
 
+returns-then-whole_flows : tie.Need-returns-then-whole_flows
+returns-then-whole_flows c = is_whole _ _ _ _ (sym c.whole_flows.ensures ∙ c.if-whole_flows.true)
+
+returns-then-wholly : tie.Need-returns-then-wholly
+returns-then-wholly c = is_none _ _ _ _ c.if-wholly.true (sym c.whole_flows.ensures ∙ c.if-whole_flows.false)
+
+returns-then-not-confidentiality_flows : tie.Need-returns-then-not-confidentiality_flows
+returns-then-not-confidentiality_flows c = is_neither _ _ _ _ c.if-wholly.false
+    (sym c.confidentiality_flows.ensures ∙ not-true _ c.if-not-confidentiality_flows.true)
+
+returns-then-whole_flows-2 : tie.Need-returns-then-whole_flows-2
+returns-then-whole_flows-2 c = is_whole _ _ _ _ (sym c.whole_flows-2.ensures ∙ c.if-whole_flows-2.true)
+
 returns : tie.Need-returns
-returns c = is_whole _ _ _ _ (sym c.before.whole-flows.ensures ∙ c.if2.true)
-
-returns-2 : tie.Need-returns-2
-returns-2 c = is_none _ _ _ _ c.before.before.if1.true (sym c.before.whole-flows.ensures ∙ c.if2.false)
-
-returns-3 : tie.Need-returns-3
-returns-3 c = is_neither _ _ _ _ c.before.before.if1.false
-    (sym c.before.confidentiality-flows.ensures ∙ not-true _ c.if3.true)
-
-returns-4 : tie.Need-returns-4
-returns-4 c = is_whole _ _ _ _ (sym c.before.whole-flows2.ensures ∙ c.if4.true)
-
-returns-5 : tie.Need-returns-5
-returns-5 c =
+returns c =
     let k = c.before.before in
-    is_confidentiality _ _ _ _ k.before.before.if1.false
-    (sym k.before.confidentiality-flows.ensures ∙ not-false _ k.if3.false)
-    (sym c.before.whole-flows2.ensures ∙ c.if4.false)
+    is_confidentiality _ _ _ _ k.if-wholly.false
+    (sym k.confidentiality_flows.ensures ∙ not-false _ k.if-not-confidentiality_flows.false)
+    (sym c.whole_flows-2.ensures ∙ c.if-whole_flows-2.false)
 
 pub flows_spec : {M : Type 1} → statement M
 flows_spec = tie.close (tie.spec
-    (λ c κs. search rules)  -- whole-flows-requires
-    returns
-    returns-2
-    (λ c κs. search rules)  -- confidentiality-flows-requires
-    returns-3
-    (λ c κs. search rules)  -- whole-flows-requires-2
-    returns-4
-    returns-5)
+    (λ c κs. search rules)  -- whole_flows-requires
+    returns-then-whole_flows
+    returns-then-wholly
+    (λ c κs. search rules)  -- confidentiality_flows-requires
+    returns-then-not-confidentiality_flows
+    (λ c κs. search rules)  -- whole_flows-requires-2
+    returns-then-whole_flows-2
+    returns)

@@ -10,9 +10,9 @@ use Rattle.members.proofs.integrity.Tie as tie
 
 pub integrity_spec : {M : Type 1} → statement M
 integrity_spec = tie.close (tie.spec
-    (λ c. sym (integrity_past c.before.args.l (omega arith)))  -- returns
-    (λ c. search rules)  -- add-result
-    (λ c. search rules)  -- cast-result
-    (λ c. search rules)  -- shl-result
-    (λ c. shl_one 64 (max_labels + c.before.args.l) (omega arith)
-    ∙ sym (integrity_there c.before.args.l (omega arith))))  -- returns-2
+    (λ c. sym (integrity_past c.args.l (omega arith)))  -- returns-then-l-ge-LABELS
+    (λ c. search rules)  -- overflow_add-result
+    (λ c. search rules)  -- overflow_cast-result
+    (λ c. search rules)  -- overflow_shl-result
+    (λ c. shl_one 64 (max_labels + c.args.l) (omega arith)
+    ∙ sym (integrity_there c.args.l (omega arith))))  -- returns

@@ -12,57 +12,57 @@ use borrow.Author.Rules.{rules}
 use Rattle.members.proofs.joined.Statement.{statement}
 use Rattle.members.proofs.joined.Tie as tie
 
-abbrev invariant-loop : tie.invariant-loop
-invariant-loop table members out₀ rest₀ p₀ out rest p =
+abbrev invariant-loop-rest : tie.invariant-loop-rest
+invariant-loop-rest table members out₀ rest₀ p₀ out rest p =
     (p ≤ max_members) × (out ≡ join_up_to table members p) × Rest members p rest
 
-abbrev decreases-loop : tie.decreases-loop
-decreases-loop table members out₀ rest₀ p₀ out rest p = max_members - p
+abbrev decreases-loop-rest : tie.decreases-loop-rest
+decreases-loop-rest table members out₀ rest₀ p₀ out rest p = max_members - p
 
-loop-holds : tie.Need-loop-init invariant-loop decreases-loop
+loop-rest-init : tie.Need-loop-rest-init invariant-loop-rest decreases-loop-rest
 unfolding join_up_to
-loop-holds c = (search rules, c.bottom.ensures ∙ ap bottom_of c.before.everyone.ensures, rest_all _)
+loop-rest-init c = (search rules, c.bottom-out.ensures ∙ ap bottom_of c.everyone.ensures, rest_all _)
 
-loop-again : tie.Need-loop-preserved invariant-loop decreases-loop
-loop-again c =
-    let l = c.before.before.loop in
-    let a = c.before.before.before.before.before.before.args in
+loop-rest-preserved : tie.Need-loop-rest-preserved invariant-loop-rest decreases-loop-rest
+loop-rest-preserved c =
+    let l = c.loop-rest in
+    let a = c.args in
     let m = a.members in
     let first = rest_first m l.p l.rest l.invariant.2 in
     let below : l.p < max_members =
-    rest_below m l.p l.rest max_members l.invariant.2 (omega arith) c.before.loop-test.true in (
+    rest_below m l.p l.rest max_members l.invariant.2 (omega arith) c.loop-rest-test.true in (
       omega arith,
       ⊎_elim
           (λ w. w.3 ∙ w.2.ensures ∙ ap₂ join_of l.invariant.1 w.1.ensures
           ∙ up_to_with a.table.now m l.p (first ∙ eq-eqb _ _ w.0.taken))
           (λ w. w.1 ∙ l.invariant.1 ∙ up_to_without a.table.now m l.p (first ∙ ne_eqb _ _ w.0.left))
-          c.if1.branch,
+          c.if-rest-eq1.branch,
       rest_more m l.p l.rest l.invariant.2,
     )
 
-returns : tie.Need-returns invariant-loop decreases-loop
+returns : tie.Need-returns invariant-loop-rest decreases-loop-rest
 unfolding join_in
 returns c =
-    let l = c.before.loop in
-    let a = c.before.before.before.before.before.args in
+    let l = c.loop-rest in
+    let a = c.args in
     l.invariant.1 ∙ sym (up_to_end a.table.now a.members l.p max_members l.invariant.0
     (rest_none a.members l.p l.rest l.invariant.2 (omega arith)))
 
 pub joined_spec : {M : Type 1} → statement M
 joined_spec = tie.close (tie.spec
-    invariant-loop
-    decreases-loop
+    invariant-loop-rest
+    decreases-loop-rest
     (λ c κs. search rules)  -- everyone-requires
-    (λ c κs. search rules)  -- bottom-requires
-    loop-holds
+    (λ c κs. search rules)  -- bottom-out-requires
+    loop-rest-init
     (λ c κs. search rules)  -- member-requires
-    (λ c κs. search rules)  -- join-requires
-    (λ c. search rules)  -- add-p
+    (λ c κs. search rules)  -- join-out-requires
+    (λ c. search rules)  -- overflow_add-p
     (λ c.
-    let l = c.before.before.loop in
-    let a = c.before.before.before.before.before.before.args in
+    let l = c.loop-rest in
+    let a = c.args in
     let below : l.p < max_members =
-    rest_below a.members l.p l.rest max_members l.invariant.2 (omega arith) c.before.loop-test.true in
-    omega arith)  -- loop-less
-    loop-again
+    rest_below a.members l.p l.rest max_members l.invariant.2 (omega arith) c.loop-rest-test.true in
+    omega arith)  -- loop-rest-smaller
+    loop-rest-preserved
     returns)

@@ -8,7 +8,7 @@ use Rattle.members.proofs.label.Tie as tie
 
 pub label_spec : {M : Type 1} → statement M
 label_spec = tie.close (tie.spec
-    (λ c. sym (label_past c.before.args.l (omega arith)))  -- returns
-    (λ c. search rules)  -- shl-result
-    (λ c. shl_one 64 c.before.args.l (omega arith)
-    ∙ sym (label_there c.before.args.l (omega arith))))  -- returns-2
+    (λ c. sym (label_past c.args.l (omega arith)))  -- returns-then-l-ge-LABELS
+    (λ c. search rules)  -- overflow_shl-result
+    (λ c. shl_one 64 c.args.l (omega arith)
+    ∙ sym (label_there c.args.l (omega arith))))  -- returns

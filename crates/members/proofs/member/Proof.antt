@@ -8,12 +8,12 @@ use Rattle.members.proofs.member.Tie as tie
 
 pub member_spec : {M : Type 1} → statement M
 member_spec = tie.close (tie.spec
-    (λ c κs. search rules)  -- label-of-requires
-    (λ c. let a = c.before.before.before.args in
-    c.label_of.ensures ∙ sym (member-label a.table.now a.p (omega arith)))  -- returns
-    (λ c κs. search rules)  -- label-of-requires-2
+    (λ c κs. search rules)  -- label_of-requires
+    (λ c. let a = c.args in
+    c.label_of.ensures ∙ sym (member-label a.table.now a.p (omega arith)))  -- returns-then-p-lt-LABELS
+    (λ c κs. search rules)  -- label_of-label-requires
     (λ c κs. search rules)  -- everyone-requires
     (λ c κs. search rules)  -- integrity-requires
-    (λ c. let a = c.before.before.before.before.before.args in
-    c.integrity.ensures ∙ ap₂ integrity_of c.before.everyone.ensures c.before.before.label-of2.ensures
-    ∙ sym (member_integrity a.table.now a.p (omega arith))))  -- returns-2
+    (λ c. let a = c.args in
+    c.integrity.ensures ∙ ap₂ integrity_of c.everyone.ensures c.label_of-label.ensures
+    ∙ sym (member_integrity a.table.now a.p (omega arith))))  -- returns

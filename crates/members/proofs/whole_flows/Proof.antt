@@ -8,11 +8,11 @@ use Rattle.members.proofs.whole_flows.Tie as tie
 
 returns : tie.Need-returns
 unfolding whole_flows
-returns c = c.at-or-below.ensures ∙ ap₂ below_of c.before.before.joined.ensures c.before.label_of.ensures
+returns c = c.at_or_below.ensures ∙ ap₂ below_of c.joined-lower.ensures c.label_of-upper.ensures
 
 pub whole_flows_spec : {M : Type 1} → statement M
 whole_flows_spec = tie.close (tie.spec
-    (λ c κs. search rules)  -- joined-requires
-    (λ c κs. search rules)  -- label-of-requires
-    (λ c κs. search rules)  -- at-or-below-requires
+    (λ c κs. search rules)  -- joined-lower-requires
+    (λ c κs. search rules)  -- label_of-upper-requires
+    (λ c κs. search rules)  -- at_or_below-requires
     returns)

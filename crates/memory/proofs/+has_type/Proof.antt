@@ -55,73 +55,73 @@ pub +has_type_spec : {M : Type 1} → statement M
     (has_type_at t)
     has_type.Post
     (λ c. let a = c.before.before.before.args in
-    laws.type_past a.table.now a.words.now a.ty a.at (omega arith))  -- returns
+    laws.type_past a.table.now a.words.now a.ty a.at (omega arith))  -- returns-then-words-at
     (λ c. search rules)
     (λ c. search rules)
     (λ c κs. search rules)
     (λ c κs. search rules)
-    (λ c κs. search rules)  -- is-sum-requires
-    (λ c. let a = c.before.before.before.before.before.before.before.args
-    in laws.type-inl a.table.now a.words.now a.ty a.at (omega arith) c.before.before.match.keys3
-    (both_off _ _ (sym c.before.is_sum.ensures ∙ not-true _ c.if2.true)))  -- returns-2
-    (λ c. search rules)  -- add-has-type
+    (λ c κs. search rules)  -- is_sum-requires
+    (λ c. let a = c.args
+    in laws.type-inl a.table.now a.words.now a.ty a.at (omega arith) c.in-3.is
+    (both_off _ _ (sym c.is_sum.ensures ∙ not-true _ c.if-not-is_sum.true)))  -- returns-then-not-is_sum
+    (λ c. search rules)  -- overflow_add-at
     (λ c κs. search rules)
     (λ c κs. (omega arith, tt))
-    (λ c κs. search rules)  -- is-sum-requires-2
-    (λ c. let a = c.before.before.before.before.before.before.before.args
-    in laws.type-inr a.table.now a.words.now a.ty a.at (omega arith) c.before.before.match.keys4
-    (both_off _ _ (sym c.before.is-sum2.ensures ∙ not-true _ c.if3.true)))  -- returns-3
+    (λ c κs. search rules)  -- is_sum-requires-in-4
+    (λ c. let a = c.args
+    in laws.type-inr a.table.now a.words.now a.ty a.at (omega arith) c.in-4.is
+    (both_off _ _ (sym c.is_sum-in-4.ensures ∙ not-true _ c.if-not-is_sum-2.true)))  -- returns-then-not-is_sum-2
     (λ c. search rules)
     (λ c κs. search rules)
     (λ c κs. (omega arith, tt))
-    (λ c κs. search rules)  -- one-more-requires-3
-    (λ c κs. search rules)  -- is-pair-requires
-    (λ c. let a = c.before.before.before.before.before.before.before.args
-    in laws.type-pair a.table.now a.words.now a.ty a.at (omega arith) c.before.before.match.keys6
-    (both_off _ _ (sym c.before.is_pair.ensures ∙ not-true _ c.if4.true)))  -- returns-4
-    (λ c. search rules)  -- add-has-type-3
-    (λ c κs. search rules)  -- left-part-requires-2
-    (λ c κs. (omega arith, tt))  -- has-type-requires-3
-    (λ c. let a = c.before.before.before.before.before.before.before.before.before.before.args
+    (λ c κs. search rules)  -- one_more-requires-in-5
+    (λ c κs. search rules)  -- is_pair-requires
+    (λ c. let a = c.args
+    in laws.type-pair a.table.now a.words.now a.ty a.at (omega arith) c.in-6.is
+    (both_off _ _ (sym c.is_pair.ensures ∙ not-true _ c.if-not-is_pair.true)))  -- returns-then-not-is_pair
+    (λ c. search rules)  -- overflow_add-at-in-6
+    (λ c κs. search rules)  -- left_part-requires-in-6
+    (λ c κs. (omega arith, tt))  -- has_type-requires-in-6
+    (λ c. let a = c.args
     in laws.type-pair a.table.now a.words.now a.ty a.at (omega arith)
-    c.before.before.before.before.before.match.keys6
-    (both_off _ _ (sym (c.before.has-type3.ensures ∙ ap (has_no _ _) c.before.before.left-part2.ensures)
-    ∙ not-true _ c.if5.true)
-    ∙ both_on _ _ (sym c.before.before.before.before.is_pair.ensures
-    ∙ not-false _ c.before.before.before.if4.false)))  -- returns-5
-    (λ c. search rules)  -- add-value-at
-    (λ c κs. search rules)  -- value-at-requires
-    (λ c κs. search rules)  -- right-part-requires-2
-    (λ c κs. (omega (arith, c.before.value-at.ensures.forward), tt))  -- has-type-requires-4
-    (λ c. let a = c.before.before.before.before.before.before.args
+    c.in-6.is
+    (both_off _ _ (sym (c.has_type-in-6.ensures ∙ ap (has_no _ _) c.left_part-in-6.ensures)
+    ∙ not-true _ c.if-not-has_type.true)
+    ∙ both_on _ _ (sym c.is_pair.ensures
+    ∙ not-false _ c.if-not-is_pair.false)))  -- returns-then-not-has_type
+    (λ c. search rules)  -- overflow_add-at-in-6-2
+    (λ c κs. search rules)  -- value_at-first-requires
+    (λ c κs. search rules)  -- right_part-requires-in-6
+    (λ c κs. (omega (arith, c.value_at-first.ensures.forward), tt))  -- has_type-requires-in-6-2
+    (λ c. let a = c.args
     in c.one_more.ensures ∙ laws.type-numeral a.table.now a.words.now a.ty a.at (omega arith) num_int
-    c.before.match.keys1)  -- returns-6
+    c.in-1.is)  -- returns-in-1
     (λ c. let a = c.before.before.before.before.before.before.args
     in c.one-more2.ensures
-    ∙ laws.type-numeral a.table.now a.words.now a.ty a.at (omega arith) num_err c.before.match.keys2)
+    ∙ laws.type-numeral a.table.now a.words.now a.ty a.at (omega arith) num_err c.match.keys2)
     (λ c. let a = c.before.before.before.before.before.before.before.before.before.args
     in laws.type-inl a.table.now a.words.now a.ty a.at (omega arith)
-    c.before.before.before.before.match.keys3
-    (c.has_type.ensures ∙ ap (has_no _ _) c.before.left-part.ensures
-    ∙ both_on _ _ (sym c.before.before.before.is_sum.ensures ∙ not-false _ c.before.before.if2.false)))
+    c.match.keys3
+    (c.has_type.ensures ∙ ap (has_no _ _) c.left-part.ensures
+    ∙ both_on _ _ (sym c.is_sum.ensures ∙ not-false _ c.if2.false)))
     (λ c. let a = c.before.before.before.before.before.before.before.before.before.args
     in laws.type-inr a.table.now a.words.now a.ty a.at (omega arith)
-    c.before.before.before.before.match.keys4
-    (c.has-type2.ensures ∙ ap (has_no _ _) c.before.right-part.ensures
-    ∙ both_on _ _ (sym c.before.before.before.is-sum2.ensures ∙ not-false _ c.before.before.if3.false)))
+    c.match.keys4
+    (c.has-type2.ensures ∙ ap (has_no _ _) c.right-part.ensures
+    ∙ both_on _ _ (sym c.is-sum2.ensures ∙ not-false _ c.if3.false)))
     (λ c. let a = c.before.before.before.before.before.before.args
     in c.one-more3.ensures
-    ∙ laws.type-pkg a.table.now a.words.now a.ty a.at (omega arith) c.before.match.keys5)
+    ∙ laws.type-pkg a.table.now a.words.now a.ty a.at (omega arith) c.match.keys5)
     (λ c.
     let first = c.before.before.before.before in
     let pair = first.before.before in
     let a = pair.before.before.before.before.before.before.before.args in
     laws.type-pair a.table.now a.words.now a.ty a.at (omega arith) pair.before.before.match.keys6
-    (c.has-type4.ensures ∙ ap (has_no _ _) c.before.right-part2.ensures
+    (c.has-type4.ensures ∙ ap (has_no _ _) c.right-part2.ensures
     ∙ ap (λ us. has_no a.table.now (value_of us) (right_in a.table.now a.ty))
-    c.before.before.value-at.ensures.after
-    ∙ both_on _ _ (sym (first.has-type3.ensures ∙ ap (has_no _ _) first.before.left-part2.ensures)
-    ∙ not-false _ c.before.before.before.if5.false)
+    c.value-at.ensures.after
+    ∙ both_on _ _ (sym (first.has-type3.ensures ∙ ap (has_no _ _) first.left-part2.ensures)
+    ∙ not-false _ c.if5.false)
     ∙ both_on _ _ (sym pair.before.is_pair.ensures ∙ not-false _ pair.if4.false)))
-    (λ c. let a = c.before.before.before.before.before.args
-    in laws.type-none a.table.now a.words.now a.ty a.at (omega arith) c.match.rest)
+    (λ c. let a = c.args
+    in laws.type-none a.table.now a.words.now a.ty a.at (omega arith) c.in_default.in_default-own.rest)

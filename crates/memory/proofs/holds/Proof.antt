@@ -11,14 +11,14 @@ holds_spec = tie.close (tie.spec
     (λ c κs. search rules)
     (λ c κs. search rules)
     (λ c. let v = c.before.before in
-    not_proper _ _ _ v.before.labels.ensures v.value-at.ensures (not-true _ c.if1.true))  -- returns
+    not_proper _ _ _ v.labels.ensures v.value_at-walked.ensures (not-true _ c.if-not-walked.true))  -- returns-then-not-walked
     (λ c κs. search rules)
     (λ c. let v = c.before.before.before.before in
-    not_typed _ _ _ v.before.labels.ensures v.value-at.ensures (not-false _ c.before.before.if1.false)
-    (sym c.before.has_type.ensures ∙ not-true _ c.if2.true))  -- returns-2
+    not_typed _ _ _ v.labels.ensures v.value_at-walked.ensures (not-false _ c.if-not-walked.false)
+    (sym c.has_type.ensures ∙ not-true _ c.if-not-has_type.true))  -- returns-then-not-has_type
     (λ c κs. search rules)
     (λ c. let v = c.before.before.before.before.before in
-    is_cell _ _ _ v.before.labels.ensures v.value-at.ensures v.before.before.before.before.requires
-    (not-false _ c.before.before.before.if1.false)
-    (sym c.before.before.has_type.ensures ∙ not-false _ c.before.if2.false)
-    c.zero-from.ensures))  -- returns-3
+    is_cell _ _ _ v.labels.ensures v.value_at-walked.ensures v.requires
+    (not-false _ c.if-not-walked.false)
+    (sym c.has_type.ensures ∙ not-false _ c.if-not-has_type.false)
+    c.zero_from.ensures))  -- returns

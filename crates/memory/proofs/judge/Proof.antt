@@ -12,59 +12,59 @@ use Rattle.memory.proofs.RefusalLaws as laws
 use Rattle.memory.proofs.judge.Statement.{statement}
 use Rattle.memory.proofs.judge.Tie as tie
 
-abbrev invariant-loop : tie.invariant-loop
-invariant-loop table memory n x₀ x = (x ≤ n) × ((k : ℕ) → k < x → laws.Held table memory k ≡ true)
+abbrev invariant-loop-x : tie.invariant-loop-x
+invariant-loop-x table memory n x₀ x = (x ≤ n) × ((k : ℕ) → k < x → laws.Held table memory k ≡ true)
 
-abbrev decreases-loop : tie.decreases-loop
-decreases-loop table memory n x₀ x = n - x
+abbrev decreases-loop-x : tie.decreases-loop-x
+decreases-loop-x table memory n x₀ x = n - x
 
-returns : tie.Need-returns invariant-loop decreases-loop
+returns-then-memory-n : tie.Need-returns-then-memory-n invariant-loop-x decreases-loop-x
 unfolding memory_number
-returns c =
-    let a = c.before.before.before.before.args in
-    laws.refused_7 a.table.now a.memory.now (λ e. c.if1.true (omega (arith, c.before.locations.ensures)))
+returns-then-memory-n c =
+    let a = c.args in
+    laws.refused_7 a.table.now a.memory.now (λ e. c.if-memory-n.true (omega (arith, c.locations-n.ensures)))
 
-loop-holds : tie.Need-loop-init invariant-loop decreases-loop
+loop-x-init : tie.Need-loop-x-init invariant-loop-x decreases-loop-x
 unfolding memory_number
-loop-holds c = (omega arith, λ k l. absurd (not-suc-le-zero l))
+loop-x-init c = (omega arith, λ k l. absurd (not-suc-le-zero l))
 
-returns-2 : tie.Need-returns-2 invariant-loop decreases-loop
+returns-then-not-location_holds : tie.Need-returns-then-not-location_holds invariant-loop-x decreases-loop-x
 unfolding memory_number
-returns-2 c =
+returns-then-not-location_holds c =
     let l = c.before.before.before in
-    let a = l.before.before.before.before.before.args in
-    laws.refused_8 a.table.now a.memory.now l.loop.x (omega (arith, l.before.before.locations.ensures))
-    (omega (arith, l.before.before.locations.ensures))
-    (sym c.before.location_holds.ensures ∙ not-true _ c.if2.true)
+    let a = l.args in
+    laws.refused_8 a.table.now a.memory.now l.loop-x.x (omega (arith, l.locations-n.ensures))
+    (omega (arith, l.locations-n.ensures))
+    (sym c.location_holds.ensures ∙ not-true _ c.if-not-location_holds.true)
 
-loop-again : tie.Need-loop-preserved invariant-loop decreases-loop
+loop-x-preserved : tie.Need-loop-x-preserved invariant-loop-x decreases-loop-x
 unfolding memory_number
-loop-again c =
+loop-x-preserved c =
     let l = c.before.before.before in (
       omega arith,
-      below_more _ _ l.loop.invariant.1 (sym c.before.location_holds.ensures ∙ not-false _ c.if2.false),
+      below_more _ _ l.loop-x.invariant.1 (sym c.location_holds.ensures ∙ not-false _ c.if-not-location_holds.false),
     )
 
-returns-3 : tie.Need-returns-3 invariant-loop decreases-loop
+returns : tie.Need-returns invariant-loop-x decreases-loop-x
 unfolding memory_number
-returns-3 c =
+returns c =
     let l = c.before in
-    let a = l.before.before.before.before.before.args in
-    laws.refused_0 a.table.now a.memory.now (omega (arith, l.before.before.locations.ensures))
-    (λ k h. l.loop.invariant.1 k (omega (arith, l.before.before.locations.ensures)))
+    let a = l.args in
+    laws.refused_0 a.table.now a.memory.now (omega (arith, l.locations-n.ensures))
+    (λ k h. l.loop-x.invariant.1 k (omega (arith, l.locations-n.ensures)))
 
 pub judge_spec : {M : Type 1} → statement M
 judge_spec = tie.close (tie.spec
-    invariant-loop
-    decreases-loop
+    invariant-loop-x
+    decreases-loop-x
     (λ c κs. search rules)
     (λ c. search rules)
     (λ c. search rules)
-    returns
-    loop-holds
+    returns-then-memory-n
+    loop-x-init
     (λ c κs. omega arith)
-    returns-2
+    returns-then-not-location_holds
     (λ c. search rules)
     (λ c. search rules)
-    loop-again
-    returns-3)
+    loop-x-preserved
+    returns)

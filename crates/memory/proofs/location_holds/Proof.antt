@@ -14,6 +14,6 @@ location_holds_spec = tie.close (tie.spec
     (λ c. search rules)
     (λ c κs. search rules)
     (λ c κs. search rules)
-    (λ c. let a = c.before.before.before.before.before.args
-    in laws.location_holds a.table.now a.memory.now a.x c.before.location-type.ensures
+    (λ c. let a = c.args
+    in laws.location_holds a.table.now a.memory.now a.x c.location_type.ensures
     c.holds.ensures))  -- returns

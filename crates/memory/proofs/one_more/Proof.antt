@@ -9,7 +9,7 @@ use Rattle.memory.proofs.one_more.Tie as tie
 
 pub one_more_spec : {M : Type 1} → statement M
 one_more_spec = tie.close (tie.spec
-    (λ c. both_off _ _ (le-ltb (c.before.args.at + 1) _ (omega arith)))  -- returns
+    (λ c. both_off _ _ (le-ltb (c.args.at + 1) _ (omega arith)))  -- returns-then-n-at
     (λ c. search rules)
-    (λ c. both_off _ _ (le-ltb (c.before.before.args.at + 1) _ (omega arith)))  -- returns-2
-    (λ c. both_on _ _ (lt-ltb (c.before.before.args.at + 1) _ (omega arith))))  -- returns-3
+    (λ c. both_off _ _ (le-ltb (c.args.at + 1) _ (omega arith)))  -- returns-then-n-at-le1
+    (λ c. both_on _ _ (lt-ltb (c.args.at + 1) _ (omega arith))))  -- returns

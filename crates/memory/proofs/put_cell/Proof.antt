@@ -11,20 +11,20 @@ use Rattle.language.specs.World.{cell_words}
 use Rattle.memory.proofs.put_cell.Statement.{statement}
 use Rattle.memory.proofs.put_cell.Tie as tie
 
-abbrev invariant-loop : tie.invariant-loop
-invariant-loop shown₀ x cell start i₀ shown i =
+abbrev invariant-loop-i : tie.invariant-loop-i
+invariant-loop-i shown₀ x cell start i₀ shown i =
     (i ≤ cell_words) × (length shown ≡ length shown₀) × (shown ≡ paste shown₀ (cell_words * x) cell i)
 
-abbrev decreases-loop : tie.decreases-loop
-decreases-loop shown₀ x cell start i₀ shown i = cell_words - i
+abbrev decreases-loop-i : tie.decreases-loop-i
+decreases-loop-i shown₀ x cell start i₀ shown i = cell_words - i
 
 pub put_cell_spec : {M : Type 1} → statement M
 put_cell_spec = tie.close (tie.spec
-    invariant-loop
-    decreases-loop
-    (λ c. search rules)  -- mul-start
+    invariant-loop-i
+    decreases-loop-i
+    (λ c. search rules)  -- overflow_mul-start
     (λ c. let a = c.args in
-    (search rules, refl, paste-zero a.shown.now (cell_words * a.x) a.t3))  -- loop-holds
+    (search rules, refl, paste-zero a.shown.now (cell_words * a.x) a.cell))  -- loop-i-init
     (λ c. search rules)
     (λ c. search rules)
     (λ c. search rules)
@@ -34,17 +34,17 @@ put_cell_spec = tie.close (tie.spec
     (λ c. search rules)
     (λ c.
     let l = c.before in
-    let a = l.before.args in
-    let i = l.loop.i in
-    let short : i < length a.t3 = search rules in (
+    let a = l.args in
+    let i = l.loop-i.i in
+    let short : i < length a.cell = search rules in (
       search rules,
-      simp length-set l.loop.invariant.1,
-      ap (λ (s : List ℕ). set s (cell_words * a.x + i) (get_or a.t3 i 0)) l.loop.invariant.2
-          ∙ paste-suc a.shown.now (cell_words * a.x) a.t3 i 0 (omega arith) short
-          ∙ ap (paste a.shown.now (cell_words * a.x) a.t3) (sym (add-one i)),
-    ))  -- loop-again
-    (λ c. c.before.loop.invariant.1)  -- same-length
+      simp length-set l.loop-i.invariant.1,
+      ap (λ (s : List ℕ). set s (cell_words * a.x + i) (get_or a.cell i 0)) l.loop-i.invariant.2
+          ∙ paste-suc a.shown.now (cell_words * a.x) a.cell i 0 (omega arith) short
+          ∙ ap (paste a.shown.now (cell_words * a.x) a.cell) (sym (add-one i)),
+    ))  -- loop-i-preserved
+    (λ c. c.loop-i.invariant.1)  -- shape_of-shown
     (λ c.
-    let a = c.before.before.args in
-    let e : c.before.loop.i ≡ cell_words = omega arith in
-    c.before.loop.invariant.2 ∙ ap (paste a.shown.now (cell_words * a.x) a.t3) e))  -- returns
+    let a = c.args in
+    let e : c.loop-i.i ≡ cell_words = omega arith in
+    c.loop-i.invariant.2 ∙ ap (paste a.shown.now (cell_words * a.x) a.cell) e))  -- returns

@@ -9,41 +9,41 @@ use Rattle.memory.proofs.ShownLaws as laws
 use Rattle.memory.proofs.view.Statement.{statement}
 use Rattle.memory.proofs.view.Tie as tie
 
+returns-then-shown-locations : tie.Need-returns-then-shown-locations
+unfolding memory_number
+returns-then-shown-locations c =
+    let a = c.args in
+    let e = laws.view_7 a.table.now a.memory.now (length a.shown.now)
+    (λ k. c.if-shown-locations.true (omega (arith, c.locations.ensures))) in
+    (e, laws.left_refused a.table.now a.memory.now a.group a.shown.now e (λ z. omega arith))
+
+returns-in_default : tie.Need-returns-in_default
+unfolding memory_number
+returns-in_default c =
+    let b = c.before.before in
+    let a = b.args in
+    let e = c.judge-verdict.ensures
+    ∙ laws.view-answer a.table.now a.memory.now (length a.shown.now)
+    (omega (arith, b.locations.ensures)) in (
+      e,
+      laws.left_refused a.table.now a.memory.now a.group a.shown.now e
+          (not_accepted c.judge-verdict.result c.in_default.in_default-own.keys2),
+    )
+
 returns : tie.Need-returns
 unfolding memory_number
 returns c =
-    let a = c.before.before.before.before.before.args in
-    let e = laws.view_7 a.table.now a.memory.now (length a.shown.now)
-    (λ k. c.if1.true (omega (arith, c.before.locations.ensures))) in
-    (e, laws.left_refused a.table.now a.memory.now a.group a.shown.now e (λ z. omega arith))
-
-returns-2 : tie.Need-returns-2
-unfolding memory_number
-returns-2 c =
-    let b = c.before.before in
-    let a = b.before.before.before.before.before.args in
-    let e = c.before.judge.ensures
-    ∙ laws.view-answer a.table.now a.memory.now (length a.shown.now)
-    (omega (arith, b.before.locations.ensures)) in (
-      e,
-      laws.left_refused a.table.now a.memory.now a.group a.shown.now e
-          (not_accepted c.before.judge.result c.match.keys2),
-    )
-
-returns-3 : tie.Need-returns-3
-unfolding memory_number
-returns-3 c =
     let told = c.before.before.before.before in
-    let j = told.before.before in
+    let j = told.before in
     let b = j.before in
-    let a = b.before.before.before.before.before.args in
-    let z = is_accepted j.judge.result told.enum_told.given.1 in
-    let e = j.judge.ensures
+    let a = b.args in
+    let z = is_accepted j.judge-verdict.result told.in-Accepted.is in
+    let e = j.judge-verdict.ensures
     ∙ laws.view-answer a.table.now a.memory.now (length a.shown.now)
-    (omega (arith, b.before.locations.ensures)) in (
+    (omega (arith, b.locations.ensures)) in (
       sym z ∙ e,
       laws.left_shown a.table.now a.memory.now a.group a.shown.now e z
-          c.before.before.view-each.ensures,
+          c.view_each.ensures,
     )
 
 pub view_spec : {M : Type 1} → statement M
@@ -51,14 +51,14 @@ view_spec = tie.close (tie.spec
     (λ c κs. search rules)
     (λ c. search rules)
     (λ c. search rules)
-    returns
+    returns-then-shown-locations
     (λ c κs. search rules)
-    (λ c. search rules)  -- enum_told
-    returns-2
+    (λ c. search rules)  -- enum_told-1
+    returns-in_default
     (λ c κs.
-    let j = c.before.before.before in (
-      sym j.judge.ensures ∙ is_accepted j.judge.result c.before.enum_told.given.1,
-      omega (arith, j.before.before.locations.ensures),
-    ))  -- view-each-requires
+    let j = c.before.before in (
+      sym j.judge-verdict.ensures ∙ is_accepted j.judge-verdict.result c.in-Accepted.is,
+      omega (arith, j.locations.ensures),
+    ))  -- view_each-requires
     (λ c. search rules)
-    returns-3)
+    returns)

@@ -11,51 +11,51 @@ use Rattle.memory.proofs.ShownLaws as laws
 use Rattle.memory.proofs.view_each.Statement.{statement}
 use Rattle.memory.proofs.view_each.Tie as tie
 
-abbrev invariant-loop : tie.invariant-loop
-invariant-loop table memory group shown₀ n x₀ shown x = (x ≤ n) × (length shown ≡ length shown₀)
+abbrev invariant-loop-x : tie.invariant-loop-x
+invariant-loop-x table memory group shown₀ n x₀ shown x = (x ≤ n) × (length shown ≡ length shown₀)
     × (shown ≡ cells x (laws.Shown table memory group) ++ drop (cell_words * x) shown₀)
 
-abbrev decreases-loop : tie.decreases-loop
-decreases-loop table memory group shown₀ n x₀ shown x = n - x
+abbrev decreases-loop-x : tie.decreases-loop-x
+decreases-loop-x table memory group shown₀ n x₀ shown x = n - x
 
 pub view_each_spec : {M : Type 1} → statement M
 unfolding cells
 view_each_spec = tie.close (tie.spec
-    invariant-loop
-    decreases-loop
+    invariant-loop-x
+    decreases-loop-x
     (λ c κs. search rules)
-    (λ c. (omega arith, refl, refl))  -- loop-holds
+    (λ c. (omega arith, refl, refl))  -- loop-x-init
     (λ c κs.
     let l = c.before in
     let b = l.before.before.before.before.before in
     omega (
       arith,
       laws.whole_in b.args.table.now b.args.memory.now b.requires.0,
-      l.before.locations.ensures,
-    ))  -- location-view-requires
+      l.locations-n.ensures,
+    ))  -- location_view-cell-requires
     (λ c κs. let l = c.before.before.before in omega (
       arith,
-      l.before.before.before.before.before.requires.1,
-      l.loop.invariant.1,
-      l.before.locations.ensures,
-    ))  -- put-cell-requires
+      l.requires.1,
+      l.loop-x.invariant.1,
+      l.locations-n.ensures,
+    ))  -- put_cell-requires
     (λ c. search rules)
     (λ c. search rules)
     (λ c.
     let l = c.before.before.before.before.before.before in
     let b = l.before.before.before.before.before in
-    let p = c.before.before.put-cell in (
+    let p = c.put_cell in (
       omega arith,
-      p.auto.0 ∙ l.loop.invariant.1,
-      laws.view_more b.args.table.now b.args.memory.now b.requires.0 b.args.group l.loop.x
-          b.args.shown.now _ _ _ l.loop.invariant.2
-          (omega (arith, l.before.locations.ensures))
-          c.before.before.before.before.location-view.ensures p.ensures,
-    ))  -- loop-again
-    (λ c. c.before.loop.invariant.1)  -- same-length
+      p.auto.0 ∙ l.loop-x.invariant.1,
+      laws.view_more b.args.table.now b.args.memory.now b.requires.0 b.args.group l.loop-x.x
+          b.args.shown.now _ _ _ l.loop-x.invariant.2
+          (omega (arith, l.locations-n.ensures))
+          c.location_view-cell.ensures p.ensures,
+    ))  -- loop-x-preserved
+    (λ c. c.loop-x.invariant.1)  -- shape_of-shown
     (λ c.
     let l = c.before in
     let b = l.before.before.before.before.before in
-    laws.view_all b.args.table.now b.args.memory.now b.args.group b.args.shown.now _ l.loop.x
-    l.loop.invariant.2
-    (omega (arith, l.before.locations.ensures)) b.requires.1))  -- returns
+    laws.view_all b.args.table.now b.args.memory.now b.args.group b.args.shown.now _ l.loop-x.x
+    l.loop-x.invariant.2
+    (omega (arith, l.locations-n.ensures)) b.requires.1))  -- returns

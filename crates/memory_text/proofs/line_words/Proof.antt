@@ -16,124 +16,124 @@ use Rattle.memory_text.proofs.Rows as rows
 use Rattle.memory_text.proofs.line_words.Statement.{statement}
 use Rattle.memory_text.proofs.line_words.Tie as tie
 
-abbrev invariant-loop : tie.invariant-loop
-invariant-loop s at words₀ p₀ i₀ words p i = (i ≤ cell_words) × (rows.left i words (drop p s) ≡ filled_line (drop at s))
+abbrev invariant-loop-i : tie.invariant-loop-i
+invariant-loop-i s at words₀ p₀ i₀ words p i = (i ≤ cell_words) × (rows.left i words (drop p s) ≡ filled_line (drop at s))
 
-abbrev decreases-loop : tie.decreases-loop
-decreases-loop s at words₀ p₀ i₀ words p i = cell_words - i
+abbrev decreases-loop-i : tie.decreases-loop-i
+decreases-loop-i s at words₀ p₀ i₀ words p i = cell_words - i
 
 -- what is known where a word has been read
-known : (k : tie.After-v invariant-loop decreases-loop)
-    → number most (drop k.before.before.before.before.loop.p
-    k.before.before.before.before.before.before.args.s.now)
-    ≡ got k.v.given.0.0
-    (drop k.v.given.0.1.0 k.before.before.before.before.before.before.args.s.now)
+known : (k : tie.In-At invariant-loop-i decreases-loop-i)
+    → number most (drop k.loop-i.p
+    k.args.s.now)
+    ≡ got k.in-At.v
+    (drop k.in-At.q k.args.s.now)
 known k =
-    let at = k.before.before.before.before in
-    (number_at at.before.before.args.s.now at.loop.p most _ k.before.before.number.ensures _ _
-    k.v.given.1).0
+    let at = k.before.before in
+    (number_at at.args.s.now at.loop-i.p most _ k.number.ensures _ _
+    k.in-At.is).0
 
-returns : tie.Need-returns invariant-loop decreases-loop
-returns c =
-    let n = c.before.before.before in
+returns-in_default : tie.Need-returns-in_default invariant-loop-i decreases-loop-i
+returns-in_default c =
+    let n = c.before.before in
     let at = n.before.before in
-    let s = at.before.before.args.s.now in
+    let s = at.args.s.now in
     c.no_row.ensures s
-    ∙ ap (placed_row at.before.before.args.at s)
-    (sym (rows.left_bad at.loop.i at.loop.words _ n.before.loop-test.true
-    (number-bad s at.loop.p most _ n.number.ensures c.before.enum_told.given.1))
-    ∙ at.loop.invariant.1)
+    ∙ ap (placed_row at.args.at s)
+    (sym (rows.left_bad at.loop-i.i at.loop-i.words _ n.loop-i-test.true
+    (number-bad s at.loop-i.p most _ n.number.ensures c.in_default.is))
+    ∙ at.loop-i.invariant.1)
 
-returns-2 : tie.Need-returns-2 invariant-loop decreases-loop
-returns-2 c =
-    let k = c.before.before.before in
-    let at = k.before.before.before.before in
-    let s = at.before.before.args.s.now in
-    c.no-row2.ensures s
-    ∙ ap (placed_row at.before.before.args.at s) (sym (rows.left_end at.loop.i at.loop.words _
-    k.before.before.before.loop-test.true _ s _ (known k) c.before.if1.true) ∙ at.loop.invariant.1)
+returns-then-s-q : tie.Need-returns-then-s-q invariant-loop-i decreases-loop-i
+returns-then-s-q c =
+    let k = c.before.before in
+    let at = k.before.before in
+    let s = at.args.s.now in
+    c.no_row-then-s-q.ensures s
+    ∙ ap (placed_row at.args.at s) (sym (rows.left_end at.loop-i.i at.loop-i.words _
+    k.loop-i-test.true _ s _ (known k) c.if-s-q.true) ∙ at.loop-i.invariant.1)
 
-returns-3 : tie.Need-returns-3 invariant-loop decreases-loop
-returns-3 c =
+returns-then-v-eq0 : tie.Need-returns-then-v-eq0 invariant-loop-i decreases-loop-i
+returns-then-v-eq0 c =
     let f = c.before.before.before.before in
-    let k = f.before.before in
-    let at = k.before.before.before.before in
-    let s = at.before.before.args.s.now in
-    c.no-row3.ensures s
-    ∙ ap (placed_row at.before.before.args.at s)
-    (sym (rows.left-zero at.loop.i at.loop.words _ k.before.before.before.loop-test.true _ s _ (known k)
-    f.if1.false c.before.before.if2.true
-    c.before.if3.true)
-    ∙ at.loop.invariant.1)
+    let k = f.before in
+    let at = k.before.before in
+    let s = at.args.s.now in
+    c.no_row-then-v-eq0.ensures s
+    ∙ ap (placed_row at.args.at s)
+    (sym (rows.left-zero at.loop-i.i at.loop-i.words _ k.loop-i-test.true _ s _ (known k)
+    f.if-s-q.false c.if-e-eq10.true
+    c.if-v-eq0.true)
+    ∙ at.loop-i.invariant.1)
 
-returns-4 : tie.Need-returns-4 invariant-loop decreases-loop
-returns-4 c =
+returns-then-e-eq10 : tie.Need-returns-then-e-eq10 invariant-loop-i decreases-loop-i
+returns-then-e-eq10 c =
     let f = c.before.before.before in
-    let k = f.before.before in
-    let at = k.before.before.before.before in
-    let s = at.before.before.args.s.now in
+    let k = f.before in
+    let at = k.before.before in
+    let s = at.args.s.now in
     placed_got _ _ s _ _ _
-    (sym at.loop.invariant.1
-    ∙ rows.left-last at.loop.i at.loop.words _ k.before.before.before.loop-test.true _ s _ (known k)
-    f.if1.false c.before.if2.true c.if3.false)
+    (sym at.loop-i.invariant.1
+    ∙ rows.left-last at.loop-i.i at.loop-i.words _ k.loop-i-test.true _ s _ (known k)
+    f.if-s-q.false c.if-e-eq10.true c.if-v-eq0.false)
     (omega arith)
 
-loop-again : tie.Need-loop-preserved invariant-loop decreases-loop
-loop-again c =
+loop-i-preserved : tie.Need-loop-i-preserved invariant-loop-i decreases-loop-i
+loop-i-preserved c =
     let f = c.before.before.before in
-    let k = f.before.before in
-    let at = k.before.before.before.before in
-    let s = at.before.before.args.s.now in (
+    let k = f.before in
+    let at = k.before.before in
+    let s = at.args.s.now in (
       omega arith,
-      sym (rows.left-more at.loop.i at.loop.words _ k.before.before.before.loop-test.true _ s _
-          (known k) f.if1.false c.if4.true)
-          ∙ at.loop.invariant.1,
+      sym (rows.left-more at.loop-i.i at.loop-i.words _ k.loop-i-test.true _ s _
+          (known k) f.if-s-q.false c.if-e-eq9.true)
+          ∙ at.loop-i.invariant.1,
     )
 
-returns-5 : tie.Need-returns-5 invariant-loop decreases-loop
-returns-5 c =
+returns-else-e-eq9 : tie.Need-returns-else-e-eq9 invariant-loop-i decreases-loop-i
+returns-else-e-eq9 c =
     let f = c.before.before.before.before in
-    let k = f.before.before in
-    let at = k.before.before.before.before in
-    let s = at.before.before.args.s.now in
-    c.no-row4.ensures s
-    ∙ ap (placed_row at.before.before.args.at s)
-    (sym (rows.left_other at.loop.i at.loop.words _ k.before.before.before.loop-test.true _ s _
-    (known k) f.if1.false c.before.before.if2.false
-    c.before.if4.false)
-    ∙ at.loop.invariant.1)
+    let k = f.before in
+    let at = k.before.before in
+    let s = at.args.s.now in
+    c.no_row-else-e-eq9.ensures s
+    ∙ ap (placed_row at.args.at s)
+    (sym (rows.left_other at.loop-i.i at.loop-i.words _ k.loop-i-test.true _ s _
+    (known k) f.if-s-q.false c.if-e-eq10.false
+    c.if-e-eq9.false)
+    ∙ at.loop-i.invariant.1)
 
-returns-6 : tie.Need-returns-6 invariant-loop decreases-loop
-returns-6 c =
+returns : tie.Need-returns invariant-loop-i decreases-loop-i
+returns c =
     let at = c.before.before in
-    let s = at.before.before.args.s.now in
-    c.no-row5.ensures s ∙ ap (placed_row at.before.before.args.at s)
-    (sym (rows.left_full at.loop.i at.loop.words _ c.before.loop-test.false) ∙ at.loop.invariant.1)
+    let s = at.args.s.now in
+    c.no_row-2.ensures s ∙ ap (placed_row at.args.at s)
+    (sym (rows.left_full at.loop-i.i at.loop-i.words _ c.loop-i-test.false) ∙ at.loop-i.invariant.1)
 
 pub line_words_spec : {M : Type 1} → statement M
 line_words_spec = tie.close (tie.spec
-    invariant-loop
-    decreases-loop
-    (λ c. (omega arith, rows.left_start _))  -- loop-holds
+    invariant-loop-i
+    decreases-loop-i
+    (λ c. (omega arith, rows.left_start _))  -- loop-i-init
     (λ c κs. search rules)  -- number-requires
-    (λ c. search rules)  -- enum-known-v
-    (λ c. search rules)  -- enum_told
-    (λ c κs. search rules)  -- no-row-requires
-    returns
-    (λ c κs. search rules)  -- no-row-requires-2
-    returns-2
-    (λ c. omega arith)  -- shared-slice-read-e
-    (λ c. omega arith)  -- mul-words
-    (λ c. omega arith)  -- array-write-words
-    (λ c κs. search rules)  -- no-row-requires-3
-    returns-3
+    (λ c. search rules)  -- enum_known-v
+    (λ c. search rules)  -- enum_told-1
+    (λ c κs. search rules)  -- no_row-requires
+    returns-in_default
+    (λ c κs. search rules)  -- no_row-requires-then-s-q
+    returns-then-s-q
+    (λ c. omega arith)  -- bounds-s-q
+    (λ c. omega arith)  -- offset_bounds-words-i
+    (λ c. omega arith)  -- bounds-words-i
+    (λ c κs. search rules)  -- no_row-requires-then-v-eq0
+    returns-then-v-eq0
     (λ c. omega arith)  -- add-t17
-    returns-4
-    (λ c. omega arith)  -- add-i
-    (λ c. omega arith)  -- add-p
-    (λ c. omega arith)  -- loop-less
-    loop-again
-    (λ c κs. search rules)  -- no-row-requires-4
-    returns-5
-    (λ c κs. search rules)  -- no-row-requires-5
-    returns-6)
+    returns-then-e-eq10
+    (λ c. omega arith)  -- overflow_add-i
+    (λ c. omega arith)  -- overflow_add-p
+    (λ c. omega arith)  -- loop-i-smaller
+    loop-i-preserved
+    (λ c κs. search rules)  -- no_row-requires-else-e-eq9
+    returns-else-e-eq9
+    (λ c κs. search rules)  -- no_row-requires-2
+    returns)

@@ -14,74 +14,74 @@ use Rattle.memory_text.proofs.Tables.{row_off}
 use Rattle.memory_text.proofs.locations.Statement.{statement}
 use Rattle.memory_text.proofs.locations.Tie as tie
 
-abbrev invariant-loop : tie.invariant-loop
-invariant-loop s words₀ n₀ at₀ words n at =
+abbrev invariant-loop-at : tie.invariant-loop-at
+invariant-loop-at s words₀ n₀ at₀ words n at =
     (n ≤ max_locations) × (length words ≡ memory_words)
     × (tabled n words (lines_up_to spec.location (max_locations - n) (drop at s)) ≡ table (spec.locations max_locations s))
 
-abbrev decreases-loop : tie.decreases-loop
-decreases-loop s words₀ n₀ at₀ words n at = max_locations - n
+abbrev decreases-loop-at : tie.decreases-loop-at
+decreases-loop-at s words₀ n₀ at₀ words n at = max_locations - n
 
-returns : tie.Need-returns invariant-loop decreases-loop
-returns c =
+returns-then-n-ge-LOCATIONS : tie.Need-returns-then-n-ge-LOCATIONS invariant-loop-at decreases-loop-at
+returns-then-n-ge-LOCATIONS c =
     let at = c.before.before.before in
-    let s = at.before.before.args.s.now in
+    let s = at.args.s.now in
     c.no_memory.ensures
-    ∙ sym (rest_full at.loop.n at.loop.words s at.loop.at c.before.before.loop-test.true
-    c.before.if1.true)
-    ∙ at.loop.invariant.2
+    ∙ sym (rest_full at.loop-at.n at.loop-at.words s at.loop-at.at c.loop-at-test.true
+    c.if-n-ge-LOCATIONS.true)
+    ∙ at.loop-at.invariant.2
 
-loop-again : tie.Need-loop-preserved invariant-loop decreases-loop
-loop-again c =
-    let st = c.before.store in
+loop-at-preserved : tie.Need-loop-at-preserved invariant-loop-at decreases-loop-at
+loop-at-preserved c =
+    let st = c.store in
     let told = c.before.before.before.before in
-    let r = told.before.before.before in
+    let r = told.before.before in
     let at = r.before.before.before in
-    let s = at.before.before.args.s.now in
-    let next = r.location-from.result in
-    let read = row_on s at.loop.at next r.location-from.ensures told.enum_told.given.1 in (
+    let s = at.args.s.now in
+    let next = r.location_from-next.result in
+    let read = row_on s at.loop-at.at next r.location_from-next.ensures told.in-Read.is in (
       omega arith,
-      st.auto.0 ∙ at.loop.invariant.1,
+      st.auto.0 ∙ at.loop-at.invariant.1,
       rw st.ensures
-          (sym (rest_more at.loop.n at.loop.words s at.loop.at r.before.before.loop-test.true
-          r.before.if1.false next.row.words next.at read)
-          ∙ at.loop.invariant.2),
+          (sym (rest_more at.loop-at.n at.loop-at.words s at.loop-at.at r.loop-at-test.true
+          r.if-n-ge-LOCATIONS.false next.row.words next.at read)
+          ∙ at.loop-at.invariant.2),
     )
 
-returns-2 : tie.Need-returns-2 invariant-loop decreases-loop
-returns-2 c =
+returns-in-Refused : tie.Need-returns-in-Refused invariant-loop-at decreases-loop-at
+returns-in-Refused c =
     let told = c.before in
-    let r = told.before.before.before in
+    let r = told.before.before in
     let at = r.before.before.before in
-    let s = at.before.before.args.s.now in
-    c.no-memory2.ensures
-    ∙ sym (rest-bad at.loop.n at.loop.words s at.loop.at r.before.before.loop-test.true
-    r.before.if1.false
-    (row_off s at.loop.at _ r.location-from.ensures told.enum-told2.given.1))
-    ∙ at.loop.invariant.2
+    let s = at.args.s.now in
+    c.no_memory-in-Refused.ensures
+    ∙ sym (rest-bad at.loop-at.n at.loop-at.words s at.loop-at.at r.loop-at-test.true
+    r.if-n-ge-LOCATIONS.false
+    (row_off s at.loop-at.at _ r.location_from-next.ensures told.in-Refused.is))
+    ∙ at.loop-at.invariant.2
 
-returns-3 : tie.Need-returns-3 invariant-loop decreases-loop
-returns-3 c =
+returns : tie.Need-returns invariant-loop-at decreases-loop-at
+returns c =
     let at = c.before in
-    sym (rest_done at.loop.n at.loop.words at.before.before.args.s.now at.loop.at
-    c.loop-test.false) ∙ at.loop.invariant.2
+    sym (rest_done at.loop-at.n at.loop-at.words at.args.s.now at.loop-at.at
+    c.loop-at-test.false) ∙ at.loop-at.invariant.2
 
 pub locations_spec : {M : Type 1} → statement M
 locations_spec = tie.close (tie.spec
-    invariant-loop
-    decreases-loop
-    (λ c. (omega arith, refl, tabled_start _))  -- loop-holds
-    (λ c κs. search rules)  -- no-memory-requires
-    returns
-    (λ c κs. search rules)  -- location-from-requires
-    (λ c. search rules)  -- enum_told
-    (λ c. search rules)  -- slice-aggregate-store
-    (λ c. omega arith)  -- mul-store
+    invariant-loop-at
+    decreases-loop-at
+    (λ c. (omega arith, refl, tabled_start _))  -- loop-at-init
+    (λ c κs. search rules)  -- no_memory-requires
+    returns-then-n-ge-LOCATIONS
+    (λ c κs. search rules)  -- location_from-next-requires
+    (λ c. search rules)  -- enum_told-1
+    (λ c. search rules)  -- slice_bounds-store-end
+    (λ c. omega arith)  -- overflow_mul-n
     (λ c κs. omega arith)  -- store-requires
-    (λ c. omega arith)  -- add-n
-    (λ c. omega arith)  -- loop-less
-    loop-again
-    (λ c. search rules)  -- enum-told-2
-    (λ c κs. search rules)  -- no-memory-requires-2
-    returns-2
-    returns-3)
+    (λ c. omega arith)  -- overflow_add-n
+    (λ c. omega arith)  -- loop-at-smaller
+    loop-at-preserved
+    (λ c. search rules)  -- enum_told-in-Refused
+    (λ c κs. search rules)  -- no_memory-requires-in-Refused
+    returns-in-Refused
+    returns)

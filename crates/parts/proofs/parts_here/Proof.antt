@@ -4,21 +4,21 @@ use Rattle.parts.proofs.Steps.{parting_inside, parting_other, parting_empty}
 use Rattle.parts.proofs.parts_here.Statement.{statement}
 use Rattle.parts.proofs.parts_here.Tie as tie
 
-returns : tie.Need-returns
-returns c =
-    let a = c.before.before.before.args in
-    sym (parting_empty a.last a.state.text a.state.start a.b c.before.before.if1.true
-    c.before.if2.true)
+returns-then-b-eq10 : tie.Need-returns-then-b-eq10
+returns-then-b-eq10 c =
+    let a = c.args in
+    sym (parting_empty a.last a.state.text a.state.start a.b c.if-state.true
+    c.if-b-eq10.true)
 
-returns-2 : tie.Need-returns-2
-returns-2 c =
-    let a = c.before.before.args in
-    sym (parting_other a.last a.state.text a.state.start a.b c.before.if1.true c.if2.false)
+returns-else-b-eq10 : tie.Need-returns-else-b-eq10
+returns-else-b-eq10 c =
+    let a = c.args in
+    sym (parting_other a.last a.state.text a.state.start a.b c.if-state.true c.if-b-eq10.false)
 
-returns-3 : tie.Need-returns-3
-returns-3 c =
-    let a = c.before.args in
-    sym (parting_inside a.last a.state.text a.state.start a.b c.if1.false)
+returns-else-state : tie.Need-returns-else-state
+returns-else-state c =
+    let a = c.args in
+    sym (parting_inside a.last a.state.text a.state.start a.b c.if-state.false)
 
 pub parts_here_spec : {M : Type 1} → statement M
-parts_here_spec = tie.close (tie.spec returns returns-2 returns-3)
+parts_here_spec = tie.close (tie.spec returns-then-b-eq10 returns-else-b-eq10 returns-else-state)

@@ -11,40 +11,40 @@ use Rattle.parts.proofs.store.Tie as tie
 abbrev both : {x y : Held} → x ≡ y → (y.state ≡ x.state) × (y.buffer ≡ x.buffer)
 both e = (sym (ap (λ (h : Held). h.state) e), sym (ap (λ (h : Held). h.buffer) e))
 
-returns : tie.Need-returns
-returns c =
-    let a = c.before.before.args in
-    both (stored_past a.state a.buffer.now a.b c.if1.true)
+returns-then-text-ge-TEXTS : tie.Need-returns-then-text-ge-TEXTS
+returns-then-text-ge-TEXTS c =
+    let a = c.args in
+    both (stored_past a.state a.buffer.now a.b c.if-text-ge-TEXTS.true)
 
-returns-2 : tie.Need-returns-2
-returns-2 c =
-    let a = c.before.before.before.args in
-    both (stored_full a.state a.buffer.now a.b c.before.if1.false c.if2.true)
+returns-then-n-ge-KEEP : tie.Need-returns-then-n-ge-KEEP
+returns-then-n-ge-KEEP c =
+    let a = c.args in
+    both (stored_full a.state a.buffer.now a.b c.if-text-ge-TEXTS.false c.if-n-ge-KEEP.true)
 
-returns-3 : tie.Need-returns-3
-returns-3 c =
-    let a = c.before.before.before.before.args in
-    both (stored_room a.state a.buffer.now a.b c.before.before.if1.false c.before.if2.false)
+returns-then-at-buffer : tie.Need-returns-then-at-buffer
+returns-then-at-buffer c =
+    let a = c.args in
+    both (stored_room a.state a.buffer.now a.b c.if-text-ge-TEXTS.false c.if-n-ge-KEEP.false)
 
-returns-4 : tie.Need-returns-4
-returns-4 c =
-    let a = c.before.before.before.before.args in
+returns-else-at-buffer : tie.Need-returns-else-at-buffer
+returns-else-at-buffer c =
+    let a = c.args in
     let e =
-    both (stored_room a.state a.buffer.now a.b c.before.before.if1.false c.before.if2.false) in
-    (e.0, sym (set_out a.buffer.now _ a.b c.if3.false) ∙ e.1)
+    both (stored_room a.state a.buffer.now a.b c.if-text-ge-TEXTS.false c.if-n-ge-KEEP.false) in
+    (e.0, sym (set_out a.buffer.now _ a.b c.if-at-buffer.false) ∙ e.1)
 
 pub store_spec : {M : Type 1} → statement M
 store_spec = tie.close (tie.spec
-    returns
-    (λ c. search rules)  -- mul-n
-    (λ c. search rules)  -- array-read-n
-    returns-2
-    (λ c. search rules)  -- add-kept
-    (λ c. search rules)  -- mul-kept
-    (λ c. search rules)  -- array-write-kept
-    (λ c. search rules)  -- mul-at
-    (λ c. search rules)  -- add-at
-    (λ c. search rules)  -- slice-write-buffer
-    (λ c. search rules)  -- same-length
-    returns-3
-    returns-4)
+    returns-then-text-ge-TEXTS
+    (λ c. search rules)  -- offset_bounds-kept-text
+    (λ c. search rules)  -- bounds-kept-text
+    returns-then-n-ge-KEEP
+    (λ c. search rules)  -- overflow_add-kept
+    (λ c. search rules)  -- offset_bounds-kept-text-2
+    (λ c. search rules)  -- bounds-kept-text-2
+    (λ c. search rules)  -- overflow_mul-at
+    (λ c. search rules)  -- overflow_add-at
+    (λ c. search rules)  -- bounds-buffer-at
+    (λ c. search rules)  -- shape_of-buffer
+    returns-then-at-buffer
+    returns-else-at-buffer)

@@ -7,41 +7,41 @@ use Rattle.parts.proofs.Places.{text_past, text_beyond, text_rest, text_held_lem
 use Rattle.parts.proofs.text_in.Statement.{statement}
 use Rattle.parts.proofs.text_in.Tie as tie
 
-returns : tie.Need-returns
-returns c =
+returns-then-i-ge-TEXTS : tie.Need-returns-then-i-ge-TEXTS
+returns-then-i-ge-TEXTS c =
     let a = c.before.before.args in
     let l : length a.state.kept ≡ 8 = search rules in
-    text_past a.state a.buffer.now a.i (omega (arith, c.before.if1.true))
+    text_past a.state a.buffer.now a.i (omega (arith, c.if1.true))
 
-returns-2 : tie.Need-returns-2
-returns-2 c =
+returns-then-buffer-from : tie.Need-returns-then-buffer-from
+returns-then-buffer-from c =
     let a = c.before.before.before.before.args in
-    text_beyond a.state a.buffer.now a.i (omega (arith, c.before.if2.true))
+    text_beyond a.state a.buffer.now a.i (omega (arith, c.if2.true))
 
-returns-3 : tie.Need-returns-3
-returns-3 c =
-    let a = c.before.before.before.before.before.args in
-    text_rest a.state a.buffer.now a.i c.before.before.if2.false (omega (arith, c.before.if3.true))
+returns-then-buffer-from-2 : tie.Need-returns-then-buffer-from-2
+returns-then-buffer-from-2 c =
+    let a = c.args in
+    text_rest a.state a.buffer.now a.i c.if-buffer-from.false (omega (arith, c.if-buffer-from-2.true))
 
-returns-4 : tie.Need-returns-4
-returns-4 c = let a = c.before.before.before.before.before.args in text_held_lem a.state a.buffer.now a.i
+returns : tie.Need-returns
+returns c = let a = c.args in text_held_lem a.state a.buffer.now a.i
 
 pub text_in_spec : {M : Type 1} → statement M
 text_in_spec = tie.close (tie.spec
-    (λ c. search rules)  -- slice-aggregate-result
-    returns
-    (λ c. search rules)  -- mul-n
-    (λ c. search rules)  -- array-read-n
-    (λ c. search rules)  -- mul-from
-    (λ c. search rules)  -- slice-aggregate-result-2
-    returns-2
-    (λ c. search rules)  -- sub-if3
-    (λ c. search rules)  -- sub-result
-    (λ c. search rules)  -- part-result-start
-    (λ c. search rules)  -- part-result-end
-    returns-3
-    (λ c. search rules)  -- add-to
-    (λ c. search rules)  -- sub-result-2
-    (λ c. search rules)  -- part-result-start-2
-    (λ c. search rules)  -- part-result-end-2
-    returns-4)
+    (λ c. search rules)  -- slice_bounds-result-end
+    returns-then-i-ge-TEXTS
+    (λ c. search rules)  -- offset_bounds-kept-i
+    (λ c. search rules)  -- bounds-kept-i
+    (λ c. search rules)  -- overflow_mul-from
+    (λ c. search rules)  -- slice_bounds-result-end-then-buffer-from
+    returns-then-buffer-from
+    (λ c. search rules)  -- overflow_sub-buffer
+    (λ c. search rules)  -- slice_bounds-result-count
+    (λ c. search rules)  -- slice_bounds-result-start
+    (λ c. search rules)  -- slice_bounds-result-end-then-buffer-from-2
+    returns-then-buffer-from-2
+    (λ c. search rules)  -- overflow_add-to
+    (λ c. search rules)  -- slice_bounds-result-count-2
+    (λ c. search rules)  -- slice_bounds-result-start-2
+    (λ c. search rules)  -- slice_bounds-result-end-2
+    returns)

@@ -6,7 +6,7 @@ use Rattle.rounds.proofs.lower.Tie as tie
 
 pub lower_spec : {M : Type 1} → statement M
 lower_spec = tie.close (tie.spec
-    (λ c. sym (lower_right _ _ c.if1.true))  -- returns
-    (λ c. sym (lower_left _ _ c.if2.true))  -- returns-2
-    (λ c. sym (lower_first _ _ c.before.before.if1.false c.if3.true))  -- returns-3
-    (λ c. sym (lower_second _ _ c.before.if2.false c.if3.false)))  -- returns-4
+    (λ c. sym (lower_right _ _ c.if-a-eq0.true))  -- returns-then-a-eq0
+    (λ c. sym (lower_left _ _ c.if-b-eq0.true))  -- returns-then-b-eq0
+    (λ c. sym (lower_first _ _ c.if-a-eq0.false c.if-a-b.true))  -- returns-then-a-b
+    (λ c. sym (lower_second _ _ c.if-b-eq0.false c.if-a-b.false)))  -- returns

@@ -12,31 +12,31 @@ use borrow.Author.Rules.{rules}
 use Rattle.rounds.proofs.round_on.Statement.{statement}
 use Rattle.rounds.proofs.round_on.Tie as tie
 
-returns : tie.Need-returns
-returns c =
+returns-then-not-contained : tie.Need-returns-then-not-contained
+returns-then-not-contained c =
     let e = c.before.before in
     rw c.refused.ensures
-    (round_stranger _ _ _ _ _ (ap (within _) (sym e.before.everyone.ensures) ∙ sym e.contained.ensures
-    ∙ not-true _ c.before.if1.true))
+    (round_stranger _ _ _ _ _ (ap (within _) (sym e.everyone.ensures) ∙ sym e.contained.ensures
+    ∙ not-true _ c.if-not-contained.true))
 
-returns-2 : tie.Need-returns-2
-returns-2 c =
+returns-then-parting-gt-MOST_SCRIPTS : tie.Need-returns-then-parting-gt-MOST_SCRIPTS
+returns-then-parting-gt-MOST_SCRIPTS c =
     let n = c.before.before.before.before in
     let e = n.before in
-    rw c.refused2.ensures
+    rw c.refused-then-parting-gt-MOST_SCRIPTS.ensures
     (round_many _ _ _ _ _
-    (ap (within _) (sym e.before.before.everyone.ensures) ∙ sym e.before.contained.ensures
-    ∙ not-false _ e.if1.false)
-    (many_scripts _ _ (ap (λ (p : Parting). p.count) n.part.ensures) c.before.if2.true))
+    (ap (within _) (sym e.everyone.ensures) ∙ sym e.contained.ensures
+    ∙ not-false _ e.if-not-contained.false)
+    (many_scripts _ _ (ap (λ (p : Parting). p.count) n.part-parting.ensures) c.if-parting-gt-MOST_SCRIPTS.true))
 
 -- where the scripts were parted, and that each has a place
-abbrev the : tie.Else2 → tie.After-part
+abbrev the : tie.Else-parting-gt-MOST_SCRIPTS → tie.After-part-parting
 the c = c.before.before.before
 
-few : (c : tie.Else2)
+few : (c : tie.Else-parting-gt-MOST_SCRIPTS)
     → length
-    (script_texts (the c).before.before.before.before.before.before.before.args.scripts.now) ≤ most_scripts
-few c = few_scripts _ _ (ap (λ (p : Parting). p.count) (the c).part.ensures) c.if2.false
+    (script_texts (the c).args.scripts.now) ≤ most_scripts
+few c = few_scripts _ _ (ap (λ (p : Parting). p.count) (the c).part-parting.ensures) c.if-parting-gt-MOST_SCRIPTS.false
 
 -- zeros in every place: open
 every_zero : (n i : ℕ) → ◌≡◌ {A = ℕ} (get_or (replicate n 0) i 0) 0
@@ -44,8 +44,8 @@ every_zero zero i = refl
 every_zero (suc n) zero = refl
 every_zero (suc n) (suc i) = every_zero n i
 
-returns-3 : tie.Need-returns-3
-returns-3 c =
+returns : tie.Need-returns
+returns c =
     let p = c.before.before in
     let k = p.before.before in
     let n = the k in
@@ -60,15 +60,15 @@ round_on_spec = tie.close (tie.spec
     (λ c κs. search rules)  -- everyone-requires
     (λ c κs. search rules)  -- contained-requires
     (λ c κs. search rules)  -- refused-requires
-    returns
-    (λ c κs. search rules)  -- part-requires
-    (λ c κs. search rules)  -- refused-requires-2
-    returns-2
+    returns-then-not-contained
+    (λ c κs. search rules)  -- part-parting-requires
+    (λ c κs. search rules)  -- refused-requires-then-parting-gt-MOST_SCRIPTS
+    returns-then-parting-gt-MOST_SCRIPTS
     (λ c κs.
     let n = the c.before in
     record {
       few = few c.before;
       kept = ap (λ (p : Parting). p.ends) n.part.ensures;
     })  -- play-requires
-    (λ c. search rules)  -- same-length
-    returns-3)
+    (λ c. search rules)  -- shape_of-memory
+    returns)

@@ -9,14 +9,14 @@ returns : tie.Need-returns
 returns c =
     let ran = c.before.before in
     let rows = ran.before.before in
-    runs_script _ _ _ _ _ _ _ _ rows.before.before.decode.ensures rows.rows.ensures
-    ran.run-accepted.ensures
+    runs_script _ _ _ _ _ _ _ _ rows.decode-read.ensures rows.rows.ensures
+    ran.run_accepted.ensures
 
 pub run_script_spec : {M : Type 1} → statement M
 run_script_spec = tie.close (tie.spec
-    (λ c κs. search rules)  -- decode-requires
-    (λ c. search (rules, decoded_whole _ _ c.before.decode.ensures))  -- slice-aggregate-rows
+    (λ c κs. search rules)  -- decode-read-requires
+    (λ c. search (rules, decoded_whole _ _ c.decode-read.ensures))  -- slice_bounds-rows-end
     (λ c κs. search rules)  -- rows-requires
-    (λ c κs. search rules)  -- run-accepted-requires
-    (λ c. search rules)  -- same-length
+    (λ c κs. search rules)  -- run_accepted-requires
+    (λ c. search rules)  -- shape_of-memory
     returns)

@@ -36,72 +36,72 @@ pub +skip_spec : {M : Type 1} → statement M
 )
     (skip_at t)
     skip.Post
-    (λ c κs. search rules)  -- row-at-requires
-    (λ c κs. search rules)  -- operands-requires
+    (λ c κs. search rules)  -- row_at-row-requires
+    (λ c κs. search rules)  -- operands-n-requires
     (λ c. omega (
       arith,
-      line_in _ _ c.before.before.row_at.ensures c.before.operands.ensures (omega arith),
-    ))  -- add-result
+      line_in _ _ c.row_at-row.ensures c.operands-n.ensures (omega arith),
+    ))  -- overflow_add-result
     (λ c. omega (
       arith,
-      line_in _ _ c.before.before.row_at.ensures c.before.operands.ensures (omega arith),
-    ))  -- add-skip
+      line_in _ _ c.row_at-row.ensures c.operands-n.ensures (omega arith),
+    ))  -- overflow_add-at
     (λ c κs. (
-      omega (arith, line_in _ _ c.before.before.row_at.ensures c.before.operands.ensures (omega arith)),
+      omega (arith, line_in _ _ c.row_at-row.ensures c.operands-n.ensures (omega arith)),
       tt,
     ))  -- skip-requires
     (λ c. omega (
       arith,
-      line_in _ _ c.before.before.row_at.ensures c.before.operands.ensures (omega arith),
-    ))  -- add-skip-2
+      line_in _ _ c.row_at-row.ensures c.operands-n.ensures (omega arith),
+    ))  -- overflow_add-at-in-2
     (λ c κs. (
-      omega (arith, line_in _ _ c.before.before.row_at.ensures c.before.operands.ensures (omega arith)),
+      omega (arith, line_in _ _ c.row_at-row.ensures c.operands-n.ensures (omega arith)),
       tt,
-    ))  -- skip-requires-2
+    ))  -- skip-second-requires
     (λ c κs. (
       omega (
         arith,
-        line_in _ _ c.before.before.before.row_at.ensures c.before.before.operands.ensures (omega arith),
-        c.skip2.ensures.forward,
+        line_in _ _ c.row_at-row.ensures c.operands-n.ensures (omega arith),
+        c.skip-second.ensures.forward,
       ),
       tt,
-    ))  -- skip-requires-3
+    ))  -- skip-requires-in-2
     (λ c. omega (
       arith,
-      line_in _ _ c.before.before.row_at.ensures c.before.operands.ensures (omega arith),
-    ))  -- add-skip-3
+      line_in _ _ c.row_at-row.ensures c.operands-n.ensures (omega arith),
+    ))  -- overflow_add-at-in-3
     (λ c κs. (
-      omega (arith, line_in _ _ c.before.before.row_at.ensures c.before.operands.ensures (omega arith)),
+      omega (arith, line_in _ _ c.row_at-row.ensures c.operands-n.ensures (omega arith)),
       tt,
-    ))  -- skip-requires-4
-    (λ c κs. (
-      omega (
-        arith,
-        line_in _ _ c.before.before.before.row_at.ensures c.before.before.operands.ensures (omega arith),
-        c.skip4.ensures.forward,
-      ),
-      tt,
-    ))  -- skip-requires-5
+    ))  -- skip-second-requires-in-3
     (λ c κs. (
       omega (
         arith,
-        line_in _ _ c.before.before.before.before.row_at.ensures
-            c.before.before.before.operands.ensures (omega arith),
-        c.before.skip4.ensures.forward,
-        c.skip5.ensures.forward,
+        line_in _ _ c.row_at-row.ensures c.operands-n.ensures (omega arith),
+        c.skip-second-in-3.ensures.forward,
       ),
       tt,
-    ))  -- skip-requires-6
-    (λ c. laws.skip-line _ _ c.before.before.row_at.ensures c.before.operands.ensures
-    c.match.keys1)  -- returns
-    (λ c. laws.skip_one _ _ c.before.before.before.row_at.ensures c.before.before.operands.ensures
-    c.before.match.keys2 c.skip.ensures)  -- returns-2
-    (λ c. laws.skip_two _ _ c.before.before.before.before.row_at.ensures
-    c.before.before.before.operands.ensures c.before.before.match.keys3
-    c.before.skip2.ensures c.skip3.ensures)  -- returns-3
-    (λ c. laws.skip-three _ _ c.before.before.before.before.before.row_at.ensures
-    c.before.before.before.before.operands.ensures
-    c.before.before.before.match.keys4 c.before.before.skip4.ensures c.before.skip5.ensures
-    c.skip6.ensures)  -- returns-4
-    (λ c. laws.skip_none _ _ c.before.before.row_at.ensures c.before.operands.ensures
-    (none_between 0 4 c.match.rest (omega arith)))  -- returns-5
+    ))  -- skip-third-requires
+    (λ c κs. (
+      omega (
+        arith,
+        line_in _ _ c.row_at-row.ensures
+            c.operands-n.ensures (omega arith),
+        c.skip-second-in-3.ensures.forward,
+        c.skip-third.ensures.forward,
+      ),
+      tt,
+    ))  -- skip-requires-in-3
+    (λ c. laws.skip-line _ _ c.row_at-row.ensures c.operands-n.ensures
+    c.in-0.is)  -- returns-in-0
+    (λ c. laws.skip_one _ _ c.row_at-row.ensures c.operands-n.ensures
+    c.in-1.is c.skip.ensures)  -- returns-in-1
+    (λ c. laws.skip_two _ _ c.row_at-row.ensures
+    c.operands-n.ensures c.in-2.is
+    c.skip-second.ensures c.skip-in-2.ensures)  -- returns-in-2
+    (λ c. laws.skip-three _ _ c.row_at-row.ensures
+    c.operands-n.ensures
+    c.in-3.is c.skip-second-in-3.ensures c.skip-third.ensures
+    c.skip-in-3.ensures)  -- returns-in-3
+    (λ c. laws.skip_none _ _ c.row_at-row.ensures c.operands-n.ensures
+    (none_between 0 4 c.in_default.in_default-own.rest (omega arith)))  -- returns-in_default

@@ -7,14 +7,14 @@ use Rattle.script.proofs.row_at.Tie as tie
 
 pub row_at_spec : {M : Type 1} → statement M
 row_at_spec = tie.close (tie.spec
-    (λ c. sym (row_none _ _ (omega arith)))  -- returns
-    (λ c. sym (row_none _ _ (omega arith)))  -- returns-2
-    (λ c. search rules)  -- mul-t5
-    (λ c. search rules)  -- shared-slice-read-t7
-    (λ c. search rules)  -- add-t8
-    (λ c. search rules)  -- mul-t9
-    (λ c. search rules)  -- shared-slice-read-t11
-    (λ c. search rules)  -- add-t12
-    (λ c. search rules)  -- mul-t13
-    (λ c. search rules)  -- shared-slice-read-t15
-    (λ c. sym (row_there _ _ (omega arith))))  -- returns-3
+    (λ c. sym (row_none _ _ (omega arith)))  -- returns-then-n-lt-ROW
+    (λ c. sym (row_none _ _ (omega arith)))  -- returns-then-n-at
+    (λ c. search rules)  -- offset_bounds-code-at
+    (λ c. search rules)  -- bounds-code-at
+    (λ c. search rules)  -- overflow_add-result
+    (λ c. search rules)  -- offset_bounds-code-at-2
+    (λ c. search rules)  -- bounds-code-at-2
+    (λ c. search rules)  -- overflow_add-result-2
+    (λ c. search rules)  -- offset_bounds-code-at-3
+    (λ c. search rules)  -- bounds-code-at-3
+    (λ c. sym (row_there _ _ (omega arith))))  -- returns

@@ -43,101 +43,101 @@ readings t = (
   scan-expr-reads.Learnt,
 )
 
-returns : (t : ℕ) → scan-cmd-lts.Need-returns (readings t) (scan_cmd_at t) scan-cmd.Post
-returns t c =
+returns-then-depth-ge-DEPTH : (t : ℕ) → scan-cmd-lts.Need-returns-then-depth-ge-DEPTH (readings t) (scan_cmd_at t) scan-cmd.Post
+returns-then-depth-ge-DEPTH t c =
     let kind = c.before in
-    laws.scan_deep _ _ kind.before.row_at.ensures kind.match.keys5 (omega (arith, c.if1.true))
+    laws.scan_deep _ _ kind.row_at-row.ensures kind.in-5.is (omega (arith, c.if-depth-ge-DEPTH.true))
 
-returns_2 : (t : ℕ) → scan-cmd-lts.Need-returns-2 (readings t) (scan_cmd_at t) scan-cmd.Post
+returns-in-1 : (t : ℕ) → scan-cmd-lts.Need-returns-in-1 (readings t) (scan_cmd_at t) scan-cmd.Post
 unfolding named
-returns_2 t c = laws.scan_leaf c.before.row_at.ensures n_skip c.match.keys1 refl
+returns-in-1 t c = laws.scan_leaf c.row_at-row.ensures n_skip c.in-1.is refl
 
-returns_3 : (t : ℕ) → scan-cmd-lts.Need-returns-3 (readings t) (scan_cmd_at t) scan-cmd.Post
+returns-in-2 : (t : ℕ) → scan-cmd-lts.Need-returns-in-2 (readings t) (scan_cmd_at t) scan-cmd.Post
 unfolding named
-returns_3 t c =
+returns-in-2 t c =
     let kind = c.before.before.before in
-    laws.scan_two kind.before.row_at.ensures n_seq kind.match.keys2
-    c.before.before.scan-cmd.ensures c.before.scan-cmd2.ensures c.also.ensures (λ x y. refl)
+    laws.scan_two kind.row_at-row.ensures n_seq kind.in-2.is
+    c.scan_cmd-c.ensures c.scan_cmd.ensures c.also.ensures (λ x y. refl)
 
-returns_4 : (t : ℕ) → scan-cmd-lts.Need-returns-4 (readings t) (scan_cmd_at t) scan-cmd.Post
+returns-in-3 : (t : ℕ) → scan-cmd-lts.Need-returns-in-3 (readings t) (scan_cmd_at t) scan-cmd.Post
 unfolding named
-returns_4 t c =
+returns-in-3 t c =
     let kind = c.before.before.before in
-    laws.scan_one kind.before.row_at.ensures n_assign kind.match.keys3
-    c.before.before.is-location.ensures c.before.scan-expr.ensures c.also2.ensures (λ x. refl)
+    laws.scan_one kind.row_at-row.ensures n_assign kind.in-3.is
+    c.is_location.ensures c.scan_expr.ensures c.also-in-3.ensures (λ x. refl)
 
-returns_5 : (t : ℕ) → scan-cmd-lts.Need-returns-5 (readings t) (scan_cmd_at t) scan-cmd.Post
+returns-in-4 : (t : ℕ) → scan-cmd-lts.Need-returns-in-4 (readings t) (scan_cmd_at t) scan-cmd.Post
 unfolding named
-returns_5 t c =
+returns-in-4 t c =
     let kind = c.before.before.before in
-    laws.scan_two kind.before.row_at.ensures n_while kind.match.keys4
-    c.before.before.scan-expr2.ensures c.before.scan-cmd3.ensures c.also3.ensures (λ x y. refl)
+    laws.scan_two kind.row_at-row.ensures n_while kind.in-4.is
+    c.scan_expr-e.ensures c.scan_cmd-in-4.ensures c.also-in-4.ensures (λ x y. refl)
 
-returns_6 : (t : ℕ) → scan-cmd-lts.Need-returns-6 (readings t) (scan_cmd_at t) scan-cmd.Post
-returns_6 t c =
+returns-else-depth-ge-DEPTH : (t : ℕ) → scan-cmd-lts.Need-returns-else-depth-ge-DEPTH (readings t) (scan_cmd_at t) scan-cmd.Post
+returns-else-depth-ge-DEPTH t c =
     let first = c.before.before.before in
     let e = first.before in
     let kind = e.before.before in
-    laws.scan_case _ _ kind.before.row_at.ensures kind.match.keys5 (omega (arith, e.before.if1.false))
-    e.scan-expr3.ensures first.scan-cmd4.ensures c.before.before.scan-cmd5.ensures
-    c.before.also4.ensures c.also5.ensures
+    laws.scan_case _ _ kind.row_at-row.ensures kind.in-5.is (omega (arith, e.if-depth-ge-DEPTH.false))
+    e.scan_expr-e-in-5.ensures first.scan_cmd-c-in-5.ensures c.scan_cmd-in-5.ensures
+    c.also-in-5.ensures c.also-in-5-2.ensures
 
-returns_7 : (t : ℕ) → scan-cmd-lts.Need-returns-7 (readings t) (scan_cmd_at t) scan-cmd.Post
-returns_7 t c = laws.scan_none c.before.row_at.ensures (λ h. none_between 1 5 c.match.rest h.0 h.1)
+returns-in_default : (t : ℕ) → scan-cmd-lts.Need-returns-in_default (readings t) (scan_cmd_at t) scan-cmd.Post
+returns-in_default t c = laws.scan_none c.row_at-row.ensures (λ h. none_between 1 5 c.in_default.in_default-own.rest h.0 h.1)
 
 -- the calls of the five kinds, in order: room for the next row, and fewer rows left, with the return of a case that is
 -- too deep; then a return for each kind and the others
 pub +scan_cmd_spec : {M : Type 1} → statement M
 +scan_cmd_spec =
     close μ_scan_cmd λ t. scan-cmd-lts.spec (readings t) (scan_cmd_at t) scan-cmd.Post
-    (λ c κs. search rules)  -- row-at-requires
-    (λ c. omega (arith, row_within _ _ c.before.row_at.ensures (omega (arith, c.match.keys1))))  -- add-t16
-    (λ c. omega (arith, row_within _ _ c.before.row_at.ensures (omega (arith, c.match.keys2))))  -- add-scan-cmd
+    (λ c κs. search rules)  -- row_at-row-requires
+    (λ c. omega (arith, row_within _ _ c.row_at-row.ensures (omega (arith, c.in-1.is))))  -- overflow_add-result
+    (λ c. omega (arith, row_within _ _ c.row_at-row.ensures (omega (arith, c.in-2.is))))  -- overflow_add-at
     (λ c κs. (
-      omega (arith, row_within _ _ c.before.row_at.ensures (omega (arith, c.match.keys2))),
+      omega (arith, row_within _ _ c.row_at-row.ensures (omega (arith, c.in-2.is))),
       tt,
-    ))  -- scan-cmd-requires
+    ))  -- scan_cmd-c-requires
     (λ c κs.
-    let within = row_within _ _ c.before.before.row_at.ensures (omega (arith, c.before.match.keys2)) in
-    (omega (arith, within, c.scan-cmd.ensures.forward), tt))  -- scan-cmd-requires-2
+    let within = row_within _ _ c.row_at-row.ensures (omega (arith, c.in-2.is)) in
+    (omega (arith, within, c.scan_cmd-c.ensures.forward), tt))  -- scan_cmd-requires
     (λ c κs. search rules)  -- also-requires
-    (λ c κs. search rules)  -- is-location-requires
+    (λ c κs. search rules)  -- is_location-requires
     (λ c.
     let kind = c.before in
-    let within = row_within _ _ kind.before.row_at.ensures (omega (arith, kind.match.keys3)) in
-    omega (arith, within))  -- add-scan-expr
-    (λ c κs. search rules)  -- scan-expr-requires
-    (λ c κs. search rules)  -- also-requires-2
+    let within = row_within _ _ kind.row_at-row.ensures (omega (arith, kind.in-3.is)) in
+    omega (arith, within))  -- overflow_add-at-in-3
+    (λ c κs. search rules)  -- scan_expr-requires
+    (λ c κs. search rules)  -- also-requires-in-3
     (λ c.
-    let within = row_within _ _ c.before.row_at.ensures (omega (arith, c.match.keys4)) in
-    omega (arith, within))  -- add-scan-expr-2
-    (λ c κs. search rules)  -- scan-expr-requires-2
+    let within = row_within _ _ c.row_at-row.ensures (omega (arith, c.in-4.is)) in
+    omega (arith, within))  -- overflow_add-at-in-4
+    (λ c κs. search rules)  -- scan_expr-e-requires
     (λ c κs.
-    let within = row_within _ _ c.before.before.row_at.ensures (omega (arith, c.before.match.keys4)) in
-    (omega (arith, within, c.scan-expr2.ensures.forward), tt))  -- scan-cmd-requires-3
-    (λ c κs. search rules)  -- also-requires-3
-    (returns t)
+    let within = row_within _ _ c.row_at-row.ensures (omega (arith, c.in-4.is)) in
+    (omega (arith, within, c.scan_expr-e.ensures.forward), tt))  -- scan_cmd-requires-in-4
+    (λ c κs. search rules)  -- also-requires-in-4
+    (returns-then-depth-ge-DEPTH t)
     (λ c.
     let kind = c.before in
-    let within = row_within _ _ kind.before.row_at.ensures (omega (arith, kind.match.keys5)) in
-    omega (arith, within))  -- add-scan-expr-3
-    (λ c κs. search rules)  -- scan-expr-requires-3
-    (λ c. omega arith)  -- add-scan-cmd-2
+    let within = row_within _ _ kind.row_at-row.ensures (omega (arith, kind.in-5.is)) in
+    omega (arith, within))  -- overflow_add-at-in-5
+    (λ c κs. search rules)  -- scan_expr-e-requires-in-5
+    (λ c. omega arith)  -- overflow_add-depth
     (λ c κs.
     let kind = c.before.before in
-    let within = row_within _ _ kind.before.row_at.ensures (omega (arith, kind.match.keys5)) in
-    (omega (arith, within, c.scan-expr3.ensures.forward), tt))  -- scan-cmd-requires-4
-    (λ c. omega arith)  -- add-scan-cmd-3
+    let within = row_within _ _ kind.row_at-row.ensures (omega (arith, kind.in-5.is)) in
+    (omega (arith, within, c.scan_expr-e-in-5.ensures.forward), tt))  -- scan_cmd-c-requires-in-5
+    (λ c. omega arith)  -- overflow_add-depth-in-5
     (λ c κs.
     let kind = c.before.before.before in
-    let within = row_within _ _ kind.before.row_at.ensures (omega (arith, kind.match.keys5)) in
-    let e = c.before.scan-expr3.ensures in
-    (omega (arith, within, e.forward, c.scan-cmd4.ensures.forward), tt))  -- scan-cmd-requires-5
-    (λ c κs. search rules)  -- also-requires-4
-    (λ c κs. search rules)  -- also-requires-5
-    (returns_2 t)
-    (returns_3 t)
-    (returns_4 t)
-    (returns_5 t)
-    (returns_6 t)
-    (returns_7 t)
+    let within = row_within _ _ kind.row_at-row.ensures (omega (arith, kind.in-5.is)) in
+    let e = c.scan_expr-e-in-5.ensures in
+    (omega (arith, within, e.forward, c.scan_cmd-c-in-5.ensures.forward), tt))  -- scan_cmd-requires-in-5
+    (λ c κs. search rules)  -- also-requires-in-5
+    (λ c κs. search rules)  -- also-requires-in-5-2
+    (returns-in-1 t)
+    (returns-in-2 t)
+    (returns-in-3 t)
+    (returns-in-4 t)
+    (returns-else-depth-ge-DEPTH t)
+    (returns-in_default t)

@@ -45,78 +45,78 @@ readings t = (
   names-there-reads.Learnt,
 )
 
-returns : (t : ℕ) → scan-expr-lts.Need-returns (readings t) (scan_expr_at t) scan-expr.Post
+returns-in-6 : (t : ℕ) → scan-expr-lts.Need-returns-in-6 (readings t) (scan_expr_at t) scan-expr.Post
 unfolding named_e integer_of
-returns t c =
-    laws.scan_leaf c.before.row_at.ensures n_int c.match.keys1
-    (sym (lt-ltb c.before.row_at.result.a 4294967296 (omega (arith, c.before.row_at.type-inv))))
+returns-in-6 t c =
+    laws.scan_leaf c.row_at-row.ensures n_int c.in-6.is
+    (sym (lt-ltb c.row_at-row.result.a 4294967296 (omega (arith, c.row_at-row.type-inv))))
 
-returns_2 : (t : ℕ) → scan-expr-lts.Need-returns-2 (readings t) (scan_expr_at t) scan-expr.Post
+returns-in-7 : (t : ℕ) → scan-expr-lts.Need-returns-in-7 (readings t) (scan_expr_at t) scan-expr.Post
 unfolding named_e
-returns_2 t c =
+returns-in-7 t c =
     let kind = c.before in
-    laws.scan_leaf kind.before.row_at.ensures n_loc kind.match.keys2 c.is-location.ensures
+    laws.scan_leaf kind.row_at-row.ensures n_loc kind.in-7.is c.is_location.ensures
 
-returns_3 : (t : ℕ) → scan-expr-lts.Need-returns-3 (readings t) (scan_expr_at t) scan-expr.Post
+returns-in-8 : (t : ℕ) → scan-expr-lts.Need-returns-in-8 (readings t) (scan_expr_at t) scan-expr.Post
 unfolding named_e
-returns_3 t c = laws.scan_leaf c.before.row_at.ensures n_var c.match.keys3 refl
+returns-in-8 t c = laws.scan_leaf c.row_at-row.ensures n_var c.in-8.is refl
 
-returns_4 : (t : ℕ) → scan-expr-lts.Need-returns-4 (readings t) (scan_expr_at t) scan-expr.Post
-returns_4 t c =
+returns-in-9-kind : (t : ℕ) → scan-expr-lts.Need-returns-in-9-kind (readings t) (scan_expr_at t) scan-expr.Post
+returns-in-9-kind t c =
     let second = c.before.before.before in
     let first = second.before.before in
-    laws.scan_named_two _ _ first.before.before.before.before.row_at.ensures c.before.names-there.ensures
-    second.before.match2.keys1 first.scan-expr.ensures second.scan-expr2.ensures
-    c.before.before.also.ensures c.also2.ensures
+    laws.scan_named_two _ _ first.row_at-row.ensures c.names_there.ensures
+    second.in-9-kind.is first.scan_expr-e.ensures second.scan_expr.ensures
+    c.also-f.ensures c.also.ensures
 
-returns_5 : (t : ℕ) → scan-expr-lts.Need-returns-5 (readings t) (scan_expr_at t) scan-expr.Post
-returns_5 t c =
+returns-in_default-kind : (t : ℕ) → scan-expr-lts.Need-returns-in_default-kind (readings t) (scan_expr_at t) scan-expr.Post
+returns-in_default-kind t c =
     let first = c.before.before.before in
     let kind = first.before in
-    laws.scan_named_one _ _ kind.before.before.before.row_at.ensures c.before.names-there2.ensures
-    (omega (arith, kind.before.if1.false)) (omega (arith, kind.if2.true)) c.before.before.match2.rest.1
-    first.scan-expr.ensures c.also3.ensures
+    laws.scan_named_one _ _ kind.row_at-row.ensures c.names_there-in_default-kind.ensures
+    (omega (arith, kind.if-kind-lt6.false)) (omega (arith, kind.in-9.if-kind-lt17-own.true)) c.in_default-kind.in_default-kind-own.rest.1
+    first.scan_expr-e.ensures c.also-in_default-kind.ensures
 
-returns_6 : (t : ℕ) → scan-expr-lts.Need-returns-6 (readings t) (scan_expr_at t) scan-expr.Post
-returns_6 t c = laws.scan_none c.before.before.row_at.ensures (λ h. omega (arith, h.0, c.if1.true))
+returns-in_default : (t : ℕ) → scan-expr-lts.Need-returns-in_default (readings t) (scan_expr_at t) scan-expr.Post
+returns-in_default t c = laws.scan_none c.row_at-row.ensures (λ h. omega (arith, h.0, c.in_default.if-kind-lt6-own.true))
 
-returns_7 : (t : ℕ) → scan-expr-lts.Need-returns-7 (readings t) (scan_expr_at t) scan-expr.Post
-returns_7 t c = laws.scan_none c.before.before.before.row_at.ensures (λ h. omega (arith, h.1, c.if2.false))
+returns-in_default-2 : (t : ℕ) → scan-expr-lts.Need-returns-in_default-2 (readings t) (scan_expr_at t) scan-expr.Post
+returns-in_default-2 t c = laws.scan_none c.row_at-row.ensures (λ h. omega (arith, h.1, c.if-kind-lt17.if-kind-lt17-own.false))
 
 -- room for the next row, and fewer rows left; then a return for each leaf, two operands, one, and the others
 pub +scan_expr_spec : {M : Type 1} → statement M
 +scan_expr_spec =
     close μ_scan_expr λ t. scan-expr-lts.spec (readings t) (scan_expr_at t) scan-expr.Post
-    (λ c κs. search rules)  -- row-at-requires
-    (λ c. omega (arith, row_within _ _ c.before.row_at.ensures (omega (arith, c.match.keys1))))  -- add-t12
-    (λ c κs. search rules)  -- is-location-requires
+    (λ c κs. search rules)  -- row_at-row-requires
+    (λ c. omega (arith, row_within _ _ c.row_at-row.ensures (omega (arith, c.in-6.is))))  -- overflow_add-result
+    (λ c κs. search rules)  -- is_location-requires
     (λ c. omega (
       arith,
-      row_within _ _ c.before.before.row_at.ensures (omega (arith, c.before.match.keys2)),
-    ))  -- add-t14
-    (λ c. omega (arith, row_within _ _ c.before.row_at.ensures (omega (arith, c.match.keys3))))  -- add-t16
+      row_within _ _ c.row_at-row.ensures (omega (arith, c.in-7.is)),
+    ))  -- overflow_add-result-in-7
+    (λ c. omega (arith, row_within _ _ c.row_at-row.ensures (omega (arith, c.in-8.is))))  -- overflow_add-result-in-8
     (λ c. omega (
       arith,
-      row_within _ _ c.before.before.before.row_at.ensures (omega (arith, c.before.if1.false)),
-    ))  -- add-scan-expr
+      row_within _ _ c.row_at-row.ensures (omega (arith, c.if-kind-lt6.false)),
+    ))  -- overflow_add-at
     (λ c κs. (
-      omega (arith, row_within _ _ c.before.before.before.row_at.ensures (omega (arith, c.before.if1.false))),
+      omega (arith, row_within _ _ c.row_at-row.ensures (omega (arith, c.if-kind-lt6.false))),
       tt,
-    ))  -- scan-expr-requires
+    ))  -- scan_expr-e-requires
     (λ c κs.
     let first = c.before in
     let kind = first.before.before in
-    let within = row_within _ _ kind.before.before.row_at.ensures (omega (arith, kind.if1.false)) in
-    (omega (arith, within, first.scan-expr.ensures.forward), tt))  -- scan-expr-requires-2
+    let within = row_within _ _ kind.row_at-row.ensures (omega (arith, kind.if-kind-lt6.false)) in
+    (omega (arith, within, first.scan_expr-e.ensures.forward), tt))  -- scan_expr-requires
+    (λ c κs. search rules)  -- also-f-requires
+    (λ c κs. search rules)  -- names_there-requires
     (λ c κs. search rules)  -- also-requires
-    (λ c κs. search rules)  -- names-there-requires
-    (λ c κs. search rules)  -- also-requires-2
-    (λ c κs. search rules)  -- names-there-requires-2
-    (λ c κs. search rules)  -- also-requires-3
-    (returns t)
-    (returns_2 t)
-    (returns_3 t)
-    (returns_4 t)
-    (returns_5 t)
-    (returns_6 t)
-    (returns_7 t)
+    (λ c κs. search rules)  -- names_there-requires-in_default-kind
+    (λ c κs. search rules)  -- also-requires-in_default-kind
+    (returns-in-6 t)
+    (returns-in-7 t)
+    (returns-in-8 t)
+    (returns-in-9-kind t)
+    (returns-in_default-kind t)
+    (returns-in_default t)
+    (returns-in_default-2 t)

@@ -3,13 +3,13 @@ use Rattle.logic.specs.Booleans.{both}
 use Rattle.script_text.proofs.also.Statement.{statement}
 use Rattle.script_text.proofs.also.Tie as tie
 
-returns : tie.Need-returns
+returns-then-test : tie.Need-returns-then-test
 unfolding both
-returns c = rw c.if1.true
+returns-then-test c = rw c.if-test.true
 
-returns-2 : tie.Need-returns-2
+returns-else-test : tie.Need-returns-else-test
 unfolding both
-returns-2 c = rw c.if1.false
+returns-else-test c = rw c.if-test.false
 
 pub also_spec : {M : Type 1} → statement M
-also_spec = tie.close (tie.spec returns returns-2)
+also_spec = tie.close (tie.spec returns-then-test returns-else-test)

@@ -8,41 +8,41 @@ use Rattle.script_text.proofs.BalanceLaws.{Due, few_operands, due_none, due_end,
 use Rattle.script_text.proofs.balanced.Statement.{statement}
 use Rattle.script_text.proofs.balanced.Tie as tie
 
-abbrev invariant-loop : tie.invariant-loop
-invariant-loop code trees₀ at₀ trees at = (at ≤ length code + 2) × (trees ≤ at + 1) × Due code at trees
+abbrev invariant-loop-at : tie.invariant-loop-at
+invariant-loop-at code trees₀ at₀ trees at = (at ≤ length code + 2) × (trees ≤ at + 1) × Due code at trees
 
-abbrev decreases-loop : tie.decreases-loop
-decreases-loop code trees₀ at₀ trees at = length code + 2 - at
+abbrev decreases-loop-at : tie.decreases-loop-at
+decreases-loop-at code trees₀ at₀ trees at = length code + 2 - at
 
-loop-again : tie.Need-loop-preserved invariant-loop decreases-loop
-loop-again c =
+loop-at-preserved : tie.Need-loop-at-preserved invariant-loop-at decreases-loop-at
+loop-at-preserved c =
     let test = c.before.before in
-    let l = test.before.before.loop in
-    let ws = test.before.before.before.before.args.code.now in (
+    let l = test.loop-at in
+    let ws = test.args.code.now in (
       omega arith,
-      omega (arith, c.operands.ensures, few_operands c.before.row_at.result.kind),
-      due_more ws l.at c.before.row_at.ensures l.trees c.operands.result l.invariant.2
-          test.before.loop-test.true test.if1.false c.operands.ensures,
+      omega (arith, c.operands.ensures, few_operands c.row_at-row.result.kind),
+      due_more ws l.at c.row_at-row.ensures l.trees c.operands.result l.invariant.2
+          test.loop-at-test.true test.if-trees-eq0.false c.operands.ensures,
     )
 
 pub balanced_spec : {M : Type 1} → statement M
 balanced_spec = tie.close (tie.spec
-    invariant-loop
-    decreases-loop
-    (λ c. (omega arith, omega arith, λ ls e. (ls, e, refl)))  -- loop-holds
+    invariant-loop-at
+    decreases-loop-at
+    (λ c. (omega arith, omega arith, λ ls e. (ls, e, refl)))  -- loop-at-init
     (λ c.
-    let l = c.before.before.loop in
-    let ws = c.before.before.before.before.args.code.now in
-    due_none ws l.at (rw c.if1.true at l.invariant.2) c.before.loop-test.true)  -- returns
-    (λ c κs. search rules)  -- row-at-requires
-    (λ c. search rules)  -- sub-trees
+    let l = c.loop-at in
+    let ws = c.args.code.now in
+    due_none ws l.at (rw c.if-trees-eq0.true at l.invariant.2) c.loop-at-test.true)  -- returns-then-trees-eq0
+    (λ c κs. search rules)  -- row_at-row-requires
+    (λ c. search rules)  -- overflow_sub-trees
     (λ c κs. search rules)  -- operands-requires
-    (λ c. search rules)  -- cast-trees
-    (λ c. omega (arith, c.operands.ensures, few_operands c.before.row_at.result.kind))  -- add-trees
-    (λ c. search rules)  -- add-at
-    (λ c. omega arith)  -- loop-less
-    loop-again
+    (λ c. search rules)  -- overflow_cast-trees
+    (λ c. omega (arith, c.operands.ensures, few_operands c.row_at-row.result.kind))  -- overflow_add-trees
+    (λ c. search rules)  -- overflow_add-at
+    (λ c. omega arith)  -- loop-at-smaller
+    loop-at-preserved
     (λ c.
-    let l = c.before.loop in
-    let ws = c.before.before.before.args.code.now in
-    due_end ws l.at l.trees l.invariant.2 c.loop-test.false))  -- returns-2
+    let l = c.loop-at in
+    let ws = c.args.code.now in
+    due_end ws l.at l.trees l.invariant.2 c.loop-at-test.false))  -- returns

@@ -13,77 +13,77 @@ use Rattle.script_text.proofs.decode_lines.Statement.{statement}
 use Rattle.script_text.proofs.decode_lines.Tie as tie
 
 -- what is still to be decoded gives the code of all lines from the first on
-abbrev invariant-loop : tie.invariant-loop
-invariant-loop s from most start code₀ n₀ at₀ code n at =
+abbrev invariant-loop-at : tie.invariant-loop-at
+invariant-loop-at s from most start code₀ n₀ at₀ code n at =
     (n ≤ most) × (most ≤ max_lines) × (length code ≡ code_words)
     × (tabled start n code (lines_up_to line_of (most - n) (drop at s))
     ≡ coded_lines start (lines_up_to line_of most (drop from s)))
 
-abbrev decreases-loop : tie.decreases-loop
-decreases-loop s from most start code₀ n₀ at₀ code n at = most - n
+abbrev decreases-loop-at : tie.decreases-loop-at
+decreases-loop-at s from most start code₀ n₀ at₀ code n at = most - n
 
-loop-holds : tie.Need-loop-init invariant-loop decreases-loop
-loop-holds c =
-    let pre = c.before.requires in (
+loop-at-init : tie.Need-loop-at-init invariant-loop-at decreases-loop-at
+loop-at-init c =
+    let pre = c.requires in (
       omega arith,
       pre.0,
       ap length pre.1 ∙ length-replicate {A = ℕ} code_words 0,
       table_start _ _ _ _ pre.0 pre.1,
     )
 
-returns : tie.Need-returns invariant-loop decreases-loop
-returns c =
+returns-then-most-n : tie.Need-returns-then-most-n invariant-loop-at decreases-loop-at
+returns-then-most-n c =
     let full = c.before.before in
-    c.refused.ensures ∙ sym (table_full _ _ _ _ _ _ full.before.loop-test.true full.if1.true)
-    ∙ full.before.before.loop.invariant.3
+    c.refused.ensures ∙ sym (table_full _ _ _ _ _ _ full.loop-at-test.true full.if-most-n.true)
+    ∙ full.loop-at.invariant.3
 
-loop-again : tie.Need-loop-preserved invariant-loop decreases-loop
-loop-again c =
-    let row = c.before.before.before in
-    let in-loop = row.before.before in
-    let inv = in-loop.before.loop.invariant in (
+loop-at-preserved : tie.Need-loop-at-preserved invariant-loop-at decreases-loop-at
+loop-at-preserved c =
+    let row = c.before in
+    let in-loop = row in
+    let inv = in-loop.loop-at.invariant in (
       omega arith,
       inv.1,
       simp length-set inv.2,
-      sym (table_more _ _ _ _ _ _ in-loop.loop-test.true row.before.if1.false _ row.line-from.ensures _ _ _
-          c.before.read.given.1) ∙ inv.3,
+      sym (table_more _ _ _ _ _ _ in-loop.loop-at-test.true row.if-most-n.false _ row.line_from-next.ensures _ _ _
+          c.in-Line.is) ∙ inv.3,
     )
 
-returns-2 : tie.Need-returns-2 invariant-loop decreases-loop
-returns-2 c =
-    let row = c.before.before.before.before in
+returns-in-Refused : tie.Need-returns-in-Refused invariant-loop-at decreases-loop-at
+returns-in-Refused c =
+    let row = c.before.before.before in
     let in-loop = row.before.before in
-    let no = table-bad _ _ _ _ _ _ in-loop.loop-test.true row.before.if1.false _ row.line-from.ensures
-    c.before.before.enum_told.given.1 in
-    c.refused2.ensures ∙ sym no ∙ in-loop.before.loop.invariant.3
+    let no = table-bad _ _ _ _ _ _ in-loop.loop-at-test.true row.if-most-n.false _ row.line_from-next.ensures
+    c.in-Refused.is in
+    c.refused-in-Refused.ensures ∙ sym no ∙ in-loop.loop-at.invariant.3
 
-returns-3 : tie.Need-returns-3 invariant-loop decreases-loop
-returns-3 c = sym (table_done _ _ _ _ _ _ c.loop-test.false) ∙ c.before.loop.invariant.3
+returns : tie.Need-returns invariant-loop-at decreases-loop-at
+returns c = sym (table_done _ _ _ _ _ _ c.loop-at-test.false) ∙ c.loop-at.invariant.3
 
 pub decode_lines_spec : {M : Type 1} → statement M
 decode_lines_spec = tie.close (tie.spec
-    invariant-loop
-    decreases-loop
-    loop-holds
+    invariant-loop-at
+    decreases-loop-at
+    loop-at-init
     (λ c κs. search rules)  -- refused-requires
-    returns
-    (λ c κs. search rules)  -- line-from-requires
-    (λ c. search rules)  -- enum-known-read
-    (λ c. omega arith)  -- mul-code
-    (λ c. omega arith)  -- mul-code-2
-    (λ c. omega arith)  -- element-write-code
-    (λ c. omega arith)  -- mul-code-3
-    (λ c. omega arith)  -- add-code
-    (λ c. omega arith)  -- mul-code-4
-    (λ c. omega arith)  -- element-write-code-2
-    (λ c. omega arith)  -- mul-code-5
-    (λ c. omega arith)  -- add-code-2
-    (λ c. omega arith)  -- mul-code-6
-    (λ c. omega arith)  -- element-write-code-3
-    (λ c. omega arith)  -- add-n
-    (λ c. omega arith)  -- loop-less
-    loop-again
-    (λ c. search rules)  -- enum_told
-    (λ c κs. search rules)  -- refused-requires-2
-    returns-2
-    returns-3)
+    returns-then-most-n
+    (λ c κs. search rules)  -- line_from-next-requires
+    (λ c. search rules)  -- enum_known-read
+    (λ c. omega arith)  -- overflow_mul-code
+    (λ c. omega arith)  -- offset_bounds-code-n
+    (λ c. omega arith)  -- bounds-code-n
+    (λ c. omega arith)  -- overflow_mul-code-in-Line
+    (λ c. omega arith)  -- overflow_add-code
+    (λ c. omega arith)  -- offset_bounds-code-n-in-Line
+    (λ c. omega arith)  -- bounds-code-n-in-Line
+    (λ c. omega arith)  -- overflow_mul-code-in-Line-2
+    (λ c. omega arith)  -- overflow_add-code-in-Line
+    (λ c. omega arith)  -- offset_bounds-code-n-in-Line-2
+    (λ c. omega arith)  -- bounds-code-n-in-Line-2
+    (λ c. omega arith)  -- overflow_add-n
+    (λ c. omega arith)  -- loop-at-smaller
+    loop-at-preserved
+    (λ c. search rules)  -- enum_told-1
+    (λ c κs. search rules)  -- refused-requires-in-Refused
+    returns-in-Refused
+    returns)

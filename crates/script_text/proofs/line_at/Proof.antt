@@ -10,137 +10,137 @@ use Rattle.script_text.proofs.FoundLaws.{line_none, line-kind, line_other, other
 use Rattle.script_text.proofs.line_at.Statement.{statement}
 use Rattle.script_text.proofs.line_at.Tie as tie
 
-returns-2 : tie.Need-returns-2
+returns-in-115 : tie.Need-returns-in-115
 unfolding form_of row_of
-returns-2 c =
+returns-in-115 c =
     let key = c.before in
-    line-kind _ key.before.before.before.before.args.at (bare l_skip) _ key.before.before.if1.false
-    (ap form_of key.match.keys1) (c.bare-line.ensures l_skip refl)
+    line-kind _ key.args.at (bare l_skip) _ key.if-s-at.false
+    (ap form_of key.in-115.is) (c.bare_line.ensures l_skip refl)
 
-returns-3 : tie.Need-returns-3
+returns-in-59 : tie.Need-returns-in-59
 unfolding form_of row_of
-returns-3 c =
+returns-in-59 c =
     let key = c.before in
-    line-kind _ key.before.before.before.before.args.at (bare l_seq) _ key.before.before.if1.false
-    (ap form_of key.match.keys2) (c.bare-line2.ensures l_seq refl)
+    line-kind _ key.args.at (bare l_seq) _ key.if-s-at.false
+    (ap form_of key.in-59.is) (c.bare_line-in-59.ensures l_seq refl)
 
-returns-4 : tie.Need-returns-4
+returns-in-61 : tie.Need-returns-in-61
 unfolding form_of row_of
-returns-4 c =
+returns-in-61 c =
     let key = c.before in
-    line-kind _ key.before.before.before.before.args.at (one l_assign) _ key.before.before.if1.false
-    (ap form_of key.match.keys3)
+    line-kind _ key.args.at (one l_assign) _ key.if-s-at.false
+    (ap form_of key.in-61.is)
     (c.one_operand.ensures l_assign (λ a. refl))
 
-returns-5 : tie.Need-returns-5
+returns-in-119 : tie.Need-returns-in-119
 unfolding form_of row_of
-returns-5 c =
+returns-in-119 c =
     let key = c.before in
-    line-kind _ key.before.before.before.before.args.at (bare l_while) _ key.before.before.if1.false
-    (ap form_of key.match.keys4)
-    (c.bare-line3.ensures l_while refl)
+    line-kind _ key.args.at (bare l_while) _ key.if-s-at.false
+    (ap form_of key.in-119.is)
+    (c.bare_line-in-119.ensures l_while refl)
 
-returns-6 : tie.Need-returns-6
+returns-in-99 : tie.Need-returns-in-99
 unfolding form_of row_of
-returns-6 c =
+returns-in-99 c =
     let key = c.before in
-    line-kind _ key.before.before.before.before.args.at (bare l_case) _ key.before.before.if1.false
-    (ap form_of key.match.keys5)
-    (c.bare-line4.ensures l_case refl)
+    line-kind _ key.args.at (bare l_case) _ key.if-s-at.false
+    (ap form_of key.in-99.is)
+    (c.bare_line-in-99.ensures l_case refl)
 
-returns-7 : tie.Need-returns-7
+returns-in-105 : tie.Need-returns-in-105
 unfolding form_of row_of
-returns-7 c =
+returns-in-105 c =
     let key = c.before in
-    line-kind _ key.before.before.before.before.args.at (one l_int) _ key.before.before.if1.false
-    (ap form_of key.match.keys6)
-    (c.one-operand2.ensures l_int (λ a. refl))
+    line-kind _ key.args.at (one l_int) _ key.if-s-at.false
+    (ap form_of key.in-105.is)
+    (c.one_operand-in-105.ensures l_int (λ a. refl))
 
-returns-8 : tie.Need-returns-8
+returns-in-120 : tie.Need-returns-in-120
 unfolding form_of row_of
-returns-8 c =
+returns-in-120 c =
     let key = c.before in
-    line-kind _ key.before.before.before.before.args.at (one l_loc) _ key.before.before.if1.false
-    (ap form_of key.match.keys7)
-    (c.one-operand3.ensures l_loc (λ a. refl))
+    line-kind _ key.args.at (one l_loc) _ key.if-s-at.false
+    (ap form_of key.in-120.is)
+    (c.one_operand-in-120.ensures l_loc (λ a. refl))
 
-returns-9 : tie.Need-returns-9
+returns-in-118 : tie.Need-returns-in-118
 unfolding form_of row_of
-returns-9 c =
+returns-in-118 c =
     let key = c.before in
-    line-kind _ key.before.before.before.before.args.at (one l_var) _ key.before.before.if1.false
-    (ap form_of key.match.keys8)
-    (c.one-operand4.ensures l_var (λ a. refl))
+    line-kind _ key.args.at (one l_var) _ key.if-s-at.false
+    (ap form_of key.in-118.is)
+    (c.one_operand-in-118.ensures l_var (λ a. refl))
 
-returns-10 : tie.Need-returns-10
+returns-in-43 : tie.Need-returns-in-43
 unfolding form_of row_of
-returns-10 c =
+returns-in-43 c =
     let key = c.before in
-    line-kind _ key.before.before.before.before.args.at (bare l_plus) _ key.before.before.if1.false
-    (ap form_of key.match.keys9)
-    (c.bare-line5.ensures l_plus refl)
+    line-kind _ key.args.at (bare l_plus) _ key.if-s-at.false
+    (ap form_of key.in-43.is)
+    (c.bare_line-in-43.ensures l_plus refl)
 
-returns-11 : tie.Need-returns-11
+returns-in-108 : tie.Need-returns-in-108
 unfolding form_of row_of
-returns-11 c =
+returns-in-108 c =
     let key = c.before in
-    line-kind _ key.before.before.before.before.args.at (one l_left) _ key.before.before.if1.false
-    (ap form_of key.match.keys10)
-    (c.one-operand5.ensures l_left (λ a. refl))
+    line-kind _ key.args.at (one l_left) _ key.if-s-at.false
+    (ap form_of key.in-108.is)
+    (c.one_operand-in-108.ensures l_left (λ a. refl))
 
-returns-12 : tie.Need-returns-12
+returns-in-114 : tie.Need-returns-in-114
 unfolding form_of row_of
-returns-12 c =
+returns-in-114 c =
     let key = c.before in
-    line-kind _ key.before.before.before.before.args.at (one l_right) _ key.before.before.if1.false
-    (ap form_of key.match.keys11)
-    (c.one-operand6.ensures l_right (λ a. refl))
+    line-kind _ key.args.at (one l_right) _ key.if-s-at.false
+    (ap form_of key.in-114.is)
+    (c.one_operand-in-114.ensures l_right (λ a. refl))
 
-returns-13 : tie.Need-returns-13
+returns-in-107 : tie.Need-returns-in-107
 unfolding form_of row_of
-returns-13 c =
+returns-in-107 c =
     let key = c.before in
-    line-kind _ key.before.before.before.before.args.at (one l_pack) _ key.before.before.if1.false
-    (ap form_of key.match.keys12)
-    (c.one-operand7.ensures l_pack (λ a. refl))
+    line-kind _ key.args.at (one l_pack) _ key.if-s-at.false
+    (ap form_of key.in-107.is)
+    (c.one_operand-in-107.ensures l_pack (λ a. refl))
 
-returns-14 : tie.Need-returns-14
+returns-in-117 : tie.Need-returns-in-117
 unfolding form_of row_of
-returns-14 c =
+returns-in-117 c =
     let key = c.before in
-    line-kind _ key.before.before.before.before.args.at (two l_unpack) _ key.before.before.if1.false
-    (ap form_of key.match.keys13)
+    line-kind _ key.args.at (two l_unpack) _ key.if-s-at.false
+    (ap form_of key.in-117.is)
     (c.two_operands.ensures l_unpack (λ a b. refl))
 
-returns-15 : tie.Need-returns-15
+returns-in-112 : tie.Need-returns-in-112
 unfolding form_of row_of
-returns-15 c =
+returns-in-112 c =
     let key = c.before in
-    line-kind _ key.before.before.before.before.args.at (one l_pair) _ key.before.before.if1.false
-    (ap form_of key.match.keys14)
-    (c.one-operand8.ensures l_pair (λ a. refl))
+    line-kind _ key.args.at (one l_pair) _ key.if-s-at.false
+    (ap form_of key.in-112.is)
+    (c.one_operand-in-112.ensures l_pair (λ a. refl))
 
-returns-16 : tie.Need-returns-16
+returns-in-102 : tie.Need-returns-in-102
 unfolding form_of row_of pick
-returns-16 c =
+returns-in-102 c =
     let key = c.before in
-    line-kind _ key.before.before.before.before.args.at (bare (l_proj first)) _ key.before.before.if1.false
-    (ap form_of key.match.keys15)
-    (c.bare-line6.ensures (l_proj first) refl)
+    line-kind _ key.args.at (bare (l_proj first)) _ key.if-s-at.false
+    (ap form_of key.in-102.is)
+    (c.bare_line-in-102.ensures (l_proj first) refl)
 
-returns-17 : tie.Need-returns-17
+returns-in-103 : tie.Need-returns-in-103
 unfolding form_of row_of pick
-returns-17 c =
+returns-in-103 c =
     let key = c.before in
-    line-kind _ key.before.before.before.before.args.at (bare (l_proj second)) _
-    key.before.before.if1.false (ap form_of key.match.keys16)
-    (c.bare-line7.ensures (l_proj second) refl)
+    line-kind _ key.args.at (bare (l_proj second)) _
+    key.if-s-at.false (ap form_of key.in-103.is)
+    (c.bare_line-in-103.ensures (l_proj second) refl)
 
-returns-18 : tie.Need-returns-18
-returns-18 c =
-    let r = c.match.rest in
+returns-in_default : tie.Need-returns-in_default
+returns-in_default c =
+    let r = c.in_default.in_default-own.rest in
     let s = r.0.0.0 in
-    line_other _ c.before.before.before.before.args.at c.before.before.if1.false
+    line_other _ c.args.at c.if-s-at.false
     (other_form _ s.0.0.0.0.0.0.0.0.0.0.0.0.1 s.0.0.0.0.0.0.0.0.0.0.0.1
     s.0.0.0.0.0.0.0.0.0.0.1 s.0.0.0.0.0.0.0.0.0.1
     s.0.0.0.0.0.0.0.0.1 s.0.0.0.0.0.0.0.1 s.0.0.0.0.0.0.1 s.0.0.0.0.0.1
@@ -149,54 +149,54 @@ returns-18 c =
 
 pub line_at_spec : {M : Type 1} → statement M
 line_at_spec = tie.close (tie.spec
-    (λ c. line_none _ c.before.before.args.at c.if1.true)  -- returns
-    (λ c. search rules)  -- shared-slice-read-first
-    (λ c. search rules)  -- add-bare-line
-    (λ c κs. search rules)  -- bare-line-requires
-    (λ c. search rules)  -- add-bare-line-2
-    (λ c κs. search rules)  -- bare-line-requires-2
-    (λ c. search rules)  -- add-one-operand
-    (λ c κs. search rules)  -- one-operand-requires
-    (λ c. search rules)  -- add-bare-line-3
-    (λ c κs. search rules)  -- bare-line-requires-3
-    (λ c. search rules)  -- add-bare-line-4
-    (λ c κs. search rules)  -- bare-line-requires-4
-    (λ c. search rules)  -- add-one-operand-2
-    (λ c κs. search rules)  -- one-operand-requires-2
-    (λ c. search rules)  -- add-one-operand-3
-    (λ c κs. search rules)  -- one-operand-requires-3
-    (λ c. search rules)  -- add-one-operand-4
-    (λ c κs. search rules)  -- one-operand-requires-4
-    (λ c. search rules)  -- add-bare-line-5
-    (λ c κs. search rules)  -- bare-line-requires-5
-    (λ c. search rules)  -- add-one-operand-5
-    (λ c κs. search rules)  -- one-operand-requires-5
-    (λ c. search rules)  -- add-one-operand-6
-    (λ c κs. search rules)  -- one-operand-requires-6
-    (λ c. search rules)  -- add-one-operand-7
-    (λ c κs. search rules)  -- one-operand-requires-7
-    (λ c. search rules)  -- add-two-operands
-    (λ c κs. search rules)  -- two-operands-requires
-    (λ c. search rules)  -- add-one-operand-8
-    (λ c κs. search rules)  -- one-operand-requires-8
-    (λ c. search rules)  -- add-bare-line-6
-    (λ c κs. search rules)  -- bare-line-requires-6
-    (λ c. search rules)  -- add-bare-line-7
-    (λ c κs. search rules)  -- bare-line-requires-7
-    returns-2
-    returns-3
-    returns-4
-    returns-5
-    returns-6
-    returns-7
-    returns-8
-    returns-9
-    returns-10
-    returns-11
-    returns-12
-    returns-13
-    returns-14
-    returns-15
-    returns-16
-    returns-17
-    returns-18)
+    (λ c. line_none _ c.args.at c.if-s-at.true)  -- returns-then-s-at
+    (λ c. search rules)  -- bounds-s-at
+    (λ c. search rules)  -- overflow_add-at
+    (λ c κs. search rules)  -- bare_line-requires
+    (λ c. search rules)  -- overflow_add-at-in-59
+    (λ c κs. search rules)  -- bare_line-requires-in-59
+    (λ c. search rules)  -- overflow_add-at-in-61
+    (λ c κs. search rules)  -- one_operand-requires
+    (λ c. search rules)  -- overflow_add-at-in-119
+    (λ c κs. search rules)  -- bare_line-requires-in-119
+    (λ c. search rules)  -- overflow_add-at-in-99
+    (λ c κs. search rules)  -- bare_line-requires-in-99
+    (λ c. search rules)  -- overflow_add-at-in-105
+    (λ c κs. search rules)  -- one_operand-requires-in-105
+    (λ c. search rules)  -- overflow_add-at-in-120
+    (λ c κs. search rules)  -- one_operand-requires-in-120
+    (λ c. search rules)  -- overflow_add-at-in-118
+    (λ c κs. search rules)  -- one_operand-requires-in-118
+    (λ c. search rules)  -- overflow_add-at-in-43
+    (λ c κs. search rules)  -- bare_line-requires-in-43
+    (λ c. search rules)  -- overflow_add-at-in-108
+    (λ c κs. search rules)  -- one_operand-requires-in-108
+    (λ c. search rules)  -- overflow_add-at-in-114
+    (λ c κs. search rules)  -- one_operand-requires-in-114
+    (λ c. search rules)  -- overflow_add-at-in-107
+    (λ c κs. search rules)  -- one_operand-requires-in-107
+    (λ c. search rules)  -- overflow_add-at-in-117
+    (λ c κs. search rules)  -- two_operands-requires
+    (λ c. search rules)  -- overflow_add-at-in-112
+    (λ c κs. search rules)  -- one_operand-requires-in-112
+    (λ c. search rules)  -- overflow_add-at-in-102
+    (λ c κs. search rules)  -- bare_line-requires-in-102
+    (λ c. search rules)  -- overflow_add-at-in-103
+    (λ c κs. search rules)  -- bare_line-requires-in-103
+    returns-in-115
+    returns-in-59
+    returns-in-61
+    returns-in-119
+    returns-in-99
+    returns-in-105
+    returns-in-120
+    returns-in-118
+    returns-in-43
+    returns-in-108
+    returns-in-114
+    returns-in-107
+    returns-in-117
+    returns-in-112
+    returns-in-102
+    returns-in-103
+    returns-in_default)

@@ -6,40 +6,40 @@ use Rattle.script_text.proofs.ScanLaws.{names_none}
 use Rattle.script_text.proofs.names_there.Statement.{statement}
 use Rattle.script_text.proofs.names_there.Tie as tie
 
-returns : tie.Need-returns
+returns-in-10 : tie.Need-returns-in-10
 unfolding names_there either
-returns c = rw c.before.match.keys1 c.is_type.ensures
+returns-in-10 c = rw c.in-10.is c.is_type.ensures
 
-returns-2 : tie.Need-returns-2
+returns-in-11 : tie.Need-returns-in-11
 unfolding names_there either
-returns-2 c = rw c.before.match.keys2 c.is-type2.ensures
+returns-in-11 c = rw c.in-11.is c.is_type-in-11.ensures
 
-returns-3 : tie.Need-returns-3
+returns-in-12 : tie.Need-returns-in-12
 unfolding names_there either
-returns-3 c = rw c.before.match.keys3 c.is-label.ensures
+returns-in-12 c = rw c.in-12.is c.is_label.ensures
 
-returns-4 : tie.Need-returns-4
+returns-in-13 : tie.Need-returns-in-13
 unfolding names_there either both
-returns-4 c = rw (c.before.before.match.keys4, c.before.is-type3.ensures, c.is-label2.ensures)
+returns-in-13 c = rw (c.in-13.is, c.is_type-in-13.ensures, c.is_label-in-13.ensures)
 
-returns-5 : tie.Need-returns-5
+returns-in-14 : tie.Need-returns-in-14
 unfolding names_there either
-returns-5 c = rw c.before.match.keys5 c.is-type4.ensures
+returns-in-14 c = rw c.in-14.is c.is_type-in-14.ensures
 
-returns-6 : tie.Need-returns-6
-returns-6 c = names_none _ _ _ c.match.rest
+returns-in_default : tie.Need-returns-in_default
+returns-in_default c = names_none _ _ _ c.in_default.in_default-own.rest
 
 pub names_there_spec : {M : Type 1} → statement M
 names_there_spec = tie.close (tie.spec
-    (λ c κs. search rules)  -- is-type-requires
-    (λ c κs. search rules)  -- is-type-requires-2
-    (λ c κs. search rules)  -- is-label-requires
-    (λ c κs. search rules)  -- is-type-requires-3
-    (λ c κs. search rules)  -- is-label-requires-2
-    (λ c κs. search rules)  -- is-type-requires-4
-    returns
-    returns-2
-    returns-3
-    returns-4
-    returns-5
-    returns-6)
+    (λ c κs. search rules)  -- is_type-requires
+    (λ c κs. search rules)  -- is_type-requires-in-11
+    (λ c κs. search rules)  -- is_label-requires
+    (λ c κs. search rules)  -- is_type-requires-in-13
+    (λ c κs. search rules)  -- is_label-requires-in-13
+    (λ c κs. search rules)  -- is_type-requires-in-14
+    returns-in-10
+    returns-in-11
+    returns-in-12
+    returns-in-13
+    returns-in-14
+    returns-in_default)

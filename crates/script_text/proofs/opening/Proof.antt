@@ -5,34 +5,34 @@ use Rattle.script_text.proofs.OpeningLaws.{opening_empty, opening_other, opening
 use Rattle.script_text.proofs.opening.Statement.{statement}
 use Rattle.script_text.proofs.opening.Tie as tie
 
-returns : tie.Need-returns
+returns-then-s-eq0 : tie.Need-returns-then-s-eq0
 unfolding start_no
-returns c = opening_empty _ c.if1.true
+returns-then-s-eq0 c = opening_empty _ c.if-s-eq0.true
 
-returns-2 : tie.Need-returns-2
+returns-then-s-ne98 : tie.Need-returns-then-s-ne98
 unfolding start_no
-returns-2 c = opening_other _ c.before.before.if1.false c.if2.true
+returns-then-s-ne98 c = opening_other _ c.if-s-eq0.false c.if-s-ne98.true
 
-returns-3 : tie.Need-returns-3
-returns-3 c =
-    let read = c.before.before.before in
+returns-in-At : tie.Need-returns-in-At
+returns-in-At c =
+    let read = c.before in
     let b = read.before in
-    opening-got _ b.before.before.if1.false b.if2.false _ read.last-number.ensures _ _
-    c.before.l.given.1
+    opening-got _ b.if-s-eq0.false b.if-s-ne98.false _ read.last_number.ensures _ _
+    c.in-At.is
 
-returns-4 : tie.Need-returns-4
-returns-4 c =
-    let read = c.before.before in
+returns-in-Refused : tie.Need-returns-in-Refused
+returns-in-Refused c =
+    let read = c.before in
     let b = read.before in
-    opening-bad _ b.before.before.if1.false b.if2.false _ read.last-number.ensures c.enum_told.given.1
+    opening-bad _ b.if-s-eq0.false b.if-s-ne98.false _ read.last_number.ensures c.in-Refused.is
 
 pub opening_spec : {M : Type 1} → statement M
 opening_spec = tie.close (tie.spec
-    returns
-    (λ c. search rules)  -- shared-slice-read-if2
-    returns-2
-    (λ c κs. search rules)  -- last-number-requires
-    (λ c. search rules)  -- enum-known-l
-    (λ c. search rules)  -- enum_told
-    returns-3
-    returns-4)
+    returns-then-s-eq0
+    (λ c. search rules)  -- bounds-s-0
+    returns-then-s-ne98
+    (λ c κs. search rules)  -- last_number-requires
+    (λ c. search rules)  -- enum_known-l
+    (λ c. search rules)  -- enum_told-1
+    returns-in-At
+    returns-in-Refused)

@@ -7,42 +7,42 @@ use Rattle.script_text.proofs.ReadLaws.{read_yes, read_no}
 use Rattle.script_text.proofs.read.Statement.{statement}
 use Rattle.script_text.proofs.read.Tie as tie
 
-returns : tie.Need-returns
-returns c =
+returns-then-not-whole : tie.Need-returns-then-not-whole
+returns-then-not-whole c =
     let test = c.before.before.before in
     let rows = test.before in
     c.refused.ensures
-    ∙ read_no _ _ _ rows.before.before.before.decode.ensures _ rows.rows.ensures _
+    ∙ read_no _ _ _ rows.decode-s.ensures _ rows.rows.ensures _
     test.whole.ensures _ refl
-    (both_no_left _ _ (not-true _ c.before.before.if1.true))
+    (both_no_left _ _ (not-true _ c.if-not-whole.true))
 
-returns-2 : tie.Need-returns-2
-returns-2 c =
+returns-then-not-is_start : tie.Need-returns-then-not-is_start
+returns-then-not-is_start c =
     let start = c.before.before.before in
     let test = start.before.before in
     let rows = test.before in
-    c.refused2.ensures
-    ∙ read_no _ _ _ rows.before.before.before.decode.ensures _ rows.rows.ensures _ test.whole.ensures _
-    start.is-start.ensures
-    (both_no_right _ _ (not-true _ c.before.before.if2.true))
+    c.refused-then-not-is_start.ensures
+    ∙ read_no _ _ _ rows.decode-s.ensures _ rows.rows.ensures _ test.whole.ensures _
+    start.is_start.ensures
+    (both_no_right _ _ (not-true _ c.if-not-is_start.true))
 
-returns-3 : tie.Need-returns-3
-returns-3 c =
+returns : tie.Need-returns
+returns c =
     let start = c.before in
     let test = start.before.before in
     let rows = test.before in
-    read_yes _ _ _ rows.before.before.before.decode.ensures _ rows.rows.ensures _ test.whole.ensures _
-    start.is-start.ensures
-    (both_true (not-false _ start.before.if1.false) (not-false _ c.if2.false))
+    read_yes _ _ _ rows.decode-s.ensures _ rows.rows.ensures _ test.whole.ensures _
+    start.is_start.ensures
+    (both_true (not-false _ start.if-not-whole.false) (not-false _ c.if-not-is_start.false))
 
 pub read_spec : {M : Type 1} → statement M
 read_spec = tie.close (tie.spec
-    (λ c κs. search rules)  -- decode-requires
+    (λ c κs. search rules)  -- decode-s-requires
     (λ c κs. search rules)  -- rows-requires
     (λ c κs. search rules)  -- whole-requires
     (λ c κs. search rules)  -- refused-requires
-    returns
-    (λ c κs. search rules)  -- is-start-requires
-    (λ c κs. search rules)  -- refused-requires-2
-    returns-2
-    returns-3)
+    returns-then-not-whole
+    (λ c κs. search rules)  -- is_start-requires
+    (λ c κs. search rules)  -- refused-requires-then-not-is_start
+    returns-then-not-is_start
+    returns)

@@ -5,18 +5,18 @@ use Rattle.script_text.specs.Internal.Placed.{reached}
 use Rattle.script_text.proofs.read_line.Statement.{statement}
 use Rattle.script_text.proofs.read_line.Tie as tie
 
-returns : tie.Need-returns
+returns-in-At : tie.Need-returns-in-At
 unfolding reached
-returns c = ap (reached _) (sym c.before.kind.given.1 ∙ c.before.before.before.line_at_lem.ensures)
+returns-in-At c = ap (reached _) (sym c.in-At.is ∙ c.line_at_lem.ensures)
 
-returns-2 : tie.Need-returns-2
+returns-in-Refused : tie.Need-returns-in-Refused
 unfolding reached
-returns-2 c = ap (reached _) (sym c.enum_told.given.1 ∙ c.before.before.line_at_lem.ensures)
+returns-in-Refused c = ap (reached _) (sym c.in-Refused.is ∙ c.line_at_lem.ensures)
 
 pub read_line_spec : {M : Type 1} → statement M
 read_line_spec = tie.close (tie.spec
-    (λ c κs. search rules)  -- line-at-requires
-    (λ c. search rules)  -- enum-known-kind
-    (λ c. search rules)  -- enum_told
-    returns
-    returns-2)
+    (λ c κs. search rules)  -- line_at-requires
+    (λ c. search rules)  -- enum_known-kind
+    (λ c. search rules)  -- enum_told-1
+    returns-in-At
+    returns-in-Refused)

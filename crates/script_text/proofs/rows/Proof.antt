@@ -8,12 +8,12 @@ use borrow.Author.Rules.{rules}
 use Rattle.script_text.proofs.rows.Statement.{statement}
 use Rattle.script_text.proofs.rows.Tie as tie
 
-returns : tie.Need-returns
-returns c = sym (take_all (c.before.args.count * 3) c.before.args.code.now (omega (arith, c.if1.true)))
+returns-then-code-count : tie.Need-returns-then-code-count
+returns-then-code-count c = sym (take_all (c.args.count * 3) c.args.code.now (omega (arith, c.if-code-count.true)))
 
 pub rows_spec : {M : Type 1} → statement M
 rows_spec = tie.close (tie.spec
-    returns
-    (λ c. search rules)  -- mul-end
-    (λ c. simp length-take (omega (arith, c.before.if1.false)))  -- slice-aggregate-result
-    (λ c. search rules))  -- returns-2
+    returns-then-code-count
+    (λ c. search rules)  -- overflow_mul-end
+    (λ c. simp length-take (omega (arith, c.if1.false)))  -- slice_bounds-result-end
+    (λ c. search rules))  -- returns

@@ -11,12 +11,12 @@ use Rattle.sets.proofs.everyone.Tie as tie
 pub everyone_spec : {M : Type 1} → statement M
 unfolding single everyone
 everyone_spec = tie.close (tie.spec
-    (λ c. sym (restrict-everyone_full width c.before.args.n (omega arith)))  -- returns
+    (λ c. sym (restrict-everyone_full width c.args.n (omega arith)))  -- returns-then-n-ge-WIDTH
     (λ c κs. search rules)  -- single-requires
     (λ c.
-    let n = c.before.before.args.n in
-    omega (arith, c.single.ensures ∙ restrict_single width n (omega arith), pow_pos n))  -- sub-result
+    let n = c.args.n in
+    omega (arith, c.single.ensures ∙ restrict_single width n (omega arith), pow_pos n))  -- overflow_sub-result
     (λ c.
-    let n = c.before.before.args.n in
+    let n = c.args.n in
     ap (λ (x : ℕ). x - 1) (c.single.ensures ∙ restrict_single width n (omega arith))
-    ∙ sym (restrict-everyone width n (omega arith))))  -- returns-2
+    ∙ sym (restrict-everyone width n (omega arith))))  -- returns

@@ -8,8 +8,8 @@ use Rattle.sets.proofs.single.Tie as tie
 
 pub single_spec : {M : Type 1} → statement M
 single_spec = tie.close (tie.spec
-    (λ c. sym (restrict_single_out width c.before.args.p (omega arith)))  -- returns
-    (λ c. search rules)  -- cast-result
-    (λ c. search rules)  -- shl-result
-    (λ c. shl_one width c.before.args.p (omega arith)
-    ∙ sym (restrict_single width c.before.args.p (omega arith))))  -- returns-2
+    (λ c. sym (restrict_single_out width c.args.p (omega arith)))  -- returns-then-p-ge-WIDTH
+    (λ c. search rules)  -- overflow_cast-result
+    (λ c. search rules)  -- overflow_shl-result
+    (λ c. shl_one width c.args.p (omega arith)
+    ∙ sym (restrict_single width c.args.p (omega arith))))  -- returns

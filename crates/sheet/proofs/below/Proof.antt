@@ -7,8 +7,8 @@ use Rattle.sheet.proofs.below.Tie as tie
 pub below_spec : {M : Type 1} → statement M
 unfolding below_in
 below_spec = tie.close (tie.spec
-    (λ c κs. search rules)  -- label-of-requires
-    (λ c κs. search rules)  -- label-of-requires-2
-    (λ c κs. search rules)  -- at-or-below-requires
+    (λ c κs. search rules)  -- label_of-lower-requires
+    (λ c κs. search rules)  -- label_of-upper-requires
+    (λ c κs. search rules)  -- at_or_below-requires
     (λ c.
-    rw (c.at-or-below.ensures, c.before.label-of2.ensures, c.before.before.label_of.ensures)))  -- returns
+    rw (c.at_or_below.ensures, c.label_of-upper.ensures, c.label_of-lower.ensures)))  -- returns

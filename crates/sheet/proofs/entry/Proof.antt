@@ -6,8 +6,8 @@ use Rattle.sheet.proofs.entry.Tie as tie
 
 pub entry_spec : {M : Type 1} → statement M
 entry_spec = tie.close (tie.spec
-    (λ c. search rules)  -- mul-number
-    (λ c. search rules)  -- add-number
+    (λ c. search rules)  -- overflow_mul-i
+    (λ c. search rules)  -- overflow_add-base
     (λ c κs. search rules)  -- number-requires
-    (λ c. c.number.ensures ∙ sym (entry_there _ _ _ _ c.before.if1.true))  -- returns
-    (λ c. sym (entry_past _ _ _ _ c.if1.false)))  -- returns-2
+    (λ c. c.number.ensures ∙ sym (entry_there _ _ _ _ c.if-i-count.true))  -- returns-then-i-count
+    (λ c. sym (entry_past _ _ _ _ c.if-i-count.false)))  -- returns-else-i-count

@@ -26,15 +26,15 @@ unfolding same_kind
 is_pair_lem true = refl
 is_pair_lem false = refl
 
-returns : tie.Need-returns
+returns-then-ty-lt-COMPOUNDS : tie.Need-returns-then-ty-lt-COMPOUNDS
 unfolding is_of both
-returns c = rw (lt-leb _ _ c.if1.true) refl
+returns-then-ty-lt-COMPOUNDS c = rw (lt-leb _ _ c.if-ty-lt-COMPOUNDS.true) refl
 
-returns-2 : tie.Need-returns-2
+returns-then-types-ty : tie.Need-returns-then-types-ty
 unfolding is_of both
-returns-2 c =
+returns-then-types-ty c =
     let low = c.before.before in
-    rw (le-leb _ _ low.if1.false, rw c.before.types.ensures at (le-ltb _ _ c.if2.true))
+    rw (le-leb _ _ low.if-ty-lt-COMPOUNDS.false, rw c.types.ensures at (le-ltb _ _ c.if-types-ty.true))
 
 -- a number with parts, by its second word
 there : (t : List ℕ) (k : Kind) (ty w : ℕ) → w ≡ right_word_in t ty → 3 ≤ ty → ty < types_in t
@@ -42,29 +42,29 @@ there : (t : List ℕ) (k : Kind) (ty w : ℕ) → w ≡ right_word_in t ty → 
 unfolding is_of both kind_in
 there t k ty w e h l = rw (le-leb 3 ty h, lt-ltb ty (types_in t) l, e)
 
-returns-3 : tie.Need-returns-3
-returns-3 c =
-    let word = c.before.before in
+returns-in-Sum : tie.Need-returns-in-Sum
+returns-in-Sum c =
+    let word = c.before in
     let past = word.before in
-    rw c.enum_told.given.1
-    (is_sum_lem (leb max_types word.right-word.result) ∙ sym (there _ Sum _ _ word.right-word.ensures
-    past.before.before.if1.false (rw past.before.types.ensures at past.if2.false)))
+    rw c.in-Sum.is
+    (is_sum_lem (leb max_types word.right_word-pair.result) ∙ sym (there _ Sum _ _ word.right_word-pair.ensures
+    past.if-ty-lt-COMPOUNDS.false (rw past.types.ensures at past.if-types-ty.false)))
 
-returns-4 : tie.Need-returns-4
-returns-4 c =
-    let word = c.before.before in
+returns-in-Pair : tie.Need-returns-in-Pair
+returns-in-Pair c =
+    let word = c.before in
     let past = word.before in
-    rw c.enum-told2.given.1
-    (is_pair_lem _ ∙ sym (there _ Pair _ _ word.right-word.ensures past.before.before.if1.false
-    (rw past.before.types.ensures at past.if2.false)))
+    rw c.in-Pair.is
+    (is_pair_lem _ ∙ sym (there _ Pair _ _ word.right_word-pair.ensures past.if-ty-lt-COMPOUNDS.false
+    (rw past.types.ensures at past.if-types-ty.false)))
 
 pub is_of_spec : {M : Type 1} → statement M
 is_of_spec = tie.close (tie.spec
-    returns
+    returns-then-ty-lt-COMPOUNDS
     (λ c κs. search rules)  -- types-requires
-    returns-2
-    (λ c κs. search rules)  -- right-word-requires
-    (λ c. search rules)  -- enum_told
-    (λ c. search rules)  -- enum-told-2
-    returns-3
-    returns-4)
+    returns-then-types-ty
+    (λ c κs. search rules)  -- right_word-pair-requires
+    (λ c. search rules)  -- enum_told-1
+    (λ c. search rules)  -- enum_told-in-Pair
+    returns-in-Sum
+    returns-in-Pair)

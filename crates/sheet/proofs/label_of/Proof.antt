@@ -8,16 +8,16 @@ use Rattle.sheet.proofs.label_of.Tie as tie
 pub label_of_spec : {M : Type 1} → statement M
 label_of_spec = tie.close (tie.spec
     (λ c κs. search rules)  -- labels-requires
-    (λ c κs. search rules)  -- label-place-requires
-    (λ c κs. search rules)  -- label-at-requires
+    (λ c κs. search rules)  -- label_place-requires
+    (λ c κs. search rules)  -- label_at-requires
     (λ c κs. search rules)  -- everyone-requires
     (λ c κs. search rules)  -- bottom-requires
     (λ c.
     let b = c.before.before in
     c.label_at.ensures
-    ∙ ap (label_at _) c.before.label-place.ensures
-    ∙ sym (label_there _ _ b.before.labels.ensures b.if1.true))  -- returns
+    ∙ ap (label_at _) c.label_place.ensures
+    ∙ sym (label_there _ _ b.labels.ensures b.if-l-labels.true))  -- returns-then-l-labels
     (λ c.
     let b = c.before.before in
     c.bottom.ensures
-    ∙ sym (label_past _ _ b.before.labels.ensures c.before.everyone.ensures b.if1.false)))  -- returns-2
+    ∙ sym (label_past _ _ b.labels.ensures c.everyone.ensures b.if-l-labels.false)))  -- returns-else-l-labels

@@ -8,4 +8,4 @@ unfolding left_in
 left_part_spec = tie.close (tie.spec
     (λ c κs. search rules)  -- types-requires
     (λ c κs. search rules)  -- entry-requires
-    (λ c. rw (c.entry.ensures, c.before.types.ensures)))  -- returns
+    (λ c. rw (c.entry.ensures, c.types.ensures)))  -- returns

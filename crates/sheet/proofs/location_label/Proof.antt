@@ -7,6 +7,6 @@ pub location_label_spec : {M : Type 1} → statement M
 unfolding home_in
 location_label_spec = tie.close (tie.spec
     (λ c κs. search rules)  -- locations-requires
-    (λ c. search rules)  -- add-entry
+    (λ c. search rules)  -- overflow_add-entry
     (λ c κs. search rules)  -- entry-requires
-    (λ c. rw (c.entry.ensures, c.before.locations.ensures)))  -- returns
+    (λ c. rw (c.entry.ensures, c.locations.ensures)))  -- returns

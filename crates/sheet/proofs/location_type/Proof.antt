@@ -8,4 +8,4 @@ unfolding type_in
 location_type_spec = tie.close (tie.spec
     (λ c κs. search rules)  -- locations-requires
     (λ c κs. search rules)  -- entry-requires
-    (λ c. rw (c.entry.ensures, c.before.locations.ensures)))  -- returns
+    (λ c. rw (c.entry.ensures, c.locations.ensures)))  -- returns

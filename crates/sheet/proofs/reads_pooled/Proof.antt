@@ -9,35 +9,35 @@ use Rattle.sheet.proofs.Entries.{label_there, label_past}
 use Rattle.sheet.proofs.reads_pooled.Statement.{statement}
 use Rattle.sheet.proofs.reads_pooled.Tie as tie
 
-returns : tie.Need-returns
-returns c =
+returns-then-labels-l : tie.Need-returns-then-labels-l
+returns-then-labels-l c =
     let b = c.before.before.before in
     let n = b.before.before in
-    let g = n.before.before.args.group in
-    c.reads-pooled.ensures
-    ∙ ap₂ (λ (k : ℕ) (a : Label). reads_pooled_of k g a) n.principals.ensures
-    (c.before.bottom.ensures
-    ∙ sym (label_past _ _ b.before.labels.ensures c.before.before.everyone.ensures b.if1.true))
+    let g = n.args.group in
+    c.reads_pooled.ensures
+    ∙ ap₂ (λ (k : ℕ) (a : Label). reads_pooled_of k g a) n.principals-n.ensures
+    (c.bottom.ensures
+    ∙ sym (label_past _ _ b.labels.ensures c.everyone.ensures b.if-labels-l.true))
 
-returns-2 : tie.Need-returns-2
+returns : tie.Need-returns
 unfolding reads_pooled_of label_at
-returns-2 c =
+returns c =
     let n = c.before.before.before in
-    let g = n.before.before.args.group in
+    let g = n.args.group in
     c.meets_at.ensures
-    ∙ ap₂ (λ (k : ℕ) (a : Label). reads_pooled_of k g a) n.principals.ensures
-    (sym (label_there _ _ c.before.before.labels.ensures c.before.if1.false))
+    ∙ ap₂ (λ (k : ℕ) (a : Label). reads_pooled_of k g a) n.principals-n.ensures
+    (sym (label_there _ _ c.labels.ensures c.if-labels-l.false))
 
 pub reads_pooled_spec : {M : Type 1} → statement M
 reads_pooled_spec = tie.close (tie.spec
-    (λ c κs. search rules)  -- principals-requires
-    (λ c. search rules)  -- cast-n
+    (λ c κs. search rules)  -- principals-n-requires
+    (λ c. search rules)  -- overflow_cast-n
     (λ c κs. search rules)  -- labels-requires
     (λ c κs. search rules)  -- everyone-requires
     (λ c κs. search rules)  -- bottom-requires
-    (λ c κs. search rules)  -- reads-pooled-requires
-    returns
-    (λ c. search rules)  -- mul-meets-at
-    (λ c. search rules)  -- add-meets-at
-    (λ c κs. search rules)  -- meets-at-requires
-    returns-2)
+    (λ c κs. search rules)  -- reads_pooled-requires
+    returns-then-labels-l
+    (λ c. search rules)  -- overflow_mul-l
+    (λ c. search rules)  -- overflow_add-l
+    (λ c κs. search rules)  -- meets_at-requires
+    returns)

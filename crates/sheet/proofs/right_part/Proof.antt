@@ -6,5 +6,5 @@ use Rattle.sheet.proofs.right_part.Tie as tie
 pub right_part_spec : {M : Type 1} → statement M
 unfolding right_in
 right_part_spec = tie.close (tie.spec
-    (λ c κs. search rules)  -- right-word-requires
-    (λ c. rw c.right-word.ensures))  -- returns
+    (λ c κs. search rules)  -- right_word-requires
+    (λ c. rw c.right_word.ensures))  -- returns

@@ -7,6 +7,6 @@ pub right_word_spec : {M : Type 1} → statement M
 unfolding right_word_in
 right_word_spec = tie.close (tie.spec
     (λ c κs. search rules)  -- types-requires
-    (λ c. search rules)  -- add-entry
+    (λ c. search rules)  -- overflow_add-entry
     (λ c κs. search rules)  -- entry-requires
-    (λ c. rw (c.entry.ensures, c.before.types.ensures)))  -- returns
+    (λ c. rw (c.entry.ensures, c.types.ensures)))  -- returns

@@ -9,5 +9,5 @@ pub rule_spec : {M : Type 1} → statement M
 unfolding rule_in
 rule_spec = tie.close (tie.spec
     (λ c κs. search rules)  -- word-requires
-    (λ c. rw (← c.before.word.ensures, c.if1.true))  -- returns
-    (λ c. rw (← c.before.word.ensures, ne_eqb _ _ c.if1.false)))  -- returns-2
+    (λ c. rw (← c.word.ensures, c.if-word-eq-POOLED.true))  -- returns-then-word-eq-POOLED
+    (λ c. rw (← c.word.ensures, ne_eqb _ _ c.if-word-eq-POOLED.false)))  -- returns-else-word-eq-POOLED

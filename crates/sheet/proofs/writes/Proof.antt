@@ -10,37 +10,37 @@ use Rattle.sheet.proofs.Entries.{label_there, label_past}
 use Rattle.sheet.proofs.writes.Statement.{statement}
 use Rattle.sheet.proofs.writes.Tie as tie
 
-returns : tie.Need-returns
+returns-then-labels-l : tie.Need-returns-then-labels-l
 unfolding writes_in
-returns c =
+returns-then-labels-l c =
     let b = c.before.before.before in
     let n = b.before.before in
-    let g = n.before.before.args.group in
+    let g = n.args.group in
     c.writes.ensures
-    ∙ ap₂ (λ (k : ℕ) (a : Label). writes_of k g a) n.principals.ensures
-    (c.before.bottom.ensures
-    ∙ sym (label_past _ _ b.before.labels.ensures c.before.before.everyone.ensures b.if1.true))
+    ∙ ap₂ (λ (k : ℕ) (a : Label). writes_of k g a) n.principals-n.ensures
+    (c.bottom.ensures
+    ∙ sym (label_past _ _ b.labels.ensures c.everyone.ensures b.if-labels-l.true))
 
-returns-2 : tie.Need-returns-2
+returns : tie.Need-returns
 unfolding writes_in writes_of label_at
-returns-2 c =
+returns c =
     let n = c.before.before.before in
-    let g = n.before.before.args.group in
+    let g = n.args.group in
     c.meets_at.ensures
-    ∙ ap₂ (λ (k : ℕ) (a : Label). writes_of k g a) n.principals.ensures
-    (sym (label_there _ _ c.before.before.labels.ensures c.before.if1.false))
+    ∙ ap₂ (λ (k : ℕ) (a : Label). writes_of k g a) n.principals-n.ensures
+    (sym (label_there _ _ c.labels.ensures c.if-labels-l.false))
 
 pub writes_spec : {M : Type 1} → statement M
 writes_spec = tie.close (tie.spec
-    (λ c κs. search rules)  -- principals-requires
-    (λ c. search rules)  -- cast-n
+    (λ c κs. search rules)  -- principals-n-requires
+    (λ c. search rules)  -- overflow_cast-n
     (λ c κs. search rules)  -- labels-requires
     (λ c κs. search rules)  -- everyone-requires
     (λ c κs. search rules)  -- bottom-requires
     (λ c κs. search rules)  -- writes-requires
-    returns
-    (λ c. search rules)  -- mul-meets-at
-    (λ c. search rules)  -- add-meets-at
-    (λ c. search rules)  -- add-meets-at-2
-    (λ c κs. search rules)  -- meets-at-requires
-    returns-2)
+    returns-then-labels-l
+    (λ c. search rules)  -- overflow_mul-l
+    (λ c. search rules)  -- overflow_add-l
+    (λ c. search rules)  -- overflow_add-l-2
+    (λ c κs. search rules)  -- meets_at-requires
+    returns)

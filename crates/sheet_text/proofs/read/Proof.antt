@@ -8,39 +8,39 @@ use borrow.Author.Rules.{rules}
 use Rattle.sheet_text.proofs.read.Statement.{statement}
 use Rattle.sheet_text.proofs.read.Tie as tie
 
-returns : tie.Need-returns
+returns-in_default : tie.Need-returns-in_default
 unfolding sheet_of refused_by
-returns c =
+returns-in_default c =
     let told = c.before in
-    parsed-malformed _ _ _ told.before.before.draft-of.ensures told.enum-told2.given.1
+    parsed-malformed _ _ _ told.draft_of.ensures told.in_default.is
 
 repeats-requires : tie.Need-repeats-requires
 repeats-requires c κs =
-    let told = c.before in
-    counts-few _ _ _ told.enum_told.given.1 _ (formed_read _) told.before.before.draft-of.ensures
+    let told = c in
+    counts-few _ _ _ told.in-Formed.is _ (formed_read _) told.draft_of.ensures
 
-returns-2 : tie.Need-returns-2
+returns-then-repeats : tie.Need-returns-then-repeats
 unfolding sheet_of refused_by
-returns-2 c =
+returns-then-repeats c =
     let repeats = c.before.before in
-    let told = repeats.before.before in
-    parsed-repeating _ _ _ told.enum_told.given.1 _ (formed_read _) told.before.before.draft-of.ensures
-    (sym repeats.repeats.ensures ∙ c.before.if1.true)
+    let told = repeats.before in
+    parsed-repeating _ _ _ told.in-Formed.is _ (formed_read _) told.draft_of.ensures
+    (sym repeats.repeats.ensures ∙ c.if-repeats.true)
 
-returns-3 : tie.Need-returns-3
+returns : tie.Need-returns
 unfolding sheet_of
-returns-3 c =
+returns c =
     let repeats = c.before in
-    let told = repeats.before.before in
-    parsed-accepted _ _ _ told.enum_told.given.1 _ (formed_read _) told.before.before.draft-of.ensures
-    (sym repeats.repeats.ensures ∙ c.if1.false)
+    let told = repeats.before in
+    parsed-accepted _ _ _ told.in-Formed.is _ (formed_read _) told.draft_of.ensures
+    (sym repeats.repeats.ensures ∙ c.if-repeats.false)
 
 pub read_spec : {M : Type 1} → statement M
 read_spec = tie.close (tie.spec
-    (λ c κs. search rules)  -- draft-of-requires
-    (λ c. search rules)  -- enum_told
-    (λ c. search rules)  -- enum-told-2
-    returns
+    (λ c κs. search rules)  -- draft_of-requires
+    (λ c. search rules)  -- enum_told-1
+    (λ c. search rules)  -- enum_told-in_default
+    returns-in_default
     repeats-requires
-    returns-2
-    returns-3)
+    returns-then-repeats
+    returns)

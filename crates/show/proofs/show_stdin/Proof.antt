@@ -8,15 +8,15 @@ returns : tie.Need-returns
 returns c =
     let o = c.before.before in
     let r = o.before.before.before.before in
-    let a = r.before.before.before.args in
-    let i = r.read-texts.ensures in
-    put-shown i.0 _ _ i.1 a.out.now _ _ o.show-input.ensures
+    let a = r.args in
+    let i = r.read_texts-state.ensures in
+    put-shown i.0 _ _ i.1 a.out.now _ _ o.show_input.ensures
 
 pub show_stdin_spec : {M : Type 1} → statement M
 show_stdin_spec = tie.close (tie.spec
-    (λ c. search rules)  -- slice-aggregate-read-texts
-    (λ c κs. search rules)  -- read-texts-requires
-    (λ c. search rules)  -- slice-aggregate-show-input
-    (λ c κs. search rules)  -- show-input-requires
-    (λ c. search rules)  -- same-length
+    (λ c. search rules)  -- slice_bounds-read_texts-end
+    (λ c κs. search rules)  -- read_texts-state-requires
+    (λ c. search rules)  -- slice_bounds-show_input-end
+    (λ c κs. search rules)  -- show_input-requires
+    (λ c. search rules)  -- shape_of-out
     returns)

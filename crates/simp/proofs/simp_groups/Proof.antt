@@ -9,27 +9,27 @@ use borrow.Author.Rules.{rules}
 use Rattle.simp.proofs.simp_groups.Statement.{statement}
 use Rattle.simp.proofs.simp_groups.Tie as tie
 
+returns-then-answer-ne-DONE : tie.Need-returns-then-answer-ne-DONE
+unfolding groups_of
+returns-then-answer-ne-DONE c =
+    let k = c.before in
+    rw c.refused.ensures (sheet-refused (refused_groups _) _ _ _ _ k.read-verdict.ensures
+    k.sheet_number-answer.ensures k.if-answer-ne-DONE.true)
+
 returns : tie.Need-returns
 unfolding groups_of
 returns c =
-    let k = c.before in
-    rw c.refused.ensures (sheet-refused (refused_groups _) _ _ _ _ k.before.before.read.ensures
-    k.before.sheet-number.ensures k.if1.true)
-
-returns-2 : tie.Need-returns-2
-unfolding groups_of
-returns-2 c =
     let k = c.before.before.before.before.before in
-    sheet_read_lem _ _ _ _ _ k.before.before.read.ensures k.before.sheet-number.ensures _ k.if1.false
-    (groups_in_lem _ _ _ _ c.before.before.list_on.ensures)
+    sheet_read_lem _ _ _ _ _ k.read-verdict.ensures k.sheet_number-answer.ensures _ k.if-answer-ne-DONE.false
+    (groups_in_lem _ _ _ _ c.list_on.ensures)
 
 pub simp_groups_spec : {M : Type 1} → statement M
 simp_groups_spec = tie.close (tie.spec
-    (λ c κs. search rules)  -- read-requires
-    (λ c κs. search rules)  -- sheet-number-requires
+    (λ c κs. search rules)  -- read-verdict-requires
+    (λ c κs. search rules)  -- sheet_number-answer-requires
     (λ c κs. search rules)  -- refused-requires
-    returns
-    (λ c. sym (decoded_long _ _ c.before.before.before.read.ensures))  -- slice-aggregate-list-on
-    (λ c κs. search rules)  -- list-on-requires
-    (λ c. search rules)  -- same-length
-    returns-2)
+    returns-then-answer-ne-DONE
+    (λ c. sym (decoded_long _ _ c.read-verdict.ensures))  -- slice_bounds-list_on-end
+    (λ c κs. search rules)  -- list_on-requires
+    (λ c. search rules)  -- shape_of-groups
+    returns)

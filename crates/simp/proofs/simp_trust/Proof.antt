@@ -8,26 +8,26 @@ use borrow.Author.Rules.{rules}
 use Rattle.simp.proofs.simp_trust.Statement.{statement}
 use Rattle.simp.proofs.simp_trust.Tie as tie
 
+returns-then-answer-ne-DONE : tie.Need-returns-then-answer-ne-DONE
+unfolding trust_of
+returns-then-answer-ne-DONE c =
+    let k = c.before in
+    rw c.refused_trust.ensures (sheet-refused refused_trust _ _ _ _ k.read-verdict.ensures
+    k.sheet_number-answer.ensures k.if-answer-ne-DONE.true)
+
 returns : tie.Need-returns
 unfolding trust_of
 returns c =
-    let k = c.before in
-    rw c.refused-trust.ensures (sheet-refused refused_trust _ _ _ _ k.before.before.read.ensures
-    k.before.sheet-number.ensures k.if1.true)
-
-returns-2 : tie.Need-returns-2
-unfolding trust_of
-returns-2 c =
     let k = c.before.before in
-    sheet_read_lem refused_trust _ _ _ _ k.before.before.read.ensures k.before.sheet-number.ensures _
-    k.if1.false c.trust-on.ensures.trusted
+    sheet_read_lem refused_trust _ _ _ _ k.read-verdict.ensures k.sheet_number-answer.ensures _
+    k.if-answer-ne-DONE.false c.trust_on.ensures.trusted
 
 pub simp_trust_spec : {M : Type 1} → statement M
 simp_trust_spec = tie.close (tie.spec
-    (λ c κs. search rules)  -- read-requires
-    (λ c κs. search rules)  -- sheet-number-requires
-    (λ c κs. search rules)  -- refused-trust-requires
-    returns
-    (λ c. sym (decoded_long _ _ c.before.before.before.read.ensures))  -- slice-aggregate-trust-on
-    (λ c κs. search rules)  -- trust-on-requires
-    returns-2)
+    (λ c κs. search rules)  -- read-verdict-requires
+    (λ c κs. search rules)  -- sheet_number-answer-requires
+    (λ c κs. search rules)  -- refused_trust-requires
+    returns-then-answer-ne-DONE
+    (λ c. sym (decoded_long _ _ c.read-verdict.ensures))  -- slice_bounds-trust_on-end
+    (λ c κs. search rules)  -- trust_on-requires
+    returns)

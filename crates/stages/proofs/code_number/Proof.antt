@@ -8,9 +8,9 @@ use Rattle.stages.proofs.code_number.Tie as tie
 pub code_number_spec : {M : Type 1} → statement M
 unfolding verdict_number
 code_number_spec = tie.close (tie.spec
-    (λ c. search rules)  -- enum_told
-    (λ c. search rules)  -- enum-told-2
-    (λ c. search rules)  -- enum-told-3
-    (λ c. sym (ap verdict_number c.enum_told.given.1))  -- returns
-    (λ c. sym (ap verdict_number c.enum-told2.given.1))  -- returns-2
-    (λ c. sym (ap verdict_number c.enum-told3.given.1)))  -- returns-3
+    (λ c. search rules)  -- enum_told-1
+    (λ c. search rules)  -- enum_told-in-IllTyped
+    (λ c. search rules)  -- enum_told-in-IllLabelled
+    (λ c. sym (ap verdict_number c.in-Accepted.is))  -- returns-in-Accepted
+    (λ c. sym (ap verdict_number c.in-IllTyped.is))  -- returns-in-IllTyped
+    (λ c. sym (ap verdict_number c.in-IllLabelled.is)))  -- returns-in-IllLabelled

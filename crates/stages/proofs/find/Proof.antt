@@ -6,14 +6,14 @@ use Rattle.stages.proofs.find.Tie as tie
 
 returns : tie.Need-returns
 returns c =
-    let j = c.judge.ensures in
-    let read = c.before.before.before.before.read.ensures in
-    let rows = c.before.rows.ensures in
+    let j = c.judge-judged.ensures in
+    let read = c.read-read.ensures in
+    let rows = c.rows.ensures in
     (numbers_script _ _ _ _ _ read rows j.0, keeps_script _ _ _ _ _ read rows j.1)
 
 pub find_spec : {M : Type 1} → statement M
 find_spec = tie.close (tie.spec
-    (λ c κs. search rules)  -- read-requires
+    (λ c κs. search rules)  -- read-read-requires
     (λ c κs. search rules)  -- rows-requires
-    (λ c κs. search rules)  -- judge-requires
+    (λ c κs. search rules)  -- judge-judged-requires
     returns)

@@ -8,9 +8,9 @@ use Rattle.stages.proofs.memory_number.Tie as tie
 pub memory_number_spec : {M : Type 1} → statement M
 unfolding memory_number
 memory_number_spec = tie.close (tie.spec
-    (λ c. search rules)  -- enum_told
-    (λ c. search rules)  -- enum-told-2
-    (λ c. search rules)  -- enum-told-3
-    (λ c. sym (ap memory_number c.enum_told.given.1))  -- returns
-    (λ c. sym (ap memory_number c.enum-told2.given.1))  -- returns-2
-    (λ c. sym (ap memory_number c.enum-told3.given.1)))  -- returns-3
+    (λ c. search rules)  -- enum_told-1
+    (λ c. search rules)  -- enum_told-in-OtherSize
+    (λ c. search rules)  -- enum_told-in-IllFormed
+    (λ c. sym (ap memory_number c.in-Accepted.is))  -- returns-in-Accepted
+    (λ c. sym (ap memory_number c.in-OtherSize.is))  -- returns-in-OtherSize
+    (λ c. sym (ap memory_number c.in-IllFormed.is)))  -- returns-in-IllFormed

@@ -5,5 +5,5 @@ use Rattle.stages.proofs.number_of.Tie as tie
 
 pub number_of_spec : {M : Type 1} → statement M
 number_of_spec = tie.close (tie.spec
-    (λ c κs. search rules)  -- find-requires
-    (λ c. c.find.ensures.0))  -- returns
+    (λ c κs. search rules)  -- find-found-requires
+    (λ c. c.find-found.ensures.0))  -- returns

@@ -6,8 +6,8 @@ use Rattle.stages.proofs.run_accepted.Tie as tie
 
 pub run_accepted_spec : {M : Type 1} → statement M
 run_accepted_spec = tie.close (tie.spec
-    (λ c κs. search rules)  -- run-requires
+    (λ c κs. search rules)  -- run-ran-requires
     (λ c κs. search rules)  -- number-requires
-    (λ c. search rules)  -- same-length
+    (λ c. search rules)  -- shape_of-memory
     (λ c. rw c.number.ensures
-    (runs-accepted _ _ _ _ _ _ _ _ c.before.before.before.run.ensures)))  -- returns
+    (runs-accepted _ _ _ _ _ _ _ _ c.run-ran.ensures)))  -- returns

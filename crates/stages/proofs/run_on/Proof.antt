@@ -7,38 +7,38 @@ use borrow.Author.Rules.{rules}
 use Rattle.stages.proofs.run_on.Statement.{statement}
 use Rattle.stages.proofs.run_on.Tie as tie
 
-returns : tie.Need-returns
-returns c =
+returns-then-not-contained : tie.Need-returns-then-not-contained
+returns-then-not-contained c =
     let e = c.before.before in
     rw c.refused.ensures
-    (run_stranger _ _ _ _ _ (ap (within _) (sym e.before.everyone.ensures) ∙ sym e.contained.ensures
-    ∙ not-true _ c.before.if1.true))
+    (run_stranger _ _ _ _ _ (ap (within _) (sym e.everyone.ensures) ∙ sym e.contained.ensures
+    ∙ not-true _ c.if-not-contained.true))
 
-returns-2 : tie.Need-returns-2
-returns-2 c =
+returns-then-read-ne-DONE : tie.Need-returns-then-read-ne-DONE
+returns-then-read-ne-DONE c =
     let n = c.before.before.before in
     let k = n.before.before in
-    rw c.refused2.ensures
+    rw c.refused-then-read-ne-DONE.ensures
     (run-numbered _ _ _ _ _
-    (ap (within _) (sym k.before.before.everyone.ensures) ∙ sym k.before.contained.ensures
-    ∙ not-false _ k.if1.false)
-    n.number_of_lem.ensures c.before.if2.true)
+    (ap (within _) (sym k.everyone.ensures) ∙ sym k.contained.ensures
+    ∙ not-false _ k.if-not-contained.false)
+    n.number_of_lem.ensures c.if-read-ne-DONE.true)
 
-returns-3 : tie.Need-returns-3
-returns-3 c =
+returns-then-answer-ne-DONE : tie.Need-returns-then-answer-ne-DONE
+returns-then-answer-ne-DONE c =
     let j = c.before.before in
     let m = j.before.before.before in
     let n = m.before.before in
     let k = n.before.before in
-    rw c.refused3.ensures
+    rw c.refused-then-answer-ne-DONE.ensures
     (run-refused _ _ _ _ _
-    (ap (within _) (sym k.before.before.everyone.ensures) ∙ sym k.before.contained.ensures
+    (ap (within _) (sym k.everyone.ensures) ∙ sym k.contained.ensures
     ∙ not-false _ k.if1.false)
     n.number_of_lem.ensures m.if2.false _
-    (j.memory-number.ensures ∙ j.before.judge.ensures) c.before.if3.true)
+    (j.memory_number-answer.ensures ∙ j.judge-verdict.ensures) c.if-answer-ne-DONE.true)
 
-returns-4 : tie.Need-returns-4
-returns-4 c =
+returns : tie.Need-returns
+returns c =
     let r = c.before.before in
     let rows = r.before.before in
     let e = rows.before.before in
@@ -47,31 +47,31 @@ returns-4 c =
     let n = m.before.before in
     let k = n.before.before in
     run_ends _ _ _ _ _
-    (ap (within _) (sym k.before.before.everyone.ensures) ∙ sym k.before.contained.ensures
+    (ap (within _) (sym k.everyone.ensures) ∙ sym k.contained.ensures
     ∙ not-false _ k.if1.false)
     n.number_of_lem.ensures m.if2.false _
-    (sym e.if3.false ∙ j.memory-number.ensures ∙ j.before.judge.ensures)
-    rows.rows.ensures r.run-accepted.ensures
+    (sym e.if-answer-ne-DONE.false ∙ j.memory_number-answer.ensures ∙ j.judge-verdict.ensures)
+    rows.rows.ensures r.run_accepted.ensures
 
 pub run_on_spec : {M : Type 1} → statement M
 run_on_spec = tie.close (tie.spec
     (λ c κs. search rules)  -- everyone-requires
     (λ c κs. search rules)  -- contained-requires
     (λ c κs. search rules)  -- refused-requires
-    returns
-    (λ c κs. search rules)  -- number-of-requires
-    (λ c κs. search rules)  -- refused-requires-2
-    returns-2
-    (λ c κs. search rules)  -- judge-requires
-    (λ c κs. search rules)  -- memory-number-requires
-    (λ c κs. search rules)  -- refused-requires-3
-    (λ c. search rules)  -- same-length
-    returns-3
+    returns-then-not-contained
+    (λ c κs. search rules)  -- number_of-read-requires
+    (λ c κs. search rules)  -- refused-requires-then-read-ne-DONE
+    returns-then-read-ne-DONE
+    (λ c κs. search rules)  -- judge-verdict-requires
+    (λ c κs. search rules)  -- memory_number-answer-requires
+    (λ c κs. search rules)  -- refused-requires-then-answer-ne-DONE
+    (λ c. search rules)  -- shape_of-memory-then-answer-ne-DONE
+    returns-then-answer-ne-DONE
     (λ c. search (
       rules,
-      code_whole c.before.before.before.before.before.before.before.number_of_lem.ensures,
-    ))  -- slice-aggregate-rows
+      code_whole c.number_of_lem.ensures,
+    ))  -- slice_bounds-rows-end
     (λ c κs. search rules)  -- rows-requires
-    (λ c κs. search rules)  -- run-accepted-requires
-    (λ c. search rules)  -- same-length-2
-    returns-4)
+    (λ c κs. search rules)  -- run_accepted-requires
+    (λ c. search rules)  -- shape_of-memory
+    returns)

@@ -8,9 +8,9 @@ use Rattle.stages.proofs.sheet_number.Tie as tie
 pub sheet_number_spec : {M : Type 1} → statement M
 unfolding sheet_number
 sheet_number_spec = tie.close (tie.spec
-    (λ c. search rules)  -- enum_told
-    (λ c. search rules)  -- enum-told-2
-    (λ c. search rules)  -- enum-told-3
-    (λ c. sym (ap sheet_number c.enum_told.given.1))  -- returns
-    (λ c. sym (ap sheet_number c.enum-told2.given.1))  -- returns-2
-    (λ c. sym (ap sheet_number c.enum-told3.given.1)))  -- returns-3
+    (λ c. search rules)  -- enum_told-1
+    (λ c. search rules)  -- enum_told-in-Malformed
+    (λ c. search rules)  -- enum_told-in-Repeats
+    (λ c. sym (ap sheet_number c.in-Accepted.is))  -- returns-in-Accepted
+    (λ c. sym (ap sheet_number c.in-Malformed.is))  -- returns-in-Malformed
+    (λ c. sym (ap sheet_number c.in-Repeats.is)))  -- returns-in-Repeats

@@ -9,24 +9,24 @@ use Rattle.text.proofs.digit_at.Statement.{statement}
 use Rattle.text.proofs.digit_at.Tie as tie
 use Rattle.logic.specs.Booleans.{both}
 
+returns-then-s-at : tie.Need-returns-then-s-at
+returns-then-s-at c = let a = c.args in sym (opens_at_end a.s.now a.at c.if-s-at.true)
+
+returns-then-s-at-lt48 : tie.Need-returns-then-s-at-lt48
+returns-then-s-at-lt48 c =
+    let a = c.args in
+    sym (opens_at a.s.now a.at (omega arith) ∙ digit_low _ c.if-s-at-lt48.true)
+
 returns : tie.Need-returns
-returns c = let a = c.before.args in sym (opens_at_end a.s.now a.at c.if1.true)
-
-returns-2 : tie.Need-returns-2
-returns-2 c =
-    let a = c.before.before.before.args in
-    sym (opens_at a.s.now a.at (omega arith) ∙ digit_low _ c.if2.true)
-
-returns-3 : tie.Need-returns-3
 unfolding digit both
-returns-3 c =
-    let a = c.before.before.before.before.args in
-    sym (opens_at a.s.now a.at (omega arith) ∙ rw (le-leb _ _ c.before.if2.false))
+returns c =
+    let a = c.args in
+    sym (opens_at a.s.now a.at (omega arith) ∙ rw (le-leb _ _ c.if-s-at-lt48.false))
 
 pub digit_at_spec : {M : Type 1} → statement M
 digit_at_spec = tie.close (tie.spec
-    returns
-    (λ c. search rules)  -- shared-slice-read-if2
-    returns-2
-    (λ c. search rules)  -- shared-slice-read-result
-    returns-3)
+    returns-then-s-at
+    (λ c. search rules)  -- bounds-s-at
+    returns-then-s-at-lt48
+    (λ c. search rules)  -- bounds-s-at-2
+    returns)

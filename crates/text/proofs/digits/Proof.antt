@@ -10,72 +10,72 @@ use Rattle.text.proofs.Numbers.{digits_at_over, digits_at_on}
 use Rattle.text.proofs.digits.Statement.{statement}
 use Rattle.text.proofs.digits.Tie as tie
 
-abbrev invariant-loop : tie.invariant-loop
-invariant-loop s from bound i₀ v₀ i v =
+abbrev invariant-loop-i : tie.invariant-loop-i
+invariant-loop-i s from bound i₀ v₀ i v =
     (i ≤ length s) × (v ≤ bound) × (spec.digits bound v (drop i s) ≡ spec.digits bound 0 (drop from s))
 
-abbrev decreases-loop : tie.decreases-loop
-decreases-loop s from bound i₀ v₀ i v = length s - i
+abbrev decreases-loop-i : tie.decreases-loop-i
+decreases-loop-i s from bound i₀ v₀ i v = length s - i
 
-returns : tie.Need-returns invariant-loop decreases-loop
-returns c =
+returns-then-b-lt48 : tie.Need-returns-then-b-lt48 invariant-loop-i decreases-loop-i
+returns-then-b-lt48 c =
     let at = c.before.before.before in
-    let a = at.before.args in
-    let here = opens_at a.s.now at.loop.i (omega arith) ∙ digit_low _ c.if1.true in
-    decimal-got _ _ _ _ (sym at.loop.invariant.2 ∙ digits_end a.bound at.loop.v _ here) (omega arith)
+    let a = at.args in
+    let here = opens_at a.s.now at.loop-i.i (omega arith) ∙ digit_low _ c.if-b-lt48.true in
+    decimal-got _ _ _ _ (sym at.loop-i.invariant.2 ∙ digits_end a.bound at.loop-i.v _ here) (omega arith)
 
-returns-2 : tie.Need-returns-2 invariant-loop decreases-loop
-returns-2 c =
+returns-then-b-gt57 : tie.Need-returns-then-b-gt57 invariant-loop-i decreases-loop-i
+returns-then-b-gt57 c =
     let at = c.before.before.before.before in
-    let a = at.before.args in
-    let here = opens_at a.s.now at.loop.i (omega arith) ∙ digit_high _ c.if2.true in
-    decimal-got _ _ _ _ (sym at.loop.invariant.2 ∙ digits_end a.bound at.loop.v _ here) (omega arith)
+    let a = at.args in
+    let here = opens_at a.s.now at.loop-i.i (omega arith) ∙ digit_high _ c.if-b-gt57.true in
+    decimal-got _ _ _ _ (sym at.loop-i.invariant.2 ∙ digits_end a.bound at.loop-i.v _ here) (omega arith)
 
-returns-3 : tie.Need-returns-3 invariant-loop decreases-loop
-returns-3 c =
+returns-then-bound-w : tie.Need-returns-then-bound-w invariant-loop-i decreases-loop-i
+returns-then-bound-w c =
     let at = c.before.before.before.before.before in
-    let a = at.before.args in
+    let a = at.args in
     decimal_none _ _
-    (sym at.loop.invariant.2
-    ∙ digits_at_over a.s.now at.loop.i (omega arith) a.bound at.loop.v
-    (digit_in _ c.before.before.if1.false c.before.if2.false) (omega arith))
+    (sym at.loop-i.invariant.2
+    ∙ digits_at_over a.s.now at.loop-i.i (omega arith) a.bound at.loop-i.v
+    (digit_in _ c.if-b-lt48.false c.if-b-gt57.false) (omega arith))
 
-loop-again : tie.Need-loop-preserved invariant-loop decreases-loop
-loop-again c =
+loop-i-preserved : tie.Need-loop-i-preserved invariant-loop-i decreases-loop-i
+loop-i-preserved c =
     let at = c.before.before.before.before.before in
-    let a = at.before.args in (
+    let a = at.args in (
       omega arith,
       omega arith,
-      sym (digits_at_on a.s.now at.loop.i (omega arith) a.bound at.loop.v
-          (digit_in _ c.before.before.if1.false c.before.if2.false) (omega arith))
-          ∙ at.loop.invariant.2,
+      sym (digits_at_on a.s.now at.loop-i.i (omega arith) a.bound at.loop-i.v
+          (digit_in _ c.if-b-lt48.false c.if-b-gt57.false) (omega arith))
+          ∙ at.loop-i.invariant.2,
     )
 
-returns-4 : tie.Need-returns-4 invariant-loop decreases-loop
-returns-4 c =
+returns : tie.Need-returns invariant-loop-i decreases-loop-i
+returns c =
     let at = c.before in
-    let a = at.before.args in
+    let a = at.args in
     decimal-got _ _ _ _
-    (sym at.loop.invariant.2
-    ∙ digits_end a.bound at.loop.v _ (opens_at_end a.s.now at.loop.i (omega arith)))
+    (sym at.loop-i.invariant.2
+    ∙ digits_end a.bound at.loop-i.v _ (opens_at_end a.s.now at.loop-i.i (omega arith)))
     (omega arith)
 
 pub digits_spec : {M : Type 1} → statement M
 digits_spec = tie.close (tie.spec
-    invariant-loop
-    decreases-loop
-    (λ c. (omega arith, omega arith, refl))  -- loop-holds
-    (λ c. omega arith)  -- shared-slice-read-b
-    (λ c. omega arith)  -- cast-t12
-    returns
-    (λ c. omega arith)  -- cast-t13
-    returns-2
-    (λ c. omega arith)  -- mul-w
-    (λ c. omega arith)  -- cast-w
-    (λ c. omega arith)  -- add-w
-    returns-3
-    (λ c. omega arith)  -- add-i
-    (λ c. omega arith)  -- loop-less
-    loop-again
-    (λ c. omega arith)  -- cast-t16
-    returns-4)
+    invariant-loop-i
+    decreases-loop-i
+    (λ c. (omega arith, omega arith, refl))  -- loop-i-init
+    (λ c. omega arith)  -- bounds-s-i
+    (λ c. omega arith)  -- overflow_cast-result
+    returns-then-b-lt48
+    (λ c. omega arith)  -- overflow_cast-result-then-b-gt57
+    returns-then-b-gt57
+    (λ c. omega arith)  -- overflow_mul-w
+    (λ c. omega arith)  -- overflow_cast-w
+    (λ c. omega arith)  -- overflow_add-w
+    returns-then-bound-w
+    (λ c. omega arith)  -- overflow_add-i
+    (λ c. omega arith)  -- loop-i-smaller
+    loop-i-preserved
+    (λ c. omega arith)  -- overflow_cast-result-2
+    returns)

@@ -5,46 +5,46 @@ use Rattle.text.specs.Set.{hex_digit}
 use Rattle.text.proofs.hex_digit.Statement.{statement}
 use Rattle.text.proofs.hex_digit.Tie as tie
 
-returns : tie.Need-returns
+returns-then-b-lt48 : tie.Need-returns-then-b-lt48
 unfolding hex_digit
-returns c = simp (lt-ltb _ _ c.if1.true)
+returns-then-b-lt48 c = simp (lt-ltb _ _ c.if-b-lt48.true)
 
-returns-2 : tie.Need-returns-2
+returns-then-b-lt58 : tie.Need-returns-then-b-lt58
 unfolding hex_digit
-returns-2 c = simp (le-ltb _ _ c.before.if1.false, lt-ltb _ _ c.if2.true)
+returns-then-b-lt58 c = simp (le-ltb _ _ c.if-b-lt48.false, lt-ltb _ _ c.if-b-lt58.true)
 
-returns-3 : tie.Need-returns-3
+returns-then-b-lt97 : tie.Need-returns-then-b-lt97
 unfolding hex_digit
-returns-3 c =
-    simp (le-ltb _ _ c.before.before.if1.false, le-ltb _ _ c.before.if2.false, lt-ltb _ _ c.if3.true)
+returns-then-b-lt97 c =
+    simp (le-ltb _ _ c.if-b-lt48.false, le-ltb _ _ c.if-b-lt58.false, lt-ltb _ _ c.if-b-lt97.true)
 
-returns-4 : tie.Need-returns-4
+returns-then-b-lt103 : tie.Need-returns-then-b-lt103
 unfolding hex_digit
-returns-4 c =
+returns-then-b-lt103 c =
     simp (
-      le-ltb _ _ c.before.before.before.if1.false,
-      le-ltb _ _ c.before.before.if2.false,
-      le-ltb _ _ c.before.if3.false,
-      lt-ltb _ _ c.if4.true,
+      le-ltb _ _ c.if-b-lt48.false,
+      le-ltb _ _ c.if-b-lt58.false,
+      le-ltb _ _ c.if-b-lt97.false,
+      lt-ltb _ _ c.if-b-lt103.true,
     )
 
-returns-5 : tie.Need-returns-5
+returns-else-b-lt103 : tie.Need-returns-else-b-lt103
 unfolding hex_digit
-returns-5 c =
+returns-else-b-lt103 c =
     simp (
-      le-ltb _ _ c.before.before.before.if1.false,
-      le-ltb _ _ c.before.before.if2.false,
-      le-ltb _ _ c.before.if3.false,
-      le-ltb _ _ c.if4.false,
+      le-ltb _ _ c.if-b-lt48.false,
+      le-ltb _ _ c.if-b-lt58.false,
+      le-ltb _ _ c.if-b-lt97.false,
+      le-ltb _ _ c.if-b-lt103.false,
     )
 
 pub hex_digit_spec : {M : Type 1} → statement M
 hex_digit_spec = tie.close (tie.spec
-    (λ c. search rules)  -- cast-result
-    (λ c. search rules)  -- sub-result
-    (λ c. search rules)  -- cast-result-2
-    returns
-    returns-2
-    returns-3
-    returns-4
-    returns-5)
+    (λ c. search rules)  -- overflow_cast-result
+    (λ c. search rules)  -- overflow_sub-result-then-b-lt103
+    (λ c. search rules)  -- overflow_cast-result-then-b-lt103
+    returns-then-b-lt48
+    returns-then-b-lt58
+    returns-then-b-lt97
+    returns-then-b-lt103
+    returns-else-b-lt103)

@@ -10,80 +10,80 @@ use Rattle.text.proofs.Sets.{hex_done, hex_at_end, hex_at_bad, hex_at_on, hex_fi
 use Rattle.text.proofs.set.Statement.{statement}
 use Rattle.text.proofs.set.Tie as tie
 
-abbrev invariant-loop : tie.invariant-loop
-invariant-loop s at m₀ p₀ i₀ m p i =
+abbrev invariant-loop-i : tie.invariant-loop-i
+invariant-loop-i s at m₀ p₀ i₀ m p i =
     (p ≤ length s) × (i ≤ set_digits) × (m < 16 ^ i) × (hex_digits (set_digits - i) m (drop p s) ≡ hex_set (drop at s))
 
-abbrev decreases-loop : tie.decreases-loop
-decreases-loop s at m₀ p₀ i₀ m p i = set_digits - i
+abbrev decreases-loop-i : tie.decreases-loop-i
+decreases-loop-i s at m₀ p₀ i₀ m p i = set_digits - i
 
-returns : tie.Need-returns invariant-loop decreases-loop
-returns c =
-    let a = c.before.before.args in
-    mask_none _ _ (hex_at_end set_digits 0 0 a.s.now a.at (omega arith) c.if1.true)
+returns-then-s-at : tie.Need-returns-then-s-at invariant-loop-i decreases-loop-i
+returns-then-s-at c =
+    let a = c.args in
+    mask_none _ _ (hex_at_end set_digits 0 0 a.s.now a.at (omega arith) c.if-s-at.true)
 
-returns-2 : tie.Need-returns-2 invariant-loop decreases-loop
-returns-2 c =
+returns-then-s-p : tie.Need-returns-then-s-p invariant-loop-i decreases-loop-i
+returns-then-s-p c =
     let at = c.before.before in
-    let s = at.before.before.before.args.s.now in
-    mask_none _ _ (sym at.loop.invariant.3
-    ∙ hex_at_end set_digits at.loop.i at.loop.m s at.loop.p (omega arith) c.if2.true)
+    let s = at.args.s.now in
+    mask_none _ _ (sym at.loop-i.invariant.3
+    ∙ hex_at_end set_digits at.loop-i.i at.loop-i.m s at.loop-i.p (omega arith) c.if-s-p.true)
 
-returns-3 : tie.Need-returns-3 invariant-loop decreases-loop
-returns-3 c =
+returns-then-d-gt15 : tie.Need-returns-then-d-gt15 invariant-loop-i decreases-loop-i
+returns-then-d-gt15 c =
     let at = c.before.before.before.before.before in
-    let s = at.before.before.before.args.s.now in
+    let s = at.args.s.now in
     mask_none _ _
-    (sym at.loop.invariant.3
-    ∙ hex_at_bad set_digits at.loop.i at.loop.m s at.loop.p (omega arith) (omega arith) _
-    c.before.hex-digit.ensures c.if3.true)
+    (sym at.loop-i.invariant.3
+    ∙ hex_at_bad set_digits at.loop-i.i at.loop-i.m s at.loop-i.p (omega arith) (omega arith) _
+    c.hex_digit-d.ensures c.if-d-gt15.true)
 
-mul-m : tie.Need-overflow-mul-m invariant-loop decreases-loop
-mul-m c =
+overflow_mul-m : tie.Need-overflow_mul-m invariant-loop-i decreases-loop-i
+overflow_mul-m c =
     let at = c.before.before.before.before.before in
-    omega (arith, hex_fits at.loop.i at.loop.m (omega arith) at.loop.invariant.2)
+    omega (arith, hex_fits at.loop-i.i at.loop-i.m (omega arith) at.loop-i.invariant.2)
 
-add-m : tie.Need-overflow-add-m invariant-loop decreases-loop
-add-m c =
+overflow_add-m : tie.Need-overflow_add-m invariant-loop-i decreases-loop-i
+overflow_add-m c =
     let at = c.before.before.before.before.before in
-    omega (arith, hex_fits at.loop.i at.loop.m (omega arith) at.loop.invariant.2)
+    omega (arith, hex_fits at.loop-i.i at.loop-i.m (omega arith) at.loop-i.invariant.2)
 
-loop-again : tie.Need-loop-preserved invariant-loop decreases-loop
-loop-again c =
+loop-i-preserved : tie.Need-loop-i-preserved invariant-loop-i decreases-loop-i
+loop-i-preserved c =
     let at = c.before.before.before.before.before in
-    let s = at.before.before.before.args.s.now in (
+    let s = at.args.s.now in (
       omega arith,
       omega arith,
-      hex_grows at.loop.i at.loop.m _ at.loop.invariant.2 c.if3.false,
-      sym (hex_at_on set_digits at.loop.i at.loop.m s at.loop.p (omega arith) (omega arith) _
-          c.before.hex-digit.ensures c.if3.false)
-          ∙ at.loop.invariant.3,
+      hex_grows at.loop-i.i at.loop-i.m _ at.loop-i.invariant.2 c.if-d-gt15.false,
+      sym (hex_at_on set_digits at.loop-i.i at.loop-i.m s at.loop-i.p (omega arith) (omega arith) _
+          c.hex_digit-d.ensures c.if-d-gt15.false)
+          ∙ at.loop-i.invariant.3,
     )
 
-returns-4 : tie.Need-returns-4 invariant-loop decreases-loop
-returns-4 c =
+returns : tie.Need-returns invariant-loop-i decreases-loop-i
+returns c =
     let at = c.before in
-    let z : set_digits - at.loop.i ≡ 0 = omega arith in
+    let z : set_digits - at.loop-i.i ≡ 0 = omega arith in
     mask-got _ _ _ _
-    (sym at.loop.invariant.3
-    ∙ ap (λ (k : ℕ). hex_digits k at.loop.m (drop at.loop.p at.before.before.before.args.s.now)) z
+    (sym at.loop-i.invariant.3
+    ∙ ap (λ (k : ℕ). hex_digits k at.loop-i.m (drop at.loop-i.p at.args.s.now)) z
     ∙ hex_done _ _)
     (omega arith)
 
 pub set_spec : {M : Type 1} → statement M
 set_spec = tie.close (tie.spec
-    invariant-loop
-    decreases-loop
-    returns
-    (λ c. (omega arith, omega arith, omega arith, refl))  -- loop-holds
-    returns-2
-    (λ c. omega arith)  -- shared-slice-read-hex-digit
-    (λ c κs. search rules)  -- hex-digit-requires
-    returns-3
-    mul-m
-    add-m
-    (λ c. omega arith)  -- add-p
-    (λ c. omega arith)  -- add-i
-    (λ c. omega arith)  -- loop-less
-    loop-again
-    returns-4)
+    invariant-loop-i
+    decreases-loop-i
+    returns-then-s-at
+    (λ c. (omega arith, omega arith, omega arith, refl))  -- loop-i-init
+    returns-then-s-p
+    (λ c. omega arith)  -- bounds-s-p
+    (λ c κs. search rules)  -- hex_digit-d-requires
+    returns-then-d-gt15
+    overflow_mul-m
+    overflow_add-m
+    (λ c. omega arith)  -- overflow_add-p
+    (λ c. omega arith)  -- overflow_add-i
+    (λ c. omega arith)  -- loop-i-smaller
+    loop-i-preserved
+    returns)

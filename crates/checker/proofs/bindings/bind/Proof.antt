@@ -10,10 +10,10 @@ returns c = refl
 
 pub bind_spec : {M : Type 1} → statement M
 bind_spec = tie.close (tie.spec
-    (λ c. search rules)  -- mul-at
-    (λ c. search rules)  -- mul-bound
-    (λ c. search rules)  -- element-write-bound
-    (λ c. search rules)  -- add-bound
-    (λ c. search rules)  -- mul-bound-2
-    (λ c. search rules)  -- element-write-bound-2
+    (λ c. search rules)  -- overflow_mul-at
+    (λ c. search rules)  -- offset_bounds-bound-at
+    (λ c. search rules)  -- bounds-bound-at
+    (λ c. search rules)  -- overflow_add-bound
+    (λ c. search rules)  -- offset_bounds-bound-at-2
+    (λ c. search rules)  -- bounds-bound-at-2
     returns)

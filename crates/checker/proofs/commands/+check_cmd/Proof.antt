@@ -67,112 +67,112 @@ check_cmd_calls t = (
   of-case-reads.Learnt,
 )
 
-check_cmd_returns : (t : ℕ) → check-cmd-lts.Need-returns (check_cmd_calls t) (check_cmd_at t) check-cmd.Post
-check_cmd_returns t c =
-    arm_deep c.before.before.before.before.before.before.before.before.row_at.ensures
-    c.before.before.match2.keys3 c.before.if3.true c.not-passed.ensures
+returns-then-depth-ge-DEPTH : (t : ℕ) → check-cmd-lts.Need-returns-then-depth-ge-DEPTH (check_cmd_calls t) (check_cmd_at t) check-cmd.Post
+returns-then-depth-ge-DEPTH t c =
+    arm_deep c.row_at.ensures
+    c.in-5.is c.if-depth-ge-DEPTH.true c.not_passed.ensures
 
-check_cmd_returns_2 : (t : ℕ) → check-cmd-lts.Need-returns-2 (check_cmd_calls t) (check_cmd_at t) check-cmd.Post
-check_cmd_returns_2 t c =
-    arm_skip c.before.before.row_at.ensures c.before.match.keys1 c.of-skip.ensures
+returns-in-1 : (t : ℕ) → check-cmd-lts.Need-returns-in-1 (check_cmd_calls t) (check_cmd_at t) check-cmd.Post
+returns-in-1 t c =
+    arm_skip c.row_at-row.ensures c.in-1.is c.of_skip.ensures
 
-check_cmd_returns_3 : (t : ℕ) → check-cmd-lts.Need-returns-3 (check_cmd_calls t) (check_cmd_at t) check-cmd.Post
-check_cmd_returns_3 t c =
-    arm_seq c.before.before.before.before.before.before.row_at.ensures
-    c.before.before.before.before.before.match.keys2
-    c.before.before.before.check-cmd.ensures c.before.check-cmd2.ensures c.of-seq.ensures
+returns-in-2 : (t : ℕ) → check-cmd-lts.Need-returns-in-2 (check_cmd_calls t) (check_cmd_at t) check-cmd.Post
+returns-in-2 t c =
+    arm_seq c.row_at-row.ensures
+    c.in-2.is
+    c.check_cmd-first.ensures c.check_cmd-second.ensures c.of_seq.ensures
 
-check_cmd_returns_4 : (t : ℕ) → check-cmd-lts.Need-returns-4 (check_cmd_calls t) (check_cmd_at t) check-cmd.Post
-check_cmd_returns_4 t c =
-    arm_assign c.before.before.before.before.before.before.before.row_at.ensures
-    c.before.before.check-expr.ensures
-    c.before.match2.keys1 c.of-assign.ensures
+returns-in-3-kind : (t : ℕ) → check-cmd-lts.Need-returns-in-3-kind (check_cmd_calls t) (check_cmd_at t) check-cmd.Post
+returns-in-3-kind t c =
+    arm_assign c.row_at.ensures
+    c.check_expr-x.ensures
+    c.in-3-kind.is c.of_assign.ensures
 
-check_cmd_returns_5 : (t : ℕ) → check-cmd-lts.Need-returns-5 (check_cmd_calls t) (check_cmd_at t) check-cmd.Post
-check_cmd_returns_5 t c =
-    arm_while c.before.before.before.before.before.before.before.before.before.before.row_at.ensures
-    c.before.before.before.before.before.check-expr.ensures
-    c.before.before.before.before.match2.keys2 c.before.before.before.join.ensures
-    c.before.check-cmd3.ensures c.of-while.ensures
+returns-in-4 : (t : ℕ) → check-cmd-lts.Need-returns-in-4 (check_cmd_calls t) (check_cmd_at t) check-cmd.Post
+returns-in-4 t c =
+    arm_while c.row_at.ensures
+    c.check_expr-x.ensures
+    c.in-4.is c.join-inside.ensures
+    c.check_cmd-y.ensures c.of_while.ensures
 
-check_cmd_returns_6 : (t : ℕ) → check-cmd-lts.Need-returns-6 (check_cmd_calls t) (check_cmd_at t) check-cmd.Post
-check_cmd_returns_6 t c =
-    arm_case c.before.before.before.before.before.before.before.before.before.before.before.before.before.before.before.before.before.before.before.row_at.ensures
-    c.before.before.before.before.before.before.before.before.before.before.before.before.before.before.check-expr.ensures
-    c.before.before.before.before.before.before.before.before.before.before.before.before.before.match2.keys3
-    c.before.before.before.before.before.before.before.before.before.before.before.before.if3.false
-    c.before.before.before.before.before.before.before.before.before.before.before.join2.ensures
-    (search (rules, c.before.before.before.before.before.before.before.before.before.left-part.type-inv))
-    c.before.before.before.before.before.before.before.before.before.left-part.ensures
-    c.before.before.before.before.before.before.before.before.bind.ensures
-    c.before.before.before.before.before.before.check-cmd4.ensures
-    (search (rules, c.before.before.before.before.right-part.type-inv))
-    c.before.before.before.before.right-part.ensures c.before.before.before.bind2.ensures
-    c.before.check-cmd5.ensures c.of-case.ensures
+returns-else-depth-ge-DEPTH : (t : ℕ) → check-cmd-lts.Need-returns-else-depth-ge-DEPTH (check_cmd_calls t) (check_cmd_at t) check-cmd.Post
+returns-else-depth-ge-DEPTH t c =
+    arm_case c.row_at.ensures
+    c.check_expr-x.ensures
+    c.in-5.is
+    c.if-depth-ge-DEPTH.false
+    c.join-inside-in-5.ensures
+    (search (rules, c.left_part.type-inv))
+    c.left_part.ensures
+    c.bind.ensures
+    c.check_cmd-y-in-5.ensures
+    (search (rules, c.right_part.type-inv))
+    c.right_part.ensures c.bind-in-5.ensures
+    c.check_cmd-z.ensures c.of_case.ensures
 
-check_cmd_returns_7 : (t : ℕ) → check-cmd-lts.Need-returns-7 (check_cmd_calls t) (check_cmd_at t) check-cmd.Post
-check_cmd_returns_7 t c =
-    arm_other c.before.before.before.before.before.before.before.row_at.ensures
-    (λ h. none_between 3 3 c.before.match2.rest
-    (none_past 1 2 c.before.before.before.before.before.before.match.rest h.0) h.1)
-    c.not-passed2.ensures
+returns-in_default-kind : (t : ℕ) → check-cmd-lts.Need-returns-in_default-kind (check_cmd_calls t) (check_cmd_at t) check-cmd.Post
+returns-in_default-kind t c =
+    arm_other c.row_at.ensures
+    (λ h. none_between 3 3 c.in_default-kind.in_default-kind-own.rest
+    (none_past 1 2 c.match.rest h.0) h.1)
+    c.not_passed-in_default-kind.ensures
 
-check_cmd_returns_8 : (t : ℕ) → check-cmd-lts.Need-returns-8 (check_cmd_calls t) (check_cmd_at t) check-cmd.Post
-check_cmd_returns_8 t c =
-    arm_other c.before.before.before.row_at.ensures
-    (λ h. ⊎_elim (λ w. omega (arith, h.0, w.taken)) (λ w. omega (arith, h.1, w.1.left)) c.before.if1.branch)
-    c.not-passed3.ensures
+returns-in_default : (t : ℕ) → check-cmd-lts.Need-returns-in_default (check_cmd_calls t) (check_cmd_at t) check-cmd.Post
+returns-in_default t c =
+    arm_other c.row_at-row.ensures
+    (λ h. ⊎_elim (λ w. omega (arith, h.0, w.taken)) (λ w. omega (arith, h.1, w.1.left)) c.in_default.branch)
+    c.not_passed-in_default.ensures
 
 pub +check_cmd_spec : {M : Type 1} → statement M
 +check_cmd_spec = close μ_check_cmd λ t. check-cmd-lts.spec (check_cmd_calls t)
     (check_cmd_at t)
     check-cmd.Post
-    (λ c κs. search rules)  -- row-at-requires
-    (λ c. omega (arith, row_within _ _ c.before.row_at.ensures (omega (arith, c.match.keys1))))  -- add-of-skip
-    (λ c κs. search rules)  -- of-skip-requires
-    (λ c. omega (arith, row_within _ _ c.before.row_at.ensures (omega (arith, c.match.keys2))))  -- add-check-cmd
+    (λ c κs. search rules)  -- row_at-row-requires
+    (λ c. omega (arith, row_within _ _ c.row_at-row.ensures (omega (arith, c.in-1.is))))  -- overflow_add-at
+    (λ c κs. search rules)  -- of_skip-requires
+    (λ c. omega (arith, row_within _ _ c.row_at-row.ensures (omega (arith, c.in-2.is))))  -- overflow_add-at-in-2
     (λ c κs. (
       omega (
         arith,
-        c.before.before.before.before.before.requires.0,
-        row_within _ _ c.before.before.row_at.ensures (omega (arith, c.before.match.keys2)),
+        c.requires.0,
+        row_within _ _ c.row_at-row.ensures (omega (arith, c.in-2.is)),
       ),
       tt,
-    ))  -- check-cmd-requires
+    ))  -- check_cmd-first-requires
     (λ c κs. let r = c.before.before.before.before in (
       omega (
         arith,
-        r.before.before.before.requires.0,
-        row_within _ _ r.row_at.ensures (omega (arith, c.before.before.before.match.keys2)),
-        c.before.check-cmd.ensures.onward,
+        r.requires.0,
+        row_within _ _ r.row_at-row.ensures (omega (arith, c.in-2.is)),
+        c.check_cmd-first.ensures.onward,
       ),
       tt,
-    ))  -- check-cmd-requires-2
-    (λ c κs. search rules)  -- of-seq-requires
+    ))  -- check_cmd-second-requires
+    (λ c κs. search rules)  -- of_seq-requires
     (λ c. omega (
       arith,
-      row_within _ _ c.before.before.before.row_at.ensures (omega (arith, c.before.if1.false)),
-    ))  -- add-check-expr
-    (λ c κs. search rules)  -- check-expr-requires
-    (λ c κs. search rules)  -- of-assign-requires
-    (λ c κs. search rules)  -- join-requires
+      row_within _ _ c.row_at-row.ensures (omega (arith, c.if-kind-lt1.false)),
+    ))  -- overflow_add-at-in-3
+    (λ c κs. search rules)  -- check_expr-x-requires
+    (λ c κs. search rules)  -- of_assign-requires
+    (λ c κs. search rules)  -- join-inside-requires
     (λ c κs. let r = c.before.before.before.before.before.before.before.before in (
       omega (
         arith,
         r.before.before.before.requires.0,
         row_within _ _ r.row_at.ensures
-            (omega (arith, c.before.before.before.before.before.before.if1.false)),
-        c.before.before.before.check-expr.ensures.onward,
+            (omega (arith, c.if1.false)),
+        c.check_expr-x.ensures.onward,
       ),
       tt,
-    ))  -- check-cmd-requires-3
-    (λ c κs. search rules)  -- of-while-requires
-    (λ c κs. search rules)  -- not-passed-requires
-    (check_cmd_returns t)
-    (λ c κs. search rules)  -- join-requires-2
-    (λ c κs. search rules)  -- left-part-requires
-    (λ c κs. c.before.before.before.if3.false)  -- bind-requires
-    (λ c. omega (arith, c.before.before.before.before.before.if3.false))  -- add-check-cmd-2
+    ))  -- check_cmd-y-requires
+    (λ c κs. search rules)  -- of_while-requires
+    (λ c κs. search rules)  -- not_passed-requires
+    (returns-then-depth-ge-DEPTH t)
+    (λ c κs. search rules)  -- join-inside-requires-in-5
+    (λ c κs. search rules)  -- left_part-requires
+    (λ c κs. c.if-depth-ge-DEPTH.false)  -- bind-requires
+    (λ c. omega (arith, c.if-depth-ge-DEPTH.false))  -- overflow_add-depth
     (λ c κs. let r =
     c.before.before.before.before.before.before.before.before.before.before.before.before in (
       omega (
@@ -181,18 +181,18 @@ pub +check_cmd_spec : {M : Type 1} → statement M
         row_within _ _ r.row_at.ensures
             (omega (
               arith,
-              c.before.before.before.before.before.before.before.before.before.before.if1.false,
+              c.if1.false,
             )),
-        c.before.before.before.before.before.before.before.check-expr.ensures.onward,
+        c.check_expr-x.ensures.onward,
       ),
       tt,
-    ))  -- check-cmd-requires-4
-    (λ c κs. search rules)  -- right-part-requires
-    (λ c κs. c.before.before.before.before.before.before.before.before.if3.false)  -- bind-requires-2
+    ))  -- check_cmd-y-requires-in-5
+    (λ c κs. search rules)  -- right_part-requires
+    (λ c κs. c.if-depth-ge-DEPTH.false)  -- bind-requires-in-5
     (λ c. omega (
       arith,
-      c.before.before.before.before.before.before.before.before.before.before.if3.false,
-    ))  -- add-check-cmd-3
+      c.if-depth-ge-DEPTH.false,
+    ))  -- overflow_add-depth-in-5
     (λ c κs. let r = c.before.before.before.before.before.before.before.before.before.before.before.before.before.before.before.before.before in (
       omega (
         arith,
@@ -200,20 +200,20 @@ pub +check_cmd_spec : {M : Type 1} → statement M
         row_within _ _ r.row_at.ensures
             (omega (
               arith,
-              c.before.before.before.before.before.before.before.before.before.before.before.before.before.before.before.if1.false,
+              c.if1.false,
             )),
-        c.before.before.before.before.before.before.before.before.before.before.before.before.check-expr.ensures.onward,
-        c.before.before.before.before.check-cmd4.ensures.onward,
+        c.check_expr-x.ensures.onward,
+        c.check_cmd-y-in-5.ensures.onward,
       ),
       tt,
-    ))  -- check-cmd-requires-5
-    (λ c κs. search rules)  -- of-case-requires
-    (λ c κs. search rules)  -- not-passed-requires-2
-    (λ c κs. search rules)  -- not-passed-requires-3
-    (check_cmd_returns_2 t)
-    (check_cmd_returns_3 t)
-    (check_cmd_returns_4 t)
-    (check_cmd_returns_5 t)
-    (check_cmd_returns_6 t)
-    (check_cmd_returns_7 t)
-    (check_cmd_returns_8 t)
+    ))  -- check_cmd-z-requires
+    (λ c κs. search rules)  -- of_case-requires
+    (λ c κs. search rules)  -- not_passed-requires-in_default-kind
+    (λ c κs. search rules)  -- not_passed-requires-in_default
+    (returns-in-1 t)
+    (returns-in-2 t)
+    (returns-in-3-kind t)
+    (returns-in-4 t)
+    (returns-else-depth-ge-DEPTH t)
+    (returns-in_default-kind t)
+    (returns-in_default t)

@@ -86,73 +86,73 @@ check_expr_calls t = (
   no-type-reads.Learnt,
 )
 
-check_expr_returns : (t : ℕ) → check-expr-lts.Need-returns (check_expr_calls t) (check_expr_at t) check-expr.Post
-check_expr_returns t c =
-    arm_int c.before.before.row_at.ensures c.before.match.keys1 c.of-int.ensures
+check_expr-returns-in-6 : (t : ℕ) → check-expr-lts.Need-returns-in-6 (check_expr_calls t) (check_expr_at t) check-expr.Post
+check_expr-returns-in-6 t c =
+    arm_int c.row_at-row.ensures c.in-6.is c.of_int.ensures
 
-check_expr_returns_2 : (t : ℕ) → check-expr-lts.Need-returns-2 (check_expr_calls t) (check_expr_at t) check-expr.Post
-check_expr_returns_2 t c =
-    arm_loc c.before.before.row_at.ensures c.before.match.keys2 c.of-location.ensures
+check_expr-returns-in-7 : (t : ℕ) → check-expr-lts.Need-returns-in-7 (check_expr_calls t) (check_expr_at t) check-expr.Post
+check_expr-returns-in-7 t c =
+    arm_loc c.row_at-row.ensures c.in-7.is c.of_location.ensures
 
-check_expr_returns_3 : (t : ℕ) → check-expr-lts.Need-returns-3 (check_expr_calls t) (check_expr_at t) check-expr.Post
-check_expr_returns_3 t c =
-    arm_var c.before.before.row_at.ensures c.before.match.keys3 c.of-variable.ensures
+check_expr-returns-in-8 : (t : ℕ) → check-expr-lts.Need-returns-in-8 (check_expr_calls t) (check_expr_at t) check-expr.Post
+check_expr-returns-in-8 t c =
+    arm_var c.row_at-row.ensures c.in-8.is c.of_variable.ensures
 
-check_expr_returns_4 : (t : ℕ) → check-expr-lts.Need-returns-4 (check_expr_calls t) (check_expr_at t) check-expr.Post
-check_expr_returns_4 t c =
-    let two = c.check-second.ensures in
-    arm_plus c.before.before.before.before.before.before.row_at.ensures
-    c.before.before.check-expr.ensures c.before.match2.keys1 two.1 two.2
+check_expr-returns-in-9-kind : (t : ℕ) → check-expr-lts.Need-returns-in-9-kind (check_expr_calls t) (check_expr_at t) check-expr.Post
+check_expr-returns-in-9-kind t c =
+    let two = c.check_second.ensures in
+    arm_plus c.row_at-row.ensures
+    c.check_expr-x.ensures c.in-9-kind.is two.1 two.2
 
-check_expr_returns_5 : (t : ℕ) → check-expr-lts.Need-returns-5 (check_expr_calls t) (check_expr_at t) check-expr.Post
-check_expr_returns_5 t c =
-    let two = c.check-second2.ensures in
-    arm_pair c.before.before.before.before.before.before.row_at.ensures
-    c.before.before.check-expr.ensures c.before.match2.keys2 two.1 two.2
+check_expr-returns-in-14 : (t : ℕ) → check-expr-lts.Need-returns-in-14 (check_expr_calls t) (check_expr_at t) check-expr.Post
+check_expr-returns-in-14 t c =
+    let two = c.check_second-in-14.ensures in
+    arm_pair c.row_at-row.ensures
+    c.check_expr-x.ensures c.in-14.is two.1 two.2
 
-check_expr_returns_6 : (t : ℕ) → check-expr-lts.Need-returns-6 (check_expr_calls t) (check_expr_at t) check-expr.Post
-check_expr_returns_6 t c =
-    arm_left c.before.before.before.before.before.before.before.row_at.ensures
-    c.before.before.before.check-expr.ensures
-    c.before.before.match2.keys3 c.before.left-part.ensures c.of-sum.ensures
+check_expr-returns-in-10 : (t : ℕ) → check-expr-lts.Need-returns-in-10 (check_expr_calls t) (check_expr_at t) check-expr.Post
+check_expr-returns-in-10 t c =
+    arm_left c.row_at-row.ensures
+    c.check_expr-x.ensures
+    c.in-10.is c.left_part.ensures c.of_sum.ensures
 
-check_expr_returns_7 : (t : ℕ) → check-expr-lts.Need-returns-7 (check_expr_calls t) (check_expr_at t) check-expr.Post
-check_expr_returns_7 t c =
-    arm_right c.before.before.before.before.before.before.before.row_at.ensures
-    c.before.before.before.check-expr.ensures
-    c.before.before.match2.keys4 c.before.right-part.ensures c.of-sum2.ensures
+check_expr-returns-in-11 : (t : ℕ) → check-expr-lts.Need-returns-in-11 (check_expr_calls t) (check_expr_at t) check-expr.Post
+check_expr-returns-in-11 t c =
+    arm_right c.row_at-row.ensures
+    c.check_expr-x.ensures
+    c.in-11.is c.right_part.ensures c.of_sum-in-11.ensures
 
-check_expr_returns_8 : (t : ℕ) → check-expr-lts.Need-returns-8 (check_expr_calls t) (check_expr_at t) check-expr.Post
-check_expr_returns_8 t c =
-    arm_pack c.before.before.before.before.before.before.row_at.ensures
-    c.before.before.check-expr.ensures c.before.match2.keys5
-    c.of-pack.ensures
+check_expr-returns-in-12 : (t : ℕ) → check-expr-lts.Need-returns-in-12 (check_expr_calls t) (check_expr_at t) check-expr.Post
+check_expr-returns-in-12 t c =
+    arm_pack c.row_at-row.ensures
+    c.check_expr-x.ensures c.in-12.is
+    c.of_pack.ensures
 
-check_expr_returns_9 : (t : ℕ) → check-expr-lts.Need-returns-9 (check_expr_calls t) (check_expr_at t) check-expr.Post
-check_expr_returns_9 t c =
-    arm_unpack c.before.before.before.before.before.before.row_at.ensures
-    c.before.before.check-expr.ensures c.before.match2.keys6
-    c.of-unpack.ensures
+check_expr-returns-in-13 : (t : ℕ) → check-expr-lts.Need-returns-in-13 (check_expr_calls t) (check_expr_at t) check-expr.Post
+check_expr-returns-in-13 t c =
+    arm_unpack c.row_at-row.ensures
+    c.check_expr-x.ensures c.in-13.is
+    c.of_unpack.ensures
 
-check_expr_returns_10 : (t : ℕ) → check-expr-lts.Need-returns-10 (check_expr_calls t) (check_expr_at t) check-expr.Post
+check_expr-returns-in-15 : (t : ℕ) → check-expr-lts.Need-returns-in-15 (check_expr_calls t) (check_expr_at t) check-expr.Post
 unfolding pick
-check_expr_returns_10 t c =
-    arm_part c.before.before.before.before.before.before.before.row_at.ensures
-    c.before.before.before.check-expr.ensures
-    first c.before.before.match2.keys7 c.before.left-part2.ensures c.of_part.ensures
+check_expr-returns-in-15 t c =
+    arm_part c.row_at-row.ensures
+    c.check_expr-x.ensures
+    first c.in-15.is c.left_part-in-15.ensures c.of_part.ensures
 
-check_expr_returns_11 : (t : ℕ) → check-expr-lts.Need-returns-11 (check_expr_calls t) (check_expr_at t) check-expr.Post
+check_expr-returns-in-16 : (t : ℕ) → check-expr-lts.Need-returns-in-16 (check_expr_calls t) (check_expr_at t) check-expr.Post
 unfolding pick
-check_expr_returns_11 t c =
-    arm_part c.before.before.before.before.before.before.before.row_at.ensures
-    c.before.before.before.check-expr.ensures
-    second c.before.before.match2.keys8 c.before.right-part2.ensures c.of-part2.ensures
+check_expr-returns-in-16 t c =
+    arm_part c.row_at-row.ensures
+    c.check_expr-x.ensures
+    second c.in-16.is c.right_part-in-16.ensures c.of_part-in-16.ensures
 
-check_expr_returns_12 : (t : ℕ) → check-expr-lts.Need-returns-12 (check_expr_calls t) (check_expr_at t) check-expr.Post
-check_expr_returns_12 t c =
-    arm_other c.before.before.before.before.before.before.row_at.ensures
+check_expr-returns-in_default-kind : (t : ℕ) → check-expr-lts.Need-returns-in_default-kind (check_expr_calls t) (check_expr_at t) check-expr.Post
+check_expr-returns-in_default-kind t c =
+    arm_other c.row_at-row.ensures
     (λ h.
-    let r = c.before.match2.rest in
+    let r = c.in_default-kind.in_default-kind-own.rest in
     none_between 9 8 (
       (
         (
@@ -163,13 +163,13 @@ check_expr_returns_12 t c =
       ),
       r.1,
     )
-    (none_past 6 3 c.before.before.before.before.before.match.rest h.0) h.1) c.no-type.ensures
+    (none_past 6 3 c.in_default-1.rest h.0) h.1) c.no_type.ensures
 
-check_expr_returns_13 : (t : ℕ) → check-expr-lts.Need-returns-13 (check_expr_calls t) (check_expr_at t) check-expr.Post
-check_expr_returns_13 t c =
-    arm_other c.before.before.before.row_at.ensures
-    (λ h. ⊎_elim (λ w. omega (arith, h.0, w.taken)) (λ w. omega (arith, h.1, w.1.left)) c.before.if1.branch)
-    c.no-type2.ensures
+check_expr-returns-in_default : (t : ℕ) → check-expr-lts.Need-returns-in_default (check_expr_calls t) (check_expr_at t) check-expr.Post
+check_expr-returns-in_default t c =
+    arm_other c.row_at-row.ensures
+    (λ h. ⊎_elim (λ w. omega (arith, h.0, w.taken)) (λ w. omega (arith, h.1, w.1.left)) c.in_default.branch)
+    c.no_type-in_default.ensures
 
 -- What is known of the functions that `check_second` calls.
 abbrev check_second_calls : ℕ → check-second-lts.Claims
@@ -182,20 +182,20 @@ check_second_calls t = (
   of-pair-reads.Learnt,
 )
 
-check_second_returns : (t : ℕ)
-    → check-second-lts.Need-returns (check_second_calls t) (check_second_at t) check-second.Post
-check_second_returns t c = (
-  c.before.before.check-expr.result,
-  c.before.before.check-expr.ensures,
-  rw c.before.if1.true c.of-plus.ensures,
+check_second-returns-then-plus : (t : ℕ)
+    → check-second-lts.Need-returns-then-plus (check_second_calls t) (check_second_at t) check-second.Post
+check_second-returns-then-plus t c = (
+  c.check_expr-y.result,
+  c.check_expr-y.ensures,
+  rw c.if-plus.true c.of_plus.ensures,
 )
 
-check_second_returns_2 : (t : ℕ)
-    → check-second-lts.Need-returns-2 (check_second_calls t) (check_second_at t) check-second.Post
-check_second_returns_2 t c = (
-  c.before.before.check-expr.result,
-  c.before.before.check-expr.ensures,
-  rw c.before.if1.false c.of_pair.ensures,
+check_second-returns-else-plus : (t : ℕ)
+    → check-second-lts.Need-returns-else-plus (check_second_calls t) (check_second_at t) check-second.Post
+check_second-returns-else-plus t c = (
+  c.check_expr-y.result,
+  c.check_expr-y.ensures,
+  rw c.if-plus.false c.of_pair.ensures,
 )
 
 pub +check_expr_check_second_spec : {M : Type 1} → statement M
@@ -203,70 +203,70 @@ pub +check_expr_check_second_spec : {M : Type 1} → statement M
     (check_expr_at t)
     check-expr.Post
     (λ c κs. search rules)  -- row-at-requires
-    (λ c. omega (arith, row_within _ _ c.before.row_at.ensures (omega (arith, c.match.keys1))))  -- add-of-int
-    (λ c κs. search rules)  -- of-int-requires
+    (λ c. omega (arith, row_within _ _ c.row_at-row.ensures (omega (arith, c.in-6.is))))  -- overflow_add-at
+    (λ c κs. search rules)  -- of_int-requires
     (λ c.
-    omega (arith, row_within _ _ c.before.row_at.ensures (omega (arith, c.match.keys2))))  -- add-of-location
-    (λ c κs. search rules)  -- of-location-requires
+    omega (arith, row_within _ _ c.row_at-row.ensures (omega (arith, c.in-7.is))))  -- overflow_add-at-in-7
+    (λ c κs. search rules)  -- of_location-requires
     (λ c.
-    omega (arith, row_within _ _ c.before.row_at.ensures (omega (arith, c.match.keys3))))  -- add-of-variable
-    (λ c κs. search rules)  -- of-variable-requires
+    omega (arith, row_within _ _ c.row_at-row.ensures (omega (arith, c.in-8.is))))  -- overflow_add-at-in-8
+    (λ c κs. search rules)  -- of_variable-requires
     (λ c. omega (
       arith,
-      row_within _ _ c.before.before.before.row_at.ensures (omega (arith, c.before.if1.false)),
-    ))  -- add-check-expr
+      row_within _ _ c.row_at-row.ensures (omega (arith, c.if-kind-lt6.false)),
+    ))  -- overflow_add-at-in-9
     (λ c κs. (
-      omega (arith, row_within _ _ c.before.before.before.row_at.ensures (omega (arith, c.before.if1.false))),
+      omega (arith, row_within _ _ c.row_at-row.ensures (omega (arith, c.if-kind-lt6.false))),
       tt,
-    ))  -- check-expr-requires
-    (λ c κs. (
-      omega (
-        arith,
-        row_within _ _ c.before.before.before.before.before.row_at.ensures
-            (omega (arith, c.before.before.before.if1.false)),
-        c.before.check-expr.ensures.onward,
-      ),
-      tt,
-    ))  -- check-second-requires
+    ))  -- check_expr-x-requires
     (λ c κs. (
       omega (
         arith,
-        row_within _ _ c.before.before.before.before.before.row_at.ensures
-            (omega (arith, c.before.before.before.if1.false)),
-        c.before.check-expr.ensures.onward,
+        row_within _ _ c.row_at-row.ensures
+            (omega (arith, c.if-kind-lt6.false)),
+        c.check_expr-x.ensures.onward,
       ),
       tt,
-    ))  -- check-second-requires-2
-    (λ c κs. search rules)  -- left-part-requires
-    (λ c κs. search rules)  -- of-sum-requires
-    (λ c κs. search rules)  -- right-part-requires
-    (λ c κs. search rules)  -- of-sum-requires-2
-    (λ c κs. search rules)  -- of-pack-requires
-    (λ c κs. search rules)  -- of-unpack-requires
-    (λ c κs. search rules)  -- left-part-requires-2
-    (λ c κs. search rules)  -- of-part-requires
-    (λ c κs. search rules)  -- right-part-requires-2
-    (λ c κs. search rules)  -- of-part-requires-2
-    (λ c κs. search rules)  -- no-type-requires
-    (λ c κs. search rules)  -- no-type-requires-2
-    (check_expr_returns t)
-    (check_expr_returns_2 t)
-    (check_expr_returns_3 t)
-    (check_expr_returns_4 t)
-    (check_expr_returns_5 t)
-    (check_expr_returns_6 t)
-    (check_expr_returns_7 t)
-    (check_expr_returns_8 t)
-    (check_expr_returns_9 t)
-    (check_expr_returns_10 t)
-    (check_expr_returns_11 t)
-    (check_expr_returns_12 t)
-    (check_expr_returns_13 t))
+    ))  -- check_second-requires
+    (λ c κs. (
+      omega (
+        arith,
+        row_within _ _ c.row_at-row.ensures
+            (omega (arith, c.if-kind-lt6.false)),
+        c.check_expr-x.ensures.onward,
+      ),
+      tt,
+    ))  -- check_second-requires-in-14
+    (λ c κs. search rules)  -- left_part-requires
+    (λ c κs. search rules)  -- of_sum-requires
+    (λ c κs. search rules)  -- right_part-requires
+    (λ c κs. search rules)  -- of_sum-requires-in-11
+    (λ c κs. search rules)  -- of_pack-requires
+    (λ c κs. search rules)  -- of_unpack-requires
+    (λ c κs. search rules)  -- left_part-requires-in-15
+    (λ c κs. search rules)  -- of_part-requires
+    (λ c κs. search rules)  -- right_part-requires-in-16
+    (λ c κs. search rules)  -- of_part-requires-in-16
+    (λ c κs. search rules)  -- no_type-requires
+    (λ c κs. search rules)  -- no_type-requires-in_default
+    (check_expr-returns-in-6 t)
+    (check_expr-returns-in-7 t)
+    (check_expr-returns-in-8 t)
+    (check_expr-returns-in-9-kind t)
+    (check_expr-returns-in-14 t)
+    (check_expr-returns-in-10 t)
+    (check_expr-returns-in-11 t)
+    (check_expr-returns-in-12 t)
+    (check_expr-returns-in-13 t)
+    (check_expr-returns-in-15 t)
+    (check_expr-returns-in-16 t)
+    (check_expr-returns-in_default-kind t)
+    (check_expr-returns-in_default t))
     λ t. check-second-lts.spec (check_second_calls t)
     (check_second_at t)
     check-second.Post
-    (λ c κs. (omega arith, tt))  -- check-expr-requires
-    (λ c κs. search rules)  -- of-plus-requires
-    (λ c κs. search rules)  -- of-pair-requires
-    (check_second_returns t)
-    (check_second_returns_2 t)
+    (λ c κs. (omega arith, tt))  -- check_expr-x-requires
+    (λ c κs. search rules)  -- of_plus-requires
+    (λ c κs. search rules)  -- of_pair-requires
+    (check_second-returns-then-plus t)
+    (check_second-returns-else-plus t)

@@ -9,18 +9,18 @@ unfolding assign_passed union intersection
 returns c =
     let flows = c.before.before.before in
     rw (
-      c.before.is_type.ensures,
-      c.before.before.location-type.ensures,
-      flows.flows.ensures,
-      flows.before.location-label.ensures,
-      flows.before.before.join.ensures,
+      c.is_type.ensures,
+      c.location_type.ensures,
+      flows.flows-flows.ensures,
+      flows.location_label.ensures,
+      flows.join.ensures,
     )
 
 pub of_assign_spec : {M : Type 1} → statement M
 of_assign_spec = tie.close (tie.spec
     (λ c κs. search rules)  -- join-requires
-    (λ c κs. search rules)  -- location-label-requires
-    (λ c κs. search rules)  -- flows-requires
-    (λ c κs. search rules)  -- location-type-requires
-    (λ c κs. search rules)  -- is-type-requires
+    (λ c κs. search rules)  -- location_label-requires
+    (λ c κs. search rules)  -- flows-flows-requires
+    (λ c κs. search rules)  -- location_type-requires
+    (λ c κs. search rules)  -- is_type-requires
     returns)

@@ -7,9 +7,9 @@ use Rattle.checks.proofs.commands.of_case.Tie as tie
 
 returns : tie.Need-returns
 unfolding case_passed both intersection
-returns c = rw c.before.before.before.before.before.before.is_sum.ensures
+returns c = rw c.is_sum.ensures
 
 pub of_case_spec : {M : Type 1} → statement M
 of_case_spec = tie.close (tie.spec
-    (λ c κs. search rules)  -- is-sum-requires
+    (λ c κs. search rules)  -- is_sum-requires
     returns)

@@ -7,9 +7,9 @@ use Rattle.checks.proofs.commands.of_while.Tie as tie
 
 returns : tie.Need-returns
 unfolding while_passed both intersection
-returns c = rw c.before.before.before.is_type.ensures
+returns c = rw c.is_type.ensures
 
 pub of_while_spec : {M : Type 1} → statement M
 of_while_spec = tie.close (tie.spec
-    (λ c κs. search rules)  -- is-type-requires
+    (λ c κs. search rules)  -- is_type-requires
     returns)

@@ -5,11 +5,11 @@ use Rattle.checks.proofs.expressions.of_location.Tie as tie
 
 returns : tie.Need-returns
 unfolding loc_typed
-returns c = rw (c.label.ensures, c.before.location-label.ensures, c.before.before.location-type.ensures)
+returns c = rw (c.label.ensures, c.location_label.ensures, c.location_type.ensures)
 
 pub of_location_spec : {M : Type 1} → statement M
 of_location_spec = tie.close (tie.spec
-    (λ c κs. search rules)  -- location-type-requires
-    (λ c κs. search rules)  -- location-label-requires
+    (λ c κs. search rules)  -- location_type-requires
+    (λ c κs. search rules)  -- location_label-requires
     (λ c κs. search rules)  -- label-requires
     returns)

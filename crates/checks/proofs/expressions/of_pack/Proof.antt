@@ -6,7 +6,7 @@ use Rattle.checks.proofs.expressions.of_pack.Tie as tie
 
 returns : tie.Need-returns
 unfolding pack_typed union intersection
-returns c = rw (c.integrity.ensures, c.before.before.flows.ensures)
+returns c = rw (c.integrity.ensures, c.flows.ensures)
 
 pub of_pack_spec : {M : Type 1} → statement M
 of_pack_spec = tie.close (tie.spec

@@ -14,18 +14,18 @@ returns c =
     rw (
       c.join.ensures,
       pair.is_pair.ensures,
-      second.is-type2.ensures,
-      second.before.right-part.ensures,
-      first.is_type.ensures,
-      first.before.left-part.ensures,
+      second.is_type-second.ensures,
+      second.right_part.ensures,
+      first.is_type-first.ensures,
+      first.left_part.ensures,
     )
 
 pub of_pair_spec : {M : Type 1} → statement M
 of_pair_spec = tie.close (tie.spec
-    (λ c κs. search rules)  -- left-part-requires
-    (λ c κs. search rules)  -- is-type-requires
-    (λ c κs. search rules)  -- right-part-requires
-    (λ c κs. search rules)  -- is-type-requires-2
-    (λ c κs. search rules)  -- is-pair-requires
+    (λ c κs. search rules)  -- left_part-requires
+    (λ c κs. search rules)  -- is_type-first-requires
+    (λ c κs. search rules)  -- right_part-requires
+    (λ c κs. search rules)  -- is_type-second-requires
+    (λ c κs. search rules)  -- is_pair-requires
     (λ c κs. search rules)  -- join-requires
     returns)

@@ -6,9 +6,9 @@ use Rattle.checks.proofs.expressions.of_part.Tie as tie
 
 returns : tie.Need-returns
 unfolding part_typed both
-returns c = rw c.before.is_pair.ensures
+returns c = rw c.is_pair.ensures
 
 pub of_part_spec : {M : Type 1} → statement M
 of_part_spec = tie.close (tie.spec
-    (λ c κs. search rules)  -- is-pair-requires
+    (λ c κs. search rules)  -- is_pair-requires
     returns)

@@ -9,13 +9,13 @@ returns : tie.Need-returns
 unfolding plus_typed both intersection
 returns c = rw (
   c.join.ensures,
-  c.before.before.before.is-type2.ensures,
-  c.before.before.before.before.is_type.ensures,
+  c.is_type-2.ensures,
+  c.is_type.ensures,
 )
 
 pub of_plus_spec : {M : Type 1} → statement M
 of_plus_spec = tie.close (tie.spec
-    (λ c κs. search rules)  -- is-type-requires
-    (λ c κs. search rules)  -- is-type-requires-2
+    (λ c κs. search rules)  -- is_type-requires
+    (λ c κs. search rules)  -- is_type-requires-2
     (λ c κs. search rules)  -- join-requires
     returns)

@@ -6,10 +6,10 @@ use Rattle.checks.proofs.expressions.of_sum.Tie as tie
 
 returns : tie.Need-returns
 unfolding sum_typed both
-returns c = rw (c.is_type.ensures, c.before.is_sum.ensures)
+returns c = rw (c.is_type.ensures, c.is_sum.ensures)
 
 pub of_sum_spec : {M : Type 1} → statement M
 of_sum_spec = tie.close (tie.spec
-    (λ c κs. search rules)  -- is-sum-requires
-    (λ c κs. search rules)  -- is-type-requires
+    (λ c κs. search rules)  -- is_sum-requires
+    (λ c κs. search rules)  -- is_type-requires
     returns)

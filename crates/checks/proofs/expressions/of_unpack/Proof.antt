@@ -11,17 +11,17 @@ returns c =
     let type = c.before.before.before in
     rw (
       c.label.ensures,
-      c.before.before.flows.ensures,
+      c.flows.ensures,
       type.is_type.ensures,
-      type.before.right-part.ensures,
-      type.before.before.is_sum.ensures,
+      type.right_part.ensures,
+      type.is_sum.ensures,
     )
 
 pub of_unpack_spec : {M : Type 1} → statement M
 of_unpack_spec = tie.close (tie.spec
-    (λ c κs. search rules)  -- is-sum-requires
-    (λ c κs. search rules)  -- right-part-requires
-    (λ c κs. search rules)  -- is-type-requires
+    (λ c κs. search rules)  -- is_sum-requires
+    (λ c κs. search rules)  -- right_part-requires
+    (λ c κs. search rules)  -- is_type-requires
     (λ c κs. search rules)  -- flows-requires
     (λ c κs. search rules)  -- label-requires
     returns)

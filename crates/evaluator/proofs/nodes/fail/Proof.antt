@@ -14,7 +14,7 @@ fail_spec = tie.close (tie.spec
     (λ c κs. search rules)  -- push-requires-2
     (λ c κs. search rules)  -- push-requires-3
     (λ c. after _ _ _ (push_of 4) (length_push _ _ (length_push _ _ refl)) (after _ _ _ (push_of 2) (length_push _ _ refl)
-    (after _ _ (zeros 16) (push_of c.before.before.before.before.before.before.before.before.args.e) refl
-    c.before.before.before.before.before.before.clear.ensures
-    c.before.before.before.before.push.ensures) c.before.before.push2.ensures) c.push3.ensures
+    (after _ _ (zeros 16) (push_of c.args.e) refl
+    c.clear.ensures
+    c.push.ensures) c.push-2.ensures) c.push-3.ensures
     ∙ ap (store_of _ 0) (push_failure _)))  -- returns

@@ -13,6 +13,6 @@ literal_spec = tie.close (tie.spec
     (λ c κs. search rules)  -- push-requires
     (λ c κs. search rules)  -- push-requires-2
     (λ c. after _ _ _ (push_of 1) (length_push _ _ refl)
-    (after _ _ (zeros 16) (push_of c.before.before.before.before.before.before.args.n) refl
-    c.before.before.before.before.clear.ensures c.before.before.push.ensures) c.push2.ensures
+    (after _ _ (zeros 16) (push_of c.args.n) refl
+    c.clear.ensures c.push.ensures) c.push-2.ensures
     ∙ ap (store_of _ 0) (push_int _)))  -- returns

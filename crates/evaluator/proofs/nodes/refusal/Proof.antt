@@ -8,24 +8,24 @@ use Rattle.evaluator.proofs.nodes.refusal.Tie as tie
 
 pub refusal_spec : {M : Type 1} → statement M
 refusal_spec = tie.close (tie.spec
-    (λ c κs. search rules)  -- may-read-requires
-    (λ c. laws.error_reads _ _ _ _ c.before.may_read_lem.ensures (not-true _ c.if1.true))  -- returns
+    (λ c κs. search rules)  -- may_read-requires
+    (λ c. laws.error_reads _ _ _ _ c.may_read_lem.ensures (not-true _ c.if-not-may_read.true))  -- returns-then-not-may_read
     (λ c κs. search rules)  -- word-requires
     (λ c κs. search rules)  -- below-requires
-    (λ c. laws.error-flow _ _ _ _ c.before.before.before.before.may_read_lem.ensures
-    (not-false _ c.before.before.before.if1.false) c.before.before.word.ensures
-    c.before.below.ensures (not-true _ c.if2.true))  -- returns-2
-    (λ c κs. search rules)  -- left-part-requires
-    (λ c κs. search rules)  -- has-type-requires
-    (λ c. laws.error-type _ _ _ _ c.before.before.before.before.before.before.before.may_read_lem.ensures
-    (not-false _ c.before.before.before.before.before.before.if1.false)
-    c.before.before.before.before.before.word.ensures
-    c.before.before.before.before.below.ensures (not-false _ c.before.before.before.if2.false)
-    (ap (has_no _ _) (sym c.before.before.left-part.ensures) ∙ sym c.before.has_type.ensures
-    ∙ not-true _ c.if3.true))  -- returns-3
-    (λ c. laws.error_none _ _ _ _ c.before.before.before.before.before.before.before.may_read_lem.ensures
-    (not-false _ c.before.before.before.before.before.before.if1.false)
-    c.before.before.before.before.before.word.ensures
-    c.before.before.before.before.below.ensures (not-false _ c.before.before.before.if2.false)
-    (ap (has_no _ _) (sym c.before.before.left-part.ensures) ∙ sym c.before.has_type.ensures
-    ∙ not-false _ c.if3.false)))  -- returns-4
+    (λ c. laws.error-flow _ _ _ _ c.may_read_lem.ensures
+    (not-false _ c.if-not-may_read.false) c.word.ensures
+    c.below.ensures (not-true _ c.if-not-below.true))  -- returns-then-not-below
+    (λ c κs. search rules)  -- left_part-requires
+    (λ c κs. search rules)  -- has_type-requires
+    (λ c. laws.error-type _ _ _ _ c.may_read_lem.ensures
+    (not-false _ c.if-not-may_read.false)
+    c.word.ensures
+    c.below.ensures (not-false _ c.if-not-below.false)
+    (ap (has_no _ _) (sym c.left_part.ensures) ∙ sym c.has_type.ensures
+    ∙ not-true _ c.if-not-has_type.true))  -- returns-then-not-has_type
+    (λ c. laws.error_none _ _ _ _ c.may_read_lem.ensures
+    (not-false _ c.if-not-may_read.false)
+    c.word.ensures
+    c.below.ensures (not-false _ c.if-not-below.false)
+    (ap (has_no _ _) (sym c.left_part.ensures) ∙ sym c.has_type.ensures
+    ∙ not-false _ c.if-not-has_type.false)))  -- returns

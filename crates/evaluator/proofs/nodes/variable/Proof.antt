@@ -6,8 +6,8 @@ use Rattle.evaluator.proofs.nodes.variable.Tie as tie
 
 pub variable_spec : {M : Type 1} → statement M
 variable_spec = tie.close (tie.spec
-    (λ c. search rules)  -- sub-k
-    (λ c κs. search rules)  -- copy-cell-requires
-    (λ c. c.copy-cell.ensures ∙ ap (λ (j : ℕ). store_of c.before.before.before.before.args.work.now 0
-    (load_of c.before.before.before.before.args.work.now j))
-    (⊎_elim (λ w. w.1) (λ w. w.1 ∙ omega (arith, w.0.left)) c.before.before.before.if1.branch)))  -- returns
+    (λ c. search rules)  -- overflow_sub-k
+    (λ c κs. search rules)  -- copy_cell-requires
+    (λ c. c.copy_cell.ensures ∙ ap (λ (j : ℕ). store_of c.args.work.now 0
+    (load_of c.args.work.now j))
+    (⊎_elim (λ w. w.1) (λ w. w.1 ∙ omega (arith, w.0.left)) c.if-d-depth.branch)))  -- returns

@@ -7,11 +7,11 @@ use Rattle.groups.proofs.readers.readers_of.Tie as tie
 pub readers_of_spec : {M : Type 1} → statement M
 readers_of_spec = tie.close (tie.spec
     (λ c κs. search rules)  -- rule-requires
-    (λ c. search rules)  -- enum_told
-    (λ c κs. search rules)  -- label-of-requires
-    (λ c. search rules)  -- enum-told-2
-    (λ c κs. search rules)  -- sole-readers-requires
-    (λ c. pooled_sets _ c.before.before.before.before.rule.ensures _ c.before.before.enum_told.given.1
-    c.before.label_of.ensures)  -- returns
-    (λ c. alone_sets _ c.before.before.before.rule.ensures _ c.before.enum-told2.given.1
-    c.sole-readers.ensures))  -- returns-2
+    (λ c. search rules)  -- enum_told-1
+    (λ c κs. search rules)  -- label_of-label-requires
+    (λ c. search rules)  -- enum_told-in-Alone
+    (λ c κs. search rules)  -- sole_readers-requires
+    (λ c. pooled_sets _ c.rule.ensures _ c.in-Pooled.is
+    c.label_of-label.ensures)  -- returns-in-Pooled
+    (λ c. alone_sets _ c.rule.ensures _ c.in-Alone.is
+    c.sole_readers.ensures))  -- returns-in-Alone

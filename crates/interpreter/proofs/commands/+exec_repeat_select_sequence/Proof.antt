@@ -93,17 +93,17 @@ exec_readings t = (
   select.Post,
 )
 
-exec_returns : (t : ℕ) → exec-lts.Need-returns (exec_readings t) (exec_at t) exec.Post
-exec_returns t c = laws.exec_skip c.before.row_at.ensures c.match.keys1
+exec-returns-in-1 : (t : ℕ) → exec-lts.Need-returns-in-1 (exec_readings t) (exec_at t) exec.Post
+exec-returns-in-1 t c = laws.exec_skip c.row_at-row.ensures c.in-1.is
 
-exec_returns_3 : (t : ℕ) → exec-lts.Need-returns-3 (exec_readings t) (exec_at t) exec.Post
-exec_returns_3 t c =
+exec-returns-in-3 : (t : ℕ) → exec-lts.Need-returns-in-3 (exec_readings t) (exec_at t) exec.Post
+exec-returns-in-3 t c =
     let arm = c.before.before in
-    laws.exec_assign arm.before.row_at.ensures arm.match.keys3 c.assign.ensures
+    laws.exec_assign arm.row_at-row.ensures arm.in-3.is c.assign.ensures
 
-exec_returns_6 : (t : ℕ) → exec-lts.Need-returns-6 (exec_readings t) (exec_at t) exec.Post
-exec_returns_6 t c =
-    laws.exec_none c.before.row_at.ensures (λ h. none_between 1 5 c.match.rest h.0 h.1)
+exec-returns-in_default : (t : ℕ) → exec-lts.Need-returns-in_default (exec_readings t) (exec_at t) exec.Post
+exec-returns-in_default t c =
+    laws.exec_none c.row_at-row.ensures (λ h. none_between 1 5 c.in_default.in_default-own.rest h.0 h.1)
 
 -- ---- sequence
 
@@ -115,19 +115,19 @@ sequence_readings t = (
   tick-reads.Learnt,
 )
 
-sequence_returns : (t : ℕ) → sequence-lts.Need-returns (sequence_readings t) (sequence_at t) sequence.Post
-sequence_returns t c =
+sequence-returns-in_default : (t : ℕ) → sequence-lts.Need-returns-in_default (sequence_readings t) (sequence_at t) sequence.Post
+sequence-returns-in_default t c =
     let ran = c.before.before in
-    laws.exec_seq_end refl ran.before.before.before.before.requires.1 ran.exec.ensures c.before.tick.ensures
-    (not_done _ c.match.keys2)
+    laws.exec_seq_end refl ran.requires.1 ran.exec-d.ensures c.tick-t.ensures
+    (not_done _ c.in_default.in_default-own.keys2)
 
-sequence_returns_2 : (t : ℕ) → sequence-lts.Need-returns-2 (sequence_readings t) (sequence_at t) sequence.Post
-sequence_returns_2 t c =
+sequence-returns : (t : ℕ) → sequence-lts.Need-returns (sequence_readings t) (sequence_at t) sequence.Post
+sequence-returns t c =
     let told = c.before.before in
-    let ticked = told.before.before in
+    let ticked = told.before in
     let ran = ticked.before in
-    laws.exec_seq refl ran.before.before.before.before.requires.1 ran.exec.ensures ticked.tick.ensures
-    (is_done _ told.enum_told.given.1) c.exec2.ensures
+    laws.exec_seq refl ran.requires.1 ran.exec-d.ensures ticked.tick-t.ensures
+    (is_done _ told.in-Done.is) c.exec-d-2.ensures
 
 -- ---- repeat
 
@@ -143,7 +143,7 @@ repeat_readings t = (
   tick-reads.Learnt,
 )
 
-abbrev repeat_Inv_loop : repeat-lts.invariant-loop
+abbrev repeat_Inv_loop : repeat-lts.invariant-loop-state
 repeat_Inv_loop code at table powers depth work₀ fuel left₀ end₀ work left end =
     at ≤ end
     × ((d : Stepped) (cells : List ℕ)
@@ -152,57 +152,57 @@ repeat_Inv_loop code at table powers depth work₀ fuel left₀ end₀ work left
     → Execs (record { table = table; powers = powers })
     (record { code = code; at = at; depth = depth; cells = work₀ }) fuel d cells)
 
-abbrev repeat_μ_loop : repeat-lts.decreases-loop
+abbrev repeat_μ_loop : repeat-lts.decreases-loop-state
 repeat_μ_loop code at table powers depth work₀ fuel left₀ end₀ work left end = left
 
-repeat_loop_holds : (t : ℕ)
-    → repeat-lts.Need-loop-init (repeat_readings t) (repeat_at t) repeat.Post repeat_Inv_loop repeat_μ_loop
-repeat_loop_holds t c = (omega arith, λ d cells x. laws.rounds_first x)
+repeat-loop-state-init : (t : ℕ)
+    → repeat-lts.Need-loop-state-init (repeat_readings t) (repeat_at t) repeat.Post repeat_Inv_loop repeat_μ_loop
+repeat-loop-state-init t c = (omega arith, λ d cells x. laws.rounds_first x)
 
-repeat_returns : (t : ℕ)
-    → repeat-lts.Need-returns (repeat_readings t) (repeat_at t) repeat.Post repeat_Inv_loop repeat_μ_loop
-repeat_returns t c =
+repeat-returns-then-end-at : (t : ℕ)
+    → repeat-lts.Need-returns-then-end-at (repeat_readings t) (repeat_at t) repeat.Post repeat_Inv_loop repeat_μ_loop
+repeat-returns-then-end-at t c =
     let decided = c.before.before.before.before in
     let l = decided.before.before in
-    l.loop.invariant.1 _ _
-    (laws.while_stop refl l.before.before.before.requires.1 decided.decide.ensures
-    (not-true _ c.before.before.if1.true) (laws.past_body c.skip.ensures) l.loop.invariant.0)
+    l.loop-state.invariant.1 _ _
+    (laws.while_stop refl l.requires.1 decided.decide-g.ensures
+    (not-true _ c.if-not-g.true) (laws.past_body c.skip-next.ensures) l.loop-state.invariant.0)
 
-repeat_returns_2 : (t : ℕ)
-    → repeat-lts.Need-returns-2 (repeat_readings t) (repeat_at t) repeat.Post repeat_Inv_loop repeat_μ_loop
-repeat_returns_2 t c =
+repeat-returns-else-end-at : (t : ℕ)
+    → repeat-lts.Need-returns-else-end-at (repeat_readings t) (repeat_at t) repeat.Post repeat_Inv_loop repeat_μ_loop
+repeat-returns-else-end-at t c =
     let decided = c.before.before.before in
     let l = decided.before.before in
-    l.loop.invariant.1 _ _
-    (laws.while_stop refl l.before.before.before.requires.1 decided.decide.ensures
-    (not-true _ c.before.if1.true) (laws.at_last c.if2.false) l.loop.invariant.0)
+    l.loop-state.invariant.1 _ _
+    (laws.while_stop refl l.requires.1 decided.decide-g.ensures
+    (not-true _ c.if-not-g.true) (laws.at_last c.if-end-at.false) l.loop-state.invariant.0)
 
-repeat_returns_3 : (t : ℕ)
-    → repeat-lts.Need-returns-3 (repeat_readings t) (repeat_at t) repeat.Post repeat_Inv_loop repeat_μ_loop
-repeat_returns_3 t c =
+repeat-returns-in_default : (t : ℕ)
+    → repeat-lts.Need-returns-in_default (repeat_readings t) (repeat_at t) repeat.Post repeat_Inv_loop repeat_μ_loop
+repeat-returns-in_default t c =
     let ran = c.before.before in
     let on = ran.before.before in
     let decided = on.before.before in
     let l = decided.before.before in
-    l.loop.invariant.1 _ _
+    l.loop-state.invariant.1 _ _
     (laws.rounds_any
-    (laws.while-end refl l.before.before.before.requires.1 decided.decide.ensures (not-false _ on.if1.false)
-    ran.exec.ensures c.before.tick.ensures (not_done _ c.match.keys2)))
+    (laws.while-end refl l.requires.1 decided.decide-g.ensures (not-false _ on.if-not-g.false)
+    ran.exec-d.ensures c.tick-t.ensures (not_done _ c.in_default.in_default-own.keys2)))
 
-repeat_loop_again : (t : ℕ)
-    → repeat-lts.Need-loop-preserved (repeat_readings t) (repeat_at t) repeat.Post repeat_Inv_loop repeat_μ_loop
-repeat_loop_again t c =
-    let ran = c.before.before.before in
+repeat-loop-state-preserved : (t : ℕ)
+    → repeat-lts.Need-loop-state-preserved (repeat_readings t) (repeat_at t) repeat.Post repeat_Inv_loop repeat_μ_loop
+repeat-loop-state-preserved t c =
+    let ran = c.before.before in
     let on = ran.before.before in
     let decided = on.before.before in
     let l = decided.before.before in
-    let ticked = c.before.before in (
-      omega (arith, decided.decide.ensures.forward, ran.exec.ensures.forward, ticked.tick.ensures.same_place),
-      λ d cells y. l.loop.invariant.1 d cells
+    let ticked = c.before in (
+      omega (arith, decided.decide-g.ensures.forward, ran.exec-d.ensures.forward, ticked.tick-t.ensures.same_place),
+      λ d cells y. l.loop-state.invariant.1 d cells
           (laws.rounds_any
-          (laws.while-again refl l.before.before.before.requires.1 decided.decide.ensures
-          (not-false _ on.if1.false) ran.exec.ensures ticked.tick.ensures
-          (is_done _ c.enum_told.given.1) y)),
+          (laws.while-again refl l.requires.1 decided.decide-g.ensures
+          (not-false _ on.if-not-g.false) ran.exec-d.ensures ticked.tick-t.ensures
+          (is_done _ c.in-Done.is) y)),
     )
 
 -- ---- select
@@ -217,28 +217,28 @@ select_readings t = (
   skip-reads.Learnt,
 )
 
-select_returns : (t : ℕ) → select-lts.Need-returns (select_readings t) (select_at t) select.Post
-select_returns t c =
+select-returns-in_default : (t : ℕ) → select-lts.Need-returns-in_default (select_readings t) (select_at t) select.Post
+select-returns-in_default t c =
     let taken = c.before in
-    laws.exec_case_end refl taken.before.before.before.before.requires.1 taken.branch.ensures
-    (not_done _ c.match.keys2)
+    laws.exec_case_end refl taken.requires.1 taken.branch-b.ensures
+    (not_done _ c.in_default.in_default-own.keys2)
 
-select_returns_2 : (t : ℕ) → select-lts.Need-returns-2 (select_readings t) (select_at t) select.Post
-select_returns_2 t c =
+select-returns-then-b : (t : ℕ) → select-lts.Need-returns-then-b (select_readings t) (select_at t) select.Post
+select-returns-then-b t c =
     let ran = c.before.before in
     let told = ran.before.before in
-    let taken = told.before.before in
-    laws.exec_case refl taken.before.before.before.before.requires.1 taken.branch.ensures
-    (is_done _ told.enum_told.given.1) ran.exec.ensures c.before.if1.true
-    (laws.past_second c.skip.ensures)
+    let taken = told.before in
+    laws.exec_case refl taken.requires.1 taken.branch-b.ensures
+    (is_done _ told.in-Done.is) ran.exec-d.ensures c.if-b.true
+    (laws.past_second c.skip-next.ensures)
 
-select_returns_3 : (t : ℕ) → select-lts.Need-returns-3 (select_readings t) (select_at t) select.Post
-select_returns_3 t c =
+select-returns-else-b : (t : ℕ) → select-lts.Need-returns-else-b (select_readings t) (select_at t) select.Post
+select-returns-else-b t c =
     let ran = c.before in
     let told = ran.before.before in
-    let taken = told.before.before in
-    laws.exec_case refl taken.before.before.before.before.requires.1 taken.branch.ensures
-    (is_done _ told.enum_told.given.1) ran.exec.ensures c.if1.false laws.at_end
+    let taken = told.before in
+    laws.exec_case refl taken.requires.1 taken.branch-b.ensures
+    (is_done _ told.in-Done.is) ran.exec-d.ensures c.if-b.false laws.at_end
 
 -- ---- the cycle
 
@@ -246,86 +246,86 @@ pub +exec_repeat_select_sequence_spec : {M : Type 1} → statement M
 +exec_repeat_select_sequence_spec = close μ_exec μ_repeat μ_select μ_sequence
     (λ t. exec-lts.spec (exec_readings t) (exec_at t) exec.Post
     (λ c κs. search rules)  -- row-at-requires
-    (λ c. omega (arith, row_within _ _ c.before.row_at.ensures (omega (arith, c.match.keys1))))  -- add-t12
+    (λ c. omega (arith, row_within _ _ c.row_at-row.ensures (omega (arith, c.in-1.is))))  -- overflow_add-result
     (λ c κs.
     let arm = c.before in
     let read = arm.before in
-    let pre = read.before.before.before.requires in
-    (omega (arith, pre.0), rw read.row_at.ensures at arm.match.keys2))  -- sequence-requires
-    (λ c. omega (arith, row_within _ _ c.before.row_at.ensures (omega (arith, c.match.keys3))))  -- add-assign
+    let pre = read.requires in
+    (omega (arith, pre.0), rw read.row_at-row.ensures at arm.in-2.is))  -- sequence-requires
+    (λ c. omega (arith, row_within _ _ c.row_at-row.ensures (omega (arith, c.in-3.is))))  -- overflow_add-at
     (λ c κs. search rules)  -- assign-requires
     (λ c κs.
     let arm = c.before in
     let read = arm.before in
-    let pre = read.before.before.before.requires in
-    (omega (arith, pre.0), rw read.row_at.ensures at arm.match.keys4))  -- repeat-requires
+    let pre = read.requires in
+    (omega (arith, pre.0), rw read.row_at-row.ensures at arm.in-4.is))  -- repeat-requires
     (λ c κs.
     let arm = c.before in
     let read = arm.before in
-    let pre = read.before.before.before.requires in
-    (omega (arith, pre.0), rw read.row_at.ensures at arm.match.keys5))  -- select-requires
-    (exec_returns t)
-    (λ c. c.sequence.ensures)  -- returns-2
-    (exec_returns_3 t)
-    (λ c. c.repeat.ensures)  -- returns-4
-    (λ c. c.select.ensures)  -- returns-5
-    (exec_returns_6 t))
+    let pre = read.requires in
+    (omega (arith, pre.0), rw read.row_at-row.ensures at arm.in-5.is))  -- select-requires
+    (exec-returns-in-1 t)
+    (λ c. c.sequence.ensures)  -- returns-in-2
+    (exec-returns-in-3 t)
+    (λ c. c.repeat.ensures)  -- returns-in-4
+    (λ c. c.select.ensures)  -- returns-in-5
+    (exec-returns-in_default t))
     (λ t. repeat-lts.spec (repeat_readings t) (repeat_at t) repeat.Post repeat_Inv_loop repeat_μ_loop
-    (repeat_loop_holds t)
+    (repeat-loop-state-init t)
     (λ c. omega (arith, row_there _ _ c.before.before.before.requires.1))  -- add-decide
-    (λ c κs. search rules)  -- decide-requires
-    (λ c κs. search rules)  -- skip-requires
-    (repeat_returns t)
-    (repeat_returns_2 t)
+    (λ c κs. search rules)  -- decide-g-requires
+    (λ c κs. search rules)  -- skip-next-requires
+    (repeat-returns-then-end-at t)
+    (repeat-returns-else-end-at t)
     (λ c κs.
     let decided = c.before.before.before in
-    let pre = decided.before.before.before.before.before.requires in
-    (omega (arith, row_there _ _ pre.1, decided.decide.ensures.forward, pre.0), tt))  -- exec-requires
-    (λ c κs. search rules)  -- tick-requires
-    (λ c. search rules)  -- enum_told
-    (repeat_returns_3 t)
+    let pre = decided.requires in
+    (omega (arith, row_there _ _ pre.1, decided.decide-g.ensures.forward, pre.0), tt))  -- exec-d-requires
+    (λ c κs. search rules)  -- tick-t-requires
+    (λ c. search rules)  -- enum_told-1
+    (repeat-returns-in_default t)
     (λ c.
-    let ran = c.before.before.before in
+    let ran = c.before.before in
     let on = ran.before.before in
     omega (
       arith,
-      on.before.before.decide.ensures.falls (not-false _ on.if1.false),
-      ran.exec.ensures.spends,
-      c.before.before.tick.ensures.spends,
-    ))  -- loop-less
-    (repeat_loop_again t))
+      on.decide-g.ensures.falls (not-false _ on.if-not-g.false),
+      ran.exec-d.ensures.spends,
+      c.tick-t.ensures.spends,
+    ))  -- loop-state-smaller
+    (repeat-loop-state-preserved t))
     (λ t. select-lts.spec (select_readings t) (select_at t) select.Post
     (λ c. omega (arith, row_there _ _ c.before.before.requires.1))  -- add-branch
-    (λ c κs. search rules)  -- branch-requires
-    (λ c. search rules)  -- enum_told
-    (select_returns t)
-    (λ c. omega (arith, c.before.before.branch.ensures.shallow (is_done _ c.enum_told.given.1)))  -- add-exec
+    (λ c κs. search rules)  -- branch-b-requires
+    (λ c. search rules)  -- enum_told-1
+    (select-returns-in_default t)
+    (λ c. omega (arith, c.branch-b.ensures.shallow (is_done _ c.in-Done.is)))  -- overflow_add-depth
     (λ c κs.
-    let taken = c.before.before.before in
-    let pre = taken.before.before.before.before.requires in
-    (omega (arith, row_there _ _ pre.1, taken.branch.ensures.forward, pre.0), tt))  -- exec-requires
-    (λ c κs. search rules)  -- skip-requires
-    (select_returns_2 t)
-    (select_returns_3 t))
+    let taken = c.before.before in
+    let pre = taken.requires in
+    (omega (arith, row_there _ _ pre.1, taken.branch-b.ensures.forward, pre.0), tt))  -- exec-d-requires
+    (λ c κs. search rules)  -- skip-next-requires
+    (select-returns-then-b t)
+    (select-returns-else-b t))
     λ t. sequence-lts.spec (sequence_readings t) (sequence_at t) sequence.Post
-    (λ c. omega (arith, row_there _ _ c.before.before.requires.1))  -- add-exec
+    (λ c. omega (arith, row_there _ _ c.before.before.requires.1))  -- overflow_add-depth
     (λ c κs.
-    let pre = c.before.before.before.requires in
-    (omega (arith, row_there _ _ pre.1, pre.0), tt))  -- exec-requires
-    (λ c κs. search rules)  -- tick-requires
-    (λ c. search rules)  -- enum_told
-    (sequence_returns t)
+    let pre = c.requires in
+    (omega (arith, row_there _ _ pre.1, pre.0), tt))  -- exec-d-requires
+    (λ c κs. search rules)  -- tick-t-requires
+    (λ c. search rules)  -- enum_told-1
+    (sequence-returns-in_default t)
     (λ c κs.
-    let ticked = c.before.before.before in
+    let ticked = c.before.before in
     let ran = ticked.before in
     let start = ran.before.before.before.before in (
       omega (
         arith,
         row_there _ _ start.requires.1,
-        ran.exec.ensures.forward,
-        ticked.tick.ensures.same_place,
+        ran.exec-d.ensures.forward,
+        ticked.tick-t.ensures.same_place,
         start.requires.0,
       ),
       tt,
-    ))  -- exec-requires-2
-    (sequence_returns_2 t)
+    ))  -- exec-d-requires-2
+    (sequence-returns t)

@@ -7,14 +7,14 @@ use Rattle.interpreter.proofs.commands.assign.Tie as tie
 
 pub assign_spec : {M : Type 1} → statement M
 assign_spec = tie.close (tie.spec
-    (λ c. laws.assign-spent c.if1.true)  -- returns
-    (λ c κs. search rules)  -- eval-requires
-    (λ c. search rules)  -- enum_told
-    (λ c. laws.assign_fail c.before.before.before.if1.false c.before.eval.ensures
-    (not_done _ c.match.keys2))  -- returns-2
-    (λ c. search rules)  -- add-copy-cell
-    (λ c κs. search rules)  -- copy-cell-requires
-    (λ c. search rules)  -- sub-t20
-    (λ c. laws.assign_done c.before.before.before.before.before.before.if1.false
-    c.before.before.before.before.eval.ensures (is_done _ c.before.before.enum_told.given.1)
-    c.copy-cell.ensures))  -- returns-3
+    (λ c. laws.assign-spent c.if-fuel-eq0.true)  -- returns-then-fuel-eq0
+    (λ c κs. search rules)  -- eval-v-requires
+    (λ c. search rules)  -- enum_told-1
+    (λ c. laws.assign_fail c.if-fuel-eq0.false c.eval-v.ensures
+    (not_done _ c.in_default.in_default-own.keys2))  -- returns-in_default
+    (λ c. search rules)  -- overflow_add-x
+    (λ c κs. search rules)  -- copy_cell-requires
+    (λ c. search rules)  -- overflow_sub-result
+    (λ c. laws.assign_done c.if-fuel-eq0.false
+    c.eval-v.ensures (is_done _ c.in-Done.is)
+    c.copy_cell.ensures))  -- returns

@@ -6,38 +6,38 @@ use Rattle.interpreter.proofs.ExecLaws as laws
 use Rattle.interpreter.proofs.commands.branch.Statement.{statement}
 use Rattle.interpreter.proofs.commands.branch.Tie as tie
 
-returns : tie.Need-returns
-returns c = laws.branch_deep c.if1.true
+returns-then-depth-ge-DEPTH : tie.Need-returns-then-depth-ge-DEPTH
+returns-then-depth-ge-DEPTH c = laws.branch_deep c.if-depth-ge-DEPTH.true
 
-returns-2 : tie.Need-returns-2
-returns-2 c = laws.branch_past c.before.decide.ensures (not_done _ c.match.keys2)
+returns-in_default : tie.Need-returns-in_default
+returns-in_default c = laws.branch_past c.decide-g.ensures (not_done _ c.in_default.in_default-own.keys2)
 
-returns-3 : tie.Need-returns-3
-returns-3 c =
+returns-then-g : tie.Need-returns-then-g
+returns-then-g c =
     let side = c in
     let told = side.before.before.before in
-    let decided = told.before.before in
-    laws.branch_taken decided.decide.ensures decided.before.before.if1.false
-    (rw add-one at side.before.pop-to.ensures) (is_done _ told.enum_told.given.1) side.if2.true
+    let decided = told.before in
+    laws.branch_taken decided.decide-g.ensures decided.if-depth-ge-DEPTH.false
+    (rw add-one at side.pop_to.ensures) (is_done _ told.in-Done.is) side.if-g.true
     laws.at_first
 
-returns-4 : tie.Need-returns-4
-returns-4 c =
+returns-else-g : tie.Need-returns-else-g
+returns-else-g c =
     let side = c.before in
     let told = side.before.before.before in
-    let decided = told.before.before in
-    laws.branch_taken decided.decide.ensures decided.before.before.if1.false
-    (rw add-one at side.before.pop-to.ensures) (is_done _ told.enum_told.given.1) side.if2.false
-    (laws.at_second c.skip.ensures)
+    let decided = told.before in
+    laws.branch_taken decided.decide-g.ensures decided.if-depth-ge-DEPTH.false
+    (rw add-one at side.pop_to.ensures) (is_done _ told.in-Done.is) side.if-g.false
+    (laws.at_second c.skip-start.ensures)
 
 pub branch_spec : {M : Type 1} → statement M
 branch_spec = tie.close (tie.spec
-    returns
-    (λ c κs. search rules)  -- decide-requires
-    (λ c. search rules)  -- enum_told
-    returns-2
-    (λ c. search rules)  -- add-pop-to
-    (λ c κs. search rules)  -- pop-to-requires
-    (λ c κs. search rules)  -- skip-requires
-    returns-3
-    returns-4)
+    returns-then-depth-ge-DEPTH
+    (λ c κs. search rules)  -- decide-g-requires
+    (λ c. search rules)  -- enum_told-1
+    returns-in_default
+    (λ c. search rules)  -- overflow_add-depth
+    (λ c κs. search rules)  -- pop_to-requires
+    (λ c κs. search rules)  -- skip-start-requires
+    returns-then-g
+    returns-else-g)

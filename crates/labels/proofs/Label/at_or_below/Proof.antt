@@ -8,15 +8,15 @@ use Rattle.labels.proofs.Label.at_or_below.Tie as tie
 
 pub at_or_below_spec : {M : Type 1} → statement M
 at_or_below_spec = tie.close (tie.spec
-    (λ c κs. search rules)  -- contained-each-requires
+    (λ c κs. search rules)  -- contained_each-requires
     (λ c.
-    let a = c.before.before.before.before.args in
+    let a = c.args in
     sym (below_split a.self a.other
-    ∙ both_no_left _ _ (sym c.before.contained-each.ensures ∙ not-true _ c.if1.true)))  -- returns
-    (λ c κs. search rules)  -- contained-each-requires-2
+    ∙ both_no_left _ _ (sym c.contained_each.ensures ∙ not-true _ c.if-not-contained_each.true)))  -- returns-then-not-contained_each
+    (λ c κs. search rules)  -- contained_each-requires-2
     (λ c.
-    let a = c.before.before.before.before.before.before.before.args in
-    c.contained-each2.ensures
+    let a = c.args in
+    c.contained_each-2.ensures
     ∙ sym (below_split a.self a.other
-    ∙ both_yes_left _ _ (sym c.before.before.before.before.contained-each.ensures
-    ∙ not-false _ c.before.before.before.if1.false))))  -- returns-2
+    ∙ both_yes_left _ _ (sym c.contained_each.ensures
+    ∙ not-false _ c.if-not-contained_each.false))))  -- returns

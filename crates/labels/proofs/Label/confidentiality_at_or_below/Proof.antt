@@ -15,30 +15,30 @@ use Rattle.labels.proofs.Label.confidentiality_at_or_below.Tie as tie
 abbrev Test : Label → Label → ℕ → Bool
 Test a b o = within (readers_of b o) (readers_of a o)
 
-abbrev invariant-loop : tie.invariant-loop
-invariant-loop self other all₀ o₀ all o = Tested (Test self other) o all
+abbrev invariant-loop-o : tie.invariant-loop-o
+invariant-loop-o self other all₀ o₀ all o = Tested (Test self other) o all
 
-abbrev decreases-loop : tie.decreases-loop
-decreases-loop self other all₀ o₀ all o = owners - o
+abbrev decreases-loop-o : tie.decreases-loop-o
+decreases-loop-o self other all₀ o₀ all o = owners - o
 
-loop-again : tie.Need-loop-preserved invariant-loop decreases-loop
+loop-o-preserved : tie.Need-loop-o-preserved invariant-loop-o decreases-loop-o
 unfolding both
-loop-again c =
-    let l = c.before.before.before.before.loop in
-    let a = c.before.before.before.before.before.args in
-    tested_more (Test a.t1 a.t2) l.o l.invariant (search rules) c.contained.ensures
+loop-o-preserved c =
+    let l = c.loop-o in
+    let a = c.args in
+    tested_more (Test a.self a.other) l.o l.invariant (search rules) c.contained-all.ensures
 
 pub confidentiality_at_or_below_spec : {M : Type 1} → statement M
 confidentiality_at_or_below_spec = tie.close (tie.spec
-    invariant-loop
-    decreases-loop
-    (λ c. tested_none _)  -- loop-holds
-    (λ c. search rules)  -- mul-contained
-    (λ c. search rules)  -- element-copy-out-contained
-    (λ c. search rules)  -- mul-contained-2
-    (λ c. search rules)  -- element-copy-out-contained-2
-    (λ c κs. search rules)  -- contained-requires
-    (λ c. search rules)  -- add-o
-    (λ c. search rules)  -- loop-less
-    loop-again
-    (λ c. tested_all _ _ c.before.loop.invariant c.loop-test.false ∙ sym (c_below_readers _ _)))  -- returns
+    invariant-loop-o
+    decreases-loop-o
+    (λ c. tested_none _)  -- loop-o-init
+    (λ c. search rules)  -- offset_bounds-other-o
+    (λ c. search rules)  -- bounds-other-o
+    (λ c. search rules)  -- offset_bounds-self-o
+    (λ c. search rules)  -- bounds-self-o
+    (λ c κs. search rules)  -- contained-all-requires
+    (λ c. search rules)  -- overflow_step-o
+    (λ c. search rules)  -- loop-o-smaller
+    loop-o-preserved
+    (λ c. tested_all _ _ c.loop-o.invariant c.loop-o-test.false ∙ sym (c_below_readers _ _)))  -- returns

@@ -13,31 +13,31 @@ use borrow.Author.Rules.{rules}
 use Rattle.labels.proofs.Label.open.Statement.{statement}
 use Rattle.labels.proofs.Label.open.Tie as tie
 
-abbrev invariant-loop : tie.invariant-loop
-invariant-loop n all writers₀ o₀ writers o = (o ≤ owners) × (writers ≡ filled (open_at n all) o writers₀)
+abbrev invariant-loop-o : tie.invariant-loop-o
+invariant-loop-o n all writers₀ o₀ writers o = (o ≤ owners) × (writers ≡ filled (open_at n all) o writers₀)
 
-abbrev decreases-loop : tie.decreases-loop
-decreases-loop n all writers₀ o₀ writers o = owners - o
+abbrev decreases-loop-o : tie.decreases-loop-o
+decreases-loop-o n all writers₀ o₀ writers o = owners - o
 
 pub open_spec : {M : Type 1} → statement M
 unfolding own single tab open_of
 open_spec = tie.close (tie.spec
-    invariant-loop
-    decreases-loop
-    (λ c. (search rules, filled_none _ _))  -- loop-holds
-    (λ c. search rules)  -- mul-writers
-    (λ c. search rules)  -- array-write-writers
-    (λ c. search rules)  -- add-o
-    (λ c. search rules)  -- loop-less
+    invariant-loop-o
+    decreases-loop-o
+    (λ c. (search rules, filled_none _ _))  -- loop-o-init
+    (λ c. search rules)  -- offset_bounds-writers-o
+    (λ c. search rules)  -- bounds-writers-o
+    (λ c. search rules)  -- overflow_step-o
+    (λ c. search rules)  -- loop-o-smaller
     (λ c.
-    let a = c.before.before.before.args in
-    let l = c.before.before.loop in (
+    let a = c.args in
+    let l = c.loop-o in (
       search rules,
       ⊎_elim (λ w. w.1
           ∙ fill_store _ _ _ _ l.invariant.1 (omega arith) (sym (open_principal a.n a.all l.o w.0.taken)))
           (λ w. w.1 ∙ fill_skip _ _ _ _ l.invariant.1 (omega arith)
           (own_at l.o (omega arith) ∙ sym (open_other a.n a.all l.o w.0.left)))
-          c.if1.branch,
-    ))  -- loop-again
+          c.if-o-n.branch,
+    ))  -- loop-o-preserved
     (λ c. label_path _ _ refl
-    (fill_end _ _ _ _ c.before.loop.invariant.1 owners (omega arith) (search rules))))  -- returns
+    (fill_end _ _ _ _ c.loop-o.invariant.1 owners (omega arith) (search rules))))  -- returns

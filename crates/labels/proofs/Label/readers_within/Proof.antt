@@ -16,29 +16,29 @@ use Rattle.labels.proofs.Label.readers_within.Tie as tie
 abbrev Test : ℕ → Label → ℕ → Bool
 Test all a o = within (readers_of a o) (readers_of (bottom_of all) o)
 
-abbrev invariant-loop : tie.invariant-loop
-invariant-loop all self within₀ o₀ within o = Tested (Test all self) o within
+abbrev invariant-loop-o : tie.invariant-loop-o
+invariant-loop-o all self within₀ o₀ within o = Tested (Test all self) o within
 
-abbrev decreases-loop : tie.decreases-loop
-decreases-loop all self within₀ o₀ within o = owners - o
+abbrev decreases-loop-o : tie.decreases-loop-o
+decreases-loop-o all self within₀ o₀ within o = owners - o
 
-loop-again : tie.Need-loop-preserved invariant-loop decreases-loop
+loop-o-preserved : tie.Need-loop-o-preserved invariant-loop-o decreases-loop-o
 unfolding both
-loop-again c =
-    let l = c.before.before.before.loop in
-    let a = c.before.before.before.before.args in
-    tested_more (Test a.all a.t1) l.o l.invariant (search rules)
-    (c.contained.ensures ∙ ap (within _) (sym (bottom_at a.all l.o (search rules)).0))
+loop-o-preserved c =
+    let l = c.loop-o in
+    let a = c.args in
+    tested_more (Test a.all a.self) l.o l.invariant (search rules)
+    (c.contained-within.ensures ∙ ap (within _) (sym (bottom_at a.all l.o (search rules)).0))
 
 pub readers_within_spec : {M : Type 1} → statement M
 readers_within_spec = tie.close (tie.spec
-    invariant-loop
-    decreases-loop
-    (λ c. tested_none _)  -- loop-holds
-    (λ c. search rules)  -- mul-contained
-    (λ c. search rules)  -- element-copy-out-contained
-    (λ c κs. search rules)  -- contained-requires
-    (λ c. search rules)  -- add-o
-    (λ c. search rules)  -- loop-less
-    loop-again
-    (λ c. tested_all _ _ c.before.loop.invariant c.loop-test.false ∙ sym (c_below_readers _ _)))  -- returns
+    invariant-loop-o
+    decreases-loop-o
+    (λ c. tested_none _)  -- loop-o-init
+    (λ c. search rules)  -- offset_bounds-self-o
+    (λ c. search rules)  -- bounds-self-o
+    (λ c κs. search rules)  -- contained-within-requires
+    (λ c. search rules)  -- overflow_step-o
+    (λ c. search rules)  -- loop-o-smaller
+    loop-o-preserved
+    (λ c. tested_all _ _ c.loop-o.invariant c.loop-o-test.false ∙ sym (c_below_readers _ _)))  -- returns

@@ -6,5 +6,5 @@ use Rattle.labels.proofs.Label.reads_pooled.Tie as tie
 pub reads_pooled_spec : {M : Type 1} → statement M
 unfolding reads_pooled_of
 reads_pooled_spec = tie.close (tie.spec
-    (λ c κs. search rules)  -- meets-each-requires
-    (λ c. c.meets-each.ensures))  -- returns
+    (λ c κs. search rules)  -- meets_each-requires
+    (λ c. c.meets_each.ensures))  -- returns

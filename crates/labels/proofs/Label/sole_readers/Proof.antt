@@ -10,30 +10,30 @@ use borrow.Author.Rules.{rules}
 use Rattle.labels.proofs.Label.sole_readers.Statement.{statement}
 use Rattle.labels.proofs.Label.sole_readers.Tie as tie
 
-abbrev invariant-loop : tie.invariant-loop
-invariant-loop n self common₀ o₀ common o = (o ≤ n) × (common ≡ common_of o (readers_of self))
+abbrev invariant-loop-o : tie.invariant-loop-o
+invariant-loop-o n self common₀ o₀ common o = (o ≤ n) × (common ≡ common_of o (readers_of self))
 
-abbrev decreases-loop : tie.decreases-loop
-decreases-loop n self common₀ o₀ common o = n - o
+abbrev decreases-loop-o : tie.decreases-loop-o
+decreases-loop-o n self common₀ o₀ common o = n - o
 
 pub sole_readers_spec : {M : Type 1} → statement M
 unfolding sole_readers_of
 sole_readers_spec = tie.close (tie.spec
-    invariant-loop
-    decreases-loop
+    invariant-loop-o
+    decreases-loop-o
     (λ c.
-    let e : length c.before.args.t1.readers ≡ owners = search rules in
+    let e : length c.args.self.readers ≡ owners = search rules in
     sym (common_none _ _ owners (omega arith)
-    (get_or-eq_default c.before.args.t1.readers 0 (omega arith))))  -- returns
-    (λ c κs. search rules)  -- everyone-requires
-    (λ c. (search rules, c.everyone.ensures ∙ common_start _))  -- loop-holds
-    (λ c. search rules)  -- mul-intersection
-    (λ c. search rules)  -- element-copy-out-intersection
-    (λ c κs. search rules)  -- intersection-requires
-    (λ c. search rules)  -- add-o
-    (λ c. search rules)  -- loop-less
+    (get_or-eq_default c.args.self.readers 0 (omega arith))))  -- returns-then-n-gt-OWNERS
+    (λ c κs. search rules)  -- everyone-common-requires
+    (λ c. (search rules, c.everyone-common.ensures ∙ common_start _))  -- loop-o-init
+    (λ c. search rules)  -- offset_bounds-self-o
+    (λ c. search rules)  -- bounds-self-o
+    (λ c κs. search rules)  -- intersection-common-requires
+    (λ c. search rules)  -- overflow_step-o
+    (λ c. search rules)  -- loop-o-smaller
     (λ c. (
       search rules,
-      c.intersection.ensures ∙ common_more _ _ c.before.before.before.loop.invariant.1 refl,
-    ))  -- loop-again
-    (λ c. common_end _ _ _ c.before.loop.invariant c.loop-test.false))  -- returns-2
+      c.intersection-common.ensures ∙ common_more _ _ c.loop-o.invariant.1 refl,
+    ))  -- loop-o-preserved
+    (λ c. common_end _ _ _ c.loop-o.invariant c.loop-o-test.false))  -- returns

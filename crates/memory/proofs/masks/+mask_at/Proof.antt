@@ -49,12 +49,12 @@ readings t = (
 )
 
 -- what is for the last call to do, by the kind
-last : (t : ℕ) (c : mask-at-lts.At-match-branch (readings t) (mask_at_at t) mask-at.Post)
-    → let a = c.before.before.before.before.before.before.args in
-    laws.Last (reads_in a.table.now a.group) a.words.now a.at a.out.now a.to c.match.out
-    c.match.new.next c.match.new.end
+last : (t : ℕ) (c : mask-at-lts.Joined-words-at (readings t) (mask_at_at t) mask-at.Post)
+    → let a = c.args in
+    laws.Last (reads_in a.table.now a.group) a.words.now a.at a.out.now a.to c.match-words-at.out
+    c.match-words-at.new.next c.match-words-at.new.end
 last t c =
-    let h = c.before.before.if1.false in
+    let h = c.if-words-at.false in
     ⊎_elim
     (λ w. let e = w.2.ensures in laws.last_as w.5 w.6 e.1.0 e.1.1
     (laws.last_side _ _ _ _ _ (omega (arith, h)) to_left w.0.keys3 e.0))
@@ -66,51 +66,51 @@ last t c =
     (laws.last_content _ _ _ _ _ (omega (arith, h)) w.0.keys5 w.2.ensures (not-false _ w.6.left)))
     (λ w. laws.last_as w.9 w.10 refl refl
     (laws.last_second _ _ _ _ _ (omega (arith, h)) w.0.keys6 w.2.ensures w.6.ensures))))
-    c.match.branch
+    c.match-words-at.branch
 
 pub +mask_at_spec : {M : Type 1} → statement M
 +mask_at_spec = close μ_mask_at λ t. mask-at-lts.spec (readings t) (mask_at_at t) mask-at.Post
-    (λ c κs. search rules)  -- mask-blank-requires
-    (λ c. search rules)  -- same_length
-    (λ c. let b = c.before.before.mask-blank.ensures in
-    laws.mask_past _ _ _ _ _ (omega arith) b.0 b.1.0 b.1.1)  -- returns
-    (λ c. search rules)  -- mul-match
-    (λ c. search rules)  -- shared-slice-read-match
-    (λ c κs. search rules)  -- mask-number-requires
-    (λ c. search rules)  -- same-length-2
-    (λ c. laws.mask-numeral _ _ _ _ _ (omega arith) num_int c.before.before.before.before.match.keys1
-    (c.before.before.mask-number.ensures _))  -- returns-2
-    (λ c κs. search rules)  -- mask-number-requires-2
-    (λ c. search rules)  -- same-length-3
-    (λ c. laws.mask-numeral _ _ _ _ _ (omega arith) num_err c.before.before.before.before.match.keys2
-    (c.before.before.mask-number2.ensures _))  -- returns-3
-    (λ c. search rules)  -- add-mask-word
-    (λ c κs. search rules)  -- mask-word-requires
-    (λ c. search rules)  -- add-mask-word-2
-    (λ c κs. search rules)  -- mask-word-requires-2
-    (λ c. search rules)  -- add-label
-    (λ c. search rules)  -- add-second
-    (λ c κs. search rules)  -- mask-label-requires
-    (λ c. search rules)  -- same-length-4
-    (λ c. laws.mask-closed _ _ _ _ _ (omega arith) c.before.before.before.before.before.before.match.keys5
-    c.before.before.before.before.mask-label.ensures
-    (not-true _ c.if2.true))  -- returns-4
-    (λ c. search rules)  -- add-t32
-    (λ c. search rules)  -- add-t33
+    (λ c κs. search rules)  -- mask_blank-requires
+    (λ c. search rules)  -- shape_of-out-then-words-at
+    (λ c. let b = c.mask_blank.ensures in
+    laws.mask_past _ _ _ _ _ (omega arith) b.0 b.1.0 b.1.1)  -- returns-then-words-at
+    (λ c. search rules)  -- offset_bounds-words-at
+    (λ c. search rules)  -- bounds-words-at
+    (λ c κs. search rules)  -- mask_number-requires
+    (λ c. search rules)  -- shape_of-out-in-1
+    (λ c. laws.mask-numeral _ _ _ _ _ (omega arith) num_int c.in-1.is
+    (c.mask_number.ensures _))  -- returns-in-1
+    (λ c κs. search rules)  -- mask_number-requires-in-2
+    (λ c. search rules)  -- shape_of-out-in-2
+    (λ c. laws.mask-numeral _ _ _ _ _ (omega arith) num_err c.in-2.is
+    (c.mask_number-in-2.ensures _))  -- returns-in-2
+    (λ c. search rules)  -- overflow_add-at
+    (λ c κs. search rules)  -- mask_word-last-requires
+    (λ c. search rules)  -- overflow_add-at-in-4
+    (λ c κs. search rules)  -- mask_word-last-requires-in-4
+    (λ c. search rules)  -- overflow_add-label
+    (λ c. search rules)  -- overflow_add-second
+    (λ c κs. search rules)  -- mask_label-head-requires
+    (λ c. search rules)  -- shape_of-out-then-not-head
+    (λ c. laws.mask-closed _ _ _ _ _ (omega arith) c.in-5.is
+    c.mask_label-head.ensures
+    (not-true _ c.if-not-head.true))  -- returns-then-not-head
+    (λ c. search rules)  -- overflow_add-last
+    (λ c. search rules)  -- overflow_add-last-in-5
     (λ c κs. search rules)  -- store-requires
-    (λ c. search rules)  -- add-mask-at
-    (λ c. search rules)  -- add-mask-at-2
-    (λ c κs. (omega arith, omega arith))  -- mask-at-requires
-    (λ c. search rules)  -- add-mask-blank
-    (λ c κs. search rules)  -- mask-blank-requires-2
-    (λ c. search rules)  -- same-length-5
-    (λ c. let b = c.before.before.mask-blank2.ensures in
-    laws.mask_none _ _ _ _ _ (omega arith) c.before.before.before.before.match.rest b.0
-    b.1.0 b.1.1)  -- returns-5
+    (λ c. search rules)  -- overflow_add-at-in-6
+    (λ c. search rules)  -- overflow_add-to
+    (λ c κs. (omega arith, omega arith))  -- mask_at-last-requires
+    (λ c. search rules)  -- overflow_add-at-in_default
+    (λ c κs. search rules)  -- mask_blank-requires-in_default
+    (λ c. search rules)  -- shape_of-out-in_default
+    (λ c. let b = c.mask_blank-in_default.ensures in
+    laws.mask_none _ _ _ _ _ (omega arith) c.in_default.in_default-own.rest b.0
+    b.1.0 b.1.1)  -- returns-in_default
     (λ c κs.
     let l = last t c.before in
-    let pre = c.before.before.before.before.before.before.before.requires in
-    (omega (arith, l.later, pre.0), omega (arith, l.room, pre.1)))  -- mask-at-requires-2
+    let pre = c.requires in
+    (omega (arith, l.later, pre.0), omega (arith, l.room, pre.1)))  -- mask_at-requires
     (λ c. laws.same_length _ _ _ _
-    ((last t c.before.before.before.before).whole _ _ _ c.before.before.mask-at2.ensures))  -- same-length-6
-    (λ c. (last t c.before.before.before.before).whole _ _ _ c.before.before.mask-at2.ensures)  -- returns-6
+    ((last t c.before.before.before.before).whole _ _ _ c.mask_at.ensures))  -- shape_of-out
+    (λ c. (last t c.before.before.before.before).whole _ _ _ c.mask_at.ensures)  -- returns

@@ -11,4 +11,4 @@ store_spec = tie.close (tie.spec
     (λ c. search rules)
     (λ c. search rules)
     (λ c. search rules)
-    (λ c. sym (set_out _ _ _ c.if1.false)))  -- returns-2
+    (λ c. sym (set_out _ _ _ c.if-at-out.false)))  -- returns-else-at-out

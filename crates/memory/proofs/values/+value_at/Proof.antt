@@ -43,34 +43,34 @@ pub +value_at_spec : {M : Type 1} → statement M
 )
     (value_at_at t)
     value-at.Post
-    (λ c. laws.walk_past _ _ _ (omega arith))  -- returns
+    (λ c. laws.walk_past _ _ _ (omega arith))  -- returns-then-words-at
     (λ c. search rules)
     (λ c. search rules)
     (λ c. search rules)
     (λ c κs. search rules)
     (λ c. search rules)
     (λ c κs. search rules)
-    (λ c. search rules)  -- add-value-at
+    (λ c. search rules)  -- overflow_add-at-in-3
     (λ c κs. (omega arith, tt))
     (λ c. search rules)
     (λ c κs. (omega arith, tt))
-    (λ c. search rules)  -- add-label
+    (λ c. search rules)  -- overflow_add-label
     (λ c. search rules)
     (λ c κs. (omega arith, tt))
-    (λ c κs. search rules)  -- package-at-requires
-    (λ c. search rules)  -- add-value-at-4
-    (λ c κs. (omega arith, tt))  -- value-at-requires-4
-    (λ c κs. (omega (arith, c.value-at4.ensures.forward), tt))  -- value-at-requires-5
-    (λ c κs. search rules)  -- pair-of-requires
-    (λ c. search rules)  -- add-t20
-    (λ c. laws.walk_numeral _ _ _ (omega arith) num_int c.before.match.keys1
-    (c.integer-at.ensures _))  -- returns-2
-    (λ c. laws.walk_numeral _ _ _ (omega arith) num_err c.before.match.keys2 (c.error-at.ensures _))
-    (λ c. laws.walk_side _ _ _ (omega arith) to_left c.before.match.keys3 c.value-at.ensures)
-    (λ c. laws.walk_side _ _ _ (omega arith) to_right c.before.match.keys4 c.value-at2.ensures)
-    (λ c. laws.walk_pkg _ _ _ (omega arith) c.before.before.match.keys5
-    (c.package-at.ensures c.before.value-at3.ensures))
+    (λ c κs. search rules)  -- package_at-requires
+    (λ c. search rules)  -- overflow_add-at-in-6
+    (λ c κs. (omega arith, tt))  -- value_at-first-requires
+    (λ c κs. (omega (arith, c.value_at-first.ensures.forward), tt))  -- value_at-second-requires
+    (λ c κs. search rules)  -- pair_of-requires
+    (λ c. search rules)  -- overflow_add-result
+    (λ c. laws.walk_numeral _ _ _ (omega arith) num_int c.in-1.is
+    (c.integer_at.ensures _))  -- returns-in-1
+    (λ c. laws.walk_numeral _ _ _ (omega arith) num_err c.match.keys2 (c.error-at.ensures _))
+    (λ c. laws.walk_side _ _ _ (omega arith) to_left c.match.keys3 c.value-at.ensures)
+    (λ c. laws.walk_side _ _ _ (omega arith) to_right c.match.keys4 c.value-at2.ensures)
+    (λ c. laws.walk_pkg _ _ _ (omega arith) c.match.keys5
+    (c.package-at.ensures c.value-at3.ensures))
     (λ c. rw c.pair_of.ensures
-    (laws.walk_pair _ _ _ (omega arith) c.before.before.before.match.keys6
-    c.before.before.value-at4.ensures c.before.value-at5.ensures))
-    (λ c. laws.walk_none _ _ _ (omega arith) c.match.rest)
+    (laws.walk_pair _ _ _ (omega arith) c.match.keys6
+    c.value-at4.ensures c.value-at5.ensures))
+    (λ c. laws.walk_none _ _ _ (omega arith) c.in_default.in_default-own.rest)

@@ -10,9 +10,9 @@ use Rattle.memory.proofs.values.error_at.Tie as tie
 pub error_at_spec : {M : Type 1} → statement M
 unfolding proper
 error_at_spec = tie.close (tie.spec
-    (λ c labels. number_past _ _ _ err (omega arith))  -- returns
+    (λ c labels. number_past _ _ _ err (omega arith))  -- returns-then-words-at
     (λ c. search rules)
     (λ c. search rules)
     (λ c κs. search rules)
     (λ c. search rules)
-    (λ c labels. number_there _ _ _ err _ (omega arith) c.is-error.ensures))  -- returns-2
+    (λ c labels. number_there _ _ _ err _ (omega arith) c.is_error.ensures))  -- returns

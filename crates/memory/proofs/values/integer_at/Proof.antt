@@ -11,6 +11,6 @@ use Rattle.memory.proofs.values.integer_at.Tie as tie
 pub integer_at_spec : {M : Type 1} → statement M
 unfolding proper
 integer_at_spec = tie.close (tie.spec
-    (λ c. search rules)  -- add-t6
-    (λ c labels. number_there _ _ _ int _ (omega arith) refl)  -- returns
-    (λ c labels. number_past _ _ _ int (omega arith)))  -- returns-2
+    (λ c. search rules)  -- overflow_add-result
+    (λ c labels. number_there _ _ _ int _ (omega arith) refl)  -- returns-then-at-words
+    (λ c labels. number_past _ _ _ int (omega arith)))  -- returns-else-at-words

@@ -6,5 +6,5 @@ use Rattle.memory.proofs.values.is_error.Tie as tie
 
 pub is_error_spec : {M : Type 1} → statement M
 is_error_spec = tie.close (tie.spec
-    (λ c. both_off _ _ (lt-leb _ _ c.if1.true))  -- returns
-    (λ c. both_on _ _ (le-leb _ _ c.if1.false)))  -- returns-2
+    (λ c. both_off _ _ (lt-leb _ _ c.if-e-lt1.true))  -- returns-then-e-lt1
+    (λ c. both_on _ _ (le-leb _ _ c.if-e-lt1.false)))  -- returns

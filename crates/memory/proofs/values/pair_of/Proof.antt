@@ -7,5 +7,5 @@ use Rattle.memory.proofs.values.pair_of.Tie as tie
 pub pair_of_spec : {M : Type 1} → statement M
 unfolding both
 pair_of_spec = tie.close (tie.spec
-    (λ c. rw c.if1.true refl)  -- returns
-    (λ c. rw c.if1.false refl))  -- returns-2
+    (λ c. rw c.if-first.true refl)  -- returns-then-first
+    (λ c. rw c.if-first.false refl))  -- returns

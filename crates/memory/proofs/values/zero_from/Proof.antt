@@ -10,26 +10,26 @@ use Rattle.memory.proofs.CellLaws.{zero_turn, zero_fail, zero_end}
 use Rattle.memory.proofs.values.zero_from.Statement.{statement}
 use Rattle.memory.proofs.values.zero_from.Tie as tie
 
-abbrev invariant-loop : tie.invariant-loop
-invariant-loop words at i₀ i =
+abbrev invariant-loop-i : tie.invariant-loop-i
+invariant-loop-i words at i₀ i =
     equal_words (zeros (length words - i)) (drop i words) ≡ equal_words (zeros (length words - at)) (drop at words)
 
-abbrev decreases-loop : tie.decreases-loop
-decreases-loop words at i₀ i = length words - i
+abbrev decreases-loop-i : tie.decreases-loop-i
+decreases-loop-i words at i₀ i = length words - i
 
 pub zero_from_spec : {M : Type 1} → statement M
 zero_from_spec = tie.close (tie.spec
-    invariant-loop
-    decreases-loop
-    (λ c. refl)  -- loop-holds
+    invariant-loop-i
+    decreases-loop-i
+    (λ c. refl)  -- loop-i-init
     (λ c. search rules)
     (λ c. search rules)
     (λ c. let l = c.before.before.before in
-    sym (zero_fail l.before.args.words.now l.loop.i (omega arith) c.if1.true) ∙ l.loop.invariant)  -- returns
+    sym (zero_fail l.args.words.now l.loop-i.i (omega arith) c.if-words-i-ne0.true) ∙ l.loop-i.invariant)  -- returns-then-words-i-ne0
     (λ c. search rules)
     (λ c. search rules)
     (λ c. let l = c.before.before.before in
-    sym (zero_turn l.before.args.words.now l.loop.i (omega arith) c.if1.false)
-    ∙ l.loop.invariant)  -- loop-again
+    sym (zero_turn l.args.words.now l.loop-i.i (omega arith) c.if-words-i-ne0.false)
+    ∙ l.loop-i.invariant)  -- loop-i-preserved
     (λ c. let l = c.before in
-    sym (zero_end l.before.args.words.now l.loop.i (omega arith)) ∙ l.loop.invariant))  -- returns-2
+    sym (zero_end l.args.words.now l.loop-i.i (omega arith)) ∙ l.loop-i.invariant))  -- returns

@@ -9,8 +9,8 @@ use Rattle.sheet.proofs.powers.may_read.Tie as tie
 pub may_read_spec : {M : Type 1} → statement M
 unfolding member
 may_read_spec = tie.close (tie.spec
-    (λ c. read_past _ _ (omega arith))  -- returns
-    (λ c. search rules)  -- add-result
-    (λ c. search rules)  -- cast-result
-    (λ c. search rules)  -- shr-result
-    (λ c. read_bit c.before.args.powers c.before.args.l (omega arith)))  -- returns-2
+    (λ c. read_past _ _ (omega arith))  -- returns-then-l-ge-MOST_LABELS
+    (λ c. search rules)  -- overflow_add-result
+    (λ c. search rules)  -- overflow_cast-result
+    (λ c. search rules)  -- overflow_shr-result
+    (λ c. read_bit c.args.powers c.args.l (omega arith)))  -- returns

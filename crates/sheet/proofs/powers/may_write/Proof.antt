@@ -9,6 +9,6 @@ use Rattle.sheet.proofs.powers.may_write.Tie as tie
 pub may_write_spec : {M : Type 1} → statement M
 unfolding member
 may_write_spec = tie.close (tie.spec
-    (λ c. write_past _ _ (omega arith))  -- returns
-    (λ c. search rules)  -- shr-result
-    (λ c. write_bit c.before.args.powers c.before.args.l (omega arith)))  -- returns-2
+    (λ c. write_past _ _ (omega arith))  -- returns-then-l-ge-MOST_LABELS
+    (λ c. search rules)  -- overflow_shr-result
+    (λ c. write_bit c.args.powers c.args.l (omega arith)))  -- returns

@@ -9,53 +9,53 @@ use Rattle.sheet.proofs.PowerLaws.{up_to_more, held_all, held_most, held-few}
 use Rattle.sheet.proofs.powers.powers.Statement.{statement}
 use Rattle.sheet.proofs.powers.powers.Tie as tie
 
-abbrev invariant-loop : tie.invariant-loop
-invariant-loop table group there n out₀ l₀ out l =
+abbrev invariant-loop-l : tie.invariant-loop-l
+invariant-loop-l table group there n out₀ l₀ out l =
     (l ≤ n) × (n ≤ 32) × (n ≡ labels_held table) × (out ≡ powers_up_to table group l)
 
-abbrev decreases-loop : tie.decreases-loop
-decreases-loop table group there n out₀ l₀ out l = n - l
+abbrev decreases-loop-l : tie.decreases-loop-l
+decreases-loop-l table group there n out₀ l₀ out l = n - l
 
-loop-holds : tie.Need-loop-init invariant-loop decreases-loop
+loop-l-init : tie.Need-loop-l-init invariant-loop-l decreases-loop-l
 unfolding powers_up_to
-loop-holds c =
-    let t = c.before.before.before.args.table.now in
-    let is : c.if1.n ≡ labels_held t =
-    ⊎_elim (λ w. w.1 ∙ held_all t c.before.labels.ensures w.0.taken)
-    (λ w. w.1 ∙ held_most t c.before.labels.ensures w.0.left)
-    c.if1.branch in
+loop-l-init c =
+    let t = c.args.table.now in
+    let is : c.if-there-lt-MOST_LABELS.n ≡ labels_held t =
+    ⊎_elim (λ w. w.1 ∙ held_all t c.labels-there.ensures w.0.taken)
+    (λ w. w.1 ∙ held_most t c.labels-there.ensures w.0.left)
+    c.if-there-lt-MOST_LABELS.branch in
     (search rules, omega (arith, held-few t), is, refl)
 
-loop-again : tie.Need-loop-preserved invariant-loop decreases-loop
-loop-again c =
-    let a = c.before.before.before.before.before.before.before.args in
-    let l = c.before.before.before.loop in (
+loop-l-preserved : tie.Need-loop-l-preserved invariant-loop-l decreases-loop-l
+loop-l-preserved c =
+    let a = c.args in
+    let l = c.loop-l in (
       search rules,
       l.invariant.1,
       l.invariant.2,
-      c.with-power2.ensures
+      c.with_power-out-in-loop-l.ensures
           ∙ ap (λ (m : ℕ). with_power a.table.now a.group m (32 + l.l))
-          (c.before.with-power.ensures ∙ ap (λ (m : ℕ). with_power a.table.now a.group m l.l) l.invariant.3)
+          (c.with_power-out.ensures ∙ ap (λ (m : ℕ). with_power a.table.now a.group m l.l) l.invariant.3)
           ∙ up_to_more a.table.now a.group l.l,
     )
 
-returns : tie.Need-returns invariant-loop decreases-loop
+returns : tie.Need-returns invariant-loop-l decreases-loop-l
 unfolding powers_in
 returns c =
-    let l = c.before.loop in
-    let e : l.l ≡ c.before.before.if1.n = omega arith in
+    let l = c.loop-l in
+    let e : l.l ≡ c.if-there-lt-MOST_LABELS.n = omega arith in
     l.invariant.3 ∙ ap (powers_up_to _ _) (e ∙ l.invariant.2)
 
 pub powers_spec : {M : Type 1} → statement M
 powers_spec = tie.close (tie.spec
-    invariant-loop
-    decreases-loop
-    (λ c κs. search rules)  -- labels-requires
-    loop-holds
-    (λ c κs. search rules)  -- with-power-requires
-    (λ c. search rules)  -- add-with-power
-    (λ c κs. search rules)  -- with-power-requires-2
-    (λ c. search rules)  -- add-l
-    (λ c. search rules)  -- loop-less
-    loop-again
+    invariant-loop-l
+    decreases-loop-l
+    (λ c κs. search rules)  -- labels-there-requires
+    loop-l-init
+    (λ c κs. search rules)  -- with_power-out-requires
+    (λ c. search rules)  -- overflow_add-l
+    (λ c κs. search rules)  -- with_power-out-requires-in-loop-l
+    (λ c. search rules)  -- overflow_step-l
+    (λ c. search rules)  -- loop-l-smaller
+    loop-l-preserved
     returns)

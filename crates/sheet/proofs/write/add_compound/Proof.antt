@@ -5,6 +5,6 @@ use Rattle.sheet.proofs.write.add_compound.Tie as tie
 
 pub add_compound_spec : {M : Type 1} → statement M
 add_compound_spec = tie.close (tie.spec
-    (λ c κs. search rules)  -- right-word-requires
-    (λ c κs. search rules)  -- add-entry-requires
-    (λ c. rw (← c.before.right-word.ensures) c.add_entry.ensures))  -- returns
+    (λ c κs. search rules)  -- right_word-requires
+    (λ c κs. search rules)  -- add_entry-requires
+    (λ c. rw (← c.right_word.ensures) c.add_entry.ensures))  -- returns

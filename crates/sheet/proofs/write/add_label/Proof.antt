@@ -5,37 +5,37 @@ use borrow.Author.Rules.{rules}
 use Rattle.sheet.proofs.write.add_label.Statement.{statement}
 use Rattle.sheet.proofs.write.add_label.Tie as tie
 
+returns-then-l-ge-MOST_LABELS : tie.Need-returns-then-l-ge-MOST_LABELS
+unfolding open_put
+returns-then-l-ge-MOST_LABELS c = rw (rw c.labels-l.ensures at (le-ltb _ _ c.if-l-ge-MOST_LABELS.true))
+
 returns : tie.Need-returns
 unfolding open_put
-returns c = rw (rw c.before.labels.ensures at (le-ltb _ _ c.if1.true))
-
-returns-2 : tie.Need-returns-2
-unfolding open_put
-returns-2 c =
+returns c =
     let opened = c.before.before.before.before in
     let here = opened.before.before.before.before.before.before.before in
     rw (
-      rw here.before.labels.ensures at (lt-ltb _ _ here.if1.false),
+      rw here.labels-l.ensures at (lt-ltb _ _ here.if-l-ge-MOST_LABELS.false),
       c.low.ensures,
-      c.before.put-label.ensures,
-      c.before.before.label-place.ensures,
-      opened.open.ensures,
-      opened.before.everyone.ensures,
-      opened.before.before.before.before.principals.ensures,
-      here.before.labels.ensures,
+      c.put_label.ensures,
+      c.label_place.ensures,
+      opened.open-label.ensures,
+      opened.everyone.ensures,
+      opened.principals.ensures,
+      here.labels-l.ensures,
     )
 
 pub add_label_spec : {M : Type 1} → statement M
 add_label_spec = tie.close (tie.spec
-    (λ c κs. search rules)  -- labels-requires
-    returns
+    (λ c κs. search rules)  -- labels-l-requires
+    returns-then-l-ge-MOST_LABELS
     (λ c κs. search rules)  -- principals-requires
-    (λ c. search rules)  -- cast-open
+    (λ c. search rules)  -- overflow_cast-principals
     (λ c κs. search rules)  -- everyone-requires
-    (λ c κs. search rules)  -- open-requires
-    (λ c κs. search rules)  -- label-place-requires
-    (λ c κs. search rules)  -- put-label-requires
-    (λ c. search rules)  -- add-low
+    (λ c κs. search rules)  -- open-label-requires
+    (λ c κs. search rules)  -- label_place-requires
+    (λ c κs. search rules)  -- put_label-requires
+    (λ c. search rules)  -- overflow_add-l
     (λ c κs. search rules)  -- low-requires
-    (λ c. search rules)  -- element-write-table
-    returns-2)
+    (λ c. search rules)  -- bounds-table-3
+    returns)

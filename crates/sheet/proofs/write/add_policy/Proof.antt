@@ -10,29 +10,29 @@ use borrow.Author.Rules.{rules}
 use Rattle.sheet.proofs.write.add_policy.Statement.{statement}
 use Rattle.sheet.proofs.write.add_policy.Tie as tie
 
+returns-then-n-eq0 : tie.Need-returns-then-n-eq0
+unfolding policy_put
+returns-then-n-eq0 c = rw (rw c.labels-n.ensures at (le-ltb 0 c.labels-n.result (omega arith)))
+
 returns : tie.Need-returns
 unfolding policy_put
-returns c = rw (rw c.before.labels.ensures at (le-ltb 0 c.before.labels.result (omega arith)))
-
-returns-2 : tie.Need-returns-2
-unfolding policy_put
-returns-2 c =
+returns c =
     let here = c.before.before.before in
-    let count = here.before.labels in
-    let t = here.before.before.before.before.args.table.now in
+    let count = here.labels-n in
+    let t = here.args.table.now in
     rw (
       rw count.ensures at (lt-ltb 0 count.result (omega arith)),
-      c.put-policy.ensures,
-      c.before.label-place.ensures,
+      c.put_policy.ensures,
+      c.label_place.ensures,
       count.ensures,
       label_there t (labels_in t - 1) refl (omega (arith, count.ensures)),
     )
 
 pub add_policy_spec : {M : Type 1} → statement M
 add_policy_spec = tie.close (tie.spec
-    (λ c κs. search rules)  -- labels-requires
-    returns
-    (λ c. search rules)  -- sub-label-place
-    (λ c κs. search rules)  -- label-place-requires
-    (λ c κs. search rules)  -- put-policy-requires
-    returns-2)
+    (λ c κs. search rules)  -- labels-n-requires
+    returns-then-n-eq0
+    (λ c. search rules)  -- overflow_sub-n
+    (λ c κs. search rules)  -- label_place-requires
+    (λ c κs. search rules)  -- put_policy-requires
+    returns)

@@ -11,5 +11,5 @@ returns c = refl
 
 pub low_spec : {M : Type 1} → statement M
 low_spec = tie.close (tie.spec
-    (λ c. search rules)  -- cast-result
+    (λ c. search rules)  -- overflow_cast-result
     returns)

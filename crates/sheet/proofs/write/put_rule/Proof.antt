@@ -8,5 +8,5 @@ use Rattle.sheet.proofs.write.put_rule.Tie as tie
 pub put_rule_spec : {M : Type 1} → statement M
 unfolding rule_word
 put_rule_spec = tie.close (tie.spec
-    (λ c. search rules)  -- element-write-table
+    (λ c. search rules)  -- bounds-table-5
     (λ c. refl))  -- returns

@@ -7,8 +7,8 @@ use Rattle.sheet.proofs.write.right_word.Tie as tie
 pub right_word_spec : {M : Type 1} → statement M
 unfolding right_word
 right_word_spec = tie.close (tie.spec
-    (λ c. search rules)  -- enum_told
-    (λ c. search rules)  -- enum-told-2
-    (λ c. search rules)  -- add-result
-    (λ c. rw c.enum_told.given.1)  -- returns
-    (λ c. rw c.enum-told2.given.1))  -- returns-2
+    (λ c. search rules)  -- enum_told-1
+    (λ c. search rules)  -- enum_told-in-Pair
+    (λ c. search rules)  -- overflow_add-result
+    (λ c. rw c.in-Sum.is)  -- returns-in-Sum
+    (λ c. rw c.in-Pair.is))  -- returns-in-Pair

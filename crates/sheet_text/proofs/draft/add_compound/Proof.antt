@@ -6,18 +6,18 @@ use borrow.Author.Rules.{rules}
 use Rattle.sheet_text.proofs.draft.add_compound.Statement.{statement}
 use Rattle.sheet_text.proofs.draft.add_compound.Tie as tie
 
-returns : tie.Need-returns
-returns c = passed_over _ _ _ (sym c.before.compound-fits.ensures ∙ not-true _ c.if1.true)
+returns-then-not-compound_fits : tie.Need-returns-then-not-compound_fits
+returns-then-not-compound_fits c = passed_over _ _ _ (sym c.compound_fits.ensures ∙ not-true _ c.if-not-compound_fits.true)
 
-returns-2 : tie.Need-returns-2
-returns-2 c =
+returns : tie.Need-returns
+returns c =
     let here = c.before.before in
-    taken _ _ _ (sym here.before.compound-fits.ensures ∙ not-false _ here.if1.false) _
-    c.add-compound.ensures
+    taken _ _ _ (sym here.compound_fits.ensures ∙ not-false _ here.if-not-compound_fits.false) _
+    c.add_compound.ensures
 
 pub add_compound_spec : {M : Type 1} → statement M
 add_compound_spec = tie.close (tie.spec
-    (λ c κs. search rules)  -- compound-fits-requires
-    returns
-    (λ c κs. search rules)  -- add-compound-requires
-    returns-2)
+    (λ c κs. search rules)  -- compound_fits-requires
+    returns-then-not-compound_fits
+    (λ c κs. search rules)  -- add_compound-requires
+    returns)

@@ -6,17 +6,17 @@ use borrow.Author.Rules.{rules}
 use Rattle.sheet_text.proofs.draft.add_label.Statement.{statement}
 use Rattle.sheet_text.proofs.draft.add_label.Tie as tie
 
-returns : tie.Need-returns
-returns c = passed_over _ _ _ (sym c.before.label-fits.ensures ∙ not-true _ c.if1.true)
+returns-then-not-label_fits : tie.Need-returns-then-not-label_fits
+returns-then-not-label_fits c = passed_over _ _ _ (sym c.label_fits.ensures ∙ not-true _ c.if-not-label_fits.true)
 
-returns-2 : tie.Need-returns-2
-returns-2 c =
+returns : tie.Need-returns
+returns c =
     let here = c.before.before in
-    taken _ _ _ (sym here.before.label-fits.ensures ∙ not-false _ here.if1.false) _ c.add-label.ensures
+    taken _ _ _ (sym here.label_fits.ensures ∙ not-false _ here.if-not-label_fits.false) _ c.add_label.ensures
 
 pub add_label_spec : {M : Type 1} → statement M
 add_label_spec = tie.close (tie.spec
-    (λ c κs. search rules)  -- label-fits-requires
-    returns
-    (λ c κs. search rules)  -- add-label-requires
-    returns-2)
+    (λ c κs. search rules)  -- label_fits-requires
+    returns-then-not-label_fits
+    (λ c κs. search rules)  -- add_label-requires
+    returns)

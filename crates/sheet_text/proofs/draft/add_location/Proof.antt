@@ -6,18 +6,18 @@ use borrow.Author.Rules.{rules}
 use Rattle.sheet_text.proofs.draft.add_location.Statement.{statement}
 use Rattle.sheet_text.proofs.draft.add_location.Tie as tie
 
-returns : tie.Need-returns
-returns c = passed_over _ _ _ (sym c.before.location-fits.ensures ∙ not-true _ c.if1.true)
+returns-then-not-location_fits : tie.Need-returns-then-not-location_fits
+returns-then-not-location_fits c = passed_over _ _ _ (sym c.location_fits.ensures ∙ not-true _ c.if-not-location_fits.true)
 
-returns-2 : tie.Need-returns-2
-returns-2 c =
+returns : tie.Need-returns
+returns c =
     let here = c.before.before in
-    taken _ _ _ (sym here.before.location-fits.ensures ∙ not-false _ here.if1.false) _
-    c.add-location.ensures
+    taken _ _ _ (sym here.location_fits.ensures ∙ not-false _ here.if-not-location_fits.false) _
+    c.add_location.ensures
 
 pub add_location_spec : {M : Type 1} → statement M
 add_location_spec = tie.close (tie.spec
-    (λ c κs. search rules)  -- location-fits-requires
-    returns
-    (λ c κs. search rules)  -- add-location-requires
-    returns-2)
+    (λ c κs. search rules)  -- location_fits-requires
+    returns-then-not-location_fits
+    (λ c κs. search rules)  -- add_location-requires
+    returns)

@@ -6,17 +6,17 @@ use borrow.Author.Rules.{rules}
 use Rattle.sheet_text.proofs.draft.add_policy.Statement.{statement}
 use Rattle.sheet_text.proofs.draft.add_policy.Tie as tie
 
-returns : tie.Need-returns
-returns c = passed_over _ _ _ (sym c.before.policy_fits.ensures ∙ not-true _ c.if1.true)
+returns-then-not-policy_fits : tie.Need-returns-then-not-policy_fits
+returns-then-not-policy_fits c = passed_over _ _ _ (sym c.policy_fits.ensures ∙ not-true _ c.if-not-policy_fits.true)
 
-returns-2 : tie.Need-returns-2
-returns-2 c =
+returns : tie.Need-returns
+returns c =
     let here = c.before.before in
-    taken _ _ _ (sym here.before.policy_fits.ensures ∙ not-false _ here.if1.false) _ c.add-policy.ensures
+    taken _ _ _ (sym here.policy_fits.ensures ∙ not-false _ here.if-not-policy_fits.false) _ c.add_policy.ensures
 
 pub add_policy_spec : {M : Type 1} → statement M
 add_policy_spec = tie.close (tie.spec
-    (λ c κs. search rules)  -- policy-fits-requires
-    returns
-    (λ c κs. search rules)  -- add-policy-requires
-    returns-2)
+    (λ c κs. search rules)  -- policy_fits-requires
+    returns-then-not-policy_fits
+    (λ c κs. search rules)  -- add_policy-requires
+    returns)

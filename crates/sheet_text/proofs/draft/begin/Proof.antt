@@ -27,17 +27,17 @@ begin_other L h = refl
 begin_other (O o r w) h = refl
 begin_other (X t l) h = refl
 
-returns : tie.Need-returns
-returns c = holds_none _ _ (sym (begin_other _ c.match.keys2))
+returns-in_default : tie.Need-returns-in_default
+returns-in_default c = holds_none _ _ (sym (begin_other _ c.in_default.in_default-own.keys2))
 
-returns-2 : tie.Need-returns-2
-returns-2 c = rw (c.drafted.ensures, c.before.before.before.before.line.given.1)
-    (begin_holds _ _ c.before.before.before.before.before.before.requires _ _ c.before.set-principals.ensures)
+returns : tie.Need-returns
+returns c = rw (c.drafted.ensures, c.in-P.is)
+    (begin_holds _ _ c.requires _ _ c.set_principals.ensures)
 
 pub begin_spec : {M : Type 1} → statement M
 begin_spec = tie.close (tie.spec
-    (λ c. search rules)  -- enum-known-line
-    returns
-    (λ c κs. search rules)  -- set-principals-requires
+    (λ c. search rules)  -- enum_known-line
+    returns-in_default
+    (λ c κs. search rules)  -- set_principals-requires
     (λ c κs. search rules)  -- drafted-requires
-    returns-2)
+    returns)

@@ -6,11 +6,11 @@ use Rattle.sheet_text.proofs.draft.compound_fits.Tie as tie
 
 returns : tie.Need-returns
 unfolding both
-returns c = rw (c.locations.ensures, c.before.labels.ensures, c.before.before.types.ensures)
+returns c = rw (c.locations.ensures, c.labels.ensures, c.types-n.ensures)
 
 pub compound_fits_spec : {M : Type 1} → statement M
 compound_fits_spec = tie.close (tie.spec
-    (λ c κs. search rules)  -- types-requires
+    (λ c κs. search rules)  -- types-n-requires
     (λ c κs. search rules)  -- labels-requires
     (λ c κs. search rules)  -- locations-requires
     returns)

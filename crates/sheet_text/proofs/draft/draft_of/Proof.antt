@@ -8,36 +8,36 @@ use borrow.Author.Rules.{rules}
 use Rattle.sheet_text.proofs.draft.draft_of.Statement.{statement}
 use Rattle.sheet_text.proofs.draft.draft_of.Tie as tie
 
-returns : tie.Need-returns
-returns c =
-    holds_none _ _ (sheet-long _ (sym c.before.fits2.ensures ∙ not-true _ c.if1.true))
+returns-then-not-fits : tie.Need-returns-then-not-fits
+returns-then-not-fits c =
+    holds_none _ _ (sheet-long _ (sym c.fits2.ensures ∙ not-true _ c.if-not-fits.true))
 
-returns-2 : tie.Need-returns-2
-returns-2 c =
-    let s = c.before.before.before.before.before.before.before.before.before.before.before.args.s.now in
+returns-in-Line : tie.Need-returns-in-Line
+returns-in-Line c =
+    let s = c.args.s.now in
     let fits =
-    sym c.before.before.before.before.before.before.before.before.before.fits2.ensures ∙ not-false _
-    c.before.before.before.before.before.before.before.before.if1.false in
-    let l = line-found s 0 _ c.before.before.before.before.before.before.before.line-from.ensures _
-    c.before.before.before.before.before.read.given.1 in
-    rw (← sheet_first s _ _ fits l.0) (c.follow.ensures _ (formed_begun _) c.before.before.begin.ensures)
+    sym c.fits2.ensures ∙ not-false _
+    c.if-not-fits.false in
+    let l = line-found s 0 _ c.line_from-next.ensures _
+    c.in-Line.is in
+    rw (← sheet_first s _ _ fits l.0) (c.follow.ensures _ (formed_begun _) c.begin-first.ensures)
 
-returns-3 : tie.Need-returns-3
-returns-3 c =
-    let s = c.before.before.before.before.before.before.args.s.now in
+returns-in-Refused : tie.Need-returns-in-Refused
+returns-in-Refused c =
+    let s = c.args.s.now in
     let fits =
-    sym c.before.before.before.before.fits2.ensures ∙ not-false _ c.before.before.before.if1.false in
-    let missed = line_missed s 0 _ c.before.before.line-from.ensures c.enum_told.given.1 in
+    sym c.fits2.ensures ∙ not-false _ c.if-not-fits.false in
+    let missed = line_missed s 0 _ c.line_from-next.ensures c.in-Refused.is in
     holds_none _ _ (sheet_none s fits missed)
 
 pub draft_of_spec : {M : Type 1} → statement M
 draft_of_spec = tie.close (tie.spec
     (λ c κs. search rules)  -- fits-requires
-    returns
-    (λ c κs. search rules)  -- line-from-requires
-    (λ c. search rules)  -- enum-known-read
-    (λ c κs. c.before.before.before.before.before.before.before.before.requires)  -- begin-requires
+    returns-then-not-fits
+    (λ c κs. search rules)  -- line_from-next-requires
+    (λ c. search rules)  -- enum_known-read
+    (λ c κs. c.requires)  -- begin-first-requires
     (λ c κs. search rules)  -- follow-requires
-    (λ c. search rules)  -- enum_told
-    returns-2
-    returns-3)
+    (λ c. search rules)  -- enum_told-1
+    returns-in-Line
+    returns-in-Refused)

@@ -3,13 +3,13 @@ use Rattle.sheet_text.specs.Internal.Drafts.{draft_if}
 use Rattle.sheet_text.proofs.draft.drafted.Statement.{statement}
 use Rattle.sheet_text.proofs.draft.drafted.Tie as tie
 
-returns : tie.Need-returns
+returns-then-fits : tie.Need-returns-then-fits
 unfolding draft_if
-returns c = rw c.if1.true
+returns-then-fits c = rw c.if-fits.true
 
-returns-2 : tie.Need-returns-2
+returns-else-fits : tie.Need-returns-else-fits
 unfolding draft_if
-returns-2 c = rw c.if1.false
+returns-else-fits c = rw c.if-fits.false
 
 pub drafted_spec : {M : Type 1} → statement M
-drafted_spec = tie.close (tie.spec returns returns-2)
+drafted_spec = tie.close (tie.spec returns-then-fits returns-else-fits)

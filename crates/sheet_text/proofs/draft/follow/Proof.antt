@@ -16,74 +16,74 @@ use borrow.Author.Rules.{rules}
 use Rattle.sheet_text.proofs.draft.follow.Statement.{statement}
 use Rattle.sheet_text.proofs.draft.follow.Tie as tie
 
-abbrev invariant-loop : tie.invariant-loop
-invariant-loop s from table₀ d₀ at₀ table d at =
+abbrev invariant-loop-at : tie.invariant-loop-at
+invariant-loop-at s from table₀ d₀ at₀ table d at =
     (o : Option Sheet) → FormedIf o → DraftHolds o d₀ table₀
     → (o' : Option Sheet) × FormedIf o' × DraftHolds o' d table
     × (steps_read o' (lines_of (drop at s)) ≡ steps_read o (lines_of (drop from s)))
 
-abbrev decreases-loop : tie.decreases-loop
-decreases-loop s from table₀ d₀ at₀ table d at = length s - at
+abbrev decreases-loop-at : tie.decreases-loop-at
+decreases-loop-at s from table₀ d₀ at₀ table d at = length s - at
 
 -- what is known where a line has been read
-found : (k : tie.After-read invariant-loop decreases-loop)
-    → let at = k.before.before.before.before in
-    let s = at.before.before.args.s.now in
-    let next = k.before.before.line-from.result in
-    (line_of (drop at.loop.at s) ≡ got k.read.given.0.0 (drop next.at s)) × (next.at ≤ length s)
+found : (k : tie.In-Line invariant-loop-at decreases-loop-at)
+    → let at = k.before.before in
+    let s = at.args.s.now in
+    let next = k.line_from-next.result in
+    (line_of (drop at.loop-at.at s) ≡ got k.in-Line.line (drop next.at s)) × (next.at ≤ length s)
 found k =
-    let at = k.before.before.before.before in
-    line-found at.before.before.args.s.now at.loop.at _ k.before.before.line-from.ensures _
-    k.read.given.1
+    let at = k.before.before in
+    line-found at.args.s.now at.loop-at.at _ k.line_from-next.ensures _
+    k.in-Line.is
 
-loop-less : tie.Need-loop-smaller invariant-loop decreases-loop
-loop-less c =
-    let k = c.before.before.before in
-    let at = k.before.before.before.before in
+loop-at-smaller : tie.Need-loop-at-smaller invariant-loop-at decreases-loop-at
+loop-at-smaller c =
+    let k = c.before.before in
+    let at = k.before.before in
     let l = found k in
-    omega (arith, l.1, line-onward at.before.before.args.s.now at.loop.at _ _ l.0 l.1, at.before)
+    omega (arith, l.1, line-onward at.args.s.now at.loop-at.at _ _ l.0 l.1, at.before)
 
-loop-again : tie.Need-loop-preserved invariant-loop decreases-loop
-loop-again c =
-    λ o f e.
-    let k = c.before.before.before in
-    let at = k.before.before.before.before in
-    let s = at.before.before.args.s.now in
-    let (o', f', e', g) = at.loop.invariant o f e in (
-      add_line_on o' k.read.given.0.0,
-      formed-stepped o' _ f',
-      c.step.ensures o' f' e',
-      steps_on o' s at.loop.at _ k.before.before.line-from.result.at (found k).0 ∙ g,
-    )
-
-returns : tie.Need-returns invariant-loop decreases-loop
-returns c =
+loop-at-preserved : tie.Need-loop-at-preserved invariant-loop-at decreases-loop-at
+loop-at-preserved c =
     λ o f e.
     let k = c.before.before in
     let at = k.before.before in
-    let s = at.before.before.args.s.now in
-    let (o', f', e', g) = at.loop.invariant o f e in
-    let missed = line_missed s at.loop.at _ k.line-from.ensures c.enum_told.given.1 in
-    holds_none _ _ (steps-bad o' s at.loop.at k.before.loop-test.true missed ∙ g)
+    let s = at.args.s.now in
+    let (o', f', e', g) = at.loop-at.invariant o f e in (
+      add_line_on o' k.in-Line.line,
+      formed-stepped o' _ f',
+      c.step-d.ensures o' f' e',
+      steps_on o' s at.loop-at.at _ k.line_from-next.result.at (found k).0 ∙ g,
+    )
 
-returns-2 : tie.Need-returns-2 invariant-loop decreases-loop
-returns-2 c =
+returns-in-Refused : tie.Need-returns-in-Refused invariant-loop-at decreases-loop-at
+returns-in-Refused c =
+    λ o f e.
+    let k = c.before in
+    let at = k.before.before in
+    let s = at.args.s.now in
+    let (o', f', e', g) = at.loop-at.invariant o f e in
+    let missed = line_missed s at.loop-at.at _ k.line_from-next.ensures c.in-Refused.is in
+    holds_none _ _ (steps-bad o' s at.loop-at.at k.loop-at-test.true missed ∙ g)
+
+returns : tie.Need-returns invariant-loop-at decreases-loop-at
+returns c =
     λ o f e.
     let at = c.before in
-    let s = at.before.before.args.s.now in
-    let (o', f', e', g) = at.loop.invariant o f e in
-    rw (← steps_end o' s at.loop.at c.loop-test.false ∙ g) e'
+    let s = at.args.s.now in
+    let (o', f', e', g) = at.loop-at.invariant o f e in
+    rw (← steps_end o' s at.loop-at.at c.loop-at-test.false ∙ g) e'
 
 pub follow_spec : {M : Type 1} → statement M
 follow_spec = tie.close (tie.spec
-    invariant-loop
-    decreases-loop
-    (λ c. λ o f e. (o, f, e, refl))  -- loop-holds
-    (λ c κs. search rules)  -- line-from-requires
-    (λ c. search rules)  -- enum-known-read
-    (λ c κs. search rules)  -- step-requires
-    loop-less
-    loop-again
-    (λ c. search rules)  -- enum_told
-    returns
-    returns-2)
+    invariant-loop-at
+    decreases-loop-at
+    (λ c. λ o f e. (o, f, e, refl))  -- loop-at-init
+    (λ c κs. search rules)  -- line_from-next-requires
+    (λ c. search rules)  -- enum_known-read
+    (λ c κs. search rules)  -- step-d-requires
+    loop-at-smaller
+    loop-at-preserved
+    (λ c. search rules)  -- enum_told-1
+    returns-in-Refused
+    returns)

@@ -6,7 +6,7 @@ use Rattle.sheet_text.proofs.draft.label_fits.Tie as tie
 
 returns : tie.Need-returns
 unfolding both
-returns c = rw (c.labels.ensures, c.before.locations.ensures)
+returns c = rw (c.labels.ensures, c.locations.ensures)
 
 pub label_fits_spec : {M : Type 1} → statement M
 label_fits_spec = tie.close (tie.spec

@@ -6,7 +6,7 @@ use Rattle.sheet_text.proofs.draft.location_fits.Tie as tie
 
 returns : tie.Need-returns
 unfolding both
-returns c = rw (c.locations.ensures, c.before.labels.ensures, c.before.before.types.ensures)
+returns c = rw (c.locations.ensures, c.labels.ensures, c.types.ensures)
 
 pub location_fits_spec : {M : Type 1} → statement M
 location_fits_spec = tie.close (tie.spec

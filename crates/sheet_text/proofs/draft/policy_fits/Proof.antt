@@ -8,14 +8,14 @@ returns : tie.Need-returns
 unfolding both
 returns c = rw (
   c.principals.ensures,
-  c.before.labels.ensures,
-  c.before.before.locations.ensures,
-  c.before.before.before.everyone.ensures,
+  c.labels.ensures,
+  c.locations.ensures,
+  c.everyone-all.ensures,
 )
 
 pub policy_fits_spec : {M : Type 1} → statement M
 policy_fits_spec = tie.close (tie.spec
-    (λ c κs. search rules)  -- everyone-requires
+    (λ c κs. search rules)  -- everyone-all-requires
     (λ c κs. search rules)  -- locations-requires
     (λ c κs. search rules)  -- labels-requires
     (λ c κs. search rules)  -- principals-requires

@@ -5,22 +5,22 @@ use borrow.Author.Rules.{rules}
 use Rattle.sheet_text.proofs.draft.rule_fits.Statement.{statement}
 use Rattle.sheet_text.proofs.draft.rule_fits.Tie as tie
 
-returns : tie.Need-returns
+returns-in-Pooled : tie.Need-returns-in-Pooled
 unfolding both is_pooled
-returns c =
-    let r = c.before.before in
+returns-in-Pooled c =
+    let r = c.before in
     let t = r.before in
     rw (
       ← r.rule.ensures,
-      c.enum_told.given.1,
+      c.in-Pooled.is,
       t.types.ensures,
-      t.before.locations.ensures,
-      t.before.before.labels.ensures,
+      t.locations.ensures,
+      t.labels.ensures,
     )
 
-returns-2 : tie.Need-returns-2
+returns-in-Alone : tie.Need-returns-in-Alone
 unfolding both is_pooled
-returns-2 c = rw (← c.before.before.rule.ensures, c.enum-told2.given.1)
+returns-in-Alone c = rw (← c.rule.ensures, c.in-Alone.is)
 
 pub rule_fits_spec : {M : Type 1} → statement M
 rule_fits_spec = tie.close (tie.spec
@@ -28,7 +28,7 @@ rule_fits_spec = tie.close (tie.spec
     (λ c κs. search rules)  -- locations-requires
     (λ c κs. search rules)  -- types-requires
     (λ c κs. search rules)  -- rule-requires
-    (λ c. search rules)  -- enum_told
-    (λ c. search rules)  -- enum-told-2
-    returns
-    returns-2)
+    (λ c. search rules)  -- enum_told-1
+    (λ c. search rules)  -- enum_told-in-Alone
+    returns-in-Pooled
+    returns-in-Alone)

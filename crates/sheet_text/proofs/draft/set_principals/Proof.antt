@@ -6,16 +6,16 @@ use borrow.Author.Rules.{rules}
 use Rattle.sheet_text.proofs.draft.set_principals.Statement.{statement}
 use Rattle.sheet_text.proofs.draft.set_principals.Tie as tie
 
+returns-then-not-n : tie.Need-returns-then-not-n
+unfolding both
+returns-then-not-n c = passed_over _ _ _ (not-true _ c.if-not-n.true)
+
 returns : tie.Need-returns
 unfolding both
-returns c = passed_over _ _ _ (not-true _ c.if1.true)
-
-returns-2 : tie.Need-returns-2
-unfolding both
-returns-2 c = taken _ _ _ (not-false _ c.before.before.if1.false) _ c.put-principals.ensures
+returns c = taken _ _ _ (not-false _ c.if-not-n.false) _ c.put_principals.ensures
 
 pub set_principals_spec : {M : Type 1} → statement M
 set_principals_spec = tie.close (tie.spec
-    returns
-    (λ c κs. search rules)  -- put-principals-requires
-    returns-2)
+    returns-then-not-n
+    (λ c κs. search rules)  -- put_principals-requires
+    returns)

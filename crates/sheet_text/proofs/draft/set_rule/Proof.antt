@@ -6,17 +6,17 @@ use borrow.Author.Rules.{rules}
 use Rattle.sheet_text.proofs.draft.set_rule.Statement.{statement}
 use Rattle.sheet_text.proofs.draft.set_rule.Tie as tie
 
-returns : tie.Need-returns
-returns c = passed_over _ _ _ (sym c.before.rule-fits.ensures ∙ not-true _ c.if1.true)
+returns-then-not-rule_fits : tie.Need-returns-then-not-rule_fits
+returns-then-not-rule_fits c = passed_over _ _ _ (sym c.rule_fits.ensures ∙ not-true _ c.if-not-rule_fits.true)
 
-returns-2 : tie.Need-returns-2
-returns-2 c =
+returns : tie.Need-returns
+returns c =
     let here = c.before.before in
-    taken _ _ _ (sym here.before.rule-fits.ensures ∙ not-false _ here.if1.false) _ c.put-rule.ensures
+    taken _ _ _ (sym here.rule_fits.ensures ∙ not-false _ here.if-not-rule_fits.false) _ c.put_rule.ensures
 
 pub set_rule_spec : {M : Type 1} → statement M
 set_rule_spec = tie.close (tie.spec
-    (λ c κs. search rules)  -- rule-fits-requires
-    returns
-    (λ c κs. search rules)  -- put-rule-requires
-    returns-2)
+    (λ c κs. search rules)  -- rule_fits-requires
+    returns-then-not-rule_fits
+    (λ c κs. search rules)  -- put_rule-requires
+    returns)

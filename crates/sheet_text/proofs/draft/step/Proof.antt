@@ -6,81 +6,81 @@ use borrow.Author.Rules.{rules}
 use Rattle.sheet_text.proofs.draft.step.Statement.{statement}
 use Rattle.sheet_text.proofs.draft.step.Tie as tie
 
-returns : tie.Need-returns
-returns c = λ o f e. step-refused _ _ o _ _ c.enum_told.given.1 e
+returns-in_default : tie.Need-returns-in_default
+returns-in_default c = λ o f e. step-refused _ _ o _ _ c.in_default.is e
 
-returns-2 : tie.Need-returns-2
-returns-2 c =
-    λ o f e. step_made _ _ o _ _ _ _ _ c.before.before.before.d.given.1 c.enum-told2.given.1 f e
+returns-in-P : tie.Need-returns-in-P
+returns-in-P c =
+    λ o f e. step_made _ _ o _ _ _ _ _ c.in-Formed.is c.in-P.is f e
     (λ s fm k t. no_principals s _ _)
 
-returns-3 : tie.Need-returns-3
-returns-3 c =
-    let read = c.before.before.before.before in
-    λ o f e. step_made _ _ o _ _ _ _ _ read.before.before.before.d.given.1 read.line.given.1 f e
-    (λ s fm k t. rw c.drafted.ensures (rule_holds s fm _ t _ _ _ c.before.set-rule.ensures))
-
-returns-4 : tie.Need-returns-4
-returns-4 c =
-    let read = c.before.before.before.before in
-    λ o f e. step_made _ _ o _ _ _ _ _ read.before.before.before.d.given.1 read.line2.given.1 f e
-    (λ s fm k t. rw c.drafted2.ensures
-    (unfold add_line in (compound_holds s fm _ t _ _ _ _ _ c.before.add-compound.ensures)))
-
-returns-5 : tie.Need-returns-5
-returns-5 c =
-    let read = c.before.before.before.before in
-    λ o f e. step_made _ _ o _ _ _ _ _ read.before.before.before.d.given.1 read.line3.given.1 f e
-    (λ s fm k t. rw c.drafted3.ensures
-    (unfold add_line in (compound_holds s fm _ t _ _ _ _ _ c.before.add-compound2.ensures)))
-
-returns-6 : tie.Need-returns-6
-returns-6 c =
+returns-in-R : tie.Need-returns-in-R
+returns-in-R c =
     let read = c.before.before.before in
-    λ o f e. step_made _ _ o _ _ _ _ _ read.before.before.before.d.given.1 read.enum-told3.given.1 f e
-    (λ s fm k t. rw c.drafted4.ensures (label_holds s fm _ t _ _ c.before.add-label.ensures))
+    λ o f e. step_made _ _ o _ _ _ _ _ read.in-Formed.is read.in-R.is f e
+    (λ s fm k t. rw c.drafted.ensures (rule_holds s fm _ t _ _ _ c.set_rule.ensures))
 
-returns-7 : tie.Need-returns-7
-returns-7 c =
-    let read = c.before.before.before.before in
-    λ o f e. step_made _ _ o _ _ _ _ _ read.before.before.before.d.given.1 read.line4.given.1 f e
-    (λ s fm k t. rw c.drafted5.ensures (policy_holds s fm _ t _ _ _ _ _ _ k c.before.add-policy.ensures))
+returns-in-T : tie.Need-returns-in-T
+returns-in-T c =
+    let read = c.before.before.before in
+    λ o f e. step_made _ _ o _ _ _ _ _ read.in-Formed.is read.in-T.is f e
+    (λ s fm k t. rw c.drafted-in-T.ensures
+    (unfold add_line in (compound_holds s fm _ t _ _ _ _ _ c.add_compound.ensures)))
 
-returns-8 : tie.Need-returns-8
-returns-8 c =
-    let read = c.before.before.before.before in
-    λ o f e. step_made _ _ o _ _ _ _ _ read.before.before.before.d.given.1 read.line5.given.1 f e
-    (λ s fm k t. rw c.drafted6.ensures (location_holds s fm _ t _ _ _ _ _ k c.before.add-location.ensures))
+returns-in-Q : tie.Need-returns-in-Q
+returns-in-Q c =
+    let read = c.before.before.before in
+    λ o f e. step_made _ _ o _ _ _ _ _ read.in-Formed.is read.in-Q.is f e
+    (λ s fm k t. rw c.drafted-in-Q.ensures
+    (unfold add_line in (compound_holds s fm _ t _ _ _ _ _ c.add_compound-in-Q.ensures)))
+
+returns-in-L : tie.Need-returns-in-L
+returns-in-L c =
+    let read = c.before.before.before in
+    λ o f e. step_made _ _ o _ _ _ _ _ read.in-Formed.is read.in-L.is f e
+    (λ s fm k t. rw c.drafted-in-L.ensures (label_holds s fm _ t _ _ c.add_label.ensures))
+
+returns-in-O : tie.Need-returns-in-O
+returns-in-O c =
+    let read = c.before.before.before in
+    λ o f e. step_made _ _ o _ _ _ _ _ read.in-Formed.is read.in-O.is f e
+    (λ s fm k t. rw c.drafted-in-O.ensures (policy_holds s fm _ t _ _ _ _ _ _ k c.add_policy-fits.ensures))
+
+returns-in-X : tie.Need-returns-in-X
+returns-in-X c =
+    let read = c.before.before.before in
+    λ o f e. step_made _ _ o _ _ _ _ _ read.in-Formed.is read.in-X.is f e
+    (λ s fm k t. rw c.drafted-in-X.ensures (location_holds s fm _ t _ _ _ _ _ k c.add_location.ensures))
 
 pub step_spec : {M : Type 1} → statement M
 step_spec = tie.close (tie.spec
-    (λ c. search rules)  -- enum-known-d
-    (λ c. search rules)  -- enum_told
-    returns
-    (λ c. search rules)  -- enum-told-2
-    (λ c. search rules)  -- enum-known-line
-    (λ c κs. search rules)  -- set-rule-requires
+    (λ c. search rules)  -- enum_known-d
+    (λ c. search rules)  -- enum_told-1
+    returns-in_default
+    (λ c. search rules)  -- enum_told-in-P
+    (λ c. search rules)  -- enum_known-line
+    (λ c κs. search rules)  -- set_rule-requires
     (λ c κs. search rules)  -- drafted-requires
-    (λ c. search rules)  -- enum-known-line-2
-    (λ c κs. search rules)  -- add-compound-requires
-    (λ c κs. search rules)  -- drafted-requires-2
-    (λ c. search rules)  -- enum-known-line-3
-    (λ c κs. search rules)  -- add-compound-requires-2
-    (λ c κs. search rules)  -- drafted-requires-3
-    (λ c. search rules)  -- enum-told-3
-    (λ c κs. search rules)  -- add-label-requires
-    (λ c κs. search rules)  -- drafted-requires-4
-    (λ c. search rules)  -- enum-known-line-4
-    (λ c κs. search rules)  -- add-policy-requires
-    (λ c. search rules)  -- add-drafted
-    (λ c κs. search rules)  -- drafted-requires-5
-    (λ c. search rules)  -- enum-known-line-5
-    (λ c κs. search rules)  -- add-location-requires
-    (λ c κs. search rules)  -- drafted-requires-6
-    returns-2
-    returns-3
-    returns-4
-    returns-5
-    returns-6
-    returns-7
-    returns-8)
+    (λ c. search rules)  -- enum_known-line-in-T-1
+    (λ c κs. search rules)  -- add_compound-requires
+    (λ c κs. search rules)  -- drafted-requires-in-T
+    (λ c. search rules)  -- enum_known-line-in-Q-1
+    (λ c κs. search rules)  -- add_compound-requires-in-Q
+    (λ c κs. search rules)  -- drafted-requires-in-Q
+    (λ c. search rules)  -- enum_told-in-L
+    (λ c κs. search rules)  -- add_label-requires
+    (λ c κs. search rules)  -- drafted-requires-in-L
+    (λ c. search rules)  -- enum_known-line-in-O-1
+    (λ c κs. search rules)  -- add_policy-fits-requires
+    (λ c. search rules)  -- overflow_add-owner
+    (λ c κs. search rules)  -- drafted-requires-in-O
+    (λ c. search rules)  -- enum_known-line-in-X-1
+    (λ c κs. search rules)  -- add_location-requires
+    (λ c κs. search rules)  -- drafted-requires-in-X
+    returns-in-P
+    returns-in-R
+    returns-in-T
+    returns-in-Q
+    returns-in-L
+    returns-in-O
+    returns-in-X)

@@ -7,25 +7,25 @@ use borrow.Author.Rules.{rules}
 use Rattle.sheet_text.proofs.line.label_rest.Statement.{statement}
 use Rattle.sheet_text.proofs.line.label_rest.Tie as tie
 
-returns : tie.Need-returns
+returns-in-At : tie.Need-returns-in-At
 unfolding label_rest
-returns c =
-    let a = c.before.before.before.before.before.args in
+returns-in-At c =
+    let a = c.args in
     let f =
-    byte_at a.s.now a.at 10 _ c.before.before.before.line-end.ensures _ c.before.p.given.1 in
+    byte_at a.s.now a.at 10 _ c.line_end.ensures _ c.in-At.is in
     found-got _ _ _ _ (and_then-got _ _ _ _ f.0) f.1
 
-returns-2 : tie.Need-returns-2
+returns-in-Refused : tie.Need-returns-in-Refused
 unfolding label_rest
-returns-2 c =
-    let a = c.before.before.before.before.args in
+returns-in-Refused c =
+    let a = c.args in
     found_none _ _ (and_then-bad _ _
-    (byte-bad a.s.now a.at 10 _ c.before.before.line-end.ensures c.enum_told.given.1))
+    (byte-bad a.s.now a.at 10 _ c.line_end.ensures c.in-Refused.is))
 
 pub label_rest_spec : {M : Type 1} → statement M
 label_rest_spec = tie.close (tie.spec
-    (λ c κs. search rules)  -- line-end-requires
-    (λ c. search rules)  -- enum-known-p
-    (λ c. search rules)  -- enum_told
-    returns
-    returns-2)
+    (λ c κs. search rules)  -- line_end-requires
+    (λ c. search rules)  -- enum_known-p
+    (λ c. search rules)  -- enum_told-1
+    returns-in-At
+    returns-in-Refused)

@@ -7,89 +7,89 @@ use borrow.Author.Rules.{rules}
 use Rattle.sheet_text.proofs.line.line_at.Statement.{statement}
 use Rattle.sheet_text.proofs.line.line_at.Tie as tie
 
-returns : tie.Need-returns
-returns c =
-    let a = c.before.before.args in
-    found_none _ _ (line_past a.s.now a.at c.if1.true)
+returns-then-s-at : tie.Need-returns-then-s-at
+returns-then-s-at c =
+    let a = c.args in
+    found_none _ _ (line_past a.s.now a.at c.if-s-at.true)
 
-returns-2 : tie.Need-returns-2
+returns-in-80 : tie.Need-returns-in-80
 unfolding line_of_one
-returns-2 c =
-    let a = c.before.before.before.before.before.args in
-    c.number-rest.ensures ∙ ap (placed_line a.s.now)
-    (sym (line-principals a.s.now a.at c.before.before.before.if1.false c.before.match.keys1))
+returns-in-80 c =
+    let a = c.args in
+    c.number_rest.ensures ∙ ap (placed_line a.s.now)
+    (sym (line-principals a.s.now a.at c.if-s-at.false c.in-80.is))
 
-returns-3 : tie.Need-returns-3
+returns-in-82 : tie.Need-returns-in-82
 unfolding line_of_one
-returns-3 c =
-    let a = c.before.before.before.before.before.args in
-    c.number-rest2.ensures ∙ ap (placed_line a.s.now)
-    (sym (line-rule a.s.now a.at c.before.before.before.if1.false c.before.match.keys2))
+returns-in-82 c =
+    let a = c.args in
+    c.number_rest-in-82.ensures ∙ ap (placed_line a.s.now)
+    (sym (line-rule a.s.now a.at c.if-s-at.false c.in-82.is))
 
-returns-4 : tie.Need-returns-4
+returns-in-84 : tie.Need-returns-in-84
 unfolding line_by
-returns-4 c =
-    let a = c.before.before.before.before.before.args in
-    c.numbers-rest.ensures ∙ ap (placed_line a.s.now)
-    (sym (line-sum a.s.now a.at c.before.before.before.if1.false c.before.match.keys3))
+returns-in-84 c =
+    let a = c.args in
+    c.numbers_rest.ensures ∙ ap (placed_line a.s.now)
+    (sym (line-sum a.s.now a.at c.if-s-at.false c.in-84.is))
 
-returns-5 : tie.Need-returns-5
+returns-in-81 : tie.Need-returns-in-81
 unfolding line_by
-returns-5 c =
-    let a = c.before.before.before.before.before.args in
-    c.numbers-rest2.ensures ∙ ap (placed_line a.s.now)
-    (sym (line-pair a.s.now a.at c.before.before.before.if1.false c.before.match.keys4))
+returns-in-81 c =
+    let a = c.args in
+    c.numbers_rest-in-81.ensures ∙ ap (placed_line a.s.now)
+    (sym (line-pair a.s.now a.at c.if-s-at.false c.in-81.is))
 
-returns-6 : tie.Need-returns-6
-returns-6 c =
-    let a = c.before.before.before.before.before.args in
-    c.label-rest.ensures ∙ ap (placed_line a.s.now)
-    (sym (line-label a.s.now a.at c.before.before.before.if1.false c.before.match.keys5))
+returns-in-76 : tie.Need-returns-in-76
+returns-in-76 c =
+    let a = c.args in
+    c.label_rest.ensures ∙ ap (placed_line a.s.now)
+    (sym (line-label a.s.now a.at c.if-s-at.false c.in-76.is))
 
-returns-7 : tie.Need-returns-7
-returns-7 c =
-    let a = c.before.before.before.before.before.args in
-    c.policy-rest.ensures ∙ ap (placed_line a.s.now)
-    (sym (line-policy a.s.now a.at c.before.before.before.if1.false c.before.match.keys6))
+returns-in-79 : tie.Need-returns-in-79
+returns-in-79 c =
+    let a = c.args in
+    c.policy_rest.ensures ∙ ap (placed_line a.s.now)
+    (sym (line-policy a.s.now a.at c.if-s-at.false c.in-79.is))
 
-returns-8 : tie.Need-returns-8
+returns-in-88 : tie.Need-returns-in-88
 unfolding line_by
-returns-8 c =
-    let a = c.before.before.before.before.before.args in
-    c.numbers-rest3.ensures ∙ ap (placed_line a.s.now)
-    (sym (line-location a.s.now a.at c.before.before.before.if1.false c.before.match.keys7))
+returns-in-88 c =
+    let a = c.args in
+    c.numbers_rest-in-88.ensures ∙ ap (placed_line a.s.now)
+    (sym (line-location a.s.now a.at c.if-s-at.false c.in-88.is))
 
-returns-9 : tie.Need-returns-9
-returns-9 c =
-    let a = c.before.before.before.before.args in
-    let r = c.match.rest in
+returns-in_default : tie.Need-returns-in_default
+returns-in_default c =
+    let a = c.args in
+    let r = c.in_default.in_default-own.rest in
     found_none _ _
-    (line_other a.s.now a.at c.before.before.if1.false r.0.0.0.0.0.0.1 r.0.0.0.0.0.1
+    (line_other a.s.now a.at c.if-s-at.false r.0.0.0.0.0.0.1 r.0.0.0.0.0.1
     r.0.0.0.0.1 r.0.0.0.1 r.0.0.1 r.0.1 r.1)
 
 pub line_at_spec : {M : Type 1} → statement M
 line_at_spec = tie.close (tie.spec
-    returns
-    (λ c. search rules)  -- shared-slice-read-first
-    (λ c. search rules)  -- add-number-rest
-    (λ c κs. search rules)  -- number-rest-requires
-    (λ c. search rules)  -- add-number-rest-2
-    (λ c κs. search rules)  -- number-rest-requires-2
-    (λ c. search rules)  -- add-numbers-rest
-    (λ c κs. search rules)  -- numbers-rest-requires
-    (λ c. search rules)  -- add-numbers-rest-2
-    (λ c κs. search rules)  -- numbers-rest-requires-2
-    (λ c. search rules)  -- add-label-rest
-    (λ c κs. search rules)  -- label-rest-requires
-    (λ c. search rules)  -- add-policy-rest
-    (λ c κs. search rules)  -- policy-rest-requires
-    (λ c. search rules)  -- add-numbers-rest-3
-    (λ c κs. search rules)  -- numbers-rest-requires-3
-    returns-2
-    returns-3
-    returns-4
-    returns-5
-    returns-6
-    returns-7
-    returns-8
-    returns-9)
+    returns-then-s-at
+    (λ c. search rules)  -- bounds-s-at
+    (λ c. search rules)  -- overflow_add-at
+    (λ c κs. search rules)  -- number_rest-requires
+    (λ c. search rules)  -- overflow_add-at-in-82
+    (λ c κs. search rules)  -- number_rest-requires-in-82
+    (λ c. search rules)  -- overflow_add-at-in-84
+    (λ c κs. search rules)  -- numbers_rest-requires
+    (λ c. search rules)  -- overflow_add-at-in-81
+    (λ c κs. search rules)  -- numbers_rest-requires-in-81
+    (λ c. search rules)  -- overflow_add-at-in-76
+    (λ c κs. search rules)  -- label_rest-requires
+    (λ c. search rules)  -- overflow_add-at-in-79
+    (λ c κs. search rules)  -- policy_rest-requires
+    (λ c. search rules)  -- overflow_add-at-in-88
+    (λ c κs. search rules)  -- numbers_rest-requires-in-88
+    returns-in-80
+    returns-in-82
+    returns-in-84
+    returns-in-81
+    returns-in-76
+    returns-in-79
+    returns-in-88
+    returns-in_default)

@@ -8,26 +8,26 @@ use borrow.Author.Rules.{rules}
 use Rattle.sheet_text.proofs.line.number_rest.Statement.{statement}
 use Rattle.sheet_text.proofs.line.number_rest.Tie as tie
 
-returns : tie.Need-returns
+returns-in-At : tie.Need-returns-in-At
 unfolding number_rest
-returns c =
-    let a = c.before.before.before.before.before.before.args in
-    let f = last_number_at a.s.now a.at most _ c.before.before.before.before.last-number.ensures _ _
-    c.before.before.n.given.1 in
-    rw c.line-of-one.ensures (found-got _ _ _ _ (and_then-got _ _ _ _ f.0) f.1)
+returns-in-At c =
+    let a = c.args in
+    let f = last_number_at a.s.now a.at most _ c.last_number.ensures _ _
+    c.in-At.is in
+    rw c.line_of_one.ensures (found-got _ _ _ _ (and_then-got _ _ _ _ f.0) f.1)
 
-returns-2 : tie.Need-returns-2
+returns-in-Refused : tie.Need-returns-in-Refused
 unfolding number_rest
-returns-2 c =
-    let a = c.before.before.before.before.args in
+returns-in-Refused c =
+    let a = c.args in
     found_none _ _ (and_then-bad _ _
-    (last_number-bad a.s.now a.at most _ c.before.before.last-number.ensures c.enum_told.given.1))
+    (last_number-bad a.s.now a.at most _ c.last_number.ensures c.in-Refused.is))
 
 pub number_rest_spec : {M : Type 1} → statement M
 number_rest_spec = tie.close (tie.spec
-    (λ c κs. search rules)  -- last-number-requires
-    (λ c. search rules)  -- enum-known-n
-    (λ c κs. search rules)  -- line-of-one-requires
-    (λ c. search rules)  -- enum_told
-    returns
-    returns-2)
+    (λ c κs. search rules)  -- last_number-requires
+    (λ c. search rules)  -- enum_known-n
+    (λ c κs. search rules)  -- line_of_one-requires
+    (λ c. search rules)  -- enum_told-1
+    returns-in-At
+    returns-in-Refused)

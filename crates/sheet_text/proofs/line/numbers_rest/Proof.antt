@@ -13,49 +13,49 @@ use Rattle.sheet_text.proofs.line.numbers_rest.Statement.{statement}
 use Rattle.sheet_text.proofs.line.numbers_rest.Tie as tie
 
 -- what is known where the first number has been read
-known : (k : tie.After-a)
+known : (k : tie.In-At)
     → number_field most
-    (drop k.before.before.before.before.args.at k.before.before.before.before.args.s.now)
-    ≡ got k.a.given.0.0 (drop k.a.given.0.1.0 k.before.before.before.before.args.s.now)
+    (drop k.args.at k.args.s.now)
+    ≡ got k.in-At.a (drop k.in-At.p k.args.s.now)
 known k =
-    let a = k.before.before.before.before.args in
-    (number_field_at a.s.now a.at most _ k.before.before.number-field.ensures _ _ k.a.given.1).0
+    let a = k.args in
+    (number_field_at a.s.now a.at most _ k.number_field.ensures _ _ k.in-At.is).0
 
-returns : tie.Need-returns
+returns-in_default : tie.Need-returns-in_default
 unfolding numbers_rest
-returns c =
-    let a = c.before.before.before.before.args in
+returns-in_default c =
+    let a = c.args in
     found_none _ _ (and_then-bad _ _
-    (number_field-bad a.s.now a.at most _ c.before.before.number-field.ensures c.enum_told.given.1))
+    (number_field-bad a.s.now a.at most _ c.number_field.ensures c.in_default.is))
 
-returns-2 : tie.Need-returns-2
+returns-in-At-last_number : tie.Need-returns-in-At-last_number
 unfolding numbers_rest
-returns-2 c =
-    let k = c.before.before.before.before.before.before in
-    let a = k.before.before.before.before.args in
-    let f = last_number_at a.s.now k.a.given.0.1.0 most _
-    c.before.before.before.before.last-number.ensures _ _ c.before.before.b.given.1 in
-    rw c.line-by.ensures (found-got _ _ _ _ (and_then-got _ _ _ _ (known k) ∙ and_then-got _ _ _ _ f.0) f.1)
+returns-in-At-last_number c =
+    let k = c.before.before.before in
+    let a = k.args in
+    let f = last_number_at a.s.now k.in-At.p most _
+    c.last_number.ensures _ _ c.in-At-last_number.is in
+    rw c.line_by.ensures (found-got _ _ _ _ (and_then-got _ _ _ _ (known k) ∙ and_then-got _ _ _ _ f.0) f.1)
 
-returns-3 : tie.Need-returns-3
+returns-in-Refused : tie.Need-returns-in-Refused
 unfolding numbers_rest
-returns-3 c =
-    let k = c.before.before.before.before in
-    let a = k.before.before.before.before.args in
+returns-in-Refused c =
+    let k = c.before.before in
+    let a = k.args in
     found_none _ _
     (and_then-got _ _ _ _ (known k) ∙ and_then-bad _ _
-    (last_number-bad a.s.now k.a.given.0.1.0 most _ c.before.before.last-number.ensures
-    c.enum-told2.given.1))
+    (last_number-bad a.s.now k.in-At.p most _ c.last_number.ensures
+    c.in-Refused.is))
 
 pub numbers_rest_spec : {M : Type 1} → statement M
 numbers_rest_spec = tie.close (tie.spec
-    (λ c κs. search rules)  -- number-field-requires
-    (λ c. search rules)  -- enum-known-a
-    (λ c. search rules)  -- enum_told
-    returns
-    (λ c κs. search rules)  -- last-number-requires
-    (λ c. search rules)  -- enum-known-b
-    (λ c κs. search rules)  -- line-by-requires
-    (λ c. search rules)  -- enum-told-2
-    returns-2
-    returns-3)
+    (λ c κs. search rules)  -- number_field-requires
+    (λ c. search rules)  -- enum_known-a
+    (λ c. search rules)  -- enum_told-1
+    returns-in_default
+    (λ c κs. search rules)  -- last_number-requires
+    (λ c. search rules)  -- enum_known-b
+    (λ c κs. search rules)  -- line_by-requires
+    (λ c. search rules)  -- enum_told-in-Refused
+    returns-in-At-last_number
+    returns-in-Refused)

@@ -9,43 +9,43 @@ use borrow.Author.Rules.{rules}
 use Rattle.sheet_text.proofs.repeat.again.Statement.{statement}
 use Rattle.sheet_text.proofs.repeat.again.Tie as tie
 
-abbrev invariant-loop : tie.invariant-loop
-invariant-loop table labels i from n j₀ j =
+abbrev invariant-loop-j : tie.invariant-loop-j
+invariant-loop-j table labels i from n j₀ j =
     any_from (same_in table labels i) j (n - j) ≡ any_from (same_in table labels i) from (n - from)
 
-abbrev decreases-loop : tie.decreases-loop
-decreases-loop table labels i from n j₀ j = n - j
+abbrev decreases-loop-j : tie.decreases-loop-j
+decreases-loop-j table labels i from n j₀ j = n - j
 
-returns : tie.Need-returns invariant-loop decreases-loop
+returns-then-same : tie.Need-returns-then-same invariant-loop-j decreases-loop-j
+returns-then-same c =
+    let at = c.before.before.before in
+    let a = at.args in
+    sym (any_here (same_in a.table.now a.labels a.i) at.loop-j.j a.n c.loop-j-test.true
+    (sym c.same.ensures ∙ c.if-same.true)) ∙
+    at.loop-j.invariant
+
+loop-j-preserved : tie.Need-loop-j-preserved invariant-loop-j decreases-loop-j
+loop-j-preserved c =
+    let at = c.before.before.before in
+    let a = at.args in
+    sym (any_on (same_in a.table.now a.labels a.i) at.loop-j.j a.n c.loop-j-test.true
+    (sym c.same.ensures ∙ c.if-same.false)) ∙
+    at.loop-j.invariant
+
+returns : tie.Need-returns invariant-loop-j decreases-loop-j
 returns c =
-    let at = c.before.before.before in
-    let a = at.before.args in
-    sym (any_here (same_in a.table.now a.labels a.i) at.loop.j a.n c.before.before.loop-test.true
-    (sym c.before.same.ensures ∙ c.if1.true)) ∙
-    at.loop.invariant
-
-loop-again : tie.Need-loop-preserved invariant-loop decreases-loop
-loop-again c =
-    let at = c.before.before.before in
-    let a = at.before.args in
-    sym (any_on (same_in a.table.now a.labels a.i) at.loop.j a.n c.before.before.loop-test.true
-    (sym c.before.same.ensures ∙ c.if1.false)) ∙
-    at.loop.invariant
-
-returns-2 : tie.Need-returns-2 invariant-loop decreases-loop
-returns-2 c =
     let at = c.before in
-    let a = at.before.args in
-    sym (any_end (same_in a.table.now a.labels a.i) at.loop.j a.n c.loop-test.false) ∙ at.loop.invariant
+    let a = at.args in
+    sym (any_end (same_in a.table.now a.labels a.i) at.loop-j.j a.n c.loop-j-test.false) ∙ at.loop-j.invariant
 
 pub again_spec : {M : Type 1} → statement M
 again_spec = tie.close (tie.spec
-    invariant-loop
-    decreases-loop
-    (λ c. refl)  -- loop-holds
+    invariant-loop-j
+    decreases-loop-j
+    (λ c. refl)  -- loop-j-init
     (λ c κs. search rules)  -- same-requires
-    returns
-    (λ c. omega arith)  -- add-j
-    (λ c. omega arith)  -- loop-less
-    loop-again
-    returns-2)
+    returns-then-same
+    (λ c. omega arith)  -- overflow_step-j
+    (λ c. omega arith)  -- loop-j-smaller
+    loop-j-preserved
+    returns)

@@ -9,46 +9,46 @@ use borrow.Author.Rules.{rules}
 use Rattle.sheet_text.proofs.repeat.repeated.Statement.{statement}
 use Rattle.sheet_text.proofs.repeat.repeated.Tie as tie
 
-abbrev invariant-loop : tie.invariant-loop
-invariant-loop table labels from n i₀ i =
+abbrev invariant-loop-i : tie.invariant-loop-i
+invariant-loop-i table labels from n i₀ i =
     any_from (again_in table labels n) i (n - i) ≡ any_from (again_in table labels n) from (n - from)
 
-abbrev decreases-loop : tie.decreases-loop
-decreases-loop table labels from n i₀ i = n - i
+abbrev decreases-loop-i : tie.decreases-loop-i
+decreases-loop-i table labels from n i₀ i = n - i
 
-returns : tie.Need-returns invariant-loop decreases-loop
+returns-then-again : tie.Need-returns-then-again invariant-loop-i decreases-loop-i
 unfolding again_in
+returns-then-again c =
+    let at = c.before.before.before in
+    let a = at.args in
+    sym (any_here (again_in a.table.now a.labels a.n) at.loop-i.i a.n
+    c.loop-i-test.true (sym c.again.ensures ∙ c.if-again.true)) ∙
+    at.loop-i.invariant
+
+loop-i-preserved : tie.Need-loop-i-preserved invariant-loop-i decreases-loop-i
+unfolding again_in
+loop-i-preserved c =
+    let at = c.before.before.before in
+    let a = at.args in
+    sym (any_on (again_in a.table.now a.labels a.n) at.loop-i.i a.n c.loop-i-test.true
+    (sym c.again.ensures ∙ c.if-again.false)) ∙
+    at.loop-i.invariant
+
+returns : tie.Need-returns invariant-loop-i decreases-loop-i
 returns c =
-    let at = c.before.before.before in
-    let a = at.before.args in
-    sym (any_here (again_in a.table.now a.labels a.n) at.loop.i a.n
-    c.before.before.loop-test.true (sym c.before.again.ensures ∙ c.if1.true)) ∙
-    at.loop.invariant
-
-loop-again : tie.Need-loop-preserved invariant-loop decreases-loop
-unfolding again_in
-loop-again c =
-    let at = c.before.before.before in
-    let a = at.before.args in
-    sym (any_on (again_in a.table.now a.labels a.n) at.loop.i a.n c.before.before.loop-test.true
-    (sym c.before.again.ensures ∙ c.if1.false)) ∙
-    at.loop.invariant
-
-returns-2 : tie.Need-returns-2 invariant-loop decreases-loop
-returns-2 c =
     let at = c.before in
-    let a = at.before.args in
-    sym (any_end (again_in a.table.now a.labels a.n) at.loop.i a.n c.loop-test.false) ∙ at.loop.invariant
+    let a = at.args in
+    sym (any_end (again_in a.table.now a.labels a.n) at.loop-i.i a.n c.loop-i-test.false) ∙ at.loop-i.invariant
 
 pub repeated_spec : {M : Type 1} → statement M
 repeated_spec = tie.close (tie.spec
-    invariant-loop
-    decreases-loop
-    (λ c. refl)  -- loop-holds
-    (λ c. search rules)  -- add-again
+    invariant-loop-i
+    decreases-loop-i
+    (λ c. refl)  -- loop-i-init
+    (λ c. search rules)  -- overflow_add-i
     (λ c κs. search rules)  -- again-requires
-    returns
-    (λ c. omega arith)  -- add-i
-    (λ c. omega arith)  -- loop-less
-    loop-again
-    returns-2)
+    returns-then-again
+    (λ c. omega arith)  -- overflow_step-i
+    (λ c. omega arith)  -- loop-i-smaller
+    loop-i-preserved
+    returns)

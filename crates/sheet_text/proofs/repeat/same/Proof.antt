@@ -6,43 +6,43 @@ use borrow.Author.Rules.{rules}
 use Rattle.sheet_text.proofs.repeat.same.Statement.{statement}
 use Rattle.sheet_text.proofs.repeat.same.Tie as tie
 
-same-words-requires : tie.Need-same-words-requires
-same-words-requires c κs =
+same_words-requires : tie.Need-same_words-requires
+same_words-requires c κs =
     let here = c.before.before in
-    let a = here.before.args in
-    let i = few_labels a.labels a.i here.if1.true here.before.requires.0 in
-    let j = few_labels a.labels a.j here.if1.true here.before.requires.1 in
-    (omega (arith, i, c.before.label-place.ensures), omega (arith, j, c.label-place2.ensures))
+    let a = here.args in
+    let i = few_labels a.labels a.i here.if-labels.true here.requires.0 in
+    let j = few_labels a.labels a.j here.if-labels.true here.requires.1 in
+    (omega (arith, i, c.label_place.ensures), omega (arith, j, c.label_place-then-labels.ensures))
+
+returns-then-labels : tie.Need-returns-then-labels
+returns-then-labels c =
+    let b = c.before in
+    c.same_words_lem.ensures
+    ∙ same_labels_at _ _ _ _ _ _ b.label_place.ensures b.label_place-then-labels.ensures
+    b.if-labels.true
+
+same_words-requires-2 : tie.Need-same_words-requires-2
+same_words-requires-2 c κs =
+    let here = c.before.before in
+    let a = here.args in
+    let i = few-types a.labels a.i here.if-labels.false here.requires.0 in
+    let j = few-types a.labels a.j here.if-labels.false here.requires.1 in
+    (omega (arith, i, c.parts_place.ensures), omega (arith, j, c.parts_place-2.ensures))
 
 returns : tie.Need-returns
 returns c =
     let b = c.before in
-    c.same_words_lem.ensures
-    ∙ same_labels_at _ _ _ _ _ _ b.before.label-place.ensures b.label-place2.ensures
-    b.before.before.if1.true
-
-same-words-requires-2 : tie.Need-same-words-requires-2
-same-words-requires-2 c κs =
-    let here = c.before.before in
-    let a = here.before.args in
-    let i = few-types a.labels a.i here.if1.false here.before.requires.0 in
-    let j = few-types a.labels a.j here.if1.false here.before.requires.1 in
-    (omega (arith, i, c.before.parts-place.ensures), omega (arith, j, c.parts-place2.ensures))
-
-returns-2 : tie.Need-returns-2
-returns-2 c =
-    let b = c.before in
-    c.same-words2.ensures
-    ∙ same_types_at _ _ _ _ _ _ b.before.parts-place.ensures b.parts-place2.ensures
-    b.before.before.if1.false
+    c.same_words-2.ensures
+    ∙ same_types_at _ _ _ _ _ _ b.parts_place.ensures b.parts_place-2.ensures
+    b.if-labels.false
 
 pub same_spec : {M : Type 1} → statement M
 same_spec = tie.close (tie.spec
-    (λ c κs. search rules)  -- label-place-requires
-    (λ c κs. search rules)  -- label-place-requires-2
-    same-words-requires
-    returns
-    (λ c κs. search rules)  -- parts-place-requires
-    (λ c κs. search rules)  -- parts-place-requires-2
-    same-words-requires-2
-    returns-2)
+    (λ c κs. search rules)  -- label_place-requires
+    (λ c κs. search rules)  -- label_place-requires-then-labels
+    same_words-requires
+    returns-then-labels
+    (λ c κs. search rules)  -- parts_place-requires
+    (λ c κs. search rules)  -- parts_place-requires-2
+    same_words-requires-2
+    returns)

@@ -14,38 +14,38 @@ use borrow.Author.Rules.{rules}
 use Rattle.sheet_text.proofs.repeat.same_words.Statement.{statement}
 use Rattle.sheet_text.proofs.repeat.same_words.Tie as tie
 
-abbrev invariant-loop : tie.invariant-loop
-invariant-loop table a b n k₀ k = (k ≤ n) × ((i : ℕ) → i < k → eqb (get_or table (a + i) 0) (get_or table (b + i) 0) ≡ true)
+abbrev invariant-loop-k : tie.invariant-loop-k
+invariant-loop-k table a b n k₀ k = (k ≤ n) × ((i : ℕ) → i < k → eqb (get_or table (a + i) 0) (get_or table (b + i) 0) ≡ true)
 
-abbrev decreases-loop : tie.decreases-loop
-decreases-loop table a b n k₀ k = n - k
+abbrev decreases-loop-k : tie.decreases-loop-k
+decreases-loop-k table a b n k₀ k = n - k
 
-returns : tie.Need-returns invariant-loop decreases-loop
+returns-then-table-a : tie.Need-returns-then-table-a invariant-loop-k decreases-loop-k
 unfolding same_words
-returns c =
-    sym (every_false _ _ c.before.before.before.before.loop.k (omega arith) (ne_eqb _ _ c.if1.true))
+returns-then-table-a c =
+    sym (every_false _ _ c.loop-k.k (omega arith) (ne_eqb _ _ c.if-table-a.true))
 
-loop-again : tie.Need-loop-preserved invariant-loop decreases-loop
-loop-again c =
-    (search rules, below_more _ _ c.before.before.before.before.loop.invariant.1 (eq-eqb _ _ c.if1.false))
+loop-k-preserved : tie.Need-loop-k-preserved invariant-loop-k decreases-loop-k
+loop-k-preserved c =
+    (search rules, below_more _ _ c.loop-k.invariant.1 (eq-eqb _ _ c.if-table-a.false))
 
-returns-2 : tie.Need-returns-2 invariant-loop decreases-loop
+returns : tie.Need-returns invariant-loop-k decreases-loop-k
 unfolding same_words
-returns-2 c = sym (every_true _ _ (λ i l. c.before.loop.invariant.1 i (omega arith)))
+returns c = sym (every_true _ _ (λ i l. c.loop-k.invariant.1 i (omega arith)))
 
 pub same_words_spec : {M : Type 1} → statement M
 same_words_spec = tie.close (tie.spec
-    invariant-loop
-    decreases-loop
-    (λ c. (search rules, λ i l. absurd (not-suc-le-zero l)))  -- loop-holds
-    (λ c. search rules)  -- add-if1
-    (λ c. search rules)  -- mul-if1
-    (λ c. search rules)  -- element-copy-out-if1
-    (λ c. search rules)  -- add-if1-2
-    (λ c. search rules)  -- mul-if1-2
-    (λ c. search rules)  -- element-copy-out-if1-2
-    returns
-    (λ c. search rules)  -- add-k
-    (λ c. search rules)  -- loop-less
-    loop-again
-    returns-2)
+    invariant-loop-k
+    decreases-loop-k
+    (λ c. (search rules, λ i l. absurd (not-suc-le-zero l)))  -- loop-k-init
+    (λ c. search rules)  -- overflow_add-a
+    (λ c. search rules)  -- offset_bounds-table-a
+    (λ c. search rules)  -- bounds-table-a
+    (λ c. search rules)  -- overflow_add-b
+    (λ c. search rules)  -- offset_bounds-table-b
+    (λ c. search rules)  -- bounds-table-b
+    returns-then-table-a
+    (λ c. search rules)  -- overflow_step-k
+    (λ c. search rules)  -- loop-k-smaller
+    loop-k-preserved
+    returns)

@@ -22,116 +22,116 @@ abbrev put_digits_below : ℕ → In 1 put-digits-kinds.ps
 put_digits_below t =
     and 1 put-digits-kinds.ps (falls 1 put-digits-kinds.ps ◌<◌ μ_put_digits t) put-digits.Pre
 
-put_digits_add_out :
+overflow_add-out :
     (t : ℕ) →
-    put-digits-lts.Need-overflow-add-out
+    put-digits-lts.Need-overflow_add-out
     (put_digits_below t, put-digits.Post)
     (put_digits_at t)
     put-digits.Post
-put_digits_add_out t c = omega arith
+overflow_add-out t c = omega arith
 
-put_digits_cast_out :
+overflow_cast-out :
     (t : ℕ) →
-    put-digits-lts.Need-overflow-cast-out
+    put-digits-lts.Need-overflow_cast-out
     (put_digits_below t, put-digits.Post)
     (put_digits_at t)
     put-digits.Post
-put_digits_cast_out t c = omega arith
+overflow_cast-out t c = omega arith
 
-put_digits_slice_write_out : (t : ℕ) → put-digits-lts.Need-slice-write-out (
+bounds-out-at : (t : ℕ) → put-digits-lts.Need-bounds-out-at (
   put_digits_below t,
   put-digits.Post,
 ) (put_digits_at t) put-digits.Post
-put_digits_slice_write_out t c =
-    omega (arith, laws.length_low c.before.before.args.v c.if1.true)
+bounds-out-at t c =
+    omega (arith, laws.length_low c.args.v c.if-v-lt10.true)
 
-put_digits_add_result : (t : ℕ) → put-digits-lts.Need-overflow-add-result (
+overflow_add-result : (t : ℕ) → put-digits-lts.Need-overflow_add-result (
   put_digits_below t,
   put-digits.Post,
 ) (put_digits_at t) put-digits.Post
-put_digits_add_result t c =
-    omega (arith, laws.length_low c.before.before.args.v c.if1.true)
+overflow_add-result t c =
+    omega (arith, laws.length_low c.args.v c.if-v-lt10.true)
 
-put_digits_same_length : (t : ℕ) → put-digits-lts.Need-same-length (
+shape_of-out-then-v-lt10 : (t : ℕ) → put-digits-lts.Need-shape_of-out-then-v-lt10 (
   put_digits_below t,
   put-digits.Post,
 ) (put_digits_at t) put-digits.Post
-put_digits_same_length t c =
+shape_of-out-then-v-lt10 t c =
     simp length-set
 
-put_digits_returns :
+returns-then-v-lt10 :
     (t : ℕ) →
-    put-digits-lts.Need-returns
+    put-digits-lts.Need-returns-then-v-lt10
     (put_digits_below t, put-digits.Post)
     (put_digits_at t)
     put-digits.Post
-put_digits_returns t c =
-    (omega (arith, laws.length_low c.before.before.args.v c.if1.true), laws.sets_low _ _ _ c.if1.true)
+returns-then-v-lt10 t c =
+    (omega (arith, laws.length_low c.args.v c.if-v-lt10.true), laws.sets_low _ _ _ c.if-v-lt10.true)
 
-put_digits_put_digits_requires : (t : ℕ) → put-digits-lts.Need-put-digits-requires (
+put_digits-p-requires : (t : ℕ) → put-digits-lts.Need-put_digits-p-requires (
   put_digits_below t,
   put-digits.Post,
 ) (put_digits_at t) put-digits.Post
-put_digits_put_digits_requires t c κs =
-    (omega arith, omega (arith, laws.length_more c.before.before.before.args.v c.before.if1.false))
+put_digits-p-requires t c κs =
+    (omega arith, omega (arith, laws.length_more c.args.v c.if-v-lt10.false))
 
-put_digits_add_out_2 : (t : ℕ) → put-digits-lts.Need-overflow-add-out-2 (
+overflow_add-out-2 : (t : ℕ) → put-digits-lts.Need-overflow_add-out-2 (
   put_digits_below t,
   put-digits.Post,
 ) (put_digits_at t) put-digits.Post
-put_digits_add_out_2 t c = omega arith
+overflow_add-out-2 t c = omega arith
 
-put_digits_cast_out_2 : (t : ℕ) → put-digits-lts.Need-overflow-cast-out-2 (
+overflow_cast-out-2 : (t : ℕ) → put-digits-lts.Need-overflow_cast-out-2 (
   put_digits_below t,
   put-digits.Post,
 ) (put_digits_at t) put-digits.Post
-put_digits_cast_out_2 t c = omega arith
+overflow_cast-out-2 t c = omega arith
 
-put_digits_slice_write_out_2 : (t : ℕ) → put-digits-lts.Need-slice-write-out-2 (
+bounds-out-p : (t : ℕ) → put-digits-lts.Need-bounds-out-p (
   put_digits_below t,
   put-digits.Post,
 ) (put_digits_at t) put-digits.Post
-put_digits_slice_write_out_2 t c =
+bounds-out-p t c =
     omega (
       arith,
-      laws.length_more c.before.before.before.before.before.before.args.v
-          c.before.before.before.before.if1.false,
-      c.before.before.put-digits.auto.0,
-      c.before.before.put-digits.ensures.0,
+      laws.length_more c.args.v
+          c.if-v-lt10.false,
+      c.put_digits-p.auto.0,
+      c.put_digits-p.ensures.0,
     )
 
-put_digits_add_result_2 : (t : ℕ) → put-digits-lts.Need-overflow-add-result-2 (
+overflow_add-result-2 : (t : ℕ) → put-digits-lts.Need-overflow_add-result-2 (
   put_digits_below t,
   put-digits.Post,
 ) (put_digits_at t) put-digits.Post
-put_digits_add_result_2 t c =
+overflow_add-result-2 t c =
     omega (
       arith,
-      laws.length_more c.before.before.before.before.before.before.args.v
-          c.before.before.before.before.if1.false,
-      c.before.before.put-digits.ensures.0,
+      laws.length_more c.args.v
+          c.if-v-lt10.false,
+      c.put_digits-p.ensures.0,
     )
 
-put_digits_same_length_2 : (t : ℕ) → put-digits-lts.Need-same-length-2 (
+shape_of-out : (t : ℕ) → put-digits-lts.Need-shape_of-out (
   put_digits_below t,
   put-digits.Post,
 ) (put_digits_at t) put-digits.Post
-put_digits_same_length_2 t c =
-    simp length-set c.before.before.put-digits.auto.0
+shape_of-out t c =
+    simp length-set c.put_digits-p.auto.0
 
-put_digits_returns_2 : (t : ℕ) → put-digits-lts.Need-returns-2 (
+returns : (t : ℕ) → put-digits-lts.Need-returns (
   put_digits_below t,
   put-digits.Post,
 ) (put_digits_at t) put-digits.Post
-put_digits_returns_2 t c = (
+returns t c = (
   omega (
     arith,
-    laws.length_more c.before.before.before.before.before.before.args.v
-        c.before.before.before.before.if1.false,
-    c.before.before.put-digits.ensures.0,
+    laws.length_more c.args.v
+        c.if-v-lt10.false,
+    c.put_digits-p.ensures.0,
   ),
-  rw (c.before.before.put-digits.ensures.0, c.before.before.put-digits.ensures.1)
-      (laws.sets_more _ _ _ c.before.before.before.before.if1.false),
+  rw (c.put_digits-p.ensures.0, c.put_digits-p.ensures.1)
+      (laws.sets_more _ _ _ c.if-v-lt10.false),
 )
 
 pub +put_digits_spec : {M : Type 1} → statement M
@@ -141,16 +141,16 @@ pub +put_digits_spec : {M : Type 1} → statement M
 )
     (put_digits_at t)
     put-digits.Post
-    (put_digits_add_out t)
-    (put_digits_cast_out t)
-    (put_digits_slice_write_out t)
-    (put_digits_add_result t)
-    (put_digits_same_length t)
-    (put_digits_returns t)
-    (put_digits_put_digits_requires t)
-    (put_digits_add_out_2 t)
-    (put_digits_cast_out_2 t)
-    (put_digits_slice_write_out_2 t)
-    (put_digits_add_result_2 t)
-    (put_digits_same_length_2 t)
-    (put_digits_returns_2 t)
+    (overflow_add-out t)
+    (overflow_cast-out t)
+    (bounds-out-at t)
+    (overflow_add-result t)
+    (shape_of-out-then-v-lt10 t)
+    (returns-then-v-lt10 t)
+    (put_digits-p-requires t)
+    (overflow_add-out-2 t)
+    (overflow_cast-out-2 t)
+    (bounds-out-p t)
+    (overflow_add-result-2 t)
+    (shape_of-out t)
+    (returns t)

@@ -17,36 +17,36 @@ use Rattle.groups.proofs.readers.Readers.reads.Tie as tie
 abbrev Test : ℕ → List ℕ → ℕ → Bool
 Test group sets k = meets group (get_or sets k 0)
 
-abbrev invariant-loop : tie.invariant-loop
-invariant-loop group sets all₀ o₀ all o = (o ≤ owners) × (all ≡ every o (Test group sets))
+abbrev invariant-loop-o : tie.invariant-loop-o
+invariant-loop-o group sets all₀ o₀ all o = (o ≤ owners) × (all ≡ every o (Test group sets))
 
-abbrev decreases-loop : tie.decreases-loop
-decreases-loop group sets all₀ o₀ all o = owners - o
+abbrev decreases-loop-o : tie.decreases-loop-o
+decreases-loop-o group sets all₀ o₀ all o = owners - o
 
-loop-holds : tie.Need-loop-init invariant-loop decreases-loop
+loop-o-init : tie.Need-loop-o-init invariant-loop-o decreases-loop-o
 unfolding every
-loop-holds c = (search rules, refl)
+loop-o-init c = (search rules, refl)
 
-loop-again : tie.Need-loop-preserved invariant-loop decreases-loop
+loop-o-preserved : tie.Need-loop-o-preserved invariant-loop-o decreases-loop-o
 unfolding both
-loop-again c =
-    let l = c.before.before.loop in
-    let a = c.before.before.before.before.args in
-    (search rules, every_more l.o (Test a.group a.self.sets) l.invariant.1 c.meets.ensures)
+loop-o-preserved c =
+    let l = c.loop-o in
+    let a = c.args in
+    (search rules, every_more l.o (Test a.group a.self.sets) l.invariant.1 c.meets-all.ensures)
 
 pub reads_spec : {M : Type 1} → statement M
 unfolding reads_by
 reads_spec = tie.close (tie.spec
-    invariant-loop
-    decreases-loop
-    loop-holds
-    (λ c. search rules)  -- mul-meets
-    (λ c. search rules)  -- array-read-meets
-    (λ c κs. search rules)  -- meets-requires
-    (λ c. search rules)  -- add-o
-    (λ c. search rules)  -- loop-less
-    loop-again
+    invariant-loop-o
+    decreases-loop-o
+    loop-o-init
+    (λ c. search rules)  -- offset_bounds-sets-o
+    (λ c. search rules)  -- bounds-sets-o
+    (λ c κs. search rules)  -- meets-all-requires
+    (λ c. search rules)  -- overflow_step-o
+    (λ c. search rules)  -- loop-o-smaller
+    loop-o-preserved
     (λ c.
-    let e : c.before.loop.o ≡ owners = omega arith in
-    let a = c.before.before.before.args in
-    c.before.loop.invariant.1 ∙ ap (λ (n : ℕ). every n (Test a.group a.self.sets)) e))  -- returns
+    let e : c.loop-o.o ≡ owners = omega arith in
+    let a = c.args in
+    c.loop-o.invariant.1 ∙ ap (λ (n : ℕ). every n (Test a.group a.self.sets)) e))  -- returns

@@ -44,20 +44,20 @@ module _ (sees : ℕ → Bool) where
   quiet_inst v q = quiet_close zero (v ∷ []) q
 
   -- a transition of a quiet command leaves a quiet one, and changes nothing that is seen
-  quiet_step : (W : World) {M M' : Mem} {c c' : Cmd} → Quiet sees c → Step W M c M' c'
+  quiet_step : (W : World) {M M' : Mem} {c c' : Cmd} → Step W M c M' c' → Quiet sees c
       → Quiet sees c' × ((y : ℕ) → sees y ≡ true → M' y ≡ M y)
-  quiet_step W (q_assign h) (ec_assign {M} {x} {v = v} p) = (q_skip, update-unseen M x v h)
-  quiet_step W (q_seq a b) ec_seq_skip = (b, λ y s. refl)
-  quiet_step W (q_seq a b) (ec_seq_struct p) = let i = quiet_step W a p in (q_seq i.0 b, i.1)
-  quiet_step W (q_while c) (ec_while_false p) = (q_skip, λ y s. refl)
-  quiet_step W (q_while c) (ec_while_true p) = (q_seq c (q_while c), λ y s. refl)
-  quiet_step W (q_case a b) (ec_casel {v = v} p) = (quiet_inst v a, λ y s. refl)
-  quiet_step W (q_case a b) (ec_caser {v = v} p) = (quiet_inst v b, λ y s. refl)
+  quiet_step W (ec_assign {M} {x} {v = v} p) (q_assign h) = (q_skip, update-unseen M x v h)
+  quiet_step W ec_seq_skip (q_seq a b) = (b, λ y s. refl)
+  quiet_step W (ec_seq_struct p) (q_seq a b) = let i = quiet_step W p a in (q_seq i.0 b, i.1)
+  quiet_step W (ec_while_false p) (q_while c) = (q_skip, λ y s. refl)
+  quiet_step W (ec_while_true p) (q_while c) = (q_seq c (q_while c), λ y s. refl)
+  quiet_step W (ec_casel {v = v} p) (q_case a b) = (quiet_inst v a, λ y s. refl)
+  quiet_step W (ec_caser {v = v} p) (q_case a b) = (quiet_inst v b, λ y s. refl)
 
   pub quiet_steps : (W : World) {k : ℕ} {M M' : Mem} {c c' : Cmd} → Quiet sees c → Steps W k M c M' c' → (x : ℕ)
       → sees x ≡ true → M' x ≡ M x
   quiet_steps W q s_none x s = refl
-  quiet_steps W q (s_more p r) x s = let i = quiet_step W q p in quiet_steps W i.0 r x s ∙ i.1 x s
+  quiet_steps W q (s_more p r) x s = let i = quiet_step W p q in quiet_steps W i.0 r x s ∙ i.1 x s
 
 module _ {L : Type 0} (K : Conditions L) (W : World) (vis : L → Bool) (shows : ℕ → Bool)
     (O : Observer K W vis shows) where

@@ -225,7 +225,7 @@ module _ {L : Type 0} (K : Conditions L) (W : World) (vis : L → Bool) (shows :
       (ms x s)
   ni_run Γ pc es ms f (r_go {e = e} {c} p r q) (r_go p' r' q') =
       by_label (least K Γ e) ms (while_quiet K W vis shows O e c pc Γ f) (r_go p r q) (r_go p' r' q') λ t.
-      ni_run Γ pc es (ni_run Γ _ es ms (both_right _ _ f) r r') f q q'
+      ni_run Γ pc es (ni_run Γ (K.join pc (least K Γ e)) es ms (both_right _ _ f) r r') f q q'
   ni_run Γ pc es ms f (r_go {e = e} {c} p r q) (r_end p') =
       by_label (least K Γ e) ms (while_quiet K W vis shows O e c pc Γ f) (r_go p r q) (r_end p') λ t.
       absurd (no_lr _ (ni_expr es ms e (both_left _ _ f) t _ _ p p'))
@@ -235,7 +235,7 @@ module _ {L : Type 0} (K : Conditions L) (W : World) (vis : L → Bool) (shows :
   ni_run Γ pc es ms f (r_end p) (r_end p') = ms
   ni_run Γ pc es ms f (r_left {e = e} {a} {b} p r) (r_left p' r') =
       by_label (least K Γ e) ms (case_quiet K W vis shows O e a b pc Γ f) (r_left p r) (r_left p' r') λ t.
-      ni_run _ _ (env_more (λ _. un_inl _ (ni_expr es ms e (both_left _ _ f) t _ _ p p')) es) ms
+      ni_run (least K Γ e ∷ Γ) (K.join pc (least K Γ e)) (env_more (λ _. un_inl _ (ni_expr es ms e (both_left _ _ f) t _ _ p p')) es) ms
       (both_left _ _ (both_right _ _ f)) r r'
   ni_run Γ pc es ms f (r_left {e = e} {a} {b} p r) (r_right p' r') =
       by_label (least K Γ e) ms (case_quiet K W vis shows O e a b pc Γ f) (r_left p r) (r_right p' r') λ t.
@@ -245,7 +245,7 @@ module _ {L : Type 0} (K : Conditions L) (W : World) (vis : L → Bool) (shows :
       absurd (no_rl _ (ni_expr es ms e (both_left _ _ f) t _ _ p p'))
   ni_run Γ pc es ms f (r_right {e = e} {a} {b} p r) (r_right p' r') =
       by_label (least K Γ e) ms (case_quiet K W vis shows O e a b pc Γ f) (r_right p r) (r_right p' r') λ t.
-      ni_run _ _ (env_more (λ _. un_inr _ (ni_expr es ms e (both_left _ _ f) t _ _ p p')) es) ms
+      ni_run (least K Γ e ∷ Γ) (K.join pc (least K Γ e)) (env_more (λ _. un_inr _ (ni_expr es ms e (both_left _ _ f) t _ _ p p')) es) ms
       (both_right _ _ (both_right _ _ f)) r r'
 
   pub noninterference : Noninterference K W vis shows

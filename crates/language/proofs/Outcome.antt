@@ -2,7 +2,7 @@
 -- figures meet a value that is too long.
 use mathlib.Core.Path.{◌≡◌, refl, sym, ◌∙◌, subst}
 use mathlib.Core.Bool.{true}
-use mathlib.Core.List.{List, []}
+use mathlib.Core.List.{List, [], ◌∷◌}
 use Prim.Native.Nat.{ℕ, zero, suc, ◌≤◌, ◌<◌}
 use native.Mathlib.Omega.{arith}
 use Rattle.language.specs.Syntax.{Ty, Value, int, size, Expr, Cmd, skip, seq, assign, while, case}
@@ -54,8 +54,8 @@ fits_cmd S Γ (assign x e) s = u_assign (fits_expr (is_type_lem S Γ s))
 fits_cmd S Γ (while e c) s = u_while (fits_expr (is_type_lem S Γ (both_left _ _ s))) (fits_cmd S Γ c (both_right _ _ s))
 fits_cmd S Γ (case e a b) s =
     let p = on_sum_path _ _ s in
-    u_case (fits_expr (has_type S Γ e p.2)) (fits_cmd S _ a (both_left _ _ p.3))
-    (fits_cmd S _ b (both_right _ _ p.3))
+    u_case (fits_expr (has_type S Γ e p.2)) (fits_cmd S (p.0 ∷ Γ) a (both_left _ _ p.3))
+    (fits_cmd S (p.1 ∷ Γ) b (both_right _ _ p.3))
 
 -- Where `eval` has a value, no part of the expression is too long.
 

@@ -3,7 +3,6 @@ use mathlib.Core.Path.{◌≡◌, sym, ◌∙◌}
 use mathlib.Core.Bool.{true}
 use Prim.Native.Nat.{◌-◌, ◌^◌, ◌<◌}
 use native.Mathlib.Omega.{arith}
-use borrow.Author.Tests.{not-true, not-false}
 use Rattle.sets.specs.Sets.{width}
 use Rattle.groups.specs.Internal.Readers.{reads_by}
 use Rattle.groups.proofs.ReaderLaws.{readers_grow}
@@ -25,7 +24,7 @@ in_width c = omega (arith, c.loop-group-test.true, c.requires.1)
 -- the group reads
 it_reads : (c : tie.Else-not-reads invariant-loop-group decreases-loop-group)
     → reads_by c.args.readers c.loop-group.group ≡ true
-it_reads c = sym c.reads.ensures ∙ not-false _ c.if-not-reads.false
+it_reads c = sym c.reads.ensures ∙ c.if-not-reads.false
 
 returns-then-needs_each : tie.Need-returns-then-needs_each invariant-loop-group decreases-loop-group
 returns-then-needs_each c =
@@ -55,7 +54,7 @@ first_from_spec = tie.close (tie.spec
     (λ c. omega (arith, in_width c.before.before))  -- overflow_add-group
     (λ c. omega (arith, c.loop-group-test.true))  -- loop-group-smaller-then-not-reads
     (λ c. silent_on _ _ c.loop-group.invariant
-    (sym c.reads.ensures ∙ not-true _ c.if-not-reads.true))  -- loop-group-preserved-then-not-reads
+    (sym c.reads.ensures ∙ c.if-not-reads.true))  -- loop-group-preserved-then-not-reads
     (λ c. omega (arith, in_width c.before.before))  -- overflow_cast-group-in-loop-group
     (λ c κs. search rules)  -- needs_each-requires
     returns-then-needs_each

@@ -1,5 +1,4 @@
 use mathlib.Core.Path.{◌∙◌}
-use borrow.Author.Tests.{not-true, not-false}
 use Rattle.groups.specs.Internal.Readers.{reads_by}
 use Rattle.groups.proofs.SmallestLaws.{no_member, member_le, its_member}
 use borrow.Author.Rules.{rules}
@@ -14,15 +13,15 @@ reads_without_spec = tie.close (tie.spec
     let m = c.before in
     let s = m.before in
     no_member (reads_by s.args.readers) _ _ _ s.single-member.ensures s.requires _ m.meets.ensures
-    (not-true _ c.if-not-meets.true))  -- returns-then-not-meets
+    c.if-not-meets.true)  -- returns-then-not-meets
     (λ c.
     let m = c.before in
     let s = m.before in
     member_le (reads_by s.args.readers) _ _ _ s.single-member.ensures s.requires _ m.meets.ensures
-    (not-false _ c.if-not-meets.false))  -- overflow_sub-group
+    c.if-not-meets.false)  -- overflow_sub-group
     (λ c κs. search rules)  -- reads-requires
     (λ c.
     let m = c.before.before in
     let s = m.before in
     c.reads.ensures ∙ its_member (reads_by s.args.readers) _ _ _ s.single-member.ensures s.requires _
-    m.meets.ensures (not-false _ c.if-not-meets.false)))  -- returns
+    m.meets.ensures c.if-not-meets.false))  -- returns

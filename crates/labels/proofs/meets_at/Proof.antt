@@ -7,7 +7,6 @@ use Prim.Native.Nat.{ℕ, ◌≤◌, ◌<◌, ◌+◌, ◌-◌}
 use native.Mathlib.Nat.{not-suc-le-zero}
 use native.Mathlib.Omega.{arith}
 use borrow.Author.Count.{below_more}
-use borrow.Author.Tests.{not-true, not-false}
 use Rattle.sets.specs.Sets.{meets}
 use Rattle.sets.proofs.SetLaws.{meets_empty}
 use Rattle.sets.proofs.Walks.{every_true, every_false}
@@ -45,7 +44,7 @@ meets_at_spec = tie.close (tie.spec
     let a = l.args in
     sym (every_false _ _ l.loop-o.o (omega arith)
     (tested a.table.now a.at l.loop-o.o a.group _ _ (omega arith) c.word_at.ensures
-    c.meets.ensures ∙ not-true _ c.if-not-meets.true)))  -- returns-then-not-meets
+    c.meets.ensures ∙ c.if-not-meets.true)))  -- returns-then-not-meets
     (λ c. search rules)  -- overflow_step-o
     (λ c. search rules)  -- loop-o-smaller
     (λ c.
@@ -54,6 +53,6 @@ meets_at_spec = tie.close (tie.spec
       search rules,
       below_more _ _ l.loop-o.invariant.1
           (tested a.table.now a.at l.loop-o.o a.group _ _ (omega arith)
-          c.word_at.ensures c.meets.ensures ∙ not-false _ c.if-not-meets.false),
+          c.word_at.ensures c.meets.ensures ∙ c.if-not-meets.false),
     ))  -- loop-o-preserved
     (λ c. sym (every_true _ _ (λ k l. c.loop-o.invariant.1 k (omega arith)))))  -- returns

@@ -8,7 +8,6 @@ use Prim.Native.Nat.{ℕ, ◌≤◌, ◌<◌, ◌-◌}
 use native.Mathlib.Nat.{not-suc-le-zero}
 use native.Mathlib.Omega.{arith}
 use borrow.Author.Count.{below_more}
-use borrow.Author.Tests.{not-true, not-false}
 use Rattle.sets.specs.Sets.{meets}
 use Rattle.sets.proofs.Walks.{every_true, every_false}
 use borrow.Author.Rules.{rules}
@@ -35,12 +34,12 @@ meets_each_spec = tie.close (tie.spec
     (λ c. search rules)  -- bounds-held-o
     (λ c κs. search rules)  -- meets-requires
     (λ c. sym (every_false _ _ c.loop-o.o (omega arith)
-    (sym c.meets.ensures ∙ not-true _ c.if-not-meets.true)))  -- returns-then-not-meets
+    (sym c.meets.ensures ∙ c.if-not-meets.true)))  -- returns-then-not-meets
     (λ c. search rules)  -- overflow_step-o
     (λ c. search rules)  -- loop-o-smaller
     (λ c. (
       search rules,
       below_more _ _ c.loop-o.invariant.1
-          (sym c.meets.ensures ∙ not-false _ c.if-not-meets.false),
+          (sym c.meets.ensures ∙ c.if-not-meets.false),
     ))  -- loop-o-preserved
     (λ c. sym (every_true _ _ (λ k l. c.loop-o.invariant.1 k (omega arith)))))  -- returns

@@ -4,7 +4,6 @@ use mathlib.Core.Path.{sym, ap, ◌∙◌}
 use Prim.Native.Nat.{ℕ, ◌<◌, ◌-◌}
 use native.Mathlib.Omega.{arith}
 use lib.ListN.{length}
-use borrow.Author.Tests.{not-true, not-false}
 use borrow.Fn.Kinds.{In}
 use borrow.Fn.PlainCycle.{Measures, is, falls, and}
 use Rattle.logic.proofs.BooleanLaws.{both_off, both_on}
@@ -63,14 +62,14 @@ pub +has_type_spec : {M : Type 1} → statement M
     (λ c κs. search rules)  -- is_sum-requires
     (λ c. let a = c.args
     in laws.type-inl a.table.now a.words.now a.ty a.at (omega arith) c.in-3.is
-    (both_off _ _ (sym c.is_sum.ensures ∙ not-true _ c.if-not-is_sum.true)))  -- returns-then-not-is_sum
+    (both_off _ _ (sym c.is_sum.ensures ∙ c.if-not-is_sum.true)))  -- returns-then-not-is_sum
     (λ c. search rules)  -- overflow_add-at
     (λ c κs. search rules)
     (λ c κs. (omega arith, tt))
     (λ c κs. search rules)  -- is_sum-requires-in-4
     (λ c. let a = c.args
     in laws.type-inr a.table.now a.words.now a.ty a.at (omega arith) c.in-4.is
-    (both_off _ _ (sym c.is_sum-in-4.ensures ∙ not-true _ c.if-not-is_sum-2.true)))  -- returns-then-not-is_sum-2
+    (both_off _ _ (sym c.is_sum-in-4.ensures ∙ c.if-not-is_sum-2.true)))  -- returns-then-not-is_sum-2
     (λ c. search rules)
     (λ c κs. search rules)
     (λ c κs. (omega arith, tt))
@@ -78,7 +77,7 @@ pub +has_type_spec : {M : Type 1} → statement M
     (λ c κs. search rules)  -- is_pair-requires
     (λ c. let a = c.args
     in laws.type-pair a.table.now a.words.now a.ty a.at (omega arith) c.in-6.is
-    (both_off _ _ (sym c.is_pair.ensures ∙ not-true _ c.if-not-is_pair.true)))  -- returns-then-not-is_pair
+    (both_off _ _ (sym c.is_pair.ensures ∙ c.if-not-is_pair.true)))  -- returns-then-not-is_pair
     (λ c. search rules)  -- overflow_add-at-in-6
     (λ c κs. search rules)  -- left_part-requires-in-6
     (λ c κs. (omega arith, tt))  -- has_type-requires-in-6
@@ -86,9 +85,9 @@ pub +has_type_spec : {M : Type 1} → statement M
     in laws.type-pair a.table.now a.words.now a.ty a.at (omega arith)
     c.in-6.is
     (both_off _ _ (sym (c.has_type-in-6.ensures ∙ ap (has_no _ _) c.left_part-in-6.ensures)
-    ∙ not-true _ c.if-not-has_type.true)
+    ∙ c.if-not-has_type.true)
     ∙ both_on _ _ (sym c.is_pair.ensures
-    ∙ not-false _ c.if-not-is_pair.false)))  -- returns-then-not-has_type
+    ∙ c.if-not-is_pair.false)))  -- returns-then-not-has_type
     (λ c. search rules)  -- overflow_add-at-in-6-2
     (λ c κs. search rules)  -- value_at-first-requires
     (λ c κs. search rules)  -- right_part-requires-in-6
@@ -103,12 +102,12 @@ pub +has_type_spec : {M : Type 1} → statement M
     in laws.type-inl a.table.now a.words.now a.ty a.at (omega arith)
     c.match.keys3
     (c.has_type.ensures ∙ ap (has_no _ _) c.left-part.ensures
-    ∙ both_on _ _ (sym c.is_sum.ensures ∙ not-false _ c.if2.false)))
+    ∙ both_on _ _ (sym c.is_sum.ensures ∙ c.if2.false)))
     (λ c. let a = c.before.before.before.before.before.before.before.before.before.args
     in laws.type-inr a.table.now a.words.now a.ty a.at (omega arith)
     c.match.keys4
     (c.has-type2.ensures ∙ ap (has_no _ _) c.right-part.ensures
-    ∙ both_on _ _ (sym c.is-sum2.ensures ∙ not-false _ c.if3.false)))
+    ∙ both_on _ _ (sym c.is-sum2.ensures ∙ c.if3.false)))
     (λ c. let a = c.before.before.before.before.before.before.args
     in c.one-more3.ensures
     ∙ laws.type-pkg a.table.now a.words.now a.ty a.at (omega arith) c.match.keys5)
@@ -121,7 +120,7 @@ pub +has_type_spec : {M : Type 1} → statement M
     ∙ ap (λ us. has_no a.table.now (value_of us) (right_in a.table.now a.ty))
     c.value-at.ensures.after
     ∙ both_on _ _ (sym (first.has-type3.ensures ∙ ap (has_no _ _) first.left-part2.ensures)
-    ∙ not-false _ c.if5.false)
-    ∙ both_on _ _ (sym pair.before.is_pair.ensures ∙ not-false _ pair.if4.false)))
+    ∙ c.if5.false)
+    ∙ both_on _ _ (sym pair.before.is_pair.ensures ∙ pair.if4.false)))
     (λ c. let a = c.args
     in laws.type-none a.table.now a.words.now a.ty a.at (omega arith) c.in_default.in_default-own.rest)

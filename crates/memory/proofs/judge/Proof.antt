@@ -6,7 +6,6 @@ use Prim.Native.Nat.{ℕ, ◌≤◌, ◌<◌, ◌-◌}
 use native.Mathlib.Nat.{not-suc-le-zero}
 use native.Mathlib.Omega.{arith}
 use borrow.Author.Count.{below_more}
-use borrow.Author.Tests.{not-true, not-false}
 use Rattle.memory.specs.Verdict.{memory_number}
 use Rattle.memory.proofs.RefusalLaws as laws
 use Rattle.memory.proofs.judge.Statement.{statement}
@@ -35,14 +34,14 @@ returns-then-not-location_holds c =
     let a = l.args in
     laws.refused_8 a.table.now a.memory.now l.loop-x.x (omega (arith, l.locations-n.ensures))
     (omega (arith, l.locations-n.ensures))
-    (sym c.location_holds.ensures ∙ not-true _ c.if-not-location_holds.true)
+    (sym c.location_holds.ensures ∙ c.if-not-location_holds.true)
 
 loop-x-preserved : tie.Need-loop-x-preserved invariant-loop-x decreases-loop-x
 unfolding memory_number
 loop-x-preserved c =
     let l = c.before.before.before in (
       omega arith,
-      below_more _ _ l.loop-x.invariant.1 (sym c.location_holds.ensures ∙ not-false _ c.if-not-location_holds.false),
+      below_more _ _ l.loop-x.invariant.1 (sym c.location_holds.ensures ∙ c.if-not-location_holds.false),
     )
 
 returns : tie.Need-returns invariant-loop-x decreases-loop-x

@@ -2,7 +2,7 @@
 use mathlib.Core.Path.{◌≡◌, refl, sym, ap, ◌∙◌}
 use Prim.Native.Nat.{ℕ, zero, suc, ◌≤◌}
 use lib.ListN.{length, get_or, replicate}
-use borrow.Author.Tests.{not-true, not-false}
+use borrow.Author.Tests.{not-false}
 use Rattle.sets.specs.Sets.{within}
 use Rattle.scripts.specs.declared.Parting.{Parting}
 use Rattle.scripts.specs.Parting.{script_texts, most_scripts}
@@ -17,7 +17,7 @@ returns-then-not-contained c =
     let e = c.before.before in
     rw c.refused.ensures
     (round_stranger _ _ _ _ _ (ap (within _) (sym e.everyone.ensures) ∙ sym e.contained.ensures
-    ∙ not-true _ c.if-not-contained.true))
+    ∙ c.if-not-contained.true))
 
 returns-then-parting-gt-MOST_SCRIPTS : tie.Need-returns-then-parting-gt-MOST_SCRIPTS
 returns-then-parting-gt-MOST_SCRIPTS c =
@@ -26,7 +26,7 @@ returns-then-parting-gt-MOST_SCRIPTS c =
     rw c.refused-then-parting-gt-MOST_SCRIPTS.ensures
     (round_many _ _ _ _ _
     (ap (within _) (sym e.everyone.ensures) ∙ sym e.contained.ensures
-    ∙ not-false _ e.if-not-contained.false)
+    ∙ e.if-not-contained.false)
     (many_scripts _ _ (ap (λ (p : Parting). p.count) n.part-parting.ensures) c.if-parting-gt-MOST_SCRIPTS.true))
 
 -- where the scripts were parted, and that each has a place

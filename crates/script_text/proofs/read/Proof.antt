@@ -1,7 +1,6 @@
 -- `script_text::read` meets its contract.
 use mathlib.Core.Path.{refl, ◌∙◌}
 use borrow.Author.Rules.{rules}
-use borrow.Author.Tests.{not-true, not-false}
 use Rattle.logic.proofs.BooleanLaws.{both_true, both_no_left, both_no_right}
 use Rattle.script_text.proofs.ReadLaws.{read_yes, read_no}
 use Rattle.script_text.proofs.read.Statement.{statement}
@@ -14,7 +13,7 @@ returns-then-not-whole c =
     c.refused.ensures
     ∙ read_no _ _ _ rows.decode-s.ensures _ rows.rows.ensures _
     test.whole.ensures _ refl
-    (both_no_left _ _ (not-true _ c.if-not-whole.true))
+    (both_no_left _ _ c.if-not-whole.true)
 
 returns-then-not-is_start : tie.Need-returns-then-not-is_start
 returns-then-not-is_start c =
@@ -24,7 +23,7 @@ returns-then-not-is_start c =
     c.refused-then-not-is_start.ensures
     ∙ read_no _ _ _ rows.decode-s.ensures _ rows.rows.ensures _ test.whole.ensures _
     start.is_start.ensures
-    (both_no_right _ _ (not-true _ c.if-not-is_start.true))
+    (both_no_right _ _ c.if-not-is_start.true)
 
 returns : tie.Need-returns
 returns c =
@@ -33,7 +32,7 @@ returns c =
     let rows = test.before in
     read_yes _ _ _ rows.decode-s.ensures _ rows.rows.ensures _ test.whole.ensures _
     start.is_start.ensures
-    (both_true (not-false _ start.if-not-whole.false) (not-false _ c.if-not-is_start.false))
+    (both_true start.if-not-whole.false c.if-not-is_start.false)
 
 pub read_spec : {M : Type 1} → statement M
 read_spec = tie.close (tie.spec

@@ -1,6 +1,5 @@
 -- `stages::run_on` meets its contract.
 use mathlib.Core.Path.{sym, ap, ◌∙◌}
-use borrow.Author.Tests.{not-true, not-false}
 use Rattle.sets.specs.Sets.{within}
 use Rattle.stages.proofs.StageLaws.{code_whole, run_stranger, run-numbered, run-refused, run_ends}
 use borrow.Author.Rules.{rules}
@@ -12,7 +11,7 @@ returns-then-not-contained c =
     let e = c.before.before in
     rw c.refused.ensures
     (run_stranger _ _ _ _ _ (ap (within _) (sym e.everyone.ensures) ∙ sym e.contained.ensures
-    ∙ not-true _ c.if-not-contained.true))
+    ∙ c.if-not-contained.true))
 
 returns-then-read-ne-DONE : tie.Need-returns-then-read-ne-DONE
 returns-then-read-ne-DONE c =
@@ -21,7 +20,7 @@ returns-then-read-ne-DONE c =
     rw c.refused-then-read-ne-DONE.ensures
     (run-numbered _ _ _ _ _
     (ap (within _) (sym k.everyone.ensures) ∙ sym k.contained.ensures
-    ∙ not-false _ k.if-not-contained.false)
+    ∙ k.if-not-contained.false)
     n.number_of_lem.ensures c.if-read-ne-DONE.true)
 
 returns-then-answer-ne-DONE : tie.Need-returns-then-answer-ne-DONE
@@ -33,7 +32,7 @@ returns-then-answer-ne-DONE c =
     rw c.refused-then-answer-ne-DONE.ensures
     (run-refused _ _ _ _ _
     (ap (within _) (sym k.everyone.ensures) ∙ sym k.contained.ensures
-    ∙ not-false _ k.if1.false)
+    ∙ k.if1.false)
     n.number_of_lem.ensures m.if2.false _
     (j.memory_number-answer.ensures ∙ j.judge-verdict.ensures) c.if-answer-ne-DONE.true)
 
@@ -48,7 +47,7 @@ returns c =
     let k = n.before.before in
     run_ends _ _ _ _ _
     (ap (within _) (sym k.everyone.ensures) ∙ sym k.contained.ensures
-    ∙ not-false _ k.if1.false)
+    ∙ k.if1.false)
     n.number_of_lem.ensures m.if2.false _
     (sym e.if-answer-ne-DONE.false ∙ j.memory_number-answer.ensures ∙ j.judge-verdict.ensures)
     rows.rows.ensures r.run_accepted.ensures

@@ -1,6 +1,5 @@
 use mathlib.Core.Path.{sym, ap, ◌∙◌}
 use Rattle.sets.specs.Sets.{within}
-use borrow.Author.Tests.{not-true, not-false}
 use Rattle.stages.proofs.StageLaws.{view_stranger, view_known}
 use borrow.Author.Rules.{rules}
 use Rattle.stages.proofs.view_on.Statement.{statement}
@@ -10,7 +9,7 @@ returns-then-not-contained : tie.Need-returns-then-not-contained
 returns-then-not-contained c =
     view_stranger _ _ _ _
     (ap (within _) (sym c.everyone.ensures) ∙ sym c.contained.ensures
-    ∙ not-true _ c.if-not-contained.true)
+    ∙ c.if-not-contained.true)
 
 returns : tie.Need-returns
 returns c =
@@ -18,7 +17,7 @@ returns c =
     let k = v.before.before in
     view_known _ _ _ _ _ _
     (ap (within _) (sym k.everyone.ensures) ∙ sym k.contained.ensures
-    ∙ not-false _ k.if-not-contained.false)
+    ∙ k.if-not-contained.false)
     (c.memory_number.ensures ∙ v.view-verdict.ensures.0) v.view-verdict.ensures.1
 
 pub view_on_spec : {M : Type 1} → statement M

@@ -1,6 +1,5 @@
 -- `evaluator::nodes::pack` meets its contract.
 use Rattle.std.proofs.Common.{refl, rules}
-use borrow.Author.Tests.{not-true, not-false}
 use Rattle.cells.specs.Internal.Cells.{push_of}
 use Rattle.cells.proofs.CellLaws.{after, length_push, length_load}
 use Rattle.evaluator.proofs.NodeLaws as laws
@@ -13,12 +12,12 @@ pack_spec = tie.close (tie.spec
     (λ c κs. search rules)  -- may_write-requires
     (λ c κs. search rules)  -- fail-requires
     (λ c. laws.pack-error _ _ c.may_write_lem.ensures
-    (laws.end_done _ c.if-v-le-TOO_LONG.false) (not-true _ c.if-not-may_write.true)
+    (laws.end_done _ c.if-v-le-TOO_LONG.false) c.if-not-may_write.true
     c.fail.ensures)  -- returns-then-not-may_write
     (λ c κs. search rules)  -- value_end-requires
     (λ c. laws.pack-long _ _ c.may_write_lem.ensures
     (laws.end_done _ c.if-v-le-TOO_LONG.false)
-    (not-false _ c.if-not-may_write.false) c.value_end.ensures
+    c.if-not-may_write.false c.value_end.ensures
     c.if-value_end-gt-ROOM.true)  -- returns-then-value_end-gt-ROOM
     (λ c κs. search rules)  -- push-requires
     (λ c κs. search rules)  -- push-requires-2
@@ -27,7 +26,7 @@ pack_spec = tie.close (tie.spec
     c.may_write_lem.ensures
     (laws.end_done _
     c.if-v-le-TOO_LONG.false)
-    (not-false _ c.if-not-may_write.false)
+    c.if-not-may_write.false
     c.value_end.ensures
     c.if-value_end-gt-ROOM.false refl
     (after _ _ _ (push_of 3) (length_push _ _ (length_push _ _ (length_load _ _)))

@@ -1,6 +1,5 @@
 use Rattle.logic.proofs.BooleanLaws.{both_no_left, both_yes_left}
 use mathlib.Core.Path.{sym, ◌∙◌}
-use borrow.Author.Tests.{not-true, not-false}
 use Rattle.labels.proofs.OrderLaws.{below_split}
 use borrow.Author.Rules.{rules}
 use Rattle.labels.proofs.Label.at_or_below.Statement.{statement}
@@ -12,11 +11,11 @@ at_or_below_spec = tie.close (tie.spec
     (λ c.
     let a = c.args in
     sym (below_split a.self a.other
-    ∙ both_no_left _ _ (sym c.contained_each.ensures ∙ not-true _ c.if-not-contained_each.true)))  -- returns-then-not-contained_each
+    ∙ both_no_left _ _ (sym c.contained_each.ensures ∙ c.if-not-contained_each.true)))  -- returns-then-not-contained_each
     (λ c κs. search rules)  -- contained_each-requires-2
     (λ c.
     let a = c.args in
     c.contained_each-2.ensures
     ∙ sym (below_split a.self a.other
     ∙ both_yes_left _ _ (sym c.contained_each.ensures
-    ∙ not-false _ c.if-not-contained_each.false))))  -- returns
+    ∙ c.if-not-contained_each.false))))  -- returns

@@ -5,12 +5,12 @@ use Rattle.labels.proofs.EffectiveLaws.{open_principal, open_other}
 use mathlib.Core.Path.{◌≡◌, refl, sym, ◌∙◌}
 use Prim.Native.Nat.{◌≤◌, ◌-◌}
 use native.Mathlib.Omega.{arith}
-use mathlib.Core.Logic.{⊎_elim}
 use Rattle.sets.specs.Sets.{single, tab}
 use Rattle.sets.proofs.Walks.{filled, filled_none, fill_store, fill_skip, fill_end}
 use Rattle.labels.specs.Labels.{owners, own, open_at, open_of}
 use borrow.Author.Rules.{rules}
 use Rattle.labels.proofs.Label.open.Statement.{statement}
+use Rattle.labels.proofs.Label.open.Lts.{then-o-n, else-o-n}
 use Rattle.labels.proofs.Label.open.Tie as tie
 
 abbrev invariant-loop-o : tie.invariant-loop-o
@@ -33,11 +33,12 @@ open_spec = tie.close (tie.spec
     let a = c.args in
     let l = c.loop-o in (
       search rules,
-      ⊎_elim (λ w. w.1
-          ∙ fill_store _ _ _ _ l.invariant.1 (omega arith) (sym (open_principal a.n a.all l.o w.0.taken)))
-          (λ w. w.1 ∙ fill_skip _ _ _ _ l.invariant.1 (omega arith)
-          (own_at l.o (omega arith) ∙ sym (open_other a.n a.all l.o w.0.left)))
-          c.if-o-n.branch,
+      elim c.if-o-n.branch [
+        then-o-n w ↦ w.writers-is
+          ∙ fill_store _ _ _ _ l.invariant.1 (omega arith) (sym (open_principal a.n a.all l.o w.if-o-n.true))
+      | else-o-n w ↦ w.writers-is
+          ∙ fill_skip _ _ _ _ l.invariant.1 (omega arith)
+            (own_at l.o (omega arith) ∙ sym (open_other a.n a.all l.o w.if-o-n.false)) ],
     ))  -- loop-o-preserved
     (λ c. label_path _ _ refl
     (fill_end _ _ _ _ c.loop-o.invariant.1 owners (omega arith) (search rules))))  -- returns

@@ -5,7 +5,7 @@ use mathlib.Core.Path.{refl}
 use Prim.Native.Nat.{ℕ, ◌<◌, ◌-◌}
 use native.Mathlib.Omega.{arith}
 use lib.ListN.{length}
-use borrow.Author.Tests.{not-true, not-false}
+use borrow.Author.Tests.{not-false}
 use borrow.Fn.Kinds.{In}
 use borrow.Fn.PlainCycle.{Measures, is, falls, and}
 use Rattle.sheet.specs.Internal.Tables.{reads_in}
@@ -94,7 +94,7 @@ pub +mask_at_spec : {M : Type 1} → statement M
     (λ c. search rules)  -- shape_of-out-then-not-head
     (λ c. laws.mask-closed _ _ _ _ _ (omega arith) c.in-5.is
     c.mask_label-head.ensures
-    (not-true _ c.if-not-head.true))  -- returns-then-not-head
+    c.if-not-head.true)  -- returns-then-not-head
     (λ c. search rules)  -- overflow_add-last
     (λ c. search rules)  -- overflow_add-last-in-5
     (λ c κs. search rules)  -- store-requires

@@ -1,6 +1,6 @@
 -- `sheet_text::draft::draft_of` meets its contract.
 use mathlib.Core.Path.{sym, ◌∙◌}
-use borrow.Author.Tests.{not-true, not-false}
+use borrow.Author.Tests.{not-false}
 use Rattle.sheet_text.proofs.FoundLaws.{line-found, line_missed}
 use Rattle.sheet_text.proofs.DraftLaws.{holds_none, formed_begun}
 use Rattle.sheet_text.proofs.ReadLaws.{sheet-long, sheet_first, sheet_none}
@@ -10,7 +10,7 @@ use Rattle.sheet_text.proofs.draft.draft_of.Tie as tie
 
 returns-then-not-fits : tie.Need-returns-then-not-fits
 returns-then-not-fits c =
-    holds_none _ _ (sheet-long _ (sym c.fits2.ensures ∙ not-true _ c.if-not-fits.true))
+    holds_none _ _ (sheet-long _ (sym c.fits2.ensures ∙ c.if-not-fits.true))
 
 returns-in-Line : tie.Need-returns-in-Line
 returns-in-Line c =
@@ -26,7 +26,7 @@ returns-in-Refused : tie.Need-returns-in-Refused
 returns-in-Refused c =
     let s = c.args.s.now in
     let fits =
-    sym c.fits2.ensures ∙ not-false _ c.if-not-fits.false in
+    sym c.fits2.ensures ∙ c.if-not-fits.false in
     let missed = line_missed s 0 _ c.line_from-next.ensures c.in-Refused.is in
     holds_none _ _ (sheet_none s fits missed)
 

@@ -96,7 +96,7 @@ bounds-out-p t c =
       arith,
       laws.length_more c.args.v
           c.if-v-lt10.false,
-      c.put_digits-p.auto.0,
+      c.put_digits-p.auto.out,
       c.put_digits-p.ensures.0,
     )
 
@@ -117,7 +117,7 @@ shape_of-out : (t : ℕ) → put-digits-lts.Need-shape_of-out (
   put-digits.Post,
 ) (put_digits_at t) put-digits.Post
 shape_of-out t c =
-    simp length-set c.put_digits-p.auto.0
+    simp length-set c.put_digits-p.auto.out
 
 returns : (t : ℕ) → put-digits-lts.Need-returns (
   put_digits_below t,

@@ -23,6 +23,7 @@ all_in [] ms = true
 all_in (n ∷ ns) ms = cond (free n ms) false (all_in ns ms)
 
 not_both : {k : ℕ} (ns ms : List ℕ) → apart ns ms ≡ true → Among ns k → ¬ Among ms k
+not_both {k = k} [] ms h x = elim x [ ]
 not_both (n ∷ ns) ms h here = both (free n ms) refl h
   where
     both : (b : Bool) → free n ms ≡ b → cond b (apart ns ms) false ≡ true → ¬ Among ms n
@@ -45,6 +46,7 @@ taken n (m ∷ ns) h = go (eqb m n) refl h (taken n ns)
     go false e d k = later (k d)
 
 in_all : {k : ℕ} (ns ms : List ℕ) → all_in ns ms ≡ true → Among ns k → Among ms k
+in_all {k = k} [] ms h x = elim x [ ]
 in_all (n ∷ ns) ms h here = go (free n ms) refl h
   where
     go : (b : Bool) → free n ms ≡ b → cond b false (all_in ns ms) ≡ true → Among ms n
@@ -63,6 +65,7 @@ another : {k : ℕ} → Among (0 ∷ 9 ∷ 10 ∷ []) k → ¬ (k ≡ 0) → ¬ 
 another here x y z = x refl
 another (later here) x y z = y refl
 another (later (later here)) x y z = z refl
+another (later (later (later i))) x y z = elim i [ ]
 
 -- A call whose answers have one of the numbers ns, of 0, 9 and 10, where no row applies: these and the table's are
 -- apart, and it may give all of them.

@@ -73,8 +73,8 @@ module _ (s : Sheet) (fm : formed s ≡ true) where
   wanted_of is_int = ty_0 s
   wanted_of is_err = ty_0 s
   wanted_of is_pkg = ty_0 s
-  wanted_of (is_sum_lem p) = p.left_is
-  wanted_of (is_pair_lem p) = p.left_is
+  wanted_of (is_sum_lem p) = p.left_is_lem
+  wanted_of (is_pair_lem p) = p.left_is_lem
 
   pub left_wanted : (n : ℕ) → ty_of s (left_in (table_of s) n) ≡ wanted (ty_of s n)
   unfolding wanted
@@ -116,10 +116,10 @@ module _ (s : Sheet) (fm : formed s ≡ true) where
       of : (k j : Kind) {m : ℕ} {a b : Ty} → ((a b : Ty) → g (compound_of (other k) a b) ≡ d) → Parts s fm m j a b
           → g (compound_of j a b)
           ≡ cond (same_kind k j) (g (compound_of k (ty_of s (left_in (table_of s) m)) (ty_of s (right_in (table_of s) m)))) d
-      of Sum Sum {m} o q = rw (left_in_lem s fm m, q.left_is, right_in_lem s fm m, q.right_is)
+      of Sum Sum {m} o q = rw (left_in_lem s fm m, q.left_is_lem, right_in_lem s fm m, q.right_is_lem)
       of Sum Pair o q = o _ _
       of Pair Sum o q = o _ _
-      of Pair Pair {m} o q = rw (left_in_lem s fm m, q.left_is, right_in_lem s fm m, q.right_is)
+      of Pair Pair {m} o q = rw (left_in_lem s fm m, q.left_is_lem, right_in_lem s fm m, q.right_is_lem)
 
       at : {m : ℕ} {τ : Ty} → Which s fm m τ
           → g τ ≡ cond (is_of (table_of s) k m)

@@ -150,8 +150,8 @@ module _ (s : Sheet) (fm : formed s ≡ true) where
         let e = parts_earlier s fm m p.from_3 p.there in
         let e' = parts_earlier s fm n q.from_3 q.there in
         parts_once s once m n p.from_3 p.there q.from_3 q.there (p.kind_is ∙ sym q.kind_is)
-        (f _ _ (part p.left_is e.0 p.there) (part q.left_is e'.0 q.there))
-        (g _ _ (part p.right_is e.1 p.there) (part q.right_is e'.1 q.there))
+        (f _ _ (part p.left_is_lem e.0 p.there) (part q.left_is_lem e'.0 q.there))
+        (g _ _ (part p.right_is_lem e.1 p.there) (part q.right_is_lem e'.1 q.there))
       where
         part : {i k : ℕ} {τ : Ty} → ty_of s i ≡ τ → i < k → k < type_count s → Which i τ
         part {i} {k} p l r = rw p at (which i (omega arith))

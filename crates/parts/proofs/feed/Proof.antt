@@ -24,7 +24,7 @@ loop-i-preserved c =
     let at = turn.before in
     let a = at.args in (
       omega arith,
-      st.step-s.auto.1.1.0 ∙ at.loop-i.invariant.1,
+      st.step-s.auto.buffer ∙ at.loop-i.invariant.1,
       rw (st.step-s.ensures.0, st.step-s.ensures.1)
           (sym (fed_more a.last (held at.loop-i.s at.loop-i.buffer) a.chunk.now at.loop-i.i
           turn.loop-i-test.true) ∙ at.loop-i.invariant.2),

@@ -9,14 +9,14 @@ use Rattle.parts.proofs.text_in.Tie as tie
 
 returns-then-i-ge-TEXTS : tie.Need-returns-then-i-ge-TEXTS
 returns-then-i-ge-TEXTS c =
-    let a = c.before.before.args in
+    let a = c.args in
     let l : length a.state.kept ≡ 8 = search rules in
-    text_past a.state a.buffer.now a.i (omega (arith, c.if1.true))
+    text_past a.state a.buffer.now a.i (omega (arith, c.if-i-ge-TEXTS.true))
 
 returns-then-buffer-from : tie.Need-returns-then-buffer-from
 returns-then-buffer-from c =
-    let a = c.before.before.before.before.args in
-    text_beyond a.state a.buffer.now a.i (omega (arith, c.if2.true))
+    let a = c.args in
+    text_beyond a.state a.buffer.now a.i (omega (arith, c.if-buffer-from.true))
 
 returns-then-buffer-from-2 : tie.Need-returns-then-buffer-from-2
 returns-then-buffer-from-2 c =

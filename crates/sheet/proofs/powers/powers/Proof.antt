@@ -1,12 +1,12 @@
 -- `sheet::powers::powers` meets its contract. The loop: `out` has the powers over the labels below l.
 use mathlib.Core.Path.{◌≡◌, refl, ap, ◌∙◌}
-use mathlib.Core.Logic.{⊎_elim}
 use Prim.Native.Nat.{ℕ, ◌+◌, ◌≤◌, ◌-◌}
 use native.Mathlib.Omega.{arith}
 use borrow.Author.Rules.{rules}
 use Rattle.sheet.specs.Internal.Powers.{with_power, powers_up_to, labels_held, powers_in}
 use Rattle.sheet.proofs.PowerLaws.{up_to_more, held_all, held_most, held-few}
 use Rattle.sheet.proofs.powers.powers.Statement.{statement}
+use Rattle.sheet.proofs.powers.powers.Lts.{then-there-lt-MOST_LABELS, else-there-lt-MOST_LABELS}
 use Rattle.sheet.proofs.powers.powers.Tie as tie
 
 abbrev invariant-loop-l : tie.invariant-loop-l
@@ -21,9 +21,9 @@ unfolding powers_up_to
 loop-l-init c =
     let t = c.args.table.now in
     let is : c.if-there-lt-MOST_LABELS.n ≡ labels_held t =
-    ⊎_elim (λ w. w.1 ∙ held_all t c.labels-there.ensures w.0.taken)
-    (λ w. w.1 ∙ held_most t c.labels-there.ensures w.0.left)
-    c.if-there-lt-MOST_LABELS.branch in
+        elim c.if-there-lt-MOST_LABELS.branch [
+          then-there-lt-MOST_LABELS w ↦ w.n-is ∙ held_all t c.labels-there.ensures w.if-there-lt-MOST_LABELS.true
+        | else-there-lt-MOST_LABELS w ↦ w.n-is ∙ held_most t c.labels-there.ensures w.if-there-lt-MOST_LABELS.false ] in
     (search rules, omega (arith, held-few t), is, refl)
 
 loop-l-preserved : tie.Need-loop-l-preserved invariant-loop-l decreases-loop-l

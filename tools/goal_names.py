@@ -229,7 +229,7 @@ def turn(path, functions):
                 places[m[1]] = of.last(of.place(m[5]))
                 env[re.search(rf"^{re.escape(m[1])} ({WORD}+)", r, re.M)[1]] = of.last(of.place(m[3]))
             comment = re.search(r"  -- (\S+)$", r)
-            lambda_ = re.search(rf"\(?λ ({WORD}+)(?: κs)?\. ?", r)
+            lambda_ = re.search(rf"\(?λ ({WORD}+)(?: {WORD}+)*\. ?", r)
             if comment:
                 goal = of.plain.get(plain(comment[1]))
                 if goal:

@@ -1,6 +1,5 @@
 -- The loop: whether bottom and the labels below p pass, and `rest` has the labels from p on.
 use mathlib.Core.Path.{sym, ap, ◌∙◌}
-use mathlib.Core.Logic.{⊎_elim}
 use Prim.Native.Nat.{ℕ, ◌≤◌, ◌<◌, ◌-◌}
 use native.Mathlib.Omega.{arith}
 use borrow.Author.Tests.{eq-eqb, ne_eqb}
@@ -15,6 +14,7 @@ use Rattle.members.proofs.ConfidentialityLaws.{label-member, label_below, labels
 use Rattle.members.proofs.ConfidentialityLaws.{passed_none, passed_with, passed_without, passed_all}
 use borrow.Author.Rules.{rules}
 use Rattle.members.proofs.confidentiality_flows.Statement.{statement}
+use Rattle.members.proofs.confidentiality_flows.Lts.{then-rest-eq1, else-rest-eq1}
 use Rattle.members.proofs.confidentiality_flows.Tie as tie
 
 abbrev invariant-loop-rest : tie.invariant-loop-rest
@@ -46,11 +46,10 @@ loop-rest-preserved c =
     let below = label_below m l.p l.rest l.invariant.2 c.loop-rest-test.true in
     let first = sym (label-member m l.p below) ∙ rest_first (restrict max_labels m) l.p l.rest l.invariant.2 in (
       omega arith,
-      ⊎_elim
-          (λ w. w.3 ∙ passed_with t upper m l.p below (first ∙ eq-eqb _ _ w.0.taken) l.invariant.1
-          (w.2.ensures ∙ ap (Passes upper) w.1.ensures))
-          (λ w. w.1 ∙ passed_without t upper m l.p (first ∙ ne_eqb _ _ w.0.left) l.invariant.1)
-          c.if-rest-eq1.branch,
+      elim c.if-rest-eq1.branch [
+        then-rest-eq1 w ↦ w.all-is ∙ passed_with t upper m l.p below (first ∙ eq-eqb _ _ w.if-rest-eq1.true) l.invariant.1
+          (w.confidentiality_at_or_below-all.ensures ∙ ap (Passes upper) w.label_of-lower.ensures)
+      | else-rest-eq1 w ↦ w.all-is ∙ passed_without t upper m l.p (first ∙ ne_eqb _ _ w.if-rest-eq1.false) l.invariant.1 ],
       rest_more (restrict max_labels m) l.p l.rest l.invariant.2,
     )
 

@@ -1,6 +1,5 @@
 -- The loop: `out` is the join of the members below p, and `rest` has those from p on.
 use mathlib.Core.Path.{◌≡◌, sym, ap, ap₂, ◌∙◌}
-use mathlib.Core.Logic.{⊎_elim}
 use Prim.Native.Nat.{◌≤◌, ◌<◌, ◌-◌}
 use native.Mathlib.Omega.{arith}
 use borrow.Author.Tests.{eq-eqb, ne_eqb}
@@ -10,6 +9,7 @@ use Rattle.members.proofs.MemberLaws.{Rest, rest_all, rest_first, rest_more, res
 use Rattle.members.proofs.MemberLaws.{up_to_without, up_to_end}
 use borrow.Author.Rules.{rules}
 use Rattle.members.proofs.joined.Statement.{statement}
+use Rattle.members.proofs.joined.Lts.{then-rest-eq1, else-rest-eq1}
 use Rattle.members.proofs.joined.Tie as tie
 
 abbrev invariant-loop-rest : tie.invariant-loop-rest
@@ -32,11 +32,11 @@ loop-rest-preserved c =
     let below : l.p < max_members =
     rest_below m l.p l.rest max_members l.invariant.2 (omega arith) c.loop-rest-test.true in (
       omega arith,
-      ⊎_elim
-          (λ w. w.3 ∙ w.2.ensures ∙ ap₂ join_of l.invariant.1 w.1.ensures
-          ∙ up_to_with a.table.now m l.p (first ∙ eq-eqb _ _ w.0.taken))
-          (λ w. w.1 ∙ l.invariant.1 ∙ up_to_without a.table.now m l.p (first ∙ ne_eqb _ _ w.0.left))
-          c.if-rest-eq1.branch,
+      elim c.if-rest-eq1.branch [
+        then-rest-eq1 w ↦ w.out-is ∙ w.join-out.ensures ∙ ap₂ join_of l.invariant.1 w.member.ensures
+          ∙ up_to_with a.table.now m l.p (first ∙ eq-eqb _ _ w.if-rest-eq1.true)
+      | else-rest-eq1 w ↦ w.out-is ∙ l.invariant.1
+          ∙ up_to_without a.table.now m l.p (first ∙ ne_eqb _ _ w.if-rest-eq1.false) ],
       rest_more m l.p l.rest l.invariant.2,
     )
 

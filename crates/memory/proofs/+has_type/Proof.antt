@@ -53,7 +53,7 @@ pub +has_type_spec : {M : Type 1} → statement M
 )
     (has_type_at t)
     has_type.Post
-    (λ c. let a = c.before.before.before.args in
+    (λ c. let a = c.args in
     laws.type_past a.table.now a.words.now a.ty a.at (omega arith))  -- returns-then-words-at
     (λ c. search rules)
     (λ c. search rules)
@@ -95,32 +95,30 @@ pub +has_type_spec : {M : Type 1} → statement M
     (λ c. let a = c.args
     in c.one_more.ensures ∙ laws.type-numeral a.table.now a.words.now a.ty a.at (omega arith) num_int
     c.in-1.is)  -- returns-in-1
-    (λ c. let a = c.before.before.before.before.before.before.args
-    in c.one-more2.ensures
-    ∙ laws.type-numeral a.table.now a.words.now a.ty a.at (omega arith) num_err c.match.keys2)
-    (λ c. let a = c.before.before.before.before.before.before.before.before.before.args
+    (λ c. let a = c.args
+    in c.one_more-in-2.ensures
+    ∙ laws.type-numeral a.table.now a.words.now a.ty a.at (omega arith) num_err c.in-2.is)
+    (λ c. let a = c.args
     in laws.type-inl a.table.now a.words.now a.ty a.at (omega arith)
-    c.match.keys3
-    (c.has_type.ensures ∙ ap (has_no _ _) c.left-part.ensures
-    ∙ both_on _ _ (sym c.is_sum.ensures ∙ c.if2.false)))
-    (λ c. let a = c.before.before.before.before.before.before.before.before.before.args
+    c.in-3.is
+    (c.has_type.ensures ∙ ap (has_no _ _) c.left_part.ensures
+    ∙ both_on _ _ (sym c.is_sum.ensures ∙ c.if-not-is_sum.false)))
+    (λ c. let a = c.args
     in laws.type-inr a.table.now a.words.now a.ty a.at (omega arith)
-    c.match.keys4
-    (c.has-type2.ensures ∙ ap (has_no _ _) c.right-part.ensures
-    ∙ both_on _ _ (sym c.is-sum2.ensures ∙ c.if3.false)))
-    (λ c. let a = c.before.before.before.before.before.before.args
-    in c.one-more3.ensures
-    ∙ laws.type-pkg a.table.now a.words.now a.ty a.at (omega arith) c.match.keys5)
+    c.in-4.is
+    (c.has_type-in-4.ensures ∙ ap (has_no _ _) c.right_part.ensures
+    ∙ both_on _ _ (sym c.is_sum-in-4.ensures ∙ c.if-not-is_sum-2.false)))
+    (λ c. let a = c.args
+    in c.one_more-in-5.ensures
+    ∙ laws.type-pkg a.table.now a.words.now a.ty a.at (omega arith) c.in-5.is)
     (λ c.
-    let first = c.before.before.before.before in
-    let pair = first.before.before in
-    let a = pair.before.before.before.before.before.before.before.args in
-    laws.type-pair a.table.now a.words.now a.ty a.at (omega arith) pair.before.before.match.keys6
-    (c.has-type4.ensures ∙ ap (has_no _ _) c.right-part2.ensures
+    let a = c.args in
+    laws.type-pair a.table.now a.words.now a.ty a.at (omega arith) c.in-6.is
+    (c.has_type-in-6-2.ensures ∙ ap (has_no _ _) c.right_part-in-6.ensures
     ∙ ap (λ us. has_no a.table.now (value_of us) (right_in a.table.now a.ty))
-    c.value-at.ensures.after
-    ∙ both_on _ _ (sym (first.has-type3.ensures ∙ ap (has_no _ _) first.left-part2.ensures)
-    ∙ c.if5.false)
-    ∙ both_on _ _ (sym pair.before.is_pair.ensures ∙ pair.if4.false)))
+    c.value_at-first.ensures.after
+    ∙ both_on _ _ (sym (c.has_type-in-6.ensures ∙ ap (has_no _ _) c.left_part-in-6.ensures)
+    ∙ c.if-not-has_type.false)
+    ∙ both_on _ _ (sym c.is_pair.ensures ∙ c.if-not-is_pair.false)))
     (λ c. let a = c.args
     in laws.type-none a.table.now a.words.now a.ty a.at (omega arith) c.in_default.in_default-own.rest)

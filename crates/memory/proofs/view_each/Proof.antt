@@ -46,7 +46,7 @@ view_each_spec = tie.close (tie.spec
     let b = l.before.before.before.before.before in
     let p = c.put_cell in (
       omega arith,
-      p.auto.0 ∙ l.loop-x.invariant.1,
+      p.auto.shown ∙ l.loop-x.invariant.1,
       laws.view_more b.args.table.now b.args.memory.now b.requires.0 b.args.group l.loop-x.x
           b.args.shown.now _ _ _ l.loop-x.invariant.2
           (omega (arith, l.locations-n.ensures))

@@ -11,14 +11,14 @@ use Rattle.script_text.proofs.decode.Tie as tie
 returns-then-not-fits : tie.Need-returns-then-not-fits
 returns-then-not-fits c =
     let test = c.before.before in
-    c.refused.ensures ∙ sym (decode_long _ (sym test.fits2.ensures ∙ test.if-not-fits.true))
+    c.refused.ensures ∙ sym (decode_long _ (sym test.fits.ensures ∙ test.if-not-fits.true))
 
 -- an opening takes no more lines than a script may have
 few : (c : tie.In-At) → c.in-At.lines ≤ max_lines
 few c =
     let read = c.before in
     let test = read.before.before in
-    (decode_after _ (sym test.fits2.ensures ∙ test.if-not-fits.false) _ read.opening.ensures _ _ _
+    (decode_after _ (sym test.fits.ensures ∙ test.if-not-fits.false) _ read.opening.ensures _ _ _
     c.in-At.is).0
 
 returns-in-At : tie.Need-returns-in-At
@@ -27,7 +27,7 @@ returns-in-At c =
     let read = start in
     let test = read in
     c.decode_lines.ensures
-    ∙ (decode_after _ (sym test.fits2.ensures ∙ test.if-not-fits.false) _
+    ∙ (decode_after _ (sym test.fits.ensures ∙ test.if-not-fits.false) _
     read.opening.ensures _ _ _ start.in-At.is).1
 
 returns-in-Refused : tie.Need-returns-in-Refused
@@ -36,7 +36,7 @@ returns-in-Refused c =
     let read = told.before in
     let test = read.before.before in
     c.refused-in-Refused.ensures
-    ∙ sym (decode_refused _ (sym test.fits2.ensures ∙ test.if-not-fits.false) _
+    ∙ sym (decode_refused _ (sym test.fits.ensures ∙ test.if-not-fits.false) _
     read.opening.ensures told.in-Refused.is)
 
 pub decode_spec : {M : Type 1} → statement M

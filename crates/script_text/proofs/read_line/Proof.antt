@@ -7,11 +7,11 @@ use Rattle.script_text.proofs.read_line.Tie as tie
 
 returns-in-At : tie.Need-returns-in-At
 unfolding reached
-returns-in-At c = ap (reached _) (sym c.in-At.is ∙ c.line_at_lem.ensures)
+returns-in-At c = ap (reached _) (sym c.in-At.is ∙ c.line_at.ensures)
 
 returns-in-Refused : tie.Need-returns-in-Refused
 unfolding reached
-returns-in-Refused c = ap (reached _) (sym c.in-Refused.is ∙ c.line_at_lem.ensures)
+returns-in-Refused c = ap (reached _) (sym c.in-Refused.is ∙ c.line_at.ensures)
 
 pub read_line_spec : {M : Type 1} → statement M
 read_line_spec = tie.close (tie.spec

@@ -22,8 +22,8 @@ decreases-loop-at text ends₀ count₀ at₀ ends count at = length text + 1 - 
 -- the script that starts here
 here : (c : tie.After-end_of-end invariant-loop-at decreases-loop-at)
     → TextAt c.args.text.now c.loop-at.at
-    c.end_of_lem.result
-here c = text_at _ _ _ c.loop-at-test.true c.end_of_lem.ensures
+    c.end_of-end.result
+here c = text_at _ _ _ c.loop-at-test.true c.end_of-end.ensures
 
 returns-then-count-ge-MOST_SCRIPTS : tie.Need-returns-then-count-ge-MOST_SCRIPTS invariant-loop-at decreases-loop-at
 returns-then-count-ge-MOST_SCRIPTS c =
@@ -51,7 +51,7 @@ part_spec = tie.close (tie.spec
     (λ c. search rules)  -- offset_bounds-ends-count
     (λ c. search rules)  -- bounds-ends-count
     (λ c. search rules)  -- overflow_add-count
-    (λ c. omega (arith, (here c).inside, c.well_formed_lem))  -- overflow_add-at
+    (λ c. omega (arith, (here c).inside, c.well_formed))  -- overflow_add-at
     (λ c. omega (arith, (here c).rises))  -- loop-at-smaller
     loop-at-preserved
     (λ c. let at = c.before in parted_all _ _ at.loop-at.at at.loop-at.invariant.2 c.loop-at-test.false at.loop-at.ends

@@ -21,7 +21,7 @@ returns-then-read-ne-DONE c =
     (run-numbered _ _ _ _ _
     (ap (within _) (sym k.everyone.ensures) ∙ sym k.contained.ensures
     ∙ k.if-not-contained.false)
-    n.number_of_lem.ensures c.if-read-ne-DONE.true)
+    n.number_of-read.ensures c.if-read-ne-DONE.true)
 
 returns-then-answer-ne-DONE : tie.Need-returns-then-answer-ne-DONE
 returns-then-answer-ne-DONE c =
@@ -33,7 +33,7 @@ returns-then-answer-ne-DONE c =
     (run-refused _ _ _ _ _
     (ap (within _) (sym k.everyone.ensures) ∙ sym k.contained.ensures
     ∙ k.if1.false)
-    n.number_of_lem.ensures m.if2.false _
+    n.number_of-read.ensures m.if2.false _
     (j.memory_number-answer.ensures ∙ j.judge-verdict.ensures) c.if-answer-ne-DONE.true)
 
 returns : tie.Need-returns
@@ -48,7 +48,7 @@ returns c =
     run_ends _ _ _ _ _
     (ap (within _) (sym k.everyone.ensures) ∙ sym k.contained.ensures
     ∙ k.if1.false)
-    n.number_of_lem.ensures m.if2.false _
+    n.number_of-read.ensures m.if2.false _
     (sym e.if-answer-ne-DONE.false ∙ j.memory_number-answer.ensures ∙ j.judge-verdict.ensures)
     rows.rows.ensures r.run_accepted.ensures
 
@@ -68,7 +68,7 @@ run_on_spec = tie.close (tie.spec
     returns-then-answer-ne-DONE
     (λ c. search (
       rules,
-      code_whole c.number_of_lem.ensures,
+      code_whole c.number_of-read.ensures,
     ))  -- slice_bounds-rows-end
     (λ c κs. search rules)  -- rows-requires
     (λ c κs. search rules)  -- run_accepted-requires

@@ -11,11 +11,11 @@ pack_spec = tie.close (tie.spec
     (λ c. laws.pack_past _ _ (laws.end_none _ c.if-v-le-TOO_LONG.true))  -- returns-then-v-le-TOO_LONG
     (λ c κs. search rules)  -- may_write-requires
     (λ c κs. search rules)  -- fail-requires
-    (λ c. laws.pack-error _ _ c.may_write_lem.ensures
+    (λ c. laws.pack-error _ _ c.may_write.ensures
     (laws.end_done _ c.if-v-le-TOO_LONG.false) c.if-not-may_write.true
     c.fail.ensures)  -- returns-then-not-may_write
     (λ c κs. search rules)  -- value_end-requires
-    (λ c. laws.pack-long _ _ c.may_write_lem.ensures
+    (λ c. laws.pack-long _ _ c.may_write.ensures
     (laws.end_done _ c.if-v-le-TOO_LONG.false)
     c.if-not-may_write.false c.value_end.ensures
     c.if-value_end-gt-ROOM.true)  -- returns-then-value_end-gt-ROOM
@@ -23,7 +23,7 @@ pack_spec = tie.close (tie.spec
     (λ c κs. search rules)  -- push-requires-2
     (λ c κs. search rules)  -- push-requires-3
     (λ c. laws.pack-done _ _
-    c.may_write_lem.ensures
+    c.may_write.ensures
     (laws.end_done _
     c.if-v-le-TOO_LONG.false)
     c.if-not-may_write.false

@@ -2,6 +2,7 @@
 -- above the others, which it calls at its own row. Each return is a law. The loop's invariant: no round ended before
 -- the loop's own line, and what the loop ends with from here, it ends with from the start.
 use borrow.Author.Rules.{rules}
+use borrow.Author.Tests.{not-false, not-true}
 use mathlib.Core.Path.{◌≡◌, refl}
 use mathlib.Core.List.{List}
 use Prim.Native.Nat.{ℕ, suc, ◌+◌, ◌*◌, ◌≤◌, ◌<◌}
@@ -165,7 +166,7 @@ repeat-returns-then-end-at t c =
     let l = decided.before.before in
     l.loop-state.invariant.1 _ _
     (laws.while_stop refl l.requires.1 decided.decide-g.ensures
-    c.if-not-g.true (laws.past_body c.skip-next.ensures) l.loop-state.invariant.0)
+    (not-true _ c.if-not-g.true) (laws.past_body c.skip-next.ensures) l.loop-state.invariant.0)
 
 repeat-returns-else-end-at : (t : ℕ)
     → repeat-lts.Need-returns-else-end-at (repeat_readings t) (repeat_at t) repeat.Post repeat_Inv_loop repeat_μ_loop
@@ -174,7 +175,7 @@ repeat-returns-else-end-at t c =
     let l = decided.before.before in
     l.loop-state.invariant.1 _ _
     (laws.while_stop refl l.requires.1 decided.decide-g.ensures
-    c.if-not-g.true (laws.at_last c.if-end-at.false) l.loop-state.invariant.0)
+    (not-true _ c.if-not-g.true) (laws.at_last c.if-end-at.false) l.loop-state.invariant.0)
 
 repeat-returns-in_default : (t : ℕ)
     → repeat-lts.Need-returns-in_default (repeat_readings t) (repeat_at t) repeat.Post repeat_Inv_loop repeat_μ_loop
@@ -185,7 +186,7 @@ repeat-returns-in_default t c =
     let l = decided.before.before in
     l.loop-state.invariant.1 _ _
     (laws.rounds_any
-    (laws.while-end refl l.requires.1 decided.decide-g.ensures on.if-not-g.false
+    (laws.while-end refl l.requires.1 decided.decide-g.ensures (not-false _ on.if-not-g.false)
     ran.exec-d.ensures c.tick-t.ensures (not_done _ c.in_default.in_default-own.keys2)))
 
 repeat-loop-state-preserved : (t : ℕ)
@@ -200,7 +201,7 @@ repeat-loop-state-preserved t c =
       λ d cells y. l.loop-state.invariant.1 d cells
           (laws.rounds_any
           (laws.while-again refl l.requires.1 decided.decide-g.ensures
-          on.if-not-g.false ran.exec-d.ensures ticked.tick-t.ensures
+          (not-false _ on.if-not-g.false) ran.exec-d.ensures ticked.tick-t.ensures
           (is_done _ c.in-Done.is) y)),
     )
 
@@ -288,7 +289,7 @@ pub +exec_repeat_select_sequence_spec : {M : Type 1} → statement M
     let on = ran.before.before in
     omega (
       arith,
-      on.decide-g.ensures.falls on.if-not-g.false,
+      on.decide-g.ensures.falls (not-false _ on.if-not-g.false),
       ran.exec-d.ensures.spends,
       c.tick-t.ensures.spends,
     ))  -- loop-state-smaller

@@ -1,11 +1,10 @@
 -- Storing a masked value's words meets its contract; the measure is the words left.
 use borrow.Author.Rules.{rules}
-use mathlib.Core.Logic.{⊎_elim}
 use mathlib.Core.Path.{refl}
 use Prim.Native.Nat.{ℕ, ◌<◌, ◌-◌}
 use native.Mathlib.Omega.{arith}
 use lib.ListN.{length}
-use borrow.Author.Tests.{not-false}
+use borrow.Author.Tests.{not-true, not-false}
 use borrow.Fn.Kinds.{In}
 use borrow.Fn.PlainCycle.{Measures, is, falls, and}
 use Rattle.sheet.specs.Internal.Tables.{reads_in}
@@ -15,6 +14,7 @@ use Rattle.memory.proofs.MaskLaws as laws
 use Rattle.memory.proofs.masks.mask_at.Reads as mask-at
 use Rattle.memory.proofs.masks.mask_at.Kinds as mask-at-kinds
 use Rattle.memory.proofs.masks.+mask_at.Lts-mask_at as mask-at-lts
+use Rattle.memory.proofs.masks.+mask_at.Lts-mask_at.{in-3, in-4, in-5+else-not-head, in-6}
 use Rattle.memory.proofs.masks.mask_blank.Reads as mask-blank-reads
 use Rattle.memory.proofs.masks.mask_label.Reads as mask-label-reads
 use Rattle.memory.proofs.masks.mask_number.Reads as mask-number-reads
@@ -52,21 +52,20 @@ readings t = (
 last : (t : ℕ) (c : mask-at-lts.Joined-words-at (readings t) (mask_at_at t) mask-at.Post)
     → let a = c.args in
     laws.Last (reads_in a.table.now a.group) a.words.now a.at a.out.now a.to c.match-words-at.out
-    c.match-words-at.new.next c.match-words-at.new.end
+    c.match-words-at.last.next c.match-words-at.last.end
 last t c =
     let h = c.if-words-at.false in
-    ⊎_elim
-    (λ w. let e = w.2.ensures in laws.last_as w.5 w.6 e.1.0 e.1.1
-    (laws.last_side _ _ _ _ _ (omega (arith, h)) to_left w.0.keys3 e.0))
-    (⊎_elim
-    (λ w. let e = w.2.ensures in laws.last_as w.5 w.6 e.1.0 e.1.1
-    (laws.last_side _ _ _ _ _ (omega (arith, h)) to_right w.0.keys4 e.0))
-    (⊎_elim
-    (λ w. laws.last_as w.7 w.8 refl refl
-    (laws.last_content _ _ _ _ _ (omega (arith, h)) w.0.keys5 w.2.ensures (not-false _ w.6.left)))
-    (λ w. laws.last_as w.9 w.10 refl refl
-    (laws.last_second _ _ _ _ _ (omega (arith, h)) w.0.keys6 w.2.ensures w.6.ensures))))
-    c.match-words-at.branch
+    elim c.match-words-at.branch [
+      in-3 w ↦ let e = w.mask_word-last.ensures in
+        laws.last_as w.out-is w.last-is e.1.0 e.1.1
+          (laws.last_side _ _ _ _ _ (omega (arith, h)) to_left w.in-3.is e.0)
+    | in-4 w ↦ let e = w.mask_word-last-in-4.ensures in
+        laws.last_as w.out-is w.last-is e.1.0 e.1.1
+          (laws.last_side _ _ _ _ _ (omega (arith, h)) to_right w.in-4.is e.0)
+    | in-5+else-not-head w ↦ laws.last_as w.out-is w.last-is refl refl
+        (laws.last_content _ _ _ _ _ (omega (arith, h)) w.in-5.is w.mask_label-head.ensures (not-false _ w.if-not-head.false))
+    | in-6 w ↦ laws.last_as w.out-is w.last-is refl refl
+        (laws.last_second _ _ _ _ _ (omega (arith, h)) w.in-6.is w.store.ensures w.mask_at-last.ensures) ]
 
 pub +mask_at_spec : {M : Type 1} → statement M
 +mask_at_spec = close μ_mask_at λ t. mask-at-lts.spec (readings t) (mask_at_at t) mask-at.Post
@@ -94,7 +93,7 @@ pub +mask_at_spec : {M : Type 1} → statement M
     (λ c. search rules)  -- shape_of-out-then-not-head
     (λ c. laws.mask-closed _ _ _ _ _ (omega arith) c.in-5.is
     c.mask_label-head.ensures
-    c.if-not-head.true)  -- returns-then-not-head
+    (not-true _ c.if-not-head.true))  -- returns-then-not-head
     (λ c. search rules)  -- overflow_add-last
     (λ c. search rules)  -- overflow_add-last-in-5
     (λ c κs. search rules)  -- store-requires

@@ -65,12 +65,12 @@ pub +value_at_spec : {M : Type 1} → statement M
     (λ c. search rules)  -- overflow_add-result
     (λ c. laws.walk_numeral _ _ _ (omega arith) num_int c.in-1.is
     (c.integer_at.ensures _))  -- returns-in-1
-    (λ c. laws.walk_numeral _ _ _ (omega arith) num_err c.match.keys2 (c.error-at.ensures _))
-    (λ c. laws.walk_side _ _ _ (omega arith) to_left c.match.keys3 c.value-at.ensures)
-    (λ c. laws.walk_side _ _ _ (omega arith) to_right c.match.keys4 c.value-at2.ensures)
-    (λ c. laws.walk_pkg _ _ _ (omega arith) c.match.keys5
-    (c.package-at.ensures c.value-at3.ensures))
+    (λ c. laws.walk_numeral _ _ _ (omega arith) num_err c.in-2.is (c.error_at.ensures _))
+    (λ c. laws.walk_side _ _ _ (omega arith) to_left c.in-3.is c.value_at.ensures)
+    (λ c. laws.walk_side _ _ _ (omega arith) to_right c.in-4.is c.value_at-in-4.ensures)
+    (λ c. laws.walk_pkg _ _ _ (omega arith) c.in-5.is
+    (c.package_at.ensures c.value_at-content.ensures))
     (λ c. rw c.pair_of.ensures
-    (laws.walk_pair _ _ _ (omega arith) c.match.keys6
-    c.value-at4.ensures c.value-at5.ensures))
+    (laws.walk_pair _ _ _ (omega arith) c.in-6.is
+    c.value_at-first.ensures c.value_at-second.ensures))
     (λ c. laws.walk_none _ _ _ (omega arith) c.in_default.in_default-own.rest)

@@ -10,13 +10,13 @@ use Rattle.sheet_text.proofs.draft.draft_of.Tie as tie
 
 returns-then-not-fits : tie.Need-returns-then-not-fits
 returns-then-not-fits c =
-    holds_none _ _ (sheet-long _ (sym c.fits2.ensures ∙ c.if-not-fits.true))
+    holds_none _ _ (sheet-long _ (sym c.fits.ensures ∙ c.if-not-fits.true))
 
 returns-in-Line : tie.Need-returns-in-Line
 returns-in-Line c =
     let s = c.args.s.now in
     let fits =
-    sym c.fits2.ensures ∙ not-false _
+    sym c.fits.ensures ∙ not-false _
     c.if-not-fits.false in
     let l = line-found s 0 _ c.line_from-next.ensures _
     c.in-Line.is in
@@ -26,7 +26,7 @@ returns-in-Refused : tie.Need-returns-in-Refused
 returns-in-Refused c =
     let s = c.args.s.now in
     let fits =
-    sym c.fits2.ensures ∙ c.if-not-fits.false in
+    sym c.fits.ensures ∙ c.if-not-fits.false in
     let missed = line_missed s 0 _ c.line_from-next.ensures c.in-Refused.is in
     holds_none _ _ (sheet_none s fits missed)
 

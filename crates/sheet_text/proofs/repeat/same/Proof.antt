@@ -17,7 +17,7 @@ same_words-requires c κs =
 returns-then-labels : tie.Need-returns-then-labels
 returns-then-labels c =
     let b = c.before in
-    c.same_words_lem.ensures
+    c.same_words.ensures
     ∙ same_labels_at _ _ _ _ _ _ b.label_place.ensures b.label_place-then-labels.ensures
     b.if-labels.true
 

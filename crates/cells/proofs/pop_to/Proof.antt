@@ -41,7 +41,7 @@ pop_to_spec = tie.close (tie.spec
       arith,
       room_left c.args.work.now
           c.args.k c.if-work-k.false,
-      c.slide.auto.0,
+      c.slide.auto.work,
     ))  -- bounds-work-start
     (λ c. search rules)  -- shape_of-work
     (λ c. pop_done c.args.work.now

@@ -30,7 +30,7 @@ pop_words_spec = tie.close (tie.spec
       pop_next turn.args.work.now turn.args.n turn.loop-left.left
           turn.loop-left.work turn.loop-left.invariant.1
           c.pop_to.ensures (omega arith) turn.loop-left.invariant.0,
-      c.pop_to.auto.0 ∙ turn.loop-left.invariant.2,
+      c.pop_to.auto.work ∙ turn.loop-left.invariant.2,
     ))  -- loop-left-preserved
     (λ c. c.loop-left.invariant.2)  -- shape_of-work
     (λ c.

@@ -37,7 +37,7 @@ push_words_spec = tie.close (tie.spec
       search rules,
       push_next a.work.now a.words.now turn.loop-k.k turn.loop-k.work turn.loop-k.invariant.1
           c.push.ensures (omega arith) turn.loop-k.invariant.0,
-      c.push.auto.0 ∙ turn.loop-k.invariant.2,
+      c.push.auto.work ∙ turn.loop-k.invariant.2,
     ))  -- loop-k-preserved
     (λ c. c.loop-k.invariant.2)  -- shape_of-work
     (λ c.

@@ -11,7 +11,7 @@ returns c =
     let n = b.before.before.before.before in
     let s = n.before.before.before in
     line_puts s.args.out.now s.args.n _ _ _ _ n.put_number-p.ensures.0 n.put_number-p.ensures.1
-    b.put_byte.ensures.0 b.put_byte.ensures.1 n.put_number-p.auto.0
+    b.put_byte.ensures.0 b.put_byte.ensures.1 n.put_number-p.auto.out
     (omega (arith, s.ranges.n.fits)) s.requires
 
 pub put_line_spec : {M : Type 1} → statement M

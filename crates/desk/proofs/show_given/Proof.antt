@@ -27,14 +27,14 @@ slice_bounds-view-end-then-k-eq-DONE c =
     let v = c.before.before.before in
     let t = v.before.before.before.before.before.before in
     front_fits t.args.given.count v.simp_view-answer.new.1.1.1.0 (replicate memory_words 0)
-    v.simp_view-answer.auto.1.1.1.0 t.requires.0.few
+    v.simp_view-answer.auto.view t.requires.0.few
 
 slice_bounds-write_memory-end : tie.Need-slice_bounds-write_memory-end
 slice_bounds-write_memory-end c =
     let v = c.before.before.before.before in
     let t = v.before.before.before.before.before.before in
     front-count t.args.given.count v.simp_view-answer.new.1.1.1.0 (replicate memory_words 0)
-    v.simp_view-answer.auto.1.1.1.0 t.requires.0.few
+    v.simp_view-answer.auto.view t.requires.0.few
 
 returns-then-k-eq-DONE : tie.Need-returns-then-k-eq-DONE
 returns-then-k-eq-DONE c =
@@ -44,12 +44,12 @@ returns-then-k-eq-DONE c =
     let t = v.before.before.before.before.before.before in
     let g = t.args.given in
     let x = v.simp_view-answer.new.1.1.1.0 in
-    let n = front_length g.count x (replicate memory_words 0) v.simp_view-answer.auto.1.1.1.0 t.requires.0.few in
+    let n = front_length g.count x (replicate memory_words 0) v.simp_view-answer.auto.view t.requires.0.few in
     put_same _ _ _ _ _
     (view-shown t.args.sheet.now g _ x t.requires.0 v.simp_view-answer.ensures _ k.number-k.ensures
     k.if-k-eq-DONE.true)
     (memory_puts t.args.out.now _ x _ _
-    (front_is g.count x (replicate memory_words 0) v.simp_view-answer.auto.1.1.1.0 t.requires.0.few)
+    (front_is g.count x (replicate memory_words 0) v.simp_view-answer.auto.view t.requires.0.few)
     m.write_memory.ensures.0 m.write_memory.ensures.1 (ap (λ (i : ℕ). i % cell_words) n ∙ t.requires.0.whole)
     (omega (arith, t.requires.0.few)) (omega (arith, t.requires.1)))
 

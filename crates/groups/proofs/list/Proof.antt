@@ -33,7 +33,7 @@ list_spec = tie.close (tie.spec
     (λ c. omega (arith, below_end c, c.requires.0))  -- overflow_cast-groups
     (λ c.
     let at = c.before.before in
-    omega (arith, in_room c.before, at.loop-i.invariant.as_long, at.well_formed_lem.0))  -- offset_bounds-groups-i
+    omega (arith, in_room c.before, at.loop-i.invariant.as_long, at.well_formed.0))  -- offset_bounds-groups-i
     (λ c. in_room c.before)  -- bounds-groups-i
     (λ c. omega (arith, c.loop-i-test.true))  -- overflow_add-i
     (λ c κs.

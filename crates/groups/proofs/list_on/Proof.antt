@@ -9,7 +9,7 @@ use Rattle.groups.proofs.list_on.Statement.{statement}
 use Rattle.groups.proofs.list_on.Tie as tie
 
 in_width : (c : tie.After-everyone) → c.everyone.result + 1 ≤ 2 ^ width
-in_width c = omega (arith, c.everyone.type-inv)
+in_width c = omega (arith, c.everyone.type_inv)
 
 counted : (c : tie.After-count-found)
     → let e = c.before in

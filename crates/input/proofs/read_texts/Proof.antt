@@ -24,7 +24,7 @@ loop-turns-init c = (refl, ([], ap (λ (s : State). held s c.args.buffer.now) c.
 shape_of-buffer-then-not-turn : tie.Need-shape_of-buffer-then-not-turn invariant-loop-turns decreases-loop-turns
 shape_of-buffer-then-not-turn c =
     let f = c.before.before.before.before.before in
-    f.feed_some-turn.auto.1.0 ∙ f.loop-turns.invariant.0
+    f.feed_some-turn.auto.buffer ∙ f.loop-turns.invariant.0
 
 returns-then-not-turn : tie.Need-returns-then-not-turn invariant-loop-turns decreases-loop-turns
 returns-then-not-turn c =
@@ -35,7 +35,7 @@ loop-turns-preserved : tie.Need-loop-turns-preserved invariant-loop-turns decrea
 loop-turns-preserved c =
     let f = c.before.before.before.before.before in
     let at = f.before.before.before in
-    (f.feed_some-turn.auto.1.0 ∙ at.loop-turns.invariant.0, after_more _ _ _ _ at.loop-turns.invariant.1 f.feed_some-turn.ensures)
+    (f.feed_some-turn.auto.buffer ∙ at.loop-turns.invariant.0, after_more _ _ _ _ at.loop-turns.invariant.1 f.feed_some-turn.ensures)
 
 pub read_texts_spec : {M : Type 1} → statement M
 read_texts_spec = tie.close (tie.spec

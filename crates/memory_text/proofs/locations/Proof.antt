@@ -41,7 +41,7 @@ loop-at-preserved c =
     let next = r.location_from-next.result in
     let read = row_on s at.loop-at.at next r.location_from-next.ensures told.in-Read.is in (
       omega arith,
-      st.auto.0 ∙ at.loop-at.invariant.1,
+      st.auto.words ∙ at.loop-at.invariant.1,
       rw st.ensures
           (sym (rest_more at.loop-at.n at.loop-at.words s at.loop-at.at r.loop-at-test.true
           r.if-n-ge-LOCATIONS.false next.row.words next.at read)

@@ -7,11 +7,11 @@ use Rattle.memory_text.proofs.read_memory.Tie as tie
 
 returns-then-fits : tie.Need-returns-then-fits
 returns-then-fits c =
-    c.locations.ensures ∙ sym (memory_fits _ (sym c.fits2.ensures ∙ c.if-fits.true))
+    c.locations.ensures ∙ sym (memory_fits _ (sym c.fits.ensures ∙ c.if-fits.true))
 
 returns-else-fits : tie.Need-returns-else-fits
 returns-else-fits c =
-    c.no_memory.ensures ∙ sym (memory-long _ (sym c.fits2.ensures ∙ c.if-fits.false))
+    c.no_memory.ensures ∙ sym (memory-long _ (sym c.fits.ensures ∙ c.if-fits.false))
 
 pub read_memory_spec : {M : Type 1} → statement M
 read_memory_spec = tie.close (tie.spec

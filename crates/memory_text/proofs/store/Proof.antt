@@ -27,7 +27,7 @@ loop-i-preserved c =
       omega arith,
       simp length-set at.loop-i.invariant.1,
       sym (store_more at.loop-i.words a.at at.loop-i.i a.row
-          (omega (arith, at.well_formed_lem.1.1.0.1.0.1))) ∙ at.loop-i.invariant.2,
+          (omega (arith, at.well_formed.1.1.0.1.0.1))) ∙ at.loop-i.invariant.2,
     )
 
 returns : tie.Need-returns invariant-loop-i decreases-loop-i
@@ -35,7 +35,7 @@ returns c =
     let at = c.before in
     let a = at.args in
     let done : drop at.loop-i.i a.row ≡ [] =
-    drop_of_length-le a.row {i = at.loop-i.i} (omega (arith, at.well_formed_lem.1.1.0.1.0.1)) in
+    drop_of_length-le a.row {i = at.loop-i.i} (omega (arith, at.well_formed.1.1.0.1.0.1)) in
     ap (sets at.loop-i.words (a.at + at.loop-i.i)) (sym done) ∙ at.loop-i.invariant.2
 
 pub store_spec : {M : Type 1} → statement M

@@ -103,7 +103,7 @@ lowest_number_spec = tie.close (tie.spec
     (λ c κs. search rules)  -- lower-number-requires
     (λ c. omega (arith, placed c.before.before.before))  -- overflow_add-i
     (λ c. let e = c.before.before.before in
-    omega (arith, (here e).inside, e.well_formed_lem.0))  -- overflow_add-at
+    omega (arith, (here e).inside, e.well_formed.0))  -- overflow_add-at
     (λ c. omega (arith, (here c.before.before.before).rises))  -- loop-at-smaller
     loop-at-preserved
     returns)

@@ -42,7 +42,7 @@ loop-at-preserved c =
     let at = (the c).before in
     let p = here (the c) in (
       next_starts at.loop-at.invariant.0 p,
-      run.turn-ran.auto.1.1.1.0 ∙ at.loop-at.invariant.1,
+      run.turn-ran.auto.memory ∙ at.loop-at.invariant.1,
       goes_on_lem _ _ _ _ _ _ at.loop-at.i at.loop-at.at _ _ _ _ _ at.loop-at.invariant.2 p run.turn-ran.ensures,
     )
 
@@ -62,7 +62,7 @@ run_each_spec = tie.close (tie.spec
     (λ c. omega (arith, placed (the c)))  -- offset_bounds-steps-i
     (λ c. omega (arith, placed (the c)))  -- bounds-steps-i
     (λ c. omega (arith, placed (the c)))  -- overflow_add-i
-    (λ c. omega (arith, (here (the c)).inside, (the c).well_formed_lem.0))  -- overflow_add-at
+    (λ c. omega (arith, (here (the c)).inside, (the c).well_formed.0))  -- overflow_add-at
     (λ c. omega (arith, (here (the c)).rises))  -- loop-at-smaller
     loop-at-preserved
     (λ c. c.loop-at.invariant.1)  -- shape_of-memory

@@ -49,7 +49,7 @@ returns-in-6 : (t : ℕ) → scan-expr-lts.Need-returns-in-6 (readings t) (scan_
 unfolding named_e integer_of
 returns-in-6 t c =
     laws.scan_leaf c.row_at-row.ensures n_int c.in-6.is
-    (sym (lt-ltb c.row_at-row.result.a 4294967296 (omega (arith, c.row_at-row.type-inv))))
+    (sym (lt-ltb c.row_at-row.result.a 4294967296 (omega (arith, c.row_at-row.type_inv))))
 
 returns-in-7 : (t : ℕ) → scan-expr-lts.Need-returns-in-7 (readings t) (scan_expr_at t) scan-expr.Post
 unfolding named_e
@@ -74,14 +74,14 @@ returns-in_default-kind t c =
     let first = c.before.before.before in
     let kind = first.before in
     laws.scan_named_one _ _ kind.row_at-row.ensures c.names_there-in_default-kind.ensures
-    (omega (arith, kind.if-kind-lt6.false)) (omega (arith, kind.in-9.if-kind-lt17-own.true)) c.in_default-kind.in_default-kind-own.rest.1
+    (omega (arith, c.in-9.if-kind-lt6-own.false)) (omega (arith, c.in-9.if-kind-lt17-own.true)) c.in_default-kind.in_default-kind-own.rest.1
     first.scan_expr-e.ensures c.also-in_default-kind.ensures
 
 returns-in_default : (t : ℕ) → scan-expr-lts.Need-returns-in_default (readings t) (scan_expr_at t) scan-expr.Post
 returns-in_default t c = laws.scan_none c.row_at-row.ensures (λ h. omega (arith, h.0, c.in_default.if-kind-lt6-own.true))
 
 returns-in_default-2 : (t : ℕ) → scan-expr-lts.Need-returns-in_default-2 (readings t) (scan_expr_at t) scan-expr.Post
-returns-in_default-2 t c = laws.scan_none c.row_at-row.ensures (λ h. omega (arith, h.1, c.if-kind-lt17.if-kind-lt17-own.false))
+returns-in_default-2 t c = laws.scan_none c.row_at-row.ensures (λ h. omega (arith, h.1, c.in_default.if-kind-lt17-own.false))
 
 -- room for the next row, and fewer rows left; then a return for each leaf, two operands, one, and the others
 pub +scan_expr_spec : {M : Type 1} → statement M
@@ -97,16 +97,16 @@ pub +scan_expr_spec : {M : Type 1} → statement M
     (λ c. omega (arith, row_within _ _ c.row_at-row.ensures (omega (arith, c.in-8.is))))  -- overflow_add-result-in-8
     (λ c. omega (
       arith,
-      row_within _ _ c.row_at-row.ensures (omega (arith, c.if-kind-lt6.false)),
+      row_within _ _ c.row_at-row.ensures (omega (arith, c.in-9.if-kind-lt6-own.false)),
     ))  -- overflow_add-at
     (λ c κs. (
-      omega (arith, row_within _ _ c.row_at-row.ensures (omega (arith, c.if-kind-lt6.false))),
+      omega (arith, row_within _ _ c.row_at-row.ensures (omega (arith, c.in-9.if-kind-lt6-own.false))),
       tt,
     ))  -- scan_expr-e-requires
     (λ c κs.
     let first = c.before in
     let kind = first.before.before in
-    let within = row_within _ _ kind.row_at-row.ensures (omega (arith, kind.if-kind-lt6.false)) in
+    let within = row_within _ _ kind.row_at-row.ensures (omega (arith, c.in-9.if-kind-lt6-own.false)) in
     (omega (arith, within, first.scan_expr-e.ensures.forward), tt))  -- scan_expr-requires
     (λ c κs. search rules)  -- also-f-requires
     (λ c κs. search rules)  -- names_there-requires

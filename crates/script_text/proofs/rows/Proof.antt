@@ -15,5 +15,5 @@ pub rows_spec : {M : Type 1} → statement M
 rows_spec = tie.close (tie.spec
     returns-then-code-count
     (λ c. search rules)  -- overflow_mul-end
-    (λ c. simp length-take (omega (arith, c.if1.false)))  -- slice_bounds-result-end
+    (λ c. simp length-take (omega (arith, c.if-code-count.false)))  -- slice_bounds-result-end
     (λ c. search rules))  -- returns

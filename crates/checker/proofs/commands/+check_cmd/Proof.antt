@@ -102,11 +102,11 @@ returns-else-depth-ge-DEPTH t c =
     c.in-5.is
     c.if-depth-ge-DEPTH.false
     c.join-inside-in-5.ensures
-    (search (rules, c.left_part.type-inv))
+    (search (rules, c.left_part.type_inv))
     c.left_part.ensures
     c.bind.ensures
     c.check_cmd-y-in-5.ensures
-    (search (rules, c.right_part.type-inv))
+    (search (rules, c.right_part.type_inv))
     c.right_part.ensures c.bind-in-5.ensures
     c.check_cmd-z.ensures c.of_case.ensures
 

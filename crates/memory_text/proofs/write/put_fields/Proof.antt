@@ -26,12 +26,12 @@ loop-i-preserved c =
     let a = at.args in
     let w = field_goes _ a.words.now a.to at.loop-i.i _ _ at.loop-i.out at.loop-i.p _ _ _ _
     at.loop-i.invariant.4 b.put_byte-q.ensures.0 b.put_byte-q.ensures.1
-    n.put_number-p.ensures.0 n.put_number-p.ensures.1 b.put_byte-q.auto.0
+    n.put_number-p.ensures.0 n.put_number-p.ensures.1 b.put_byte-q.auto.out
     b.loop-i-test.true (omega arith)
     (omega (arith, n.shared_slice_known-in-loop-i-1.given at.loop-i.i)) (omega arith) in (
       omega arith,
       omega arith,
-      n.put_number-p.auto.0 ∙ b.put_byte-q.auto.0 ∙ at.loop-i.invariant.2,
+      n.put_number-p.auto.out ∙ b.put_byte-q.auto.out ∙ at.loop-i.invariant.2,
       omega (arith, w.1),
       w.0,
     )

@@ -23,7 +23,7 @@ put_fields-q-requires c κs =
     let some = n.if-n-eq0.false in
     let p = number-reach _ _ _ _ n.put_number-p.ensures.0
     (omega (arith, n.shared_slice_known-2-1.given a.from)) (omega arith) in
-    (omega arith, omega arith, omega (arith, p, n.put_number-p.auto.0))
+    (omega arith, omega arith, omega (arith, p, n.put_number-p.auto.out))
 
 returns : tie.Need-returns
 returns c =
@@ -35,7 +35,7 @@ returns c =
     line_puts a.words.now a.from _ _ _ _ _ _ _ _ _ u.used-n.ensures n.if-n-eq0.false
     n.put_number-p.ensures.0 n.put_number-p.ensures.1 f.put_fields-q.ensures b.put_byte-2.ensures.0
     b.put_byte-2.ensures.1
-    (f.put_fields-q.auto.1.1.1.0 ∙ n.put_number-p.auto.0) (omega arith)
+    (f.put_fields-q.auto.out ∙ n.put_number-p.auto.out) (omega arith)
     (omega (arith, n.shared_slice_known-2-1.given a.from)) (omega arith)
 
 pub put_line_spec : {M : Type 1} → statement M

@@ -35,7 +35,7 @@ loop-n-preserved c =
     let a = at.args in
     let short = l.put_line-at.ensures.short in (
       omega arith,
-      l.put_line-at.auto.1.1.0 ∙ at.loop-n.invariant.1,
+      l.put_line-at.auto.out ∙ at.loop-n.invariant.1,
       omega arith,
       lines_goes _ a.words.now _ at.loop-n.n _ _ _ _ _ _ at.loop-n.invariant.3 l.loop-n-test.true
           l.put_line-at.ensures,

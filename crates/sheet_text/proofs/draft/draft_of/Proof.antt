@@ -16,7 +16,7 @@ returns-in-Line : tie.Need-returns-in-Line
 returns-in-Line c =
     let s = c.args.s.now in
     let fits =
-    sym c.fits.ensures ∙ not-false _
+    sym c.fits.ensures ∙ 
     c.if-not-fits.false in
     let l = line-found s 0 _ c.line_from-next.ensures _
     c.in-Line.is in

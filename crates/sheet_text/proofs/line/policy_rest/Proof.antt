@@ -15,7 +15,7 @@ use Rattle.sheet_text.proofs.line.policy_rest.Statement.{statement}
 use Rattle.sheet_text.proofs.line.policy_rest.Tie as tie
 
 abbrev text_of : tie.In-At → List ℕ
-text_of k = k.before.before.before.before.args.s.now
+text_of k = k.args.s.now
 
 -- what is known where the owner, the readers and the writers have been read
 owner_known : (k : tie.In-At)

@@ -34,7 +34,7 @@ use Rattle.evaluator.proofs.StateLaws.{cell_in, room_here, holds_kept, bound-ans
 pub row_of_lem : {p : Place} {row : Row} {k : Counts} {rest : List ScriptLine} {e : Expr} (kind : ℕ)
     → row ≡ row_at p.code p.at → row.kind ≡ kind
     → ExprAt p k rest e → ExprRow p.code p.at rest kind row.a row.b e
-row_of_lem {p} {rest = rest} {e = e} kind r q x = rows.row_of p.code p.at expression e rest r q x.source x.lines
+row_of_lem {p} {rest = rest} {e = e} kind r q x = rows.row_of_lem p.code p.at expression e rest r q x.source x.lines
 
 -- another place of the same code, with these cells; the operand that follows a line; what follows an evaluation
 abbrev pub moved : Place → ℕ → List ℕ → Place

@@ -5,7 +5,7 @@ mod nodes; // nodes.rt: a value made of one or two others, in the accumulator
 
 ghost use Rattle.std.specs.Prelude.{◌≡◌};
 ghost use Rattle.script.specs.Internal.Code.{row_at};
-ghost use Rattle.evaluator.specs.Internal.Records.{result, reached};
+ghost use Rattle.evaluator.specs.Internal.Records.{result_of, reached};
 ghost use Rattle.evaluator.specs.Internal.Post.{Evals};
 
 use cells::CELL;
@@ -53,9 +53,9 @@ pub fn eval(
     depth: u32,
     work: &mut [u32; WORK],
 ) -> Evaluated
-    ensures* { λ r. ⌜ Evals (record { table = table.entry.now; powers = powers })
-        (record { code = code.entry.now; at = at; depth = depth; cells = work.old })
-        (result r work.new) ⌝ }
+    ensures { Evals (record { table = table.now; powers = powers })
+        (record { code = code.now; at = at; depth = depth; cells = work.old })
+        (result_of result work.new) }
 {
     let next = reach(code, at, table, powers, depth, work);
     match next {
@@ -84,9 +84,9 @@ fn reach(
     depth: u32,
     work: &mut [u32; WORK],
 ) -> End
-    ensures* { λ r. ⌜ Evals (record { table = table.entry.now; powers = powers })
-        (record { code = code.entry.now; at = at; depth = depth; cells = work.old })
-        (reached r work.new) ⌝ }
+    ensures { Evals (record { table = table.now; powers = powers })
+        (record { code = code.now; at = at; depth = depth; cells = work.old })
+        (reached result work.new) }
 {
     let row = script::row_at(code, at);
     let kind = row.kind;
@@ -141,9 +141,9 @@ fn pair(
     work: &mut [u32; WORK],
 ) -> End
     requires { (row_at code.now at).kind ≡ 14 }
-    ensures* { λ r. ⌜ Evals (record { table = table.entry.now; powers = powers })
-        (record { code = code.entry.now; at = at; depth = depth; cells = work.old })
-        (reached r work.new) ⌝ }
+    ensures { Evals (record { table = table.now; powers = powers })
+        (record { code = code.now; at = at; depth = depth; cells = work.old })
+        (reached result work.new) }
 {
     let v = reach(code, at + ROW, table, powers, depth, work);
     if v <= TOO_LONG {

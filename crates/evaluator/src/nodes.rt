@@ -109,9 +109,9 @@ fn pack(work: &mut [u32; WORK], powers: Powers, l: u32, v: End) -> End
 // The error of unpacking the package in the accumulator with the wanted label l and the wanted type on the left
 // of type t; else 0.
 fn refusal(work: &[u32], table: &[sheet::Word], powers: Powers, t: u32, l: u32) -> u32
-    ensures { result ≡ error_in (record { table = table.entry.now; powers = powers }) l
+    ensures { result ≡ error_in (record { table = table.now; powers = powers }) l
         (slice_index work.now 1)
-        (has_no table.entry.now (value_of (drop 2 work.now)) (left_in table.entry.now t)) }
+        (has_no table.now (value_of (drop 2 work.now)) (left_in table.now t)) }
 {
     if !sheet::powers::may_read(powers, l) {
         return INSUFFICIENT_AUTH;
@@ -134,7 +134,7 @@ fn unpack(
     l: u32,
     v: End,
 ) -> End
-    ensures { Unpacks (record { table = table.entry.now; powers = powers }) t l
+    ensures { Unpacks (record { table = table.now; powers = powers }) t l
         (reached v work.old) (reached result work.new) }
 {
     if v <= TOO_LONG {
@@ -206,7 +206,7 @@ pub(crate) fn applied(
     b: u32,
     v: End,
 ) -> End
-    ensures { Applied (record { table = table.entry.now; powers = powers })
+    ensures { Applied (record { table = table.now; powers = powers })
         (record { kind = kind; a = a; b = b })
         (reached v work.old) (reached result work.new) }
 {

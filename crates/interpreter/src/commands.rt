@@ -66,8 +66,8 @@ fn assign(
     fuel: u32,
     x: u32,
 ) -> Stepped
-    ensures { Assigns (record { table = table.entry.now; powers = powers })
-        (record { code = code.entry.now; at = at; depth = depth; cells = work.old })
+    ensures { Assigns (record { table = table.now; powers = powers })
+        (record { code = code.now; at = at; depth = depth; cells = work.old })
         fuel x result work.new }
 {
     if fuel == 0 {
@@ -104,8 +104,8 @@ fn decide(
     work: &mut [u32; evaluator::WORK],
     fuel: u32,
 ) -> Decided
-    ensures { Decides (record { table = table.entry.now; powers = powers })
-        (record { code = code.entry.now; at = at; depth = depth; cells = work.old })
+    ensures { Decides (record { table = table.now; powers = powers })
+        (record { code = code.now; at = at; depth = depth; cells = work.old })
         fuel result work.new }
 {
     if fuel == 0 {
@@ -158,8 +158,8 @@ fn branch(
     work: &mut [u32; evaluator::WORK],
     fuel: u32,
 ) -> Taken
-    ensures { Branches (record { table = table.entry.now; powers = powers })
-        (record { code = code.entry.now; at = at; depth = depth; cells = work.old })
+    ensures { Branches (record { table = table.now; powers = powers })
+        (record { code = code.now; at = at; depth = depth; cells = work.old })
         fuel result work.new }
 {
     if depth >= script::DEPTH {
@@ -203,8 +203,8 @@ pub(crate) fn exec(
     work: &mut [u32; evaluator::WORK],
     fuel: u32,
 ) -> Stepped
-    ensures { Execs (record { table = table.entry.now; powers = powers })
-        (record { code = code.entry.now; at = at; depth = depth; cells = work.old })
+    ensures { Execs (record { table = table.now; powers = powers })
+        (record { code = code.now; at = at; depth = depth; cells = work.old })
         fuel result work.new }
 {
     let row = script::row_at(code, at);
@@ -239,8 +239,8 @@ fn sequence(
     fuel: u32,
 ) -> Stepped
     requires { (row_at code.now at).kind ≡ 2 }
-    ensures { Execs (record { table = table.entry.now; powers = powers })
-        (record { code = code.entry.now; at = at; depth = depth; cells = work.old })
+    ensures { Execs (record { table = table.now; powers = powers })
+        (record { code = code.now; at = at; depth = depth; cells = work.old })
         fuel result work.new }
 {
     let d = exec(code, at + ROW, table, powers, depth, work, fuel);
@@ -272,8 +272,8 @@ fn repeat(
     fuel: u32,
 ) -> Stepped
     requires { (row_at code.now at).kind ≡ 4 }
-    ensures { Execs (record { table = table.entry.now; powers = powers })
-        (record { code = code.entry.now; at = at; depth = depth; cells = work.old })
+    ensures { Execs (record { table = table.now; powers = powers })
+        (record { code = code.now; at = at; depth = depth; cells = work.old })
         fuel result work.new }
 {
     let mut left = fuel;
@@ -314,8 +314,8 @@ fn select(
     fuel: u32,
 ) -> Stepped
     requires { (row_at code.now at).kind ≡ 5 }
-    ensures { Execs (record { table = table.entry.now; powers = powers })
-        (record { code = code.entry.now; at = at; depth = depth; cells = work.old })
+    ensures { Execs (record { table = table.now; powers = powers })
+        (record { code = code.now; at = at; depth = depth; cells = work.old })
         fuel result work.new }
 {
     let b = branch(code, at + ROW, table, powers, depth, work, fuel);

@@ -45,5 +45,5 @@ pop_to_spec = tie.close (tie.spec
     ))  -- bounds-work-start
     (λ c. search rules)  -- shape_of-work
     (λ c. pop_done c.args.work.now
-    c.args.k c.slide.new.0 _
+    c.args.k c.slide.new.work _
     c.slide.ensures refl c.if-work-k.false))  -- returns

@@ -26,14 +26,14 @@ slice_bounds-view-end-then-k-eq-DONE : tie.Need-slice_bounds-view-end-then-k-eq-
 slice_bounds-view-end-then-k-eq-DONE c =
     let v = c.before.before.before in
     let t = v.before.before.before.before.before.before in
-    front_fits t.args.given.count v.simp_view-answer.new.1.1.1.0 (replicate memory_words 0)
+    front_fits t.args.given.count v.simp_view-answer.new.view (replicate memory_words 0)
     v.simp_view-answer.auto.view t.requires.0.few
 
 slice_bounds-write_memory-end : tie.Need-slice_bounds-write_memory-end
 slice_bounds-write_memory-end c =
     let v = c.before.before.before.before in
     let t = v.before.before.before.before.before.before in
-    front-count t.args.given.count v.simp_view-answer.new.1.1.1.0 (replicate memory_words 0)
+    front-count t.args.given.count v.simp_view-answer.new.view (replicate memory_words 0)
     v.simp_view-answer.auto.view t.requires.0.few
 
 returns-then-k-eq-DONE : tie.Need-returns-then-k-eq-DONE
@@ -43,7 +43,7 @@ returns-then-k-eq-DONE c =
     let v = k.before.before.before in
     let t = v.before.before.before.before.before.before in
     let g = t.args.given in
-    let x = v.simp_view-answer.new.1.1.1.0 in
+    let x = v.simp_view-answer.new.view in
     let n = front_length g.count x (replicate memory_words 0) v.simp_view-answer.auto.view t.requires.0.few in
     put_same _ _ _ _ _
     (view-shown t.args.sheet.now g _ x t.requires.0 v.simp_view-answer.ensures _ k.number-k.ensures

@@ -24,8 +24,8 @@ pub record Result : Type 0 where
   pub next : ℕ
   pub cells : List ℕ
 
-abbrev pub result : Evaluated → List ℕ → Result
-result r cells = record { state = state_number r.state; next = r.next; cells = cells }
+abbrev pub result_of : Evaluated → List ℕ → Result
+result_of r cells = record { state = state_number r.state; next = r.next; cells = cells }
 
 -- The same where one number is handed back: the place where the lines end, with 0 and 1 for the states in which there
 -- is none.

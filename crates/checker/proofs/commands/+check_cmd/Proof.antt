@@ -2,7 +2,6 @@
 use borrow.Author.Rules.{rules}
 use Prim.Native.Nat.{ℕ, ◌<◌}
 use native.Mathlib.Omega.{arith}
-use mathlib.Core.Logic.{⊎_elim}
 use Rattle.script.specs.Internal.Code.{rows_left}
 use Rattle.script.proofs.Rows.{row_within, none_past, none_between}
 use Rattle.checker.proofs.CmdLaws.{arm_skip, arm_seq, arm_assign, arm_while, arm_case, arm_deep, arm_other}
@@ -11,6 +10,8 @@ use borrow.Fn.PlainCycle.{Measures, is, falls, and}
 use Rattle.checker.proofs.commands.check_cmd.Reads as check-cmd
 use Rattle.checker.proofs.commands.check_cmd.Kinds as check-cmd-kinds
 use Rattle.checker.proofs.commands.+check_cmd.Lts-check_cmd as check-cmd-lts
+use Rattle.checker.proofs.commands.+check_cmd.Lts-check_cmd.{in_default-via-then-kind-lt1}
+use Rattle.checker.proofs.commands.+check_cmd.Lts-check_cmd.{in_default-via-else-kind-lt1+else-kind-lt6}
 use Rattle.checker.proofs.bindings.bind.Reads as bind-reads
 use Rattle.checks.proofs.commands.not_passed.Reads as not-passed-reads
 use Rattle.checks.proofs.commands.of_assign.Reads as of-assign-reads
@@ -69,7 +70,7 @@ check_cmd_calls t = (
 
 returns-then-depth-ge-DEPTH : (t : ℕ) → check-cmd-lts.Need-returns-then-depth-ge-DEPTH (check_cmd_calls t) (check_cmd_at t) check-cmd.Post
 returns-then-depth-ge-DEPTH t c =
-    arm_deep c.row_at.ensures
+    arm_deep c.row_at-row.ensures
     c.in-5.is c.if-depth-ge-DEPTH.true c.not_passed.ensures
 
 returns-in-1 : (t : ℕ) → check-cmd-lts.Need-returns-in-1 (check_cmd_calls t) (check_cmd_at t) check-cmd.Post
@@ -84,20 +85,20 @@ returns-in-2 t c =
 
 returns-in-3-kind : (t : ℕ) → check-cmd-lts.Need-returns-in-3-kind (check_cmd_calls t) (check_cmd_at t) check-cmd.Post
 returns-in-3-kind t c =
-    arm_assign c.row_at.ensures
+    arm_assign c.row_at-row.ensures
     c.check_expr-x.ensures
     c.in-3-kind.is c.of_assign.ensures
 
 returns-in-4 : (t : ℕ) → check-cmd-lts.Need-returns-in-4 (check_cmd_calls t) (check_cmd_at t) check-cmd.Post
 returns-in-4 t c =
-    arm_while c.row_at.ensures
+    arm_while c.row_at-row.ensures
     c.check_expr-x.ensures
     c.in-4.is c.join-inside.ensures
     c.check_cmd-y.ensures c.of_while.ensures
 
 returns-else-depth-ge-DEPTH : (t : ℕ) → check-cmd-lts.Need-returns-else-depth-ge-DEPTH (check_cmd_calls t) (check_cmd_at t) check-cmd.Post
 returns-else-depth-ge-DEPTH t c =
-    arm_case c.row_at.ensures
+    arm_case c.row_at-row.ensures
     c.check_expr-x.ensures
     c.in-5.is
     c.if-depth-ge-DEPTH.false
@@ -112,15 +113,17 @@ returns-else-depth-ge-DEPTH t c =
 
 returns-in_default-kind : (t : ℕ) → check-cmd-lts.Need-returns-in_default-kind (check_cmd_calls t) (check_cmd_at t) check-cmd.Post
 returns-in_default-kind t c =
-    arm_other c.row_at.ensures
+    arm_other c.row_at-row.ensures
     (λ h. none_between 3 3 c.in_default-kind.in_default-kind-own.rest
-    (none_past 1 2 c.match.rest h.0) h.1)
+    (none_past 1 2 c.in-3.in_default-own.rest h.0) h.1)
     c.not_passed-in_default-kind.ensures
 
 returns-in_default : (t : ℕ) → check-cmd-lts.Need-returns-in_default (check_cmd_calls t) (check_cmd_at t) check-cmd.Post
 returns-in_default t c =
     arm_other c.row_at-row.ensures
-    (λ h. ⊎_elim (λ w. omega (arith, h.0, w.taken)) (λ w. omega (arith, h.1, w.1.left)) c.in_default.branch)
+    (λ h. elim c.in_default.branch [
+      in_default-via-then-kind-lt1 w ↦ omega (arith, h.0, w.if-kind-lt1-1.true)
+    | in_default-via-else-kind-lt1+else-kind-lt6 w ↦ omega (arith, h.1, w.if-kind-lt6-1.false) ])
     c.not_passed-in_default.ensures
 
 pub +check_cmd_spec : {M : Type 1} → statement M
@@ -139,11 +142,11 @@ pub +check_cmd_spec : {M : Type 1} → statement M
       ),
       tt,
     ))  -- check_cmd-first-requires
-    (λ c κs. let r = c.before.before.before.before in (
+    (λ c κs. (
       omega (
         arith,
-        r.requires.0,
-        row_within _ _ r.row_at-row.ensures (omega (arith, c.in-2.is)),
+        c.requires.0,
+        row_within _ _ c.row_at-row.ensures (omega (arith, c.in-2.is)),
         c.check_cmd-first.ensures.onward,
       ),
       tt,
@@ -151,17 +154,17 @@ pub +check_cmd_spec : {M : Type 1} → statement M
     (λ c κs. search rules)  -- of_seq-requires
     (λ c. omega (
       arith,
-      row_within _ _ c.row_at-row.ensures (omega (arith, c.if-kind-lt1.false)),
+      row_within _ _ c.row_at-row.ensures (omega (arith, c.in-3.if-kind-lt1-own.false)),
     ))  -- overflow_add-at-in-3
     (λ c κs. search rules)  -- check_expr-x-requires
     (λ c κs. search rules)  -- of_assign-requires
     (λ c κs. search rules)  -- join-inside-requires
-    (λ c κs. let r = c.before.before.before.before.before.before.before.before in (
+    (λ c κs. (
       omega (
         arith,
-        r.before.before.before.requires.0,
-        row_within _ _ r.row_at.ensures
-            (omega (arith, c.if1.false)),
+        c.requires.0,
+        row_within _ _ c.row_at-row.ensures
+            (omega (arith, c.in-3.if-kind-lt1-own.false)),
         c.check_expr-x.ensures.onward,
       ),
       tt,
@@ -173,15 +176,14 @@ pub +check_cmd_spec : {M : Type 1} → statement M
     (λ c κs. search rules)  -- left_part-requires
     (λ c κs. c.if-depth-ge-DEPTH.false)  -- bind-requires
     (λ c. omega (arith, c.if-depth-ge-DEPTH.false))  -- overflow_add-depth
-    (λ c κs. let r =
-    c.before.before.before.before.before.before.before.before.before.before.before.before in (
+    (λ c κs. (
       omega (
         arith,
-        r.before.before.before.pre.0,
-        row_within _ _ r.row_at.ensures
+        c.requires.0,
+        row_within _ _ c.row_at-row.ensures
             (omega (
               arith,
-              c.if1.false,
+              c.in-3.if-kind-lt1-own.false,
             )),
         c.check_expr-x.ensures.onward,
       ),
@@ -193,14 +195,14 @@ pub +check_cmd_spec : {M : Type 1} → statement M
       arith,
       c.if-depth-ge-DEPTH.false,
     ))  -- overflow_add-depth-in-5
-    (λ c κs. let r = c.before.before.before.before.before.before.before.before.before.before.before.before.before.before.before.before.before in (
+    (λ c κs. (
       omega (
         arith,
-        r.before.before.before.pre.0,
-        row_within _ _ r.row_at.ensures
+        c.requires.0,
+        row_within _ _ c.row_at-row.ensures
             (omega (
               arith,
-              c.if1.false,
+              c.in-3.if-kind-lt1-own.false,
             )),
         c.check_expr-x.ensures.onward,
         c.check_cmd-y-in-5.ensures.onward,

@@ -3,7 +3,6 @@
 use borrow.Author.Rules.{rules}
 use Prim.Native.Nat.{ℕ, ◌+◌, ◌*◌, ◌<◌}
 use native.Mathlib.Omega.{arith}
-use mathlib.Core.Logic.{⊎_elim}
 use Rattle.language.specs.Syntax.{first, second, pick}
 use Rattle.script.specs.Internal.Code.{rows_left}
 use Rattle.script.proofs.Rows.{row_within, none_past, none_between}
@@ -14,6 +13,8 @@ use borrow.Fn.PlainCycle.{Measures, is, falls, and}
 use Rattle.checker.proofs.expressions.check_expr.Reads as check-expr
 use Rattle.checker.proofs.expressions.check_expr.Kinds as check-expr-kinds
 use Rattle.checker.proofs.expressions.+check_expr_check_second.Lts-check_expr as check-expr-lts
+use Rattle.checker.proofs.expressions.+check_expr_check_second.Lts-check_expr.{in_default-via-then-kind-lt6}
+use Rattle.checker.proofs.expressions.+check_expr_check_second.Lts-check_expr.{in_default-via-else-kind-lt6+else-kind-lt17}
 use Rattle.checker.proofs.expressions.check_second.Reads as check-second
 use Rattle.checker.proofs.expressions.check_second.Kinds as check-second-kinds
 use Rattle.checker.proofs.expressions.+check_expr_check_second.Lts-check_second as check-second-lts
@@ -163,12 +164,14 @@ check_expr-returns-in_default-kind t c =
       ),
       r.1,
     )
-    (none_past 6 3 c.in_default-1.rest h.0) h.1) c.no_type.ensures
+    (none_past 6 3 c.in-9.in_default-own.rest h.0) h.1) c.no_type.ensures
 
 check_expr-returns-in_default : (t : ℕ) → check-expr-lts.Need-returns-in_default (check_expr_calls t) (check_expr_at t) check-expr.Post
 check_expr-returns-in_default t c =
     arm_other c.row_at-row.ensures
-    (λ h. ⊎_elim (λ w. omega (arith, h.0, w.taken)) (λ w. omega (arith, h.1, w.1.left)) c.in_default.branch)
+    (λ h. elim c.in_default.branch [
+      in_default-via-then-kind-lt6 w ↦ omega (arith, h.0, w.if-kind-lt6-1.true)
+    | in_default-via-else-kind-lt6+else-kind-lt17 w ↦ omega (arith, h.1, w.if-kind-lt17-1.false) ])
     c.no_type-in_default.ensures
 
 -- What is known of the functions that `check_second` calls.
@@ -213,17 +216,17 @@ pub +check_expr_check_second_spec : {M : Type 1} → statement M
     (λ c κs. search rules)  -- of_variable-requires
     (λ c. omega (
       arith,
-      row_within _ _ c.row_at-row.ensures (omega (arith, c.if-kind-lt6.false)),
+      row_within _ _ c.row_at-row.ensures (omega (arith, c.in-9.if-kind-lt6-own.false)),
     ))  -- overflow_add-at-in-9
     (λ c κs. (
-      omega (arith, row_within _ _ c.row_at-row.ensures (omega (arith, c.if-kind-lt6.false))),
+      omega (arith, row_within _ _ c.row_at-row.ensures (omega (arith, c.in-9.if-kind-lt6-own.false))),
       tt,
     ))  -- check_expr-x-requires
     (λ c κs. (
       omega (
         arith,
         row_within _ _ c.row_at-row.ensures
-            (omega (arith, c.if-kind-lt6.false)),
+            (omega (arith, c.in-9.if-kind-lt6-own.false)),
         c.check_expr-x.ensures.onward,
       ),
       tt,
@@ -232,7 +235,7 @@ pub +check_expr_check_second_spec : {M : Type 1} → statement M
       omega (
         arith,
         row_within _ _ c.row_at-row.ensures
-            (omega (arith, c.if-kind-lt6.false)),
+            (omega (arith, c.in-9.if-kind-lt6-own.false)),
         c.check_expr-x.ensures.onward,
       ),
       tt,

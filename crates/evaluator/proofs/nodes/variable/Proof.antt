@@ -1,7 +1,8 @@
 -- `evaluator::nodes::variable` meets its contract.
-use Rattle.std.proofs.Common.{ℕ, ap, ◌∙◌, ⊎_elim, arith, rules}
+use Rattle.std.proofs.Common.{ℕ, ap, ◌∙◌, arith, rules}
 use Rattle.cells.specs.Internal.Cells.{load_of, store_of}
 use Rattle.evaluator.proofs.nodes.variable.Statement.{statement}
+use Rattle.evaluator.proofs.nodes.variable.Lts.{then-d-depth, else-d-depth}
 use Rattle.evaluator.proofs.nodes.variable.Tie as tie
 
 pub variable_spec : {M : Type 1} → statement M
@@ -10,4 +11,5 @@ variable_spec = tie.close (tie.spec
     (λ c κs. search rules)  -- copy_cell-requires
     (λ c. c.copy_cell.ensures ∙ ap (λ (j : ℕ). store_of c.args.work.now 0
     (load_of c.args.work.now j))
-    (⊎_elim (λ w. w.1) (λ w. w.1 ∙ omega (arith, w.0.left)) c.if-d-depth.branch)))  -- returns
+    (elim c.if-d-depth.branch [
+        then-d-depth w ↦ w.k-is | else-d-depth w ↦ w.k-is ∙ omega (arith, w.if-d-depth.false) ])))  -- returns

@@ -130,7 +130,7 @@ unfolding op_kind
     )
     (reach_at t)
     reach.Post
-    (λ c κs. search rules)  -- row_at-next-requires
+    (λ c κs. search rules)  -- row_at-row-requires
     (λ c κs. search rules)  -- literal-requires
     (λ c. omega (
       arith,
@@ -158,10 +158,10 @@ unfolding op_kind
     (λ c κs. search rules)  -- applied-requires
     (λ c. laws.eval-one c.row_at-row.ensures
     c.reach-v.ensures
-    (none_past 6 3 c.in_default-1.rest.0
-    c.if-kind-lt6.false)
+    (none_past 6 3 c.in-9.in_default-own.rest.0
+    c.in-9.if-kind-lt6-own.false)
     (omega (arith, c.in-9.if-kind-lt17-own.true)) c.if-kind-ne-PLUS.true
-    c.in_default-1.rest.1 c.applied.ensures)  -- returns-then-kind-ne-PLUS
+    c.in-9.in_default-own.rest.1 c.applied.ensures)  -- returns-then-kind-ne-PLUS
     (λ c. laws.eval-plus_end c.row_at-row.ensures
     c.reach-v.ensures c.if-kind-ne-PLUS.false (end_none _ c.if-v-le-TOO_LONG.true))  -- returns-then-v-le-TOO_LONG
     (λ c κs. search rules)  -- word-n-requires
@@ -192,4 +192,4 @@ unfolding op_kind
     c.if-kind-ne-PLUS.false))  -- returns-else-v-le-TOO_LONG
     (λ c. laws.eval_none c.row_at-row.ensures (λ h. omega (arith, h.0, c.in_default.if-kind-lt6-own.true)))  -- returns-in_default
     (λ c. laws.eval_none c.row_at-row.ensures
-    (λ h. omega (arith, h.1, c.if-kind-lt17.if-kind-lt17-own.false)))  -- returns-in_default-2
+    (λ h. omega (arith, h.1, c.in_default.if-kind-lt17-own.false)))  -- returns-in_default-2

@@ -11,22 +11,14 @@ returns-then-n c = laws.run_large (omega arith)
 
 returns-in_default : tie.Need-returns-in_default
 returns-in_default c =
-    let ran = c.before.before in
-    let copied = ran.before.before.before in
-    let start = copied.before.before.before.before.before.before.before in
-    laws.run_kept _ start.args.work.now start.args.memory.now start.requires copied.copy.ensures
-    ran.powers-powers.ensures ran.exec-d.ensures (not_done _ c.in_default.in_default-own.keys2)
+    laws.run_kept _ c.args.work.now c.args.memory.now c.requires c.copy.ensures
+    c.powers-powers.ensures c.exec-d.ensures (not_done _ c.in_default.in_default-own.keys2)
 
 returns : tie.Need-returns
 returns c =
-    let back = c.before.before.before in
-    let told = back.before.before.before.before in
-    let ran = told.before in
-    let copied = ran.before.before.before in
-    let start = copied.before.before.before.before.before.before.before in
-    laws.run_done _ start.args.work.now start.args.memory.now start.requires copied.copy.ensures
-    ran.powers-powers.ensures ran.exec-d.ensures (is_done _ told.in-Done.is)
-    back.copy-2.auto.0 back.copy-2.ensures
+    laws.run_done _ c.args.work.now c.args.memory.now c.requires c.copy.ensures
+    c.powers-powers.ensures c.exec-d.ensures (is_done _ c.in-Done.is)
+    c.copy-2.auto.dst c.copy-2.ensures
 
 pub run_in_spec : {M : Type 1} → statement M
 run_in_spec = tie.close (tie.spec

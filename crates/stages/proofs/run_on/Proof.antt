@@ -8,49 +8,35 @@ use Rattle.stages.proofs.run_on.Tie as tie
 
 returns-then-not-contained : tie.Need-returns-then-not-contained
 returns-then-not-contained c =
-    let e = c.before.before in
     rw c.refused.ensures
-    (run_stranger _ _ _ _ _ (ap (within _) (sym e.everyone.ensures) ∙ sym e.contained.ensures
+    (run_stranger _ _ _ _ _ (ap (within _) (sym c.everyone.ensures) ∙ sym c.contained.ensures
     ∙ c.if-not-contained.true))
 
 returns-then-read-ne-DONE : tie.Need-returns-then-read-ne-DONE
 returns-then-read-ne-DONE c =
-    let n = c.before.before.before in
-    let k = n.before.before in
     rw c.refused-then-read-ne-DONE.ensures
     (run-numbered _ _ _ _ _
-    (ap (within _) (sym k.everyone.ensures) ∙ sym k.contained.ensures
-    ∙ k.if-not-contained.false)
-    n.number_of-read.ensures c.if-read-ne-DONE.true)
+    (ap (within _) (sym c.everyone.ensures) ∙ sym c.contained.ensures
+    ∙ c.if-not-contained.false)
+    c.number_of-read.ensures c.if-read-ne-DONE.true)
 
 returns-then-answer-ne-DONE : tie.Need-returns-then-answer-ne-DONE
 returns-then-answer-ne-DONE c =
-    let j = c.before.before in
-    let m = j.before.before.before in
-    let n = m.before.before in
-    let k = n.before.before in
     rw c.refused-then-answer-ne-DONE.ensures
     (run-refused _ _ _ _ _
-    (ap (within _) (sym k.everyone.ensures) ∙ sym k.contained.ensures
-    ∙ k.if1.false)
-    n.number_of-read.ensures m.if2.false _
-    (j.memory_number-answer.ensures ∙ j.judge-verdict.ensures) c.if-answer-ne-DONE.true)
+    (ap (within _) (sym c.everyone.ensures) ∙ sym c.contained.ensures
+    ∙ c.if-not-contained.false)
+    c.number_of-read.ensures c.if-read-ne-DONE.false _
+    (c.memory_number-answer.ensures ∙ c.judge-verdict.ensures) c.if-answer-ne-DONE.true)
 
 returns : tie.Need-returns
 returns c =
-    let r = c.before.before in
-    let rows = r.before.before in
-    let e = rows.before.before in
-    let j = e.before in
-    let m = j.before.before.before in
-    let n = m.before.before in
-    let k = n.before.before in
     run_ends _ _ _ _ _
-    (ap (within _) (sym k.everyone.ensures) ∙ sym k.contained.ensures
-    ∙ k.if1.false)
-    n.number_of-read.ensures m.if2.false _
-    (sym e.if-answer-ne-DONE.false ∙ j.memory_number-answer.ensures ∙ j.judge-verdict.ensures)
-    rows.rows.ensures r.run_accepted.ensures
+    (ap (within _) (sym c.everyone.ensures) ∙ sym c.contained.ensures
+    ∙ c.if-not-contained.false)
+    c.number_of-read.ensures c.if-read-ne-DONE.false _
+    (sym c.if-answer-ne-DONE.false ∙ c.memory_number-answer.ensures ∙ c.judge-verdict.ensures)
+    c.rows.ensures c.run_accepted.ensures
 
 pub run_on_spec : {M : Type 1} → statement M
 run_on_spec = tie.close (tie.spec

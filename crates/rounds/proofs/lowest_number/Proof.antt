@@ -94,8 +94,8 @@ lowest_number_spec = tie.close (tie.spec
     invariant-loop-at
     decreases-loop-at
     loop-at-init
-    (λ c. omega (arith, placed c))  -- offset_bounds-ends-i
-    (λ c. omega (arith, placed c))  -- bounds-ends-i
+    (λ c. omega (arith, place_at _ _ c.loop-at.i _ c.requires c.loop-at.invariant.0 c.loop-at-test.true))  -- offset_bounds-ends-i
+    (λ c. omega (arith, place_at _ _ c.loop-at.i _ c.requires c.loop-at.invariant.0 c.loop-at-test.true))  -- bounds-ends-i
     (λ c. omega (arith, (here c).rises))  -- slice_bounds-check_on-count
     (λ c. omega (arith, (here c).rises, (here c).inside))  -- slice_bounds-check_on-start
     (λ c. omega (arith, (here c).rises, (here c).inside))  -- slice_bounds-check_on-end

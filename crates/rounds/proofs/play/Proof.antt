@@ -11,21 +11,15 @@ returns-then-number-ne-DONE c = rw c.refused.ensures
 
 returns-then-answer-ne-DONE : tie.Need-returns-then-answer-ne-DONE
 returns-then-answer-ne-DONE c =
-    let j = c.before.before in
-    let n = j.before.before.before in
     rw c.refused-then-answer-ne-DONE.ensures
-    (play-refused _ _ _ _ _ _ n.lowest-number.ensures n.if1.false _
-    (j.memory_number-answer.ensures ∙ j.judge-verdict.ensures) c.if-answer-ne-DONE.true)
+    (play-refused _ _ _ _ _ _ c.lowest_number-number.ensures c.if-number-ne-DONE.false _
+    (c.memory_number-answer.ensures ∙ c.judge-verdict.ensures) c.if-answer-ne-DONE.true)
 
 returns : tie.Need-returns
 returns c =
-    let ran = c.before.before in
-    let e = ran.before.before in
-    let j = e.before in
-    let n = j.before.before.before in
-    play-runs _ _ _ _ _ _ n.lowest-number.ensures n.if1.false _
-    (sym e.if-answer-ne-DONE.false ∙ j.memory_number-answer.ensures ∙ j.judge-verdict.ensures)
-    ran.run_each.ensures
+    play-runs _ _ _ _ _ _ c.lowest_number-number.ensures c.if-number-ne-DONE.false _
+    (sym c.if-answer-ne-DONE.false ∙ c.memory_number-answer.ensures ∙ c.judge-verdict.ensures)
+    c.run_each.ensures
 
 pub play_spec : {M : Type 1} → statement M
 play_spec = tie.close (tie.spec

@@ -2,7 +2,6 @@
 use mathlib.Core.Path.{◌≡◌, refl, sym, ap, ◌∙◌}
 use Prim.Native.Nat.{ℕ, zero, suc, ◌≤◌}
 use lib.ListN.{length, get_or, replicate}
-use borrow.Author.Tests.{not-false}
 use Rattle.sets.specs.Sets.{within}
 use Rattle.scripts.specs.declared.Parting.{Parting}
 use Rattle.scripts.specs.Parting.{script_texts, most_scripts}
@@ -46,14 +45,10 @@ every_zero (suc n) (suc i) = every_zero n i
 
 returns : tie.Need-returns
 returns c =
-    let p = c.before.before in
-    let k = p.before.before in
-    let n = the k in
-    let e = n.before in
+    let k = c.before.before.before.before in
     round_played _ _ _ _ _
-    (ap (within _) (sym e.before.before.everyone.ensures) ∙ sym e.before.contained.ensures
-    ∙ not-false _ e.if1.left)
-    (few k) _ _ (λ i. every_zero most_scripts i) p.play.ensures
+    (ap (within _) (sym c.everyone.ensures) ∙ sym c.contained.ensures ∙ c.if-not-contained.false)
+    (few k) _ _ (λ i. every_zero most_scripts i) c.play.ensures
 
 pub round_on_spec : {M : Type 1} → statement M
 round_on_spec = tie.close (tie.spec
@@ -68,7 +63,7 @@ round_on_spec = tie.close (tie.spec
     let n = the c.before in
     record {
       few = few c.before;
-      kept = ap (λ (p : Parting). p.ends) n.part.ensures;
+      kept = ap (λ (p : Parting). p.ends) n.part-parting.ensures;
     })  -- play-requires
     (λ c. search rules)  -- shape_of-memory
     returns)

@@ -51,9 +51,9 @@ run_each_spec = tie.close (tie.spec
     invariant-loop-at
     decreases-loop-at
     (λ c. (first_starts _, refl, goes_first _ _ _ _ _ _ c.requires.few))  -- loop-at-init
-    (λ c. omega (arith, placed c))  -- offset_bounds-ends-i
-    (λ c. omega (arith, placed c))  -- bounds-ends-i
-    (λ c. omega (arith, placed c))  -- bounds-gates-i
+    (λ c. omega (arith, place_at _ _ c.loop-at.i _ c.requires c.loop-at.invariant.0 c.loop-at-test.true))  -- offset_bounds-ends-i
+    (λ c. omega (arith, place_at _ _ c.loop-at.i _ c.requires c.loop-at.invariant.0 c.loop-at-test.true))  -- bounds-ends-i
+    (λ c. omega (arith, place_at _ _ c.loop-at.i _ c.requires c.loop-at.invariant.0 c.loop-at-test.true))  -- bounds-gates-i
     (λ c. omega (arith, (here c).rises))  -- slice_bounds-turn-count
     (λ c. omega (arith, (here c).rises, (here c).inside))  -- slice_bounds-turn-start
     (λ c. omega (arith, (here c).rises, (here c).inside))  -- slice_bounds-turn-end

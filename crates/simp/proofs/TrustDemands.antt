@@ -74,6 +74,7 @@ bit_is : (b : Bool) {k : ℕ} → Among (0 ∷ 1 ∷ []) k → (k ≡ 1) ↔ (b 
 bit_is true i h = sym (h.1 refl)
 bit_is false here h = refl
 bit_is false (later here) h = absurd (absurd_false (h.0 refl))
+bit_is false (later (later i)) h = elim i [ ]
 
 module _ (s : Sheet) (p : Script) where
   answers_so : KeepingAnswer s p (record { answer = 0; keeping = keeping_bit s p })

@@ -9,7 +9,7 @@ returns-then-out-n : tie.Need-returns-then-out-n
 returns-then-out-n c = let a = c.args in sym (take_all a.n a.out.now (omega arith))
 
 slice_bounds-result-end : tie.Need-slice_bounds-result-end
-slice_bounds-result-end c = let a = c.before.before.args in sym (length-take-le a.n a.out.now (omega arith))
+slice_bounds-result-end c = let a = c.args in sym (length-take-le a.n a.out.now (omega arith))
 
 pub first_spec : {M : Type 1} → statement M
 first_spec = tie.close (tie.spec

@@ -1,6 +1,6 @@
 -- What the functions over what was read and what is put require and ensure.
 use Rattle.std.specs.Prelude.{◌≡◌, List, ℕ, ◌%◌, ◌≤◌, length}
-use Rattle.std.proofs.Math.Option.{Option, Option·elim}
+use Rattle.std.proofs.Math.Option.{Option, Option-elim}
 use Rattle.std.proofs.lemmas.List.Edits.{sets}
 use Rattle.language.specs.World.{cell_words}
 use Rattle.memory_text.specs.Sizes.{memory_words}
@@ -10,7 +10,7 @@ use Rattle.desk.specs.declared.Group.TheVariants as group
 
 -- what a group's text is parsed to
 abbrev pub parsed_group : Option ℕ → Group
-parsed_group o = Option·elim o group.Refused (λ m. group.Read m)
+parsed_group o = Option-elim o group.Refused (λ m. group.Read m)
 
 -- whole locations, at most 64
 pub record Whole (g : Given) : Type 0 where

@@ -1,6 +1,6 @@
--- What is fed of standard input. Libc's contract of read tells how many bytes it may answer and nothing of the bytes
--- themselves, so that no contract can say which input was read: only what is fed of one read's bytes, and that some
--- input was fed whole.
+-- What is fed of a reader, as standard input. The contract of a read tells how many bytes it may answer and, of the
+-- system's input, nothing of the bytes themselves, so that no contract can say which input was read: only what is fed
+-- of one read's bytes, and that some input was fed whole.
 use Rattle.std.specs.Prelude.{ℕ, ◌≡◌, Bool, false, List, [], ltb, ℤ, pos, negsuc, take}
 use Rattle.parts.specs.Feeding.{Held, fed}
 

@@ -5,20 +5,20 @@
 ghost use Rattle.desk.specs.Inputs.{shown_for, PutFor};
 
 use desk::OUTPUT_ROOM;
-use libc::STDOUT_FILENO;
 use parts::KEEP;
+use std::io::{self, Read};
 
-// What is printed for standard input, at the start of a buffer; its length.
-fn show_stdin(out: &mut [u8]) -> usize
+// What is printed for a reader's bytes, at the start of a buffer; its length.
+fn show_stdin<R: Read>(reader: &mut R, out: &mut [u8]) -> usize
     ensures { PutFor shown_for out.old out.new result }
 {
     let mut buffer = [0u8; 3 * KEEP];
-    let state = input::read_texts(&mut buffer, 2);
+    let state = input::read_texts(reader, &mut buffer, 2);
     desk::show_input(state, &buffer, out)
 }
 
-fn main() {
+fn main(rt: HostRuntime) -> io::Result<()> {
     let mut out = [0u8; OUTPUT_ROOM];
-    let n = show_stdin(&mut out);
-    io::write_all(STDOUT_FILENO, desk::first(&out, n));
+    let n = show_stdin(&mut rt.reader(), &mut out);
+    rt.write_all(desk::first(&out, n))
 }

@@ -1,4 +1,4 @@
-// SImp scripts on a sheet: the calls that firmware and the desk programs make.
+// SImp scripts on a sheet: the calls that the desk programs make, and firmware through crate simp_c.
 // Each settles every input; what they answer is defined in crates stages, rounds and groups, specs/Calls.antt.
 #![tactic(auto)]
 
@@ -13,8 +13,7 @@ use sets::Set;
 use stages::{Outcome, Trust};
 
 // Whether a script is accepted on a sheet.
-#[unsafe(no_mangle)]
-pub extern "C" fn simp_check(sheet: &[u8], script: &[u8]) -> u8
+pub fn simp_check(sheet: &[u8], script: &[u8]) -> u8
     ensures { result ≡ check_of sheet.now script.now }
 {
     let mut table: [sheet::Word; sheet::WORDS] = [0; sheet::WORDS];
@@ -27,8 +26,7 @@ pub extern "C" fn simp_check(sheet: &[u8], script: &[u8]) -> u8
 }
 
 // Runs a script on a memory under an authority, for at most `budget` steps. The memory changes only if the run is done.
-#[unsafe(no_mangle)]
-pub extern "C" fn simp_run(
+pub fn simp_run(
     sheet: &[u8],
     script: &[u8],
     memory: &mut [u32],
@@ -48,8 +46,7 @@ pub extern "C" fn simp_run(
 }
 
 // What a group is shown of a memory. The view slice changes only if the answer is 0.
-#[unsafe(no_mangle)]
-pub extern "C" fn simp_view(sheet: &[u8], memory: &[u32], group: Set, view: &mut [u32]) -> u8
+pub fn simp_view(sheet: &[u8], memory: &[u32], group: Set, view: &mut [u32]) -> u8
     ensures { record { answer = result; view = view.new }
         ≡ view_of sheet.now memory.now group view.old }
 {
@@ -64,8 +61,7 @@ pub extern "C" fn simp_view(sheet: &[u8], memory: &[u32], group: Set, view: &mut
 
 // Runs the scripts of a text one after another on a memory under an authority, each for at most `budget` steps. The
 // memory changes only by the scripts that are done, and by none if the round is refused.
-#[unsafe(no_mangle)]
-pub extern "C" fn simp_round(
+pub fn simp_round(
     sheet: &[u8],
     scripts: &[u8],
     memory: &mut [u32],
@@ -86,8 +82,7 @@ pub extern "C" fn simp_round(
 
 // Lists the smallest groups that read a label, rising as numbers, in the first places of a slice. The slice changes
 // only if the answer is 0, and there only in as many places as there are groups.
-#[unsafe(no_mangle)]
-pub extern "C" fn simp_groups(sheet: &[u8], label: u32, groups: &mut [Set]) -> Groups
+pub fn simp_groups(sheet: &[u8], label: u32, groups: &mut [Set]) -> Groups
     ensures { record { answer = result.answer; count = result.count; places = groups.new }
         ≡ groups_of sheet.now label groups.old }
 {
@@ -101,8 +96,7 @@ pub extern "C" fn simp_groups(sheet: &[u8], label: u32, groups: &mut [Set]) -> G
 }
 
 // Whether a script is accepted on a sheet, and whether it is trust-keeping too: 1 or 0.
-#[unsafe(no_mangle)]
-pub extern "C" fn simp_trust(sheet: &[u8], script: &[u8]) -> Trust
+pub fn simp_trust(sheet: &[u8], script: &[u8]) -> Trust
     ensures { record { answer = result.answer; keeping = result.keeping }
         ≡ trust_of sheet.now script.now }
 {

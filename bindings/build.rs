@@ -1,6 +1,6 @@
 //! Links `libsimp.a`, and hands on the sum of the logic that it is proved in and its own.
 //!
-//! The archive is looked for in the folder that `SIMP_LIB_DIR` names, else where `rt staticlib simp` writes it.
+//! The archive is looked for in the folder that `SIMP_LIB_DIR` names, else where `tests/library` puts it.
 
 use std::env;
 use std::fs;
@@ -16,7 +16,7 @@ fn main() {
     let archive = folder.join("libsimp.a");
     println!("cargo:rerun-if-changed={}", archive.display());
     let bytes = fs::read(&archive).unwrap_or_else(|error| {
-        panic!("{}: {error}; build the library first: rt staticlib simp", archive.display())
+        panic!("{}: {error}; build the library first: tests/library", archive.display())
     });
     println!("cargo:rustc-link-search=native={}", folder.display());
     println!("cargo:rustc-link-lib=static=simp");

@@ -1,5 +1,5 @@
 -- The words of the locations that are read are there.
-use Rattle.std.proofs.Common.{◌*◌, ◌≤◌, length, sym, arith}
+use Rattle.std.proofs.Common.{sym, arith}
 use Rattle.std.proofs.Math.Seq.{length-take-le}
 use Rattle.memory_text.proofs.Tables.{memory-few, memory_full}
 use Rattle.cases.proofs.run_case.Goals as goal

@@ -33,10 +33,11 @@ loop-rest-preserved c =
     rest_below m l.p l.rest max_members l.invariant.2 (omega arith) c.loop-rest-test.true in (
       omega arith,
       elim c.if-rest-eq1.branch [
-        then-rest-eq1 w ↦ w.out-is ∙ w.join-out.ensures ∙ ap₂ join_of l.invariant.1 w.member.ensures
-          ∙ up_to_with a.table.now m l.p (first ∙ eq-eqb _ _ w.if-rest-eq1.true)
-      | else-rest-eq1 w ↦ w.out-is ∙ l.invariant.1
-          ∙ up_to_without a.table.now m l.p (first ∙ ne_eqb _ _ w.if-rest-eq1.false) ],
+        | then-rest-eq1 w ↦ w.out-is ∙ w.join-out.ensures ∙ ap₂ join_of l.invariant.1 w.member.ensures
+            ∙ up_to_with a.table.now m l.p (first ∙ eq-eqb _ _ w.if-rest-eq1.true)
+        | else-rest-eq1 w ↦ w.out-is ∙ l.invariant.1
+            ∙ up_to_without a.table.now m l.p (first ∙ ne_eqb _ _ w.if-rest-eq1.false)
+      ],
       rest_more m l.p l.rest l.invariant.2,
     )
 

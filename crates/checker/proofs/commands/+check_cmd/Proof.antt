@@ -122,8 +122,9 @@ returns-in_default : (t : ℕ) → check-cmd-lts.Need-returns-in_default (check_
 returns-in_default t c =
     arm_other c.row_at-row.ensures
     (λ h. elim c.in_default.branch [
-      in_default-via-then-kind-lt1 w ↦ omega (arith, h.0, w.if-kind-lt1-1.true)
-    | in_default-via-else-kind-lt1+else-kind-lt6 w ↦ omega (arith, h.1, w.if-kind-lt6-1.false) ])
+      | in_default-via-then-kind-lt1 w ↦ omega (arith, h.0, w.if-kind-lt1-1.true)
+      | in_default-via-else-kind-lt1+else-kind-lt6 w ↦ omega (arith, h.1, w.if-kind-lt6-1.false)
+    ])
     c.not_passed-in_default.ensures
 
 pub +check_cmd_spec : {M : Type 1} → statement M

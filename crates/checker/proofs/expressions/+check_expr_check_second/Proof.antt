@@ -170,8 +170,9 @@ check_expr-returns-in_default : (t : ℕ) → check-expr-lts.Need-returns-in_def
 check_expr-returns-in_default t c =
     arm_other c.row_at-row.ensures
     (λ h. elim c.in_default.branch [
-      in_default-via-then-kind-lt6 w ↦ omega (arith, h.0, w.if-kind-lt6-1.true)
-    | in_default-via-else-kind-lt6+else-kind-lt17 w ↦ omega (arith, h.1, w.if-kind-lt17-1.false) ])
+      | in_default-via-then-kind-lt6 w ↦ omega (arith, h.0, w.if-kind-lt6-1.true)
+      | in_default-via-else-kind-lt6+else-kind-lt17 w ↦ omega (arith, h.1, w.if-kind-lt17-1.false)
+    ])
     c.no_type-in_default.ensures
 
 -- What is known of the functions that `check_second` calls.

@@ -12,4 +12,6 @@ variable_spec = tie.close (tie.spec
     (λ c. c.copy_cell.ensures ∙ ap (λ (j : ℕ). store_of c.args.work.now 0
     (load_of c.args.work.now j))
     (elim c.if-d-depth.branch [
-        then-d-depth w ↦ w.k-is | else-d-depth w ↦ w.k-is ∙ omega (arith, w.if-d-depth.false) ])))  -- returns
+      | then-d-depth w ↦ w.k-is
+      | else-d-depth w ↦ w.k-is ∙ omega (arith, w.if-d-depth.false)
+    ])))  -- returns

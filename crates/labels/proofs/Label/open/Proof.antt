@@ -34,11 +34,12 @@ open_spec = tie.close (tie.spec
     let l = c.loop-o in (
       search rules,
       elim c.if-o-n.branch [
-        then-o-n w ↦ w.writers-is
-          ∙ fill_store _ _ _ _ l.invariant.1 (omega arith) (sym (open_principal a.n a.all l.o w.if-o-n.true))
-      | else-o-n w ↦ w.writers-is
-          ∙ fill_skip _ _ _ _ l.invariant.1 (omega arith)
-            (own_at l.o (omega arith) ∙ sym (open_other a.n a.all l.o w.if-o-n.false)) ],
+        | then-o-n w ↦ w.writers-is
+            ∙ fill_store _ _ _ _ l.invariant.1 (omega arith) (sym (open_principal a.n a.all l.o w.if-o-n.true))
+        | else-o-n w ↦ w.writers-is
+            ∙ fill_skip _ _ _ _ l.invariant.1 (omega arith)
+            (own_at l.o (omega arith) ∙ sym (open_other a.n a.all l.o w.if-o-n.false))
+      ],
     ))  -- loop-o-preserved
     (λ c. label_path _ _ refl
     (fill_end _ _ _ _ c.loop-o.invariant.1 owners (omega arith) (search rules))))  -- returns

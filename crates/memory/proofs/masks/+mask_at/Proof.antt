@@ -56,16 +56,17 @@ last : (t : ℕ) (c : mask-at-lts.Joined-words-at (readings t) (mask_at_at t) ma
 last t c =
     let h = c.if-words-at.false in
     elim c.match-words-at.branch [
-      in-3 w ↦ let e = w.mask_word-last.ensures in
-        laws.last_as w.out-is w.last-is e.1.0 e.1.1
+      | in-3 w ↦ let e = w.mask_word-last.ensures in
+          laws.last_as w.out-is w.last-is e.1.0 e.1.1
           (laws.last_side _ _ _ _ _ (omega (arith, h)) to_left w.in-3.is e.0)
-    | in-4 w ↦ let e = w.mask_word-last-in-4.ensures in
-        laws.last_as w.out-is w.last-is e.1.0 e.1.1
+      | in-4 w ↦ let e = w.mask_word-last-in-4.ensures in
+          laws.last_as w.out-is w.last-is e.1.0 e.1.1
           (laws.last_side _ _ _ _ _ (omega (arith, h)) to_right w.in-4.is e.0)
-    | in-5+else-not-head w ↦ laws.last_as w.out-is w.last-is refl refl
-        (laws.last_content _ _ _ _ _ (omega (arith, h)) w.in-5.is w.mask_label-head.ensures (not-false _ w.if-not-head.false))
-    | in-6 w ↦ laws.last_as w.out-is w.last-is refl refl
-        (laws.last_second _ _ _ _ _ (omega (arith, h)) w.in-6.is w.store.ensures w.mask_at-last.ensures) ]
+      | in-5+else-not-head w ↦ laws.last_as w.out-is w.last-is refl refl
+          (laws.last_content _ _ _ _ _ (omega (arith, h)) w.in-5.is w.mask_label-head.ensures (not-false _ w.if-not-head.false))
+      | in-6 w ↦ laws.last_as w.out-is w.last-is refl refl
+          (laws.last_second _ _ _ _ _ (omega (arith, h)) w.in-6.is w.store.ensures w.mask_at-last.ensures)
+    ]
 
 pub +mask_at_spec : {M : Type 1} → statement M
 +mask_at_spec = close μ_mask_at λ t. mask-at-lts.spec (readings t) (mask_at_at t) mask-at.Post

@@ -21,9 +21,10 @@ unfolding powers_up_to
 loop-l-init c =
     let t = c.args.table.now in
     let is : c.if-there-lt-MOST_LABELS.n ≡ labels_held t =
-        elim c.if-there-lt-MOST_LABELS.branch [
-          then-there-lt-MOST_LABELS w ↦ w.n-is ∙ held_all t c.labels-there.ensures w.if-there-lt-MOST_LABELS.true
-        | else-there-lt-MOST_LABELS w ↦ w.n-is ∙ held_most t c.labels-there.ensures w.if-there-lt-MOST_LABELS.false ] in
+    elim c.if-there-lt-MOST_LABELS.branch [
+      | then-there-lt-MOST_LABELS w ↦ w.n-is ∙ held_all t c.labels-there.ensures w.if-there-lt-MOST_LABELS.true
+      | else-there-lt-MOST_LABELS w ↦ w.n-is ∙ held_most t c.labels-there.ensures w.if-there-lt-MOST_LABELS.false
+    ] in
     (search rules, omega (arith, held-few t), is, refl)
 
 loop-l-preserved : tie.Need-loop-l-preserved invariant-loop-l decreases-loop-l

@@ -1,6 +1,5 @@
 -- `sheet_text::draft::draft_of` meets its contract.
 use mathlib.Core.Path.{sym, ◌∙◌}
-use borrow.Author.Tests.{not-false}
 use Rattle.sheet_text.proofs.FoundLaws.{line-found, line_missed}
 use Rattle.sheet_text.proofs.DraftLaws.{holds_none, formed_begun}
 use Rattle.sheet_text.proofs.ReadLaws.{sheet-long, sheet_first, sheet_none}
@@ -16,7 +15,7 @@ returns-in-Line : tie.Need-returns-in-Line
 returns-in-Line c =
     let s = c.args.s.now in
     let fits =
-    sym c.fits.ensures ∙ 
+    sym c.fits.ensures ∙
     c.if-not-fits.false in
     let l = line-found s 0 _ c.line_from-next.ensures _
     c.in-Line.is in

@@ -8,6 +8,8 @@ import functools, os, re
 ROOT = os.path.dirname(os.path.dirname(os.path.abspath(__file__)))
 QUOTED = r'"(?:\\.|[^"\\])*"'
 NAME = r'[^\s(){}.,;@"]+'
+# where an operand stands in the name of an operator
+HOLE = "◌"
 # in antt a comment begins where a name could begin
 COMMENT = re.compile(rf'({QUOTED})|--(?<![^\s(){{}}.,;@"]--)[^\n]*', re.S)
 WORDS = re.compile(rf"{QUOTED}|({NAME})", re.S)
@@ -18,20 +20,25 @@ CODE = re.compile(
 )
 # what a function does is not read, but for where it ends
 BODY = re.compile(rf"(?P<comment>//[^\n]*)|(?P<quoted>{QUOTED}|{CHARACTER})|(?P<word>[^{{}}\"'/]+)|(?P<mark>.)", re.S)
-CLAUSES = ("requires", "ensures", "ghost")
+# what stands before the brace of a clause; a clause may have a name, and a star where it speaks of memory and loans
+CLAUSE = re.compile(r"(?:(?:requires|ensures)\*?(?: \w+)?|ghost(?: \w+:)?)$")
 OPENING, CLOSING = ("(", "{", "["), (")", "}", "]")
 FUNCTION = re.compile(r'(?:#\[[^\]]*\] ?)*(pub(?:\(\w+\))? )?(extern "C" )?fn (\w+)')
 ITEM = re.compile(r"(?:#\[[^\]]*\] ?)*(?:pub(?:\(\w+\))? )?(?:struct|enum|type|const) (?!fn |extern )(\w+)")
-CODE_USE = re.compile(r"(?:pub )?use ([\w:]+)::(\w+)(?: as (\w+))?;")
+CODE_USE = re.compile(r"(?:pub )?use ([\w:]+)::(?:(\w+)(?: as (\w+))?;|\{([\w: ,]*)\})")
+# what asks the check to try its tactics; any other line of a whole file could change what its clauses mean
+TACTICS = "#![tactic(auto)]"
 USE = re.compile(rf"use ([^\s{{}}]+)\.\{{((?: ?{NAME}(?: as {NAME})? ?,)*(?: ?{NAME}(?: as {NAME})?)? ?)\}}")
-VARIANTS = re.compile(rf"use (\S+\.the-variants) as ({NAME})")
+VARIANTS = re.compile(rf"use (\S+\.TheVariants) as ({NAME})")
 DECLARATION = re.compile(rf"((?:(?:unfoldable|abbrev|pub)\s+)+)(record\s+|data\s+)?({NAME})")
 # what may stand at the left margin beside declarations, their clauses and `use` items; a brace there ends a declaration
 FORMS = re.compile(r"(infix[lr]?|unfolding|module _)\s|}")
 # a comment of several lines, and a name in quotes
 HIDING = ("{-", "-}", "/*", "*/", "«", "»")
 # words that hide something, or bring something into scope that this reading doesn't see
-UNSEEN = {"open", "package", "axiom", "mutual", "ruleset", "do"}
+UNSEEN = {"open", "package", "axiom", "mutual", "ruleset", "syntax", "do"}
+# words that stand behind a mark and begin no declaration that is followed
+NO_NAMES = {"mod", "use", "module", "pattern", "open", "infix", "infixl", "infixr"}
 
 
 def cached(f):
@@ -58,8 +65,13 @@ def text(path):
 
 @functools.lru_cache(None)
 def every_file():
-    paths = (f"{folder}/{name}" for folder, _, names in os.walk(f"{ROOT}/crates") for name in names)
-    return sorted(os.path.relpath(path, ROOT) for path in paths)
+    """The files below crates/, but for what rt makes there: a crate's out/."""
+    found = []
+    for folder, folders, names in os.walk(f"{ROOT}/crates"):
+        if os.path.dirname(os.path.dirname(folder)) == ROOT and "out" in folders:
+            folders.remove("out")
+        found += [os.path.relpath(f"{folder}/{name}", ROOT) for name in names]
+    return sorted(found)
 
 
 @functools.lru_cache(None)
@@ -90,13 +102,13 @@ def fold(text):
 def words(text):
     """The names that a text of antt is made of, and the parts of an operator without all of its operands."""
     found = set(WORDS.findall(text))
-    return (found | {part for word in found if "_" in word for part in word.split("_")}) - {""}
+    return (found | {part for word in found if HOLE in word for part in word.split(HOLE)}) - {""}
 
 
 @functools.lru_cache(None)
 def pieces(name):
     """What a name is written as where it is used: itself, and the parts of an operator."""
-    return {name} | {part for part in name.split("_") if part}
+    return {name} | {part for part in name.split(HOLE) if part}
 
 
 @cached
@@ -121,11 +133,11 @@ class Item:
 
     def open(self):
         """A brace that stands in no other: of a function it opens a clause, or the body."""
-        word = self.text.split()[-1] if FUNCTION.match(self.text) else ""
-        if word in CLAUSES:
-            self.lexer, self.clause = ANTT, len(self.text.rstrip()) - len(word)
+        is_function, clause = FUNCTION.match(self.text), CLAUSE.search(self.text.rstrip())
+        if is_function and clause:
+            self.lexer, self.clause = ANTT, clause.start()
         self.add("mark", "{")
-        if word and word not in CLAUSES:
+        if is_function and not clause:
             self.lexer = BODY
 
     def is_ended(self, mark):
@@ -134,6 +146,8 @@ class Item:
             self.clauses.append(self.text[self.clause:])
             self.lexer, self.clause = CODE, -1
             return False
+        if mark == "]":
+            return self.text == TACTICS
         return mark == ";" or mark == "}" and self.lexer is not ANTT
 
 
@@ -243,13 +257,19 @@ def definitions(path):
 
 
 @functools.lru_cache(None)
+def crates():
+    """The project's crates: what stands in crates/, whatever crates.txt lists."""
+    return {path.split("/")[1] for path in every_file()}
+
+
+@functools.lru_cache(None)
 def file_of(module):
     """The file of specs/ or proofs/ that a module of the project's is, or stands in; of a type of the code, where it
     would be."""
-    m = re.fullmatch(r"Rattle·(\w+?)(?:·specs|·proofs)?\.(specs|proofs)\.([^\s{}]+)", module)
-    if not m:
+    m = re.fullmatch(r"Rattle\.(\w+)\.(specs|proofs)\.([^\s{}]+)", module)
+    if not m or m[1] not in crates():
         return ""
-    parts = m[3].removesuffix(".the-variants").split(".")
+    parts = m[3].removesuffix(".TheVariants").split(".")
     path = lambda: f"crates/{m[1]}/{m[2]}/{'/'.join(parts)}.antt"
     while len(parts) > 1 and parts[0] != "declared" and not is_file(path()):
         parts.pop()
@@ -326,10 +346,22 @@ def code_path(path, parts):
     return code_file(crate, own + parts)
 
 
+@cached
+def code_uses(path):
+    """What the `use` items of a file of the code bring: (modules, name there, name here)."""
+    found = []
+    for m in filter(None, (CODE_USE.fullmatch(item.text) for item in code(path))):
+        for name in [f"{m[2]} as {m[3] or m[2]}"] if m[2] else filter(None, map(str.strip, m[4].split(","))):
+            way, _, here = name.partition(" as ")
+            modules, _, there = f"{m[1]}::{way}".rpartition("::")
+            found.append((modules, there, here or there))
+    return found
+
+
 def code_named(text, path):
     """The types and constants, with their files, that a text of the code names, in turn."""
     found, todo = set(), [(path, p, n) for p, n in re.findall(r"((?:\w+::)*)(\w+)", text)]
-    brings = lambda f: {m[3] or m[2]: (m[1], m[2]) for i in code(f) if (m := CODE_USE.fullmatch(i.text))}
+    brings = lambda f: {here: (modules, there) for modules, there, here in code_uses(f)}
     while todo:
         path, modules, name = todo.pop()
         file = code_path(path, modules.split("::")[:-1]) if modules else path
@@ -385,7 +417,7 @@ def is_followed(item, own):
     declaration above it."""
     line, first = fold(item), re.match(NAME, item)
     if m := DECLARATION.match(item):
-        return m[3] not in ("mod", "use")
+        return m[3] not in NO_NAMES
     return USE.fullmatch(line) or VARIANTS.fullmatch(line) or FORMS.match(item) or (first and first[0] == own)
 
 
@@ -398,7 +430,7 @@ def is_hiding(item):
         return True
     if "deriving" in item and not re.search(rf"deriving {NAME} as {NAME}$", line):
         return True
-    return "Rattle·" in line and not line.startswith("use ")
+    return "Rattle" in line and "Rattle" in words(item) and not line.startswith("use ")
 
 
 def unread_antt(path):
@@ -420,6 +452,8 @@ def unread_antt(path):
 def is_code_followed(item):
     """Whether an item of the code is of a form that this reading follows."""
     line = item.text.removeprefix("ghost ").rstrip(" ;")
+    if item.text == TACTICS:
+        return True
     if item.text.startswith("ghost "):
         return USE.fullmatch(line) or VARIANTS.fullmatch(line)
     if ITEM.match(item.text):
@@ -434,7 +468,7 @@ def unread_code(path):
     for item in code(path):
         if not is_code_followed(item):
             found.append(f"`{item.text[:60]}` is of no form that is followed")
-        if any("Rattle·" in clause or UNSEEN & words(clause) for clause in item.clauses):
+        if any((UNSEEN | {"Rattle"}) & words(clause) for clause in item.clauses):
             found.append(f"`{item.text[:60]}` has a clause of no form that is followed")
     return found
 
@@ -448,7 +482,7 @@ def unfound(path):
             found.append(f"`{head}` is not the library of that name in {module}")
         place = imports(path).get(here)
         declared = definitions(place[0]).get(place[1]) if place else None
-        if head.startswith("Rattle·") and not declared:
+        if (place or module.split(".")[:1] == ["Rattle"] and set(module.split(".")[1:2]) & crates()) and not declared:
             found.append(f"{there or here} is not declared in {module}")
         elif declared and "/proofs/" in place[0] and not re.search(r" ≡ [^→]*$", fold(declared[0])):
             found.append(f"{there} is no law, and stands among proofs")

@@ -378,7 +378,8 @@ def code_named(text, path):
 @functools.lru_cache(None)
 def dependencies():
     """crate -> the crates that crates.txt lists for it."""
-    return {name: names.split() for name, names in re.findall(r"^(\w+):(.*)", text("crates.txt"), re.M)}
+    listed = re.findall(r"^(\w+)(?: [\w= ]+)?:([^#\n]*)", text("crates.txt"), re.M)
+    return {name: names.split() for name, names in listed}
 
 
 @functools.lru_cache(None)
@@ -398,18 +399,32 @@ def exported():
     return [f for crate in dependencies() for f in functions(crate) if FUNCTION.match(f[2].text)[2]]
 
 
+def repeated(exported):
+    """The function that one which C can call passes on, with its contract: that of the same name, in the crate below;
+    itself, where there is none."""
+    name = exported[0].split("::")[-1]
+    below = [f for crate in dependencies()[exported[0].split("::")[0]] for f in functions(crate)]
+    return next((f for f in below if f[0].split("::")[1:] == [name]), exported)
+
+
 def calls():
-    """The functions that others call: those that C can call, those with a contract in a program, and the public ones
-    of a crate that only programs call."""
+    """The functions that others call: those that C can call, as the crate below has them, those with a contract in a
+    program, and the public ones of a crate that only programs call."""
     programs = {c for c in dependencies() if is_file(f"crates/{c}/src/main.rt")}
     above = {c: {d for d, names in dependencies().items() if c in names and functions(d)} for c in dependencies()}
-    found = exported()
+    found = [repeated(f) for f in exported()]
     for crate in dependencies():
         for f in functions(crate):
             public = FUNCTION.match(f[2].text)[1] == "pub " and above[crate] and above[crate] <= programs
-            if f not in found and (public or (crate in programs and f[2].clauses)):
+            if f not in found + exported() and (public or (crate in programs and f[2].clauses)):
                 found.append(f)
     return found
+
+
+def head_of(item):
+    """What a function is called with and answers, without attributes and clauses, and without what C asks for."""
+    text = item.text.removesuffix("{").strip().removesuffix(" ".join(item.clauses)).strip()
+    return re.sub(r"^(?:#\[[^\]]*\] ?)*", "", text).replace('extern "C" ', "")
 
 
 def is_followed(item, own):
@@ -458,7 +473,9 @@ def is_code_followed(item):
         return USE.fullmatch(line) or VARIANTS.fullmatch(line)
     if ITEM.match(item.text):
         return not re.search(r"\bghost\b", item.text)
-    other = re.match(r"(pub )?mod \w+;|impl ", item.text) and "extern" not in item.text
+    # what an impl says of a trait could change what a value means in a clause
+    own = re.match(r"impl \w+ \{", item.text) and not re.search(r"\bghost\b", item.text)
+    other = (re.match(r"(pub )?mod \w+;", item.text) or own) and "extern" not in item.text
     return FUNCTION.match(item.text) or CODE_USE.fullmatch(item.text) or other
 
 

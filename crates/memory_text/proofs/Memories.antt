@@ -9,7 +9,7 @@ use lib.Seq.{take_at, drop_at, length-take-le}
 use borrow.Author.Tests.{le-leb}
 use Rattle.text.specs.Reading.{limit, fits}
 use Rattle.text.specs.Reading.Read.{got}
-use Rattle.text.specs.Lines.{lines_up_to, print_lines, AllGood, empty_good, and_then}
+use Rattle.text.specs.Lines.{lines_up_to, print_lines, AllGood, empty_good, more_good}
 use Rattle.logic.proofs.BooleanLaws.{cond_split}
 use Rattle.text.proofs.Readings.{not_bad, got_same}
 use Rattle.text.proofs.Lines.{lines_exact}
@@ -27,17 +27,17 @@ use Rattle.memory_text.proofs.Lines.{Row, memory-lines, length-line}
 joined_length : (rs : List (List ℕ)) → AllGood Row rs → length (all_words rs) ≡ cell_words * length rs
 unfolding all_words
 joined_length [] empty_good = refl
-joined_length (row ∷ rs) (and_then g e) = length-append row (all_words rs) ∙ omega (arith, g.0, joined_length rs e)
+joined_length (row ∷ rs) (more_good g e) = length-append row (all_words rs) ∙ omega (arith, g.0, joined_length rs e)
 
 joined_words : (rs : List (List ℕ)) → AllGood Row rs → Words (all_words rs)
 unfolding all_words Words
 joined_words [] empty_good = tt
-joined_words (row ∷ rs) (and_then g e) = words_append row (all_words rs) g.1 (joined_words rs e)
+joined_words (row ∷ rs) (more_good g e) = words_append row (all_words rs) g.1 (joined_words rs e)
 
 rows_joined : (rs : List (List ℕ)) → AllGood Row rs → rows (length rs) (all_words rs) ≡ rs
 unfolding all_words rows
 rows_joined [] empty_good = refl
-rows_joined (row ∷ rs) (and_then g e) =
+rows_joined (row ∷ rs) (more_good g e) =
     rw (take_at row (all_words rs) cell_words g.0, drop_at row (all_words rs) cell_words g.0)
     (ap (◌∷◌ row) (rows_joined rs e))
 
@@ -60,7 +60,7 @@ rows_good zero (w ∷ ws) n h = absurd (omega arith)
 rows_good (suc j) ws n h =
     let s = words_split ws h in
     let r = rows_good j (drop cell_words ws) (length-drop cell_words ws ∙ omega arith) s.1 in (
-      and_then (length-take-le cell_words ws (omega arith), s.0) r.0,
+      more_good (length-take-le cell_words ws (omega arith), s.0) r.0,
       ap (λ (l : List ℕ). take cell_words ws ++ l) r.1 ∙ take-append-drop cell_words ws,
     )
 

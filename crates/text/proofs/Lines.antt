@@ -8,7 +8,7 @@ use mathlib.Core.Option.{Option, none, some}
 use lib.ListN.{length, drop, get_or, length-append, drop_of_length-le}
 use Rattle.text.specs.Reading.{Read}
 use Rattle.text.specs.Reading.Read.{got, bad}
-use Rattle.text.specs.Lines.{front, onward, lines_up_to, all_lines, print_lines, AllGood, empty_good, and_then}
+use Rattle.text.specs.Lines.{front, onward, lines_up_to, all_lines, print_lines, AllGood, empty_good, more_good}
 use Rattle.text.specs.Lines.{LineForm}
 use Rattle.text.specs.Theorems.{LinesExact, AllLinesExact}
 use Rattle.logic.proofs.OptionLaws.{none_some, some_path}
@@ -114,14 +114,14 @@ module _ {A : Type 0} {line : List ℕ → Read A} {print : A → List ℕ → L
       let r = line-sound (b ∷ t) l u x in
       let q = lines-sound k u ms y in
       let n = q.2 in
-      rw z (r.0 ∙ ap (print l) q.0, and_then r.1 q.1, omega arith)) e
+      rw z (r.0 ∙ ap (print l) q.0, more_good r.1 q.1, omega arith)) e
 
   lines_print : (k : ℕ) (ls : List A) → AllGood Good ls → length ls ≤ k
       → lines_up_to line k (print_lines print ls) ≡ some ls
   unfolding print_lines front
   lines_print k [] empty_good h = lines_end line k
-  lines_print zero (l ∷ ls) (and_then g r) h = absurd (omega arith)
-  lines_print (suc k) (l ∷ ls) (and_then g r) h =
+  lines_print zero (l ∷ ls) (more_good g r) h = absurd (omega arith)
+  lines_print (suc k) (l ∷ ls) (more_good g r) h =
       lines_more line form.no_end k _ l (print_lines print ls) (line_print l (print_lines print ls) g)
       ∙ rw (lines_print k ls r (omega arith))
 
@@ -158,7 +158,7 @@ module _ {A : Type 0} {line : List ℕ → Read A} {print : A → List ℕ → L
   all_print : (ls : List A) → AllGood Good ls → all_lines line (print_lines print ls) ≡ some ls
   unfolding print_lines front
   all_print [] empty_good = all_none
-  all_print (l ∷ ls) (and_then g r) =
+  all_print (l ∷ ls) (more_good g r) =
       all_more (print l (print_lines print ls)) l (print_lines print ls) (line_print l (print_lines print ls) g)
       ∙ rw (all_print ls r)
 

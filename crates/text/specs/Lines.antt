@@ -33,7 +33,7 @@ print_lines print (l ∷ ls) = print l (print_lines print ls)
 -- all lines are good
 pub data AllGood {A : Type 0} (Good : A → Type 0) : List A → Type 0 where
   empty_good : AllGood Good []
-  and_then : {l : A} {ls : List A} → Good l → AllGood Good ls → AllGood Good (l ∷ ls)
+  more_good : {l : A} {ls : List A} → Good l → AllGood Good ls → AllGood Good (l ∷ ls)
 
 -- A line is read exactly where a good one stands printed, the end of the text is no line, and what follows a line is
 -- printed after it.

@@ -11,7 +11,7 @@ use borrow.Author.Tests.{ltb-true, leb-true, le-leb}
 use Rattle.text.specs.Reading.{Read, fits, limit}
 use Rattle.text.specs.Reading.Read.{got, bad}
 use Rattle.text.specs.Number.{most}
-use Rattle.text.specs.Lines.{empty_good, and_then, lines_up_to}
+use Rattle.text.specs.Lines.{empty_good, more_good, lines_up_to}
 use Rattle.logic.proofs.OptionLaws.{none_some, some_path}
 use Rattle.text.proofs.Lines.{lines_exact}
 use Rattle.language.specs.Syntax.{Expr, Cmd, Opening, Script}
@@ -52,51 +52,51 @@ module _ (k : Counts) (narrow : Narrow k) where
   fit_expr : {e : Expr} {rest : List ScriptLine} (d : ℕ) → SourceE e → d ≤ max_depth → named_e k d e ≡ true → AllFit rest
       → AllFit (expr_lines e rest)
   unfolding expr_lines named_e integer_of row_of
-  fit_expr d (s_int {n = n}) h m r = and_then {l = l_int n} (small n (2 ^ 32) m (omega arith), omega arith) r
+  fit_expr d (s_int {n = n}) h m r = more_good {l = l_int n} (small n (2 ^ 32) m (omega arith), omega arith) r
   fit_expr d (s_loc {x = n}) h m r =
-      and_then {l = l_loc n} (small n k.locations m (omega (arith, narrow.locations)), omega arith) r
-  fit_expr d (s_var {d = n}) h m r = and_then {l = l_var n} (small n d m (omega arith), omega arith) r
-  fit_expr d (s_plus s q) h n r = and_then {l = l_plus} (omega arith, omega arith)
+      more_good {l = l_loc n} (small n k.locations m (omega (arith, narrow.locations)), omega arith) r
+  fit_expr d (s_var {d = n}) h m r = more_good {l = l_var n} (small n d m (omega arith), omega arith) r
+  fit_expr d (s_plus s q) h n r = more_good {l = l_plus} (omega arith, omega arith)
       (fit_expr d s h (both_left _ _ n) (fit_expr d q h (both_right _ _ n) r))
   fit_expr d (s_left {t = x} s) h n r =
-      and_then {l = l_left x} (small x k.types (both_left _ _ n) (omega (arith, narrow.types)), omega arith)
+      more_good {l = l_left x} (small x k.types (both_left _ _ n) (omega (arith, narrow.types)), omega arith)
       (fit_expr d s h (both_right _ _ n) r)
   fit_expr d (s_right {t = x} s) h n r =
-      and_then {l = l_right x} (small x k.types (both_left _ _ n) (omega (arith, narrow.types)), omega arith)
+      more_good {l = l_right x} (small x k.types (both_left _ _ n) (omega (arith, narrow.types)), omega arith)
       (fit_expr d s h (both_right _ _ n) r)
   fit_expr d (s_pack {l = x} s) h n r =
-      and_then {l = l_pack x} (small x k.labels (both_left _ _ n) (omega (arith, narrow.labels)), omega arith)
+      more_good {l = l_pack x} (small x k.labels (both_left _ _ n) (omega (arith, narrow.labels)), omega arith)
       (fit_expr d s h (both_right _ _ n) r)
   fit_expr d (s_unpack {t = x} {l = y} s) h n r =
       let t = both_left _ _ n in
-      and_then {l = l_unpack x y} (
+      more_good {l = l_unpack x y} (
         small x k.types (both_left _ _ t) (omega (arith, narrow.types)),
         small y k.labels (both_right _ _ t) (omega (arith, narrow.labels)),
       )
       (fit_expr d s h (both_right _ _ n) r)
   fit_expr d (s_pair {t = x} s q) h n r =
       let m = both_right _ _ n in
-      and_then {l = l_pair x} (small x k.types (both_left _ _ n) (omega (arith, narrow.types)), omega arith)
+      more_good {l = l_pair x} (small x k.types (both_left _ _ n) (omega (arith, narrow.types)), omega arith)
       (fit_expr d s h (both_left _ _ m) (fit_expr d q h (both_right _ _ m) r))
-  fit_expr d (s_proj {p = p} s) h n r = and_then {l = l_proj p} (omega arith, omega arith) (fit_expr d s h n r)
+  fit_expr d (s_proj {p = p} s) h n r = more_good {l = l_proj p} (omega arith, omega arith) (fit_expr d s h n r)
 
   fit_cmd : {c : Cmd} {rest : List ScriptLine} (d : ℕ) → Source c → d ≤ max_depth → named k d c ≡ true → AllFit rest
       → AllFit (cmd_lines c rest)
   unfolding cmd_lines named row_of
-  fit_cmd d s_skip h n r = and_then {l = l_skip} (omega arith, omega arith) r
-  fit_cmd d (s_seq s q) h n r = and_then {l = l_seq} (omega arith, omega arith)
+  fit_cmd d s_skip h n r = more_good {l = l_skip} (omega arith, omega arith) r
+  fit_cmd d (s_seq s q) h n r = more_good {l = l_seq} (omega arith, omega arith)
       (fit_cmd d s h (both_left _ _ n) (fit_cmd d q h (both_right _ _ n) r))
   fit_cmd d (s_assign {x = x} s) h n r =
-      and_then {l = l_assign x}
+      more_good {l = l_assign x}
       (small x k.locations (both_left _ _ n) (omega (arith, narrow.locations)), omega arith)
       (fit_expr d s h (both_right _ _ n) r)
-  fit_cmd d (s_while s q) h n r = and_then {l = l_while} (omega arith, omega arith)
+  fit_cmd d (s_while s q) h n r = more_good {l = l_while} (omega arith, omega arith)
       (fit_expr d s h (both_left _ _ n) (fit_cmd d q h (both_right _ _ n) r))
   fit_cmd d (s_case s q p) h n r =
       let m = both_right _ _ n in
       let deep : suc d ≤ max_depth = ltb-true _ _ (both_left _ _ m) in
       let i = both_right _ _ m in
-      and_then {l = l_case} (omega arith, omega arith)
+      more_good {l = l_case} (omega arith, omega arith)
       (fit_expr d s h (both_left _ _ n)
       (fit_cmd (suc d) q deep (both_left _ _ i) (fit_cmd (suc d) p deep (both_right _ _ i) r)))
 

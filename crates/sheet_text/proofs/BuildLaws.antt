@@ -12,7 +12,7 @@ use lib.Pow.{pow_mono}
 use borrow.Author.Tests.{le-leb, ltb-true, leb-true, eqb-true}
 use Rattle.logic.specs.Booleans.{both}
 use Rattle.logic.proofs.BooleanLaws.{absurd_false, both_left, both_right, both_true, cond_split}
-use Rattle.text.specs.Lines.{empty_good, and_then}
+use Rattle.text.specs.Lines.{empty_good, more_good}
 use Rattle.logic.proofs.OptionLaws.{none_some, some_path}
 use Rattle.sets.specs.Sets.{width}
 use Rattle.labels.specs.Labels.{policy}
@@ -295,7 +295,7 @@ steps-sound (l ∷ ls) s s' fm e = at (λ s₁ h. steps-sound ls s₁ s' h) (add
     at rest (some s₁) h k =
         let t = step-sound s l s₁ fm h in
         let r = rest s₁ t.right k in
-        (r.0 ∙ t.next ls, r.1, and_then t.fits r.2)
+        (r.0 ∙ t.next ls, r.1, more_good t.fits r.2)
 
 pub build-sound : (ls : List SheetLine) (s : Sheet) → build ls ≡ some s
     → (ls ≡ sheet_lines s) × (formed s ≡ true) × AllFit ls
@@ -309,4 +309,4 @@ build-sound (l ∷ ls) s e = at (begin l) refl e
     at (some s₁) h k =
         let b = begin-sound l s₁ h in
         let r = steps-sound ls s₁ s b.right k in
-        (sym (r.0 ∙ b.next ls), r.1, and_then b.fits r.2)
+        (sym (r.0 ∙ b.next ls), r.1, more_good b.fits r.2)

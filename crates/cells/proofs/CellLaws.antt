@@ -12,7 +12,8 @@ use lib.Dec.{ltb}
 use lib.ListN.{length, take, drop, get_or, set, length-append, length-take, length-drop, length-replicate}
 use lib.ListN.{take-append-drop, drop_of_length-le, get_or-replicate, get_or-append}
 use lib.Seq.{length-take-le, drop-cons, take_at, drop_at, drop-append-le, drop-append-add, take-append-le, drop-drop}
-use lib.Seq.{take-take, take_all, paste, paste-suc, length_paste_head, get_or-take, get_or-drop, get_or_at, get_or-append-add}
+use lib.Seq.{take-take, take_all, paste, paste-suc, length_paste_head, get_or-take, get_or-drop, get_or_at}
+use lib.Seq.{get_or-append-add}
 use Rattle.language.specs.World.{cell_words}
 use Rattle.memory.specs.Words.{zeros}
 use Rattle.memory.specs.Memory.{cell_of}
@@ -195,7 +196,8 @@ pub copy_turn : (d₀ s : List ℕ) (to from i : ℕ) (d : List ℕ) → d ≡ p
     → from + i < length s
     → set d (to + i) (get_or s (from + i) 0) ≡ paste d₀ to (drop from s) (i + 1)
 copy_turn d₀ s to from i d e h l =
-    rw (add-one i, e, ← get_or-drop from s i 0) (paste-suc d₀ to (drop from s) i 0 h (omega (arith, length-drop from s)))
+    rw (add-one i, e, ← get_or-drop from s i 0)
+    (paste-suc d₀ to (drop from s) i 0 h (omega (arith, length-drop from s)))
 
 pub copy_done : (d₀ : List ℕ) (to : ℕ) (s : List ℕ) (i n : ℕ) (d : List ℕ) → d ≡ paste d₀ to s i → i ≡ n
     → d ≡ paste d₀ to s n

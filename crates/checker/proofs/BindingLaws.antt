@@ -121,6 +121,7 @@ module _ (s : List ℕ) (d i next : ℕ) where
   var_next = on (both (ltb i d) (leb d max_depth))
     where
       on : (b : Bool)
-          → (cond b (plain_typed (bound_type s (d - suc i)) (bound_label s (d - suc i)) next) (nothing next)).next ≡ next
+          → (cond b (plain_typed (bound_type s (d - suc i)) (bound_label s (d - suc i)) next) (nothing next)).next
+          ≡ next
       on true = refl
       on false = refl

@@ -24,7 +24,8 @@ use Rattle.sheet.specs.Internal.TypeTest.{is_pair}
 use Rattle.members.specs.Internal.Members.{whole_flows, confidentiality_flows}
 use Rattle.members.proofs.FlowLaws.{first_wholly, first_tells, second_tells}
 use Rattle.checks.specs.declared.Typed.{Typed}
-use Rattle.checker.specs.Internal.Numbers.{is_no, some_no, left_is_no, right_is_no, pair_is_no, part_no, given_no, type_no}
+use Rattle.checker.specs.Internal.Numbers.{is_no, some_no, left_is_no, right_is_no, pair_is_no, part_no, given_no}
+use Rattle.checker.specs.Internal.Numbers.{type_no}
 use Rattle.checker.specs.Internal.Bindings.{bound_type, bound_label, bound_types, bound_labels}
 use Rattle.checks.specs.Internal.Nodes.{is_type, nothing, int_typed, loc_typed, plus_typed, sum_typed, pack_typed}
 use Rattle.checks.specs.Internal.Nodes.{unpack_typed, pair_typed, part_typed}

@@ -9,7 +9,8 @@ use borrow.Author.Tests.{ltb-true}
 use Rattle.logic.proofs.BooleanLaws.{both_left, both_right}
 use Rattle.language.specs.Syntax.{Ty, t_err, Part, first, second, pick, Expr, Cmd}
 use Rattle.language.specs.Declarations.{nth}
-use Rattle.language.specs.Typing.{is_ty, has_ty, left_is, right_is, on_sum, pair_is, part_ty, given, type_of_value, type_of}
+use Rattle.language.specs.Typing.{is_ty, has_ty, left_is, right_is, on_sum, pair_is, part_ty, given, type_of_value}
+use Rattle.language.specs.Typing.{type_of}
 use Rattle.language.specs.Typing.{shape}
 use Rattle.script.specs.Lines.{SourceE, s_int, s_loc, s_var, s_plus, s_left, s_right, s_pack, s_unpack, s_pair, s_proj}
 use Rattle.script.specs.Lines.{Source, s_skip, s_seq, s_assign, s_while, s_case}
@@ -24,7 +25,8 @@ use Rattle.sheet.proofs.TypeLaws.{ty_0, ty_1, ty_2, ty_3, ty_4}
 use Rattle.sheet.proofs.TableLaws.{types_in_lem, type_in_lem}
 use Rattle.sheet.proofs.NumberLaws.{other, left_in_there, right_in_there, same_number-type, type_in_there, by_kind}
 use Rattle.sheet.proofs.NumberLaws.{kind_test}
-use Rattle.checker.specs.Internal.Numbers.{is_no, some_no, left_is_no, right_is_no, on_sum_no, pair_is_no, part_no, given_no}
+use Rattle.checker.specs.Internal.Numbers.{is_no, some_no, left_is_no, right_is_no, on_sum_no, pair_is_no, part_no}
+use Rattle.checker.specs.Internal.Numbers.{given_no}
 use Rattle.checker.specs.Internal.Numbers.{type_no, shape_no}
 
 module _ (s : Sheet) (fm : formed s ≡ true) (once : repeats s ≡ false) where
@@ -85,7 +87,8 @@ module _ (s : Sheet) (fm : formed s ≡ true) (once : repeats s ≡ false) where
 
   -- a part of a type that is there, is
   pick_agree : (q : Part) (n : ℕ)
-      → Agree (some (pick q (left_in T n) (right_in T n))) (some (pick q (ty_of s (left_in T n)) (ty_of s (right_in T n))))
+      → Agree (some (pick q (left_in T n) (right_in T n)))
+      (some (pick q (ty_of s (left_in T n)) (ty_of s (right_in T n))))
   unfolding pick
   pick_agree first n = each (left_in_there s fm n)
   pick_agree second n = each (right_in_there s fm n)

@@ -48,7 +48,8 @@ words_length g w = length-take-le g.count g.words (omega arith)
 
 pub given_words_lem : (m : Read (List ℕ)) (g : Option ℕ) → given_words (given_from m g) ≡ words_read m
 unfolding given_from padded
-given_words_lem m g = take_at (words_read m) (replicate (memory_words - length (words_read m)) 0) (length (words_read m)) refl
+given_words_lem m g =
+    take_at (words_read m) (replicate (memory_words - length (words_read m)) 0) (length (words_read m)) refl
 
 -- the number of a text that isn't of its form, by the code's answers
 unfoldable pub number_by : Option ℕ → Parsed → ℕ

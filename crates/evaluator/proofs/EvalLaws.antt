@@ -1,5 +1,6 @@
 -- `Evals`: a law for each kind of line.
-use Rattle.std.proofs.Common.{◌≡◌, ℕ, ◌+◌, ◌-◌, ◌<◌, ◌≤◌, true, List, length, get_or, drop, sym, refl, ap, ◌∙◌, ⊎_elim, arith, ltb-true}
+use Rattle.std.proofs.Common.{◌≡◌, ℕ, ◌+◌, ◌-◌, ◌<◌, ◌≤◌, true, List, length, get_or, drop, sym, refl, ap, ◌∙◌, ⊎_elim}
+use Rattle.std.proofs.Common.{arith, ltb-true}
 use Rattle.language.specs.Syntax.{Value, int, inl, inr, pair, Part, first, second, pick, Expr}
 use Rattle.language.specs.World.{Mem, cell_words}
 use Rattle.language.specs.Evaluation.{Res, ok, long, stuck, bind, fit, add, packed, unpacked, part_of, eval}
@@ -148,7 +149,8 @@ module _ {S : Setting} (p : Place) {v : Result} (x : Evals S (operand p) v) {C :
         → Turns (part_of q) v r → Means p C M e rest r
     unfolding eval named_e pick
     part_case first (at_first s h) n u = one_operand (part_of first) (record { source = s; names = n; lines = h }) y u
-    part_case second (at_second s h) n u = one_operand (part_of second) (record { source = s; names = n; lines = h }) y u
+    part_case second (at_second s h) n u =
+        one_operand (part_of second) (record { source = s; names = n; lines = h }) y u
 
   module _ (rest : List ScriptLine) {e : Expr} (f : Expr)
       (here : ExprAt (operand p) C.counts (expr_lines f rest) e) where
@@ -279,7 +281,8 @@ module _ {S : Setting} {p : Place} {row : Row} (r : row ≡ row_at p.code p.at) 
         eval_two z x' y (λ C M e rest held here. plus_case p x held (row_of_lem 9 r q here) here.names z n x' y)
 
     pub eval-pair_end : row.kind ≡ 14 → (v.state ≡ 0 → ⊥) → Evals S p v
-    eval-pair_end q z = eval_end z (λ C M e rest held here. pair_end_case p x held (row_of_lem 14 r q here) here.names z)
+    eval-pair_end q z =
+        eval_end z (λ C M e rest held here. pair_end_case p x held (row_of_lem 14 r q here) here.names z)
 
     pub eval-pair : {words : List ℕ} {w u : Result} → row.kind ≡ 14 → v.state ≡ 0
         → words ≡ load_of v.cells accumulator → Evals S (after p v) w

@@ -1,5 +1,7 @@
 -- One value made of another in the accumulator: a law for each way through each function.
-use Rattle.std.proofs.Common.{◌≡◌, ℕ, zero, suc, ◌+◌, ◌-◌, ◌%◌, ◌^◌, ◌<◌, ◌≤◌, Bool, true, false, cond, eqb, List, [], ◌∷◌, ◌++◌, length, get_or, take, drop, sym, refl, ap, ◌∙◌, subst, ap₂, arith, take-append-drop, get_or-take, le-leb}
+use Rattle.std.proofs.Common.{◌≡◌, ℕ, zero, suc, ◌+◌, ◌-◌, ◌%◌, ◌^◌, ◌<◌, ◌≤◌, Bool, true, false, cond, eqb, List, []}
+use Rattle.std.proofs.Common.{◌∷◌, ◌++◌, length, get_or, take, drop, sym, refl, ap, ◌∙◌, subst, ap₂, arith}
+use Rattle.std.proofs.Common.{take-append-drop, get_or-take, le-leb}
 use borrow.Author.Tests.{lt-leb}
 use Rattle.language.specs.Syntax.{Head, head_of, head_size, Value, int, err, inl, inr, pkg, pair, blank, Part, first}
 use Rattle.language.specs.Syntax.{second, pick, size, has}
@@ -43,7 +45,8 @@ pub load_here : (work : List ℕ) (v : Value) → cell_words ≤ length work →
 load_here work v h e = load_there work 0 (there work 0 (omega arith)) ∙ e
 
 -- the second word
-pub second_here : (work : List ℕ) (v : Value) → cell_of work accumulator ≡ cell v → get_or work 1 0 ≡ get_or (cell v) 1 0
+pub second_here : (work : List ℕ) (v : Value) → cell_of work accumulator ≡ cell v
+    → get_or work 1 0 ≡ get_or (cell v) 1 0
 unfolding cell_of
 second_here work v e = sym (get_or-take 16 work 1 0 (omega arith)) ∙ ap (λ (l : List ℕ). get_or l 1 0) e
 
@@ -147,7 +150,8 @@ loaded work words l = ap (λ (u : List ℕ). length u) l ∙ length_load work 0
 
 -- ---- plus
 
-add-answer : (u w : Value) (n m s state : ℕ) (words : List ℕ) → state ≡ 0 → words ≡ cell (int s) → n ≡ get_or (cell u) 1 0
+add-answer : (u w : Value) (n m s state : ℕ) (words : List ℕ) → state ≡ 0 → words ≡ cell (int s)
+    → n ≡ get_or (cell u) 1 0
     → m ≡ get_or (cell w) 1 0
     → s ≡ (n + m) % 2 ^ 32 → Yields (add u w) state words
 unfolding Yields add add_to fit fit_if size cell enc
@@ -329,7 +333,8 @@ module _ {S : Setting} (v : Result) (t l e : ℕ)
         (λ u h a. unpack-error_at W tells there u ne a)))
 
     pub unpack_done : {words cells : List ℕ} → e ≡ 0 → words ≡ load_of v.cells accumulator
-        → cells ≡ store_of v.cells accumulator (push_of 3 (pop_of (pop_of words))) → Unpacks S t l v (with_cells v cells)
+        → cells ≡ store_of v.cells accumulator (push_of 3 (pop_of (pop_of words)))
+        → Unpacks S t l v (with_cells v cells)
     unpack_done {words} ne ld s =
         let left : List ℕ = push_of 3 (pop_of (pop_of words)) in
         let n : length left ≡ 16 = length_push 3 _ (length_pop _ (length_pop words (loaded v.cells words ld))) in

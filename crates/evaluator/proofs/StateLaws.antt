@@ -1,5 +1,6 @@
 -- What the cells hold, after the accumulator, a location or a binding changes.
-use Rattle.std.proofs.Common.{◌≡◌, ℕ, zero, suc, ◌+◌, ◌-◌, ◌<◌, ◌≤◌, Bool, true, false, cond, eqb, List, ◌∷◌, length, drop, refl, ap, ◌∙◌, subst, arith, length-drop, eqb-true}
+use Rattle.std.proofs.Common.{◌≡◌, ℕ, zero, suc, ◌+◌, ◌-◌, ◌<◌, ◌≤◌, Bool, true, false, cond, eqb, List, ◌∷◌, length}
+use Rattle.std.proofs.Common.{drop, refl, ap, ◌∙◌, subst, arith, length-drop, eqb-true}
 use borrow.Author.Tests.{eqb-false}
 use Rattle.language.specs.Syntax.{Value}
 use Rattle.language.specs.World.{Mem, cell_words}

@@ -1,5 +1,7 @@
 -- The words of values: pushed onto, popped off, and counted.
-use Rattle.std.proofs.Common.{◌≡◌, ℕ, zero, suc, ◌+◌, ◌-◌, ◌<◌, ◌≤◌, List, [], ◌∷◌, ◌++◌, length, get_or, take, drop, sym, refl, ap, ◌∙◌, ap₂, append_assoc, append-nil, add-zero, suc-add, add-one, arith, length-drop, take_all, take-take, drop-drop, drop_at}
+use Rattle.std.proofs.Common.{◌≡◌, ℕ, zero, suc, ◌+◌, ◌-◌, ◌<◌, ◌≤◌, List, [], ◌∷◌, ◌++◌, length, get_or, take, drop}
+use Rattle.std.proofs.Common.{sym, refl, ap, ◌∙◌, ap₂, append_assoc, append-nil, add-zero, suc-add, add-one, arith}
+use Rattle.std.proofs.Common.{length-drop, take_all, take-take, drop-drop, drop_at}
 use lib.ListN.{length-replicate, replicate-append-replicate}
 use lib.Seq.{drop-append-le}
 use Rattle.language.specs.Syntax.{Head, head_of, head_size, Value, int, err, inl, inr, pkg, pair, blank, size}

@@ -78,7 +78,8 @@ same_rising (x ∷ xs) (y ∷ ys) r q f g =
 -- ---- the list of smallest groups
 
 module _ (reads : AccessStructure) where
-  pub from_on : (k g : ℕ) → is_smallest reads g ≡ true → smallest_from reads (suc k) g ≡ g ∷ smallest_from reads k (suc g)
+  pub from_on : (k g : ℕ) → is_smallest reads g ≡ true
+      → smallest_from reads (suc k) g ≡ g ∷ smallest_from reads k (suc g)
   unfolding smallest_from
   from_on k g e = rw e refl
 

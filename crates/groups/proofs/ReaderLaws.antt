@@ -78,7 +78,8 @@ meets_to_read Pooled n a e p f g = whole n a e p f g
 meets_to_read Alone n a e p f g = same_sets (sole_readers_of n a) g ∙ meets_sole n g a
 
 -- they are the readers of the sheet's label
-pub readers_of-label : (s : Sheet) → formed s ≡ true → (l g : ℕ) → reads_by (readers_in (table_of s) l) g ≡ reads_no s g l
+pub readers_of-label : (s : Sheet) → formed s ≡ true → (l g : ℕ)
+    → reads_by (readers_in (table_of s) l) g ≡ reads_no s g l
 unfolding reads_by readers_in
 readers_of-label s f l g =
     let z = formed_facts s f in

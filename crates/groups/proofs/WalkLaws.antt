@@ -71,7 +71,8 @@ unfolding smallest_up_to
 left_few reads end = omega (arith, length_from reads (end - 1) 1)
 
 -- where the empty group doesn't read, the walk begins at 1
-pub from_one : (reads : AccessStructure) (n : ℕ) → reads 0 ≡ false → smallest_of n reads ≡ smallest_up_to reads (2 ^ n) 1
+pub from_one : (reads : AccessStructure) (n : ℕ) → reads 0 ≡ false
+    → smallest_of n reads ≡ smallest_up_to reads (2 ^ n) 1
 unfolding smallest_of smallest_up_to
 from_one reads n f =
     let z : 2 ^ n - 0 ≡ 2 ^ n = omega arith in

@@ -230,7 +230,8 @@ pub data Side : ℕ → Bool → Type 0 where
   side_right : Side 4 false
 
 module _ {ws : List ℕ} {rest : List ScriptLine} {cells : List ℕ} where
-  chooses_side : {next b : ℕ} (v : Value) {n : ℕ} {on : Bool} → Side n on → Kind n v → cell_of cells accumulator ≡ cell v
+  chooses_side : {next b : ℕ} (v : Value) {n : ℕ} {on : Bool} → Side n on → Kind n v
+      → cell_of cells accumulator ≡ cell v
       → drop next ws ≡ code rest
       → Chooses ws rest (record { state = Done; left = b; next = next; on = on }) cells (choice_v b v)
   unfolding choice_v state_number

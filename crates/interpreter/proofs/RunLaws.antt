@@ -73,7 +73,8 @@ cell_taken ws n x h l =
 -- ---- the memory
 
 -- each location of a well-formed memory holds its value's words
-memory-cell : (s : Sheet) (memory : List ℕ) → length memory ≡ cell_words * location_count s → well_formed s memory ≡ true
+memory-cell : (s : Sheet) (memory : List ℕ) → length memory ≡ cell_words * location_count s
+    → well_formed s memory ≡ true
     → (x : ℕ) → x < location_count s
     → cell_of memory x ≡ cell (memory_of memory x)
 unfolding well_formed
@@ -161,7 +162,8 @@ module _ (authority : ℕ) {ws table : List ℕ} {budget : ℕ} (work memory : L
   run_ends : (s : Sheet) (k : Counts) (c : Cmd) → formed s ≡ true → table ≡ table_of s → k.labels ≡ label_count s
       → k.locations ≡ location_count s → Source c → named k 0 c ≡ true
       → ws ≡ code (cmd_lines c []) → length memory ≡ cell_words * location_count s → well_formed s memory ≡ true
-      → Finishes (whole_target ws (location_count s)) d cells (iterate (world_of s authority) budget (memory_of memory) c)
+      → Finishes (whole_target ws (location_count s)) d cells
+      (iterate (world_of s authority) budget (memory_of memory) c)
   run_ends s k c fm te le ke src nm w n wf =
       let held = copied_in work memory whole (location_count s) n (locations-few s fm) start e (memory_of memory)
       (memory-cell s memory n wf) in

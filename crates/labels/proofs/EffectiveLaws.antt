@@ -18,7 +18,8 @@ use Rattle.labels.proofs.PartLaws.{own_at, c_whole, i_whole, bottom_whole, c_mon
 
 -- ---- an effective label is whole and lies between bottom and top
 pub effective_intro : (n : ℕ) (a : Label)
-    → whole_of a ≡ true → below_of (bottom_of (everyone n)) a ≡ true → below_of a (top_of n) ≡ true → effective n a ≡ true
+    → whole_of a ≡ true → below_of (bottom_of (everyone n)) a ≡ true → below_of a (top_of n) ≡ true
+    → effective n a ≡ true
 unfolding effective
 effective_intro n a w b t = both_true w (both_true b t)
 
@@ -35,7 +36,8 @@ unfolding effective
 top_greatest n a h = both_right (below_of (bottom_of (everyone n)) a) _ (both_right (whole_of a) _ h)
 
 -- ---- the sets of bottom and top
-pub bottom_at : (all o : ℕ) → o < owners → (readers_of (bottom_of all) o ≡ all) × (writers_of (bottom_of all) o ≡ single o)
+pub bottom_at : (all o : ℕ) → o < owners
+    → (readers_of (bottom_of all) o ≡ all) × (writers_of (bottom_of all) o ≡ single o)
 unfolding bottom_of
 bottom_at all o l = (get_or-replicate owners o all 0 l, own_at o l)
 
@@ -96,7 +98,8 @@ effective_fits n a h o l =
       closed_in = rw (top_at n o l).0 at (below_at_lem a (top_of n) (top_greatest n a h) o l).0;
       readers_in_lem =
           rw (bottom_at (everyone n) o l).0 at (below_at_lem (bottom_of (everyone n)) a (bottom_least n a h) o l).0;
-      owner_in = rw (bottom_at (everyone n) o l).1 at (below_at_lem (bottom_of (everyone n)) a (bottom_least n a h) o l).1;
+      owner_in = rw (bottom_at (everyone n) o l).1 at
+          (below_at_lem (bottom_of (everyone n)) a (bottom_least n a h) o l).1;
       open_over = rw (top_at n o l).1 at (below_at_lem a (top_of n) (top_greatest n a h) o l).1;
     }
 
@@ -120,7 +123,8 @@ top_effective n = effective_intro n _ (top_whole n) (bottom_below_top n) (below_
 pub join_effective : (n : ℕ) (a b : Label) → effective n a ≡ true → effective n b ≡ true
     → effective n (join_of a b) ≡ true
 join_effective n a b h k =
-    effective_intro n (join_of a b) (join_whole a b) (below_trans _ a (join_of a b) (bottom_least n a h) (join_left a b))
+    effective_intro n (join_of a b) (join_whole a b)
+    (below_trans _ a (join_of a b) (bottom_least n a h) (join_left a b))
     (join_least a b (top_of n) (top_greatest n a h) (top_greatest n b k))
 
 -- C(A) ≤ A and I(A) ≤ A
@@ -134,7 +138,8 @@ pub i_below : (n : ℕ) (a : Label) → effective n a ≡ true → below_of (int
 unfolding integrity_of
 i_below n a h =
     below_intro (integrity_of (everyone n) a) a
-    (λ o l. rw (get_or-replicate owners o (everyone n) 0 l) (effective_fits n a h o l).readers_in_lem) (λ o l. within_refl _)
+    (λ o l. rw (get_or-replicate owners o (everyone n) 0 l) (effective_fits n a h o l).readers_in_lem)
+    (λ o l. within_refl _)
 
 pub c_effective : (n : ℕ) (a : Label) → effective n a ≡ true → effective n (confidentiality_of a) ≡ true
 unfolding confidentiality_of bottom_of

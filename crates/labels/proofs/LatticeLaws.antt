@@ -17,12 +17,14 @@ use Rattle.labels.proofs.ReadingLaws as reading
 use Rattle.labels.proofs.EffectiveLaws as effect
 
 -- ---- A = C(A) ⊔ I(A)
-pub parts : (n : ℕ) (a : Label) → effective n a ≡ true → a ≡ join_of (confidentiality_of a) (integrity_of (everyone n) a)
+pub parts : (n : ℕ) (a : Label) → effective n a ≡ true
+    → a ≡ join_of (confidentiality_of a) (integrity_of (everyone n) a)
 unfolding confidentiality_of integrity_of
 parts n a h =
     let all = everyone n in
     let j = join_of (confidentiality_of a) (integrity_of all a) in
-    order.below_antisym a j (effect.effective_whole n a h) (order.join_whole (confidentiality_of a) (integrity_of all a))
+    order.below_antisym a j (effect.effective_whole n a h)
+    (order.join_whole (confidentiality_of a) (integrity_of all a))
     (part.below_of_parts all a j
     (part.c_mono (confidentiality_of a) j (order.join_left (confidentiality_of a) (integrity_of all a)))
     (part.i_mono all (integrity_of all a) j (order.join_right (confidentiality_of a) (integrity_of all a))))

@@ -125,5 +125,6 @@ join_least a b c h k =
 pub join_below : (a b c : Label) → below_of (join_of a b) c ≡ both (below_of a c) (below_of b c)
 join_below a b c =
     bool_ext (below_of (join_of a b) c) (both (below_of a c) (below_of b c))
-    (λ h. both_true (below_trans a (join_of a b) c (join_left a b) h) (below_trans b (join_of a b) c (join_right a b) h))
+    (λ h. both_true (below_trans a (join_of a b) c (join_left a b) h)
+    (below_trans b (join_of a b) c (join_right a b) h))
     (λ h. join_least a b c (both_left _ _ h) (both_right _ _ h))

@@ -90,5 +90,6 @@ c_join a b =
 -- testing a join's C is testing that of each of its two labels
 pub c_join_below : (a b c : Label)
     → below_of (confidentiality_of (join_of a b)) (confidentiality_of c)
-    ≡ both (below_of (confidentiality_of a) (confidentiality_of c)) (below_of (confidentiality_of b) (confidentiality_of c))
+    ≡ both (below_of (confidentiality_of a) (confidentiality_of c))
+    (below_of (confidentiality_of b) (confidentiality_of c))
 c_join_below a b c = ap (λ (x : Label). below_of x (confidentiality_of c)) (c_join a b) ∙ join_below _ _ _

@@ -58,7 +58,8 @@ unfolding policy_of
 policy-effective n a o r w k hr hw h =
     fits_effective n (policy_of a o r w) (policy_whole a o r w (effective_whole n a h)) (λ i l. go i l (ℕ_discrete i o))
   where
-    go : (i : ℕ) → i < owners → Dec (i ≡ o) → Fits n i (readers_of (policy_of a o r w) i) (writers_of (policy_of a o r w) i)
+    go : (i : ℕ) → i < owners → Dec (i ≡ o)
+        → Fits n i (readers_of (policy_of a o r w) i) (writers_of (policy_of a o r w) i)
     go i l (yes e) =
         let (x, y) = whole_lengths a (effective_whole n a h) in
         let u = get_or-set_same a.readers o (union r (single o)) 0 (omega arith) in

@@ -85,16 +85,19 @@ alone_down n e g a b h r =
       low = k.low;
       among = k.among;
       each =
-          λ o l. within_elim (readers_of b o) (readers_of a o) (below_at_lem a b h o (lt_of_lt_of_le l e)).0 p (k.each o l);
+          λ o l. within_elim (readers_of b o) (readers_of a o) (below_at_lem a b h o (lt_of_lt_of_le l e)).0 p
+          (k.each o l);
     })
 
-alone_grow : (n : ℕ) (a : Label) (g h : ℕ) → within g h ≡ true → reads_alone_of n g a ≡ true → reads_alone_of n h a ≡ true
+alone_grow : (n : ℕ) (a : Label) (g h : ℕ) → within g h ≡ true → reads_alone_of n g a ≡ true
+    → reads_alone_of n h a ≡ true
 alone_grow n a g h w r =
     let (p, k) = alone_member n g a r in
     member_alone n h a p (record { low = k.low; among = within_elim g h w p k.among; each = k.each })
 
 alone_down_c : (n : ℕ) → n ≤ owners → (g : ℕ) (a b : Label)
-    → below_of (confidentiality_of a) (confidentiality_of b) ≡ true → reads_alone_of n g b ≡ true → reads_alone_of n g a ≡ true
+    → below_of (confidentiality_of a) (confidentiality_of b) ≡ true → reads_alone_of n g b ≡ true
+    → reads_alone_of n g a ≡ true
 unfolding reads_alone_of confidentiality_of
 alone_down_c n e g a b h r = alone_down n e g (confidentiality_of a) (confidentiality_of b) h r
 

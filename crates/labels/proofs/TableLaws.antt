@@ -173,7 +173,8 @@ module _ (t : List ℕ) (at : ℕ) (l : at + label_size ≤ length t) (o r w : �
   put-policy_past k =
       ap (label_put t at)
       (label_path (policy_of (label_at t at) o r w) (label_at t at)
-      (set_out (sets_at t at) o (union r (single o)) (omega (arith, length-tab owners (λ (i : ℕ). get_or t (at + i) 0))))
+      (set_out (sets_at t at) o (union r (single o))
+      (omega (arith, length-tab owners (λ (i : ℕ). get_or t (at + i) 0))))
       (set_out (sets_at t (at + owners)) o (union w (single o))
       (omega (arith, length-tab owners (λ (i : ℕ). get_or t (at + owners + i) 0)))))
       ∙ put_from t t at l refl refl refl

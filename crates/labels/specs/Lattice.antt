@@ -13,7 +13,8 @@ use Rattle.sets.specs.Sets.{width, member, single, everyone}
 use Rattle.labels.specs.declared.Label.{Label}
 use Rattle.labels.specs.declared.Rule.{Rule}
 use Rattle.labels.specs.Labels.{owners, Policy, label_of, policies_on, below_of, join_of, confidentiality_of}
-use Rattle.labels.specs.Labels.{integrity_of, bottom_of, top_of, reads_pooled_of, writes_of, reads_alone_of, reads_under}
+use Rattle.labels.specs.Labels.{integrity_of, bottom_of, top_of, reads_pooled_of, writes_of, reads_alone_of}
+use Rattle.labels.specs.Labels.{reads_under}
 use Rattle.labels.specs.Labels.{effective}
 
 pub record SecurityLattice (n : ℕ) : Type 0 where
@@ -80,7 +81,8 @@ DownwardClosed reads =
 -- so of every label below it in the whole order
 abbrev pub ClosedBelow : Type 0
 ClosedBelow =
-    (reads : Label → Bool) → DownwardClosed reads → (a b : Label) → below_of a b ≡ true → reads b ≡ true → reads a ≡ true
+    (reads : Label → Bool) → DownwardClosed reads → (a b : Label) → below_of a b ≡ true → reads b ≡ true
+    → reads a ≡ true
 
 -- Every group reads so, by both rules. What the view promises rests on this and on nothing else about reading
 -- (simp/ReadingRules).

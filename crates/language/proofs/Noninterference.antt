@@ -176,7 +176,8 @@ module _ {L : Type 0} (K : Conditions L) (W : World) (vis : L → Bool) (shows :
 
   module _ {Γ : List L} {ρ σ : Env} {M N : Mem} (es : EquivEnv Γ ρ σ) (ms : EquivMem Sees shows M N) where
     -- an expression whose least label is seen has equivalent values
-    pub ni_expr : (e : Expr) → flow_e K Γ e ≡ true → vis (least K Γ e) ≡ true → Agree shows (eval W ρ M e) (eval W σ N e)
+    pub ni_expr : (e : Expr) → flow_e K Γ e ≡ true → vis (least K Γ e) ≡ true
+        → Agree shows (eval W ρ M e) (eval W σ N e)
     unfolding flow_e least eval
     ni_expr (val v) f h = λ a b p q. rw (← ok_path p, ← ok_path q) (equiv_refl shows v)
     ni_expr (loc x) f h = λ a b p q. rw (← ok_path p, ← ok_path q) (ms x h)
@@ -235,7 +236,8 @@ module _ {L : Type 0} (K : Conditions L) (W : World) (vis : L → Bool) (shows :
   ni_run Γ pc es ms f (r_end p) (r_end p') = ms
   ni_run Γ pc es ms f (r_left {e = e} {a} {b} p r) (r_left p' r') =
       by_label (least K Γ e) ms (case_quiet K W vis shows O e a b pc Γ f) (r_left p r) (r_left p' r') λ t.
-      ni_run (least K Γ e ∷ Γ) (K.join pc (least K Γ e)) (env_more (λ _. un_inl _ (ni_expr es ms e (both_left _ _ f) t _ _ p p')) es) ms
+      ni_run (least K Γ e ∷ Γ) (K.join pc (least K Γ e))
+      (env_more (λ _. un_inl _ (ni_expr es ms e (both_left _ _ f) t _ _ p p')) es) ms
       (both_left _ _ (both_right _ _ f)) r r'
   ni_run Γ pc es ms f (r_left {e = e} {a} {b} p r) (r_right p' r') =
       by_label (least K Γ e) ms (case_quiet K W vis shows O e a b pc Γ f) (r_left p r) (r_right p' r') λ t.
@@ -245,7 +247,8 @@ module _ {L : Type 0} (K : Conditions L) (W : World) (vis : L → Bool) (shows :
       absurd (no_rl _ (ni_expr es ms e (both_left _ _ f) t _ _ p p'))
   ni_run Γ pc es ms f (r_right {e = e} {a} {b} p r) (r_right p' r') =
       by_label (least K Γ e) ms (case_quiet K W vis shows O e a b pc Γ f) (r_right p r) (r_right p' r') λ t.
-      ni_run (least K Γ e ∷ Γ) (K.join pc (least K Γ e)) (env_more (λ _. un_inr _ (ni_expr es ms e (both_left _ _ f) t _ _ p p')) es) ms
+      ni_run (least K Γ e ∷ Γ) (K.join pc (least K Γ e))
+      (env_more (λ _. un_inr _ (ni_expr es ms e (both_left _ _ f) t _ _ p p')) es) ms
       (both_right _ _ (both_right _ _ f)) r r'
 
   pub noninterference : Noninterference K W vis shows

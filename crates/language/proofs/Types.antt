@@ -73,7 +73,8 @@ pub right_is_true : {t : Ty} {o : Option Ty} (a b : Ty) → t ≡ t_sum a b → 
 unfolding right_is
 right_is_true a b p e = rw (p, right_is) (is_ty_true b e)
 
-pub right_is_path : (t : Ty) (o : Option Ty) → right_is t o ≡ true → (a : Ty) × (b : Ty) × (t ≡ t_sum a b) × (o ≡ some b)
+pub right_is_path : (t : Ty) (o : Option Ty) → right_is t o ≡ true
+    → (a : Ty) × (b : Ty) × (t ≡ t_sum a b) × (o ≡ some b)
 unfolding right_is
 right_is_path t_int o h = absurd (false≢true h)
 right_is_path t_err o h = absurd (false≢true h)

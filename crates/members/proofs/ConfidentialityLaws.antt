@@ -70,7 +70,8 @@ module _ (t : List ℕ) (c : Label) where
   up_to_passes m zero = both_alone _
   up_to_passes m (suc n) =
       let each = member_passes m in
-      more_passes (member n m) (join_up_to t m n) (member_in t n) ∙ ap (λ (b : Bool). both b (each n)) (up_to_passes m n)
+      more_passes (member n m) (join_up_to t m n) (member_in t n)
+      ∙ ap (λ (b : Bool). both b (each n)) (up_to_passes m n)
       ∙ sym (both_assoc BottomPasses (every n each) (each n)) ∙ ap (both BottomPasses) (sym (every_last n each))
 
   pub join_passes : (m : ℕ) → Passes c (join_in t m) ≡ both BottomPasses (every max_members (member_passes m))

@@ -65,7 +65,8 @@ module _ (t : List ℕ) where
   up_to-member m (suc n) p l h = on (dec_lt p n) (λ k. up_to-member m n p k h)
     where
       on : Dec (p < n) → (p < n → below_of (member_in t p) (join_up_to t m n) ≡ true)
-          → below_of (member_in t p) (cond (member n m) (join_of (join_up_to t m n) (member_in t n)) (join_up_to t m n)) ≡ true
+          → below_of (member_in t p) (cond (member n m) (join_of (join_up_to t m n) (member_in t n)) (join_up_to t m n))
+          ≡ true
       on (yes k) f = more_above (member n m) _ _ _ (f k)
       on (no k) f = let e : p ≡ n = omega arith in rw e (more_has (member n m) _ _ (rw (sym e) h))
 
@@ -124,7 +125,8 @@ module _ (t : List ℕ) where
   unfolding member_in
   member-label l k = rw (lt-ltb l max_labels k)
 
-  pub member_integrity : (p : ℕ) → max_labels ≤ p → member_in t p ≡ integrity_of (everyone_in t) (label_in t (p - max_labels))
+  pub member_integrity : (p : ℕ) → max_labels ≤ p
+      → member_in t p ≡ integrity_of (everyone_in t) (label_in t (p - max_labels))
   unfolding member_in
   member_integrity p k = rw (le-ltb p max_labels k)
 
@@ -217,7 +219,8 @@ module _ (t : List ℕ) (past : (l : ℕ) → max_labels ≤ l → label_in t l 
       is : member_in t (max_labels + l) ≡ integrity_of (everyone_in t) (label_in t l)
       is =
           let e : max_labels + l - max_labels ≡ l = omega arith in
-          member_integrity t (max_labels + l) (omega arith) ∙ ap (λ (k : ℕ). integrity_of (everyone_in t) (label_in t k)) e
+          member_integrity t (max_labels + l) (omega arith)
+          ∙ ap (λ (k : ℕ). integrity_of (everyone_in t) (label_in t k)) e
 
       on : Dec (l < max_labels) → join_in t (integrity_member l) ≡ integrity_of (everyone_in t) (label_in t l)
       on (yes k) = ap (join_in t) (integrity_there l k)

@@ -52,7 +52,8 @@ cells_more zero f = append-nil (f 0)
 cells_more (suc n) f =
     ap (λ (us : List ℕ). f 0 ++ us) (cells_more n (next f)) ∙ sym (append_assoc (f 0) (cells n (next f)) (f (suc n)))
 
-pub length-cell_of : (ws : List ℕ) (x : ℕ) → cell_words * x + cell_words ≤ length ws → length (cell_of ws x) ≡ cell_words
+pub length-cell_of : (ws : List ℕ) (x : ℕ) → cell_words * x + cell_words ≤ length ws
+    → length (cell_of ws x) ≡ cell_words
 unfolding cell_of
 length-cell_of ws x h =
     length-take-le cell_words (drop (cell_words * x) ws) (omega (arith, length-drop (cell_words * x) ws))

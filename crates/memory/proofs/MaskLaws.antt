@@ -107,7 +107,8 @@ module _ (shows : ℕ → Bool) (ws out : List ℕ) (to : ℕ) {left : List ℕ}
     unfolding numbered
     mask-number f k h e s d n =
         rw (here ws (at + 1) _ h refl)
-        (numeral f _ k (s ∙ ap (λ (l : List ℕ). set l (to + 1) (get_or ws (at + 1) 0)) e) (ap (λ (j : ℕ). drop j ws) d) n)
+        (numeral f _ k (s ∙ ap (λ (l : List ℕ). set l (to + 1) (get_or ws (at + 1) 0)) e)
+        (ap (λ (j : ℕ). drop j ws) d) n)
 
     pub mask_no_number : (f : ℕ → Value) → length ws ≤ at → left ≡ set out to 0 → next ≡ at → end ≡ to + 1
         → Masks shows ws (numbered f (drop at ws)) out to left next end
@@ -143,7 +144,8 @@ module _ (shows : ℕ → Bool) (ws out : List ℕ) (to : ℕ) {left : List ℕ}
 
     pub opens_hidden : {mid mid' : List ℕ} {labels : ℕ} {ok : Bool} → at + head_size ≤ length ws
         → shows (get_or ws at 0) ≡ false → mid ≡ set out to 5
-        → mid' ≡ set mid (to + 1) (get_or ws at 0) → left ≡ set mid' (to + 1 + head_size) 0 → end ≡ to + 1 + head_size + 1
+        → mid' ≡ set mid (to + 1) (get_or ws at 0) → left ≡ set mid' (to + 1 + head_size) 0
+        → end ≡ to + 1 + head_size + 1
         → Walks labels ws (at + head_size) (read_of (drop (at + head_size) ws)) ok next
         → Opens shows ws at out to false left next end
     unfolding head_words head_at

@@ -52,7 +52,8 @@ module _ (ws : List ℕ) (x : ℕ) where
 module _ (n labels : ℕ) (test : ℕ → Value → Bool) (ws : List ℕ) (whole : length ws ≡ cell_words * n)
     (f : formed_by n labels test ws ≡ true) where
   pub value_exact : (x : ℕ) → x < n
-      → (proper labels (memory_of ws x) ≡ true) × (test x (memory_of ws x) ≡ true) × (cell (memory_of ws x) ≡ cell_of ws x)
+      → (proper labels (memory_of ws x) ≡ true) × (test x (memory_of ws x) ≡ true)
+      × (cell (memory_of ws x) ≡ cell_of ws x)
   unfolding formed_by
   value_exact x l =
       rw (value_there ws x (omega arith)) (exact_parts labels (test x) (cell_of ws x) _ (every_at n _ f x l))
@@ -80,7 +81,8 @@ module _ (n labels : ℕ) (test : ℕ → Value → Bool) (ws : List ℕ) (whole
   -- the words are those of the values
   pub words_back : words_of n (memory_of ws) ≡ ws
   unfolding words_of
-  words_back = cells_ext n (λ (x : ℕ). cell (memory_of ws x)) (λ (x : ℕ). cell_of ws x) value_words ∙ cells_all n ws whole
+  words_back = cells_ext n (λ (x : ℕ). cell (memory_of ws x)) (λ (x : ℕ). cell_of ws x) value_words
+      ∙ cells_all n ws whole
 
 -- ---- the words of values
 

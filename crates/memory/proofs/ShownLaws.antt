@@ -59,7 +59,8 @@ module _ (t ws : List ℕ) where
     view_more g x d us vs c e l k p =
         stored_more (Shown g) x d us vs c (λ y m. shown_cellwise g _ y m) e (shown_is g x l k) p
 
-  pub view_all : (g : ℕ) (d us : List ℕ) (n : ℕ) → us ≡ cells n (Shown g) ++ drop (cell_words * n) d → n ≡ locations_in t
+  pub view_all : (g : ℕ) (d us : List ℕ) (n : ℕ) → us ≡ cells n (Shown g) ++ drop (cell_words * n) d
+      → n ≡ locations_in t
       → length d ≡ cell_words * locations_in t
       → us ≡ view_in t g ws
   unfolding view_in view_by

@@ -49,7 +49,8 @@ module _ (t ws : List ℕ) (ty : ℕ) where
       type-numeral num_err e = told (at_numeral ws at h num_err e)
           (after_one (λ us. (numbered err us).0) (eqb ty 1) refl (λ n us. refl) (at + 1))
 
-      pub type-pkg : get_or ws at 0 ≡ 5 → both (ltb (at + 1) (length ws)) (eqb ty 2) ≡ has_no t (value_of (drop at ws)) ty
+      pub type-pkg : get_or ws at 0 ≡ 5
+          → both (ltb (at + 1) (length ws)) (eqb ty 2) ≡ has_no t (value_of (drop at ws)) ty
       unfolding has_no wrap
       type-pkg e =
           told (at_package ws at h e)

@@ -237,6 +237,7 @@ exact labels (r_pair {g = g} r k) p =
     ap (λ (us : List ℕ). 6 ∷ us)
     (ap (enc g.0) (exact labels k (both_right _ _ p)) ∙ exact labels r (both_left _ _ p))
 
-pub read_exact : (labels : ℕ) (ws : List ℕ) → proper labels (value_of ws) ≡ true → enc (read_of ws).0 (read_of ws).1 ≡ ws
+pub read_exact : (labels : ℕ) (ws : List ℕ) → proper labels (value_of ws) ≡ true
+    → enc (read_of ws).0 (read_of ws).1 ≡ ws
 unfolding read_of
 read_exact labels ws p = exact labels (reads (length ws) ws) p

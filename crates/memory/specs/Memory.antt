@@ -1,5 +1,6 @@
 -- A memory: 16 words for each location (the scope, "The three texts", Memory; pairs, request (f); refusals 7 and 8).
-use Rattle.std.specs.Prelude.{Bool, true, false, cond, List, [], ◌∷◌, ◌++◌, ℕ, zero, suc, ◌*◌, eqb, leb, ltb, length, take, drop}
+use Rattle.std.specs.Prelude.{Bool, true, false, cond, List, [], ◌∷◌, ◌++◌, ℕ, zero, suc, ◌*◌, eqb, leb, ltb, length}
+use Rattle.std.specs.Prelude.{take, drop}
 use Rattle.logic.specs.Booleans.{both}
 use Rattle.sets.specs.Sets.{every}
 use Rattle.language.specs.Syntax.{Head, Value, int, err, inl, inr, pkg, pair, blank, has}

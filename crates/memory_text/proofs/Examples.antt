@@ -42,6 +42,7 @@ read_examples :
     × (memory (replicate (max_locations + 1) 10) ≡ bad)
     × (memory (49 ∷ 9 ∷ 49 ∷ 9 ∷ 49 ∷ 9 ∷ 49 ∷ 9 ∷ 49 ∷ 9 ∷ 49 ∷ 9 ∷ 49 ∷ 9 ∷ 49 ∷ 9 ∷ 49 ∷ 9 ∷ 49 ∷ 9 ∷ 49 ∷ 9 ∷ 49 ∷
     9 ∷ 49 ∷ 9 ∷ 49 ∷ 9 ∷ 49 ∷ 9 ∷ 49 ∷ 9 ∷ 49 ∷ 10 ∷ []) ≡ bad)
-unfolding view view_text memory locations words_of_rows all_words front onward lines_up_to location blank_or filled_line words
+unfolding view view_text memory locations words_of_rows all_words front onward lines_up_to location blank_or filled_line
+    words
     following padded and_then byte fits number digits digit opens_digit both
 read_examples = (refl, refl, refl, refl, refl, refl, refl, refl, refl, refl, refl)

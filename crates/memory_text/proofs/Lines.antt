@@ -166,7 +166,8 @@ module _ (t : List ℕ) where
 
 pub location_none : location [] ≡ bad
 unfolding filled_line
-location_none = location_words_lem [] (byte_none 10) ∙ and_then-bad _ _ (words_bad 15 [] (number_none most [] opens_none))
+location_none =
+    location_words_lem [] (byte_none 10) ∙ and_then-bad _ _ (words_bad 15 [] (number_none most [] opens_none))
 
 -- an empty line, and a line of words that is not empty
 line-blank : (u : List ℕ) → line_end (line [] u) ≡ got tt u

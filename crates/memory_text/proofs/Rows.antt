@@ -73,7 +73,8 @@ module _ (i : ℕ) (array t : List ℕ) (h : i < cell_words) where
     module _ (l : q < length s) where
       pub left-zero : get_or s q 0 ≡ 10 → v ≡ 0 → left i array t ≡ bad
       left-zero b z =
-          left_on ∙ and_then-bad _ _ (rw (drop-step s q l) (lines.following-zero v _ (get_or s q 0) (drop (q + 1) s) b z))
+          left_on ∙ and_then-bad _ _
+          (rw (drop-step s q l) (lines.following-zero v _ (get_or s q 0) (drop (q + 1) s) b z))
 
       pub left-last : get_or s q 0 ≡ 10 → (v ≡ 0 → ⊥) → left i array t ≡ got (set array i v) (drop (q + 1) s)
       left-last b z =
@@ -90,7 +91,8 @@ module _ (i : ℕ) (array t : List ℕ) (h : i < cell_words) where
 
       pub left_other : (get_or s q 0 ≡ 10 → ⊥) → (get_or s q 0 ≡ 9 → ⊥) → left i array t ≡ bad
       left_other b c =
-          left_on ∙ and_then-bad _ _ (rw (drop-step s q l) (lines.following_other v _ (get_or s q 0) (drop (q + 1) s) b c))
+          left_on ∙ and_then-bad _ _
+          (rw (drop-step s q l) (lines.following_other v _ (get_or s q 0) (drop (q + 1) s) b c))
 
 -- a row stored word by word: what is still to be stored from i on
 pub store_more : (l : List ℕ) (at i : ℕ) (row : List ℕ) → i < length row

@@ -23,7 +23,8 @@ use Rattle.logic.specs.Booleans.{both}
 -- the last of n words from `from` on is kept where it is not zero, and dropped where it is
 module _ (ws : List ℕ) (from n : ℕ) (h : from + n < length ws) where
   take_last : take (n + 1) (drop from ws) ≡ take n (drop from ws) ++ get_or ws (from + n) 0 ∷ []
-  take_last = rw (add-one n, ← get_or-drop from ws n 0) (take-suc (drop from ws) n 0 (omega (arith, length-drop from ws)))
+  take_last = rw (add-one n, ← get_or-drop from ws n 0)
+      (take-suc (drop from ws) n 0 (omega (arith, length-drop from ws)))
 
   pub trim_kept : (get_or ws (from + n) 0 ≡ 0 → ⊥) → trim (take (n + 1) (drop from ws)) ≡ take (n + 1) (drop from ws)
   trim_kept z = rw take_last (trim_last (take n (drop from ws)) (get_or ws (from + n) 0) z)
@@ -122,7 +123,8 @@ field_goes whole ws to i out at now p now₁ q now₂ r g eq e₁ er e₂ n h l 
     let f : q + length (decimal (get_or ws i 0)) ≤ length now₁ = omega arith in
     let r' : r ≡ q + length (decimal (get_or ws i 0)) = er ∙ reached_fits now₁ q (decimal (get_or ws i 0)) f in
     let tab = goes_put whole (fields_from ws to i) out at now p g
-    (λ t. decimal (get_or ws i 0) ++ fields_from ws to (i + 1) t) (9 ∷ []) now₁ q (fields_more ws to i h l) (omega arith)
+    (λ t. decimal (get_or ws i 0) ++ fields_from ws to (i + 1) t) (9 ∷ []) now₁ q (fields_more ws to i h l)
+    (omega arith)
     eq e₁ in (
       goes_put whole (λ t. decimal (get_or ws i 0) ++ fields_from ws to (i + 1) t) out at now₁ q tab
           (fields_from ws to (i + 1)) (decimal (get_or ws i 0)) now₂ r (λ t. refl) f er e₂,
@@ -161,7 +163,8 @@ line_more ws from n u z h t =
     let m : n ≡ from + n - (from + 1) + 1 = omega arith in
     let k : trim (take cell_words (drop from ws)) ≡ get_or ws from 0 ∷ take (from + n - (from + 1)) (drop (from + 1) ws)
     = u.kept ∙ ap (λ (j : ℕ). take j (drop from ws)) m ∙ take_step ws from (from + n - (from + 1)) (omega arith) in
-    ap (λ (l : List ℕ). line l t) k ∙ line_first (get_or ws from 0) (take (from + n - (from + 1)) (drop (from + 1) ws)) t
+    ap (λ (l : List ℕ). line l t) k
+    ∙ line_first (get_or ws from 0) (take (from + n - (from + 1)) (drop (from + 1) ws)) t
 
 pub line_puts : (ws : List ℕ) (from n : ℕ) (out : List ℕ) (at : ℕ) (o₁ : List ℕ) (p : ℕ) (o₂ : List ℕ) (q : ℕ)
     (o₃ : List ℕ) (r : ℕ)
@@ -184,7 +187,8 @@ line_puts ws from n out at o₁ p o₂ q o₃ r u z ep e₁ f er e₃ l h m room
     (λ t. 10 ∷ t) (fields_from ws (from + n) (from + 1)) _ o₂ q
     (λ t. refl) f in
     goes_done (line_at ws from) line_room out at o₃ r
-    (goes_put (line_at ws from) (λ t. 10 ∷ t) out at o₂ q second (λ t. t) (10 ∷ []) o₃ r (λ t. refl) (omega arith) er e₃)
+    (goes_put (line_at ws from) (λ t. 10 ∷ t) out at o₂ q second (λ t. t) (10 ∷ []) o₃ r (λ t. refl)
+    (omega arith) er e₃)
     (omega arith)
 
 -- the lines from the n-th location on

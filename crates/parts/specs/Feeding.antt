@@ -1,5 +1,6 @@
 -- Input of any length, taken byte by byte: a state, and a buffer with 16,385 places for each text.
-use Rattle.std.specs.Prelude.{ℕ, ◌+◌, ◌*◌, Bool, true, cond, List, [], ◌∷◌, take, drop, get_or, set, replicate, eqb, ltb}
+use Rattle.std.specs.Prelude.{ℕ, ◌+◌, ◌*◌, Bool, true, cond, List, [], ◌∷◌, take, drop, get_or, set, replicate, eqb}
+use Rattle.std.specs.Prelude.{ltb}
 use Rattle.parts.specs.declared.State.{State}
 use Rattle.parts.specs.Parts.{parting, keep}
 use Rattle.logic.specs.Booleans.{both}

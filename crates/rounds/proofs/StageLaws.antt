@@ -14,7 +14,8 @@ use Rattle.memory.specs.Internal.InTable.{refusal_in}
 use Rattle.stages.specs.Answers.{Ran}
 use Rattle.stages.specs.Calls.{on_sheet, unless, strangers, number_of, run_of}
 use Rattle.stages.specs.Internal.Stages.{TableOf, strangers_in}
-use Rattle.stages.proofs.StageLaws.{accepted-verdict, refusal_in_lem, stops, goes, strangers_by, strangers_in_lem, stops_3}
+use Rattle.stages.proofs.StageLaws.{accepted-verdict, refusal_in_lem, stops, goes, strangers_by, strangers_in_lem}
+use Rattle.stages.proofs.StageLaws.{stops_3}
 use Rattle.stages.proofs.StageLaws.{unless_3, not_3}
 use Rattle.scripts.specs.Parting.{script_texts, most_scripts}
 use Rattle.rounds.specs.Answers.{RanRound, refused_round, Gate, all_open}
@@ -162,7 +163,8 @@ module _ (gate : Gate) (sheet : List ℕ) (s : Sheet) (e : sheet_of sheet ≡ ac
   turn_on_lem i script memory = rw e refl
 
   each_on : (i : ℕ) (memory : List ℕ) (ts : List (List ℕ))
-      → run_each (turn_of gate sheet authority budget) i memory ts ≡ run_each (turn_on gate s authority budget) i memory ts
+      → run_each (turn_of gate sheet authority budget) i memory ts
+      ≡ run_each (turn_on gate s authority budget) i memory ts
   unfolding run_each
   each_on i memory [] = refl
   each_on i memory (t ∷ ts) =
@@ -175,7 +177,8 @@ module _ (gate : Gate) (sheet : List ℕ) (s : Sheet) (e : sheet_of sheet ≡ ac
   played_on_lem ts memory = rw (each_on 0 memory ts) refl
 
 module _ (sheet : List ℕ) (s : Sheet) (e : sheet_of sheet ≡ accepted s) (authority budget : ℕ) where
-  pub round_of_lem : (scripts t memory : List ℕ) (r : RanRound) → RoundsOn scripts t memory authority budget r → TableOf t s
+  pub round_of_lem : (scripts t memory : List ℕ) (r : RanRound) → RoundsOn scripts t memory authority budget r
+      → TableOf t s
       → r
       ≡ unless (refused_round memory) (strangers s authority)
       (unless (refused_round memory) (too_many (script_texts scripts)) (

@@ -27,7 +27,8 @@ pub struct Round {
 
 // A refused round has zeros in every place.
 pub fn refused(answer: u8) -> Round
-    ensures { result ≡ record { answer = answer; answers = replicate most_scripts 0; steps = replicate most_scripts 0 } }
+    ensures { result
+        ≡ record { answer = answer; answers = replicate most_scripts 0; steps = replicate most_scripts 0 } }
 {
     Round {
         answer,

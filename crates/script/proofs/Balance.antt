@@ -40,7 +40,8 @@ expr_closes (pairing t a b) n rest =
     after n 2 (suc (suc n)) (expr_lines a (expr_lines b rest)) (omega arith)
     (expr_closes a (suc n) (expr_lines b rest) ∙ expr_closes b n rest)
 expr_closes (proj p a) n rest =
-    after n (line_operands (l_proj p)) (suc n) (expr_lines a rest) (omega (arith, proj_operands p)) (expr_closes a n rest)
+    after n (line_operands (l_proj p)) (suc n) (expr_lines a rest) (omega (arith, proj_operands p))
+    (expr_closes a n rest)
 
 pub cmd_closes : (c : Cmd) (n : ℕ) (rest : List ScriptLine) → closes (suc n) (cmd_lines c rest) ≡ closes n rest
 unfolding cmd_lines closes operand_count row_of

@@ -28,4 +28,10 @@ cmd_nesting_lem (seq a b) rest = omega (arith, cmd_nesting_lem a (cmd_lines b re
 cmd_nesting_lem (assign x e) rest = omega (arith, expr_nesting_lem e rest)
 cmd_nesting_lem (while e c) rest = omega (arith, expr_nesting_lem e (cmd_lines c rest), cmd_nesting_lem c rest)
 cmd_nesting_lem (case e a b) rest =
-    omega (arith, expr_nesting_lem e (cmd_lines a (cmd_lines b rest)), cmd_nesting_lem a (cmd_lines b rest), cmd_nesting_lem b rest)
+    omega (
+      arith,
+      expr_nesting_lem e (cmd_lines a (cmd_lines b rest)),
+      cmd_nesting_lem a
+          (cmd_lines b rest),
+      cmd_nesting_lem b rest,
+    )

@@ -86,7 +86,8 @@ module _ (ws : List ℕ) (at : ℕ) where
   row_read P x k a b more h p =
       let n : at + 3 ≤ length ws = omega (arith, length-drop at ws, ap length h) in
       let e0 : get_or ws at 0 ≡ k =
-      ap (λ (i : ℕ). get_or ws i 0) (sym (add-zero at)) ∙ sym (get_or-drop at ws 0 0) ∙ ap (λ (l : List ℕ). get_or l 0 0) h in
+      ap (λ (i : ℕ). get_or ws i 0) (sym (add-zero at)) ∙ sym (get_or-drop at ws 0 0)
+      ∙ ap (λ (l : List ℕ). get_or l 0 0) h in
       let e1 : get_or ws (at + 1) 0 ≡ a = sym (get_or-drop at ws 1 0) ∙ ap (λ (l : List ℕ). get_or l 1 0) h in
       let e2 : get_or ws (at + 2) 0 ≡ b = sym (get_or-drop at ws 2 0) ∙ ap (λ (l : List ℕ). get_or l 2 0) h in
       rw (row_there ws at n, e0, e1, e2) (p (sym (drop-drop 3 at ws) ∙ ap (λ (l : List ℕ). drop 3 l) h))

@@ -22,7 +22,8 @@ use Rattle.script_text.specs.Script.{named_only, command_of, script_with, script
 unfoldable reading_used : Unit {0}
 unfolding and_then byte fits digit digits opens_digit number both named named_e named_start start_lines number_field
     last_number form_of operands_of line_of front onward
-    lines_up_to start_read opening_of written_with lines_after written_of pop_e pop_c on_stack push_on stack_of only_command parse
+    lines_up_to start_read opening_of written_with lines_after written_of pop_e pop_c on_stack push_on stack_of
+    only_command parse
     named_only command_of script_with script_read
     script_of
 reading_used = tt

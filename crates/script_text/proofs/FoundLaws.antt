@@ -44,7 +44,8 @@ found-bad s want e = placed_bad (λ l p. found.At (row_of l).kind (row_of l).a (
 
 module _ (s : List ℕ) (i k : ℕ) where
   pub bare-got : (l : ScriptLine) (r : Place) (p : ℕ) → r ≡ placed_end s (line_end (drop i s)) → r ≡ place.At p
-      → row_of l ≡ record { kind = k; a = 0; b = 0 } → found.At k 0 0 p ≡ placed_line s (operands_of (bare l) (drop i s))
+      → row_of l ≡ record { kind = k; a = 0; b = 0 }
+      → found.At k 0 0 p ≡ placed_line s (operands_of (bare l) (drop i s))
   unfolding operands_of
   bare-got l r p e g q =
       let x = byte_at s i 10 r e p g in
@@ -125,7 +126,8 @@ module _ (s : List ℕ) (i : ℕ) where
   unfolding line_of
   line_none h = found-bad s _ (rw (drop_of_length-le s h))
 
-  line-form : (f : Form) → i < length s → form_of (get_or s i 0) ≡ f → line_of (drop i s) ≡ operands_of f (drop (i + 1) s)
+  line-form : (f : Form) → i < length s → form_of (get_or s i 0) ≡ f
+      → line_of (drop i s) ≡ operands_of f (drop (i + 1) s)
   unfolding line_of
   line-form f h e = rw (drop-step s i h, e)
 

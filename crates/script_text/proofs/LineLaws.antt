@@ -87,7 +87,8 @@ module _ (l : ScriptLine) (t u : List ℕ) (P : Type 0) where
       g a (n.0 ∙ ap (λ v. print_number_field a (print_line_end v)) s.1) n.1 s.0) e
 
   two_sound : (f : ℕ → ℕ → ScriptLine) → operands_of (two f) t ≡ got l u
-      → ((a b : ℕ) → t ≡ print_number_field a (print_number_field b (print_line_end u)) → a ≤ most → b ≤ most → f a b ≡ l → P)
+      → ((a b : ℕ) → t ≡ print_number_field a (print_number_field b (print_line_end u)) → a ≤ most → b ≤ most
+      → f a b ≡ l → P)
       → P
   unfolding operands_of
   two_sound f e g =

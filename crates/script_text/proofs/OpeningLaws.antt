@@ -26,7 +26,8 @@ use Rattle.script.specs.Lines.{ScriptLine, cmd_lines, start_lines, opening_lines
 use Rattle.script.specs.Names.{max_lines}
 use Rattle.sheet.specs.Internal.Starts.{start_no}
 use Rattle.script_text.specs.Bytes.{line_bytes, lines_bytes, start_bytes, opening_bytes}
-use Rattle.script_text.specs.Reading.{line_of, last_label, start_read, opening_of, written_with, lines_after, written_of}
+use Rattle.script_text.specs.Reading.{line_of, last_label, start_read, opening_of, written_with, lines_after}
+use Rattle.script_text.specs.Reading.{written_of}
 use Rattle.script_text.specs.Internal.Decoded.{no_code, coded_lines, coded_text}
 use Rattle.script_text.specs.Internal.Placed.{placed_opening}
 use Rattle.script_text.specs.declared.Opened.{Opened}

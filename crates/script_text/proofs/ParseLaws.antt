@@ -43,7 +43,8 @@ module _ (l : ScriptLine) (t : Tree) where
   push_3 x y z none h = refl
   push_3 x y z (some st) h = h st
 
-stack_expr : {e : Expr} (rest : List ScriptLine) → SourceE e → stack_of (expr_lines e rest) ≡ topped (ex e) (stack_of rest)
+stack_expr : {e : Expr} (rest : List ScriptLine) → SourceE e
+    → stack_of (expr_lines e rest) ≡ topped (ex e) (stack_of rest)
 unfolding stack_of expr_lines on_stack pop_e integer_of
 stack_expr rest s_int = push_0 _ _ _ (λ st. refl)
 stack_expr rest s_loc = push_0 _ _ _ (λ st. refl)

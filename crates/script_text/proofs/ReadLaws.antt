@@ -122,7 +122,8 @@ start_tested k none h = refl
 start_tested k (some l) h = rw (ne_eqb l max_labels (λ e. omega arith))
 
 -- there is a script where there is a command and its start is there
-some_with : (k : Counts) (o : Opening) (c : Option Cmd) → both (is_some c) (named_opening k o) ≡ is_some (script_with k o c)
+some_with : (k : Counts) (o : Opening) (c : Option Cmd)
+    → both (is_some c) (named_opening k o) ≡ is_some (script_with k o c)
 unfolding script_with is_some both
 some_with k o none = refl
 some_with k o (some c) = cases (named_opening k o) (λ n. rw n) (λ n. rw n)
@@ -136,7 +137,8 @@ module _ (k : Counts) (t : List ℕ) (s : Decoded) (e : s ≡ coded_text (writte
   tested = go (written_of t) refl e
     where
       go : (o : Option Written) → written_of t ≡ o → s ≡ coded_text o → both b d ≡ is_some (script_read k o)
-      go none y x = unfold code command_of named_only parse only_command stack_of is_some both in rw (w [] (q ∙ rw x)) refl
+      go none y x =
+          unfold code command_of named_only parse only_command stack_of is_some both in rw (w [] (q ∙ rw x)) refl
       go (some r) y x =
           let m : d ≡ named_opening k r.opening =
           i ∙ ap (λ (z : Decoded). either (eqb z.start max_labels) (ltb z.start k.labels)) x

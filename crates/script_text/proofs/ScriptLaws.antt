@@ -49,7 +49,8 @@ small : (x n : ℕ) → ltb x n ≡ true → n ≤ most + 1 → x ≤ most
 small x n h l = omega (arith, ltb-true x n h)
 
 module _ (k : Counts) (narrow : Narrow k) where
-  fit_expr : {e : Expr} {rest : List ScriptLine} (d : ℕ) → SourceE e → d ≤ max_depth → named_e k d e ≡ true → AllFit rest
+  fit_expr : {e : Expr} {rest : List ScriptLine} (d : ℕ) → SourceE e → d ≤ max_depth → named_e k d e ≡ true
+      → AllFit rest
       → AllFit (expr_lines e rest)
   unfolding expr_lines named_e integer_of row_of
   fit_expr d (s_int {n = n}) h m r = more_good {l = l_int n} (small n (2 ^ 32) m (omega arith), omega arith) r
@@ -175,7 +176,8 @@ written-sound t w e =
 written_print : (o : Opening) → Low o.start → (c : Cmd) → AllFit (cmd_lines c [])
     → opening_lines o + length (cmd_lines c []) ≤ max_lines
     → length (opening_bytes o (lines_bytes (cmd_lines c []))) ≤ limit
-    → written_of (opening_bytes o (lines_bytes (cmd_lines c []))) ≡ some (record { opening = o; lines = cmd_lines c [] })
+    → written_of (opening_bytes o (lines_bytes (cmd_lines c [])))
+    ≡ some (record { opening = o; lines = cmd_lines c [] })
 unfolding written_of lines_after written_with fits
 written_print o w c f h l =
     rw (

@@ -117,7 +117,8 @@ module _ {text : List ℕ} {n at end : ℕ} (s : StartsAt text n at) (p : TextAt
     ends = drop_more (sym its_ends ∙ s.ends);
   }
     where
-      drop_more : end ∷ ends_from (end + 1) (script_texts_after text (end + 1)) ≡ drop n (ends_from 0 (script_texts text))
+      drop_more : end ∷ ends_from (end + 1) (script_texts_after text (end + 1))
+          ≡ drop n (ends_from 0 (script_texts text))
           → ends_from (end + 1) (script_texts_after text (end + 1)) ≡ drop (n + 1) (ends_from 0 (script_texts text))
       drop_more h = ap (drop 1) h ∙ drop-drop 1 n (ends_from 0 (script_texts text))
 
@@ -137,7 +138,8 @@ module _ (text : List ℕ) (n at : ℕ) (s : StartsAt text n at) (few : length (
   ends_length k [] = refl
   ends_length k (p ∷ ps) = ap suc (ends_length (k + length p + 1) ps)
 
-  kept_all : kept_ends text ≡ ends_from 0 (script_texts text) ++ drop (length (script_texts text)) (replicate most_scripts 0)
+  kept_all : kept_ends text
+      ≡ ends_from 0 (script_texts text) ++ drop (length (script_texts text)) (replicate most_scripts 0)
   unfolding kept_ends
   kept_all =
       let k = ends_length 0 (script_texts text) in
@@ -150,7 +152,8 @@ module _ (text : List ℕ) (n at : ℕ) (s : StartsAt text n at) (few : length (
       let p = text_at text at (script_end text at) l refl in
       let z : n + 0 ≡ n = omega arith in
       rw kept_all
-      (get_or-append (ends_from 0 (script_texts text)) (drop (length (script_texts text)) (replicate most_scripts 0)) 0 n
+      (get_or-append (ends_from 0 (script_texts text))
+      (drop (length (script_texts text)) (replicate most_scripts 0)) 0 n
       (omega (arith, ends_length 0 (script_texts text), has_place s p))
       ∙ ap (λ (k : ℕ). get_or (ends_from 0 (script_texts text)) k 0) (sym z)
       ∙ sym (get_or-drop n (ends_from 0 (script_texts text)) 0 0)
@@ -161,11 +164,13 @@ module _ (text : List ℕ) (n at : ℕ) (s : StartsAt text n at) (l : length tex
   pub none_left : script_texts_after text at ≡ []
   none_left = texts_past text at l
 
-  all_kept : (es : List ℕ) → sets es n (ends_from at (script_texts_after text at)) ≡ kept_ends text → es ≡ kept_ends text
+  all_kept : (es : List ℕ) → sets es n (ends_from at (script_texts_after text at)) ≡ kept_ends text
+      → es ≡ kept_ends text
   unfolding ends_from
   all_kept es h = sym (ap (λ (ps : List (List ℕ)). sets es n (ends_from at ps)) (texts_past text at l)) ∙ h
 
-  pub parted_all : (es : List ℕ) → n ≤ most_scripts → sets es n (ends_from at (script_texts_after text at)) ≡ kept_ends text
+  pub parted_all : (es : List ℕ) → n ≤ most_scripts
+      → sets es n (ends_from at (script_texts_after text at)) ≡ kept_ends text
       → ◌≡◌ {A = Parting} (record { count = n; ends = es })
       (record { count = scripts_counted text; ends = kept_ends text })
   unfolding scripts_counted
@@ -188,7 +193,8 @@ module _ (text : List ℕ) (n at : ℕ) (s : StartsAt text n at) (l : at ≤ len
   unfolding scripts_counted
   parted_many es k e h =
       let p = text_at text at (script_end text at) l refl in
-      let c : suc most_scripts ≡ min (suc most_scripts) (length (script_texts text)) = omega (arith, has_place s p, e) in
+      let c : suc most_scripts ≡ min (suc most_scripts) (length (script_texts text)) =
+      omega (arith, has_place s p, e) in
       rw (sym (sets_past (ends_from at (script_texts_after text at)) es n (omega arith)) ∙ h, ← c) refl
 
 -- whether each has a place, by the count
@@ -224,7 +230,8 @@ module _ (text : List ℕ) (at : ℕ) (start : Bool) where
   walk_ends l e = walk l ∙ rw e refl
 
   pub walk_on : at < length text → start && eqb (get_or text at 0) 10 ≡ false
-      → at + script_length start (drop at text) ≡ at + 1 + script_length (eqb (get_or text at 0) 10) (drop (at + 1) text)
+      → at + script_length start (drop at text)
+      ≡ at + 1 + script_length (eqb (get_or text at 0) 10) (drop (at + 1) text)
   walk_on l e = walk l ∙ rw e refl
 
   pub walk_over : length text ≤ at → at + script_length start (drop at text) ≡ at

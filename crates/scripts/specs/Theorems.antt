@@ -8,6 +8,7 @@ use Rattle.scripts.specs.Parting.{script_texts}
 -- line of any empty.
 pub record PartingExact : Type 0 where
   pub exact : (text : List ℕ) (ts : List (List ℕ)) (end : List ℕ)
-      → (script_texts text ≡ ts ++ (end ∷ [])) ↔ ((text ≡ joined ts end) × AllWhole ts × (no_empty_line true end ≡ true))
+      → (script_texts text ≡ ts ++ (end ∷ []))
+      ↔ ((text ≡ joined ts end) × AllWhole ts × (no_empty_line true end ≡ true))
   -- every text has a last script
   pub some_last : (text : List ℕ) → (ts : List (List ℕ)) × (end : List ℕ) × (script_texts text ≡ ts ++ (end ∷ []))

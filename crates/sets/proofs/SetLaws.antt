@@ -8,7 +8,8 @@ use native.Mathlib.Nat.{lt_of_lt_of_le, le_of_suc-le-suc, not-suc-le-zero}
 use native.Mathlib.Omega.{arith}
 use native.Mathlib.Numerals.{one-add, add-one}
 use lib.Arith.{bin_ind, half_le, digits_mod}
-use lib.Bits.{bit_and, bit_or, bit_xor, differ, and_step, or_step, xor_step, and_shr, or_shr, xor_shr, and_mask, and_le_r}
+use lib.Bits.{bit_and, bit_or, bit_xor, differ, and_step, or_step, xor_step, and_shr, or_shr, xor_shr, and_mask}
+use lib.Bits.{and_le_r}
 use lib.Bits.{and_comm, xor_add_and, block_odd, block_half}
 use lib.Pow.{shr-shr, shl_exact, high, split, ones_split, ones_lt, pow-lt, pow_mono, pow_pos}
 use lib.Dec.{eqb, ltb, lit<}

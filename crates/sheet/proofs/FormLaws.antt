@@ -89,7 +89,8 @@ named_at types labels (y ∷ ys) e zero d h =
     (ltb-true _ _ (both_left _ _ names), ltb-true _ _ (both_right _ _ names))
 named_at types labels (y ∷ ys) e (suc x) d h = named_at types labels ys (both_right _ _ e) x d (omega arith)
 
-rising_at : (n : ℕ) (pss : List (List Policy)) → each_rising n pss ≡ true → (l : ℕ) → rising n 0 (get_or pss l []) ≡ true
+rising_at : (n : ℕ) (pss : List (List Policy)) → each_rising n pss ≡ true → (l : ℕ)
+    → rising n 0 (get_or pss l []) ≡ true
 unfolding each_rising rising
 rising_at n [] e l = refl
 rising_at n (ps ∷ pss) e zero = both_left _ _ e

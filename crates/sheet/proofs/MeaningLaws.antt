@@ -4,7 +4,8 @@ use mathlib.Core.Path.{◌≡◌, refl, ap₂}
 use mathlib.Core.Bool.{Bool, true, false}
 use Prim.Native.Nat.{ℕ}
 use Rattle.logic.proofs.BooleanLaws.{absurd_false}
-use Rattle.labels.specs.Labels.{below_of, confidentiality_of, integrity_of, writes_of, whole_of, effective, EffectiveLabel}
+use Rattle.labels.specs.Labels.{below_of, confidentiality_of, integrity_of, writes_of, whole_of, effective}
+use Rattle.labels.specs.Labels.{EffectiveLabel}
 use Rattle.labels.specs.declared.Label.{Label}
 use Rattle.labels.proofs.OrderLaws as order
 use Rattle.labels.proofs.PartLaws as part

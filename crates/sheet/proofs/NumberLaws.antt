@@ -15,7 +15,8 @@ use Rattle.language.specs.Typing.{is_yes, same_ty}
 use Rattle.sheet.specs.declared.Kind.{Kind}
 use Rattle.sheet.specs.declared.Kind.TheVariants.{Sum, Pair}
 use Rattle.sheet.specs.Sheet.{Sheet, compound_of, ty_of, type_count, formed, same_kind, repeats}
-use Rattle.sheet.specs.Internal.Tables.{table_of, types_in, left_in, right_in, type_in, given_parts, type_parts, parts_no}
+use Rattle.sheet.specs.Internal.Tables.{table_of, types_in, left_in, right_in, type_in, given_parts, type_parts}
+use Rattle.sheet.specs.Internal.Tables.{parts_no}
 use Rattle.sheet.specs.Internal.TypeTest.{is_of, has_no}
 use Rattle.sheet.proofs.FormLaws.{type-count, parts_there, parts_past, location-type_there}
 use Rattle.sheet.proofs.TypeLaws.{ty_0, ty_past, Parts, Which, is_int, is_err, is_pkg, is_sum_lem, is_pair_lem, which}
@@ -115,7 +116,8 @@ module _ (s : Sheet) (fm : formed s ≡ true) where
       -- of a number with parts
       of : (k j : Kind) {m : ℕ} {a b : Ty} → ((a b : Ty) → g (compound_of (other k) a b) ≡ d) → Parts s fm m j a b
           → g (compound_of j a b)
-          ≡ cond (same_kind k j) (g (compound_of k (ty_of s (left_in (table_of s) m)) (ty_of s (right_in (table_of s) m)))) d
+          ≡ cond (same_kind k j)
+          (g (compound_of k (ty_of s (left_in (table_of s) m)) (ty_of s (right_in (table_of s) m)))) d
       of Sum Sum {m} o q = rw (left_in_lem s fm m, q.left_is_lem, right_in_lem s fm m, q.right_is_lem)
       of Sum Pair o q = o _ _
       of Pair Sum o q = o _ _
@@ -144,8 +146,10 @@ module _ (s : Sheet) (fm : formed s ≡ true) where
   plain_test k f h i e p no-sum no_pair is_int = i
   plain_test k f h i e p no-sum no_pair is_err = e
   plain_test k f h i e p no-sum no_pair is_pkg = p
-  plain_test k f h i e p no-sum no_pair (is_sum_lem {n} q) = ne_eqb n k (λ z. omega (arith, q.from_3)) ∙ sym (no-sum _ _)
-  plain_test k f h i e p no-sum no_pair (is_pair_lem {n} q) = ne_eqb n k (λ z. omega (arith, q.from_3)) ∙ sym (no_pair _ _)
+  plain_test k f h i e p no-sum no_pair (is_sum_lem {n} q) =
+      ne_eqb n k (λ z. omega (arith, q.from_3)) ∙ sym (no-sum _ _)
+  plain_test k f h i e p no-sum no_pair (is_pair_lem {n} q) =
+      ne_eqb n k (λ z. omega (arith, q.from_3)) ∙ sym (no_pair _ _)
 
   -- the test by number is the test by type
   pub has_no_lem : (v : Value) (n : ℕ) → n < type_count s → has_no (table_of s) v n ≡ has v (ty_of s n)

@@ -13,7 +13,8 @@ use Rattle.sets.specs.Sets.{member, union, single}
 use Rattle.sets.proofs.SetLaws.{member_union, member_single, member_single_self, member_empty}
 use Rattle.sheet.specs.Sheet.{max_labels}
 use Rattle.sheet.specs.Internal.Tables.{labels_in, reads_in, writes_in}
-use Rattle.sheet.specs.Internal.Powers.{has_power, with_power, powers_up_to, labels_held, powers_in, may_write, may_read}
+use Rattle.sheet.specs.Internal.Powers.{has_power, with_power, powers_up_to, labels_held, powers_in, may_write}
+use Rattle.sheet.specs.Internal.Powers.{may_read}
 
 -- ---- one power more, if the group has it
 
@@ -51,7 +52,8 @@ module _ (t : List ℕ) (g : ℕ) where
 
   -- ---- the powers over the labels below n
 
-  pub up_to_more : (n : ℕ) → with_power t g (with_power t g (powers_up_to t g n) n) (max_labels + n) ≡ powers_up_to t g (n + 1)
+  pub up_to_more : (n : ℕ)
+      → with_power t g (with_power t g (powers_up_to t g n) n) (max_labels + n) ≡ powers_up_to t g (n + 1)
   unfolding powers_up_to
   up_to_more n = rw (add-one n)
 

@@ -11,7 +11,8 @@ use borrow.Author.Tests.{lt-ltb}
 use Rattle.sets.specs.Sets.{width, everyone}
 use Rattle.sets.proofs.SetLaws.{restrict-everyone}
 use Rattle.sets.proofs.Walks.{length-tab}
-use Rattle.labels.specs.Labels.{Policy, policy, open_of, policy_of, with_policies, label_of, whole_of, owners, bottom_of}
+use Rattle.labels.specs.Labels.{Policy, policy, open_of, policy_of, with_policies, label_of, whole_of, owners}
+use Rattle.labels.specs.Labels.{bottom_of}
 use Rattle.labels.specs.Internal.Tables.{label_size, label_words, label_put}
 use Rattle.labels.specs.declared.Label.{Label}
 use Rattle.labels.proofs.PolicyLaws.{policy_whole}
@@ -32,7 +33,8 @@ use Rattle.sheet.specs.Internal.Writers.{low, principals_put, rule_put, entry_pu
 use Rattle.sheet.specs.Internal.Writers.{label_set, open_put, policy_put}
 use Rattle.sheet.proofs.FormLaws.{formed_facts, type-count, parts_count}
 use Rattle.sheet.proofs.Words.{length-padded, length_entries}
-use Rattle.sheet.proofs.TableLaws.{principals_in_lem, everyone_in_lem, types_in_lem, labels_in_lem, locations_in_lem, heading}
+use Rattle.sheet.proofs.TableLaws.{principals_in_lem, everyone_in_lem, types_in_lem, labels_in_lem, locations_in_lem}
+use Rattle.sheet.proofs.TableLaws.{heading}
 use Rattle.sheet.proofs.TableLaws.{part_block, location_block, label_block, to_locations, to_labels, from_locations}
 use Rattle.sheet.proofs.TableLaws.{from_labels, locations_start, labels_start}
 use Rattle.sheet.proofs.LabelLaws.{label_in_lem}
@@ -116,14 +118,16 @@ entry_put_lem base count most a b n t e room few h k =
 module _ (s : Sheet) (fm : formed s ≡ true) where
   pub compound_put_lem : (x : Compound) → type_count s < max_types → x.left < type_count s
       → compound_put x.kind x.left x.right (table_of s) ≡ table_of (add_compound s x)
-  unfolding table_of add_compound type_count label_count location_count labels_of type_parts given_parts heading location_block
+  unfolding table_of add_compound type_count label_count location_count labels_of type_parts given_parts heading
+      location_block
       label_block headed
   compound_put_lem x few left =
       let n = type_count s in
       let after = location_block s ++ label_block s in
       let parts = padded parts_room (part_words (type_parts s ++ (x ∷ []))) ++ after in
       let count : n + 1 ≡ type_count (add_compound s x) = omega (arith, length_more s.compounds x) in
-      entry_put_lem parts_base types_at max_types x.left (right_word x.kind x.right) n (table_of s) (types_in_lem s fm) few
+      entry_put_lem parts_base types_at max_types x.left (right_word x.kind x.right) n (table_of s)
+      (types_in_lem s fm) few
       (omega arith) (omega arith)
       (right_word_low x.kind x.right)
       ∙ ap (λ (t : List ℕ). set t types_at (n + 1))
@@ -134,7 +138,8 @@ module _ (s : Sheet) (fm : formed s ≡ true) where
 
   pub location-put : (x : Location) → location_count s < max_locations → x.type < type_count s → x.label < label_count s
       → location_put x.type x.label (table_of s) ≡ table_of (add_location s x)
-  unfolding add_location type_count label_count location_count labels_of type_parts to_locations part_block location_block
+  unfolding add_location type_count label_count location_count labels_of type_parts to_locations part_block
+      location_block
       label_block heading headed
   location-put x few type label =
       let n = location_count s in
@@ -197,12 +202,14 @@ module _ (n : ℕ) where
   words_more (qs ∷ pss) ps = ap (λ (t : List ℕ). label_words (label_of n qs) ++ t) (words_more pss ps)
       ∙ sym (append_assoc (label_words (label_of n qs)) (words_of pss) _)
 
-  module _ (before : List ℕ) (pss : List (List Policy)) (fits : label_size * length pss + label_size ≤ labels_room) where
+  module _ (before : List ℕ) (pss : List (List Policy))
+      (fits : label_size * length pss + label_size ≤ labels_room) where
     rest : List ℕ
     rest = replicate (labels_room - (label_size * length pss + label_size)) 0
 
     -- the block with room for a label more, and with that label
-    labels_room_lem : before ++ padded labels_room (words_of pss) ≡ (before ++ words_of pss) ++ replicate label_size 0 ++ rest
+    labels_room_lem : before ++ padded labels_room (words_of pss)
+        ≡ (before ++ words_of pss) ++ replicate label_size 0 ++ rest
     unfolding padded rest
     labels_room_lem =
         let k = labels_room - (label_size * length pss + label_size) in
@@ -215,7 +222,8 @@ module _ (n : ℕ) where
         ≡ (before ++ words_of pss) ++ label_words (label_of n ps) ++ rest
     unfolding padded rest
     labels_last ps =
-        let z : labels_room - length (words_of (pss ++ (ps ∷ []))) ≡ labels_room - (label_size * length pss + label_size) =
+        let z : labels_room - length (words_of (pss ++ (ps ∷ [])))
+        ≡ labels_room - (label_size * length pss + label_size) =
         omega (arith, words_long (pss ++ (ps ∷ [])), length_more pss ps) in
         rw (z, words_more pss ps) (simp append_assoc)
 
@@ -255,7 +263,8 @@ module _ (s : Sheet) (fm : formed s ≡ true) where
       ∙ omega (arith, labels_start s fm, length-padded labels_room ws fits)
 
   pub open_put_lem : label_count s < max_labels → open_put (table_of s) ≡ table_of (add_label s)
-  unfolding open_put label_of with_policies label_count add_label type_count location_count type_parts to_labels to_locations
+  unfolding open_put label_of with_policies label_count add_label type_count location_count type_parts to_labels
+      to_locations
       heading part_block location_block headed
   open_put_lem few =
       let n = s.principals in
@@ -316,7 +325,8 @@ module _ (s : Sheet) (fm : formed s ≡ true) where
         let last : length s.labels - 1 ≡ length before = omega (arith, last_there) in
         let few : label_size * length before + label_size ≤ labels_room =
         omega (arith, last_there, (formed_facts s fm).few_labels) in
-        let label : label_in (table_of s) (length before) ≡ label_of n ps = label_in_lem s fm (length before) ∙ label-number in
+        let label : label_in (table_of s) (length before) ≡ label_of n ps =
+        label_in_lem s fm (length before) ∙ label-number in
         let at = label_place (length before) in
         ap (λ (k : ℕ). label_put (table_of s) (label_place k) (policy_of (label_in (table_of s) k) o r w)) last
         ∙ ap (λ (a : Label). label_put (table_of s) at (policy_of a o r w)) label
@@ -327,7 +337,8 @@ module _ (s : Sheet) (fm : formed s ≡ true) where
         (ap (λ (k : ℕ). k + label_size * length before) (labels_start s fm))
         ∙ last_policy (policy o r w)
 
-  pub policy-put : (o r w : ℕ) → 0 < label_count s → policy_put o r w (table_of s) ≡ table_of (add_policy s (policy o r w))
+  pub policy-put : (o r w : ℕ) → 0 < label_count s
+      → policy_put o r w (table_of s) ≡ table_of (add_policy s (policy o r w))
   unfolding policy_put label_count
   policy-put o r w some-label =
       let stored : policy_put o r w (table_of s)
@@ -338,7 +349,8 @@ module _ (s : Sheet) (fm : formed s ≡ true) where
 -- ---- a sheet with nothing but its principals
 
 pub principals-put : (n : ℕ) → n ≤ max_principals → principals_put n (replicate table_words 0) ≡ table_of (bare_sheet n)
-unfolding table_of bare_sheet type_count label_count location_count labels_of type_parts given_parts padded entry_words right_word
+unfolding table_of bare_sheet type_count label_count location_count labels_of type_parts given_parts padded entry_words
+    right_word
     labels_words rule_word
 principals-put n few = rw (low_count n (omega arith), restrict-everyone width n (omega arith))
 

@@ -21,7 +21,8 @@ use Rattle.sheet.specs.Padding.{padded}
 use Rattle.sheet.specs.Internal.Tables.{parts_room, locations_room, labels_room, parts_base, locations_base}
 use Rattle.sheet.specs.Internal.Tables.{labels_base, part_words, location_words, labels_words, table_of, principals_in}
 use Rattle.sheet.specs.Internal.Tables.{everyone_in, types_in, labels_in, locations_in, rule_word, rule_in}
-use Rattle.sheet.specs.Internal.Tables.{entry_in, left_in, right_word_in, right_in, kind_in, type_in, home_in, max_types}
+use Rattle.sheet.specs.Internal.Tables.{entry_in, left_in, right_word_in, right_in, kind_in, type_in, home_in}
+use Rattle.sheet.specs.Internal.Tables.{max_types}
 use Rattle.sheet.specs.Internal.Tables.{right_word, no_parts, type_parts, parts_no}
 use Rattle.sheet.proofs.FormLaws.{Formed, formed_facts, type-count, parts_count, parts_there}
 use Rattle.sheet.proofs.Words.{length-padded, length_entries, entry_at, entry_of}
@@ -160,7 +161,8 @@ module _ (s : Sheet) (fm : formed s ≡ true) where
 
   pub left_in_lem : (n : ℕ) → left_in (table_of s) n ≡ (parts_no s n).left
   unfolding left_in
-  left_in_lem n = part_in (λ (p : Compound). p.left) 0 refl (omega arith) (λ i h. (entry_at _ _ (type_parts s) _ i h).0) n
+  left_in_lem n =
+      part_in (λ (p : Compound). p.left) 0 refl (omega arith) (λ i h. (entry_at _ _ (type_parts s) _ i h).0) n
 
   pub right_word_in_lem : (n : ℕ) → right_word_in (table_of s) n ≡ right_word (parts_no s n).kind (parts_no s n).right
   unfolding right_word_in right_word

@@ -132,7 +132,8 @@ module _ (s : Sheet) (fm : formed s ≡ true) where
       → Which n (compound_of k (ty_of s (parts_no s n).left) (ty_of s (parts_no s n).right))
   unfolding compound_of
   made n h l Sum e = is_sum_lem (record { from_3 = h; there = l; kind_is = e; left_is_lem = refl; right_is_lem = refl })
-  made n h l Pair e = is_pair_lem (record { from_3 = h; there = l; kind_is = e; left_is_lem = refl; right_is_lem = refl })
+  made n h l Pair e =
+      is_pair_lem (record { from_3 = h; there = l; kind_is = e; left_is_lem = refl; right_is_lem = refl })
 
   pub which : (n : ℕ) → n < type_count s → Which n (ty_of s n)
   which zero h = rw (ty_0 s) is_int
@@ -161,7 +162,8 @@ module _ (s : Sheet) (fm : formed s ≡ true) where
     same_number t_err is_err is_err = refl
     same_number t_pkg is_pkg is_pkg = refl
     same_number (t_sum a b) (is_sum_lem p) (is_sum_lem q) = same_parts p q (λ i j. same_number a) (λ i j. same_number b)
-    same_number (t_pair a b) (is_pair_lem p) (is_pair_lem q) = same_parts p q (λ i j. same_number a) (λ i j. same_number b)
+    same_number (t_pair a b) (is_pair_lem p) (is_pair_lem q) =
+        same_parts p q (λ i j. same_number a) (λ i j. same_number b)
 
     -- equal types have equal numbers
     pub ty_once : (m n : ℕ) → m < type_count s → n < type_count s → ty_of s m ≡ ty_of s n → m ≡ n

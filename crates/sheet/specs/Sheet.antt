@@ -1,6 +1,7 @@
 -- A sheet (the scope, "The three texts", and requests (f) and (g)): its lines, what the numbers on it name, and what it
 -- must satisfy.
-use Rattle.std.specs.Prelude.{Bool, true, false, List, [], ◌∷◌, ◌++◌, map, ℕ, suc, ◌+◌, ◌^◌, eqb, leb, ltb, length, get_or}
+use Rattle.std.specs.Prelude.{Bool, true, false, List, [], ◌∷◌, ◌++◌, map, ℕ, suc, ◌+◌, ◌^◌, eqb, leb, ltb, length}
+use Rattle.std.specs.Prelude.{get_or}
 use Rattle.logic.specs.Booleans.{both, either}
 use Rattle.sets.specs.Sets.{everyone}
 use Rattle.labels.specs.Labels.{Policy, policy, label_of, bottom_of, same_of}

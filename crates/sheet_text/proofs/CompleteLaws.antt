@@ -119,7 +119,8 @@ labels_built : (n : ℕ) (rule : Rule) (ss : List Compound) (pss done : List (Li
     → length done + length pss ≤ max_labels → each_rising n pss ≡ true
     → add_lines (some (sheet_at n rule ss done [])) (label_lines pss rest)
     ≡ add_lines (some (sheet_at n rule ss (done ++ pss) [])) rest
-unfolding label_lines each_rising add_lines add_line_on add_line label_fits add_label label_count location_count least_after
+unfolding label_lines each_rising add_lines add_line_on add_line label_fits add_label label_count location_count
+    least_after
 labels_built n rule ss [] done rest few e =
     ap (λ (zs : List (List Policy)). add_lines (some (sheet_at n rule ss zs [])) rest) (sym (append-nil done))
 labels_built n rule ss (ps ∷ pss) done rest few e =
@@ -131,7 +132,8 @@ labels_built n rule ss (ps ∷ pss) done rest few e =
     (policy_built n rule ss done) ps []
     (label_lines pss rest) (both_left _ _ e)
     ∙ labels_built n rule ss pss (done ++ (ps ∷ [])) rest (omega arith) (both_right _ _ e)
-    ∙ ap (λ (zs : List (List Policy)). add_lines (some (sheet_at n rule ss zs [])) rest) (append_assoc done (ps ∷ []) pss)
+    ∙ ap (λ (zs : List (List Policy)). add_lines (some (sheet_at n rule ss zs [])) rest)
+    (append_assoc done (ps ∷ []) pss)
 
 -- ---- locations
 

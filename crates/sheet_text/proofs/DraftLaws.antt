@@ -18,10 +18,12 @@ use Rattle.labels.specs.Labels.{policy}
 use Rattle.sheet.specs.declared.Kind.{Kind}
 use Rattle.sheet.specs.Sheet.{Compound, Sheet, type_count, label_count, max_principals, max_compounds, formed}
 use Rattle.sheet.specs.Internal.Tables.{max_types, table_words, table_of}
-use Rattle.sheet.specs.Internal.Growth.{bare_sheet, add_rule, add_compound, add_label, to_last, add_policy, add_location}
+use Rattle.sheet.specs.Internal.Growth.{bare_sheet, add_rule, add_compound, add_label, to_last, add_policy}
+use Rattle.sheet.specs.Internal.Growth.{add_location}
 use Rattle.sheet.specs.Internal.Writers.{principals_put, rule_put, compound_put, open_put, policy_put, location_put}
 use Rattle.sheet.proofs.FormLaws.{formed_facts, type-count}
-use Rattle.sheet.proofs.TableLaws.{types_in_lem, labels_in_lem, locations_in_lem, principals_in_lem, everyone_in_lem, rule_in_lem}
+use Rattle.sheet.proofs.TableLaws.{types_in_lem, labels_in_lem, locations_in_lem, principals_in_lem, everyone_in_lem}
+use Rattle.sheet.proofs.TableLaws.{rule_in_lem}
 use Rattle.sheet.proofs.GrowthLaws.{to_last_more, labels_split}
 use Rattle.sheet.proofs.TableGrowth.{compound_put_lem, open_put_lem, policy-put, location-put, principals-put, rule-put}
 use Rattle.sheet_text.specs.declared.line.SheetLine.{SheetLine}
@@ -64,7 +66,8 @@ module _ (s : Sheet) (fm : formed s ≡ true) where
 
   rule_fits_in_lem : (k : ℕ) → rule_fits_in k (table_of s) ≡ rule_fits s k
   unfolding rule_fits
-  rule_fits_in_lem k = rw (rule_in_lem s fm, labels_in_lem s fm, locations_in_lem s fm, types_in_lem s fm, types_none_in)
+  rule_fits_in_lem k =
+      rw (rule_in_lem s fm, labels_in_lem s fm, locations_in_lem s fm, types_in_lem s fm, types_none_in)
 
   label_fits_in_lem : label_fits_in (table_of s) ≡ label_fits s
   unfolding label_fits
@@ -84,7 +87,14 @@ module _ (s : Sheet) (fm : formed s ≡ true) where
   policy_fits_in_lem : (o r w : ℕ) → policy_fits_in (least_owner s) o r w (table_of s) ≡ policy_fits s o r w
   unfolding policy_fits
   policy_fits_in_lem o r w =
-      rw (locations_in_lem s fm, labels_in_lem s fm, principals_in_lem s fm, everyone_in_lem s fm, set_fits_in r, set_fits_in w)
+      rw (
+        locations_in_lem s fm,
+        labels_in_lem s fm,
+        principals_in_lem s fm,
+        everyone_in_lem s fm,
+        set_fits_in r,
+        set_fits_in w,
+      )
 
   location_fits_in_lem : (t l : ℕ) → location_fits_in t l (table_of s) ≡ location_fits s t l
   unfolding location_fits
@@ -144,7 +154,8 @@ module _ (s : Sheet) (fm : formed s ≡ true) where
         compound_put_lem s fm x (omega (arith, type-count s)) left,
       )
 
-  label-stored : label_fits s ≡ true → (0 ≡ least_owner (add_label s)) × (open_put (table_of s) ≡ table_of (add_label s))
+  label-stored : label_fits s ≡ true
+      → (0 ≡ least_owner (add_label s)) × (open_put (table_of s) ≡ table_of (add_label s))
   unfolding label_fits
   label-stored f = (
     unfold least_owner add_label least_after in (sym (ap (least_after 0) (last_more s.labels []))),
@@ -216,7 +227,8 @@ module _ (s : Sheet) (fm : formed s ≡ true) (t : List ℕ) (e : t ≡ table_of
       → DraftHolds (add_line s (X ty l)) (draft_if ok least) u
   unfolding add_line
   location_holds ty l least same made =
-      holds_if (location_fits s ty l) _ (location_fits_in ty l) (location_put ty l) (table_of s) u ok least (rw e at made)
+      holds_if (location_fits s ty l) _ (location_fits_in ty l) (location_put ty l) (table_of s) u ok least
+      (rw e at made)
       (location_fits_in_lem s fm ty l)
       (λ f. (same ∙ least_kept, location-stored s fm ty l f))
     where

@@ -15,12 +15,14 @@ use Rattle.labels.specs.Labels.{policy, open_at, open_of, policy_of, with_polici
 use Rattle.labels.specs.declared.Rule.TheVariants.{Pooled}
 use Rattle.sheet.specs.Internal.Tables.{given_parts, type_parts}
 use Rattle.sheet.specs.declared.Kind.TheVariants.{Sum}
-use Rattle.sheet.specs.Sheet.{Sheet, type_count, labels_of, label_count, location_count, earlier_types, rising, each_rising}
+use Rattle.sheet.specs.Sheet.{Sheet, type_count, labels_of, label_count, location_count, earlier_types, rising}
+use Rattle.sheet.specs.Sheet.{each_rising}
 use Rattle.sheet.specs.Sheet.{each_named, formed, among, repeated, same_kind, same_compound, repeats}
 use Rattle.sheet_text.specs.Lines.{rule_lines, type_line, compound_line, policy_line, location_line, each}
 use Rattle.sheet_text.specs.Lines.{label_lines, lines_then, sheet_lines, line_bytes, sheet_bytes}
 use Rattle.sheet_text.specs.Reading.{number_rest, numbers_rest, label_rest, policy_rest, line_of}
-use Rattle.sheet.specs.Internal.Growth.{bare_sheet, add_rule, add_compound, add_label, to_last, add_policy, add_location}
+use Rattle.sheet.specs.Internal.Growth.{bare_sheet, add_rule, add_compound, add_label, to_last, add_policy}
+use Rattle.sheet.specs.Internal.Growth.{add_location}
 use Rattle.sheet_text.specs.Internal.Building.{last_of, least_after, least_owner, is_pooled, rule_fits}
 use Rattle.sheet_text.specs.Internal.Building.{compound_fits, label_fits, policy_fits, location_fits, begin, add_type}
 use Rattle.sheet_text.specs.Internal.Building.{add_line, add_line_on, add_lines, build}
@@ -77,21 +79,28 @@ parsed_texts : List ParsedSheet
 parsed_texts = accepted case_sheet ∷ malformed ∷ malformed ∷ repeating ∷ repeating ∷ replicate 13 malformed
 
 case_printed : sheet_bytes case_sheet ≡ case_text
-unfolding case_sheet case_text sheet_bytes print_lines line_bytes sheet_lines lines_then rule_lines each label_lines type_line
+unfolding case_sheet case_text sheet_bytes print_lines line_bytes sheet_lines lines_then rule_lines each label_lines
+    type_line
     compound_line policy_line location_line decimal decimal_on hex_form hex_byte
 case_printed = refl
 
 texts_read : map sheet_of texts ≡ parsed_texts
-unfolding case_sheet case_text texts parsed_texts sheet_of judged sheet_read build_read build add_lines add_line_on add_line
+unfolding case_sheet case_text texts parsed_texts sheet_of judged sheet_read build_read build add_lines add_line_on
+    add_line
     add_type
-    begin is_pooled rule_fits compound_fits label_fits policy_fits location_fits least_owner least_after last_of bare_sheet
-    add_rule add_compound add_label add_policy to_last add_location all_lines lines_up_to onward front line_of number_rest
+    begin is_pooled rule_fits compound_fits label_fits policy_fits location_fits least_owner least_after last_of
+    bare_sheet
+    add_rule add_compound add_label add_policy to_last add_location all_lines lines_up_to onward front line_of
+    number_rest
     numbers_rest label_rest policy_rest and_then byte fits digit opens_digit
-    digits number hex_digit hex_digits number_field set_field last_number both either union every tab single everyone open_at
+    digits number hex_digit hex_digits number_field set_field last_number both either union every tab single everyone
+    open_at
     open_of policy_of with_policies label_of same_at same_of
-    given_parts type_parts type_count labels_of label_count location_count among repeated same_kind same_compound repeats
+    given_parts type_parts type_count labels_of label_count location_count among repeated same_kind same_compound
+    repeats
 texts_read = refl
 
 case_formed : formed case_sheet ≡ true
-unfolding case_sheet formed both earlier_types rising each_rising each_named type_count type_parts given_parts label_count
+unfolding case_sheet formed both earlier_types rising each_rising each_named type_count type_parts given_parts
+    label_count
 case_formed = refl

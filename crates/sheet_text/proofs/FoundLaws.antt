@@ -93,7 +93,8 @@ module _ (s : List ℕ) (i : ℕ) where
     unfolding line_of
     line-location e = line-at_first 88 e
 
-    pub line_other : (get_or s i 0 ≡ 80 → ⊥) → (get_or s i 0 ≡ 82 → ⊥) → (get_or s i 0 ≡ 84 → ⊥) → (get_or s i 0 ≡ 81 → ⊥)
+    pub line_other : (get_or s i 0 ≡ 80 → ⊥) → (get_or s i 0 ≡ 82 → ⊥) → (get_or s i 0 ≡ 84 → ⊥)
+        → (get_or s i 0 ≡ 81 → ⊥)
         → (get_or s i 0 ≡ 76 → ⊥) → (get_or s i 0 ≡ 79 → ⊥)
         → (get_or s i 0 ≡ 88 → ⊥) → line_of (drop i s) ≡ bad
     unfolding line_of

@@ -8,7 +8,8 @@ use borrow.Author.Tests.{eqb-true}
 use Rattle.sets.specs.Sets.{width}
 use Rattle.text.specs.Reading.Read.{got}
 use Rattle.text.specs.Number.{most, opens_digit, digit}
-use Rattle.text.specs.Field.{number_field, set_field, line_end, last_number, print_number_field, print_set_field, print_line_end}
+use Rattle.text.specs.Field.{number_field, set_field, line_end, last_number, print_number_field, print_set_field}
+use Rattle.text.specs.Field.{print_line_end}
 use Rattle.text.specs.Lines.{AllGood, LineForm}
 use Rattle.logic.proofs.BooleanLaws.{cond_split}
 use Rattle.text.proofs.Readings.{not_bad, got_same, and_then-got, and_then_split, byte_here, byte-sound}

@@ -16,11 +16,13 @@ use Rattle.labels.specs.Internal.Tables.{label_size, sets_at, label_at}
 use Rattle.labels.specs.declared.Label.{Label}
 use Rattle.sheet.specs.Sheet.{Sheet, labels_of, label_no, label_count, max_labels, formed, among, repeated, same_kind}
 use Rattle.sheet.specs.Sheet.{same_compound, given_sums, repeats}
-use Rattle.sheet.specs.Internal.Tables.{max_types, parts_base, parts_place, label_place, table_of, types_in, labels_in, left_in}
+use Rattle.sheet.specs.Internal.Tables.{max_types, parts_base, parts_place, label_place, table_of, types_in, labels_in}
+use Rattle.sheet.specs.Internal.Tables.{left_in}
 use Rattle.sheet.specs.Internal.Tables.{right_word_in, right_word, no_parts, given_parts, type_parts, parts_no}
 use Rattle.sheet.proofs.Entries.{entry_there, label_there}
 use Rattle.sheet.proofs.FormLaws.{type-count}
-use Rattle.sheet.proofs.TableLaws.{types_in_lem, labels_in_lem, left_in_lem, right_word_same, right_below, right_word_in_lem}
+use Rattle.sheet.proofs.TableLaws.{types_in_lem, labels_in_lem, left_in_lem, right_word_same, right_below}
+use Rattle.sheet.proofs.TableLaws.{right_word_in_lem}
 use Rattle.sheet.proofs.LabelLaws.{label_in_lem}
 use Rattle.sheet_text.specs.Internal.Repeats.{most_of, same_words, same_in, any_from, again_in, repeats_in}
 
@@ -125,7 +127,8 @@ module _ (t : List ℕ) (a b : ℕ) where
   same_word : ℕ → Bool
   same_word k = eqb (get_or t (a + k) 0) (get_or t (b + k) 0)
 
-  same_owner : (o : ℕ) → o < owners → same_at (label_at t a) (label_at t b) o ≡ both (same_word o) (same_word (owners + o))
+  same_owner : (o : ℕ) → o < owners
+      → same_at (label_at t a) (label_at t b) o ≡ both (same_word o) (same_word (owners + o))
   unfolding same_at same_word
   same_owner o h = rw (readers_at a o h, readers_at b o h, writers_at a o h, writers_at b o h)
 
@@ -139,7 +142,8 @@ module _ (t : List ℕ) (a b : ℕ) where
       (every_at label_size same_word e (owners + o) (omega arith))))
       (λ e. every_true label_size same_word (λ k l. word_same e k l (dec_le owners k)))
     where
-      word_same : every owners (same_at (label_at t a) (label_at t b)) ≡ true → (k : ℕ) → k < label_size → Dec (owners ≤ k)
+      word_same : every owners (same_at (label_at t a) (label_at t b)) ≡ true → (k : ℕ) → k < label_size
+          → Dec (owners ≤ k)
           → same_word k ≡ true
       word_same e k l (yes h) =
           let o : ℕ = k - owners in
@@ -163,7 +167,8 @@ module _ (s : Sheet) (fm : formed s ≡ true) where
   left_at : (i : ℕ) → i < types_in (table_of s) → get_or (table_of s) (parts_base + 2 * i + 0) 0 ≡ (parts_no s i).left
   left_at i h =
       let z : parts_base + 2 * i + 0 ≡ parts_base + 2 * i = omega arith in
-      rw z (sym (entry_there (table_of s) (types_in (table_of s)) parts_base i h) ∙ unfold left_in in (left_in_lem s fm i))
+      rw z (sym (entry_there (table_of s) (types_in (table_of s)) parts_base i h)
+      ∙ unfold left_in in (left_in_lem s fm i))
 
   right_at : (i : ℕ) → i < types_in (table_of s)
       → get_or (table_of s) (parts_base + 2 * i + 1) 0 ≡ right_word (parts_no s i).kind (parts_no s i).right
@@ -202,7 +207,8 @@ module _ (s : Sheet) (fm : formed s ≡ true) where
   no_label = bottom_of (everyone s.principals)
 
   same_labels : (j k : ℕ) → j < labels_in (table_of s) → k < labels_in (table_of s)
-      → same_in (table_of s) true (0 + j) (0 + k) ≡ same_of (get_or (labels_of s) j no_label) (get_or (labels_of s) k no_label)
+      → same_in (table_of s) true (0 + j) (0 + k)
+      ≡ same_of (get_or (labels_of s) j no_label) (get_or (labels_of s) k no_label)
   unfolding same_in label_no no_label
   same_labels j k h i =
       let first : 0 + j ≡ j = omega arith in
@@ -216,7 +222,8 @@ module _ (s : Sheet) (fm : formed s ≡ true) where
       ≡ repeated same_of (labels_of s)
   labels-repeated =
       let long : 0 + length (labels_of s) ≡ labels_in (table_of s) =
-      unfold labels_of label_count in (omega (arith, length-map s.labels (label_of s.principals), labels_in_lem s fm)) in
+      unfold labels_of label_count in
+      (omega (arith, length-map s.labels (label_of s.principals), labels_in_lem s fm)) in
       let left : labels_in (table_of s) - 0 ≡ length (labels_of s) = omega arith in
       ap (λ (k : ℕ). any_from (again_in (table_of s) true (labels_in (table_of s))) 0 k) left
       ∙ any_repeated same_of no_label (table_of s) true (labels_in (table_of s)) (labels_of s) 0 long

@@ -25,7 +25,8 @@ label_rest t = and_then (line_end t) (λ _ u. got L u)
 unfoldable pub policy_rest : List ℕ → Read SheetLine
 policy_rest t =
     and_then (number_field most t)
-    (λ o u. and_then (set_field u) (λ r v. and_then (set_field v) (λ w x. and_then (line_end x) (λ _ y. got (O o r w) y))))
+    (λ o u. and_then (set_field u)
+    (λ r v. and_then (set_field v) (λ w x. and_then (line_end x) (λ _ y. got (O o r w) y))))
 
 -- the line at the front of a text
 unfoldable pub line_of : List ℕ → Read SheetLine

@@ -6,7 +6,8 @@ ghost use Rattle.desk.specs.Inputs.{shown_for, PutFor};
 
 use desk::OUTPUT_ROOM;
 use parts::KEEP;
-use std::io::{self, Read};
+use std::io;
+use std::io::Read;
 
 // What is printed for a reader's bytes, at the start of a buffer; its length.
 fn show_stdin<R: Read>(reader: &mut R, out: &mut [u8]) -> usize

@@ -45,7 +45,8 @@ abbrev ◌&◌ : {A B : Type 0} → A → B → A × B
 a & b = (a, b)
 
 starred_hold : Each starred_cases
-unfolding Each Holds starred_cases sheet two_policies readers_only filled_rows four_locations before after_pack after_unpack
+unfolding Each Holds starred_cases sheet two_policies readers_only filled_rows four_locations before after_pack
+    after_unpack
     calls_used
 starred_hold =
     refl & refl & refl & refl & refl & refl & refl & refl & refl & refl & refl & refl & refl & refl & refl
@@ -56,7 +57,8 @@ unfolding Each Holds long_value_cases nested calls_used
 long_values_hold = refl & refl & tt
 
 rounds_hold : Each round_cases
-unfolding Each Holds round_cases sheet nested parted filled_rows four_locations before before_with calls_used rounds_used
+unfolding Each Holds round_cases sheet nested parted filled_rows four_locations before before_with calls_used
+    rounds_used
 rounds_hold = refl & refl & refl & refl & refl & refl & refl & tt
 
 smallest-groups_hold : Each group_cases
@@ -80,7 +82,8 @@ trust-keeping_hold =
     & (refl, refl, refl) & tt
 
 pairs_hold : Each pair_cases
-unfolding Each Holds pair_cases parted trusted_on filled_rows pair_types long_pairs deep_pair most_types too_many_types pairs
+unfolding Each Holds pair_cases parted trusted_on filled_rows pair_types long_pairs deep_pair most_types too_many_types
+    pairs
     first_of pair_of pairs_with leaf_of long_with calls_used rounds_used
 pairs_hold =
     refl & refl & refl & refl & refl & refl & refl & refl & refl & refl & refl & refl & refl & refl & refl & refl
@@ -90,7 +93,8 @@ pairs_hold =
     & refl & refl & refl & refl & (refl, refl, refl) & tt
 
 one_reader_hold : Each reader_cases
-unfolding Each Holds reader_cases trusted_on two_policies readers_only filled_rows together by_himself last_reader each_his_own
+unfolding Each Holds reader_cases trusted_on two_policies readers_only filled_rows together by_himself last_reader
+    each_his_own
     below_together below_by_himself with_package package_shown calls_used groups_used
 one_reader_hold =
     refl & refl & refl & refl & refl & refl & refl & refl & refl & refl & refl & refl & refl & refl & refl & refl

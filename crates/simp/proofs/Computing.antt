@@ -59,7 +59,8 @@ unfolding sets.member sets.union sets.intersection sets.within sets.meets sets.s
 sets_used = tt
 
 unfoldable pub labels_used : Unit {0}
-unfolding labels.own labels.open_at labels.open_of labels.policy_of labels.with_policies labels.label_of labels.policy_on
+unfolding labels.own labels.open_at labels.open_of labels.policy_of labels.with_policies labels.label_of
+    labels.policy_on
     labels.policies_on labels.below_at
     labels.below_of labels.same_at labels.same_of labels.join_of labels.confidentiality_of labels.integrity_of
     labels.bottom_of labels.closed_at
@@ -90,7 +91,8 @@ script_used = tt
 unfoldable pub sheet_used : Unit {0}
 unfolding meaning.effective_if meaning.effectively
     sheet.given_types sheet.types_from sheet.ty_of sheet.type_count sheet.labels_of sheet.label_no sheet.label_count
-    sheet.location_no sheet.location_count sheet.earlier_types sheet.rising sheet.each_rising sheet.each_named sheet.formed
+    sheet.location_no sheet.location_count sheet.earlier_types sheet.rising sheet.each_rising sheet.each_named
+    sheet.formed
     sheet.among sheet.repeated
     sheet.same_kind sheet.same_compound sheet.compound_of sheet.repeats
     padding.padded
@@ -118,12 +120,15 @@ unfolding parse.pop_e parse.pop_c parse.on_stack parse.push_on parse.stack_of pa
 script_text_used = tt
 
 unfoldable pub memory_used : Unit {0}
-unfolding memory.cell_of memory.memory_of memory.cells memory.words_of memory.proper_head memory.proper memory.equal_words
+unfolding memory.cell_of memory.memory_of memory.cells memory.words_of memory.proper_head memory.proper
+    memory.equal_words
     memory.exactly memory.formed_by memory.slice_refusal
     memory.refusal_by memory.as_declared memory.well_formed memory.memory_refusal
-    words.head_words words.enc words.cell words.wrap words.numbered words.head_at words.packaged words.paired words.tagged
+    words.head_words words.enc words.cell words.wrap words.numbered words.head_at words.packaged words.paired
+    words.tagged
     words.read words.read_of
-    view.view_cell view.view_by view.sees_no view.view_words view.view_refusal view.trusted_label_no view.trusted_location_no
+    view.view_cell view.view_by view.sees_no view.view_words view.view_refusal view.trusted_label_no
+    view.trusted_location_no
     view.trusted_words
 memory_used = tt
 
@@ -143,7 +148,8 @@ calls_used = tt
 unfoldable pub rounds_used : Unit {0}
 unfolding parting.to_first parting.script_texts_from parting.script_texts
     round-answers.memory_after round-answers.all_open
-    round-calls.too_many round-calls.lower round-calls.lowest round-calls.run_each round-calls.turn_of round-calls.played_of
+    round-calls.too_many round-calls.lower round-calls.lowest round-calls.run_each round-calls.turn_of
+    round-calls.played_of
     round-calls.round_by
 rounds_used = tt
 

@@ -46,7 +46,8 @@ rounds gate sheet scripts memory authority budget =
 groups : (sheet : List ℕ) (l : ℕ) (places : List ℕ) → Orderly (groups_call sheet l places)
 unfolding numbers
 groups sheet l places =
-    orderly_done (groups_call sheet l places) (0 ∷ []) refl refl refl refl (λ k. refl) (λ k. zeros_at 1) (λ k. refl) here
+    orderly_done (groups_call sheet l places) (0 ∷ []) refl refl refl refl (λ k. refl) (λ k. zeros_at 1)
+    (λ k. refl) here
     (λ r o. o.2.2.not_refused)
 
 trusts : (sheet script : List ℕ) → Orderly (trust_call sheet script)

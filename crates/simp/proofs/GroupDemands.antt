@@ -89,7 +89,11 @@ module _ (sheet : List ℕ) (l : ℕ) (places : List ℕ) where
       by_below l (label_count s)
       (λ m.
       by_below (length places) (length (groups_for s l))
-      (λ k. inl (inr (s, h.form, (groups_for s l, its_groups s l, k)), groups_by_lem s l places ∙ few-places _ l _ _ m k))
+      (λ k. inl (
+        inr (s, h.form, (groups_for s l, its_groups s l, k)),
+        groups_by_lem s l places
+            ∙ few-places _ l _ _ m k,
+      ))
       (λ k. inr (
         ⊎_elim (λ o. let z = its (λ (s : Sheet). label_count s ≤ l) h.form o in omega arith)
             (λ o.

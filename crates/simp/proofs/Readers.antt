@@ -82,10 +82,12 @@ module _ (s : Sheet) (fm : formed s ≡ true) (reads : Label → Bool) (down : D
   -- Two done runs of an accepted script, under one authority, from memories that show him the same,
   -- leave such memories.
   pub kept_by : (p : Script) → Typable s p → (authority b b' l l' : ℕ) (M N M' N' : Mem)
-      → ((x : ℕ) → mask_mem (sees_by s reads) (shows_by s reads) M x ≡ mask_mem (sees_by s reads) (shows_by s reads) N x)
+      → ((x : ℕ) → mask_mem (sees_by s reads) (shows_by s reads) M x
+      ≡ mask_mem (sees_by s reads) (shows_by s reads) N x)
       → iterate (world_for s authority p) b M p.command ≡ done M' l
       → iterate (world_for s authority p) b' N p.command ≡ done N' l'
-      → (x : ℕ) → mask_mem (sees_by s reads) (shows_by s reads) M' x ≡ mask_mem (sees_by s reads) (shows_by s reads) N' x
+      → (x : ℕ) → mask_mem (sees_by s reads) (shows_by s reads) M' x
+      ≡ mask_mem (sees_by s reads) (shows_by s reads) N' x
   kept_by p t authority =
       let 𝓛 = labels_over s.principals in
       let D = declarations_of s in
@@ -117,10 +119,12 @@ module _ (s : Sheet) (fm : formed s ≡ true) (group : ℕ) where
   group_downward = reading_downward s.rule s.principals (formed_facts s fm).few_principals group
 
   pub shown_kept : (p : Script) → Typable s p → (authority b b' l l' : ℕ) (M N M' N' : Mem)
-      → ((x : ℕ) → mask_mem (sees_no s group) (reads_no s group) M x ≡ mask_mem (sees_no s group) (reads_no s group) N x)
+      → ((x : ℕ) → mask_mem (sees_no s group) (reads_no s group) M x
+      ≡ mask_mem (sees_no s group) (reads_no s group) N x)
       → iterate (world_for s authority p) b M p.command ≡ done M' l
       → iterate (world_for s authority p) b' N p.command ≡ done N' l'
-      → (x : ℕ) → mask_mem (sees_no s group) (reads_no s group) M' x ≡ mask_mem (sees_no s group) (reads_no s group) N' x
+      → (x : ℕ) → mask_mem (sees_no s group) (reads_no s group) M' x
+      ≡ mask_mem (sees_no s group) (reads_no s group) N' x
   unfolding sees_no
   shown_kept = kept_by s fm group_reads group_downward
 

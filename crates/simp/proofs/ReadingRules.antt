@@ -8,7 +8,8 @@ use Rattle.labels.specs.declared.Label.{Label}
 use Rattle.labels.specs.Labels.{reads_under}
 use Rattle.labels.specs.Lattice.{DownwardClosed}
 use Rattle.language.specs.Syntax.{skip, Script}
-use Rattle.sheet.specs.Sheet.{Sheet, ty_of, type_count, labels_of, label_no, label_count, location_no, location_count, formed}
+use Rattle.sheet.specs.Sheet.{Sheet, ty_of, type_count, labels_of, label_no, label_count, location_no, location_count}
+use Rattle.sheet.specs.Sheet.{formed}
 use Rattle.sheet.specs.Sheet.{repeats}
 use Rattle.sheet.specs.Meaning.{start_label}
 use Rattle.sheet_text.specs.Theorems.{IsSheet}

@@ -185,7 +185,8 @@ module _ (gate : Gate) (sheet scripts memory : List ℕ) (authority budget : ℕ
   -- a round has its places, refused or not
   pub all_places : Places (length (script_texts scripts)) R
   all_places =
-      by_rows (refused_round memory) _ (Places (length (script_texts scripts))) (round_rows sheet scripts memory authority)
+      by_rows (refused_round memory) _ (Places (length (script_texts scripts)))
+      (round_rows sheet scripts memory authority)
       (λ k i g. record {
         answer_places = refl;
         step_places = refl;

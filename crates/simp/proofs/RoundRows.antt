@@ -59,7 +59,8 @@ module _ {A : Type 0} (refuse : ℕ → A) (Else : A → Type 0) where
   past_11 scripts rows go k =
       cases (ltb most_scripts (length (script_texts scripts)))
       (λ e. rw e (inl (ltb-true _ _ e, refl)))
-      (λ e. let l : length (script_texts scripts) ≤ most_scripts = ltb-false _ _ e in rw e (inr (λ m. omega arith, k l)))
+      (λ e. let l : length (script_texts scripts)
+      ≤ most_scripts = ltb-false _ _ e in rw e (inr (λ m. omega arith, k l)))
 
 -- ---- none applies
 
@@ -85,7 +86,14 @@ module _ (gate : Gate) (sheet scripts memory : List ℕ) (authority budget : ℕ
       past_scripts R E h _ (script_texts scripts) _ λ n.
       past_8 R E h _ memory _ λ z w.
       past_all R E
-      (record { its_sheet = s; on_sheet_lem = h; principals = a; few = f; accepted = n; unrefused = sized_0 s memory z w })
+      (record {
+        its_sheet = s;
+        on_sheet_lem = h;
+        principals = a;
+        few = f;
+        accepted = n;
+        unrefused = sized_0 s memory z w;
+      })
 
   -- a round that answers 0 has started
   pub round-started : (round_by gate sheet scripts memory authority budget).answer ≡ 0

@@ -65,7 +65,12 @@ run-starts sheet script memory authority budget =
     past_4 R E h _ script _ λ p i.
     past_6 R E h _ script p _ i λ t.
     past_8 R E h _ memory _ λ z w.
-    past_all R E (s, p, record { on_sheet_lem = h; principals = a; of_script = i; typable = t; sized = z; well_formed_lem = w })
+    past_all R E (
+      s,
+      p,
+      record
+          { on_sheet_lem = h; principals = a; of_script = i; typable = t; sized = z; well_formed_lem = w },
+    )
 
 module _ {sheet script memory : List ℕ} {authority : ℕ} {s : Sheet} {p : Script}
     (st : Started sheet script memory authority s p) where
@@ -132,9 +137,14 @@ module _ {sheet script memory : List ℕ} {authority : ℕ} {s : Sheet} {p : Scr
 pub run-exactly : (sheet script memory : List ℕ) (authority budget : ℕ)
     → Demand2Of (run_call sheet script memory authority budget)
 run-exactly sheet script memory authority budget =
-    exactly (refused_run memory) _ _ (run_of sheet script memory authority budget) (run_rows sheet script memory authority)
+    exactly (refused_run memory) _ _ (run_of sheet script memory authority budget)
+    (run_rows sheet script memory authority)
     (λ n (s, p, st) r. (
-      λ e. (s, st.on_sheet_lem.form, (p, st.of_script, subst (Ends s p memory authority budget) e (run_ends st budget))),
+      λ e. (
+        s,
+        st.on_sheet_lem.form,
+        (p, st.of_script, subst (Ends s p memory authority budget) e (run_ends st budget)),
+      ),
       λ o. ran_so st budget (their (λ z d. Ends z d memory authority budget r) st.on_sheet_lem st.of_script o),
     ))
     (run-starts sheet script memory authority budget)

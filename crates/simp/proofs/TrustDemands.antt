@@ -16,7 +16,8 @@ use Rattle.script_text.specs.Counts.{counts_of}
 use Rattle.script_text.specs.Script.{script_of}
 use Rattle.script_text.specs.Theorems.{IsScript}
 use Rattle.stages.specs.Answers.{TrustAnswer, refused_trust}
-use Rattle.stages.specs.Calls.{on_sheet, unless, on_script, untyped, number_of, check_of, keeping_bit, trust_on, trust_of}
+use Rattle.stages.specs.Calls.{on_sheet, unless, on_script, untyped, number_of, check_of, keeping_bit, trust_on}
+use Rattle.stages.specs.Calls.{trust_of}
 use Rattle.numbers.specs.Rows.{numbers, Among, here, later, First}
 use Rattle.numbers.specs.Calls.{Demand2Of}
 use Rattle.numbers.proofs.RowLaws.{by_rows, exactly}

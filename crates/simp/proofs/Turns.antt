@@ -108,7 +108,8 @@ module _ (run : ℕ → List ℕ → List ℕ → Ran) where
 
 -- its places
 module _ (memory : List ℕ) (rs : List Ran) (few : length rs ≤ most_scripts) where
-  its_place : (f : Ran → ℕ) → f nothing ≡ 0 → (i : ℕ) → get_or (padded most_scripts (map f rs)) i 0 ≡ f (get_or rs i nothing)
+  its_place : (f : Ran → ℕ) → f nothing ≡ 0 → (i : ℕ)
+      → get_or (padded most_scripts (map f rs)) i 0 ≡ f (get_or rs i nothing)
   its_place f z i = padded_place most_scripts (map f rs) i ∙ (let g = get_or-map f rs i nothing in rw z at g)
 
   pub round_placed : PlacedFrom (round_from memory rs) 0 rs

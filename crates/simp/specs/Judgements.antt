@@ -2,8 +2,9 @@
 -- when it applies, and what holds where none does. (Of a round Rounds.antt says it, of smallest groups Groups.antt, of
 -- trust-keeping scripts Trust.antt.)
 -- The demands say that the calls answer so.
--- `well_formed`, `memory_of`, `words_of` and `view_words` are crate memory's: its theorems MemoriesExactly and ViewsExactly
--- say that a memory of the right size is well-formed exactly if it is the words of values as declared, and that views
+-- `well_formed`, `memory_of`, `words_of` and `view_words` are crate memory's: its theorems MemoriesExactly and
+-- ViewsExactly say that a memory of the right size is well-formed exactly if it is the words of values as declared, and
+-- that views
 -- of such memories are equal exactly if the masked values are.
 use Rattle.std.specs.Prelude.{◌⊎◌, ◌≡◌, true, false, List, [], ◌∷◌, ℕ, ◌*◌, ◌<◌, ◌≤◌, length}
 use Rattle.sets.specs.Sets.{within, everyone}

@@ -104,7 +104,8 @@ pair_cases =
     ∷ runs_on pair_types "= 4\np 6\ng\nx 4\nf\nx 4\n" (pairs_with 7 1 2) 0 0 1 (pairs_with 7 2 1)
     -- an unpack tests both parts of a pair, down to the leaves, and doesn't look into packages
     ∷ runs_on deep_pair "= 1\nu 7 0\nx 0\n" (leaf_of (6 ∷ 3 ∷ 1 ∷ 2 ∷ 6 ∷ 1 ∷ 7 ∷ 5 ∷ 0 ∷ 2 ∷ 3 ∷ []) (4 ∷ 2 ∷ 1 ∷ []))
-    1 0 1 (leaf_of (6 ∷ 3 ∷ 1 ∷ 2 ∷ 6 ∷ 1 ∷ 7 ∷ 5 ∷ 0 ∷ 2 ∷ 3 ∷ []) (3 ∷ 6 ∷ 3 ∷ 1 ∷ 2 ∷ 6 ∷ 1 ∷ 7 ∷ 5 ∷ 0 ∷ 2 ∷ 3 ∷ []))
+    1 0 1 (leaf_of (6 ∷ 3 ∷ 1 ∷ 2 ∷ 6 ∷ 1 ∷ 7 ∷ 5 ∷ 0 ∷ 2 ∷ 3 ∷ [])
+    (3 ∷ 6 ∷ 3 ∷ 1 ∷ 2 ∷ 6 ∷ 1 ∷ 7 ∷ 5 ∷ 0 ∷ 2 ∷ 3 ∷ []))
     ∷ runs_on deep_pair "= 1\nu 7 0\nx 0\n" (leaf_of (6 ∷ 3 ∷ 1 ∷ 2 ∷ 6 ∷ 1 ∷ 7 ∷ 1 ∷ 9 ∷ []) (4 ∷ 2 ∷ 1 ∷ [])) 1 0 1
     (leaf_of (6 ∷ 3 ∷ 1 ∷ 2 ∷ 6 ∷ 1 ∷ 7 ∷ 1 ∷ 9 ∷ []) (4 ∷ 2 ∷ 3 ∷ []))
     ∷ runs_on deep_pair "= 1\nu 7 0\nx 0\n" (leaf_of (6 ∷ 3 ∷ 2 ∷ 2 ∷ 6 ∷ 1 ∷ 7 ∷ 5 ∷ 0 ∷ 1 ∷ 9 ∷ []) (4 ∷ 2 ∷ 1 ∷ []))
@@ -118,7 +119,8 @@ pair_cases =
     ∷ runs_on pair_types "= 3\nu 7 1\nf\nx 0\n" (pair_of (1 ∷ 3 ∷ []) (4 ∷ 2 ∷ 1 ∷ [])) 0b01 0 1
     (pair_of (1 ∷ 3 ∷ []) (4 ∷ 2 ∷ 3 ∷ []))
     -- a memory with another type in the second part, without a second part, with words after it, is refused
-    ∷ runs_on pair_types "s\n" (first_of (6 ∷ 5 ∷ 1 ∷ 1 ∷ 9 ∷ 2 ∷ 1 ∷ [])) 0 8 0 (first_of (6 ∷ 5 ∷ 1 ∷ 1 ∷ 9 ∷ 2 ∷ 1 ∷ []))
+    ∷ runs_on pair_types "s\n" (first_of (6 ∷ 5 ∷ 1 ∷ 1 ∷ 9 ∷ 2 ∷ 1 ∷ [])) 0 8 0
+    (first_of (6 ∷ 5 ∷ 1 ∷ 1 ∷ 9 ∷ 2 ∷ 1 ∷ []))
     ∷ runs_on pair_types "s\n" (first_of (6 ∷ 5 ∷ 1 ∷ 1 ∷ 9 ∷ [])) 0 8 0 (first_of (6 ∷ 5 ∷ 1 ∷ 1 ∷ 9 ∷ []))
     ∷ runs_on pair_types "s\n" (first_of (6 ∷ 5 ∷ 1 ∷ 1 ∷ 9 ∷ 1 ∷ 5 ∷ 1 ∷ [])) 0 8 0
     (first_of (6 ∷ 5 ∷ 1 ∷ 1 ∷ 9 ∷ 1 ∷ 5 ∷ 1 ∷ []))

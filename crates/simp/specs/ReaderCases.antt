@@ -88,9 +88,11 @@ reader_cases =
     (with_package (1 ∷ 9 ∷ []) (4 ∷ 2 ∷ 1 ∷ []) (4 ∷ 2 ∷ 1 ∷ []))
     ∷ runs_on below_together "= 1\nu 5 1\nx 0\n" (filled_rows ((5 ∷ 0 ∷ 1 ∷ 9 ∷ []) ∷ (4 ∷ 2 ∷ 3 ∷ []) ∷ [])) 0b1100 0 1
     (filled_rows ((5 ∷ 0 ∷ 1 ∷ 9 ∷ []) ∷ (3 ∷ 1 ∷ 9 ∷ []) ∷ []))
-    ∷ runs_on below_by_himself "= 1\nu 5 1\nx 0\n" (filled_rows ((5 ∷ 0 ∷ 1 ∷ 9 ∷ []) ∷ (4 ∷ 2 ∷ 3 ∷ []) ∷ [])) 0b1100 0 1
+    ∷ runs_on below_by_himself "= 1\nu 5 1\nx 0\n"
+    (filled_rows ((5 ∷ 0 ∷ 1 ∷ 9 ∷ []) ∷ (4 ∷ 2 ∷ 3 ∷ []) ∷ [])) 0b1100 0 1
     (filled_rows ((5 ∷ 0 ∷ 1 ∷ 9 ∷ []) ∷ (4 ∷ 2 ∷ 1 ∷ []) ∷ []))
-    ∷ runs_on below_by_himself "= 1\nu 5 0\nx 0\n" (filled_rows ((5 ∷ 0 ∷ 1 ∷ 9 ∷ []) ∷ (4 ∷ 2 ∷ 3 ∷ []) ∷ [])) 0b0100 0 1
+    ∷ runs_on below_by_himself "= 1\nu 5 0\nx 0\n"
+    (filled_rows ((5 ∷ 0 ∷ 1 ∷ 9 ∷ []) ∷ (4 ∷ 2 ∷ 3 ∷ []) ∷ [])) 0b0100 0 1
     (filled_rows ((5 ∷ 0 ∷ 1 ∷ 9 ∷ []) ∷ (3 ∷ 1 ∷ 9 ∷ []) ∷ []))
     -- writing stays pooled: 0 and 1 write label 1 together and neither by himself, in a pack and where distrusted
     ∷ runs_on by_himself "= 4\nk 1\ni 9\n" (with_package (1 ∷ 9 ∷ []) (4 ∷ 2 ∷ 1 ∷ []) (4 ∷ 2 ∷ 3 ∷ [])) 0b0011 0 1

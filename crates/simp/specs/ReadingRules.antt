@@ -74,7 +74,8 @@ shown_by s reads ws = view_by (location_count s) (λ (x : ℕ). reads (label_no 
 -- he doesn't read the label that the script with this text starts at
 abbrev pub StartUnread : (Label → Bool) → List ℕ → List ℕ → Type 0
 StartUnread reads sheet script =
-    (s : Sheet) (p : Script) → IsSheet sheet s → IsScript (counts_of s) script p → ¬ (reads (start_label s p).raw ≡ true)
+    (s : Sheet) (p : Script) → IsSheet sheet s → IsScript (counts_of s) script p
+    → ¬ (reads (start_label s p).raw ≡ true)
 
 -- What is promised to him of the words that he is shown: the same as to a group. (Demand3, RoundView and StartUnseen
 -- say besides that simp_view gives a group its view before and after, or the same number.)

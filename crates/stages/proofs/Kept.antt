@@ -72,7 +72,8 @@ left_declared s c src names t authority b l M M' d h =
       typed = (type_soundness (shapes_of s) W (λ n. refl)).done_typed c t M d.typed b l M' h;
       fitting = keeps Fits Anywhere fits_kept W b l M M' c (fits_cmd (shapes_of s) [] c t) d.fitting h;
       named =
-          keeps (λ v. proper (label_count s) v ≡ true) (λ n. n < label_count s) (proper_kept (label_count s)) W b l M M' c
+          keeps (λ v. proper (label_count s) v ≡ true) (λ n. n < label_count s)
+          (proper_kept (label_count s)) W b l M M' c
           (uses (λ v. proper (label_count s) v ≡ true) (int-proper (label_count s)) k 0 src names) d.named h;
     }
 

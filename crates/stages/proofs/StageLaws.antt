@@ -379,7 +379,8 @@ module _ (script t memory : List ℕ) (authority budget : ℕ) where
         by-memory-in run = number_goes R _ n.in_table.0 _ (sym z ∙ n.in_table.2)
 
         -- 7 and 8
-        pub run-refused : (k : ℕ) → k ≡ refusal_in t memory → (k ≡ 0 → ⊥) → RunsOn script t memory authority budget (R k)
+        pub run-refused : (k : ℕ) → k ≡ refusal_in t memory → (k ≡ 0 → ⊥)
+            → RunsOn script t memory authority budget (R k)
         run-refused k m w =
             let m' = refusal_in_lem t memory k m in
             by_onward _ (refusal-spares memory budget k) (λ s T. ap R (m' s T)
@@ -424,7 +425,8 @@ view_known t memory group view r left h p q =
 -- on the table of a sheet it is that of simp_view on the sheet
 pub view_in_lem : (t memory : List ℕ) (group : ℕ) (view : List ℕ) (r : Viewed) → r ≡ viewed_in t memory group view
     → (s : Sheet) → TableOf t s
-    → r ≡ unless (refused_view view) (strangers s group) (unless (refused_view view) (view_refusal s memory (length view))
+    → r ≡ unless (refused_view view) (strangers s group)
+    (unless (refused_view view) (view_refusal s memory (length view))
     (record { answer = 0; view = view_words s group memory }))
 unfolding viewed_in
 view_in_lem t memory group view r e s T =

@@ -112,7 +112,8 @@ set_field-sound t m u e =
     (byte-sound 9 t w x f ∙ rw r.0, r.1)) e
 
 pub set_field_print : (m : ℕ) (u : List ℕ) → m < 2 ^ width → set_field (print_set_field m u) ≡ got m u
-set_field_print m u h = set_field_on _ (hex_form set_digits m ++ u) (byte_here 9 9 _ refl) ∙ digits_print set_digits m u h
+set_field_print m u h =
+    set_field_on _ (hex_form set_digits m ++ u) (byte_here 9 9 _ refl) ∙ digits_print set_digits m u h
 
 pub set_field_exact : SetFieldExact
 set_field_exact m t rest = (λ e. set_field-sound t m rest e, λ r. ap set_field r.0 ∙ set_field_print m rest r.1)
@@ -138,7 +139,8 @@ module _ (s : List ℕ) (i : ℕ) where
       → (byte b (drop i s) ≡ got tt (drop p s)) × (p ≤ length s)
   byte_at b r e p g = place_at s i _ r (byte_within b (drop i s)) e p g
 
-  pub byte-bad : (b : ℕ) (r : Place) → r ≡ placed_end s (byte b (drop i s)) → r ≡ place.Refused → byte b (drop i s) ≡ bad
+  pub byte-bad : (b : ℕ) (r : Place) → r ≡ placed_end s (byte b (drop i s)) → r ≡ place.Refused
+      → byte b (drop i s) ≡ bad
   byte-bad b r e g = place_bad s i _ r (byte_within b (drop i s)) e g
 
   pub number_at : (bound : ℕ) (r : Decimal) → r ≡ placed_decimal s (number bound (drop i s)) → (v p : ℕ)
@@ -185,5 +187,6 @@ module _ (s : List ℕ) (i : ℕ) where
       → (set_field (drop i s) ≡ got m (drop p s)) × (p ≤ length s)
   set_field_at r e m p g = mask_at s i _ r (set_field_within (drop i s)) e m p g
 
-  pub set_field-bad : (r : Mask) → r ≡ placed_set s (set_field (drop i s)) → r ≡ mask.Refused → set_field (drop i s) ≡ bad
+  pub set_field-bad : (r : Mask) → r ≡ placed_set s (set_field (drop i s)) → r ≡ mask.Refused
+      → set_field (drop i s) ≡ bad
   set_field-bad r e g = mask-bad s i _ r (set_field_within (drop i s)) e g

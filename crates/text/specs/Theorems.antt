@@ -18,7 +18,8 @@ NumberExact =
 
 -- a set: its digits
 abbrev pub SetExact : Type 0
-SetExact = (m : ℕ) (t rest : List ℕ) → (hex_set t ≡ got m rest) ↔ ((t ≡ hex_form set_digits m ++ rest) × (m < 2 ^ width))
+SetExact = (m : ℕ) (t rest : List ℕ)
+    → (hex_set t ≡ got m rest) ↔ ((t ≡ hex_form set_digits m ++ rest) × (m < 2 ^ width))
 
 abbrev pub NumberFieldExact : Type 0
 NumberFieldExact =
@@ -26,7 +27,8 @@ NumberFieldExact =
     → (number_field bound t ≡ got v rest) ↔ ((t ≡ print_number_field v rest) × (v ≤ bound) × (opens_digit rest ≡ false))
 
 abbrev pub SetFieldExact : Type 0
-SetFieldExact = (m : ℕ) (t rest : List ℕ) → (set_field t ≡ got m rest) ↔ ((t ≡ print_set_field m rest) × (m < 2 ^ width))
+SetFieldExact =
+    (m : ℕ) (t rest : List ℕ) → (set_field t ≡ got m rest) ↔ ((t ≡ print_set_field m rest) × (m < 2 ^ width))
 
 abbrev pub LineEndExact : Type 0
 LineEndExact = (t rest : List ℕ) → (line_end t ≡ got tt rest) ↔ (t ≡ print_line_end rest)

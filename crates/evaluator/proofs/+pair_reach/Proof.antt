@@ -190,6 +190,7 @@ unfolding op_kind
     (end_done _ c.if-v-le-TOO_LONG.false)
     c.word-n.ensures c.reach-w.ensures (c.applied-in-9.ensures o_plus
     c.if-kind-ne-PLUS.false))  -- returns-else-v-le-TOO_LONG
-    (λ c. laws.eval_none c.row_at-row.ensures (λ h. omega (arith, h.0, c.in_default.if-kind-lt6-own.true)))  -- returns-in_default
+    (λ c. laws.eval_none c.row_at-row.ensures
+    (λ h. omega (arith, h.0, c.in_default.if-kind-lt6-own.true)))  -- returns-in_default
     (λ c. laws.eval_none c.row_at-row.ensures
     (λ h. omega (arith, h.1, c.in_default.if-kind-lt17-own.false)))  -- returns-in_default-2

@@ -31,7 +31,8 @@ returns-then-needs_each c =
     let e = c.before.before in
     let i = e.before.before in
     let s = i.before.before in
-    found_first _ _ i.loop-group.invariant (readers_grow _) s.requires.0 i.loop-group-test.true s.requires.1 (it_reads e)
+    found_first _ _ i.loop-group.invariant (readers_grow _) s.requires.0 i.loop-group-test.true s.requires.1
+    (it_reads e)
     c.needs_each.ensures c.if-needs_each.true
 
 loop-group-preserved : tie.Need-loop-group-preserved invariant-loop-group decreases-loop-group
@@ -63,6 +64,11 @@ first_from_spec = tie.close (tie.spec
     (omega (arith, i.loop-group.invariant.not_before, i.requires.0), in_width i))  -- past_holders-group-requires
     (λ c.
     let i = c.before.before.before.before.before in
-    omega (arith, c.past_holders-group.ensures, past_rises i.loop-group.group, i.loop-group-test.true))  -- loop-group-smaller
+    omega (
+      arith,
+      c.past_holders-group.ensures,
+      past_rises i.loop-group.group,
+      i.loop-group-test.true,
+    ))  -- loop-group-smaller
     loop-group-preserved
     (λ c. none_first _ _ c.loop-group.invariant c.loop-group-test.false))  -- returns

@@ -10,7 +10,8 @@ use Rattle.interpreter.proofs.copy.Statement.{statement}
 use Rattle.interpreter.proofs.copy.Tie as tie
 
 abbrev invariant-loop-i : tie.invariant-loop-i
-invariant-loop-i dst₀ to src from n i₀ dst i = (i ≤ n) × (dst ≡ paste dst₀ to (drop from src) i) × (length dst ≡ length dst₀)
+invariant-loop-i dst₀ to src from n i₀ dst i =
+    (i ≤ n) × (dst ≡ paste dst₀ to (drop from src) i) × (length dst ≡ length dst₀)
 
 abbrev decreases-loop-i : tie.decreases-loop-i
 decreases-loop-i dst₀ to src from n i₀ dst i = n - i

@@ -13,7 +13,8 @@ use Rattle.labels.proofs.common_at.Statement.{statement}
 use Rattle.labels.proofs.common_at.Tie as tie
 
 abbrev invariant-loop-owner : tie.invariant-loop-owner
-invariant-loop-owner table at n common₀ o₀ common o = (o ≤ n) × (common ≡ common_of o (λ (k : ℕ). get_or (sets_at table at) k 0))
+invariant-loop-owner table at n common₀ o₀ common o =
+    (o ≤ n) × (common ≡ common_of o (λ (k : ℕ). get_or (sets_at table at) k 0))
 
 abbrev decreases-loop-owner : tie.decreases-loop-owner
 decreases-loop-owner table at n common₀ o₀ common o = n - o

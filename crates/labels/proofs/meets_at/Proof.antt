@@ -18,7 +18,8 @@ use Rattle.labels.proofs.meets_at.Statement.{statement}
 use Rattle.labels.proofs.meets_at.Tie as tie
 
 abbrev invariant-loop-o : tie.invariant-loop-o
-invariant-loop-o table at n group o₀ o = (o ≤ n) × ((k : ℕ) → k < o → meets group (get_or (sets_at table at) k 0) ≡ true)
+invariant-loop-o table at n group o₀ o =
+    (o ≤ n) × ((k : ℕ) → k < o → meets group (get_or (sets_at table at) k 0) ≡ true)
 
 abbrev decreases-loop-o : tie.decreases-loop-o
 decreases-loop-o table at n group o₀ o = n - o

@@ -12,7 +12,8 @@ use Rattle.labels.proofs.put_sets.Statement.{statement}
 use Rattle.labels.proofs.put_sets.Tie as tie
 
 abbrev invariant-loop-o : tie.invariant-loop-o
-invariant-loop-o table₀ at row o₀ table o = (o ≤ owners) × (length table ≡ length table₀) × (table ≡ paste table₀ at row o)
+invariant-loop-o table₀ at row o₀ table o =
+    (o ≤ owners) × (length table ≡ length table₀) × (table ≡ paste table₀ at row o)
 
 abbrev decreases-loop-o : tie.decreases-loop-o
 decreases-loop-o table₀ at row o₀ table o = owners - o

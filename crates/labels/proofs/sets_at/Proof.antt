@@ -12,7 +12,8 @@ use Rattle.labels.proofs.sets_at.Statement.{statement}
 use Rattle.labels.proofs.sets_at.Tie as tie
 
 abbrev invariant-loop-o : tie.invariant-loop-o
-invariant-loop-o table at skip out₀ o₀ out o = (o ≤ owners) × (out ≡ filled (λ (k : ℕ). get_or table (at + skip + k) 0) o out₀)
+invariant-loop-o table at skip out₀ o₀ out o =
+    (o ≤ owners) × (out ≡ filled (λ (k : ℕ). get_or table (at + skip + k) 0) o out₀)
 
 abbrev decreases-loop-o : tie.decreases-loop-o
 decreases-loop-o table at skip out₀ o₀ out o = owners - o

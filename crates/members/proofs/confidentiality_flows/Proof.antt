@@ -47,9 +47,11 @@ loop-rest-preserved c =
     let first = sym (label-member m l.p below) ∙ rest_first (restrict max_labels m) l.p l.rest l.invariant.2 in (
       omega arith,
       elim c.if-rest-eq1.branch [
-        | then-rest-eq1 w ↦ w.all-is ∙ passed_with t upper m l.p below (first ∙ eq-eqb _ _ w.if-rest-eq1.true) l.invariant.1
+        | then-rest-eq1 w ↦ w.all-is
+            ∙ passed_with t upper m l.p below (first ∙ eq-eqb _ _ w.if-rest-eq1.true) l.invariant.1
             (w.confidentiality_at_or_below-all.ensures ∙ ap (Passes upper) w.label_of-lower.ensures)
-        | else-rest-eq1 w ↦ w.all-is ∙ passed_without t upper m l.p (first ∙ ne_eqb _ _ w.if-rest-eq1.false) l.invariant.1
+        | else-rest-eq1 w ↦ w.all-is
+            ∙ passed_without t upper m l.p (first ∙ ne_eqb _ _ w.if-rest-eq1.false) l.invariant.1
       ],
       rest_more (restrict max_labels m) l.p l.rest l.invariant.2,
     )

@@ -11,7 +11,8 @@ holds_spec = tie.close (tie.spec
     (λ c κs. search rules)
     (λ c κs. search rules)
     (λ c. let v = c.before.before in
-    not_proper _ _ _ v.labels.ensures v.value_at-walked.ensures (not-true _ c.if-not-walked.true))  -- returns-then-not-walked
+    not_proper _ _ _ v.labels.ensures v.value_at-walked.ensures
+    (not-true _ c.if-not-walked.true))  -- returns-then-not-walked
     (λ c κs. search rules)
     (λ c. let v = c.before.before.before.before in
     not_typed _ _ _ v.labels.ensures v.value_at-walked.ensures (not-false _ c.if-not-walked.false)

@@ -46,4 +46,5 @@ pub record TableAgrees (s : Sheet) : Type 0 where
   pub reads : (g l : ℕ) → reads_in (table_of s) g l ≡ reads_no s g l
   pub view : (g : ℕ) (ws : List ℕ) → view_in (table_of s) g ws ≡ view_words s g ws
   pub view_refusal_lem : (ws : List ℕ) (len : ℕ) → view_refusal_in (table_of s) ws len ≡ view_refusal s ws len
-  pub view_leaves_lem : (g : ℕ) (ws before : List ℕ) → view_leaves_in (table_of s) g ws before ≡ view_leaves s g ws before
+  pub view_leaves_lem : (g : ℕ) (ws before : List ℕ)
+      → view_leaves_in (table_of s) g ws before ≡ view_leaves s g ws before

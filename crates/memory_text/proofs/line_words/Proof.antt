@@ -17,7 +17,8 @@ use Rattle.memory_text.proofs.line_words.Statement.{statement}
 use Rattle.memory_text.proofs.line_words.Tie as tie
 
 abbrev invariant-loop-i : tie.invariant-loop-i
-invariant-loop-i s at words₀ p₀ i₀ words p i = (i ≤ cell_words) × (rows.left i words (drop p s) ≡ filled_line (drop at s))
+invariant-loop-i s at words₀ p₀ i₀ words p i =
+    (i ≤ cell_words) × (rows.left i words (drop p s) ≡ filled_line (drop at s))
 
 abbrev decreases-loop-i : tie.decreases-loop-i
 decreases-loop-i s at words₀ p₀ i₀ words p i = cell_words - i

@@ -17,7 +17,8 @@ use Rattle.memory_text.proofs.locations.Tie as tie
 abbrev invariant-loop-at : tie.invariant-loop-at
 invariant-loop-at s words₀ n₀ at₀ words n at =
     (n ≤ max_locations) × (length words ≡ memory_words)
-    × (tabled n words (lines_up_to spec.location (max_locations - n) (drop at s)) ≡ table (spec.locations max_locations s))
+    × (tabled n words (lines_up_to spec.location (max_locations - n) (drop at s))
+    ≡ table (spec.locations max_locations s))
 
 abbrev decreases-loop-at : tie.decreases-loop-at
 decreases-loop-at s words₀ n₀ at₀ words n at = max_locations - n

@@ -27,7 +27,8 @@ invariant-loop-at scripts table ends number₀ i₀ at₀ number i at =
     × ((s : Sheet) → TableOf table s
     → lower number (lowest (number_of s) (script_texts_after scripts at)) ≡ lowest (number_of s) (script_texts scripts))
     × ((v : ℕ) × OfVerdict v
-    × (lower number (lowest (number_in 0 table) (script_texts_after scripts at)) ≡ lowest_in v table (script_texts scripts)))
+    × (lower number (lowest (number_in 0 table) (script_texts_after scripts at))
+    ≡ lowest_in v table (script_texts scripts)))
 
 abbrev decreases-loop-at : tie.decreases-loop-at
 decreases-loop-at scripts table ends number₀ i₀ at₀ number i at = length scripts + 1 - at
@@ -94,8 +95,16 @@ lowest_number_spec = tie.close (tie.spec
     invariant-loop-at
     decreases-loop-at
     loop-at-init
-    (λ c. omega (arith, place_at _ _ c.loop-at.i _ c.requires c.loop-at.invariant.0 c.loop-at-test.true))  -- offset_bounds-ends-i
-    (λ c. omega (arith, place_at _ _ c.loop-at.i _ c.requires c.loop-at.invariant.0 c.loop-at-test.true))  -- bounds-ends-i
+    (λ c. omega (
+      arith,
+      place_at _ _ c.loop-at.i _ c.requires c.loop-at.invariant.0
+          c.loop-at-test.true,
+    ))  -- offset_bounds-ends-i
+    (λ c. omega (
+      arith,
+      place_at _ _ c.loop-at.i _ c.requires c.loop-at.invariant.0
+          c.loop-at-test.true,
+    ))  -- bounds-ends-i
     (λ c. omega (arith, (here c).rises))  -- slice_bounds-check_on-count
     (λ c. omega (arith, (here c).rises, (here c).inside))  -- slice_bounds-check_on-start
     (λ c. omega (arith, (here c).rises, (here c).inside))  -- slice_bounds-check_on-end

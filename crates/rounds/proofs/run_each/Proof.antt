@@ -33,7 +33,8 @@ placed c = omega (
 )
 
 -- where its turn began
-abbrev the : tie.After-slice_known-in-loop-at-1 invariant-loop-at decreases-loop-at → tie.In-loop-at invariant-loop-at decreases-loop-at
+abbrev the : tie.After-slice_known-in-loop-at-1 invariant-loop-at decreases-loop-at
+    → tie.In-loop-at invariant-loop-at decreases-loop-at
 the c = c.before.before.before.before.before
 
 loop-at-preserved : tie.Need-loop-at-preserved invariant-loop-at decreases-loop-at
@@ -51,9 +52,21 @@ run_each_spec = tie.close (tie.spec
     invariant-loop-at
     decreases-loop-at
     (λ c. (first_starts _, refl, goes_first _ _ _ _ _ _ c.requires.few))  -- loop-at-init
-    (λ c. omega (arith, place_at _ _ c.loop-at.i _ c.requires c.loop-at.invariant.0 c.loop-at-test.true))  -- offset_bounds-ends-i
-    (λ c. omega (arith, place_at _ _ c.loop-at.i _ c.requires c.loop-at.invariant.0 c.loop-at-test.true))  -- bounds-ends-i
-    (λ c. omega (arith, place_at _ _ c.loop-at.i _ c.requires c.loop-at.invariant.0 c.loop-at-test.true))  -- bounds-gates-i
+    (λ c. omega (
+      arith,
+      place_at _ _ c.loop-at.i _ c.requires c.loop-at.invariant.0
+          c.loop-at-test.true,
+    ))  -- offset_bounds-ends-i
+    (λ c. omega (
+      arith,
+      place_at _ _ c.loop-at.i _ c.requires c.loop-at.invariant.0
+          c.loop-at-test.true,
+    ))  -- bounds-ends-i
+    (λ c. omega (
+      arith,
+      place_at _ _ c.loop-at.i _ c.requires c.loop-at.invariant.0
+          c.loop-at-test.true,
+    ))  -- bounds-gates-i
     (λ c. omega (arith, (here c).rises))  -- slice_bounds-turn-count
     (λ c. omega (arith, (here c).rises, (here c).inside))  -- slice_bounds-turn-start
     (λ c. omega (arith, (here c).rises, (here c).inside))  -- slice_bounds-turn-end

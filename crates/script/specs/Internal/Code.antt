@@ -35,7 +35,8 @@ code (l ∷ ls) = (row_of l).kind ∷ (row_of l).a ∷ (row_of l).b ∷ code ls
 -- the row that starts at a word, if three words are there; else a row of kind 0, which no line has
 unfoldable pub row_at : List ℕ → ℕ → Row
 row_at ws at =
-    cond (leb (at + 3) (length ws)) (row_with (get_or ws at 0) (get_or ws (at + 1) 0) (get_or ws (at + 2) 0)) (row_with 0 0 0)
+    cond (leb (at + 3) (length ws)) (row_with (get_or ws at 0) (get_or ws (at + 1) 0) (get_or ws (at + 2) 0))
+    (row_with 0 0 0)
 
 -- The rows left from a word on. It is the measure of every walk over the code: each call stands at a later row than the
 -- one that made it.

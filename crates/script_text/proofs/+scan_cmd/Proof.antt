@@ -43,7 +43,8 @@ readings t = (
   scan-expr-reads.Learnt,
 )
 
-returns-then-depth-ge-DEPTH : (t : ℕ) → scan-cmd-lts.Need-returns-then-depth-ge-DEPTH (readings t) (scan_cmd_at t) scan-cmd.Post
+returns-then-depth-ge-DEPTH : (t : ℕ)
+    → scan-cmd-lts.Need-returns-then-depth-ge-DEPTH (readings t) (scan_cmd_at t) scan-cmd.Post
 returns-then-depth-ge-DEPTH t c =
     let kind = c.before in
     laws.scan_deep _ _ kind.row_at-row.ensures kind.in-5.is (omega (arith, c.if-depth-ge-DEPTH.true))
@@ -73,7 +74,8 @@ returns-in-4 t c =
     laws.scan_two kind.row_at-row.ensures n_while kind.in-4.is
     c.scan_expr-e.ensures c.scan_cmd-in-4.ensures c.also-in-4.ensures (λ x y. refl)
 
-returns-else-depth-ge-DEPTH : (t : ℕ) → scan-cmd-lts.Need-returns-else-depth-ge-DEPTH (readings t) (scan_cmd_at t) scan-cmd.Post
+returns-else-depth-ge-DEPTH : (t : ℕ)
+    → scan-cmd-lts.Need-returns-else-depth-ge-DEPTH (readings t) (scan_cmd_at t) scan-cmd.Post
 returns-else-depth-ge-DEPTH t c =
     let first = c.before.before.before in
     let e = first.before in
@@ -83,7 +85,8 @@ returns-else-depth-ge-DEPTH t c =
     c.also-in-5.ensures c.also-in-5-2.ensures
 
 returns-in_default : (t : ℕ) → scan-cmd-lts.Need-returns-in_default (readings t) (scan_cmd_at t) scan-cmd.Post
-returns-in_default t c = laws.scan_none c.row_at-row.ensures (λ h. none_between 1 5 c.in_default.in_default-own.rest h.0 h.1)
+returns-in_default t c =
+    laws.scan_none c.row_at-row.ensures (λ h. none_between 1 5 c.in_default.in_default-own.rest h.0 h.1)
 
 -- the calls of the five kinds, in order: room for the next row, and fewer rows left, with the return of a case that is
 -- too deep; then a return for each kind and the others

@@ -69,19 +69,23 @@ returns-in-9-kind t c =
     second.in-9-kind.is first.scan_expr-e.ensures second.scan_expr.ensures
     c.also-f.ensures c.also.ensures
 
-returns-in_default-kind : (t : ℕ) → scan-expr-lts.Need-returns-in_default-kind (readings t) (scan_expr_at t) scan-expr.Post
+returns-in_default-kind : (t : ℕ)
+    → scan-expr-lts.Need-returns-in_default-kind (readings t) (scan_expr_at t) scan-expr.Post
 returns-in_default-kind t c =
     let first = c.before.before.before in
     let kind = first.before in
     laws.scan_named_one _ _ kind.row_at-row.ensures c.names_there-in_default-kind.ensures
-    (omega (arith, c.in-9.if-kind-lt6-own.false)) (omega (arith, c.in-9.if-kind-lt17-own.true)) c.in_default-kind.in_default-kind-own.rest.1
+    (omega (arith, c.in-9.if-kind-lt6-own.false))
+    (omega (arith, c.in-9.if-kind-lt17-own.true)) c.in_default-kind.in_default-kind-own.rest.1
     first.scan_expr-e.ensures c.also-in_default-kind.ensures
 
 returns-in_default : (t : ℕ) → scan-expr-lts.Need-returns-in_default (readings t) (scan_expr_at t) scan-expr.Post
-returns-in_default t c = laws.scan_none c.row_at-row.ensures (λ h. omega (arith, h.0, c.in_default.if-kind-lt6-own.true))
+returns-in_default t c =
+    laws.scan_none c.row_at-row.ensures (λ h. omega (arith, h.0, c.in_default.if-kind-lt6-own.true))
 
 returns-in_default-2 : (t : ℕ) → scan-expr-lts.Need-returns-in_default-2 (readings t) (scan_expr_at t) scan-expr.Post
-returns-in_default-2 t c = laws.scan_none c.row_at-row.ensures (λ h. omega (arith, h.1, c.in_default.if-kind-lt17-own.false))
+returns-in_default-2 t c =
+    laws.scan_none c.row_at-row.ensures (λ h. omega (arith, h.1, c.in_default.if-kind-lt17-own.false))
 
 -- room for the next row, and fewer rows left; then a return for each leaf, two operands, one, and the others
 pub +scan_expr_spec : {M : Type 1} → statement M

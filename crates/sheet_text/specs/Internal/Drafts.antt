@@ -3,7 +3,8 @@ use Rattle.std.specs.Prelude.{◌≡◌, Bool, true, false, cond, List, ℕ, eqb
 use Rattle.std.proofs.Math.Option.{Option, none, some}
 use Rattle.logic.specs.Booleans.{both}
 use Rattle.sheet.specs.Sheet.{Sheet, formed, max_principals, max_labels, max_locations}
-use Rattle.sheet.specs.Internal.Tables.{max_types, table_of, principals_in, everyone_in, types_in, labels_in, locations_in}
+use Rattle.sheet.specs.Internal.Tables.{max_types, table_of, principals_in, everyone_in, types_in, labels_in}
+use Rattle.sheet.specs.Internal.Tables.{locations_in}
 use Rattle.sheet.specs.Internal.Tables.{rule_in}
 use Rattle.sheet_text.specs.declared.line.SheetLine.{SheetLine}
 use Rattle.sheet_text.specs.declared.draft.Draft.{Draft}

@@ -13,7 +13,8 @@ of_variable_spec = tie.close (tie.spec
     c.no_type.ensures ∙ sym (var_past a.bound.now a.depth a.d a.next (omega arith)))  -- returns-then-i-depth
     (λ c κs. search rules)  -- no_type-requires-then-depth-gt-DEPTH
     (λ c. let a = c.args in
-    c.no_type-then-depth-gt-DEPTH.ensures ∙ sym (var_deep a.bound.now a.depth a.d a.next (omega arith)))  -- returns-then-depth-gt-DEPTH
+    c.no_type-then-depth-gt-DEPTH.ensures
+    ∙ sym (var_deep a.bound.now a.depth a.d a.next (omega arith)))  -- returns-then-depth-gt-DEPTH
     (λ c. search rules)  -- overflow_sub-at
     (λ c. search rules)  -- overflow_sub-at-2
     (λ c. search rules)  -- overflow_mul-at

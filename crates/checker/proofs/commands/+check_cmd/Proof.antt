@@ -68,7 +68,8 @@ check_cmd_calls t = (
   of-case-reads.Learnt,
 )
 
-returns-then-depth-ge-DEPTH : (t : ℕ) → check-cmd-lts.Need-returns-then-depth-ge-DEPTH (check_cmd_calls t) (check_cmd_at t) check-cmd.Post
+returns-then-depth-ge-DEPTH : (t : ℕ)
+    → check-cmd-lts.Need-returns-then-depth-ge-DEPTH (check_cmd_calls t) (check_cmd_at t) check-cmd.Post
 returns-then-depth-ge-DEPTH t c =
     arm_deep c.row_at-row.ensures
     c.in-5.is c.if-depth-ge-DEPTH.true c.not_passed.ensures
@@ -96,7 +97,8 @@ returns-in-4 t c =
     c.in-4.is c.join-inside.ensures
     c.check_cmd-y.ensures c.of_while.ensures
 
-returns-else-depth-ge-DEPTH : (t : ℕ) → check-cmd-lts.Need-returns-else-depth-ge-DEPTH (check_cmd_calls t) (check_cmd_at t) check-cmd.Post
+returns-else-depth-ge-DEPTH : (t : ℕ)
+    → check-cmd-lts.Need-returns-else-depth-ge-DEPTH (check_cmd_calls t) (check_cmd_at t) check-cmd.Post
 returns-else-depth-ge-DEPTH t c =
     arm_case c.row_at-row.ensures
     c.check_expr-x.ensures
@@ -111,7 +113,8 @@ returns-else-depth-ge-DEPTH t c =
     c.right_part.ensures c.bind-in-5.ensures
     c.check_cmd-z.ensures c.of_case.ensures
 
-returns-in_default-kind : (t : ℕ) → check-cmd-lts.Need-returns-in_default-kind (check_cmd_calls t) (check_cmd_at t) check-cmd.Post
+returns-in_default-kind : (t : ℕ)
+    → check-cmd-lts.Need-returns-in_default-kind (check_cmd_calls t) (check_cmd_at t) check-cmd.Post
 returns-in_default-kind t c =
     arm_other c.row_at-row.ensures
     (λ h. none_between 3 3 c.in_default-kind.in_default-kind-own.rest

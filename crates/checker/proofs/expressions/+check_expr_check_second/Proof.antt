@@ -13,8 +13,7 @@ use borrow.Fn.PlainCycle.{Measures, is, falls, and}
 use Rattle.checker.proofs.expressions.check_expr.Reads as check-expr
 use Rattle.checker.proofs.expressions.check_expr.Kinds as check-expr-kinds
 use Rattle.checker.proofs.expressions.+check_expr_check_second.Lts-check_expr as check-expr-lts
-use Rattle.checker.proofs.expressions.+check_expr_check_second.Lts-check_expr.{in_default-via-then-kind-lt6}
-use Rattle.checker.proofs.expressions.+check_expr_check_second.Lts-check_expr.{in_default-via-else-kind-lt6+else-kind-lt17}
+use Rattle.checker.proofs.expressions.+check_expr_check_second.Lts-check_expr.{}
 use Rattle.checker.proofs.expressions.check_second.Reads as check-second
 use Rattle.checker.proofs.expressions.check_second.Kinds as check-second-kinds
 use Rattle.checker.proofs.expressions.+check_expr_check_second.Lts-check_second as check-second-lts
@@ -87,69 +86,81 @@ check_expr_calls t = (
   no-type-reads.Learnt,
 )
 
-check_expr-returns-in-6 : (t : ℕ) → check-expr-lts.Need-returns-in-6 (check_expr_calls t) (check_expr_at t) check-expr.Post
+check_expr-returns-in-6 : (t : ℕ)
+    → check-expr-lts.Need-returns-in-6 (check_expr_calls t) (check_expr_at t) check-expr.Post
 check_expr-returns-in-6 t c =
     arm_int c.row_at-row.ensures c.in-6.is c.of_int.ensures
 
-check_expr-returns-in-7 : (t : ℕ) → check-expr-lts.Need-returns-in-7 (check_expr_calls t) (check_expr_at t) check-expr.Post
+check_expr-returns-in-7 : (t : ℕ)
+    → check-expr-lts.Need-returns-in-7 (check_expr_calls t) (check_expr_at t) check-expr.Post
 check_expr-returns-in-7 t c =
     arm_loc c.row_at-row.ensures c.in-7.is c.of_location.ensures
 
-check_expr-returns-in-8 : (t : ℕ) → check-expr-lts.Need-returns-in-8 (check_expr_calls t) (check_expr_at t) check-expr.Post
+check_expr-returns-in-8 : (t : ℕ)
+    → check-expr-lts.Need-returns-in-8 (check_expr_calls t) (check_expr_at t) check-expr.Post
 check_expr-returns-in-8 t c =
     arm_var c.row_at-row.ensures c.in-8.is c.of_variable.ensures
 
-check_expr-returns-in-9-kind : (t : ℕ) → check-expr-lts.Need-returns-in-9-kind (check_expr_calls t) (check_expr_at t) check-expr.Post
+check_expr-returns-in-9-kind : (t : ℕ)
+    → check-expr-lts.Need-returns-in-9-kind (check_expr_calls t) (check_expr_at t) check-expr.Post
 check_expr-returns-in-9-kind t c =
     let two = c.check_second.ensures in
     arm_plus c.row_at-row.ensures
     c.check_expr-x.ensures c.in-9-kind.is two.1 two.2
 
-check_expr-returns-in-14 : (t : ℕ) → check-expr-lts.Need-returns-in-14 (check_expr_calls t) (check_expr_at t) check-expr.Post
+check_expr-returns-in-14 : (t : ℕ)
+    → check-expr-lts.Need-returns-in-14 (check_expr_calls t) (check_expr_at t) check-expr.Post
 check_expr-returns-in-14 t c =
     let two = c.check_second-in-14.ensures in
     arm_pair c.row_at-row.ensures
     c.check_expr-x.ensures c.in-14.is two.1 two.2
 
-check_expr-returns-in-10 : (t : ℕ) → check-expr-lts.Need-returns-in-10 (check_expr_calls t) (check_expr_at t) check-expr.Post
+check_expr-returns-in-10 : (t : ℕ)
+    → check-expr-lts.Need-returns-in-10 (check_expr_calls t) (check_expr_at t) check-expr.Post
 check_expr-returns-in-10 t c =
     arm_left c.row_at-row.ensures
     c.check_expr-x.ensures
     c.in-10.is c.left_part.ensures c.of_sum.ensures
 
-check_expr-returns-in-11 : (t : ℕ) → check-expr-lts.Need-returns-in-11 (check_expr_calls t) (check_expr_at t) check-expr.Post
+check_expr-returns-in-11 : (t : ℕ)
+    → check-expr-lts.Need-returns-in-11 (check_expr_calls t) (check_expr_at t) check-expr.Post
 check_expr-returns-in-11 t c =
     arm_right c.row_at-row.ensures
     c.check_expr-x.ensures
     c.in-11.is c.right_part.ensures c.of_sum-in-11.ensures
 
-check_expr-returns-in-12 : (t : ℕ) → check-expr-lts.Need-returns-in-12 (check_expr_calls t) (check_expr_at t) check-expr.Post
+check_expr-returns-in-12 : (t : ℕ)
+    → check-expr-lts.Need-returns-in-12 (check_expr_calls t) (check_expr_at t) check-expr.Post
 check_expr-returns-in-12 t c =
     arm_pack c.row_at-row.ensures
     c.check_expr-x.ensures c.in-12.is
     c.of_pack.ensures
 
-check_expr-returns-in-13 : (t : ℕ) → check-expr-lts.Need-returns-in-13 (check_expr_calls t) (check_expr_at t) check-expr.Post
+check_expr-returns-in-13 : (t : ℕ)
+    → check-expr-lts.Need-returns-in-13 (check_expr_calls t) (check_expr_at t) check-expr.Post
 check_expr-returns-in-13 t c =
     arm_unpack c.row_at-row.ensures
     c.check_expr-x.ensures c.in-13.is
     c.of_unpack.ensures
 
-check_expr-returns-in-15 : (t : ℕ) → check-expr-lts.Need-returns-in-15 (check_expr_calls t) (check_expr_at t) check-expr.Post
+check_expr-returns-in-15 : (t : ℕ)
+    → check-expr-lts.Need-returns-in-15 (check_expr_calls t) (check_expr_at t) check-expr.Post
 unfolding pick
 check_expr-returns-in-15 t c =
     arm_part c.row_at-row.ensures
     c.check_expr-x.ensures
     first c.in-15.is c.left_part-in-15.ensures c.of_part.ensures
 
-check_expr-returns-in-16 : (t : ℕ) → check-expr-lts.Need-returns-in-16 (check_expr_calls t) (check_expr_at t) check-expr.Post
+check_expr-returns-in-16 : (t : ℕ)
+    → check-expr-lts.Need-returns-in-16 (check_expr_calls t) (check_expr_at t) check-expr.Post
 unfolding pick
 check_expr-returns-in-16 t c =
     arm_part c.row_at-row.ensures
     c.check_expr-x.ensures
     second c.in-16.is c.right_part-in-16.ensures c.of_part-in-16.ensures
 
-check_expr-returns-in_default-kind : (t : ℕ) → check-expr-lts.Need-returns-in_default-kind (check_expr_calls t) (check_expr_at t) check-expr.Post
+check_expr-returns-in_default-kind : (t : ℕ)
+    → check-expr-lts.Need-returns-in_default-kind (check_expr_calls t) (check_expr_at t) check-expr.Post
 check_expr-returns-in_default-kind t c =
     arm_other c.row_at-row.ensures
     (λ h.
@@ -166,12 +177,13 @@ check_expr-returns-in_default-kind t c =
     )
     (none_past 6 3 c.in-9.in_default-own.rest h.0) h.1) c.no_type.ensures
 
-check_expr-returns-in_default : (t : ℕ) → check-expr-lts.Need-returns-in_default (check_expr_calls t) (check_expr_at t) check-expr.Post
+check_expr-returns-in_default : (t : ℕ)
+    → check-expr-lts.Need-returns-in_default (check_expr_calls t) (check_expr_at t) check-expr.Post
 check_expr-returns-in_default t c =
     arm_other c.row_at-row.ensures
     (λ h. elim c.in_default.branch [
-      | in_default-via-then-kind-lt6 w ↦ omega (arith, h.0, w.if-kind-lt6-1.true)
-      | in_default-via-else-kind-lt6+else-kind-lt17 w ↦ omega (arith, h.1, w.if-kind-lt17-1.false)
+      | check-expr-lts.in_default-via-then-kind-lt6 w ↦ omega (arith, h.0, w.if-kind-lt6-1.true)
+      | check-expr-lts.in_default-via-else-kind-lt6+else-kind-lt17 w ↦ omega (arith, h.1, w.if-kind-lt17-1.false)
     ])
     c.no_type-in_default.ensures
 

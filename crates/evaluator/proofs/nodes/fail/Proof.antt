@@ -13,7 +13,8 @@ fail_spec = tie.close (tie.spec
     (λ c κs. search rules)  -- push-requires
     (λ c κs. search rules)  -- push-requires-2
     (λ c κs. search rules)  -- push-requires-3
-    (λ c. after _ _ _ (push_of 4) (length_push _ _ (length_push _ _ refl)) (after _ _ _ (push_of 2) (length_push _ _ refl)
+    (λ c. after _ _ _ (push_of 4) (length_push _ _ (length_push _ _ refl))
+    (after _ _ _ (push_of 2) (length_push _ _ refl)
     (after _ _ (zeros 16) (push_of c.args.e) refl
     c.clear.ensures
     c.push.ensures) c.push-2.ensures) c.push-3.ensures

@@ -115,7 +115,8 @@ sequence_readings t = (
   tick-reads.Learnt,
 )
 
-sequence-returns-in_default : (t : ℕ) → sequence-lts.Need-returns-in_default (sequence_readings t) (sequence_at t) sequence.Post
+sequence-returns-in_default : (t : ℕ)
+    → sequence-lts.Need-returns-in_default (sequence_readings t) (sequence_at t) sequence.Post
 sequence-returns-in_default t c =
     let ran = c.before.before in
     laws.exec_seq_end refl ran.requires.1 ran.exec-d.ensures c.tick-t.ensures

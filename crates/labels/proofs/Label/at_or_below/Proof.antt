@@ -11,7 +11,8 @@ at_or_below_spec = tie.close (tie.spec
     (λ c.
     let a = c.args in
     sym (below_split a.self a.other
-    ∙ both_no_left _ _ (sym c.contained_each.ensures ∙ c.if-not-contained_each.true)))  -- returns-then-not-contained_each
+    ∙ both_no_left _ _
+    (sym c.contained_each.ensures ∙ c.if-not-contained_each.true)))  -- returns-then-not-contained_each
     (λ c κs. search rules)  -- contained_each-requires-2
     (λ c.
     let a = c.args in

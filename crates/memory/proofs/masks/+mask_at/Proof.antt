@@ -63,7 +63,8 @@ last t c =
           laws.last_as w.out-is w.last-is e.1.0 e.1.1
           (laws.last_side _ _ _ _ _ (omega (arith, h)) to_right w.in-4.is e.0)
       | in-5+else-not-head w ↦ laws.last_as w.out-is w.last-is refl refl
-          (laws.last_content _ _ _ _ _ (omega (arith, h)) w.in-5.is w.mask_label-head.ensures (not-false _ w.if-not-head.false))
+          (laws.last_content _ _ _ _ _ (omega (arith, h)) w.in-5.is w.mask_label-head.ensures
+          (not-false _ w.if-not-head.false))
       | in-6 w ↦ laws.last_as w.out-is w.last-is refl refl
           (laws.last_second _ _ _ _ _ (omega (arith, h)) w.in-6.is w.store.ensures w.mask_at-last.ensures)
     ]

@@ -12,5 +12,6 @@ package_at_spec = tie.close (tie.spec
     (λ c w. package_past _ _ _ (omega arith))  -- returns-then-words-at
     (λ c. search rules)
     (λ c. search rules)
-    (λ c w. package_there _ _ _ _ (omega arith) (both_on _ _ (lt-ltb _ _ c.if-words-at-2.true)) w)  -- returns-then-words-at-2
+    (λ c w. package_there _ _ _ _ (omega arith)
+    (both_on _ _ (lt-ltb _ _ c.if-words-at-2.true)) w)  -- returns-then-words-at-2
     (λ c w. package_there _ _ _ _ (omega arith) (both_off _ _ (le-ltb _ _ c.if-words-at-2.false)) w))  -- returns

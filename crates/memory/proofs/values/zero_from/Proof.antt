@@ -25,7 +25,8 @@ zero_from_spec = tie.close (tie.spec
     (λ c. search rules)
     (λ c. search rules)
     (λ c. let l = c.before.before.before in
-    sym (zero_fail l.args.words.now l.loop-i.i (omega arith) c.if-words-i-ne0.true) ∙ l.loop-i.invariant)  -- returns-then-words-i-ne0
+    sym (zero_fail l.args.words.now l.loop-i.i (omega arith) c.if-words-i-ne0.true)
+    ∙ l.loop-i.invariant)  -- returns-then-words-i-ne0
     (λ c. search rules)
     (λ c. search rules)
     (λ c. let l = c.before.before.before in

@@ -24,7 +24,8 @@ returns-then-words-from-ne0 c =
     let z : n - 1 + 1 ≡ n = omega arith in
     record {
       few = omega arith;
-      kept = at.loop-n.invariant.1 ∙ (rw z at (trim_kept a.words.now a.from (n - 1) (omega arith) c.if-words-from-ne0.true));
+      kept = at.loop-n.invariant.1
+          ∙ (rw z at (trim_kept a.words.now a.from (n - 1) (omega arith) c.if-words-from-ne0.true));
     }
 
 loop-n-preserved : tie.Need-loop-n-preserved invariant-loop-n decreases-loop-n
@@ -34,7 +35,8 @@ loop-n-preserved c =
     let n = at.loop-n.n in
     let z : n - 1 + 1 ≡ n = omega arith in (
       omega arith,
-      at.loop-n.invariant.1 ∙ (rw z at (trim_dropped a.words.now a.from (n - 1) (omega arith) c.if-words-from-ne0.false)),
+      at.loop-n.invariant.1
+          ∙ (rw z at (trim_dropped a.words.now a.from (n - 1) (omega arith) c.if-words-from-ne0.false)),
     )
 
 returns : tie.Need-returns invariant-loop-n decreases-loop-n

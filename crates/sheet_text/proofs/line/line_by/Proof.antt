@@ -9,4 +9,8 @@ unfolding line_by
 line_by_spec = tie.close (tie.spec
     (λ c. rw c.in-84.is)  -- returns-in-84
     (λ c. rw c.in-81.is)  -- returns-in-81
-    (λ c. rw (ne_eqb _ _ c.in_default.in_default-own.rest.0.1, ne_eqb _ _ c.in_default.in_default-own.rest.1)))  -- returns-in_default
+    (λ c. rw (
+      ne_eqb _ _ c.in_default.in_default-own.rest.0.1,
+      ne_eqb _ _
+          c.in_default.in_default-own.rest.1,
+    )))  -- returns-in_default

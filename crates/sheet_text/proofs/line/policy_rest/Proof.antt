@@ -89,7 +89,8 @@ returns-in-Refused c =
     let j = i.before.before in
     let k = j.before.before in
     found_none _ _
-    (and_then-got _ _ _ _ (owner_known k) ∙ and_then-got _ _ _ _ (readers_known j) ∙ and_then-got _ _ _ _ (writers_known i)
+    (and_then-got _ _ _ _ (owner_known k) ∙ and_then-got _ _ _ _ (readers_known j)
+    ∙ and_then-got _ _ _ _ (writers_known i)
     ∙ and_then-bad _ _
     (byte-bad (text_of k) i.in-At-set_field-2.r 10 _ c.line_end.ensures
     c.in-Refused.is))

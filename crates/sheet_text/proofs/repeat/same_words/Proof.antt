@@ -15,7 +15,8 @@ use Rattle.sheet_text.proofs.repeat.same_words.Statement.{statement}
 use Rattle.sheet_text.proofs.repeat.same_words.Tie as tie
 
 abbrev invariant-loop-k : tie.invariant-loop-k
-invariant-loop-k table a b n k₀ k = (k ≤ n) × ((i : ℕ) → i < k → eqb (get_or table (a + i) 0) (get_or table (b + i) 0) ≡ true)
+invariant-loop-k table a b n k₀ k =
+    (k ≤ n) × ((i : ℕ) → i < k → eqb (get_or table (a + i) 0) (get_or table (b + i) 0) ≡ true)
 
 abbrev decreases-loop-k : tie.decreases-loop-k
 decreases-loop-k table a b n k₀ k = n - k

@@ -12,7 +12,7 @@ ghost use Rattle.checker.specs.Internal.Post.{ChecksCode, KeepsCode, verdict_of}
 use checks::{FLOW, KEEPING};
 
 // What is found of a script: it has a derivation, or its types or else its labels leave it none.
-#[derive(Drop)]
+#[derive(Clone, Copy)]
 pub enum Verdict {
     Accepted,
     IllTyped,
@@ -20,7 +20,7 @@ pub enum Verdict {
 }
 
 // A verdict, and whether the script is trust-keeping: each unpack's operand is at or below the wanted label.
-#[derive(Drop)]
+#[derive(Clone, Copy)]
 pub struct Finding {
     pub verdict: Verdict,
     pub keeping: bool,

@@ -26,7 +26,7 @@ pub struct Typed {
 }
 
 // What is found of a command: whether its types fit; what holds of its lines; and the word after them.
-#[derive(Drop)]
+#[derive(Clone, Copy)]
 pub struct Passed {
     pub typed: bool,
     pub holds: u8,

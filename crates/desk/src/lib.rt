@@ -20,7 +20,7 @@ use text::Mask;
 pub const OUTPUT_ROOM: usize = memory_text::LOCATIONS * memory_text::write::LINE;
 
 // A group, or the refusal of a text that isn't of its form.
-#[derive(Drop)]
+#[derive(Clone, Copy)]
 pub enum Group {
     Read(Set),
     Refused,
@@ -28,7 +28,7 @@ pub enum Group {
 
 // What show takes from the texts of a memory and of a group: the words, of which the first `count` are the memory's,
 // the group, and the number of a text that isn't of its form (0: none).
-#[derive(Drop)]
+#[derive(Clone, Copy)]
 struct Given {
     words: [u32; memory_text::WORDS],
     count: usize,

@@ -31,7 +31,7 @@ pub enum State {
 }
 
 // Done: the value is in the accumulator, and the expression's lines end at `next`.
-#[derive(Drop)]
+#[derive(Clone, Copy)]
 pub struct Evaluated {
     pub state: State,
     pub next: usize,

@@ -22,7 +22,7 @@ const FIRST: u32 = 1;
 
 // The answer, and how many groups stand in the first places.
 #[repr(C)]
-#[derive(Drop)]
+#[derive(Clone, Copy)]
 pub struct Groups {
     pub answer: u8,
     pub count: u32,

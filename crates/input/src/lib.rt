@@ -12,7 +12,7 @@ use std::io::Read;
 const CHUNK: usize = 4096;
 
 // The state after one read, and whether there may be more.
-#[derive(Drop)]
+#[derive(Clone, Copy)]
 struct Turn {
     more: bool,
     state: State,

@@ -8,7 +8,7 @@ use script::{ROW, skip};
 use sheet::powers::Powers;
 
 // Done: skip is reached, with this rest of the budget, and the command's lines end at `next`.
-#[derive(Drop)]
+#[derive(Clone, Copy)]
 pub(crate) struct Stepped {
     pub(crate) state: State,
     pub(crate) left: u32,
@@ -16,7 +16,7 @@ pub(crate) struct Stepped {
 }
 
 // Done: decided, `on` for a left. Any other: no decision.
-#[derive(Drop)]
+#[derive(Clone, Copy)]
 struct Decided {
     state: State,
     left: u32,
@@ -25,7 +25,7 @@ struct Decided {
 }
 
 // Done: the branch that starts at `start` is taken, the first, for a left, where `on`.
-#[derive(Drop)]
+#[derive(Clone, Copy)]
 struct Taken {
     state: State,
     left: u32,

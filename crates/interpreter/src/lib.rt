@@ -13,7 +13,7 @@ use evaluator::State;
 use sets::Set;
 
 // How a run ended, and the steps taken.
-#[derive(Drop)]
+#[derive(Clone, Copy)]
 pub struct Ran {
     pub state: State,
     pub steps: u32,

@@ -19,7 +19,7 @@ pub const LABEL_SIZE: usize = 2 * OWNERS;
 
 // The rule of reading: for each owner one of a group's members is a reader, or one of its members is a reader for every
 // owner.
-#[derive(Drop)]
+#[derive(Clone, Copy)]
 pub enum Rule {
     Pooled,
     Alone,

@@ -49,7 +49,7 @@ pub const CONTENT: usize = LABEL + HEAD;
 
 // What is found of the slices that are lent: a memory that is well-formed, in slices of their size; a slice that isn't
 // 16 words for each location; or a memory that isn't well-formed.
-#[derive(Drop)]
+#[derive(Clone, Copy)]
 pub enum Verdict {
     Accepted,
     OtherSize,

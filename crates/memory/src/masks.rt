@@ -10,7 +10,7 @@ use sets::Set;
 use sheet::Word;
 
 // The places after a value, or before its last part: in the words that are read, and in those that are written.
-#[derive(Drop)]
+#[derive(Clone, Copy)]
 pub(crate) struct Places {
     pub next: usize,
     pub end: usize,
@@ -104,7 +104,7 @@ fn mask_number(words: &[u32], at: usize, out: &mut [u32], to: usize) -> Places
 }
 
 // Whether a package's content is shown, and where the package ends if it isn't.
-#[derive(Drop)]
+#[derive(Clone, Copy)]
 struct Head {
     shown: bool,
     next: usize,

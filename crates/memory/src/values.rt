@@ -7,7 +7,7 @@ ghost use Rattle.memory.specs.Memory.{equal_words};
 ghost use Rattle.memory.specs.Internal.Post.{Walks};
 
 // Whether a value is proper, and the place after its words.
-#[derive(Drop)]
+#[derive(Clone, Copy)]
 pub(crate) struct Walked {
     pub ok: bool,
     pub next: usize,

@@ -22,14 +22,14 @@ pub const LOCATIONS: usize = sheet::MOST_LOCATIONS as usize;
 pub const WORDS: usize = LOCATIONS * CELL;
 
 // Whether a line or a text is read, or refused.
-#[derive(Drop)]
+#[derive(Clone, Copy)]
 pub enum Parsed {
     Read,
     Refused,
 }
 
 // The number of locations and their words, 16 for each, with zeros after them; or a refusal, with none.
-#[derive(Drop)]
+#[derive(Clone, Copy)]
 pub struct Memory {
     pub parsed: Parsed,
     pub count: usize,
@@ -37,21 +37,21 @@ pub struct Memory {
 }
 
 // The words of a location; or a refusal, with zeros.
-#[derive(Drop)]
+#[derive(Clone, Copy)]
 pub struct Row {
     pub parsed: Parsed,
     pub words: [u32; CELL],
 }
 
 // What was read, and the byte after it; after a refusal, the byte itself.
-#[derive(Drop)]
+#[derive(Clone, Copy)]
 struct Reached {
     row: Row,
     at: usize,
 }
 
 // What was read, and the reader after it.
-#[derive(Drop)]
+#[derive(Clone, Copy)]
 pub struct Next<'a> {
     pub row: Row,
     pub rest: Reader<'a>,

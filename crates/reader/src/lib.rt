@@ -4,7 +4,7 @@
 #![tactic(auto)]
 
 // A text and the byte that is reached.
-#[derive(Drop)]
+#[derive(Clone, Copy)]
 pub struct Reader<'a> {
     pub text: &'a [u8],
     pub at: usize,

@@ -18,7 +18,7 @@ pub const TOO_MANY_SCRIPTS: u8 = 11;
 
 // How a round ended: its answer, and each script's answer and steps in its place.
 #[repr(C)]
-#[derive(Drop)]
+#[derive(Clone, Copy)]
 pub struct Round {
     pub answer: u8,
     pub answers: [u8; MOST_SCRIPTS],

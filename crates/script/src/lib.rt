@@ -47,7 +47,7 @@ pub const ROWS: usize = 512;
 // Cases nest at most this deep.
 pub const DEPTH: u32 = 8;
 
-#[derive(Drop)]
+#[derive(Clone, Copy)]
 pub struct Row {
     pub kind: u32,
     pub a: u32,

@@ -34,7 +34,7 @@ const NO_START: u32 = sheet::MOST_LABELS;
 const LAST_LABEL: u32 = sheet::MOST_LABELS - 1;
 
 // Whether a text was read as a script, or refused.
-#[derive(Drop)]
+#[derive(Clone, Copy)]
 pub enum ParsedScript {
     Read,
     Refused,
@@ -42,7 +42,7 @@ pub enum ParsedScript {
 
 // Whether a text was read, how many lines its command has, and the number of the label that it starts at: 0 and
 // NO_START where it was refused.
-#[derive(Drop)]
+#[derive(Clone, Copy)]
 pub struct ReadScript {
     pub parsed: ParsedScript,
     pub count: usize,
@@ -50,42 +50,42 @@ pub struct ReadScript {
 }
 
 // The label that a text opens with, the lines that the opening takes and the place after it, or a refusal.
-#[derive(Drop)]
+#[derive(Clone, Copy)]
 enum Opened {
     At(u32, usize, usize),
     Refused,
 }
 
 // The words of a line and the place after it, or a refusal.
-#[derive(Drop)]
+#[derive(Clone, Copy)]
 enum Found {
     At(u32, u32, u32, usize),
     Refused,
 }
 
 // What stands at a byte: the words of a line, or a refusal.
-#[derive(Drop)]
+#[derive(Clone, Copy)]
 pub enum LineRead {
     Line(u32, u32, u32),
     Refused,
 }
 
 // What was read, and the byte after it; after a refusal, the byte itself.
-#[derive(Drop)]
+#[derive(Clone, Copy)]
 struct Reached {
     read: LineRead,
     at: usize,
 }
 
 // What was read, and the reader after it.
-#[derive(Drop)]
+#[derive(Clone, Copy)]
 pub struct Next<'a> {
     pub read: LineRead,
     pub rest: Reader<'a>,
 }
 
 // Whether what was looked for was found, and the word at which the next row starts.
-#[derive(Drop)]
+#[derive(Clone, Copy)]
 struct Scanned {
     ok: bool,
     next: usize,

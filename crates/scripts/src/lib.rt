@@ -9,7 +9,7 @@ ghost use Rattle.scripts.specs.Internal.Places.{script_end, scripts_counted, kep
 pub const MOST_SCRIPTS: usize = 32;
 
 // How many scripts a text has, where 33 stands for any more, and where each of the first 32 ends.
-#[derive(Drop)]
+#[derive(Clone, Copy)]
 pub struct Parting {
     pub count: usize,
     pub ends: [usize; MOST_SCRIPTS],

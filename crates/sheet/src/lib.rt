@@ -16,7 +16,7 @@ use labels::{LABEL_SIZE, Label, OWNERS, Rule};
 use sets::Set;
 
 // The two kinds of types that a sheet makes of others.
-#[derive(Drop)]
+#[derive(Clone, Copy)]
 pub enum Kind {
     Sum,
     Pair,

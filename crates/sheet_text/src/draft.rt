@@ -24,7 +24,7 @@ const RULE: u32 = 1;
 
 // What is known of the lines so far beside their table: the least owner that a policy may have next; or that they are
 // not of the right form, and then nothing is said of the table.
-#[derive(Drop)]
+#[derive(Clone, Copy)]
 pub enum Draft {
     Formed(u32),
     Refused,

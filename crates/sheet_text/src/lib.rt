@@ -14,7 +14,7 @@ use repeat::repeats;
 use sheet::{WORDS, Word};
 
 // What a text is: a sheet; not of the form, or naming what isn't there; or a sheet that repeats a type or a label.
-#[derive(Drop)]
+#[derive(Clone, Copy)]
 pub enum Verdict {
     Accepted,
     Malformed,

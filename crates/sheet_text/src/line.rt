@@ -9,7 +9,7 @@ use text::{Decimal, MOST, Mask, Place, last_number, line_end, number_field, set_
 
 // A line of a sheet, by its first byte: `P n`, `R rule`, `T a b`, `Q a b`, `L`, `O owner readers writers`,
 // `X type label`.
-#[derive(Drop)]
+#[derive(Clone, Copy)]
 pub enum SheetLine {
     P(u32),
     R(u32),
@@ -21,28 +21,28 @@ pub enum SheetLine {
 }
 
 // A line and the place after it, or a refusal.
-#[derive(Drop)]
+#[derive(Clone, Copy)]
 enum Found {
     At(SheetLine, usize),
     Refused,
 }
 
 // What stands at a byte: a line, or a refusal.
-#[derive(Drop)]
+#[derive(Clone, Copy)]
 pub enum LineRead {
     Line(SheetLine),
     Refused,
 }
 
 // What was read, and the byte after it; after a refusal, the byte itself.
-#[derive(Drop)]
+#[derive(Clone, Copy)]
 pub struct Reached {
     pub read: LineRead,
     pub at: usize,
 }
 
 // What was read, and the reader after it.
-#[derive(Drop)]
+#[derive(Clone, Copy)]
 pub struct Next<'a> {
     pub read: LineRead,
     pub rest: Reader<'a>,

@@ -40,7 +40,7 @@ pub const TOO_LONG: u8 = 10;
 
 // How a run ended: its answer, and the transitions that it took.
 #[repr(C)]
-#[derive(Drop)]
+#[derive(Clone, Copy)]
 pub struct Outcome {
     pub answer: u8,
     pub steps: u32,
@@ -48,21 +48,21 @@ pub struct Outcome {
 
 // The number of a script, and 1 for an accepted one that is trust-keeping, else 0.
 #[repr(C)]
-#[derive(Drop)]
+#[derive(Clone, Copy)]
 pub struct Trust {
     pub answer: u8,
     pub keeping: u8,
 }
 
 // The number of a script's code, and whether each unpack's operand in it is at or below the wanted label.
-#[derive(Drop)]
+#[derive(Clone, Copy)]
 pub(crate) struct Judged {
     pub(crate) number: u8,
     pub(crate) keeping: bool,
 }
 
 // The same of a script's text, and how many lines it has.
-#[derive(Drop)]
+#[derive(Clone, Copy)]
 pub(crate) struct Found {
     pub(crate) number: u8,
     pub(crate) keeping: bool,
@@ -70,7 +70,7 @@ pub(crate) struct Found {
 }
 
 // The number of a script on a sheet, and how many lines it has.
-#[derive(Drop)]
+#[derive(Clone, Copy)]
 pub struct Numbered {
     pub number: u8,
     pub count: usize,

@@ -22,21 +22,21 @@ const SET_DIGITS: usize = sets::WIDTH / 4;
 pub const LIMIT: usize = 16384;
 
 // A number and the place after it, or a refusal.
-#[derive(Drop)]
+#[derive(Clone, Copy)]
 pub enum Decimal {
     At(u32, usize),
     Refused,
 }
 
 // A set and the place after it, or a refusal.
-#[derive(Drop)]
+#[derive(Clone, Copy)]
 pub enum Mask {
     At(Set, usize),
     Refused,
 }
 
 // The place after what was asked for, or a refusal.
-#[derive(Drop)]
+#[derive(Clone, Copy)]
 pub enum Place {
     At(usize),
     Refused,

@@ -32,8 +32,7 @@ returns-then-needs_each c =
     let i = e.before.before in
     let s = i.before.before in
     found_first _ _ i.loop-group.invariant (readers_grow _) s.requires.0 i.loop-group-test.true s.requires.1
-    (it_reads e)
-    c.needs_each.ensures c.if-needs_each.true
+    (it_reads e) c.needs_each.ensures c.if-needs_each.true
 
 loop-group-preserved : tie.Need-loop-group-preserved invariant-loop-group decreases-loop-group
 loop-group-preserved c =

@@ -34,7 +34,7 @@ returns c =
     run_ends _ _ _ _ _
     (ap (within _) (sym c.everyone.ensures) ∙ sym c.contained.ensures
     ∙ c.if-not-contained.false)
-    c.number_of-read.ensures c.if-read-ne-DONE.false _
+    c.number_of-read.ensures c.if-read-ne-DONE.false _  -- accepted
     (sym c.if-answer-ne-DONE.false ∙ c.memory_number-answer.ensures ∙ c.judge-verdict.ensures)
     c.rows.ensures c.run_accepted.ensures
 

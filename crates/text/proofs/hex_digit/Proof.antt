@@ -34,7 +34,7 @@ returns-else-b-lt103 c =
     simp (
       le-ltb _ _ c.if-b-lt48.false,
       le-ltb _ _ c.if-b-lt58.false,
-      le-ltb _ _ c.if-b-lt97.false,
+      le-ltb _ _ c.if-b-lt97.false,  -- past the letters, too
       le-ltb _ _ c.if-b-lt103.false,
     )
 

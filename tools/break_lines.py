@@ -51,7 +51,7 @@ def broken(line):
     if m := USE.match(line):
         lines, now = [], []
         for name in m[2].split(", ") + [None]:
-            if name is None or len(m[1] + ", ".join(now + [name]) + m[3]) > WIDTH:
+            if name is None or now and len(m[1] + ", ".join(now + [name]) + m[3]) > WIDTH:
                 lines.append(m[1] + ", ".join(now) + m[3])
                 now = []
             now.append(name)

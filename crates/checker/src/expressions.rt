@@ -1,4 +1,5 @@
 // Expressions over the lines.
+ghost use Rattle.std.specs.Prelude.{true, false};
 ghost use Rattle.checker.specs.Internal.Post.{ChecksExpr, ChecksSecond};
 
 use crate::bindings;
@@ -37,8 +38,8 @@ pub(crate) fn check_expr(
         | script::SECOND => {
             let x = check_expr(code, at + script::ROW, table, bound, depth);
             match kind {
-                script::PLUS => check_second(code, x, table, bound, depth, true, a),
-                script::PAIR => check_second(code, x, table, bound, depth, false, a),
+                script::PLUS => check_added(code, x, table, bound, depth),
+                script::PAIR => check_paired(code, x, table, bound, depth, a),
                 script::LEFT => of_sum(table, a, sheet::left_part(table, a), x),
                 script::RIGHT => of_sum(table, a, sheet::right_part(table, a), x),
                 script::PACK => of_pack(table, a, x),
@@ -52,8 +53,42 @@ pub(crate) fn check_expr(
     }
 }
 
-// Checks the second operand of a `+`, or of a pair of type `ty`, after the first, x. It is apart from `check_expr`, so
-// that no other line's frame has the room for a second operand; called in two places, it stays apart when compiled.
+// Checks the second operand of a `+` after the first, x. It and `check_paired` are apart from `check_expr`, so that no
+// other line's frame has the room for a second operand, and apart from one another, so that neither takes an argument
+// more than it needs: what a call hands over in memory takes its place in every frame of `check_expr`, too.
+#[inline(never)]
+#[cycle(check_expr_check_second)]
+fn check_added(
+    code: &[u32],
+    x: Typed,
+    table: &[sheet::Word],
+    bound: &[u64; bindings::BINDINGS],
+    depth: usize,
+) -> Typed
+    ensures { ChecksSecond code.now table.now bound.now depth true 0 x result }
+{
+    check_second(code, x, table, bound, depth, true, 0)
+}
+
+// The same of a pair of type `ty`.
+#[inline(never)]
+#[cycle(check_expr_check_second)]
+fn check_paired(
+    code: &[u32],
+    x: Typed,
+    table: &[sheet::Word],
+    bound: &[u64; bindings::BINDINGS],
+    depth: usize,
+    ty: u32,
+) -> Typed
+    ensures { ChecksSecond code.now table.now bound.now depth false ty x result }
+{
+    check_second(code, x, table, bound, depth, false, ty)
+}
+
+// Checks the second operand of a `+`, or of a pair of type `ty`, after the first, x. When compiled, it is part of the
+// two above.
+#[inline(always)]
 #[cycle(check_expr_check_second)]
 fn check_second(
     code: &[u32],

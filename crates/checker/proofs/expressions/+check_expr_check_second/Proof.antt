@@ -1,5 +1,6 @@
--- The proof of the cycle of calls {check_expr, check_second}. The measure is the rows left, twice; `check_second` lies
--- between its caller and the operand that it checks. Each return is a law of `ExprLaws`.
+-- The proof of the cycle of calls {check_added, check_expr, check_paired, check_second}. The measure is the rows left,
+-- three times; `check_second`, and the two that call it, lie between `check_expr` and the operand that it checks. Each
+-- return is a law of `ExprLaws`.
 use borrow.Author.Rules.{rules}
 use Prim.Native.Nat.{ℕ, ◌+◌, ◌*◌, ◌<◌}
 use native.Mathlib.Omega.{arith}
@@ -17,6 +18,12 @@ use Rattle.checker.proofs.expressions.+check_expr_check_second.Lts-check_expr.{}
 use Rattle.checker.proofs.expressions.check_second.Reads as check-second
 use Rattle.checker.proofs.expressions.check_second.Kinds as check-second-kinds
 use Rattle.checker.proofs.expressions.+check_expr_check_second.Lts-check_second as check-second-lts
+use Rattle.checker.proofs.expressions.check_added.Reads as check-added
+use Rattle.checker.proofs.expressions.check_added.Kinds as check-added-kinds
+use Rattle.checker.proofs.expressions.+check_expr_check_second.Lts-check_added as check-added-lts
+use Rattle.checker.proofs.expressions.check_paired.Reads as check-paired
+use Rattle.checker.proofs.expressions.check_paired.Kinds as check-paired-kinds
+use Rattle.checker.proofs.expressions.+check_expr_check_second.Lts-check_paired as check-paired-lts
 use Rattle.checks.proofs.expressions.no_type.Reads as no-type-reads
 use Rattle.checks.proofs.expressions.of_int.Reads as of-int-reads
 use Rattle.checks.proofs.expressions.of_location.Reads as of-location-reads
@@ -34,10 +41,16 @@ use Rattle.checker.proofs.expressions.+check_expr_check_second.{statement}
 use Rattle.checker.proofs.expressions.+check_expr_check_second.Tie.{close}
 
 abbrev μ_check_expr : Measures 3 check-expr-kinds.ps ℕ
-μ_check_expr κs a = 2 * rows_left a.0.now a.1.0
+μ_check_expr κs a = 3 * rows_left a.0.now a.1.0
 
 abbrev μ_check_second : Measures 3 check-second-kinds.ps ℕ
-μ_check_second κs a = 2 * rows_left a.0.now a.1.0.next + 1
+μ_check_second κs a = 3 * rows_left a.0.now a.1.0.next + 1
+
+abbrev μ_check_added : Measures 3 check-added-kinds.ps ℕ
+μ_check_added κs a = 3 * rows_left a.0.now a.1.0.next + 2
+
+abbrev μ_check_paired : Measures 3 check-paired-kinds.ps ℕ
+μ_check_paired κs a = 3 * rows_left a.0.now a.1.0.next + 2
 
 abbrev check_expr_at : ℕ → In 3 check-expr-kinds.ps
 check_expr_at t =
@@ -55,6 +68,22 @@ abbrev check_second_below : ℕ → In 3 check-second-kinds.ps
 check_second_below t =
     and 3 check-second-kinds.ps (falls 3 check-second-kinds.ps ◌<◌ μ_check_second t) check-second.Pre
 
+abbrev check_added_at : ℕ → In 3 check-added-kinds.ps
+check_added_at t =
+    and 3 check-added-kinds.ps (is 3 check-added-kinds.ps μ_check_added t) check-added.Pre
+
+abbrev check_added_below : ℕ → In 3 check-added-kinds.ps
+check_added_below t =
+    and 3 check-added-kinds.ps (falls 3 check-added-kinds.ps ◌<◌ μ_check_added t) check-added.Pre
+
+abbrev check_paired_at : ℕ → In 3 check-paired-kinds.ps
+check_paired_at t =
+    and 3 check-paired-kinds.ps (is 3 check-paired-kinds.ps μ_check_paired t) check-paired.Pre
+
+abbrev check_paired_below : ℕ → In 3 check-paired-kinds.ps
+check_paired_below t =
+    and 3 check-paired-kinds.ps (falls 3 check-paired-kinds.ps ◌<◌ μ_check_paired t) check-paired.Pre
+
 -- What is known of the functions that `check_expr` calls.
 abbrev check_expr_calls : ℕ → check-expr-lts.Claims
 check_expr_calls t = (
@@ -68,8 +97,10 @@ check_expr_calls t = (
   of-variable-reads.Learnt,
   check_expr_below t,
   check-expr.Post,
-  check_second_below t,
-  check-second.Post,
+  check_added_below t,
+  check-added.Post,
+  check_paired_below t,
+  check-paired.Post,
   left-part-reads.Asked,
   left-part-reads.Learnt,
   of-sum-reads.Asked,
@@ -104,14 +135,14 @@ check_expr-returns-in-8 t c =
 check_expr-returns-in-9-kind : (t : ℕ)
     → check-expr-lts.Need-returns-in-9-kind (check_expr_calls t) (check_expr_at t) check-expr.Post
 check_expr-returns-in-9-kind t c =
-    let two = c.check_second.ensures in
+    let two = c.check_added.ensures in
     arm_plus c.row_at-row.ensures
     c.check_expr-x.ensures c.in-9-kind.is two.1 two.2
 
 check_expr-returns-in-14 : (t : ℕ)
     → check-expr-lts.Need-returns-in-14 (check_expr_calls t) (check_expr_at t) check-expr.Post
 check_expr-returns-in-14 t c =
-    let two = c.check_second-in-14.ensures in
+    let two = c.check_paired.ensures in
     arm_pair c.row_at-row.ensures
     c.check_expr-x.ensures c.in-14.is two.1 two.2
 
@@ -214,8 +245,21 @@ check_second-returns-else-plus t c = (
   rw c.if-plus.false c.of_pair.ensures,
 )
 
+-- What is known of the function that each of the other two calls.
+abbrev check_added_calls : ℕ → check-added-lts.Claims
+check_added_calls t = (check_second_below t, check-second.Post)
+
+abbrev check_paired_calls : ℕ → check-paired-lts.Claims
+check_paired_calls t = (check_second_below t, check-second.Post)
+
 pub +check_expr_check_second_spec : {M : Type 1} → statement M
-+check_expr_check_second_spec = close μ_check_expr μ_check_second (λ t. check-expr-lts.spec (check_expr_calls t)
++check_expr_check_second_spec = close μ_check_added μ_check_expr μ_check_paired μ_check_second
+    (λ t. check-added-lts.spec (check_added_calls t)
+    (check_added_at t)
+    check-added.Post
+    (λ c κs. (omega arith, tt))  -- check_second-requires
+    (λ c. c.check_second.ensures))  -- returns
+    (λ t. check-expr-lts.spec (check_expr_calls t)
     (check_expr_at t)
     check-expr.Post
     (λ c κs. search rules)  -- row-at-requires
@@ -243,7 +287,7 @@ pub +check_expr_check_second_spec : {M : Type 1} → statement M
         c.check_expr-x.ensures.onward,
       ),
       tt,
-    ))  -- check_second-requires
+    ))  -- check_added-requires
     (λ c κs. (
       omega (
         arith,
@@ -252,7 +296,7 @@ pub +check_expr_check_second_spec : {M : Type 1} → statement M
         c.check_expr-x.ensures.onward,
       ),
       tt,
-    ))  -- check_second-requires-in-14
+    ))  -- check_paired-requires
     (λ c κs. search rules)  -- left_part-requires
     (λ c κs. search rules)  -- of_sum-requires
     (λ c κs. search rules)  -- right_part-requires
@@ -278,6 +322,11 @@ pub +check_expr_check_second_spec : {M : Type 1} → statement M
     (check_expr-returns-in-16 t)
     (check_expr-returns-in_default-kind t)
     (check_expr-returns-in_default t))
+    (λ t. check-paired-lts.spec (check_paired_calls t)
+    (check_paired_at t)
+    check-paired.Post
+    (λ c κs. (omega arith, tt))  -- check_second-requires
+    (λ c. c.check_second.ensures))  -- returns
     λ t. check-second-lts.spec (check_second_calls t)
     (check_second_at t)
     check-second.Post

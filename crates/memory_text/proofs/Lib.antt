@@ -6,3 +6,4 @@ pub mod Memories
 pub mod Rows
 pub mod Tables
 pub mod Writes
+mod Readers

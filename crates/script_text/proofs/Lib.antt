@@ -3,6 +3,7 @@ pub mod ParseLaws
 pub mod ScriptLaws
 pub mod OpeningLaws
 pub mod FoundLaws
+mod Readers
 pub mod CodeLaws
 pub mod ScanLaws
 pub mod BalanceLaws

@@ -8,4 +8,5 @@ pub mod Theorems
 pub mod DraftLaws
 pub mod RepeatFinds
 pub mod FoundLaws
+mod Readers
 pub mod ReadLaws

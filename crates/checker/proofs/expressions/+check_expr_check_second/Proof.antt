@@ -14,7 +14,6 @@ use borrow.Fn.PlainCycle.{Measures, is, falls, and}
 use Rattle.checker.proofs.expressions.check_expr.Reads as check-expr
 use Rattle.checker.proofs.expressions.check_expr.Kinds as check-expr-kinds
 use Rattle.checker.proofs.expressions.+check_expr_check_second.Lts-check_expr as check-expr-lts
-use Rattle.checker.proofs.expressions.+check_expr_check_second.Lts-check_expr.{}
 use Rattle.checker.proofs.expressions.check_second.Reads as check-second
 use Rattle.checker.proofs.expressions.check_second.Kinds as check-second-kinds
 use Rattle.checker.proofs.expressions.+check_expr_check_second.Lts-check_second as check-second-lts

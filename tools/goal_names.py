@@ -74,11 +74,9 @@ class Function:
         return place
 
     def hops(self, start, goal):
-        """How many places lie between two, today; and the place that stands for the goal."""
+        """How many places lie between two, today."""
         n, now = 0, start
-        ways = []
         while now:
-            ways.append(now)
             if now == goal:
                 return n
             arm = self.arms[now]

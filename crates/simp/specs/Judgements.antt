@@ -4,8 +4,7 @@
 -- The demands say that the calls answer so.
 -- `well_formed`, `memory_of`, `words_of` and `view_words` are crate memory's: its theorems MemoriesExactly and
 -- ViewsExactly say that a memory of the right size is well-formed exactly if it is the words of values as declared, and
--- that views
--- of such memories are equal exactly if the masked values are.
+-- that views of such memories are equal exactly if the masked values are.
 use Rattle.std.specs.Prelude.{◌⊎◌, ◌≡◌, true, false, List, [], ◌∷◌, ℕ, ◌*◌, ◌<◌, ◌≤◌, length}
 use Rattle.sets.specs.Sets.{within, everyone}
 use Rattle.language.specs.Syntax.{Cmd, skip, Script}

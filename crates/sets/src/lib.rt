@@ -9,9 +9,8 @@ pub type Set = u16;
 // The number of bits of a set, and so of principals that it has room for.
 pub const WIDTH: usize = 16;
 
-const FULL: Set = !0;
-
 // The members of x and those of y.
+#[tactic(auto, unfolding(crate::specs::Sets::union))]
 pub fn union(x: Set, y: Set) -> Set
     ensures { result ≡ union x y }
 {
@@ -19,6 +18,7 @@ pub fn union(x: Set, y: Set) -> Set
 }
 
 // The members that x and y have in common.
+#[tactic(auto, unfolding(crate::specs::Sets::intersection))]
 pub fn intersection(x: Set, y: Set) -> Set
     ensures { result ≡ intersection x y }
 {
@@ -26,6 +26,7 @@ pub fn intersection(x: Set, y: Set) -> Set
 }
 
 // Whether every member of x is one of y.
+#[tactic(auto, unfolding(crate::specs::Sets::within))]
 pub fn contained(x: Set, y: Set) -> bool
     ensures { result ≡ within x y }
 {
@@ -33,6 +34,7 @@ pub fn contained(x: Set, y: Set) -> bool
 }
 
 // Whether x and y have a member in common.
+#[tactic(auto, unfolding(crate::specs::Sets::meets))]
 pub fn meets(x: Set, y: Set) -> bool
     ensures { result ≡ meets x y }
 {
@@ -54,7 +56,7 @@ pub fn everyone(n: usize) -> Set
     ensures { result ≡ restrict width (everyone n) }
 {
     if n >= WIDTH {
-        return FULL;
+        return Set::MAX;
     }
     single(n) - 1
 }

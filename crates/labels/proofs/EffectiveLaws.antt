@@ -1,13 +1,13 @@
 -- Effective labels: what each place of one holds, and which operations keep a label effective.
-use mathlib.Core.Path.{◌≡◌}
+use mathlib.Core.Path.{◌≡◌, ap, ◌∙◌}
 use mathlib.Core.Bool.{true}
 use Prim.Native.Nat.{ℕ, ◌<◌, ◌≤◌}
 use lib.ListN.{get_or-replicate}
 use borrow.Author.Tests.{lt-ltb, le-ltb}
 use Rattle.logic.specs.Booleans.{both}
 use Rattle.logic.proofs.BooleanLaws.{both_left, both_right, both_true}
-use Rattle.sets.specs.Sets.{within, single, everyone}
-use Rattle.sets.proofs.Walks.{by_below, get_d_tab, length-tab}
+use Rattle.sets.specs.Sets.{within, single, everyone, every}
+use Rattle.sets.proofs.Walks.{by_below, get_d_tab, length-tab, every_ext}
 use Rattle.sets.proofs.SetLaws.{within_refl, single_within_everyone}
 use Rattle.labels.specs.declared.Label.{Label}
 use Rattle.labels.specs.Labels.{owners, readers_of, writers_of, open_at, below_of, join_of, confidentiality_of}
@@ -15,6 +15,7 @@ use Rattle.labels.specs.Labels.{integrity_of, bottom_of, closed_at, top_of, whol
 use Rattle.labels.proofs.OrderLaws.{whole_intro, below_intro, below_at_lem, below_refl, below_trans, join_left}
 use Rattle.labels.proofs.OrderLaws.{join_least, join_whole}
 use Rattle.labels.proofs.PartLaws.{own_at, c_whole, i_whole, bottom_whole, c_mono, i_mono, i_bottom}
+use Rattle.labels.proofs.PartLaws.{c_below_readers}
 
 -- ---- an effective label is whole and lies between bottom and top
 pub effective_intro : (n : ℕ) (a : Label)
@@ -40,6 +41,14 @@ pub bottom_at : (all o : ℕ) → o < owners
     → (readers_of (bottom_of all) o ≡ all) × (writers_of (bottom_of all) o ≡ single o)
 unfolding bottom_of
 bottom_at all o l = (get_or-replicate owners o all 0 l, own_at o l)
+
+-- C of bottom is at or below C of a label whose readers are all principals of bottom
+pub bottom_below_c : (all : ℕ) (a : Label)
+    → below_of (confidentiality_of (bottom_of all)) (confidentiality_of a)
+    ≡ every owners (λ (o : ℕ). within (readers_of a o) all)
+bottom_below_c all a =
+    c_below_readers (bottom_of all) a
+    ∙ every_ext owners _ _ (λ o l. ap (within (readers_of a o)) (bottom_at all o l).0)
 
 pub top_at : (n o : ℕ) → o < owners
     → (readers_of (top_of n) o ≡ closed_at n o) × (writers_of (top_of n) o ≡ open_at n (everyone n) o)

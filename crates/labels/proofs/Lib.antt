@@ -1,8 +1,8 @@
-pub mod OwnerTests
 pub mod OrderLaws
 pub mod PartLaws
 pub mod ReadingLaws
 pub mod SoleLaws
+pub mod RowLaws
 pub mod EffectiveLaws
 pub mod PolicyLaws
 pub mod LatticeLaws

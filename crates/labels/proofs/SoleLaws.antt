@@ -1,7 +1,7 @@
 -- Who reads a label by himself: a group reads alone exactly if it meets these.
 use mathlib.Core.Path.{◌≡◌, refl, sym, ap, ◌∙◌}
 use mathlib.Core.Bool.{Bool, true}
-use Prim.Native.Nat.{ℕ, zero, suc, ◌+◌, ◌<◌, ◌≤◌}
+use Prim.Native.Nat.{ℕ, zero, suc, ◌+◌, ◌<◌}
 use native.Mathlib.Omega.{arith}
 use native.Mathlib.Numerals.{add-one}
 use lib.Dec.{ltb}
@@ -35,7 +35,7 @@ common_none n f o l e =
     ∙ both_no_right (ltb p width) _ (every_false n (λ (o : ℕ). member p (f o)) o l (ap (member p) e ∙ member_empty p))
     ∙ sym (member_empty p))
 
--- ---- a loop over the owners: at its start, a turn more, at its end
+-- ---- one set after another: at the start, and one more
 pub common_start : (f : ℕ → ℕ) → restrict width (everyone width) ≡ common_of 0 f
 unfolding common_of
 common_start f = restrict-everyone width width (omega arith)
@@ -43,9 +43,6 @@ common_start f = restrict-everyone width width (omega arith)
 pub common_more : (o : ℕ) (f : ℕ → ℕ) {x y : ℕ} → x ≡ common_of o f → y ≡ f o → intersection x y ≡ common_of (o + 1) f
 unfolding common_of
 common_more o f p q = rw (p, q, add-one) refl
-
-pub common_end : (o n : ℕ) (f : ℕ → ℕ) {x : ℕ} → (o ≤ n) × (x ≡ common_of o f) → n ≤ o → x ≡ common_of n f
-common_end o n f (h, e) l = let q : o ≡ n = omega arith in e ∙ ap (λ (k : ℕ). common_of k f) q
 
 -- a group reads alone exactly if it meets the sole readers
 pub meets_sole : (n g : ℕ) (a : Label) → meets g (sole_readers_of n a) ≡ reads_alone_of n g a

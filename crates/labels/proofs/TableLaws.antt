@@ -30,12 +30,12 @@ pub set_there : (t : List ℕ) (at o : ℕ) → o < owners → get_or (sets_at t
 unfolding sets_at
 set_there t at o l = get_d_tab owners (λ (k : ℕ). get_or t (at + k) 0) o 0 l
 
-pub set_past : (t : List ℕ) (at : ℕ) → get_or (sets_at t at) owners 0 ≡ 0
+pub set_beyond : (t : List ℕ) (at o : ℕ) → owners ≤ o → get_or (sets_at t at) o 0 ≡ 0
 unfolding sets_at
-set_past t at =
+set_beyond t at o l =
     let f : ℕ → ℕ = λ k. get_or t (at + k) 0 in
-    let l : length (tab owners f) ≤ owners = omega (arith, length-tab owners f) in
-    get_or-eq_default (tab owners f) 0 l
+    let m : length (tab owners f) ≤ o = omega (arith, length-tab owners f) in
+    get_or-eq_default (tab owners f) 0 m
 
 -- ---- what stands in the midst of a table is read back
 sets_are : (t : List ℕ) (at : ℕ) (row : List ℕ) → length row ≡ owners

@@ -1,15 +1,15 @@
 // Labels in effective form, by value: for each owner a set of readers and a set of writers.
 #![tactic(auto)]
 
-ghost use Rattle.std.specs.Prelude.{◌≡◌, ◌+◌, ◌≤◌, leb, length, get_or};
-ghost use Rattle.std.proofs.Math.Seq.{paste};
-ghost use Rattle.sets.specs.Sets.{within, meets, every};
+ghost use Rattle.std.specs.Prelude.{◌≡◌, ◌↔◌, ◌+◌, ◌≤◌, IsTrue, length, get_or, take, drop};
+ghost use Rattle.sets.specs.Sets.{within, meets, every, tab};
 ghost use Rattle.labels.specs.Labels.{owners, open_of, policy_of, below_of, join_of, confidentiality_of, integrity_of};
 ghost use Rattle.labels.specs.Labels.{bottom_of, reads_pooled_of, writes_of};
 ghost use Rattle.labels.specs.Internal.Tables.{label_size, sets_at, label_at, label_put};
 ghost use Rattle.labels.specs.Internal.Sole.{common_of, sole_readers_of};
 
 use sets::Set;
+use std::array;
 
 // A label has a place for each principal that a set has room for.
 pub const OWNERS: usize = sets::WIDTH;
@@ -19,19 +19,19 @@ pub const LABEL_SIZE: usize = 2 * OWNERS;
 
 // The rule of reading: for each owner one of a group's members is a reader, or one of its members is a reader for every
 // owner.
-#[derive(Clone, Copy)]
+#[derive(Clone, Copy, Debug, PartialEq, Eq)]
 pub enum Rule {
     Pooled,
     Alone,
 }
 
-#[derive(Clone, Copy)]
+#[derive(Clone, Copy, Debug, PartialEq, Eq)]
 pub struct Label {
     pub readers: [Set; OWNERS],
     pub writers: [Set; OWNERS],
 }
 
-// {o} for each owner o.
+// {o} for each owner o, as a table: a constant that computes it would need a loop.
 const OWN: [Set; OWNERS] = [
     1 << 0,
     1 << 1,
@@ -56,15 +56,9 @@ impl Label {
     pub fn open(n: usize, all: Set) -> Label
         ensures { result ≡ open_of n all }
     {
-        let mut writers = OWN;
-        for o in 0..OWNERS {
-            if o < n {
-                writers[o] = all;
-            }
-        }
         Label {
             readers: [all; OWNERS],
-            writers,
+            writers: array::from_fn(|o| if o < n { all } else { OWN[o] }),
         }
     }
 
@@ -73,26 +67,17 @@ impl Label {
     pub fn at_or_below(self, other: Label) -> bool
         ensures { result ≡ below_of self other }
     {
-        let lower = self.readers;
-        let upper = other.readers;
-        if !contained_each(upper, lower) {
-            return false;
-        }
-        let lower = self.writers;
-        let upper = other.writers;
-        contained_each(lower, upper)
+        contained_each(&other.readers, &self.readers) && contained_each(&self.writers, &other.writers)
     }
 
     // The least label that both are at or below: readers intersected, writers united.
     pub fn join(self, other: Label) -> Label
         ensures { result ≡ join_of self other }
     {
-        let mut out = self;
-        for o in 0..OWNERS {
-            out.readers[o] = sets::intersection(out.readers[o], other.readers[o]);
-            out.writers[o] = sets::union(out.writers[o], other.writers[o]);
+        Label {
+            readers: array::from_fn(|o| sets::intersection(self.readers[o], other.readers[o])),
+            writers: array::from_fn(|o| sets::union(self.writers[o], other.writers[o])),
         }
-        out
     }
 
     // C(A): the readers, and for each owner o the writers {o}.
@@ -107,6 +92,7 @@ impl Label {
     }
 
     // I(A): the writers, and all principals as readers.
+    #[tactic(auto, unfolding(crate::specs::Labels::integrity_of))]
     pub fn integrity(self, all: Set) -> Label
         ensures { result ≡ integrity_of all self }
     {
@@ -132,52 +118,38 @@ impl Label {
     pub fn confidentiality_at_or_below(self, other: Label) -> bool
         ensures { result ≡ below_of (confidentiality_of self) (confidentiality_of other) }
     {
-        let mut all = true;
-        for o in 0..OWNERS {
-            all = all & sets::contained(other.readers[o], self.readers[o]);
-        }
-        all
+        contained_each(&other.readers, &self.readers)
     }
 
     // Whether C of bottom, `all` being the principals, is at or below C of this label: its readers are among them.
     pub fn readers_within(self, all: Set) -> bool
         ensures { result ≡ below_of (confidentiality_of (bottom_of all)) (confidentiality_of self) }
     {
-        let mut within = true;
-        for o in 0..OWNERS {
-            within = within & sets::contained(self.readers[o], all);
-        }
-        within
+        self.readers.iter().fold(true, |within, &readers| within & sets::contained(readers, all))
     }
 
     // Whether a group reads by the pooled rule: it holds a reader for each owner below n.
+    #[tactic(auto, unfolding(crate::specs::Labels::reads_pooled_of))]
     pub fn reads_pooled(self, n: usize, group: Set) -> bool
         ensures { result ≡ reads_pooled_of n group self }
     {
-        let readers = self.readers;
-        meets_each(readers, n, group)
+        meets_each(&self.readers, n, group)
     }
 
     // The principals who read by themselves: the readers for each owner below n, in common.
+    #[tactic(auto, unfolding(crate::specs::Internal::Sole::sole_readers_of))]
     pub fn sole_readers(self, n: usize) -> Set
         ensures { result ≡ sole_readers_of n self }
     {
-        if n > OWNERS {
-            return 0;
-        }
-        let mut common = sets::everyone(OWNERS);
-        for o in 0..n {
-            common = sets::intersection(common, self.readers[o]);
-        }
-        common
+        common(&self.readers, n)
     }
 
     // Whether a group holds a writer for each owner below n.
+    #[tactic(auto, unfolding(crate::specs::Labels::writes_of))]
     pub fn writes(self, n: usize, group: Set) -> bool
         ensures { result ≡ writes_of n group self }
     {
-        let writers = self.writers;
-        meets_each(writers, n, group)
+        meets_each(&self.writers, n, group)
     }
 }
 
@@ -185,30 +157,21 @@ impl Label {
 pub fn label_at(table: &[Set], at: usize) -> Label
     ensures { result ≡ label_at table.now at }
 {
-    if there(table, at) {
-        let readers = row_at(table, at);
-        let writers = row_at(table, at + OWNERS);
-        return Label { readers, writers };
+    let words = words_at(table, at);
+    Label {
+        readers: sets_of(words),
+        writers: sets_of(words_at(words, OWNERS)),
     }
-    let readers = sets_at(table, at, 0);
-    let writers = sets_at(table, at, OWNERS);
-    Label { readers, writers }
 }
 
 // Stores the words of a label from `at` on; the table stays as it is where they don't fit.
 pub fn put_label(table: &mut [Set], at: usize, label: Label)
     ensures { table.new ≡ label_put table.old at label }
 {
-    if at > table.len() {
-        return;
+    if there(table, at) {
+        table[at..at + OWNERS].copy_from_slice(&label.readers);
+        table[at + OWNERS..at + LABEL_SIZE].copy_from_slice(&label.writers);
     }
-    if table.len() - at < LABEL_SIZE {
-        return;
-    }
-    let readers = label.readers;
-    let writers = label.writers;
-    put_sets(table, at, readers);
-    put_sets(table, at + OWNERS, writers);
 }
 
 // A policy of an owner for the label whose words start at `at`, stored in place; the table stays as it is where the
@@ -217,18 +180,11 @@ pub fn put_policy(table: &mut [Set], at: usize, owner: usize, readers: Set, writ
     ensures { table.new
         ≡ label_put table.old at (policy_of (label_at table.old at) owner readers writers) }
 {
-    if at > table.len() {
-        return;
+    if there(table, at) && owner < OWNERS {
+        let own = sets::single(owner);
+        table[at + owner] = sets::union(readers, own);
+        table[at + OWNERS + owner] = sets::union(writers, own);
     }
-    if table.len() - at < LABEL_SIZE {
-        return;
-    }
-    if owner >= OWNERS {
-        return;
-    }
-    let own = sets::single(owner);
-    table[at + owner] = sets::union(readers, own);
-    table[at + OWNERS + owner] = sets::union(writers, own);
 }
 
 // Whether a group meets each of the first n sets from the word at `at` on: a label's readers, or its writers,
@@ -236,15 +192,7 @@ pub fn put_policy(table: &mut [Set], at: usize, owner: usize, readers: Set, writ
 pub fn meets_at(table: &[Set], at: usize, n: usize, group: Set) -> bool
     ensures { result ≡ every n (λ o. meets group (get_or (sets_at table.now at) o 0)) }
 {
-    if n > OWNERS {
-        return false;
-    }
-    for o in 0..n {
-        if !sets::meets(group, word_at(table, at, o)) {
-            return false;
-        }
-    }
-    true
+    meets_each(row_at(table, at), n, group)
 }
 
 // What the first n sets from the word at `at` on have in common: of a label's readers, without the label, those who
@@ -252,96 +200,71 @@ pub fn meets_at(table: &[Set], at: usize, n: usize, group: Set) -> bool
 pub fn common_at(table: &[Set], at: usize, n: usize) -> Set
     ensures { result ≡ common_of n (λ o. get_or (sets_at table.now at) o 0) }
 {
-    if n > OWNERS {
-        return 0;
-    }
-    let mut common = sets::everyone(OWNERS);
-    for owner in 0..n {
-        common = sets::intersection(common, word_at(table, at, owner));
-    }
-    common
+    common(row_at(table, at), n)
 }
 
-// Whether a group meets each of the first n sets.
-fn meets_each(held: [Set; OWNERS], n: usize, group: Set) -> bool
-    ensures { result ≡ every n (λ o. meets group (get_or held o 0)) }
+// Whether a group meets each of the first n sets; past the last set there is none to meet.
+fn meets_each(row: &[Set], n: usize, group: Set) -> bool
+    ensures { result ≡ every n (λ o. meets group (get_or row.now o 0)) }
 {
-    if n > OWNERS {
-        return false;
+    n <= row.len() && row[..n].iter().all(|&set| sets::meets(group, set))
+}
+
+// What the first n sets have in common; nothing where there are fewer.
+fn common(row: &[Set], n: usize) -> Set
+    ensures { result ≡ common_of n (λ o. get_or row.now o 0) }
+{
+    if n > row.len() {
+        return 0;
     }
-    for o in 0..n {
-        if !sets::meets(group, held[o]) {
-            return false;
-        }
-    }
-    true
+    row[..n].iter().fold(sets::everyone(OWNERS), |common, &set| sets::intersection(common, set))
 }
 
 // Whether each set of x is contained in that of y at the same place. All places are tested, since a loop that always
 // goes to its end takes fewer instructions than one that may stop.
-fn contained_each(x: [Set; OWNERS], y: [Set; OWNERS]) -> bool
-    ensures { result ≡ every owners (λ o. within (get_or x o 0) (get_or y o 0)) }
+fn contained_each(x: &[Set; OWNERS], y: &[Set; OWNERS]) -> bool
+    ensures { result ≡ every owners (λ o. within (get_or x.now o 0) (get_or y.now o 0)) }
 {
-    let mut all = true;
-    for o in 0..OWNERS {
-        all = all & sets::contained(x[o], y[o]);
-    }
-    all
+    x.iter().zip(y).fold(true, |all, (&x, &y)| all & sets::contained(x, y))
 }
 
 // Whether a label's words, from `at` on, stand in the table.
 fn there(table: &[Set], at: usize) -> bool
-    ensures { result ≡ leb (at + label_size) (length table.now) }
+    ensures { IsTrue result ↔ (at + label_size ≤ length table.now) }
 {
-    if table.len() < LABEL_SIZE {
-        return false;
-    }
-    at <= table.len() - LABEL_SIZE
+    words_at(table, at).len() >= LABEL_SIZE
 }
 
-// One set for each owner, from the word at `at` on.
-fn row_at(table: &[Set], at: usize) -> [Set; OWNERS]
-    requires { at + owners ≤ length table.now }
-    ensures { result ≡ sets_at table.now at }
+// The words of a table from `at` on; none past its end.
+fn words_at(table: &[Set], at: usize) -> &[Set]
+    ensures { result.now ≡ drop at table.now }
 {
-    let mut out = [0; OWNERS];
-    for o in 0..OWNERS {
-        out[o] = table[at + o];
-    }
-    out
+    table.get(at..).unwrap_or(&[])
 }
 
-// The word at `at + k`; 0 past the end of the table.
-fn word_at(table: &[Set], at: usize, k: usize) -> Set
-    ensures { result ≡ get_or table.now (at + k) 0 }
+// One set for each owner, from the word at `at` on; fewer where the table ends before.
+fn row_at(table: &[Set], at: usize) -> &[Set]
+    ensures { result.now ≡ take owners (drop at table.now) }
 {
-    if at >= table.len() {
-        return 0;
-    }
-    if k >= table.len() - at {
-        return 0;
-    }
-    table[at + k]
+    let words = words_at(table, at);
+    words.get(..OWNERS).unwrap_or(words)
 }
 
-// The same, from the word at `at + skip` on, where not all words need stand in the table.
-fn sets_at(table: &[Set], at: usize, skip: usize) -> [Set; OWNERS]
-    requires { skip ≤ owners }
-    ensures { result ≡ sets_at table.now (at + skip) }
+// One set for each owner; a word past the last counts as 0.
+fn sets_of(words: &[Set]) -> [Set; OWNERS]
+    ensures { result ≡ tab owners (λ o. get_or words.now o 0) }
 {
-    let mut out = [0; OWNERS];
-    for o in 0..OWNERS {
-        out[o] = word_at(table, at, skip + o);
+    match words.first_chunk() {
+        Some(row) => *row,
+        None => filled_up(words),
     }
-    out
 }
 
-// Stores one set for each owner from `at` on.
-fn put_sets(table: &mut [Set], at: usize, row: [Set; OWNERS])
-    requires { at + owners ≤ length table.old }
-    ensures { table.new ≡ paste table.old at row owners }
+// The same, word by word. It is kept out of line, so that `sets_of` is a few instructions.
+#[cold]
+#[inline(never)]
+fn filled_up(words: &[Set]) -> [Set; OWNERS]
+    ensures { result ≡ tab owners (λ o. get_or words.now o 0) }
 {
-    for o in 0..OWNERS {
-        table[at + o] = row[o];
-    }
+    array::from_fn(|o| words.get(o).copied().unwrap_or(0))
 }

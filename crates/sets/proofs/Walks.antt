@@ -1,4 +1,4 @@
--- Laws of `every`, `any` and `tab`, for loops that test one place a turn or fill one; and of stores, one run after
+-- Laws of `every`, `any` and `tab`, for what tests one place after another or fills them; and of stores, one run after
 -- another.
 use mathlib.Core.Path.{◌≡◌, refl, sym, ap, ap₂, ◌∙◌}
 use mathlib.Core.Bool.{Bool, true, false}
@@ -7,8 +7,8 @@ use Prim.Native.Nat.{ℕ, zero, suc, ◌+◌, ◌<◌, ◌≤◌, suc-le-suc}
 use native.Mathlib.Nat.{not-suc-le-zero, le_of_suc-le-suc, zero-lt-suc, add-suc, suc-add, add-zero}
 use native.Mathlib.Omega.{arith}
 use native.Mathlib.Numerals.{add-one}
-use lib.ListN.{length, get_or, set, drop}
-use lib.Seq.{set-get_or, sets}
+use lib.ListN.{length, get_or, set}
+use lib.Seq.{sets}
 use lib.Dec.{ltb}
 use borrow.Author.Tests.{ltb-true, ltb-false}
 use Rattle.logic.specs.Booleans.{both, either}
@@ -40,6 +40,14 @@ every_false zero f i l e = absurd (not-suc-le-zero l)
 every_false (suc n) f zero l e = both_no_left (f 0) _ e
 every_false (suc n) f (suc i) l e =
     both_no_right (f 0) _ (every_false n (λ (k : ℕ). f (suc k)) i (le_of_suc-le-suc l) e)
+
+-- tests that agree at each number below n
+pub every_ext : (n : ℕ) (f g : ℕ → Bool) → ((i : ℕ) → i < n → f i ≡ g i) → every n f ≡ every n g
+unfolding every
+every_ext zero f g h = refl
+every_ext (suc n) f g h =
+    ap₂ both (h 0 (zero-lt-suc n))
+    (every_ext n (λ (i : ℕ). f (suc i)) (λ (i : ℕ). g (suc i)) (λ i l. h (suc i) (suc-le-suc l)))
 
 -- a test that doesn't pass everywhere fails somewhere
 pub every_fails : (n : ℕ) (f : ℕ → Bool) → every n f ≡ false → (i : ℕ) × (i < n) × (f i ≡ false)
@@ -111,53 +119,6 @@ pub tab_get_d : (xs : List ℕ) (d : ℕ) → tab (length xs) (λ (i : ℕ). get
 unfolding tab
 tab_get_d [] d = refl
 tab_get_d (x ∷ xs) d = ap (λ (t : List ℕ). x ∷ t) (tab_get_d xs d)
-
--- ---- a list whose places below n hold f's values, and whose others are as in d
-unfoldable pub filled : (ℕ → ℕ) → ℕ → List ℕ → List ℕ
-filled f n d = tab n f ++ drop n d
-
-pub filled_none : (f : ℕ → ℕ) (d : List ℕ) → d ≡ filled f 0 d
-unfolding filled tab
-filled_none f d = refl
-
-more : (f : ℕ → ℕ) (n : ℕ) (d : List ℕ) → n < length d → set (filled f n d) n (f n) ≡ filled f (suc n) d
-unfolding filled tab
-more f n [] l = absurd (not-suc-le-zero l)
-more f zero (x ∷ d) l = refl
-more f (suc n) (x ∷ d) l = ap (λ (t : List ℕ). f 0 ∷ t) (more (λ (k : ℕ). f (suc k)) n d (le_of_suc-le-suc l))
-
-pub filled_more : (f : ℕ → ℕ) (n : ℕ) (d : List ℕ) → n < length d → set (filled f n d) n (f n) ≡ filled f (n + 1) d
-filled_more f n d l = rw add-one (more f n d l)
-
--- the place that is to be filled next is as it was
-pub filled_next : (f : ℕ → ℕ) (n : ℕ) (d : List ℕ) → n < length d → get_or (filled f n d) n 0 ≡ get_or d n 0
-unfolding filled tab
-filled_next f n [] l = absurd (not-suc-le-zero l)
-filled_next f zero (x ∷ d) l = refl
-filled_next f (suc n) (x ∷ d) l = filled_next (λ (k : ℕ). f (suc k)) n d (le_of_suc-le-suc l)
-
-pub filled_all : (f : ℕ → ℕ) (n : ℕ) (d : List ℕ) → length d ≡ n → filled f n d ≡ tab n f
-unfolding filled tab
-filled_all f n d e = rw (← e) (go f d)
-  where
-    go : (f : ℕ → ℕ) (d : List ℕ) → tab (length d) f ++ drop (length d) d ≡ tab (length d) f
-    go f [] = refl
-    go f (x ∷ d) = ap (λ (t : List ℕ). f 0 ∷ t) (go (λ (k : ℕ). f (suc k)) d)
-
--- ---- the steps of a loop that fills xs from d: a read of the next place, a store there, a place left
--- as it is, the end
-module _ (f : ℕ → ℕ) (n : ℕ) (d xs : List ℕ) (inv : xs ≡ filled f n d) where
-  pub fill_read : n < length d → get_or xs n 0 ≡ get_or d n 0
-  fill_read l = rw inv (filled_next f n d l)
-
-  pub fill_store : n < length d → {v : ℕ} → v ≡ f n → set xs n v ≡ filled f (n + 1) d
-  fill_store l {v} e = rw (inv, e) (filled_more f n d l)
-
-  pub fill_skip : n < length d → get_or d n 0 ≡ f n → xs ≡ filled f (n + 1) d
-  fill_skip l e = sym (set-get_or xs n 0) ∙ fill_store l (fill_read l ∙ e)
-
-  pub fill_end : (m : ℕ) → n ≡ m → length d ≡ m → xs ≡ tab m f
-  fill_end m e g = inv ∙ ap (λ (k : ℕ). filled f k d) e ∙ filled_all f m d g
 
 -- ---- one run of stores after another
 pub sets_append : (l : List ℕ) (i : ℕ) (xs ys : List ℕ) → sets l i (xs ++ ys) ≡ sets (sets l i xs) (i + length xs) ys

@@ -62,12 +62,12 @@ impl Label {
         }
     }
 
-    // Whether this label is at or below the other: its readers contain the other's, and its writers lie
+    // Whether this label is at or below the other: its readers contain the other's, as for C, and its writers lie
     // within the other's.
     pub fn at_or_below(self, other: Label) -> bool
         ensures { result ≡ below_of self other }
     {
-        contained_each(&other.readers, &self.readers) && contained_each(&self.writers, &other.writers)
+        self.confidentiality_at_or_below(other) && contained_each(&self.writers, &other.writers)
     }
 
     // The least label that both are at or below: readers intersected, writers united.
@@ -125,7 +125,10 @@ impl Label {
     pub fn readers_within(self, all: Set) -> bool
         ensures { result ≡ below_of (confidentiality_of (bottom_of all)) (confidentiality_of self) }
     {
-        self.readers.iter().fold(true, |within, &readers| within & sets::contained(readers, all))
+        self.readers.iter().fold(
+            true,
+            |within, &readers| within & sets::contained(readers, all),
+        )
     }
 
     // Whether a group reads by the pooled rule: it holds a reader for each owner below n.
@@ -217,7 +220,10 @@ fn common(row: &[Set], n: usize) -> Set
     if n > row.len() {
         return 0;
     }
-    row[..n].iter().fold(sets::everyone(OWNERS), |common, &set| sets::intersection(common, set))
+    row[..n].iter().fold(
+        sets::everyone(OWNERS),
+        |common, &set| sets::intersection(common, set),
+    )
 }
 
 // Whether each set of x is contained in that of y at the same place. All places are tested, since a loop that always
@@ -225,7 +231,9 @@ fn common(row: &[Set], n: usize) -> Set
 fn contained_each(x: &[Set; OWNERS], y: &[Set; OWNERS]) -> bool
     ensures { result ≡ every owners (λ o. within (get_or x.now o 0) (get_or y.now o 0)) }
 {
-    x.iter().zip(y).fold(true, |all, (&x, &y)| all & sets::contained(x, y))
+    x.iter()
+        .zip(y)
+        .fold(true, |all, (&x, &y)| all & sets::contained(x, y))
 }
 
 // Whether a label's words, from `at` on, stand in the table.

@@ -220,10 +220,10 @@ fn common(row: &[Set], n: usize) -> Set
     if n > row.len() {
         return 0;
     }
-    row[..n].iter().fold(
-        sets::everyone(OWNERS),
-        |common, &set| sets::intersection(common, set),
-    )
+    row[..n]
+        .iter()
+        .copied()
+        .fold(sets::everyone(OWNERS), sets::intersection)
 }
 
 // Whether each set of x is contained in that of y at the same place. All places are tested, since a loop that always

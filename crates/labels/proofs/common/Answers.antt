@@ -2,7 +2,7 @@
 use Rattle.std.proofs.Common.{length, take, rules, tests, sym, ◌∙◌, ap, arith}
 use Rattle.std.proofs.Math.ListN.{get_or-eq_default}
 use Rattle.std.proofs.lemmas.Iterator.{YieldsList-from_slice}
-use Rattle.std.proofs.lemmas.Iterator.Consumers.{fold_from_yields_List}
+use Rattle.std.proofs.lemmas.Iterator.Consumers.{fold_from_yields_List, YieldsList-from_copied}
 use Rattle.std.specs.List.{fold}
 use Rattle.sets.specs.Sets.{intersection}
 use Rattle.labels.proofs.RowLaws.{fold_common}
@@ -18,7 +18,7 @@ pub returns : goal.returns
 returns c =
     let a = c.args in
     let first = take a.n a.row.now in
-    fold_from_yields_List _ intersection _ _ c.fold.ensures.ran (YieldsList-from_slice first cc)
+    fold_from_yields_List _ intersection _ _ c.fold.ensures.ran (YieldsList-from_copied (YieldsList-from_slice first cc))
     (λ x s b q k. search (rules, tests))
     ∙ ap (λ all. fold intersection all first) c.everyone.ensures
     ∙ fold_common a.n a.row.now c.if-n-row.false

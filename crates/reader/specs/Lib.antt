@@ -1,0 +1,2 @@
+-- What a function reads from a reader.
+pub mod Internal

@@ -1,10 +1,11 @@
 -- Fields and line ends: each is read exactly where its printed form stands, and what an answer in a text says.
 use Prim.Native.Nat.{ℕ, ◌^◌, ◌≤◌, ◌<◌}
 use native.Mathlib.Omega.{arith}
-use mathlib.Core.Path.{◌≡◌, refl, sym, ap, ◌∙◌}
+use mathlib.Core.Path.{◌≡◌, refl, sym, ap, ◌∙◌, fun_ext}
 use mathlib.Core.Bool.{false}
 use mathlib.Core.List.{List, [], ◌∷◌, ◌++◌, append_assoc}
-use lib.ListN.{length, drop}
+use lib.ListN.{drop}
+use Rattle.std.specs.Prelude.{option_and_then, option_map}
 use Rattle.sets.specs.Sets.{width}
 use Rattle.text.specs.Reading.{byte}
 use Rattle.text.specs.Reading.Read.{got, bad}
@@ -12,20 +13,14 @@ use Rattle.text.specs.Number.{number, decimal, opens_digit}
 use Rattle.text.specs.Set.{set_digits, hex_set, hex_form}
 use Rattle.text.specs.Field.{number_field, set_field, line_end, last_number, print_number_field, print_set_field}
 use Rattle.text.specs.Field.{print_line_end}
-use Rattle.text.specs.Internal.Place.{placed_decimal, placed_set, placed_end}
+use Rattle.text.specs.Internal.Place.{placed, placed_end}
 use Rattle.text.specs.Theorems.{NumberFieldExact, SetFieldExact, LineEndExact, LastNumberExact}
-use Rattle.text.specs.declared.Decimal.{Decimal}
-use Rattle.text.specs.declared.Decimal.TheVariants as decimal
-use Rattle.text.specs.declared.Mask.{Mask}
-use Rattle.text.specs.declared.Mask.TheVariants as mask
-use Rattle.text.specs.declared.Place.{Place}
-use Rattle.text.specs.declared.Place.TheVariants as place
 use Rattle.text.proofs.Readings.{and_then-got, and_then-bad, and_then_split, byte_here, byte-sound, ends_print}
 use Rattle.text.proofs.Readings.{got_same}
-use Rattle.text.proofs.Places.{Within, decimal_at, decimal-bad, mask_at, mask-bad, place_at, place_bad}
+use Rattle.text.proofs.Places.{Within, placed_then, placed_after, placed_last}
 use Rattle.text.proofs.Numbers.{opens_byte, digit_low}
-use Rattle.text.proofs.Decimals.{number-sound, number_print, number_within}
-use Rattle.text.proofs.Sets.{digits-sound, digits_print, set_within}
+use Rattle.text.proofs.Decimals.{number-sound, number_print}
+use Rattle.text.proofs.Sets.{digits-sound, digits_print}
 
 pub line_end_exact : LineEndExact
 line_end_exact t rest = (λ e. byte-sound 10 t rest tt e, λ r. ap (byte 10) r ∙ byte_here 10 10 rest refl)
@@ -133,60 +128,25 @@ last_number_within bound t v u e =
     ends_print t (9 ∷ (decimal v ++ (10 ∷ []))) u
     ((last_number-sound bound t v u e).0 ∙ ap (◌∷◌ 9) (sym (append_assoc (decimal v) (10 ∷ []) u)))
 
--- what an answer at i in s says of the reading there
+-- the answers of the functions whose reading is one after another
 module _ (s : List ℕ) (i : ℕ) where
-  pub byte_at : (b : ℕ) (r : Place) → r ≡ placed_end s (byte b (drop i s)) → (p : ℕ) → r ≡ place.At p
-      → (byte b (drop i s) ≡ got tt (drop p s)) × (p ≤ length s)
-  byte_at b r e p g = place_at s i _ r (byte_within b (drop i s)) e p g
+  pub placed-number_field : (bound : ℕ)
+      → placed s (number_field bound (drop i s))
+      ≡ option_and_then (λ p. placed s (number bound (drop p s))) (placed_end s (byte 9 (drop i s)))
+  unfolding number_field
+  placed-number_field bound = placed_after s i _ _ (byte_within 9 (drop i s))
 
-  pub byte-bad : (b : ℕ) (r : Place) → r ≡ placed_end s (byte b (drop i s)) → r ≡ place.Refused
-      → byte b (drop i s) ≡ bad
-  byte-bad b r e g = place_bad s i _ r (byte_within b (drop i s)) e g
+  pub placed-set_field :
+      placed s (set_field (drop i s))
+      ≡ option_and_then (λ p. placed s (hex_set (drop p s))) (placed_end s (byte 9 (drop i s)))
+  unfolding set_field
+  placed-set_field = placed_after s i _ _ (byte_within 9 (drop i s))
 
-  pub number_at : (bound : ℕ) (r : Decimal) → r ≡ placed_decimal s (number bound (drop i s)) → (v p : ℕ)
-      → r ≡ decimal.At v p
-      → (number bound (drop i s) ≡ got v (drop p s)) × (p ≤ length s) × (v ≤ bound)
-  number_at bound r e v p g =
-      let x = decimal_at s i _ r (number_within bound (drop i s)) e v p g in
-      (x.0, x.1, (number-sound bound _ v _ x.0).1)
-
-  pub number-bad : (bound : ℕ) (r : Decimal) → r ≡ placed_decimal s (number bound (drop i s)) → r ≡ decimal.Refused
-      → number bound (drop i s) ≡ bad
-  number-bad bound r e g = decimal-bad s i _ r (number_within bound (drop i s)) e g
-
-  pub number_field_at : (bound : ℕ) (r : Decimal) → r ≡ placed_decimal s (number_field bound (drop i s)) → (v p : ℕ)
-      → r ≡ decimal.At v p
-      → (number_field bound (drop i s) ≡ got v (drop p s)) × (p ≤ length s) × (v ≤ bound)
-  number_field_at bound r e v p g =
-      let x = decimal_at s i _ r (number_field_within bound (drop i s)) e v p g in
-      (x.0, x.1, (number_field-sound bound _ v _ x.0).1)
-
-  pub number_field-bad : (bound : ℕ) (r : Decimal) → r ≡ placed_decimal s (number_field bound (drop i s))
-      → r ≡ decimal.Refused → number_field bound (drop i s) ≡ bad
-  number_field-bad bound r e g = decimal-bad s i _ r (number_field_within bound (drop i s)) e g
-
-  pub last_number_at : (bound : ℕ) (r : Decimal) → r ≡ placed_decimal s (last_number bound (drop i s)) → (v p : ℕ)
-      → r ≡ decimal.At v p
-      → (last_number bound (drop i s) ≡ got v (drop p s)) × (p ≤ length s) × (v ≤ bound)
-  last_number_at bound r e v p g =
-      let x = decimal_at s i _ r (last_number_within bound (drop i s)) e v p g in
-      (x.0, x.1, (last_number-sound bound _ v _ x.0).1)
-
-  pub last_number-bad : (bound : ℕ) (r : Decimal) → r ≡ placed_decimal s (last_number bound (drop i s))
-      → r ≡ decimal.Refused → last_number bound (drop i s) ≡ bad
-  last_number-bad bound r e g = decimal-bad s i _ r (last_number_within bound (drop i s)) e g
-
-  pub set_at : (r : Mask) → r ≡ placed_set s (hex_set (drop i s)) → (m p : ℕ) → r ≡ mask.At m p
-      → (hex_set (drop i s) ≡ got m (drop p s)) × (p ≤ length s)
-  set_at r e m p g = mask_at s i _ r (set_within (drop i s)) e m p g
-
-  pub set-bad : (r : Mask) → r ≡ placed_set s (hex_set (drop i s)) → r ≡ mask.Refused → hex_set (drop i s) ≡ bad
-  set-bad r e g = mask-bad s i _ r (set_within (drop i s)) e g
-
-  pub set_field_at : (r : Mask) → r ≡ placed_set s (set_field (drop i s)) → (m p : ℕ) → r ≡ mask.At m p
-      → (set_field (drop i s) ≡ got m (drop p s)) × (p ≤ length s)
-  set_field_at r e m p g = mask_at s i _ r (set_field_within (drop i s)) e m p g
-
-  pub set_field-bad : (r : Mask) → r ≡ placed_set s (set_field (drop i s)) → r ≡ mask.Refused
-      → set_field (drop i s) ≡ bad
-  set_field-bad r e g = mask-bad s i _ r (set_field_within (drop i s)) e g
+  pub placed-last_number : (bound : ℕ)
+      → placed s (last_number bound (drop i s))
+      ≡ option_and_then (λ r. option_map (λ q. (r.0, q)) (placed_end s (line_end (drop r.1 s))))
+      (placed s (number_field bound (drop i s)))
+  unfolding last_number
+  placed-last_number bound =
+      placed_then s i _ _ (number_field_within bound (drop i s))
+      ∙ ap (λ f. option_and_then f (placed s (number_field bound (drop i s)))) (fun_ext (λ (r : ℕ × ℕ). placed_last s r.1 (line_end (drop r.1 s)) r.0))

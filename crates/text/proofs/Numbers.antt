@@ -2,11 +2,13 @@
 use Prim.Native.Nat.{ℕ, ◌+◌, ◌*◌, ◌-◌, ◌≤◌, ◌<◌}
 use native.Mathlib.Omega.{arith}
 use mathlib.Core.Path.{◌≡◌, refl, sym, ap, ◌∙◌}
-use mathlib.Core.Bool.{true, false, false≢true}
+use mathlib.Core.Bool.{Bool, true, false, false≢true}
 use mathlib.Core.List.{List, [], ◌∷◌}
-use lib.ListN.{length, drop, get_or, drop_of_length-le}
+use lib.ListN.{length, take, drop, get_or, length-drop, drop_of_length-le}
 use lib.Dec.{leb, ltb}
 use borrow.Author.Tests.{lt-ltb, le-ltb, ltb-true, ltb-false, le-leb, lt-leb, leb-true, eq-eqb, ne_eqb}
+use Rattle.std.specs.Char.{is_ascii_digit}
+use Rattle.std.proofs.lemmas.List.{get_or-take, get_or-drop, length-take}
 use Rattle.text.specs.Reading.{byte}
 use Rattle.text.specs.Reading.Read.{got, bad}
 use Rattle.text.specs.Number.{digit, opens_digit, digits, number}
@@ -79,6 +81,43 @@ module _ (s : List ℕ) (i : ℕ) (h : i < length s) where
     pub digits_at_on : v * 10 + (get_or s i 0 - 48) ≤ bound
         → digits bound v (drop i s) ≡ digits bound (v * 10 + (get_or s i 0 - 48)) (drop (i + 1) s)
     digits_at_on o = rw (drop-step s i h) (digits_on bound v (get_or s i 0) (drop (i + 1) s) d o)
+
+-- the same as std tests it
+pub digit-same : (c : ℕ) → is_ascii_digit c ≡ digit c
+unfolding digit both
+digit-same c = cases (leb 48 c) (λ e. rw e) (λ e. rw e)
+
+-- where a loop over the bytes from `from` on comes to the one at i
+module _ (s : List ℕ) (from i : ℕ) (h : i < length (take (length s - from) (drop from s))) where
+  abbrev turn : ℕ
+  turn = get_or (take (length s - from) (drop from s)) i 0
+
+  pub turn_inside : from + i < length s
+  turn_inside = omega (arith, length-take (length s - from) (drop from s), length-drop from s)
+
+  turn_byte : turn ≡ get_or s (from + i) 0
+  turn_byte =
+      let l : i < length s - from = omega (arith, turn_inside) in
+      get_or-take (length s - from) (drop from s) i 0 l ∙ get_or-drop from s i 0
+
+  pub opens_turn : (d : Bool) → d ≡ is_ascii_digit turn → opens_digit (drop (from + i) s) ≡ d
+  opens_turn d e =
+      opens_at s (from + i) turn_inside ∙ sym (digit-same _) ∙ ap is_ascii_digit (sym turn_byte) ∙ sym e
+
+  module _ (bound v : ℕ) (d : true ≡ is_ascii_digit turn) where
+    turn_digit : digit (get_or s (from + i) 0) ≡ true
+    turn_digit = sym (opens_at s (from + i) turn_inside) ∙ opens_turn true d
+
+    pub digits_turn_over : bound < v * 10 + (turn - 48) → digits bound v (drop (from + i) s) ≡ bad
+    digits_turn_over o =
+        digits_at_over s (from + i) turn_inside bound v turn_digit (omega (arith, turn_byte))
+
+    pub digits_turn_on : v * 10 + (turn - 48) ≤ bound
+        → digits bound v (drop (from + i) s) ≡ digits bound (v * 10 + (turn - 48)) (drop (from + (i + 1)) s)
+    digits_turn_on o =
+        let next : from + (i + 1) ≡ from + i + 1 = omega arith in
+        rw (turn_byte, next)
+        (digits_at_on s (from + i) turn_inside bound v turn_digit (omega (arith, turn_byte)))
 
 -- the cases of `number`: no digit, a zero before a digit, a zero, or other digits
 module _ (bound : ℕ) where

@@ -5,12 +5,15 @@ use native.Mathlib.Nat.{lt_of_lt_of_le, pow-le-pow_right}
 use native.Mathlib.Numerals.{add-one}
 use mathlib.Core.Path.{◌≡◌, refl, sym, ap, ◌∙◌}
 use mathlib.Core.List.{List, [], ◌∷◌, ◌++◌, append_assoc}
-use lib.ListN.{length, drop, get_or, length-append, drop_of_length-le}
+use lib.ListN.{length, drop, get_or, length-append, length-drop, drop_of_length-le}
 use lib.Dec.{ltb}
 use borrow.Author.Tests.{lt-ltb, le-ltb, ltb-true, ltb-false}
+use Rattle.std.specs.Prelude.{Some, None, slice_range}
+use Rattle.std.proofs.lemmas.List.{get_or-take, get_or-drop, length-take}
 use Rattle.text.specs.Reading.{and_then}
 use Rattle.text.specs.Reading.Read.{got, bad}
 use Rattle.text.specs.Set.{hex_digit, hex_digits, set_digits, hex_set, hex_byte, hex_form}
+use Rattle.text.specs.Internal.Place.{hex_value}
 use Rattle.text.specs.Theorems.{SetExact}
 use Rattle.logic.proofs.BooleanLaws.{cases, cond_split}
 use Rattle.text.proofs.Readings.{and_then_split, drop-step, ends_print, not_bad, got_same}
@@ -34,6 +37,32 @@ module _ (k v c d : ℕ) (t : List ℕ) (e : d ≡ hex_digit c) where
   unfolding hex_digits
   hex_on l = rw (← e, le-ltb 15 d l)
 
+-- fewer bytes than digits are wanted
+pub hex_few : (k v : ℕ) (t : List ℕ) → length t < k → hex_digits k v t ≡ bad
+unfolding hex_digits
+hex_few zero v t h = absurd (omega arith)
+hex_few (suc k) v [] h = refl
+hex_few (suc k) v (c ∷ t) h =
+    cases (ltb 15 (hex_digit c)) (λ e. rw e) (λ e. rw e (hex_few k (v * 16 + hex_digit c) t (omega arith)))
+
+-- what an answer says of a digit
+pub hex_value-bad : (c : ℕ) → None ≡ hex_value c → 15 < hex_digit c
+unfolding hex_value
+hex_value-bad c e =
+    cases (ltb 15 (hex_digit c)) (λ p. ltb-true _ _ p)
+    (λ p. let x : None ≡ Some (hex_digit c) = rw p at e in let z : ◌≡◌ {A = ℕ} 0 1 = cc in absurd (omega arith))
+
+pub hex_value-got : (c d : ℕ) → Some d ≡ hex_value c → (d ≡ hex_digit c) × (d ≤ 15)
+unfolding hex_value
+hex_value-got c d e =
+    cases (ltb 15 (hex_digit c))
+    (λ p. let x : Some d ≡ None = rw p at e in let z : ◌≡◌ {A = ℕ} 0 1 = cc in absurd (omega arith))
+    (λ p.
+    let x : Some d ≡ Some (hex_digit c) = rw p at e in
+    let y : d ≡ hex_digit c = cc in
+    let l : hex_digit c ≤ 15 = ltb-false _ _ p in
+    (y, omega arith))
+
 -- the same at a place of a text, where i of n digits are read
 module _ (n i v : ℕ) (s : List ℕ) (p : ℕ) (l : i < n) where
   pub hex_at_end : length s ≤ p → hex_digits (n - i) v (drop p s) ≡ bad
@@ -50,6 +79,39 @@ module _ (n i v : ℕ) (s : List ℕ) (p : ℕ) (l : i < n) where
     hex_at_on m =
         let z : n - i ≡ suc (n - (i + 1)) = omega arith in
         rw (z, drop-step s p h) (hex_on (n - (i + 1)) v (get_or s p 0) d (drop (p + 1) s) e m)
+
+-- the same where items are the first bytes of rest, the bytes from p on
+module _ (n m v : ℕ) (s rest items : List ℕ) (p i : ℕ) (e : rest ≡ slice_range s p (length s))
+    (f : items ≡ slice_range rest 0 n) (h : i < length items) (l : n ≤ m) where
+  run_inside : (p + i < length s) × (i < m)
+  run_inside =
+      omega (
+        arith,
+        ap length e,
+        ap length f,
+        length-take (length s - p) (drop p s),
+        length-drop p s,
+        length-take (n - 0) (drop 0 rest),
+        length-drop 0 rest,
+      )
+
+  run_byte : get_or items i 0 ≡ get_or s (p + i) 0
+  run_byte =
+      let a : i < n - 0 = omega (arith, ap length f, length-take (n - 0) (drop 0 rest)) in
+      let b : i < length s - p = omega (arith, run_inside) in
+      ap (λ (t : List ℕ). get_or t i 0) f ∙ get_or-take (n - 0) rest i 0 a ∙ ap (λ (t : List ℕ). get_or t i 0) e
+      ∙ get_or-take (length s - p) (drop p s) i 0 b ∙ get_or-drop p s i 0
+
+  pub hex_run_bad : None ≡ hex_value (get_or items i 0) → hex_digits (m - i) v (drop (p + i) s) ≡ bad
+  hex_run_bad x =
+      hex_at_bad m i v s (p + i) run_inside.1 run_inside.0 _ (ap hex_digit run_byte) (hex_value-bad _ x)
+
+  pub hex_run_on : (d : ℕ) → Some d ≡ hex_value (get_or items i 0)
+      → hex_digits (m - i) v (drop (p + i) s) ≡ hex_digits (m - (i + 1)) (v * 16 + d) (drop (p + (i + 1)) s)
+  hex_run_on d x =
+      let y = hex_value-got _ d x in
+      let next : p + (i + 1) ≡ p + i + 1 = omega arith in
+      rw next (hex_at_on m i v s (p + i) run_inside.1 run_inside.0 d (y.0 ∙ ap hex_digit run_byte) y.1)
 
 -- i digits are below 16 ^ i, and one digit more fits a set
 pub hex_fits : (i v : ℕ) → i < set_digits → v < 16 ^ i → v < 16 ^ (set_digits - 1)

@@ -1,25 +1,20 @@
 -- The code reads at a place of a text s and answers the place after what it read.
-use Rattle.std.specs.Prelude.{ℕ, ◌-◌, List, length}
+use Rattle.std.specs.Prelude.{ℕ, ◌-◌, cond, ltb, List, length, Option, Some, None}
 use Rattle.text.specs.Reading.{Read}
 use Rattle.text.specs.Reading.Read.{got, bad}
-use Rattle.text.specs.declared.Decimal.{Decimal}
-use Rattle.text.specs.declared.Decimal.TheVariants as decimal
-use Rattle.text.specs.declared.Mask.{Mask}
-use Rattle.text.specs.declared.Mask.TheVariants as mask
-use Rattle.text.specs.declared.Place.{Place}
-use Rattle.text.specs.declared.Place.TheVariants as place
+use Rattle.text.specs.Set.{hex_digit}
 
--- a reading in s as an answer: `at` of the value and of the place where what follows starts, or `none` (what follows
--- is the end of s)
-unfoldable pub placed : {A R : Type 0} → (A → ℕ → R) → R → List ℕ → Read A → R
-placed at none s (got v t) = at v (length s - length t)
-placed at none s bad = none
+-- a reading in s as an answer: the value and the place where what follows starts, or none (what follows is the end of
+-- s)
+unfoldable pub placed : {A : Type 0} → List ℕ → Read A → Option (A × ℕ)
+placed s (got v t) = Some (v, length s - length t)
+placed s bad = None
 
-abbrev pub placed_decimal : List ℕ → Read ℕ → Decimal
-placed_decimal s want = placed (λ v p. decimal.At v p) decimal.Refused s want
+-- the same of a reading whose value says nothing: the place alone
+unfoldable pub placed_end : List ℕ → Read Unit → Option ℕ
+placed_end s (got v t) = Some (length s - length t)
+placed_end s bad = None
 
-abbrev pub placed_set : List ℕ → Read ℕ → Mask
-placed_set s want = placed (λ m p. mask.At m p) mask.Refused s want
-
-abbrev pub placed_end : List ℕ → Read Unit → Place
-placed_end s want = placed (λ _ p. place.At p) place.Refused s want
+-- the value of a hexadecimal digit, or none where it is 16
+unfoldable pub hex_value : ℕ → Option ℕ
+hex_value c = cond (ltb 15 (hex_digit c)) None (Some (hex_digit c))

@@ -1,0 +1,9 @@
+-- `text::number_field` meets its contract.
+use Rattle.text.proofs.Fields.{placed-number_field}
+use Rattle.text.proofs.number_field.Goals as goal
+
+pub returns-in_err-byte : goal.returns-in_err-byte
+returns-in_err-byte c = rw (placed-number_field, ← c.in_err-byte.ensures) c.from_residual.ensures
+
+pub returns : goal.returns
+returns c = rw (placed-number_field, ← c.in_ok-byte.ensures) c.number.ensures

@@ -1,12 +1,15 @@
 -- Bytes in a buffer: one run after another, how long a number is, and where the bytes fit.
-use Prim.Native.Nat.{ℕ, zero, suc, ◌+◌, ◌-◌, ◌/◌, ◌%◌, ◌^◌, ◌≤◌, ◌<◌}
+use Prim.Native.Nat.{ℕ, zero, suc, ◌+◌, ◌*◌, ◌-◌, ◌/◌, ◌%◌, ◌^◌, ◌≤◌, ◌<◌}
 use native.Mathlib.Omega.{arith}
+use native.Mathlib.Nat.{one-le-pow}
 use mathlib.Core.Path.{◌≡◌, refl, sym, ap, ◌∙◌}
 use mathlib.Core.List.{List, [], ◌∷◌, ◌++◌}
 use lib.ListN.{length, set, drop, replicate, length-append, length-replicate}
 use lib.Seq.{sets, sets-eq}
 use lib.Dec.{ltb}
 use borrow.Author.Tests.{le-leb, lt-leb, ltb-true, ltb-false}
+use Rattle.std.specs.Prelude.{Option, Some, None, IfSome, IfNone}
+use Rattle.std.specs.Option.{option_map_or}
 use Rattle.text.specs.Number.{decimal, most}
 use Rattle.text.specs.Internal.Writing.{written, reached}
 use Rattle.logic.proofs.BooleanLaws.{cases}
@@ -55,6 +58,20 @@ pub length_positive : (v : ℕ) → 1 ≤ length (decimal v)
 length_positive v =
     cases (ltb v 10) (λ e. omega (arith, length_low v (ltb-true _ _ e)))
     (λ e. omega (arith, length_more v (ltb-false _ _ e)))
+
+-- a number of at least 10 ^ k has more than k digits
+length_above : (k v : ℕ) → 10 ^ k ≤ v → suc k ≤ length (decimal v)
+length_above zero v h = length_positive v
+length_above (suc k) v h =
+    let p : 1 ≤ 10 ^ k = one-le-pow k 10 (omega arith) in
+    let l : 10 ≤ v = omega arith in
+    omega (arith, length_more v l, length_above k (v / 10) (omega arith))
+
+-- how many digits the logarithm tells, and one for 0
+pub length_by_log : (o : Option ℕ) (v : ℕ) → IfNone o (v ≡ 0) → IfSome o (λ n. 10 ^ n ≤ v)
+    → IfSome o (λ n. v < 10 * 10 ^ n) → option_map_or (λ n. n + 1) o 1 ≡ length (decimal v)
+length_by_log None v z l h = sym (length_low v (omega arith))
+length_by_log (Some n) v z l h = omega (arith, length_above n v l, length_below n v (omega arith))
 
 -- where the bytes fit, and where not
 module _ (out : List ℕ) (at : ℕ) (bytes : List ℕ) where

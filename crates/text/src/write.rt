@@ -20,13 +20,7 @@ pub fn put_byte(out: &mut [u8], at: usize, b: u8) -> usize
 fn width(v: u32) -> usize
     ensures { result ≡ length (decimal v) }
 {
-    let mut n: usize = 1;
-    let mut w = v;
-    while 10 <= w {
-        w = w / 10;
-        n += 1;
-    }
-    n
+    v.checked_ilog10().map_or(1, |n| n as usize + 1)
 }
 
 // The digits of a number at `at`, where they fit; the place after them. It calls itself once for each digit.
@@ -36,11 +30,11 @@ fn put_digits(out: &mut [u8], at: usize, v: u32) -> usize
     ensures out_after { out.new ≡ sets out.old at (decimal v) }
 {
     if v < 10 {
-        out[at] = (48 + v) as u8;
+        out[at] = b'0' + v as u8;
         return at + 1;
     }
     let p = put_digits(out, at, v / 10);
-    out[p] = (48 + v % 10) as u8;
+    out[p] = b'0' + (v % 10) as u8;
     p + 1
 }
 
@@ -49,10 +43,7 @@ pub fn put_number(out: &mut [u8], at: usize, v: u32) -> usize
     ensures value { result ≡ reached out.old at (decimal v) }
     ensures out_after { out.new ≡ written out.old at (decimal v) }
 {
-    if out.len() <= at {
-        return at;
-    }
-    if out.len() - at < width(v) {
+    if out.len().saturating_sub(at) < width(v) {
         return at;
     }
     put_digits(out, at, v)

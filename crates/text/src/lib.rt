@@ -23,6 +23,7 @@ const SET_DIGITS: usize = sets::WIDTH / 4;
 pub const LIMIT: usize = 16384;
 
 // Whether a text is not longer than the limit.
+#[tactic(auto, unfolding(crate::specs::Reading::fits))]
 pub fn fits(s: &[u8]) -> bool
     ensures { result ≡ fits_of s.now }
 {
@@ -86,6 +87,7 @@ pub fn number(s: &[u8], at: usize, bound: u32) -> Option<(u32, usize)>
 }
 
 // The value of a lowercase hexadecimal digit.
+#[tactic(auto, unfolding(crate::specs::Set::hex_digit, crate::specs::Internal::Place::hex_value))]
 fn hex_digit(b: u8) -> Option<Set>
     ensures { result ≡ hex_value b }
 {

@@ -27,10 +27,10 @@ returns-in_err-m c =
 
 pub overflow_add-m : goal.overflow_add-m
 overflow_add-m c =
-    let few : length c.in_ok-b-items.b-items.now + 0 ≡ 4 = c.in_ok-b-items.ensures.lookup.0.3 in
     omega (
       arith,
-      hex_fits c.loop-b.b-index c.loop-b.m (omega arith) c.loop-b.invariant.0,
+      c.in_ok-b-items.ensures.lookup.0.3,
+      hex_fits c.loop-b.b-index c.loop-b.m (omega (arith, c.in_ok-b-items.ensures.lookup.0.3)) c.loop-b.invariant.0,
       (hex_value-got _ _ c.in_ok-m.ensures).1,
     )
 
@@ -44,8 +44,7 @@ loop-b-preserved c = (
 
 pub returns : goal.returns
 returns c =
-    let few : length c.in_ok-b-items.b-items.now + 0 ≡ 4 = c.in_ok-b-items.ensures.lookup.0.3 in
-    let end : c.loop-b.b-index ≡ 4 = omega arith in
-    let l : c.args.at + 4 ≤ length c.args.s.now = omega (arith, c.in_ok-b-items.ensures.lookup.0.1, c.in_ok-get.ensures.lookup.0.3) in
-    sym (placed_got c.args.s.now _ _ _
-    (sym (rw end at c.loop-b.invariant.1) ∙ hex_done _ _) l)
+    let end : c.loop-b.b-index ≡ set_digits = omega (arith, c.in_ok-b-items.ensures.lookup.0.3) in
+    let inside : c.args.at + set_digits ≤ length c.args.s.now =
+    omega (arith, c.in_ok-b-items.ensures.lookup.0.1, c.in_ok-get.ensures.lookup.0.3) in
+    sym (placed_got c.args.s.now _ _ _ (sym (rw end at c.loop-b.invariant.1) ∙ hex_done _ _) inside)

@@ -75,3 +75,10 @@ module _ (s : List ℕ) where
     unfolding placed placed_end and_then
     placed_last (got w t) v = refl
     placed_last bad v = refl
+
+  -- the answer to a reading whose value is made into another
+  pub placed_map : {A B : Type 0} (x : Read A) (f : A → B)
+      → placed s (and_then x (λ v u. got (f v) u)) ≡ option_map (λ r. (f r.0, r.1)) (placed s x)
+  unfolding placed and_then
+  placed_map (got v t) f = refl
+  placed_map bad f = refl

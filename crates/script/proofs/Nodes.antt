@@ -1,10 +1,10 @@
 -- What a line makes of its operands, and what follows it: one table of the kinds, and a law for a line with no operand,
 -- one, two or three.
-use mathlib.Core.Path.{◌≡◌, refl, sym}
+use mathlib.Core.Path.{◌≡◌, refl}
 use mathlib.Core.List.{List, [], ◌∷◌}
 use Prim.Native.Nat.{ℕ, zero, suc, ◌+◌, ◌≤◌, ◌<◌}
 use native.Mathlib.Omega.{arith}
-use lib.ListN.{length, drop, get_or-eq_default}
+use lib.ListN.{length, drop}
 use Rattle.language.specs.Syntax.{int, Part, first, second, pick, val, loc, var, plus, left, right, pack, unpack}
 use Rattle.language.specs.Syntax.{pairing, proj, skip, seq, assign, while, case}
 use Rattle.script.specs.declared.Row.{Row}
@@ -14,7 +14,7 @@ use Rattle.script.specs.Lines.{s_left, s_right, s_pack, s_unpack, s_pair, s_proj
 use Rattle.script.specs.Lines.{s_while, s_case, integer_of, expr_lines, cmd_lines}
 use Rattle.script.specs.Internal.Code.{row_of, code, row_at}
 use Rattle.script.specs.Internal.Pieces.{Sort, expression, command, Tree, SourceOf, lines_of, Piece, an_expression}
-use Rattle.script.specs.Internal.Pieces.{a_command, operand_counts, operand_count}
+use Rattle.script.specs.Internal.Pieces.{a_command, operand_count}
 use Rattle.script.proofs.Rows.{RowOf, at_skip, at_seq, at_assign, at_while, at_case, at_int, at_loc, at_var}
 use Rattle.script.proofs.Rows.{at_plus, at_left, at_right, at_pack, at_unpack, at_pair, at_first, at_second}
 use Rattle.script.proofs.Rows.{row_of_lem, row_within}
@@ -148,13 +148,6 @@ module _ (ws : List ℕ) (at : ℕ) (rest : List ScriptLine) where
   of_operands n_second (at_second u h) P p = p _ u h
 
 -- ---- what follows a line, by the number of its operands
-
--- a number that is no kind has no operands
-pub operands_none : (k : ℕ) → (1 ≤ k → k < 17 → ⊥) → 4 ≡ operand_count k
-unfolding operand_count
-operands_none zero f = refl
-operands_none (suc k) f =
-    let g : suc k < 17 → ⊥ = f (omega arith) in sym (get_or-eq_default operand_counts 4 {n = suc k} (omega arith))
 
 module _ (ws : List ℕ) (at : ℕ) where
   pub data Parts (rest : List ScriptLine) : ℕ → Type 0 where

@@ -6,7 +6,7 @@ ghost use Rattle.script.specs.Internal.Code.{row_at};
 ghost use Rattle.script.specs.Internal.Pieces.{operand_count};
 ghost use Rattle.script.specs.Internal.Skips.{Skips};
 
-// The kinds of line, by their numbers in the code.
+// The kinds of line, by their numbers in the code. They are no enum: the scope has every walk match on the number.
 pub const SKIP: u32 = 1;
 
 pub const SEQ: u32 = 2;
@@ -47,65 +47,46 @@ pub const ROWS: usize = 512;
 // Cases nest at most this deep.
 pub const DEPTH: u32 = 8;
 
-#[derive(Clone, Copy)]
+#[derive(Clone, Copy, Debug, Default, PartialEq, Eq)]
 pub struct Row {
     pub kind: u32,
     pub a: u32,
     pub b: u32,
 }
 
-// The row that starts at word `at`; a row of kind 0 where there is none.
+// The row that starts at word `at`; a row of kind 0 where there is none, as the contract has it: each walk's arm for
+// other numbers is for that, too.
+#[tactic(auto, unfolding(crate::specs::Internal::Code::row_at))]
 pub fn row_at(code: &[u32], at: usize) -> Row
     ensures { result ≡ row_at code.now at }
 {
-    let n = code.len();
-    if n < ROW {
-        return Row {
-            kind: 0,
-            a: 0,
-            b: 0,
-        };
-    }
-    if n - ROW < at {
-        return Row {
-            kind: 0,
-            a: 0,
-            b: 0,
-        };
-    }
-    Row {
-        kind: code[at],
-        a: code[at + 1],
-        b: code[at + 2],
+    match code.get(at..) {
+        Some([kind, a, b, ..]) => Row {
+            kind: *kind,
+            a: *a,
+            b: *b,
+        },
+        _ => Row::default(),
     }
 }
 
-// How many operands follow a line of a kind; 4 for a number that is no kind.
+// How many operands follow a line of a kind; 4 for a number that is no kind, as the contract's table has it: so no
+// count of the lines' operands needs a case for it.
+#[tactic(auto, unfolding(crate::specs::Internal::Pieces::operand_count))]
 pub fn operands(kind: u32) -> u32
     ensures { result ≡ operand_count kind }
 {
     match kind {
-        SKIP => 0,
-        SEQ => 2,
-        ASSIGN => 1,
-        WHILE => 2,
+        SKIP | INT | LOC | VAR => 0,
+        ASSIGN | LEFT | RIGHT | PACK | UNPACK | FIRST | SECOND => 1,
+        SEQ | WHILE | PLUS | PAIR => 2,
         CASE => 3,
-        INT => 0,
-        LOC => 0,
-        VAR => 0,
-        PLUS => 2,
-        LEFT => 1,
-        RIGHT => 1,
-        PACK => 1,
-        UNPACK => 1,
-        PAIR => 2,
-        FIRST => 1,
-        SECOND => 1,
         _ => 4,
     }
 }
 
 // The place after the expression or command at `at`.
+#[tactic(auto, using(crate::proofs::SkipLaws::line_in))]
 pub fn skip(code: &[u32], at: usize) -> usize
     ensures { Skips code.now at result }
 {

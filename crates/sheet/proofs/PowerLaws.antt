@@ -2,7 +2,8 @@
 use mathlib.Core.Path.{◌≡◌, refl, sym, ap, ◌∙◌}
 use mathlib.Core.Bool.{Bool, true, false, cond}
 use mathlib.Core.List.{List}
-use Prim.Native.Nat.{ℕ, zero, suc, ◌+◌, ◌-◌, ◌%◌, ◌<◌, ◌≤◌}
+use Prim.Native.Nat.{ℕ, zero, suc, ◌+◌, ◌-◌, ◌%◌, ◌<◌, ◌≤◌, min}
+use lib.Dec.{ltb}
 use native.Mathlib.Omega.{arith}
 use native.Mathlib.Numerals.{add-one}
 use native.Mathlib.Decide.{dec_lt}
@@ -34,28 +35,27 @@ module _ (m q : ℕ) where
   more_other false p n = refl
 
 module _ (t : List ℕ) (g : ℕ) where
-  pub power_more : (m p : ℕ) {b : Bool} → b ≡ has_power t g p → b ≡ true → union m (single p) ≡ with_power t g m p
-  unfolding with_power
-  power_more m p h e = rw (← h, e)
-
-  pub power_same : (m p : ℕ) {b : Bool} → b ≡ has_power t g p → b ≡ false → m ≡ with_power t g m p
-  unfolding with_power
-  power_same m p h e = rw (← h, e)
-
-  pub power_write : (p : ℕ) → p < max_labels → writes_in t g p ≡ has_power t g p
+  power_write : (p : ℕ) → p < max_labels → writes_in t g p ≡ has_power t g p
   unfolding has_power
   power_write p h = rw (lt-ltb p 32 h)
 
-  pub power_read : (p : ℕ) → max_labels ≤ p → reads_in t g (p - max_labels) ≡ has_power t g p
+  power_read : (p : ℕ) → max_labels ≤ p → reads_in t g (p - max_labels) ≡ has_power t g p
   unfolding has_power
   power_read p h = rw (le-ltb p 32 h)
 
   -- ---- the powers over the labels below n
 
-  pub up_to_more : (n : ℕ)
-      → with_power t g (with_power t g (powers_up_to t g n) n) (max_labels + n) ≡ powers_up_to t g (n + 1)
-  unfolding powers_up_to
-  up_to_more n = rw (add-one n)
+  -- those over one label more, of a group that writes it and reads it or doesn't
+  pub up_to_more : (l : ℕ) → l < max_labels → {m n o : ℕ} {w r : Bool} → w ≡ writes_in t g l → r ≡ reads_in t g l
+      → m ≡ powers_up_to t g l → n ≡ cond w (union m (single l)) m
+      → o ≡ cond r (union n (single (max_labels + l))) n → o ≡ powers_up_to t g (l + 1)
+  unfolding powers_up_to with_power
+  up_to_more l h {m = m} {n = n} {w = w} {r = r} writes reads before one two =
+      let e : max_labels + l - max_labels ≡ l = omega arith in
+      let w-is : w ≡ has_power t g l = writes ∙ power_write l h in
+      let r-is : r ≡ has_power t g (max_labels + l) =
+      reads ∙ ap (reads_in t g) (sym e) ∙ power_read (32 + l) (omega arith) in
+      rw (add-one l, ← before, ← w-is, ← one, ← r-is) two
 
   none_yet : (n p : ℕ) → n ≤ p % max_labels → member p (powers_up_to t g n) ≡ false
   unfolding powers_up_to with_power
@@ -88,43 +88,24 @@ module _ (t : List ℕ) (g : ℕ) where
 -- ---- the labels that powers are over
 
 module _ (t : List ℕ) where
-  pub held_all : {n : ℕ} → n ≡ labels_in t → n < max_labels → n ≡ labels_held t
+  pub held_least : min (labels_in t) max_labels ≡ labels_held t
   unfolding labels_held
-  held_all e h = rw (← e, lt-ltb _ 32 h) refl
-
-  pub held_most : {n : ℕ} → n ≡ labels_in t → max_labels ≤ n → max_labels ≡ labels_held t
-  unfolding labels_held
-  held_most e h = rw (← e, le-ltb _ 32 h) refl
-
-  pub held-few : labels_held t ≤ max_labels
-  held-few = on (dec_lt (labels_in t) 32)
+  held_least = on (dec_lt (labels_in t) 32)
     where
-      on : Dec (labels_in t < 32) → labels_held t ≤ 32
-      on (yes k) = omega (arith, held_all refl k)
-      on (no k) = omega (arith, held_most refl (omega arith))
+      on : Dec (labels_in t < 32) → min (labels_in t) 32 ≡ cond (ltb (labels_in t) 32) (labels_in t) 32
+      on (yes k) = rw (lt-ltb (labels_in t) 32 k) (omega arith)
+      on (no k) = rw (le-ltb (labels_in t) 32 (omega arith)) (omega arith)
 
   held_there : labels_in t ≤ max_labels → labels_held t ≡ labels_in t
-  held_there few = on (dec_lt (labels_in t) 32)
-    where
-      on : Dec (labels_in t < 32) → labels_held t ≡ labels_in t
-      on (yes k) = sym (held_all refl k)
-      on (no k) = omega (arith, held_most refl (omega arith))
+  held_there few = omega (arith, held_least)
 
 -- what a set of powers says, by its bits
 module _ (powers l : ℕ) where
-  pub write_past : max_labels ≤ l → false ≡ may_write powers l
-  unfolding may_write both
-  write_past h = rw (le-ltb l 32 h)
-
-  pub read_past : max_labels ≤ l → false ≡ may_read powers l
-  unfolding may_read both
-  read_past h = rw (le-ltb l 32 h)
-
-  pub write_bit : l < max_labels → member l powers ≡ may_write powers l
+  write_bit : l < max_labels → member l powers ≡ may_write powers l
   unfolding may_write both
   write_bit h = rw (lt-ltb l 32 h)
 
-  pub read_bit : l < max_labels → member (max_labels + l) powers ≡ may_read powers l
+  read_bit : l < max_labels → member (max_labels + l) powers ≡ may_read powers l
   unfolding may_read both
   read_bit h = rw (lt-ltb l 32 h)
 

@@ -1,25 +1,21 @@
 -- Who reads a label, by the sheet's rule: that it grows with the group, that nobody is not enough, and that the table
 -- tells the rule.
 use mathlib.Core.Path.{◌≡◌, sym, ap, ◌∙◌}
-use mathlib.Core.Bool.{Bool, true, false}
-use mathlib.Core.List.{List}
+use mathlib.Core.Bool.{true, false}
 use Prim.Native.Nat.{ℕ, ◌<◌}
 use native.Mathlib.Nat.{lt_of_lt_of_le}
 use borrow.Author.Tests.{ltb-true}
-use Rattle.sets.specs.Sets.{member, within, meets, single, everyone}
+use Rattle.sets.specs.Sets.{member, within, single, everyone}
 use Rattle.sets.proofs.Walks.{every_true, every_at}
 use Rattle.sets.proofs.SetLaws.{within_elim, meets_intro, meets_elim, member_single_self, member-everyone}
 use Rattle.labels.specs.Labels.{readers_of, reads_pooled_of, reads_under}
 use Rattle.labels.specs.declared.Rule.{Rule}
-use Rattle.labels.specs.declared.Rule.TheVariants.{Pooled, Alone}
-use Rattle.labels.specs.Internal.Sole.{sole_readers_of}
+use Rattle.labels.specs.declared.Rule.TheVariants.{Alone}
 use Rattle.labels.proofs.EffectiveLaws.{effective_fits}
 use Rattle.labels.proofs.ReadingLaws.{rule_grows, two_rules, alone_member, member_alone}
-use Rattle.labels.proofs.SoleLaws.{meets_sole}
 use Rattle.sheet.specs.Sheet.{Sheet, label_no, formed}
 use Rattle.sheet.specs.Meaning.{reads_no}
 use Rattle.sheet.specs.Theorems.{ReadingOnSheets}
-use Rattle.sheet.specs.Internal.Tables.{principals_in, rule_in, label_in, reads_in}
 use Rattle.sheet.proofs.FormLaws.{formed_facts}
 use Rattle.sheet.proofs.LabelLaws.{label_no-effective}
 
@@ -71,16 +67,3 @@ pub read_by_one : (s : Sheet) → formed s ≡ true → s.rule ≡ Alone → (l 
 read_by_one s f e l g r =
     let (p, m, h) = ((reading_on_sheets s f g l).alone e).0 r in
     (p, m, ((reading_on_sheets s f (single p) l).alone e).1 (p, member_single_self p, h))
-
--- ---- what a table says, by the rule that is found in it
-
-module _ (t : List ℕ) {rule : Rule} (found : rule ≡ rule_in t) (l : ℕ) where
-  module _ (is : rule ≡ Pooled) where
-    pub pooled_reads : (g : ℕ) {b : Bool} → b ≡ reads_pooled_of (principals_in t) g (label_in t l) → b ≡ reads_in t g l
-    unfolding reads_in reads_under
-    pooled_reads g e = rw (← found, is) e
-
-  module _ (is : rule ≡ Alone) {sole : ℕ} (e : sole ≡ sole_readers_of (principals_in t) (label_in t l)) where
-    pub alone_reads : (g : ℕ) {b : Bool} → b ≡ meets g sole → b ≡ reads_in t g l
-    unfolding reads_in reads_under
-    alone_reads g k = rw (← found, is) (k ∙ ap (meets g) e ∙ meets_sole (principals_in t) g (label_in t l))

@@ -4,19 +4,21 @@
 pub mod powers; // powers.rt: what a group may do to the labels
 pub mod write; // write.rt: what is stored where the sheet grows
 
-ghost use Rattle.std.specs.Prelude.{◌≡◌, get_or};
+ghost use Rattle.std.specs.Prelude.{◌≡◌, ◌+◌, ◌*◌, ◌<◌, ◌≤◌, get_or, if◌then◌else◌, nat_le};
 ghost use Rattle.sheet.specs.Internal.Tables.{parts_place, label_place, entry_in, principals_in, everyone_in, types_in};
 ghost use Rattle.sheet.specs.Internal.Tables.{labels_in, locations_in, left_in, right_in, type_in, right_word_in};
 ghost use Rattle.sheet.specs.Internal.Tables.{home_in, label_in, below_in, rule_in, reads_in, writes_in};
-ghost use Rattle.labels.specs.Labels.{reads_pooled_of};
+ghost use Rattle.sheet.specs.Internal.Tables.{max_types, table_words};
+ghost use Rattle.labels.specs.Labels.{bottom_of, reads_pooled_of};
 ghost use Rattle.labels.specs.Internal.Sole.{sole_readers_of};
 ghost use Rattle.sheet.specs.Internal.TypeTest.{is_of, is_sum, is_pair};
+ghost use Rattle.sheet.specs.declared.Kind.TheVariants.{Sum, Pair};
 
 use labels::{LABEL_SIZE, Label, OWNERS, Rule};
 use sets::Set;
 
 // The two kinds of types that a sheet makes of others.
-#[derive(Clone, Copy)]
+#[derive(Clone, Copy, Debug, PartialEq, Eq)]
 pub enum Kind {
     Sum,
     Pair,
@@ -50,7 +52,7 @@ const LOCATION_COUNT: usize = 4;
 
 const RULE_PLACE: usize = 5;
 
-// The words of the two rules.
+// The words of the two rules: a table is of words, and Rust lets no crate but that of `Rule` convert these into it.
 const POOLED: Word = 0;
 
 const ALONE: Word = 1;
@@ -58,9 +60,9 @@ const ALONE: Word = 1;
 // Where the parts of types, the locations and the labels start in a table, and its words in all.
 const PARTS: u32 = 8;
 
-const LOCATIONS: u32 = PARTS + 2 * MOST_TYPES;
+const LOCATIONS_START: u32 = PARTS + 2 * MOST_TYPES;
 
-const LABELS: usize = (LOCATIONS + 2 * MOST_LOCATIONS) as usize;
+const LABELS: usize = (LOCATIONS_START + 2 * MOST_LOCATIONS) as usize;
 
 pub const WORDS: usize = LABELS + LABEL_SIZE * (MOST_LABELS as usize);
 
@@ -68,24 +70,52 @@ pub const WORDS: usize = LABELS + LABEL_SIZE * (MOST_LABELS as usize);
 fn word(table: &[Word], at: usize) -> Word
     ensures { result ≡ get_or table.now at 0 }
 {
-    if at < table.len() { table[at] } else { 0 }
+    table.get(at).copied().unwrap_or(0)
 }
 
 // The same word as a wider number.
 fn number(table: &[Word], at: usize) -> u32
     ensures { result ≡ get_or table.now at 0 }
 {
-    word(table, at) as u32
+    u32::from(word(table, at))
 }
 
-// The word of entry i in a list of `count` entries of two words that starts at `base`, or 0 past the last entry.
-fn entry(table: &[Word], count: u32, base: u32, i: u32) -> u32
-    ensures { result ≡ entry_in table.now count base i }
-{
-    if i < count {
-        number(table, base as usize + 2 * (i as usize))
-    } else {
-        0
+// A list of entries of two words in a table: the word that counts them, where they start, and how many there are at
+// most.
+#[derive(Clone, Copy)]
+struct EntryList {
+    count: usize,
+    base: u32,
+    most: u32,
+    ghost in_table: { base + 2 * most ≤ table_words },
+    ghost counted: { count < table_words },
+}
+
+const TYPES: EntryList = EntryList {
+    count: TYPE_COUNT,
+    base: PARTS,
+    most: MOST_TYPES,
+};
+
+const LOCATIONS: EntryList = EntryList {
+    count: LOCATION_COUNT,
+    base: LOCATIONS_START,
+    most: MOST_LOCATIONS,
+};
+
+impl EntryList {
+    // The two words of entry i, or zeros past the last entry.
+    #[tactic(auto, unfolding(crate::specs::Internal::Tables::entry_in))]
+    fn at(self, table: &[Word], i: u32) -> (u32, u32)
+        ensures first { result.0 ≡ entry_in table.now (get_or table.now self.count 0) self.base i }
+        ensures second { result.1 ≡ entry_in table.now (get_or table.now self.count 0) (self.base + 1) i }
+    {
+        if i < number(table, self.count) {
+            let at = self.base as usize + 2 * (i as usize);
+            (number(table, at), number(table, at + 1))
+        } else {
+            (0, 0)
+        }
     }
 }
 
@@ -101,6 +131,9 @@ pub const INT_OR_INT: u32 = 3;
 pub const PKG_OR_ERROR: u32 = 4;
 
 pub const COMPOUNDS: u32 = INT_OR_INT;
+
+// The five words that stand alone. Each has a function of its own, whose name callers and contracts speak of: a const
+// parameter in its place would tell less.
 
 // The number of principals.
 pub fn principals(table: &[Word]) -> u32
@@ -138,6 +171,7 @@ pub fn locations(table: &[Word]) -> u32
 }
 
 // The rule of reading.
+#[tactic(auto, unfolding(crate::specs::Internal::Tables::rule_in))]
 pub fn rule(table: &[Word]) -> Rule
     ensures { result ≡ rule_in table.now }
 {
@@ -149,27 +183,30 @@ pub fn rule(table: &[Word]) -> Rule
 }
 
 // The second word of a type: its right part; of a pair MOST_TYPES more. 0 for a number that names no type.
+#[tactic(auto, unfolding(crate::specs::Internal::Tables::right_word_in))]
 fn right_word(table: &[Word], ty: u32) -> u32
     ensures { result ≡ right_word_in table.now ty }
 {
-    entry(table, types(table), PARTS + 1, ty)
+    TYPES.at(table, ty).1
+}
+
+// The kind that the second word of a type tells.
+fn kind_of(right_word: u32) -> Kind
+    ensures { result ≡ (if nat_le max_types right_word then Pair else Sum) }
+{
+    if right_word < MOST_TYPES {
+        Kind::Sum
+    } else {
+        Kind::Pair
+    }
 }
 
 // Whether a number names a type of a kind.
+#[tactic(auto, unfolding(logic::specs::Booleans::both, crate::specs::Internal::Tables::kind_in, crate::specs::Internal::TypeTest::is_of, crate::specs::Sheet::same_kind))]
 fn is_of(table: &[Word], kind: Kind, ty: u32) -> bool
     ensures { result ≡ is_of table.now kind ty }
 {
-    if ty < COMPOUNDS {
-        return false;
-    }
-    if types(table) <= ty {
-        return false;
-    }
-    let pair = MOST_TYPES <= right_word(table, ty);
-    match kind {
-        Kind::Sum => !pair,
-        Kind::Pair => pair,
-    }
+    COMPOUNDS <= ty && ty < types(table) && kind == kind_of(right_word(table, ty))
 }
 
 // Whether a number names a sum type.
@@ -187,13 +224,15 @@ pub fn is_pair(table: &[Word], ty: u32) -> bool
 }
 
 // The left part of a type; 0 for a number that names no type.
+#[tactic(auto, unfolding(crate::specs::Internal::Tables::left_in))]
 pub fn left_part(table: &[Word], ty: u32) -> u32
     ensures { result ≡ left_in table.now ty }
 {
-    entry(table, types(table), PARTS, ty)
+    TYPES.at(table, ty).0
 }
 
 // The right part, likewise.
+#[tactic(auto, unfolding(crate::specs::Internal::Tables::right_in))]
 pub fn right_part(table: &[Word], ty: u32) -> u32
     ensures { result ≡ right_in table.now ty }
 {
@@ -201,17 +240,19 @@ pub fn right_part(table: &[Word], ty: u32) -> u32
 }
 
 // The type of a location; 0 for a number that names no location.
+#[tactic(auto, unfolding(crate::specs::Internal::Tables::type_in))]
 pub fn location_type(table: &[Word], x: u32) -> u32
     ensures { result ≡ type_in table.now x }
 {
-    entry(table, locations(table), LOCATIONS, x)
+    LOCATIONS.at(table, x).0
 }
 
 // The number of a location's label, likewise.
+#[tactic(auto, unfolding(crate::specs::Internal::Tables::home_in))]
 pub fn location_label(table: &[Word], x: u32) -> u32
     ensures { result ≡ home_in table.now x }
 {
-    entry(table, locations(table), LOCATIONS + 1, x)
+    LOCATIONS.at(table, x).1
 }
 
 // Where the parts of a type start.
@@ -228,18 +269,35 @@ pub fn label_place(l: u32) -> usize
     LABELS + LABEL_SIZE * (l as usize)
 }
 
-// A label; bottom for a number that names none.
-pub fn label_of(table: &[Word], l: u32) -> Label
-    ensures { result ≡ label_in table.now l }
+// What is said of label l: by its words, from where they start, or of bottom for a number that names none.
+fn of_label<T, S: FnOnce(usize) -> T, B: FnOnce(Label) -> T>(
+    table: &[Word],
+    l: u32,
+    stored: S,
+    bottom: B,
+) -> T
+    requires stored { S.pre stored (label_place l) }
+    requires bottom { B.pre bottom (bottom_of (everyone_in table.now)) }
+    ensures there { l < labels_in table.now → S.post stored (label_place l) result }
+    ensures past { labels_in table.now ≤ l → B.post bottom (bottom_of (everyone_in table.now)) result }
 {
     if l < labels(table) {
-        labels::label_at(table, label_place(l))
+        stored(label_place(l))
     } else {
-        Label::bottom(everyone(table))
+        bottom(Label::bottom(everyone(table)))
     }
 }
 
+// A label; bottom for a number that names none.
+#[tactic(auto, unfolding(crate::specs::Internal::Tables::label_in))]
+pub fn label_of(table: &[Word], l: u32) -> Label
+    ensures { result ≡ label_in table.now l }
+{
+    of_label(table, l, |at| labels::label_at(table, at), |bottom| bottom)
+}
+
 // Whether label l is at or below label m.
+#[tactic(auto, unfolding(crate::specs::Internal::Tables::below_in))]
 pub fn below(table: &[Word], l: u32, m: u32) -> bool
     ensures { result ≡ below_in table.now l m }
 {
@@ -249,14 +307,17 @@ pub fn below(table: &[Word], l: u32, m: u32) -> bool
 }
 
 // Whether a group reads label l by the pooled rule.
+#[tactic(auto, unfolding(crate::specs::Internal::Tables::label_in, labels::specs::Internal::Tables::label_at, labels::specs::Labels::reads_pooled_of))]
 fn reads_pooled(table: &[Word], group: Set, l: u32) -> bool
     ensures { result ≡ reads_pooled_of (principals_in table.now) group (label_in table.now l) }
 {
     let n = principals(table) as usize;
-    if labels(table) <= l {
-        return Label::bottom(everyone(table)).reads_pooled(n, group);
-    }
-    labels::meets_at(table, LABELS + LABEL_SIZE * (l as usize), n, group)
+    of_label(
+        table,
+        l,
+        |at| labels::meets_at(table, at, n, group),
+        |bottom| bottom.reads_pooled(n, group),
+    )
 }
 
 // The principals who read label l by themselves.
@@ -264,13 +325,16 @@ pub fn sole_readers(table: &[Word], l: u32) -> Set
     ensures { result ≡ sole_readers_of (principals_in table.now) (label_in table.now l) }
 {
     let n = principals(table) as usize;
-    if labels(table) <= l {
-        return Label::bottom(everyone(table)).sole_readers(n);
-    }
-    labels::common_at(table, LABELS + LABEL_SIZE * (l as usize), n)
+    of_label(
+        table,
+        l,
+        |at| labels::common_at(table, at, n),
+        |bottom| bottom.sole_readers(n),
+    )
 }
 
 // Whether a group reads label l, by the sheet's rule.
+#[tactic(auto, using(labels::proofs::SoleLaws::meets_sole), unfolding(crate::specs::Internal::Tables::reads_in, labels::specs::Labels::reads_under))]
 pub fn reads(table: &[Word], group: Set, l: u32) -> bool
     ensures { result ≡ reads_in table.now group l }
 {
@@ -281,12 +345,15 @@ pub fn reads(table: &[Word], group: Set, l: u32) -> bool
 }
 
 // Whether a group writes label l.
+#[tactic(auto, unfolding(crate::specs::Internal::Tables::writes_in, crate::specs::Internal::Tables::label_in, labels::specs::Internal::Tables::label_at, labels::specs::Labels::writes_of))]
 pub fn writes(table: &[Word], group: Set, l: u32) -> bool
     ensures { result ≡ writes_in table.now group l }
 {
     let n = principals(table) as usize;
-    if labels(table) <= l {
-        return Label::bottom(everyone(table)).writes(n, group);
-    }
-    labels::meets_at(table, LABELS + LABEL_SIZE * (l as usize) + OWNERS, n, group)
+    of_label(
+        table,
+        l,
+        |at| labels::meets_at(table, at + OWNERS, n, group),
+        |bottom| bottom.writes(n, group),
+    )
 }

@@ -6,9 +6,9 @@ ghost use Rattle.sheet.specs.Internal.Writers.{low, principals_put, rule_put, en
 ghost use Rattle.sheet.specs.Internal.Writers.{location_put, open_put, policy_put};
 
 use super::{
-    ALONE, ERROR, EVERYONE, GIVEN_TYPES, Kind, LABEL_COUNT, LOCATION_COUNT, LOCATIONS, MOST_LABELS,
+    ALONE, ERROR, EVERYONE, EntryList, GIVEN_TYPES, Kind, LABEL_COUNT, LOCATIONS, MOST_LABELS,
     MOST_LOCATIONS, MOST_TYPES, PARTS, PKG, PKG_OR_ERROR, PRINCIPAL_COUNT, RULE_PLACE, TYPE_COUNT,
-    WORDS, Word,
+    TYPES, WORDS, Word,
 };
 use labels::Label;
 use sets::Set;
@@ -20,6 +20,7 @@ const PKG_PLACE: usize = (PARTS + 2 * PKG_OR_ERROR) as usize;
 const COUNTS: u32 = MOST_LOCATIONS + 1;
 
 // One of these numbers, so that it fits a word, however wide.
+#[tactic(auto, unfolding(crate::specs::Internal::Writers::low))]
 fn low(n: u32) -> Word
     ensures { result ≡ low n }
 {
@@ -38,29 +39,32 @@ pub fn put_principals(table: &mut [Word; WORDS], n: u32)
 }
 
 // The rule of the line `R 1`.
+#[tactic(auto, unfolding(crate::specs::Internal::Tables::rule_word))]
 pub fn put_rule(table: &mut [Word; WORDS])
     ensures { table.new ≡ rule_put table.old }
 {
     table[RULE_PLACE] = ALONE;
 }
 
-// An entry of two words behind those from `base` on, of which there are at most `most` and as many as the word at
-// `count` says.
-fn add_entry(table: &mut [Word; WORDS], base: u32, count: usize, most: u32, a: u32, b: u32)
-    requires { (base + 2 * most ≤ table_words) × (count < table_words) }
-    ensures { table.new ≡ entry_put base count most a b table.old }
-{
-    let n = super::number(table, count);
-    if most <= n {
-        return;
+impl EntryList {
+    // An entry of two words behind the others.
+    #[tactic(auto, unfolding(crate::specs::Internal::Writers::entry_put))]
+    fn add(self, table: &mut [Word; WORDS], a: u32, b: u32)
+        ensures { table.new ≡ entry_put self.base self.count self.most a b table.old }
+    {
+        let n = super::number(table, self.count);
+        if self.most <= n {
+            return;
+        }
+        let at = (self.base + 2 * n) as usize;
+        table[at] = low(a);
+        table[at + 1] = low(b);
+        table[self.count] = low(n + 1);
     }
-    let at = (base + 2 * n) as usize;
-    table[at] = low(a);
-    table[at + 1] = low(b);
-    table[count] = low(n + 1);
 }
 
 // The second word of a type of a kind with the right part b.
+#[tactic(auto, unfolding(crate::specs::Internal::Tables::right_word))]
 fn right_word(kind: Kind, b: u32) -> u32
     ensures { result ≡ right_word kind b }
 {
@@ -74,17 +78,18 @@ fn right_word(kind: Kind, b: u32) -> u32
 pub fn add_compound(table: &mut [Word; WORDS], kind: Kind, a: u32, b: u32)
     ensures { table.new ≡ compound_put kind a b table.old }
 {
-    add_entry(table, PARTS, TYPE_COUNT, MOST_TYPES, a, right_word(kind, b));
+    TYPES.add(table, a, right_word(kind, b));
 }
 
 // A location.
 pub fn add_location(table: &mut [Word; WORDS], ty: u32, label: u32)
     ensures { table.new ≡ location_put ty label table.old }
 {
-    add_entry(table, LOCATIONS, LOCATION_COUNT, MOST_LOCATIONS, ty, label);
+    LOCATIONS.add(table, ty, label);
 }
 
 // A label without policies.
+#[tactic(auto, unfolding(crate::specs::Internal::Writers::open_put))]
 pub fn add_label(table: &mut [Word; WORDS])
     ensures { table.new ≡ open_put table.old }
 {
@@ -98,16 +103,16 @@ pub fn add_label(table: &mut [Word; WORDS])
 }
 
 // A policy of the last label.
+#[tactic(auto, unfolding(crate::specs::Internal::Writers::policy_put, crate::specs::Internal::Tables::label_in))]
 pub fn add_policy(table: &mut [Word; WORDS], owner: u32, readers: Set, writers: Set)
     ensures { table.new ≡ policy_put owner readers writers table.old }
 {
-    let n = super::labels(table);
-    if n == 0 {
+    let Some(last) = super::labels(table).checked_sub(1) else {
         return;
-    }
+    };
     labels::put_policy(
         table,
-        super::label_place(n - 1),
+        super::label_place(last),
         owner as usize,
         readers,
         writers,

@@ -20,20 +20,21 @@ use Rattle.sheet.specs.Sheet.{Compound, Sheet, type_count, label_count, max_prin
 use Rattle.sheet.specs.Internal.Tables.{max_types, table_words, table_of}
 use Rattle.sheet.specs.Internal.Growth.{bare_sheet, add_rule, add_compound, add_label, to_last, add_policy}
 use Rattle.sheet.specs.Internal.Growth.{add_location}
-use Rattle.sheet.specs.Internal.Writers.{principals_put, rule_put, compound_put, open_put, policy_put, location_put}
+use Rattle.sheet.specs.Internal.Writers.{rule_put, compound_put, open_put, policy_put, location_put}
 use Rattle.sheet.proofs.FormLaws.{formed_facts, type-count}
 use Rattle.sheet.proofs.TableLaws.{types_in_lem, labels_in_lem, locations_in_lem, principals_in_lem, everyone_in_lem}
 use Rattle.sheet.proofs.TableLaws.{rule_in_lem}
 use Rattle.sheet.proofs.GrowthLaws.{to_last_more, labels_split}
 use Rattle.sheet.proofs.TableGrowth.{compound_put_lem, open_put_lem, policy-put, location-put, principals-put, rule-put}
 use Rattle.sheet_text.specs.declared.line.SheetLine.{SheetLine}
-use Rattle.sheet_text.specs.declared.line.SheetLine.TheVariants.{P, R, L, O, X}
-use Rattle.sheet_text.specs.declared.draft.Draft.{Draft}
-use Rattle.sheet_text.specs.declared.draft.Draft.TheVariants.{Formed, Refused}
+use Rattle.sheet_text.specs.declared.line.SheetLine.TheVariants.{P, R, T, Q, L, O, X}
 use Rattle.sheet_text.specs.Internal.Building.{last_of, least_after, least_owner, rule_fits, compound_fits}
 use Rattle.sheet_text.specs.Internal.Building.{label_fits, policy_fits, location_fits, begin, add_type, add_line}
 use Rattle.sheet_text.specs.Internal.Building.{add_line_on}
-use Rattle.sheet_text.specs.Internal.Drafts.{draft_if, DraftHolds, FormedIf, Stores, principals_fit, rule_fits_in}
+use Rattle.std.specs.Prelude.{Some, None}
+use Rattle.sheet.specs.declared.Kind.TheVariants.{Sum, Pair}
+use Rattle.sheet_text.specs.Internal.Placed.{Draft}
+use Rattle.sheet_text.specs.Internal.Drafts.{draft_if, DraftHolds, FormedIf, next_least, line_put, rule_fits_in}
 use Rattle.sheet_text.specs.Internal.Drafts.{compound_fits_in, label_fits_in, policy_fits_in, location_fits_in}
 use Rattle.logic.proofs.OptionLaws.{none_some}
 use Rattle.sheet_text.proofs.GrowthLaws.{last_more, least_more}
@@ -100,29 +101,14 @@ module _ (s : Sheet) (fm : formed s ≡ true) where
   unfolding location_fits
   location_fits_in_lem t l = rw (locations_in_lem s fm, types_in_lem s fm, labels_in_lem s fm)
 
--- ---- what the code answers
-
--- a line that may not come next, and one that may
-module _ (fits : List ℕ → Bool) (stored : List ℕ → List ℕ) (t : List ℕ) where
-  pub passed_over : fits t ≡ false → Stores fits stored t false t
-  passed_over e = record { answer = sym e; table = sym (ap (λ (b : Bool). cond b (stored t) t) e) }
-
-  pub taken : fits t ≡ true → (u : List ℕ) → u ≡ stored t → Stores fits stored t true u
-  taken e u f = record { answer = sym e; table = f ∙ sym (ap (λ (b : Bool). cond b (stored t) t) e) }
-
 -- ---- what the code holds after each line
 
--- the sheet after a line, if its test passes, from what the code answered and stored
-holds_if : (c : Bool) (s : Sheet) (fits : List ℕ → Bool) (stored : List ℕ → List ℕ) (t u : List ℕ) (ok : Bool) (k : ℕ)
-    → Stores fits stored t ok u
-    → fits t ≡ c → (c ≡ true → (k ≡ least_owner s) × (stored t ≡ table_of s))
-    → DraftHolds (cond c (some s) none) (draft_if ok k) u
-unfolding DraftHolds draft_if
-holds_if true s fits stored t u ok k made same h = (
-  ap (λ (b : Bool). draft_if b k) (made.answer ∙ same) ∙ ap Formed (h refl).0,
-  made.table ∙ ap (λ (b : Bool). cond b (stored t) t) same ∙ (h refl).1,
-)
-holds_if false s fits stored t u ok k made same h = ap (λ (b : Bool). draft_if b k) (made.answer ∙ same)
+-- the sheet after a line, if its test passes, and what is stored then
+holds_if : (c : Bool) (s : Sheet) (fits : Bool) (u : List ℕ) (k : ℕ) → fits ≡ c
+    → (c ≡ true → (k ≡ least_owner s) × (u ≡ table_of s)) → DraftHolds (cond c (some s) none) (draft_if fits k) u
+unfolding DraftHolds
+holds_if true s fits u k same h = (ap (λ (b : Bool). draft_if b k) same ∙ ap Some (h refl).0, (h refl).1)
+holds_if false s fits u k same h = ap (λ (b : Bool). draft_if b k) same
 
 -- without labels the least owner is 0
 least_none : (s : Sheet) → s.labels ≡ [] → 0 ≡ least_owner s
@@ -190,60 +176,43 @@ module _ (s : Sheet) (fm : formed s ≡ true) where
       (ltb-true _ _ (both_left _ _ names))
       (ltb-true _ _ (both_right _ _ names))
 
--- what was stored in the table of a sheet
-module _ (s : Sheet) (fm : formed s ≡ true) (t : List ℕ) (e : t ≡ table_of s) (ok : Bool) (u : List ℕ) where
-  pub rule_holds : (k : ℕ) → Stores (rule_fits_in k) rule_put t ok u
-      → DraftHolds (add_line s (R k)) (draft_if ok 0) u
-  unfolding add_line
-  rule_holds k made =
-      holds_if (rule_fits s k) _ (rule_fits_in k) rule_put (table_of s) u ok 0 (rw e at made)
-      (rule_fits_in_lem s fm k) (λ f. rule-stored s k f)
+-- a further line, from the table of a sheet
+table_line : (s : Sheet) → formed s ≡ true → (line : SheetLine)
+    → DraftHolds (add_line s line) (next_least (least_owner s) line (table_of s)) (line_put line (table_of s))
+unfolding add_line add_type next_least line_put DraftHolds
+table_line s fm (P n) = refl
+table_line s fm (R k) = holds_if (rule_fits s k) _ _ _ 0 (rule_fits_in_lem s fm k) (λ f. rule-stored s k f)
+table_line s fm (T a b) =
+    holds_if (compound_fits s a b) _ _ _ 0 (compound_fits_in_lem s fm a b) (λ f. compound_stored s fm Sum a b f)
+table_line s fm (Q a b) =
+    holds_if (compound_fits s a b) _ _ _ 0 (compound_fits_in_lem s fm a b) (λ f. compound_stored s fm Pair a b f)
+table_line s fm L = holds_if (label_fits s) _ _ _ 0 (label_fits_in_lem s fm) (λ f. label-stored s fm f)
+table_line s fm (O o r w) =
+    holds_if (policy_fits s o r w) _ _ _ _ (policy_fits_in_lem s fm o r w) (λ f. policy-stored s fm o r w f)
+table_line s fm (X ty l) =
+    holds_if (location_fits s ty l) _ _ _ _ (location_fits_in_lem s fm ty l)
+    (λ f. (unfold least_owner add_location in refl, location-stored s fm ty l f))
 
-  pub compound_holds : (k : Kind) (a b : ℕ) → Stores (compound_fits_in a b) (compound_put k a b) t ok u
-      → DraftHolds (add_type s k a b) (draft_if ok 0) u
-  unfolding add_type
-  compound_holds k a b made =
-      holds_if (compound_fits s a b) _ (compound_fits_in a b) (compound_put k a b) (table_of s) u ok 0 (rw e at made)
-      (compound_fits_in_lem s fm a b)
-      (λ f. compound_stored s fm k a b f)
-
-  pub label_holds : Stores label_fits_in open_put t ok u → DraftHolds (add_line s L) (draft_if ok 0) u
-  unfolding add_line
-  label_holds made =
-      holds_if (label_fits s) _ label_fits_in open_put (table_of s) u ok 0 (rw e at made) (label_fits_in_lem s fm)
-      (λ f. label-stored s fm f)
-
-  pub policy_holds : (o r w : ℕ) (least : ℕ) → least ≡ least_owner s
-      → Stores (policy_fits_in least o r w) (policy_put o r w) t ok u
-      → DraftHolds (add_line s (O o r w)) (draft_if ok (o % max_principals + 1)) u
-  unfolding add_line
-  policy_holds o r w least same made =
-      holds_if (policy_fits s o r w) _ (policy_fits_in (least_owner s) o r w) (policy_put o r w) (table_of s) u ok
-      (o % max_principals + 1)
-      (rw (e, same) at made) (policy_fits_in_lem s fm o r w) (λ f. policy-stored s fm o r w f)
-
-  pub location_holds : (ty l : ℕ) (least : ℕ) → least ≡ least_owner s
-      → Stores (location_fits_in ty l) (location_put ty l) t ok u
-      → DraftHolds (add_line s (X ty l)) (draft_if ok least) u
-  unfolding add_line
-  location_holds ty l least same made =
-      holds_if (location_fits s ty l) _ (location_fits_in ty l) (location_put ty l) (table_of s) u ok least
-      (rw e at made)
-      (location_fits_in_lem s fm ty l)
-      (λ f. (same ∙ least_kept, location-stored s fm ty l f))
-    where
-      least_kept : least_owner s ≡ least_owner (add_location s (record { type = ty; label = l }))
-      least_kept = unfold least_owner add_location in refl
+pub line_holds : (s : Sheet) → formed s ≡ true → (line : SheetLine) (k : ℕ) (t : List ℕ) → k ≡ least_owner s
+    → t ≡ table_of s
+    → DraftHolds (add_line s line) (next_least k line t) (line_put line t)
+line_holds s fm line k t e f = rw (e, f) (table_line s fm line)
 
 -- ---- the first line
 
-pub begin_holds : (n : ℕ) (t : List ℕ) → t ≡ replicate table_words 0 → (ok : Bool) (u : List ℕ)
-    → Stores (principals_fit n) (principals_put n) t ok u → DraftHolds (begin (P n)) (draft_if ok 0) u
-unfolding begin
-begin_holds n t e ok u made =
-    holds_if (both (leb 1 n) (leb n max_principals)) (bare_sheet n) (principals_fit n) (principals_put n)
-    (replicate table_words 0) u ok 0 (rw e at made) refl
-    (λ f. (least_none (bare_sheet n) (unfold bare_sheet in refl), principals-put n (leb-true _ _ (both_right _ _ f))))
+module _ (n : ℕ) where
+  pub begin_taken : both (leb 1 n) (leb n max_principals) ≡ true
+      → DraftHolds (begin (P n)) (Some 0) (line_put (P n) (replicate table_words 0))
+  unfolding begin line_put DraftHolds
+  begin_taken f =
+      rw f (
+        ap Some (least_none (bare_sheet n) (unfold bare_sheet in refl)),
+        principals-put n (leb-true _ _ (both_right _ _ f)),
+      )
+
+  pub begin_none : both (leb 1 n) (leb n max_principals) ≡ false → none ≡ begin (P n)
+  unfolding begin
+  begin_none f = rw f
 
 -- ---- the sheet so far stays of the right form
 
@@ -263,38 +232,26 @@ formed-stepped (some s) l f = at (add_line s l) refl
     at none e = unfold FormedIf in tt
     at (some s') e = unfold FormedIf in (step-sound s l s' f e).right
 
--- ---- any line
+-- ---- a refusal
 
--- a refusal
-pub holds_none : (o : Option Sheet) (t : List ℕ) → none ≡ o → DraftHolds o Refused t
+pub holds_none : (o : Option Sheet) (t : List ℕ) → none ≡ o → DraftHolds o None t
 unfolding DraftHolds
 holds_none none t e = refl
 holds_none (some s) t e = none_some e
 
-pub refused-formed : {A : Type 0} (d : Draft) (k : ℕ) → d ≡ Refused → d ≡ Formed k → A
-refused-formed d k h e = let z : ◌≡◌ {A = ℕ} 0 1 = cc in absurd (omega arith)
+-- whatever the table
+pub holds_any : (o : Option Sheet) (d : Draft) (t u : List ℕ) → d ≡ None → DraftHolds o d t → DraftHolds o None u
+unfolding DraftHolds
+holds_any none d t u e h = refl
+holds_any (some s) d t u e h = let z : None ≡ Some (least_owner s) = sym e ∙ h.0 in cc
 
-module _ (d : Draft) (t : List ℕ) where
-  -- a refusal stays one
-  pub step-refused : (o : Option Sheet) (l : SheetLine) (u : List ℕ) → d ≡ Refused → DraftHolds o d t
-      → DraftHolds (add_line_on o l) Refused u
-  unfolding DraftHolds add_line_on
-  step-refused none l u h e = refl
-  step-refused (some s) l u h e = refused-formed d _ h e.0
-
-  -- what is made of the sheet by the line
-  pub step_made : (o : Option Sheet) (l l' : SheetLine) (r : Draft) (u : List ℕ) (k : ℕ) → d ≡ Formed k → l ≡ l'
-      → FormedIf o
-      → DraftHolds o d t
-      → ((s : Sheet) → formed s ≡ true → k ≡ least_owner s → t ≡ table_of s → DraftHolds (add_line s l') r u)
-      → DraftHolds (add_line_on o l) r u
-  unfolding DraftHolds add_line_on FormedIf
-  step_made none l l' r u k h told f e g = refused-formed d k e h
-  step_made (some s) l l' r u k h told f e g =
-      let same : k ≡ least_owner s = cc in
-      rw told (g s f same e.1)
-
--- a further line `P`
-pub no_principals : (s : Sheet) (n : ℕ) (u : List ℕ) → DraftHolds (add_line s (P n)) Refused u
-unfolding add_line DraftHolds
-no_principals s n u = refl
+-- a draft is that of a sheet
+pub held_sheet : {P : Type 0} (o : Option Sheet) (d : Draft) (k : ℕ) (t : List ℕ) → FormedIf o → d ≡ Some k
+    → DraftHolds o d t
+    → ((s : Sheet) → o ≡ some s → formed s ≡ true → k ≡ least_owner s → t ≡ table_of s → P) → P
+unfolding DraftHolds FormedIf
+held_sheet none d k t f e h g = let z : Some k ≡ None = sym e ∙ h in cc
+held_sheet (some s) d k t f e h g =
+    let z : Some k ≡ Some (least_owner s) = sym e ∙ h.0 in
+    let y : k ≡ least_owner s = cc in
+    g s refl f y h.1

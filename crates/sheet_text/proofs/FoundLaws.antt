@@ -1,52 +1,116 @@
 -- From an answer in a text back to the line that was read, and from a line to its answer.
-use mathlib.Core.Path.{◌≡◌, refl, ap, ◌∙◌}
+use mathlib.Core.Path.{◌≡◌, refl, ap, ◌∙◌, fun_ext}
 use mathlib.Core.List.{List, ◌∷◌}
 use Prim.Native.Nat.{ℕ, ◌+◌, ◌≤◌, ◌<◌}
 use native.Mathlib.Omega.{arith}
 use lib.ListN.{length, drop, get_or, drop_of_length-le, length-drop}
 use borrow.Author.Tests.{ne_eqb}
-use Rattle.text.specs.Reading.{Read}
+use Rattle.std.specs.Prelude.{Option, Some, None, option_and_then, option_map}
+use Rattle.text.specs.Reading.{Read, and_then}
 use Rattle.text.specs.Reading.Read.{got, bad}
 use Rattle.text.proofs.Readings.{drop-step}
-use Rattle.text.proofs.Places.{placed_got, placed_bad, placed_split}
+use Rattle.text.specs.Number.{most}
+use Rattle.text.specs.Field.{number_field, set_field, line_end, last_number}
+use Rattle.text.specs.Internal.Place.{placed, placed_end}
+use Rattle.text.proofs.Places.{placed_at, placed-bad, placed_then, placed_last}
+use Rattle.text.proofs.Fields.{number_field_within, set_field_within}
+use Rattle.reader.specs.Internal.Moved.{moved}
 use Rattle.text.proofs.Lines.{line_within, line_shorter}
 use Rattle.sheet_text.specs.declared.line.SheetLine.{SheetLine}
-use Rattle.sheet_text.specs.declared.line.SheetLine.TheVariants.{P, R, T, Q, X}
-use Rattle.sheet_text.specs.declared.line.LineRead.TheVariants as read
-use Rattle.sheet_text.specs.declared.line.Reached.{Reached}
-use Rattle.sheet_text.specs.declared.line.Found.TheVariants as found
+use Rattle.sheet_text.specs.declared.line.SheetLine.TheVariants.{P, R, T, Q, L, O, X}
 use Rattle.sheet_text.specs.Reading.{number_rest, numbers_rest, label_rest, policy_rest, line_of}
-use Rattle.sheet_text.specs.Internal.Placed.{placed_line, reached, line_at}
+use Rattle.sheet_text.specs.Internal.Placed.{line_at}
 use Rattle.sheet_text.proofs.LineLaws.{sheet-lines}
 
 -- ---- answers
 
-module _ (s : List ℕ) (want : Read SheetLine) where
-  pub found-got : (l : SheetLine) (p : ℕ) → want ≡ got l (drop p s) → p ≤ length s → found.At l p ≡ placed_line s want
-  found-got l p e h = placed_got (λ l p. found.At l p) found.Refused s want l p e h
+-- what a reading that makes something of another's value answers
+placed_made : {A B : Type 0} (s : List ℕ) (x : Read A) (f : A → B)
+    → placed s (and_then x (λ v u. got (f v) u)) ≡ option_map (λ r. (f r.0, r.1)) (placed s x)
+unfolding placed and_then
+placed_made s (got v t) f = refl
+placed_made s bad f = refl
 
-  pub found_none : want ≡ bad → found.Refused ≡ placed_line s want
-  found_none e = placed_bad (λ l p. found.At l p) found.Refused s want e
+module _ (s : List ℕ) (i : ℕ) where
+  pub placed-number_rest : (f : ℕ → SheetLine)
+      → placed s (number_rest f (drop i s))
+      ≡ option_map (λ r. (f r.0, r.1)) (placed s (last_number most (drop i s)))
+  unfolding number_rest
+  placed-number_rest f = placed_made s _ f
 
--- what an answer at i in s says of the line there
-module _ (s : List ℕ) (i : ℕ) (r : Reached) (e : r ≡ line_at s i) where
-  line_split : {P : Type 0} → ((l : SheetLine) (p : ℕ) → line_of (drop i s) ≡ got l (drop p s) → p ≤ length s
-      → r ≡ record { read = read.Line l; at = p } → P)
-      → (line_of (drop i s) ≡ bad → r ≡ record { read = read.Refused; at = i } → P) → P
-  unfolding reached
-  line_split f g =
-      placed_split (λ l p. found.At l p) found.Refused s i (line_of (drop i s)) _
-      (line_within sheet-lines (drop i s)) refl
-      (λ l p x h y. f l p x h (e ∙ ap (reached i) y)) (λ x y. g x (e ∙ ap (reached i) y))
+  pub placed-numbers_rest : (f : ℕ → ℕ → SheetLine)
+      → placed s (numbers_rest f (drop i s))
+      ≡ option_and_then (λ r. option_map (λ q. (f r.0 q.0, q.1)) (placed s (last_number most (drop r.1 s))))
+      (placed s (number_field most (drop i s)))
+  unfolding numbers_rest
+  placed-numbers_rest f =
+      placed_then s i _ _ (number_field_within most (drop i s))
+      ∙ ap (λ g. option_and_then g (placed s (number_field most (drop i s))))
+      (fun_ext (λ (r : ℕ × ℕ). placed_made s (last_number most (drop r.1 s)) (f r.0)))
 
-  pub line-found : (l : SheetLine) → r.read ≡ read.Line l
-      → (line_of (drop i s) ≡ got l (drop r.at s)) × (r.at ≤ length s)
-  line-found l g = line_split
-      (λ l' p x h y. let a : l' ≡ l = cc in rw (y, ← a) (x, h))
-      (λ x y. let z : ◌≡◌ {A = ℕ} 0 1 = cc in absurd (omega arith))
+  pub placed-label_rest :
+      placed s (label_rest (drop i s)) ≡ option_map (λ p. (L, p)) (placed_end s (line_end (drop i s)))
+  unfolding label_rest
+  placed-label_rest = placed_last s i _ L
 
-  pub line_missed : r.read ≡ read.Refused → line_of (drop i s) ≡ bad
-  line_missed g = line_split (λ l p x h y. let z : ◌≡◌ {A = ℕ} 0 1 = cc in absurd (omega arith)) (λ x y. x)
+module _ (s : List ℕ) where
+  placed-writers_rest : (i o r : ℕ)
+      → placed s (and_then (set_field (drop i s)) (λ w x. and_then (line_end x) (λ _ y. got (O o r w) y)))
+      ≡ option_and_then (λ w. option_map (λ p. (O o r w.0, p)) (placed_end s (line_end (drop w.1 s))))
+      (placed s (set_field (drop i s)))
+  placed-writers_rest i o r =
+      placed_then s i _ _ (set_field_within (drop i s))
+      ∙ ap (λ g. option_and_then g (placed s (set_field (drop i s))))
+      (fun_ext (λ (w : ℕ × ℕ). placed_last s i (line_end (drop w.1 s)) (O o r w.0)))
+
+  placed-readers_rest : (i o : ℕ)
+      → placed s (and_then (set_field (drop i s)) (λ r v. and_then (set_field v)
+      (λ w x. and_then (line_end x) (λ _ y. got (O o r w) y))))
+      ≡ option_and_then (λ r. option_and_then
+      (λ w. option_map (λ p. (O o r.0 w.0, p)) (placed_end s (line_end (drop w.1 s))))
+      (placed s (set_field (drop r.1 s))))
+      (placed s (set_field (drop i s)))
+  placed-readers_rest i o =
+      placed_then s i _ _ (set_field_within (drop i s))
+      ∙ ap (λ g. option_and_then g (placed s (set_field (drop i s))))
+      (fun_ext (λ (r : ℕ × ℕ). placed-writers_rest r.1 o r.0))
+
+  pub placed-policy_rest : (i : ℕ)
+      → placed s (policy_rest (drop i s))
+      ≡ option_and_then (λ o. option_and_then (λ r. option_and_then
+      (λ w. option_map (λ p. (O o.0 r.0 w.0, p)) (placed_end s (line_end (drop w.1 s))))
+      (placed s (set_field (drop r.1 s))))
+      (placed s (set_field (drop o.1 s))))
+      (placed s (number_field most (drop i s)))
+  unfolding policy_rest
+  placed-policy_rest i =
+      placed_then s i _ _ (number_field_within most (drop i s))
+      ∙ ap (λ g. option_and_then g (placed s (number_field most (drop i s))))
+      (fun_ext (λ (o : ℕ × ℕ). placed-readers_rest o.1 o.0))
+
+-- what a reader finds tells the answer at the byte where it stood
+module _ {A : Type 0} (i p : ℕ) where
+  moved_some : (o : Option (A × ℕ)) (x : A) → (Some x, p) ≡ moved i o → Some (x, p) ≡ o
+  moved_some None x e = let z : Some x ≡ None = ap (λ q. q.0) e in cc
+  moved_some (Some y) x e =
+      let z : Some x ≡ Some y.0 = ap (λ q. q.0) e in
+      let v : x ≡ y.0 = cc in
+      let w : p ≡ y.1 = ap (λ q. q.1) e in
+      rw (v, w) refl
+
+  moved_none : (o : Option (A × ℕ)) → (None, p) ≡ moved i o → None ≡ o
+  moved_none None e = refl
+  moved_none (Some y) e = let z : None ≡ Some y.0 = ap (λ q. q.0) e in cc
+
+-- what a reader at byte i of s finds says of the line there
+module _ (s t : List ℕ) (i p : ℕ) (same : t ≡ s) where
+  pub line-found : (l : SheetLine) → (Some l, p) ≡ moved i (line_at t i)
+      → (line_of (drop i s) ≡ got l (drop p s)) × (p ≤ length s)
+  line-found l e =
+      placed_at s i _ (line_within sheet-lines (drop i s)) l p (rw same at (moved_some i p (line_at t i) l e))
+
+  pub line_missed : (None, p) ≡ moved i (line_at t i) → line_of (drop i s) ≡ bad
+  line_missed e = placed-bad s i _ (rw same at (moved_none i p (line_at t i) e))
 
 -- the place after a line is past the line's own
 pub line-onward : (s : List ℕ) (i : ℕ) (l : SheetLine) (p : ℕ) → line_of (drop i s) ≡ got l (drop p s) → p ≤ length s

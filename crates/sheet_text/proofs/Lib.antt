@@ -8,5 +8,4 @@ pub mod Theorems
 pub mod DraftLaws
 pub mod RepeatFinds
 pub mod FoundLaws
-mod Readers
 pub mod ReadLaws

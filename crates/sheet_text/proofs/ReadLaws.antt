@@ -5,29 +5,31 @@ use mathlib.Core.List.{List, [], ◌∷◌}
 use mathlib.Core.Option.{Option, none, some}
 use Prim.Native.Nat.{ℕ, ◌≤◌, ◌<◌}
 use native.Mathlib.Omega.{arith}
-use lib.ListN.{length, drop, length-drop, drop_of_length-le, length-replicate}
+use lib.ListN.{length, drop, replicate, length-drop, drop_of_length-le, length-replicate}
 use Rattle.text.specs.Reading.{fits}
 use Rattle.text.specs.Reading.Read.{got, bad}
 use Rattle.text.specs.Lines.{front}
 use Rattle.text.proofs.Lines.{all_none, all_more, all_bad}
-use Rattle.sheet.specs.Sheet.{Sheet, type_count, label_count, max_labels}
-use Rattle.sheet.specs.Internal.Tables.{max_types, table_words, types_in, labels_in}
+use Rattle.sheet.specs.Sheet.{Sheet, type_count, label_count, max_labels, formed}
+use Rattle.sheet.specs.Internal.Tables.{max_types, table_words, table_of}
 use Rattle.sheet.proofs.FormLaws.{formed_facts, type-count}
 use Rattle.sheet.proofs.TableLaws.{types_in_lem, labels_in_lem}
 use Rattle.sheet.proofs.TableGrowth.{table-long}
 use Rattle.sheet_text.specs.declared.line.SheetLine.{SheetLine}
-use Rattle.sheet_text.specs.declared.draft.Draft.{Draft}
-use Rattle.sheet_text.specs.declared.draft.Draft.TheVariants.{Formed, Refused}
+use Rattle.std.specs.Prelude.{Some, None, Result, Ok, Err}
+use Rattle.std.specs.Result.{is_err}
+use Rattle.sheet_text.specs.Internal.Placed.{Draft}
 use Rattle.sheet_text.specs.Reading.{line_of, lines_of}
-use Rattle.sheet_text.specs.Internal.Building.{begin, add_line_on, add_lines, build}
+use Rattle.sheet_text.specs.Internal.Building.{begin, least_owner, add_line, add_line_on, add_lines, build}
 use Rattle.sheet_text.specs.Sheets.{build_read, sheet_read, ParsedSheet, malformed, repeating, accepted, judged}
 use Rattle.sheet_text.specs.Sheets.{sheet_of}
-use Rattle.sheet_text.specs.declared.Verdict.TheVariants.{Accepted, Malformed, Repeats}
-use Rattle.sheet_text.specs.Internal.Decoded.{Decoded, refused_by, decoded_sheet}
+use Rattle.sheet_text.specs.declared.SheetError.{SheetError}
+use Rattle.sheet_text.specs.declared.SheetError.TheVariants.{Malformed, Repeats}
+use Rattle.sheet_text.specs.Internal.Decoded.{Decoded, refused_by, decoded_sheet, Judges}
 use Rattle.sheet_text.specs.Internal.Drafts.{DraftHolds, FormedIf, steps_read}
-use Rattle.sheet_text.specs.Internal.Repeats.{repeats_in}
+use Rattle.sheet_text.specs.Internal.Repeats.{CountsFit, repeats_in}
 use Rattle.sheet_text.proofs.LineLaws.{sheet-lines}
-use Rattle.sheet_text.proofs.DraftLaws.{refused-formed}
+use Rattle.sheet_text.proofs.DraftLaws.{holds_none, held_sheet, formed-stepped}
 use Rattle.sheet_text.proofs.RepeatFinds.{repeats_in_lem}
 use Rattle.sheet_text.proofs.Theorems.{sheet_in_sound, accepted_exact}
 
@@ -85,40 +87,127 @@ module _ (t : List ℕ) where
       at none e = unfold FormedIf in tt
       at (some s) e = unfold FormedIf in (sheet_in_sound t s e).is_formed
 
+-- ---- the walk over the lines
+
+-- with a refusal the lines to come are refused
+lines_none : (ls : List SheetLine) → none ≡ add_lines none ls
+unfolding add_lines add_line_on
+lines_none [] = refl
+lines_none (l ∷ ls) = lines_none ls
+
+steps_none : (ls : Option (List SheetLine)) → none ≡ steps_read none ls
+unfolding steps_read
+steps_none none = refl
+steps_none (some ls) = lines_none ls
+
+-- a sheet of the right form is held, which the lines to come make the whole
+pub record HeldAt (k : ℕ) (t : List ℕ) (rest : Option (List SheetLine)) (whole : Option Sheet) : Type 0 where
+  pub sheet : Sheet
+  pub is_formed : formed sheet ≡ true
+  pub least : k ≡ least_owner sheet
+  pub table : t ≡ table_of sheet
+  pub leads : steps_read (some sheet) rest ≡ whole
+
+module _ (o : Option Sheet) (d : Draft) (t : List ℕ) (h : DraftHolds o d t) (rest : Option (List SheetLine))
+    (whole : Option Sheet) (leads : steps_read o rest ≡ whole) where
+  pub held_after : (k : ℕ) → FormedIf o → d ≡ Some k → HeldAt k t rest whole
+  held_after k f e =
+      held_sheet o d k t f e h
+      (λ s is fm least table. record {
+        sheet = s;
+        is_formed = fm;
+        least = least;
+        table = table;
+        leads = ap (λ o. steps_read o rest) (sym is) ∙ leads;
+      })
+
+  pub refused_after : (u : List ℕ) → d ≡ None → DraftHolds whole None u
+  refused_after u e = at o h leads
+    where
+      at : (o : Option Sheet) → DraftHolds o d t → steps_read o rest ≡ whole → DraftHolds whole None u
+      at none h leads = holds_none whole u (steps_none rest ∙ leads)
+      at (some s) h leads = unfold DraftHolds in (let z : None ≡ Some (least_owner s) = sym e ∙ h.0 in cc)
+
+module _ {k : ℕ} {t : List ℕ} {whole : Option Sheet} (s : List ℕ) (i : ℕ)
+    (h : HeldAt k t (lines_of (drop i s)) whole) where
+  pub leads_on : (l : SheetLine) (p : ℕ) → line_of (drop i s) ≡ got l (drop p s)
+      → steps_read (add_line h.sheet l) (lines_of (drop p s)) ≡ whole
+  unfolding add_line_on
+  leads_on l p e = steps_on (some h.sheet) s i l p e ∙ h.leads
+
+  pub formed_on : (l : SheetLine) → FormedIf (add_line h.sheet l)
+  unfolding add_line_on FormedIf
+  formed_on l = formed-stepped (some h.sheet) l h.is_formed
+
+  pub held_none : i < length s → line_of (drop i s) ≡ bad → (u : List ℕ) → DraftHolds whole None u
+  held_none l e u = holds_none whole u (steps-bad (some h.sheet) s i l e ∙ h.leads)
+
+  pub held_end : length s ≤ i → DraftHolds whole (Some k) t
+  unfolding DraftHolds
+  held_end l = rw (← (steps_end (some h.sheet) s i l ∙ h.leads)) (ap Some h.least, h.table)
+
 -- ---- what a text is parsed to
 
 module _ (d : Draft) (t : List ℕ) where
-  pub parsed-malformed : (o : Option Sheet) → DraftHolds o d t → d ≡ Refused
-      → refused_by Malformed ≡ decoded_sheet (judged o)
-  unfolding DraftHolds decoded_sheet judged
+  pub parsed-malformed : (o : Option Sheet) → DraftHolds o d t → d ≡ None → Judges (judged o) (Err Malformed) t
+  unfolding DraftHolds Judges judged
   parsed-malformed none e h = refl
-  parsed-malformed (some s) e h = refused-formed d _ h e.0
+  parsed-malformed (some s) e h = let z : None ≡ Some (least_owner s) = sym h ∙ e.0 in cc
 
-  module _ (k : ℕ) (h : d ≡ Formed k) where
+  module _ (k : ℕ) (h : d ≡ Some k) where
     -- a table of a sheet of the right form has few types and labels
     pub counts-few : (o : Option Sheet) → FormedIf o → DraftHolds o d t
-        → (types_in t ≤ max_types) × (labels_in t ≤ max_labels)
-    unfolding DraftHolds FormedIf
-    counts-few none f e = refused-formed d k e h
-    counts-few (some s) f e =
-        let facts = formed_facts s f in
+        → CountsFit t
+    counts-few o f e =
+        held_sheet o d k t f h e
+        (λ s is fm least table.
+        let facts = formed_facts s fm in
         let types : type_count s ≤ max_types = omega (arith, type-count s, facts.few_compounds) in
         let labels : label_count s ≤ max_labels = unfold label_count in facts.few_labels in
-        rw (e.1, types_in_lem s f, labels_in_lem s f) (types, labels)
+        rw table (record {
+          types_from = rw types_in_lem (omega (arith, type-count s));
+          types_to = rw types_in_lem types;
+          labels_to = rw labels_in_lem labels;
+        }))
 
     pub parsed-repeating : (o : Option Sheet) → FormedIf o → DraftHolds o d t → repeats_in t ≡ true
-        → refused_by Repeats ≡ decoded_sheet (judged o)
-    unfolding DraftHolds decoded_sheet judged FormedIf
-    parsed-repeating none f e r = refused-formed d k e h
-    parsed-repeating (some s) f e r = rw (sym (repeats_in_lem s f) ∙ ap repeats_in (sym e.1) ∙ r)
+        → Judges (judged o) (Err Repeats) t
+    unfolding Judges judged
+    parsed-repeating o f e r =
+        held_sheet o d k t f h e
+        (λ s is fm least table. rw (is, sym (repeats_in_lem s fm) ∙ ap repeats_in (sym table) ∙ r))
 
     pub parsed-accepted : (o : Option Sheet) → FormedIf o → DraftHolds o d t → repeats_in t ≡ false
-        → record { verdict = Accepted; table = t } ≡ decoded_sheet (judged o)
-    unfolding DraftHolds decoded_sheet judged FormedIf
-    parsed-accepted none f e r = refused-formed d k e h
-    parsed-accepted (some s) f e r =
-        rw (sym (repeats_in_lem s f) ∙ ap repeats_in (sym e.1) ∙ r)
-        (ap (λ (t : List ℕ). record { verdict = Accepted; table = t }) e.1)
+        → Judges (judged o) (Ok tt) t
+    unfolding Judges judged
+    parsed-accepted o f e r =
+        held_sheet o d k t f h e
+        (λ s is fm least table. rw (is, sym (repeats_in_lem s fm) ∙ ap repeats_in (sym table) ∙ r) (refl, table))
+
+-- what is found, with the table or with zeros
+module _ (a : ParsedSheet) (t : List ℕ) where
+  pub refused : (r : Result Unit SheetError) → is_err r ≡ true → Judges a r t
+      → record { verdict = r; table = replicate table_words 0 } ≡ decoded_sheet a
+  unfolding decoded_sheet refused_by Judges
+  refused (Ok u) e h = let z : false ≡ true = e in cc
+  refused (Err x) e h = at a h
+    where
+      at : (a : ParsedSheet) → Judges a (Err x) t
+          → record { verdict = Err x; table = replicate table_words 0 } ≡ decoded_sheet a
+      at malformed h = let z : x ≡ Malformed = cc in ap refused_by z
+      at repeating h = let z : x ≡ Repeats = cc in ap refused_by z
+      at (accepted s) h = let z : Err x ≡ Ok tt = h.0 in cc
+
+  pub found : (r : Result Unit SheetError) → is_err r ≡ false → Judges a r t
+      → record { verdict = r; table = t } ≡ decoded_sheet a
+  unfolding decoded_sheet Judges
+  found (Err x) e h = let z : true ≡ false = e in cc
+  found (Ok u) e h = at a h
+    where
+      at : (a : ParsedSheet) → Judges a (Ok tt) t → record { verdict = Ok tt; table = t } ≡ decoded_sheet a
+      at malformed h = let z : Ok tt ≡ Err Malformed = h in cc
+      at repeating h = let z : Ok tt ≡ Err Repeats = h in cc
+      at (accepted s) h = ap (λ (t : List ℕ). record { verdict = Ok tt; table = t }) h.1
 
 -- the table that a text is answered has all its words
 pub decoded_long : (t : List ℕ) (d : Decoded) → d ≡ decoded_sheet (sheet_of t) → length d.table ≡ table_words

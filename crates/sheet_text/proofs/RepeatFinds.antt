@@ -1,159 +1,176 @@
 -- A table repeats a type or a label exactly if its sheet does.
 use mathlib.Core.Path.{◌≡◌, refl, sym, ap, ap₂, ◌∙◌}
-use mathlib.Core.Bool.{Bool, true, false}
-use mathlib.Core.List.{List, [], ◌∷◌, ◌++◌}
-use Prim.Native.Nat.{ℕ, suc, ◌+◌, ◌*◌, ◌-◌, ◌<◌, ◌≤◌}
+use mathlib.Core.Bool.{Bool, true, false, ◌&&◌, ◌||◌}
+use mathlib.Core.List.{List, [], ◌∷◌, ◌++◌, map, append_assoc}
+use Prim.Native.Nat.{ℕ, zero, suc, ◌+◌, ◌*◌, ◌-◌, ◌/◌, ◌<◌, ◌≤◌}
+use native.Mathlib.Nat.{suc-mul}
 use native.Mathlib.Omega.{arith}
-use native.Mathlib.Decide.{dec_le}
+use borrow.Author.Tests.{eqb-true, eq-eqb}
 use lib.Dec.{eqb}
-use lib.ListN.{length, get_or, length-map}
+use lib.ListN.{length, get_or, take, drop, replicate, length-drop, length-map}
+use lib.Seq.{take_at, drop_at, take-take, length-take-le}
+use Rattle.std.proofs.lemmas.List.{drop-take}
+use Rattle.std.proofs.lemmas.Bool.Decides.{Decides-eqb}
+use Rattle.std.proofs.lemmas.Slice.Eq.{slice_eq-Decides}
+use Rattle.std.specs.List.{list_any}
+use Rattle.std.specs.Simd.{first_chunks}
 use Rattle.logic.specs.Booleans.{both, either}
-use Rattle.logic.proofs.BooleanLaws.{bool_ext, both_left, both_right, both_true, both_exchange}
-use Rattle.sets.specs.Sets.{every, everyone}
-use Rattle.sets.proofs.Walks.{every_true, every_at, get_d_tab}
-use Rattle.labels.specs.Labels.{owners, label_of, bottom_of, readers_of, writers_of, same_at, same_of}
-use Rattle.labels.specs.Internal.Tables.{label_size, sets_at, label_at}
+use Rattle.logic.proofs.BooleanLaws.{bool_ext, both_left, both_right}
+use Rattle.sets.specs.Sets.{everyone}
+use Rattle.labels.specs.Labels.{owners, label_of, bottom_of, same_of, whole_of}
+use Rattle.labels.specs.Internal.Tables.{label_size, label_words}
 use Rattle.labels.specs.declared.Label.{Label}
-use Rattle.sheet.specs.Sheet.{Sheet, labels_of, label_no, label_count, max_labels, formed, among, repeated, same_kind}
+use Rattle.labels.proofs.EffectiveLaws.{effective_whole}
+use Rattle.labels.proofs.OrderLaws.{label_path, whole_lengths, below_antisym, same_both_ways, same_refl}
+use Rattle.labels.proofs.TableLaws.{length_words}
+use Rattle.sheet.specs.Padding.{padded}
+use Rattle.sheet.specs.Sheet.{Compound, Sheet, labels_of, label_no, label_count, formed, among, repeated, same_kind}
 use Rattle.sheet.specs.Sheet.{same_compound, given_sums, repeats}
-use Rattle.sheet.specs.Internal.Tables.{max_types, parts_base, parts_place, label_place, table_of, types_in, labels_in}
-use Rattle.sheet.specs.Internal.Tables.{left_in}
-use Rattle.sheet.specs.Internal.Tables.{right_word_in, right_word, no_parts, given_parts, type_parts, parts_no}
-use Rattle.sheet.proofs.Entries.{entry_there, label_there}
+use Rattle.sheet.specs.Internal.Tables.{max_types, parts_place, label_place, parts_room, locations_room, labels_room}
+use Rattle.sheet.specs.Internal.Tables.{entry_words, labels_words, part_words, location_words, table_of, types_in}
+use Rattle.sheet.specs.Internal.Tables.{labels_in, right_word, no_parts, given_parts}
+use Rattle.sheet.specs.Internal.Tables.{type_parts, parts_no}
 use Rattle.sheet.proofs.FormLaws.{type-count}
-use Rattle.sheet.proofs.TableLaws.{types_in_lem, labels_in_lem, left_in_lem, right_word_same, right_below}
-use Rattle.sheet.proofs.TableLaws.{right_word_in_lem}
-use Rattle.sheet.proofs.LabelLaws.{label_in_lem}
-use Rattle.sheet_text.specs.Internal.Repeats.{most_of, same_words, same_in, any_from, again_in, repeats_in}
+use Rattle.sheet.proofs.TableLaws.{types_in_lem, labels_in_lem, right_word_same, right_below, to_labels, from_labels}
+use Rattle.sheet.proofs.TableLaws.{labels_start}
+use Rattle.sheet.proofs.LabelLaws.{label_no-effective}
+use Rattle.sheet_text.specs.Internal.Repeats.{same_words, comes_again, repeats_in}
 
--- ---- the cases of a search from i to before n
+-- ---- the words of a list's elements
 
-module _ (test : ℕ → Bool) (i n : ℕ) where
-  pub any_end : n ≤ i → any_from test i (n - i) ≡ false
-  unfolding any_from
-  any_end h = let z : n - i ≡ 0 = omega arith in rw z
+module _ {A B : Type 0} (f : A → B) (same : A → A → Bool) (same' : B → B → Bool) (d : A) where
+  among_map : (x : A) (xs : List A)
+      → ((k : ℕ) → k < length xs → same' (f x) (f (get_or xs k d)) ≡ same x (get_or xs k d))
+      → among same' (f x) (map f xs) ≡ among same x xs
+  unfolding among
+  among_map x [] h = refl
+  among_map x (y ∷ ys) h = ap₂ either (h 0 (omega arith)) (among_map x ys (λ k l. h (suc k) (omega arith)))
 
-  pub any_here : i < n → test i ≡ true → any_from test i (n - i) ≡ true
-  unfolding any_from either
-  any_here h e = let z : n - i ≡ suc (n - (i + 1)) = omega arith in rw (z, any_from, e)
+  repeated_map : (xs : List A)
+      → ((j k : ℕ) → j < length xs → k < length xs
+      → same' (f (get_or xs j d)) (f (get_or xs k d)) ≡ same (get_or xs j d) (get_or xs k d))
+      → repeated same' (map f xs) ≡ repeated same xs
+  unfolding repeated
+  repeated_map [] h = refl
+  repeated_map (x ∷ xs) h =
+      ap₂ either (among_map x xs (λ k l. h 0 (suc k) (omega arith) (omega arith)))
+      (repeated_map xs (λ j k l m. h (suc j) (suc k) (omega arith) (omega arith)))
 
-  pub any_on : i < n → test i ≡ false → any_from test i (n - i) ≡ any_from test (i + 1) (n - (i + 1))
-  unfolding any_from either
-  any_on h e = let z : n - i ≡ suc (n - (i + 1)) = omega arith in rw (z, any_from, e)
+-- what a search for an element finds, by a test that takes it second
+pub among_any : {A : Type 0} (same : A → A → Bool) (x : A) (xs : List A)
+    → list_any (λ y. same y x) xs ≡ among (λ x y. same y x) x xs
+unfolding among
+among_any same x [] = refl
+among_any same x (y ∷ ys) = or_either (same y x) _ ∙ ap (either (same y x)) (among_any same x ys)
+  where
+    or_either : (a b : Bool) → (a || b) ≡ either a b
+    or_either true b = unfold either in refl
+    or_either false b = unfold either in refl
 
--- ---- the cases of the test and of the two searches
+-- the cases of the walk over a list: its first element comes again, or what is looked for is in the rest
+module _ {A : Type 0} (same : A → A → Bool) where
+  pub repeated_end : (xs : List A) → length xs ≡ 0 → false ≡ repeated (λ x y. same y x) xs
+  unfolding repeated
+  repeated_end [] h = refl
+  repeated_end (x ∷ xs) h = absurd (omega arith)
 
-module _ (labels : Bool) (i : ℕ) where
-  pub few_labels : labels ≡ true → i < most_of labels → i < max_labels
-  few_labels e h = rw e at h
+  module _ (x : A) (xs all : List A) (cut : all ≡ x ∷ xs) {b : Bool} (found : b ≡ list_any (λ y. same y x) xs) where
+    pub repeated_here : b ≡ true → true ≡ repeated (λ x y. same y x) all
+    unfolding repeated either
+    repeated_here h = rw (cut, ← among_any same x xs, ← found, h)
 
-  pub few-types : labels ≡ false → i < most_of labels → i < max_types
-  few-types e h = rw e at h
+    pub repeated_on : b ≡ false → repeated (λ x y. same y x) xs ≡ repeated (λ x y. same y x) all
+    unfolding repeated either
+    repeated_on h = rw (cut, ← among_any same x xs, ← found, h)
 
-module _ (t : List ℕ) (labels : Bool) (i j : ℕ) where
-  pub same_labels_at : (a b : ℕ) → a ≡ label_place i → b ≡ label_place j → labels ≡ true
-      → same_words t a b label_size ≡ same_in t labels i j
-  unfolding same_in
-  same_labels_at a b p q e = rw (p, q, e)
+-- ---- lists of words, in a part of a table
 
-  pub same_types_at : (a b : ℕ) → a ≡ parts_place i → b ≡ parts_place j → labels ≡ false
-      → same_words t a b 2 ≡ same_in t labels i j
-  unfolding same_in
-  same_types_at a b p q e = rw (p, q, e)
+chunks_taken : (size k : ℕ) (xs : List ℕ) → first_chunks size k (take (k * size) xs) ≡ first_chunks size k xs
+chunks_taken size zero xs = refl
+chunks_taken size (suc k) xs =
+    let e : suc k * size ≡ size + k * size = omega (arith, suc-mul k size) in
+    rw e
+    (ap₂ ◌∷◌ (take-take size (size + k * size) xs (omega arith))
+    (ap (first_chunks size k) (drop-take size (k * size) xs) ∙ chunks_taken size k (drop size xs)))
 
-module _ (t : List ℕ) where
-  pub repeats-type : (n : ℕ) → n ≡ types_in t → any_from (again_in t false n) 3 (n - 3) ≡ true → true ≡ repeats_in t
-  unfolding repeats_in either
-  repeats-type n e h = rw (← e, h)
+-- what is found among those that stand in n words from the word at `at` on
+pub comes_found : (size k n at from : ℕ) (t : List ℕ) {rows : List (List ℕ)}
+    → rows ≡ first_chunks size (length (take n (drop from t)) / size) (take n (drop from t))
+    → from ≡ at → n ≡ k * size → n / size ≡ k → at + n ≤ length t → repeated same_words rows ≡ comes_again size k at t
+comes_found size k n at from t rows i e d h =
+    let long : length (take n (drop at t)) ≡ n = length-take-le n (drop at t) (omega (arith, length-drop at t)) in
+    ap (repeated same_words) (rows ∙ rw (i, long, d, e) (chunks_taken size k (drop at t)))
 
-  pub repeats-label : (n m : ℕ) → n ≡ types_in t → m ≡ labels_in t → any_from (again_in t false n) 3 (n - 3) ≡ false
-      → any_from (again_in t true m) 0 (m - 0) ≡ repeats_in t
-  unfolding repeats_in either
-  repeats-label n m e f h = rw (← e, ← f, h)
+-- ---- the words of types
 
--- ---- a search among the entries of a list, which stand at the numbers from i on
+swap_eqb : (a b : ℕ) → eqb a b ≡ eqb b a
+swap_eqb a b =
+    bool_ext (eqb a b) (eqb b a) (λ e. eq-eqb b a (sym (eqb-true a b e))) (λ e. eq-eqb a b (sym (eqb-true b a e)))
 
-module _ {A : Type 0} (same : A → A → Bool) (d : A) where
-  any_among : (x : A) (test : ℕ → Bool) (xs : List A) (i : ℕ)
-      → ((k : ℕ) → k < length xs → test (i + k) ≡ same x (get_or xs k d))
-      → any_from test i (length xs) ≡ among same x xs
-  unfolding any_from among
-  any_among x test [] i h = refl
-  any_among x test (y ∷ ys) i h =
-      let here : i + 0 ≡ i = omega arith in
-      ap₂ either (ap test (sym here) ∙ h 0 (omega arith))
-      (any_among x test ys (i + 1)
-      (λ k l. let next : i + 1 + k ≡ i + suc k = omega arith in ap test next ∙ h (suc k) (omega arith)))
-
-  module _ (t : List ℕ) (labels : Bool) (n : ℕ) where
-    any_repeated : (xs : List A) (i : ℕ) → i + length xs ≡ n
-        → ((j k : ℕ) → j < length xs → k < length xs
-        → same_in t labels (i + j) (i + k) ≡ same (get_or xs j d) (get_or xs k d))
-        → any_from (again_in t labels n) i (length xs) ≡ repeated same xs
-    unfolding any_from again_in repeated
-    any_repeated [] i e h = refl
-    any_repeated (x ∷ xs) i e h =
-        let here : i + 0 ≡ i = omega arith in
-        let left : n - (i + 1) ≡ length xs = omega arith in
-        ap₂ either
-        (ap (λ (k : ℕ). any_from (same_in t labels i) (i + 1) k) left
-        ∙ any_among x (same_in t labels i) xs (i + 1)
-        (λ k l.
-        let next : i + 1 + k ≡ i + suc k = omega arith in
-        ap₂ (same_in t labels) (sym here) next ∙ h 0 (suc k) (omega arith) (omega arith)))
-        (any_repeated xs (i + 1) (omega arith)
-        (λ j k l m.
-        let first : i + 1 + j ≡ i + suc j = omega arith in
-        let second : i + 1 + k ≡ i + suc k = omega arith in
-        ap₂ (same_in t labels) first second ∙ h (suc j) (suc k) (omega arith) (omega arith)))
-
--- ---- what stands in the table of a label
-
-both_yes_right : (a : Bool) → both a true ≡ a
+kind_between : (l k r : Bool) → (l && (both k r && true)) ≡ both k (both l r)
 unfolding both
-both_yes_right true = refl
-both_yes_right false = refl
+kind_between true true true = refl
+kind_between true true false = refl
+kind_between true false true = refl
+kind_between true false false = refl
+kind_between false true true = refl
+kind_between false true false = refl
+kind_between false false true = refl
+kind_between false false false = refl
 
--- the words of a label are its sets of readers and its sets of writers
-module _ (t : List ℕ) (a b : ℕ) where
-  readers_at : (i o : ℕ) → o < owners → readers_of (label_at t i) o ≡ get_or t (i + o) 0
-  unfolding label_at sets_at
-  readers_at i o h = get_d_tab owners _ o 0 h
+compound_words : Compound → List ℕ
+compound_words x = x.left ∷ right_word x.kind x.right ∷ []
 
-  writers_at : (i o : ℕ) → o < owners → writers_of (label_at t i) o ≡ get_or t (i + (owners + o)) 0
-  unfolding label_at sets_at
-  writers_at i o h = get_d_tab owners _ o 0 h ∙ ap (λ (k : ℕ). get_or t k 0) (omega arith)
+same_types : (x y : Compound) → x.right < max_types → y.right < max_types
+    → same_words (compound_words x) (compound_words y) ≡ same_compound x y
+unfolding same_compound compound_words
+same_types x y h k =
+    rw (
+      swap_eqb y.left x.left,
+      swap_eqb (right_word y.kind y.right) (right_word x.kind x.right),
+      right_word_same x.kind y.kind x.right y.right h k,
+    )
+    (kind_between (eqb x.left y.left) (same_kind x.kind y.kind) (eqb x.right y.right))
 
-  same_word : ℕ → Bool
-  same_word k = eqb (get_or t (a + k) 0) (get_or t (b + k) 0)
+types_rows : (xs : List Compound) (after : List ℕ)
+    → first_chunks 2 (length xs) (part_words xs ++ after) ≡ map compound_words xs
+unfolding entry_words compound_words
+types_rows [] after = refl
+types_rows (x ∷ xs) after = ap (◌∷◌ (compound_words x)) (types_rows xs after)
 
-  same_owner : (o : ℕ) → o < owners
-      → same_at (label_at t a) (label_at t b) o ≡ both (same_word o) (same_word (owners + o))
-  unfolding same_at same_word
-  same_owner o h = rw (readers_at a o h, readers_at b o h, writers_at a o h, writers_at b o h)
+-- ---- the words of labels
 
-  label_words_same : same_words t a b label_size ≡ same_of (label_at t a) (label_at t b)
-  unfolding same_words same_of same_word
-  label_words_same =
-      bool_ext (every label_size same_word) (every owners (same_at (label_at t a) (label_at t b)))
-      (λ e.
-      every_true owners _
-      (λ o l. same_owner o l ∙ both_true (every_at label_size same_word e o (omega arith))
-      (every_at label_size same_word e (owners + o) (omega arith))))
-      (λ e. every_true label_size same_word (λ k l. word_same e k l (dec_le owners k)))
-    where
-      word_same : every owners (same_at (label_at t a) (label_at t b)) ≡ true → (k : ℕ) → k < label_size
-          → Dec (owners ≤ k)
-          → same_word k ≡ true
-      word_same e k l (yes h) =
-          let o : ℕ = k - owners in
-          let z : owners + o ≡ k = omega arith in
-          let i : o < owners = omega arith in
-          ap same_word (sym z)
-          ∙ both_right (same_word o) (same_word (owners + o)) (sym (same_owner o i) ∙ every_at owners _ e o i)
-      word_same e k l (no h) =
-          let i : k < owners = omega arith in
-          both_left (same_word k) (same_word (owners + k)) (sym (same_owner k i) ∙ every_at owners _ e k i)
+same_labels : (a b : Label) → whole_of a ≡ true → whole_of b ≡ true
+    → same_words (label_words a) (label_words b) ≡ same_of a b
+unfolding label_words
+same_labels a b h k =
+    let told = slice_eq-Decides Decides-eqb (label_words b) (label_words a) _ refl in
+    bool_ext (same_words (label_words a) (label_words b)) (same_of a b)
+    (λ e.
+    let words : b.readers ++ b.writers ≡ a.readers ++ a.writers = told.0 e in
+    let readers : b.readers ≡ a.readers =
+    sym (take_at b.readers b.writers owners (whole_lengths b k).0) ∙ ap (take owners) words
+    ∙ take_at a.readers a.writers owners (whole_lengths a h).0 in
+    let writers : b.writers ≡ a.writers =
+    sym (drop_at b.readers b.writers owners (whole_lengths b k).0) ∙ ap (drop owners) words
+    ∙ drop_at a.readers a.writers owners (whole_lengths a h).0 in
+    rw (label_path b a readers writers) (same_refl a))
+    (λ e.
+    let orders = sym (same_both_ways a b) ∙ e in
+    let same : a ≡ b = below_antisym a b h k (both_left _ _ orders) (both_right _ _ orders) in
+    told.1 (ap label_words (sym same)))
+
+labels_rows : (ls : List Label) (after : List ℕ) (d : Label)
+    → ((l : ℕ) → l < length ls → whole_of (get_or ls l d) ≡ true)
+    → first_chunks label_size (length ls) (labels_words ls ++ after) ≡ map label_words ls
+unfolding labels_words
+labels_rows [] after d h = refl
+labels_rows (a ∷ ls) after d h =
+    let long = length_words a (h 0 (omega arith)) in
+    rw append_assoc
+    (ap₂ ◌∷◌ (take_at (label_words a) (labels_words ls ++ after) label_size long)
+    (ap (first_chunks label_size (length ls)) (drop_at (label_words a) (labels_words ls ++ after) label_size long)
+    ∙ labels_rows ls after d (λ l k. h (suc l) (omega arith))))
 
 -- ---- types and labels
 
@@ -163,71 +180,49 @@ module _ (s : Sheet) (fm : formed s ≡ true) where
   unfolding parts_no type_parts given_parts
   compound_at j = let z : 3 + j ≡ suc (suc (suc j)) = omega arith in rw z
 
-  -- a part of a type that is there
-  left_at : (i : ℕ) → i < types_in (table_of s) → get_or (table_of s) (parts_base + 2 * i + 0) 0 ≡ (parts_no s i).left
-  left_at i h =
-      let z : parts_base + 2 * i + 0 ≡ parts_base + 2 * i = omega arith in
-      rw z (sym (entry_there (table_of s) (types_in (table_of s)) parts_base i h)
-      ∙ unfold left_in in (left_in_lem s fm i))
+  right_low : (j : ℕ) → (get_or (given_sums ++ s.compounds) j no_parts).right < max_types
+  right_low j = rw (← compound_at j) (right_below s fm (3 + j))
 
-  right_at : (i : ℕ) → i < types_in (table_of s)
-      → get_or (table_of s) (parts_base + 2 * i + 1) 0 ≡ right_word (parts_no s i).kind (parts_no s i).right
-  right_at i h =
-      let z : parts_base + 2 * i + 1 ≡ parts_base + 1 + 2 * i = omega arith in
-      rw z (sym (entry_there (table_of s) (types_in (table_of s)) (parts_base + 1) i h) ∙ unfold right_word_in in
-      (right_word_in_lem s fm i))
+  parts_from : drop (parts_place 3) (table_of s)
+      ≡ part_words (given_sums ++ s.compounds)
+      ++ (replicate (parts_room - length (part_words (type_parts s))) 0
+      ++ (padded locations_room (location_words s.locations) ++ padded labels_room (labels_words (labels_of s))))
+  unfolding table_of type_parts given_parts padded entry_words
+  parts_from =
+      append_assoc (part_words (given_sums ++ s.compounds))
+      (replicate (parts_room - length (part_words (type_parts s))) 0)
+      (padded locations_room (location_words s.locations) ++ padded labels_room (labels_words (labels_of s)))
 
-  same_types : (i j : ℕ) → i < types_in (table_of s) → j < types_in (table_of s)
-      → same_in (table_of s) false i j ≡ same_compound (parts_no s i) (parts_no s j)
-  unfolding same_in same_words same_compound every both
-  same_types i j h l =
-      let a = parts_no s i in
-      let b = parts_no s j in
-      rw (
-        left_at i h,
-        left_at j l,
-        right_at i h,
-        right_at j l,
-        right_word_same a.kind b.kind a.right b.right (right_below s fm i) (right_below s fm j),
-        both_yes_right (both (same_kind a.kind b.kind) (eqb a.right b.right)),
-      )
-      (both_exchange true (eqb a.left b.left) (same_kind a.kind b.kind) (eqb a.right b.right))
-
-  types-repeated : any_from (again_in (table_of s) false (types_in (table_of s))) 3 (types_in (table_of s) - 3)
+  types-repeated : comes_again 2 (types_in (table_of s) - 3) (parts_place 3) (table_of s)
       ≡ repeated same_compound (given_sums ++ s.compounds)
   types-repeated =
       let xs = given_sums ++ s.compounds in
-      let long : 3 + length xs ≡ types_in (table_of s) = omega (arith, type-count s, types_in_lem s fm) in
-      let left : types_in (table_of s) - 3 ≡ length xs = omega arith in
-      ap (λ (k : ℕ). any_from (again_in (table_of s) false (types_in (table_of s))) 3 k) left
-      ∙ any_repeated same_compound no_parts (table_of s) false (types_in (table_of s)) xs 3 long (λ j k l m.
-      same_types (3 + j) (3 + k) (omega arith) (omega arith) ∙ ap₂ same_compound (compound_at j) (compound_at k))
+      let long : types_in (table_of s) - 3 ≡ length xs = omega (arith, type-count s, types_in_lem s fm) in
+      ap (λ k. comes_again 2 k (parts_place 3) (table_of s)) long
+      ∙ ap (repeated same_words) (ap (first_chunks 2 (length xs)) parts_from ∙ types_rows xs _)
+      ∙ repeated_map compound_words same_compound same_words no_parts xs
+      (λ j k l m. same_types _ _ (right_low j) (right_low k))
 
-  no_label : Label
-  no_label = bottom_of (everyone s.principals)
+  labels_from : drop (label_place 0) (table_of s)
+      ≡ labels_words (labels_of s) ++ replicate (labels_room - length (labels_words (labels_of s))) 0
+  unfolding padded
+  labels_from = ap (drop (label_place 0)) (from_labels s) ∙ drop_at (to_labels s) _ (label_place 0) (labels_start s fm)
 
-  same_labels : (j k : ℕ) → j < labels_in (table_of s) → k < labels_in (table_of s)
-      → same_in (table_of s) true (0 + j) (0 + k)
-      ≡ same_of (get_or (labels_of s) j no_label) (get_or (labels_of s) k no_label)
-  unfolding same_in label_no no_label
-  same_labels j k h i =
-      let first : 0 + j ≡ j = omega arith in
-      let second : 0 + k ≡ k = omega arith in
-      ap₂ (λ (a b : ℕ). same_words (table_of s) (label_place a) (label_place b) label_size) first second
-      ∙ label_words_same (table_of s) (label_place j) (label_place k)
-      ∙ ap₂ same_of (sym (label_there (table_of s) j refl h) ∙ label_in_lem s fm j)
-      (sym (label_there (table_of s) k refl i) ∙ label_in_lem s fm k)
-
-  labels-repeated : any_from (again_in (table_of s) true (labels_in (table_of s))) 0 (labels_in (table_of s) - 0)
+  labels-repeated : comes_again label_size (labels_in (table_of s)) (label_place 0) (table_of s)
       ≡ repeated same_of (labels_of s)
+  unfolding labels_of label_no
   labels-repeated =
-      let long : 0 + length (labels_of s) ≡ labels_in (table_of s) =
-      unfold labels_of label_count in
-      (omega (arith, length-map s.labels (label_of s.principals), labels_in_lem s fm)) in
-      let left : labels_in (table_of s) - 0 ≡ length (labels_of s) = omega arith in
-      ap (λ (k : ℕ). any_from (again_in (table_of s) true (labels_in (table_of s))) 0 k) left
-      ∙ any_repeated same_of no_label (table_of s) true (labels_in (table_of s)) (labels_of s) 0 long
-      (λ j k l m. same_labels j k (omega arith) (omega arith))
+      let ls = labels_of s in
+      let d = bottom_of (everyone s.principals) in
+      let long : labels_in (table_of s) ≡ length ls =
+      unfold label_count in (omega (arith, length-map s.labels (label_of s.principals), labels_in_lem s fm)) in
+      ap (λ k. comes_again label_size k (label_place 0) (table_of s)) long
+      ∙ ap (repeated same_words) (ap (first_chunks label_size (length ls)) labels_from
+      ∙ labels_rows ls _ d (λ l h. whole l))
+      ∙ repeated_map label_words same_of same_words d ls (λ j k l m. same_labels _ _ (whole j) (whole k))
+    where
+      whole : (l : ℕ) → whole_of (label_no s l) ≡ true
+      whole l = effective_whole s.principals (label_no s l) (label_no-effective s fm l)
 
   pub repeats_in_lem : repeats_in (table_of s) ≡ repeats s
   unfolding repeats_in repeats

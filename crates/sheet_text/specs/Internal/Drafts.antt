@@ -1,25 +1,22 @@
 -- What the code holds of the sheet so far, and what it tests of a line, over the table.
-use Rattle.std.specs.Prelude.{◌≡◌, Bool, true, false, cond, List, ℕ, eqb, leb, ltb}
+use Rattle.std.specs.Prelude.{◌≡◌, Bool, true, cond, List, ℕ, ◌+◌, ◌%◌, eqb, leb, ltb, Some, None}
 use Rattle.std.proofs.Math.Option.{Option, none, some}
 use Rattle.logic.specs.Booleans.{both}
+use Rattle.sheet.specs.declared.Kind.TheVariants.{Sum, Pair}
 use Rattle.sheet.specs.Sheet.{Sheet, formed, max_principals, max_labels, max_locations}
 use Rattle.sheet.specs.Internal.Tables.{max_types, table_of, principals_in, everyone_in, types_in, labels_in}
 use Rattle.sheet.specs.Internal.Tables.{locations_in}
 use Rattle.sheet.specs.Internal.Tables.{rule_in}
+use Rattle.sheet.specs.Internal.Writers.{principals_put, rule_put, compound_put, open_put, policy_put, location_put}
 use Rattle.sheet_text.specs.declared.line.SheetLine.{SheetLine}
-use Rattle.sheet_text.specs.declared.draft.Draft.{Draft}
-use Rattle.sheet_text.specs.declared.draft.Draft.TheVariants.{Formed, Refused}
+use Rattle.sheet_text.specs.declared.line.SheetLine.TheVariants.{P, R, T, Q, L, O, X}
+use Rattle.sheet_text.specs.Internal.Placed.{Draft}
 use Rattle.sheet_text.specs.Internal.Building.{least_owner, is_pooled, add_lines}
 
--- a draft and a table are those of a sheet of the right form, or the draft is a refusal, whatever the table
+-- a draft and a table are those of a sheet of the right form, or there is no draft, whatever the table
 unfoldable pub DraftHolds : Option Sheet → Draft → List ℕ → Type 0
-DraftHolds none d t = d ≡ Refused
-DraftHolds (some s) d t = (d ≡ Formed (least_owner s)) × (t ≡ table_of s)
-
--- the draft after a line that may come next, or may not
-unfoldable pub draft_if : Bool → ℕ → Draft
-draft_if true least = Formed least
-draft_if false least = Refused
+DraftHolds none d t = d ≡ None
+DraftHolds (some s) d t = (d ≡ Some (least_owner s)) × (t ≡ table_of s)
 
 -- a sheet, if there is one, is of the right form
 unfoldable pub FormedIf : Option Sheet → Type 0
@@ -31,12 +28,7 @@ unfoldable pub steps_read : Option Sheet → Option (List SheetLine) → Option 
 steps_read o none = none
 steps_read o (some ls) = add_lines o ls
 
--- the answer to a line is its test over the table, and what it adds is stored if the test passes
-pub record Stores (fits : List ℕ → Bool) (stored : List ℕ → List ℕ) (t : List ℕ) (ok : Bool) (u : List ℕ) : Type 0 where
-  pub answer : ok ≡ fits t
-  pub table : u ≡ cond (fits t) (stored t) t
-
--- ---- the tests of `begin`, `rule_fits`, `compound_fits`, `label_fits`, `policy_fits` and `location_fits`
+-- ---- the tests of a first line, and of further lines
 
 abbrev pub principals_fit : ℕ → List ℕ → Bool
 principals_fit n t = both (leb 1 n) (leb n max_principals)
@@ -61,3 +53,29 @@ policy_fits_in least o r w t =
 
 abbrev pub location_fits_in : ℕ → ℕ → List ℕ → Bool
 location_fits_in ty l t = both (ltb (locations_in t) max_locations) (both (ltb ty (types_in t)) (ltb l (labels_in t)))
+
+-- ---- a further line
+
+-- the draft after a line, if its test passes
+abbrev pub draft_if : Bool → ℕ → Draft
+draft_if fits least = cond fits (Some least) None
+
+-- the draft after a further line, from the least owner before it
+unfoldable pub next_least : ℕ → SheetLine → List ℕ → Draft
+next_least least (P n) t = None
+next_least least (R k) t = draft_if (rule_fits_in k t) 0
+next_least least (T a b) t = draft_if (compound_fits_in a b t) 0
+next_least least (Q a b) t = draft_if (compound_fits_in a b t) 0
+next_least least L t = draft_if (label_fits_in t) 0
+next_least least (O o r w) t = draft_if (policy_fits_in least o r w t) (o % max_principals + 1)
+next_least least (X ty l) t = draft_if (location_fits_in ty l t) least
+
+-- what a line adds to the table
+unfoldable pub line_put : SheetLine → List ℕ → List ℕ
+line_put (P n) t = principals_put n t
+line_put (R k) t = rule_put t
+line_put (T a b) t = compound_put Sum a b t
+line_put (Q a b) t = compound_put Pair a b t
+line_put L t = open_put t
+line_put (O o r w) t = policy_put o r w t
+line_put (X ty l) t = location_put ty l t

@@ -1,165 +1,110 @@
 -- From the answers of the line reader back to what was read, and from a reading to its answer.
-use mathlib.Core.Path.{◌≡◌, refl, sym, ap, ◌∙◌}
+use mathlib.Core.Path.{◌≡◌, refl, sym, ap, ◌∙◌, fun_ext}
 use mathlib.Core.List.{List}
 use Prim.Native.Nat.{ℕ, ◌+◌, ◌≤◌, ◌<◌}
 use native.Mathlib.Omega.{arith}
 use lib.ListN.{length, get_or, drop, drop_of_length-le}
-use borrow.Author.Tests.{ne_eqb}
-use Rattle.text.specs.Reading.{Read}
+use Rattle.std.specs.Prelude.{Option, Some, None, option_map, option_and_then}
 use Rattle.text.specs.Reading.Read.{got, bad}
 use Rattle.text.specs.Number.{most}
 use Rattle.text.specs.Field.{number_field, line_end, last_number}
-use Rattle.text.specs.Internal.Place.{placed_decimal, placed_end}
-use Rattle.text.specs.declared.Decimal.{Decimal}
-use Rattle.text.specs.declared.Decimal.TheVariants as decimal
-use Rattle.text.specs.declared.Place.{Place}
-use Rattle.text.specs.declared.Place.TheVariants as place
-use Rattle.text.proofs.Readings.{drop-step, and_then-got, and_then-bad}
-use Rattle.text.proofs.Places.{placed_got, placed_bad, placed_split}
-use Rattle.text.proofs.Fields.{byte_at, byte-bad, number_field_at, number_field-bad, last_number_at, last_number-bad}
+use Rattle.text.specs.Internal.Place.{placed, placed_end}
+use Rattle.text.proofs.Readings.{drop-step}
+use Rattle.text.proofs.Places.{placed_none, placed_at, placed-bad, placed_then, placed_map, placed_last}
+use Rattle.text.proofs.Fields.{number_field_within}
 use Rattle.text.proofs.Lines.{line_within}
 use Rattle.script.specs.declared.Row.{Row}
 use Rattle.script.specs.Lines.{ScriptLine}
 use Rattle.script.specs.Internal.Code.{row_of}
-use Rattle.script_text.specs.declared.Found.{Found}
-use Rattle.script_text.specs.declared.Found.TheVariants as found
-use Rattle.script_text.specs.declared.LineRead.TheVariants as read
-use Rattle.script_text.specs.declared.Reached.{Reached}
 use Rattle.script_text.specs.Reading.{Form, bare, one, two, other, form_of, operands_of, line_of}
-use Rattle.script_text.specs.Internal.Placed.{placed_line, reached, line_at}
+use Rattle.script_text.specs.Internal.Placed.{placed_line}
 use Rattle.script_text.proofs.LineLaws.{script_lines}
 
--- the answer to a line that was read
-found-got : (s : List ℕ) (want : Read ScriptLine) (l : ScriptLine) (k a b p : ℕ)
-    → row_of l ≡ record { kind = k; a = a; b = b }
-    → want ≡ got l (drop p s) → p ≤ length s → found.At k a b p ≡ placed_line s want
-found-got s want l k a b p q e h =
-    sym (ap (λ (r : Row). found.At r.kind r.a r.b p) q)
-    ∙ placed_got (λ l p. found.At (row_of l).kind (row_of l).a (row_of l).b p) found.Refused s want l p e h
+-- ---- one function after another over an answer
 
-found-bad : (s : List ℕ) (want : Read ScriptLine) → want ≡ bad → found.Refused ≡ placed_line s want
-found-bad s want e = placed_bad (λ l p. found.At (row_of l).kind (row_of l).a (row_of l).b p) found.Refused s want e
+pub map_map : {A B C : Type 0} (f : B → C) (g : A → B) (o : Option A)
+    → option_map f (option_map g o) ≡ option_map (λ x. f (g x)) o
+map_map f g None = refl
+map_map f g (Some x) = refl
 
--- ---- a line of each form
+pub map_then : {A B C : Type 0} (f : B → C) (g : A → Option B) (o : Option A)
+    → option_map f (option_and_then g o) ≡ option_and_then (λ x. option_map f (g x)) o
+map_then f g None = refl
+map_then f g (Some x) = refl
 
-module _ (s : List ℕ) (i k : ℕ) where
-  pub bare-got : (l : ScriptLine) (r : Place) (p : ℕ) → r ≡ placed_end s (line_end (drop i s)) → r ≡ place.At p
-      → row_of l ≡ record { kind = k; a = 0; b = 0 }
-      → found.At k 0 0 p ≡ placed_line s (operands_of (bare l) (drop i s))
+-- an answer that is made of another is there exactly where that one is
+pub map_some : {A B : Type 0} {P : Type 0} (f : A → B) (o : Option A) (y : B) → Some y ≡ option_map f o
+    → ((x : A) → Some x ≡ o → y ≡ f x → P) → P
+map_some f None y e g = let z : ◌≡◌ {A = ℕ} 0 1 = cc in absurd (omega arith)
+map_some f (Some x) y e g = g x refl (cc)
+
+pub map_none : {A B : Type 0} (f : A → B) (o : Option A) → None ≡ option_map f o → None ≡ o
+map_none f None e = refl
+map_none f (Some x) e = let z : ◌≡◌ {A = ℕ} 0 1 = cc in absurd (omega arith)
+
+-- ---- the answer to a line of each form
+
+abbrev row_at_place : ScriptLine × ℕ → Row × ℕ
+row_at_place r = (row_of r.0, r.1)
+
+module _ (s : List ℕ) (i : ℕ) where
+  pub placed-bare : (l : ScriptLine)
+      → placed_line s (operands_of (bare l) (drop i s))
+      ≡ option_map (λ p. (row_of l, p)) (placed_end s (line_end (drop i s)))
   unfolding operands_of
-  bare-got l r p e g q =
-      let x = byte_at s i 10 r e p g in
-      found-got s _ l k 0 0 p q (and_then-got _ _ tt _ x.0) x.1
+  placed-bare l = ap (option_map row_at_place) (placed_last s i (line_end (drop i s)) l) ∙ map_map row_at_place _ _
 
-  pub bare_none : (l : ScriptLine) (r : Place) → r ≡ placed_end s (line_end (drop i s)) → r ≡ place.Refused
-      → found.Refused ≡ placed_line s (operands_of (bare l) (drop i s))
+  pub placed-one : (f : ℕ → ScriptLine)
+      → placed_line s (operands_of (one f) (drop i s))
+      ≡ option_map (λ r. (row_of (f r.0), r.1)) (placed s (last_number most (drop i s)))
   unfolding operands_of
-  bare_none l r e g = found-bad s _ (and_then-bad _ _ (byte-bad s i 10 r e g))
+  placed-one f = ap (option_map row_at_place) (placed_map s (last_number most (drop i s)) f) ∙ map_map row_at_place _ _
 
-  pub one_got : (f : ℕ → ScriptLine) (r : Decimal) (a p : ℕ) → r ≡ placed_decimal s (last_number most (drop i s))
-      → r ≡ decimal.At a p
-      → row_of (f a) ≡ record { kind = k; a = a; b = 0 }
-      → found.At k a 0 p ≡ placed_line s (operands_of (one f) (drop i s))
+  pub placed-two : (f : ℕ → ℕ → ScriptLine)
+      → placed_line s (operands_of (two f) (drop i s))
+      ≡ option_and_then (λ r. option_map (λ q. (row_of (f r.0 q.0), q.1)) (placed s (last_number most (drop r.1 s))))
+      (placed s (number_field most (drop i s)))
   unfolding operands_of
-  one_got f r a p e g q =
-      let x = last_number_at s i most r e a p g in
-      found-got s _ (f a) k a 0 p q (and_then-got _ _ a _ x.0) x.1
-
-  pub one_none : (f : ℕ → ScriptLine) (r : Decimal) → r ≡ placed_decimal s (last_number most (drop i s))
-      → r ≡ decimal.Refused
-      → found.Refused ≡ placed_line s (operands_of (one f) (drop i s))
-  unfolding operands_of
-  one_none f r e g = found-bad s _ (and_then-bad _ _ (last_number-bad s i most r e g))
-
-  module _ (f : ℕ → ℕ → ScriptLine) (r : Decimal) (e : r ≡ placed_decimal s (number_field most (drop i s))) where
-    pub two_got : (a b p q : ℕ) (t : Decimal) → r ≡ decimal.At a p → t ≡ placed_decimal s (last_number most (drop p s))
-        → t ≡ decimal.At b q
-        → row_of (f a b) ≡ record { kind = k; a = a; b = b }
-        → found.At k a b q ≡ placed_line s (operands_of (two f) (drop i s))
-    unfolding operands_of
-    two_got a b p q t g d h w =
-        let x = number_field_at s i most r e a p g in
-        let y = last_number_at s p most t d b q h in
-        found-got s _ (f a b) k a b q w (and_then-got _ _ a _ x.0 ∙ and_then-got _ _ b _ y.0) y.1
-
-    pub two_open : (a p : ℕ) (t : Decimal) → r ≡ decimal.At a p → t ≡ placed_decimal s (last_number most (drop p s))
-        → t ≡ decimal.Refused
-        → found.Refused ≡ placed_line s (operands_of (two f) (drop i s))
-    unfolding operands_of
-    two_open a p t g d h =
-        let x = number_field_at s i most r e a p g in
-        found-bad s _ (and_then-got _ _ a _ x.0 ∙ and_then-bad _ _ (last_number-bad s p most t d h))
-
-    pub two_none : r ≡ decimal.Refused → found.Refused ≡ placed_line s (operands_of (two f) (drop i s))
-    unfolding operands_of
-    two_none g = found-bad s _ (and_then-bad _ _ (number_field-bad s i most r e g))
+  placed-two f =
+      ap (option_map row_at_place)
+      (placed_then s i (number_field most (drop i s)) _ (number_field_within most (drop i s)))
+      ∙ map_then row_at_place _ (placed s (number_field most (drop i s)))
+      ∙ ap (λ g. option_and_then g (placed s (number_field most (drop i s))))
+      (fun_ext (λ (r : ℕ × ℕ). ap (option_map row_at_place) (placed_map s (last_number most (drop r.1 s)) (f r.0))
+      ∙ map_map row_at_place _ _))
 
 -- ---- the first field decides
 
-pub other_form : (b : ℕ) → (b ≡ 115 → ⊥) → (b ≡ 59 → ⊥) → (b ≡ 61 → ⊥) → (b ≡ 119 → ⊥) → (b ≡ 99 → ⊥)
-    → (b ≡ 105 → ⊥) → (b ≡ 120 → ⊥)
-    → (b ≡ 118 → ⊥) → (b ≡ 43 → ⊥) → (b ≡ 108 → ⊥) → (b ≡ 114 → ⊥) → (b ≡ 107 → ⊥) → (b ≡ 117 → ⊥) → (b ≡ 112 → ⊥)
-    → (b ≡ 102 → ⊥) → (b ≡ 103 → ⊥) → form_of b ≡ other
-unfolding form_of
-other_form b n1 n2 n3 n4 n5 n6 n7 n8 n9 n10 n11 n12 n13 n14 n15 n16 =
-    simp (
-      ne_eqb b 115 n1,
-      ne_eqb b 59 n2,
-      ne_eqb b 61 n3,
-      ne_eqb b 119 n4,
-      ne_eqb b 99 n5,
-      ne_eqb b 105 n6,
-      ne_eqb b 120 n7,
-      ne_eqb b 118 n8,
-      ne_eqb b 43 n9,
-      ne_eqb b 108 n10,
-      ne_eqb b 114 n11,
-      ne_eqb b 107 n12,
-      ne_eqb b 117 n13,
-      ne_eqb b 112 n14,
-      ne_eqb b 102 n15,
-      ne_eqb b 103 n16,
-    )
-
 module _ (s : List ℕ) (i : ℕ) where
-  pub line_none : length s ≤ i → found.Refused ≡ placed_line s (line_of (drop i s))
+  pub line_none : length s ≤ i → None ≡ placed_line s (line_of (drop i s))
   unfolding line_of
-  line_none h = found-bad s _ (rw (drop_of_length-le s h))
+  line_none h = ap (option_map row_at_place) (sym (placed_none s _ (rw (drop_of_length-le s h))))
 
   line-form : (f : Form) → i < length s → form_of (get_or s i 0) ≡ f
       → line_of (drop i s) ≡ operands_of f (drop (i + 1) s)
   unfolding line_of
   line-form f h e = rw (drop-step s i h, e)
 
-  pub line-kind : (f : Form) (r : Found) → i < length s → form_of (get_or s i 0) ≡ f
+  -- the line that begins with the byte b
+  pub line-kind : (b : ℕ) (f : Form) (r : Option (Row × ℕ)) → i < length s → get_or s i 0 ≡ b → form_of b ≡ f
       → r ≡ placed_line s (operands_of f (drop (i + 1) s))
       → r ≡ placed_line s (line_of (drop i s))
-  line-kind f r h e q = q ∙ ap (placed_line s) (sym (line-form f h e))
+  line-kind b f r h q e p = p ∙ ap (placed_line s) (sym (line-form f h (ap form_of q ∙ e)))
 
-  pub line_other : i < length s → form_of (get_or s i 0) ≡ other → found.Refused ≡ placed_line s (line_of (drop i s))
+  pub line_other : i < length s → form_of (get_or s i 0) ≡ other → None ≡ placed_line s (line_of (drop i s))
   unfolding operands_of
-  line_other h e = found-bad s _ (line-form other h e)
+  line_other h e = ap (option_map row_at_place) (sym (placed_none s _ (line-form other h e)))
 
--- ---- what an answer says
+  -- ---- what an answer says
 
-module _ (s : List ℕ) (i : ℕ) (r : Reached) (e : r ≡ line_at s i) where
-  line_split : {P : Type 0}
-      → ((l : ScriptLine) (p : ℕ) → line_of (drop i s) ≡ got l (drop p s) → p ≤ length s
-      → r ≡ record { read = read.Line (row_of l).kind (row_of l).a (row_of l).b; at = p } → P)
-      → (line_of (drop i s) ≡ bad → r ≡ record { read = read.Refused; at = i } → P) → P
-  unfolding reached
-  line_split f g =
-      placed_split (λ l p. found.At (row_of l).kind (row_of l).a (row_of l).b p) found.Refused s i _ _
-      (line_within script_lines (drop i s)) refl
-      (λ l p x h y. f l p x h (e ∙ ap (reached i) y)) (λ x y. g x (e ∙ ap (reached i) y))
+  pub found_at : {P : Type 0} (row : Row) (p : ℕ) → Some (row, p) ≡ placed_line s (line_of (drop i s))
+      → ((l : ScriptLine) → line_of (drop i s) ≡ got l (drop p s) → p ≤ length s → row ≡ row_of l → P) → P
+  found_at row p e f =
+      map_some row_at_place (placed s (line_of (drop i s))) (row, p) e (λ x g h.
+      let a : row ≡ row_of x.0 = ap (λ (y : Row × ℕ). y.0) h in
+      let b : p ≡ x.1 = ap (λ (y : Row × ℕ). y.1) h in
+      let y = placed_at s i _ (line_within script_lines (drop i s)) x.0 x.1 g in
+      f x.0 (rw b y.0) (rw b y.1) a)
 
-  pub found_at : {P : Type 0} (k a b : ℕ) → r.read ≡ read.Line k a b
-      → ((l : ScriptLine) → line_of (drop i s) ≡ got l (drop r.at s) → r.at ≤ length s → (row_of l).kind ≡ k
-      → (row_of l).a ≡ a
-      → (row_of l).b ≡ b → P) → P
-  found_at k a b g f = line_split
-      (λ l p x h y. let z : p ≡ r.at = cc in f l (rw z at x) (rw z at h) (cc) (cc) (cc))
-      (λ x y. let z : ◌≡◌ {A = ℕ} 0 1 = cc in absurd (omega arith))
-
-  pub found_none : r.read ≡ read.Refused → line_of (drop i s) ≡ bad
-  found_none g = line_split (λ l p x h y. let z : ◌≡◌ {A = ℕ} 0 1 = cc in absurd (omega arith)) (λ x y. x)
+  pub found_none : None ≡ placed_line s (line_of (drop i s)) → line_of (drop i s) ≡ bad
+  found_none e = placed-bad s i _ (map_none row_at_place _ e)

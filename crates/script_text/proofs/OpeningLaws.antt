@@ -1,37 +1,35 @@
 -- An opening is read exactly where its printed form stands; and what the code answers to it.
 use mathlib.Core.Path.{◌≡◌, refl, sym, ap, ◌∙◌}
-use mathlib.Core.Bool.{true, false}
+use mathlib.Core.Bool.{Bool, true, false}
 use mathlib.Core.List.{List, [], ◌∷◌, ◌++◌, append_assoc}
 use mathlib.Core.Option.{Option, none, some}
-use Prim.Native.Nat.{ℕ, ◌-◌, ◌≤◌}
+use Prim.Native.Nat.{ℕ, ◌-◌, ◌≤◌, ◌<◌}
 use native.Mathlib.Omega.{arith}
 use lib.Dec.{eqb}
 use lib.ListN.{length, drop, get_or}
 use borrow.Author.Tests.{eqb-true, eq-eqb, ne_eqb}
-use Rattle.text.specs.Reading.{and_then, fits}
-use Rattle.text.specs.Reading.Read.{got, bad}
+use Rattle.std.specs.Prelude.{Option as Optional, Some, None, option_map, is_some}
+use mir.Val.{bool_byte}
+use Rattle.text.specs.Reading.{Read, and_then, fits}
+use Rattle.text.specs.Reading.Read.{got}
 use Rattle.text.specs.Number.{decimal}
 use Rattle.text.specs.Field.{last_number}
 use Rattle.text.specs.Lines.{lines_up_to, print_lines}
-use Rattle.text.specs.Internal.Place.{placed_decimal}
-use Rattle.text.specs.declared.Decimal.{Decimal}
-use Rattle.text.specs.declared.Decimal.TheVariants as decimal-answer
-use Rattle.text.proofs.Readings.{drop-step, got_same, and_then-got, and_then-bad, and_then_split, IsEnd, ends_print}
-use Rattle.text.proofs.Places.{Within, placed_got, placed_bad, placed_split}
-use Rattle.text.proofs.Fields.{last_number_at, last_number-bad, last_number-sound, last_number_print}
+use Rattle.text.specs.Internal.Place.{placed}
+use Rattle.text.proofs.Readings.{drop-step, got_same, and_then-got, and_then_split, IsEnd, ends_print}
+use Rattle.text.proofs.Places.{Within, placed_got, placed_at, placed-bad, placed_map}
+use Rattle.text.proofs.Fields.{last_number-sound, last_number_print}
 use Rattle.logic.proofs.BooleanLaws.{cond_split}
 use Rattle.logic.proofs.OptionLaws.{none_some, some_path}
 use Rattle.language.specs.Syntax.{Cmd, skip, seq, assign, while, case, Opening}
 use Rattle.script.specs.Lines.{ScriptLine, cmd_lines, start_lines, opening_lines}
 use Rattle.script.specs.Names.{max_lines}
-use Rattle.sheet.specs.Internal.Starts.{start_no}
 use Rattle.script_text.specs.Bytes.{line_bytes, lines_bytes, start_bytes, opening_bytes}
 use Rattle.script_text.specs.Reading.{line_of, last_label, start_read, opening_of, written_with, lines_after}
 use Rattle.script_text.specs.Reading.{written_of}
-use Rattle.script_text.specs.Internal.Decoded.{no_code, coded_lines, coded_text}
+use Rattle.script_text.specs.Internal.Decoded.{start_of, coded, coded_lines, coded_text}
 use Rattle.script_text.specs.Internal.Placed.{placed_opening}
-use Rattle.script_text.specs.declared.Opened.{Opened}
-use Rattle.script_text.specs.declared.Opened.TheVariants as answer
+use Rattle.script_text.proofs.FoundLaws.{map_map, map_some, map_none}
 
 -- a start that some sheet has
 abbrev pub Low : Option ℕ → Type 0
@@ -110,9 +108,6 @@ start_ends (some l) t u e =
 opening_within : (t : List ℕ) → Within t (opening_of t)
 opening_within t o u e = start_ends o.start t u (opening-sound t o u e).0
 
-abbrev at : Opening → ℕ → Opened
-at o p = answer.At (start_no o.start) (opening_lines o) p
-
 -- what is read of a text by its first byte
 empty_read : (s : List ℕ) → length s ≡ 0 → start_read s ≡ got none s
 unfolding start_read
@@ -129,74 +124,77 @@ unfolding start_read
 start_read_lem e h = rw (e, h)
 
 module _ (s : List ℕ) where
-  -- an answer is that of the opening, after which the lines stand, or the refusal
-  opened_split : {P : Type 0} (r : Opened) → r ≡ placed_opening s (opening_of s)
-      → ((o : Opening) (p : ℕ) → opening_of s ≡ got o (drop p s) → r ≡ at o p → P)
-      → (opening_of s ≡ bad → r ≡ answer.Refused → P) → P
-  opened_split r e f g = placed_split at answer.Refused s 0 _ r (opening_within s) e (λ o p x h y. f o p x y) g
-
-  no_start : start_read s ≡ got none s → answer.At (start_no none) 0 0 ≡ placed_opening s (opening_of s)
+  -- the answer, by that to the start
+  placed-start : placed_opening s (opening_of s) ≡ option_map (λ r. (start_of r.0, r.1)) (placed s (start_read s))
   unfolding opening_of
-  no_start e =
-      unfold start_lines in
-      placed_got at answer.Refused s _ (record { start = none }) 0 (and_then-got _ _ none s e) (omega arith)
+  placed-start =
+      ap (option_map (λ (r : Opening × ℕ). (start_of r.0.start, r.1)))
+      (placed_map s (start_read s) (λ x. record { start = x }))
+      ∙ map_map _ _ _
 
-  pub opening_empty : length s ≡ 0 → answer.At (start_no none) 0 0 ≡ placed_opening s (opening_of s)
+  no_start : start_read s ≡ got none s → placed_opening s (opening_of s) ≡ Some (None, 0)
+  unfolding start_of
+  no_start e =
+      placed-start ∙ ap (option_map (λ (r : Option ℕ × ℕ). (start_of r.0, r.1)))
+      (placed_got s (start_read s) none 0 e (omega arith))
+
+  pub opening_empty : length s ≡ 0 → placed_opening s (opening_of s) ≡ Some (None, 0)
   opening_empty e = no_start (empty_read s e)
 
-  module _ (n : length s ≡ 0 → ⊥) where
+  module _ (n : 0 < length s) where
     front : s ≡ get_or s 0 0 ∷ drop 1 s
-    front = drop-step s 0 (omega arith)
+    front = drop-step s 0 n
 
-    pub opening_other : (get_or s 0 0 ≡ 98 → ⊥) → answer.At (start_no none) 0 0 ≡ placed_opening s (opening_of s)
+    pub opening_other : (get_or s 0 0 ≡ 98 → ⊥) → placed_opening s (opening_of s) ≡ Some (None, 0)
     opening_other o = no_start (other_read front (ne_eqb _ _ o))
 
-    module _ (b : get_or s 0 0 ≡ 98) (r : Decimal) (e : r ≡ placed_decimal s (last_number last_label (drop 1 s))) where
-      starts : start_read s ≡ and_then (last_number last_label (drop 1 s)) (λ l u. got (some l) u)
-      starts = start_read_lem front (eq-eqb _ _ b)
-
-      pub opening-got : (l p : ℕ) → r ≡ decimal-answer.At l p → answer.At l 1 p ≡ placed_opening s (opening_of s)
-      unfolding opening_of start_no start_lines
-      opening-got l p g =
-          let x = last_number_at s 1 last_label r e l p g in
-          placed_got at answer.Refused s _ (record { start = some l }) p
-          (and_then-got _ _ (some l) _ (starts ∙ and_then-got _ _ l _ x.0)) x.1
-
-      pub opening-bad : r ≡ decimal-answer.Refused → answer.Refused ≡ placed_opening s (opening_of s)
-      unfolding opening_of
-      opening-bad g =
-          placed_bad at answer.Refused s _
-          (and_then-bad _ _ (starts ∙ and_then-bad _ _ (last_number-bad s 1 last_label r e g)))
+    pub opening_label : get_or s 0 0 ≡ 98
+        → placed_opening s (opening_of s)
+        ≡ option_map (λ r. (Some r.0, r.1)) (placed s (last_number last_label (drop 1 s)))
+    unfolding start_of
+    opening_label b =
+        placed-start
+        ∙ ap (λ (x : Read (Option ℕ)). option_map (λ (r : Option ℕ × ℕ). (start_of r.0, r.1)) (placed s x))
+        (start_read_lem front (eq-eqb _ _ b))
+        ∙ ap (option_map (λ (r : Option ℕ × ℕ). (start_of r.0, r.1)))
+        (placed_map s (last_number last_label (drop 1 s)) (λ l. some l))
+        ∙ map_map _ _ _
 
   -- ---- what follows from an answer
 
+  -- how many lines an opening takes, by its answer
+  lines_of_start : (x : Option ℕ) → start_lines x ≡ bool_byte (is_some (start_of x))
+  unfolding start_lines start_of
+  lines_of_start none = refl
+  lines_of_start (some l) = refl
+
   -- the lines after an opening, with its start
   coded-after : (o : Opening) (ls : Option (List ScriptLine))
-      → coded_text (written_with o ls) ≡ coded_lines (start_no o.start) ls
-  unfolding coded_text coded_lines written_with
+      → coded_text (written_with o ls)
+      ≡ option_map (λ r. (record { count = r.0; start = start_of o.start }, r.1)) (coded_lines ls)
+  unfolding coded_text coded_lines written_with coded
   coded-after o none = refl
   coded-after o (some ls) = refl
 
-  module _ (fit : fits s ≡ true) (r : Opened) (e : r ≡ placed_opening s (opening_of s)) where
-    pub decode_after : (start lines p : ℕ) → r ≡ answer.At start lines p
-        → (lines ≤ max_lines)
-        × (coded_lines start (lines_up_to line_of (max_lines - lines) (drop p s)) ≡ coded_text (written_of s))
+  module _ (fit : fits s ≡ true) where
+    pub decode_after : (x : Optional ℕ) (p : ℕ) → Some (x, p) ≡ placed_opening s (opening_of s)
+        → (b : Bool) → b ≡ is_some x → (n : ℕ) → n ≡ max_lines - bool_byte b
+        → coded_text (written_of s)
+        ≡ option_map (λ r. (record { count = r.0; start = x }, r.1)) (coded_lines (lines_up_to line_of n (drop p s)))
     unfolding written_of lines_after
-    decode_after start lines p g = opened_split r e
-        (λ o q x y.
-        let i : start ≡ start_no o.start = cc in
-        let j : lines ≡ opening_lines o = cc in
-        let k : p ≡ q = cc in
-        (rw j (opening-few o), rw (fit, x, i, j, k) (sym (coded-after o _))))
-        (λ x y. let z : ◌≡◌ {A = ℕ} 0 1 = cc in absurd (omega arith))
+    decode_after x p e b i n m =
+        map_some (λ (r : Opening × ℕ). (start_of r.0.start, r.1)) (placed s (opening_of s)) (x, p) e (λ r g h.
+        let a : start_of r.0.start ≡ x = sym (ap (λ (y : Optional ℕ × ℕ). y.0) h) in
+        let q : r.1 ≡ p = sym (ap (λ (y : Optional ℕ × ℕ). y.1) h) in
+        let y = placed_at s 0 (opening_of s) (opening_within s) r.0 r.1 g in
+        let c : max_lines - opening_lines r.0 ≡ n = rw (lines_of_start r.0.start, a, m, i) refl in
+        rw (fit, y.0) (coded-after r.0 _ ∙ rw (a, q, c) refl))
 
-    pub decode_refused : r ≡ answer.Refused → coded_text (written_of s) ≡ no_code
+    pub decode_refused : None ≡ placed_opening s (opening_of s) → coded_text (written_of s) ≡ None
     unfolding written_of lines_after coded_text
-    decode_refused g = opened_split r e
-        (λ o q x y. let z : ◌≡◌ {A = ℕ} 0 1 = cc in absurd (omega arith))
-        (λ x y. rw (fit, x))
+    decode_refused e = rw (fit, placed-bad s 0 (opening_of s) (map_none _ _ e))
 
 -- a text that is too long
-pub decode_long : (s : List ℕ) → fits s ≡ false → coded_text (written_of s) ≡ no_code
+pub decode_long : (s : List ℕ) → fits s ≡ false → coded_text (written_of s) ≡ None
 unfolding written_of coded_text
 decode_long s h = rw h

@@ -8,14 +8,14 @@ use lib.ListN.{drop}
 use Rattle.std.specs.Prelude.{option_and_then, option_map}
 use Rattle.sets.specs.Sets.{width}
 use Rattle.text.specs.Reading.{byte}
-use Rattle.text.specs.Reading.Read.{got, bad}
+use Rattle.text.specs.Reading.Read.{got}
 use Rattle.text.specs.Number.{number, decimal, opens_digit}
 use Rattle.text.specs.Set.{set_digits, hex_set, hex_form}
 use Rattle.text.specs.Field.{number_field, set_field, line_end, last_number, print_number_field, print_set_field}
 use Rattle.text.specs.Field.{print_line_end}
 use Rattle.text.specs.Internal.Place.{placed, placed_end}
 use Rattle.text.specs.Theorems.{NumberFieldExact, SetFieldExact, LineEndExact, LastNumberExact}
-use Rattle.text.proofs.Readings.{and_then-got, and_then-bad, and_then_split, byte_here, byte-sound, ends_print}
+use Rattle.text.proofs.Readings.{and_then-got, and_then_split, byte_here, byte-sound, ends_print}
 use Rattle.text.proofs.Readings.{got_same}
 use Rattle.text.proofs.Places.{Within, placed_then, placed_after, placed_last}
 use Rattle.text.proofs.Numbers.{opens_byte, digit_low}
@@ -31,30 +31,14 @@ module _ (t : List ℕ) where
   unfolding number_field
   number_field_on bound u e = and_then-got _ _ tt u e
 
-  pub number_field_none : (bound : ℕ) → byte 9 t ≡ bad → number_field bound t ≡ bad
-  unfolding number_field
-  number_field_none bound e = and_then-bad _ _ e
-
   pub set_field_on : (u : List ℕ) → byte 9 t ≡ got tt u → set_field t ≡ hex_set u
   unfolding set_field
   set_field_on u e = and_then-got _ _ tt u e
-
-  pub set_field_none : byte 9 t ≡ bad → set_field t ≡ bad
-  unfolding set_field
-  set_field_none e = and_then-bad _ _ e
 
   module _ (bound v : ℕ) (u : List ℕ) (e : number_field bound t ≡ got v u) where
     pub last_number_on : (w : List ℕ) → line_end u ≡ got tt w → last_number bound t ≡ got v w
     unfolding last_number
     last_number_on w f = and_then-got _ _ v u e ∙ and_then-got _ _ tt w f
-
-    pub last_number_open : line_end u ≡ bad → last_number bound t ≡ bad
-    unfolding last_number
-    last_number_open f = and_then-got _ _ v u e ∙ and_then-bad _ _ f
-
-  pub last_number_none : (bound : ℕ) → number_field bound t ≡ bad → last_number bound t ≡ bad
-  unfolding last_number
-  last_number_none bound e = and_then-bad _ _ e
 
 pub number_field-sound : (bound : ℕ) (t : List ℕ) (v : ℕ) (u : List ℕ) → number_field bound t ≡ got v u
     → (t ≡ print_number_field v u) × (v ≤ bound) × (opens_digit u ≡ false)
@@ -149,4 +133,5 @@ module _ (s : List ℕ) (i : ℕ) where
   unfolding last_number
   placed-last_number bound =
       placed_then s i _ _ (number_field_within bound (drop i s))
-      ∙ ap (λ f. option_and_then f (placed s (number_field bound (drop i s)))) (fun_ext (λ (r : ℕ × ℕ). placed_last s r.1 (line_end (drop r.1 s)) r.0))
+      ∙ ap (λ f. option_and_then f (placed s (number_field bound (drop i s))))
+      (fun_ext (λ (r : ℕ × ℕ). placed_last s r.1 (line_end (drop r.1 s)) r.0))

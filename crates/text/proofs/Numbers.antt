@@ -5,8 +5,8 @@ use mathlib.Core.Path.{◌≡◌, refl, sym, ap, ◌∙◌}
 use mathlib.Core.Bool.{Bool, true, false, false≢true}
 use mathlib.Core.List.{List, [], ◌∷◌}
 use lib.ListN.{length, take, drop, get_or, length-drop, drop_of_length-le}
-use lib.Dec.{leb, ltb}
-use borrow.Author.Tests.{lt-ltb, le-ltb, ltb-true, ltb-false, le-leb, lt-leb, leb-true, eq-eqb, ne_eqb}
+use lib.Dec.{leb}
+use borrow.Author.Tests.{lt-ltb, le-ltb, le-leb, lt-leb, leb-true, eq-eqb, ne_eqb}
 use Rattle.std.specs.Char.{is_ascii_digit}
 use Rattle.std.proofs.lemmas.List.{get_or-take, get_or-drop, length-take}
 use Rattle.text.specs.Reading.{byte}
@@ -64,11 +64,6 @@ module _ (bound v : ℕ) where
 -- the same at a place of a text
 pub opens_at_end : (s : List ℕ) (i : ℕ) → length s ≤ i → opens_digit (drop i s) ≡ false
 opens_at_end s i h = rw (drop_of_length-le s h) opens_none
-
-pub opens_inside : (s : List ℕ) (i : ℕ) → opens_digit (drop i s) ≡ true → i < length s
-opens_inside s i e =
-    cases (ltb i (length s)) (λ h. ltb-true _ _ h)
-    (λ h. absurd (false≢true (sym (opens_at_end s i (ltb-false _ _ h)) ∙ e)))
 
 module _ (s : List ℕ) (i : ℕ) (h : i < length s) where
   pub opens_at : opens_digit (drop i s) ≡ digit (get_or s i 0)

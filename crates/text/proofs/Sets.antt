@@ -5,7 +5,7 @@ use native.Mathlib.Nat.{lt_of_lt_of_le, pow-le-pow_right}
 use native.Mathlib.Numerals.{add-one}
 use mathlib.Core.Path.{◌≡◌, refl, sym, ap, ◌∙◌}
 use mathlib.Core.List.{List, [], ◌∷◌, ◌++◌, append_assoc}
-use lib.ListN.{length, drop, get_or, length-append, length-drop, drop_of_length-le}
+use lib.ListN.{length, drop, get_or, length-append, length-drop}
 use lib.Dec.{ltb}
 use borrow.Author.Tests.{lt-ltb, le-ltb, ltb-true, ltb-false}
 use Rattle.std.specs.Prelude.{Some, None, slice_range}
@@ -65,10 +65,6 @@ hex_value-got c d e =
 
 -- the same at a place of a text, where i of n digits are read
 module _ (n i v : ℕ) (s : List ℕ) (p : ℕ) (l : i < n) where
-  pub hex_at_end : length s ≤ p → hex_digits (n - i) v (drop p s) ≡ bad
-  hex_at_end h =
-      let z : n - i ≡ suc (n - (i + 1)) = omega arith in rw (z, drop_of_length-le s h) (hex_short (n - (i + 1)) v)
-
   module _ (h : p < length s) (d : ℕ) (e : d ≡ hex_digit (get_or s p 0)) where
     pub hex_at_bad : 15 < d → hex_digits (n - i) v (drop p s) ≡ bad
     hex_at_bad m =

@@ -2,10 +2,10 @@
 use Prim.Native.Nat.{ℕ, ◌+◌, ◌*◌, ◌-◌, ◌≤◌, ◌<◌}
 use native.Mathlib.Omega.{arith}
 use native.Mathlib.Numerals.{add-one}
-use mathlib.Core.Path.{◌≡◌, sym, ap, ◌∙◌}
+use mathlib.Core.Path.{◌≡◌, sym, ap}
 use mathlib.Core.List.{List, [], ◌∷◌, ◌++◌}
-use lib.ListN.{length, take, drop, set, length-drop, drop_of_length-le, get_or-eq_default}
-use lib.Seq.{drop-set-add, drop-set-lt, take-set-le, take-suc-set, take_all, take-nil}
+use lib.ListN.{length, take, drop, set, length-drop, get_or-eq_default}
+use lib.Seq.{drop-set-add, drop-set-lt, take-set-le, take-suc-set, take_all}
 use lib.Dec.{ltb}
 use borrow.Author.Tests.{ltb-true, ltb-false}
 use Rattle.logic.proofs.BooleanLaws.{cases}
@@ -39,17 +39,10 @@ module _ (s : State) (buffer : List ℕ) (i : ℕ) where
   unfolding text_held
   text_past h = rw (get_or-eq_default s.kept 0 h)
 
-  pub text_beyond : length buffer ≤ i * keep → [] ≡ text_held s buffer i
+  pub text_short : length (drop (i * keep) buffer) ≤ count s i → drop (i * keep) buffer ≡ text_held s buffer i
   unfolding text_held
-  text_beyond h = rw (drop_of_length-le buffer h) (sym (take-nil (count s i)))
+  text_short h = sym (take_all (count s i) (drop (i * keep) buffer) h)
 
-  pub text_rest : i * keep ≤ length buffer → length buffer - i * keep ≤ count s i
-      → take (length buffer - i * keep) (drop (i * keep) buffer) ≡ text_held s buffer i
+  pub text_long : take (count s i - 0) (drop (i * keep) buffer) ≡ text_held s buffer i
   unfolding text_held
-  text_rest h k =
-      take_all (length buffer - i * keep) (drop (i * keep) buffer) (omega (arith, length-drop (i * keep) buffer))
-      ∙ sym (take_all (count s i) (drop (i * keep) buffer) (omega (arith, length-drop (i * keep) buffer)))
-
-  pub text_held_lem : take (i * keep + count s i - i * keep) (drop (i * keep) buffer) ≡ text_held s buffer i
-  unfolding text_held
-  text_held_lem = let z : i * keep + count s i - i * keep ≡ count s i = omega arith in rw z
+  text_long = let z : count s i - 0 ≡ count s i = omega arith in rw z

@@ -5,7 +5,7 @@ use mathlib.Core.Bool.{Bool, true, false}
 use mathlib.Core.List.{List, [], ◌∷◌}
 use lib.ListN.{length, drop, get_or, set, drop_of_length-le}
 use lib.Dec.{eqb, ltb}
-use borrow.Author.Tests.{lt-ltb, le-ltb, eq-eqb, ne_eqb, ltb-true}
+use borrow.Author.Tests.{lt-ltb, le-ltb, eq-eqb, ltb-true}
 use Rattle.text.proofs.Readings.{drop-step}
 use Rattle.parts.specs.declared.State.{State}
 use Rattle.parts.specs.Parts.{parting, byte_if, text_from, keep}
@@ -13,19 +13,10 @@ use Rattle.parts.specs.Feeding.{texts, Held, held, count, room, turned, stored, 
 use Rattle.parts.specs.Theorems.{Chunks}
 use Rattle.logic.specs.Booleans.{both}
 
--- where a byte parts two texts
-module _ (last j : ℕ) (start : Bool) (b : ℕ) where
-  pub parting_inside : start ≡ false → parting last j start b ≡ false
-  unfolding parting both
-  parting_inside h = rw h
-
-  pub parting_other : start ≡ true → (b ≡ 10 → ⊥) → parting last j start b ≡ false
-  unfolding parting both
-  parting_other h n = rw (h, ne_eqb b 10 n)
-
-  pub parting_empty : start ≡ true → b ≡ 10 → parting last j start b ≡ ltb j last
-  unfolding parting both
-  parting_empty h e = rw (h, eq-eqb b 10 e)
+-- a line that is empty parts two texts, but for the last
+pub parting_empty : (last j : ℕ) (start : Bool) (b : ℕ) → start ≡ true → b ≡ 10 → parting last j start b ≡ ltb j last
+unfolding parting both
+parting_empty last j start b h e = rw (h, eq-eqb b 10 e)
 
 -- only a text before the last is parted from the next
 pub parting_below : (last j : ℕ) (start : Bool) (b : ℕ) → parting last j start b ≡ true → j < last

@@ -2,16 +2,18 @@
 use Prim.Native.Nat.{ℕ, suc, ◌+◌, ◌-◌, ◌≤◌, ◌<◌, min}
 use native.Mathlib.Omega.{arith}
 use native.Mathlib.Numerals.{add-one}
+use mir.Val.{bool_byte}
 use mathlib.Core.Path.{◌≡◌, refl, sym, ap, ◌∙◌}
-use mathlib.Core.Bool.{Bool, true, false, cond, ◌&&◌}
+use mathlib.Core.Bool.{Bool, true, false, cond}
+use mathlib.Core.Logic.{◌⊎◌, inl, inr}
 use mathlib.Core.List.{List, [], ◌∷◌, ◌++◌}
 use lib.Dec.{eqb, leb, ltb, leb-zero, leb-suc-suc}
 use lib.ListN.{length, take, drop, get_or, set, replicate, length-drop, length-replicate, drop_of_length-le}
 use lib.ListN.{get_or-append}
 use lib.Seq.{set_out, sets, sets-eq, length-take-le, drop-drop, get_or-drop}
-use borrow.Author.Tests.{ltb-true, leb-true, lt-ltb, le-leb, lt-leb}
+use borrow.Author.Tests.{ltb-true, leb-true, leb-false, lt-ltb, le-leb, lt-leb, eq-eqb, ne_eqb}
 use Rattle.logic.specs.Booleans.{both}
-use Rattle.logic.proofs.BooleanLaws.{cases, bool_ext}
+use Rattle.logic.proofs.BooleanLaws.{cases, bool_ext, both_true, both_no_left, both_no_right}
 use Rattle.text.proofs.Readings.{drop-step}
 use Rattle.scripts.specs.declared.Parting.{Parting}
 use Rattle.scripts.specs.Parting.{to_first, script_texts_from, script_texts, most_scripts}
@@ -197,6 +199,19 @@ module _ (text : List ℕ) (n at : ℕ) (s : StartsAt text n at) (l : at ≤ len
       omega (arith, has_place s p, e) in
       rw (sym (sets_past (ends_from at (script_texts_after text at)) es n (omega arith)) ∙ h, ← c) refl
 
+-- all places are full: there is one more script, or none is left
+pub parted_full : (text : List ℕ) (n at : ℕ) (s : StartsAt text n at) (es : List ℕ) (more : ℕ)
+    → more ≡ bool_byte (leb at (length text))
+    → length es ≡ most_scripts
+    → n ≡ most_scripts
+    → sets es n (ends_from at (script_texts_after text at)) ≡ kept_ends text
+    → ◌≡◌ {A = Parting} (record { count = most_scripts + more; ends = es })
+    (record { count = scripts_counted text; ends = kept_ends text })
+parted_full text n at s es more m k e h =
+    cases (leb at (length text))
+    (λ q. rw (m, q) (parted_many text n at s (leb-true _ _ q) es k e h))
+    (λ q. rw (m, q, ← e) (parted_all text n at s (leb-false _ _ q) es (omega arith) h))
+
 -- whether each has a place, by the count
 pub few_scripts : (text : List ℕ) (n : ℕ) → n ≡ scripts_counted text → n ≤ most_scripts
     → length (script_texts text) ≤ most_scripts
@@ -214,26 +229,29 @@ module _ (text : List ℕ) (at : ℕ) (start : Bool) where
   -- a byte, by whether it ends an empty line
   walk : at < length text
       → at + script_length start (drop at text)
-      ≡ cond (start && eqb (get_or text at 0) 10) at
+      ≡ cond (both start (eqb (get_or text at 0) 10)) at
       (at + 1 + script_length (eqb (get_or text at 0) 10) (drop (at + 1) text))
-  unfolding script_length both
-  walk l = rw (drop-step text at l) (go start (eqb (get_or text at 0) 10))
+  unfolding script_length
+  walk l = rw (drop-step text at l) (go (both start (eqb (get_or text at 0) 10)) (eqb (get_or text at 0) 10))
     where
-      go : (x y : Bool) → at + cond (both x y) 0 (suc (script_length y (drop (at + 1) text)))
-          ≡ cond (x && y) at (at + 1 + script_length y (drop (at + 1) text))
-      go true true = omega arith
-      go true false = omega arith
+      go : (x y : Bool) → at + cond x 0 (suc (script_length y (drop (at + 1) text)))
+          ≡ cond x at (at + 1 + script_length y (drop (at + 1) text))
+      go true y = omega arith
       go false y = omega arith
 
-  pub walk_ends : at < length text → start && eqb (get_or text at 0) 10 ≡ true
-      → at + script_length start (drop at text) ≡ at
-  walk_ends l e = walk l ∙ rw e refl
+  pub walk_ends : at < length text → start ≡ true → get_or text at 0 ≡ 10 → at + script_length start (drop at text) ≡ at
+  walk_ends l s e = walk l ∙ rw (both_true s (eq-eqb (get_or text at 0) 10 e)) refl
 
-  pub walk_on : at < length text → start && eqb (get_or text at 0) 10 ≡ false
+  pub walk_on : at < length text → ((start ≡ true) × (get_or text at 0 ≡ 10 → ⊥)) ⊎ (start ≡ false)
       → at + script_length start (drop at text)
       ≡ at + 1 + script_length (eqb (get_or text at 0) 10) (drop (at + 1) text)
-  walk_on l e = walk l ∙ rw e refl
+  walk_on l (inl (s, n)) = let f = ne_eqb (get_or text at 0) 10 n in walk l ∙ rw (both_no_right start _ f) refl
+  walk_on l (inr s) = walk l ∙ rw (both_no_left start (eqb (get_or text at 0) 10) s) refl
 
   pub walk_over : length text ≤ at → at + script_length start (drop at text) ≡ at
   unfolding script_length
   walk_over l = rw (drop_of_length-le text l) (omega arith)
+
+pub end_past : (text : List ℕ) (from : ℕ) → length text ≤ from → script_end text from ≡ from
+unfolding script_end
+end_past text from l = walk_over text from true l

@@ -8,8 +8,9 @@ ghost use Rattle.scripts.specs.Internal.Places.{script_end, scripts_counted, kep
 // The most scripts of a round.
 pub const MOST_SCRIPTS: usize = 32;
 
-// How many scripts a text has, where 33 stands for any more, and where each of the first 32 ends.
-#[derive(Clone, Copy)]
+// How many scripts a text has, where 33 stands for any more, and where each of the first 32 ends: places with a count
+// beside them, since there is no heap.
+#[derive(Clone, Copy, Debug, PartialEq, Eq)]
 pub struct Parting {
     pub count: usize,
     pub ends: [usize; MOST_SCRIPTS],
@@ -19,37 +20,34 @@ pub struct Parting {
 fn end_of(text: &[u8], from: usize) -> usize
     ensures { result ≡ script_end text.now from }
 {
-    let mut at = from;
     let mut start = true;
-    while at < text.len() {
+    for at in from..text.len() {
         let ends = text[at] == b'\n';
-        if start & ends {
+        if start && ends {
             return at;
         }
         start = ends;
-        at += 1;
     }
-    at
+    from.max(text.len())
 }
 
 // Parts a text into its scripts. Those after one more than the most are not looked at.
 pub fn part(text: &[u8]) -> Parting
     ensures { result ≡ record { count = scripts_counted text.now; ends = kept_ends text.now } }
 {
-    let mut ends = [0usize; MOST_SCRIPTS];
-    let mut count: usize = 0;
-    let mut at: usize = 0;
-    while at <= text.len() {
-        if MOST_SCRIPTS <= count {
-            return Parting {
-                count: MOST_SCRIPTS + 1,
-                ends,
-            };
+    let mut ends = [0; MOST_SCRIPTS];
+    let mut at = 0;
+    for count in 0..MOST_SCRIPTS {
+        if text.len() < at {
+            return Parting { count, ends };
         }
         let end = end_of(text, at);
         ends[count] = end;
-        count += 1;
         at = end + 1;
     }
-    Parting { count, ends }
+    let more = usize::from(at <= text.len());
+    Parting {
+        count: MOST_SCRIPTS + more,
+        ends,
+    }
 }

@@ -1,25 +1,29 @@
--- Nothing was read, or the bytes were.
-use mir.ValLaws.{to_z-of_z}
-use Rattle.std.proofs.Common.{ℕ, List, sym, ap, ◌∙◌}
-use Rattle.parts.specs.Feeding.{held, fed}
-use Rattle.input.proofs.Inputs.{read_none, read_some}
+-- The bytes that came are fed, and none where the read failed or met the end.
+use Rattle.std.proofs.Common.{◌≡◌, ℕ, List, Option, Some, None, length, min, take, refl, arith}
+use lib.Dec.{ltb}
+use Rattle.std.proofs.lemmas.Grind.{common_steps}
+use Rattle.std.specs.Option.{unwrap_or}
+use Rattle.input.specs.Input.{got_bytes, goes_on}
 use Rattle.input.proofs.feed_got.Goals as goal
 
-pub returns-then-got-le0 : goal.returns-then-got-le0
-unfolding fed
-returns-then-got-le0 c =
-    let a = c.args in
-    let n = read_none a.got _ (to_z-of_z _ a.got c.ranges.got) a.chunk.now c.if-got-le0.true in
-    record { more_value = sym n.0; state_value = rw n.1; buffer_after = rw n.1 }
+taken : (got : Option ℕ) (chunk : List ℕ) (n : ℕ) → n ≡ min (unwrap_or got 0) (length chunk)
+    → take n chunk ≡ got_bytes got chunk
+unfolding got_bytes
+taken None chunk n e = grind (arith, common_steps)
+taken (Some m) chunk n e = grind (arith, common_steps)
+
+more_come : (got : Option ℕ) → ltb 0 (unwrap_or got 0) ≡ goes_on got
+unfolding goes_on
+more_come None = refl
+more_come (Some n) = refl
 
 pub returns : goal.returns
 returns c =
     let a = c.args in
-    let e = to_z-of_z _ a.got c.ranges.got in
-    let g = read_some a.got _ e a.chunk.now c.if-got-le0.false _ c.min-n.ensures in
-    let h = held a.state a.buffer.now in
+    let n = c.unwrap_or-n.ensures in
+    let t = taken a.got a.chunk.now c.min.result (rw n at c.min.ensures) in
     record {
-      more_value = sym g.0;
-      state_value = c.feed-next.ensures.value ∙ ap (λ (l : List ℕ). (fed a.last h l).state) g.1;
-      buffer_after = c.feed-next.ensures.buffer_after ∙ ap (λ (l : List ℕ). (fed a.last h l).buffer) g.1;
+      more = rw n (more_come a.got);
+      state_after = rw (← t) c.feed.ensures.value;
+      buffer_after = rw (← t) c.feed.ensures.buffer_after;
     }

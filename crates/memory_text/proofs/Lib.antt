@@ -6,4 +6,3 @@ pub mod Memories
 pub mod Rows
 pub mod Tables
 pub mod Writes
-mod Readers

@@ -93,10 +93,3 @@ module _ (i : ℕ) (array t : List ℕ) (h : i < cell_words) where
       left_other b c =
           left_on ∙ and_then-bad _ _
           (rw (drop-step s q l) (lines.following_other v _ (get_or s q 0) (drop (q + 1) s) b c))
-
--- a row stored word by word: what is still to be stored from i on
-pub store_more : (l : List ℕ) (at i : ℕ) (row : List ℕ) → i < length row
-    → sets l (at + i) (drop i row) ≡ sets (set l (at + i) (get_or row i 0)) (at + (i + 1)) (drop (i + 1) row)
-store_more l at i row h =
-    let z : at + (i + 1) ≡ suc (at + i) = omega arith in
-    rw (z, drop-step row i h)

@@ -5,32 +5,33 @@ use mathlib.Core.Path.{◌≡◌, refl, ap}
 use mathlib.Core.Bool.{true, false}
 use mathlib.Core.List.{List}
 use mathlib.Core.Option.{Option, none, some}
-use lib.ListN.{length, drop, replicate, length-replicate}
+use lib.ListN.{length, drop, replicate}
+use Rattle.std.specs.Prelude.{Some, None}
+use Rattle.std.specs.Prelude as std
 use lib.Seq.{sets}
 use Rattle.text.specs.Reading.{Read, fits}
 use Rattle.text.specs.Reading.Read.{got, bad}
 use Rattle.text.specs.Lines.{front, lines_up_to}
-use Rattle.text.proofs.Places.{placed_split}
+use Rattle.text.specs.Internal.Place.{placed}
+use Rattle.text.proofs.Places.{placed_at, placed-bad}
 use Rattle.text.proofs.Writings.{sets_append, sets_zeros}
 use Rattle.text.proofs.Lines.{lines-at_end, lines_at_full, lines-at-bad, lines-at-more, line-sound, line_within}
+use Rattle.reader.specs.Internal.Moved.{moved}
 use Rattle.language.specs.World.{cell_words}
 use Rattle.sheet.specs.Sheet.{max_locations}
 use Rattle.memory_text.specs.Sizes.{memory_words}
 use Rattle.memory_text.specs.declared.Memory.{Memory}
-use Rattle.memory_text.specs.declared.Parsed.TheVariants as parsed
-use Rattle.memory_text.specs.declared.Reached.{Reached}
 use Rattle.sheet.specs.Padding.{padded}
 use Rattle.sheet.proofs.Words.{length-padded}
 use Rattle.memory_text.specs.Reading.{location, all_words, words_of_rows, locations, memory}
-use Rattle.memory_text.specs.Internal.Answers.{location_at, table, parsed_memory}
+use Rattle.memory_text.specs.Internal.Answers.{table, parsed_memory}
 use Rattle.memory_text.proofs.Lines.{memory-lines}
 use Rattle.memory_text.proofs.Memories.{rows_sound, memory-sound}
 
 -- a table of n locations with those that are still read after them
-unfoldable pub tabled : ℕ → List ℕ → Option (List (List ℕ)) → Memory
-tabled n words none = table bad
-tabled n words (some rs) =
-    record { parsed = parsed.Read; count = n + length rs; words = sets words (n * cell_words) (all_words rs) }
+unfoldable pub tabled : ℕ → List ℕ → Option (List (List ℕ)) → std.Option Memory
+tabled n words none = None
+tabled n words (some rs) = Some (record { count = n + length rs; words = sets words (n * cell_words) (all_words rs) })
 
 pub tabled_start : (t : List ℕ)
     → tabled 0 (replicate memory_words 0) (lines_up_to location max_locations t) ≡ table (locations max_locations t)
@@ -60,18 +61,18 @@ tabled-front n words row (some rs) e =
 -- the rest of a text at a place
 module _ (n : ℕ) (words s : List ℕ) (i : ℕ) where
   pub rest_done : length s ≤ i → tabled n words (lines_up_to location (max_locations - n) (drop i s))
-      ≡ record { parsed = parsed.Read; count = n; words = words }
+      ≡ Some (record { count = n; words = words })
   unfolding tabled all_words
   rest_done h = let z : n + 0 ≡ n = omega arith in rw (lines-at_end location max_locations n s i h, z)
 
   module _ (h : i < length s) where
-    pub rest_full : max_locations ≤ n → tabled n words (lines_up_to location (max_locations - n) (drop i s)) ≡ table bad
+    pub rest_full : max_locations ≤ n → tabled n words (lines_up_to location (max_locations - n) (drop i s)) ≡ None
     unfolding tabled
     rest_full l = rw (lines_at_full location max_locations n s i h l)
 
     module _ (l : n < max_locations) where
       pub rest-bad : location (drop i s) ≡ bad
-          → tabled n words (lines_up_to location (max_locations - n) (drop i s)) ≡ table bad
+          → tabled n words (lines_up_to location (max_locations - n) (drop i s)) ≡ None
       unfolding tabled
       rest-bad e = rw (lines-at-bad location max_locations n s i l h e)
 
@@ -83,23 +84,32 @@ module _ (n : ℕ) (words s : List ℕ) (i : ℕ) where
           rw (lines-at-more location max_locations n s i l memory-lines.no_end row p e)
           (tabled-front n words row _ (line-sound memory-lines (drop i s) row (drop p s) e).1.0)
 
--- what the answer for a line says of the line
-module _ (s : List ℕ) (i : ℕ) (r : Reached) (e : r ≡ location_at s i) where
-  pub row_on : r.row.parsed ≡ parsed.Read → location (drop i s) ≡ got r.row.words (drop r.at s)
-  row_on o =
-      placed_split _ _ s i _ r (line_within memory-lines (drop i s)) e
-      (λ row p x l y. rw y x)
-      (λ x y. let f : r.row.parsed ≡ parsed.Refused = ap (λ (q : Reached). q.row.parsed) y in
-      let z : ◌≡◌ {A = ℕ} 0 1 = cc in
-      absurd (omega arith))
+-- what a reader's answer at byte i says of what stands there
+module _ (s : List ℕ) (i : ℕ) where
+  pub row_on : (row : List ℕ) (p : ℕ) → (Some row, p) ≡ moved i (placed s (location (drop i s)))
+      → location (drop i s) ≡ got row (drop p s)
+  row_on row p e = (placed_at s i _ (line_within memory-lines (drop i s)) row p (go _ e)).0
+    where
+      go : (o : std.Option (List ℕ × ℕ)) → (Some row, p) ≡ moved i o → Some (row, p) ≡ o
+      go (Some x) e =
+          let a : Some row ≡ Some x.0 = ap (λ (y : std.Option (List ℕ) × ℕ). y.0) e in
+          let b : p ≡ x.1 = ap (λ (y : std.Option (List ℕ) × ℕ). y.1) e in
+          let r : row ≡ x.0 = cc in
+          rw (r, b)
+      go None e =
+          let q : Some row ≡ None = ap (λ (x : std.Option (List ℕ) × ℕ). x.0) e in
+          let z : ◌≡◌ {A = ℕ} 0 1 = cc in
+          absurd (omega arith)
 
-  pub row_off : r.row.parsed ≡ parsed.Refused → location (drop i s) ≡ bad
-  row_off o =
-      placed_split _ _ s i _ r (line_within memory-lines (drop i s)) e
-      (λ row p x l y. let f : r.row.parsed ≡ parsed.Read = ap (λ (q : Reached). q.row.parsed) y in
-      let z : ◌≡◌ {A = ℕ} 0 1 = cc in
-      absurd (omega arith))
-      (λ x y. x)
+  pub row_off : (p : ℕ) → (None, p) ≡ moved i (placed s (location (drop i s))) → location (drop i s) ≡ bad
+  row_off p e = placed-bad s i _ (go _ e)
+    where
+      go : (o : std.Option (List ℕ × ℕ)) → (None, p) ≡ moved i o → None ≡ o
+      go (Some x) e =
+          let q : None ≡ Some x.0 = ap (λ (y : std.Option (List ℕ) × ℕ). y.0) e in
+          let z : ◌≡◌ {A = ℕ} 0 1 = cc in
+          absurd (omega arith)
+      go None e = refl
 
 -- a text that fits, and one that is too long
 module _ (t : List ℕ) where
@@ -107,23 +117,26 @@ module _ (t : List ℕ) where
   unfolding parsed_memory memory
   memory_fits e = rw e
 
-  pub memory-long : fits t ≡ false → parsed_memory t ≡ table bad
-  unfolding parsed_memory memory
+  pub memory-long : fits t ≡ false → parsed_memory t ≡ None
+  unfolding parsed_memory memory table
   memory-long e = rw e
 
 -- what is read: at most 64 locations, and the words of so many
-pub memory-few : (t : List ℕ) (m : Memory) → m ≡ parsed_memory t → m.count * cell_words ≤ memory_words
-unfolding parsed_memory table
-memory-few t m e = rw e (go (memory t) refl)
-  where
-    go : (want : Read (List ℕ)) → memory t ≡ want → (table want).count * cell_words ≤ memory_words
-    go (got ws r) q = omega (arith, (memory-sound ws t r q).1.most_locations)
-    go bad q = omega arith
+module _ (t : List ℕ) (m : Memory) (e : Some m ≡ parsed_memory t) where
+  go : (want : Read (List ℕ)) → memory t ≡ want → Some m ≡ table want
+      → (m.count * cell_words ≤ memory_words) × (length m.words ≡ memory_words)
+  unfolding table
+  go (got ws r) q e =
+      let x : m ≡ record { count = length ws / cell_words; words = padded memory_words ws } = cc in
+      let w = (memory-sound ws t r q).1 in
+      let few = w.most_locations in
+      rw x (omega (arith, few), length-padded memory_words ws few)
+  go bad q e = let z : ◌≡◌ {A = ℕ} 0 1 = cc in absurd (omega arith)
 
-pub memory_full : (t : List ℕ) (m : Memory) → m ≡ parsed_memory t → length m.words ≡ memory_words
-unfolding parsed_memory table
-memory_full t m e = rw e (go (memory t) refl)
-  where
-    go : (want : Read (List ℕ)) → memory t ≡ want → length (table want).words ≡ memory_words
-    go (got ws r) q = length-padded memory_words ws (memory-sound ws t r q).1.most_locations
-    go bad q = length-replicate {A = ℕ} memory_words 0
+  pub memory-few : m.count * cell_words ≤ memory_words
+  unfolding parsed_memory
+  memory-few = (go (memory t) refl e).0
+
+  pub memory_full : length m.words ≡ memory_words
+  unfolding parsed_memory
+  memory_full = (go (memory t) refl e).1

@@ -44,13 +44,6 @@ trim-zeros [] zero = refl
 trim-zeros [] (suc n) = rw (trim-zeros [] n) (keep_zero 0 refl)
 trim-zeros (w ∷ ws) n = ap (cons_trimmed w) (trim-zeros ws n)
 
--- and a word that is not zero ends what is kept
-pub trim_last : (ws : List ℕ) (w : ℕ) → (w ≡ 0 → ⊥) → trim (ws ++ w ∷ []) ≡ ws ++ w ∷ []
-unfolding trim
-trim_last [] w h = keep_last w h
-trim_last (v ∷ []) w h = rw (keep_last w h) (keep_more v w [])
-trim_last (v ∷ u ∷ ws) w h = ap (cons_trimmed v) (trim_last (u ∷ ws) w h) ∙ keep_more v u (ws ++ w ∷ [])
-
 -- putting the zeros back
 pub trim_restore : (ws : List ℕ) → trim ws ++ replicate (length ws - length (trim ws)) 0 ≡ ws
 unfolding trim

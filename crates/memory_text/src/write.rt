@@ -1,10 +1,10 @@
 // A memory written as text into a lent buffer.
-ghost use Rattle.std.specs.Prelude.{◌≡◌, ◌+◌, ◌*◌, ◌-◌, ◌≤◌, length, take, drop};
+ghost use Rattle.std.specs.Prelude.{◌≡◌, ◌+◌, ◌*◌, ◌≤◌, length, ◌≢◌, ◌<◌, ℕ, ◌-◌, slice_index};
 ghost use Rattle.language.specs.World.{cell_words};
 ghost use Rattle.memory_text.specs.Printing.{trim, fields, line};
 ghost use Rattle.memory_text.specs.Internal.Answers.{printed_length, printed};
 ghost use Rattle.memory_text.specs.Sizes.{word_room, line_room};
-ghost use Rattle.memory_text.specs.Internal.Writing.{Used, Puts};
+ghost use Rattle.memory_text.specs.Internal.Writing.{Puts};
 
 use memory::CELL;
 use text::write::{put_byte, put_number};
@@ -15,50 +15,39 @@ const WORD: usize = 11;
 // The bytes of the longest line.
 pub const LINE: usize = WORD * CELL;
 
-// How many of the 16 words from `from` on are printed: those up to the last that is not zero.
-fn used(words: &[u32], from: usize) -> usize
-    requires { from + cell_words ≤ length words.now }
-    ensures { Used words.now from result }
+// How many of a location's words are printed: those up to the last that is not zero.
+fn used(row: &[u32]) -> usize
+    ensures few { result ≤ length row.now }
+    ensures last { 0 < result → slice_index row.now (result - 1) ≢ 0 }
+    ensures zeros { (k : ℕ) → result ≤ k → k < length row.now → slice_index row.now k ≡ 0 }
 {
-    let mut n: usize = CELL;
-    while 0 < n {
-        let last = n - 1;
-        if words[from + last] != 0 {
-            return n;
-        }
-        n = last;
-    }
-    0
+    row.iter().rposition(|&w| w != 0).map_or(0, |i| i + 1)
 }
 
-// The words from `from` to `to`, each after a tab; the place after them.
-fn put_fields(words: &[u32], from: usize, to: usize, out: &mut [u8], at: usize) -> usize
-    requires { (from ≤ to) × (to ≤ length words.now) × (at + word_room * (to - from) ≤ length out.old) }
-    ensures { Puts (fields (take (to - from) (drop from words.now))) (word_room * (to - from))
-        out.old at out.new result }
+// The words, each after a tab; the place after them.
+fn put_fields(words: &[u32], out: &mut [u8], at: usize) -> usize
+    requires { at + word_room * length words.now ≤ length out.old }
+    ensures { Puts (fields words.now) (word_room * length words.now) out.old at out.new result }
 {
-    let mut i = from;
     let mut p = at;
-    while i < to {
+    for w in words {
         let q = put_byte(out, p, b'\t');
-        p = put_number(out, q, words[i]);
-        i += 1;
+        p = put_number(out, q, *w);
     }
     p
 }
 
-// The line of the location whose words stand from `from` on; the place after it.
-fn put_line(words: &[u32], from: usize, out: &mut [u8], at: usize) -> usize
-    requires { (from + cell_words ≤ length words.now) × (at + line_room ≤ length out.old) }
-    ensures { Puts (line (trim (take cell_words (drop from words.now)))) line_room
-        out.old at out.new result }
+// The line of a location; the place after it.
+fn put_line(row: &[u32], out: &mut [u8], at: usize) -> usize
+    requires { (length row.now ≤ cell_words) × (at + line_room ≤ length out.old) }
+    ensures { Puts (line (trim row.now)) line_room out.old at out.new result }
 {
-    let n = used(words, from);
-    if n == 0 {
+    let n = used(row);
+    let Some((first, rest)) = row[..n].split_first() else {
         return put_byte(out, at, b'\n');
-    }
-    let p = put_number(out, at, words[from]);
-    let q = put_fields(words, from + 1, from + n, out, p);
+    };
+    let p = put_number(out, at, *first);
+    let q = put_fields(rest, out, p);
     put_byte(out, q, b'\n')
 }
 
@@ -68,18 +57,12 @@ pub fn write_memory(words: &[u32], out: &mut [u8]) -> usize
     ensures value { result ≡ printed_length words.now out.old }
     ensures out_after { out.new ≡ printed words.now out.old }
 {
-    if words.len() % CELL != 0 {
+    if words.len() % CELL != 0 || out.len() / LINE < words.len() / CELL {
         return 0;
     }
-    let count = words.len() / CELL;
-    if out.len() / LINE < count {
-        return 0;
-    }
-    let mut n: usize = 0;
-    let mut at: usize = 0;
-    while n < count {
-        at = put_line(words, n * CELL, out, at);
-        n += 1;
+    let mut at = 0;
+    for row in words.chunks_exact(CELL) {
+        at = put_line(row, out, at);
     }
     at
 }

@@ -1,7 +1,7 @@
 -- The table of a memory as the code fills it, location by location.
 use Prim.Native.Nat.{ℕ, suc, ◌+◌, ◌*◌, ◌-◌, ◌/◌, ◌≤◌, ◌<◌}
 use native.Mathlib.Omega.{arith}
-use mathlib.Core.Path.{◌≡◌, refl, ap}
+use mathlib.Core.Path.{◌≡◌, refl, sym}
 use mathlib.Core.Bool.{true, false}
 use mathlib.Core.List.{List}
 use mathlib.Core.Option.{Option, none, some}
@@ -17,6 +17,7 @@ use Rattle.text.proofs.Places.{placed_at, placed-bad}
 use Rattle.text.proofs.Writings.{sets_append, sets_zeros}
 use Rattle.text.proofs.Lines.{lines-at_end, lines_at_full, lines-at-bad, lines-at-more, line-sound, line_within}
 use Rattle.reader.specs.Internal.Moved.{moved}
+use Rattle.reader.proofs.Moves.{moved_found, moved_none}
 use Rattle.language.specs.World.{cell_words}
 use Rattle.sheet.specs.Sheet.{max_locations}
 use Rattle.memory_text.specs.Sizes.{memory_words}
@@ -85,31 +86,13 @@ module _ (n : ℕ) (words s : List ℕ) (i : ℕ) where
           (tabled-front n words row _ (line-sound memory-lines (drop i s) row (drop p s) e).1.0)
 
 -- what a reader's answer at byte i says of what stands there
-module _ (s : List ℕ) (i : ℕ) where
-  pub row_on : (row : List ℕ) (p : ℕ) → (Some row, p) ≡ moved i (placed s (location (drop i s)))
+module _ (s : List ℕ) (i p : ℕ) where
+  pub row_on : (row : List ℕ) → (Some row, p) ≡ moved i (placed s (location (drop i s)))
       → location (drop i s) ≡ got row (drop p s)
-  row_on row p e = (placed_at s i _ (line_within memory-lines (drop i s)) row p (go _ e)).0
-    where
-      go : (o : std.Option (List ℕ × ℕ)) → (Some row, p) ≡ moved i o → Some (row, p) ≡ o
-      go (Some x) e =
-          let a : Some row ≡ Some x.0 = ap (λ (y : std.Option (List ℕ) × ℕ). y.0) e in
-          let b : p ≡ x.1 = ap (λ (y : std.Option (List ℕ) × ℕ). y.1) e in
-          let r : row ≡ x.0 = cc in
-          rw (r, b)
-      go None e =
-          let q : Some row ≡ None = ap (λ (x : std.Option (List ℕ) × ℕ). x.0) e in
-          let z : ◌≡◌ {A = ℕ} 0 1 = cc in
-          absurd (omega arith)
+  row_on row e = (placed_at s i _ (line_within memory-lines (drop i s)) row p (sym (moved_found i p _ row e))).0
 
-  pub row_off : (p : ℕ) → (None, p) ≡ moved i (placed s (location (drop i s))) → location (drop i s) ≡ bad
-  row_off p e = placed-bad s i _ (go _ e)
-    where
-      go : (o : std.Option (List ℕ × ℕ)) → (None, p) ≡ moved i o → None ≡ o
-      go (Some x) e =
-          let q : None ≡ Some x.0 = ap (λ (y : std.Option (List ℕ) × ℕ). y.0) e in
-          let z : ◌≡◌ {A = ℕ} 0 1 = cc in
-          absurd (omega arith)
-      go None e = refl
+  pub row_off : (None, p) ≡ moved i (placed s (location (drop i s))) → location (drop i s) ≡ bad
+  row_off e = placed-bad s i _ (sym (moved_none i p _ e))
 
 -- a text that fits, and one that is too long
 module _ (t : List ℕ) where

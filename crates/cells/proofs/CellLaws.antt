@@ -1,23 +1,27 @@
 -- Cells of words: what is loaded and stored, and what stays.
-use mathlib.Core.Path.{◌≡◌, refl, sym, ap, ap₂, ◌∙◌}
-use mathlib.Core.Logic.{◌⊎◌, inl, inr, ⊎_elim}
+use mathlib.Core.Path.{◌≡◌, refl, sym, ap, ◌∙◌}
+use mathlib.Core.Logic.{⊎_elim}
 use mathlib.Core.Bool.{Bool, true, false}
 use mathlib.Core.List.{List, [], ◌∷◌, ◌++◌, append_assoc, append-nil}
-use Prim.Native.Nat.{ℕ, zero, suc, ◌+◌, ◌*◌, ◌-◌, ◌/◌, ◌≤◌, ◌<◌}
+use Prim.Native.Nat.{min, ℕ, zero, suc, ◌+◌, ◌*◌, ◌-◌, ◌/◌, ◌≤◌, ◌<◌}
 use native.Mathlib.Omega.{arith}
-use native.Mathlib.Nat.{le-div_iff_mul-le, zero-add}
+use native.Mathlib.Nat.{le-div_iff_mul-le}
 use native.Mathlib.Numerals.{add-one}
 use borrow.Author.Tests.{lt-ltb, le-ltb, ltb-true, ltb-false}
 use lib.Dec.{ltb}
 use lib.ListN.{length, take, drop, get_or, set, length-append, length-take, length-drop, length-replicate}
-use lib.ListN.{take-append-drop, drop_of_length-le, get_or-replicate, get_or-append}
-use lib.Seq.{length-take-le, drop-cons, take_at, drop_at, drop-append-le, drop-append-add, take-append-le, drop-drop}
-use lib.Seq.{take-take, take_all, paste, paste-suc, length_paste_head, get_or-take, get_or-drop, get_or_at}
-use lib.Seq.{get_or-append-add}
+use lib.ListN.{take-append-drop, drop_of_length-le}
+use lib.Seq.{length-take-le, take_at, drop_at, drop-append-le, drop-append-add, take-append-le, drop-drop}
+use lib.Seq.{take-append-add, take-take, take_all, paste, paste-suc, get_or-drop}
+use lib.ListN.{replicate-append-replicate}
+use Rattle.std.proofs.lemmas.Bool.{cases_lt}
+use Rattle.std.proofs.lemmas.List.{drop-replicate}
 use Rattle.language.specs.World.{cell_words}
 use Rattle.memory.specs.Words.{zeros}
 use Rattle.memory.specs.Memory.{cell_of}
 use Rattle.memory.proofs.CellsLaws.{length-cell_of}
+use Rattle.memory.proofs.RefusalLaws.{part_cell}
+use borrow.Rule.Slice.PartMut.{put_mid}
 use Rattle.cells.specs.Internal.Cells.{cell_count, load_of, store_of, push_of, pushes_of, pop_of, pops_of, cut_of}
 
 -- ---- which cells there are
@@ -203,120 +207,173 @@ pub copy_done : (d₀ : List ℕ) (to : ℕ) (s : List ℕ) (i n : ℕ) (d : Lis
     → d ≡ paste d₀ to s n
 copy_done d₀ to s i n d e h = e ∙ ap (λ (j : ℕ). paste d₀ to s j) h
 
--- a word that a copy does not reach
-paste_outside : (d : List ℕ) (to : ℕ) (s : List ℕ) (i j : ℕ) → to + i ≤ length d → i ≤ length s
-    → (j < to) ⊎ (to + i ≤ j) → get_or (paste d to s i) j 0 ≡ get_or d j 0
-paste_outside d to s i j h l side =
-    let p : List ℕ = take to d ++ take i s in
-    let n : length p ≡ to + i = length_paste_head d to s i (omega arith) l in
-    ⊎_elim
-    (λ b. get_or-append p (drop (to + i) d) 0 j (omega arith)
-    ∙ get_or-append (take to d) (take i s) 0 j (omega (arith, length-take-le to d (omega arith)))
-    ∙ get_or-take to d j 0 b)
-    (λ a. let e : j ≡ length p + (j - (to + i)) = omega arith in
-    ap (λ (m : ℕ). get_or (p ++ drop (to + i) d) m 0) e ∙ get_or-append-add p (drop (to + i) d) (j - (to + i)) 0
-    ∙ get_or-drop (to + i) d (j - (to + i)) 0 ∙ ap (λ (m : ℕ). get_or d m 0) (omega arith))
-    side
+-- ---- what the functions over a cell leave
 
-pub slide_turn : (d₀ : List ℕ) (to from n i : ℕ) (d : List ℕ) → d ≡ paste d₀ to (drop from d₀) i → i < n
-    → to + n ≤ length d₀ → from + n ≤ length d₀
-    → (to ≤ from) ⊎ (from + n ≤ to) → set d (to + i) (get_or d (from + i) 0) ≡ paste d₀ to (drop from d₀) (i + 1)
-slide_turn d₀ to from n i d e h l m side =
-    let apart : (from + i < to) ⊎ (to + i ≤ from + i) = ⊎_elim (λ a. inr (omega arith)) (λ b. inl (omega arith)) side in
-    ap (set d (to + i)) (ap (λ (u : List ℕ). get_or u (from + i) 0) e
-    ∙ paste_outside d₀ to (drop from d₀) i (from + i) (omega arith) (omega (arith, length-drop from d₀)) apart)
-    ∙ copy_turn d₀ d₀ to from i d e (omega arith) (omega arith)
-
--- the words are pushed along, one held
-module _ (d₀ : List ℕ) (w i : ℕ) (d : List ℕ) (e : d ≡ paste d₀ 0 (w ∷ d₀) i) (h : i < length d₀) where
-  pub push_turn : (held : ℕ) → held ≡ get_or (w ∷ d₀) i 0 → set d i held ≡ paste d₀ 0 (w ∷ d₀) (i + 1)
-  push_turn held g =
-      ap (set d i) g ∙ ap (λ (u : List ℕ). set u i (get_or (w ∷ d₀) i 0)) e
-      ∙ ap (λ (j : ℕ). set (paste d₀ 0 (w ∷ d₀) i) j (get_or (w ∷ d₀) i 0)) (sym (zero-add i))
-      ∙ paste-suc d₀ 0 (w ∷ d₀) i 0 (omega arith) (omega arith)
-      ∙ ap (λ (j : ℕ). paste d₀ 0 (w ∷ d₀) j) (sym (add-one i))
-
-  pub push_held : get_or d i 0 ≡ get_or (w ∷ d₀) (i + 1) 0
-  push_held =
-      ap (λ (u : List ℕ). get_or u i 0) e
-      ∙ paste_outside d₀ 0 (w ∷ d₀) i i (omega arith) (omega arith) (inr (omega arith))
-      ∙ ap (λ (j : ℕ). get_or (w ∷ d₀) j 0) (sym (add-one i))
-
-pub clear_turn : (d₀ : List ℕ) (to n i : ℕ) (d : List ℕ) → d ≡ paste d₀ to (zeros n) i → i < n → to + n ≤ length d₀
-    → set d (to + i) 0 ≡ paste d₀ to (zeros n) (i + 1)
-clear_turn d₀ to n i d e h l =
-    ap (λ (u : List ℕ). set u (to + i) 0) e
-    ∙ ap (set (paste d₀ to (zeros n) i) (to + i)) (sym (get_or-replicate n i 0 0 h))
-    ∙ paste-suc d₀ to (zeros n) i 0 (omega arith) (omega (arith, length-replicate {A = ℕ} n 0))
-    ∙ ap (λ (j : ℕ). paste d₀ to (zeros n) j) (sym (add-one i))
-
--- what the functions over a cell leave
-
-pub store_done : (ws : List ℕ) (k : ℕ) (words out : List ℕ) → out ≡ paste ws (cell_words * k) words cell_words
-    → length words ≡ cell_words → k < cell_count ws
-    → out ≡ store_of ws k words
-store_done ws k words out e long h =
-    e ∙ append_assoc (take (16 * k) ws) (take 16 words) (drop (16 * k + 16) ws)
-    ∙ ap (λ (u : List ℕ). take (16 * k) ws ++ (u ++ drop (16 * k + 16) ws)) (take_all 16 words (omega arith))
-    ∙ sym (store_there ws k words h)
-
--- the same, of the test that a loop is behind
-pub room_left : (ws : List ℕ) (k : ℕ) → k < length ws / cell_words → cell_words * k + cell_words ≤ length ws
+-- the words of cell k, as a part of a slice
+pub loaded : (ws : List ℕ) (k : ℕ) → k < length ws / cell_words
+    → take (cell_words * k + cell_words - cell_words * k) (drop (cell_words * k) ws) ≡ load_of ws k
 unfolding cell_count
-room_left ws k h = room ws k h
+loaded ws k h = part_cell ws k ∙ sym (load_there ws k h)
 
-module _ (ws : List ℕ) where
-  -- the first cell
-  load_first : 0 < cell_count ws → load_of ws 0 ≡ take cell_words ws
-  load_first h = load_there ws 0 h ∙ cell_first ws
+pub unloaded : (ws : List ℕ) (k : ℕ) → length ws / cell_words ≤ k → zeros cell_words ≡ load_of ws k
+unfolding cell_count
+unloaded ws k h = sym (load_past ws k h)
 
-  pub copy_cell_done : (from to : ℕ) (out : List ℕ) → out
-      ≡ paste ws (cell_words * to) (drop (cell_words * from) ws) cell_words → from < cell_count ws → to < cell_count ws
-      → out ≡ store_of ws to (load_of ws from)
-  unfolding cell_of
-  copy_cell_done from to out e h l =
-      let c = load_there ws from h in
-      store_done ws to (load_of ws from) out
-      (e ∙ ap (λ (u : List ℕ). take (16 * to) ws ++ u ++ drop (16 * to + 16) ws)
-      (sym (take-take 16 16 (drop (16 * from) ws) (omega arith)) ∙ ap (take 16) (sym c)))
-      (length_load ws from) l
+-- words stored as the part of a slice that is cell k
+pub stored_part : (ws words : List ℕ) (k : ℕ) → k < length ws / cell_words
+    → put_mid (cell_words * k) (cell_words * k + cell_words - cell_words * k) ws words ≡ store_of ws k words
+unfolding cell_count
+stored_part ws words k h =
+    let n : cell_words * k + cell_words - cell_words * k ≡ cell_words = omega arith in
+    rw (n, drop-drop cell_words (cell_words * k) ws) (sym (store_there ws k words h))
 
-  pub copy_cell_past : (from to : ℕ) (out : List ℕ) → out ≡ store_of ws to (zeros cell_words) → cell_count ws ≤ from
-      → out ≡ store_of ws to (load_of ws from)
-  copy_cell_past from to out e h = e ∙ ap (store_of ws to) (sym (load_past ws from h))
+pub unstored : (ws words : List ℕ) (k : ℕ) → length ws / cell_words ≤ k → ws ≡ store_of ws k words
+unfolding cell_count
+unstored ws words k h = sym (store_past ws k words h)
 
-  pub push_done : (w : ℕ) (out : List ℕ) → out ≡ paste ws 0 (w ∷ ws) cell_words → 0 < cell_count ws
-      → out ≡ store_of ws 0 (push_of w (load_of ws 0))
-  unfolding push_of
-  push_done w out e h =
-      store_done ws 0 (w ∷ take 15 (load_of ws 0)) out
-      (e ∙ ap (λ (u : List ℕ). [] ++ (w ∷ u) ++ drop 16 ws)
-      (sym (take-take 15 16 ws (omega arith)) ∙ ap (take 15) (sym (load_first h))
-      ∙ sym (take-take 15 15 (load_of ws 0) (omega arith))))
-      (ap suc (length-take-le 15 (load_of ws 0) (omega (arith, length_load ws 0)))) h
+-- the first cell
+load_first : (ws : List ℕ) → 0 < cell_count ws → load_of ws 0 ≡ take cell_words ws
+load_first ws h = load_there ws 0 h ∙ cell_first ws
 
-  pub pop_done : (k : ℕ) (moved out : List ℕ) → moved ≡ paste ws (cell_words * k) (drop 1 ws) 15
-      → out ≡ set moved (cell_words * k + 15) 0 → k < cell_count ws
-      → out ≡ store_of ws k (pop_of (load_of ws 0))
-  unfolding pop_of
-  pop_done k moved out e f h =
-      let p : List ℕ = drop 1 (load_of ws 0) in
-      let s : List ℕ = p ++ (0 ∷ []) in
-      let m : length p ≡ 15 = length-drop 1 (load_of ws 0) ∙ omega (arith, length_load ws 0) in
-      let l : length s ≡ 16 = length-append p (0 ∷ []) ∙ omega arith in
-      let first : take 15 (drop 1 ws) ≡ take 15 s =
-      shifted ws ∙ ap (drop 1) (sym (load_first (omega arith))) ∙ sym (take_at p (0 ∷ []) 15 m) in
-      let last : 0 ≡ get_or s 15 0 = sym (get_or_at p 0 [] 0 15 m) in
-      store_done ws k s out
-      (f ∙ ap (λ (u : List ℕ). set u (16 * k + 15) 0)
-      (e ∙ ap (λ (u : List ℕ). take (16 * k) ws ++ u ++ drop (16 * k + 15) ws) first)
-      ∙ ap (set (paste ws (16 * k) s 15) (16 * k + 15)) last
-      ∙ paste-suc ws (16 * k) s 15 0 (omega (arith, room ws k h)) (omega arith))
-      l h
-    where
-      shifted : (l : List ℕ) → take 15 (drop 1 l) ≡ drop 1 (take 16 l)
-      shifted [] = refl
-      shifted (x ∷ xs) = refl
+-- words in front, all at once
+pub pushes-all : (us ws : List ℕ) → length ws ≡ cell_words → pushes_of us ws ≡ take cell_words (us ++ ws)
+unfolding pushes_of push_of
+pushes-all [] ws long = sym (take_all 16 ws (omega arith))
+pushes-all (w ∷ us) ws long =
+    ap (λ (l : List ℕ). w ∷ take 15 l) (pushes-all us ws long)
+    ∙ ap (λ (l : List ℕ). w ∷ l) (take-take 15 16 (us ++ ws) (omega arith))
+
+pushes-parts : (us ws : List ℕ) (n : ℕ) → length ws ≡ cell_words → n ≡ min (length us) cell_words
+    → take n us ++ take (cell_words - n) ws ≡ pushes_of us ws
+pushes-parts us ws n long e = ⊎_elim few many (cases_lt (length us) cell_words)
+  where
+    few : length us < cell_words → take n us ++ take (cell_words - n) ws ≡ pushes_of us ws
+    few h =
+        let k : n ≡ length us = omega (arith, e) in
+        let z : cell_words ≡ length us + (cell_words - length us) = omega arith in
+        rw (k, take_all (length us) us (omega arith), ← take-append-add us ws (cell_words - length us), ← z)
+        (sym (pushes-all us ws long))
+
+    many : cell_words ≤ length us → take n us ++ take (cell_words - n) ws ≡ pushes_of us ws
+    many h =
+        let k : n ≡ cell_words = omega (arith, e) in
+        rw (k, append-nil (take cell_words us), ← take-append-le cell_words us ws h) (sym (pushes-all us ws long))
+
+-- stored in an array, these before those
+pub pushed : (us ws : List ℕ) {old front back : List ℕ} (n : ℕ) → length ws ≡ cell_words
+    → n ≡ min (length us) cell_words → old ≡ ws → front ≡ take n us
+    → back ≡ take (cell_words - n) old
+    → put_mid n (cell_words - n) (front ++ drop n (zeros cell_words)) back ≡ pushes_of us ws
+pushed us ws {front = front} n long e o f b =
+    let m : length front ≡ n = ap length f ∙ omega (arith, length-take n us, e) in
+    let z : n + (cell_words - n) ≡ cell_words = omega (arith, e) in
+    let rest : List ℕ = drop n (zeros cell_words) in
+    rw (
+      take_at front rest n m,
+      drop_at front rest n m,
+      drop-drop (cell_words - n) n (zeros cell_words),
+      z,
+      append-nil,
+      b,
+      o,
+      f,
+    )
+    (pushes-parts us ws n long e)
+
+-- the first n words gone, all at once
+pops-parts : (n : ℕ) (ws : List ℕ) → length ws ≡ cell_words → n ≤ cell_words → drop n ws ++ zeros n ≡ pops_of n ws
+unfolding pops_of pop_of
+pops-parts zero ws long h = append-nil ws
+pops-parts (suc n) ws long h =
+    let e : drop (suc n) ws ≡ drop 1 (drop n ws) =
+    ap (λ (k : ℕ). drop k ws) (sym (add-one n)) ∙ sym (drop-drop 1 n ws) in
+    let z : zeros (suc n) ≡ zeros n ++ (0 ∷ []) =
+    ap (λ (k : ℕ). zeros k) (sym (add-one n)) ∙ sym (replicate-append-replicate n 1 0) in
+    rw (
+      e,
+      z,
+      ← append_assoc (drop 1 (drop n ws)) (zeros n) (0 ∷ []),
+      ← drop-append-le 1 (drop n ws) (zeros n) (omega (arith, length-drop n ws)),
+    )
+    (ap (λ (l : List ℕ). drop 1 l ++ (0 ∷ [])) (pops-parts n ws long (omega arith)))
+
+-- stored in an array of zeros
+pub popped : (n : ℕ) (ws : List ℕ) {old front : List ℕ} → length ws ≡ cell_words → n ≤ cell_words → old ≡ ws
+    → front ≡ take (cell_words - n) (drop n old)
+    → front ++ drop (cell_words - n) (zeros cell_words) ≡ pops_of n ws
+popped n ws long h o f =
+    let z : cell_words - (cell_words - n) ≡ n = omega arith in
+    rw (
+      drop-replicate {X = ℕ} (cell_words - n) cell_words 0,
+      z,
+      f,
+      o,
+      take_all (cell_words - n) (drop n ws) (omega (arith, length-drop n ws)),
+    )
+    (pops-parts n ws long h)
+
+-- no word of a cell is left
+popped_past : (n : ℕ) (ws : List ℕ) → length ws ≡ cell_words → pops_of (cell_words + n) ws ≡ zeros cell_words
+unfolding pops_of pop_of
+popped_past zero ws long =
+    sym (pops-parts cell_words ws long (omega arith))
+    ∙ ap (λ (l : List ℕ). l ++ zeros cell_words) (drop_of_length-le ws {i = cell_words} (omega arith))
+popped_past (suc n) ws long =
+    let z : cell_words + suc n ≡ suc (cell_words + n) = omega arith in
+    rw z (ap pop_of (popped_past n ws long))
+
+pub popped-most : (n : ℕ) (ws : List ℕ) → length ws ≡ cell_words → pops_of (min n cell_words) ws ≡ pops_of n ws
+popped-most n ws long = ⊎_elim few many (cases_lt n cell_words)
+  where
+    few : n < cell_words → pops_of (min n cell_words) ws ≡ pops_of n ws
+    few h = let e : min n cell_words ≡ n = omega arith in rw e refl
+
+    many : cell_words ≤ n → pops_of (min n cell_words) ws ≡ pops_of n ws
+    many h =
+        let e : min n cell_words ≡ cell_words + 0 = omega arith in
+        let z : n ≡ cell_words + (n - cell_words) = omega arith in
+        ap (λ (k : ℕ). pops_of k ws) e ∙ popped_past 0 ws long ∙ sym (popped_past (n - cell_words) ws long)
+        ∙ ap (λ (k : ℕ). pops_of k ws) (sym z)
+
+-- nothing is changed where what is loaded is stored
+pub store_load : (ws : List ℕ) → store_of ws 0 (load_of ws 0) ≡ ws
+store_load ws = on (ltb 0 (cell_count ws)) refl
+  where
+    on : (b : Bool) → ltb 0 (cell_count ws) ≡ b → store_of ws 0 (load_of ws 0) ≡ ws
+    on true t =
+        let h = ltb-true _ _ t in
+        store_there ws 0 (load_of ws 0) h ∙ ap (λ (u : List ℕ). [] ++ (u ++ drop 16 ws)) (load_first ws h)
+        ∙ take-append-drop 16 ws
+    on false t = store_past ws 0 (load_of ws 0) (ltb-false _ _ t)
+
+-- zeros from n on
+pub cut_part : (ws ys : List ℕ) (n : ℕ) → n < cell_words → cell_words ≤ length ws
+    → ys ≡ zeros (length (take (cell_words - n) (drop n ws)))
+    → put_mid n (cell_words - n) ws ys ≡ store_of ws 0 (cut_of n (load_of ws 0))
+unfolding cut_of
+cut_part ws ys n h l e =
+    let c : 0 < cell_count ws = there ws 0 l in
+    let z : n + (cell_words - n) ≡ cell_words = omega arith in
+    let m : length (take (cell_words - n) (drop n ws)) ≡ cell_words - n =
+    length-take-le (cell_words - n) (drop n ws) (omega (arith, length-drop n ws)) in
+    rw (
+      e,
+      m,
+      store_there ws 0 (cut_of n (load_of ws 0)) c,
+      load_first ws c,
+      take-take n cell_words ws (omega arith),
+      drop-drop (cell_words - n) n ws,
+      z,
+    )
+    (sym (append_assoc (take n ws) (zeros (cell_words - n)) (drop cell_words ws)))
+
+-- nothing is to be cut
+pub cut_none : (ws : List ℕ) (n : ℕ) → cell_words ≤ n → ws ≡ store_of ws 0 (cut_of n (load_of ws 0))
+unfolding cut_of
+cut_none ws n h =
+    let z : cell_words - n ≡ 0 = omega arith in
+    rw (z, take_all n (load_of ws 0) (omega (arith, length_load ws 0)), append-nil (load_of ws 0))
+    (sym (store_load ws))
 
 -- one change of the accumulator after another
 pub after : (ws ws' : List ℕ) {ws'' : List ℕ} (a : List ℕ) (f : List ℕ → List ℕ) → length a ≡ cell_words
@@ -337,98 +394,3 @@ after ws ws' a f n e g = g ∙ rw e (on (ltb 0 (cell_count ws)) refl)
     on false t =
         let u = store_past ws 0 a (ltb-false _ _ t) in
         rw u (store_past ws 0 (f (load_of ws 0)) (ltb-false _ _ t) ∙ sym (store_past ws 0 (f a) (ltb-false _ _ t)))
-
--- nothing is changed where what is loaded is stored
-pub store_load : (ws : List ℕ) → store_of ws 0 (load_of ws 0) ≡ ws
-store_load ws = on (ltb 0 (cell_count ws)) refl
-  where
-    on : (b : Bool) → ltb 0 (cell_count ws) ≡ b → store_of ws 0 (load_of ws 0) ≡ ws
-    on true t =
-        let h = ltb-true _ _ t in
-        store_there ws 0 (load_of ws 0) h ∙ ap (λ (u : List ℕ). [] ++ (u ++ drop 16 ws)) (load_first ws h)
-        ∙ take-append-drop 16 ws
-    on false t = store_past ws 0 (load_of ws 0) (ltb-false _ _ t)
-
--- a word more of the first cell is copied
-pub load_turn : (s : List ℕ) (i : ℕ) (d : List ℕ) → d ≡ paste (zeros cell_words) 0 s i → i < cell_words → i < length s
-    → set d i (get_or s i 0) ≡ paste (zeros cell_words) 0 s (i + 1)
-load_turn s i d e h l =
-    ap (λ (j : ℕ). set d j (get_or s j 0)) (sym (zero-add i))
-    ∙ copy_turn (zeros 16) s 0 0 i d e (omega (arith, length-replicate {A = ℕ} 16 0)) (omega arith)
-
--- the first cell, copied
-pub load_done : (ws out : List ℕ) → out ≡ paste (zeros cell_words) 0 ws cell_words → 0 < cell_count ws
-    → out ≡ load_of ws 0
-load_done ws out e h = e ∙ append-nil (take 16 ws) ∙ sym (load_first ws h)
-
--- zeros from n on
-pub cut_done : (ws : List ℕ) (n : ℕ) (out : List ℕ) → out ≡ paste ws n (zeros (cell_words - n)) (cell_words - n)
-    → n < cell_words → 0 < cell_count ws
-    → out ≡ store_of ws 0 (cut_of n (load_of ws 0))
-unfolding cut_of
-cut_done ws n out e h l =
-    let z : n + (16 - n) ≡ 16 = omega arith in
-    e ∙ ap₂ (λ (u : List ℕ) (k : ℕ). (take n ws ++ u) ++ drop k ws)
-    (take_all (16 - n) (zeros (16 - n)) (omega (arith, length-replicate {A = ℕ} (16 - n) 0))) z
-    ∙ ap (λ (u : List ℕ). (u ++ zeros (16 - n)) ++ drop 16 ws)
-    (sym (take-take n 16 ws (omega arith)) ∙ ap (take n) (sym (load_first ws l)))
-    ∙ sym (store_there ws 0 (cut_of n (load_of ws 0)) l)
-
--- nothing is still to be cut
-pub cut_none : (ws : List ℕ) (n : ℕ) → cell_words ≤ n → ws ≡ store_of ws 0 (cut_of n (load_of ws 0))
-unfolding cut_of
-cut_none ws n h =
-    let z : 16 - n ≡ 0 = omega arith in
-    sym (ap (store_of ws 0) (ap₂ (λ (u : List ℕ) (k : ℕ). u ++ zeros k)
-    (take_all n (load_of ws 0) (omega (arith, length_load ws 0))) z ∙ append-nil (load_of ws 0))
-    ∙ store_load ws)
-
--- ---- words pushed and popped one by one
-
--- the last of the words that are still to be pushed
-pub push_next : (d₀ words : List ℕ) (k : ℕ) (d : List ℕ) {d' : List ℕ}
-    → d ≡ store_of d₀ 0 (pushes_of (drop k words) (load_of d₀ 0))
-    → d' ≡ store_of d 0 (push_of (get_or words (k - 1) 0) (load_of d 0)) → 0 < k → k ≤ length words
-    → d' ≡ store_of d₀ 0 (pushes_of (drop (k - 1) words) (load_of d₀ 0))
-unfolding pushes_of
-push_next d₀ words k d e g h l =
-    let z : suc (k - 1) ≡ k = omega arith in
-    after d₀ d (pushes_of (drop k words) (load_of d₀ 0)) (push_of (get_or words (k - 1) 0))
-    (length_pushes (drop k words) (load_of d₀ 0) (length_load d₀ 0)) e g
-    ∙ ap (λ (us : List ℕ). store_of d₀ 0 (pushes_of us (load_of d₀ 0)))
-    (sym (drop-cons words (k - 1) 0 (omega arith) ∙ ap (λ (i : ℕ). get_or words (k - 1) 0 ∷ drop i words) z))
-
--- none is pushed yet
-pub push_none : (ws words : List ℕ) → ws ≡ store_of ws 0 (pushes_of (drop (length words) words) (load_of ws 0))
-unfolding pushes_of
-push_none ws words = sym (ap (λ (us : List ℕ). store_of ws 0 (pushes_of us (load_of ws 0)))
-    (drop_of_length-le words {i = length words} (omega arith)) ∙ store_load ws)
-
-pub pop_next : (d₀ : List ℕ) (n left : ℕ) (d : List ℕ) {d' : List ℕ}
-    → d ≡ store_of d₀ 0 (pops_of (n - left) (load_of d₀ 0)) → d' ≡ store_of d 0 (pop_of (load_of d 0))
-    → 0 < left → left ≤ n → d' ≡ store_of d₀ 0 (pops_of (n - (left - 1)) (load_of d₀ 0))
-unfolding pops_of
-pop_next d₀ n left d e g h l =
-    let z : suc (n - left) ≡ n - (left - 1) = omega arith in
-    after d₀ d (pops_of (n - left) (load_of d₀ 0)) pop_of (length_pops (n - left) (load_of d₀ 0) (length_load d₀ 0)) e g
-    ∙ ap (λ (i : ℕ). store_of d₀ 0 (pops_of i (load_of d₀ 0))) z
-
--- none is popped yet
-pub pop_none : (ws : List ℕ) (n : ℕ) → ws ≡ store_of ws 0 (pops_of (n - n) (load_of ws 0))
-unfolding pops_of
-pop_none ws n =
-    let z : n - n ≡ 0 = omega arith in sym (ap (λ (i : ℕ). store_of ws 0 (pops_of i (load_of ws 0))) z ∙ store_load ws)
-
--- two cells are one or do not meet
-pub cells-apart : (from to : ℕ)
-    → (cell_words * to ≤ cell_words * from) ⊎ (cell_words * from + cell_words ≤ cell_words * to)
-cells-apart from to = on (ltb from to) refl
-  where
-    on : (b : Bool) → ltb from to ≡ b → (16 * to ≤ 16 * from) ⊎ (16 * from + 16 ≤ 16 * to)
-    on true e = inr (omega (arith, ltb-true from to e))
-    on false e = inl (omega (arith, ltb-false from to e))
-
--- the words after the first and a cell
-pub inside_apart : (k : ℕ) → (cell_words * k ≤ 1) ⊎ (1 + 15 ≤ cell_words * k)
-inside_apart zero = inl (omega arith)
-inside_apart (suc k) = inr (omega arith)

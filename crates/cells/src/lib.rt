@@ -1,10 +1,9 @@
 // Cells of 16 words, one after another, of which the first is the accumulator: moved, pushed and popped in place.
 #![tactic(auto)]
 
-ghost use Rattle.std.specs.Prelude.{◌≡◌, ◌⊎◌, ◌+◌, ◌≤◌, length, drop, get_or};
+ghost use Rattle.std.specs.Prelude.{◌≡◌, ◌≤◌, get_or};
 ghost use Rattle.language.specs.World.{cell_words};
 ghost use Rattle.memory.specs.Words.{zeros};
-ghost use Rattle.std.proofs.Math.Seq.{paste};
 ghost use Rattle.cells.specs.Internal.Cells.{accumulator, load_of, store_of, push_of, pushes_of, pop_of, pops_of};
 ghost use Rattle.cells.specs.Internal.Cells.{cut_of};
 
@@ -18,27 +17,15 @@ pub const ACCUMULATOR: usize = 0;
 pub fn clear(work: &mut [u32], k: usize)
     ensures { work.new ≡ store_of work.old k (zeros cell_words) }
 {
-    if work.len() / CELL <= k {
-        return;
-    }
-    let start = CELL * k;
-    for i in 0..CELL {
-        work[start + i] = 0;
-    }
+    store(work, k, &[0; CELL]);
 }
 
 // Copies one cell to another, zeros where there is no such cell.
 pub fn copy_cell(work: &mut [u32], from: usize, to: usize)
     ensures { work.new ≡ store_of work.old to (load_of work.old from) }
 {
-    if work.len() / CELL <= to {
-        return;
-    }
-    if work.len() / CELL <= from {
-        clear(work, to);
-        return;
-    }
-    slide(work, CELL * to, CELL * from, CELL);
+    let words = cell(work, from);
+    store(work, to, &words);
 }
 
 // The word w in front of the words in the accumulator; the last of these goes.
@@ -46,15 +33,8 @@ pub fn push(work: &mut [u32], w: u32)
     ensures { work.new
         ≡ store_of work.old accumulator (push_of w (load_of work.old accumulator)) }
 {
-    if work.len() / CELL == 0 {
-        return;
-    }
-    let mut held = w;
-    for i in 0..CELL {
-        let old = work[i];
-        work[i] = held;
-        held = old;
-    }
+    let words = pushed(work, &[w]);
+    store(work, ACCUMULATOR, &words);
 }
 
 // Puts words in front of those in the accumulator, of which as many go at the end.
@@ -62,11 +42,8 @@ pub fn push_words(work: &mut [u32], words: &[u32])
     ensures { work.new ≡ store_of work.old accumulator
         (pushes_of words.now (load_of work.old accumulator)) }
 {
-    let mut k = words.len();
-    while 0 < k {
-        k -= 1;
-        push(work, words[k]);
-    }
+    let words = pushed(work, words);
+    store(work, ACCUMULATOR, &words);
 }
 
 // Stores the words of the accumulator without the first in cell k; a 0 comes at the end.
@@ -74,12 +51,8 @@ pub fn pop_to(work: &mut [u32], k: usize)
     ensures { work.new
         ≡ store_of work.old k (pop_of (load_of work.old accumulator)) }
 {
-    if work.len() / CELL <= k {
-        return;
-    }
-    let start = CELL * k;
-    slide(work, start, 1, CELL - 1);
-    work[start + (CELL - 1)] = 0;
+    let words = popped(work, 1);
+    store(work, k, &words);
 }
 
 // Takes the first n words off the accumulator; zeros come at the end.
@@ -87,11 +60,8 @@ pub fn pop_words(work: &mut [u32], n: usize)
     ensures { work.new
         ≡ store_of work.old accumulator (pops_of n (load_of work.old accumulator)) }
 {
-    let mut left = n;
-    while 0 < left {
-        left -= 1;
-        pop_to(work, ACCUMULATOR);
-    }
+    let words = popped(work, n.min(CELL));
+    store(work, ACCUMULATOR, &words);
 }
 
 // Makes the words of the accumulator after the first n zeros.
@@ -99,14 +69,8 @@ pub fn cut(work: &mut [u32], n: usize)
     ensures { work.new
         ≡ store_of work.old accumulator (cut_of n (load_of work.old accumulator)) }
 {
-    if work.len() / CELL == 0 {
-        return;
-    }
-    if CELL <= n {
-        return;
-    }
-    for i in 0..CELL - n {
-        work[n + i] = 0;
+    if n < CELL && CELL <= work.len() {
+        work[n..CELL].fill(0);
     }
 }
 
@@ -114,29 +78,57 @@ pub fn cut(work: &mut [u32], n: usize)
 pub fn load(work: &[u32]) -> [u32; CELL]
     ensures { result ≡ load_of work.now accumulator }
 {
-    let mut words = [0u32; CELL];
-    if work.len() / CELL == 0 {
-        return words;
-    }
-    for i in 0..CELL {
-        words[i] = work[i];
-    }
-    words
+    cell(work, ACCUMULATOR)
 }
 
 // The word at `at`; 0 past the end.
 pub fn word(work: &[u32], at: usize) -> u32
     ensures { result ≡ get_or work.now at 0 }
 {
-    if at < work.len() { work[at] } else { 0 }
+    work.get(at).copied().unwrap_or(0)
 }
 
-// Copies n words, from `from` on, to `to` on; not onto words that are still to be copied.
-fn slide(work: &mut [u32], to: usize, from: usize, n: usize)
-    requires { (to + n ≤ length work.old) × (from + n ≤ length work.old) × ((to ≤ from) ⊎ (from + n ≤ to)) }
-    ensures { work.new ≡ paste work.old to (drop from work.old) n }
+// The words of cell k; zeros where there is no such cell.
+fn cell(work: &[u32], k: usize) -> [u32; CELL]
+    ensures { result ≡ load_of work.now k }
 {
-    for i in 0..n {
-        work[to + i] = work[from + i];
+    let mut words = [0; CELL];
+    if k < work.len() / CELL {
+        let start = CELL * k;
+        words.copy_from_slice(&work[start..start + CELL]);
     }
+    words
+}
+
+// Makes cell k of these words, where there is such a cell.
+fn store(work: &mut [u32], k: usize, words: &[u32; CELL])
+    ensures { work.new ≡ store_of work.old k words.now }
+{
+    if k < work.len() / CELL {
+        let start = CELL * k;
+        work[start..start + CELL].copy_from_slice(words);
+    }
+}
+
+// Words, as many as a cell has of them, and after them the first words of the accumulator.
+fn pushed(work: &[u32], words: &[u32]) -> [u32; CELL]
+    ensures { result ≡ pushes_of words.now (load_of work.now accumulator) }
+{
+    let n = words.len().min(CELL);
+    let old = load(work);
+    let mut all = [0; CELL];
+    all[..n].copy_from_slice(&words[..n]);
+    all[n..].copy_from_slice(&old[..CELL - n]);
+    all
+}
+
+// The words of the accumulator after the first n, and zeros at the end.
+fn popped(work: &[u32], n: usize) -> [u32; CELL]
+    requires { n ≤ cell_words }
+    ensures { result ≡ pops_of n (load_of work.now accumulator) }
+{
+    let old = load(work);
+    let mut rest = [0; CELL];
+    rest[..CELL - n].copy_from_slice(&old[n..]);
+    rest
 }

@@ -1,27 +1,30 @@
 -- Cells of words: what is loaded and stored, and what stays.
-use mathlib.Core.Path.{◌≡◌, refl, sym, ap, ◌∙◌}
-use mathlib.Core.Logic.{⊎_elim}
+use mathlib.Core.Path.{◌≡◌, refl, sym, ap, ap₂, ◌∙◌}
+use mathlib.Core.Logic.{◌⊎◌, inl, inr, ⊎_elim}
 use mathlib.Core.Bool.{Bool, true, false}
 use mathlib.Core.List.{List, [], ◌∷◌, ◌++◌, append_assoc, append-nil}
 use Prim.Native.Nat.{min, ℕ, zero, suc, ◌+◌, ◌*◌, ◌-◌, ◌/◌, ◌≤◌, ◌<◌}
 use native.Mathlib.Omega.{arith}
-use native.Mathlib.Nat.{le-div_iff_mul-le}
+use native.Mathlib.Nat.{le-div_iff_mul-le, zero-add}
 use native.Mathlib.Numerals.{add-one}
 use borrow.Author.Tests.{lt-ltb, le-ltb, ltb-true, ltb-false}
 use lib.Dec.{ltb}
 use lib.ListN.{length, take, drop, get_or, set, length-append, length-take, length-drop, length-replicate}
-use lib.ListN.{take-append-drop, drop_of_length-le}
+use lib.ListN.{take-append-drop, drop_of_length-le, get_or-append}
 use lib.Seq.{length-take-le, take_at, drop_at, drop-append-le, drop-append-add, take-append-le, drop-drop}
-use lib.Seq.{take-append-add, take-take, take_all, paste, paste-suc, get_or-drop}
-use lib.ListN.{replicate-append-replicate}
+use lib.Seq.{take-take, take_all, paste, paste-suc, length_paste_head, get_or-take, get_or-drop}
+use lib.Seq.{get_or-append-add}
 use Rattle.std.proofs.lemmas.Bool.{cases_lt}
+use lib.ListN.{replicate-append-replicate}
+use lib.Seq.{take-append-add}
+use lib.Seq.{get_or_at}
+use borrow.Rule.Slice.PartMut.{put_mid}
+use Rattle.std.proofs.lemmas.Slice.{between_is}
 use Rattle.std.proofs.lemmas.List.{drop-replicate}
 use Rattle.language.specs.World.{cell_words}
 use Rattle.memory.specs.Words.{zeros}
 use Rattle.memory.specs.Memory.{cell_of}
 use Rattle.memory.proofs.CellsLaws.{length-cell_of}
-use Rattle.memory.proofs.RefusalLaws.{part_cell}
-use borrow.Rule.Slice.PartMut.{put_mid}
 use Rattle.cells.specs.Internal.Cells.{cell_count, load_of, store_of, push_of, pushes_of, pop_of, pops_of, cut_of}
 
 -- ---- which cells there are
@@ -207,25 +210,79 @@ pub copy_done : (d₀ : List ℕ) (to : ℕ) (s : List ℕ) (i n : ℕ) (d : Lis
     → d ≡ paste d₀ to s n
 copy_done d₀ to s i n d e h = e ∙ ap (λ (j : ℕ). paste d₀ to s j) h
 
+-- a word that a copy does not reach
+paste_outside : (d : List ℕ) (to : ℕ) (s : List ℕ) (i j : ℕ) → to + i ≤ length d → i ≤ length s
+    → (j < to) ⊎ (to + i ≤ j) → get_or (paste d to s i) j 0 ≡ get_or d j 0
+paste_outside d to s i j h l side =
+    let p : List ℕ = take to d ++ take i s in
+    let n : length p ≡ to + i = length_paste_head d to s i (omega arith) l in
+    ⊎_elim
+    (λ b. get_or-append p (drop (to + i) d) 0 j (omega arith)
+    ∙ get_or-append (take to d) (take i s) 0 j (omega (arith, length-take-le to d (omega arith)))
+    ∙ get_or-take to d j 0 b)
+    (λ a. let e : j ≡ length p + (j - (to + i)) = omega arith in
+    ap (λ (m : ℕ). get_or (p ++ drop (to + i) d) m 0) e ∙ get_or-append-add p (drop (to + i) d) (j - (to + i)) 0
+    ∙ get_or-drop (to + i) d (j - (to + i)) 0 ∙ ap (λ (m : ℕ). get_or d m 0) (omega arith))
+    side
+
+pub slide_turn : (d₀ : List ℕ) (to from n i : ℕ) (d : List ℕ) → d ≡ paste d₀ to (drop from d₀) i → i < n
+    → to + n ≤ length d₀ → from + n ≤ length d₀
+    → (to ≤ from) ⊎ (from + n ≤ to) → set d (to + i) (get_or d (from + i) 0) ≡ paste d₀ to (drop from d₀) (i + 1)
+slide_turn d₀ to from n i d e h l m side =
+    let apart : (from + i < to) ⊎ (to + i ≤ from + i) = ⊎_elim (λ a. inr (omega arith)) (λ b. inl (omega arith)) side in
+    ap (set d (to + i)) (ap (λ (u : List ℕ). get_or u (from + i) 0) e
+    ∙ paste_outside d₀ to (drop from d₀) i (from + i) (omega arith) (omega (arith, length-drop from d₀)) apart)
+    ∙ copy_turn d₀ d₀ to from i d e (omega arith) (omega arith)
+
+-- the words are pushed along, one held
+module _ (d₀ : List ℕ) (w i : ℕ) (d : List ℕ) (e : d ≡ paste d₀ 0 (w ∷ d₀) i) (h : i < length d₀) where
+  pub push_turn : (held : ℕ) → held ≡ get_or (w ∷ d₀) i 0 → set d i held ≡ paste d₀ 0 (w ∷ d₀) (i + 1)
+  push_turn held g =
+      ap (set d i) g ∙ ap (λ (u : List ℕ). set u i (get_or (w ∷ d₀) i 0)) e
+      ∙ ap (λ (j : ℕ). set (paste d₀ 0 (w ∷ d₀) i) j (get_or (w ∷ d₀) i 0)) (sym (zero-add i))
+      ∙ paste-suc d₀ 0 (w ∷ d₀) i 0 (omega arith) (omega arith)
+      ∙ ap (λ (j : ℕ). paste d₀ 0 (w ∷ d₀) j) (sym (add-one i))
+
+  pub push_held : get_or d i 0 ≡ get_or (w ∷ d₀) (i + 1) 0
+  push_held =
+      ap (λ (u : List ℕ). get_or u i 0) e
+      ∙ paste_outside d₀ 0 (w ∷ d₀) i i (omega arith) (omega arith) (inr (omega arith))
+      ∙ ap (λ (j : ℕ). get_or (w ∷ d₀) j 0) (sym (add-one i))
+
 -- ---- what the functions over a cell leave
 
--- the words of cell k, as a part of a slice
-pub loaded : (ws : List ℕ) (k : ℕ) → k < length ws / cell_words
-    → take (cell_words * k + cell_words - cell_words * k) (drop (cell_words * k) ws) ≡ load_of ws k
+pub store_done : (ws : List ℕ) (k : ℕ) (words out : List ℕ) → out ≡ paste ws (cell_words * k) words cell_words
+    → length words ≡ cell_words → k < cell_count ws
+    → out ≡ store_of ws k words
+store_done ws k words out e long h =
+    e ∙ append_assoc (take (16 * k) ws) (take 16 words) (drop (16 * k + 16) ws)
+    ∙ ap (λ (u : List ℕ). take (16 * k) ws ++ (u ++ drop (16 * k + 16) ws)) (take_all 16 words (omega arith))
+    ∙ sym (store_there ws k words h)
+
+-- there is room for cell k
+pub room_left : (ws : List ℕ) (k : ℕ) → k < length ws / cell_words → cell_words * k + cell_words ≤ length ws
 unfolding cell_count
-loaded ws k h = part_cell ws k ∙ sym (load_there ws k h)
+room_left ws k h = room ws k h
 
 pub unloaded : (ws : List ℕ) (k : ℕ) → length ws / cell_words ≤ k → zeros cell_words ≡ load_of ws k
 unfolding cell_count
 unloaded ws k h = sym (load_past ws k h)
 
 -- words stored as the part of a slice that is cell k
-pub stored_part : (ws words : List ℕ) (k : ℕ) → k < length ws / cell_words
-    → put_mid (cell_words * k) (cell_words * k + cell_words - cell_words * k) ws words ≡ store_of ws k words
+pub stored_at : (ws words : List ℕ) (k start : ℕ) → start ≡ cell_words * k → k < length ws / cell_words
+    → put_mid start (start + cell_words - start) ws words ≡ store_of ws k words
 unfolding cell_count
-stored_part ws words k h =
-    let n : cell_words * k + cell_words - cell_words * k ≡ cell_words = omega arith in
-    rw (n, drop-drop cell_words (cell_words * k) ws) (sym (store_there ws k words h))
+stored_at ws words k start e h =
+    let n : start + cell_words - start ≡ cell_words = omega arith in
+    rw (n, drop-drop cell_words start ws, e) (sym (store_there ws k words h))
+
+pub cleared_at : (ws words : List ℕ) (k start : ℕ) → start ≡ cell_words * k → k < length ws / cell_words
+    → words ≡ zeros (length (take (start + cell_words - start) (drop start ws)))
+    → put_mid start (start + cell_words - start) ws words ≡ store_of ws k (zeros cell_words)
+cleared_at ws words k start e h z =
+    let m : length (take (start + cell_words - start) (drop start ws)) ≡ cell_words =
+    omega (arith, length-take (start + cell_words - start) (drop start ws), length-drop start ws, room_left ws k h) in
+    stored_at ws words k start e h ∙ ap (store_of ws k) (z ∙ ap (λ (n : ℕ). zeros n) m)
 
 pub unstored : (ws words : List ℕ) (k : ℕ) → length ws / cell_words ≤ k → ws ≡ store_of ws k words
 unfolding cell_count
@@ -234,6 +291,21 @@ unstored ws words k h = sym (store_past ws k words h)
 -- the first cell
 load_first : (ws : List ℕ) → 0 < cell_count ws → load_of ws 0 ≡ take cell_words ws
 load_first ws h = load_there ws 0 h ∙ cell_first ws
+
+-- the first cell, as an array
+pub first_loaded : (ws : List ℕ) → cell_words ≤ length ws → take cell_words ws ≡ load_of ws 0
+first_loaded ws h = sym (load_first ws (there ws 0 h))
+
+-- a cell copied to another
+pub copied_at : (ws out : List ℕ) (from to first start : ℕ) → first ≡ cell_words * from
+    → from < length ws / cell_words → start ≡ cell_words * to → to < length ws / cell_words
+    → out ≡ paste ws start (drop first ws) cell_words → out ≡ store_of ws to (load_of ws from)
+unfolding cell_count cell_of
+copied_at ws out from to first start f h e l p =
+    store_done ws to (load_of ws from) out
+    (rw (e, f) at p ∙ ap (λ (u : List ℕ). take (16 * to) ws ++ u ++ drop (16 * to + 16) ws)
+    (sym (take-take 16 16 (drop (16 * from) ws) (omega arith)) ∙ ap (take 16) (sym (load_there ws from h))))
+    (length_load ws from) l
 
 -- words in front, all at once
 pub pushes-all : (us ws : List ℕ) → length ws ≡ cell_words → pushes_of us ws ≡ take cell_words (us ++ ws)
@@ -259,26 +331,44 @@ pushes-parts us ws n long e = ⊎_elim few many (cases_lt (length us) cell_words
         let k : n ≡ cell_words = omega (arith, e) in
         rw (k, append-nil (take cell_words us), ← take-append-le cell_words us ws h) (sym (pushes-all us ws long))
 
--- stored in an array, these before those
-pub pushed : (us ws : List ℕ) {old front back : List ℕ} (n : ℕ) → length ws ≡ cell_words
-    → n ≡ min (length us) cell_words → old ≡ ws → front ≡ take n us
-    → back ≡ take (cell_words - n) old
-    → put_mid n (cell_words - n) (front ++ drop n (zeros cell_words)) back ≡ pushes_of us ws
-pushed us ws {front = front} n long e o f b =
+-- put together in an array, which is stored in the first cell
+pub pushed : (us ws : List ℕ) {front back cell : List ℕ} (n : ℕ) → cell_words ≤ length ws
+    → n ≡ min (length us) cell_words → front ≡ take n us → back ≡ take (cell_words - n) ws
+    → cell ≡ put_mid n (cell_words - n) (front ++ drop n (zeros cell_words)) back
+    → cell ++ drop cell_words ws ≡ store_of ws 0 (pushes_of us (load_of ws 0))
+pushed us ws {front = front} {back = back} n h e f b g =
+    let c : 0 < cell_count ws = there ws 0 h in
     let m : length front ≡ n = ap length f ∙ omega (arith, length-take n us, e) in
     let z : n + (cell_words - n) ≡ cell_words = omega (arith, e) in
     let rest : List ℕ = drop n (zeros cell_words) in
-    rw (
-      take_at front rest n m,
-      drop_at front rest n m,
-      drop-drop (cell_words - n) n (zeros cell_words),
-      z,
-      append-nil,
-      b,
-      o,
-      f,
-    )
-    (pushes-parts us ws n long e)
+    let none : drop (cell_words - n) rest ≡ [] =
+    drop-drop (cell_words - n) n (zeros cell_words) ∙ ap (λ (i : ℕ). drop i (zeros cell_words)) z in
+    let l : back ≡ take (cell_words - n) (load_of ws 0) =
+    b ∙ sym (take-take (cell_words - n) cell_words ws (omega arith))
+    ∙ ap (take (cell_words - n)) (sym (load_first ws c)) in
+    let x : front ++ back ≡ pushes_of us (load_of ws 0) =
+    ap₂ (λ (u v : List ℕ). u ++ v) f l ∙ pushes-parts us (load_of ws 0) n (length_load ws 0) e in
+    ap (λ (u : List ℕ). u ++ drop cell_words ws)
+    (g ∙ ap₂ (λ (u v : List ℕ). u ++ (back ++ v)) (take_at front rest n m)
+    (ap (drop (cell_words - n)) (drop_at front rest n m) ∙ none)
+    ∙ ap (λ (u : List ℕ). front ++ u) (append-nil back) ∙ x)
+    ∙ sym (store_there ws 0 (pushes_of us (load_of ws 0)) c)
+
+-- pushed along in the first cell
+pub pushed_along : (w : ℕ) (ws cell : List ℕ) (i : ℕ) → cell_words ≤ length ws
+    → cell ≡ paste (take cell_words ws) 0 (w ∷ take cell_words ws) i → i ≡ cell_words
+    → cell ++ drop cell_words ws ≡ store_of ws 0 (push_of w (load_of ws 0))
+unfolding push_of
+pushed_along w ws cell i h e z =
+    let c : 0 < cell_count ws = there ws 0 h in
+    let d : drop cell_words (take cell_words ws) ≡ [] =
+    drop_of_length-le (take cell_words ws) {i = cell_words} (omega (arith, length-take cell_words ws)) in
+    let s : List ℕ = take cell_words ws in
+    let g : cell ≡ w ∷ take 15 s =
+    e ∙ ap (paste s 0 (w ∷ s)) z ∙ ap (λ (l : List ℕ). (w ∷ take 15 s) ++ l) d ∙ append-nil (w ∷ take 15 s) in
+    ap (λ (l : List ℕ). l ++ drop cell_words ws) g
+    ∙ ap (λ (l : List ℕ). (w ∷ take 15 l) ++ drop cell_words ws) (sym (load_first ws c))
+    ∙ sym (store_there ws 0 (w ∷ take 15 (load_of ws 0)) c)
 
 -- the first n words gone, all at once
 pops-parts : (n : ℕ) (ws : List ℕ) → length ws ≡ cell_words → n ≤ cell_words → drop n ws ++ zeros n ≡ pops_of n ws
@@ -297,20 +387,30 @@ pops-parts (suc n) ws long h =
     )
     (ap (λ (l : List ℕ). drop 1 l ++ (0 ∷ [])) (pops-parts n ws long (omega arith)))
 
--- stored in an array of zeros
-pub popped : (n : ℕ) (ws : List ℕ) {old front : List ℕ} → length ws ≡ cell_words → n ≤ cell_words → old ≡ ws
-    → front ≡ take (cell_words - n) (drop n old)
-    → front ++ drop (cell_words - n) (zeros cell_words) ≡ pops_of n ws
-popped n ws long h o f =
-    let z : cell_words - (cell_words - n) ≡ n = omega arith in
-    rw (
-      drop-replicate {X = ℕ} (cell_words - n) cell_words 0,
-      z,
-      f,
-      o,
-      take_all (cell_words - n) (drop n ws) (omega (arith, length-drop n ws)),
-    )
-    (pops-parts n ws long h)
+-- one word gone, in cell k
+module _ (ws : List ℕ) where
+  pub pop_done : (k : ℕ) (moved out : List ℕ) → moved ≡ paste ws (cell_words * k) (drop 1 ws) 15
+      → out ≡ set moved (cell_words * k + 15) 0 → k < length ws / cell_words
+      → out ≡ store_of ws k (pop_of (load_of ws 0))
+  unfolding pop_of cell_count
+  pop_done k moved out e f h =
+      let p : List ℕ = drop 1 (load_of ws 0) in
+      let s : List ℕ = p ++ (0 ∷ []) in
+      let m : length p ≡ 15 = length-drop 1 (load_of ws 0) ∙ omega (arith, length_load ws 0) in
+      let l : length s ≡ 16 = length-append p (0 ∷ []) ∙ omega arith in
+      let first : take 15 (drop 1 ws) ≡ take 15 s =
+      shifted ws ∙ ap (drop 1) (sym (load_first ws (omega arith))) ∙ sym (take_at p (0 ∷ []) 15 m) in
+      let last : 0 ≡ get_or s 15 0 = sym (get_or_at p 0 [] 0 15 m) in
+      store_done ws k s out
+      (f ∙ ap (λ (u : List ℕ). set u (16 * k + 15) 0)
+      (e ∙ ap (λ (u : List ℕ). take (16 * k) ws ++ u ++ drop (16 * k + 15) ws) first)
+      ∙ ap (set (paste ws (16 * k) s 15) (16 * k + 15)) last
+      ∙ paste-suc ws (16 * k) s 15 0 (omega (arith, room ws k h)) (omega arith))
+      l h
+    where
+      shifted : (l : List ℕ) → take 15 (drop 1 l) ≡ drop 1 (take 16 l)
+      shifted [] = refl
+      shifted (x ∷ xs) = refl
 
 -- no word of a cell is left
 popped_past : (n : ℕ) (ws : List ℕ) → length ws ≡ cell_words → pops_of (cell_words + n) ws ≡ zeros cell_words
@@ -334,6 +434,23 @@ popped-most n ws long = ⊎_elim few many (cases_lt n cell_words)
         let z : n ≡ cell_words + (n - cell_words) = omega arith in
         ap (λ (k : ℕ). pops_of k ws) e ∙ popped_past 0 ws long ∙ sym (popped_past (n - cell_words) ws long)
         ∙ ap (λ (k : ℕ). pops_of k ws) (sym z)
+
+-- put together in an array, which is stored in the first cell
+pub popped : (ws : List ℕ) {front cell : List ℕ} (n most : ℕ) → cell_words ≤ length ws → n ≡ min most cell_words
+    → front ≡ take (cell_words - n) (drop n ws) → cell ≡ front ++ drop (cell_words - n) (zeros cell_words)
+    → cell ++ drop cell_words ws ≡ store_of ws 0 (pops_of most (load_of ws 0))
+popped ws n most h l f g =
+    let c : 0 < cell_count ws = there ws 0 h in
+    let k : cell_words - (cell_words - n) ≡ n = omega (arith, l) in
+    let d : take (cell_words - n) (drop n ws) ≡ drop n (load_of ws 0) =
+    between_is ws n cell_words ∙ ap (drop n) (sym (load_first ws c)) in
+    let z : drop (cell_words - n) (zeros cell_words) ≡ zeros n =
+    drop-replicate {X = ℕ} (cell_words - n) cell_words 0 ∙ ap (λ (i : ℕ). zeros i) k in
+    ap (λ (u : List ℕ). u ++ drop cell_words ws)
+    (g ∙ ap₂ (λ (u v : List ℕ). u ++ v) (f ∙ d) z
+    ∙ pops-parts n (load_of ws 0) (length_load ws 0) (omega (arith, l))
+    ∙ ap (λ (i : ℕ). pops_of i (load_of ws 0)) l ∙ popped-most most (load_of ws 0) (length_load ws 0))
+    ∙ sym (store_there ws 0 (pops_of most (load_of ws 0)) c)
 
 -- nothing is changed where what is loaded is stored
 pub store_load : (ws : List ℕ) → store_of ws 0 (load_of ws 0) ≡ ws

@@ -1,9 +1,10 @@
 // Cells of 16 words, one after another, of which the first is the accumulator: moved, pushed and popped in place.
 #![tactic(auto)]
 
-ghost use Rattle.std.specs.Prelude.{◌≡◌, ◌≤◌, get_or};
+ghost use Rattle.std.specs.Prelude.{◌≡◌, ◌⊎◌, ◌+◌, ◌*◌, ◌/◌, ◌≤◌, ◌<◌, length, drop, get_or, MatchOption};
 ghost use Rattle.language.specs.World.{cell_words};
 ghost use Rattle.memory.specs.Words.{zeros};
+ghost use Rattle.std.proofs.Math.Seq.{paste};
 ghost use Rattle.cells.specs.Internal.Cells.{accumulator, load_of, store_of, push_of, pushes_of, pop_of, pops_of};
 ghost use Rattle.cells.specs.Internal.Cells.{cut_of};
 
@@ -17,15 +18,22 @@ pub const ACCUMULATOR: usize = 0;
 pub fn clear(work: &mut [u32], k: usize)
     ensures { work.new ≡ store_of work.old k (zeros cell_words) }
 {
-    store(work, k, &[0; CELL]);
+    if let Some(start) = start_of(work, k) {
+        work[start..start + CELL].fill(0);
+    }
 }
 
 // Copies one cell to another, zeros where there is no such cell.
 pub fn copy_cell(work: &mut [u32], from: usize, to: usize)
     ensures { work.new ≡ store_of work.old to (load_of work.old from) }
 {
-    let words = cell(work, from);
-    store(work, to, &words);
+    let Some(start) = start_of(work, to) else {
+        return;
+    };
+    match start_of(work, from) {
+        Some(first) => slide(work, start, first, CELL),
+        None => work[start..start + CELL].fill(0),
+    }
 }
 
 // The word w in front of the words in the accumulator; the last of these goes.
@@ -33,8 +41,15 @@ pub fn push(work: &mut [u32], w: u32)
     ensures { work.new
         ≡ store_of work.old accumulator (push_of w (load_of work.old accumulator)) }
 {
-    let words = pushed(work, &[w]);
-    store(work, ACCUMULATOR, &words);
+    if work.len() < CELL {
+        return;
+    }
+    let mut held = w;
+    for word in work[..CELL].iter_mut() {
+        let old = *word;
+        *word = held;
+        held = old;
+    }
 }
 
 // Puts words in front of those in the accumulator, of which as many go at the end.
@@ -42,8 +57,14 @@ pub fn push_words(work: &mut [u32], words: &[u32])
     ensures { work.new ≡ store_of work.old accumulator
         (pushes_of words.now (load_of work.old accumulator)) }
 {
-    let words = pushed(work, words);
-    store(work, ACCUMULATOR, &words);
+    if work.len() < CELL {
+        return;
+    }
+    let n = words.len().min(CELL);
+    let mut pushed = [0; CELL];
+    pushed[..n].copy_from_slice(&words[..n]);
+    pushed[n..].copy_from_slice(&work[..CELL - n]);
+    work[..CELL].copy_from_slice(&pushed);
 }
 
 // Stores the words of the accumulator without the first in cell k; a 0 comes at the end.
@@ -51,8 +72,10 @@ pub fn pop_to(work: &mut [u32], k: usize)
     ensures { work.new
         ≡ store_of work.old k (pop_of (load_of work.old accumulator)) }
 {
-    let words = popped(work, 1);
-    store(work, k, &words);
+    if let Some(start) = start_of(work, k) {
+        slide(work, start, 1, CELL - 1);
+        work[start + (CELL - 1)] = 0;
+    }
 }
 
 // Takes the first n words off the accumulator; zeros come at the end.
@@ -60,8 +83,13 @@ pub fn pop_words(work: &mut [u32], n: usize)
     ensures { work.new
         ≡ store_of work.old accumulator (pops_of n (load_of work.old accumulator)) }
 {
-    let words = popped(work, n.min(CELL));
-    store(work, ACCUMULATOR, &words);
+    if work.len() < CELL {
+        return;
+    }
+    let n = n.min(CELL);
+    let mut rest = [0; CELL];
+    rest[..CELL - n].copy_from_slice(&work[n..CELL]);
+    work[..CELL].copy_from_slice(&rest);
 }
 
 // Makes the words of the accumulator after the first n zeros.
@@ -78,7 +106,10 @@ pub fn cut(work: &mut [u32], n: usize)
 pub fn load(work: &[u32]) -> [u32; CELL]
     ensures { result ≡ load_of work.now accumulator }
 {
-    cell(work, ACCUMULATOR)
+    match work.first_chunk::<CELL>() {
+        Some(words) => *words,
+        None => [0; CELL],
+    }
 }
 
 // The word at `at`; 0 past the end.
@@ -88,47 +119,21 @@ pub fn word(work: &[u32], at: usize) -> u32
     work.get(at).copied().unwrap_or(0)
 }
 
-// The words of cell k; zeros where there is no such cell.
-fn cell(work: &[u32], k: usize) -> [u32; CELL]
-    ensures { result ≡ load_of work.now k }
+// Where cell k starts, if there is such a cell.
+fn start_of(work: &[u32], k: usize) -> Option<usize>
+    ensures { MatchOption result (length work.now / cell_words ≤ k)
+        (λ start. (start ≡ cell_words * k) × (k < length work.now / cell_words)) }
 {
-    let mut words = [0; CELL];
-    if k < work.len() / CELL {
-        let start = CELL * k;
-        words.copy_from_slice(&work[start..start + CELL]);
+    (k < work.len() / CELL).then(|| CELL * k)
+}
+
+// Copies n words, from `from` on, to `to` on; not onto words that are still to be copied. By an index, since no method
+// of a slice copies within it.
+fn slide(work: &mut [u32], to: usize, from: usize, n: usize)
+    requires { (to + n ≤ length work.old) × (from + n ≤ length work.old) × ((to ≤ from) ⊎ (from + n ≤ to)) }
+    ensures { work.new ≡ paste work.old to (drop from work.old) n }
+{
+    for i in 0..n {
+        work[to + i] = work[from + i];
     }
-    words
-}
-
-// Makes cell k of these words, where there is such a cell.
-fn store(work: &mut [u32], k: usize, words: &[u32; CELL])
-    ensures { work.new ≡ store_of work.old k words.now }
-{
-    if k < work.len() / CELL {
-        let start = CELL * k;
-        work[start..start + CELL].copy_from_slice(words);
-    }
-}
-
-// Words, as many as a cell has of them, and after them the first words of the accumulator.
-fn pushed(work: &[u32], words: &[u32]) -> [u32; CELL]
-    ensures { result ≡ pushes_of words.now (load_of work.now accumulator) }
-{
-    let n = words.len().min(CELL);
-    let old = load(work);
-    let mut all = [0; CELL];
-    all[..n].copy_from_slice(&words[..n]);
-    all[n..].copy_from_slice(&old[..CELL - n]);
-    all
-}
-
-// The words of the accumulator after the first n, and zeros at the end.
-fn popped(work: &[u32], n: usize) -> [u32; CELL]
-    requires { n ≤ cell_words }
-    ensures { result ≡ pops_of n (load_of work.now accumulator) }
-{
-    let old = load(work);
-    let mut rest = [0; CELL];
-    rest[..CELL - n].copy_from_slice(&old[n..]);
-    rest
 }

@@ -1,0 +1,11 @@
+use Rattle.std.proofs.Common.{arith}
+use Rattle.cells.proofs.CellLaws.{pushed, unstored}
+use Rattle.cells.proofs.push_words.Goals as goal
+
+pub returns-then-work-lt-CELL : goal.returns-then-work-lt-CELL
+returns-then-work-lt-CELL c = unstored c.args.work.now _ 0 (omega arith)
+
+pub returns : goal.returns
+returns c =
+    pushed c.args.words.now c.args.work.now c.min-n.result c.if-work-lt-CELL.false c.min-n.ensures
+    c.copy_from_slice.ensures.after c.copy_from_slice-2.ensures.after c.copy_from_slice-3.ensures.after

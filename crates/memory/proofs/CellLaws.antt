@@ -2,19 +2,22 @@
 use mathlib.Core.Path.{◌≡◌, refl, sym, ap, ap₂, ◌∙◌}
 use mathlib.Core.Bool.{Bool, true, false}
 use mathlib.Core.List.{List, [], ◌∷◌}
-use Prim.Native.Nat.{ℕ, suc, ◌+◌, ◌-◌, ◌≤◌, ◌<◌}
+use Prim.Native.Nat.{ℕ, zero, suc, ◌-◌}
 use native.Mathlib.Omega.{arith}
 use borrow.Author.Tests.{eq-eqb, eqb-true, ne_eqb}
 use lib.Dec.{eqb}
-use lib.ListN.{length, get_or, drop, length-drop}
+use lib.ListN.{length, drop, length-drop}
 use Rattle.logic.proofs.BooleanLaws.{absurd_false, both_left, both_off, both_on, both_right, both_true}
 use Rattle.language.specs.Syntax.{Head, Value, int, err, inl, inr, pkg, pair, blank, size}
+use Rattle.logic.specs.Booleans.{both}
+use Rattle.std.specs.List.{list_all}
+use lib.ListN.{take}
+use lib.Seq.{take_all}
 use Rattle.language.specs.World.{cell_words}
 use Rattle.memory.specs.Words.{head_words, enc, zeros, cell, read_of, value_of}
 use Rattle.memory.specs.Memory.{proper, equal_words, exactly, holds_by}
 use Rattle.memory.specs.Internal.Post.{Walks}
 use Rattle.memory.proofs.WordLaws.{length-enc, read_exact}
-use Rattle.memory.proofs.PlaceLaws.{here, past}
 
 -- ---- equal words
 
@@ -51,27 +54,24 @@ equal_enc blank xs ys = equal_cons 0 xs ys
 
 -- ---- zeros from a place on
 
-module _ (ws : List ℕ) (i : ℕ) where
+all_zero : (us : List ℕ) → list_all (λ u. eqb u 0) us ≡ equal_words (zeros (length us)) us
+unfolding equal_words both
+all_zero [] = refl
+all_zero (zero ∷ us) = all_zero us
+all_zero (suc u ∷ us) =
+    let a : eqb (suc u) 0 ≡ false = ne_eqb (suc u) 0 (λ e. omega arith) in
+    let b : eqb 0 (suc u) ≡ false = ne_eqb 0 (suc u) (λ e. omega arith) in
+    rw (a, b) refl
+
+module _ (ws : List ℕ) where
   abbrev Cleared : ℕ → Bool
   Cleared j = equal_words (zeros (length ws - j)) (drop j ws)
 
-  pub zero_turn : i < length ws → get_or ws i 0 ≡ 0 → Cleared i ≡ Cleared (i + 1)
-  unfolding equal_words
-  zero_turn h e =
-      let n : length ws - i ≡ suc (length ws - (i + 1)) = omega arith in
-      rw (n, here ws i 0 h e) (equal_cons 0 (zeros (length ws - (i + 1))) (drop (i + 1) ws))
-
-  pub zero_fail : i < length ws → (get_or ws i 0 ≡ 0 → ⊥) → Cleared i ≡ false
-  unfolding equal_words
-  zero_fail h k =
-      let n : length ws - i ≡ suc (length ws - (i + 1)) = omega arith in
-      rw (n, here ws i _ h refl) (sym (both_off _ _ (ne_eqb 0 (get_or ws i 0) (λ e. k (sym e)))))
-
-  pub zero_end : length ws ≤ i → Cleared i ≡ true
-  unfolding equal_words
-  zero_end h =
-      let n : length ws - i ≡ 0 = omega arith in
-      rw (n, past ws i h) refl
+  -- a test of each word, in the part of a slice that starts there
+  pub zero-from : {r : Bool} (i : ℕ) → r ≡ list_all (λ u. eqb u 0) (take (length ws - i) (drop i ws)) → r ≡ Cleared i
+  zero-from i e =
+      e ∙ ap (list_all (λ u. eqb u 0)) (take_all (length ws - i) (drop i ws) (omega (arith, length-drop i ws)))
+      ∙ all_zero (drop i ws) ∙ ap (λ (n : ℕ). equal_words (zeros n) (drop i ws)) (length-drop i ws)
 
 -- ---- a location's words, walked
 
@@ -88,7 +88,7 @@ module _ (labels : ℕ) (test : Value → Bool) (ws : List ℕ) {lab : ℕ} {ok 
   unfolding exactly
   not_typed h k = both_off _ _ k ∙ both_on _ _ (sym proper_is ∙ h)
 
-  rest_zero : length ws ≡ cell_words → ok ≡ true → Cleared ws 0 next ≡ equal_words (cell (value_of ws)) ws
+  rest_zero : length ws ≡ cell_words → ok ≡ true → Cleared ws next ≡ equal_words (cell (value_of ws)) ws
   unfolding cell
   rest_zero n h =
       let v = value_of ws in
@@ -97,7 +97,7 @@ module _ (labels : ℕ) (test : Value → Bool) (ws : List ℕ) {lab : ℕ} {ok 
       omega (arith, length-drop next ws, ap length w.after, ap length x, length-enc v (read_of ws).1) in
       rw (k, w.after) (sym (equal_enc v _ _)) ∙ ap (equal_words (enc v (zeros (cell_words - size v)))) x
 
-  pub is_cell : {r : Bool} → length ws ≡ cell_words → ok ≡ true → test (value_of ws) ≡ true → r ≡ Cleared ws 0 next
+  pub is_cell : {r : Bool} → length ws ≡ cell_words → ok ≡ true → test (value_of ws) ≡ true → r ≡ Cleared ws next
       → r ≡ holds_by labels test ws
   unfolding exactly
   is_cell n h k z = z ∙ rest_zero n h ∙ both_on _ _ k ∙ both_on _ _ (sym proper_is ∙ h)

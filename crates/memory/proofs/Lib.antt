@@ -12,4 +12,3 @@ pub mod MaskLaws
 pub mod ViewLaws
 pub mod ShownLaws
 pub mod Exactness
-pub mod VerdictLaws

@@ -1,6 +1,6 @@
 -- Laws of storing a masked value's words, by the first word.
 use mathlib.Core.Path.{◌≡◌, refl, sym, ap, ◌∙◌}
-use mathlib.Core.Bool.{Bool, true, false, false≢true}
+use mathlib.Core.Bool.{Bool, true, false}
 use mathlib.Core.List.{List, [], ◌∷◌}
 use Prim.Native.Nat.{ℕ, suc, ◌+◌, ◌*◌, ◌-◌, ◌≤◌, ◌<◌}
 use native.Mathlib.Omega.{arith}
@@ -11,8 +11,8 @@ use Rattle.sets.proofs.Walks.{sets_append}
 use Rattle.language.specs.Syntax.{Head, head_size, Value, pkg, pair, blank, size}
 use Rattle.language.specs.View.{seen, mask}
 use Rattle.memory.specs.Words.{Got, head_words, enc, wrap, numbered, head_at, packaged, paired, read_of, value_of}
-use Rattle.memory.specs.declared.masks.Places.{Places}
-use Rattle.memory.specs.Internal.Post.{Walks, Masks, Numeral, num_int, num_err, Opens}
+use Rattle.memory.specs.declared.masks.Cell.{Cell}
+use Rattle.memory.specs.Internal.Post.{Walks, Masks, Numeral, num_int, num_err, Opened}
 use Rattle.memory.proofs.HeadLaws.{head_sets}
 use Rattle.memory.proofs.WordLaws.{size_pos, length-enc, enc-append, Side, to_left, to_right, Other, read_size}
 use Rattle.memory.proofs.PlaceLaws.{here, past, at_past, at_numeral, at_side, at_package, at_pair, at_none}
@@ -116,41 +116,19 @@ module _ (shows : ℕ → Bool) (ws out : List ℕ) (to : ℕ) {left : List ℕ}
     mask_no_number f h s d n = none (rw (past ws at h) refl) (ap (λ (j : ℕ). drop j ws) d ∙ past ws at h) s n
 
     -- the head of a package
-    closed : Masks shows ws (packaged read_of (drop at ws)) out to left next end
-        → Opens shows ws at out to false left next end
-    closed m =
-        record {
-          head = λ e. absurd (false≢true e);
-          content = λ e. absurd (false≢true e);
-          seen = λ e. absurd (false≢true e);
-          whole = λ e. m;
-        }
+    pub package-past : length ws ≤ at → left ≡ set out to 0 → next ≡ at → end ≡ to + 1
+        → Masks shows ws (packaged read_of (drop at ws)) out to left next end
+    package-past h s d n = none (headless ws at h) (ap (λ (j : ℕ). drop j ws) d ∙ past ws at h) s n
 
-    pub opens_past : length ws ≤ at → left ≡ set out to 0 → next ≡ at → end ≡ to + 1
-        → Opens shows ws at out to false left next end
-    opens_past h s d n = closed (none (headless ws at h) (ap (λ (j : ℕ). drop j ws) d ∙ past ws at h) s n)
-
-    pub opens_shown : {mid : List ℕ} → at + head_size ≤ length ws → shows (get_or ws at 0) ≡ true → mid ≡ set out to 5
-        → left ≡ set mid (to + 1) (get_or ws at 0)
-        → Opens shows ws at out to true left next end
-    unfolding head_words head_at
-    opens_shown h s e k =
-        record {
-          head = λ _. k ∙ ap (λ (l : List ℕ). set l (to + 1) (get_or ws at 0)) e;
-          content = λ _. headed ws at h;
-          seen = λ _. s;
-          whole = λ e. absurd (false≢true (sym e));
-        }
-
-    pub opens_hidden : {mid mid' : List ℕ} {labels : ℕ} {ok : Bool} → at + head_size ≤ length ws
+    pub package-hidden : {mid mid' : List ℕ} {labels : ℕ} {ok : Bool} → at + head_size ≤ length ws
         → shows (get_or ws at 0) ≡ false → mid ≡ set out to 5
         → mid' ≡ set mid (to + 1) (get_or ws at 0) → left ≡ set mid' (to + 1 + head_size) 0
         → end ≡ to + 1 + head_size + 1
         → Walks labels ws (at + head_size) (read_of (drop (at + head_size) ws)) ok next
-        → Opens shows ws at out to false left next end
+        → Masks shows ws (packaged read_of (drop at ws)) out to left next end
     unfolding head_words head_at
-    opens_hidden h s e e' k n w =
-        closed (read_as (headed ws at h) (hidden _ (head_at ws at) s (k ∙ rw (e', e) refl) n w.after))
+    package-hidden h s e e' k n w =
+        read_as (headed ws at h) (hidden _ (head_at ws at) s (k ∙ rw (e', e) refl) n w.after)
 
     -- how far both places move: no more is left to read, and for each word that was read two at most are
     -- stored, and one more
@@ -193,18 +171,31 @@ module _ (shows : ℕ → Bool) (ws out : List ℕ) (to : ℕ) {left : List ℕ}
           → Masks shows ws (read_of (drop at ws)) out to left next end
       mask_none o s d n = none (at_none ws at h o) (ap (λ (j : ℕ). drop j ws) d) s n
 
--- a package, whose head's words were stored first
-module _ (shows : ℕ → Bool) (ws out : List ℕ) (to at : ℕ) (h : at < length ws)
-    (k : get_or ws at 0 ≡ 5) {is : Bool} {mid : List ℕ} {n e : ℕ}
-    (o : Opens shows ws (at + 1) out to is mid n e) where
-  pub mask_open : {left : List ℕ} {next end : ℕ} → is ≡ true
-      → Masks shows ws (read_of (drop (at + 1 + head_size) ws)) mid (to + 1 + head_size) left next end
-      → Masks shows ws (read_of (drop at ws)) out to left next end
-  mask_open s m = read_as shows ws out to (at_package ws at h k ∙ o.content s)
-      (shown shows ws out to (head_at ws (at + 1)) (o.seen s) (o.head s) m)
+-- a package that is shown, whose head's words are stored
+pub package-shown : (shows : ℕ → Bool) (ws out : List ℕ) (to at : ℕ) {left mid : List ℕ} {end : ℕ}
+    → at + head_size ≤ length ws → shows (get_or ws at 0) ≡ true → mid ≡ set out to 5
+    → left ≡ set mid (to + 1) (get_or ws at 0) → end ≡ to + 1 + head_size → Opened shows ws at out to left end
+unfolding head_words head_at
+package-shown shows ws out to at h s e k n =
+    record {
+      head = k ∙ ap (λ (l : List ℕ). set l (to + 1) (get_or ws at 0)) e;
+      place = n;
+      content = headed ws at h;
+      seen = s;
+    }
 
-  pub mask-closed : is ≡ false → Masks shows ws (read_of (drop at ws)) out to mid n e
-  mask-closed s = read_as shows ws out to (at_package ws at h k) (o.whole s)
+-- a package, whose head's words were stored first
+module _ (shows : ℕ → Bool) (ws out : List ℕ) (to at : ℕ) (h : at < length ws) (k : get_or ws at 0 ≡ 5)
+    {mid : List ℕ} {e : ℕ} where
+  pub mask_open : {left : List ℕ} {next end : ℕ} → Opened shows ws (at + 1) out to mid e
+      → Masks shows ws (read_of (drop (at + 1 + head_size) ws)) mid e left next end
+      → Masks shows ws (read_of (drop at ws)) out to left next end
+  mask_open o m = read_as shows ws out to (at_package ws at h k ∙ o.content)
+      (shown shows ws out to (head_at ws (at + 1)) o.seen o.head (rw o.place at m))
+
+  pub mask-closed : {n : ℕ} → Masks shows ws (packaged read_of (drop (at + 1) ws)) out to mid n e
+      → Masks shows ws (read_of (drop at ws)) out to mid n e
+  mask-closed m = read_as shows ws out to (at_package ws at h k) m
 
 -- ---- the last part of a value
 
@@ -217,27 +208,36 @@ pub record Last (shows : ℕ → Bool) (ws : List ℕ) (at : ℕ) (out : List �
   pub whole : (left : List ℕ) (i j : ℕ) → Masks shows ws (read_of (drop next ws)) mid end left i j
       → Masks shows ws (read_of (drop at ws)) out to left i j
 
-pub last_as : {shows : ℕ → Bool} {ws out mid mid' : List ℕ} {at to next end : ℕ} {p p' : Places} → mid ≡ mid' → p ≡ p'
-    → p'.next ≡ next → p'.end ≡ end
-    → Last shows ws at out to mid' next end → Last shows ws at out to mid p.next p.end
-last_as s e n z l = rw (s, e, n, z) l
+pub last_as : {shows : ℕ → Bool} {ws out : List ℕ} {at to : ℕ} {cell cell' : Cell} {next next' : ℕ} → cell ≡ cell'
+    → next ≡ next' → Last shows ws at out to cell'.words next' cell'.end
+    → Last shows ws at out to cell.words next cell.end
+last_as s e l = rw (s, e) l
 
-module _ (shows : ℕ → Bool) (ws out : List ℕ) (to at : ℕ) (h : at < length ws) {mid : List ℕ} where
-  pub last_side : {w : ℕ} {f : Value → Value} → Side w f → get_or ws at 0 ≡ w → mid ≡ set out to w
-      → Last shows ws at out to mid (at + 1) (to + 1)
-  last_side k e s =
-      record { later = omega arith; room = omega arith; whole = λ left i j m. mask-side shows ws out to at h k e s m }
+module _ (shows : ℕ → Bool) (ws out : List ℕ) (to at : ℕ) (h : at < length ws) {mid : List ℕ} {end : ℕ} where
+  pub last_side : {w : ℕ} {f : Value → Value} → Side w f → get_or ws at 0 ≡ w → mid ≡ set out to w → end ≡ to + 1
+      → Last shows ws at out to mid (at + 1) end
+  last_side k e s n =
+      record {
+        later = omega arith;
+        room = omega arith;
+        whole = λ left i j m. mask-side shows ws out to at h k e s (rw n at m);
+      }
 
   -- the content of a package that is shown
-  pub last_content : {is : Bool} {n e : ℕ} → get_or ws at 0 ≡ 5 → Opens shows ws (at + 1) out to is mid n e → is ≡ true
-      → Last shows ws at out to mid (at + 1 + head_size) (to + 1 + head_size)
-  last_content k o s =
-      record { later = omega arith; room = omega arith; whole = λ left i j m. mask_open shows ws out to at h k o s m }
+  pub last_content : get_or ws at 0 ≡ 5 → Opened shows ws (at + 1) out to mid end
+      → Last shows ws at out to mid (at + 1 + head_size) end
+  last_content k o =
+      record {
+        later = omega arith;
+        room = omega (arith, o.place);
+        whole = λ left i j m. mask_open shows ws out to at h k o m;
+      }
 
   -- the second part of a pair
-  pub last_second : {half : List ℕ} {next end : ℕ} → get_or ws at 0 ≡ 6 → half ≡ set out to 6
-      → Masks shows ws (read_of (drop (at + 1) ws)) half (to + 1) mid next end → Last shows ws at out to mid next end
-  last_second {half} k s m =
+  pub last_second : {half : List ℕ} {next start : ℕ} → get_or ws at 0 ≡ 6 → half ≡ set out to 6 → start ≡ to + 1
+      → Masks shows ws (read_of (drop (at + 1) ws)) half start mid next end → Last shows ws at out to mid next end
+  last_second {half = half} k s e m' =
+      let m = rw e at m' in
       record {
         later = omega (arith, reads_on shows ws half (to + 1) (at + 1) m);
         room = omega (arith, stores-on shows ws half (to + 1) (at + 1) m);

@@ -1,5 +1,5 @@
 -- Laws of refusals 7 and 8, by the table.
-use mathlib.Core.Path.{◌≡◌, refl, ◌∙◌}
+use mathlib.Core.Path.{◌≡◌, refl, sym, ◌∙◌}
 use mathlib.Core.Bool.{Bool, true, false}
 use mathlib.Core.List.{List}
 use Prim.Native.Nat.{ℕ, ◌+◌, ◌*◌, ◌-◌, ◌<◌}
@@ -22,16 +22,14 @@ part_cell ws x =
     rw n refl
 
 module _ (t ws : List ℕ) where
-  pub location_holds : (x : ℕ) {ty : ℕ} {r : Bool} → ty ≡ type_in t x
-      → r ≡ holds_by (labels_in t) (λ v. has_no t v ty)
-      (take (cell_words * x + cell_words - cell_words * x) (drop (cell_words * x) ws))
-      → r ≡ holds_by (labels_in t) (as_declared_in t x) (cell_of ws x)
-  unfolding as_declared_in
-  location_holds x e h = h ∙ rw (part_cell ws x, e) refl
-
   -- location x holds a value as declared
   abbrev pub Held : ℕ → Bool
   Held x = holds_by (labels_in t) (as_declared_in t x) (cell_of ws x)
+
+  pub held : (x : ℕ) {ty : ℕ} {us : List ℕ} {r b : Bool} → us ≡ cell_of ws x → ty ≡ type_in t x
+      → r ≡ holds_by (labels_in t) (λ v. has_no t v ty) us → r ≡ b → Held x ≡ b
+  unfolding as_declared_in
+  held x e k h z = sym (h ∙ rw (e, k) refl) ∙ z
 
   pub refused_7 : (length ws ≡ cell_words * locations_in t → ⊥) → 7 ≡ refusal_in t ws
   unfolding refusal_in refusal_by slice_refusal

@@ -11,6 +11,10 @@ use Rattle.language.specs.Syntax.{Value, size}
 use Rattle.language.specs.World.{cell_words}
 use Rattle.language.specs.View.{seen, mask}
 use Rattle.sheet.specs.Internal.Tables.{labels_in, locations_in, reads_in}
+use Rattle.std.specs.Prelude.{Err}
+use Rattle.memory.specs.declared.MemoryError.{MemoryError}
+use Rattle.memory.specs.declared.MemoryError.TheVariants.{OtherSize, IllFormed}
+use Rattle.memory.specs.Verdict.{memory_number}
 use Rattle.memory.specs.Words.{value_of}
 use Rattle.memory.specs.Memory.{cell_of, memory_of, cells, slice_refusal}
 use Rattle.memory.specs.View.{view_cell, view_by}
@@ -85,3 +89,9 @@ module _ (t ws : List ℕ) where
     pub left_shown : {us : List ℕ} → r ≡ 0 → us ≡ view_in t g ws → us ≡ view_leaves_in t g ws vs
     unfolding view_leaves_in leaves
     left_shown h k = k ∙ simp (eq-eqb (view_refusal_in t ws (length vs)) 0 (sym e ∙ h))
+
+-- the number of a refusal isn't 0
+pub refusal-number : (e : MemoryError) → memory_number (Err e) ≡ 0 → ⊥
+unfolding memory_number
+refusal-number OtherSize h = omega arith
+refusal-number IllFormed h = omega arith

@@ -2,22 +2,20 @@
 use mathlib.Core.Path.{◌≡◌, refl, sym, ap, ◌∙◌}
 use mathlib.Core.Bool.{Bool, true, false}
 use mathlib.Core.List.{List, [], ◌++◌}
-use Prim.Native.Nat.{ℕ, zero, suc, ◌+◌, ◌*◌, ◌-◌, ◌≤◌}
+use Prim.Native.Nat.{ℕ, zero, suc, ◌+◌, ◌-◌, ◌≤◌}
 use native.Mathlib.Omega.{arith}
 use native.Mathlib.Nat.{zero-add, add-zero}
-use lib.ListN.{length, take, drop}
+use lib.ListN.{length, drop}
 use lib.Seq.{sets, sets-eq}
 use Rattle.language.specs.Syntax.{Value, int, err, inl, inr, pkg, pair, blank, size}
 use Rattle.language.specs.World.{cell_words}
 use Rattle.language.specs.View.{seen, mask}
 use Rattle.sheet.specs.Internal.Tables.{home_in, reads_in}
 use Rattle.memory.specs.Words.{enc, zeros, cell, read_of, value_of}
-use Rattle.memory.specs.Memory.{cell_of}
 use Rattle.memory.specs.View.{view_cell}
 use Rattle.memory.specs.Internal.InTable.{sees_in}
 use Rattle.memory.specs.Internal.Post.{Masks}
 use Rattle.memory.proofs.WordLaws.{size_pos, length-enc, enc-append}
-use Rattle.memory.proofs.RefusalLaws.{part_cell}
 
 -- ---- masks
 
@@ -64,7 +62,7 @@ stored-cell v h =
 
 -- ---- one location
 
-module _ (t ws : List ℕ) (g x : ℕ) {home : ℕ} {r : Bool} (e : home ≡ home_in t x) (k : r ≡ reads_in t g home) where
+module _ (t : List ℕ) (g x : ℕ) {home : ℕ} {r : Bool} (e : home ≡ home_in t x) (k : r ≡ reads_in t g home) where
   sees_is : sees_in t g x ≡ r
   unfolding sees_in
   sees_is = rw (← e) (sym k)
@@ -73,14 +71,11 @@ module _ (t ws : List ℕ) (g x : ℕ) {home : ℕ} {r : Bool} (e : home ≡ hom
   unfolding view_cell
   hidden_view v h = rw (sees_is, h) refl
 
-  pub shown-view : {left : List ℕ} {next end : ℕ} → r ≡ true
-      → Masks (reads_in t g) (take (cell_words * x + cell_words - cell_words * x) (drop (cell_words * x) ws))
-      (read_of (take (cell_words * x + cell_words - cell_words * x) (drop (cell_words * x) ws)))
-      (zeros cell_words) 0 left next end
-      → size (value_of (cell_of ws x)) ≤ cell_words
-      → left ≡ view_cell (sees_in t g x) (mask (reads_in t g) (value_of (cell_of ws x)))
+  pub shown-view : {ws left : List ℕ} {next end : ℕ} → r ≡ true
+      → Masks (reads_in t g) ws (read_of ws) (zeros cell_words) 0 left next end
+      → size (value_of ws) ≤ cell_words
+      → left ≡ view_cell (sees_in t g x) (mask (reads_in t g) (value_of ws))
   unfolding view_cell
-  shown-view h m s =
-      let q = mask_size (reads_in t g) (value_of (cell_of ws x)) in
-      m.stored
-      ∙ rw (part_cell ws x, sees_is, h) (stored-cell (mask (reads_in t g) (value_of (cell_of ws x))) (omega arith))
+  shown-view {ws = ws} h m s =
+      let q = mask_size (reads_in t g) (value_of ws) in
+      m.stored ∙ rw (sees_is, h) (stored-cell (mask (reads_in t g) (value_of ws)) (omega arith))

@@ -5,7 +5,6 @@ mod values; // values.rt: the words of a value
 mod masks; // masks.rt: what a group is shown of a value
 
 ghost use Rattle.std.specs.Prelude.{◌≡◌, ◌+◌, ◌*◌, ◌≤◌, eqb, ltb, length, drop};
-ghost use Rattle.std.proofs.Math.Seq.{paste};
 ghost use Rattle.logic.specs.Booleans.{both};
 ghost use Rattle.language.specs.Syntax.{size};
 ghost use Rattle.language.specs.World.{cell_words};
@@ -17,16 +16,19 @@ ghost use Rattle.memory.specs.Internal.Post.{end_of};
 ghost use Rattle.memory.specs.Memory.{holds_by, cell_of};
 ghost use Rattle.memory.specs.View.{view_cell};
 ghost use Rattle.memory.specs.Verdict.{memory_number};
-ghost use Rattle.memory.specs.Internal.InTable.{as_declared_in, refusal_in, sees_in, view_in, view_refusal_in};
+ghost use Rattle.memory.specs.Internal.InTable.{refusal_in, sees_in, view_in, view_refusal_in};
 ghost use Rattle.memory.specs.Internal.InTable.{view_leaves_in};
 
 use sets::Set;
 use sheet::Word;
+use std::error::Error;
+use std::fmt;
 
 // The words of a location.
 pub const CELL: usize = 16;
 
-// The first word of a value.
+// The first word of a value: a number and no enum, since it is a word of a memory in the C interface, and code matches
+// on it.
 pub const INT: u32 = 1;
 
 pub const ERROR: u32 = 2;
@@ -47,21 +49,29 @@ pub const LABEL: usize = 1;
 
 pub const CONTENT: usize = LABEL + HEAD;
 
-// What is found of the slices that are lent: a memory that is well-formed, in slices of their size; a slice that isn't
-// 16 words for each location; or a memory that isn't well-formed.
-#[derive(Clone, Copy)]
-pub enum Verdict {
-    Accepted,
+// Why the slices that are lent are refused: one isn't 16 words for each location, or the memory isn't well-formed.
+#[derive(Clone, Copy, Debug, PartialEq, Eq)]
+pub enum MemoryError {
     OtherSize,
     IllFormed,
 }
+
+impl fmt::Display for MemoryError {
+    fn fmt<W: fmt::Write>(&self, f: &mut fmt::Formatter<W>) -> fmt::Result {
+        match self {
+            MemoryError::OtherSize => write!(f, "a slice isn't 16 words for each location"),
+            MemoryError::IllFormed => write!(f, "the memory isn't well-formed"),
+        }
+    }
+}
+
+impl Error for MemoryError {}
 
 // The place after the value whose words start at `at`.
 pub fn value_end(words: &[u32], at: usize) -> usize
     ensures { result ≡ end_of words.now at }
 {
-    let walked = values::value_at(0, words, at);
-    walked.next
+    values::value_at(0, words, at).next
 }
 
 // Whether the value whose words start at `at` has a type. What a package holds is not looked at.
@@ -72,47 +82,43 @@ pub fn has_type(table: &[Word], words: &[u32], at: usize, ty: u32) -> bool
         return false;
     }
     match words[at] {
-        INT => one_more(words, at, ty, sheet::INT),
-        ERROR => one_more(words, at, ty, sheet::ERROR),
+        INT => one_more(words, at + 1, ty, sheet::INT),
+        ERROR => one_more(words, at + 1, ty, sheet::ERROR),
         LEFT => {
-            if !sheet::is_sum(table, ty) {
-                return false;
-            }
-            has_type(table, words, at + 1, sheet::left_part(table, ty))
+            sheet::is_sum(table, ty) && has_type(table, words, at + 1, sheet::left_part(table, ty))
         }
         RIGHT => {
-            if !sheet::is_sum(table, ty) {
-                return false;
-            }
-            has_type(table, words, at + 1, sheet::right_part(table, ty))
+            sheet::is_sum(table, ty) && has_type(table, words, at + 1, sheet::right_part(table, ty))
         }
-        PACKAGE => one_more(words, at, ty, sheet::PKG),
+        PACKAGE => one_more(words, at + 1, ty, sheet::PKG),
         PAIR => {
-            if !sheet::is_pair(table, ty) {
-                return false;
-            }
-            if !has_type(table, words, at + 1, sheet::left_part(table, ty)) {
-                return false;
-            }
-            let first = values::value_at(0, words, at + 1);
-            has_type(table, words, first.next, sheet::right_part(table, ty))
+            sheet::is_pair(table, ty)
+                && has_type(table, words, at + 1, sheet::left_part(table, ty))
+                && has_type(
+                    table,
+                    words,
+                    values::value_at(0, words, at + 1).next,
+                    sheet::right_part(table, ty),
+                )
         }
         _ => false,
     }
 }
 
-// Whether there is a word after `at`, and the type is the wanted one.
+// Whether there is a word at `at`, and the type is the wanted one.
 fn one_more(words: &[u32], at: usize, ty: u32, wanted: u32) -> bool
-    ensures { result ≡ both (ltb (at + 1) (length words.now)) (eqb ty wanted) }
+    ensures { result ≡ both (ltb at (length words.now)) (eqb ty wanted) }
 {
-    let n = words.len();
-    if n <= at {
-        return false;
-    }
-    if n - at <= 1 {
-        return false;
-    }
-    ty == wanted
+    at < words.len() && ty == wanted
+}
+
+// The words of location x.
+fn location(memory: &[u32], x: u32) -> &[u32]
+    requires { cell_words * x + cell_words ≤ length memory.now }
+    ensures { result.now ≡ cell_of memory.now x }
+{
+    let start = CELL * (x as usize);
+    &memory[start..start + CELL]
 }
 
 // Whether the words of a location are exactly those of a proper value of a type.
@@ -122,70 +128,39 @@ fn holds(table: &[Word], words: &[u32], ty: u32) -> bool
         words.now }
 {
     let walked = values::value_at(sheet::labels(table), words, 0);
-    if !walked.ok {
-        return false;
-    }
-    if !has_type(table, words, 0, ty) {
-        return false;
-    }
-    let next = walked.next;
-    values::zero_from(words, next)
-}
-
-// Whether location x of a memory holds a value as declared.
-fn location_holds(table: &[Word], memory: &[u32], x: u32) -> bool
-    requires { cell_words * x + cell_words ≤ length memory.now }
-    ensures { result ≡ holds_by (labels_in table.now) (as_declared_in table.now x)
-        (cell_of memory.now x) }
-{
-    let start = CELL * (x as usize);
-    let end = start + CELL;
-    holds(table, &memory[start..end], sheet::location_type(table, x))
+    walked.ok && has_type(table, words, 0, ty) && words[walked.next..].iter().all(|word| *word == 0)
 }
 
 // Whether a memory has its size and is well-formed.
-pub fn judge(table: &[Word], memory: &[u32]) -> Verdict
+pub fn judge(table: &[Word], memory: &[u32]) -> Result<(), MemoryError>
     ensures { memory_number result ≡ refusal_in table.now memory.now }
 {
     let n = sheet::locations(table);
     if memory.len() != CELL * (n as usize) {
-        return Verdict::OtherSize;
+        return Err(MemoryError::OtherSize);
     }
-    let mut x = 0;
-    while x < n {
-        if !location_holds(table, memory, x) {
-            return Verdict::IllFormed;
+    for x in 0..n {
+        if !holds(table, location(memory, x), sheet::location_type(table, x)) {
+            return Err(MemoryError::IllFormed);
         }
-        x += 1;
     }
-    Verdict::Accepted
+    Ok(())
 }
 
-// What a group is shown of location x.
-fn location_view(table: &[Word], memory: &[u32], group: Set, x: u32) -> [u32; CELL]
-    requires { cell_words * x + cell_words ≤ length memory.now }
-    ensures { size (value_of (cell_of memory.now x)) ≤ cell_words
+// What a group is shown of location x, which has these words.
+fn location_view(table: &[Word], group: Set, x: u32, words: &[u32]) -> [u32; CELL]
+    ensures { size (value_of words.now) ≤ cell_words
         → result ≡ view_cell (sees_in table.now group x)
-        (mask (reads_in table.now group) (value_of (cell_of memory.now x))) }
+        (mask (reads_in table.now group) (value_of words.now)) }
 {
-    let mut out = [0u32; CELL];
+    let mut out = masks::Cell {
+        words: [0; CELL],
+        end: 0,
+    };
     if sheet::reads(table, group, sheet::location_label(table, x)) {
-        let start = CELL * (x as usize);
-        let end = start + CELL;
-        masks::mask_at(table, group, &memory[start..end], 0, &mut out, 0);
+        masks::mask_at(table, group, words, 0, &mut out);
     }
-    out
-}
-
-// Stores the words of location x.
-fn put_cell(shown: &mut [u32], x: u32, cell: [u32; CELL])
-    requires { cell_words * x + cell_words ≤ length shown.old }
-    ensures { shown.new ≡ paste shown.old (cell_words * x) cell cell_words }
-{
-    let start = CELL * (x as usize);
-    for i in 0..CELL {
-        shown[start + i] = cell[i];
-    }
+    out.words
 }
 
 // Stores what a group is shown of a well-formed memory.
@@ -194,29 +169,29 @@ fn view_each(table: &[Word], memory: &[u32], group: Set, shown: &mut [u32])
         × (length shown.old ≡ cell_words * locations_in table.now) }
     ensures { shown.new ≡ view_in table.now group memory.now }
 {
-    let n = sheet::locations(table);
-    let mut x = 0;
-    while x < n {
-        let cell = location_view(table, memory, group, x);
-        put_cell(shown, x, cell);
-        x += 1;
+    for x in 0..sheet::locations(table) {
+        let cell = location_view(table, group, x, location(memory, x));
+        let start = CELL * (x as usize);
+        shown[start..start + CELL].copy_from_slice(&cell);
     }
 }
 
 // Stores what a group is shown of a memory, if both slices have their size and the memory is well-formed; else nothing.
-pub fn view(table: &[Word], memory: &[u32], group: Set, shown: &mut [u32]) -> Verdict
+pub fn view(
+    table: &[Word],
+    memory: &[u32],
+    group: Set,
+    shown: &mut [u32],
+) -> Result<(), MemoryError>
     ensures result_value { memory_number result
         ≡ view_refusal_in table.now memory.now (length shown.old) }
     ensures shown_after { shown.new
         ≡ view_leaves_in table.now group memory.now shown.old }
 {
     if shown.len() != CELL * (sheet::locations(table) as usize) {
-        return Verdict::OtherSize;
+        return Err(MemoryError::OtherSize);
     }
-    let verdict = judge(table, memory);
-    let Verdict::Accepted = verdict else {
-        return verdict;
-    };
+    judge(table, memory)?;
     view_each(table, memory, group, shown);
-    Verdict::Accepted
+    Ok(())
 }

@@ -1,163 +1,115 @@
 // What a group is shown of a value, as words.
-ghost use Rattle.std.specs.Prelude.{◌≡◌, Bool, ℕ, ◌+◌, ◌*◌, ◌-◌, ◌^◌, ◌≤◌, ◌<◌, length, get_or, drop, set};
+ghost use Rattle.std.specs.Prelude.{◌≡◌, Bool, ℕ, ◌+◌, ◌*◌, ◌-◌, ◌^◌, ◌≤◌, ◌<◌, length, get_or, drop, set, MatchOption};
 ghost use Rattle.language.specs.Syntax.{Value};
 ghost use Rattle.sheet.specs.Internal.Tables.{reads_in};
-ghost use Rattle.memory.specs.Words.{numbered, read_of};
-ghost use Rattle.memory.specs.Internal.Post.{Masks, Numeral, Opens};
+ghost use Rattle.memory.specs.Words.{numbered, packaged, read_of};
+ghost use Rattle.memory.specs.Internal.Post.{Masks, Numeral, Opened};
 
-use crate::values;
+use crate::{CELL, values};
 use sets::Set;
 use sheet::Word;
 
-// The places after a value, or before its last part: in the words that are read, and in those that are written.
+// The words of a location as they are written, one after the other, and how many were: those past the last place are
+// counted, and nothing else.
 #[derive(Clone, Copy)]
-pub(crate) struct Places {
-    pub next: usize,
+pub(crate) struct Cell {
+    pub words: [u32; CELL],
     pub end: usize,
 }
 
-// Stores what a group is shown of the value whose words start at `at`, from `to` on. A part before which the words
-// end is one zero word, so up to two words are stored for each that is read.
-pub(crate) fn mask_at(
-    table: &[Word],
-    group: Set,
-    words: &[u32],
-    at: usize,
-    out: &mut [u32],
-    to: usize,
-) -> Places
-    requires { to + 2 * (length words.now - at) ≤ 2 * length words.now }
+impl Cell {
+    // The next word.
+    fn push(&mut self, word: u32)
+        requires { self.old.end < 2 ^ 63 }
+        ensures words { self.new.words ≡ set self.old.words self.old.end word }
+        ensures end { self.new.end ≡ self.old.end + 1 }
+    {
+        if self.end < CELL {
+            self.words[self.end] = word;
+        }
+        self.end += 1;
+    }
+}
+
+// Writes what a group is shown of the value whose words start at `at`, and tells the place after it. A part before
+// which the words end is one zero word, so up to two words are written for each that is read.
+pub(crate) fn mask_at(table: &[Word], group: Set, words: &[u32], at: usize, out: &mut Cell) -> usize
+    requires { out.old.end + 2 * (length words.now - at) ≤ 2 * length words.now }
     ensures { Masks (reads_in table.now group) words.now
         (read_of (drop at words.now))
-        out.old to out.new result.next result.end }
+        out.old.words out.old.end out.new.words result out.new.end }
 {
     if words.len() <= at {
-        return mask_blank(at, out, to);
+        out.push(0);
+        return at;
     }
-    // One call for the part that the other values end with, since each local takes its own place in every frame.
+    // One call for the part that the other values end with, since each call takes its own place in every frame.
     let last = match words[at] {
-        crate::INT => return mask_number(words, at, out, to),
-        crate::ERROR => return mask_number(words, at, out, to),
-        crate::LEFT => mask_word(at + 1, out, to, crate::LEFT),
-        crate::RIGHT => mask_word(at + 1, out, to, crate::RIGHT),
+        crate::INT => return mask_number(words, at, out),
+        crate::ERROR => return mask_number(words, at, out),
+        crate::LEFT => {
+            out.push(crate::LEFT);
+            at + 1
+        }
+        crate::RIGHT => {
+            out.push(crate::RIGHT);
+            at + 1
+        }
         crate::PACKAGE => {
             let label = at + crate::LABEL;
-            let second = to + 1;
-            let head = mask_label(table, group, words, label, out, to);
-            if !head.shown {
-                return Places {
-                    next: head.next,
-                    end: head.end,
-                };
+            if let Some(end) = mask_label(table, group, words, label, out) {
+                return end;
             }
-            Places {
-                next: label + crate::HEAD,
-                end: second + crate::HEAD,
-            }
+            label + crate::HEAD
         }
         crate::PAIR => {
-            store(out, to, crate::PAIR);
-            mask_at(table, group, words, at + 1, out, to + 1)
+            out.push(crate::PAIR);
+            mask_at(table, group, words, at + 1, out)
         }
-        _ => return mask_blank(at + 1, out, to),
+        _ => {
+            out.push(0);
+            return at + 1;
+        }
     };
-    mask_at(table, group, words, last.next, out, last.end)
-}
-
-// One word. What follows is read from `next` on.
-fn mask_word(next: usize, out: &mut [u32], to: usize, word: u32) -> Places
-    requires { to < 2 ^ 63 }
-    ensures out_after { out.new ≡ set out.old to word }
-    ensures next_value { (result.next ≡ next) × (result.end ≡ to + 1) }
-{
-    store(out, to, word);
-    Places { next, end: to + 1 }
-}
-
-// One zero word.
-fn mask_blank(next: usize, out: &mut [u32], to: usize) -> Places
-    requires { to < 2 ^ 63 }
-    ensures out_after { out.new ≡ set out.old to 0 }
-    ensures next_value { (result.next ≡ next) × (result.end ≡ to + 1) }
-{
-    mask_word(next, out, to, 0)
+    mask_at(table, group, words, last, out)
 }
 
 // An integer or an error, whose first word stands at `at`.
-fn mask_number(words: &[u32], at: usize, out: &mut [u32], to: usize) -> Places
-    requires { (to ≤ 2 * length words.now) × (at < length words.now) }
+fn mask_number(words: &[u32], at: usize, out: &mut Cell) -> usize
+    requires { (out.old.end ≤ 2 * length words.now) × (at < length words.now) }
     ensures { (shows : ℕ → Bool) (f : ℕ → Value) → Numeral (get_or words.now at 0) f
-        → Masks shows words.now (numbered f (drop (at + 1) words.now)) out.old to
-        out.new result.next result.end }
+        → Masks shows words.now (numbered f (drop (at + 1) words.now))
+        out.old.words out.old.end out.new.words result out.new.end }
 {
     let number = at + 1;
     if words.len() <= number {
-        return mask_blank(number, out, to);
+        out.push(0);
+        return number;
     }
-    let second = to + 1;
-    store(out, to, words[at]);
-    store(out, second, words[number]);
-    Places {
-        next: number + 1,
-        end: second + 1,
-    }
+    out.push(words[at]);
+    out.push(words[number]);
+    number + 1
 }
 
-// Whether a package's content is shown, and where the package ends if it isn't.
-#[derive(Clone, Copy)]
-struct Head {
-    shown: bool,
-    next: usize,
-    end: usize,
-}
-
-// Stores a package's first word and its head, which stands at `at`, and one zero word where its content is hidden.
-fn mask_label(
-    table: &[Word],
-    group: Set,
-    words: &[u32],
-    at: usize,
-    out: &mut [u32],
-    to: usize,
-) -> Head
-    requires { (to ≤ 2 * length words.now) × (at ≤ length words.now) }
-    ensures { Opens (reads_in table.now group) words.now at out.old to result.shown
-        out.new result.next result.end }
+// Writes a package's first word and its head, which stands at `at`. The content is to follow, or it is hidden: then it
+// is one zero word, and the place after the package is told.
+fn mask_label(table: &[Word], group: Set, words: &[u32], at: usize, out: &mut Cell) -> Option<usize>
+    requires { (out.old.end ≤ 2 * length words.now) × (at ≤ length words.now) }
+    ensures { MatchOption result
+        (Opened (reads_in table.now group) words.now at out.old.words out.old.end out.new.words out.new.end)
+        (λ next. Masks (reads_in table.now group) words.now (packaged read_of (drop at words.now))
+        out.old.words out.old.end out.new.words next out.new.end) }
 {
     if words.len() <= at {
-        let none = mask_blank(at, out, to);
-        return Head {
-            shown: false,
-            next: none.next,
-            end: none.end,
-        };
+        out.push(0);
+        return Some(at);
     }
-    store(out, to, crate::PACKAGE);
-    let second = to + 1;
-    store(out, second, words[at]);
+    out.push(crate::PACKAGE);
+    out.push(words[at]);
     if sheet::reads(table, group, words[at]) {
-        return Head {
-            shown: true,
-            next: at,
-            end: to,
-        };
+        return None;
     }
+    out.push(0);
     let content = values::value_at(sheet::labels(table), words, at + crate::HEAD);
-    let next = content.next;
-    let third = second + crate::HEAD;
-    store(out, third, 0);
-    Head {
-        shown: false,
-        next,
-        end: third + 1,
-    }
-}
-
-// Stores a word at a place, if there is one.
-fn store(out: &mut [u32], at: usize, word: u32)
-    ensures { out.new ≡ set out.old at word }
-{
-    if at < out.len() {
-        out[at] = word;
-    }
+    Some(content.next)
 }

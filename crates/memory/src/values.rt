@@ -1,12 +1,13 @@
 // The words of a value: whether they are those of a proper value, and where they end.
-ghost use Rattle.std.specs.Prelude.{◌≡◌, ℕ, ◌+◌, ◌-◌, leb, length, drop};
+ghost use Rattle.std.specs.Prelude.{◌≡◌, Bool, ℕ, ◌+◌, drop};
 ghost use Rattle.logic.specs.Booleans.{both};
-ghost use Rattle.language.specs.Syntax.{head_size, int, err};
-ghost use Rattle.memory.specs.Words.{zeros, numbered, packaged, read_of};
-ghost use Rattle.memory.specs.Memory.{equal_words};
+ghost use Rattle.language.specs.Syntax.{head_size, Value};
+ghost use Rattle.memory.specs.Words.{numbered, packaged, read_of};
+ghost use Rattle.memory.specs.Memory.{proper};
 ghost use Rattle.memory.specs.Internal.Post.{Walks};
 
-// Whether a value is proper, and the place after its words.
+// Whether a value is proper, and the place after its words. No Result: a value that isn't proper has such a place, too,
+// which value_end promises.
 #[derive(Clone, Copy)]
 pub(crate) struct Walked {
     pub ok: bool,
@@ -23,9 +24,10 @@ pub(crate) fn value_at(labels: u32, words: &[u32], at: usize) -> Walked
             next: at,
         };
     }
+    // An arm for each word: of an arm for two, the proof doesn't learn what the last arm leaves.
     match words[at] {
-        crate::INT => integer_at(words, at + 1),
-        crate::ERROR => error_at(words, at + 1),
+        crate::INT => number_at(words, at + 1, |_| true),
+        crate::ERROR => number_at(words, at + 1, |e| (1..=3).contains(&e)),
         crate::LEFT => value_at(labels, words, at + 1),
         crate::RIGHT => value_at(labels, words, at + 1),
         crate::PACKAGE => {
@@ -45,28 +47,12 @@ pub(crate) fn value_at(labels: u32, words: &[u32], at: usize) -> Walked
     }
 }
 
-// An integer, whose number stands at `at`.
-fn integer_at(words: &[u32], at: usize) -> Walked
-    ensures { (labels : ℕ)
-        → Walks labels words.now at (numbered int (drop at words.now)) result.ok result.next }
-{
-    if at < words.len() {
-        Walked {
-            ok: true,
-            next: at + 1,
-        }
-    } else {
-        Walked {
-            ok: false,
-            next: at,
-        }
-    }
-}
-
-// An error, whose number stands at `at`: 1 to 3.
-fn error_at(words: &[u32], at: usize) -> Walked
-    ensures { (labels : ℕ)
-        → Walks labels words.now at (numbered err (drop at words.now)) result.ok result.next }
+// A value that is one number, which stands at `at`: proper if the number passes.
+fn number_at<F: FnOnce(u32) -> bool>(words: &[u32], at: usize, passes: F) -> Walked
+    requires { F.IsAlwaysCallable passes }
+    ensures { (labels : ℕ) (f : ℕ → Value)
+        → ((n : ℕ) (b : Bool) → F.post passes n b → b ≡ proper labels (f n))
+        → Walks labels words.now at (numbered f (drop at words.now)) result.ok result.next }
 {
     if words.len() <= at {
         return Walked {
@@ -75,18 +61,9 @@ fn error_at(words: &[u32], at: usize) -> Walked
         };
     }
     Walked {
-        ok: is_error(words[at]),
+        ok: passes(words[at]),
         next: at + 1,
     }
-}
-
-fn is_error(e: u32) -> bool
-    ensures { result ≡ both (leb 1 e) (leb e 3) }
-{
-    if e < 1 {
-        return false;
-    }
-    e <= 3
 }
 
 // A package, whose head stands at `at` before its content.
@@ -101,11 +78,8 @@ fn package_at(labels: u32, words: &[u32], at: usize, content: Walked) -> Walked
             next: at,
         };
     }
-    if words[at] < labels {
-        return content;
-    }
     Walked {
-        ok: false,
+        ok: words[at] < labels && content.ok,
         next: content.next,
     }
 }
@@ -114,25 +88,8 @@ fn package_at(labels: u32, words: &[u32], at: usize, content: Walked) -> Walked
 fn pair_of(first: Walked, second: Walked) -> Walked
     ensures { result ≡ record { ok = both first.ok second.ok; next = second.next } }
 {
-    if first.ok {
-        return second;
-    }
     Walked {
-        ok: false,
+        ok: first.ok && second.ok,
         next: second.next,
     }
-}
-
-// Whether the words from `at` on are 0.
-pub(crate) fn zero_from(words: &[u32], at: usize) -> bool
-    ensures { result ≡ equal_words (zeros (length words.now - at)) (drop at words.now) }
-{
-    let mut i = at;
-    while i < words.len() {
-        if words[i] != 0 {
-            return false;
-        }
-        i += 1;
-    }
-    true
 }

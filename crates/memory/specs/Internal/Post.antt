@@ -1,5 +1,5 @@
 -- What the private functions over a value's words ensure.
-use Rattle.std.specs.Prelude.{◌≡◌, Bool, true, false, List, [], ℕ, ◌+◌, ◌-◌, ◌≤◌, length, set, drop}
+use Rattle.std.specs.Prelude.{◌≡◌, Bool, true, List, [], ℕ, ◌+◌, ◌-◌, ◌≤◌, length, set, drop}
 use Rattle.std.proofs.lemmas.List.Edits.{sets}
 use Rattle.language.specs.Syntax.{head_size, Value, int, err, pkg, size}
 use Rattle.language.specs.View.{mask}
@@ -31,11 +31,10 @@ pub data Numeral : ℕ → (ℕ → Value) → Type 0 where
   num_int : Numeral 1 int
   num_err : Numeral 2 err
 
--- A package whose head stands at `at`: its content is shown and its words are to follow, or all its words are stored.
-pub record Opens (shows : ℕ → Bool) (ws : List ℕ) (at : ℕ) (out : List ℕ) (to : ℕ) (shown : Bool) (left : List ℕ)
-    (next end : ℕ) : Type 0 where
-  pub head : shown ≡ true → left ≡ sets (set out to 5) (to + 1) (head_words (head_at ws at) [])
-  pub content : shown ≡ true
-      → packaged read_of (drop at ws) ≡ wrap (pkg (head_at ws at)) (read_of (drop (at + head_size) ws))
-  pub seen : shown ≡ true → shows (head_at ws at).label ≡ true
-  pub whole : shown ≡ false → Masks shows ws (packaged read_of (drop at ws)) out to left next end
+-- A package whose head stands at `at`: its content is shown, and its words are to follow.
+pub record Opened (shows : ℕ → Bool) (ws : List ℕ) (at : ℕ) (out : List ℕ) (to : ℕ) (left : List ℕ)
+    (end : ℕ) : Type 0 where
+  pub head : left ≡ sets (set out to 5) (to + 1) (head_words (head_at ws at) [])
+  pub place : end ≡ to + 1 + head_size
+  pub content : packaged read_of (drop at ws) ≡ wrap (pkg (head_at ws at)) (read_of (drop (at + head_size) ws))
+  pub seen : shows (head_at ws at).label ≡ true

@@ -6,7 +6,7 @@ use Prim.Native.Nat.{ℕ, suc, ◌+◌, ◌*◌, ◌-◌, ◌≤◌, ◌<◌}
 use native.Mathlib.Omega.{arith}
 use native.Mathlib.Numerals.{add-one}
 use lib.ListN.{length, get_or, set, drop, length-drop}
-use lib.Seq.{sets, length-sets}
+use lib.Seq.{sets}
 use Rattle.sets.proofs.Walks.{sets_append}
 use Rattle.language.specs.Syntax.{Head, head_size, Value, pkg, pair, blank, size}
 use Rattle.language.specs.View.{seen, mask}
@@ -29,10 +29,6 @@ enc_sets v out to ws =
 module _ (shows : ℕ → Bool) (ws out : List ℕ) (to : ℕ) {left : List ℕ} {next end : ℕ} where
   read_as : {g got : Got} → g ≡ got → Masks shows ws got out to left next end → Masks shows ws g out to left next end
   read_as e m = rw e m
-
-  -- what is stored leaves as many words
-  pub same_length : {g : Got} → Masks shows ws g out to left next end → length left ≡ length out
-  same_length {g} m = ap length m.stored ∙ length-sets out to (enc (mask shows g.0) [])
 
   -- ---- by what is read
 
@@ -208,38 +204,39 @@ pub record Last (shows : ℕ → Bool) (ws : List ℕ) (at : ℕ) (out : List �
   pub whole : (left : List ℕ) (i j : ℕ) → Masks shows ws (read_of (drop next ws)) mid end left i j
       → Masks shows ws (read_of (drop at ws)) out to left i j
 
-pub last_as : {shows : ℕ → Bool} {ws out : List ℕ} {at to : ℕ} {cell cell' : Cell} {next next' : ℕ} → cell ≡ cell'
-    → next ≡ next' → Last shows ws at out to cell'.words next' cell'.end
-    → Last shows ws at out to cell.words next cell.end
-last_as s e l = rw (s, e) l
+-- What was stored leaves `cell`, and the last part starts at `next`.
+module _ (shows : ℕ → Bool) (ws out : List ℕ) (to at : ℕ) (h : at < length ws) {cell left : Cell} {next start : ℕ}
+    (s : cell ≡ left) (z : next ≡ start) where
+  abbrev Rest : Type 0
+  Rest = Last shows ws at out to cell.words next cell.end
 
-module _ (shows : ℕ → Bool) (ws out : List ℕ) (to at : ℕ) (h : at < length ws) {mid : List ℕ} {end : ℕ} where
-  pub last_side : {w : ℕ} {f : Value → Value} → Side w f → get_or ws at 0 ≡ w → mid ≡ set out to w → end ≡ to + 1
-      → Last shows ws at out to mid (at + 1) end
-  last_side k e s n =
-      record {
-        later = omega arith;
-        room = omega arith;
-        whole = λ left i j m. mask-side shows ws out to at h k e s (rw n at m);
-      }
+  as_left : Last shows ws at out to left.words start left.end → Rest
+  as_left l = rw (s, z) l
+
+  pub last_side : {w : ℕ} {f : Value → Value} → Side w f → get_or ws at 0 ≡ w → start ≡ at + 1
+      → left.words ≡ set out to w → left.end ≡ to + 1 → Rest
+  last_side k e b p n = as_left (record {
+    later = omega arith;
+    room = omega arith;
+    whole = λ l i j m. mask-side shows ws out to at h k e p (rw (b, n) at m);
+  })
 
   -- the content of a package that is shown
-  pub last_content : get_or ws at 0 ≡ 5 → Opened shows ws (at + 1) out to mid end
-      → Last shows ws at out to mid (at + 1 + head_size) end
-  last_content k o =
-      record {
-        later = omega arith;
-        room = omega (arith, o.place);
-        whole = λ left i j m. mask_open shows ws out to at h k o m;
-      }
+  pub last_content : get_or ws at 0 ≡ 5 → start ≡ at + 1 + head_size
+      → Opened shows ws (at + 1) out to left.words left.end → Rest
+  last_content k b o = as_left (record {
+    later = omega arith;
+    room = omega (arith, o.place);
+    whole = λ l i j m. mask_open shows ws out to at h k o (rw b at m);
+  })
 
   -- the second part of a pair
-  pub last_second : {half : List ℕ} {next start : ℕ} → get_or ws at 0 ≡ 6 → half ≡ set out to 6 → start ≡ to + 1
-      → Masks shows ws (read_of (drop (at + 1) ws)) half start mid next end → Last shows ws at out to mid next end
-  last_second {half = half} k s e m' =
+  pub last_second : {half : List ℕ} {first : ℕ} → get_or ws at 0 ≡ 6 → half ≡ set out to 6 → first ≡ to + 1
+      → Masks shows ws (read_of (drop (at + 1) ws)) half first left.words start left.end → Rest
+  last_second {half = half} k p e m' =
       let m = rw e at m' in
-      record {
+      as_left (record {
         later = omega (arith, reads_on shows ws half (to + 1) (at + 1) m);
         room = omega (arith, stores-on shows ws half (to + 1) (at + 1) m);
-        whole = λ left i j n. mask-pair shows ws out to at h k s m n;
-      }
+        whole = λ l i j n. mask-pair shows ws out to at h k p m n;
+      })

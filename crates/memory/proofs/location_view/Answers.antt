@@ -7,7 +7,8 @@ returns c s =
     let a = c.args in
     elim c.if-reads.branch [
       | then-reads w ↦ rw w.out-is
-          (shown-view a.table.now a.group a.x c.location_label.ensures c.reads.ensures w.if-reads.true w.mask_at.ensures s)
+          (shown-view a.table.now a.group a.x c.location_label.ensures c.reads.ensures w.if-reads.true
+          w.mask_at.ensures s)
       | else-reads w ↦ rw w.out-is
           (hidden_view a.table.now a.group a.x c.location_label.ensures c.reads.ensures _ w.if-reads.false)
     ]

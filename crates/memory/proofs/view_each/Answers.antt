@@ -17,8 +17,8 @@ loop-x-preserved c =
     let a = c.args in
     laws.view_more a.table.now a.memory.now c.requires.0 a.group c.loop-x.x a.shown.now _ _ _ c.loop-x.invariant
     (omega (arith, c.locations-x-end.ensures)) (rw c.location.ensures at c.location_view-cell.ensures)
-    (put_mid-paste (16 * c.loop-x.x) (16 * c.loop-x.x + 16 - 16 * c.loop-x.x) c.loop-x.shown _ c.location_view-cell.result
-    16 c.copy_from_slice.ensures.after (omega arith) (search rules))
+    (put_mid-paste (16 * c.loop-x.x) (16 * c.loop-x.x + 16 - 16 * c.loop-x.x) c.loop-x.shown _
+    c.location_view-cell.result 16 c.copy_from_slice.ensures.after (omega arith) (search rules))
 
 pub returns : goal.returns
 returns c =

@@ -26,38 +26,41 @@ returns-in_default t c =
 pub mask_at-requires : goal.mask_at-requires
 mask_at-requires t c =
     let h = c.if-words-at.false in
+    let shows = reads_in c.args.table.now c.args.group in
     elim c.match-words-at.branch [
       | in-3 w ↦ let p = w.push-in-3.ensures in
-          let l = laws.last_as {shows = reads_in c.args.table.now c.args.group} w.out-is w.last-is (laws.last_side _ _ _ _ _ h to_left w.in-3.is p.words p.end) in
+          let l = laws.last_side shows _ _ _ _ h w.out-is w.last-is to_left w.in-3.is refl p.words p.end in
           (omega (arith, l.later), omega (arith, l.room))
       | in-4 w ↦ let p = w.push-in-4.ensures in
-          let l = laws.last_as {shows = reads_in c.args.table.now c.args.group} w.out-is w.last-is (laws.last_side _ _ _ _ _ h to_right w.in-4.is p.words p.end) in
+          let l = laws.last_side shows _ _ _ _ h w.out-is w.last-is to_right w.in-4.is refl p.words p.end in
           (omega (arith, l.later), omega (arith, l.room))
       | in-5+in_default-mask_label w ↦
-          let l = laws.last_as {shows = reads_in c.args.table.now c.args.group} w.out-is w.last-is
-          (laws.last_content _ _ _ _ _ h w.in-5.is w.in_default-mask_label.ensures) in
+          let o = w.in_default-mask_label.ensures in
+          let l = laws.last_content shows _ _ _ _ h w.out-is w.last-is w.in-5.is refl o in
           (omega (arith, l.later), omega (arith, l.room))
       | in-6 w ↦ let p = w.push-in-6.ensures in
-          let l = laws.last_as {shows = reads_in c.args.table.now c.args.group} w.out-is w.last-is
-          (laws.last_second _ _ _ _ _ h w.in-6.is p.words p.end w.mask_at-last.ensures) in
+          let m = w.mask_at-last.ensures in
+          let l = laws.last_second shows _ _ _ _ h w.out-is w.last-is w.in-6.is p.words p.end m in
           (omega (arith, l.later), omega (arith, l.room))
     ]
 
 pub returns : goal.returns
 returns t c =
     let h = c.if-words-at.false in
-    let m = c.mask_at.ensures in
+    let rest = c.mask_at.ensures in
     elim c.match-words-at.branch [
       | in-3 w ↦ let p = w.push-in-3.ensures in
-          (laws.last_as w.out-is w.last-is
-          (laws.last_side _ _ _ _ _ h to_left w.in-3.is p.words p.end)).whole _ _ _ m
+          let l = laws.last_side _ _ _ _ _ h w.out-is w.last-is to_left w.in-3.is refl p.words p.end in
+          l.whole _ _ _ rest
       | in-4 w ↦ let p = w.push-in-4.ensures in
-          (laws.last_as w.out-is w.last-is
-          (laws.last_side _ _ _ _ _ h to_right w.in-4.is p.words p.end)).whole _ _ _ m
+          let l = laws.last_side _ _ _ _ _ h w.out-is w.last-is to_right w.in-4.is refl p.words p.end in
+          l.whole _ _ _ rest
       | in-5+in_default-mask_label w ↦
-          (laws.last_as w.out-is w.last-is
-          (laws.last_content _ _ _ _ _ h w.in-5.is w.in_default-mask_label.ensures)).whole _ _ _ m
+          let o = w.in_default-mask_label.ensures in
+          let l = laws.last_content _ _ _ _ _ h w.out-is w.last-is w.in-5.is refl o in
+          l.whole _ _ _ rest
       | in-6 w ↦ let p = w.push-in-6.ensures in
-          (laws.last_as w.out-is w.last-is
-          (laws.last_second _ _ _ _ _ h w.in-6.is p.words p.end w.mask_at-last.ensures)).whole _ _ _ m
+          let m = w.mask_at-last.ensures in
+          let l = laws.last_second _ _ _ _ _ h w.out-is w.last-is w.in-6.is p.words p.end m in
+          l.whole _ _ _ rest
     ]

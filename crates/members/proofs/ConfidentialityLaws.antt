@@ -2,26 +2,27 @@
 -- and of the members only the labels, since C of I of a label is bottom.
 use mathlib.Core.Path.{◌≡◌, refl, sym, ap, ap₂, ◌∙◌}
 use mathlib.Core.Bool.{Bool, true, false, cond}
-use mathlib.Core.List.{List}
+use mathlib.Core.List.{List, ◌∷◌}
 use Prim.Native.Nat.{ℕ, zero, suc, ◌+◌, ◌<◌, ◌≤◌}
-use native.Mathlib.Nat.{mod-lt}
 use native.Mathlib.Omega.{arith}
-use borrow.Author.Tests.{lt-ltb}
+use borrow.Author.Tests.{lt-ltb, le-ltb}
 use Rattle.logic.specs.Booleans.{both}
-use Rattle.logic.proofs.BooleanLaws.{bool_ext, both_left, both_right, both_true, both_yes_left, both_implied}
-use Rattle.logic.proofs.BooleanLaws.{both_assoc}
+use Rattle.logic.proofs.BooleanLaws.{bool_ext, both_left, both_right, both_true, both_yes_left, both_no_left}
+use Rattle.logic.proofs.BooleanLaws.{both_assoc, both_implied}
+use Rattle.std.proofs.Math.Bool.{◌&&◌}
+use Rattle.std.specs.List.{list_all}
 use Rattle.sets.specs.Sets.{member, every, restrict}
-use Rattle.sets.proofs.Walks.{by_below, every_true, every_at, every_last, every_more}
+use Rattle.sets.proofs.Walks.{by_below, every_true, every_at, every_last}
 use Rattle.sets.proofs.SetLaws.{member-restrict}
 use Rattle.labels.specs.declared.Label.{Label}
 use Rattle.labels.specs.Labels.{below_of, join_of, bottom_of, confidentiality_of}
 use Rattle.labels.proofs.PartLaws.{c_bottom, c_of_i, c_join_below}
 use Rattle.sheet.specs.Sheet.{max_labels}
 use Rattle.sheet.specs.Internal.Tables.{everyone_in, label_in}
-use Rattle.members.specs.Internal.Members.{member_in, join_up_to, max_members, join_in}
-use Rattle.members.proofs.MemberLaws.{member-label, member_integrity, Rest, rest_below, rest_none}
+use Rattle.members.specs.Internal.Members.{member_in, join_up_to, max_members, join_in, members_from, members_of}
+use Rattle.members.proofs.MemberLaws.{member-label, member_integrity}
 
-both_alone : (b : Bool) → b ≡ both b true
+pub both_alone : (b : Bool) → b ≡ both b true
 both_alone b = sym (both_implied b true (λ h. refl))
 
 -- tests that another one implies may be left out
@@ -35,16 +36,29 @@ implied_past b f p n l h =
 
 -- ---- the members that are labels
 
-pub label-member : (m q : ℕ) → q < max_labels → member q (restrict max_labels m) ≡ member q m
+label-member : (m q : ℕ) → q < max_labels → member q (restrict max_labels m) ≡ member q m
 label-member m q l = member-restrict q max_labels m ∙ both_yes_left _ _ (lt-ltb q max_labels l)
 
-module _ (m p rest : ℕ) (h : Rest (restrict max_labels m) p rest) where
-  pub label_below : (rest ≡ 0 → ⊥) → p < max_labels
-  unfolding restrict
-  label_below = rest_below _ p rest max_labels h (mod-lt m (omega arith))
+label_past : (m q : ℕ) → max_labels ≤ q → member q (restrict max_labels m) ≡ false
+label_past m q l = member-restrict q max_labels m ∙ both_no_left _ _ (le-ltb q max_labels l)
 
-  pub labels_end : rest ≡ 0 → (q : ℕ) → p ≤ q → q < max_labels → member q m ≡ false
-  labels_end e q k l = sym (label-member m q l) ∙ rest_none (restrict max_labels m) p rest h e q k
+-- ---- tests of each place
+
+and_both : (a b : Bool) → (a && b) ≡ both a b
+unfolding both
+and_both true b = refl
+and_both false b = refl
+
+pub one_more : (a b c : Bool) → both (a && b) c ≡ both a (b && c)
+unfolding both
+one_more true b c = sym (and_both b c)
+one_more false b c = refl
+
+every_same : (n : ℕ) (f g : ℕ → Bool) → ((i : ℕ) → i < n → f i ≡ g i) → every n f ≡ every n g
+every_same n f g h =
+    bool_ext _ _
+    (λ e. every_true n g (λ i l. sym (h i l) ∙ every_at n f e i l))
+    (λ e. every_true n f (λ i l. h i l ∙ every_at n g e i l))
 
 -- a label passes: its C is at or below that of c
 abbrev pub Passes : Label → Label → Bool
@@ -96,32 +110,46 @@ module _ (t : List ℕ) (c : Label) where
       ∙ sym (implied_past BottomPasses (member_passes m) max_labels max_members (omega arith)
       (λ q k w. integrity_passes m q k))
 
-  -- ---- a walk over the labels of m: bottom and those below p pass
+  -- ---- a walk over the labels of m
 
-  abbrev pub Passed : ℕ → ℕ → Bool → Type 0
-  Passed m p all = all ≡ both BottomPasses (every p (member_passes m))
+  abbrev pub label_passes : ℕ → Bool
+  label_passes q = Passes c (label_in t q)
 
-  pub passed_none : (m : ℕ) → Passed m 0 BottomPasses
-  unfolding every
-  passed_none m = both_alone _
+  abbrev place_passes : ℕ → ℕ → ℕ → Bool
+  place_passes m p i = cond (member (p + i) m) (label_passes (p + i)) true
 
-  pub passed_with : (m p : ℕ) → p < max_labels → member p m ≡ true → {a b : Bool}
-      → Passed m p a → b ≡ Passes c (label_in t p) → Passed m (p + 1) (both a b)
+  passes_from : (m p n : ℕ) → list_all label_passes (members_from m p n) ≡ every n (place_passes m p)
+  unfolding members_from every both
+  passes_from m p zero = refl
+  passes_from m p (suc n) =
+      one (member p m) (members_from m (suc p) n)
+      ∙ ap₂ both (ap (λ (q : ℕ). cond (member q m) (label_passes q) true) here)
+      (passes_from m (suc p) n ∙ every_same n _ _ (λ i l. let z : suc p + i ≡ p + suc i = omega arith in
+      ap (λ (q : ℕ). cond (member q m) (label_passes q) true) z))
+    where
+      here : p ≡ p + 0
+      here = omega arith
+
+      one : (b : Bool) (xs : List ℕ)
+          → list_all label_passes (cond b (p ∷ xs) xs) ≡ both (cond b (label_passes p) true) (list_all label_passes xs)
+      one true xs = and_both (label_passes p) (list_all label_passes xs)
+      one false xs = refl
+
+  pub all_pass : (m : ℕ)
+      → both BottomPasses (list_all label_passes (members_of (restrict max_labels m))) ≡ Passes c (join_in t m)
   unfolding member_passes
-  passed_with m p l h e k =
-      ap₂ both e (k ∙ ap (Passes c) (sym (member-label t p l)) ∙ rw h)
-      ∙ sym (both_assoc BottomPasses (every p (member_passes m)) (member_passes m p))
-      ∙ ap (both BottomPasses) (every_more p (member_passes m) refl refl)
+  all_pass m =
+      let labels = restrict max_labels m in
+      ap (both BottomPasses) (passes_from labels 0 max_members)
+      ∙ sym (implied_past BottomPasses (place_passes labels 0) max_labels max_members (omega arith) (λ q k w b. past q k))
+      ∙ ap (both BottomPasses) (every_same max_labels _ _ same) ∙ sym (labels_pass m)
+    where
+      past : (q : ℕ) → max_labels ≤ q → place_passes (restrict max_labels m) 0 q ≡ true
+      past q k =
+          let z : 0 + q ≡ q = omega arith in
+          rw (z, label_past m q k) refl
 
-  passed_past : (m p n : ℕ) → p ≤ n → ((q : ℕ) → p ≤ q → q < n → member q m ≡ false) → {a : Bool}
-      → Passed m p a → Passed m n a
-  unfolding member_passes
-  passed_past m p n l h e = e ∙ implied_past BottomPasses (member_passes m) p n l (λ q k w b. rw (h q k w))
-
-  pub passed_without : (m p : ℕ) → member p m ≡ false → {a : Bool} → Passed m p a → Passed m (p + 1) a
-  passed_without m p h =
-      passed_past m p (p + 1) (omega arith) (λ q k w. let e : p ≡ q = omega arith in rw (← e) h)
-
-  pub passed_all : (m p : ℕ) → p ≤ max_labels → ((q : ℕ) → p ≤ q → q < max_labels → member q m ≡ false) → {a : Bool}
-      → Passed m p a → a ≡ Passes c (join_in t m)
-  passed_all m p l h e = passed_past m p max_labels l h e ∙ sym (labels_pass m)
+      same : (q : ℕ) → q < max_labels → place_passes (restrict max_labels m) 0 q ≡ member_passes m q
+      same q k =
+          let z : 0 + q ≡ q = omega arith in
+          rw (z, label-member m q k, member-label t q k) refl

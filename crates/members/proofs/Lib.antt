@@ -1,3 +1,4 @@
 pub mod MemberLaws
 pub mod FlowLaws
 pub mod ConfidentialityLaws
+pub mod WalkLaws

@@ -2,19 +2,15 @@
 use mathlib.Core.Path.{◌≡◌, refl, sym, ap, ◌∙◌}
 use mathlib.Core.Bool.{Bool, true, false, cond}
 use mathlib.Core.List.{List}
-use Prim.Native.Nat.{ℕ, zero, suc, ◌+◌, ◌-◌, ◌/◌, ◌%◌, ◌^◌, ◌<◌, ◌≤◌}
-use lib.Dec.{eqb}
+use Prim.Native.Nat.{ℕ, zero, suc, ◌+◌, ◌-◌, ◌<◌, ◌≤◌}
 use native.Mathlib.Numerals.{add-one}
-use native.Mathlib.Nat.{lt_of_lt_of_le}
 use native.Mathlib.Omega.{arith}
-use lib.Pow.{pow_mono}
 use native.Mathlib.Decide.{dec_lt}
 use borrow.Author.Tests.{lt-ltb, le-ltb}
 use Rattle.logic.specs.Booleans.{both}
 use Rattle.logic.proofs.BooleanLaws.{absurd_false, either_left, either_right, either_case}
 use Rattle.sets.specs.Sets.{member, union, single}
-use Rattle.sets.proofs.SetLaws.{member_low, member_high, member_union, member_single, member_single_self, member_empty}
-use Rattle.sets.proofs.SetLaws.{member_beyond, some_member}
+use Rattle.sets.proofs.SetLaws.{member_union, member_single, member_single_self, member_empty}
 use Rattle.labels.specs.declared.Label.{Label}
 use Rattle.labels.specs.Labels.{below_of, join_of, bottom_of, whole_of, integrity_of}
 use Rattle.labels.proofs.OrderLaws.{below_refl, below_trans, below_antisym, join_left, join_right, join_least}
@@ -137,49 +133,6 @@ module _ (t : List ℕ) where
   pub up_to_without : (m p : ℕ) → member p m ≡ false → join_up_to t m p ≡ join_up_to t m (p + 1)
   unfolding join_up_to
   up_to_without m p h = rw (add-one p, h)
-
-  -- members past the last one add nothing
-  pub up_to_end : (m p n : ℕ) → p ≤ n → ((q : ℕ) → p ≤ q → member q m ≡ false) → join_up_to t m n ≡ join_up_to t m p
-  unfolding join_up_to
-  up_to_end m p zero l h = let e : p ≡ 0 = omega arith in rw e refl
-  up_to_end m p (suc n) l h = on (dec_lt n p) (λ k. up_to_end m p n k h)
-    where
-      on : Dec (n < p) → (p ≤ n → join_up_to t m n ≡ join_up_to t m p) → join_up_to t m (suc n) ≡ join_up_to t m p
-      on (yes k) f = let e : p ≡ suc n = omega arith in rw e refl
-      on (no k) f = rw (h n (omega arith)) (f (omega arith))
-
--- ---- the rest of the members m, from p on
-
--- bit q of rest is member p + q
-abbrev pub Rest : ℕ → ℕ → ℕ → Type 0
-Rest m p rest = (q : ℕ) → member q rest ≡ member (p + q) m
-
-pub rest_all : (m : ℕ) → Rest m 0 m
-rest_all m q = let z : 0 + q ≡ q = omega arith in ap (λ (k : ℕ). member k m) (sym z)
-
-pub rest_first : (m p rest : ℕ) → Rest m p rest → member p m ≡ eqb (rest % 2) 1
-rest_first m p rest h =
-    let z : p + 0 ≡ p = omega arith in ap (λ (q : ℕ). member q m) (sym z) ∙ sym (h 0) ∙ member_low rest
-
-pub rest_more : (m p rest : ℕ) → Rest m p rest → Rest m (p + 1) (rest / 2)
-rest_more m p rest h q =
-    let z : p + suc q ≡ p + 1 + q = omega arith in sym (member_high q rest) ∙ h (suc q) ∙ ap (λ (k : ℕ). member k m) z
-
--- the members are below k where the set is below 2 ^ k
-pub rest_below : (m p rest k : ℕ) → Rest m p rest → m < 2 ^ k → (rest ≡ 0 → ⊥) → p < k
-rest_below m p rest k h l n = on (dec_lt p k)
-  where
-    on : Dec (p < k) → p < k
-    on (yes w) = w
-    on (no w) =
-        let s = some_member rest n in
-        absurd (absurd_false (sym (member_beyond (p + s.0) m (lt_of_lt_of_le l (pow_mono (omega arith))))
-        ∙ sym (h s.0) ∙ s.1))
-
-pub rest_none : (m p rest : ℕ) → Rest m p rest → rest ≡ 0 → (q : ℕ) → p ≤ q → member q m ≡ false
-rest_none m p rest h e q l =
-    let z : p + (q - p) ≡ q = omega arith in
-    ap (λ (k : ℕ). member k m) (sym z) ∙ sym (h (q - p)) ∙ ap (member (q - p)) e ∙ member_empty (q - p)
 
 pub label_there : (l : ℕ) → l < max_labels → label_member l ≡ single l
 unfolding label_member

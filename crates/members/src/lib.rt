@@ -3,10 +3,12 @@
 // recursion holds one.
 #![tactic(auto)]
 
-ghost use Rattle.std.specs.Prelude.{◌≡◌};
-ghost use Rattle.sets.specs.Sets.{union};
-ghost use Rattle.members.specs.Internal.Members.{label_member, integrity_member, member_in, join_in, whole_flows};
-ghost use Rattle.members.specs.Internal.Members.{confidentiality_flows, flows_in};
+ghost use Rattle.std.specs.Prelude.{◌≡◌, ◌+◌, ◌≤◌, ltb, cond};
+ghost use Rattle.std.specs.Iterator.{YieldsFirst, item_count};
+ghost use Rattle.sets.specs.Sets.{union, single};
+ghost use Rattle.sheet.specs.Sheet.{max_labels};
+ghost use Rattle.members.specs.Internal.Members.{label_member, integrity_member, members_of, member_in, join_in};
+ghost use Rattle.members.specs.Internal.Members.{whole_flows, confidentiality_flows};
 
 use labels::Label;
 
@@ -21,32 +23,29 @@ const LABELS: u32 = sheet::MOST_LABELS;
 // Sets of labels alone are the numbers below this one.
 const PAST_LABELS: Members = 1 << LABELS;
 
-// How much of a least label is at or below another: nothing, only C of it, all of it. Bit 1 tells it of the whole, bit
-// 0 of C, or of the whole too where only that is asked for.
-const NOTHING: u8 = 0;
-
-const CONFIDENTIALITY: u8 = 1;
-
-const WHOLE: u8 = 3;
-
 // {label l}; empty for a number that names no label.
 pub fn label(l: u32) -> Members
     ensures { result ≡ label_member l }
 {
-    if l >= LABELS {
-        return BOTTOM;
-    }
-    (1 as Members) << l
+    alone(0, l)
 }
 
 // {I of label l}, likewise.
 pub fn integrity(l: u32) -> Members
     ensures { result ≡ integrity_member l }
 {
+    alone(LABELS, l)
+}
+
+// {first + l}: label l's member of those that start at `first`; empty for a number that names no label.
+fn alone(first: u32, l: u32) -> Members
+    requires { first ≤ max_labels }
+    ensures { result ≡ cond (ltb l max_labels) (single (first + l)) 0 }
+{
     if l >= LABELS {
         return BOTTOM;
     }
-    (1 as Members) << (LABELS + l)
+    (1 as Members) << (first + l)
 }
 
 // The join of both.
@@ -54,6 +53,29 @@ pub fn join(x: Members, y: Members) -> Members
     ensures { result ≡ union x y }
 {
     x | y
+}
+
+// The members of a set, the lowest first.
+#[derive(Drop)]
+struct Each {
+    rest: Members,
+}
+
+impl Iterator for Each {
+    type Item = u32;
+
+    ghost next_gives = { YieldsFirst (λ e. members_of e.rest) };
+
+    ghost remaining = { item_count (λ e. members_of e.rest) };
+
+    fn next(&mut self) -> Option<u32> {
+        if self.rest == 0 {
+            return None;
+        }
+        let p = self.rest.trailing_zeros();
+        self.rest -= (1 as Members) << p;
+        Some(p)
+    }
 }
 
 // The label of member p.
@@ -72,63 +94,33 @@ fn joined(table: &[sheet::Word], members: Members) -> Label
     ensures { result ≡ join_in table.now members }
 {
     let mut out = Label::bottom(sheet::everyone(table));
-    let mut rest = members;
-    let mut p: u32 = 0;
-    while rest != 0 {
-        if rest % 2 == 1 {
-            out = out.join(member(table, p));
-        }
-        rest = rest / 2;
-        p += 1;
+    let each = Each { rest: members };
+    for p in each {
+        out = out.join(member(table, p));
     }
     out
 }
 
 // Whether C of the join of the members is at or below C of label l. Each label is tested by itself, so nothing is
 // joined; C of I of a label is bottom, which is tested first.
-fn confidentiality_flows(table: &[sheet::Word], members: Members, l: u32) -> bool
+pub fn confidentiality_flows(table: &[sheet::Word], members: Members, l: u32) -> bool
     ensures { result ≡ confidentiality_flows table.now members l }
 {
     let upper = sheet::label_of(table, l);
     let mut all = upper.readers_within(sheet::everyone(table));
-    let mut rest = members % PAST_LABELS;
-    let mut p: u32 = 0;
-    while rest != 0 {
-        if rest % 2 == 1 {
-            let lower = sheet::label_of(table, p);
-            all = all & lower.confidentiality_at_or_below(upper);
-        }
-        rest = rest / 2;
-        p += 1;
+    let labels = Each {
+        rest: members % PAST_LABELS,
+    };
+    for p in labels {
+        let lower = sheet::label_of(table, p);
+        all = all & lower.confidentiality_at_or_below(upper);
     }
     all
 }
 
 // Whether the join of the members is at or below label l.
-fn whole_flows(table: &[sheet::Word], members: Members, l: u32) -> bool
+pub fn whole_flows(table: &[sheet::Word], members: Members, l: u32) -> bool
     ensures { result ≡ whole_flows table.now members l }
 {
-    let lower = joined(table, members);
-    let upper = sheet::label_of(table, l);
-    lower.at_or_below(upper)
-}
-
-// How much of the join of the members is at or below label l. `wholly`: only the whole is asked for, and C
-// isn't tested.
-pub fn flows(table: &[sheet::Word], members: Members, l: u32, wholly: bool) -> u8
-    ensures { result ≡ flows_in table.now members l wholly }
-{
-    if wholly {
-        if whole_flows(table, members, l) {
-            return WHOLE;
-        }
-        return NOTHING;
-    }
-    if !confidentiality_flows(table, members, l) {
-        return NOTHING;
-    }
-    if whole_flows(table, members, l) {
-        return WHOLE;
-    }
-    CONFIDENTIALITY
+    joined(table, members).at_or_below(sheet::label_of(table, l))
 }

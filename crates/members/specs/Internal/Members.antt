@@ -1,6 +1,6 @@
 -- A least label as the set of the labels that it is the join of: member l is label l of the table, member 32 + l is I
 -- of label l. The empty set is bottom. Every least label is such a join, so that one number holds it.
-use Rattle.std.specs.Prelude.{Bool, cond, List, ℕ, zero, suc, ◌+◌, ◌-◌, ltb}
+use Rattle.std.specs.Prelude.{Bool, cond, List, [], ◌∷◌, ℕ, zero, suc, ◌+◌, ◌-◌, ltb}
 use Rattle.sets.specs.Sets.{member, single}
 use Rattle.labels.specs.declared.Label.{Label}
 use Rattle.labels.specs.Labels.{join_of, integrity_of, bottom_of, confidentiality_of, below_of}
@@ -27,6 +27,15 @@ join_up_to t m (suc p) = cond (member p m) (join_of (join_up_to t m p) (member_i
 abbrev pub max_members : ℕ
 max_members = max_labels + max_labels
 
+-- of the n places from p on, those of members of m, the lowest first
+unfoldable pub members_from : ℕ → ℕ → ℕ → List ℕ
+members_from m p zero = []
+members_from m p (suc n) = cond (member p m) (p ∷ members_from m (suc p) n) (members_from m (suc p) n)
+
+-- all members of m
+abbrev pub members_of : ℕ → List ℕ
+members_of m = members_from m 0 max_members
+
 -- the label that a set of members stands for
 unfoldable pub join_in : List ℕ → ℕ → Label
 join_in t m = join_up_to t m max_members
@@ -37,11 +46,3 @@ whole_flows t m l = below_of (join_in t m) (label_in t l)
 
 unfoldable pub confidentiality_flows : List ℕ → ℕ → ℕ → Bool
 confidentiality_flows t m l = below_of (confidentiality_of (join_in t m)) (confidentiality_of (label_in t l))
-
--- two bits: bit 1 for the whole; bit 0 for C, or for the whole too where only that is asked for (`wholly`)
-unfoldable pub flow_bits : Bool → Bool → Bool → ℕ
-flow_bits wholly C whole = cond whole 0b11 (cond wholly 0b00 (cond C 0b01 0b00))
-
--- how much of that label is at or below label l
-unfoldable pub flows_in : List ℕ → ℕ → ℕ → Bool → ℕ
-flows_in t m l wholly = flow_bits wholly (confidentiality_flows t m l) (whole_flows t m l)

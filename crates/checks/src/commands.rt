@@ -4,28 +4,20 @@ ghost use Rattle.checks.specs.Internal.Nodes.{refused, skip_passed, seq_passed, 
 ghost use Rattle.checks.specs.Internal.Nodes.{case_passed};
 
 use crate::expressions::is_type;
-use crate::{ALL, KEEPING, Passed, Typed};
+use crate::{Holds, Passed, Typed};
 use members::Members;
 use sheet::{INT_OR_INT, is_sum};
 
 pub fn not_passed(next: usize) -> Passed
     ensures { result ≡ refused next }
 {
-    Passed {
-        typed: false,
-        holds: ALL,
-        next,
-    }
+    Passed::plain(false, next)
 }
 
 pub fn of_skip(next: usize) -> Passed
     ensures { result ≡ skip_passed next }
 {
-    Passed {
-        typed: true,
-        holds: ALL,
-        next,
-    }
+    Passed::plain(true, next)
 }
 
 pub fn of_seq(x: Passed, y: Passed) -> Passed
@@ -33,7 +25,7 @@ pub fn of_seq(x: Passed, y: Passed) -> Passed
 {
     Passed {
         typed: x.typed & y.typed,
-        holds: x.holds & y.holds,
+        holds: x.holds.and(y.holds),
         next: y.next,
     }
 }
@@ -42,15 +34,11 @@ pub fn of_seq(x: Passed, y: Passed) -> Passed
 pub fn of_assign(table: &[sheet::Word], x: u32, pc: Members, e: Typed) -> Passed
     ensures { result ≡ assign_passed table.now x pc e }
 {
-    let flows = members::flows(
-        table,
-        members::join(e.label, pc),
-        sheet::location_label(table, x),
-        true,
-    );
+    let label = members::join(e.label, pc);
+    let flow = members::whole_flows(table, label, sheet::location_label(table, x));
     Passed {
         typed: is_type(e, sheet::location_type(table, x)),
-        holds: e.holds & (flows | KEEPING),
+        holds: e.holds.and(Holds { flow, ..Holds::ALL }),
         next: e.next,
     }
 }
@@ -60,18 +48,20 @@ pub fn of_while(guard: Typed, body: Passed) -> Passed
 {
     Passed {
         typed: is_type(guard, INT_OR_INT) & body.typed,
-        holds: guard.holds & body.holds,
+        holds: guard.holds.and(body.holds),
         next: body.next,
     }
 }
 
+// A call would take as much as what it does, and a larger frame of the caller's recursion.
+#[inline(always)]
 pub fn of_case(table: &[sheet::Word], x: Typed, y: Passed, z: Passed) -> Passed
     ensures { result ≡ case_passed table.now x y z }
 {
-    let typed = is_sum(table, x.ty) & (y.typed & z.typed);
+    let branches = y.typed & z.typed;
     Passed {
-        typed: x.typed & typed,
-        holds: x.holds & (y.holds & z.holds),
+        typed: x.typed & (is_sum(table, x.ty) & branches),
+        holds: x.holds.and(y.holds.and(z.holds)),
         next: z.next,
     }
 }

@@ -1,51 +1,64 @@
 -- What checking one line gives, from what checking its operands gave.
 use Rattle.std.specs.Prelude.{Bool, true, false, List, ℕ, eqb}
-use Rattle.sets.specs.Sets.{union, intersection}
+use Rattle.sets.specs.Sets.{union}
 use Rattle.logic.specs.Booleans.{both}
 use Rattle.sheet.specs.Internal.Tables.{left_in, right_in, type_in, home_in}
+use Rattle.checks.specs.declared.Holds.{Holds}
 use Rattle.checks.specs.declared.Typed.{Typed}
 use Rattle.checks.specs.declared.Passed.{Passed}
 use Rattle.sheet.specs.Internal.TypeTest.{is_sum, is_pair}
-use Rattle.members.specs.Internal.Members.{label_member, integrity_member, flows_in}
+use Rattle.members.specs.Internal.Members.{label_member, integrity_member, whole_flows, confidentiality_flows}
 
--- What holds of all lines that were checked, as a set: 0, their label conditions; 1, what trust-keeping asks of their
--- unpacks. Both, and the second alone.
-abbrev pub all_hold : ℕ
-all_hold = 0b11
+-- what holds of lines where nothing is asked, and where a label condition alone is
+abbrev pub all_held : Holds
+all_held = record { flow = true; keeping = true }
 
-abbrev pub keeping_alone : ℕ
-keeping_alone = 0b10
+abbrev pub flow_held : Bool → Holds
+flow_held flow = record { flow = flow; keeping = true }
+
+-- what holds of the lines of both
+abbrev pub both_held : Holds → Holds → Holds
+both_held x y = record { flow = both x.flow y.flow; keeping = both x.keeping y.keeping }
 
 -- the expression has the type number n
-unfoldable pub is_type : Typed → ℕ → Bool
+abbrev pub is_type : Typed → ℕ → Bool
 is_type x n = both x.typed (eqb n x.ty)
 
 -- an expression of type n and label a, in which nothing is to be tested
 abbrev pub plain_typed : ℕ → ℕ → ℕ → Typed
-plain_typed n a next = record { ty = n; typed = true; holds = all_hold; label = a; next = next }
+plain_typed n a next = record { ty = n; typed = true; holds = all_held; label = a; next = next }
 
 -- no expression
-unfoldable pub nothing : ℕ → Typed
-nothing next = record { ty = 0; typed = false; holds = all_hold; label = 0; next = next }
+abbrev pub nothing : ℕ → Typed
+nothing next = record { ty = 0; typed = false; holds = all_held; label = 0; next = next }
 
-unfoldable pub int_typed : ℕ → Typed
+abbrev pub int_typed : ℕ → Typed
 int_typed next = plain_typed 0 0 next
 
-unfoldable pub loc_typed : List ℕ → ℕ → ℕ → Typed
+abbrev pub loc_typed : List ℕ → ℕ → ℕ → Typed
 loc_typed t x next = plain_typed (type_in t x) (label_member (home_in t x)) next
 
-unfoldable pub plus_typed : Typed → Typed → Typed
-plus_typed x y =
+-- two operands: of type n, if the test passes
+abbrev pub two_typed : Bool → ℕ → Typed → Typed → Typed
+two_typed typed n x y =
     record {
-      ty = 0;
-      typed = both (is_type x 0) (is_type y 0);
-      holds = intersection x.holds y.holds;
+      ty = n;
+      typed = typed;
+      holds = both_held x.holds y.holds;
       label = union x.label y.label;
       next = y.next;
     }
 
+abbrev pub plus_typed : Typed → Typed → Typed
+plus_typed x y = two_typed (both (is_type x 0) (is_type y 0)) 0 x y
+
+-- a pair of type n
+abbrev pub pair_typed : List ℕ → ℕ → Typed → Typed → Typed
+pair_typed t n x y =
+    two_typed (both (is_pair t n) (both (is_type x (left_in t n)) (is_type y (right_in t n)))) n x y
+
 -- a sum of type n, whose part on the operand's side is type m
-unfoldable pub sum_typed : List ℕ → ℕ → ℕ → Typed → Typed
+abbrev pub sum_typed : List ℕ → ℕ → ℕ → Typed → Typed
 sum_typed t n m x =
     record {
       ty = n;
@@ -55,39 +68,8 @@ sum_typed t n m x =
       next = x.next;
     }
 
-unfoldable pub pack_typed : List ℕ → ℕ → Typed → Typed
-pack_typed t l x =
-    record {
-      ty = 4;
-      typed = x.typed;
-      holds = intersection x.holds (union (flows_in t x.label l true) keeping_alone);
-      label = integrity_member l;
-      next = x.next;
-    }
-
-unfoldable pub unpack_typed : List ℕ → ℕ → ℕ → Typed → Typed
-unpack_typed t n l x =
-    record {
-      ty = n;
-      typed = both (is_type x 2) (both (is_sum t n) (eqb (right_in t n) 1));
-      holds = intersection x.holds (flows_in t x.label l false);
-      label = label_member l;
-      next = x.next;
-    }
-
--- a pair of type n
-unfoldable pub pair_typed : List ℕ → ℕ → Typed → Typed → Typed
-pair_typed t n x y =
-    record {
-      ty = n;
-      typed = both (is_pair t n) (both (is_type x (left_in t n)) (is_type y (right_in t n)));
-      holds = intersection x.holds y.holds;
-      label = union x.label y.label;
-      next = y.next;
-    }
-
 -- a part of a pair: the part is type m
-unfoldable pub part_typed : List ℕ → ℕ → Typed → Typed
+abbrev pub part_typed : List ℕ → ℕ → Typed → Typed
 part_typed t m x =
     record {
       ty = m;
@@ -97,42 +79,67 @@ part_typed t m x =
       next = x.next;
     }
 
+abbrev pub pack_typed : List ℕ → ℕ → Typed → Typed
+pack_typed t l x =
+    record {
+      ty = 4;
+      typed = x.typed;
+      holds = both_held x.holds (flow_held (whole_flows t x.label l));
+      label = integrity_member l;
+      next = x.next;
+    }
+
+abbrev pub unpack_typed : List ℕ → ℕ → ℕ → Typed → Typed
+unpack_typed t n l x =
+    record {
+      ty = n;
+      typed = both (is_type x 2) (both (is_sum t n) (eqb (right_in t n) 1));
+      holds = both_held x.holds
+          (record { flow = confidentiality_flows t x.label l; keeping = whole_flows t x.label l });
+      label = label_member l;
+      next = x.next;
+    }
+
+-- a command in which nothing is to be tested
+abbrev pub plain_passed : Bool → ℕ → Passed
+plain_passed typed next = record { typed = typed; holds = all_held; next = next }
+
 -- no command
 abbrev pub refused : ℕ → Passed
-refused next = record { typed = false; holds = all_hold; next = next }
+refused next = plain_passed false next
 
 abbrev pub skip_passed : ℕ → Passed
-skip_passed next = record { typed = true; holds = all_hold; next = next }
+skip_passed next = plain_passed true next
 
-unfoldable pub seq_passed : Passed → Passed → Passed
+abbrev pub seq_passed : Passed → Passed → Passed
 seq_passed x y =
     record {
       typed = both x.typed y.typed;
-      holds = intersection x.holds y.holds;
+      holds = both_held x.holds y.holds;
       next = y.next;
     }
 
 -- an assignment of x to location n below the surrounding label pc: both labels are at or below the location's
-unfoldable pub assign_passed : List ℕ → ℕ → ℕ → Typed → Passed
+abbrev pub assign_passed : List ℕ → ℕ → ℕ → Typed → Passed
 assign_passed t n pc x =
     record {
       typed = is_type x (type_in t n);
-      holds = intersection x.holds (union (flows_in t (union x.label pc) (home_in t n) true) keeping_alone);
+      holds = both_held x.holds (flow_held (whole_flows t (union x.label pc) (home_in t n)));
       next = x.next;
     }
 
-unfoldable pub while_passed : Typed → Passed → Passed
+abbrev pub while_passed : Typed → Passed → Passed
 while_passed x y =
     record {
       typed = both (is_type x 3) y.typed;
-      holds = intersection x.holds y.holds;
+      holds = both_held x.holds y.holds;
       next = y.next;
     }
 
-unfoldable pub case_passed : List ℕ → Typed → Passed → Passed → Passed
+abbrev pub case_passed : List ℕ → Typed → Passed → Passed → Passed
 case_passed t x y z =
     record {
       typed = both x.typed (both (is_sum t x.ty) (both y.typed z.typed));
-      holds = intersection x.holds (intersection y.holds z.holds);
+      holds = both_held x.holds (both_held y.holds z.holds);
       next = z.next;
     }

@@ -3,21 +3,21 @@ use mathlib.Core.Path.{◌≡◌, refl, ap, ap₂, ◌∙◌}
 use mathlib.Core.Bool.{Bool, true, false, cond}
 use mathlib.Core.Option.{none, some}
 use mathlib.Core.List.{List, [], ◌∷◌}
-use Prim.Native.Nat.{ℕ, zero, suc, ◌+◌, ◌*◌, ◌-◌, ◌%◌, ◌<◌, ◌≤◌}
+use Prim.Native.Nat.{ℕ, zero, suc, ◌+◌, ◌-◌, ◌<◌, ◌≤◌}
 use native.Mathlib.Numerals.{add-one}
 use native.Mathlib.Omega.{arith}
-use native.Mathlib.Nat.{mod-eq_of_lt}
-use lib.Dec.{ltb, leb}
-use lib.ListN.{length, get_or, set, length-set}
+use lib.Dec.{ltb}
+use lib.ListN.{length, length-set}
 use lib.Seq.{get_or-set_same, get_or-set_other}
-use borrow.Author.Tests.{lt-ltb, le-ltb, le-leb, lt-leb}
+use borrow.Author.Tests.{lt-ltb, le-ltb}
 use Rattle.logic.specs.Booleans.{both}
 use Rattle.language.specs.Declarations.{nth}
 use Rattle.script.specs.Names.{max_depth}
-use Rattle.checker.specs.Internal.Bindings.{binding_size, bindings_size, bound_type, bound_label, up_to, bound_types}
-use Rattle.checker.specs.Internal.Bindings.{bound_labels, bind_of}
 use Rattle.checks.specs.Internal.Nodes.{plain_typed, nothing}
-use Rattle.checker.specs.Internal.Bindings.{var_typed}
+use Rattle.checker.specs.declared.bindings.Binding.{Binding}
+use Rattle.checker.specs.declared.bindings.Bindings.{Bindings}
+use Rattle.checker.specs.Internal.Bindings.{binding_at, bound_type, bound_label, up_to, bound_types, bound_labels}
+use Rattle.checker.specs.Internal.Bindings.{Within, enter_of, leave_of, var_typed}
 use Rattle.checker.specs.Internal.Post.{Kept}
 
 module _ {A : Type 0} where
@@ -45,83 +45,90 @@ module _ {A : Type 0} where
   tail [] = []
   tail (x ∷ xs) = xs
 
-  -- places that agree up to d + 1 agree up to d
-  up_to_fewer : (f g : ℕ → A) (d : ℕ) → up_to f (d + 1) ≡ up_to g (d + 1) → up_to f d ≡ up_to g d
+  -- the places but the last of them
+  up_to_fewer : (f : ℕ → A) (d : ℕ) → 0 < d → up_to f (d - 1) ≡ tail (up_to f d)
   unfolding up_to tail
-  up_to_fewer f g d e = ap tail (rw add-one at e)
+  up_to_fewer f zero h = absurd (omega arith)
+  up_to_fewer f (suc d) h = let e : suc d - 1 ≡ d = omega arith in ap (up_to f) e
 
-pub kept_fewer : {s s' : List ℕ} {d : ℕ} → Kept s s' (d + 1) → Kept s s' d
-kept_fewer {s} {s'} {d} k = record {
-  size = k.size;
-  types = up_to_fewer (bound_type s') (bound_type s) d k.types;
-  labels = up_to_fewer (bound_label s') (bound_label s) d k.labels;
+pub kept_same : {b : Bindings} → Kept b b
+kept_same = record { size = refl; depth = refl; types = refl; labels = refl }
+
+pub kept_twice : {b c d : Bindings} → Kept b c → Kept c d → Kept b d
+kept_twice k l = record {
+  size = l.size ∙ k.size;
+  depth = l.depth ∙ k.depth;
+  types = l.types ∙ k.types;
+  labels = l.labels ∙ k.labels;
 }
 
-pub kept_same : {s : List ℕ} {d : ℕ} → Kept s s d
-kept_same = record { size = refl; types = refl; labels = refl }
+-- what is entered, and what it holds
+module _ (b : Bindings) (n a : ℕ) (h : b.depth < max_depth) (k : max_depth ≤ length b.cases) where
+  here : binding_at (enter_of b n a).cases b.depth ≡ record { ty = n; label = a }
+  here = get_or-set_same b.cases b.depth _ _ (omega arith)
 
-pub kept_twice : {s s' s'' : List ℕ} {d : ℕ} → Kept s s' d → Kept s' s'' d → Kept s s'' d
-kept_twice k l = record { size = l.size ∙ k.size; types = l.types ∙ k.types; labels = l.labels ∙ k.labels }
+  below : (i : ℕ) → i < b.depth → binding_at (enter_of b n a).cases i ≡ binding_at b.cases i
+  below i l = get_or-set_other b.cases b.depth i _ _ (λ e. omega arith)
 
-module _ (s : List ℕ) (d n a : ℕ) where
-  pub bind_kept : Kept s (bind_of s d n a) d
-  unfolding bind_of
-  bind_kept = record {
-    size = length-set (set s (d * binding_size) n) (d * binding_size + 1) a ∙ length-set s (d * binding_size) n;
-    types = up_to_same _ _ d (λ i l. ap (λ (w : ℕ). w % 4294967296) (kept (i * binding_size) (omega arith)));
-    labels = up_to_same _ _ d (λ i l. kept (i * binding_size + 1) (omega arith));
-  }
-    where
-      kept : (i : ℕ) → i < d * binding_size
-          → get_or (set (set s (d * binding_size) n) (d * binding_size + 1) a) i 0 ≡ get_or s i 0
-      kept i l = get_or-set_other (set s (d * binding_size) n) (d * binding_size + 1) i a 0 (λ e. omega arith)
-          ∙ get_or-set_other s (d * binding_size) i n 0 (λ e. omega arith)
+  entered : {A : Type 0} (f : Binding → A) → up_to (λ i. f (binding_at (enter_of b n a).cases i)) (b.depth + 1)
+      ≡ f (record { ty = n; label = a }) ∷ up_to (λ i. f (binding_at b.cases i)) b.depth
+  unfolding up_to
+  entered {A} f =
+      ap (up_to (λ i. f (binding_at (enter_of b n a).cases i))) (add-one b.depth)
+      ∙ ap₂ (λ (x : A) (l : List A). x ∷ l) (ap f here) (up_to_same _ _ b.depth (λ i l. ap f (below i l)))
 
-  module _ (h : d < max_depth) (k : bindings_size ≤ length s) where
-    pub bind-type : n < 4294967296 → bound_types (bind_of s d n a) (d + 1) ≡ n ∷ bound_types s d
-    unfolding up_to bind_of
-    bind-type small =
-        let here : bound_type (bind_of s d n a) d ≡ n =
-        ap (λ (w : ℕ). w % 4294967296) (get_or-set_other (set s (d * binding_size) n) (d * binding_size + 1)
-        (d * binding_size) a 0 (λ e. omega arith) ∙ get_or-set_same s (d * binding_size) n 0 (omega arith))
-        ∙ mod-eq_of_lt small in
-        ap (up_to (bound_type (bind_of s d n a))) (add-one d) ∙ ap₂ (λ (x : ℕ) (l : List ℕ). x ∷ l) here bind_kept.types
+  pub entered_types : bound_types (enter_of b n a) ≡ n ∷ bound_types b
+  entered_types = entered (λ c. c.ty)
 
-    pub bind-label : bound_labels (bind_of s d n a) (d + 1) ≡ a ∷ bound_labels s d
-    unfolding up_to bind_of
-    bind-label =
-        let here : bound_label (bind_of s d n a) d ≡ a =
-        get_or-set_same (set s (d * binding_size) n) (d * binding_size + 1) a 0
-        (omega (arith, length-set s (d * binding_size) n)) in
-        ap (up_to (bound_label (bind_of s d n a))) (add-one d)
-        ∙ ap₂ (λ (x : ℕ) (l : List ℕ). x ∷ l) here bind_kept.labels
+  pub entered_labels : bound_labels (enter_of b n a) ≡ a ∷ bound_labels b
+  entered_labels = entered (λ c. c.label)
+
+  pub entered_within : Within (enter_of b n a)
+  entered_within = (omega arith, omega (arith, length-set b.cases b.depth (record { ty = n; label = a })))
+
+  -- what is bound is kept, where a case is left that was entered
+  pub kept_left : {c : Bindings} → Kept (enter_of b n a) c → Kept b (leave_of c)
+  unfolding tail
+  kept_left {c} q =
+      let some : 0 < c.depth = omega (arith, q.depth) in
+      record {
+        size = q.size ∙ length-set b.cases b.depth (record { ty = n; label = a });
+        depth = omega (arith, q.depth);
+        types = up_to_fewer (bound_type c.cases) c.depth some ∙ ap tail (q.types ∙ entered_types);
+        labels = up_to_fewer (bound_label c.cases) c.depth some ∙ ap tail (q.labels ∙ entered_labels);
+      }
+
+pub kept_within : {b c : Bindings} → Kept b c → Within b → Within c
+kept_within k w = (omega (arith, k.depth, w.0), omega (arith, k.size, w.1))
 
 -- a variable is read from its place, if it has one
-module _ (s : List ℕ) (d i next : ℕ) where
-  pub var_in : i < d → d ≤ max_depth
-      → var_typed s d i next ≡ plain_typed (bound_type s (d - suc i)) (bound_label s (d - suc i)) next
+module _ (b : Bindings) (i next : ℕ) where
+  pub var_in : i < b.depth → b.depth - suc i < max_depth
+      → var_typed b i next
+      ≡ plain_typed (bound_type b.cases (b.depth - suc i)) (bound_label b.cases (b.depth - suc i)) next
   unfolding var_typed both
-  var_in h k = rw (lt-ltb i d h, le-leb d max_depth k)
+  var_in h k = rw (lt-ltb i b.depth h, lt-ltb (b.depth - suc i) max_depth k)
 
-  pub var_past : d ≤ i → var_typed s d i next ≡ nothing next
+  pub var_past : b.depth ≤ i → var_typed b i next ≡ nothing next
   unfolding var_typed both
-  var_past h = rw (le-ltb i d h)
+  var_past h = rw (le-ltb i b.depth h)
 
-  pub var_deep : max_depth < d → var_typed s d i next ≡ nothing next
+  pub var_deep : max_depth ≤ b.depth - suc i → var_typed b i next ≡ nothing next
   unfolding var_typed both
-  var_deep h = rw (lt-leb d max_depth h) (on (ltb i d))
+  var_deep h = rw (le-ltb (b.depth - suc i) max_depth h) (on (ltb i b.depth))
     where
-      on : (b : Bool) → cond (both b false) (plain_typed (bound_type s (d - suc i)) (bound_label s (d - suc i)) next)
+      on : (c : Bool) → cond (both c false)
+          (plain_typed (bound_type b.cases (b.depth - suc i)) (bound_label b.cases (b.depth - suc i)) next)
           (nothing next) ≡ nothing next
       on true = refl
       on false = refl
 
-  pub var_next : (var_typed s d i next).next ≡ next
-  unfolding var_typed nothing
-  var_next = on (both (ltb i d) (leb d max_depth))
+  pub var_next : (var_typed b i next).next ≡ next
+  unfolding var_typed
+  var_next = on (both (ltb i b.depth) (ltb (b.depth - suc i) max_depth))
     where
-      on : (b : Bool)
-          → (cond b (plain_typed (bound_type s (d - suc i)) (bound_label s (d - suc i)) next) (nothing next)).next
-          ≡ next
+      on : (c : Bool) → (cond c
+          (plain_typed (bound_type b.cases (b.depth - suc i)) (bound_label b.cases (b.depth - suc i)) next)
+          (nothing next)).next ≡ next
       on true = refl
       on false = refl

@@ -1,5 +1,4 @@
 pub mod BindingLaws
-pub mod HoldLaws
 pub mod ExprLaws
 pub mod CmdLaws
 pub mod TypeLaws

@@ -2,10 +2,8 @@
 use mathlib.Core.Path.{◌≡◌, refl, sym, ap, ap₂, ◌∙◌}
 use mathlib.Core.Bool.{Bool, true, false, cond}
 use mathlib.Core.List.{List, []}
-use Prim.Native.Nat.{ℕ, ◌≤◌}
+use Prim.Native.Nat.{ℕ}
 use native.Mathlib.Omega.{arith}
-use lib.ListN.{length}
-use Rattle.sets.specs.Sets.{member}
 use Rattle.language.specs.Syntax.{Script}
 use Rattle.language.specs.Typing.{flow, refusal}
 use Rattle.language.proofs.Exactness.{exactness}
@@ -18,19 +16,29 @@ use Rattle.sheet.proofs.MeaningLaws.{least_label_laws}
 use Rattle.members.specs.Internal.Members.{label_member}
 use Rattle.checks.specs.declared.Passed.{Passed}
 use Rattle.checker.specs.Internal.Numbers.{shape_no, conditions_on}
-use Rattle.checker.specs.Internal.Bindings.{up_to, bindings_size}
+use Rattle.checker.specs.declared.bindings.Bindings.{Bindings}
+use Rattle.checker.specs.Internal.Bindings.{up_to, Within}
 use Rattle.checker.specs.Verdict.{verdict_number}
-use Rattle.checker.specs.declared.Verdict.{Verdict}
+use Rattle.std.specs.Prelude.{Result, Option, None, Some, unwrap_or, MatchOption}
+use Rattle.sheet.specs.Sheet.{max_labels}
+use Rattle.members.proofs.MemberLaws.{label_past}
+use Rattle.checker.specs.declared.TypingError.{TypingError}
 use Rattle.checker.specs.Internal.Post.{ChecksCmd, ChecksCode, KeepsCode, verdict_of}
 use Rattle.checker.specs.Theorems.{CheckerExact}
 use Rattle.checker.proofs.TypeLaws.{no_bound, shape_agree}
 use Rattle.checker.proofs.LabelLaws.{flow-table, keeps_table}
 
 verdict-number : (typed flow : Bool) → verdict_number (verdict_of typed flow) ≡ cond typed (cond flow 0 6) 5
-unfolding verdict_number verdict_of
+unfolding verdict_number
 verdict-number true true = refl
 verdict-number true false = refl
 verdict-number false flow = refl
+
+-- where the code starts: at what `map_or` gives, where its function gives a label's member
+pub start-member : (start : Option ℕ) (P : ℕ → Type 0) (r : ℕ) → MatchOption start (r ≡ 0) P
+    → ((l : ℕ) → P l → r ≡ label_member l) → r ≡ label_member (unwrap_or start max_labels)
+start-member None P r h f = h ∙ sym (label_past max_labels (omega arith))
+start-member (Some l) P r h f = f l h
 
 -- the number that the table gives
 number : (s : Sheet) → formed s ≡ true → repeats s ≡ false → (p : Script) → Source p.command
@@ -40,28 +48,27 @@ number : (s : Sheet) → formed s ≡ true → repeats s ≡ false → (p : Scri
 unfolding refusal
 number s fm once p src = rw (shape_agree s fm once src (no_bound), ← flow-table s fm p)
 
-pub check-answers : (ws t : List ℕ) (start : ℕ) {bound bound' : List ℕ} {x : Passed} {r : Verdict} {pc : ℕ}
-    → pc ≡ label_member start → ChecksCmd ws 0 t bound 0 pc x bound'
-    → r ≡ verdict_of x.typed (member 0 x.holds) → bindings_size ≤ length bound
-    → ChecksCode ws t start (verdict_number r)
+pub check-answers : (ws t : List ℕ) (start : ℕ) {b b' : Bindings} {x : Passed} {r : Result (Unit {0}) TypingError}
+    {pc : ℕ} → pc ≡ label_member start → Within b → b.depth ≡ 0 → ChecksCmd ws 0 t b pc x b'
+    → r ≡ verdict_of x.typed x.holds.flow → ChecksCode ws t start (verdict_number r)
 unfolding up_to
-check-answers ws t start {x = x} m cx e room =
+check-answers ws t start {b} {x = x} m room none cx e =
     record {
       exact = λ s fm once table k p src names w i.
-          let y = (cx.means k p.command [] src w names (omega arith, room)).0 in
+          let y = (cx.means k p.command [] src w (rw none names) room).0 in
           ap verdict_number (e ∙ ap₂ verdict_of y.typed_is y.flow_is) ∙ verdict-number _ _
-          ∙ rw (m, i, table) (number s fm once p src);
+          ∙ rw (none, m, i, table) (number s fm once p src);
     }
 
-pub check_keeps : (ws t : List ℕ) {bound bound' : List ℕ} {x : Passed} {pc : ℕ} {r : Bool}
-    → ChecksCmd ws 0 t bound 0 pc x bound'
-    → r ≡ member 1 x.holds → bindings_size ≤ length bound → KeepsCode ws t r
+pub check_keeps : (ws t : List ℕ) {b b' : Bindings} {x : Passed} {pc : ℕ} {r : Bool}
+    → Within b → b.depth ≡ 0 → ChecksCmd ws 0 t b pc x b'
+    → r ≡ x.holds.keeping → KeepsCode ws t r
 unfolding up_to
-check_keeps ws t cx e room =
+check_keeps ws t room none cx e =
     record {
       says = λ s fm table k p src names w.
-          e ∙ (cx.means k p.command [] src w names (omega arith, room)).0.keeping_is
-          ∙ rw table (sym (keeps_table s fm p));
+          e ∙ (cx.means k p.command [] src w (rw none names) room).0.keeping_is
+          ∙ rw (none, table) (sym (keeps_table s fm p));
     }
 
 pub checker_exact : CheckerExact

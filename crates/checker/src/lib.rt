@@ -5,52 +5,64 @@ mod bindings; // bindings.rt: what enclosing cases bind
 mod expressions; // expressions.rt: types and least labels of expressions
 mod commands; // commands.rt: commands
 
-ghost use Rattle.std.specs.Prelude.{◌≡◌};
+ghost use Rattle.std.specs.Prelude.{◌≡◌, unwrap_or};
+ghost use Rattle.sheet.specs.Sheet.{max_labels};
 ghost use Rattle.checker.specs.Verdict.{verdict_number};
 ghost use Rattle.checker.specs.Internal.Post.{ChecksCode, KeepsCode, verdict_of};
 
-use checks::{FLOW, KEEPING};
+use bindings::Bindings;
+use std::error::Error;
+use std::fmt;
 
-// What is found of a script: it has a derivation, or its types or else its labels leave it none.
-#[derive(Clone, Copy)]
-pub enum Verdict {
-    Accepted,
+// Why a script has no derivation: for its types, or else for its labels.
+#[derive(Clone, Copy, Debug, PartialEq, Eq)]
+pub enum TypingError {
     IllTyped,
     IllLabelled,
 }
 
-// A verdict, and whether the script is trust-keeping: each unpack's operand is at or below the wanted label.
-#[derive(Clone, Copy)]
+impl fmt::Display for TypingError {
+    fn fmt<W: fmt::Write>(&self, f: &mut fmt::Formatter<W>) -> fmt::Result {
+        f.write_str(match self {
+            TypingError::IllTyped => "the types don't fit",
+            TypingError::IllLabelled => "the labels don't fit",
+        })
+    }
+}
+
+impl Error for TypingError {}
+
+// What is found of a script: whether it has a derivation, and whether it is trust-keeping: each unpack's operand is at
+// or below the wanted label.
+#[derive(Clone, Copy, Debug, PartialEq, Eq)]
 pub struct Finding {
-    pub verdict: Verdict,
+    pub verdict: Result<(), TypingError>,
     pub keeping: bool,
 }
 
-// Checks a script's code against a sheet's table. `start`: the number of the label that it starts at; one that names
-// none is bottom's.
-pub fn check(code: &[u32], table: &[sheet::Word], start: u32) -> Finding
-    ensures { ChecksCode code.now table.now start (verdict_number result.verdict)
+// Checks a script's code against a sheet's table. `start`: the number of the label that it starts at, if it starts at
+// one; one that names none is bottom's.
+pub fn check(code: &[u32], table: &[sheet::Word], start: Option<u32>) -> Finding
+    ensures { ChecksCode code.now table.now (unwrap_or start max_labels) (verdict_number result.verdict)
         × KeepsCode code.now table.now result.keeping }
 {
-    let mut bound: [u64; bindings::BINDINGS] = [0; bindings::BINDINGS];
-    let x = commands::check_cmd(code, 0, table, &mut bound, 0, members::label(start));
+    let pc = start.map_or(members::BOTTOM, members::label);
+    let x = commands::check_cmd(code, 0, table, &mut Bindings::none(), pc);
     Finding {
-        verdict: answer(x.typed, (x.holds & FLOW) != 0),
-        keeping: (x.holds & KEEPING) != 0,
+        verdict: verdict(x.typed, x.holds.flow),
+        keeping: x.holds.keeping,
     }
 }
 
 // By whether the types fit, and whether the label conditions hold.
-fn answer(typed: bool, flow: bool) -> Verdict
+fn verdict(typed: bool, flow: bool) -> Result<(), TypingError>
     ensures { result ≡ verdict_of typed flow }
 {
-    if typed {
-        if flow {
-            Verdict::Accepted
-        } else {
-            Verdict::IllLabelled
-        }
-    } else {
-        Verdict::IllTyped
+    if !typed {
+        return Err(TypingError::IllTyped);
     }
+    if !flow {
+        return Err(TypingError::IllLabelled);
+    }
+    Ok(())
 }

@@ -1,44 +1,51 @@
--- What enclosing cases bind, as words: for each case the number of the type that it binds and the members of its label,
--- outermost first.
-use Rattle.std.specs.Prelude.{List, [], ◌∷◌, ℕ, zero, suc, ◌+◌, ◌*◌, ◌-◌, ◌%◌, cond, leb, ltb, get_or, set}
+-- What enclosing cases bind: for each case the number of its type and the members of its label, outermost first.
+use Rattle.std.specs.Prelude.{List, [], ◌∷◌, ℕ, zero, suc, ◌+◌, ◌-◌, ◌≤◌, cond, ltb, get_or, set, length}
 use Rattle.logic.specs.Booleans.{both}
 use Rattle.script.specs.Names.{max_depth}
 use Rattle.checks.specs.declared.Typed.{Typed}
 use Rattle.checks.specs.Internal.Nodes.{plain_typed, nothing}
+use Rattle.checker.specs.declared.bindings.Binding.{Binding}
+use Rattle.checker.specs.declared.bindings.Bindings.{Bindings}
 
--- the words for one case, and for all
-abbrev pub binding_size : ℕ
-binding_size = 2
+-- what place i holds, and nothing past the last place
+abbrev pub binding_at : List Binding → ℕ → Binding
+binding_at s i = get_or s i (record { ty = 0; label = 0 })
 
-abbrev pub bindings_size : ℕ
-bindings_size = max_depth * binding_size
+-- the type's number and the label's members at place i
+abbrev pub bound_type : List Binding → ℕ → ℕ
+bound_type s i = (binding_at s i).ty
 
--- the type's number, of 32 bits, and the label's members at place i
-abbrev pub bound_type : List ℕ → ℕ → ℕ
-bound_type s i = get_or s (i * binding_size) 0 % 4294967296
-
-abbrev pub bound_label : List ℕ → ℕ → ℕ
-bound_label s i = get_or s (i * binding_size + 1) 0
+abbrev pub bound_label : List Binding → ℕ → ℕ
+bound_label s i = (binding_at s i).label
 
 -- the places below d, the last of them first
 unfoldable pub up_to : {A : Type 0} → (ℕ → A) → ℕ → List A
 up_to f zero = []
 up_to f (suc d) = f d ∷ up_to f d
 
--- the types and the labels that d enclosing cases bind, innermost first
-abbrev pub bound_types : List ℕ → ℕ → List ℕ
-bound_types s d = up_to (bound_type s) d
+-- the types and the labels that the enclosing cases bind, innermost first
+abbrev pub bound_types : Bindings → List ℕ
+bound_types b = up_to (bound_type b.cases) b.depth
 
-abbrev pub bound_labels : List ℕ → ℕ → List ℕ
-bound_labels s d = up_to (bound_label s) d
+abbrev pub bound_labels : Bindings → List ℕ
+bound_labels b = up_to (bound_label b.cases) b.depth
 
--- the words with a type and a label stored at place d
-unfoldable pub bind_of : List ℕ → ℕ → ℕ → ℕ → List ℕ
-bind_of s d n a = set (set s (d * binding_size) n) (d * binding_size + 1) a
+-- there are places for the enclosing cases
+abbrev pub Within : Bindings → Type 0
+Within b = (b.depth ≤ max_depth) × (max_depth ≤ length b.cases)
 
--- variable i below d cases
-unfoldable pub var_typed : List ℕ → ℕ → ℕ → ℕ → Typed
-var_typed s d i next =
-    cond (both (ltb i d) (leb d max_depth))
-    (plain_typed (bound_type s (d - suc i)) (bound_label s (d - suc i)) next)
+-- one case deeper, with a type and a label bound
+abbrev pub enter_of : Bindings → ℕ → ℕ → Bindings
+enter_of b n a = record { cases = set b.cases b.depth (record { ty = n; label = a }); depth = b.depth + 1 }
+
+-- out of the innermost case
+abbrev pub leave_of : Bindings → Bindings
+leave_of b = record { cases = b.cases; depth = b.depth - 1 }
+
+-- variable i
+unfoldable pub var_typed : Bindings → ℕ → ℕ → Typed
+var_typed b i next =
+    let place = b.depth - suc i in
+    cond (both (ltb i b.depth) (ltb place max_depth))
+    (plain_typed (bound_type b.cases place) (bound_label b.cases place) next)
     (nothing next)

@@ -1,5 +1,4 @@
 pub mod ValueLaws
-pub mod NodeLaws
 pub mod StateLaws
+pub mod NodeLaws
 pub mod EvalLaws
-pub mod NumberLaws

@@ -1,12 +1,12 @@
 -- One value made of another in the accumulator: a law for each way through each function.
-use Rattle.std.proofs.Common.{◌≡◌, ℕ, zero, suc, ◌+◌, ◌-◌, ◌%◌, ◌^◌, ◌<◌, ◌≤◌, Bool, true, false, cond, eqb, List, []}
+use Rattle.std.proofs.Common.{◌≡◌, ℕ, suc, ◌+◌, ◌-◌, ◌%◌, ◌^◌, ◌<◌, ◌≤◌, Bool, true, false, cond, eqb, List, []}
 use Rattle.std.proofs.Common.{◌∷◌, ◌++◌, length, get_or, take, drop, sym, refl, ap, ◌∙◌, subst, ap₂, arith}
 use Rattle.std.proofs.Common.{take-append-drop, get_or-take, le-leb}
 use borrow.Author.Tests.{lt-leb}
 use Rattle.language.specs.Syntax.{Head, head_of, head_size, Value, int, err, inl, inr, pkg, pair, blank, Part, first}
 use Rattle.language.specs.Syntax.{second, pick, size, has}
 use Rattle.language.specs.World.{World, cell_words, wanted}
-use Rattle.language.specs.Evaluation.{Res, ok, long, stuck, bind, fit_if, fit, add_to, add, packed, opened, unpacked}
+use Rattle.language.specs.Evaluation.{Res, ok, long, fit_if, fit, add_to, add, packed, opened, unpacked}
 use Rattle.language.specs.Evaluation.{part_of}
 use Rattle.sheet.specs.Internal.Tables.{labels_in, left_in, below_in}
 use Rattle.sheet.specs.Internal.Powers.{may_write, may_read}
@@ -18,9 +18,11 @@ use Rattle.memory.proofs.WordLaws.{length-cell, enc-append, value_enc, end_enc}
 use Rattle.cells.specs.Internal.Cells.{accumulator, load_of, store_of, push_of, pushes_of, pop_of, pops_of, cut_of}
 use Rattle.script.specs.declared.Row.{Row}
 use Rattle.script.proofs.Rows.{NoneOf, none_between}
-use Rattle.evaluator.specs.Internal.Records.{Setting, Result, end_state, reached}
-use Rattle.evaluator.specs.Internal.Nodes.{Yields, Gives, Turns, Applies, error_of, error_in, Tells, Sums, Tagged}
-use Rattle.evaluator.specs.Internal.Nodes.{Packs, Unpacks, Projects, part_by, Op, o_plus, o_left, o_right, o_pack}
+use Rattle.evaluator.specs.declared.nodes.Failure.{Failure}
+use Rattle.evaluator.specs.declared.nodes.Failure.TheVariants.{InsufficientAuth, IllegalFlow, TypeMismatch}
+use Rattle.evaluator.specs.Internal.Records.{Setting}
+use Rattle.evaluator.specs.Internal.Nodes.{Yields, Turns, Applies, error_number, error_of, error_in, Tells, Sums, Tagged}
+use Rattle.evaluator.specs.Internal.Nodes.{Packs, Unpacks, Projects, Op, o_left, o_right, o_pack}
 use Rattle.evaluator.specs.Internal.Nodes.{o_unpack, o_part, op_kind, MadeBy, Applied, Pairs}
 use Rattle.cells.proofs.CellLaws.{there, load_there, length_load, length_push, length_pushes, length_pop, length_pops}
 use Rattle.cells.proofs.CellLaws.{length_cut, store_there, cell-stored, rest_kept}
@@ -52,71 +54,22 @@ second_here work v e = sym (get_or-take 16 work 1 0 (omega arith)) ∙ ap (λ (l
 
 -- ---- answers
 
--- a number that is a place, and one that is none
-pub end_done : (end : ℕ) → 1 < end → end_state end ≡ 0
-unfolding end_state
-end_done zero h = absurd (omega arith)
-end_done (suc zero) h = absurd (omega arith)
-end_done (suc (suc n)) h = refl
-
-pub end_none : (end : ℕ) → end ≤ 1 → end_state end ≡ 0 → ⊥
-unfolding end_state
-end_none zero h z = omega arith
-end_none (suc zero) h z = omega arith
-end_none (suc (suc n)) h z = omega arith
-
--- the result v, with other cells
-abbrev with_cells : Result → List ℕ → Result
-with_cells v cells = record { state = v.state; next = v.next; cells = cells }
-
-module _ (f : Value → Res) (v : Result) where
-  pub turns_past : (v.state ≡ 0 → ⊥) → Turns f v v
-  unfolding Yields bind
-  turns_past n (ok u) h a = absurd (n a.0)
-  turns_past n long h a = a
-  turns_past n stuck h a = tt
-
+module _ (f : Value → Res) (before : List ℕ) (state : ℕ) where
   -- a new value is stored
-  turns_put : (words : List ℕ) → v.state ≡ 0 → length words ≡ cell_words
-      → ((u : Value) → cell_words ≤ length v.cells → cell_of v.cells accumulator ≡ cell u
-      → Yields (f u) v.state words)
-      → Turns f v (with_cells v (store_of v.cells accumulator words))
-  unfolding Yields bind
-  turns_put words z n k (ok u) h a =
-      rw (cell-stored v.cells 0 words n (there v.cells 0 (omega arith))) (k u h a.1)
-  turns_put words z n k long h a = absurd (omega arith)
-  turns_put words z n k stuck h a = tt
+  turns_put : (words : List ℕ) → length words ≡ cell_words
+      → ((u : Value) → cell_words ≤ length before → cell_of before accumulator ≡ cell u → Yields (f u) state words)
+      → Turns f before state (store_of before accumulator words)
+  turns_put words n k u h a = rw (cell-stored before 0 words n (there before 0 (omega arith))) (k u h a)
 
-  -- nothing is stored
-  turns_keep : (end : ℕ) → v.state ≡ 0
-      → ((u : Value) → cell_of v.cells accumulator ≡ cell u → Gives (f u) (reached end v.cells))
-      → Turns f v (reached end v.cells)
-  unfolding Yields bind
-  turns_keep end z k (ok u) h a = k u a.1
-  turns_keep end z k long h a = absurd (omega arith)
-  turns_keep end z k stuck h a = tt
+applies-put : {Means : Type 0} {before after : List ℕ} (words : List ℕ) → length words ≡ cell_words
+    → after ≡ store_of before accumulator words → Means → Applies before after Means
+applies-put {before = before} words n e m = record {
+  kept = ap (drop 16) e ∙ rest_kept before words n;
+  means = m;
+}
 
-module _ {Means : Type 0} {v : Result} where
-  pub applies_past : Means → Applies v v Means
-  applies_past m = record { kept = refl; through = λ z. z; same_place = λ z. refl; means = m }
-
-  applies-put : {cells : List ℕ} (words : List ℕ) → length words ≡ cell_words
-      → cells ≡ store_of v.cells accumulator words → Means
-      → Applies v (with_cells v cells) Means
-  applies-put words n e m = record {
-    kept = ap (drop 16) e ∙ rest_kept v.cells words n;
-    through = λ z. z;
-    same_place = λ z. refl;
-    means = m;
-  }
-
-  applies_keep : (end : ℕ) → end ≤ 1 → Means → Applies v (reached end v.cells) Means
-  applies_keep end h m = record {
-    kept = refl;
-    through = λ z. absurd (end_none end h z);
-    same_place = λ z. absurd (end_none end h z);
-    means = m;
-  }
+applies_keep : {Means : Type 0} {before : List ℕ} → Means → Applies before before Means
+applies_keep m = record { kept = refl; means = m }
 
 -- ---- values that fit, and that don't
 
@@ -128,13 +81,12 @@ too_long : (v : Value) → cell_words < size v → fit v ≡ long
 unfolding fit fit_if
 too_long v h = simp (lt-leb (size v) 16 h)
 
-answers_ok : (r : Res) (v : Value) (state : ℕ) (words : List ℕ) → r ≡ ok v → state ≡ 0 → words ≡ cell v
-    → Yields r state words
+answers_ok : (r : Res) (v : Value) (words : List ℕ) → r ≡ ok v → words ≡ cell v → Yields r 0 words
 unfolding Yields
-answers_ok r v state words e z w = rw e (z, w)
+answers_ok r v words e w = rw e (refl, w)
 
-answers-long : (r : Res) (words : List ℕ) → r ≡ long → Yields r (end_state 1) words
-unfolding Yields end_state
+answers-long : (r : Res) (words : List ℕ) → r ≡ long → Yields r 10 words
+unfolding Yields
 answers-long r words e = rw e refl
 
 pub length-int : (n : ℕ) → length (cell (int n)) ≡ cell_words
@@ -150,101 +102,86 @@ loaded work words l = ap (λ (u : List ℕ). length u) l ∙ length_load work 0
 
 -- ---- plus
 
-add-answer : (u w : Value) (n m s state : ℕ) (words : List ℕ) → state ≡ 0 → words ≡ cell (int s)
-    → n ≡ get_or (cell u) 1 0
-    → m ≡ get_or (cell w) 1 0
-    → s ≡ (n + m) % 2 ^ 32 → Yields (add u w) state words
+add-answer : (u w : Value) (n m s : ℕ) (words : List ℕ) → words ≡ cell (int s) → n ≡ get_or (cell u) 1 0
+    → m ≡ get_or (cell w) 1 0 → s ≡ (n + m) % 2 ^ 32 → Yields (add u w) 0 words
 unfolding Yields add add_to fit fit_if size cell enc
-add-answer (int a) (int b) n m s state words z e p q r =
-    (z, e ∙ ap (λ (i : ℕ). cell (int i)) (r ∙ ap (λ (i : ℕ). (i + m) % 2 ^ 32) p ∙ ap (λ (i : ℕ). (a + i) % 2 ^ 32) q))
-add-answer (int a) (err b) n m s state words z e p q r = tt
-add-answer (int a) (inl w) n m s state words z e p q r = tt
-add-answer (int a) (inr w) n m s state words z e p q r = tt
-add-answer (int a) (pkg h w) n m s state words z e p q r = tt
-add-answer (int a) (pair w x) n m s state words z e p q r = tt
-add-answer (int a) blank n m s state words z e p q r = tt
-add-answer (err a) w n m s state words z e p q r = tt
-add-answer (inl u) w n m s state words z e p q r = tt
-add-answer (inr u) w n m s state words z e p q r = tt
-add-answer (pkg h u) w n m s state words z e p q r = tt
-add-answer (pair u x) w n m s state words z e p q r = tt
-add-answer blank w n m s state words z e p q r = tt
+add-answer (int a) (int b) n m s words e p q r =
+    (refl, e ∙ ap (λ (i : ℕ). cell (int i)) (r ∙ ap (λ (i : ℕ). (i + m) % 2 ^ 32) p ∙ ap (λ (i : ℕ). (a + i) % 2 ^ 32) q))
+add-answer (int a) (err b) n m s words e p q r = tt
+add-answer (int a) (inl w) n m s words e p q r = tt
+add-answer (int a) (inr w) n m s words e p q r = tt
+add-answer (int a) (pkg h w) n m s words e p q r = tt
+add-answer (int a) (pair w x) n m s words e p q r = tt
+add-answer (int a) blank n m s words e p q r = tt
+add-answer (err a) w n m s words e p q r = tt
+add-answer (inl u) w n m s words e p q r = tt
+add-answer (inr u) w n m s words e p q r = tt
+add-answer (pkg h u) w n m s words e p q r = tt
+add-answer (pair u x) w n m s words e p q r = tt
+add-answer blank w n m s words e p q r = tt
 
-module _ {v : Result} where
-  pub sum_past : {n : ℕ} → (v.state ≡ 0 → ⊥) → Sums n v v
-  sum_past z = applies_past (λ u p. turns_past (add u) v z)
-
-  pub sum_done : {n m s : ℕ} {cells : List ℕ} → v.state ≡ 0 → m ≡ get_or v.cells 1 0 → s ≡ (n + m) % 2 ^ 32
-      → cells ≡ store_of v.cells accumulator (cell (int s)) → Sums n v (with_cells v cells)
-  sum_done {n} {m} {s} z q r e =
+module _ {before : List ℕ} where
+  pub sum_done : {n m : ℕ} {after : List ℕ} → m ≡ get_or before 1 0
+      → after ≡ store_of before accumulator (cell (int ((n + m) % 2 ^ 32))) → Sums n before 0 after
+  sum_done {n} {m} q e =
+      let s = (n + m) % 2 ^ 32 in
       applies-put (cell (int s)) (length-int s) e
-      (λ u p. rw e (turns_put (add u) v (cell (int s)) z (length-int s)
-      (λ w h a. add-answer u w n m s v.state (cell (int s)) z refl p (q ∙ second_here v.cells w a) r)))
+      (λ u p. rw e (turns_put (add u) before 0 (cell (int s)) (length-int s)
+      (λ w h a. add-answer u w n m s (cell (int s)) refl p (q ∙ second_here before w a) refl)))
 
   -- ---- left and right
 
-  pub tagged_past : {w : ℕ} → (v.state ≡ 0 → ⊥) → Tagged w v v
-  tagged_past z = applies_past (λ f t. turns_past (λ u. fit (f u)) v z)
+  pub tagged-long : {w end : ℕ} → end ≡ end_of before 0 → cell_words ≤ end → Tagged w before 10 before
+  tagged-long {end = end} s h =
+      applies_keep
+      (λ f t u g a. answers-long (fit (f u)) (cell_of before 0)
+      (too_long (f u) (omega (arith, t.longer u, size_here before u end s a))))
 
-  pub tagged-long : {w end : ℕ} → v.state ≡ 0 → end ≡ end_of v.cells 0 → cell_words ≤ end
-      → Tagged w v (reached 1 v.cells)
-  tagged-long {end = end} z s h =
-      applies_keep 1 (omega arith)
-      (λ f t. turns_keep (λ u. fit (f u)) v 1 z
-      (λ u a. answers-long (fit (f u)) (cell_of v.cells 0)
-      (too_long (f u) (omega (arith, t.longer u, size_here v.cells u end s a)))))
-
-  pub tagged_done : {w end : ℕ} {words cells : List ℕ} → v.state ≡ 0 → end ≡ end_of v.cells 0 → end < cell_words
-      → words ≡ load_of v.cells accumulator
-      → cells ≡ store_of v.cells accumulator (push_of w words) → Tagged w v (with_cells v cells)
-  tagged_done {w} {end} {words} z s h l e =
-      let n = length_push w words (loaded v.cells words l) in
+  pub tagged_done : {w end : ℕ} {words after : List ℕ} → end ≡ end_of before 0 → end < cell_words
+      → words ≡ load_of before accumulator → after ≡ store_of before accumulator (push_of w words)
+      → Tagged w before 0 after
+  tagged_done {w} {end} {words} s h l e =
+      let n = length_push w words (loaded before words l) in
       applies-put (push_of w words) n e
-      (λ f t. rw e (turns_put (λ u. fit (f u)) v (push_of w words) z n
-      (λ u g q. let m = size_here v.cells u end s q in
-      answers_ok (fit (f u)) (f u) v.state (push_of w words) (fits (f u) (omega (arith, t.longer u))) z
-      (ap (push_of w) (l ∙ load_here v.cells u g q) ∙ push_tag t u (omega arith)))))
+      (λ f t. rw e (turns_put (λ u. fit (f u)) before 0 (push_of w words) n
+      (λ u g q. let m = size_here before u end s q in
+      answers_ok (fit (f u)) (f u) (push_of w words) (fits (f u) (omega (arith, t.longer u)))
+      (ap (push_of w) (l ∙ load_here before u g q) ∙ push_tag t u (omega arith)))))
 
   -- ---- pack
 
-  module _ (powers l : ℕ) where
-    pub pack_past : (v.state ≡ 0 → ⊥) → Packs powers l v v
-    pack_past z = applies_past (turns_past (packed (may_write powers l) l) v z)
+  module _ (powers l : ℕ) {may : Bool} (w : may ≡ may_write powers l) where
+    pub pack-error : {after : List ℕ} → may ≡ false → after ≡ store_of before accumulator (cell (inr (err 1)))
+        → Packs powers l before 0 after
+    unfolding packed
+    pack-error n e =
+        applies-put (cell (inr (err 1))) (length-error 1) e
+        (rw (e, ← w, n) (turns_put (packed false l) before 0 (cell (inr (err 1))) (length-error 1)
+        (λ u h a. answers_ok (packed false l u) (inr (err 1)) (cell (inr (err 1))) refl refl)))
 
-    module _ {may : Bool} (w : may ≡ may_write powers l) where
-      pub pack-error : {cells : List ℕ} → v.state ≡ 0 → may ≡ false
-          → cells ≡ store_of v.cells accumulator (cell (inr (err 1))) → Packs powers l v (with_cells v cells)
-      unfolding packed
-      pack-error z n e =
-          applies-put (cell (inr (err 1))) (length-error 1) e
-          (rw (e, ← w, n) (turns_put (packed false l) v (cell (inr (err 1))) z (length-error 1)
-          (λ u h a. answers_ok (packed false l u) (inr (err 1)) v.state (cell (inr (err 1))) refl z refl)))
+    pub pack-long : {end : ℕ} → may ≡ true → end ≡ end_of before 0 → 13 < end → Packs powers l before 10 before
+    unfolding packed size
+    pack-long {end} y s h =
+        applies_keep
+        (rw (← w, y) (λ u g a. answers-long (packed true l u) (cell_of before 0)
+        (too_long (inl (pkg (head_of l) u)) (omega (arith, size_here before u end s a)))))
 
-      pub pack-long : {end : ℕ} → v.state ≡ 0 → may ≡ true → end ≡ end_of v.cells 0 → 13 < end
-          → Packs powers l v (reached 1 v.cells)
-      unfolding packed size
-      pack-long {end} z y s h =
-          applies_keep 1 (omega arith)
-          (rw (← w, y) (turns_keep (packed true l) v 1 z
-          (λ u a. answers-long (packed true l u) (cell_of v.cells 0)
-          (too_long (inl (pkg (head_of l) u)) (omega (arith, size_here v.cells u end s a))))))
-
-      pub pack-done : {end : ℕ} {words cells : List ℕ} → v.state ≡ 0 → may ≡ true → end ≡ end_of v.cells 0 → end ≤ 13
-          → words ≡ load_of v.cells accumulator
-          → cells ≡ store_of v.cells accumulator (push_of 3 (push_of 5 (push_of l words)))
-          → Packs powers l v (with_cells v cells)
-      unfolding packed size
-      pack-done {end} {words} z y s h ld e =
-          let left : List ℕ = push_of 3 (push_of 5 (push_of l words)) in
-          let n : length left ≡ 16 =
-          length_push 3 _ (length_push 5 _ (length_push l words (loaded v.cells words ld))) in
-          applies-put left n e
-          (rw (e, ← w, y) (turns_put (packed true l) v left z n
-          (λ u g a. let m = size_here v.cells u end s a in
-          answers_ok (packed true l u) (inl (pkg (head_of l) u)) v.state left
-          (fits (inl (pkg (head_of l) u)) (omega arith)) z
-          (ap (λ (x : List ℕ). push_of 3 (push_of 5 (push_of l x))) (ld ∙ load_here v.cells u g a)
-          ∙ ap (push_of 3) (push_package l u (omega arith)) ∙ push_tag tags_left (pkg (head_of l) u) (omega arith)))))
+    pub pack-done : {end : ℕ} {words after : List ℕ} → may ≡ true → end ≡ end_of before 0 → end ≤ 13
+        → words ≡ load_of before accumulator
+        → after ≡ store_of before accumulator (push_of 3 (push_of 5 (push_of l words)))
+        → Packs powers l before 0 after
+    unfolding packed size
+    pack-done {end} {words} y s h ld e =
+        let left : List ℕ = push_of 3 (push_of 5 (push_of l words)) in
+        let n : length left ≡ 16 =
+        length_push 3 _ (length_push 5 _ (length_push l words (loaded before words ld))) in
+        applies-put left n e
+        (rw (e, ← w, y) (turns_put (packed true l) before 0 left n
+        (λ u g a. let m = size_here before u end s a in
+        answers_ok (packed true l u) (inl (pkg (head_of l) u)) left
+        (fits (inl (pkg (head_of l) u)) (omega arith))
+        (ap (λ (x : List ℕ). push_of 3 (push_of 5 (push_of l x))) (ld ∙ load_here before u g a)
+        ∙ ap (push_of 3) (push_package l u (omega arith)) ∙ push_tag tags_left (pkg (head_of l) u) (omega arith)))))
 
 -- ---- unpack
 
@@ -255,12 +192,18 @@ opened-error true false c v e p n = rw p refl
 opened-error true true false v e p n = rw p refl
 opened-error true true true v e p n = absurd (n p)
 
-opened_fine : (a b c : Bool) (v : Value) (e : ℕ) → e ≡ error_of a b c → e ≡ 0 → opened a b c v ≡ fit (inl v)
+opened_fine : (a b c : Bool) (v : Value) → 0 ≡ error_of a b c → opened a b c v ≡ fit (inl v)
 unfolding opened error_of
-opened_fine false b c v e p n = absurd (omega arith)
-opened_fine true false c v e p n = absurd (omega arith)
-opened_fine true true false v e p n = absurd (omega arith)
-opened_fine true true true v e p n = refl
+opened_fine false b c v p = absurd (omega arith)
+opened_fine true false c v p = absurd (omega arith)
+opened_fine true true false v p = absurd (omega arith)
+opened_fine true true true v p = refl
+
+-- an error's number is never that of no error
+error_some : (e : Failure) → error_number e ≡ 0 → ⊥
+error_some InsufficientAuth z = omega arith
+error_some IllegalFlow z = omega arith
+error_some TypeMismatch z = omega arith
 
 -- the first word tells a package
 no_package : (W : World) (t l : ℕ) (work : List ℕ) (v : Value) (state : ℕ) → (get_or work 0 0 ≡ 5 → ⊥)
@@ -279,79 +222,82 @@ no_package W t l work (pkg h v) state ne e = absurd (ne (first_word work (pkg h 
 no_package W t l work (pair v w) state ne e = tt
 no_package W t l work blank state ne e = tt
 
-module _ {S : Setting} (v : Result) (t l e : ℕ)
-    (p : e
-    ≡ error_in S l (get_or v.cells 1 0) (has_no S.table (value_of (drop 2 v.cells)) (left_in S.table t))) where
+module _ {S : Setting} (before : List ℕ) (t l : ℕ) where
   -- what the three tests say of the package
-  tested : (W : World) → Tells S W → l < labels_in S.table → (h : Head) (u : Value)
-      → cell_of v.cells accumulator ≡ cell (pkg h u)
+  tested : (e : ℕ)
+      → e ≡ error_in S l (get_or before 1 0) (has_no S.table (value_of (drop 2 before)) (left_in S.table t))
+      → (W : World) → Tells S W → l < labels_in S.table → (h : Head) (u : Value)
+      → cell_of before accumulator ≡ cell (pkg h u)
       → e ≡ error_of (W.reads l) (W.below h.label l) (has u (wanted (W.ty t)))
   unfolding error_in head_words enc
-  tested W tells there h u a =
-      let c = words_here v.cells (pkg h u) a in
-      let z : List ℕ = zeros (16 - size (pkg h u)) ++ drop 16 v.cells in
-      let l' : get_or v.cells 1 0 ≡ h.label = ap (λ (ws : List ℕ). get_or ws 1 0) c in
-      let u' : value_of (drop 2 v.cells) ≡ u = ap (λ (ws : List ℕ). value_of (drop 2 ws)) c ∙ value_enc u z in
+  tested e p W tells there h u a =
+      let c = words_here before (pkg h u) a in
+      let z : List ℕ = zeros (16 - size (pkg h u)) ++ drop 16 before in
+      let l' : get_or before 1 0 ≡ h.label = ap (λ (ws : List ℕ). get_or ws 1 0) c in
+      let u' : value_of (drop 2 before) ≡ u = ap (λ (ws : List ℕ). value_of (drop 2 ws)) c ∙ value_enc u z in
       p ∙ rw (l', u', tells.reads_is l there, tells.below_is h.label l, tells.type_is u t) refl
 
-  module _ (z : v.state ≡ 0) where
-    unpack-error_at : (W : World) → Tells S W → l < labels_in S.table → (u : Value) → (e ≡ 0 → ⊥)
-        → cell_of v.cells accumulator ≡ cell u
-        → Yields (unpacked W t l u) v.state (cell (inr (err e)))
+  module _ (e : ℕ) (ne : e ≡ 0 → ⊥)
+      (p : e ≡ error_in S l (get_or before 1 0) (has_no S.table (value_of (drop 2 before)) (left_in S.table t))) where
+    unpack-error_at : (W : World) → Tells S W → l < labels_in S.table → (u : Value)
+        → cell_of before accumulator ≡ cell u
+        → Yields (unpacked W t l u) 0 (cell (inr (err e)))
     unfolding Yields unpacked
-    unpack-error_at W tells there (int n) ne a = tt
-    unpack-error_at W tells there (err n) ne a = tt
-    unpack-error_at W tells there (inl u) ne a = tt
-    unpack-error_at W tells there (inr u) ne a = tt
-    unpack-error_at W tells there (pkg h u) ne a =
-        answers_ok _ (inr (err e)) v.state (cell (inr (err e)))
-        (opened-error _ _ _ u e (tested W tells there h u a) ne) z refl
-    unpack-error_at W tells there (pair u w) ne a = tt
-    unpack-error_at W tells there blank ne a = tt
+    unpack-error_at W tells there (int n) a = tt
+    unpack-error_at W tells there (err n) a = tt
+    unpack-error_at W tells there (inl u) a = tt
+    unpack-error_at W tells there (inr u) a = tt
+    unpack-error_at W tells there (pkg h u) a =
+        answers_ok _ (inr (err e)) (cell (inr (err e)))
+        (opened-error _ _ _ u e (tested e p W tells there h u a) ne) refl
+    unpack-error_at W tells there (pair u w) a = tt
+    unpack-error_at W tells there blank a = tt
 
-    unpack_done_at : (W : World) → Tells S W → l < labels_in S.table → (u : Value) (content : List ℕ) → e ≡ 0
-        → cell_of v.cells accumulator ≡ cell u
-        → content ≡ push_of 3 (pop_of (pop_of (cell u))) → Yields (unpacked W t l u) v.state content
-    unfolding Yields unpacked size
-    unpack_done_at W tells there (int n) content ne a c = tt
-    unpack_done_at W tells there (err n) content ne a c = tt
-    unpack_done_at W tells there (inl u) content ne a c = tt
-    unpack_done_at W tells there (inr u) content ne a c = tt
-    unpack_done_at W tells there (pkg h u) content ne a c =
-        let n : suc (head_size + size u) ≤ 16 = cell_size v.cells 0 (pkg h u) a in
-        answers_ok _ (inl u) v.state content
-        (opened_fine _ _ _ u e (tested W tells there h u a) ne ∙ fits (inl u) (omega arith)) z
-        (c ∙ ap (push_of 3) (pop_package h u (omega arith)) ∙ push_tag tags_left u (omega arith))
-    unpack_done_at W tells there (pair u w) content ne a c = tt
-    unpack_done_at W tells there blank content ne a c = tt
-
-    pub unpack-error : {cells : List ℕ} → (e ≡ 0 → ⊥) → cells ≡ store_of v.cells accumulator (cell (inr (err e)))
-        → Unpacks S t l v (with_cells v cells)
-    unpack-error ne s =
+    unpack-error_by : {after : List ℕ} → after ≡ store_of before accumulator (cell (inr (err e)))
+        → Unpacks S t l before 0 after
+    unpack-error_by s =
         applies-put (cell (inr (err e))) (length-error e) s
-        (λ W tells there. rw s (turns_put (unpacked W t l) v (cell (inr (err e))) z (length-error e)
-        (λ u h a. unpack-error_at W tells there u ne a)))
+        (λ W tells there. rw s (turns_put (unpacked W t l) before 0 (cell (inr (err e))) (length-error e)
+        (λ u h a. unpack-error_at W tells there u a)))
 
-    pub unpack_done : {words cells : List ℕ} → e ≡ 0 → words ≡ load_of v.cells accumulator
-        → cells ≡ store_of v.cells accumulator (push_of 3 (pop_of (pop_of words)))
-        → Unpacks S t l v (with_cells v cells)
-    unpack_done {words} ne ld s =
+  pub unpack-error : (e : Failure)
+      → error_number e
+      ≡ error_in S l (get_or before 1 0) (has_no S.table (value_of (drop 2 before)) (left_in S.table t))
+      → {after : List ℕ} → after ≡ store_of before accumulator (cell (inr (err (error_number e))))
+      → Unpacks S t l before 0 after
+  unpack-error e p s = unpack-error_by (error_number e) (error_some e) p s
+
+  module _ (p : 0 ≡ error_in S l (get_or before 1 0) (has_no S.table (value_of (drop 2 before)) (left_in S.table t))) where
+    unpack_done_at : (W : World) → Tells S W → l < labels_in S.table → (u : Value) (content : List ℕ)
+        → cell_of before accumulator ≡ cell u
+        → content ≡ push_of 3 (pop_of (pop_of (cell u))) → Yields (unpacked W t l u) 0 content
+    unfolding Yields unpacked size
+    unpack_done_at W tells there (int n) content a c = tt
+    unpack_done_at W tells there (err n) content a c = tt
+    unpack_done_at W tells there (inl u) content a c = tt
+    unpack_done_at W tells there (inr u) content a c = tt
+    unpack_done_at W tells there (pkg h u) content a c =
+        let n : suc (head_size + size u) ≤ 16 = cell_size before 0 (pkg h u) a in
+        answers_ok _ (inl u) content
+        (opened_fine _ _ _ u (tested 0 p W tells there h u a) ∙ fits (inl u) (omega arith))
+        (c ∙ ap (push_of 3) (pop_package h u (omega arith)) ∙ push_tag tags_left u (omega arith))
+    unpack_done_at W tells there (pair u w) content a c = tt
+    unpack_done_at W tells there blank content a c = tt
+
+    pub unpack_done : {words after : List ℕ} → words ≡ load_of before accumulator
+        → after ≡ store_of before accumulator (push_of 3 (pop_of (pop_of words)))
+        → Unpacks S t l before 0 after
+    unpack_done {words} ld s =
         let left : List ℕ = push_of 3 (pop_of (pop_of words)) in
-        let n : length left ≡ 16 = length_push 3 _ (length_pop _ (length_pop words (loaded v.cells words ld))) in
+        let n : length left ≡ 16 = length_push 3 _ (length_pop _ (length_pop words (loaded before words ld))) in
         applies-put left n s
-        (λ W tells there. rw s (turns_put (unpacked W t l) v left z n
-        (λ u h a. unpack_done_at W tells there u left ne a
-        (ap (λ (ws : List ℕ). push_of 3 (pop_of (pop_of ws))) (ld ∙ load_here v.cells u h a)))))
+        (λ W tells there. rw s (turns_put (unpacked W t l) before 0 left n
+        (λ u h a. unpack_done_at W tells there u left a
+        (ap (λ (ws : List ℕ). push_of 3 (pop_of (pop_of ws))) (ld ∙ load_here before u h a)))))
 
-module _ {S : Setting} {v : Result} (t l : ℕ) where
-  pub unpack_past : (v.state ≡ 0 → ⊥) → Unpacks S t l v v
-  unpack_past z = applies_past (λ W tells there. turns_past (unpacked W t l) v z)
-
-  pub unpack_none : {w : ℕ} → v.state ≡ 0 → w ≡ get_or v.cells 0 0 → (w ≡ 5 → ⊥)
-      → Unpacks S t l v (reached 0 v.cells)
-  unpack_none z p ne =
-      applies_keep 0 (omega arith)
-      (λ W tells there. turns_keep (unpacked W t l) v 0 z (λ u a. no_package W t l v.cells u _ (λ q. ne (p ∙ q)) a))
+  pub unpack_none : {w : ℕ} (state : ℕ) → w ≡ get_or before 0 0 → (w ≡ 5 → ⊥) → Unpacks S t l before state before
+  unpack_none state p ne =
+      applies_keep (λ W tells there u g a. no_package W t l before u _ (λ q. ne (p ∙ q)) a)
 
 -- the error of an unpack, by the tests that are made in order
 module _ (S : Setting) (l m : ℕ) (fits : Bool) {may : Bool} (r : may ≡ may_read S.powers l) where
@@ -391,17 +337,16 @@ no_pair p work (pair v w) state ne e = absurd (ne (ap (λ (l : List ℕ). get_or
 no_pair p work blank state ne e = tt
 
 -- what stands in the accumulator for a part that is taken of a value
-part_answer : (p : Part) (u : Value) (state : ℕ) (words : List ℕ) → state ≡ 0
-    → ((v w : Value) → u ≡ pair v w → words ≡ cell (pick p v w))
-    → Yields (part_of p u) state words
+part_answer : (p : Part) (u : Value) (words : List ℕ) → ((v w : Value) → u ≡ pair v w → words ≡ cell (pick p v w))
+    → Yields (part_of p u) 0 words
 unfolding Yields part_of
-part_answer p (int n) state words z k = tt
-part_answer p (err n) state words z k = tt
-part_answer p (inl u) state words z k = tt
-part_answer p (inr u) state words z k = tt
-part_answer p (pkg h u) state words z k = tt
-part_answer p (pair v w) state words z k = (z, k v w refl)
-part_answer p blank state words z k = tt
+part_answer p (int n) words k = tt
+part_answer p (err n) words k = tt
+part_answer p (inl u) words k = tt
+part_answer p (inr u) words k = tt
+part_answer p (pkg h u) words k = tt
+part_answer p (pair v w) words k = (refl, k v w refl)
+part_answer p blank words k = tt
 
 -- where the first part ends once the pair's word is popped, and where the second starts before
 first_end : (work popped : List ℕ) (u w : Value) → cell_words ≤ length work
@@ -420,46 +365,41 @@ second_start : (work : List ℕ) (u w : Value) → cell_of work accumulator ≡ 
 unfolding enc
 second_start work u w a = omega (arith, end_enc work 1 u _ (ap (drop 1) (words_here work (pair u w) a)))
 
-module _ {v : Result} where
-  pub part_past : (b : Bool) → (v.state ≡ 0 → ⊥) → Projects (part_by b) v v
-  part_past b z = applies_past (turns_past (part_of (part_by b)) v z)
+module _ {before : List ℕ} where
+  pub part_none : (p : Part) {w : ℕ} (state : ℕ) → w ≡ get_or before 0 0 → (w ≡ 6 → ⊥) → Projects p before state before
+  part_none p state q ne = applies_keep (λ u g a. no_pair p before u _ (λ r. ne (q ∙ r)) a)
 
-  pub part_none : (b : Bool) {w : ℕ} → v.state ≡ 0 → w ≡ get_or v.cells 0 0 → (w ≡ 6 → ⊥)
-      → Projects (part_by b) v (reached 0 v.cells)
-  part_none b z p ne = applies_keep 0 (omega arith)
-      (turns_keep (part_of (part_by b)) v 0 z (λ u a. no_pair (part_by b) v.cells u _ (λ q. ne (p ∙ q)) a))
-
-  module _ (z : v.state ≡ 0) {words : List ℕ} (ld : words ≡ load_of v.cells accumulator) where
+  module _ {words : List ℕ} (ld : words ≡ load_of before accumulator) where
     -- a part is stored
-    part_put : (p : Part) {out cells : List ℕ} → length out ≡ cell_words → cells ≡ store_of v.cells accumulator out
-        → ((u w : Value) → cell_words ≤ length v.cells → cell_of v.cells accumulator ≡ cell (pair u w)
+    part_put : (p : Part) {out after : List ℕ} → length out ≡ cell_words → after ≡ store_of before accumulator out
+        → ((u w : Value) → cell_words ≤ length before → cell_of before accumulator ≡ cell (pair u w)
         → words ≡ cell (pair u w) → out ≡ cell (pick p u w))
-        → Projects p v (with_cells v cells)
+        → Projects p before 0 after
     part_put p {out} n e k =
         applies-put out n e
-        (rw e (turns_put (part_of p) v out z n
-        (λ u h a. part_answer p u v.state out z
-        (λ x y q. k x y h (a ∙ ap cell q) (ld ∙ load_here v.cells u h a ∙ ap cell q)))))
+        (rw e (turns_put (part_of p) before 0 out n
+        (λ u h a. part_answer p u out
+        (λ x y q. k x y h (a ∙ ap cell q) (ld ∙ load_here before u h a ∙ ap cell q)))))
 
-    pub part_first : {b : Bool} {popped cells : List ℕ} {end : ℕ} → b ≡ true
-        → popped ≡ store_of v.cells accumulator (pop_of words) → end ≡ end_of popped 0
-        → cells ≡ store_of v.cells accumulator (cut_of end (pop_of words)) → Projects (part_by b) v (with_cells v cells)
-    unfolding part_by pick size
-    part_first {popped = popped} {end = end} t p s e =
-        rw t (part_put first (length_cut end _ (length_pop words (loaded v.cells words ld))) e
+    pub part_first : {popped after : List ℕ} {end : ℕ}
+        → popped ≡ store_of before accumulator (pop_of words) → end ≡ end_of popped 0
+        → after ≡ store_of before accumulator (cut_of end (pop_of words)) → Projects first before 0 after
+    unfolding pick size
+    part_first {popped = popped} {end = end} p s e =
+        part_put first (length_cut end _ (length_pop words (loaded before words ld))) e
         (λ u w h a q.
         ap₂ cut_of
-        (s ∙ first_end v.cells popped u w h (p ∙ ap (λ (l : List ℕ). store_of v.cells accumulator (pop_of l)) q))
+        (s ∙ first_end before popped u w h (p ∙ ap (λ (l : List ℕ). store_of before accumulator (pop_of l)) q))
         (ap pop_of q)
-        ∙ pop_first u w (omega (arith, cell_size v.cells 0 (pair u w) a))))
+        ∙ pop_first u w (omega (arith, cell_size before 0 (pair u w) a)))
 
-    pub part_second : {b : Bool} {cells : List ℕ} {end : ℕ} → b ≡ false → end ≡ end_of v.cells 1
-        → cells ≡ store_of v.cells accumulator (pops_of end words) → Projects (part_by b) v (with_cells v cells)
-    unfolding part_by pick size
-    part_second {end = end} t s e =
-        rw t (part_put second (length_pops end words (loaded v.cells words ld)) e
-        (λ u w h a q. ap₂ pops_of (s ∙ second_start v.cells u w a) q
-        ∙ pop_second u w (omega (arith, cell_size v.cells 0 (pair u w) a))))
+    pub part_second : {after : List ℕ} {end : ℕ} → end ≡ end_of before 1
+        → after ≡ store_of before accumulator (pops_of end words) → Projects second before 0 after
+    unfolding pick size
+    part_second {end = end} s e =
+        part_put second (length_pops end words (loaded before words ld)) e
+        (λ u w h a q. ap₂ pops_of (s ∙ second_start before u w a) q
+        ∙ pop_second u w (omega (arith, cell_size before 0 (pair u w) a)))
 
 -- ---- a pair
 
@@ -468,47 +408,40 @@ words_size : (words : List ℕ) (u : Value) (n : ℕ) → n ≡ end_of words 0 �
 unfolding cell
 words_size words u n s p = omega (arith, end_enc words 0 u (zeros (16 - size u)) p)
 
-module _ {v : Result} {words : List ℕ} where
-  pub pair_past : (v.state ≡ 0 → ⊥) → Pairs words v v
-  pair_past z = applies_past (λ u p. turns_past (λ w. fit (pair u w)) v z)
+module _ {before words : List ℕ} {n : ℕ} (s : n ≡ end_of words 0) where
+  pub pair-long : {m : ℕ} → m ≡ end_of before 0 → cell_words ≤ n + m → Pairs words before 10 before
+  unfolding size
+  pair-long {m} t h =
+      applies_keep
+      (λ u p w g a. answers-long (fit (pair u w)) (cell_of before 0)
+      (too_long (pair u w) (omega (arith, words_size words u n s p, size_here before w m t a))))
 
-  module _ (z : v.state ≡ 0) {n : ℕ} (s : n ≡ end_of words 0) where
-    pub pair-long : {m : ℕ} → m ≡ end_of v.cells 0 → cell_words ≤ n + m → Pairs words v (reached 1 v.cells)
-    unfolding size
-    pair-long {m} t h =
-        applies_keep 1 (omega arith)
-        (λ u p. turns_keep (λ w. fit (pair u w)) v 1 z
-        (λ w a. answers-long (fit (pair u w)) (cell_of v.cells 0)
-        (too_long (pair u w) (omega (arith, words_size words u n s p, size_here v.cells w m t a)))))
-
-    pub pair_done : {m k : ℕ} {held cells : List ℕ} → m ≡ end_of v.cells 0 → n + m < cell_words
-        → held ≡ load_of v.cells accumulator → k ≡ n
-        → cells ≡ store_of v.cells accumulator (push_of 6 (pushes_of (take k words) held))
-        → Pairs words v (with_cells v cells)
-    unfolding size
-    pair_done {m} {k} {held} t h ld whole e =
-        let out : List ℕ = push_of 6 (pushes_of (take k words) held) in
-        let long : length out ≡ 16 = length_push 6 _ (length_pushes (take k words) held (loaded v.cells held ld)) in
-        applies-put out long e
-        (λ u p. rw e (turns_put (λ w. fit (pair u w)) v out z long
-        (λ w g a.
-        let size_is = words_size words u n s p in
-        let l = size_here v.cells w m t a in
-        answers_ok (fit (pair u w)) (pair u w) v.state out (fits (pair u w) (omega arith)) z
-        (rw (whole, size_is, p, ld, load_here v.cells w g a) (push_pair u w (omega arith))))))
+  pub pair_done : {m k : ℕ} {held after : List ℕ} → m ≡ end_of before 0 → n + m < cell_words
+      → held ≡ load_of before accumulator → k ≡ n
+      → after ≡ store_of before accumulator (push_of 6 (pushes_of (take k words) held))
+      → Pairs words before 0 after
+  unfolding size
+  pair_done {m} {k} {held} t h ld whole e =
+      let out : List ℕ = push_of 6 (pushes_of (take k words) held) in
+      let long : length out ≡ 16 = length_push 6 _ (length_pushes (take k words) held (loaded before held ld)) in
+      applies-put out long e
+      (λ u p. rw e (turns_put (λ w. fit (pair u w)) before 0 out long
+      (λ w g a.
+      let size_is = words_size words u n s p in
+      let l = size_here before w m t a in
+      answers_ok (fit (pair u w)) (pair u w) out (fits (pair u w) (omega arith))
+      (rw (whole, size_is, p, ld, load_here before w g a) (push_pair u w (omega arith))))))
 
 -- ---- what a line makes, by its kind
 
 -- the line of a kind's number
 op_of : ℕ → Op
 op_of n =
-    cond (eqb n 9) o_plus
-    (cond (eqb n 10) o_left (cond (eqb n 11) o_right (cond (eqb n 12) o_pack (cond (eqb n 13) o_unpack
-    (o_part (cond (eqb n 15) first second))))))
+    cond (eqb n 10) o_left (cond (eqb n 11) o_right (cond (eqb n 12) o_pack (cond (eqb n 13) o_unpack
+    (o_part (cond (eqb n 15) first second)))))
 
 op_back : (o : Op) → op_of (op_kind o) ≡ o
 unfolding op_of op_kind pick
-op_back o_plus = refl
 op_back o_left = refl
 op_back o_right = refl
 op_back o_pack = refl
@@ -516,20 +449,19 @@ op_back o_unpack = refl
 op_back (o_part first) = refl
 op_back (o_part second) = refl
 
-module _ (S : Setting) (row : Row) (v r : Result) where
-  pub applied_by : (o : Op) → row.kind ≡ op_kind o → MadeBy o S row v r → Applied S row v r
-  applied_by o k y = λ j q. subst (λ i. MadeBy i S row v r) (sym (op_back o) ∙ ap op_of (sym k ∙ q) ∙ op_back j) y
+module _ (S : Setting) (row : Row) (before : List ℕ) (state : ℕ) (after : List ℕ) where
+  pub applied_by : (o : Op) → row.kind ≡ op_kind o → MadeBy o S row before state after → Applied S row before state after
+  applied_by o k y = λ j q. subst (λ i. MadeBy i S row before state after) (sym (op_back o) ∙ ap op_of (sym k ∙ q) ∙ op_back j) y
 
   -- a row of another kind
-  pub applied_none : NoneOf row.kind 9 5 → (row.kind ≡ 15 → ⊥) → (row.kind ≡ 16 → ⊥) → Applied S row v r
+  pub applied_none : NoneOf row.kind 10 4 → (row.kind ≡ 15 → ⊥) → (row.kind ≡ 16 → ⊥) → Applied S row before state after
   unfolding op_kind pick
   applied_none f no-first no_second = other
     where
-      low : 9 ≤ row.kind → row.kind < 14 → ⊥
-      low = none_between 9 5 f
+      low : 10 ≤ row.kind → row.kind < 14 → ⊥
+      low = none_between 10 4 f
 
-      other : Applied S row v r
-      other o_plus q = absurd (low (omega arith) (omega arith))
+      other : Applied S row before state after
       other o_left q = absurd (low (omega arith) (omega arith))
       other o_right q = absurd (low (omega arith) (omega arith))
       other o_pack q = absurd (low (omega arith) (omega arith))

@@ -1,12 +1,12 @@
--- How an evaluation or a run ends, in the scope's numbers. The contracts of this crate speak of a state by its number.
-use Rattle.std.specs.Prelude.{ℕ}
-use Rattle.evaluator.specs.declared.State.{State}
-use Rattle.evaluator.specs.declared.State.TheVariants.{Done, Spent, TooLong, NoRule}
+-- How an evaluation or a run ends, in the scope's numbers. The contracts speak of an end by its number.
+use Rattle.std.specs.Prelude.{ℕ, Result, Ok, Err}
+use Rattle.evaluator.specs.declared.Stop.{Stop}
+use Rattle.evaluator.specs.declared.Stop.TheVariants.{Spent, TooLong, NoRule}
 
 -- NoRule is met only on words that are no accepted script's code, or a memory that isn't its sheet's: 4,
 -- as for no script.
-unfoldable pub state_number : State → ℕ
-state_number Done = 0
-state_number NoRule = 4
-state_number Spent = 9
-state_number TooLong = 10
+abbrev pub state_number : {A : Type 0} → Result A Stop → ℕ
+state_number (Ok a) = 0
+state_number (Err NoRule) = 4
+state_number (Err Spent) = 9
+state_number (Err TooLong) = 10

@@ -5,12 +5,14 @@ mod nodes; // nodes.rt: a value made of one or two others, in the accumulator
 
 ghost use Rattle.std.specs.Prelude.{◌≡◌};
 ghost use Rattle.script.specs.Internal.Code.{row_at};
-ghost use Rattle.evaluator.specs.Internal.Records.{result_of, reached};
+ghost use Rattle.evaluator.specs.Internal.Records.{reached};
 ghost use Rattle.evaluator.specs.Internal.Post.{Evals};
 
 use cells::CELL;
 use script::ROW;
 use sheet::powers::Powers;
+use std::error::Error;
+use std::fmt;
 
 // The cell of location 0: after the accumulator and those that cases bind.
 pub const LOCATIONS: usize = 1 + script::DEPTH as usize;
@@ -20,92 +22,69 @@ pub const MEMORY: usize = CELL * LOCATIONS;
 
 pub const WORK: usize = MEMORY + CELL * (sheet::MOST_LOCATIONS as usize);
 
-// How an evaluation or a run ends: done, the budget used up, a value too long; or, on words that are no script's code
-// or no sheet's memory, that no rule applies.
-#[derive(Clone, Copy)]
-pub enum State {
-    Done,
+// Why an evaluation or a run ends before it is done: the budget is used up, a value is too long; or, on words that are
+// no script's code or no sheet's memory, no rule applies.
+#[derive(Clone, Copy, Debug, PartialEq, Eq)]
+pub enum Stop {
     Spent,
     TooLong,
     NoRule,
 }
 
-// Done: the value is in the accumulator, and the expression's lines end at `next`.
-#[derive(Clone, Copy)]
-pub struct Evaluated {
-    pub state: State,
-    pub next: usize,
+impl fmt::Display for Stop {
+    fn fmt<W: fmt::Write>(&self, f: &mut fmt::Formatter<W>) -> fmt::Result {
+        match self {
+            Stop::Spent => write!(f, "the budget is used up"),
+            Stop::TooLong => write!(f, "a value is too long"),
+            Stop::NoRule => write!(f, "no rule applies"),
+        }
+    }
 }
 
-// The same as one number, which the recursion hands back in a register: where the lines end, or one of these.
-pub(crate) type End = usize;
+impl Error for Stop {}
 
-pub(crate) const NO_RULE: End = 0;
+// What a run reads and leaves as it is: a script's code, a sheet's table, and the authority's powers by it.
+#[derive(Clone, Copy)]
+pub struct World<'a> {
+    pub code: &'a [u32],
+    pub table: &'a [sheet::Word],
+    pub powers: Powers,
+}
 
-pub(crate) const TOO_LONG: End = 1;
-
-// Evaluates the expression at `at`, below so many cases, into the accumulator.
-pub fn eval(
-    code: &[u32],
-    at: usize,
-    table: &[sheet::Word],
-    powers: Powers,
-    depth: u32,
-    work: &mut [u32; WORK],
-) -> Evaluated
-    ensures { Evals (record { table = table.now; powers = powers })
-        (record { code = code.now; at = at; depth = depth; cells = work.old })
-        (result_of result work.new) }
-{
-    let next = reach(code, at, table, powers, depth, work);
-    match next {
-        NO_RULE => Evaluated {
-            state: State::NoRule,
-            next,
-        },
-        TOO_LONG => Evaluated {
-            state: State::TooLong,
-            next,
-        },
-        _ => Evaluated {
-            state: State::Done,
-            next,
-        },
+impl<'a> World<'a> {
+    // Evaluates the expression at `at`, below so many cases, into the accumulator: the place where its lines end.
+    pub fn eval(&self, at: usize, depth: u32, work: &mut [u32; WORK]) -> Result<usize, Stop>
+        ensures { Evals (record { table = self.now.table.now; powers = self.now.powers })
+            (record { code = self.now.code.now; at = at; depth = depth; cells = work.old })
+            (reached result work.new) }
+    {
+        reach(self, at, depth, work)
     }
 }
 
 // The same, by recursion.
 #[cycle(pair_reach)]
-fn reach(
-    code: &[u32],
-    at: usize,
-    table: &[sheet::Word],
-    powers: Powers,
-    depth: u32,
-    work: &mut [u32; WORK],
-) -> End
-    ensures { Evals (record { table = table.now; powers = powers })
-        (record { code = code.now; at = at; depth = depth; cells = work.old })
+fn reach(world: &World, at: usize, depth: u32, work: &mut [u32; WORK]) -> Result<usize, Stop>
+    ensures { Evals (record { table = world.now.table.now; powers = world.now.powers })
+        (record { code = world.now.code.now; at = at; depth = depth; cells = work.old })
         (reached result work.new) }
 {
-    let row = script::row_at(code, at);
+    let row = script::row_at(world.code, at);
     let kind = row.kind;
-    let a = row.a;
-    let b = row.b;
     match kind {
         script::INT => {
-            nodes::literal(work, a);
-            at + ROW
+            nodes::literal(work, row.a);
+            Ok(at + ROW)
         }
         script::LOC => {
-            nodes::location(work, a);
-            at + ROW
+            nodes::location(work, row.a);
+            Ok(at + ROW)
         }
         script::VAR => {
-            nodes::variable(work, depth, a);
-            at + ROW
+            nodes::variable(work, depth, row.a);
+            Ok(at + ROW)
         }
-        script::PAIR => pair(code, at, table, powers, depth, work),
+        script::PAIR => pair(world, at, depth, work),
         // One call for the operand that each of these starts with, since each call takes its own place in every frame.
         script::PLUS
         | script::LEFT
@@ -114,47 +93,37 @@ fn reach(
         | script::UNPACK
         | script::FIRST
         | script::SECOND => {
-            let v = reach(code, at + ROW, table, powers, depth, work);
+            let v = reach(world, at + ROW, depth, work)?;
             if kind != script::PLUS {
-                return nodes::applied(work, table, powers, kind, a, b, v);
-            }
-            if v <= TOO_LONG {
-                return v;
+                nodes::applied(world, kind, row.a, row.b, work)?;
+                return Ok(v);
             }
             let n = cells::word(work, 1);
-            let w = reach(code, v, table, powers, depth, work);
-            nodes::applied(work, table, powers, kind, n, b, w)
+            let w = reach(world, v, depth, work)?;
+            nodes::sum(work, n);
+            Ok(w)
         }
-        _ => NO_RULE,
+        _ => Err(Stop::NoRule),
     }
 }
 
 // Evaluates the pair at `at`. It is apart from `reach`, so that no other line's frame has the room for a first part's
 // words; that it calls itself for a pair that is its second part keeps it apart when compiled.
 #[cycle(pair_reach)]
-fn pair(
-    code: &[u32],
-    at: usize,
-    table: &[sheet::Word],
-    powers: Powers,
-    depth: u32,
-    work: &mut [u32; WORK],
-) -> End
-    requires { (row_at code.now at).kind ≡ 14 }
-    ensures { Evals (record { table = table.now; powers = powers })
-        (record { code = code.now; at = at; depth = depth; cells = work.old })
+fn pair(world: &World, at: usize, depth: u32, work: &mut [u32; WORK]) -> Result<usize, Stop>
+    requires { (row_at world.now.code.now at).kind ≡ 14 }
+    ensures { Evals (record { table = world.now.table.now; powers = world.now.powers })
+        (record { code = world.now.code.now; at = at; depth = depth; cells = work.old })
         (reached result work.new) }
 {
-    let v = reach(code, at + ROW, table, powers, depth, work);
-    if v <= TOO_LONG {
-        return v;
-    }
+    let v = reach(world, at + ROW, depth, work)?;
     let first = cells::load(work);
-    let next = script::row_at(code, v);
-    if next.kind == script::PAIR {
-        let w = pair(code, v, table, powers, depth, work);
-        return nodes::pair(work, &first, w);
-    }
-    let w = reach(code, v, table, powers, depth, work);
-    nodes::pair(work, &first, w)
+    let next = script::row_at(world.code, v);
+    let w = if next.kind == script::PAIR {
+        pair(world, v, depth, work)?
+    } else {
+        reach(world, v, depth, work)?
+    };
+    nodes::pair(work, &first)?;
+    Ok(w)
 }

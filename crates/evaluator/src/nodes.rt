@@ -1,45 +1,63 @@
 // A value made of one or two others: what follows the evaluation of an operand, whose value is in the accumulator.
 ghost use Rattle.std.specs.Prelude.{◌≡◌, ◌+◌, ◌-◌, drop, slice_index};
-ghost use Rattle.language.specs.Syntax.{int, err, inr};
+ghost use Rattle.language.specs.Syntax.{int, err, inr, first, second};
 ghost use Rattle.sheet.specs.Internal.Tables.{left_in};
 ghost use Rattle.sheet.specs.Internal.TypeTest.{has_no};
-ghost use Rattle.memory.specs.Words.{cell, value_of};
-ghost use Rattle.cells.specs.Internal.Cells.{load_of, store_of, accumulator};
+ghost use Rattle.memory.specs.Words.{cell, value_of, zeros};
+ghost use Rattle.language.specs.World.{cell_words};
+ghost use Rattle.cells.specs.Internal.Cells.{load_of, store_of, push_of, accumulator};
+ghost use Rattle.evaluator.specs.State.{state_number};
 ghost use Rattle.evaluator.specs.Internal.Cells.{first_location};
-ghost use Rattle.evaluator.specs.Internal.Records.{reached};
-ghost use Rattle.evaluator.specs.Internal.Nodes.{Sums, Tagged, Packs, Unpacks, Projects, part_by, Pairs, Applied};
-ghost use Rattle.evaluator.specs.Internal.Nodes.{error_in};
+ghost use Rattle.evaluator.specs.Internal.Nodes.{Sums, Tagged, Packs, Unpacks, Projects, Pairs, Applied};
+ghost use Rattle.evaluator.specs.Internal.Nodes.{error_number, tests_number, error_in};
 
-use crate::{End, LOCATIONS, NO_RULE, TOO_LONG, WORK};
+use crate::{LOCATIONS, Stop, WORK, World};
 use cells::{ACCUMULATOR, CELL};
-use sheet::powers::Powers;
 
 // The most words of a value that fits into the left of a package.
 const ROOM: usize = CELL - memory::CONTENT - 1;
 
 // The errors of pack and unpack.
-const INSUFFICIENT_AUTH: u32 = 1;
+#[derive(Clone, Copy, Debug, PartialEq, Eq)]
+enum Failure {
+    InsufficientAuth,
+    IllegalFlow,
+    TypeMismatch,
+}
 
-const ILLEGAL_FLOW: u32 = 2;
+impl From<Failure> for u32 {
+    ghost from_gives = { λ e n. n ≡ error_number e };
 
-const TYPE_MISMATCH: u32 = 3;
+    fn from(e: Failure) -> u32 {
+        match e {
+            Failure::InsufficientAuth => 1,
+            Failure::IllegalFlow => 2,
+            Failure::TypeMismatch => 3,
+        }
+    }
+}
+
+// A value of two words: what it is, and its number.
+fn put(work: &mut [u32; WORK], word: u32, n: u32)
+    ensures { work.new ≡ store_of work.old accumulator (push_of word (push_of n (zeros cell_words))) }
+{
+    cells::clear(work, ACCUMULATOR);
+    cells::push(work, n);
+    cells::push(work, word);
+}
 
 // An integer.
 pub(crate) fn literal(work: &mut [u32; WORK], n: u32)
     ensures { work.new ≡ store_of work.old accumulator (cell (int n)) }
 {
-    cells::clear(work, ACCUMULATOR);
-    cells::push(work, n);
-    cells::push(work, memory::INT);
+    put(work, memory::INT, n);
 }
 
 // The right of an error.
-fn fail(work: &mut [u32; WORK], e: u32)
-    ensures { work.new ≡ store_of work.old accumulator (cell (inr (err e))) }
+fn fail(work: &mut [u32; WORK], e: Failure)
+    ensures { work.new ≡ store_of work.old accumulator (cell (inr (err (error_number e)))) }
 {
-    cells::clear(work, ACCUMULATOR);
-    cells::push(work, e);
-    cells::push(work, memory::ERROR);
+    put(work, memory::ERROR, e.into());
     cells::push(work, memory::RIGHT);
 }
 
@@ -56,168 +74,149 @@ pub(crate) fn variable(work: &mut [u32; WORK], depth: u32, d: u32)
     ensures { work.new
         ≡ store_of work.old accumulator (load_of work.old (depth - d)) }
 {
-    let k = if d < depth { depth - d } else { 0 };
+    let k = depth.saturating_sub(d);
     cells::copy_cell(work, k as usize, ACCUMULATOR);
 }
 
 // The sum of n and the integer in the accumulator.
-pub(crate) fn sum(work: &mut [u32; WORK], n: u32, v: End) -> End
-    ensures { Sums n (reached v work.old) (reached result work.new) }
+pub(crate) fn sum(work: &mut [u32; WORK], n: u32)
+    ensures { Sums n work.old 0 work.new }
 {
-    if v <= TOO_LONG {
-        return v;
-    }
     let m = cells::word(work, 1);
-    literal(work, std::num::wrapping_add_u32(n, m));
-    v
+    literal(work, n.wrapping_add(m));
 }
 
 // Left or right, as the word says, of the value in the accumulator.
-fn tagged(work: &mut [u32; WORK], w: u32, v: End) -> End
-    ensures { Tagged w (reached v work.old) (reached result work.new) }
+fn tagged(work: &mut [u32; WORK], word: u32) -> Result<(), Stop>
+    ensures { Tagged word work.old (state_number result) work.new }
 {
-    if v <= TOO_LONG {
-        return v;
-    }
     if memory::value_end(work, 0) >= CELL {
-        return TOO_LONG;
+        return Err(Stop::TooLong);
     }
-    cells::push(work, w);
-    v
+    cells::push(work, word);
+    Ok(())
 }
 
 // A package of label l of the value in the accumulator, or an error.
-fn pack(work: &mut [u32; WORK], powers: Powers, l: u32, v: End) -> End
-    ensures { Packs powers l (reached v work.old) (reached result work.new) }
+fn pack(world: &World, l: u32, work: &mut [u32; WORK]) -> Result<(), Stop>
+    ensures { Packs world.now.powers l work.old (state_number result) work.new }
 {
-    if v <= TOO_LONG {
-        return v;
-    }
-    if !sheet::powers::may_write(powers, l) {
-        fail(work, INSUFFICIENT_AUTH);
-        return v;
+    if !sheet::powers::may_write(world.powers, l) {
+        fail(work, Failure::InsufficientAuth);
+        return Ok(());
     }
     if memory::value_end(work, 0) > ROOM {
-        return TOO_LONG;
+        return Err(Stop::TooLong);
     }
     cells::push(work, l);
     cells::push(work, memory::PACKAGE);
     cells::push(work, memory::LEFT);
-    v
+    Ok(())
 }
 
-// The error of unpacking the package in the accumulator with the wanted label l and the wanted type on the left
-// of type t; else 0.
-fn refusal(work: &[u32], table: &[sheet::Word], powers: Powers, t: u32, l: u32) -> u32
-    ensures { result ≡ error_in (record { table = table.now; powers = powers }) l
+// Whether the package in the accumulator may be unpacked with the wanted label l and the wanted type on the left of
+// type t, or why not.
+fn opens(world: &World, t: u32, l: u32, work: &[u32]) -> Result<(), Failure>
+    ensures { tests_number result ≡ error_in (record { table = world.now.table.now; powers = world.now.powers }) l
         (slice_index work.now 1)
-        (has_no table.now (value_of (drop 2 work.now)) (left_in table.now t)) }
+        (has_no world.now.table.now (value_of (drop 2 work.now)) (left_in world.now.table.now t)) }
 {
-    if !sheet::powers::may_read(powers, l) {
-        return INSUFFICIENT_AUTH;
+    if !sheet::powers::may_read(world.powers, l) {
+        return Err(Failure::InsufficientAuth);
     }
-    if !sheet::below(table, cells::word(work, memory::LABEL), l) {
-        return ILLEGAL_FLOW;
+    if !sheet::below(world.table, cells::word(work, memory::LABEL), l) {
+        return Err(Failure::IllegalFlow);
     }
-    if !memory::has_type(table, work, memory::CONTENT, sheet::left_part(table, t)) {
-        return TYPE_MISMATCH;
+    if !memory::has_type(
+        world.table,
+        work,
+        memory::CONTENT,
+        sheet::left_part(world.table, t),
+    ) {
+        return Err(Failure::TypeMismatch);
     }
-    0
+    Ok(())
 }
 
 // The content of the package in the accumulator, or an error.
-fn unpack(
-    work: &mut [u32; WORK],
-    table: &[sheet::Word],
-    powers: Powers,
-    t: u32,
-    l: u32,
-    v: End,
-) -> End
-    ensures { Unpacks (record { table = table.now; powers = powers }) t l
-        (reached v work.old) (reached result work.new) }
+fn unpack(world: &World, t: u32, l: u32, work: &mut [u32; WORK]) -> Result<(), Stop>
+    ensures { Unpacks (record { table = world.now.table.now; powers = world.now.powers }) t l
+        work.old (state_number result) work.new }
 {
-    if v <= TOO_LONG {
-        return v;
-    }
     if cells::word(work, 0) != memory::PACKAGE {
-        return NO_RULE;
+        return Err(Stop::NoRule);
     }
-    let e = refusal(work, table, powers, t, l);
-    if e != 0 {
+    if let Err(e) = opens(world, t, l, work) {
         fail(work, e);
-        return v;
+        return Ok(());
     }
     cells::pop_to(work, ACCUMULATOR);
     cells::pop_to(work, ACCUMULATOR);
     cells::push(work, memory::LEFT);
-    v
+    Ok(())
 }
 
-// The first part of the pair in the accumulator, or its second.
-fn part(work: &mut [u32; WORK], first: bool, v: End) -> End
-    ensures { Projects (part_by first) (reached v work.old) (reached result work.new) }
+// The first part of the pair in the accumulator.
+fn first_part(work: &mut [u32; WORK]) -> Result<(), Stop>
+    ensures { Projects first work.old (state_number result) work.new }
 {
-    if v <= TOO_LONG {
-        return v;
-    }
     if cells::word(work, 0) != memory::PAIR {
-        return NO_RULE;
+        return Err(Stop::NoRule);
     }
-    if first {
-        cells::pop_to(work, ACCUMULATOR);
-        let end = memory::value_end(work, 0);
-        cells::cut(work, end);
-        return v;
+    cells::pop_to(work, ACCUMULATOR);
+    let end = memory::value_end(work, 0);
+    cells::cut(work, end);
+    Ok(())
+}
+
+// The second part of the pair in the accumulator.
+fn second_part(work: &mut [u32; WORK]) -> Result<(), Stop>
+    ensures { Projects second work.old (state_number result) work.new }
+{
+    if cells::word(work, 0) != memory::PAIR {
+        return Err(Stop::NoRule);
     }
     let end = memory::value_end(work, 1);
     cells::pop_words(work, end);
-    v
+    Ok(())
 }
 
 // The pair of the value with these words and the value in the accumulator.
-pub(crate) fn pair(work: &mut [u32; WORK], first: &[u32; CELL], v: End) -> End
-    ensures { Pairs first.now (reached v work.old) (reached result work.new) }
+pub(crate) fn pair(work: &mut [u32; WORK], first: &[u32; CELL]) -> Result<(), Stop>
+    ensures { Pairs first.now work.old (state_number result) work.new }
 {
-    if v <= TOO_LONG {
-        return v;
-    }
     let words = &first[..];
     let n = memory::value_end(words, 0);
     if CELL <= n {
-        return TOO_LONG;
+        return Err(Stop::TooLong);
     }
     if CELL - n <= memory::value_end(work, 0) {
-        return TOO_LONG;
+        return Err(Stop::TooLong);
     }
-    cells::push_words(work, &words[0..n]);
+    cells::push_words(work, &words[..n]);
     cells::push(work, memory::PAIR);
-    v
+    Ok(())
 }
 
-// What a line of a kind, with the numbers a and b, makes of the value in the accumulator; of a plus, a is the
-// integer on the left.
+// What a line of a kind with one operand, with the numbers a and b, makes of the value in the accumulator.
 pub(crate) fn applied(
-    work: &mut [u32; WORK],
-    table: &[sheet::Word],
-    powers: Powers,
+    world: &World,
     kind: u32,
     a: u32,
     b: u32,
-    v: End,
-) -> End
-    ensures { Applied (record { table = table.now; powers = powers })
+    work: &mut [u32; WORK],
+) -> Result<(), Stop>
+    ensures { Applied (record { table = world.now.table.now; powers = world.now.powers })
         (record { kind = kind; a = a; b = b })
-        (reached v work.old) (reached result work.new) }
+        work.old (state_number result) work.new }
 {
     match kind {
-        script::PLUS => sum(work, a, v),
-        script::LEFT => tagged(work, memory::LEFT, v),
-        script::RIGHT => tagged(work, memory::RIGHT, v),
-        script::PACK => pack(work, powers, a, v),
-        script::UNPACK => unpack(work, table, powers, a, b, v),
-        script::FIRST => part(work, true, v),
-        script::SECOND => part(work, false, v),
-        _ => NO_RULE,
+        script::LEFT => tagged(work, memory::LEFT),
+        script::RIGHT => tagged(work, memory::RIGHT),
+        script::PACK => pack(world, a, work),
+        script::UNPACK => unpack(world, a, b, work),
+        script::FIRST => first_part(work),
+        script::SECOND => second_part(work),
+        _ => Err(Stop::NoRule),
     }
 }

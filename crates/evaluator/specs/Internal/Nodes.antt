@@ -1,8 +1,9 @@
 -- What the functions ensure that make a value of one or two others.
 use Rattle.std.specs.Prelude.{◌≡◌, ℕ, suc, ◌<◌, ◌≤◌, Bool, true, false, List, ◌∷◌, length, drop, slice_index}
-use Rattle.language.specs.Syntax.{Value, pair, Part, first, second, pick, size, has}
+use Rattle.std.specs.Prelude.{Result, Ok, Err}
+use Rattle.language.specs.Syntax.{Value, pair, Part, pick, size, has}
 use Rattle.language.specs.World.{World, cell_words, wanted}
-use Rattle.language.specs.Evaluation.{Res, ok, long, stuck, bind, fit, add, packed, unpacked, part_of}
+use Rattle.language.specs.Evaluation.{Res, ok, long, stuck, fit, add, packed, unpacked, part_of}
 use Rattle.sheet.specs.Internal.Tables.{labels_in, left_in, below_in}
 use Rattle.sheet.specs.Internal.Powers.{may_write, may_read}
 use Rattle.sheet.specs.Internal.TypeTest.{has_no}
@@ -10,7 +11,9 @@ use Rattle.memory.specs.Words.{enc, cell}
 use Rattle.memory.specs.Memory.{cell_of}
 use Rattle.script.specs.declared.Row.{Row}
 use Rattle.cells.specs.Internal.Cells.{accumulator}
-use Rattle.evaluator.specs.Internal.Records.{Setting, Result}
+use Rattle.evaluator.specs.Internal.Records.{Setting, Reached}
+use Rattle.evaluator.specs.declared.nodes.Failure.{Failure}
+use Rattle.evaluator.specs.declared.nodes.Failure.TheVariants.{InsufficientAuth, IllegalFlow, TypeMismatch}
 
 -- ---- answers
 
@@ -22,24 +25,35 @@ Yields long state words = state ≡ 10
 Yields stuck state words = Unit {0}
 
 -- the answer's value is in the accumulator
-abbrev pub Gives : Res → Result → Type 0
+abbrev pub Gives : Res → Reached → Type 0
 Gives x r = Yields x r.state (cell_of r.cells accumulator)
 
--- f is applied to the value of the accumulator.
-abbrev pub Turns : (Value → Res) → Result → Result → Type 0
-Turns f v r = (x : Res) → cell_words ≤ length v.cells → Gives x v → Gives (bind x f) r
+-- f is applied to the value of the accumulator: the cells before, and the state and the cells after it.
+abbrev pub Turns : (Value → Res) → List ℕ → ℕ → List ℕ → Type 0
+Turns f before state after =
+    (u : Value) → cell_words ≤ length before → cell_of before accumulator ≡ cell u
+    → Yields (f u) state (cell_of after accumulator)
 
--- What follows the evaluation v of an operand: only the accumulator changes, as Means says.
-pub record Applies (v r : Result) (Means : Type 0) : Type 0 where
-  pub kept : drop cell_words r.cells ≡ drop cell_words v.cells
-  pub through : r.state ≡ 0 → v.state ≡ 0
-  pub same_place : r.state ≡ 0 → r.next ≡ v.next
+-- What follows the evaluation of an operand: only the accumulator changes, as Means says.
+pub record Applies (before after : List ℕ) (Means : Type 0) : Type 0 where
+  pub kept : drop cell_words after ≡ drop cell_words before
   pub means : Means
 
 -- The word stands in front of a value's words to make the value that f makes.
 pub record Tags (word : ℕ) (f : Value → Value) : Type 0 where
   pub words : (v : Value) (rest : List ℕ) → enc (f v) rest ≡ word ∷ enc v rest
   pub longer : (v : Value) → size (f v) ≡ suc (size v)
+
+-- the numbers of the errors of pack and unpack
+abbrev pub error_number : Failure → ℕ
+error_number InsufficientAuth = 1
+error_number IllegalFlow = 2
+error_number TypeMismatch = 3
+
+-- the same of an unpack's tests; 0 where all pass
+abbrev pub tests_number : Result (Unit {0}) Failure → ℕ
+tests_number (Ok u) = 0
+tests_number (Err e) = error_number e
 
 -- The error of an unpack, by its three tests; 0 where all pass.
 unfoldable pub error_of : Bool → Bool → Bool → ℕ
@@ -62,42 +76,40 @@ pub record Tells (S : Setting) (W : World) : Type 0 where
 -- ---- what the kinds of line with an operand make of its value
 
 -- the integer n on the left of a plus
-abbrev pub Sums : ℕ → Result → Result → Type 0
-Sums n v r = Applies v r ((u : Value) → n ≡ slice_index (cell u) 1 → Turns (add u) v r)
+abbrev pub Sums : ℕ → List ℕ → ℕ → List ℕ → Type 0
+Sums n before state after =
+    Applies before after ((u : Value) → n ≡ slice_index (cell u) 1 → Turns (add u) before state after)
 
-abbrev pub Tagged : ℕ → Result → Result → Type 0
-Tagged word v r = Applies v r ((f : Value → Value) → Tags word f → Turns (λ u. fit (f u)) v r)
+abbrev pub Tagged : ℕ → List ℕ → ℕ → List ℕ → Type 0
+Tagged word before state after =
+    Applies before after ((f : Value → Value) → Tags word f → Turns (λ u. fit (f u)) before state after)
 
-abbrev pub Packs : ℕ → ℕ → Result → Result → Type 0
-Packs powers l v r = Applies v r (Turns (packed (may_write powers l) l) v r)
+abbrev pub Packs : ℕ → ℕ → List ℕ → ℕ → List ℕ → Type 0
+Packs powers l before state after =
+    Applies before after (Turns (packed (may_write powers l) l) before state after)
 
-abbrev pub Unpacks : Setting → ℕ → ℕ → Result → Result → Type 0
-Unpacks S t l v r = Applies v r ((W : World) → Tells S W → l < labels_in S.table → Turns (unpacked W t l) v r)
+abbrev pub Unpacks : Setting → ℕ → ℕ → List ℕ → ℕ → List ℕ → Type 0
+Unpacks S t l before state after =
+    Applies before after
+    ((W : World) → Tells S W → l < labels_in S.table → Turns (unpacked W t l) before state after)
 
--- the first part, or otherwise the second
-unfoldable pub part_by : Bool → Part
-part_by true = first
-part_by false = second
+abbrev pub Projects : Part → List ℕ → ℕ → List ℕ → Type 0
+Projects p before state after = Applies before after (Turns (part_of p) before state after)
 
-abbrev pub Projects : Part → Result → Result → Type 0
-Projects p v r = Applies v r (Turns (part_of p) v r)
-
--- The lines that are applied to the value in the accumulator, and the numbers of their kinds.
+-- The lines with one operand, which are applied to the value in the accumulator, and the numbers of their kinds.
 pub data Op : Type 0 where
-  o_plus o_left o_right o_pack o_unpack : Op
+  o_left o_right o_pack o_unpack : Op
   o_part : Part → Op
 
 unfoldable pub op_kind : Op → ℕ
-op_kind o_plus = 9
 op_kind o_left = 10
 op_kind o_right = 11
 op_kind o_pack = 12
 op_kind o_unpack = 13
 op_kind (o_part p) = pick p 15 16
 
--- what each makes of it; of plus, a is the integer on the left
-abbrev pub MadeBy : Op → Setting → Row → Result → Result → Type 0
-MadeBy o_plus S row = Sums row.a
+-- what each makes of it
+abbrev pub MadeBy : Op → Setting → Row → List ℕ → ℕ → List ℕ → Type 0
 MadeBy o_left S row = Tagged 3
 MadeBy o_right S row = Tagged 4
 MadeBy o_pack S row = Packs S.powers row.a
@@ -105,11 +117,13 @@ MadeBy o_unpack S row = Unpacks S row.a row.b
 MadeBy (o_part p) S row = Projects p
 
 -- What a line makes of the value in the accumulator.
-abbrev pub Applied : Setting → Row → Result → Result → Type 0
-Applied S row v r = (o : Op) → row.kind ≡ op_kind o → MadeBy o S row v r
+abbrev pub Applied : Setting → Row → List ℕ → ℕ → List ℕ → Type 0
+Applied S row before state after = (o : Op) → row.kind ≡ op_kind o → MadeBy o S row before state after
 
 -- ---- a pair
 
 -- Its first part has these words, and its second is in the accumulator.
-abbrev pub Pairs : List ℕ → Result → Result → Type 0
-Pairs words v r = Applies v r ((u : Value) → words ≡ cell u → Turns (λ w. fit (pair u w)) v r)
+abbrev pub Pairs : List ℕ → List ℕ → ℕ → List ℕ → Type 0
+Pairs words before state after =
+    Applies before after
+    ((u : Value) → words ≡ cell u → Turns (λ w. fit (pair u w)) before state after)

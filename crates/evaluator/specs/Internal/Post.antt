@@ -8,7 +8,7 @@ use Rattle.script.specs.Lines.{ScriptLine, SourceE, expr_lines}
 use Rattle.script.specs.Internal.Code.{code}
 use Rattle.script.specs.Names.{Counts, named_e}
 use Rattle.evaluator.specs.Internal.Cells.{CellsHold}
-use Rattle.evaluator.specs.Internal.Records.{Setting, Place, Result, Context}
+use Rattle.evaluator.specs.Internal.Records.{Setting, Place, Reached, Context}
 use Rattle.evaluator.specs.Internal.Nodes.{Gives, Tells}
 
 -- An expression stands at a place, then the rest; it names only what is there.
@@ -24,10 +24,10 @@ pub record StandsFor (S : Setting) (p : Place) (C : Context) (M : Mem) : Type 0 
   pub cells : CellsHold p.cells C.counts.locations p.depth M C.env
 
 -- The answer is x; where that is a value, the rest follows in the code.
-abbrev pub Answers : Res → List ℕ → List ScriptLine → Result → Type 0
+abbrev pub Answers : Res → List ℕ → List ScriptLine → Reached → Type 0
 Answers x ws rest r = Gives x r × (r.state ≡ 0 → drop r.next ws ≡ code rest)
 
-pub record Evals (S : Setting) (p : Place) (r : Result) : Type 0 where
+pub record Evals (S : Setting) (p : Place) (r : Reached) : Type 0 where
   pub forward : r.state ≡ 0 → p.at ≤ r.next
   pub kept : drop cell_words r.cells ≡ drop cell_words p.cells
   pub means : (C : Context) (M : Mem) (e : Expr) (rest : List ScriptLine) → StandsFor S p C M

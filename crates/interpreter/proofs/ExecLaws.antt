@@ -2,7 +2,7 @@
 use mathlib.Core.Path.{◌≡◌, refl, sym, ap, subst, ◌∙◌}
 use mathlib.Core.Bool.{Bool, true, false, false≢true}
 use mathlib.Core.List.{List, ◌∷◌}
-use Prim.Native.Nat.{ℕ, zero, suc, ◌+◌, ◌-◌, ◌≤◌, ◌<◌}
+use Prim.Native.Nat.{ℕ, zero, suc, ◌+◌, ◌≤◌, ◌<◌}
 use native.Mathlib.Omega.{arith}
 use lib.ListN.{drop, get_or}
 use Rattle.language.specs.Syntax.{Value, Expr}
@@ -17,19 +17,14 @@ use Rattle.script.specs.Internal.Pieces.{a_command}
 use Rattle.script.specs.Names.{max_depth}
 use Rattle.memory.specs.Words.{enc, cell}
 use Rattle.memory.specs.Memory.{cell_of}
-use Rattle.evaluator.specs.State.{state_number}
-use Rattle.evaluator.specs.declared.State.{State}
-use Rattle.evaluator.specs.declared.State.TheVariants.{Done, Spent, NoRule}
 use Rattle.cells.specs.Internal.Cells.{accumulator, load_of, store_of, pop_of}
 use Rattle.evaluator.specs.Internal.Cells.{first_location, CellsHold}
-use Rattle.evaluator.specs.Internal.Records.{Setting, Place, Result, Context}
+use Rattle.evaluator.specs.Internal.Records.{Setting, Place, Reached, Context}
 use Rattle.evaluator.specs.Internal.Nodes.{Yields, Gives, Tags}
 use Rattle.evaluator.specs.Internal.Post.{ExprAt, StandsFor, Evals}
-use Rattle.interpreter.specs.declared.commands.Stepped.{Stepped}
-use Rattle.interpreter.specs.declared.commands.Decided.{Decided}
 use Rattle.script.specs.Internal.Skips.{Skips}
 use Rattle.interpreter.specs.Internal.Post.{Target, target, Finishes, finish_done, finish_spent, finish_over}
-use Rattle.interpreter.specs.Internal.Post.{finish_wrong, ticked, Ticks, Assigns, Choice, choice_v, choice}
+use Rattle.interpreter.specs.Internal.Post.{finish_wrong, Stepped, Assigns, Choice, choice_v, choice, Decided}
 use Rattle.interpreter.specs.Internal.Post.{Chooses, goes_left, goes_right, has_none, is_long, is_stuck, Decides}
 use Rattle.interpreter.specs.Internal.Post.{Branching, Enters, enters_left, enters_right, enters_spent}
 use Rattle.interpreter.specs.Internal.Post.{enters_long, enters_stuck, Branches}
@@ -40,6 +35,21 @@ use Rattle.evaluator.proofs.NodeLaws.{words_here, load_here}
 use Rattle.evaluator.proofs.StateLaws.{room_here, holds_kept, holds_put, holds_bind}
 
 -- ---- how ends follow one another
+
+-- the transition after a run that is done
+unfoldable pub ticked : Out → Out
+ticked (done M zero) = spent
+ticked (done M (suc b)) = done M b
+ticked spent = spent
+ticked (over b) = over b
+ticked wrong = wrong
+
+-- the transition in the code: t after d
+pub record Ticks (d t : Stepped) : Type 0 where
+  pub spends : t.left ≤ d.left
+  pub through : t.state ≡ 0 → d.state ≡ 0
+  pub same_place : t.state ≡ 0 → t.next ≡ d.next
+  pub means : {g : Target} {cells : List ℕ} {o : Out} → Finishes g d cells o → Finishes g t cells (ticked o)
 
 -- a run after a transition
 pub ticked-then : (o : Out) (F : Mem → ℕ → Out) → and_then o (λ M b. spend b (λ b'. F M b')) ≡ and_then (ticked o) F
@@ -52,7 +62,7 @@ ticked-then wrong F = refl
 
 module _ {g h : Target} {d : Stepped} {cells : List ℕ} (F : Mem → ℕ → Out) where
   -- a run that isn't done is the end, at whatever place
-  pub ends_there : {o : Out} (next : ℕ) → (state_number d.state ≡ 0 → ⊥) → Finishes g d cells o
+  pub ends_there : {o : Out} (next : ℕ) → (d.state ≡ 0 → ⊥) → Finishes g d cells o
       → Finishes h (record { state = d.state; left = d.left; next = next }) cells (and_then o F)
   unfolding and_then
   ends_there next z (finish_done s l held n) = absurd (z s)
@@ -61,7 +71,7 @@ module _ {g h : Target} {d : Stepped} {cells : List ℕ} (F : Mem → ℕ → Ou
   ends_there next z finish_wrong = finish_wrong
 
   -- a run that is done goes on
-  pub goes_on_lem : {o : Out} {r : Stepped} {cells' : List ℕ} → state_number d.state ≡ 0 → Finishes g d cells o
+  pub goes_on_lem : {o : Out} {r : Stepped} {cells' : List ℕ} → d.state ≡ 0 → Finishes g d cells o
       → ((M : Mem) → CellsHold cells g.locations g.depth M g.env → drop d.next g.code ≡ code g.rest
       → Finishes h r cells' (F M d.left))
       → Finishes h r cells' (and_then o F)
@@ -75,42 +85,48 @@ module _ {g h : Target} {d : Stepped} {cells : List ℕ} (F : Mem → ℕ → Ou
 -- ---- tick
 
 module _ {d : Stepped} {g : Target} {cells : List ℕ} where
-  same_end : {o : Out} → (state_number d.state ≡ 0 → ⊥) → Finishes g d cells o → Finishes g d cells (ticked o)
+  same_end : {o : Out} → (d.state ≡ 0 → ⊥) → Finishes g d cells o → Finishes g d cells (ticked o)
   unfolding ticked
   same_end z (finish_done s l held n) = absurd (z s)
   same_end z (finish_spent s l) = finish_spent s l
   same_end z (finish_over s l) = finish_over s l
   same_end z finish_wrong = finish_wrong
 
-  spent_end : {o : Out} → state_number d.state ≡ 0 → d.left ≡ 0 → Finishes g d cells o
-      → Finishes g (record { state = Spent; left = 0; next = d.next }) cells (ticked o)
-  unfolding ticked state_number
-  spent_end z f (finish_done {b = zero} s l held n) = finish_spent refl refl
-  spent_end z f (finish_done {b = suc b} s l held n) = absurd (omega arith)
-  spent_end z f (finish_spent s l) = absurd (omega arith)
-  spent_end z f (finish_over s l) = absurd (omega arith)
-  spent_end z f finish_wrong = finish_wrong
+  spent_end : {o : Out} (next : ℕ) → d.state ≡ 0 → d.left ≡ 0 → Finishes g d cells o
+      → Finishes g (record { state = 9; left = d.left; next = next }) cells (ticked o)
+  unfolding ticked
+  spent_end next z f (finish_done {b = zero} s l held n) = finish_spent refl f
+  spent_end next z f (finish_done {b = suc b} s l held n) = absurd (omega arith)
+  spent_end next z f (finish_spent s l) = absurd (omega arith)
+  spent_end next z f (finish_over s l) = absurd (omega arith)
+  spent_end next z f finish_wrong = finish_wrong
 
-  step_end : {o : Out} → state_number d.state ≡ 0 → (d.left ≡ 0 → ⊥) → Finishes g d cells o
-      → Finishes g (record { state = Done; left = d.left - 1; next = d.next }) cells (ticked o)
-  unfolding ticked state_number
-  step_end z f (finish_done {b = zero} s l held n) = absurd (f l)
+  step_end : {o : Out} {left : ℕ} → d.state ≡ 0 → d.left ≡ left + 1 → Finishes g d cells o
+      → Finishes g (record { state = 0; left = left; next = d.next }) cells (ticked o)
+  unfolding ticked
+  step_end z f (finish_done {b = zero} s l held n) = absurd (omega arith)
   step_end z f (finish_done {b = suc b} s l held n) = finish_done {b = b} refl (omega arith) held n
   step_end z f (finish_spent s l) = absurd (omega arith)
   step_end z f (finish_over s l) = absurd (omega arith)
   step_end z f finish_wrong = finish_wrong
 
 module _ (d : Stepped) where
-  pub tick_same : (state_number d.state ≡ 0 → ⊥) → Ticks d d
-  tick_same z = record { spends = omega arith; same_place = refl; means = same_end z }
+  pub tick_same : (d.state ≡ 0 → ⊥) → Ticks d d
+  tick_same z = record { spends = omega arith; through = λ q. q; same_place = λ q. refl; means = same_end z }
 
-  pub tick_spent : state_number d.state ≡ 0 → d.left ≡ 0
-      → Ticks d (record { state = Spent; left = 0; next = d.next })
-  tick_spent z f = record { spends = omega arith; same_place = refl; means = spent_end z f }
+  pub tick_spent : (next : ℕ) → d.state ≡ 0 → d.left ≡ 0
+      → Ticks d (record { state = 9; left = d.left; next = next })
+  tick_spent next z f =
+      record {
+        spends = omega arith;
+        through = λ q. z;
+        same_place = λ q. absurd (omega arith);
+        means = spent_end next z f;
+      }
 
-  pub tick_step : state_number d.state ≡ 0 → (d.left ≡ 0 → ⊥)
-      → Ticks d (record { state = Done; left = d.left - 1; next = d.next })
-  tick_step z f = record { spends = omega arith; same_place = refl; means = step_end z f }
+  pub tick_step : {left : ℕ} → d.state ≡ 0 → d.left ≡ left + 1
+      → Ticks d (record { state = 0; left = left; next = d.next })
+  tick_step z f = record { spends = omega arith; through = λ q. z; same_place = λ q. refl; means = step_end z f }
 
 -- ---- assign
 
@@ -118,9 +134,9 @@ module _ (d : Stepped) where
 abbrev assigned_to : Mem → ℕ → ℕ → Res → Out
 assigned_to M x fuel r = spend fuel (λ b. assigned (λ v. done (update M x v) b) b r)
 
-assign_fail_at : {g : Target} (M : Mem) (x : ℕ) {s : State} {cells : List ℕ} (at fuel : ℕ) (r : Res) (words : List ℕ)
-    → (fuel ≡ 0 → ⊥) → (state_number s ≡ 0 → ⊥)
-    → Yields r (state_number s) words
+assign_fail_at : {g : Target} (M : Mem) (x : ℕ) {s : ℕ} {cells : List ℕ} (at fuel : ℕ) (r : Res) (words : List ℕ)
+    → (fuel ≡ 0 → ⊥) → (s ≡ 0 → ⊥)
+    → Yields r (s) words
     → Finishes g (record { state = s; left = fuel; next = at }) cells (assigned_to M x fuel r)
 unfolding spend assigned Yields
 assign_fail_at M x at zero r words f z a = absurd (f refl)
@@ -128,13 +144,14 @@ assign_fail_at M x at (suc b) (ok v) words f z a = absurd (z a.0)
 assign_fail_at M x at (suc b) long words f z a = finish_over a refl
 assign_fail_at M x at (suc b) stuck words f z a = finish_wrong
 
-assign_done_at : (g : Target) {M : Mem} (x : ℕ) (v : Result) {cells : List ℕ} (fuel : ℕ) (r : Res) → (fuel ≡ 0 → ⊥)
+assign_done_at : (g : Target) {M : Mem} (x : ℕ) (v : Reached) {cells : List ℕ} (fuel : ℕ) {left : ℕ} (r : Res)
+    → fuel ≡ left + 1
     → v.state ≡ 0 → Gives r v → x < g.locations
     → CellsHold v.cells g.locations g.depth M g.env → drop v.next g.code ≡ code g.rest
     → cells ≡ store_of v.cells (first_location + x) (load_of v.cells accumulator)
-    → Finishes g (record { state = Done; left = fuel - 1; next = v.next }) cells (assigned_to M x fuel r)
-unfolding spend assigned Yields state_number
-assign_done_at g x v zero r f z a l held n e = absurd (f refl)
+    → Finishes g (record { state = 0; left = left; next = v.next }) cells (assigned_to M x fuel r)
+unfolding spend assigned Yields
+assign_done_at g x v zero r f z a l held n e = absurd (omega arith)
 assign_done_at g x v (suc b) (ok u) f z a l held n e =
     finish_done {b = b} refl (omega arith)
     (holds_put held x u l (load_here v.cells u (room_here held) a.1) (length_load v.cells 0) e) n
@@ -142,7 +159,7 @@ assign_done_at g x v (suc b) long f z a l held n e = absurd (omega arith)
 assign_done_at g x v (suc b) stuck f z a l held n e = finish_wrong
 
 module _ {S : Setting} {p : Place} {fuel x : ℕ} where
-  assign_by : {d : Stepped} {cells : List ℕ} → p.at ≤ d.next → d.left ≤ fuel
+  assign_by : {d : Stepped} {cells : List ℕ} → (d.state ≡ 0 → p.at ≤ d.next) → d.left ≤ fuel
       → ((C : Context) (M : Mem) (e : Expr) (rest : List ScriptLine) → StandsFor S p C M → ExprAt p C.counts rest e
       → x < C.counts.locations
       → Finishes (target p C rest) d cells (assigned_to M x fuel (eval C.world C.env M e)))
@@ -157,32 +174,35 @@ module _ {S : Setting} {p : Place} {fuel x : ℕ} where
             (m C M e rest held here l);
       }
 
-  pub assign-spent : fuel ≡ 0 → Assigns S p fuel x (record { state = Spent; left = 0; next = p.at }) p.cells
-  unfolding state_number spend
-  assign-spent z = assign_by (omega arith) (omega arith) (λ C M e rest held here l. rw z (finish_spent refl refl))
+  pub assign-spent : (next : ℕ) → fuel ≡ 0
+      → Assigns S p fuel x (record { state = 9; left = fuel; next = next }) p.cells
+  unfolding spend
+  assign-spent next z =
+      assign_by (λ q. absurd (omega arith)) (omega arith)
+      (λ C M e rest held here l. rw z (finish_spent refl refl))
 
-  pub assign_fail : {s : State} {n : ℕ} {cells : List ℕ} → (fuel ≡ 0 → ⊥)
-      → Evals S p (record { state = state_number s; next = n; cells = cells })
-      → (state_number s ≡ 0 → ⊥) → Assigns S p fuel x (record { state = s; left = fuel; next = p.at }) cells
-  assign_fail f y z =
-      assign_by (omega arith) (omega arith)
-      (λ C M e rest held here l. assign_fail_at M x p.at fuel _ _ f z (y.means C M e rest held here).0)
+  pub assign_fail : {s n : ℕ} {cells : List ℕ} (next : ℕ) → (fuel ≡ 0 → ⊥)
+      → Evals S p (record { state = s; next = n; cells = cells })
+      → (s ≡ 0 → ⊥) → Assigns S p fuel x (record { state = s; left = fuel; next = next }) cells
+  assign_fail next f y z =
+      assign_by (λ q. absurd (z q)) (omega arith)
+      (λ C M e rest held here l. assign_fail_at M x next fuel _ _ f z (y.means C M e rest held here).0)
 
-  pub assign_done : {v : Result} {cells : List ℕ} → (fuel ≡ 0 → ⊥) → Evals S p v → v.state ≡ 0
+  pub assign_done : {v : Reached} {left : ℕ} {cells : List ℕ} → fuel ≡ left + 1 → Evals S p v → v.state ≡ 0
       → cells ≡ store_of v.cells (first_location + x) (load_of v.cells accumulator)
-      → Assigns S p fuel x (record { state = Done; left = fuel - 1; next = v.next }) cells
+      → Assigns S p fuel x (record { state = 0; left = left; next = v.next }) cells
   assign_done {v} f y z e =
-      assign_by (y.forward z) (omega arith)
+      assign_by (λ q. y.forward z) (omega arith)
       (λ C M u rest held here l. let m = y.means C M u rest held here in
       assign_done_at (target p C rest) x v fuel _ f z m.0 l
       (holds_kept held.cells v.cells y.kept) (m.1 z) e)
 
 -- ---- decide
 
-decide_fail_at : {ws : List ℕ} {rest : List ScriptLine} {s : State} {cells : List ℕ} (at fuel : ℕ) (r : Res)
+decide_fail_at : {ws : List ℕ} {rest : List ScriptLine} {s : ℕ} {cells : List ℕ} (at fuel : ℕ) (r : Res)
     → (fuel ≡ 0 → ⊥)
-    → (state_number s ≡ 0 → ⊥)
-    → Yields r (state_number s) (cell_of cells accumulator)
+    → (s ≡ 0 → ⊥)
+    → Yields r (s) (cell_of cells accumulator)
     → Chooses ws rest (record { state = s; left = fuel; next = at; on = false }) cells (choice fuel r)
 unfolding choice Yields
 decide_fail_at at zero r f z a = absurd (f refl)
@@ -191,12 +211,12 @@ decide_fail_at at (suc b) long f z a = is_long a refl
 decide_fail_at at (suc b) stuck f z a = is_stuck
 
 module _ {S : Setting} {p : Place} {fuel : ℕ} where
-  pub decide_spent : fuel ≡ 0
-      → Decides S p fuel (record { state = Spent; left = 0; next = p.at; on = false }) p.cells
-  unfolding state_number choice
-  decide_spent z =
+  pub decide_spent : (next : ℕ) → fuel ≡ 0
+      → Decides S p fuel (record { state = 9; left = fuel; next = next; on = false }) p.cells
+  unfolding choice
+  decide_spent next z =
       record {
-        forward = omega arith;
+        forward = λ q. absurd (omega arith);
         spends = omega arith;
         settled = λ q. absurd (false≢true q);
         falls = λ q. absurd (false≢true q);
@@ -204,17 +224,17 @@ module _ {S : Setting} {p : Place} {fuel : ℕ} where
         means = λ C M e rest held here. rw z (has_none refl refl);
       }
 
-  pub decide_fail : {s : State} {n : ℕ} {cells : List ℕ} → (fuel ≡ 0 → ⊥)
-      → Evals S p (record { state = state_number s; next = n; cells = cells })
-      → (state_number s ≡ 0 → ⊥) → Decides S p fuel (record { state = s; left = fuel; next = p.at; on = false }) cells
-  decide_fail f y z =
+  pub decide_fail : {s n : ℕ} {cells : List ℕ} (next : ℕ) → (fuel ≡ 0 → ⊥)
+      → Evals S p (record { state = s; next = n; cells = cells })
+      → (s ≡ 0 → ⊥) → Decides S p fuel (record { state = s; left = fuel; next = next; on = false }) cells
+  decide_fail next f y z =
       record {
-        forward = omega arith;
+        forward = λ q. absurd (z q);
         spends = omega arith;
         settled = λ q. absurd (false≢true q);
         falls = λ q. absurd (false≢true q);
         kept = y.kept;
-        means = λ C M e rest held here. decide_fail_at p.at fuel _ f z (y.means C M e rest held here).0;
+        means = λ C M e rest held here. decide_fail_at next fuel _ f z (y.means C M e rest held here).0;
       }
 
 -- the value in the accumulator, by its first word
@@ -233,8 +253,8 @@ module _ {ws : List ℕ} {rest : List ScriptLine} {cells : List ℕ} where
   chooses_side : {next b : ℕ} (v : Value) {n : ℕ} {on : Bool} → Side n on → Kind n v
       → cell_of cells accumulator ≡ cell v
       → drop next ws ≡ code rest
-      → Chooses ws rest (record { state = Done; left = b; next = next; on = on }) cells (choice_v b v)
-  unfolding choice_v state_number
+      → Chooses ws rest (record { state = 0; left = b; next = next; on = on }) cells (choice_v b v)
+  unfolding choice_v
   chooses_side v side_left is_inl e d = goes_left refl refl refl e d
   chooses_side v side_right is_inr e d = goes_right refl refl refl e d
 
@@ -250,52 +270,48 @@ module _ {ws : List ℕ} {rest : List ScriptLine} {cells : List ℕ} where
   chooses_none b v is_blank n3 n4 = is_stuck
 
 -- a decision, by the value that was found
-decided : {ws : List ℕ} {rest : List ScriptLine} {g : Decided} (v : Result) (fuel : ℕ) (r : Res) → (fuel ≡ 0 → ⊥)
+chosen_by : {ws : List ℕ} {rest : List ScriptLine} {g : Decided} (v : Reached) (fuel left : ℕ) (r : Res)
+    → fuel ≡ left + 1
     → v.state ≡ 0 → Gives r v
-    → ((b : ℕ) (u : Value) → fuel ≡ suc b → cell_of v.cells accumulator ≡ cell u
-    → Chooses ws rest g v.cells (choice_v b u))
+    → ((u : Value) → cell_of v.cells accumulator ≡ cell u → Chooses ws rest g v.cells (choice_v left u))
     → Chooses ws rest g v.cells (choice fuel r)
 unfolding choice Yields
-decided v zero r f z a k = absurd (f refl)
-decided v (suc b) (ok u) f z a k = k b u refl a.1
-decided v (suc b) long f z a k = absurd (omega arith)
-decided v (suc b) stuck f z a k = is_stuck
+chosen_by v zero left r f z a k = absurd (omega arith)
+chosen_by {ws = ws} {rest = rest} {g = g} v (suc b) left (ok u) f z a k =
+    let e : left ≡ b = omega arith in
+    subst (λ (i : ℕ). Chooses ws rest g v.cells (choice_v i u)) e (k u a.1)
+chosen_by v (suc b) left long f z a k = absurd (omega arith)
+chosen_by v (suc b) left stuck f z a k = is_stuck
 
-module _ {S : Setting} {p : Place} {fuel w : ℕ} {v : Result} (f : fuel ≡ 0 → ⊥) (y : Evals S p v) (z : v.state ≡ 0)
-    (q : w ≡ get_or v.cells 0 0) where
+module _ {S : Setting} {p : Place} {fuel w : ℕ} (left : ℕ) {v : Reached} (f : fuel ≡ left + 1) (y : Evals S p v)
+    (z : v.state ≡ 0) (q : w ≡ get_or v.cells 0 0) where
   pub decide_side : {n : ℕ} {on : Bool} → Side n on → w ≡ n
-      → Decides S p fuel (record { state = Done; left = fuel - 1; next = v.next; on = on }) v.cells
-  unfolding state_number
+      → Decides S p fuel (record { state = 0; left = left; next = v.next; on = on }) v.cells
   decide_side {n} {on} side i =
       record {
-        forward = y.forward z;
+        forward = λ o. y.forward z;
         spends = omega arith;
         settled = λ o. refl;
-        falls = λ o. less fuel f;
+        falls = λ o. omega arith;
         kept = y.kept;
         means = λ C M e rest held here.
             let m = y.means C M e rest held here in
-            decided v fuel _ f z m.0
-            (λ b u s a. let s' : fuel - 1 ≡ b = omega arith in
-            rw s' (chooses_side u side (kind_here v.cells u n a q i) a (m.1 z)));
+            chosen_by v fuel left _ f z m.0
+            (λ u a. chooses_side u side (kind_here v.cells u n a q i) a (m.1 z));
       }
-    where
-      less : (n : ℕ) → (n ≡ 0 → ⊥) → n - 1 < n
-      less zero f = absurd (f refl)
-      less (suc n) f = omega arith
 
-  pub decide_none : (w ≡ 3 → ⊥) → (w ≡ 4 → ⊥)
-      → Decides S p fuel (record { state = NoRule; left = fuel; next = p.at; on = false }) v.cells
-  decide_none n3 n4 =
+  pub decide_none : (next : ℕ) → (w ≡ 3 → ⊥) → (w ≡ 4 → ⊥)
+      → Decides S p fuel (record { state = 4; left = fuel; next = next; on = false }) v.cells
+  decide_none next n3 n4 =
       record {
-        forward = omega arith;
+        forward = λ o. absurd (omega arith);
         spends = omega arith;
         settled = λ o. absurd (false≢true o);
         falls = λ o. absurd (false≢true o);
         kept = y.kept;
         means = λ C M e rest held here.
-            decided v fuel _ f z (y.means C M e rest held here).0
-            (λ b u s a. chooses_none b u (kind_here v.cells u w a q refl) n3 n4);
+            chosen_by v fuel left _ f z (y.means C M e rest held here).0
+            (λ u a. chooses_none left u (kind_here v.cells u w a q refl) n3 n4);
       }
 
 -- ---- branch
@@ -311,8 +327,8 @@ starts-after (at_second k) = k.forward
 
 module _ {t : Target} {M : Mem} {cs : Branching} {g : Decided} {ws : List ℕ} {mid : List ScriptLine}
     {cells : List ℕ} where
-  enters_past : {c : Choice} (at : ℕ) → (state_number g.state ≡ 0 → ⊥) → Chooses ws mid g cells c
-      → Enters t M cs (record { state = g.state; left = g.left; start = at; on = false }) cells c
+  enters_past : {c : Choice} (at : ℕ) → (g.state ≡ 0 → ⊥) → Chooses ws mid g cells c
+      → Enters t M cs (record { state = g.state; left = g.left; next = at; on = false }) cells c
   enters_past at z (goes_left s l o e n) = absurd (z s)
   enters_past at z (goes_right s l o e n) = absurd (z s)
   enters_past at z (has_none s l) = enters_spent s l
@@ -331,11 +347,10 @@ module _ (t : Target) {M : Mem} {cells cells' : List ℕ} (held : CellsHold cell
       (length_pop _ (length_load cells 0)) e
 
   module _ {cs : Branching} (g : Decided) (s : Source cs.on_left) where
-    enters_on : {c : Choice} {on : Bool} {start : ℕ} → state_number g.state ≡ 0 → g.on ≡ on
+    enters_on : {c : Choice} {on : Bool} {start : ℕ} → g.state ≡ 0 → g.on ≡ on
         → Starts t.code g.next on start
         → Chooses t.code (cmd_lines cs.on_left (cmd_lines cs.on_right t.rest)) g cells c
-        → Enters t M cs (record { state = Done; left = g.left; start = start; on = g.on }) cells' c
-    unfolding state_number
+        → Enters t M cs (record { state = 0; left = g.left; next = start; on = g.on }) cells' c
     enters_on z i at_first (goes_left {v = v} q l o a n) = enters_left refl l o (binds_inside tags_left v a) n
     enters_on z i (at_second k) (goes_left q l o a n) = absurd (false≢true (sym i ∙ o))
     enters_on z i at_first (goes_right q l o a n) = absurd (false≢true (sym o ∙ i))
@@ -346,36 +361,35 @@ module _ (t : Target) {M : Mem} {cells cells' : List ℕ} (held : CellsHold cell
     enters_on z i h is_stuck = enters_stuck
 
 module _ {S : Setting} {p : Place} {fuel : ℕ} where
-  pub branch_deep : max_depth ≤ p.depth
-      → Branches S p fuel (record { state = NoRule; left = fuel; start = p.at; on = false }) p.cells
-  unfolding state_number
-  branch_deep h =
+  pub branch_deep : (next : ℕ) → max_depth ≤ p.depth
+      → Branches S p fuel (record { state = 4; left = fuel; next = next; on = false }) p.cells
+  branch_deep next h =
       record {
-        forward = omega arith;
+        forward = λ z. absurd (omega arith);
         spends = omega arith;
         shallow = λ z. absurd (omega arith);
         means = λ C M e cs rest held here s l. absurd (omega arith);
       }
 
   module _ {g : Decided} {cells : List ℕ} (y : Decides S p fuel g cells) where
-    pub branch_past : (state_number g.state ≡ 0 → ⊥)
-        → Branches S p fuel (record { state = g.state; left = g.left; start = p.at; on = false }) cells
-    branch_past h =
+    pub branch_past : (next : ℕ) → (g.state ≡ 0 → ⊥)
+        → Branches S p fuel (record { state = g.state; left = g.left; next = next; on = false }) cells
+    branch_past next h =
         record {
-          forward = omega arith;
+          forward = λ z. absurd (h z);
           spends = y.spends;
           shallow = λ z. absurd (h z);
-          means = λ C M e cs rest held here s l. enters_past p.at h (y.means C M e _ held here);
+          means = λ C M e cs rest held here s l. enters_past next h (y.means C M e _ held here);
         }
 
     pub branch_taken : {cells' : List ℕ} {on : Bool} {start : ℕ} → p.depth < max_depth
         → cells' ≡ store_of cells (suc p.depth) (pop_of (load_of cells accumulator))
-        → state_number g.state ≡ 0 → g.on ≡ on
+        → g.state ≡ 0 → g.on ≡ on
         → Starts p.code g.next on start
-        → Branches S p fuel (record { state = Done; left = g.left; start = start; on = g.on }) cells'
+        → Branches S p fuel (record { state = 0; left = g.left; next = start; on = g.on }) cells'
     branch_taken l b z o h =
         record {
-          forward = omega (arith, y.forward, starts-after h);
+          forward = λ q. omega (arith, y.forward z, starts-after h);
           spends = y.spends;
           shallow = λ q. l;
           means = λ C M e cs rest held here s m.

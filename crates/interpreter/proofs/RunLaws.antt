@@ -1,10 +1,12 @@
 -- A whole run: the memory copied into the cells, the script's command, and the memory copied back.
 use mathlib.Core.Path.{◌≡◌, refl, sym, ap, subst, ◌∙◌}
 use mathlib.Core.Bool.{true}
-use mathlib.Core.List.{List, [], ◌++◌, append-nil, append_assoc}
+use mathlib.Core.List.{List, [], ◌++◌, append_assoc}
 use Prim.Native.Nat.{ℕ, zero, ◌+◌, ◌*◌, ◌-◌, ◌≤◌, ◌<◌}
 use native.Mathlib.Omega.{arith}
-use lib.ListN.{length, take, drop, take-append-drop, length-drop, drop_of_length-le}
+use borrow.Rule.Slice.PartMut.{put_mid}
+use Rattle.std.proofs.lemmas.Slice.{put_mid-paste}
+use lib.ListN.{length-replicate, replicate, length, take, drop, take-append-drop, length-drop}
 use lib.Seq.{take_all, drop-drop, drop-append-add, length-take-le, paste, length-paste}
 use Rattle.language.specs.Syntax.{Cmd}
 use Rattle.language.specs.World.{Mem, cell_words}
@@ -26,13 +28,10 @@ use Rattle.memory.specs.Words.{cell}
 use Rattle.memory.specs.Memory.{cell_of, memory_of, words_of, as_declared, well_formed}
 use Rattle.memory.proofs.CellsLaws.{cells_ext, cells_all}
 use Rattle.memory.proofs.MemoryLaws.{value_words}
-use Rattle.evaluator.specs.State.{state_number}
-use Rattle.evaluator.specs.declared.State.TheVariants.{Done, NoRule}
 use Rattle.evaluator.specs.Internal.Cells.{first_location, work_words, CellsHold, bound_none}
 use Rattle.evaluator.specs.Internal.Nodes.{Tells}
-use Rattle.interpreter.specs.declared.commands.Stepped.{Stepped}
 use Rattle.interpreter.specs.Internal.Post.{Target, Finishes, finish_done, finish_spent, finish_over}
-use Rattle.interpreter.specs.Internal.Post.{finish_wrong, Execs}
+use Rattle.interpreter.specs.Internal.Post.{Stepped, finish_wrong, Execs}
 use Rattle.interpreter.specs.Internal.Run.{RunLeaves, Runs}
 use Rattle.cells.proofs.CellLaws.{cell-front}
 
@@ -72,6 +71,20 @@ cell_taken ws n x h l =
 
 -- ---- the memory
 
+-- the cells before a run, and with the memory's words stored
+abbrev pub no_cells : List ℕ
+no_cells = replicate work_words 0
+
+pub cells-whole : length no_cells ≡ work_words
+cells-whole = length-replicate {A = ℕ} work_words 0
+
+pub memory-stored : (memory words : List ℕ) → words ≡ memory
+    → put_mid (cell_words * first_location) (cell_words * first_location + length memory - cell_words * first_location)
+    no_cells words
+    ≡ paste no_cells (cell_words * first_location) memory (length memory)
+memory-stored memory words e =
+    put_mid-paste 144 (144 + length memory - 144) no_cells words memory (length memory) e (omega arith) refl
+
 -- each location of a well-formed memory holds its value's words
 memory-cell : (s : Sheet) (memory : List ℕ) → length memory ≡ cell_words * location_count s
     → well_formed s memory ≡ true
@@ -103,16 +116,13 @@ module _ (work memory : List ℕ) (whole : length work ≡ work_words) (location
           ∙ cell-front memory q x (omega arith)
 
   pub copied_out : (work' memory' : List ℕ) (M : Mem) → CellsHold work' locations 0 M []
-      → memory' ≡ paste memory 0 (drop (cell_words * first_location) work') (length memory)
+      → memory' ≡ take (length memory) (drop (cell_words * first_location) work')
       → memory' ≡ words_of locations M
   unfolding words_of
   copied_out work' memory' M held e =
       let part : List ℕ = take (length memory) (drop 144 work') in
-      let z : 0 + length memory ≡ length memory = omega arith in
       let d : length memory ≤ length (drop 144 work') = omega (arith, held.whole, length-drop 144 work') in
-      e ∙ ap (λ (u : List ℕ). part ++ u) (drop_of_length-le memory {i = 0 + length memory} (omega arith))
-      ∙ append-nil part
-      ∙ sym (cells_all locations part (length-take-le (length memory) (drop 144 work') d ∙ n))
+      e ∙ sym (cells_all locations part (length-take-le (length memory) (drop 144 work') d ∙ n))
       ∙ cells_ext locations (λ (x : ℕ). cell_of part x) (λ (x : ℕ). cell (M x))
       (λ x l. cell_taken (drop 144 work') (length memory) x (omega arith) d ∙ cell_dropped work' 9 x ∙ held.memory x l)
 
@@ -123,7 +133,7 @@ abbrev whole_target : List ℕ → ℕ → Target
 whole_target ws locations = record { code = ws; rest = []; locations = locations; depth = 0; env = [] }
 
 module _ (memory : List ℕ) (budget : ℕ) {ws cells : List ℕ} {locations : ℕ} {d : Stepped} where
-  done_at : {memory' : List ℕ} {o : Out} → state_number d.state ≡ 0 → Finishes (whole_target ws locations) d cells o
+  done_at : {memory' : List ℕ} {o : Out} → d.state ≡ 0 → Finishes (whole_target ws locations) d cells o
       → ((M : Mem) → CellsHold cells locations 0 M [] → memory' ≡ words_of locations M)
       → RunLeaves locations budget memory o 0 (budget - d.left) memory'
   unfolding RunLeaves
@@ -132,8 +142,8 @@ module _ (memory : List ℕ) (budget : ℕ) {ws cells : List ℕ} {locations : �
   done_at z (finish_over s l) k = absurd (omega arith)
   done_at z finish_wrong k = tt
 
-  kept_at : {o : Out} → (state_number d.state ≡ 0 → ⊥) → Finishes (whole_target ws locations) d cells o
-      → RunLeaves locations budget memory o (state_number d.state) (budget - d.left) memory
+  kept_at : {o : Out} → (d.state ≡ 0 → ⊥) → Finishes (whole_target ws locations) d cells o
+      → RunLeaves locations budget memory o (d.state) (budget - d.left) memory
   unfolding RunLeaves
   kept_at z (finish_done s l held n) = absurd (z s)
   kept_at z (finish_spent s l) = (s, omega arith, refl)
@@ -142,8 +152,7 @@ module _ (memory : List ℕ) (budget : ℕ) {ws cells : List ℕ} {locations : �
 
 -- a memory of more locations than a sheet has
 pub run_large : {ws table memory : List ℕ} {authority budget : ℕ} → cell_words * max_locations < length memory
-    → Runs ws table memory authority budget (state_number NoRule) 0 memory
-unfolding state_number
+    → Runs ws table memory authority budget 4 0 memory
 run_large h =
     record {
       long = refl;
@@ -175,10 +184,9 @@ module _ (authority : ℕ) {ws table : List ℕ} {budget : ℕ} (work memory : L
       subst (λ (u : Cmd). Finishes (whole_target ws (location_count s)) d cells
       (iterate (world_of s authority) budget (memory_of memory) u)) (close_none zero c) (rw ke at m)
 
-  pub run_done : {memory' : List ℕ} → state_number d.state ≡ 0 → length memory' ≡ length memory
-      → memory' ≡ paste memory 0 (drop (cell_words * first_location) cells) (length memory)
-      → Runs ws table memory authority budget (state_number Done) (budget - d.left) memory'
-  unfolding state_number
+  pub run_done : {memory' : List ℕ} → d.state ≡ 0 → length memory' ≡ length memory
+      → memory' ≡ take (length memory) (drop (cell_words * first_location) cells)
+      → Runs ws table memory authority budget 0 (budget - d.left) memory'
   run_done {memory'} z l p =
       record {
         long = l;
@@ -189,8 +197,8 @@ module _ (authority : ℕ) {ws table : List ℕ} {budget : ℕ} (work memory : L
             (λ M held. copied_out work memory whole (location_count s) n (locations-few s fm) cells memory' M held p);
       }
 
-  pub run_kept : (state_number d.state ≡ 0 → ⊥)
-      → Runs ws table memory authority budget (state_number d.state) (budget - d.left) memory
+  pub run_kept : (d.state ≡ 0 → ⊥)
+      → Runs ws table memory authority budget (d.state) (budget - d.left) memory
   run_kept z =
       record {
         long = refl;

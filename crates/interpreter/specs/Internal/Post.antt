@@ -1,4 +1,5 @@
 -- What the functions over a script's lines ensure.
+use Rattle.std.specs.Prelude.{Result, Ok, Err, Bool}
 use Rattle.std.specs.Prelude.{◌≡◌, true, false, List, ◌∷◌, ℕ, zero, suc, ◌≤◌, ◌<◌, drop}
 use Rattle.language.specs.Syntax.{Value, int, err, inl, inr, pkg, pair, blank, Expr, Cmd, assign}
 use Rattle.language.specs.World.{Mem, cell_words}
@@ -12,12 +13,12 @@ use Rattle.memory.specs.Words.{cell}
 use Rattle.memory.specs.Memory.{cell_of}
 use Rattle.cells.specs.Internal.Cells.{accumulator}
 use Rattle.evaluator.specs.Internal.Cells.{CellsHold}
-use Rattle.evaluator.specs.Internal.Records.{Setting, Place, Context}
+use Rattle.evaluator.specs.Internal.Records.{Setting, Place, place_of, Context}
 use Rattle.evaluator.specs.Internal.Post.{ExprAt, StandsFor}
 use Rattle.evaluator.specs.State.{state_number}
-use Rattle.interpreter.specs.declared.commands.Stepped.{Stepped}
-use Rattle.interpreter.specs.declared.commands.Decided.{Decided}
-use Rattle.interpreter.specs.declared.commands.Taken.{Taken}
+use Rattle.evaluator.specs.declared.Stop.{Stop}
+use Rattle.interpreter.specs.declared.commands.Side.{Side}
+use Rattle.interpreter.specs.declared.commands.Side.TheVariants.{Left, Right}
 
 -- ---- places in the code
 
@@ -42,40 +43,36 @@ abbrev pub target : Place → Context → List ScriptLine → Target
 target p C rest =
     record { code = p.code; rest = rest; locations = C.counts.locations; depth = p.depth; env = C.env }
 
+-- how a command's run ends: its state's number, the rest of the budget, and where the command's lines end
+pub record Stepped : Type 0 where
+  pub state : ℕ
+  pub left : ℕ
+  pub next : ℕ
+
+abbrev pub stepped : Result ℕ Stop → ℕ → Stepped
+stepped r left = record { state = state_number r; left = left; next = place_of r }
+
 -- How the run of a command ends, by its state's number: done, with the memory in the cells and the place after
 -- the command; the budget used up; a value too long. Where no rule applies nothing is promised: no accepted
 -- script comes there.
 pub data Finishes (g : Target) (d : Stepped) (cells : List ℕ) : Out → Type 0 where
-  finish_done : {M : Mem} {b : ℕ} → state_number d.state ≡ 0 → d.left ≡ b
+  finish_done : {M : Mem} {b : ℕ} → d.state ≡ 0 → d.left ≡ b
       → CellsHold cells g.locations g.depth M g.env → drop d.next g.code ≡ code g.rest
       → Finishes g d cells (done M b)
-  finish_spent : state_number d.state ≡ 9 → d.left ≡ 0 → Finishes g d cells spent
-  finish_over : {b : ℕ} → state_number d.state ≡ 10 → d.left ≡ b → Finishes g d cells (over b)
+  finish_spent : d.state ≡ 9 → d.left ≡ 0 → Finishes g d cells spent
+  finish_over : {b : ℕ} → d.state ≡ 10 → d.left ≡ b → Finishes g d cells (over b)
   finish_wrong : Finishes g d cells wrong
 
 pub record Execs (S : Setting) (p : Place) (fuel : ℕ) (d : Stepped) (cells : List ℕ) : Type 0 where
-  pub forward : p.at ≤ d.next
+  pub forward : d.state ≡ 0 → p.at ≤ d.next
   pub spends : d.left ≤ fuel
   pub means : (C : Context) (M : Mem) (c : Cmd) (rest : List ScriptLine) → StandsFor S p C M
       → CmdAt p C.counts rest c
       → Finishes (target p C rest) d cells (iterate C.world fuel M (close zero C.env c))
 
--- the transition after a run that is done
-unfoldable pub ticked : Out → Out
-ticked (done M zero) = spent
-ticked (done M (suc b)) = done M b
-ticked spent = spent
-ticked (over b) = over b
-ticked wrong = wrong
-
-pub record Ticks (d t : Stepped) : Type 0 where
-  pub spends : t.left ≤ d.left
-  pub same_place : t.next ≡ d.next
-  pub means : {g : Target} {cells : List ℕ} {o : Out} → Finishes g d cells o → Finishes g t cells (ticked o)
-
 -- An assignment to location x, the expression standing at p.
 pub record Assigns (S : Setting) (p : Place) (fuel x : ℕ) (d : Stepped) (cells : List ℕ) : Type 0 where
-  pub forward : p.at ≤ d.next
+  pub forward : d.state ≡ 0 → p.at ≤ d.next
   pub spends : d.left ≤ fuel
   pub means : (C : Context) (M : Mem) (e : Expr) (rest : List ScriptLine) → StandsFor S p C M
       → ExprAt p C.counts rest e → x < C.counts.locations
@@ -104,20 +101,35 @@ choice (suc b) (ok v) = choice_v b v
 choice (suc b) long = choice_long b
 choice (suc b) stuck = choice_stuck
 
+-- how it is decided: the state's number, the rest of the budget, a place, and whether for a left
+pub record Decided : Type 0 where
+  pub state : ℕ
+  pub left : ℕ
+  pub next : ℕ
+  pub on : Bool
+
+abbrev pub is_left : Side → Bool
+is_left Left = true
+is_left Right = false
+
+abbrev pub decided : Result (Side × ℕ) Stop → ℕ → Decided
+decided (Ok x) left = record { state = 0; left = left; next = x.1; on = is_left x.0 }
+decided (Err s) left = record { state = state_number {A = ℕ} (Err s); left = left; next = 0; on = false }
+
 -- State 0, with `on` for left; the value in the accumulator, and the place after the expression.
 pub data Chooses (ws : List ℕ) (rest : List ScriptLine) (g : Decided) (cells : List ℕ) : Choice → Type 0 where
-  goes_left : {v : Value} {b : ℕ} → state_number g.state ≡ 0 → g.left ≡ b → g.on ≡ true
+  goes_left : {v : Value} {b : ℕ} → g.state ≡ 0 → g.left ≡ b → g.on ≡ true
       → cell_of cells accumulator ≡ cell (inl v) → drop g.next ws ≡ code rest → Chooses ws rest g cells (to_left v b)
-  goes_right : {v : Value} {b : ℕ} → state_number g.state ≡ 0 → g.left ≡ b → g.on ≡ false
+  goes_right : {v : Value} {b : ℕ} → g.state ≡ 0 → g.left ≡ b → g.on ≡ false
       → cell_of cells accumulator ≡ cell (inr v) → drop g.next ws ≡ code rest → Chooses ws rest g cells (to_right v b)
-  has_none : state_number g.state ≡ 9 → g.left ≡ 0 → Chooses ws rest g cells no_budget
-  is_long : {b : ℕ} → state_number g.state ≡ 10 → g.left ≡ suc b → Chooses ws rest g cells (choice_long b)
+  has_none : g.state ≡ 9 → g.left ≡ 0 → Chooses ws rest g cells no_budget
+  is_long : {b : ℕ} → g.state ≡ 10 → g.left ≡ suc b → Chooses ws rest g cells (choice_long b)
   is_stuck : Chooses ws rest g cells choice_stuck
 
 pub record Decides (S : Setting) (p : Place) (fuel : ℕ) (g : Decided) (cells : List ℕ) : Type 0 where
-  pub forward : p.at ≤ g.next
+  pub forward : g.state ≡ 0 → p.at ≤ g.next
   pub spends : g.left ≤ fuel
-  pub settled : g.on ≡ true → state_number g.state ≡ 0
+  pub settled : g.on ≡ true → g.state ≡ 0
   pub falls : g.on ≡ true → g.left < fuel
   pub kept : drop cell_words cells ≡ drop cell_words p.cells
   pub means : (C : Context) (M : Mem) (e : Expr) (rest : List ScriptLine) → StandsFor S p C M
@@ -129,23 +141,23 @@ pub record Branching : Type 0 where
   pub on_left : Cmd
   pub on_right : Cmd
 
--- The branch taken, with `on` for left: its value is bound, and it starts at `start`.
-pub data Enters (g : Target) (M : Mem) (cs : Branching) (t : Taken) (cells : List ℕ) : Choice → Type 0 where
-  enters_left : {v : Value} {b : ℕ} → state_number t.state ≡ 0 → t.left ≡ b → t.on ≡ true
+-- The branch taken, with `on` for left: its value is bound, and it starts at the place.
+pub data Enters (g : Target) (M : Mem) (cs : Branching) (t : Decided) (cells : List ℕ) : Choice → Type 0 where
+  enters_left : {v : Value} {b : ℕ} → t.state ≡ 0 → t.left ≡ b → t.on ≡ true
       → CellsHold cells g.locations (suc g.depth) M (v ∷ g.env)
-      → drop t.start g.code ≡ code (cmd_lines cs.on_left (cmd_lines cs.on_right g.rest))
+      → drop t.next g.code ≡ code (cmd_lines cs.on_left (cmd_lines cs.on_right g.rest))
       → Enters g M cs t cells (to_left v b)
-  enters_right : {v : Value} {b : ℕ} → state_number t.state ≡ 0 → t.left ≡ b → t.on ≡ false
+  enters_right : {v : Value} {b : ℕ} → t.state ≡ 0 → t.left ≡ b → t.on ≡ false
       → CellsHold cells g.locations (suc g.depth) M (v ∷ g.env)
-      → drop t.start g.code ≡ code (cmd_lines cs.on_right g.rest) → Enters g M cs t cells (to_right v b)
-  enters_spent : state_number t.state ≡ 9 → t.left ≡ 0 → Enters g M cs t cells no_budget
-  enters_long : {b : ℕ} → state_number t.state ≡ 10 → t.left ≡ suc b → Enters g M cs t cells (choice_long b)
+      → drop t.next g.code ≡ code (cmd_lines cs.on_right g.rest) → Enters g M cs t cells (to_right v b)
+  enters_spent : t.state ≡ 9 → t.left ≡ 0 → Enters g M cs t cells no_budget
+  enters_long : {b : ℕ} → t.state ≡ 10 → t.left ≡ suc b → Enters g M cs t cells (choice_long b)
   enters_stuck : Enters g M cs t cells choice_stuck
 
-pub record Branches (S : Setting) (p : Place) (fuel : ℕ) (t : Taken) (cells : List ℕ) : Type 0 where
-  pub forward : p.at ≤ t.start
+pub record Branches (S : Setting) (p : Place) (fuel : ℕ) (t : Decided) (cells : List ℕ) : Type 0 where
+  pub forward : t.state ≡ 0 → p.at ≤ t.next
   pub spends : t.left ≤ fuel
-  pub shallow : state_number t.state ≡ 0 → p.depth < max_depth
+  pub shallow : t.state ≡ 0 → p.depth < max_depth
   pub means : (C : Context) (M : Mem) (e : Expr) (cs : Branching) (rest : List ScriptLine) → StandsFor S p C M
       → ExprAt p C.counts (cmd_lines cs.on_left (cmd_lines cs.on_right rest)) e
       → Source cs.on_left → p.depth < max_depth

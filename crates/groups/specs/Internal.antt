@@ -2,4 +2,5 @@
 -- docs/READING.md.
 pub mod Readers
 pub mod Walk
+pub mod Smallest
 pub mod Stages

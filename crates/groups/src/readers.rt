@@ -15,15 +15,12 @@ pub(crate) struct Readers {
 impl Readers {
     // Whether a group meets each of the sets. All places are tested, since a loop that always goes to its end
     // takes fewer instructions than one that may stop.
-    pub(crate) fn reads(self, group: Set) -> bool
-        ensures { result ≡ reads_by self group }
+    pub(crate) fn reads(&self, group: Set) -> bool
+        ensures { result ≡ reads_by self.now group }
     {
-        let sets = self.sets;
-        let mut all = true;
-        for o in 0..OWNERS {
-            all = all & sets::meets(group, sets[o]);
-        }
-        all
+        self.sets
+            .iter()
+            .fold(true, |all, &set| all & sets::meets(group, set))
     }
 }
 

@@ -1,5 +1,5 @@
 -- How the smallest groups are found: the numbers are gone through rising, and past those that hold a group that reads.
-use Rattle.std.specs.Prelude.{◌≡◌, Bool, not, List, [], ◌∷◌, ℕ, suc, ◌-◌, ◌≤◌, ◌<◌}
+use Rattle.std.specs.Prelude.{Bool, not, List, ℕ, suc, ◌-◌}
 use Rattle.logic.specs.Booleans.{both}
 use Rattle.sets.specs.Sets.{width, member, union, single, every}
 use Rattle.groups.specs.Smallest.{AccessStructure}
@@ -20,9 +20,3 @@ needs_each reads g = every width (λ (p : ℕ). not (reads_without reads g p))
 -- the smallest groups from `from` on, below `end`
 unfoldable pub smallest_up_to : AccessStructure → ℕ → ℕ → List ℕ
 smallest_up_to reads end from = smallest_from reads (end - from) from
-
--- r is the first of them, or at or past the end if there is none
-pub record FirstFrom (reads : AccessStructure) (end from r : ℕ) : Type 0 where
-  pub not_before : from ≤ r
-  pub none : end ≤ r → smallest_up_to reads end from ≡ []
-  pub first : r < end → smallest_up_to reads end from ≡ r ∷ smallest_up_to reads end (past_holders r)

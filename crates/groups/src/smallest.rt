@@ -1,5 +1,6 @@
 // The smallest groups that read, one after another, rising as numbers.
 ghost use Rattle.std.specs.Prelude.{◌≡◌, ◌≤◌, ◌<◌, ◌^◌};
+ghost use Rattle.std.specs.Iterator.{YieldsFirst, item_count};
 ghost use Rattle.sets.specs.Sets.{width};
 ghost use Rattle.groups.specs.Internal.Readers.{reads_by};
 ghost use Rattle.groups.specs.Internal.Walk.{past_holders, reads_without, needs_each, smallest_up_to};
@@ -51,12 +52,11 @@ pub(crate) struct Smallest {
 }
 
 impl Smallest {
-    ghost use Rattle.groups.specs.Internal.Smallest.{to_come};
-
     // All of them below `end`.
     pub(crate) fn below(end: u32, readers: Readers) -> Smallest
         requires { end ≤ 2 ^ width }
-        ensures { to_come result ≡ smallest_up_to (reads_by readers) end 1 }
+        ensures { smallest_up_to (reads_by result.readers) result.end result.from
+            ≡ smallest_up_to (reads_by readers) end 1 }
     {
         Smallest {
             readers,
@@ -67,7 +67,6 @@ impl Smallest {
 }
 
 impl Iterator for Smallest {
-    ghost use Rattle.std.specs.Iterator.{YieldsFirst, item_count};
     ghost use Rattle.groups.specs.Internal.Smallest.{to_come};
 
     type Item = Set;

@@ -10,7 +10,12 @@ use Rattle.groups.proofs.list_on.Goals as goal
 use Rattle.groups.proofs.list_on.Goals.{After-below-smallest, After-count-found}
 
 few : (c : After-below-smallest) → length (to_come c.below-smallest.result) ≤ c.everyone.result + 1
-few c = omega (arith, ap length c.below-smallest.ensures, left_few (reads_by c.readers_of.result) (c.everyone.result + 1))
+few c =
+    omega (
+      arith,
+      ap length c.below-smallest.ensures,
+      left_few (reads_by c.readers_of.result) (c.everyone.result + 1),
+    )
 
 as_many : (c : After-count-found) → c.count-found.result ≡ length (to_come c.below-smallest.result)
 as_many c =

@@ -18,7 +18,8 @@ pub returns : goal.returns
 returns c =
     let a = c.args in
     let first = take a.n a.row.now in
-    fold_from_yields_List _ intersection _ _ c.fold.ensures.ran (YieldsList-from_copied (YieldsList-from_slice first cc))
+    fold_from_yields_List _ intersection _ _ c.fold.ensures.ran
+    (YieldsList-from_copied (YieldsList-from_slice first cc))
     (λ x s b q k. search (rules, tests))
     ∙ ap (λ all. fold intersection all first) c.everyone.ensures
     ∙ fold_common a.n a.row.now c.if-n-row.false

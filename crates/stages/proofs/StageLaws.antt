@@ -4,7 +4,8 @@ use mathlib.Core.Path.{◌≡◌, refl, sym, ap, ◌∙◌}
 use mathlib.Core.Bool.{Bool, true, false, cond}
 use mathlib.Core.List.{List, []}
 use mathlib.Core.Option.{Option, none, some}
-use Prim.Native.Nat.{ℕ, zero, suc, ◌*◌, ◌≤◌}
+use Prim.Native.Nat.{ℕ, zero, suc, ◌+◌, ◌*◌, ◌≤◌}
+use denote.Enum.Declared.{tag_of}
 use native.Mathlib.Omega.{arith}
 use borrow.Author.Tests.{ne_eqb}
 use mir.Val.{bool_byte}
@@ -27,13 +28,22 @@ use Rattle.script_text.specs.Script.{script_of}
 use Rattle.script_text.specs.Internal.Decoded.{Decoded, code_words, counts_in, no_code, coded, decoded_script}
 use Rattle.script_text.proofs.ScriptLaws.{counts-table}
 use Rattle.script_text.proofs.ReadLaws.{read_split, read_whole}
+use Rattle.std.specs.Prelude.{Result, Ok, Err, IsErr}
+use Rattle.std.specs.Result.{IsErrAnd}
+use Rattle.std.proofs.lemmas.Result.{err_from_is_err_and}
+use Rattle.stages.specs.contracts.refusal.Refusal.{the_type}
+use Rattle.stages.specs.declared.refusal.Refusal.{Refusal}
+use Rattle.stages.specs.declared.refusal.Refusal.TheVariants as reasons
+use Rattle.stages.specs.declared.Outcome.{Outcome}
+use Rattle.stages.specs.declared.Accepted.{Accepted}
+use Rattle.stages.specs.Refusals.{refusal_number}
 use Rattle.memory.specs.Memory.{memory_of, well_formed, memory_refusal}
 use Rattle.memory.specs.View.{view_words, view_refusal}
 use Rattle.memory.specs.Internal.InTable.{view_in, leaves, refusal_in, view_refusal_in, view_leaves_in}
 use Rattle.memory.proofs.Exactness.{memories_exactly, table_agrees}
 use Rattle.memory.proofs.MemoryLaws.{unrefused-length, unrefused-formed}
 use Rattle.checker.specs.declared.Verdict.{Verdict}
-use Rattle.checker.specs.declared.Verdict.TheVariants.{Accepted, IllTyped, IllLabelled}
+use Rattle.checker.specs.declared.Verdict.TheVariants as verdicts
 use Rattle.checker.specs.Verdict.{verdict_number}
 use Rattle.checker.specs.Internal.Post.{ChecksCode, KeepsCode}
 use Rattle.evaluator.specs.declared.State.{State}
@@ -43,127 +53,134 @@ use Rattle.interpreter.specs.Internal.Run.{RunLeaves, Runs}
 use Rattle.stages.specs.Answers.{Ran, refused_run, Viewed, refused_view, refused_trust}
 use Rattle.stages.specs.Calls.{unless, strangers, on_script, untyped, number_of, ended, accepted_run, keeping_bit}
 use Rattle.stages.specs.Calls.{trust_on}
-use Rattle.stages.specs.Internal.Stages.{TableOf, CodeOf, no_code_lem, its_code, Judges, keeping_in, JudgesTrust}
-use Rattle.stages.specs.Internal.Stages.{KeepsScript, AcceptedCode, NumbersScript, Spares, RunsAccepted}
-use Rattle.stages.specs.Internal.Stages.{TrustsOn, RunsOn, OfVerdict, OfState, strangers_in, judged_number}
-use Rattle.stages.specs.Internal.Stages.{number_in, trust_in, run_in, viewed_in}
+use Rattle.stages.specs.Internal.Stages.{TableOf, keeping_in, AcceptedCode, Accepts, Spares, RunsAccepted}
+use Rattle.stages.specs.Internal.Stages.{TrustsOn, RunsOn, OfVerdict, OfState, strangers_in, number_in, trust_in}
+use Rattle.stages.specs.Internal.Stages.{run_in, viewed_in, answered_trust, answered_run}
 
--- ---- the code of a script
+-- ---- numbers
 
-pub code_of : (t script ws : List ℕ) (p : Decoded) → p ≡ decoded_script (script_of (counts_in t) script)
-    → ws ≡ take (p.count * 3) p.code
-    → (s : Sheet) → TableOf t s → CodeOf s ws p.start p.parsed (script_of (counts_of s) script)
-code_of t script ws p e w s T =
-    let k : counts_in t ≡ counts_of s = ap counts_in T.words ∙ counts-table s in
-    let e' : p ≡ decoded_script (script_of (counts_of s) script) =
-    e ∙ ap (λ (j : _). decoded_script (script_of j script)) k in
-    read_split (counts_of s) script p e'
-    (λ n a. rw (n, a) no_code_lem)
-    (λ c i src nm a tk st. rw (i, a) (its_code src nm (w ∙ tk) st))
+-- the number of a refusal is its place, from 1 on
+pub place_number : (r : Refusal) → tag_of the_type r + 1 ≡ refusal_number r
+place_number reasons.SheetMalformed = refl
+place_number reasons.SheetRepeats = refl
+place_number reasons.PrincipalUnknown = refl
+place_number reasons.ScriptMalformed = refl
+place_number reasons.IllTyped = refl
+place_number reasons.IllLabelled = refl
+place_number reasons.SliceSize = refl
+place_number reasons.MemoryIllFormed = refl
+place_number reasons.Spent = refl
+place_number reasons.TooLong = refl
+place_number reasons.TooManyScripts = refl
+place_number reasons.NotListed = refl
 
--- where its number is 0, it is the code of an accepted script
-pub accepted_code : (t script ws : List ℕ) (p : Decoded) → p ≡ decoded_script (script_of (counts_in t) script)
-    → ws ≡ take (p.count * 3) p.code
-    → (s : Sheet) → TableOf t s → number_of s script ≡ 0 → AcceptedCode s script ws
-unfolding number_of on_script
-accepted_code t script ws p e w s T z = go (code_of t script ws p e w s T) refl z
-  where
-    go : {a : ParsedScript} {o : Option Script} → CodeOf s ws p.start a o → script_of (counts_of s) script ≡ o
-        → on_script (λ k. k) o (untyped s) ≡ 0
-        → AcceptedCode s script ws
-    go no_code_lem i n = absurd (omega arith)
-    go (its_code {p = q} src nm l st) i n =
-        record { parsed = q; is_its = i; source = src; names = nm; typed = n; lines = l }
+-- and isn't 0
+pub refuses : (r : Refusal) → refusal_number r ≡ 0 → ⊥
+refuses r e = omega (arith, place_number r, e)
 
--- ---- judging
+-- what `?` hands on is what refused
+pub passed_on : {A : Type 0} (r : Result A Refusal) (e : Refusal) → IsErr r × IsErrAnd r (λ d. d ≡ e) → r ≡ Err e
+passed_on r e h = let p = err_from_is_err_and r h.1 in p.1 ∙ ap Err p.2
 
 -- 0 is that of the verdict that accepts
 pub accepted-verdict : OfVerdict 0
 unfolding verdict_number
-accepted-verdict = (Accepted, refl)
+accepted-verdict = (verdicts.Accepted, refl)
 
 -- one that refuses isn't below 4
 pub refusing_verdict : {k : ℕ} → OfVerdict k → (k ≡ 0) ⊎ (4 ≤ k)
 unfolding verdict_number
-refusing_verdict (Accepted, e) = inl e
-refusing_verdict (IllTyped, e) = inr (omega arith)
-refusing_verdict (IllLabelled, e) = inr (omega arith)
+refusing_verdict (verdicts.Accepted, e) = inl e
+refusing_verdict (verdicts.IllTyped, e) = inr (omega arith)
+refusing_verdict (verdicts.IllLabelled, e) = inr (omega arith)
 
-pub judge_refused : (ws t : List ℕ) (start : ℕ) (a : ParsedScript) → a ≡ Refused → Judges a ws t start 4
-unfolding on_script judged_number
-judge_refused ws t start a e = rw e (record { judged = λ s T o C. go s C; in_table = (0, accepted-verdict, refl) })
-  where
-    go : (s : Sheet) {o : Option Script} → CodeOf s ws start Refused o → 4 ≡ on_script (λ k. k) o (untyped s)
-    go s no_code_lem = refl
+-- ---- reading and checking a script
 
-pub judge_read : (ws t : List ℕ) (start : ℕ) (a : ParsedScript) (v : Verdict) → a ≡ Read
-    → ChecksCode ws t start (verdict_number v) → Judges a ws t start (verdict_number v)
-unfolding on_script untyped judged_number
-judge_read ws t start a v i x =
-    rw i (record { judged = λ s T o C. go s T C; in_table = (verdict_number v, (v, refl), refl) })
-  where
-    go : (s : Sheet) → TableOf t s → {o : Option Script} → CodeOf s ws start Read o
-        → verdict_number v ≡ on_script (λ k. k) o (untyped s)
-    go s T (its_code {p = p} src nm w st) = x.exact s T.form T.once T.words (counts_of s) p src nm w st
-
--- no script is trust-keeping, or the one that was read
-pub trust-refused : (ws t : List ℕ) (start : ℕ) (a : ParsedScript) → a ≡ Refused → JudgesTrust a ws t start false
-unfolding keeping_in on_script
-trust-refused ws t start a e = rw e (record { judged = λ s T o C. go s C; no_script = λ _. refl })
-  where
-    go : (s : Sheet) {o : Option Script} → CodeOf s ws start Refused o → false ≡ keeping_in s o
-    go s no_code_lem = refl
+abbrev is_read : ParsedScript → ℕ
+is_read Read = 0
+is_read Refused = 1
 
 -- what was read isn't refused
 not_refused : Read ≡ Refused → ⊥
-unfolding judged_number
-not_refused e = omega (arith, ap (λ (a : ParsedScript). judged_number a 0) e)
+not_refused e = omega (arith, ap is_read e)
 
-pub trust_read : (ws t : List ℕ) (start : ℕ) (a : ParsedScript) (r : Bool) → a ≡ Read → KeepsCode ws t r
-    → JudgesTrust a ws t start r
-unfolding keeping_in on_script
-trust_read ws t start a r i x =
-    rw i (record { judged = λ s T o C. go s T C; no_script = λ e. absurd (not_refused e) })
-  where
-    go : (s : Sheet) → TableOf t s → {o : Option Script} → CodeOf s ws start Read o → r ≡ keeping_in s o
-    go s T (its_code {p = p} src nm w st) = x.says s T.form T.words (counts_of s) p src nm w
+module _ (t script ws : List ℕ) (p : Decoded) (e : p ≡ decoded_script (script_of (counts_in t) script))
+    (w : ws ≡ take (p.count * 3) p.code) where
+  module _ (s : Sheet) (T : TableOf t s) where
+    on-sheet : p ≡ decoded_script (script_of (counts_of s) script)
+    on-sheet =
+        let k : counts_in t ≡ counts_of s = ap counts_in T.words ∙ counts-table s in
+        e ∙ ap (λ (j : _). decoded_script (script_of j script)) k
 
--- what the reader found, by whether there is a script
-parsed-number : (o : Option Script) (v : ℕ) → judged_number (decoded_script o).parsed v ≡ on_script (λ k. k) o (λ _. v)
-unfolding judged_number decoded_script no_code coded on_script
-parsed-number none v = refl
-parsed-number (some p) v = refl
+    -- where the script's number is 0, it is the code of an accepted script
+    pub accepted_code : number_of s script ≡ 0 → AcceptedCode s script ws
+    unfolding number_of on_script
+    accepted_code z = read_split (counts_of s) script p on-sheet
+        (λ n a. absurd (omega (arith, rw n at z)))
+        (λ c i src nm a tk st.
+        record { parsed = c; is_its = i; source = src; names = nm; typed = rw i at z; lines = w ∙ tk })
 
-none_refused : (decoded_script none).parsed ≡ Refused
-unfolding decoded_script no_code
-none_refused = refl
+    -- the checker's number is that of the script that was read
+    checked-number : p.parsed ≡ Read → (v : ℕ) → ChecksCode ws t p.start v → v ≡ number_of s script
+    unfolding number_of on_script untyped
+    checked-number q v x = read_split (counts_of s) script p on-sheet
+        (λ n a. absurd (not_refused (sym q ∙ a)))
+        (λ c i src nm a tk st. rw i (x.exact s T.form T.once T.words (counts_of s) c src nm (w ∙ tk) st))
 
--- what the judgement of a script's code says of the script
-pub numbers_script : (t script ws : List ℕ) (p : Decoded) (r : ℕ) → p ≡ decoded_script (script_of (counts_in t) script)
-    → ws ≡ take (p.count * 3) p.code
-    → Judges p.parsed ws t p.start r → NumbersScript script t r p.count p.code
-unfolding number_of number_in
-numbers_script t script ws p r e w j =
-    let numbered : (s : Sheet) → TableOf t s → r ≡ number_of s script =
-    λ s T. j.judged s T _ (code_of t script ws p e w s T) in
-    let (v, of, is) = j.in_table in
-    record {
-      count_is = ap (λ (d : Decoded). d.count) e;
+    checked-keeping : p.parsed ≡ Read → (r : Bool) → KeepsCode ws t r
+        → r ≡ keeping_in s (script_of (counts_of s) script)
+    unfolding keeping_in on_script
+    checked-keeping q r x = read_split (counts_of s) script p on-sheet
+        (λ n a. absurd (not_refused (sym q ∙ a)))
+        (λ c i src nm a tk st. rw i (x.says s T.form T.words (counts_of s) c src nm (w ∙ tk)))
+
+  -- by what the table counts: a script was read, or there is none
+  there-is : (o : Option Script) → Read ≡ (decoded_script o).parsed → (v : ℕ) → v ≡ on_script (λ k. k) o (λ _. v)
+  unfolding decoded_script no_code on_script
+  there-is none q v = absurd (not_refused q)
+  there-is (some c) q v = refl
+
+  is-none : (o : Option Script) → Refused ≡ (decoded_script o).parsed → (number : Script → ℕ)
+      → 4 ≡ on_script (λ k. k) o number
+  unfolding decoded_script coded on_script
+  is-none none q number = refl
+  is-none (some c) q number = absurd (not_refused (sym q))
+
+  pub accepts_none : p.parsed ≡ Refused → Accepts script t (Err reasons.ScriptMalformed) p.code
+  unfolding number_of number_in
+  accepts_none q = record {
+    words_are = ap (λ (d : Decoded). d.code) e;
+    numbered = λ s T. is-none _ (sym q ∙ ap (λ (d : Decoded). d.parsed) (on-sheet s T)) (untyped s);
+    accepted = tt;
+    in_table = (0, accepted-verdict, is-none _ (sym q ∙ ap (λ (d : Decoded). d.parsed) e) (λ _. 0));
+  }
+
+  module _ (q : p.parsed ≡ Read) (v : Verdict) (x : ChecksCode ws t p.start (verdict_number v)) where
+    pub accepts_ill : (refusal : Refusal) → refusal_number refusal ≡ verdict_number v
+        → Accepts script t (Err refusal) p.code
+    unfolding number_in
+    accepts_ill refusal n = record {
       words_are = ap (λ (d : Decoded). d.code) e;
-      numbered = numbered;
-      accepted = λ s T z. accepted_code t script (take (p.count * 3) p.code) p e refl s T (sym (numbered s T) ∙ z);
-      in_table = (v, of, is ∙ ap (λ (d : Decoded). judged_number d.parsed v) e ∙ parsed-number _ v);
+      numbered = λ s T. n ∙ checked-number s T q (verdict_number v) x;
+      accepted = tt;
+      in_table =
+          (verdict_number v, (v, refl), n ∙ there-is _ (sym q ∙ ap (λ (d : Decoded). d.parsed) e) (verdict_number v));
     }
 
-pub keeps_script : (t script ws : List ℕ) (p : Decoded) (r : Bool) → p ≡ decoded_script (script_of (counts_in t) script)
-    → ws ≡ take (p.count * 3) p.code
-    → JudgesTrust p.parsed ws t p.start r → KeepsScript script t r
-keeps_script t script ws p r e w j = record {
-  says = λ s T. j.judged s T _ (code_of t script ws p e w s T);
-  no_script = λ n.
-      j.no_script (ap (λ (d : Decoded). d.parsed) e ∙ ap (λ (o : Option Script). (decoded_script o).parsed) n
-      ∙ none_refused);
-}
+    pub accepts_well : 0 ≡ verdict_number v → (keeping : Bool) → KeepsCode ws t keeping
+        → Accepts script t (Ok (record { count = p.count; keeping = keeping })) p.code
+    unfolding number_in
+    accepts_well n keeping k = record {
+      words_are = ap (λ (d : Decoded). d.code) e;
+      numbered = λ s T. n ∙ checked-number s T q (verdict_number v) x;
+      accepted = record {
+        count_is = ap (λ (d : Decoded). d.count) e;
+        has_code = λ s T. rw (← w) (accepted_code s T (sym (n ∙ checked-number s T q (verdict_number v) x)));
+        says = λ s T. checked-keeping s T q keeping k;
+      };
+      in_table =
+          (verdict_number v, (v, refl), n ∙ there-is _ (sym q ∙ ap (λ (d : Decoded). d.parsed) e) (verdict_number v));
+    }
 
 -- the table's refusal of a memory is the sheet's
 pub refusal_in_lem : (t memory : List ℕ) (a : ℕ) → a ≡ refusal_in t memory → (s : Sheet) → TableOf t s
@@ -172,7 +189,7 @@ refusal_in_lem t memory a e s T =
     e ∙ ap (λ (u : List ℕ). refusal_in u memory) T.words ∙ (table_agrees s T.form).refusal memory
 
 -- the words that were lent for the code stay as many
-pub code_whole : {script t : List ℕ} {r count : ℕ} {words : List ℕ} → NumbersScript script t r count words
+pub code_whole : {script t : List ℕ} {r : Result Accepted Refusal} {words : List ℕ} → Accepts script t r words
     → length words ≡ code_words
 code_whole {script} {t} n =
     ap length n.words_are ∙ read_whole (counts_in t) script (decoded_script (script_of (counts_in t) script)) refl
@@ -189,6 +206,11 @@ stops refuse (suc k) go n = refl
 pub goes : {A : Type 0} (refuse : ℕ → A) (k : ℕ) (go : A) → k ≡ 0 → unless refuse k go ≡ go
 unfolding unless
 goes refuse k go e = rw e refl
+
+-- nor is that of a refusal
+pub stopped : {A : Type 0} (refuse : ℕ → A) (refusal : Refusal) (k : ℕ) (go : A) → refusal_number refusal ≡ k
+    → refuse (refusal_number refusal) ≡ unless refuse k go
+stopped refuse refusal k go e = rw (← e) (sym (stops refuse (refusal_number refusal) go (refuses refusal)))
 
 -- a script's number that is not 0 refuses, whatever is done with an accepted script
 number_stops : {A : Type 0} (refuse : ℕ → A) (o : Option Script) (number : Script → ℕ) (go : Script → A) (k : ℕ)
@@ -211,31 +233,32 @@ byte_is : (b : Bool) → bool_byte b ≡ cond b 1 0
 byte_is true = refl
 byte_is false = refl
 
-module _ (script t : List ℕ) {number count : ℕ} {words : List ℕ} (n : NumbersScript script t number count words) where
+module _ (script t words : List ℕ) where
   -- 4, 5 and 6
-  pub trust-numbered : (number ≡ 0 → ⊥) → TrustsOn script t (refused_trust number)
+  pub trust-refused : (refusal : Refusal) → Accepts script t (Err refusal) words
+      → TrustsOn script t (answered_trust (Err refusal))
   unfolding trust_on number_of trust_in number_in
-  trust-numbered z = let (v, of, is) = n.in_table in record {
+  trust-refused refusal n = let (v, of, is) = n.in_table in record {
     no_keeping = λ m. refl;
-    trusted = λ s T. number_stops refused_trust _ (untyped s) _ number (n.numbered s T) z;
-    in_table = (v, of, false, number_stops refused_trust _ (λ _. v) _ number is z);
+    trusted = λ s T. number_stops refused_trust _ (untyped s) _ _ (n.numbered s T) (refuses refusal);
+    in_table = (v, of, false, number_stops refused_trust _ (λ _. v) _ _ is (refuses refusal));
   }
 
-  pub trust-accepted : (r : Bool) → number ≡ 0 → KeepsScript script t r
-      → TrustsOn script t (record { answer = 0; keeping = bool_byte r })
+  pub trust-accepted : (a : Accepted) → Accepts script t (Ok a) words
+      → TrustsOn script t (answered_trust (Ok (record { answer = 0; keeping = bool_byte a.keeping })))
   unfolding trust_on keeping_bit keeping_in on_script trust_in number_in
-  trust-accepted r z k = let (v, of, is) = n.in_table in record {
+  trust-accepted a n = let (v, of, is) = n.in_table in record {
     no_keeping = λ m. absurd (m refl);
     trusted = λ s T.
-        let a = n.accepted s T z in
-        let e = k.says s T in
-        rw (a.is_its, byte_is r)
-        (rw (rw a.is_its at e) (sym (goes refused_trust (untyped s a.parsed) _ a.typed)));
+        let c = n.accepted.has_code s T in
+        let e = n.accepted.says s T in
+        rw (c.is_its, byte_is a.keeping)
+        (rw (rw c.is_its at e) (sym (goes refused_trust (untyped s c.parsed) _ c.typed)));
     in_table = (
       v,
       of,
-      r,
-      rw (byte_is r) (sym (number_goes refused_trust (script_of (counts_in t) script) v _ (sym z ∙ is))),
+      a.keeping,
+      rw (byte_is a.keeping) (sym (number_goes refused_trust (script_of (counts_in t) script) v _ is)),
     );
   }
 
@@ -279,9 +302,9 @@ runs-accepted ws t memory authority budget state steps left r = record {
 -- ---- principals
 
 -- by the test on the table's set of all principals
-pub strangers_by : (t : List ℕ) (g : ℕ) (b : Bool) → within g (everyone_in t) ≡ b → strangers_in t g ≡ cond b 0 3
+pub strangers_by : (t : List ℕ) (g : ℕ) (b : Bool) → within g (everyone_in t) ≡ b → cond b 0 3 ≡ strangers_in t g
 unfolding strangers_in
-strangers_by t g b h = ap (λ (x : Bool). cond x 0 3) h
+strangers_by t g b h = ap (λ (x : Bool). cond x 0 3) (sym h)
 
 -- on the table of a sheet they are the sheet's
 pub strangers_same : (t : List ℕ) (s : Sheet) (g : ℕ) → TableOf t s → strangers_in t g ≡ strangers s g
@@ -289,27 +312,6 @@ unfolding strangers_in strangers
 strangers_same t s g T =
     ap (λ (u : List ℕ). cond (within g (everyone_in u)) 0 3) T.words
     ∙ ap (λ (x : ℕ). cond (within g x) 0 3) (everyone_in_lem s T.form)
-
-pub strangers_in_lem : (t : List ℕ) (s : Sheet) (g : ℕ) (b : Bool) → TableOf t s → within g (everyone_in t) ≡ b
-    → strangers s g ≡ cond b 0 3
-strangers_in_lem t s g b T h = sym (strangers_same t s g T) ∙ strangers_by t g b h
-
--- a stranger stops the call, by the table
-pub stops_3 : {A : Type 0} (refuse : ℕ → A) (t : List ℕ) (g : ℕ) (go : A) → within g (everyone_in t) ≡ false
-    → unless refuse (strangers_in t g) go ≡ refuse 3
-unfolding unless
-stops_3 refuse t g go h = rw (strangers_by t g false h) refl
-
-pub unless_3 : {A : Type 0} (refuse : ℕ → A) (t : List ℕ) (s : Sheet) (g : ℕ) (go : A) → TableOf t s
-    → within g (everyone_in t) ≡ false
-    → unless refuse (strangers s g) go ≡ refuse 3
-unless_3 refuse t s g go T h =
-    ap (λ (k : ℕ). unless refuse k go) (sym (strangers_same t s g T)) ∙ stops_3 refuse t g go h
-
-pub not_3 : {A : Type 0} (refuse : ℕ → A) (t : List ℕ) (s : Sheet) (g : ℕ) (go : A) → TableOf t s
-    → within g (everyone_in t) ≡ true
-    → unless refuse (strangers s g) go ≡ go
-not_3 refuse t s g go T h = goes refuse (strangers s g) go (strangers_in_lem t s g true T h)
 
 module _ (memory : List ℕ) (budget : ℕ) where
   -- a refused run takes no step and leaves the memory
@@ -336,68 +338,70 @@ module _ (script t memory : List ℕ) (authority budget : ℕ) where
   onward_in : ℕ → Ran → Ran
   onward_in v run = on_script R (script_of (counts_in t) script) (λ _. unless R v (unless R (refusal_in t memory) run))
 
-  pub run_stranger : within authority (everyone_in t) ≡ false → RunsOn script t memory authority budget (R 3)
+  pub run_stranger : (refusal : Refusal) → refusal_number refusal ≡ strangers_in t authority
+      → RunsOn script t memory authority budget (answered_run (Err refusal) memory)
   unfolding run_in
-  run_stranger h = let (kept, of) = unreached memory budget in record {
-    spares = refusal-spares memory budget 3;
-    ran = λ s T. sym (unless_3 R t s authority _ T h);
-    in_table = (0, accepted-verdict, R 0, kept, of, sym (stops_3 R t authority _ h));
+  run_stranger refusal h = let (kept, of) = unreached memory budget in record {
+    spares = refusal-spares memory budget _;
+    ran = λ s T. stopped R refusal _ _ (h ∙ strangers_same t s authority T);
+    in_table = (0, accepted-verdict, R 0, kept, of, stopped R refusal _ _ h);
   }
 
-  module _ (h : within authority (everyone_in t) ≡ true) where
+  module _ (h : 0 ≡ strangers_in t authority) where
     by_onward : (r : Ran) → Spares memory budget r → ((s : Sheet) → TableOf t s → r ≡ onward s)
         → (v : ℕ) → OfVerdict v → (run : Ran) → Spares memory budget run × OfState run.answer → r ≡ onward_in v run
         → RunsOn script t memory authority budget r
     unfolding onward onward_in run_in
     by_onward r k f v of run m e = record {
       spares = k;
-      ran = λ s T. f s T ∙ sym (not_3 R t s authority _ T h);
-      in_table =
-          (v, of, run, m.0, m.1, e ∙ sym (goes R (strangers_in t authority) _ (strangers_by t authority true h)));
+      ran = λ s T. f s T ∙ sym (goes R (strangers s authority) _ (sym (h ∙ strangers_same t s authority T)));
+      in_table = (v, of, run, m.0, m.1, e ∙ sym (goes R (strangers_in t authority) _ (sym h)));
     }
 
-    module _ {number count : ℕ} {words : List ℕ} (n : NumbersScript script t number count words) where
-      -- 4, 5 and 6
-      pub run-numbered : (number ≡ 0 → ⊥) → RunsOn script t memory authority budget (R number)
-      unfolding onward onward_in number_of number_in
-      run-numbered z =
-          let (v, of, is) = n.in_table in
-          by_onward _ (refusal-spares memory budget number)
-          (λ s T. number_stops R _ (untyped s) _ number (n.numbered s T) z)
-          v of (R 0) (unreached memory budget) (number_stops R _ (λ _. v) _ number is z)
+    -- 4, 5 and 6
+    pub run-ill : (refusal : Refusal) (words : List ℕ) → Accepts script t (Err refusal) words
+        → RunsOn script t memory authority budget (answered_run (Err refusal) memory)
+    unfolding onward onward_in number_of number_in
+    run-ill refusal words n =
+        let (v, of, is) = n.in_table in
+        by_onward _ (refusal-spares memory budget _)
+        (λ s T. number_stops R _ (untyped s) _ _ (n.numbered s T) (refuses refusal))
+        v of (R 0) (unreached memory budget) (number_stops R _ (λ _. v) _ _ is (refuses refusal))
 
-      module _ (z : number ≡ 0) where
-        -- an accepted script: what is still to be done is by the memory alone
-        by-memory : (s : Sheet) (T : TableOf t s)
-            → onward s ≡ unless R (memory_refusal s memory)
-            (accepted_run s memory authority budget (n.accepted s T z).parsed)
-        unfolding onward on_script
-        by-memory s T = let a = n.accepted s T z in rw a.is_its (goes R (untyped s a.parsed) _ a.typed)
+    module _ (a : Accepted) (words : List ℕ) (n : Accepts script t (Ok a) words) where
+      -- an accepted script: what is still to be done is by the memory alone
+      by-memory : (s : Sheet) (T : TableOf t s)
+          → onward s ≡ unless R (memory_refusal s memory)
+          (accepted_run s memory authority budget (n.accepted.has_code s T).parsed)
+      unfolding onward on_script
+      by-memory s T = let c = n.accepted.has_code s T in rw c.is_its (goes R (untyped s c.parsed) _ c.typed)
 
-        by-memory-in : (run : Ran) → onward_in n.in_table.0 run ≡ unless R (refusal_in t memory) run
-        unfolding onward_in number_in
-        by-memory-in run = number_goes R _ n.in_table.0 _ (sym z ∙ n.in_table.2)
+      by-memory-in : (run : Ran) → onward_in n.in_table.0 run ≡ unless R (refusal_in t memory) run
+      unfolding onward_in number_in
+      by-memory-in run = number_goes R _ n.in_table.0 _ n.in_table.2
 
-        -- 7 and 8
-        pub run-refused : (k : ℕ) → k ≡ refusal_in t memory → (k ≡ 0 → ⊥)
-            → RunsOn script t memory authority budget (R k)
-        run-refused k m w =
-            let m' = refusal_in_lem t memory k m in
-            by_onward _ (refusal-spares memory budget k) (λ s T. ap R (m' s T)
-            ∙ sym (by-memory s T ∙ stops R (memory_refusal s memory) _ (λ v. w (m' s T ∙ v))))
-            n.in_table.0 n.in_table.1 (R 0) (unreached memory budget)
-            (ap R m ∙ sym (by-memory-in (R 0) ∙ stops R (refusal_in t memory) _ (λ v. w (m ∙ v))))
+      -- 7 and 8
+      pub run-refused : (refusal : Refusal) → refusal_number refusal ≡ refusal_in t memory
+          → RunsOn script t memory authority budget (answered_run (Err refusal) memory)
+      run-refused refusal m =
+          by_onward _ (refusal-spares memory budget _)
+          (λ s T. stopped R refusal _ _ (refusal_in_lem t memory _ m s T) ∙ sym (by-memory s T))
+          n.in_table.0 n.in_table.1 (R 0) (unreached memory budget)
+          (stopped R refusal _ _ m ∙ sym (by-memory-in (R 0)))
 
-        pub run_ends : {ws : List ℕ} (r : Ran) → 0 ≡ refusal_in t memory → ws ≡ take (count * 3) words
-            → RunsAccepted ws t memory authority budget r → RunsOn script t memory authority budget r
-        run_ends r m e ran =
-            let m' = refusal_in_lem t memory 0 m in
-            by_onward r ran.spares (λ s T.
-            let ran' = rw e at ran in
-            ran'.ran s T script (n.accepted s T z) (sym (m' s T))
-            ∙ sym (by-memory s T ∙ goes R (memory_refusal s memory) _ (sym (m' s T))))
-            n.in_table.0 n.in_table.1 r (ran.spares, ran.in_table)
-            (sym (by-memory-in r ∙ goes R (refusal_in t memory) _ (sym m)))
+      pub run_ends : {ws : List ℕ} (o : Outcome) (left : List ℕ) → 0 ≡ refusal_in t memory
+          → ws ≡ take (a.count * 3) words
+          → RunsAccepted ws t memory authority budget (answered_run (Ok o) left)
+          → RunsOn script t memory authority budget (answered_run (Ok o) left)
+      run_ends o left m e ran =
+          let r = answered_run (Ok o) left in
+          by_onward r ran.spares (λ s T.
+          let m' = refusal_in_lem t memory 0 m s T in
+          let ran' = rw e at ran in
+          ran'.ran s T script (n.accepted.has_code s T) (sym m')
+          ∙ sym (by-memory s T ∙ goes R (memory_refusal s memory) _ (sym m')))
+          n.in_table.0 n.in_table.1 r (ran.spares, ran.in_table)
+          (sym (by-memory-in r ∙ goes R (refusal_in t memory) _ (sym m)))
 
 -- ---- viewing
 
@@ -408,19 +412,20 @@ unfolding leaves unless
 left_by zero out view = refl
 left_by (suc k) out view = rw (ne_eqb (suc k) 0 (λ e. omega arith)) refl
 
-pub view_stranger : (t memory : List ℕ) (group : ℕ) (view : List ℕ) → within group (everyone_in t) ≡ false
-    → refused_view view 3 ≡ viewed_in t memory group view
+pub view_stranger : (t memory : List ℕ) (group : ℕ) (view : List ℕ) (refusal : Refusal)
+    → refusal_number refusal ≡ strangers_in t group
+    → refused_view view (refusal_number refusal) ≡ viewed_in t memory group view
 unfolding viewed_in
-view_stranger t memory group view h = sym (stops_3 (refused_view view) t group _ h)
+view_stranger t memory group view refusal h = stopped (refused_view view) refusal _ _ h
 
 pub view_known : (t memory : List ℕ) (group : ℕ) (view : List ℕ) (r : ℕ) (left : List ℕ)
-    → within group (everyone_in t) ≡ true
+    → 0 ≡ strangers_in t group
     → r ≡ view_refusal_in t memory (length view) → left ≡ view_leaves_in t group memory view
     → record { answer = r; view = left } ≡ viewed_in t memory group view
 unfolding viewed_in view_leaves_in
 view_known t memory group view r left h p q =
     rw (p, q) (left_by (view_refusal_in t memory (length view)) (view_in t group memory) view)
-    ∙ sym (goes (refused_view view) (strangers_in t group) _ (strangers_by t group true h))
+    ∙ sym (goes (refused_view view) (strangers_in t group) _ (sym h))
 
 -- on the table of a sheet it is that of simp_view on the sheet
 pub view_in_lem : (t memory : List ℕ) (group : ℕ) (view : List ℕ) (r : Viewed) → r ≡ viewed_in t memory group view

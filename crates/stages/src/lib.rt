@@ -1,46 +1,30 @@
-// The stages of the calls, on the table of a sheet that isn't refused: each judges its numbers, in the order of the
+// The stages of the calls, on the table of a sheet that isn't refused: each judges its refusals, in the order of the
 // calls, and goes on where none of them applies. The answers of the calls stand here.
 #![tactic(auto)]
+
+pub mod refusal; // refusal.rt: why a call refuses
 
 ghost use Rattle.std.specs.Prelude.{◌≡◌};
 ghost use Rattle.sheet_text.specs.Verdict.{sheet_number};
 ghost use Rattle.memory.specs.Verdict.{memory_number};
 ghost use Rattle.checker.specs.Verdict.{verdict_number};
 ghost use Rattle.evaluator.specs.State.{state_number};
-ghost use Rattle.stages.specs.Internal.Stages.{Judges, JudgesTrust, NumbersScript, KeepsScript, RunsAccepted};
+ghost use Rattle.stages.specs.Refusals.{refusal_number, answer_number};
+ghost use Rattle.stages.specs.Internal.Stages.{Accepts, RunsAccepted, strangers_in, answered_run, answered_trust};
 ghost use Rattle.stages.specs.Internal.Stages.{ChecksOn, TrustsOn, RunsOn, viewed_in};
 
 use checker::Verdict;
 use evaluator::State;
+pub use refusal::Refusal;
 use script_text::ParsedScript;
 use sets::Set;
 
-// The answers. 0 is done, or accepted, or shown; the others refuse.
+// What a call answers where nothing refuses: it is done, or accepted, or shown.
 pub const DONE: u8 = 0;
-
-pub const SHEET_MALFORMED: u8 = 1;
-
-pub const SHEET_REPEATS: u8 = 2;
-
-pub const PRINCIPAL_UNKNOWN: u8 = 3;
-
-pub const SCRIPT_MALFORMED: u8 = 4;
-
-pub const ILL_TYPED: u8 = 5;
-
-pub const ILL_LABELLED: u8 = 6;
-
-pub const SLICE_SIZE: u8 = 7;
-
-pub const MEMORY_ILL_FORMED: u8 = 8;
-
-pub const SPENT: u8 = 9;
-
-pub const TOO_LONG: u8 = 10;
 
 // How a run ended: its answer, and the transitions that it took.
 #[repr(C)]
-#[derive(Clone, Copy)]
+#[derive(Clone, Copy, Debug, PartialEq, Eq)]
 pub struct Outcome {
     pub answer: u8,
     pub steps: u32,
@@ -48,145 +32,126 @@ pub struct Outcome {
 
 // The number of a script, and 1 for an accepted one that is trust-keeping, else 0.
 #[repr(C)]
-#[derive(Clone, Copy)]
+#[derive(Clone, Copy, Debug, PartialEq, Eq)]
 pub struct Trust {
     pub answer: u8,
     pub keeping: u8,
 }
 
-// The number of a script's code, and whether each unpack's operand in it is at or below the wanted label.
-#[derive(Clone, Copy)]
-pub(crate) struct Judged {
-    pub(crate) number: u8,
-    pub(crate) keeping: bool,
-}
-
-// The same of a script's text, and how many lines it has.
-#[derive(Clone, Copy)]
-pub(crate) struct Found {
-    pub(crate) number: u8,
-    pub(crate) keeping: bool,
-    pub(crate) count: usize,
-}
-
-// The number of a script on a sheet, and how many lines it has.
-#[derive(Clone, Copy)]
-pub struct Numbered {
-    pub number: u8,
+// What is known of an accepted script: how many lines its code has, and whether it is trust-keeping.
+#[derive(Clone, Copy, Debug, PartialEq, Eq)]
+pub struct Accepted {
     pub count: usize,
+    pub keeping: bool,
 }
 
 // A run that is refused takes no step.
-pub fn refused(answer: u8) -> Outcome
-    ensures { result ≡ record { answer = answer; steps = 0 } }
-{
-    Outcome { answer, steps: 0 }
+impl From<Refusal> for Outcome {
+    ghost from_gives = { λ refusal outcome. outcome ≡ record { answer = refusal_number refusal; steps = 0 } };
+
+    fn from(refusal: Refusal) -> Outcome {
+        Outcome {
+            answer: refusal.into(),
+            steps: 0,
+        }
+    }
 }
 
 // Beside a refusal keeping is 0, whatever the script.
-pub fn refused_trust(answer: u8) -> Trust
-    ensures { result ≡ record { answer = answer; keeping = 0 } }
-{
-    Trust { answer, keeping: 0 }
-}
+impl From<Refusal> for Trust {
+    ghost from_gives = { λ refusal trust. trust ≡ record { answer = refusal_number refusal; keeping = 0 } };
 
-// The number of a verdict on a sheet.
-pub fn sheet_number(verdict: sheet_text::Verdict) -> u8
-    ensures { result ≡ sheet_number verdict }
-{
-    match verdict {
-        sheet_text::Verdict::Accepted => DONE,
-        sheet_text::Verdict::Malformed => SHEET_MALFORMED,
-        sheet_text::Verdict::Repeats => SHEET_REPEATS,
+    fn from(refusal: Refusal) -> Trust {
+        Trust {
+            answer: refusal.into(),
+            keeping: 0,
+        }
     }
 }
 
-// The number of a verdict on the lent slices.
-pub fn memory_number(verdict: memory::Verdict) -> u8
-    ensures { result ≡ memory_number verdict }
+// What a call answers.
+pub fn number(found: Result<(), Refusal>) -> u8
+    ensures { result ≡ answer_number found }
 {
-    match verdict {
-        memory::Verdict::Accepted => DONE,
-        memory::Verdict::OtherSize => SLICE_SIZE,
-        memory::Verdict::IllFormed => MEMORY_ILL_FORMED,
+    match found {
+        Ok(()) => DONE,
+        Err(refusal) => refusal.into(),
     }
 }
 
-// The answer to a run that ended so.
-fn number(state: State) -> u8
-    ensures { result ≡ state_number state }
+// What a sheet is refused for.
+pub fn sheet_read(verdict: sheet_text::Verdict) -> Result<(), Refusal>
+    ensures { answer_number result ≡ sheet_number verdict }
+{
+    match verdict {
+        sheet_text::Verdict::Accepted => Ok(()),
+        sheet_text::Verdict::Malformed => Err(Refusal::SheetMalformed),
+        sheet_text::Verdict::Repeats => Err(Refusal::SheetRepeats),
+    }
+}
+
+// What the lent slices are refused for.
+pub fn memory_judged(verdict: memory::Verdict) -> Result<(), Refusal>
+    ensures { answer_number result ≡ memory_number verdict }
+{
+    match verdict {
+        memory::Verdict::Accepted => Ok(()),
+        memory::Verdict::OtherSize => Err(Refusal::SliceSize),
+        memory::Verdict::IllFormed => Err(Refusal::MemoryIllFormed),
+    }
+}
+
+// What stopped a run.
+fn ended(state: State) -> Result<(), Refusal>
+    ensures { answer_number result ≡ state_number state }
 {
     match state {
-        State::Done => DONE,
-        State::NoRule => SCRIPT_MALFORMED,
-        State::Spent => SPENT,
-        State::TooLong => TOO_LONG,
+        State::Done => Ok(()),
+        State::NoRule => Err(Refusal::ScriptMalformed),
+        State::Spent => Err(Refusal::Spent),
+        State::TooLong => Err(Refusal::TooLong),
     }
 }
 
-// The number of a verdict on a script's code.
-fn code_number(verdict: Verdict) -> u8
-    ensures { result ≡ verdict_number verdict }
+// What a script's code is refused for.
+fn checked(verdict: Verdict) -> Result<(), Refusal>
+    ensures { answer_number result ≡ verdict_number verdict }
 {
     match verdict {
-        Verdict::Accepted => DONE,
-        Verdict::IllTyped => ILL_TYPED,
-        Verdict::IllLabelled => ILL_LABELLED,
+        Verdict::Accepted => Ok(()),
+        Verdict::IllTyped => Err(Refusal::IllTyped),
+        Verdict::IllLabelled => Err(Refusal::IllLabelled),
     }
 }
 
-// 4 where there is no script, 5 or 6 where it has no derivation, else 0; and whether there is one that is
-// trust-keeping.
-fn judge(script: ParsedScript, code: &[u32], table: &[sheet::Word], start: u32) -> Judged
-    ensures { Judges script code.now table.now start result.number
-        × JudgesTrust script code.now table.now start result.keeping }
+// Refuses a group that holds a principal who isn't on the sheet of a table.
+pub fn known(group: Set, table: &[sheet::Word]) -> Result<(), Refusal>
+    ensures { answer_number result ≡ strangers_in table.now group }
 {
-    let ParsedScript::Read = script else {
-        return Judged {
-            number: SCRIPT_MALFORMED,
-            keeping: false,
-        };
-    };
-    let checked = checker::check(code, table, start);
-    let verdict = checked.verdict;
-    Judged {
-        number: code_number(verdict),
-        keeping: checked.keeping,
+    if !sets::contained(group, sheet::everyone(table)) {
+        return Err(Refusal::PrincipalUnknown);
     }
+    Ok(())
 }
 
-// What is found of a script on the sheet of a table. The lent words hold its code where it is accepted.
-fn find(script: &[u8], table: &[sheet::Word], code: &mut [u32; script_text::WORDS]) -> Found
-    ensures { NumbersScript script.now table.now result.number result.count code.new
-        × KeepsScript script.now table.now result.keeping }
-{
-    let read = script_text::read(script, table, code);
-    let parsed = read.parsed;
-    let count = read.count;
-    let start = read.start;
-    let judged = judge(parsed, script_text::rows(code, count), table, start);
-    Found {
-        number: judged.number,
-        keeping: judged.keeping,
-        count,
-    }
-}
-
-// The number of a script on the sheet of a table: 4, 5 or 6, or 0 where it is accepted, and then the lent
-// words hold its code.
-pub fn number_of(
+// Reads a script and checks it on the sheet of a table. The lent words hold the code of an accepted one.
+pub fn accept(
     script: &[u8],
     table: &[sheet::Word],
     code: &mut [u32; script_text::WORDS],
-) -> Numbered
-    ensures { NumbersScript script.now table.now result.number result.count
-        code.new }
+) -> Result<Accepted, Refusal>
+    ensures { Accepts script.now table.now result code.new }
 {
-    let found = find(script, table, code);
-    Numbered {
-        number: found.number,
-        count: found.count,
-    }
+    let read = script_text::read(script, table, code);
+    let ParsedScript::Read = read.parsed else {
+        return Err(Refusal::ScriptMalformed);
+    };
+    let found = checker::check(script_text::rows(code, read.count), table, read.start);
+    checked(found.verdict)?;
+    Ok(Accepted {
+        count: read.count,
+        keeping: found.keeping,
+    })
 }
 
 // Runs the code of an accepted script on a memory that isn't refused.
@@ -201,35 +166,31 @@ pub fn run_accepted(
         (record { answer = result.answer; steps = result.steps; memory = memory.new }) }
 {
     let ran = interpreter::run(code, table, memory, authority, budget);
-    let state = ran.state;
     Outcome {
-        answer: number(state),
+        answer: number(ended(ran.state)),
         steps: ran.steps,
     }
 }
 
 // Checks a script on the sheet of a table.
-pub fn check_on(script: &[u8], table: &[sheet::Word]) -> u8
-    ensures { ChecksOn script.now table.now result }
+pub fn check_on(script: &[u8], table: &[sheet::Word]) -> Result<(), Refusal>
+    ensures { ChecksOn script.now table.now (answer_number result) }
 {
     let mut code = [0u32; script_text::WORDS];
-    number_of(script, table, &mut code).number
+    accept(script, table, &mut code)?;
+    Ok(())
 }
 
 // Checks a script on the sheet of a table, and says whether it is trust-keeping.
-pub fn trust_on(script: &[u8], table: &[sheet::Word]) -> Trust
-    ensures { TrustsOn script.now table.now
-        (record { answer = result.answer; keeping = result.keeping }) }
+pub fn trust_on(script: &[u8], table: &[sheet::Word]) -> Result<Trust, Refusal>
+    ensures { TrustsOn script.now table.now (answered_trust result) }
 {
     let mut code = [0u32; script_text::WORDS];
-    let found = find(script, table, &mut code);
-    if found.number != DONE {
-        return refused_trust(found.number);
-    }
-    Trust {
+    let found = accept(script, table, &mut code)?;
+    Ok(Trust {
         answer: DONE,
         keeping: found.keeping as u8,
-    }
+    })
 }
 
 // Checks a script, and runs it on a memory, on the sheet of a table.
@@ -239,40 +200,27 @@ pub fn run_on(
     memory: &mut [u32],
     authority: Set,
     budget: u32,
-) -> Outcome
-    ensures { RunsOn script.now table.now memory.old authority budget
-        (record { answer = result.answer; steps = result.steps; memory = memory.new }) }
+) -> Result<Outcome, Refusal>
+    ensures { RunsOn script.now table.now memory.old authority budget (answered_run result memory.new) }
 {
-    if !sets::contained(authority, sheet::everyone(table)) {
-        return refused(PRINCIPAL_UNKNOWN);
-    }
+    known(authority, table)?;
     let mut code = [0u32; script_text::WORDS];
-    let read = number_of(script, table, &mut code);
-    if read.number != DONE {
-        return refused(read.number);
-    }
-    let verdict = memory::judge(table, memory);
-    let answer = memory_number(verdict);
-    if answer != DONE {
-        return refused(answer);
-    }
-    run_accepted(
-        script_text::rows(&code, read.count),
-        table,
-        memory,
-        authority,
-        budget,
-    )
+    let accepted = accept(script, table, &mut code)?;
+    memory_judged(memory::judge(table, memory))?;
+    let rows = script_text::rows(&code, accepted.count);
+    Ok(run_accepted(rows, table, memory, authority, budget))
 }
 
 // Shows a group a memory on the sheet of a table.
-pub fn view_on(table: &[sheet::Word], memory: &[u32], group: Set, view: &mut [u32]) -> u8
-    ensures { record { answer = result; view = view.new }
+pub fn view_on(
+    table: &[sheet::Word],
+    memory: &[u32],
+    group: Set,
+    view: &mut [u32],
+) -> Result<(), Refusal>
+    ensures { record { answer = answer_number result; view = view.new }
         ≡ viewed_in table.now memory.now group view.old }
 {
-    if !sets::contained(group, sheet::everyone(table)) {
-        return PRINCIPAL_UNKNOWN;
-    }
-    let verdict = memory::view(table, memory, group, view);
-    memory_number(verdict)
+    known(group, table)?;
+    memory_judged(memory::view(table, memory, group, view))
 }

@@ -1,7 +1,8 @@
 -- What the stages of a call ensure, on the table that they are given: for any table, and where it is that of a sheet
 -- that isn't refused.
-use Rattle.std.specs.Prelude.{◌≡◌, Bool, true, false, cond, List, [], ℕ, ◌*◌, ◌≤◌, length, take}
-use Rattle.std.proofs.Math.Option.{Option, none, some}
+use Rattle.std.specs.Prelude.{◌≡◌, Bool, true, false, cond, List, [], ℕ, ◌*◌, ◌≤◌, length, take, Result, Ok, Err}
+use Rattle.std.specs.Prelude.{IfOk}
+use Rattle.std.proofs.Math.Option.{Option, some}
 use Rattle.sets.specs.Sets.{within}
 use Rattle.language.specs.Syntax.{Script}
 use Rattle.language.specs.Trust.{trust_keeping}
@@ -10,19 +11,21 @@ use Rattle.script.specs.Internal.Code.{code}
 use Rattle.script.specs.Names.{named}
 use Rattle.sheet.specs.Sheet.{Sheet, formed, repeats}
 use Rattle.sheet.specs.Internal.Tables.{table_of, everyone_in}
-use Rattle.sheet.specs.Internal.Starts.{start_no}
 use Rattle.sheet.specs.Meaning.{labels_over, declarations_of}
 use Rattle.script_text.specs.Counts.{counts_of}
 use Rattle.script_text.specs.Script.{script_of}
 use Rattle.script_text.specs.Internal.Decoded.{counts_in, decoded_script}
-use Rattle.script_text.specs.declared.ParsedScript.{ParsedScript}
-use Rattle.script_text.specs.declared.ParsedScript.TheVariants.{Read, Refused}
 use Rattle.memory.specs.Memory.{memory_refusal}
 use Rattle.memory.specs.Internal.InTable.{refusal_in, view_in, view_refusal_in}
 use Rattle.checker.specs.declared.Verdict.{Verdict}
 use Rattle.checker.specs.Verdict.{verdict_number}
 use Rattle.evaluator.specs.declared.State.{State}
 use Rattle.evaluator.specs.State.{state_number}
+use Rattle.stages.specs.declared.refusal.Refusal.{Refusal}
+use Rattle.stages.specs.declared.Outcome.{Outcome}
+use Rattle.stages.specs.declared.Trust.{Trust}
+use Rattle.stages.specs.declared.Accepted.{Accepted}
+use Rattle.stages.specs.Refusals.{refusal_number, answer_number}
 use Rattle.stages.specs.Answers.{Ran, refused_run, Viewed, refused_view, TrustAnswer, refused_trust}
 use Rattle.stages.specs.Calls.{unless, on_script, untyped, number_of, accepted_run, run_on, trust_on}
 
@@ -31,13 +34,6 @@ pub record TableOf (t : List ℕ) (s : Sheet) : Type 0 where
   pub form : formed s ≡ true
   pub once : repeats s ≡ false
   pub words : t ≡ table_of s
-
--- The text of the script was refused, or read, ws is its code, and start says where it starts.
-pub data CodeOf (s : Sheet) (ws : List ℕ) (start : ℕ) : ParsedScript → Option Script → Type 0 where
-  no_code_lem : CodeOf s ws start Refused none
-  its_code : {p : Script} → Source p.command → named (counts_of s) 0 p.command ≡ true
-      → ws ≡ code (cmd_lines p.command [])
-      → start ≡ start_no p.opening.start → CodeOf s ws start Read (some p)
 
 -- ---- By what a table says, whatever its words are. Free is what the checker and a run find where the table is no
 -- sheet's: the number of a verdict, whether a script is trust-keeping, and the run.
@@ -52,11 +48,6 @@ OfState answer = (state : State) × (answer ≡ state_number state)
 -- 3: the group holds a principal that isn't in the table's set of all
 unfoldable pub strangers_in : List ℕ → ℕ → ℕ
 strangers_in t group = cond (within group (everyone_in t)) 0 3
-
--- 4 where the text was refused, else the verdict's number
-unfoldable pub judged_number : ParsedScript → ℕ → ℕ
-judged_number Refused verdict = 4
-judged_number Read verdict = verdict
 
 -- the number of a script, as number_of has it on a sheet
 unfoldable pub number_in : ℕ → List ℕ → List ℕ → ℕ
@@ -86,23 +77,9 @@ viewed_in t memory group view =
 
 -- ---- what the functions ensure
 
-pub record Judges (a : ParsedScript) (ws t : List ℕ) (start r : ℕ) : Type 0 where
-  pub judged : (s : Sheet) → TableOf t s → (o : Option Script) → CodeOf s ws start a o
-      → r ≡ on_script (λ k. k) o (untyped s)
-  pub in_table : (verdict : ℕ) × OfVerdict verdict × (r ≡ judged_number a verdict)
-
 -- whether there is a script, and it is trust-keeping
 unfoldable pub keeping_in : Sheet → Option Script → Bool
 keeping_in s o = on_script (λ k. false) o (λ p. trust_keeping (labels_over s.principals) (declarations_of s) p)
-
-pub record JudgesTrust (a : ParsedScript) (ws t : List ℕ) (start : ℕ) (r : Bool) : Type 0 where
-  pub judged : (s : Sheet) → TableOf t s → (o : Option Script) → CodeOf s ws start a o → r ≡ keeping_in s o
-  pub no_script : a ≡ Refused → r ≡ false
-
--- r says whether the text is that of a trust-keeping script
-pub record KeepsScript (script t : List ℕ) (r : Bool) : Type 0 where
-  pub says : (s : Sheet) → TableOf t s → r ≡ keeping_in s (script_of (counts_of s) script)
-  pub no_script : script_of (counts_in t) script ≡ none → r ≡ false
 
 -- ws is the code of a script that is accepted on a sheet
 pub record AcceptedCode (s : Sheet) (script ws : List ℕ) : Type 0 where
@@ -113,14 +90,18 @@ pub record AcceptedCode (s : Sheet) (script ws : List ℕ) : Type 0 where
   pub typed : untyped s parsed ≡ 0
   pub lines : ws ≡ code (cmd_lines parsed.command [])
 
--- r is the script's number, and count and words are what its reader leaves; where r is 0, that is the code of an
--- accepted script.
-pub record NumbersScript (script t : List ℕ) (r count : ℕ) (words : List ℕ) : Type 0 where
-  pub count_is : count ≡ (decoded_script (script_of (counts_in t) script)).count
+-- a is what is known of the script that was accepted: its lines, the code that they have in words, and its trust
+pub record AcceptedAs (script t : List ℕ) (a : Accepted) (words : List ℕ) : Type 0 where
+  pub count_is : a.count ≡ (decoded_script (script_of (counts_in t) script)).count
+  pub has_code : (s : Sheet) → TableOf t s → AcceptedCode s script (take (a.count * 3) words)
+  pub says : (s : Sheet) → TableOf t s → a.keeping ≡ keeping_in s (script_of (counts_of s) script)
+
+-- r is the script's refusal or what is known of it, and words are what its reader leaves
+pub record Accepts (script t : List ℕ) (r : Result Accepted Refusal) (words : List ℕ) : Type 0 where
   pub words_are : words ≡ (decoded_script (script_of (counts_in t) script)).code
-  pub numbered : (s : Sheet) → TableOf t s → r ≡ number_of s script
-  pub accepted : (s : Sheet) → TableOf t s → r ≡ 0 → AcceptedCode s script (take (count * 3) words)
-  pub in_table : (verdict : ℕ) × OfVerdict verdict × (r ≡ number_in verdict t script)
+  pub numbered : (s : Sheet) → TableOf t s → answer_number r ≡ number_of s script
+  pub accepted : IfOk r (λ a. AcceptedAs script t a words)
+  pub in_table : (verdict : ℕ) × OfVerdict verdict × (answer_number r ≡ number_in verdict t script)
 
 -- Whatever the table and the code are: the memory is untouched unless the answer is 0, and no more steps are taken
 -- than the budget has.
@@ -137,6 +118,15 @@ pub record RunsAccepted (ws t memory : List ℕ) (authority budget : ℕ) (r : R
 pub record ChecksOn (script t : List ℕ) (r : ℕ) : Type 0 where
   pub checked : (s : Sheet) → TableOf t s → r ≡ number_of s script
   pub in_table : (verdict : ℕ) × OfVerdict verdict × (r ≡ number_in verdict t script)
+
+-- what a call answers of a script's trust, and of a run with the memory that it leaves
+abbrev pub answered_trust : Result Trust Refusal → TrustAnswer
+answered_trust (Ok trust) = record { answer = trust.answer; keeping = trust.keeping }
+answered_trust (Err refusal) = refused_trust (refusal_number refusal)
+
+abbrev pub answered_run : Result Outcome Refusal → List ℕ → Ran
+answered_run (Ok outcome) memory = record { answer = outcome.answer; steps = outcome.steps; memory = memory }
+answered_run (Err refusal) memory = refused_run memory (refusal_number refusal)
 
 pub record TrustsOn (script t : List ℕ) (r : TrustAnswer) : Type 0 where
   pub no_keeping : (r.answer ≡ 0 → ⊥) → r.keeping ≡ 0

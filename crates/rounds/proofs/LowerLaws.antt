@@ -6,13 +6,24 @@ use mathlib.Core.Option.{Option, none, some}
 use Prim.Native.Nat.{ℕ, zero, suc, ◌≤◌, ◌<◌}
 use native.Mathlib.Omega.{arith}
 use lib.Dec.{leb}
-use borrow.Author.Tests.{leb-true, leb-false, le-leb, lt-leb}
+use borrow.Author.Tests.{leb-true, leb-false, ltb-true, ltb-false, le-leb, lt-leb}
 use Rattle.logic.proofs.BooleanLaws.{cases}
 use Rattle.sets.proofs.Walks.{by_below}
 use Rattle.language.specs.Syntax.{Script}
 use Rattle.stages.specs.Calls.{on_script}
 use Rattle.stages.specs.Internal.Stages.{OfVerdict, number_in}
 use Rattle.stages.proofs.StageLaws.{refusing_verdict}
+use Rattle.std.proofs.Common.{cond, ltb, pos}
+use Rattle.std.specs.Prelude.{ℤ}
+use Rattle.std.specs.Ordering.{ord_min, is_lt, int_cmp}
+use denote.Enum.Declared.{tag_of}
+use lib.ListN.{get_or}
+use Rattle.stages.specs.contracts.refusal.Refusal.{the_type}
+use Rattle.stages.specs.declared.refusal.Refusal.TheVariants as reasons
+use Rattle.stages.specs.declared.refusal.Refusal.{Refusal}
+use Rattle.stages.specs.contracts.refusal.RefusalOrd.TheImpl.{cmp-value}
+use Rattle.stages.specs.Refusals.{refusal_number}
+use Rattle.stages.proofs.StageLaws.{refuses}
 use Rattle.rounds.specs.Calls.{lower, lowest}
 use Rattle.rounds.specs.Internal.Stages.{lowest_in}
 
@@ -141,3 +152,41 @@ module _ (t : List ℕ) where
       ∙ ap (λ (m : ℕ). lower m w) (sym (lowest_on (number_in 0 t) k script ts)
       ∙ ap (λ (us : List (List ℕ)). lower k (lowest (number_in 0 t) us)) (sym p) ∙ e)
       ∙ lower_assoc (lowest (number_in 0 t) all) v w
+
+-- ---- of refusals
+
+-- the order of refusals is that of their numbers
+abbrev numbers : List ℤ
+numbers = pos 1 ∷ pos 2 ∷ pos 3 ∷ pos 4 ∷ pos 5 ∷ pos 6 ∷ pos 7 ∷ pos 8 ∷ pos 9 ∷ pos 10 ∷ pos 11 ∷ pos 12 ∷ []
+
+number_at : (r : Refusal) → get_or numbers (tag_of the_type r) (pos 0) ≡ pos (refusal_number r)
+number_at reasons.SheetMalformed = refl
+number_at reasons.SheetRepeats = refl
+number_at reasons.PrincipalUnknown = refl
+number_at reasons.ScriptMalformed = refl
+number_at reasons.IllTyped = refl
+number_at reasons.IllLabelled = refl
+number_at reasons.SliceSize = refl
+number_at reasons.MemoryIllFormed = refl
+number_at reasons.Spent = refl
+number_at reasons.TooLong = refl
+number_at reasons.TooManyScripts = refl
+number_at reasons.NotListed = refl
+
+cmp-numbers : (x y : Refusal) → cmp-value.it x y ≡ int_cmp (pos (refusal_number x)) (pos (refusal_number y))
+cmp-numbers x y =
+    ap (λ (p : ℤ). int_cmp p (get_or numbers (tag_of the_type y) (pos 0))) (number_at x)
+    ∙ ap (int_cmp (pos (refusal_number x))) (number_at y)
+
+is_less : (j k : ℕ) → is_lt (int_cmp (pos j) (pos k)) ≡ ltb j k
+is_less j k = cases (ltb j k) (λ p. rw p refl) (λ p. rw p (cases (ltb k j) (λ q. rw q refl) (λ q. rw q refl)))
+
+lower_by : (x y : Refusal) → refusal_number (cond (ltb (refusal_number y) (refusal_number x)) y x)
+    ≡ lower (refusal_number x) (refusal_number y)
+lower_by x y =
+    cases (ltb (refusal_number y) (refusal_number x))
+    (λ p. rw p (sym (lower_second _ _ (refuses y) (ltb-true _ _ p))))
+    (λ p. rw p (sym (lower_first _ _ (refuses x) (ltb-false _ _ p))))
+
+pub min_number : (x y : Refusal) → refusal_number (ord_min cmp-value.it x y) ≡ lower (refusal_number x) (refusal_number y)
+min_number x y = rw (cmp-numbers y x, is_less (refusal_number y) (refusal_number x)) (lower_by x y)

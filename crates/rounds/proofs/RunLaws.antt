@@ -1,10 +1,18 @@
 -- One script of a round after another.
 use mathlib.Core.Path.{◌≡◌, refl, sym, ap, ◌∙◌}
-use mathlib.Core.List.{List, []}
-use mathlib.Core.Option.{Option, none, some}
+use mathlib.Core.List.{List, [], ◌∷◌}
+use mathlib.Core.Option.{Option as Maybe, none, some}
 use Prim.Native.Nat.{ℕ, ◌+◌, ◌-◌, ◌*◌, ◌≤◌, ◌<◌}
 use native.Mathlib.Omega.{arith}
-use lib.ListN.{length, take, drop, get_or, set, replicate}
+use lib.ListN.{length, take, drop, get_or, set, replicate, length-replicate}
+use lib.Seq.{length-sets, length-take-le}
+use lib.Dec.{leb}
+use borrow.Author.Tests.{leb-true}
+use Rattle.std.specs.Prelude.{Option}
+use Rattle.std.proofs.lemmas.List.{get_or-take}
+use Rattle.logic.proofs.BooleanLaws.{cases}
+use Rattle.stages.specs.declared.refusal.Refusal.{Refusal}
+use Rattle.stages.specs.Refusals.{refusal_number}
 use Rattle.language.specs.Syntax.{Script}
 use Rattle.script.specs.Names.{Counts}
 use Rattle.sheet.specs.Sheet.{Sheet}
@@ -18,11 +26,11 @@ use Rattle.memory.specs.Memory.{memory_refusal}
 use Rattle.stages.specs.Answers.{Ran, refused_run}
 use Rattle.stages.specs.Calls.{unless, strangers, on_script, untyped, number_of, accepted_run, run_on}
 use Rattle.stages.specs.Internal.Stages.{TableOf, AcceptedCode, RunsAccepted}
-use Rattle.stages.proofs.StageLaws.{goes, stops, accepted_code, unreached}
+use Rattle.stages.proofs.StageLaws.{goes, stopped, accepted_code, unreached}
 use Rattle.stages.proofs.Kept.{left_unrefused}
 use Rattle.scripts.specs.Parting.{script_texts, most_scripts}
-use Rattle.scripts.specs.Internal.Places.{script_texts_after}
-use Rattle.scripts.proofs.Places.{TextAt, text_at, texts_all, StartsAt, has_place, kept_end}
+use Rattle.scripts.specs.Internal.Places.{script_texts_after, ends_from, kept_ends}
+use Rattle.scripts.proofs.Places.{TextAt, text_at, texts_all, StartsAt, kept_end}
 use Rattle.rounds.specs.Calls.{lowest}
 use Rattle.rounds.specs.Internal.Stages.{Parted, turn_on, gate_in, ran_on, RunsScript, RunsTurn, RunsEach}
 use Rattle.rounds.proofs.LowerLaws.{lower_none, lowest_more}
@@ -50,7 +58,7 @@ decoded_accepted t script p e s T n = go (script_of (counts_of s) script) refl n
     k : counts_in t ≡ counts_of s
     k = ap counts_in T.words ∙ counts-table s
 
-    go : (o : Option Script) → script_of (counts_of s) script ≡ o → on_script (λ j. j) o (λ c. untyped s c) ≡ 0
+    go : (o : Maybe Script) → script_of (counts_of s) script ≡ o → on_script (λ j. j) o (λ c. untyped s c) ≡ 0
         → p ≡ decoded_script (script_of (counts_in t) script)
     go none x z = absurd (omega arith)
     go (some c) x z = e ∙ script_coded (counts_in t) script c (ap (λ (j : Counts). script_of j script) k ∙ x)
@@ -78,28 +86,53 @@ unfolding unless
 turn_runs script t memory authority budget number r z ran =
     rw z (record { ran = ran.ran; in_table = (r, ran.spares, ran.in_table, refl) })
 
-pub turn_shut : (script t memory : List ℕ) (authority budget number : ℕ) → ¬ (number ≡ 0)
-    → RunsTurn script number t memory authority budget (refused_run memory number)
-turn_shut script t memory authority budget number z =
+pub turn_shut : (script t memory : List ℕ) (authority budget : ℕ) (refusal : Refusal)
+    → RunsTurn script (refusal_number refusal) t memory authority budget
+    (refused_run memory (refusal_number refusal))
+turn_shut script t memory authority budget refusal =
     let (spares, of) = unreached memory budget in
     record {
-      ran = λ s T g n m. (sym (stops (refused_run memory) number _ z), m);
-      in_table = (refused_run memory 0, spares, of, sym (stops (refused_run memory) number _ z));
+      ran = λ s T g n m. (stopped (refused_run memory) refusal _ _ refl, m);
+      in_table = (refused_run memory 0, spares, of, stopped (refused_run memory) refusal _ _ refl);
     }
 
 -- ---- all of them
 
--- The script that starts at a place: where its end is kept, and that it has a place itself.
-pub script_at : (scripts ends : List ℕ) (i at end : ℕ) → Parted scripts ends → StartsAt scripts i at
-    → at ≤ length scripts → end ≡ get_or ends i 0 → TextAt scripts at end
-script_at scripts ends i at end h s l e =
-    text_at scripts at end l (e ∙ ap (λ (es : List ℕ). get_or es i 0) h.kept ∙ kept_end scripts i at s h.few l)
+no_more : (ts : List (List ℕ)) → length ts ≡ 0 → ts ≡ []
+no_more [] e = refl
+no_more (t ∷ ts) e = absurd (omega arith)
 
-pub place_at : (scripts ends : List ℕ) (i at : ℕ) → Parted scripts ends → StartsAt scripts i at → at ≤ length scripts
-    → i < most_scripts
-place_at scripts ends i at h s l = omega (arith, has_place s (script_at scripts ends i at _ h s l refl), h.few)
+kept-long : (scripts : List ℕ) → length (kept_ends scripts) ≡ most_scripts
+unfolding kept_ends
+kept-long scripts =
+    length-sets (replicate most_scripts 0) 0 (ends_from 0 (script_texts scripts)) ∙ length-replicate {A = ℕ} most_scripts 0
 
-module _ (scripts gates t memory₀ : List ℕ) (authority budget : ℕ) where
+-- where a script is left, its start is within the text
+some_left : (scripts : List ℕ) (at : ℕ) → 0 < length (script_texts_after scripts at) → at ≤ length scripts
+unfolding script_texts_after
+some_left scripts at l = cases (leb at (length scripts)) (λ e. leb-true _ _ e) (λ e. absurd (omega (arith, rw e at l)))
+
+module _ (scripts ends : List ℕ) (i at : ℕ) (h : Parted scripts ends) (s : StartsAt scripts i at) where
+  -- as many ends as scripts
+  ends-all : length ends ≡ length (script_texts scripts)
+  ends-all = ap length h.kept ∙ length-take-le (length (script_texts scripts)) (kept_ends scripts)
+      (omega (arith, h.few, kept-long scripts))
+
+  -- the script that starts at a place: where its end is kept
+  pub script_at : (end : ℕ) → i < length ends → end ≡ get_or ends i 0 → TextAt scripts at end
+  script_at end l e = text_at scripts at end inside (e
+      ∙ ap (λ (es : List ℕ). get_or es i 0) h.kept
+      ∙ get_or-take (length (script_texts scripts)) (kept_ends scripts) i 0 (omega (arith, l, ends-all))
+      ∙ kept_end scripts i at s h.few inside)
+    where
+      inside : at ≤ length scripts
+      inside = some_left scripts at (omega (arith, l, ends-all, s.counted))
+
+  -- past the last end, none is left
+  pub over : i ≡ length ends → script_texts_after scripts at ≡ []
+  over e = no_more (script_texts_after scripts at) (omega (arith, e, ends-all, s.counted))
+
+module _ (scripts : List ℕ) (gates : List (Option Refusal)) (t memory₀ : List ℕ) (authority budget : ℕ) where
   -- Where no number refuses the round: at place i, with the scripts from `at` on left, the rest of the
   -- round is the whole.
   pub record Going (s : Sheet) (i at : ℕ) (answers steps memory : List ℕ) : Type 0 where
@@ -126,7 +159,7 @@ module _ (scripts gates t memory₀ : List ℕ) (authority budget : ℕ) where
 
   pub goes_on_lem : (i at end : ℕ) (answers steps memory : List ℕ) (r : Ran) → Goes i at answers steps memory
       → TextAt scripts at end
-      → RunsTurn (take (end - at) (drop at scripts)) (get_or gates i 0) t memory authority budget r
+      → RunsTurn (take (end - at) (drop at scripts)) (gate_in gates i) t memory authority budget r
       → Goes (i + 1) (end + 1) (set answers i r.answer) (set steps i r.steps) r.memory
   goes_on_lem i at end answers steps memory r k p ran s T g n m =
       let h = k s T g n m in

@@ -4,21 +4,19 @@
 #![tactic(auto)]
 
 ghost use Rattle.std.specs.Prelude.{◌≡◌, replicate};
+ghost use Rattle.stages.specs.Refusals.{refusal_number, answer_number};
 ghost use Rattle.scripts.specs.Parting.{most_scripts};
 ghost use Rattle.rounds.specs.Calls.{lower as lowerOf};
 ghost use Rattle.rounds.specs.Internal.Stages.{Parted, NumbersAll, RunsScript, RunsTurn, RunsEach, Plays};
-ghost use Rattle.rounds.specs.Internal.Stages.{RoundsOn};
+ghost use Rattle.rounds.specs.Internal.Stages.{RoundsOn, gate_number, answered_round};
 
 use scripts::MOST_SCRIPTS;
 use sets::Set;
-use stages::Outcome;
-
-// The answer where there are more scripts than a round has at most.
-pub const TOO_MANY_SCRIPTS: u8 = 11;
+use stages::{Outcome, Refusal};
 
 // How a round ended: its answer, and each script's answer and steps in its place.
 #[repr(C)]
-#[derive(Clone, Copy)]
+#[derive(Clone, Copy, Debug, PartialEq, Eq)]
 pub struct Round {
     pub answer: u8,
     pub answers: [u8; MOST_SCRIPTS],
@@ -26,49 +24,45 @@ pub struct Round {
 }
 
 // A refused round has zeros in every place.
-pub fn refused(answer: u8) -> Round
-    ensures { result
-        ≡ record { answer = answer; answers = replicate most_scripts 0; steps = replicate most_scripts 0 } }
-{
-    Round {
-        answer,
-        answers: [0; MOST_SCRIPTS],
-        steps: [0; MOST_SCRIPTS],
+impl From<Refusal> for Round {
+    ghost from_gives = { λ refusal round. round
+        ≡ record {
+        answer = refusal_number refusal; answers = replicate most_scripts 0; steps = replicate most_scripts 0 } };
+
+    fn from(refusal: Refusal) -> Round {
+        Round {
+            answer: refusal.into(),
+            answers: [0; MOST_SCRIPTS],
+            steps: [0; MOST_SCRIPTS],
+        }
     }
 }
 
-// The lower of two numbers, where 0 is none.
-fn lower(a: u8, b: u8) -> u8
-    ensures { result ≡ lowerOf a b }
+// The lower of two refusals, if there is one.
+fn lower(a: Result<(), Refusal>, b: Result<(), Refusal>) -> Result<(), Refusal>
+    ensures { answer_number result ≡ lowerOf (answer_number a) (answer_number b) }
 {
-    if a == 0 {
+    let Err(first) = a else {
         return b;
-    }
-    if b == 0 {
+    };
+    let Err(second) = b else {
         return a;
-    }
-    if a <= b {
-        return a;
-    }
-    b
+    };
+    Err(first.min(second))
 }
 
-// The lowest number over all scripts of a text, 0 where each is accepted. `ends`: where each script ends
-// (scripts::part).
-fn lowest_number(scripts: &[u8], ends: [usize; MOST_SCRIPTS], table: &[sheet::Word]) -> u8
-    requires { Parted scripts.now ends }
-    ensures { NumbersAll scripts.now table.now result }
+// The lowest refusal over all scripts of a text, if one is refused. `ends`: where each script ends (scripts::part).
+fn lowest_refusal(scripts: &[u8], ends: &[usize], table: &[sheet::Word]) -> Result<(), Refusal>
+    requires { Parted scripts.now ends.now }
+    ensures { NumbersAll scripts.now table.now (answer_number result) }
 {
-    let mut number = stages::DONE;
-    let mut i: usize = 0;
+    let mut found = Ok(());
     let mut at: usize = 0;
-    while at <= scripts.len() {
-        let end = ends[i];
-        number = lower(number, stages::check_on(&scripts[at..end], table));
-        i += 1;
-        at = end + 1;
+    for end in ends {
+        found = lower(found, stages::check_on(&scripts[at..*end], table));
+        at = *end + 1;
     }
-    number
+    found
 }
 
 // Decodes an accepted script once more, and runs it on a memory that isn't refused.
@@ -93,51 +87,47 @@ fn run_script(
     )
 }
 
-// The turn of an accepted script: refused with its gate's number, or run.
+// The turn of an accepted script: refused for its gate's reason, or run.
 fn turn(
     script: &[u8],
-    gate: u8,
+    gate: Option<Refusal>,
     table: &[sheet::Word],
     memory: &mut [u32],
     authority: Set,
     budget: u32,
 ) -> Outcome
-    ensures { RunsTurn script.now gate table.now memory.old authority budget
+    ensures { RunsTurn script.now (gate_number gate) table.now memory.old authority budget
         (record { answer = result.answer; steps = result.steps; memory = memory.new }) }
 {
-    if gate != stages::DONE {
-        return stages::refused(gate);
+    match gate {
+        Some(refusal) => refusal.into(),
+        None => run_script(script, table, memory, authority, budget),
     }
-    run_script(script, table, memory, authority, budget)
 }
 
-// Runs accepted scripts one after another, each with the whole budget; one whose gate has a number gets that number
-// instead. One that stops leaves the memory as it was, and the next one runs.
+// Runs accepted scripts one after another, each with the whole budget; one whose gate has a refusal gets that instead.
+// One that stops leaves the memory as it was, and the next one runs.
 fn run_each(
     scripts: &[u8],
-    ends: [usize; MOST_SCRIPTS],
-    gates: [u8; MOST_SCRIPTS],
+    ends: &[usize],
+    gates: [Option<Refusal>; MOST_SCRIPTS],
     table: &[sheet::Word],
     memory: &mut [u32],
     authority: Set,
     budget: u32,
 ) -> Round
-    requires { Parted scripts.now ends }
+    requires { Parted scripts.now ends.now }
     ensures { RunsEach scripts.now gates table.now memory.old authority budget
         (record { answer = result.answer; answers = result.answers; steps = result.steps; memory = memory.new }) }
 {
     let mut answers = [0u8; MOST_SCRIPTS];
     let mut steps = [0u32; MOST_SCRIPTS];
-    let mut i: usize = 0;
     let mut at: usize = 0;
-    while at <= scripts.len() {
-        let end = ends[i];
-        let gate = gates[i];
-        let ran = turn(&scripts[at..end], gate, table, memory, authority, budget);
+    for (i, end) in ends.iter().enumerate() {
+        let ran = turn(&scripts[at..*end], gates[i], table, memory, authority, budget);
         answers[i] = ran.answer;
         steps[i] = ran.steps;
-        i += 1;
-        at = end + 1;
+        at = *end + 1;
     }
     Round {
         answer: stages::DONE,
@@ -146,31 +136,23 @@ fn run_each(
     }
 }
 
-// Checks the scripts of a text, and runs them on a memory, each by its gate: 0 where it is open. The
+// Checks the scripts of a text, and runs them on a memory, each by its gate: open where there is no refusal. The
 // authority is known.
 fn play(
     scripts: &[u8],
-    ends: [usize; MOST_SCRIPTS],
-    gates: [u8; MOST_SCRIPTS],
+    ends: &[usize],
+    gates: [Option<Refusal>; MOST_SCRIPTS],
     table: &[sheet::Word],
     memory: &mut [u32],
     authority: Set,
     budget: u32,
-) -> Round
-    requires { Parted scripts.now ends }
-    ensures { Plays scripts.now gates table.now memory.old authority budget
-        (record { answer = result.answer; answers = result.answers; steps = result.steps; memory = memory.new }) }
+) -> Result<Round, Refusal>
+    requires { Parted scripts.now ends.now }
+    ensures { Plays scripts.now gates table.now memory.old authority budget (answered_round result memory.new) }
 {
-    let number = lowest_number(scripts, ends, table);
-    if number != stages::DONE {
-        return refused(number);
-    }
-    let verdict = memory::judge(table, memory);
-    let answer = stages::memory_number(verdict);
-    if answer != stages::DONE {
-        return refused(answer);
-    }
-    run_each(scripts, ends, gates, table, memory, authority, budget)
+    lowest_refusal(scripts, ends, table)?;
+    stages::memory_judged(memory::judge(table, memory))?;
+    Ok(run_each(scripts, ends, gates, table, memory, authority, budget))
 }
 
 // Plays a round on the sheet of a table.
@@ -180,25 +162,14 @@ pub fn round_on(
     memory: &mut [u32],
     authority: Set,
     budget: u32,
-) -> Round
-    ensures { RoundsOn scripts.now table.now memory.old authority budget
-        (record { answer = result.answer; answers = result.answers; steps = result.steps; memory = memory.new }) }
+) -> Result<Round, Refusal>
+    ensures { RoundsOn scripts.now table.now memory.old authority budget (answered_round result memory.new) }
 {
-    if !sets::contained(authority, sheet::everyone(table)) {
-        return refused(stages::PRINCIPAL_UNKNOWN);
-    }
+    stages::known(authority, table)?;
     let parting = scripts::part(scripts);
-    let ends = parting.ends;
     if MOST_SCRIPTS < parting.count {
-        return refused(TOO_MANY_SCRIPTS);
+        return Err(Refusal::TooManyScripts);
     }
-    play(
-        scripts,
-        ends,
-        [stages::DONE; MOST_SCRIPTS],
-        table,
-        memory,
-        authority,
-        budget,
-    )
+    let ends = &parting.ends[..parting.count];
+    play(scripts, ends, [None; MOST_SCRIPTS], table, memory, authority, budget)
 }

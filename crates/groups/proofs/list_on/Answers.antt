@@ -32,16 +32,14 @@ counted c = record {
 }
 
 pub returns-then-labels-l : goal.returns-then-labels-l
-returns-then-labels-l c =
-    rw c.refused.ensures (lists_no_label _ _ _ (omega (arith, c.labels.ensures, c.if-labels-l.true)))
+returns-then-labels-l c = lists_no_label _ _ _ (omega (arith, c.labels.ensures, c.if-labels-l.true))
 
 pub count-found-requires-clause-fits : goal.count-found-requires-clause-fits
 count-found-requires-clause-fits c = inl (omega (arith, few c, c.everyone.type_inv))
 
 pub returns-then-groups-found : goal.returns-then-groups-found
 returns-then-groups-found c =
-    rw c.refused-then-groups-found.ensures
-    (lists-few-places _ _ _ (counted (goal.at.returns-then-groups-found c).After-count-found) c.if-groups-found.true)
+    lists-few-places _ _ _ (counted (goal.at.returns-then-groups-found c).After-count-found) c.if-groups-found.true
 
 pub list-requires : goal.list-requires
 list-requires c =

@@ -18,3 +18,4 @@ pub mod StartUnseen
 pub mod ReadingRules
 pub mod TrustKept
 pub mod SmallestGroups
+pub mod Internal

@@ -21,6 +21,7 @@ use Rattle.sheet.specs.Internal.Tables.{max_types, table_words, table_of}
 use Rattle.sheet.specs.Internal.Growth.{bare_sheet, add_rule, add_compound, add_label, to_last, add_policy}
 use Rattle.sheet.specs.Internal.Growth.{add_location}
 use Rattle.sheet.specs.Internal.Writers.{rule_put, compound_put, open_put, policy_put, location_put}
+use Rattle.sheet.specs.Internal.Writers.{principals_put}
 use Rattle.sheet.proofs.FormLaws.{formed_facts, type-count}
 use Rattle.sheet.proofs.TableLaws.{types_in_lem, labels_in_lem, locations_in_lem, principals_in_lem, everyone_in_lem}
 use Rattle.sheet.proofs.TableLaws.{rule_in_lem}
@@ -202,8 +203,8 @@ line_holds s fm line k t e f = rw (e, f) (table_line s fm line)
 
 module _ (n : ℕ) where
   pub begin_taken : both (leb 1 n) (leb n max_principals) ≡ true
-      → DraftHolds (begin (P n)) (Some 0) (line_put (P n) (replicate table_words 0))
-  unfolding begin line_put DraftHolds
+      → DraftHolds (begin (P n)) (Some 0) (principals_put n (replicate table_words 0))
+  unfolding begin DraftHolds
   begin_taken f =
       rw f (
         ap Some (least_none (bare_sheet n) (unfold bare_sheet in refl)),

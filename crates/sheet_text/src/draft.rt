@@ -92,13 +92,13 @@ fn least_after(table: &[Word], least: u32, line: SheetLine) -> Option<u32>
     }
 }
 
-// Stores what a line adds.
+// Stores what a further line adds.
 #[tactic(auto, unfolding(crate::specs::Internal::Drafts::line_put))]
 fn store(table: &mut [Word; WORDS], line: SheetLine)
     ensures { table.new ≡ line_put line table.old }
 {
     match line {
-        SheetLine::P(n) => sheet::write::put_principals(table, n),
+        SheetLine::P(_) => {}
         SheetLine::R(_) => sheet::write::put_rule(table),
         SheetLine::T(a, b) => sheet::write::add_compound(table, Kind::Sum, a, b),
         SheetLine::Q(a, b) => sheet::write::add_compound(table, Kind::Pair, a, b),
@@ -122,7 +122,7 @@ fn begin(table: &mut [Word; WORDS], line: SheetLine) -> Option<u32>
     if !(1..=MOST_PRINCIPALS).contains(&n) {
         return None;
     }
-    store(table, line);
+    sheet::write::put_principals(table, n);
     Some(0)
 }
 

@@ -7,7 +7,7 @@ use Rattle.sheet.specs.Sheet.{Sheet, formed, max_principals, max_labels, max_loc
 use Rattle.sheet.specs.Internal.Tables.{max_types, table_of, principals_in, everyone_in, types_in, labels_in}
 use Rattle.sheet.specs.Internal.Tables.{locations_in}
 use Rattle.sheet.specs.Internal.Tables.{rule_in}
-use Rattle.sheet.specs.Internal.Writers.{principals_put, rule_put, compound_put, open_put, policy_put, location_put}
+use Rattle.sheet.specs.Internal.Writers.{rule_put, compound_put, open_put, policy_put, location_put}
 use Rattle.sheet_text.specs.declared.line.SheetLine.{SheetLine}
 use Rattle.sheet_text.specs.declared.line.SheetLine.TheVariants.{P, R, T, Q, L, O, X}
 use Rattle.sheet_text.specs.Internal.Placed.{Draft}
@@ -28,10 +28,7 @@ unfoldable pub steps_read : Option Sheet → Option (List SheetLine) → Option 
 steps_read o none = none
 steps_read o (some ls) = add_lines o ls
 
--- ---- the tests of a first line, and of further lines
-
-abbrev pub principals_fit : ℕ → List ℕ → Bool
-principals_fit n t = both (leb 1 n) (leb n max_principals)
+-- ---- the tests of further lines
 
 abbrev pub rule_fits_in : ℕ → List ℕ → Bool
 rule_fits_in k t =
@@ -70,9 +67,9 @@ next_least least L t = draft_if (label_fits_in t) 0
 next_least least (O o r w) t = draft_if (policy_fits_in least o r w t) (o % max_principals + 1)
 next_least least (X ty l) t = draft_if (location_fits_in ty l t) least
 
--- what a line adds to the table
+-- what a further line adds to the table
 unfoldable pub line_put : SheetLine → List ℕ → List ℕ
-line_put (P n) t = principals_put n t
+line_put (P n) t = t
 line_put (R k) t = rule_put t
 line_put (T a b) t = compound_put Sum a b t
 line_put (Q a b) t = compound_put Pair a b t

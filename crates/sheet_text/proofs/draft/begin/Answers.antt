@@ -13,4 +13,4 @@ pub returns : goal.returns
 unfolding both
 returns c =
     let e : both (leb 1 c.in-P.n) (leb c.in-P.n 16) ≡ true = search rules in
-    rw (c.store.ensures, c.requires, c.in-P.is) (begin_taken _ e)
+    rw (c.put_principals.ensures, c.requires, c.in-P.is) (begin_taken _ e)

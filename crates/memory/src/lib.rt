@@ -158,7 +158,12 @@ fn location_view(table: &[Word], group: Set, x: u32, words: &[u32]) -> [u32; CEL
         end: 0,
     };
     if sheet::reads(table, group, sheet::location_label(table, x)) {
-        masks::mask_at(table, group, words, 0, &mut out);
+        let source = masks::Source {
+            table,
+            group,
+            words,
+        };
+        masks::mask_at(&source, 0, &mut out);
     }
     out.words
 }

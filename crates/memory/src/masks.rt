@@ -9,6 +9,14 @@ use crate::{CELL, values};
 use sets::Set;
 use sheet::Word;
 
+// The words of a value, and to whom it is shown: a group, on the sheet of a table.
+#[derive(Clone, Copy)]
+pub(crate) struct Source<'a> {
+    pub table: &'a [Word],
+    pub group: Set,
+    pub words: &'a [u32],
+}
+
 // The words of a location as they are written, one after the other, and how many were: those past the last place are
 // counted, and nothing else.
 #[derive(Clone, Copy)]
@@ -33,12 +41,13 @@ impl Cell {
 
 // Writes what a group is shown of the value whose words start at `at`, and tells the place after it. A part before
 // which the words end is one zero word, so up to two words are written for each that is read.
-pub(crate) fn mask_at(table: &[Word], group: Set, words: &[u32], at: usize, out: &mut Cell) -> usize
-    requires { out.old.end + 2 * (length words.now - at) ≤ 2 * length words.now }
-    ensures { Masks (reads_in table.now group) words.now
-        (read_of (drop at words.now))
+pub(crate) fn mask_at(source: &Source, at: usize, out: &mut Cell) -> usize
+    requires { out.old.end + 2 * (length source.now.words.now - at) ≤ 2 * length source.now.words.now }
+    ensures { Masks (reads_in source.now.table.now source.now.group) source.now.words.now
+        (read_of (drop at source.now.words.now))
         out.old.words out.old.end out.new.words result out.new.end }
 {
+    let words = source.words;
     if words.len() <= at {
         out.push(0);
         return at;
@@ -57,21 +66,21 @@ pub(crate) fn mask_at(table: &[Word], group: Set, words: &[u32], at: usize, out:
         }
         crate::PACKAGE => {
             let label = at + crate::LABEL;
-            if let Some(end) = mask_label(table, group, words, label, out) {
+            if let Some(end) = mask_label(source, label, out) {
                 return end;
             }
             label + crate::HEAD
         }
         crate::PAIR => {
             out.push(crate::PAIR);
-            mask_at(table, group, words, at + 1, out)
+            mask_at(source, at + 1, out)
         }
         _ => {
             out.push(0);
             return at + 1;
         }
     };
-    mask_at(table, group, words, last, out)
+    mask_at(source, last, out)
 }
 
 // An integer or an error, whose first word stands at `at`.
@@ -93,23 +102,26 @@ fn mask_number(words: &[u32], at: usize, out: &mut Cell) -> usize
 
 // Writes a package's first word and its head, which stands at `at`. The content is to follow, or it is hidden: then it
 // is one zero word, and the place after the package is told.
-fn mask_label(table: &[Word], group: Set, words: &[u32], at: usize, out: &mut Cell) -> Option<usize>
-    requires { (out.old.end ≤ 2 * length words.now) × (at ≤ length words.now) }
+fn mask_label(source: &Source, at: usize, out: &mut Cell) -> Option<usize>
+    requires { (out.old.end ≤ 2 * length source.now.words.now) × (at ≤ length source.now.words.now) }
     ensures { MatchOption result
-        (Opened (reads_in table.now group) words.now at out.old.words out.old.end out.new.words out.new.end)
-        (λ next. Masks (reads_in table.now group) words.now (packaged read_of (drop at words.now))
+        (Opened (reads_in source.now.table.now source.now.group) source.now.words.now at out.old.words out.old.end
+        out.new.words out.new.end)
+        (λ next. Masks (reads_in source.now.table.now source.now.group) source.now.words.now
+        (packaged read_of (drop at source.now.words.now))
         out.old.words out.old.end out.new.words next out.new.end) }
 {
+    let words = source.words;
     if words.len() <= at {
         out.push(0);
         return Some(at);
     }
     out.push(crate::PACKAGE);
     out.push(words[at]);
-    if sheet::reads(table, group, words[at]) {
+    if sheet::reads(source.table, source.group, words[at]) {
         return None;
     }
     out.push(0);
-    let content = values::value_at(sheet::labels(table), words, at + crate::HEAD);
+    let content = values::value_at(sheet::labels(source.table), words, at + crate::HEAD);
     Some(content.next)
 }

@@ -26,7 +26,7 @@ returns-in_default t c =
 pub mask_at-requires : goal.mask_at-requires
 mask_at-requires t c =
     let h = c.if-words-at.false in
-    let shows = reads_in c.args.table.now c.args.group in
+    let shows = reads_in c.args.source.now.table.now c.args.source.now.group in
     elim c.match-words-at.branch [
       | in-3 w ↦ let p = w.push-in-3.ensures in
           let l = laws.last_side shows _ _ _ _ h w.out-is w.last-is to_left w.in-3.is refl p.words p.end in

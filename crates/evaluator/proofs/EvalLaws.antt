@@ -17,7 +17,9 @@ use Rattle.script.proofs.Rows.{ExprRow, at_int, at_loc, at_var, at_plus, at_left
 use Rattle.script.proofs.Rows.{at_first, at_second, KindOf, not_here, one_between}
 use Rattle.memory.specs.Words.{cell}
 use Rattle.memory.specs.Memory.{cell_of}
-use Rattle.std.specs.Prelude.{Ok, Err}
+use Rattle.std.specs.Prelude.{Result, Ok, Err, IsErr}
+use Rattle.std.specs.Result.{IsErrAnd}
+use Rattle.std.proofs.lemmas.Result.{err_from_is_err_and}
 use Rattle.evaluator.specs.State.{state_number}
 use Rattle.evaluator.specs.declared.Stop.{Stop}
 use Rattle.evaluator.specs.declared.Stop.TheVariants.{Spent, TooLong, NoRule}
@@ -97,6 +99,10 @@ pub stopped : (s : Stop) → state_number {A = ℕ} (Err s) ≡ 0 → ⊥
 stopped Spent z = omega arith
 stopped TooLong z = omega arith
 stopped NoRule z = omega arith
+
+-- what `?` hands on is what stopped
+pub passed_on : {A E : Type 0} (r : Result A E) (e : E) → IsErr r × IsErrAnd r (λ d. d ≡ e) → r ≡ Err e
+passed_on r e h = let p = err_from_is_err_and r h.1 in p.1 ∙ ap Err p.2
 
 -- f is applied to what an evaluation gives
 abbrev pub Follows : (Value → Res) → Reached → Reached → Type 0

@@ -2,5 +2,6 @@
 -- docs/READING.md.
 pub mod Cells
 pub mod Records
+pub mod Given
 pub mod Nodes
 pub mod Post

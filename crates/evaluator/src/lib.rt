@@ -5,6 +5,7 @@ mod nodes; // nodes.rt: a value made of one or two others, in the accumulator
 
 ghost use Rattle.std.specs.Prelude.{◌≡◌};
 ghost use Rattle.script.specs.Internal.Code.{row_at};
+ghost use Rattle.evaluator.specs.Internal.Given.{setting_of, place_in};
 ghost use Rattle.evaluator.specs.Internal.Records.{reached};
 ghost use Rattle.evaluator.specs.Internal.Post.{Evals};
 
@@ -54,20 +55,16 @@ pub struct World<'a> {
 impl<'a> World<'a> {
     // Evaluates the expression at `at`, below so many cases, into the accumulator: the place where its lines end.
     pub fn eval(&self, at: usize, depth: u32, work: &mut [u32; WORK]) -> Result<usize, Stop>
-        ensures { Evals (record { table = self.now.table.now; powers = self.now.powers })
-            (record { code = self.now.code.now; at = at; depth = depth; cells = work.old })
-            (reached result work.new) }
+        ensures { Evals (setting_of self.now) (place_in self.now at depth work.old) (reached result work.new) }
     {
         reach(self, at, depth, work)
     }
 }
 
-// The same, by recursion.
+// The same, by recursion: a function apart, by whose name the bound of the stack counts its calls.
 #[cycle(pair_reach)]
 fn reach(world: &World, at: usize, depth: u32, work: &mut [u32; WORK]) -> Result<usize, Stop>
-    ensures { Evals (record { table = world.now.table.now; powers = world.now.powers })
-        (record { code = world.now.code.now; at = at; depth = depth; cells = work.old })
-        (reached result work.new) }
+    ensures { Evals (setting_of world.now) (place_in world.now at depth work.old) (reached result work.new) }
 {
     let row = script::row_at(world.code, at);
     let kind = row.kind;
@@ -112,9 +109,7 @@ fn reach(world: &World, at: usize, depth: u32, work: &mut [u32; WORK]) -> Result
 #[cycle(pair_reach)]
 fn pair(world: &World, at: usize, depth: u32, work: &mut [u32; WORK]) -> Result<usize, Stop>
     requires { (row_at world.now.code.now at).kind ≡ 14 }
-    ensures { Evals (record { table = world.now.table.now; powers = world.now.powers })
-        (record { code = world.now.code.now; at = at; depth = depth; cells = work.old })
-        (reached result work.new) }
+    ensures { Evals (setting_of world.now) (place_in world.now at depth work.old) (reached result work.new) }
 {
     let v = reach(world, at + ROW, depth, work)?;
     let first = cells::load(work);

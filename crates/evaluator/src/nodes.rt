@@ -8,6 +8,7 @@ ghost use Rattle.language.specs.World.{cell_words};
 ghost use Rattle.cells.specs.Internal.Cells.{load_of, store_of, push_of, accumulator};
 ghost use Rattle.evaluator.specs.State.{state_number};
 ghost use Rattle.evaluator.specs.Internal.Cells.{first_location};
+ghost use Rattle.evaluator.specs.Internal.Given.{setting_of};
 ghost use Rattle.evaluator.specs.Internal.Nodes.{Sums, Tagged, Packs, Unpacks, Projects, Pairs, Applied};
 ghost use Rattle.evaluator.specs.Internal.Nodes.{error_number, tests_number, error_in};
 
@@ -117,7 +118,7 @@ fn pack(world: &World, l: u32, work: &mut [u32; WORK]) -> Result<(), Stop>
 // Whether the package in the accumulator may be unpacked with the wanted label l and the wanted type on the left of
 // type t, or why not.
 fn opens(world: &World, t: u32, l: u32, work: &[u32]) -> Result<(), Failure>
-    ensures { tests_number result ≡ error_in (record { table = world.now.table.now; powers = world.now.powers }) l
+    ensures { tests_number result ≡ error_in (setting_of world.now) l
         (slice_index work.now 1)
         (has_no world.now.table.now (value_of (drop 2 work.now)) (left_in world.now.table.now t)) }
 {
@@ -140,7 +141,7 @@ fn opens(world: &World, t: u32, l: u32, work: &[u32]) -> Result<(), Failure>
 
 // The content of the package in the accumulator, or an error.
 fn unpack(world: &World, t: u32, l: u32, work: &mut [u32; WORK]) -> Result<(), Stop>
-    ensures { Unpacks (record { table = world.now.table.now; powers = world.now.powers }) t l
+    ensures { Unpacks (setting_of world.now) t l
         work.old (state_number result) work.new }
 {
     if cells::word(work, 0) != memory::PACKAGE {
@@ -206,7 +207,7 @@ pub(crate) fn applied(
     b: u32,
     work: &mut [u32; WORK],
 ) -> Result<(), Stop>
-    ensures { Applied (record { table = world.now.table.now; powers = world.now.powers })
+    ensures { Applied (setting_of world.now)
         (record { kind = kind; a = a; b = b })
         work.old (state_number result) work.new }
 {

@@ -2,6 +2,7 @@
 ghost use Rattle.std.specs.Prelude.{◌≡◌, ◌+◌, MatchResult};
 ghost use Rattle.script.specs.Internal.Code.{row_at};
 ghost use Rattle.evaluator.specs.declared.Stop.TheVariants.{Spent};
+ghost use Rattle.evaluator.specs.Internal.Given.{setting_of, place_in};
 ghost use Rattle.interpreter.specs.Internal.Post.{stepped, decided, Execs, Assigns, Decides, Branches};
 
 use evaluator::{LOCATIONS, Stop, WORK, World};
@@ -30,8 +31,7 @@ fn assign(
     fuel: &mut u32,
     x: u32,
 ) -> Result<usize, Stop>
-    ensures { Assigns (record { table = world.now.table.now; powers = world.now.powers })
-        (record { code = world.now.code.now; at = at; depth = depth; cells = work.old })
+    ensures { Assigns (setting_of world.now) (place_in world.now at depth work.old)
         fuel.old x (stepped result fuel.new) work.new }
 {
     let left = tick(*fuel)?;
@@ -50,8 +50,7 @@ fn decide(
     work: &mut [u32; WORK],
     fuel: &mut u32,
 ) -> Result<(Side, usize), Stop>
-    ensures { Decides (record { table = world.now.table.now; powers = world.now.powers })
-        (record { code = world.now.code.now; at = at; depth = depth; cells = work.old })
+    ensures { Decides (setting_of world.now) (place_in world.now at depth work.old)
         fuel.old (decided result fuel.new) work.new }
 {
     let left = tick(*fuel)?;
@@ -74,8 +73,7 @@ fn branch(
     work: &mut [u32; WORK],
     fuel: &mut u32,
 ) -> Result<(Side, usize), Stop>
-    ensures { Branches (record { table = world.now.table.now; powers = world.now.powers })
-        (record { code = world.now.code.now; at = at; depth = depth; cells = work.old })
+    ensures { Branches (setting_of world.now) (place_in world.now at depth work.old)
         fuel.old (decided result fuel.new) work.new }
 {
     if depth >= script::DEPTH {
@@ -100,8 +98,7 @@ pub(crate) fn exec(
     work: &mut [u32; WORK],
     fuel: &mut u32,
 ) -> Result<usize, Stop>
-    ensures { Execs (record { table = world.now.table.now; powers = world.now.powers })
-        (record { code = world.now.code.now; at = at; depth = depth; cells = work.old })
+    ensures { Execs (setting_of world.now) (place_in world.now at depth work.old)
         fuel.old (stepped result fuel.new) work.new }
 {
     let row = script::row_at(world.code, at);
@@ -125,8 +122,7 @@ fn sequence(
     fuel: &mut u32,
 ) -> Result<usize, Stop>
     requires { (row_at world.now.code.now at).kind ≡ 2 }
-    ensures { Execs (record { table = world.now.table.now; powers = world.now.powers })
-        (record { code = world.now.code.now; at = at; depth = depth; cells = work.old })
+    ensures { Execs (setting_of world.now) (place_in world.now at depth work.old)
         fuel.old (stepped result fuel.new) work.new }
 {
     let second = exec(world, at + ROW, depth, work, fuel)?;
@@ -144,8 +140,7 @@ fn repeat(
     fuel: &mut u32,
 ) -> Result<usize, Stop>
     requires { (row_at world.now.code.now at).kind ≡ 4 }
-    ensures { Execs (record { table = world.now.table.now; powers = world.now.powers })
-        (record { code = world.now.code.now; at = at; depth = depth; cells = work.old })
+    ensures { Execs (setting_of world.now) (place_in world.now at depth work.old)
         fuel.old (stepped result fuel.new) work.new }
 {
     // where the last round ended
@@ -174,8 +169,7 @@ fn select(
     fuel: &mut u32,
 ) -> Result<usize, Stop>
     requires { (row_at world.now.code.now at).kind ≡ 5 }
-    ensures { Execs (record { table = world.now.table.now; powers = world.now.powers })
-        (record { code = world.now.code.now; at = at; depth = depth; cells = work.old })
+    ensures { Execs (setting_of world.now) (place_in world.now at depth work.old)
         fuel.old (stepped result fuel.new) work.new }
 {
     let (side, start) = branch(world, at + ROW, depth, work, fuel)?;

@@ -1,9 +1,9 @@
 -- The places are later in the code, and each return is a law.
 use Rattle.std.proofs.Common.{◌≡◌, ℕ, ◌+◌, ◌≤◌, List, length, refl, arith}
-use Rattle.std.proofs.lemmas.Result.{err_from_is_err_and}
 use Rattle.script.specs.Internal.Code.{row_at}
 use Rattle.script.proofs.Rows.{row_within, none_past}
 use Rattle.evaluator.proofs.EvalLaws as laws
+use Rattle.evaluator.proofs.EvalLaws.{passed_on}
 use Rattle.evaluator.proofs.+pair_reach.Goals as goal
 use Rattle.evaluator.proofs.+pair_reach.Goals.{pair-then-next-eq-PAIR+in_ok-w, pair-else-next-eq-PAIR+in_ok-w-2}
 
@@ -19,19 +19,17 @@ pair-reach-requires t c = (omega (arith, pair_within _ _ c.requires), tt)
 
 pub pair-returns-in_err-v : goal.pair-returns-in_err-v
 pair-returns-in_err-v t c =
-    let p = err_from_is_err_and c.from_residual.result c.from_residual.ensures.1 in rw (p.1, p.2)
+    rw (passed_on _ _ c.from_residual.ensures)
     (laws.eval-pair_end refl c.in_err-v.ensures (laws.stopped _) c.requires)
 
 pub pair-pair-requires : goal.pair-pair-requires
-pair-pair-requires t c = (
-  omega (arith, pair_within _ _ c.requires, c.in_ok-v.ensures.forward refl),
-  rw c.row_at-next.ensures at
-      c.if-next-eq-PAIR.true,
-)
+pair-pair-requires t c =
+    (omega (arith, pair_within _ _ c.requires, c.in_ok-v.ensures.forward refl), rw c.row_at-next.ensures at
+    c.if-next-eq-PAIR.true)
 
 pub pair-returns-in_err-w : goal.pair-returns-in_err-w
 pair-returns-in_err-w t c =
-    let p = err_from_is_err_and c.from_residual-in_err-w.result c.from_residual-in_err-w.ensures.1 in rw (p.1, p.2)
+    rw (passed_on _ _ c.from_residual-in_err-w.ensures)
     (laws.eval-pair_stop refl c.in_ok-v.ensures refl c.in_err-w.ensures (laws.stopped _) c.requires
     c.load-first.ensures)
 
@@ -41,21 +39,17 @@ pair-reach-requires-else-next-eq-PAIR t c =
 
 pub pair-returns-in_err-w-2 : goal.pair-returns-in_err-w-2
 pair-returns-in_err-w-2 t c =
-    let p = err_from_is_err_and c.from_residual-in_err-w-2.result c.from_residual-in_err-w-2.ensures.1 in rw (
-      p.1,
-      p.2,
-    ) (laws.eval-pair_stop refl c.in_ok-v.ensures refl c.in_err-w-2.ensures (laws.stopped _) c.requires
+    rw (passed_on _ _ c.from_residual-in_err-w-2.ensures)
+    (laws.eval-pair_stop refl c.in_ok-v.ensures refl c.in_err-w-2.ensures (laws.stopped _) c.requires
     c.load-first.ensures)
 
 pub pair-returns-in_err-pair : goal.pair-returns-in_err-pair
 pair-returns-in_err-pair t c =
-    let p = err_from_is_err_and c.from_residual-in_err-pair.result c.from_residual-in_err-pair.ensures.1 in rw
-    (p.1, p.2) (laws.eval-pair_made refl c.in_ok-v.ensures refl {m = c.if-next-eq-PAIR.w} {before =
-    c.if-next-eq-PAIR.work} (elim c.if-next-eq-PAIR.branch [
-      | pair-then-next-eq-PAIR+in_ok-w w ↦ rw (
-        w.work-is,
-        w.w-is,
-      ) w.in_ok-w.ensures
+    rw (passed_on _ _ c.from_residual-in_err-pair.ensures)
+    (laws.eval-pair_made refl c.in_ok-v.ensures refl {m = c.if-next-eq-PAIR.w} {before = c.if-next-eq-PAIR.work}
+    (elim c.if-next-eq-PAIR.branch
+    [
+      | pair-then-next-eq-PAIR+in_ok-w w ↦ rw (w.work-is, w.w-is) w.in_ok-w.ensures
       | pair-else-next-eq-PAIR+in_ok-w-2 w ↦ rw (w.work-is, w.w-is) w.in_ok-w-2.ensures
     ])
     (λ z. absurd (laws.stopped _ z)) c.requires c.load-first.ensures c.in_err-pair.ensures)
@@ -63,11 +57,12 @@ pair-returns-in_err-pair t c =
 pub pair-returns : goal.pair-returns
 pair-returns t c =
     laws.eval-pair_made refl c.in_ok-v.ensures refl {m = c.if-next-eq-PAIR.w} {before = c.if-next-eq-PAIR.work}
-    (elim c.if-next-eq-PAIR.branch [
+    (elim c.if-next-eq-PAIR.branch
+    [
       | pair-then-next-eq-PAIR+in_ok-w w ↦ rw (w.work-is, w.w-is) w.in_ok-w.ensures
       | pair-else-next-eq-PAIR+in_ok-w-2 w ↦ rw (w.work-is, w.w-is) w.in_ok-w-2.ensures
-    ]) (λ z. refl) c.requires
-    c.load-first.ensures c.in_ok-pair.ensures
+    ])
+    (λ z. refl) c.requires c.load-first.ensures c.in_ok-pair.ensures
 
 pub reach-overflow_add-result : goal.reach-overflow_add-result
 reach-overflow_add-result t c = omega (arith, row_within _ _ c.row_at-row.ensures (omega (arith, c.in-6.is)))
@@ -93,29 +88,31 @@ reach-pair-requires t c = (omega arith, rw c.row_at-row.ensures at c.in-14.is)
 
 pub reach-returns-in_err-v-in-9 : goal.reach-returns-in_err-v-in-9
 reach-returns-in_err-v-in-9 t c =
-    let p = err_from_is_err_and c.from_residual.result c.from_residual.ensures.1 in rw (p.1, p.2) (laws.eval-end
-    c.row_at-row.ensures c.in_err-v-in-9.ensures (laws.stopped _) (none_past 6 3 c.in-9.in_default-own.rest.0
-    c.in-9.if-kind-lt6-own.false) (omega (arith, c.in-9.if-kind-lt17-own.true)) c.in-9.in_default-own.rest.1)
+    rw (passed_on _ _ c.from_residual.ensures)
+    (laws.eval-end c.row_at-row.ensures c.in_err-v-in-9.ensures (laws.stopped _)
+    (none_past 6 3 c.in-9.in_default-own.rest.0 c.in-9.if-kind-lt6-own.false)
+    (omega (arith, c.in-9.if-kind-lt17-own.true)) c.in-9.in_default-own.rest.1)
 
 pub reach-returns-in_err-applied-in-9 : goal.reach-returns-in_err-applied-in-9
 reach-returns-in_err-applied-in-9 t c =
-    let p = err_from_is_err_and c.from_residual-in_err-applied-in-9.result
-    c.from_residual-in_err-applied-in-9.ensures.1 in rw (p.1, p.2) (laws.eval-one c.row_at-row.ensures
-    c.in_ok-v-in-9.ensures (λ z. absurd (laws.stopped _ z)) (none_past 6 3 c.in-9.in_default-own.rest.0
-    c.in-9.if-kind-lt6-own.false) (omega (arith, c.in-9.if-kind-lt17-own.true)) c.if-kind-ne-PLUS.true
-    c.in-9.in_default-own.rest.1 c.in_err-applied-in-9.ensures)
+    rw (passed_on _ _ c.from_residual-in_err-applied-in-9.ensures)
+    (laws.eval-one c.row_at-row.ensures c.in_ok-v-in-9.ensures (λ z. absurd (laws.stopped _ z))
+    (none_past 6 3 c.in-9.in_default-own.rest.0 c.in-9.if-kind-lt6-own.false)
+    (omega (arith, c.in-9.if-kind-lt17-own.true)) c.if-kind-ne-PLUS.true c.in-9.in_default-own.rest.1
+    c.in_err-applied-in-9.ensures)
 
 pub reach-returns-then-kind-ne-PLUS : goal.reach-returns-then-kind-ne-PLUS
 reach-returns-then-kind-ne-PLUS t c =
-    laws.eval-one c.row_at-row.ensures c.in_ok-v-in-9.ensures (λ z. refl) (none_past 6 3
-    c.in-9.in_default-own.rest.0 c.in-9.if-kind-lt6-own.false) (omega (arith, c.in-9.if-kind-lt17-own.true))
-    c.if-kind-ne-PLUS.true c.in-9.in_default-own.rest.1 c.in_ok-applied-in-9.ensures
+    laws.eval-one c.row_at-row.ensures c.in_ok-v-in-9.ensures (λ z. refl)
+    (none_past 6 3 c.in-9.in_default-own.rest.0 c.in-9.if-kind-lt6-own.false)
+    (omega (arith, c.in-9.if-kind-lt17-own.true)) c.if-kind-ne-PLUS.true c.in-9.in_default-own.rest.1
+    c.in_ok-applied-in-9.ensures
 
 pub reach-returns-in_err-w-in-9 : goal.reach-returns-in_err-w-in-9
 reach-returns-in_err-w-in-9 t c =
-    let p = err_from_is_err_and c.from_residual-in_err-w-in-9.result c.from_residual-in_err-w-in-9.ensures.1 in rw
-    (p.1, p.2) (laws.eval-plus_stop c.row_at-row.ensures c.in_ok-v-in-9.ensures refl c.in_err-w-in-9.ensures
-    (laws.stopped _) c.if-kind-ne-PLUS.false c.word-n.ensures)
+    rw (passed_on _ _ c.from_residual-in_err-w-in-9.ensures)
+    (laws.eval-plus_stop c.row_at-row.ensures c.in_ok-v-in-9.ensures refl c.in_err-w-in-9.ensures (laws.stopped _)
+    c.if-kind-ne-PLUS.false c.word-n.ensures)
 
 pub reach-returns-in_ok-w-in-9 : goal.reach-returns-in_ok-w-in-9
 reach-returns-in_ok-w-in-9 t c =

@@ -1,12 +1,11 @@
 -- The places are later in the code, and each return is a law.
-use Rattle.std.proofs.Common.{◌≡◌, ℕ, suc, ◌+◌, ◌≤◌, List, length, true, false, refl, sym, ap, arith}
+use Rattle.std.proofs.Common.{◌≡◌, ℕ, suc, ◌+◌, ◌≤◌, List, length, Bool, true, false, refl, sym, ap, arith}
 use Rattle.std.proofs.lemmas.Bool.{false≢true}
 use denote.Enum.Bare.{sameb}
-use Rattle.std.proofs.lemmas.Result.{err_from_is_err_and}
 use Rattle.script.specs.Internal.Code.{row_at}
 use Rattle.script.proofs.Rows.{row_within, none_between}
 use Rattle.evaluator.specs.declared.Stop.TheVariants.{Spent}
-use Rattle.evaluator.proofs.EvalLaws.{stopped}
+use Rattle.evaluator.proofs.EvalLaws.{stopped, passed_on}
 use Rattle.interpreter.specs.declared.commands.Side.{Side}
 use Rattle.interpreter.specs.declared.commands.Side.TheVariants.{Left, Right}
 use Rattle.interpreter.specs.contracts.commands.Side.{the_type}
@@ -61,14 +60,14 @@ sequence-exec-requires-2 t c = (omega (arith, row_here _ _ c.requires, c.in_ok-s
 
 pub sequence-returns-in_err-second : goal.sequence-returns-in_err-second
 sequence-returns-in_err-second t c =
-    let p = err_from_is_err_and c.from_residual.result c.from_residual.ensures.1 in rw (p.1, p.2)
+    rw (passed_on _ _ c.from_residual.ensures)
     (laws.exec_seq_end refl c.requires c.in_err-second.ensures (tick_same _ (stopped _)) 0 (stopped _))
 
 pub sequence-returns-in_err-fuel : goal.sequence-returns-in_err-fuel
 sequence-returns-in_err-fuel t c =
-    let p = err_from_is_err_and c.from_residual-in_err-fuel.result c.from_residual-in_err-fuel.ensures.1 in rw
-    (p.1, p.2, c.in_err-fuel.ensures.0) (laws.exec_seq_end refl c.requires c.in_ok-second.ensures (tick_spent _ 0
-    refl c.in_err-fuel.ensures.1) 0 (stopped Spent))
+    rw (passed_on _ _ c.from_residual-in_err-fuel.ensures, c.in_err-fuel.ensures.0)
+    (laws.exec_seq_end refl c.requires c.in_ok-second.ensures (tick_spent _ 0 refl c.in_err-fuel.ensures.1) 0
+    (stopped Spent))
 
 pub sequence-returns : goal.sequence-returns
 sequence-returns t c =
@@ -80,18 +79,20 @@ repeat-loop-side-init t c = ((λ n e. absurd (cc)), λ d cells x. laws.rounds_fi
 
 pub repeat-returns-in_err-side : goal.repeat-returns-in_err-side
 repeat-returns-in_err-side t c =
-    let p = err_from_is_err_and c.from_residual.result c.from_residual.ensures.1 in rw (p.1, p.2)
-    (c.loop-side.invariant.1 _ _ (laws.while_stop refl c.requires c.in_err-side.ensures refl (λ z. absurd (stopped
-    _ z)) c.loop-side.invariant.0))
+    rw (passed_on _ _ c.from_residual.ensures)
+    (c.loop-side.invariant.1 _ _
+    (laws.while_stop refl c.requires c.in_err-side.ensures refl (λ z. absurd (stopped _ z)) c.loop-side.invariant.0))
 
 pub repeat-returns-in-Some : goal.repeat-returns-in-Some
 repeat-returns-in-Some t c =
-    c.loop-side.invariant.1 _ _ (laws.while_stop refl c.requires c.in_ok-side.ensures (on_right _ c.if-eq.ensures)
+    c.loop-side.invariant.1 _ _
+    (laws.while_stop refl c.requires c.in_ok-side.ensures (on_right _ c.if-eq.ensures)
     (λ z. rw c.in-Some.is laws.at_last) c.loop-side.invariant.0)
 
 pub repeat-returns-in-None : goal.repeat-returns-in-None
 repeat-returns-in-None t c =
-    c.loop-side.invariant.1 _ _ (laws.while_stop refl c.requires c.in_ok-side.ensures (on_right _ c.if-eq.ensures)
+    c.loop-side.invariant.1 _ _
+    (laws.while_stop refl c.requires c.in_ok-side.ensures (on_right _ c.if-eq.ensures)
     (λ z. rw c.in-None.is (laws.past_body c.skip.ensures)) c.loop-side.invariant.0)
 
 pub repeat-exec-requires : goal.repeat-exec-requires
@@ -99,39 +100,33 @@ repeat-exec-requires t c = (omega (arith, row_here _ _ c.requires, c.in_ok-side.
 
 pub repeat-returns-in_err-end : goal.repeat-returns-in_err-end
 repeat-returns-in_err-end t c =
-    let p = err_from_is_err_and c.from_residual-in_err-end.result c.from_residual-in_err-end.ensures.1 in rw (
-      p.1,
-      p.2,
-    ) (c.loop-side.invariant.1 _ _ (laws.rounds_any (laws.while-end refl c.requires c.in_ok-side.ensures
-    (on_left _ c.if-eq.ensures) c.in_err-end.ensures (tick_same _ (stopped _)) 0 (stopped _))))
+    rw (passed_on _ _ c.from_residual-in_err-end.ensures)
+    (c.loop-side.invariant.1 _ _
+    (laws.rounds_any
+    (laws.while-end refl c.requires c.in_ok-side.ensures (on_left _ c.if-eq.ensures) c.in_err-end.ensures
+    (tick_same _ (stopped _)) 0 (stopped _))))
 
 pub repeat-returns-in_err-fuel : goal.repeat-returns-in_err-fuel
 repeat-returns-in_err-fuel t c =
-    let p = err_from_is_err_and c.from_residual-in_err-fuel.result c.from_residual-in_err-fuel.ensures.1 in rw
-    (p.1, p.2, c.in_err-fuel.ensures.0) (c.loop-side.invariant.1 _ _ (laws.rounds_any (laws.while-end refl
-    c.requires c.in_ok-side.ensures (on_left _ c.if-eq.ensures) c.in_ok-end.ensures (tick_spent _ 0 refl
-    c.in_err-fuel.ensures.1) 0 (stopped Spent))))
+    rw (passed_on _ _ c.from_residual-in_err-fuel.ensures, c.in_err-fuel.ensures.0)
+    (c.loop-side.invariant.1 _ _
+    (laws.rounds_any
+    (laws.while-end refl c.requires c.in_ok-side.ensures (on_left _ c.if-eq.ensures) c.in_ok-end.ensures
+    (tick_spent _ 0 refl c.in_err-fuel.ensures.1) 0 (stopped Spent))))
 
 pub repeat-loop-side-preserved : goal.repeat-loop-side-preserved
-repeat-loop-side-preserved t c = (
-  (λ n e. let q : c.in_ok-end.end ≡ n = cc in omega (
-    arith,
-    c.in_ok-side.ensures.forward refl,
-    c.in_ok-end.ensures.forward refl,
-  )),
-  λ d cells y. c.loop-side.invariant.1 d cells (laws.rounds_any
-      (laws.while-again refl c.requires c.in_ok-side.ensures (on_left _ c.if-eq.ensures) c.in_ok-end.ensures
-      (tick_step _ refl c.in_ok-fuel.ensures) refl y)),
-)
+repeat-loop-side-preserved t c =
+    ((λ n e. let q : c.in_ok-end.end ≡ n = cc in omega
+    (arith, c.in_ok-side.ensures.forward refl, c.in_ok-end.ensures.forward refl)), λ d cells y.
+    c.loop-side.invariant.1 d cells
+    (laws.rounds_any
+    (laws.while-again refl c.requires c.in_ok-side.ensures (on_left _ c.if-eq.ensures) c.in_ok-end.ensures
+    (tick_step _ refl c.in_ok-fuel.ensures) refl y)))
 
 pub repeat-loop-side-smaller : goal.repeat-loop-side-smaller
 repeat-loop-side-smaller t c =
-    omega (
-      arith,
-      c.in_ok-side.ensures.falls (on_left _ c.if-eq.ensures),
-      c.in_ok-end.ensures.spends,
-      c.in_ok-fuel.ensures,
-    )
+    omega
+    (arith, c.in_ok-side.ensures.falls (on_left _ c.if-eq.ensures), c.in_ok-end.ensures.spends, c.in_ok-fuel.ensures)
 
 pub select-exec-requires : goal.select-exec-requires
 select-exec-requires t c = (omega (arith, row_here _ _ c.requires, c.in_ok-side.ensures.forward refl), tt)
@@ -141,16 +136,13 @@ select-overflow_add-depth t c = omega (arith, c.in_ok-side.ensures.shallow refl)
 
 pub select-returns-in_err-side : goal.select-returns-in_err-side
 select-returns-in_err-side t c =
-    let p = err_from_is_err_and c.from_residual.result c.from_residual.ensures.1 in rw (p.1, p.2)
+    rw (passed_on _ _ c.from_residual.ensures)
     (laws.exec_case_end refl c.requires c.in_err-side.ensures 0 (stopped _))
 
 pub select-returns-in_err-end : goal.select-returns-in_err-end
 select-returns-in_err-end t c =
-    let p = err_from_is_err_and c.from_residual-in_err-end.result c.from_residual-in_err-end.ensures.1 in rw (
-      p.1,
-      p.2,
-    ) (laws.exec_case refl c.requires c.in_ok-side.ensures refl c.in_err-end.ensures refl (laws.no_end (stopped
-    _)))
+    rw (passed_on _ _ c.from_residual-in_err-end.ensures)
+    (laws.exec_case refl c.requires c.in_ok-side.ensures refl c.in_err-end.ensures refl (laws.no_end (stopped _)))
 
 pub select-returns-in-Left : goal.select-returns-in-Left
 select-returns-in-Left t c =

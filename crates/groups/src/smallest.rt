@@ -76,17 +76,21 @@ impl Iterator for Smallest {
     ghost remaining = { item_count to_come };
 
     fn next(&mut self) -> Option<Set> {
-        while self.from < self.end {
-            let group = self.from as Set;
+        // A variable, since a store to the field at each turn takes instructions.
+        let mut from = self.from;
+        while from < self.end {
+            let group = from as Set;
             if !self.readers.reads(group) {
-                self.from += 1;
+                from += 1;
                 continue;
             }
-            self.from = past_holders(self.from);
+            from = past_holders(from);
             if needs_each(&self.readers, group) {
+                self.from = from;
                 return Some(group);
             }
         }
+        self.from = from;
         None
     }
 }

@@ -1,10 +1,13 @@
 -- What was to come is what is to come from here on.
-use Rattle.std.proofs.Common.{◌-◌, ◌≡◌}
+use Rattle.std.proofs.Common.{◌-◌, ◌≡◌, ◌≤◌}
+use Rattle.groups.specs.Internal.Readers.{reads_by}
+use Rattle.groups.specs.Internal.Walk.{smallest_up_to}
 use Rattle.groups.specs.Internal.Smallest.{to_come}
 use Rattle.groups.proofs.smallest.SmallestIterator.next.Given as goal
 
-abbrev pub invariant-loop-self : goal.invariant-loop-self
-invariant-loop-self l = to_come l.fn.self ≡ to_come l.self
+abbrev pub invariant-loop-from : goal.invariant-loop-from
+invariant-loop-from l =
+    (1 ≤ l.from) × (to_come l.fn.self ≡ smallest_up_to (reads_by l.self.readers) l.self.end l.from)
 
-abbrev pub decreases-loop-self : goal.decreases-loop-self
-decreases-loop-self l = l.self.end - l.self.from
+abbrev pub decreases-loop-from : goal.decreases-loop-from
+decreases-loop-from l = l.self.end - l.from

@@ -25,7 +25,8 @@ pub const WORDS: usize = ROW * ROWS;
 // The highest number that names a label on some sheet.
 const LAST_LABEL: u32 = sheet::MOST_LABELS - 1;
 
-// What a text was read to: how many lines its command has, and the label that it starts at, if it opens with one.
+// What a text was read to: how many lines its command has, and the label that it starts at, if it opens with one. (The
+// code itself stands in words that are lent, for want of a heap.)
 #[derive(Clone, Copy, Debug, PartialEq, Eq)]
 pub struct Decoded {
     pub count: usize,
@@ -60,6 +61,7 @@ fn decode_lines(s: &[u8], from: usize, most: usize, code: &mut [u32; WORDS]) -> 
             return None;
         }
         let row = line::next_line(&mut reader)?;
+        // By word: a copy of three words into a slice of the array would be no plainer.
         code[count * ROW] = row.kind;
         code[count * ROW + 1] = row.a;
         code[count * ROW + 2] = row.b;

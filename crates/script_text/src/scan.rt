@@ -30,7 +30,8 @@ fn names_there(table: &[sheet::Word], kind: u32, a: u32, b: u32) -> bool
     }
 }
 
-// Where the row after an expression below `depth` cases starts, if one starts at word `at`.
+// Where the row after an expression below `depth` cases starts, if one starts at word `at`. (Here and below the match
+// is over the kinds' numbers, and the walk calls itself: the scope's forms.)
 fn scan_expr(code: &[u32], at: usize, table: &[sheet::Word], depth: u32) -> Option<usize>
     ensures { ScansExpr (counts_in table.now) depth code.now at result }
 {

@@ -23,7 +23,8 @@ fn width(v: u32) -> usize
     v.checked_ilog10().map_or(1, |n| n as usize + 1)
 }
 
-// The digits of a number at `at`, where they fit; the place after them. It calls itself once for each digit.
+// The digits of a number at `at`, where they fit; the place after them. It calls itself once for each digit. (`Display`
+// writes into a `fmt::Write`, and one that is a lent buffer and a place would be longer than this.)
 fn put_digits(out: &mut [u8], at: usize, v: u32) -> usize
     requires { at + length (decimal v) ≤ length out.old }
     ensures value { result ≡ at + length (decimal v) }

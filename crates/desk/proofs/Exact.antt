@@ -4,7 +4,7 @@ use native.Mathlib.Omega.{arith}
 use mathlib.Core.Path.{◌≡◌, refl, ap}
 use mathlib.Core.Bool.{Bool, true, false, false≢true}
 use mathlib.Core.List.{List, [], ◌∷◌}
-use mathlib.Core.Option.{none, some}
+use Rattle.std.specs.Prelude.{Some, None}
 use lib.Dec.{eqb}
 use lib.ListN.{length, length-append}
 use borrow.Author.Tests.{eqb-true}
@@ -32,15 +32,15 @@ closed-sound (c ∷ t) e = go (eqb c 10) refl e
     go false p q = absurd (false≢true q)
 
 -- a field that is read alone
-only_sound : (field : Read ℕ) (v : ℕ) → only_field field ≡ some v → field ≡ got v (10 ∷ [])
+only_sound : (field : Read ℕ) (v : ℕ) → only_field field ≡ Some v → field ≡ got v (10 ∷ [])
 unfolding only_field
 only_sound (got w t) v e =
-    cond_split (closed t) (some w) none (some v)
+    cond_split (closed t) (Some w) None (Some v)
     (λ p q. let y : w ≡ v = cc in rw (y, closed-sound t p))
     (λ p q. let z : ◌≡◌ {A = ℕ} 0 1 = cc in absurd (omega arith)) e
 only_sound bad v e = let z : ◌≡◌ {A = ℕ} 0 1 = cc in absurd (omega arith)
 
-only_print : (field : Read ℕ) (v : ℕ) → field ≡ got v (10 ∷ []) → only_field field ≡ some v
+only_print : (field : Read ℕ) (v : ℕ) → field ≡ got v (10 ∷ []) → only_field field ≡ Some v
 unfolding only_field closed both
 only_print field v e = rw e
 
@@ -52,7 +52,7 @@ group_exact t g = (
 )
 
 -- how long such a text is
-pub group_length : (t : List ℕ) (g : ℕ) → group_of t ≡ some g → length t ≤ set_digits + 1
+pub group_length : (t : List ℕ) (g : ℕ) → group_of t ≡ Some g → length t ≤ set_digits + 1
 group_length t g e =
     omega (
       arith,

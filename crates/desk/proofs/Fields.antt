@@ -1,10 +1,10 @@
 -- A text of one field, as the code reads it.
 use Prim.Native.Nat.{ℕ, ◌+◌, ◌-◌, ◌≤◌, ◌<◌}
 use native.Mathlib.Omega.{arith}
-use mathlib.Core.Path.{◌≡◌, refl, sym, ap, ◌∙◌}
+use mathlib.Core.Path.{◌≡◌, sym, ◌∙◌}
 use mathlib.Core.Bool.{true, false}
 use mathlib.Core.List.{List}
-use mathlib.Core.Option.{Option, none, some, Option-elim}
+use Rattle.std.specs.Prelude.{Some, None}
 use lib.Dec.{eqb}
 use lib.ListN.{length, drop, get_or, length-drop, drop_of_length-le}
 use borrow.Author.Tests.{eq-eqb, ne_eqb, eqb-true, eqb-false}
@@ -12,9 +12,6 @@ use Rattle.text.specs.Reading.{Read}
 use Rattle.text.specs.Reading.Read.{got, bad}
 use Rattle.text.proofs.Readings.{drop-step}
 use Rattle.logic.proofs.BooleanLaws.{cases}
-use Rattle.desk.specs.declared.Group.{Group}
-use Rattle.desk.specs.declared.Group.TheVariants as group
-use Rattle.desk.specs.Internal.Post.{parsed_group}
 use Rattle.desk.specs.Fields.{closed, only_field}
 use Rattle.logic.specs.Booleans.{both}
 
@@ -43,25 +40,14 @@ module _ (s : List ℕ) (p : ℕ) where
 
 -- whether a field is the whole of a text
 module _ (field : Read ℕ) (s : List ℕ) (v p : ℕ) (e : field ≡ got v (drop p s)) where
-  pub only_whole : closed (drop p s) ≡ true → only_field field ≡ some v
+  pub only_whole : closed (drop p s) ≡ true → only_field field ≡ Some v
   unfolding only_field
   only_whole h = rw (e, h)
 
-  pub only_part : closed (drop p s) ≡ false → only_field field ≡ none
+  pub only_part : closed (drop p s) ≡ false → only_field field ≡ None
   unfolding only_field
   only_part h = rw (e, h)
 
-pub only_none : (field : Read ℕ) → field ≡ bad → only_field field ≡ none
+pub only_none : (field : Read ℕ) → field ≡ bad → only_field field ≡ None
 unfolding only_field
 only_none field e = rw e
-
--- what the code's answer says of the text
-pub group_read : (o : Option ℕ) (r : Group) → r ≡ parsed_group o → (v : ℕ) → r ≡ group.Read v → o ≡ some v
-unfolding Option-elim
-group_read none r e v q = let z : ◌≡◌ {A = ℕ} 0 1 = cc in absurd (omega arith)
-group_read (some w) r e v q = let z : w ≡ v = cc in ap some z
-
-pub group_refused : (o : Option ℕ) (r : Group) → r ≡ parsed_group o → r ≡ group.Refused → o ≡ none
-unfolding Option-elim
-group_refused none r e q = refl
-group_refused (some w) r e q = let z : ◌≡◌ {A = ℕ} 0 1 = cc in absurd (omega arith)

@@ -4,7 +4,7 @@ use native.Mathlib.Omega.{arith}
 use mathlib.Core.Path.{◌≡◌, refl, sym, ap, ◌∙◌}
 use mathlib.Core.Bool.{false}
 use mathlib.Core.List.{List}
-use mathlib.Core.Option.{Option, none, some}
+use Rattle.std.specs.Prelude.{Option, Some, None}
 use lib.Dec.{leb}
 use lib.ListN.{length, take}
 use lib.Seq.{take_all, length-take-le}
@@ -51,12 +51,12 @@ group_kept t =
     let l : keep < length t = leb-false _ _ e in
     no_group (take keep t) (omega (arith, length-take-le keep t (omega arith))) ∙ sym (no_group t (omega arith)))
   where
-    no_group : (u : List ℕ) → set_digits + 1 < length u → group_of u ≡ none
+    no_group : (u : List ℕ) → set_digits + 1 < length u → group_of u ≡ None
     no_group u l = go (group_of u) refl
       where
-        go : (o : Option ℕ) → group_of u ≡ o → o ≡ none
-        go none e = refl
-        go (some g) e = let z = group_length u g e in absurd (omega arith)
+        go : (o : Option ℕ) → group_of u ≡ o → o ≡ None
+        go None e = refl
+        go (Some g) e = let z = group_length u g e in absurd (omega arith)
 
 given_kept : (text group : List ℕ) → given_of (take keep text) (take keep group) ≡ given_of text group
 unfolding given_of

@@ -3,12 +3,13 @@ use Prim.Native.Nat.{ℕ}
 use mathlib.Core.Path.{◌≡◌, refl, sym, ap, ◌∙◌, subst}
 use mathlib.Core.Logic.{◌⊎◌, inl, inr, ⊎_elim}
 use mathlib.Core.List.{List, [], ◌∷◌}
-use mathlib.Core.Option.{Option, none, some, get_or}
+use Rattle.std.specs.Prelude.{Option, Some, None}
+use Rattle.std.specs.Option.{unwrap_or}
 use lib.ListN.{length, replicate, length-replicate}
 use Rattle.text.specs.Reading.{Read}
 use Rattle.text.specs.Reading.Read.{got, bad}
 use Rattle.text.proofs.Readings.{not_bad}
-use Rattle.logic.proofs.OptionLaws.{none_some}
+use Rattle.std.proofs.lemmas.Option.{none-some}
 use Rattle.numbers.specs.Rows.{Row, ◌when◌, numbers, First}
 use Rattle.numbers.specs.Calls.{AnswerBy}
 use Rattle.numbers.proofs.RowLaws.{exactly}
@@ -23,7 +24,7 @@ use Rattle.simp.specs.Judgements.{OfSheet, Strangers, OtherSize, IllFormed, view
 use Rattle.simp.proofs.Judged.{its}
 use Rattle.simp.proofs.SecondDemand.{view-exactly}
 use Rattle.desk.specs.Fields.{group_of}
-use Rattle.desk.specs.Numbers.{rank_of, earlier, unread, as_text}
+use Rattle.desk.specs.Numbers.{rank_of, earlier, unread, other_number, as_text}
 use Rattle.desk.specs.Given.{words_read, given_from, given_of}
 use Rattle.desk.specs.Output.{number_line}
 use Rattle.desk.specs.Show.{view_text, viewed, show_of}
@@ -79,21 +80,21 @@ module _ (sheet text group ws : List ℕ) (g : ℕ) where
 
   -- 1 and 2 come before the number of a text
   sheet_first : (o : Option ℕ) (m : Read (List ℕ))
-      → (said (unread o m) (refused_view zeros 1) ≡ number_line 1)
-      × (said (unread o m) (refused_view zeros 2) ≡ number_line 2)
-  unfolding view_text earlier rank_of as_text unread
-  sheet_first none m = (refl, refl)
-  sheet_first (some a) bad = (refl, refl)
-  sheet_first (some a) (got us r) = (refl, refl)
+      → (said (other_number (unread o m)) (refused_view zeros 1) ≡ number_line 1)
+      × (said (other_number (unread o m)) (refused_view zeros 2) ≡ number_line 2)
+  unfolding view_text earlier rank_of as_text unread other_number
+  sheet_first None m = (refl, refl)
+  sheet_first (Some a) bad = (refl, refl)
+  sheet_first (Some a) (got us r) = (refl, refl)
 
-  on_sheet_lem : (o : Option ℕ) (m : Read (List ℕ)) → (Seen past_2 → Said (group_rows sheet text group) (unread o m))
-      → Said (show_rows sheet text group) (unread o m)
+  on_sheet_lem : (o : Option ℕ) (m : Read (List ℕ)) → (Seen past_2 → Said (group_rows sheet text group) (other_number (unread o m)))
+      → Said (show_rows sheet text group) (other_number (unread o m))
   unfolding First
   on_sheet_lem o m k = go ((view-exactly sheet ws g zeros view).0 refl)
     where
-      go : AnswerBy (view_table sheet ws g zeros) view → Said (show_rows sheet text group) (unread o m)
-      go (inl (a, e)) = inl (a, ap (said (unread o m)) e ∙ (sheet_first o m).0)
-      go (inr (n, inl (a, e))) = inr (n, inl (a, ap (said (unread o m)) e ∙ (sheet_first o m).1))
+      go : AnswerBy (view_table sheet ws g zeros) view → Said (show_rows sheet text group) (other_number (unread o m))
+      go (inl (a, e)) = inl (a, ap (said (other_number (unread o m))) e ∙ (sheet_first o m).0)
+      go (inr (n, inl (a, e))) = inr (n, inl (a, ap (said (other_number (unread o m))) e ∙ (sheet_first o m).1))
       go (inr (n, inr (l, h))) = inr (n, inr (l, k h))
 
   -- a group that isn't of its form
@@ -106,16 +107,16 @@ module _ (sheet text group ws : List ℕ) (g : ℕ) where
 
   -- a group that is
   module _ (i : IsGroup group g) where
-    three_first : (m : Read (List ℕ)) → said (unread (some g) m) (refused_view zeros 3) ≡ number_line 3
-    unfolding view_text earlier rank_of as_text unread
+    three_first : (m : Read (List ℕ)) → said (other_number (unread (Some g) m)) (refused_view zeros 3) ≡ number_line 3
+    unfolding view_text earlier rank_of as_text unread other_number
     three_first bad = refl
     three_first (got us r) = refl
 
     on_group : (m : Read (List ℕ))
-        → (Seen past_3 → Said (memory_rows sheet text group) (unread (some g) m)) → Seen past_2
-        → Said (group_rows sheet text group) (unread (some g) m)
+        → (Seen past_3 → Said (memory_rows sheet text group) (other_number (unread (Some g) m))) → Seen past_2
+        → Said (group_rows sheet text group) (other_number (unread (Some g) m))
     unfolding First
-    on_group m k (inl (a, e)) = inl (inr (g, i, a), ap (said (unread (some g) m)) e ∙ three_first m)
+    on_group m k (inl (a, e)) = inl (inr (g, i, a), ap (said (other_number (unread (Some g) m))) e ∙ three_first m)
     on_group m k (inr (n, h)) =
         inr (⊎_elim (λ l. l g i) (λ o. n (subst (Strangers sheet) (one_group i o.1) o.2)), k h)
 
@@ -144,7 +145,7 @@ module _ (sheet text group ws : List ℕ) (g : ℕ) where
 -- what show prints, by what its texts are read as
 module _ (sheet text group : List ℕ) where
   abbrev printed : Option ℕ → Read (List ℕ) → List ℕ
-  printed o m = said (unread o m) (view_of sheet (words_read m) (get_or o 0) (replicate (length (words_read m)) 0))
+  printed o m = said (other_number (unread o m)) (view_of sheet (words_read m) (unwrap_or o 0) (replicate (length (words_read m)) 0))
 
   show_by : show_of sheet text group ≡ printed (group_of group) (memory text)
   unfolding show_of viewed given_of given_from
@@ -152,18 +153,18 @@ module _ (sheet text group : List ℕ) where
 
   by_texts : (o : Option ℕ) → group_of group ≡ o → (m : Read (List ℕ)) → memory text ≡ m
       → AnswerBy (show_table sheet text group) (printed o m)
-  unfolding words_read unread
-  by_texts none e m q =
-      on_sheet_lem sheet text group (words_read m) 0 none m
-      (no_group sheet text group (words_read m) 0 (λ g i. none_some (sym e ∙ (group_exact group g).1 i)))
-  by_texts (some g) e bad q =
-      on_sheet_lem sheet text group [] g (some g) bad
+  unfolding words_read unread other_number
+  by_texts None e m q =
+      on_sheet_lem sheet text group (words_read m) 0 None m
+      (no_group sheet text group (words_read m) 0 (λ g i. none-some _ (sym e ∙ (group_exact group g).1 i)))
+  by_texts (Some g) e bad q =
+      on_sheet_lem sheet text group [] g (Some g) bad
       (on_group sheet text group [] g ((group_exact group g).0 e) bad
       (no_memory sheet text group [] g ((group_exact group g).0 e)
       (λ us i. not_bad us [] (sym q ∙ (memory_exact us text).1 i))))
-  by_texts (some g) e (got ws r) q =
+  by_texts (Some g) e (got ws r) q =
       let s = memory-sound ws text r q in
-      on_sheet_lem sheet text group ws g (some g) (got ws r)
+      on_sheet_lem sheet text group ws g (Some g) (got ws r)
       (on_group sheet text group ws g ((group_exact group g).0 e) (got ws r)
       (on_memory sheet text group ws g ((group_exact group g).0 e) (s.0, s.1)))
 

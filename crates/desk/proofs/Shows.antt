@@ -10,7 +10,7 @@ use Rattle.stages.specs.Answers.{Viewed}
 use Rattle.stages.specs.Calls.{view_of}
 use Rattle.memory_text.specs.Sizes.{memory_words}
 use Rattle.desk.specs.declared.Given.{Given}
-use Rattle.desk.specs.Numbers.{earlier, as_text}
+use Rattle.desk.specs.Numbers.{other_number, earlier, as_text}
 use Rattle.desk.specs.Given.{given_words}
 use Rattle.desk.specs.Internal.Post.{Whole}
 use Rattle.desk.specs.Output.{number_line}
@@ -27,7 +27,7 @@ take-zeros (suc n) (suc m) h = ap {B = List ℕ} (λ (l : List ℕ). 0 ∷ l) (t
 module _ (sheet : List ℕ) (g : Given) (answer : ℕ) (view : List ℕ) (w : Whole g)
     (e : ◌≡◌ {A = Viewed} (record { answer = answer; view = view })
     (view_of sheet (given_words g) g.group (take g.count (replicate memory_words 0))))
-    (k : ℕ) (ek : k ≡ earlier (as_text answer) g.other) where
+    (k : ℕ) (ek : k ≡ earlier (as_text answer) (other_number g.other)) where
   view_is : viewed sheet g ≡ view_text k view
   unfolding viewed
   view_is =

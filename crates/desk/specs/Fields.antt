@@ -1,6 +1,5 @@
 -- A text of one line and one field: a group (the scope, the program show).
-use Rattle.std.specs.Prelude.{ℕ, Bool, false, cond, List, [], ◌∷◌, eqb, length}
-use Rattle.std.proofs.Math.Option.{Option, none, some}
+use Rattle.std.specs.Prelude.{ℕ, Bool, false, cond, List, [], ◌∷◌, Option, Some, None, eqb, length}
 use Rattle.text.specs.Reading.{Read}
 use Rattle.text.specs.Reading.Read.{got, bad}
 use Rattle.text.specs.Set.{hex_set}
@@ -13,8 +12,8 @@ closed (c ∷ t) = both (eqb c 10) (eqb (length t) 0)
 
 -- a field that is the whole of its line, and of the text
 unfoldable pub only_field : Read ℕ → Option ℕ
-only_field (got v t) = cond (closed t) (some v) none
-only_field bad = none
+only_field (got v t) = cond (closed t) (Some v) None
+only_field bad = None
 
 -- a group: four digits and byte 10
 unfoldable pub group_of : List ℕ → Option ℕ

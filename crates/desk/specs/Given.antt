@@ -1,6 +1,6 @@
 -- What show takes from the texts of a memory and of a group.
-use Rattle.std.specs.Prelude.{ℕ, List, [], length, take}
-use Rattle.std.proofs.Math.Option.{Option, get_or}
+use Rattle.std.specs.Prelude.{ℕ, List, [], Option, length, take}
+use Rattle.std.specs.Option.{unwrap_or}
 use Rattle.text.specs.Reading.{Read}
 use Rattle.text.specs.Reading.Read.{got, bad}
 use Rattle.sheet.specs.Padding.{padded}
@@ -15,12 +15,12 @@ unfoldable pub words_read : Read (List ℕ) → List ℕ
 words_read (got ws _) = ws
 words_read bad = []
 
--- A text that isn't of its form stands for no location, or for the empty group, and has the number 8 or 3.
+-- A text that isn't of its form stands for no location, or for the empty group, and is refused for it.
 unfoldable pub given_from : Read (List ℕ) → Option ℕ → Given
 given_from m g = record {
   words = padded memory_words (words_read m);
   count = length (words_read m);
-  group = get_or g 0;
+  group = unwrap_or g 0;
   other = unread g m;
 }
 

@@ -3,7 +3,7 @@ use Rattle.std.specs.Prelude.{ℕ, cond, List, eqb, length, replicate}
 use Rattle.memory_text.specs.Printing.{memory_text}
 use Rattle.stages.specs.Calls.{view_of}
 use Rattle.desk.specs.declared.Given.{Given}
-use Rattle.desk.specs.Numbers.{earlier, as_text}
+use Rattle.desk.specs.Numbers.{other_number, earlier, as_text}
 use Rattle.desk.specs.Given.{given_of, given_words}
 use Rattle.desk.specs.Output.{number_line}
 
@@ -16,7 +16,7 @@ unfoldable pub viewed : List ℕ → Given → List ℕ
 viewed sheet g =
     let words = given_words g in
     let v = view_of sheet words g.group (replicate (length words) 0) in
-    view_text (earlier (as_text v.answer) g.other) v.view
+    view_text (earlier (as_text v.answer) (other_number g.other)) v.view
 
 -- show's output
 unfoldable pub show_of : List ℕ → List ℕ → List ℕ → List ℕ

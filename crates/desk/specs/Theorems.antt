@@ -1,6 +1,5 @@
 -- What is shown of the output of the program show.
-use Rattle.std.specs.Prelude.{ℕ, ◌*◌, ◌≤◌, ◌≡◌, ◌↔◌, List, length, take}
-use Rattle.std.proofs.Math.Option.{some}
+use Rattle.std.specs.Prelude.{ℕ, ◌*◌, ◌≤◌, ◌≡◌, ◌↔◌, List, Some, length, take}
 use Rattle.numbers.specs.Rows.{numbers}
 use Rattle.numbers.specs.Calls.{AnswerBy}
 use Rattle.simp.specs.Judgements.{view_rows}
@@ -14,7 +13,7 @@ use Rattle.desk.specs.Inputs.{shown_for, show_held}
 
 -- a group is four digits and byte 10
 abbrev pub GroupExact : Type 0
-GroupExact = (t : List ℕ) (g : ℕ) → (group_of t ≡ some g) ↔ IsGroup t g
+GroupExact = (t : List ℕ) (g : ℕ) → (group_of t ≡ Some g) ↔ IsGroup t g
 
 -- The list by which show orders the refusals is the order of a view's table.
 abbrev pub SameOrder : Type 0

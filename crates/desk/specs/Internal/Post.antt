@@ -1,16 +1,9 @@
 -- What the functions over what was read and what is put require and ensure.
 use Rattle.std.specs.Prelude.{◌≡◌, List, ℕ, ◌%◌, ◌≤◌, length}
-use Rattle.std.proofs.Math.Option.{Option, Option-elim}
 use Rattle.std.proofs.lemmas.List.Edits.{sets}
 use Rattle.language.specs.World.{cell_words}
 use Rattle.memory_text.specs.Sizes.{memory_words}
 use Rattle.desk.specs.declared.Given.{Given}
-use Rattle.desk.specs.declared.Group.{Group}
-use Rattle.desk.specs.declared.Group.TheVariants as group
-
--- what a group's text is parsed to
-abbrev pub parsed_group : Option ℕ → Group
-parsed_group o = Option-elim o group.Refused (λ m. group.Read m)
 
 -- whole locations, at most 64
 pub record Whole (g : Given) : Type 0 where

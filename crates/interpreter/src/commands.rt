@@ -3,7 +3,7 @@ ghost use Rattle.std.specs.Prelude.{◌≡◌, ◌+◌, MatchResult};
 ghost use Rattle.script.specs.Internal.Code.{row_at};
 ghost use Rattle.evaluator.specs.declared.Stop.TheVariants.{Spent};
 ghost use Rattle.evaluator.specs.Internal.Given.{setting_of, place_in};
-ghost use Rattle.interpreter.specs.Internal.Post.{stepped, decided, Execs, Assigns, Decides, Branches};
+ghost use Rattle.interpreter.specs.Internal.Post.{executed, decided, Execs, Assigns, Decides, Branches};
 
 use evaluator::{LOCATIONS, Stop, WORK, World};
 use script::{ROW, skip};
@@ -32,7 +32,7 @@ fn assign(
     x: u32,
 ) -> Result<usize, Stop>
     ensures { Assigns (setting_of world.now) (place_in world.now at depth work.old)
-        fuel.old x (stepped result fuel.new) work.new }
+        fuel.old x (executed result fuel.new) work.new }
 {
     let left = tick(*fuel)?;
     let end = world.eval(at, depth, work)?;
@@ -99,7 +99,7 @@ pub(crate) fn exec(
     fuel: &mut u32,
 ) -> Result<usize, Stop>
     ensures { Execs (setting_of world.now) (place_in world.now at depth work.old)
-        fuel.old (stepped result fuel.new) work.new }
+        fuel.old (executed result fuel.new) work.new }
 {
     let row = script::row_at(world.code, at);
     match row.kind {
@@ -123,7 +123,7 @@ fn sequence(
 ) -> Result<usize, Stop>
     requires { (row_at world.now.code.now at).kind ≡ 2 }
     ensures { Execs (setting_of world.now) (place_in world.now at depth work.old)
-        fuel.old (stepped result fuel.new) work.new }
+        fuel.old (executed result fuel.new) work.new }
 {
     let second = exec(world, at + ROW, depth, work, fuel)?;
     *fuel = tick(*fuel)?;
@@ -141,7 +141,7 @@ fn repeat(
 ) -> Result<usize, Stop>
     requires { (row_at world.now.code.now at).kind ≡ 4 }
     ensures { Execs (setting_of world.now) (place_in world.now at depth work.old)
-        fuel.old (stepped result fuel.new) work.new }
+        fuel.old (executed result fuel.new) work.new }
 {
     // where the last round ended
     let mut last = None;
@@ -170,7 +170,7 @@ fn select(
 ) -> Result<usize, Stop>
     requires { (row_at world.now.code.now at).kind ≡ 5 }
     ensures { Execs (setting_of world.now) (place_in world.now at depth work.old)
-        fuel.old (stepped result fuel.new) work.new }
+        fuel.old (executed result fuel.new) work.new }
 {
     let (side, start) = branch(world, at + ROW, depth, work, fuel)?;
     let end = exec(world, start, depth + 1, work, fuel)?;

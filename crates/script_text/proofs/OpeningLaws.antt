@@ -27,7 +27,7 @@ use Rattle.script.specs.Names.{max_lines}
 use Rattle.script_text.specs.Bytes.{line_bytes, lines_bytes, start_bytes, opening_bytes}
 use Rattle.script_text.specs.Reading.{line_of, last_label, start_read, opening_of, written_with, lines_after}
 use Rattle.script_text.specs.Reading.{written_of}
-use Rattle.script_text.specs.Internal.Decoded.{start_of, coded, coded_lines, coded_text}
+use Rattle.script_text.specs.Internal.Decoded.{started_at, coded, coded_lines, coded_text}
 use Rattle.script_text.specs.Internal.Placed.{placed_opening}
 use Rattle.script_text.proofs.FoundLaws.{map_map, map_some, map_none}
 
@@ -125,17 +125,17 @@ start_read_lem e h = rw (e, h)
 
 module _ (s : List ℕ) where
   -- the answer, by that to the start
-  placed-start : placed_opening s (opening_of s) ≡ option_map (λ r. (start_of r.0, r.1)) (placed s (start_read s))
+  placed-start : placed_opening s (opening_of s) ≡ option_map (λ r. (started_at r.0, r.1)) (placed s (start_read s))
   unfolding opening_of
   placed-start =
-      ap (option_map (λ (r : Opening × ℕ). (start_of r.0.start, r.1)))
+      ap (option_map (λ (r : Opening × ℕ). (started_at r.0.start, r.1)))
       (placed_map s (start_read s) (λ x. record { start = x }))
       ∙ map_map _ _ _
 
   no_start : start_read s ≡ got none s → placed_opening s (opening_of s) ≡ Some (None, 0)
-  unfolding start_of
+  unfolding started_at
   no_start e =
-      placed-start ∙ ap (option_map (λ (r : Option ℕ × ℕ). (start_of r.0, r.1)))
+      placed-start ∙ ap (option_map (λ (r : Option ℕ × ℕ). (started_at r.0, r.1)))
       (placed_got s (start_read s) none 0 e (omega arith))
 
   pub opening_empty : length s ≡ 0 → placed_opening s (opening_of s) ≡ Some (None, 0)
@@ -151,27 +151,27 @@ module _ (s : List ℕ) where
     pub opening_label : get_or s 0 0 ≡ 98
         → placed_opening s (opening_of s)
         ≡ option_map (λ r. (Some r.0, r.1)) (placed s (last_number last_label (drop 1 s)))
-    unfolding start_of
+    unfolding started_at
     opening_label b =
         placed-start
-        ∙ ap (λ (x : Read (Option ℕ)). option_map (λ (r : Option ℕ × ℕ). (start_of r.0, r.1)) (placed s x))
+        ∙ ap (λ (x : Read (Option ℕ)). option_map (λ (r : Option ℕ × ℕ). (started_at r.0, r.1)) (placed s x))
         (start_read_lem front (eq-eqb _ _ b))
-        ∙ ap (option_map (λ (r : Option ℕ × ℕ). (start_of r.0, r.1)))
+        ∙ ap (option_map (λ (r : Option ℕ × ℕ). (started_at r.0, r.1)))
         (placed_map s (last_number last_label (drop 1 s)) (λ l. some l))
         ∙ map_map _ _ _
 
   -- ---- what follows from an answer
 
   -- how many lines an opening takes, by its answer
-  lines_of_start : (x : Option ℕ) → start_lines x ≡ bool_byte (is_some (start_of x))
-  unfolding start_lines start_of
+  lines_of_start : (x : Option ℕ) → start_lines x ≡ bool_byte (is_some (started_at x))
+  unfolding start_lines started_at
   lines_of_start none = refl
   lines_of_start (some l) = refl
 
   -- the lines after an opening, with its start
   coded-after : (o : Opening) (ls : Option (List ScriptLine))
       → coded_text (written_with o ls)
-      ≡ option_map (λ r. (record { count = r.0; start = start_of o.start }, r.1)) (coded_lines ls)
+      ≡ option_map (λ r. (record { count = r.0; start = started_at o.start }, r.1)) (coded_lines ls)
   unfolding coded_text coded_lines written_with coded
   coded-after o none = refl
   coded-after o (some ls) = refl
@@ -183,8 +183,8 @@ module _ (s : List ℕ) where
         ≡ option_map (λ r. (record { count = r.0; start = x }, r.1)) (coded_lines (lines_up_to line_of n (drop p s)))
     unfolding written_of lines_after
     decode_after x p e b i n m =
-        map_some (λ (r : Opening × ℕ). (start_of r.0.start, r.1)) (placed s (opening_of s)) (x, p) e (λ r g h.
-        let a : start_of r.0.start ≡ x = sym (ap (λ (y : Optional ℕ × ℕ). y.0) h) in
+        map_some (λ (r : Opening × ℕ). (started_at r.0.start, r.1)) (placed s (opening_of s)) (x, p) e (λ r g h.
+        let a : started_at r.0.start ≡ x = sym (ap (λ (y : Optional ℕ × ℕ). y.0) h) in
         let q : r.1 ≡ p = sym (ap (λ (y : Optional ℕ × ℕ). y.1) h) in
         let y = placed_at s 0 (opening_of s) (opening_within s) r.0 r.1 g in
         let c : max_lines - opening_lines r.0 ≡ n = rw (lines_of_start r.0.start, a, m, i) refl in

@@ -21,7 +21,7 @@ use Rattle.script.specs.Names.{Counts, named, named_start, named_opening}
 use Rattle.sheet.specs.Sheet.{max_labels}
 use Rattle.sheet.specs.Padding.{padded}
 use Rattle.sheet.specs.Internal.Starts.{start_no}
-use Rattle.script_text.specs.Internal.Decoded.{code_words, start_of, coded, coded_text, decoded_script}
+use Rattle.script_text.specs.Internal.Decoded.{code_words, started_at, coded, coded_text, decoded_script}
 use Rattle.script_text.specs.declared.Decoded.{Decoded}
 use Rattle.script_text.specs.Reading.{Written, written_of}
 use Rattle.script_text.specs.Script.{command_of, script_with, script_read, script_of}
@@ -102,8 +102,8 @@ unfolding padded
 coded_code ls = take_at (code ls) _ (length ls * 3) (code_length ls)
 
 -- the label that a script starts at, and its number
-pub start_number : (x : Option ℕ) → unwrap_or (start_of x) max_labels ≡ start_no x
-unfolding start_of start_no
+pub start_number : (x : Option ℕ) → unwrap_or (started_at x) max_labels ≡ start_no x
+unfolding started_at start_no
 start_number none = refl
 start_number (some l) = refl
 
@@ -129,8 +129,8 @@ script_coded k t p e = coded_script k (written_of t) (is_some_lem _ p e)
 -- ---- what a text is parsed to
 
 -- what is tested of a start that is read is whether it is there
-start_tested : (k : Counts) (x : Option ℕ) → start_there k.labels (start_of x) ≡ named_start k x
-unfolding start_of start_there named_start
+start_tested : (k : Counts) (x : Option ℕ) → start_there k.labels (started_at x) ≡ named_start k x
+unfolding started_at start_there named_start
 start_tested k none = refl
 start_tested k (some l) = refl
 
@@ -184,7 +184,7 @@ pub read_split : {P : Type 0} (k : Counts) (t : List ℕ) (r : Optional Decoded)
     → (script_of k t ≡ none → r ≡ None → P)
     → ((p : Script) (d : Decoded) → script_of k t ≡ some p → Source p.command → named k 0 p.command ≡ true
     → r ≡ Some d
-    → take (d.count * 3) w ≡ code (cmd_lines p.command []) → d.start ≡ start_of p.opening.start → P)
+    → take (d.count * 3) w ≡ code (cmd_lines p.command []) → d.start ≡ started_at p.opening.start → P)
     → P
 unfolding decoded_script coded
 read_split {P} k t r w e f g = go (script_of k t) r refl e refl

@@ -49,8 +49,8 @@ pub record Stepped : Type 0 where
   pub left : ℕ
   pub next : ℕ
 
-abbrev pub stepped : Result ℕ Stop → ℕ → Stepped
-stepped r left = record { state = state_number r; left = left; next = place_of r }
+abbrev pub executed : Result ℕ Stop → ℕ → Stepped
+executed r left = record { state = state_number r; left = left; next = place_of r }
 
 -- How the run of a command ends, by its state's number: done, with the memory in the cells and the place after
 -- the command; the budget used up; a value too long. Where no rule applies nothing is promised: no accepted

@@ -24,9 +24,9 @@ unfoldable pub no_code : List ℕ
 no_code = replicate code_words 0
 
 -- the label that a script starts at, as the code holds it
-unfoldable pub start_of : maybe.Option ℕ → Option ℕ
-start_of maybe.none = None
-start_of (maybe.some l) = Some l
+unfoldable pub started_at : maybe.Option ℕ → Option ℕ
+started_at maybe.none = None
+started_at (maybe.some l) = Some l
 
 -- lines as they are decoded: how many they are, and the lent words with their code
 unfoldable pub coded_lines : maybe.Option (List ScriptLine) → Option (ℕ × List ℕ)
@@ -35,7 +35,7 @@ coded_lines (maybe.some ls) = Some (length ls, padded code_words (code ls))
 
 -- lines after a start: how many they are and that start, and the lent words with their code
 unfoldable pub coded : maybe.Option ℕ → List ScriptLine → Decoded × List ℕ
-coded x ls = (record { count = length ls; start = start_of x }, padded code_words (code ls))
+coded x ls = (record { count = length ls; start = started_at x }, padded code_words (code ls))
 
 -- what is written in a text
 unfoldable pub coded_text : maybe.Option Written → Option (Decoded × List ℕ)

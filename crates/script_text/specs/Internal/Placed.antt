@@ -6,7 +6,7 @@ use Rattle.language.specs.Syntax.{Opening}
 use Rattle.script.specs.declared.Row.{Row}
 use Rattle.script.specs.Lines.{ScriptLine}
 use Rattle.script.specs.Internal.Code.{row_of}
-use Rattle.script_text.specs.Internal.Decoded.{start_of}
+use Rattle.script_text.specs.Internal.Decoded.{started_at}
 
 -- a line that is read in s, with the place after it
 abbrev pub placed_line : List ℕ → Read ScriptLine → Option (Row × ℕ)
@@ -14,4 +14,4 @@ placed_line s want = option_map (λ r. (row_of r.0, r.1)) (placed s want)
 
 -- an opening that is read in s: the label that it starts at, and the place after it
 abbrev pub placed_opening : List ℕ → Read Opening → Option (Option ℕ × ℕ)
-placed_opening s want = option_map (λ r. (start_of r.0.start, r.1)) (placed s want)
+placed_opening s want = option_map (λ r. (started_at r.0.start, r.1)) (placed s want)

@@ -189,7 +189,8 @@ module _ {ws : List ℕ} {at : ℕ} {t : List ℕ} {b : Bindings} {pc : ℕ} {ro
         (λ k room rest e p f r g u w names.
         let ns = case_names k b.depth e f g names in
         let me = cx.means e (cmd_lines f (cmd_lines g rest)) p w room in
-        let mf = cy.means k f (cmd_lines g rest) r me.1 (rw el ns.1) (rw el (entered_within b m x.label shallow long)) in
+        let mf = cy.means k f (cmd_lines g rest) r me.1 (rw el ns.1)
+        (rw el (entered_within b m x.label shallow long)) in
         let mg = cz.means k g rest u mf.1 (rw (er, upto₃.depth) ns.2)
         (rw er (entered_within b₃ n x.label shallow₃ long₃)) in (
           pass_case t _ pc _ me.0
@@ -210,7 +211,8 @@ module _ {ws : List ℕ} {at : ℕ} {t : List ℕ} {b : Bindings} {pc : ℕ} {ro
         upto₆ : Kept b₃ b₆
         upto₆ = rw lr (kept_left b₃ n x.label shallow₃ long₃ (rw er at cz.kept))
 
-        pass_kept_more : Kept b b₃ → {c : Cmd} → Passes t (n ∷ bound_types b₃) (union pc x.label) (x.label ∷ bound_labels b₃) c z
+        pass_kept_more : Kept b b₃ → {c : Cmd}
+            → Passes t (n ∷ bound_types b₃) (union pc x.label) (x.label ∷ bound_labels b₃) c z
             → Passes t (n ∷ bound_types b) (union pc x.label) (x.label ∷ bound_labels b) c z
         pass_kept_more k p = record {
           typed_is = rw (← k.types) p.typed_is;

@@ -21,7 +21,7 @@ pub(crate) struct Bindings {
 }
 
 impl Bindings {
-    ghost use Rattle.std.specs.Prelude.{◌≡◌, ◌<◌, ◌-◌};
+    ghost use Rattle.std.specs.Prelude.{◌≡◌, ◌<◌};
     ghost use Rattle.script.specs.Names.{max_depth};
     ghost use Rattle.checker.specs.Internal.Bindings.{Within, enter_of, leave_of, var_typed};
 

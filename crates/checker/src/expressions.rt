@@ -8,8 +8,8 @@ use checks::expressions::{
     no_type, of_int, of_location, of_pack, of_pair, of_part, of_plus, of_sum, of_unpack,
 };
 
-// Checks the expression whose lines start at the word `at`, below the cases that bind. The code and the table are handed
-// over apart: in a struct of both the table's length is no longer a constant, and a check takes up to 9 % more.
+// Checks the expression whose lines start at the word `at`, below the cases that bind. The code and the table are
+// handed over apart: in a struct of both the table's length is no longer a constant, and a check takes up to 9 % more.
 #[cycle(expression)]
 pub(crate) fn check_expr(code: &[u32], at: usize, table: &[sheet::Word], bound: &Bindings) -> Typed
     ensures { ChecksExpr code.now at table.now bound.now result }

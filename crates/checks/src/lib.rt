@@ -4,6 +4,8 @@
 pub mod expressions; // expressions.rt: an expression's type and least label
 pub mod commands; // commands.rt: whether a command passes
 
+ghost use Rattle.std.specs.Prelude.{◌≡◌};
+
 use members::Members;
 
 // What holds of all lines that were checked: their label conditions, and what trust-keeping asks of each unpack, an
@@ -15,7 +17,6 @@ pub struct Holds {
 }
 
 impl Holds {
-    ghost use Rattle.std.specs.Prelude.{◌≡◌};
     ghost use Rattle.checks.specs.Internal.Nodes.{both_held};
 
     // Where nothing is asked, both hold.
@@ -48,7 +49,6 @@ pub struct Typed {
 }
 
 impl Typed {
-    ghost use Rattle.std.specs.Prelude.{◌≡◌};
     ghost use Rattle.checks.specs.Internal.Nodes.{plain_typed};
 
     // An expression of a type, in which nothing is asked.
@@ -74,7 +74,6 @@ pub struct Passed {
 }
 
 impl Passed {
-    ghost use Rattle.std.specs.Prelude.{◌≡◌};
     ghost use Rattle.checks.specs.Internal.Nodes.{plain_passed};
 
     // A command in which nothing is asked.

@@ -141,7 +141,8 @@ module _ (t : List ℕ) (c : Label) where
   all_pass m =
       let labels = restrict max_labels m in
       ap (both BottomPasses) (passes_from labels 0 max_members)
-      ∙ sym (implied_past BottomPasses (place_passes labels 0) max_labels max_members (omega arith) (λ q k w b. past q k))
+      ∙ sym (implied_past BottomPasses (place_passes labels 0) max_labels max_members (omega arith)
+      (λ q k w b. past q k))
       ∙ ap (both BottomPasses) (every_same max_labels _ _ same) ∙ sym (labels_pass m)
     where
       past : (q : ℕ) → max_labels ≤ q → place_passes (restrict max_labels m) 0 q ≡ true

@@ -86,3 +86,9 @@ check_expr-returns-in_default t c =
       | check_expr-in_default-via-else-kind-lt6+else-kind-lt17 w ↦ omega (arith, h.1)
     ])
     c.no_type-in_default.ensures
+
+pub check_added-returns : goal.check_added-returns
+check_added-returns t c = (c.check_expr-y.result, c.check_expr-y.ensures, c.of_plus.ensures)
+
+pub check_paired-returns : goal.check_paired-returns
+check_paired-returns t c = (c.check_expr-y.result, c.check_expr-y.ensures, c.of_pair.ensures)

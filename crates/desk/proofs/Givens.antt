@@ -56,7 +56,8 @@ given_words_lem m g =
     take_at (words_read m) (replicate (memory_words - length (words_read m)) 0) (length (words_read m)) refl
 
 -- what is given, by what the texts are read as
-pub given_is : (text : List ℕ) (m : Option Memory) → m ≡ parsed_memory text → (o : Option ℕ) (r : Memory) (k : Option Refusal)
+pub given_is : (text : List ℕ) (m : Option Memory) → m ≡ parsed_memory text
+    → (o : Option ℕ) (r : Memory) (k : Option Refusal)
     → r ≡ unwrap_or m (record { count = 0; words = replicate memory_words 0 })
     → k ≡ unread o (memory text)
     → ◌≡◌ {A = Given}

@@ -87,7 +87,8 @@ module _ (sheet text group ws : List ℕ) (g : ℕ) where
   sheet_first (Some a) bad = (refl, refl)
   sheet_first (Some a) (got us r) = (refl, refl)
 
-  on_sheet_lem : (o : Option ℕ) (m : Read (List ℕ)) → (Seen past_2 → Said (group_rows sheet text group) (other_number (unread o m)))
+  on_sheet_lem : (o : Option ℕ) (m : Read (List ℕ))
+      → (Seen past_2 → Said (group_rows sheet text group) (other_number (unread o m)))
       → Said (show_rows sheet text group) (other_number (unread o m))
   unfolding First
   on_sheet_lem o m k = go ((view-exactly sheet ws g zeros view).0 refl)
@@ -145,7 +146,9 @@ module _ (sheet text group ws : List ℕ) (g : ℕ) where
 -- what show prints, by what its texts are read as
 module _ (sheet text group : List ℕ) where
   abbrev printed : Option ℕ → Read (List ℕ) → List ℕ
-  printed o m = said (other_number (unread o m)) (view_of sheet (words_read m) (unwrap_or o 0) (replicate (length (words_read m)) 0))
+  printed o m =
+      said (other_number (unread o m))
+          (view_of sheet (words_read m) (unwrap_or o 0) (replicate (length (words_read m)) 0))
 
   show_by : show_of sheet text group ≡ printed (group_of group) (memory text)
   unfolding show_of viewed given_of given_from

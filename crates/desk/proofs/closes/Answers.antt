@@ -8,4 +8,5 @@ pub returns-then-s-p-eq10 : goal.returns-then-s-p-eq10
 returns-then-s-p-eq10 c = grind (arith, common_steps, closed_here c.args.s.now c.args.p)
 
 pub returns-else-s-p-eq10 : goal.returns-else-s-p-eq10
-returns-else-s-p-eq10 c = grind (arith, common_steps, closed_past c.args.s.now c.args.p, closed_other c.args.s.now c.args.p)
+returns-else-s-p-eq10 c =
+    grind (arith, common_steps, closed_past c.args.s.now c.args.p, closed_other c.args.s.now c.args.p)

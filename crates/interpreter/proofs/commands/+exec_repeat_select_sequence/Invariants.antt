@@ -1,5 +1,5 @@
--- The rows left, twice: `exec` lies above the others, which it calls at its own row. Of a loop: no round ended before the
--- loop's own line, and what the loop ends with from here, it ends with from the start; each round costs a step.
+-- The rows left, twice: `exec` lies above the others, which it calls at its own row. Of a loop: no round ended before
+-- the loop's own line, and what the loop ends with from here, it ends with from the start; each round costs a step.
 use Rattle.std.proofs.Common.{ℕ, ◌+◌, ◌*◌, ◌≤◌, List}
 use Rattle.script.specs.Internal.Code.{rows_left}
 use Rattle.interpreter.specs.Internal.Post.{Stepped, Execs}

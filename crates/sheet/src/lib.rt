@@ -202,7 +202,6 @@ fn kind_of(right_word: u32) -> Kind
 }
 
 // Whether a number names a type of a kind.
-#[tactic(auto, unfolding(logic::specs::Booleans::both, crate::specs::Internal::Tables::kind_in, crate::specs::Internal::TypeTest::is_of, crate::specs::Sheet::same_kind))]
 fn is_of(table: &[Word], kind: Kind, ty: u32) -> bool
     ensures { result ≡ is_of table.now kind ty }
 {
@@ -307,7 +306,6 @@ pub fn below(table: &[Word], l: u32, m: u32) -> bool
 }
 
 // Whether a group reads label l by the pooled rule.
-#[tactic(auto, unfolding(crate::specs::Internal::Tables::label_in, labels::specs::Internal::Tables::label_at, labels::specs::Labels::reads_pooled_of))]
 fn reads_pooled(table: &[Word], group: Set, l: u32) -> bool
     ensures { result ≡ reads_pooled_of (principals_in table.now) group (label_in table.now l) }
 {
@@ -334,7 +332,6 @@ pub fn sole_readers(table: &[Word], l: u32) -> Set
 }
 
 // Whether a group reads label l, by the sheet's rule.
-#[tactic(auto, using(labels::proofs::SoleLaws::meets_sole), unfolding(crate::specs::Internal::Tables::reads_in, labels::specs::Labels::reads_under))]
 pub fn reads(table: &[Word], group: Set, l: u32) -> bool
     ensures { result ≡ reads_in table.now group l }
 {
@@ -345,7 +342,6 @@ pub fn reads(table: &[Word], group: Set, l: u32) -> bool
 }
 
 // Whether a group writes label l.
-#[tactic(auto, unfolding(crate::specs::Internal::Tables::writes_in, crate::specs::Internal::Tables::label_in, labels::specs::Internal::Tables::label_at, labels::specs::Labels::writes_of))]
 pub fn writes(table: &[Word], group: Set, l: u32) -> bool
     ensures { result ≡ writes_in table.now group l }
 {

@@ -1,7 +1,7 @@
 // What is stored in a table where its sheet grows, a line at a time, each behind what is there. A table without room
 // for more stays as it is. That what a line names is there is for the caller to see.
-ghost use Rattle.std.specs.Prelude.{◌≡◌, ◌+◌, ◌*◌, ◌<◌, ◌≤◌};
-ghost use Rattle.sheet.specs.Internal.Tables.{table_words, right_word};
+ghost use Rattle.std.specs.Prelude.{◌≡◌};
+ghost use Rattle.sheet.specs.Internal.Tables.{right_word};
 ghost use Rattle.sheet.specs.Internal.Writers.{low, principals_put, rule_put, entry_put, compound_put};
 ghost use Rattle.sheet.specs.Internal.Writers.{location_put, open_put, policy_put};
 

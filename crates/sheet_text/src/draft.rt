@@ -1,5 +1,5 @@
-// From a sheet's lines to its table, a line at a time. Beside the table the code holds the least owner that a policy may
-// have next; there is none where the lines are not of the right form, and then nothing is said of the table.
+// From a sheet's lines to its table, a line at a time. Beside the table the code holds the least owner that a policy
+// may have next; there is none where the lines are not of the right form, and then nothing is said of the table.
 ghost use Rattle.std.specs.Prelude.{◌≡◌, true, replicate};
 ghost use Rattle.sheet.specs.Sheet.{Sheet, formed};
 ghost use Rattle.sheet.specs.Internal.Tables.{table_words, table_of};

@@ -107,8 +107,8 @@ add-answer : (u w : Value) (n m s : ℕ) (words : List ℕ) → words ≡ cell (
     → m ≡ get_or (cell w) 1 0 → s ≡ (n + m) % 2 ^ 32 → Yields (add u w) 0 words
 unfolding Yields add add_to fit fit_if size cell enc
 add-answer (int a) (int b) n m s words e p q r =
-    (refl, e ∙ ap (λ (i : ℕ). cell (int i))
-        (r ∙ ap (λ (i : ℕ). (i + m) % 2 ^ 32) p ∙ ap (λ (i : ℕ). (a + i) % 2 ^ 32) q))
+    let sum = r ∙ ap (λ (i : ℕ). (i + m) % 2 ^ 32) p ∙ ap (λ (i : ℕ). (a + i) % 2 ^ 32) q in
+    (refl, e ∙ ap (λ (i : ℕ). cell (int i)) sum)
 add-answer (int a) (err b) n m s words e p q r = tt
 add-answer (int a) (inl w) n m s words e p q r = tt
 add-answer (int a) (inr w) n m s words e p q r = tt
@@ -187,7 +187,8 @@ module _ {before : List ℕ} where
 
 -- ---- unpack
 
-opened-error : (a b c : Bool) (v : Value) (e : ℕ) → e ≡ error_of a b c → (e ≡ 0 → ⊥) → opened a b c v ≡ ok (inr (err e))
+opened-error : (a b c : Bool) (v : Value) (e : ℕ) → e ≡ error_of a b c → (e ≡ 0 → ⊥)
+    → opened a b c v ≡ ok (inr (err e))
 unfolding opened error_of
 opened-error false b c v e p n = rw p refl
 opened-error true false c v e p n = rw p refl
@@ -269,8 +270,8 @@ module _ {S : Setting} (before : List ℕ) (t l : ℕ) where
       → Unpacks S t l before 0 after
   unpack-error e p s = unpack-error_by (error_number e) (error_some e) p s
 
-  module _ (p : 0 ≡ error_in S l (get_or before 1 0) (has_no S.table (value_of (drop 2 before)) (left_in S.table t)))
-      where
+  module _
+      (p : 0 ≡ error_in S l (get_or before 1 0) (has_no S.table (value_of (drop 2 before)) (left_in S.table t))) where
     unpack_done_at : (W : World) → Tells S W → l < labels_in S.table → (u : Value) (content : List ℕ)
         → cell_of before accumulator ≡ cell u
         → content ≡ push_of 3 (pop_of (pop_of (cell u))) → Yields (unpacked W t l u) 0 content
@@ -455,8 +456,8 @@ op_back (o_part second) = refl
 module _ (S : Setting) (row : Row) (before : List ℕ) (state : ℕ) (after : List ℕ) where
   pub applied_by : (o : Op) → row.kind ≡ op_kind o → MadeBy o S row before state after
       → Applied S row before state after
-  applied_by o k y =
-      λ j q. subst (λ i. MadeBy i S row before state after) (sym (op_back o) ∙ ap op_of (sym k ∙ q) ∙ op_back j) y
+  applied_by o k y = λ j q.
+      subst (λ i. MadeBy i S row before state after) (sym (op_back o) ∙ ap op_of (sym k ∙ q) ∙ op_back j) y
 
   -- a row of another kind
   pub applied_none : NoneOf row.kind 10 4 → (row.kind ≡ 15 → ⊥) → (row.kind ≡ 16 → ⊥) → Applied S row before state after

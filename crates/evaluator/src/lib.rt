@@ -44,7 +44,8 @@ impl fmt::Display for Stop {
 
 impl Error for Stop {}
 
-// What a run reads and leaves as it is: a script's code, a sheet's table, and the authority's powers by it.
+// What a run reads and leaves as it is: a script's code, a sheet's table, and the authority's powers by it. What it
+// changes, the cells and the budget, is lent beside it: each contract says of each what it leaves.
 #[derive(Clone, Copy)]
 pub struct World<'a> {
     pub code: &'a [u32],

@@ -199,7 +199,8 @@ pub(crate) fn pair(work: &mut [u32; WORK], first: &[u32; CELL]) -> Result<(), St
     Ok(())
 }
 
-// What a line of a kind with one operand, with the numbers a and b, makes of the value in the accumulator.
+// What a line of a kind with one operand, with the numbers a and b, makes of the value in the accumulator. It matches
+// on the kind's number, as the scope has it.
 pub(crate) fn applied(
     world: &World,
     kind: u32,

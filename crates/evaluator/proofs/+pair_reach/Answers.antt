@@ -23,9 +23,11 @@ pair-returns-in_err-v t c =
     (laws.eval-pair_end refl c.in_err-v.ensures (laws.stopped _) c.requires)
 
 pub pair-pair-requires : goal.pair-pair-requires
-pair-pair-requires t c =
-    (omega (arith, pair_within _ _ c.requires, c.in_ok-v.ensures.forward refl), rw c.row_at-next.ensures at
-    c.if-next-eq-PAIR.true)
+pair-pair-requires t c = (
+  omega (arith, pair_within _ _ c.requires, c.in_ok-v.ensures.forward refl),
+  rw c.row_at-next.ensures at
+      c.if-next-eq-PAIR.true,
+)
 
 pub pair-returns-in_err-w : goal.pair-returns-in_err-w
 pair-returns-in_err-w t c =
@@ -47,8 +49,7 @@ pub pair-returns-in_err-pair : goal.pair-returns-in_err-pair
 pair-returns-in_err-pair t c =
     rw (passed_on _ _ c.from_residual-in_err-pair.ensures)
     (laws.eval-pair_made refl c.in_ok-v.ensures refl {m = c.if-next-eq-PAIR.w} {before = c.if-next-eq-PAIR.work}
-    (elim c.if-next-eq-PAIR.branch
-    [
+    (elim c.if-next-eq-PAIR.branch [
       | pair-then-next-eq-PAIR+in_ok-w w ↦ rw (w.work-is, w.w-is) w.in_ok-w.ensures
       | pair-else-next-eq-PAIR+in_ok-w-2 w ↦ rw (w.work-is, w.w-is) w.in_ok-w-2.ensures
     ])
@@ -57,8 +58,7 @@ pair-returns-in_err-pair t c =
 pub pair-returns : goal.pair-returns
 pair-returns t c =
     laws.eval-pair_made refl c.in_ok-v.ensures refl {m = c.if-next-eq-PAIR.w} {before = c.if-next-eq-PAIR.work}
-    (elim c.if-next-eq-PAIR.branch
-    [
+    (elim c.if-next-eq-PAIR.branch [
       | pair-then-next-eq-PAIR+in_ok-w w ↦ rw (w.work-is, w.w-is) w.in_ok-w.ensures
       | pair-else-next-eq-PAIR+in_ok-w-2 w ↦ rw (w.work-is, w.w-is) w.in_ok-w-2.ensures
     ])

@@ -5,9 +5,30 @@ use desk::OUTPUT_ROOM;
 use sets::Set;
 use std::io;
 
-// The first n bytes of a buffer, on standard output.
-fn print(rt: &impl Print, out: &[u8], n: usize) -> io::Result<()> {
-    rt.write_all(desk::first(out, n))
+// A run on the memory of a text; bit p of an authority is principal p.
+#[derive(Clone, Copy)]
+struct Case<'a> {
+    name: &'a [u8],
+    sheet: &'a [u8],
+    script: &'a [u8],
+    memory: &'a [u8],
+    authority: Set,
+    budget: u32,
+}
+
+impl Case<'_> {
+    // The run: its answer and steps, and the memory as it then is.
+    fn run(&self, rt: &impl Print) -> io::Result<()> {
+        print_name(rt, self.name)?;
+        let Some(read) = memory_text::read_memory(self.memory) else {
+            return Ok(());
+        };
+        let mut words = read.words;
+        let words = &mut words[..read.count * memory::CELL];
+        let outcome = simp::simp_run(self.sheet, self.script, words, self.authority, self.budget);
+        println!(rt; "{}\t{}", outcome.answer, outcome.steps)?;
+        print_memory(rt, words)
+    }
 }
 
 fn print_name(rt: &impl Print, name: &[u8]) -> io::Result<()> {
@@ -15,46 +36,10 @@ fn print_name(rt: &impl Print, name: &[u8]) -> io::Result<()> {
     rt.write_all(b":\n")
 }
 
-// The answer and the steps of a run, on a line.
-fn print_outcome(rt: &impl Print, answer: u8, steps: u32) -> io::Result<()> {
-    println!(rt; "{answer}\t{steps}")
-}
-
 fn print_memory(rt: &impl Print, words: &[u32]) -> io::Result<()> {
     let mut out = [0u8; OUTPUT_ROOM];
     let n = memory_text::write::write_memory(words, &mut out);
-    print(rt, &out, n)
-}
-
-// A run: its answer and steps, and the memory as it then is.
-fn print_run(
-    rt: &impl Print,
-    sheet: &[u8],
-    script: &[u8],
-    words: &mut [u32],
-    authority: Set,
-    budget: u32,
-) -> io::Result<()> {
-    let o = simp::simp_run(sheet, script, words, authority, budget);
-    print_outcome(rt, o.answer, o.steps)?;
-    print_memory(rt, words)
-}
-
-// A run on the memory of a text; bit p of an authority is principal p.
-fn run_case(
-    rt: &impl Print,
-    name: &[u8],
-    sheet: &[u8],
-    script: &[u8],
-    memory: &[u8],
-    authority: Set,
-    budget: u32,
-) -> io::Result<()> {
-    print_name(rt, name)?;
-    let m = memory_text::read_memory(memory);
-    let mut words = m.words;
-    let n = m.count * memory::CELL;
-    print_run(rt, sheet, script, &mut words[..n], authority, budget)
+    rt.write_all(desk::first(&out, n))
 }
 
 // The view of the memory of a text.
@@ -68,33 +53,47 @@ fn show_case(
     print_name(rt, name)?;
     let mut out = [0u8; OUTPUT_ROOM];
     let n = desk::show(sheet, memory, group, &mut out);
-    print(rt, &out, n)
+    rt.write_all(desk::first(&out, n))
 }
 
 // The cases on the sheet of the scope.
 fn small_cases(rt: &impl Print, sheet: &[u8]) -> io::Result<()> {
-    let memory = b"1\t5\n1\t62\n4\t2\t1\n4\t2\t1\n";
-    run_case(rt, b"s, budget 0", sheet, b"s\n", memory, 0, 0)?;
-    run_case(rt, b"; s s, budget 0", sheet, b";\ns\ns\n", memory, 0, 0)?;
-    run_case(rt, b"; s s, budget 1", sheet, b";\ns\ns\n", memory, 0, 1)?;
-    run_case(
-        rt,
-        b"4294967295 + 1",
+    let idle = Case {
+        name: b"s, budget 0",
         sheet,
-        b"=\t0\n+\ni\t4294967295\ni\t1\n",
-        memory,
-        0,
-        1,
-    )?;
-    run_case(
-        rt,
-        b"unpack by 1",
+        script: b"s\n",
+        memory: b"1\t5\n1\t62\n4\t2\t1\n4\t2\t1\n",
+        authority: 0,
+        budget: 0,
+    };
+    idle.run(rt)?;
+    let two = Case {
+        name: b"; s s, budget 0",
+        script: b";\ns\ns\n",
+        ..idle
+    };
+    two.run(rt)?;
+    let two = Case {
+        name: b"; s s, budget 1",
+        budget: 1,
+        ..two
+    };
+    two.run(rt)?;
+    let sum = Case {
+        name: b"4294967295 + 1",
+        script: b"=\t0\n+\ni\t4294967295\ni\t1\n",
+        ..two
+    };
+    sum.run(rt)?;
+    let unpacked = Case {
+        name: b"unpack by 1",
         sheet,
-        b"c\nx\t2\n=\t3\nu\t5\t2\nv\t0\ns\n",
-        b"1\t5\n1\t62\n3\t5\t2\t1\t62\n3\t1\t62\n",
-        2,
-        2,
-    )?;
+        script: b"c\nx\t2\n=\t3\nu\t5\t2\nv\t0\ns\n",
+        memory: b"1\t5\n1\t62\n3\t5\t2\t1\t62\n3\t1\t62\n",
+        authority: 2,
+        budget: 2,
+    };
+    unpacked.run(rt)?;
     show_case(
         rt,
         b"show to 1",
@@ -106,26 +105,23 @@ fn small_cases(rt: &impl Print, sheet: &[u8]) -> io::Result<()> {
 
 // Sums nested fifteen deep: types 5 to 19, each with the one before it on its left.
 fn deep_cases(rt: &impl Print, sheet: &[u8]) -> io::Result<()> {
-    let rights = b"4\t2\t1\n4\t2\t1\n";
-    run_case(
-        rt,
-        b"fourteen lefts",
+    let fourteen = Case {
+        name: b"fourteen lefts",
         sheet,
-        b"=\t0\nl\t18\nl\t17\nl\t16\nl\t15\nl\t14\nl\t13\nl\t12\nl\t11\nl\t10\nl\t9\nl\t8\nl\t7\nl\t6\nl\t5\ni\t7\n",
-        rights,
-        0,
-        1,
-    )?;
-    run_case(
-        rt,
-        b"fifteen lefts",
-        sheet,
-        b"=\t1\nl\t19\nl\t18\nl\t17\nl\t16\nl\t15\nl\t14\nl\t13\nl\t12\nl\t11\nl\t10\nl\t9\nl\t8\nl\t7\nl\t6\nl\t5\n\
-          i\t7\n",
-        rights,
-        0,
-        1,
-    )
+        script: b"=\t0\nl\t18\nl\t17\nl\t16\nl\t15\nl\t14\nl\t13\nl\t12\nl\t11\nl\t10\nl\t9\nl\t8\nl\t7\nl\t6\n\
+                  l\t5\ni\t7\n",
+        memory: b"4\t2\t1\n4\t2\t1\n",
+        authority: 0,
+        budget: 1,
+    };
+    fourteen.run(rt)?;
+    let fifteen = Case {
+        name: b"fifteen lefts",
+        script: b"=\t1\nl\t19\nl\t18\nl\t17\nl\t16\nl\t15\nl\t14\nl\t13\nl\t12\nl\t11\nl\t10\nl\t9\nl\t8\nl\t7\n\
+                  l\t6\nl\t5\ni\t7\n",
+        ..fourteen
+    };
+    fifteen.run(rt)
 }
 
 fn main(rt: HostRuntime) -> io::Result<()> {

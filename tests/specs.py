@@ -27,7 +27,13 @@ FUNCTION = re.compile(r'(?:#\[[^\]]*\] ?)*(pub(?:\(\w+\))? )?(extern "C" )?fn (\
 ITEM = re.compile(r"(?:#\[[^\]]*\] ?)*(?:pub(?:\(\w+\))? )?(?:struct|enum|type|const) (?!fn |extern )(\w+)")
 CODE_USE = re.compile(r"(?:pub )?use ([\w:]+)::(?:(\w+)(?: as (\w+))?;|\{([\w: ,]*)\})")
 # what asks the check to try its tactics; any other line of a whole file could change what its clauses mean
-TACTICS = "#![tactic(auto)]"
+TACTICS = re.compile(r"#!\[tactic\(auto(?:, (?:using|unfolding)\([\w:, ]*\))*\)\]")
+# an impl of these says nothing of what a value means in a clause, but what is printed or refused, what a conversion
+# gives and which items come; a type's own methods have contracts of their own
+IMPL = re.compile(
+    r"impl(?:<'\w+>)? (?P<trait>(?:fmt::Display|Error|Iterator|From<\w+>) for )?\w+(?:<'\w+>)? \{"
+)
+MEMBERS = {"from_gives", "next_gives", "remaining"}
 USE = re.compile(rf"use ([^\s{{}}]+)\.\{{((?: ?{NAME}(?: as {NAME})? ?,)*(?: ?{NAME}(?: as {NAME})?)? ?)\}}")
 VARIANTS = re.compile(rf"use (\S+\.TheVariants) as ({NAME})")
 DECLARATION = re.compile(rf"((?:(?:unfoldable|abbrev|pub)\s+)+)(record\s+|data\s+)?({NAME})")
@@ -147,7 +153,7 @@ class Item:
             self.lexer, self.clause = CODE, -1
             return False
         if mark == "]":
-            return self.text == TACTICS
+            return TACTICS.fullmatch(self.text)
         return mark == ";" or mark == "}" and self.lexer is not ANTT
 
 
@@ -467,14 +473,15 @@ def unread_antt(path):
 def is_code_followed(item):
     """Whether an item of the code is of a form that this reading follows."""
     line = item.text.removeprefix("ghost ").rstrip(" ;")
-    if item.text == TACTICS:
+    if TACTICS.fullmatch(item.text):
         return True
     if item.text.startswith("ghost "):
         return USE.fullmatch(line) or VARIANTS.fullmatch(line)
-    if ITEM.match(item.text):
-        return not re.search(r"\bghost\b", item.text)
-    # what an impl says of a trait could change what a value means in a clause
-    own = re.match(r"impl \w+ \{", item.text) and not re.search(r"\bghost\b", item.text)
+    if m := ITEM.match(item.text):
+        # what a type of a crate's own keeps, its functions' contracts alone speak of
+        return not (re.search(r"\bghost\b", item.text) and re.search(r"\bpub (?!\()", m[0]))
+    impl = IMPL.match(item.text)
+    own = impl and set(re.findall(r"\bghost (\w+)", item.text)) <= {"use"} | (MEMBERS if impl["trait"] else set())
     other = (re.match(r"(pub )?mod \w+;", item.text) or own) and "extern" not in item.text
     return FUNCTION.match(item.text) or CODE_USE.fullmatch(item.text) or other
 

@@ -1,7 +1,7 @@
 -- What the code parses a script's text to: how many lines its command has, where it starts, and the words of the
 -- lines' code.
 use Rattle.std.specs.Prelude.{List, [], ℕ, ◌*◌, length, replicate, Option, Some, None}
-use Rattle.std.proofs.Math.Option as maybe
+use Rattle.std.proofs.Math.Option.{Option as Maybe, none, some}
 use Rattle.language.specs.Syntax.{Script}
 use Rattle.script.specs.Lines.{ScriptLine, cmd_lines}
 use Rattle.script.specs.Internal.Code.{code}
@@ -24,25 +24,25 @@ unfoldable pub no_code : List ℕ
 no_code = replicate code_words 0
 
 -- the label that a script starts at, as the code holds it
-unfoldable pub started_at : maybe.Option ℕ → Option ℕ
-started_at maybe.none = None
-started_at (maybe.some l) = Some l
+unfoldable pub started_at : Maybe ℕ → Option ℕ
+started_at none = None
+started_at (some l) = Some l
 
 -- lines as they are decoded: how many they are, and the lent words with their code
-unfoldable pub coded_lines : maybe.Option (List ScriptLine) → Option (ℕ × List ℕ)
-coded_lines maybe.none = None
-coded_lines (maybe.some ls) = Some (length ls, padded code_words (code ls))
+unfoldable pub coded_lines : Maybe (List ScriptLine) → Option (ℕ × List ℕ)
+coded_lines none = None
+coded_lines (some ls) = Some (length ls, padded code_words (code ls))
 
 -- lines after a start: how many they are and that start, and the lent words with their code
-unfoldable pub coded : maybe.Option ℕ → List ScriptLine → Decoded × List ℕ
+unfoldable pub coded : Maybe ℕ → List ScriptLine → Decoded × List ℕ
 coded x ls = (record { count = length ls; start = started_at x }, padded code_words (code ls))
 
 -- what is written in a text
-unfoldable pub coded_text : maybe.Option Written → Option (Decoded × List ℕ)
-coded_text maybe.none = None
-coded_text (maybe.some w) = Some (coded w.opening.start w.lines)
+unfoldable pub coded_text : Maybe Written → Option (Decoded × List ℕ)
+coded_text none = None
+coded_text (some w) = Some (coded w.opening.start w.lines)
 
 -- a script
-unfoldable pub decoded_script : maybe.Option Script → Option (Decoded × List ℕ)
-decoded_script maybe.none = None
-decoded_script (maybe.some p) = Some (coded p.opening.start (cmd_lines p.command []))
+unfoldable pub decoded_script : Maybe Script → Option (Decoded × List ℕ)
+decoded_script none = None
+decoded_script (some p) = Some (coded p.opening.start (cmd_lines p.command []))

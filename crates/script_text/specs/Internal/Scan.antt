@@ -1,7 +1,7 @@
 -- What the code answers where it looks for an expression or a command at a row.
 use Rattle.std.specs.Prelude.{◌≡◌, Bool, true, false, cond, List, ℕ, ◌≤◌, eqb, ltb, drop, Option, Some, None, IfSome}
 use Rattle.std.specs.Prelude.{IsSomeAnd}
-use Rattle.std.proofs.Math.Option as maybe
+use Rattle.std.proofs.Math.Option.{Option as Maybe, none, some}
 use Rattle.logic.specs.Booleans.{both, either}
 use Rattle.script.specs.Lines.{ScriptLine}
 use Rattle.script.specs.Internal.Code.{code}
@@ -40,9 +40,9 @@ names_there k kind a b =
 abbrev pub Balanced : List ℕ → Bool → Type 0
 Balanced ws r = (ls : List ScriptLine) → ws ≡ code ls → r ≡ closes 1 ls
 
-unfoldable pub is_some : {A : Type 0} → maybe.Option A → Bool
-is_some maybe.none = false
-is_some (maybe.some x) = true
+unfoldable pub is_some : {A : Type 0} → Maybe A → Bool
+is_some none = false
+is_some (some x) = true
 
 -- whether a start is one of so many labels, if it is any
 unfoldable pub start_there : ℕ → Option ℕ → Bool

@@ -2,6 +2,7 @@
 #![tactic(auto)]
 
 use desk::OUTPUT_ROOM;
+use memory_text::Memory;
 use sets::Set;
 use std::io;
 
@@ -20,11 +21,11 @@ impl Case<'_> {
     // The run: its answer and steps, and the memory as it then is.
     fn run(&self, rt: &impl Print) -> io::Result<()> {
         print_name(rt, self.name)?;
-        let Some(read) = memory_text::read_memory(self.memory) else {
-            return Ok(());
-        };
-        let mut words = read.words;
-        let words = &mut words[..read.count * memory::CELL];
+        let Memory { count, mut words } = memory_text::read_memory(self.memory).unwrap_or(Memory {
+            count: 0,
+            words: [0; memory_text::WORDS],
+        });
+        let words = &mut words[..count * memory::CELL];
         let outcome = simp::simp_run(self.sheet, self.script, words, self.authority, self.budget);
         println!(rt; "{}\t{}", outcome.answer, outcome.steps)?;
         print_memory(rt, words)
@@ -56,8 +57,8 @@ fn show_case(
     rt.write_all(desk::first(&out, n))
 }
 
-// The cases on the sheet of the scope.
-fn small_cases(rt: &impl Print, sheet: &[u8]) -> io::Result<()> {
+// The cases of steps, on the sheet of the scope.
+fn step_cases(rt: &impl Print, sheet: &[u8]) -> io::Result<()> {
     let idle = Case {
         name: b"s, budget 0",
         sheet,
@@ -84,7 +85,11 @@ fn small_cases(rt: &impl Print, sheet: &[u8]) -> io::Result<()> {
         script: b"=\t0\n+\ni\t4294967295\ni\t1\n",
         ..two
     };
-    sum.run(rt)?;
+    sum.run(rt)
+}
+
+// The cases of packages, on the same sheet.
+fn package_cases(rt: &impl Print, sheet: &[u8]) -> io::Result<()> {
     let unpacked = Case {
         name: b"unpack by 1",
         sheet,
@@ -125,10 +130,10 @@ fn deep_cases(rt: &impl Print, sheet: &[u8]) -> io::Result<()> {
 }
 
 fn main(rt: HostRuntime) -> io::Result<()> {
-    small_cases(
-        &rt,
-        b"P\t3\nT\t0\t1\nL\nL\nO\t0\t0000\t0000\nL\nO\t0\t0000\t0007\nX\t0\t0\nX\t0\t2\nX\t4\t0\nX\t5\t2\n",
-    )?;
+    let sheet =
+        b"P\t3\nT\t0\t1\nL\nL\nO\t0\t0000\t0000\nL\nO\t0\t0000\t0007\nX\t0\t0\nX\t0\t2\nX\t4\t0\nX\t5\t2\n";
+    step_cases(&rt, sheet)?;
+    package_cases(&rt, sheet)?;
     deep_cases(
         &rt,
         b"P\t1\nT\t0\t1\nT\t5\t1\nT\t6\t1\nT\t7\t1\nT\t8\t1\nT\t9\t1\nT\t10\t1\nT\t11\t1\nT\t12\t1\nT\t13\t1\n\

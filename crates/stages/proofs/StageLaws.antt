@@ -15,20 +15,21 @@ use Rattle.language.specs.Transition.{Out, done, spent, over, wrong, iterate}
 use Rattle.language.specs.Typing.{shape}
 use Rattle.language.proofs.Exactness.{script_iff, exactness}
 use Rattle.language.proofs.TypeSoundness.{type_soundness}
-use Rattle.sheet.specs.Sheet.{Sheet, location_count}
+use Rattle.sheet.specs.Sheet.{Sheet, location_count, max_labels}
+use Rattle.sheet.specs.Internal.Starts.{start_no}
 use Rattle.sets.specs.Sets.{within}
 use Rattle.sheet.specs.Internal.Tables.{everyone_in}
 use Rattle.sheet.proofs.TableLaws.{everyone_in_lem}
 use Rattle.sheet.specs.Meaning.{labels_over, declarations_of, shapes_of, world_for}
 use Rattle.sheet.proofs.MeaningLaws.{least_label_laws}
-use Rattle.script_text.specs.declared.ParsedScript.{ParsedScript}
-use Rattle.script_text.specs.declared.ParsedScript.TheVariants.{Read, Refused}
+use Rattle.script.specs.Names.{Counts}
+use Rattle.script_text.specs.declared.Decoded.{Decoded}
 use Rattle.script_text.specs.Counts.{counts_of}
 use Rattle.script_text.specs.Script.{script_of}
-use Rattle.script_text.specs.Internal.Decoded.{Decoded, code_words, counts_in, no_code, coded, decoded_script}
+use Rattle.script_text.specs.Internal.Decoded.{counts_in, no_code, start_of, decoded_script}
 use Rattle.script_text.proofs.ScriptLaws.{counts-table}
-use Rattle.script_text.proofs.ReadLaws.{read_split, read_whole}
-use Rattle.std.specs.Prelude.{Result, Ok, Err, IsErr}
+use Rattle.script_text.proofs.ReadLaws.{read_split, start_number}
+use Rattle.std.specs.Prelude.{Result, Ok, Err, IsErr, Option as Optional, Some, None, option_map, unwrap_or, IfNone}
 use Rattle.std.specs.Result.{IsErrAnd}
 use Rattle.std.proofs.lemmas.Result.{err_from_is_err_and}
 use Rattle.stages.specs.contracts.refusal.Refusal.{the_type}
@@ -42,12 +43,11 @@ use Rattle.memory.specs.View.{view_words, view_refusal}
 use Rattle.memory.specs.Internal.InTable.{view_in, leaves, refusal_in, view_refusal_in, view_leaves_in}
 use Rattle.memory.proofs.Exactness.{memories_exactly, table_agrees}
 use Rattle.memory.proofs.MemoryLaws.{unrefused-length, unrefused-formed}
-use Rattle.checker.specs.declared.Verdict.{Verdict}
-use Rattle.checker.specs.declared.Verdict.TheVariants as verdicts
+use Rattle.checker.specs.declared.TypingError.{TypingError}
+use Rattle.checker.specs.declared.TypingError.TheVariants.{IllTyped, IllLabelled}
 use Rattle.checker.specs.Verdict.{verdict_number}
 use Rattle.checker.specs.Internal.Post.{ChecksCode, KeepsCode}
-use Rattle.evaluator.specs.declared.State.{State}
-use Rattle.evaluator.specs.declared.State.TheVariants.{Done}
+use Rattle.evaluator.specs.declared.Stop.{Stop}
 use Rattle.evaluator.specs.State.{state_number}
 use Rattle.interpreter.specs.Internal.Run.{RunLeaves, Runs}
 use Rattle.stages.specs.Answers.{Ran, refused_run, Viewed, refused_view, refused_trust}
@@ -55,7 +55,7 @@ use Rattle.stages.specs.Calls.{unless, strangers, on_script, untyped, number_of,
 use Rattle.stages.specs.Calls.{trust_on}
 use Rattle.stages.specs.Internal.Stages.{TableOf, keeping_in, AcceptedCode, Accepts, Spares, RunsAccepted}
 use Rattle.stages.specs.Internal.Stages.{TrustsOn, RunsOn, OfVerdict, OfState, strangers_in, number_in, trust_in}
-use Rattle.stages.specs.Internal.Stages.{run_in, viewed_in, answered_trust, answered_run}
+use Rattle.stages.specs.Internal.Stages.{run_in, viewed_in, answered_trust, answered_run, code_left, lines_of}
 
 -- ---- numbers
 
@@ -82,117 +82,145 @@ refuses r e = omega (arith, place_number r, e)
 pub passed_on : {A : Type 0} (r : Result A Refusal) (e : Refusal) → IsErr r × IsErrAnd r (λ d. d ≡ e) → r ≡ Err e
 passed_on r e h = let p = err_from_is_err_and r h.1 in p.1 ∙ ap Err p.2
 
+-- what `?` hands on has the number of what was found
+pub handed_on : {A : Type 0} (r : Result A Refusal) (n : ℕ) → IsErr r × IsErrAnd r (λ d. refusal_number d ≡ n)
+    → (d : Refusal) × (r ≡ Err d) × (refusal_number d ≡ n)
+handed_on r n h = err_from_is_err_and r h.1
+
 -- 0 is that of the verdict that accepts
 pub accepted-verdict : OfVerdict 0
 unfolding verdict_number
-accepted-verdict = (verdicts.Accepted, refl)
+accepted-verdict = (Ok tt, refl)
 
 -- one that refuses isn't below 4
 pub refusing_verdict : {k : ℕ} → OfVerdict k → (k ≡ 0) ⊎ (4 ≤ k)
 unfolding verdict_number
-refusing_verdict (verdicts.Accepted, e) = inl e
-refusing_verdict (verdicts.IllTyped, e) = inr (omega arith)
-refusing_verdict (verdicts.IllLabelled, e) = inr (omega arith)
+refusing_verdict (Ok u, e) = inl e
+refusing_verdict (Err IllTyped, e) = inr (omega arith)
+refusing_verdict (Err IllLabelled, e) = inr (omega arith)
 
 -- ---- reading and checking a script
 
-abbrev is_read : ParsedScript → ℕ
-is_read Read = 0
-is_read Refused = 1
+-- how many lines were read, if any were
+abbrev pub lines_read : Optional Decoded → ℕ
+lines_read None = 0
+lines_read (Some d) = d.count
 
--- what was read isn't refused
-not_refused : Read ≡ Refused → ⊥
-not_refused e = omega (arith, ap is_read e)
+abbrev start_read : Optional Decoded → Optional ℕ
+start_read None = None
+start_read (Some d) = d.start
 
-module _ (t script ws : List ℕ) (p : Decoded) (e : p ≡ decoded_script (script_of (counts_in t) script))
-    (w : ws ≡ take (p.count * 3) p.code) where
+module _ (t script w ws : List ℕ) (r : Optional Decoded)
+    (e : option_map (λ d. (d, w)) r ≡ decoded_script (script_of (counts_in t) script))
+    (rows : ws ≡ take (lines_read r * 3) w) where
   module _ (s : Sheet) (T : TableOf t s) where
-    on-sheet : p ≡ decoded_script (script_of (counts_of s) script)
-    on-sheet =
-        let k : counts_in t ≡ counts_of s = ap counts_in T.words ∙ counts-table s in
-        e ∙ ap (λ (j : _). decoded_script (script_of j script)) k
+    same_counts : counts_in t ≡ counts_of s
+    same_counts = ap counts_in T.words ∙ counts-table s
+
+    on-sheet : option_map (λ d. (d, w)) r ≡ decoded_script (script_of (counts_of s) script)
+    on-sheet = e ∙ ap (λ (j : _). decoded_script (script_of j script)) same_counts
+
+    its_rows : (d : Decoded) → r ≡ Some d → ws ≡ take (d.count * 3) w
+    its_rows d a = rows ∙ ap (λ (q : Optional Decoded). take (lines_read q * 3) w) a
 
     -- where the script's number is 0, it is the code of an accepted script
     pub accepted_code : number_of s script ≡ 0 → AcceptedCode s script ws
     unfolding number_of on_script
-    accepted_code z = read_split (counts_of s) script p on-sheet
+    accepted_code z = read_split (counts_of s) script r w on-sheet
         (λ n a. absurd (omega (arith, rw n at z)))
-        (λ c i src nm a tk st.
-        record { parsed = c; is_its = i; source = src; names = nm; typed = rw i at z; lines = w ∙ tk })
+        (λ c d i src nm a tk st.
+        record { parsed = c; is_its = i; source = src; names = nm; typed = rw i at z; lines = its_rows d a ∙ tk })
 
-    -- the checker's number is that of the script that was read
-    checked-number : p.parsed ≡ Read → (v : ℕ) → ChecksCode ws t p.start v → v ≡ number_of s script
-    unfolding number_of on_script untyped
-    checked-number q v x = read_split (counts_of s) script p on-sheet
-        (λ n a. absurd (not_refused (sym q ∙ a)))
-        (λ c i src nm a tk st. rw i (x.exact s T.form T.once T.words (counts_of s) c src nm (w ∙ tk) st))
+  module _ (d : Decoded) (q : r ≡ Some d) where
+    -- what the checker starts at is where the script does
+    starts : (c : Script) (x : Decoded) → r ≡ Some x → x.start ≡ start_of c.opening.start
+        → unwrap_or d.start max_labels ≡ start_no c.opening.start
+    starts c x a st =
+        let k : Some d ≡ Some x = sym q ∙ a in
+        let m : d.start ≡ x.start = ap (λ (o : Optional Decoded). start_read o) k in
+        rw (m, st) (start_number c.opening.start)
 
-    checked-keeping : p.parsed ≡ Read → (r : Bool) → KeepsCode ws t r
-        → r ≡ keeping_in s (script_of (counts_of s) script)
-    unfolding keeping_in on_script
-    checked-keeping q r x = read_split (counts_of s) script p on-sheet
-        (λ n a. absurd (not_refused (sym q ∙ a)))
-        (λ c i src nm a tk st. rw i (x.says s T.form T.words (counts_of s) c src nm (w ∙ tk)))
+    some_read : (r ≡ None) → ⊥
+    some_read n = let u : ◌≡◌ {A = ℕ} 0 1 = cc in omega (arith, u)
 
-  -- by what the table counts: a script was read, or there is none
-  there-is : (o : Option Script) → Read ≡ (decoded_script o).parsed → (v : ℕ) → v ≡ on_script (λ k. k) o (λ _. v)
-  unfolding decoded_script no_code on_script
-  there-is none q v = absurd (not_refused q)
-  there-is (some c) q v = refl
+    module _ (s : Sheet) (T : TableOf t s) where
+      -- the checker's number is that of the script that was read
+      checked-number : (v : ℕ) → ChecksCode ws t (unwrap_or d.start max_labels) v → v ≡ number_of s script
+      unfolding number_of on_script untyped
+      checked-number v x = read_split (counts_of s) script r w (on-sheet s T)
+          (λ n a. absurd (some_read a))
+          (λ c y i src nm a tk st. rw i
+          (x.exact s T.form T.once T.words (counts_of s) c src nm (its_rows s T y a ∙ tk) (starts c y a st)))
 
-  is-none : (o : Option Script) → Refused ≡ (decoded_script o).parsed → (number : Script → ℕ)
-      → 4 ≡ on_script (λ k. k) o number
-  unfolding decoded_script coded on_script
-  is-none none q number = refl
-  is-none (some c) q number = absurd (not_refused (sym q))
+      checked-keeping : (k : Bool) → KeepsCode ws t k → k ≡ keeping_in s (script_of (counts_of s) script)
+      unfolding keeping_in on_script
+      checked-keeping k x = read_split (counts_of s) script r w (on-sheet s T)
+          (λ n a. absurd (some_read a))
+          (λ c y i src nm a tk st. rw i (x.says s T.form T.words (counts_of s) c src nm (its_rows s T y a ∙ tk)))
 
-  pub accepts_none : p.parsed ≡ Refused → Accepts script t (Err reasons.ScriptMalformed) p.code
-  unfolding number_of number_in
-  accepts_none q = record {
-    words_are = ap (λ (d : Decoded). d.code) e;
-    numbered = λ s T. is-none _ (sym q ∙ ap (λ (d : Decoded). d.parsed) (on-sheet s T)) (untyped s);
+    -- by what the table counts, a script was read
+    there-is : (v : ℕ) → v ≡ on_script (λ k. k) (script_of (counts_in t) script) (λ _. v)
+    unfolding on_script
+    there-is v = read_split (counts_in t) script r w e
+        (λ n a. absurd (some_read a))
+        (λ c y i src nm a tk st. rw i refl)
+
+    as_decoded : decoded_script (script_of (counts_in t) script) ≡ Some (d, w)
+    as_decoded = sym e ∙ ap (option_map (λ x. (x, w))) q
+
+    words-read : w ≡ code_left (decoded_script (script_of (counts_in t) script))
+    unfolding code_left
+    words-read = sym (ap code_left as_decoded)
+
+    module _ (v : Result Unit TypingError) (x : ChecksCode ws t (unwrap_or d.start max_labels) (verdict_number v)) where
+      pub accepts_ill : (refusal : Refusal) → refusal_number refusal ≡ verdict_number v
+          → Accepts script t (Err refusal) w
+      unfolding number_in
+      accepts_ill refusal n = record {
+        words_are = words-read;
+        numbered = λ s T. n ∙ checked-number s T (verdict_number v) x;
+        accepted = tt;
+        in_table = (verdict_number v, (v, refl), n ∙ there-is (verdict_number v));
+      }
+
+      pub accepts_well : 0 ≡ verdict_number v → (keeping : Bool) → KeepsCode ws t keeping
+          → Accepts script t (Ok (record { count = d.count; keeping = keeping })) w
+      unfolding number_in
+      accepts_well n keeping k = record {
+        words_are = words-read;
+        numbered = λ s T. n ∙ checked-number s T (verdict_number v) x;
+        accepted = record {
+          count_is = sym (ap lines_of as_decoded);
+          has_code = λ s T.
+              rw (← (rows ∙ ap (λ (o : Optional Decoded). take (lines_read o * 3) w) q))
+              (accepted_code s T (sym (n ∙ checked-number s T (verdict_number v) x)));
+          says = λ s T. checked-keeping s T keeping k;
+        };
+        in_table = (verdict_number v, (v, refl), n ∙ there-is (verdict_number v));
+      }
+
+  -- there is none
+  is-none : r ≡ None → (k : Counts) → k ≡ counts_in t → (number : Script → ℕ)
+      → 4 ≡ on_script (λ j. j) (script_of k script) number
+  unfolding on_script
+  is-none q k i number = read_split k script r w (e ∙ ap (λ (j : Counts). decoded_script (script_of j script)) (sym i))
+      (λ n a. rw n refl)
+      (λ c y j src nm a tk st. absurd (let u : ◌≡◌ {A = ℕ} 0 1 = cc in omega (arith, u)))
+
+  pub accepts_none : r ≡ None → IfNone r (w ≡ no_code) → Accepts script t (Err reasons.ScriptMalformed) w
+  unfolding number_of number_in code_left
+  accepts_none q z = record {
+    words_are = rw q at z ∙ ap code_left (sym (ap (option_map (λ x. (x, w))) q) ∙ e);
+    numbered = λ s T. is-none q _ (sym (same_counts s T)) (untyped s);
     accepted = tt;
-    in_table = (0, accepted-verdict, is-none _ (sym q ∙ ap (λ (d : Decoded). d.parsed) e) (λ _. 0));
+    in_table = (0, accepted-verdict, is-none q _ refl (λ _. 0));
   }
-
-  module _ (q : p.parsed ≡ Read) (v : Verdict) (x : ChecksCode ws t p.start (verdict_number v)) where
-    pub accepts_ill : (refusal : Refusal) → refusal_number refusal ≡ verdict_number v
-        → Accepts script t (Err refusal) p.code
-    unfolding number_in
-    accepts_ill refusal n = record {
-      words_are = ap (λ (d : Decoded). d.code) e;
-      numbered = λ s T. n ∙ checked-number s T q (verdict_number v) x;
-      accepted = tt;
-      in_table =
-          (verdict_number v, (v, refl), n ∙ there-is _ (sym q ∙ ap (λ (d : Decoded). d.parsed) e) (verdict_number v));
-    }
-
-    pub accepts_well : 0 ≡ verdict_number v → (keeping : Bool) → KeepsCode ws t keeping
-        → Accepts script t (Ok (record { count = p.count; keeping = keeping })) p.code
-    unfolding number_in
-    accepts_well n keeping k = record {
-      words_are = ap (λ (d : Decoded). d.code) e;
-      numbered = λ s T. n ∙ checked-number s T q (verdict_number v) x;
-      accepted = record {
-        count_is = ap (λ (d : Decoded). d.count) e;
-        has_code = λ s T. rw (← w) (accepted_code s T (sym (n ∙ checked-number s T q (verdict_number v) x)));
-        says = λ s T. checked-keeping s T q keeping k;
-      };
-      in_table =
-          (verdict_number v, (v, refl), n ∙ there-is _ (sym q ∙ ap (λ (d : Decoded). d.parsed) e) (verdict_number v));
-    }
 
 -- the table's refusal of a memory is the sheet's
 pub refusal_in_lem : (t memory : List ℕ) (a : ℕ) → a ≡ refusal_in t memory → (s : Sheet) → TableOf t s
     → a ≡ memory_refusal s memory
 refusal_in_lem t memory a e s T =
     e ∙ ap (λ (u : List ℕ). refusal_in u memory) T.words ∙ (table_agrees s T.form).refusal memory
-
--- the words that were lent for the code stay as many
-pub code_whole : {script t : List ℕ} {r : Result Accepted Refusal} {words : List ℕ} → Accepts script t r words
-    → length words ≡ code_words
-code_whole {script} {t} n =
-    ap length n.words_are ∙ read_whole (counts_in t) script (decoded_script (script_of (counts_in t) script)) refl
 
 -- ---- running
 
@@ -285,7 +313,7 @@ ends s memory authority budget p u m state steps left wrong e h =
     (accepted-shape s p u) (memory_of memory)
     ((memories_exactly s).values memory m).typed budget e)
 
-pub runs-accepted : (ws t memory : List ℕ) (authority budget : ℕ) (state : State) (steps : ℕ) (left : List ℕ)
+pub runs-accepted : (ws t memory : List ℕ) (authority budget : ℕ) (state : Result Unit Stop) (steps : ℕ) (left : List ℕ)
     → Runs ws t memory authority budget (state_number state) steps left
     → RunsAccepted ws t memory authority budget (record { answer = state_number state; steps = steps; memory = left })
 unfolding memory_refusal
@@ -320,8 +348,7 @@ module _ (memory : List ℕ) (budget : ℕ) where
 
   -- what may stand for a run that isn't reached
   pub unreached : Spares memory budget (refused_run memory 0) × OfState 0
-  unfolding state_number
-  unreached = (refusal-spares 0, (Done, refl))
+  unreached = (refusal-spares 0, (Ok tt, refl))
 
 module _ (script t memory : List ℕ) (authority budget : ℕ) where
   abbrev R : ℕ → Ran

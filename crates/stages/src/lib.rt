@@ -5,18 +5,11 @@
 pub mod refusal; // refusal.rt: why a call refuses
 
 ghost use Rattle.std.specs.Prelude.{◌≡◌};
-ghost use Rattle.sheet_text.specs.Verdict.{sheet_number};
-ghost use Rattle.memory.specs.Verdict.{memory_number};
-ghost use Rattle.checker.specs.Verdict.{verdict_number};
-ghost use Rattle.evaluator.specs.State.{state_number};
 ghost use Rattle.stages.specs.Refusals.{refusal_number, answer_number};
 ghost use Rattle.stages.specs.Internal.Stages.{Accepts, RunsAccepted, strangers_in, answered_run, answered_trust};
 ghost use Rattle.stages.specs.Internal.Stages.{ChecksOn, TrustsOn, RunsOn, viewed_in};
 
-use checker::Verdict;
-use evaluator::State;
 pub use refusal::Refusal;
-use script_text::ParsedScript;
 use sets::Set;
 
 // What a call answers where nothing refuses: it is done, or accepted, or shown.
@@ -79,51 +72,6 @@ pub fn number(found: Result<(), Refusal>) -> u8
     }
 }
 
-// What a sheet is refused for.
-pub fn sheet_read(verdict: sheet_text::Verdict) -> Result<(), Refusal>
-    ensures { answer_number result ≡ sheet_number verdict }
-{
-    match verdict {
-        sheet_text::Verdict::Accepted => Ok(()),
-        sheet_text::Verdict::Malformed => Err(Refusal::SheetMalformed),
-        sheet_text::Verdict::Repeats => Err(Refusal::SheetRepeats),
-    }
-}
-
-// What the lent slices are refused for.
-pub fn memory_judged(verdict: memory::Verdict) -> Result<(), Refusal>
-    ensures { answer_number result ≡ memory_number verdict }
-{
-    match verdict {
-        memory::Verdict::Accepted => Ok(()),
-        memory::Verdict::OtherSize => Err(Refusal::SliceSize),
-        memory::Verdict::IllFormed => Err(Refusal::MemoryIllFormed),
-    }
-}
-
-// What stopped a run.
-fn ended(state: State) -> Result<(), Refusal>
-    ensures { answer_number result ≡ state_number state }
-{
-    match state {
-        State::Done => Ok(()),
-        State::NoRule => Err(Refusal::ScriptMalformed),
-        State::Spent => Err(Refusal::Spent),
-        State::TooLong => Err(Refusal::TooLong),
-    }
-}
-
-// What a script's code is refused for.
-fn checked(verdict: Verdict) -> Result<(), Refusal>
-    ensures { answer_number result ≡ verdict_number verdict }
-{
-    match verdict {
-        Verdict::Accepted => Ok(()),
-        Verdict::IllTyped => Err(Refusal::IllTyped),
-        Verdict::IllLabelled => Err(Refusal::IllLabelled),
-    }
-}
-
 // Refuses a group that holds a principal who isn't on the sheet of a table.
 pub fn known(group: Set, table: &[sheet::Word]) -> Result<(), Refusal>
     ensures { answer_number result ≡ strangers_in table.now group }
@@ -142,12 +90,9 @@ pub fn accept(
 ) -> Result<Accepted, Refusal>
     ensures { Accepts script.now table.now result code.new }
 {
-    let read = script_text::read(script, table, code);
-    let ParsedScript::Read = read.parsed else {
-        return Err(Refusal::ScriptMalformed);
-    };
+    let read = script_text::read(script, table, code).ok_or(Refusal::ScriptMalformed)?;
     let found = checker::check(script_text::rows(code, read.count), table, read.start);
-    checked(found.verdict)?;
+    found.verdict?;
     Ok(Accepted {
         count: read.count,
         keeping: found.keeping,
@@ -167,7 +112,7 @@ pub fn run_accepted(
 {
     let ran = interpreter::run(code, table, memory, authority, budget);
     Outcome {
-        answer: number(ended(ran.state)),
+        answer: number(ran.ended.map_err(Refusal::from)),
         steps: ran.steps,
     }
 }
@@ -206,7 +151,7 @@ pub fn run_on(
     known(authority, table)?;
     let mut code = [0u32; script_text::WORDS];
     let accepted = accept(script, table, &mut code)?;
-    memory_judged(memory::judge(table, memory))?;
+    memory::judge(table, memory)?;
     let rows = script_text::rows(&code, accepted.count);
     Ok(run_accepted(rows, table, memory, authority, budget))
 }
@@ -222,5 +167,6 @@ pub fn view_on(
         ≡ viewed_in table.now memory.now group view.old }
 {
     known(group, table)?;
-    memory_judged(memory::view(table, memory, group, view))
+    memory::view(table, memory, group, view)?;
+    Ok(())
 }

@@ -1,7 +1,15 @@
 // Why a call refuses.
-ghost use Rattle.std.specs.Prelude.{◌≡◌};
+ghost use Rattle.std.specs.Prelude.{◌≡◌, Err};
+ghost use Rattle.sheet_text.specs.Verdict.{sheet_number};
+ghost use Rattle.memory.specs.Verdict.{memory_number};
+ghost use Rattle.checker.specs.Verdict.{verdict_number};
+ghost use Rattle.evaluator.specs.State.{state_number};
 ghost use Rattle.stages.specs.Refusals.{refusal_number};
 
+use checker::TypingError;
+use evaluator::Stop;
+use memory::MemoryError;
+use sheet_text::SheetError;
 use std::error::Error;
 use std::fmt;
 
@@ -48,5 +56,50 @@ impl From<Refusal> for u8 {
 
     fn from(refusal: Refusal) -> u8 {
         refusal as u8
+    }
+}
+
+impl From<SheetError> for Refusal {
+    ghost from_gives = { λ error refusal. refusal_number refusal ≡ sheet_number (Err error) };
+
+    fn from(error: SheetError) -> Refusal {
+        match error {
+            SheetError::Malformed => Refusal::SheetMalformed,
+            SheetError::Repeats => Refusal::SheetRepeats,
+        }
+    }
+}
+
+impl From<TypingError> for Refusal {
+    ghost from_gives = { λ error refusal. refusal_number refusal ≡ verdict_number (Err error) };
+
+    fn from(error: TypingError) -> Refusal {
+        match error {
+            TypingError::IllTyped => Refusal::IllTyped,
+            TypingError::IllLabelled => Refusal::IllLabelled,
+        }
+    }
+}
+
+impl From<MemoryError> for Refusal {
+    ghost from_gives = { λ error refusal. refusal_number refusal ≡ memory_number (Err error) };
+
+    fn from(error: MemoryError) -> Refusal {
+        match error {
+            MemoryError::OtherSize => Refusal::SliceSize,
+            MemoryError::IllFormed => Refusal::MemoryIllFormed,
+        }
+    }
+}
+
+impl From<Stop> for Refusal {
+    ghost from_gives = { λ stop refusal. refusal_number refusal ≡ state_number {A = Unit {0}} (Err stop) };
+
+    fn from(stop: Stop) -> Refusal {
+        match stop {
+            Stop::NoRule => Refusal::ScriptMalformed,
+            Stop::Spent => Refusal::Spent,
+            Stop::TooLong => Refusal::TooLong,
+        }
     }
 }

@@ -1,7 +1,7 @@
 -- What the stages of a call ensure, on the table that they are given: for any table, and where it is that of a sheet
 -- that isn't refused.
 use Rattle.std.specs.Prelude.{◌≡◌, Bool, true, false, cond, List, [], ℕ, ◌*◌, ◌≤◌, length, take, Result, Ok, Err}
-use Rattle.std.specs.Prelude.{IfOk}
+use Rattle.std.specs.Prelude.{IfOk, Option as Optional, Some, None}
 use Rattle.std.proofs.Math.Option.{Option, some}
 use Rattle.sets.specs.Sets.{within}
 use Rattle.language.specs.Syntax.{Script}
@@ -14,12 +14,13 @@ use Rattle.sheet.specs.Internal.Tables.{table_of, everyone_in}
 use Rattle.sheet.specs.Meaning.{labels_over, declarations_of}
 use Rattle.script_text.specs.Counts.{counts_of}
 use Rattle.script_text.specs.Script.{script_of}
-use Rattle.script_text.specs.Internal.Decoded.{counts_in, decoded_script}
+use Rattle.script_text.specs.Internal.Decoded.{counts_in, no_code, decoded_script}
+use Rattle.script_text.specs.declared.Decoded.{Decoded}
 use Rattle.memory.specs.Memory.{memory_refusal}
 use Rattle.memory.specs.Internal.InTable.{refusal_in, view_in, view_refusal_in}
-use Rattle.checker.specs.declared.Verdict.{Verdict}
+use Rattle.checker.specs.declared.TypingError.{TypingError}
 use Rattle.checker.specs.Verdict.{verdict_number}
-use Rattle.evaluator.specs.declared.State.{State}
+use Rattle.evaluator.specs.declared.Stop.{Stop}
 use Rattle.evaluator.specs.State.{state_number}
 use Rattle.stages.specs.declared.refusal.Refusal.{Refusal}
 use Rattle.stages.specs.declared.Outcome.{Outcome}
@@ -40,10 +41,10 @@ pub record TableOf (t : List ℕ) (s : Sheet) : Type 0 where
 
 -- the number of one of the three verdicts, and of one of the four states in which a run ends
 abbrev pub OfVerdict : ℕ → Type 0
-OfVerdict number = (verdict : Verdict) × (number ≡ verdict_number verdict)
+OfVerdict number = (verdict : Result Unit TypingError) × (number ≡ verdict_number verdict)
 
 abbrev pub OfState : ℕ → Type 0
-OfState answer = (state : State) × (answer ≡ state_number state)
+OfState answer = (ended : Result Unit Stop) × (answer ≡ state_number ended)
 
 -- 3: the group holds a principal that isn't in the table's set of all
 unfoldable pub strangers_in : List ℕ → ℕ → ℕ
@@ -90,15 +91,25 @@ pub record AcceptedCode (s : Sheet) (script ws : List ℕ) : Type 0 where
   pub typed : untyped s parsed ≡ 0
   pub lines : ws ≡ code (cmd_lines parsed.command [])
 
+-- the words that are left by what was decoded, or where nothing was
+unfoldable pub code_left : Optional (Decoded × List ℕ) → List ℕ
+code_left None = no_code
+code_left (Some d) = d.1
+
+-- the lines that were decoded, if any were
+abbrev pub lines_of : Optional (Decoded × List ℕ) → ℕ
+lines_of None = 0
+lines_of (Some d) = d.0.count
+
 -- a is what is known of the script that was accepted: its lines, the code that they have in words, and its trust
 pub record AcceptedAs (script t : List ℕ) (a : Accepted) (words : List ℕ) : Type 0 where
-  pub count_is : a.count ≡ (decoded_script (script_of (counts_in t) script)).count
+  pub count_is : a.count ≡ lines_of (decoded_script (script_of (counts_in t) script))
   pub has_code : (s : Sheet) → TableOf t s → AcceptedCode s script (take (a.count * 3) words)
   pub says : (s : Sheet) → TableOf t s → a.keeping ≡ keeping_in s (script_of (counts_of s) script)
 
 -- r is the script's refusal or what is known of it, and words are what its reader leaves
 pub record Accepts (script t : List ℕ) (r : Result Accepted Refusal) (words : List ℕ) : Type 0 where
-  pub words_are : words ≡ (decoded_script (script_of (counts_in t) script)).code
+  pub words_are : words ≡ code_left (decoded_script (script_of (counts_in t) script))
   pub numbered : (s : Sheet) → TableOf t s → answer_number r ≡ number_of s script
   pub accepted : IfOk r (λ a. AcceptedAs script t a words)
   pub in_table : (verdict : ℕ) × OfVerdict verdict × (answer_number r ≡ number_in verdict t script)

@@ -8,7 +8,7 @@ use lib.ListN.{length, take, drop, get_or, set, replicate, length-replicate}
 use lib.Seq.{length-sets, length-take-le}
 use lib.Dec.{leb}
 use borrow.Author.Tests.{leb-true}
-use Rattle.std.specs.Prelude.{Option}
+use Rattle.std.specs.Prelude.{Option, Option as Optional, option_map}
 use Rattle.std.proofs.lemmas.List.{get_or-take}
 use Rattle.logic.proofs.BooleanLaws.{cases}
 use Rattle.stages.specs.declared.refusal.Refusal.{Refusal}
@@ -19,14 +19,15 @@ use Rattle.sheet.specs.Sheet.{Sheet}
 use Rattle.script_text.specs.Counts.{counts_of}
 use Rattle.script_text.specs.Script.{script_of}
 use Rattle.script_text.specs.Reading.{written_of}
-use Rattle.script_text.specs.Internal.Decoded.{Decoded, counts_in, coded_text, decoded_script}
+use Rattle.script_text.specs.Internal.Decoded.{counts_in, coded_text, decoded_script}
+use Rattle.script_text.specs.declared.Decoded.{Decoded}
 use Rattle.script_text.proofs.ScriptLaws.{counts-table}
 use Rattle.script_text.proofs.ReadLaws.{script_coded}
 use Rattle.memory.specs.Memory.{memory_refusal}
 use Rattle.stages.specs.Answers.{Ran, refused_run}
 use Rattle.stages.specs.Calls.{unless, strangers, on_script, untyped, number_of, accepted_run, run_on}
 use Rattle.stages.specs.Internal.Stages.{TableOf, AcceptedCode, RunsAccepted}
-use Rattle.stages.proofs.StageLaws.{goes, stopped, accepted_code, unreached}
+use Rattle.stages.proofs.StageLaws.{goes, stopped, accepted_code, lines_read, unreached}
 use Rattle.stages.proofs.Kept.{left_unrefused}
 use Rattle.scripts.specs.Parting.{script_texts, most_scripts}
 use Rattle.scripts.specs.Internal.Places.{script_texts_after, ends_from, kept_ends}
@@ -48,35 +49,34 @@ run_on-accepted s authority budget script memory ws a g m =
     ∙ rw a.is_its (goes (refused_run memory) (untyped s a.parsed) _ a.typed
     ∙ goes (refused_run memory) (memory_refusal s memory) _ m)
 
--- the lines of an accepted script are its code
-decoded_accepted : (t script : List ℕ) (p : Decoded) → p ≡ coded_text (written_of script) → (s : Sheet) → TableOf t s
-    → number_of s script ≡ 0
-    → p ≡ decoded_script (script_of (counts_in t) script)
-unfolding number_of on_script
-decoded_accepted t script p e s T n = go (script_of (counts_of s) script) refl n
-  where
-    k : counts_in t ≡ counts_of s
-    k = ap counts_in T.words ∙ counts-table s
+module _ (script t w : List ℕ) (r : Optional Decoded)
+    (e : option_map (λ d. (d, w)) r ≡ coded_text (written_of script)) where
+  -- what is decoded of an accepted script is its code
+  decoded_accepted : (s : Sheet) → TableOf t s → number_of s script ≡ 0
+      → option_map (λ d. (d, w)) r ≡ decoded_script (script_of (counts_in t) script)
+  unfolding number_of on_script
+  decoded_accepted s T n = go (script_of (counts_of s) script) refl n
+    where
+      k : counts_in t ≡ counts_of s
+      k = ap counts_in T.words ∙ counts-table s
 
-    go : (o : Maybe Script) → script_of (counts_of s) script ≡ o → on_script (λ j. j) o (λ c. untyped s c) ≡ 0
-        → p ≡ decoded_script (script_of (counts_in t) script)
-    go none x z = absurd (omega arith)
-    go (some c) x z = e ∙ script_coded (counts_in t) script c (ap (λ (j : Counts). script_of j script) k ∙ x)
+      go : (o : Maybe Script) → script_of (counts_of s) script ≡ o → on_script (λ j. j) o (λ c. untyped s c) ≡ 0
+          → option_map (λ d. (d, w)) r ≡ decoded_script (script_of (counts_in t) script)
+      go none x z = absurd (omega arith)
+      go (some c) x z = e ∙ script_coded (counts_in t) script c (ap (λ (j : Counts). script_of j script) k ∙ x)
 
-pub runs_script : (script t memory ws : List ℕ) (authority budget : ℕ) (p : Decoded) (r : Ran)
-    → p ≡ coded_text (written_of script)
-    → ws ≡ take (p.count * 3) p.code → RunsAccepted ws t memory authority budget r
-    → RunsScript script t memory authority budget r
-runs_script script t memory ws authority budget p r e w ran = record {
-  spares = ran.spares;
-  ran = λ s T g n m.
-      let a = accepted_code t script ws p (decoded_accepted t script p e s T n) w s T n in
-      let q = ran.ran s T script a m in (
-        q ∙ sym (run_on-accepted s authority budget script memory ws a g m),
-        rw q (left_unrefused s a.parsed a.source a.names a.typed memory authority budget m),
-      );
-  in_table = ran.in_table;
-}
+  pub runs_script : (memory ws : List ℕ) (authority budget : ℕ) (o : Ran) → ws ≡ take (lines_read r * 3) w
+      → RunsAccepted ws t memory authority budget o → RunsScript script t memory authority budget o
+  runs_script memory ws authority budget o l ran = record {
+    spares = ran.spares;
+    ran = λ s T g n m.
+        let a = accepted_code t script w ws r (decoded_accepted s T n) l s T n in
+        let q = ran.ran s T script a m in (
+          q ∙ sym (run_on-accepted s authority budget script memory ws a g m),
+          rw q (left_unrefused s a.parsed a.source a.names a.typed memory authority budget m),
+        );
+    in_table = ran.in_table;
+  }
 
 -- its turn: run where its gate has no number, else refused with it
 pub turn_runs : (script t memory : List ℕ) (authority budget number : ℕ) (r : Ran) → number ≡ 0

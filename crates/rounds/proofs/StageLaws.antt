@@ -1,14 +1,11 @@
 -- The stages of a round: what each leaves, from what it calls.
 use mathlib.Core.Path.{◌≡◌, refl, sym, ap, ◌∙◌}
-use mathlib.Core.Bool.{true, false}
 use mathlib.Core.List.{List, [], ◌∷◌}
 use Prim.Native.Nat.{ℕ, zero, suc, ◌≤◌, ◌<◌}
 use native.Mathlib.Omega.{arith}
 use lib.ListN.{length, take, replicate}
 use borrow.Author.Tests.{lt-ltb, le-ltb}
-use Rattle.sets.specs.Sets.{within}
 use Rattle.sheet.specs.Sheet.{Sheet}
-use Rattle.sheet.specs.Internal.Tables.{everyone_in}
 use Rattle.sheet_text.specs.Sheets.{accepted, sheet_of}
 use Rattle.memory.specs.Memory.{memory_refusal}
 use Rattle.memory.specs.Internal.InTable.{refusal_in}

@@ -27,7 +27,10 @@ pub struct Round {
 impl From<Refusal> for Round {
     ghost from_gives = { λ refusal round. round
         ≡ record {
-        answer = refusal_number refusal; answers = replicate most_scripts 0; steps = replicate most_scripts 0 } };
+          answer = refusal_number refusal;
+          answers = replicate most_scripts 0;
+          steps = replicate most_scripts 0;
+        } };
 
     fn from(refusal: Refusal) -> Round {
         Round {
@@ -77,14 +80,9 @@ fn run_script(
         (record { answer = result.answer; steps = result.steps; memory = memory.new }) }
 {
     let mut code = [0u32; script_text::WORDS];
-    let read = script_text::decode(script, &mut code);
-    stages::run_accepted(
-        script_text::rows(&code, read.count),
-        table,
-        memory,
-        authority,
-        budget,
-    )
+    let count = script_text::decode(script, &mut code).map_or(0, |decoded| decoded.count);
+    let rows = script_text::rows(&code, count);
+    stages::run_accepted(rows, table, memory, authority, budget)
 }
 
 // The turn of an accepted script: refused for its gate's reason, or run.
@@ -124,7 +122,14 @@ fn run_each(
     let mut steps = [0u32; MOST_SCRIPTS];
     let mut at: usize = 0;
     for (i, end) in ends.iter().enumerate() {
-        let ran = turn(&scripts[at..*end], gates[i], table, memory, authority, budget);
+        let ran = turn(
+            &scripts[at..*end],
+            gates[i],
+            table,
+            memory,
+            authority,
+            budget,
+        );
         answers[i] = ran.answer;
         steps[i] = ran.steps;
         at = *end + 1;
@@ -151,7 +156,7 @@ fn play(
     ensures { Plays scripts.now gates table.now memory.old authority budget (answered_round result memory.new) }
 {
     lowest_refusal(scripts, ends, table)?;
-    stages::memory_judged(memory::judge(table, memory))?;
+    memory::judge(table, memory)?;
     Ok(run_each(scripts, ends, gates, table, memory, authority, budget))
 }
 
@@ -171,5 +176,13 @@ pub fn round_on(
         return Err(Refusal::TooManyScripts);
     }
     let ends = &parting.ends[..parting.count];
-    play(scripts, ends, [None; MOST_SCRIPTS], table, memory, authority, budget)
+    play(
+        scripts,
+        ends,
+        [None; MOST_SCRIPTS],
+        table,
+        memory,
+        authority,
+        budget,
+    )
 }

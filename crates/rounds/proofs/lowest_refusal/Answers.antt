@@ -1,4 +1,4 @@
-use Rattle.std.proofs.Common.{◌≡◌, ℕ, ◌-◌, ◌≤◌, List, [], length, get_or, sym, ap, ◌∙◌, refl, arith}
+use Rattle.std.proofs.Common.{◌≡◌, ℕ, List, [], get_or, sym, ap, ◌∙◌, refl, arith}
 use Rattle.stages.specs.Refusals.{answer_number}
 use Rattle.stages.specs.Calls.{number_of}
 use Rattle.stages.specs.Internal.Stages.{number_in}
@@ -62,7 +62,7 @@ returns c =
     let h = c.loop-end.invariant in
     let found = answer_number c.loop-end.found in
     let all : (number : List ℕ → ℕ)
-        → found ≡ lower found (lowest number (script_texts_after _ c.loop-end.at)) =
+    → found ≡ lower found (lowest number (script_texts_after _ c.loop-end.at)) =
     λ number. sym (lower_left found (lowest number []) (lowest_over number))
     ∙ ap (λ (ts : List (List ℕ)). lower found (lowest number ts))
     (sym (over _ _ _ _ c.requires h.starts (omega (arith, c.loop-end-test.false, c.loop-end.auto.end-index-end)))) in

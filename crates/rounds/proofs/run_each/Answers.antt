@@ -1,4 +1,4 @@
-use Rattle.std.proofs.Common.{length, get_or, refl, sym, ap, ◌∙◌, arith}
+use Rattle.std.proofs.Common.{get_or, refl, arith}
 use Rattle.scripts.proofs.Places.{TextAt, first_starts, next_starts}
 use Rattle.rounds.proofs.RunLaws.{script_at, over, goes_first, goes_on_lem, goes_over}
 use Rattle.rounds.proofs.run_each.Goals as goal

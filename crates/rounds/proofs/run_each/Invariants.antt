@@ -1,5 +1,4 @@
 -- The rest of the round, placed from here on, is the whole.
-use Rattle.std.proofs.Common.{◌≡◌, length}
 use Rattle.scripts.proofs.Places.{StartsAt}
 use Rattle.rounds.proofs.RunLaws.{Goes}
 use Rattle.rounds.proofs.run_each.Given as goal

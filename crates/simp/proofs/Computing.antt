@@ -24,7 +24,6 @@ use Rattle.sheet.specs.Padding as padding
 use Rattle.sheet.specs.Internal.Growth as growth
 use Rattle.sheet_text.specs.Internal.Building as building
 use Rattle.sheet_text.specs.Reading as sheet-lines
-use Rattle.sheet_text.specs.Internal.Repeats as repeats
 use Rattle.sheet_text.specs.Sheets as sheets
 use Rattle.script_text.specs.Internal.Parse as parse
 use Rattle.script_text.specs.Reading as script_lines
@@ -107,7 +106,6 @@ unfolding building.last_of building.least_after
     building.add_line
     building.add_line_on building.add_lines building.build
     sheet-lines.number_rest sheet-lines.numbers_rest sheet-lines.label_rest sheet-lines.policy_rest sheet-lines.line_of
-    repeats.any_from
     sheets.build_read sheets.sheet_read sheets.judged sheets.sheet_of
 sheet_text_used = tt
 

@@ -23,7 +23,7 @@ fn on_sheet<T, F: FnMut(&[sheet::Word]) -> Result<T, Refusal>>(
     ensures { CallsOn F.FnMut (sheet_of sheet.now) call.old result call.new }
 {
     let mut table: [sheet::Word; sheet::WORDS] = [0; sheet::WORDS];
-    stages::sheet_read(sheet_text::read(sheet, &mut table))?;
+    sheet_text::read(sheet, &mut table)?;
     call(&table)
 }
 

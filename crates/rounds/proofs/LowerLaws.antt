@@ -188,5 +188,6 @@ lower_by x y =
     (λ p. rw p (sym (lower_second _ _ (refuses y) (ltb-true _ _ p))))
     (λ p. rw p (sym (lower_first _ _ (refuses x) (ltb-false _ _ p))))
 
-pub min_number : (x y : Refusal) → refusal_number (ord_min cmp-value.it x y) ≡ lower (refusal_number x) (refusal_number y)
+pub min_number : (x y : Refusal)
+    → refusal_number (ord_min cmp-value.it x y) ≡ lower (refusal_number x) (refusal_number y)
 min_number x y = rw (cmp-numbers y x, is_less (refusal_number y) (refusal_number x)) (lower_by x y)

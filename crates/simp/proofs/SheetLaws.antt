@@ -50,7 +50,8 @@ module _ {F A : Type 0} (g : Mut F (Bor (List ℕ) × Unit {0}) (Result A Refusa
 module _ {F A B : Type 0} {g : Mut F (Bor (List ℕ) × Unit {0}) (Result A Refusal)} (refuse : ℕ → B) (go : Sheet → B)
     (sheet : List ℕ) {f : F} {r : Result A Refusal} {f' : F} (h : CallsOn g (sheet_of sheet) f r f') (b : B) where
   pub answers : ((refusal : Refusal) → r ≡ Err refusal → f' ≡ f → b ≡ refuse (refusal_number refusal))
-      → ((s : Sheet) → sheet_of sheet ≡ accepted s → (p : Bor (List ℕ)) → TableOf p.now s → Called g f (p, tt) r f' → b ≡ go s)
+      → ((s : Sheet) → sheet_of sheet ≡ accepted s → (p : Bor (List ℕ)) → TableOf p.now s → Called g f (p, tt) r f'
+      → b ≡ go s)
       → b ≡ on_sheet refuse (sheet_of sheet) go
   unfolding CallsOn on_sheet
   answers refused called = at (sheet_of sheet) refl h

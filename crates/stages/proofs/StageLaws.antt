@@ -26,7 +26,7 @@ use Rattle.script.specs.Names.{Counts}
 use Rattle.script_text.specs.declared.Decoded.{Decoded}
 use Rattle.script_text.specs.Counts.{counts_of}
 use Rattle.script_text.specs.Script.{script_of}
-use Rattle.script_text.specs.Internal.Decoded.{counts_in, no_code, start_of, decoded_script}
+use Rattle.script_text.specs.Internal.Decoded.{counts_in, no_code, started_at, decoded_script}
 use Rattle.script_text.proofs.ScriptLaws.{counts-table}
 use Rattle.script_text.proofs.ReadLaws.{read_split, start_number}
 use Rattle.std.specs.Prelude.{Result, Ok, Err, IsErr, Option as Optional, Some, None, option_map, unwrap_or, IfNone}
@@ -133,7 +133,7 @@ module _ (t script w ws : List ℕ) (r : Optional Decoded)
 
   module _ (d : Decoded) (q : r ≡ Some d) where
     -- what the checker starts at is where the script does
-    starts : (c : Script) (x : Decoded) → r ≡ Some x → x.start ≡ start_of c.opening.start
+    starts : (c : Script) (x : Decoded) → r ≡ Some x → x.start ≡ started_at c.opening.start
         → unwrap_or d.start max_labels ≡ start_no c.opening.start
     starts c x a st =
         let k : Some d ≡ Some x = sym q ∙ a in

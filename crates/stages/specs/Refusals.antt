@@ -3,7 +3,8 @@ use Rattle.std.specs.Prelude.{ℕ, Result, Ok, Err}
 use Rattle.stages.specs.declared.refusal.Refusal.{Refusal}
 use Rattle.stages.specs.declared.refusal.Refusal.TheVariants.{SheetMalformed, SheetRepeats, PrincipalUnknown}
 use Rattle.stages.specs.declared.refusal.Refusal.TheVariants.{ScriptMalformed, IllTyped, IllLabelled, SliceSize}
-use Rattle.stages.specs.declared.refusal.Refusal.TheVariants.{MemoryIllFormed, Spent, TooLong, TooManyScripts, NotListed}
+use Rattle.stages.specs.declared.refusal.Refusal.TheVariants.{MemoryIllFormed, Spent, TooLong, TooManyScripts}
+use Rattle.stages.specs.declared.refusal.Refusal.TheVariants.{NotListed}
 
 abbrev pub refusal_number : Refusal → ℕ
 refusal_number SheetMalformed = 1

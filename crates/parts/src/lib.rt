@@ -11,7 +11,8 @@ pub const KEEP: usize = text::LIMIT + 1;
 // The most texts that a state holds.
 pub const TEXTS: usize = 8;
 
-// Which text goes on, whether a line starts there, and how many bytes are kept of each text.
+// Which text goes on, whether a line starts there, and how many bytes are kept of each text. The buffer is lent to each
+// call, and no part of it, so that a state is a value (`Held`, in the contracts, has both).
 #[derive(Clone, Copy, Debug, PartialEq, Eq)]
 pub struct State {
     pub text: usize,

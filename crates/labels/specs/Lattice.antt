@@ -1,6 +1,6 @@
 -- What the labels of n principals satisfy: the paper's security lattice (section 2.2, lemma 1) with the scope's labels,
 -- what the scope says of policies and of the empty group, and what is claimed of both rules of reading (request (g)).
--- The proofs are `security_lattices`, `non_trivial` and `one_Label` (proofs/LatticeLaws.antt), `empty_groups`,
+-- The proofs are `security_lattices`, `non_trivial` and `one_label` (proofs/LatticeLaws.antt), `empty_groups`,
 -- `closed_below`, `reading_downward`, `reads_below` and `two_rules` (proofs/ReadingLaws.antt) and `policies_effective`
 -- (proofs/PolicyLaws.antt).
 -- The scope differs from the paper in this: an owner's writers in bottom and in C(A) are {o}, since an owner is always

@@ -69,7 +69,7 @@ run_in verdict run t script memory authority =
     unless (refused_run memory) verdict (
     unless (refused_run memory) (refusal_in t memory) run)))
 
--- a view, as viewOf has it on a sheet; nothing is free
+-- a view, as view_of has it on a sheet; nothing is free
 unfoldable pub viewed_in : List ℕ → List ℕ → ℕ → List ℕ → Viewed
 viewed_in t memory group view =
     unless (refused_view view) (strangers_in t group) (

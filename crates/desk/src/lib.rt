@@ -62,7 +62,8 @@ fn place(order: &[Refusal], k: u8) -> Option<usize>
     order.iter().position(|&refusal| k == u8::from(refusal))
 }
 
-// The rank of a number in the order of a view's table, 1 2 3 7 8; what isn't in it comes after all of it.
+// The rank of a number in the order of a view's table, 1 2 3 7 8; what isn't in it comes after all of it. A number, and
+// not a refusal, since that is what `simp_view` answers, as C sees it.
 fn rank(k: u8) -> usize
     ensures { result ≡ rank_of order k }
 {

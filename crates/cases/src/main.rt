@@ -2,7 +2,6 @@
 #![tactic(auto)]
 
 use desk::OUTPUT_ROOM;
-use memory_text::Memory;
 use sets::Set;
 use std::io;
 
@@ -18,14 +17,19 @@ struct Case<'a> {
 }
 
 impl Case<'_> {
-    // The run: its answer and steps, and the memory as it then is.
+    // The run, on the memory of the case's text; on none where the text is no memory's.
     fn run(&self, rt: &impl Print) -> io::Result<()> {
         print_name(rt, self.name)?;
-        let Memory { count, mut words } = memory_text::read_memory(self.memory).unwrap_or(Memory {
-            count: 0,
-            words: [0; memory_text::WORDS],
-        });
-        let words = &mut words[..count * memory::CELL];
+        let Some(read) = memory_text::read_memory(self.memory) else {
+            return self.run_on(rt, &mut []);
+        };
+        let mut words = read.words;
+        let words = &mut words[..read.count * memory::CELL];
+        self.run_on(rt, words)
+    }
+
+    // The run on a memory: its answer and steps, and the memory as it then is.
+    fn run_on(&self, rt: &impl Print, words: &mut [u32]) -> io::Result<()> {
         let outcome = simp::simp_run(self.sheet, self.script, words, self.authority, self.budget);
         println!(rt; "{}\t{}", outcome.answer, outcome.steps)?;
         print_memory(rt, words)

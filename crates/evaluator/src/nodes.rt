@@ -182,7 +182,9 @@ fn second_part(work: &mut [u32; WORK]) -> Result<(), Stop>
     Ok(())
 }
 
-// The pair of the value with these words and the value in the accumulator.
+// The pair of the value with these words and the value in the accumulator. It is kept out of line, so that the words
+// that it moves take no place in a frame of the recursion.
+#[inline(never)]
 pub(crate) fn pair(work: &mut [u32; WORK], first: &[u32; CELL]) -> Result<(), Stop>
     ensures { Pairs first.now work.old (state_number result) work.new }
 {

@@ -54,15 +54,22 @@ fn lower(a: Result<(), Refusal>, b: Result<(), Refusal>) -> Result<(), Refusal>
     Err(first.min(second))
 }
 
-// The lowest refusal over all scripts of a text, if one is refused. `ends`: where each script ends (scripts::part).
-fn lowest_refusal(scripts: &[u8], ends: &[usize], table: &[sheet::Word]) -> Result<(), Refusal>
-    requires { Parted scripts.now ends.now }
-    ensures { NumbersAll scripts.now table.now (answer_number result) }
+// The scripts of a text, each of which has a place: the text, and where each script ends (scripts::part).
+#[derive(Clone, Copy)]
+struct Scripts<'a> {
+    text: &'a [u8],
+    ends: &'a [usize],
+    ghost parted: { Parted text.now ends.now },
+}
+
+// The lowest refusal over all scripts of a text, if one is refused.
+fn lowest_refusal(scripts: &Scripts, table: &[sheet::Word]) -> Result<(), Refusal>
+    ensures { NumbersAll scripts.now.text.now table.now (answer_number result) }
 {
     let mut found = Ok(());
     let mut at: usize = 0;
-    for end in ends {
-        found = lower(found, stages::check_on(&scripts[at..*end], table));
+    for end in scripts.ends {
+        found = lower(found, stages::check_on(&scripts.text[at..*end], table));
         at = *end + 1;
     }
     found
@@ -106,24 +113,22 @@ fn turn(
 // Runs accepted scripts one after another, each with the whole budget; one whose gate has a refusal gets that instead.
 // One that stops leaves the memory as it was, and the next one runs.
 fn run_each(
-    scripts: &[u8],
-    ends: &[usize],
+    scripts: &Scripts,
     gates: [Option<Refusal>; MOST_SCRIPTS],
     table: &[sheet::Word],
     memory: &mut [u32],
     authority: Set,
     budget: u32,
 ) -> Round
-    requires { Parted scripts.now ends.now }
-    ensures { RunsEach scripts.now gates table.now memory.old authority budget
+    ensures { RunsEach scripts.now.text.now gates table.now memory.old authority budget
         (record { answer = result.answer; answers = result.answers; steps = result.steps; memory = memory.new }) }
 {
     let mut answers = [0u8; MOST_SCRIPTS];
     let mut steps = [0u32; MOST_SCRIPTS];
     let mut at: usize = 0;
-    for (i, end) in ends.iter().enumerate() {
+    for (i, end) in scripts.ends.iter().enumerate() {
         let ran = turn(
-            &scripts[at..*end],
+            &scripts.text[at..*end],
             gates[i],
             table,
             memory,
@@ -144,20 +149,19 @@ fn run_each(
 // Checks the scripts of a text, and runs them on a memory, each by its gate: open where there is no refusal. The
 // authority is known.
 fn play(
-    scripts: &[u8],
-    ends: &[usize],
+    scripts: &Scripts,
     gates: [Option<Refusal>; MOST_SCRIPTS],
     table: &[sheet::Word],
     memory: &mut [u32],
     authority: Set,
     budget: u32,
 ) -> Result<Round, Refusal>
-    requires { Parted scripts.now ends.now }
-    ensures { Plays scripts.now gates table.now memory.old authority budget (answered_round result memory.new) }
+    ensures { Plays scripts.now.text.now gates table.now memory.old authority budget
+        (answered_round result memory.new) }
 {
-    lowest_refusal(scripts, ends, table)?;
+    lowest_refusal(scripts, table)?;
     memory::judge(table, memory)?;
-    Ok(run_each(scripts, ends, gates, table, memory, authority, budget))
+    Ok(run_each(scripts, gates, table, memory, authority, budget))
 }
 
 // Plays a round on the sheet of a table.
@@ -175,10 +179,12 @@ pub fn round_on(
     if MOST_SCRIPTS < parting.count {
         return Err(Refusal::TooManyScripts);
     }
-    let ends = &parting.ends[..parting.count];
+    let scripts = Scripts {
+        text: scripts,
+        ends: &parting.ends[..parting.count],
+    };
     play(
-        scripts,
-        ends,
+        &scripts,
         [None; MOST_SCRIPTS],
         table,
         memory,

@@ -22,8 +22,8 @@ loop-end-init c = record {
 
 -- the script that starts here
 here : (c : In-loop-end)
-    → TextAt c.args.scripts.now c.loop-end.at (get_or c.args.ends.now c.loop-end.end-index 0)
-here c = script_at _ _ _ _ c.requires c.loop-end.invariant.starts _ c.loop-end-test.true refl
+    → TextAt c.args.scripts.now.text.now c.loop-end.at (get_or c.args.scripts.now.ends.now c.loop-end.end-index 0)
+here c = script_at _ _ _ _ c.args.scripts.now.parted c.loop-end.invariant.starts _ c.loop-end-test.true refl
 
 pub slice_bounds-check_on-count : goal.slice_bounds-check_on-count
 slice_bounds-check_on-count c = omega (arith, (here (goal.at.slice_bounds-check_on-count c).In-loop-end).rises)
@@ -65,7 +65,8 @@ returns c =
     → found ≡ lower found (lowest number (script_texts_after _ c.loop-end.at)) =
     λ number. sym (lower_left found (lowest number []) (lowest_over number))
     ∙ ap (λ (ts : List (List ℕ)). lower found (lowest number ts))
-    (sym (over _ _ _ _ c.requires h.starts (omega (arith, c.loop-end-test.false, c.loop-end.auto.end-index-end)))) in
+    (sym (over _ _ _ _ c.args.scripts.now.parted h.starts
+    (omega (arith, c.loop-end-test.false, c.loop-end.auto.end-index-end)))) in
     let (v, of, is) = h.in_table in
     record {
       numbered = λ s T. all (number_of s) ∙ h.found s T;

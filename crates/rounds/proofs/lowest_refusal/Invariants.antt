@@ -13,11 +13,11 @@ use Rattle.rounds.proofs.lowest_refusal.Given as goal
 
 abbrev pub invariant-loop-end : goal.invariant-loop-end
 invariant-loop-end l = record {
-  starts : StartsAt l.scripts l.end-index l.at;
+  starts : StartsAt l.scripts.text.now l.end-index l.at;
   found : (s : Sheet) → TableOf l.table s
-      → lower (answer_number l.found) (lowest (number_of s) (script_texts_after l.scripts l.at))
-      ≡ lowest (number_of s) (script_texts l.scripts);
+      → lower (answer_number l.found) (lowest (number_of s) (script_texts_after l.scripts.text.now l.at))
+      ≡ lowest (number_of s) (script_texts l.scripts.text.now);
   in_table : (v : ℕ) × OfVerdict v
-      × (lower (answer_number l.found) (lowest (number_in 0 l.table) (script_texts_after l.scripts l.at))
-      ≡ lowest_in v l.table (script_texts l.scripts));
+      × (lower (answer_number l.found) (lowest (number_in 0 l.table) (script_texts_after l.scripts.text.now l.at))
+      ≡ lowest_in v l.table (script_texts l.scripts.text.now));
 }

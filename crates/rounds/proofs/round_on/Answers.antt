@@ -13,8 +13,10 @@ returns-then-parting-gt-MOST_SCRIPTS c =
     round_many _ _ _ _ _ c.in_ok-known.ensures
     (many_scripts _ _ (ap (λ (p : Parting). p.count) c.part-parting.ensures) c.if-parting-gt-MOST_SCRIPTS.true)
 
-pub play-requires : goal.play-requires
-play-requires c = parted _ _ _ c.part-parting.ensures c.if-parting-gt-MOST_SCRIPTS.false refl
+pub invariant_of-scripts : goal.invariant_of-scripts
+invariant_of-scripts c = record {
+  parted = parted _ _ _ c.part-parting.ensures c.if-parting-gt-MOST_SCRIPTS.false refl;
+}
 
 pub returns : goal.returns
 returns c =

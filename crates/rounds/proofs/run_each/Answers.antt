@@ -5,11 +5,12 @@ use Rattle.rounds.proofs.run_each.Goals as goal
 use Rattle.rounds.proofs.run_each.Goals.{In-loop-i}
 
 pub loop-i-init : goal.loop-i-init
-loop-i-init c = record { starts = first_starts _; goes = goes_first _ _ _ _ _ _ c.requires.few }
+loop-i-init c = record { starts = first_starts _; goes = goes_first _ _ _ _ _ _ c.args.scripts.now.parted.few }
 
 -- the script that starts here
-here : (c : In-loop-i) → TextAt c.args.scripts.now c.loop-i.at (get_or c.args.ends.now c.loop-i.i 0)
-here c = script_at _ _ _ _ c.requires c.loop-i.invariant.starts _ c.loop-i-test.true refl
+here : (c : In-loop-i)
+    → TextAt c.args.scripts.now.text.now c.loop-i.at (get_or c.args.scripts.now.ends.now c.loop-i.i 0)
+here c = script_at _ _ _ _ c.args.scripts.now.parted c.loop-i.invariant.starts _ c.loop-i-test.true refl
 
 pub slice_bounds-turn-count : goal.slice_bounds-turn-count
 slice_bounds-turn-count c = omega (arith, (here (goal.at.slice_bounds-turn-count c).In-loop-i).rises)
@@ -31,5 +32,7 @@ loop-i-preserved c =
     }
 
 pub returns : goal.returns
-returns c = goes_over _ _ _ _ _ _ _ _ _ _ _ c.loop-i.invariant.goes
-    (over _ _ _ _ c.requires c.loop-i.invariant.starts (omega (arith, c.loop-i-test.false, c.loop-i.auto.i-end)))
+returns c =
+    let h = c.loop-i.invariant in
+    goes_over _ _ _ _ _ _ _ _ _ _ _ h.goes
+    (over _ _ _ _ c.args.scripts.now.parted h.starts (omega (arith, c.loop-i-test.false, c.loop-i.auto.i-end)))

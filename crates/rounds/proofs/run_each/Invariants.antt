@@ -5,6 +5,7 @@ use Rattle.rounds.proofs.run_each.Given as goal
 
 abbrev pub invariant-loop-i : goal.invariant-loop-i
 invariant-loop-i l = record {
-  starts : StartsAt l.scripts l.i l.at;
-  goes : Goes l.scripts l.gates l.table l.initial.memory l.authority l.budget l.i l.at l.answers l.steps l.memory;
+  starts : StartsAt l.scripts.text.now l.i l.at;
+  goes : Goes l.scripts.text.now l.gates l.table l.initial.memory l.authority l.budget l.i l.at l.answers l.steps
+      l.memory;
 }

@@ -99,7 +99,8 @@ pub fn accept(
     })
 }
 
-// Runs the code of an accepted script on a memory that isn't refused.
+// Runs the code of an accepted script on a memory that isn't refused. Here and in the round, table, authority and budget
+// are no struct that is lent: the compiler then loses the table's length, and a check's stack passes the header's limit.
 pub fn run_accepted(
     code: &[u32],
     table: &[sheet::Word],

@@ -36,7 +36,8 @@ pub fn copy_cell(work: &mut [u32], from: usize, to: usize)
     }
 }
 
-// The word w in front of the words in the accumulator; the last of these goes.
+// The word w in front of the words in the accumulator; the last of these goes. Not by `push_words`, whose array would
+// take 64 bytes more of each line's frame.
 pub fn push(work: &mut [u32], w: u32)
     ensures { work.new
         ≡ store_of work.old accumulator (push_of w (load_of work.old accumulator)) }

@@ -76,7 +76,8 @@ impl Iterator for Smallest {
     ghost remaining = { item_count to_come };
 
     fn next(&mut self) -> Option<Set> {
-        // A variable, since a store to the field at each turn takes instructions.
+        // A variable, since a store to the field at each turn takes instructions; and a `while`, since a turn may pass
+        // more than one group.
         let mut from = self.from;
         while from < self.end {
             let group = from as Set;

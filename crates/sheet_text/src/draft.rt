@@ -136,7 +136,8 @@ fn step(table: &mut [Word; WORDS], least: u32, line: SheetLine) -> Option<u32>
     Some(next)
 }
 
-// The sheet of a text, from a table of zeros.
+// The sheet of a text, from a table of zeros. Three functions ask for these zeros; a type for such a table would be
+// left at the first line.
 pub(crate) fn draft_of(s: &[u8], table: &mut [Word; WORDS]) -> Option<u32>
     requires { table.old ≡ replicate table_words 0 }
     ensures { DraftHolds (sheet_read s.now) result table.new }

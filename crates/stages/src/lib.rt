@@ -15,7 +15,7 @@ use sets::Set;
 // What a call answers where nothing refuses: it is done, or accepted, or shown.
 pub const DONE: u8 = 0;
 
-// How a run ended: its answer, and the transitions that it took.
+// How a run ended: its answer, and the transitions that it took. In the structs that C sees an answer is a number.
 #[repr(C)]
 #[derive(Clone, Copy, Debug, PartialEq, Eq)]
 pub struct Outcome {
@@ -62,7 +62,7 @@ impl From<Refusal> for Trust {
     }
 }
 
-// What a call answers.
+// What a call answers; no `From`, since a number and a `Result` are both std's types.
 pub fn number(found: Result<(), Refusal>) -> u8
     ensures { result ≡ answer_number found }
 {
@@ -99,8 +99,9 @@ pub fn accept(
     })
 }
 
-// Runs the code of an accepted script on a memory that isn't refused. Here and in the round, table, authority and budget
-// are no struct that is lent: the compiler then loses the table's length, and a check's stack passes the header's limit.
+// Runs the code of an accepted script on a memory that isn't refused. Here and in the round, table, authority and
+// budget are no struct that is lent: the compiler then loses the table's length, and a check's stack passes the limit
+// of the header.
 pub fn run_accepted(
     code: &[u32],
     table: &[sheet::Word],

@@ -10,7 +10,7 @@ returns-in_err-read c =
     let n : c.read.result ≡ None = grind arith in
     let m : c.in_err-read.field-0.0 ≡ ScriptMalformed = grind arith in
     rw (passed_on _ _ c.from_residual.ensures, m)
-        (accepts_none _ _ _ _ _ c.read.ensures.decoded refl n c.read.ensures.refused)
+    (accepts_none _ _ _ _ _ c.read.ensures.decoded refl n c.read.ensures.refused)
 
 pub returns-in_err-found : goal.returns-in_err-found
 returns-in_err-found c =

@@ -148,7 +148,7 @@ module _ (sheet text group : List ℕ) where
   abbrev printed : Option ℕ → Read (List ℕ) → List ℕ
   printed o m =
       said (other_number (unread o m))
-          (view_of sheet (words_read m) (unwrap_or o 0) (replicate (length (words_read m)) 0))
+      (view_of sheet (words_read m) (unwrap_or o 0) (replicate (length (words_read m)) 0))
 
   show_by : show_of sheet text group ≡ printed (group_of group) (memory text)
   unfolding show_of viewed given_of given_from

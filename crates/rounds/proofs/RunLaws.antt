@@ -106,7 +106,7 @@ kept-long : (scripts : List ℕ) → length (kept_ends scripts) ≡ most_scripts
 unfolding kept_ends
 kept-long scripts =
     length-sets (replicate most_scripts 0) 0 (ends_from 0 (script_texts scripts))
-        ∙ length-replicate {A = ℕ} most_scripts 0
+    ∙ length-replicate {A = ℕ} most_scripts 0
 
 -- where a script is left, its start is within the text
 some_left : (scripts : List ℕ) (at : ℕ) → 0 < length (script_texts_after scripts at) → at ≤ length scripts

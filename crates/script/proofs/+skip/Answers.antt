@@ -20,8 +20,11 @@ skip-second-requires t c = omega (arith, laws.line_in _ _ c.row_at-row.ensures c
 
 pub skip-requires-in-2 : goal.skip-requires-in-2
 skip-requires-in-2 t c =
-    omega (arith, laws.line_in _ _ c.row_at-row.ensures c.operands-n.ensures (omega arith),
-    c.skip-second.ensures.forward)
+    omega (
+      arith,
+      laws.line_in _ _ c.row_at-row.ensures c.operands-n.ensures (omega arith),
+      c.skip-second.ensures.forward,
+    )
 
 pub returns-in-0 : goal.returns-in-0
 returns-in-0 t c = laws.skip-line _ _ c.row_at-row.ensures c.operands-n.ensures c.in-0.is

@@ -115,13 +115,15 @@ repeat-returns-in_err-fuel t c =
     (tick_spent _ 0 refl c.in_err-fuel.ensures.1) 0 (stopped Spent))))
 
 pub repeat-loop-side-preserved : goal.repeat-loop-side-preserved
-repeat-loop-side-preserved t c =
-    ((λ n e. let q : c.in_ok-end.end ≡ n = cc in omega
-    (arith, c.in_ok-side.ensures.forward refl, c.in_ok-end.ensures.forward refl)), λ d cells y.
-    c.loop-side.invariant.1 d cells
-    (laws.rounds_any
-    (laws.while-again refl c.requires c.in_ok-side.ensures (on_left _ c.if-eq.ensures) c.in_ok-end.ensures
-    (tick_step _ refl c.in_ok-fuel.ensures) refl y)))
+repeat-loop-side-preserved t c = (
+  (λ n e. let q : c.in_ok-end.end ≡ n = cc in omega
+      (arith, c.in_ok-side.ensures.forward refl, c.in_ok-end.ensures.forward refl)),
+  λ d cells y.
+      c.loop-side.invariant.1 d cells
+      (laws.rounds_any
+      (laws.while-again refl c.requires c.in_ok-side.ensures (on_left _ c.if-eq.ensures) c.in_ok-end.ensures
+      (tick_step _ refl c.in_ok-fuel.ensures) refl y)),
+)
 
 pub repeat-loop-side-smaller : goal.repeat-loop-side-smaller
 repeat-loop-side-smaller t c =

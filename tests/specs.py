@@ -27,7 +27,7 @@ FUNCTION = re.compile(r'(?:#\[[^\]]*\] ?)*(pub(?:\(\w+\))? )?(extern "C" )?fn (\
 ITEM = re.compile(r"(?:#\[[^\]]*\] ?)*(?:pub(?:\(\w+\))? )?(?:struct|enum|type|const) (?!fn |extern )(\w+)")
 CODE_USE = re.compile(r"(?:pub )?use ([\w:]+)::(?:(\w+)(?: as (\w+))?;|\{([\w: ,]*)\})")
 # what asks the check to try its tactics; any other line of a whole file could change what its clauses mean
-TACTICS = re.compile(r"#!\[tactic\(auto(?:, (?:using|unfolding)\([\w:, ]*\))*\)\]")
+TACTICS = re.compile(r"#!\[tactic\(auto(?:, unfolding\(\w+(?:::\w+)+\))?\)\]")
 # an impl of these says nothing of what a value means in a clause, but what is printed or refused, what a conversion
 # gives and which items come; a type's own methods have contracts of their own
 IMPL = re.compile(

@@ -63,7 +63,8 @@ pub fn next_location(reader: &mut Reader) -> Option<[u32; CELL]>
     ensures line { (result, reader.new.at)
         ≡ moved reader.old.at (placed reader.old.text.now (location_of (drop reader.old.at reader.old.text.now))) }
 {
-    reader.next(location)
+    let found = location(reader.text, reader.at);
+    reader.next(found)
 }
 
 // The words of a location from `at` on.

@@ -1,8 +1,9 @@
-// A reader holds the text and the byte it has reached. A function that reads at a byte of a text reads from a reader
-// by the reader's method `next`; the functions that do the work take the slice and the number.
+// A reader holds the text and the byte it has reached. The functions that do the work take the slice and the number;
+// by what they find the reader moves on, by its method `next`.
 #![tactic(auto)]
 
-ghost use Rattle.std.specs.Prelude.{◌≡◌, None, Some, MatchOption};
+ghost use Rattle.std.specs.Prelude.{◌≡◌};
+ghost use Rattle.reader.specs.Internal.Moved.{moved};
 
 // A text and the byte that is reached.
 #[derive(Clone, Copy)]
@@ -12,19 +13,14 @@ pub struct Reader<'a> {
 }
 
 impl<'a> Reader<'a> {
-    // What `read` finds at the byte that is reached. The reader then stands after it, or where it stood where nothing
-    // is found.
-    pub fn next<T, F>(&mut self, read: F) -> Option<T>
-    where
-        F: FnOnce(&[u8], usize) -> Option<(T, usize)>,
-        requires { F.pre read self.old.text self.old.at }
+    // Moves on by what was found at the byte that is reached: the reader then stands at the byte after it, or where it
+    // stood where nothing is found.
+    pub fn next<T>(&mut self, found: Option<(T, usize)>) -> Option<T>
         ensures text { self.new.text ≡ self.old.text }
-        ensures found { MatchOption result
-            (F.post read self.old.text self.old.at None × (self.new.at ≡ self.old.at))
-            (λ x. F.post read self.old.text self.old.at (Some (x, self.new.at))) }
+        ensures found { (result, self.new.at) ≡ moved self.old.at found }
     {
-        let (found, at) = read(self.text, self.at)?;
+        let (value, at) = found?;
         self.at = at;
-        Some(found)
+        Some(value)
     }
 }

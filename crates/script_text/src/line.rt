@@ -72,5 +72,6 @@ pub fn next_line(reader: &mut Reader) -> Option<Row>
     ensures line { (result, reader.new.at)
         ≡ moved reader.old.at (placed_line reader.old.text.now (line_of (drop reader.old.at reader.old.text.now))) }
 {
-    reader.next(line_at)
+    let found = line_at(reader.text, reader.at);
+    reader.next(found)
 }

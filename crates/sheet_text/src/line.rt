@@ -90,5 +90,6 @@ pub fn next_line(reader: &mut Reader) -> Option<SheetLine>
     ensures text { reader.new.text ≡ reader.old.text }
     ensures line { (result, reader.new.at) ≡ moved reader.old.at (line_at reader.old.text.now reader.old.at) }
 {
-    reader.next(line_at)
+    let found = line_at(reader.text, reader.at);
+    reader.next(found)
 }

@@ -5,9 +5,9 @@ mod bindings; // bindings.rt: what enclosing cases bind
 mod expressions; // expressions.rt: types and least labels of expressions
 mod commands; // commands.rt: commands
 
-ghost use Rattle.std.specs.Prelude.{◌≡◌, unwrap_or};
+ghost use Rattle.std.specs.Prelude.{◌≡◌, Some, unwrap_or};
 ghost use Rattle.sheet.specs.Sheet.{max_labels};
-ghost use Rattle.checker.specs.Verdict.{verdict_number};
+ghost use Rattle.checker.specs.Verdict.{verdict_number, typing_error_text};
 ghost use Rattle.checker.specs.Internal.Post.{ChecksCode, KeepsCode, verdict_of};
 
 use bindings::Bindings;
@@ -22,6 +22,8 @@ pub enum TypingError {
 }
 
 impl fmt::Display for TypingError {
+    ghost output = { λ e. Some (typing_error_text e) };
+
     fn fmt<W: fmt::Write>(&self, f: &mut fmt::Formatter<W>) -> fmt::Result {
         f.write_str(match self {
             TypingError::IllTyped => "the types don't fit",

@@ -3,7 +3,8 @@
 
 mod nodes; // nodes.rt: a value made of one or two others, in the accumulator
 
-ghost use Rattle.std.specs.Prelude.{◌≡◌};
+ghost use Rattle.std.specs.Prelude.{◌≡◌, Some};
+ghost use Rattle.evaluator.specs.State.{stop_text};
 ghost use Rattle.script.specs.Internal.Code.{row_at};
 ghost use Rattle.evaluator.specs.Internal.Given.{setting_of, place_in};
 ghost use Rattle.evaluator.specs.Internal.Records.{reached};
@@ -33,12 +34,14 @@ pub enum Stop {
 }
 
 impl fmt::Display for Stop {
+    ghost output = { λ e. Some (stop_text e) };
+
     fn fmt<W: fmt::Write>(&self, f: &mut fmt::Formatter<W>) -> fmt::Result {
-        match self {
-            Stop::Spent => write!(f, "the budget is used up"),
-            Stop::TooLong => write!(f, "a value is too long"),
-            Stop::NoRule => write!(f, "no rule applies"),
-        }
+        f.write_str(match self {
+            Stop::Spent => "the budget is used up",
+            Stop::TooLong => "a value is too long",
+            Stop::NoRule => "no rule applies",
+        })
     }
 }
 

@@ -4,7 +4,7 @@
 mod values; // values.rt: the words of a value
 mod masks; // masks.rt: what a group is shown of a value
 
-ghost use Rattle.std.specs.Prelude.{◌≡◌, ◌+◌, ◌*◌, ◌≤◌, eqb, ltb, length, drop};
+ghost use Rattle.std.specs.Prelude.{◌≡◌, ◌+◌, ◌*◌, ◌≤◌, Some, eqb, ltb, length, drop};
 ghost use Rattle.logic.specs.Booleans.{both};
 ghost use Rattle.language.specs.Syntax.{size};
 ghost use Rattle.language.specs.World.{cell_words};
@@ -15,7 +15,7 @@ ghost use Rattle.memory.specs.Words.{value_of};
 ghost use Rattle.memory.specs.Internal.Post.{end_of};
 ghost use Rattle.memory.specs.Memory.{holds_by, cell_of};
 ghost use Rattle.memory.specs.View.{view_cell};
-ghost use Rattle.memory.specs.Verdict.{memory_number};
+ghost use Rattle.memory.specs.Verdict.{memory_number, memory_error_text};
 ghost use Rattle.memory.specs.Internal.InTable.{refusal_in, sees_in, view_in, view_refusal_in};
 ghost use Rattle.memory.specs.Internal.InTable.{view_leaves_in};
 
@@ -57,11 +57,13 @@ pub enum MemoryError {
 }
 
 impl fmt::Display for MemoryError {
+    ghost output = { λ e. Some (memory_error_text e) };
+
     fn fmt<W: fmt::Write>(&self, f: &mut fmt::Formatter<W>) -> fmt::Result {
-        match self {
-            MemoryError::OtherSize => write!(f, "a slice isn't 16 words for each location"),
-            MemoryError::IllFormed => write!(f, "the memory isn't well-formed"),
-        }
+        f.write_str(match self {
+            MemoryError::OtherSize => "a slice isn't 16 words for each location",
+            MemoryError::IllFormed => "the memory isn't well-formed",
+        })
     }
 }
 

@@ -5,7 +5,8 @@ mod line; // line.rt: from bytes to lines
 mod draft; // draft.rt: from lines to the table
 mod repeat; // repeat.rt: whether a table repeats a type or a label
 
-ghost use Rattle.std.specs.Prelude.{◌≡◌, replicate};
+ghost use Rattle.std.specs.Prelude.{◌≡◌, Some, replicate};
+ghost use Rattle.sheet_text.specs.Verdict.{sheet_error_text};
 ghost use Rattle.sheet.specs.Internal.Tables.{table_words};
 ghost use Rattle.sheet_text.specs.Sheets.{sheet_of};
 ghost use Rattle.sheet_text.specs.Internal.Decoded.{Judges, decoded_sheet};
@@ -24,6 +25,8 @@ pub enum SheetError {
 }
 
 impl fmt::Display for SheetError {
+    ghost output = { λ e. Some (sheet_error_text e) };
+
     fn fmt<W: fmt::Write>(&self, f: &mut fmt::Formatter<W>) -> fmt::Result {
         f.write_str(match self {
             SheetError::Malformed => "the sheet is not of the form",

@@ -1,5 +1,5 @@
 -- Why a call refuses, with the scope's number of each reason, and what a call answers: 0 where nothing refuses.
-use Rattle.std.specs.Prelude.{ℕ, Result, Ok, Err}
+use Rattle.std.specs.Prelude.{ℕ, List, Result, Ok, Err, codes}
 use Rattle.stages.specs.declared.refusal.Refusal.{Refusal}
 use Rattle.stages.specs.declared.refusal.Refusal.TheVariants.{SheetMalformed, SheetRepeats, PrincipalUnknown}
 use Rattle.stages.specs.declared.refusal.Refusal.TheVariants.{ScriptMalformed, IllTyped, IllLabelled, SliceSize}
@@ -23,3 +23,18 @@ refusal_number NotListed = 12
 abbrev pub answer_number : {A : Type 0} → Result A Refusal → ℕ
 answer_number (Ok x) = 0
 answer_number (Err refusal) = refusal_number refusal
+
+-- what is printed of it
+abbrev pub refusal_text : Refusal → List ℕ
+refusal_text SheetMalformed = codes "the sheet is not of the form"
+refusal_text SheetRepeats = codes "the sheet repeats a type or a label"
+refusal_text PrincipalUnknown = codes "a principal is not on the sheet"
+refusal_text ScriptMalformed = codes "the script is not of the form"
+refusal_text IllTyped = codes "the script is ill typed"
+refusal_text IllLabelled = codes "the script is ill labelled"
+refusal_text SliceSize = codes "a slice is not of the sheet's size"
+refusal_text MemoryIllFormed = codes "the memory is ill formed"
+refusal_text Spent = codes "the budget is spent"
+refusal_text TooLong = codes "a value is too long"
+refusal_text TooManyScripts = codes "there are too many scripts"
+refusal_text NotListed = codes "there is no such label, or no place for each group"

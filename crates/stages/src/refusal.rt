@@ -1,10 +1,10 @@
 // Why a call refuses.
-ghost use Rattle.std.specs.Prelude.{◌≡◌, Err};
+ghost use Rattle.std.specs.Prelude.{◌≡◌, Some, Err};
 ghost use Rattle.sheet_text.specs.Verdict.{sheet_number};
 ghost use Rattle.memory.specs.Verdict.{memory_number};
 ghost use Rattle.checker.specs.Verdict.{verdict_number};
 ghost use Rattle.evaluator.specs.State.{state_number};
-ghost use Rattle.stages.specs.Refusals.{refusal_number};
+ghost use Rattle.stages.specs.Refusals.{refusal_number, refusal_text};
 
 use checker::TypingError;
 use evaluator::Stop;
@@ -31,6 +31,8 @@ pub enum Refusal {
 }
 
 impl fmt::Display for Refusal {
+    ghost output = { λ e. Some (refusal_text e) };
+
     fn fmt<W: fmt::Write>(&self, f: &mut fmt::Formatter<W>) -> fmt::Result {
         f.write_str(match self {
             Refusal::SheetMalformed => "the sheet is not of the form",

@@ -25,14 +25,17 @@ pub struct Groups {
 }
 
 // A refused call lists nothing.
+pub fn refused(answer: u8) -> Groups
+    ensures { result ≡ record { answer = answer; count = 0 } }
+{
+    Groups { answer, count: 0 }
+}
+
 impl From<Refusal> for Groups {
     ghost from_gives = { λ refusal groups. groups ≡ record { answer = refusal_number refusal; count = 0 } };
 
     fn from(refusal: Refusal) -> Groups {
-        Groups {
-            answer: refusal.into(),
-            count: 0,
-        }
+        refused(refusal.into())
     }
 }
 

@@ -24,6 +24,17 @@ pub struct Round {
 }
 
 // A refused round has zeros in every place.
+pub fn refused(answer: u8) -> Round
+    ensures { result
+        ≡ record { answer = answer; answers = replicate most_scripts 0; steps = replicate most_scripts 0 } }
+{
+    Round {
+        answer,
+        answers: [0; MOST_SCRIPTS],
+        steps: [0; MOST_SCRIPTS],
+    }
+}
+
 impl From<Refusal> for Round {
     ghost from_gives = { λ refusal round. round
         ≡ record {
@@ -33,11 +44,7 @@ impl From<Refusal> for Round {
         } };
 
     fn from(refusal: Refusal) -> Round {
-        Round {
-            answer: refusal.into(),
-            answers: [0; MOST_SCRIPTS],
-            steps: [0; MOST_SCRIPTS],
-        }
+        refused(refusal.into())
     }
 }
 

@@ -56,6 +56,7 @@ use Rattle.stages.specs.Calls.{trust_on}
 use Rattle.stages.specs.Internal.Stages.{TableOf, keeping_in, AcceptedCode, Accepts, Spares, RunsAccepted}
 use Rattle.stages.specs.Internal.Stages.{TrustsOn, RunsOn, OfVerdict, OfState, strangers_in, number_in, trust_in}
 use Rattle.stages.specs.Internal.Stages.{run_in, viewed_in, answered_trust, answered_run, code_left, lines_of}
+use Rattle.stages.specs.Internal.Stages.{NumbersScript}
 
 -- ---- numbers
 
@@ -173,30 +174,38 @@ module _ (t script w ws : List ℕ) (r : Optional Decoded)
     words-read = sym (ap code_left as_decoded)
 
     module _ (v : Result Unit TypingError) (x : ChecksCode ws t (unwrap_or d.start max_labels) (verdict_number v)) where
+      pub numbers_read : NumbersScript script t (verdict_number v) d.count w
+      unfolding number_in
+      numbers_read = record {
+        count_is = sym (ap lines_of as_decoded);
+        words_are = words-read;
+        numbered = λ s T. checked-number s T (verdict_number v) x;
+        accepted = λ s T z.
+            rw (← (rows ∙ ap (λ (o : Optional Decoded). take (lines_read o * 3) w) q))
+            (accepted_code s T (sym (checked-number s T (verdict_number v) x) ∙ z));
+        in_table = (verdict_number v, (v, refl), there-is (verdict_number v));
+      }
+
       pub accepts_ill : (refusal : Refusal) → refusal_number refusal ≡ verdict_number v
           → Accepts script t (Err refusal) w
-      unfolding number_in
-      accepts_ill refusal n = record {
+      accepts_ill refusal n = let (k, of, is) = numbers_read.in_table in record {
         words_are = words-read;
-        numbered = λ s T. n ∙ checked-number s T (verdict_number v) x;
+        numbered = λ s T. n ∙ numbers_read.numbered s T;
         accepted = tt;
-        in_table = (verdict_number v, (v, refl), n ∙ there-is (verdict_number v));
+        in_table = (k, of, n ∙ is);
       }
 
       pub accepts_well : 0 ≡ verdict_number v → (keeping : Bool) → KeepsCode ws t keeping
           → Accepts script t (Ok (record { count = d.count; keeping = keeping })) w
-      unfolding number_in
-      accepts_well n keeping k = record {
+      accepts_well n keeping k = let (j, of, is) = numbers_read.in_table in record {
         words_are = words-read;
-        numbered = λ s T. n ∙ checked-number s T (verdict_number v) x;
+        numbered = λ s T. n ∙ numbers_read.numbered s T;
         accepted = record {
-          count_is = sym (ap lines_of as_decoded);
-          has_code = λ s T.
-              rw (← (rows ∙ ap (λ (o : Optional Decoded). take (lines_read o * 3) w) q))
-              (accepted_code s T (sym (n ∙ checked-number s T (verdict_number v) x)));
+          count_is = numbers_read.count_is;
+          has_code = λ s T. numbers_read.accepted s T (sym n);
           says = λ s T. checked-keeping s T keeping k;
         };
-        in_table = (verdict_number v, (v, refl), n ∙ there-is (verdict_number v));
+        in_table = (j, of, n ∙ is);
       }
 
   -- there is none
@@ -207,14 +216,21 @@ module _ (t script w ws : List ℕ) (r : Optional Decoded)
       (λ n a. rw n refl)
       (λ c y j src nm a tk st. absurd (let u : ◌≡◌ {A = ℕ} 0 1 = cc in omega (arith, u)))
 
-  pub accepts_none : r ≡ None → IfNone r (w ≡ no_code) → Accepts script t (Err reasons.ScriptMalformed) w
+  pub numbers_none : r ≡ None → IfNone r (w ≡ no_code) → NumbersScript script t 4 0 w
   unfolding number_of number_in code_left
-  accepts_none q z = record {
-    words_are = rw q at z ∙ ap code_left (sym (ap (option_map (λ x. (x, w))) q) ∙ e);
-    numbered = λ s T. is-none q _ (sym (same_counts s T)) (untyped s);
-    accepted = tt;
-    in_table = (0, accepted-verdict, is-none q _ refl (λ _. 0));
-  }
+  numbers_none q z =
+      let none-decoded = sym (ap (option_map (λ x. (x, w))) q) ∙ e in
+      record {
+        count_is = ap lines_of none-decoded;
+        words_are = rw q at z ∙ ap code_left none-decoded;
+        numbered = λ s T. is-none q _ (sym (same_counts s T)) (untyped s);
+        accepted = λ s T f. absurd (omega arith);
+        in_table = (0, accepted-verdict, is-none q _ refl (λ _. 0));
+      }
+
+  pub accepts_none : r ≡ None → IfNone r (w ≡ no_code) → Accepts script t (Err reasons.ScriptMalformed) w
+  accepts_none q z = let n = numbers_none q z in
+      record { words_are = n.words_are; numbered = n.numbered; accepted = tt; in_table = n.in_table }
 
 -- the table's refusal of a memory is the sheet's
 pub refusal_in_lem : (t memory : List ℕ) (a : ℕ) → a ≡ refusal_in t memory → (s : Sheet) → TableOf t s

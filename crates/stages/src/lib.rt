@@ -6,7 +6,8 @@ pub mod refusal; // refusal.rt: why a call refuses
 
 ghost use Rattle.std.specs.Prelude.{◌≡◌};
 ghost use Rattle.stages.specs.Refusals.{refusal_number, answer_number};
-ghost use Rattle.stages.specs.Internal.Stages.{Accepts, RunsAccepted, strangers_in, answered_run, answered_trust};
+ghost use Rattle.stages.specs.Internal.Stages.{Accepts, NumbersScript, RunsAccepted, strangers_in};
+ghost use Rattle.stages.specs.Internal.Stages.{answered_run, answered_trust};
 ghost use Rattle.stages.specs.Internal.Stages.{ChecksOn, TrustsOn, RunsOn, viewed_in};
 
 pub use refusal::Refusal;
@@ -38,27 +39,40 @@ pub struct Accepted {
     pub keeping: bool,
 }
 
+// The number of a script on a sheet, and how many lines it has.
+#[derive(Clone, Copy, Debug, PartialEq, Eq)]
+pub struct Numbered {
+    pub number: u8,
+    pub count: usize,
+}
+
 // A run that is refused takes no step.
+pub fn refused(answer: u8) -> Outcome
+    ensures { result ≡ record { answer = answer; steps = 0 } }
+{
+    Outcome { answer, steps: 0 }
+}
+
 impl From<Refusal> for Outcome {
     ghost from_gives = { λ refusal outcome. outcome ≡ record { answer = refusal_number refusal; steps = 0 } };
 
     fn from(refusal: Refusal) -> Outcome {
-        Outcome {
-            answer: refusal.into(),
-            steps: 0,
-        }
+        refused(refusal.into())
     }
 }
 
 // Beside a refusal keeping is 0, whatever the script.
+pub fn refused_trust(answer: u8) -> Trust
+    ensures { result ≡ record { answer = answer; keeping = 0 } }
+{
+    Trust { answer, keeping: 0 }
+}
+
 impl From<Refusal> for Trust {
     ghost from_gives = { λ refusal trust. trust ≡ record { answer = refusal_number refusal; keeping = 0 } };
 
     fn from(refusal: Refusal) -> Trust {
-        Trust {
-            answer: refusal.into(),
-            keeping: 0,
-        }
+        refused_trust(refusal.into())
     }
 }
 
@@ -97,6 +111,29 @@ pub fn accept(
         count: read.count,
         keeping: found.keeping,
     })
+}
+
+// The number of a script on the sheet of a table: 4, 5 or 6, or 0 where it is accepted. The lent words hold the code of
+// what was read, and its lines are counted, also where its types or labels don't fit.
+pub fn number_of(
+    script: &[u8],
+    table: &[sheet::Word],
+    code: &mut [u32; script_text::WORDS],
+) -> Numbered
+    ensures { NumbersScript script.now table.now result.number result.count code.new }
+{
+    let Some(read) = script_text::read(script, table, code) else {
+        return Numbered {
+            number: Refusal::ScriptMalformed.into(),
+            count: 0,
+        };
+    };
+    let lines = script_text::rows(code, read.count);
+    let verdict = checker::check(lines, table, read.start).verdict;
+    Numbered {
+        number: number(verdict.map_err(Refusal::from)),
+        count: read.count,
+    }
 }
 
 // Runs the code of an accepted script on a memory that isn't refused. Here and in the round, table, authority and

@@ -114,6 +114,15 @@ pub record Accepts (script t : List ℕ) (r : Result Accepted Refusal) (words : 
   pub accepted : IfOk r (λ a. AcceptedAs script t a words)
   pub in_table : (verdict : ℕ) × OfVerdict verdict × (answer_number r ≡ number_in verdict t script)
 
+-- r is the script's number, and count and words are what its reader leaves; where r is 0, that is the code of an
+-- accepted script.
+pub record NumbersScript (script t : List ℕ) (r count : ℕ) (words : List ℕ) : Type 0 where
+  pub count_is : count ≡ lines_of (decoded_script (script_of (counts_in t) script))
+  pub words_are : words ≡ code_left (decoded_script (script_of (counts_in t) script))
+  pub numbered : (s : Sheet) → TableOf t s → r ≡ number_of s script
+  pub accepted : (s : Sheet) → TableOf t s → r ≡ 0 → AcceptedCode s script (take (count * 3) words)
+  pub in_table : (verdict : ℕ) × OfVerdict verdict × (r ≡ number_in verdict t script)
+
 -- Whatever the table and the code are: the memory is untouched unless the answer is 0, and no more steps are taken
 -- than the budget has.
 pub record Spares (memory : List ℕ) (budget : ℕ) (r : Ran) : Type 0 where

@@ -33,7 +33,7 @@ TACTICS = re.compile(r"#!\[tactic\(auto(?:, unfolding\(\w+(?:::\w+)+\))?\)\]")
 IMPL = re.compile(
     r"impl(?:<'\w+>)? (?P<trait>(?:fmt::Display|Error|Iterator|From<\w+>) for )?\w+(?:<'\w+>)? \{"
 )
-MEMBERS = {"from_gives", "next_gives", "remaining"}
+MEMBERS = {"from_gives", "next_gives", "remaining", "output"}
 USE = re.compile(rf"use ([^\s{{}}]+)\.\{{((?: ?{NAME}(?: as {NAME})? ?,)*(?: ?{NAME}(?: as {NAME})?)? ?)\}}")
 VARIANTS = re.compile(rf"use (\S+\.TheVariants) as ({NAME})")
 DECLARATION = re.compile(rf"((?:(?:unfoldable|abbrev|pub)\s+)+)(record\s+|data\s+)?({NAME})")

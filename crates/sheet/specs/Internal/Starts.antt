@@ -1,5 +1,5 @@
--- How code holds where a script starts: by a label's number, one past any label for none. The label of that number is
--- bottom already.
+-- How the checker's contract says where a script starts: by a label's number, one past any label for none. The label
+-- of that number is bottom already.
 use Rattle.std.proofs.Math.Option.{Option, none, some}
 use Rattle.std.specs.Prelude.{ℕ}
 use Rattle.sheet.specs.Sheet.{max_labels}

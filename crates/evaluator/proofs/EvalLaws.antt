@@ -25,7 +25,7 @@ use Rattle.evaluator.specs.declared.Stop.{Stop}
 use Rattle.evaluator.specs.declared.Stop.TheVariants.{Spent, TooLong, NoRule}
 use Rattle.cells.specs.Internal.Cells.{accumulator, load_of, store_of}
 use Rattle.evaluator.specs.Internal.Cells.{first_location}
-use Rattle.evaluator.specs.Internal.Records.{Setting, Place, Reached, reached, Context}
+use Rattle.evaluator.specs.Internal.Records.{Setting, Place, Reached, reached, ended, Context}
 use Rattle.evaluator.specs.Internal.Nodes.{Yields, Gives, Turns, Applies, Sums, o_left, o_right, o_pack, o_unpack}
 use Rattle.evaluator.specs.Internal.Nodes.{o_part, op_kind, Applied, Pairs}
 use Rattle.evaluator.specs.Internal.Post.{ExprAt, StandsFor, Answers, Evals}
@@ -94,11 +94,14 @@ module _ {S : Setting} (p : Place) {C : Context} {M : Mem} (held : StandsFor S p
 
 -- ---- what follows an evaluation
 
--- a run that stops has no place
+-- what stops is not done
+pub stopped_in : (A : Type 0) (s : Stop) → state_number {A = A} (Err s) ≡ 0 → ⊥
+stopped_in A Spent z = omega arith
+stopped_in A TooLong z = omega arith
+stopped_in A NoRule z = omega arith
+
 pub stopped : (s : Stop) → state_number {A = ℕ} (Err s) ≡ 0 → ⊥
-stopped Spent z = omega arith
-stopped TooLong z = omega arith
-stopped NoRule z = omega arith
+stopped = stopped_in ℕ
 
 -- what `?` hands on is what stopped
 pub passed_on : {A E : Type 0} (r : Result A E) (e : E) → IsErr r × IsErrAnd r (λ d. d ≡ e) → r ≡ Err e
@@ -269,6 +272,21 @@ copy_here : (work : List ℕ) {work' : List ℕ} (j : ℕ) → cell_words ≤ le
 copy_here work j h e = ap (λ (u : List ℕ). cell_of u 0) e
     ∙ cell-stored work 0 (load_of work j) (length_load work j) (there work 0 (omega arith))
 
+-- what stops has no place
+placeless : {S : Setting} {p : Place} {r : Reached} (n : ℕ) → Evals S p r → (r.state ≡ 0 → ⊥)
+    → Evals S p (record { state = r.state; next = n; cells = r.cells })
+placeless n x z = record {
+  forward = λ q. absurd (z q);
+  kept = x.kept;
+  means = λ C M e rest held here. ((x.means C M e rest held here).0, λ q. absurd (z q));
+}
+
+pub handed_back : {S : Setting} {p : Place} {next : ℕ} {cells : List ℕ} (s : Stop)
+    → Evals S p (ended (Err s) next cells) → Evals S p (reached (Err s) cells)
+handed_back Spent x = placeless 0 x (λ z. omega arith)
+handed_back TooLong x = placeless 0 x (λ z. omega arith)
+handed_back NoRule x = placeless 0 x (λ z. omega arith)
+
 -- ---- a law for each arm of the code
 
 module _ {S : Setting} {p : Place} {row : Row} (r : row ≡ row_at p.code p.at) where
@@ -428,10 +446,11 @@ module _ {S : Setting} {p : Place} {row : Row} (r : row ≡ row_at p.code p.at) 
         (⊎_elim (λ q. eval-at first q y) (λ q. eval-at second q y))))))
         (one_between 10 6 (omega arith) l)
 
-  pub eval_none : (KindOf expression row.kind → ⊥) → Evals S p (reached (Err NoRule) p.cells)
+  pub eval_none : (KindOf expression row.kind → ⊥) → {next : ℕ}
+      → Evals S p (record { state = state_number {A = Unit {0}} (Err NoRule); next = next; cells = p.cells })
   eval_none f =
       record {
-        forward = λ z. absurd (stopped NoRule z);
+        forward = λ z. absurd (stopped_in (Unit {0}) NoRule z);
         kept = refl;
         means = λ C M e rest held here.
             absurd (not_here expression e rest p.code p.at r f here.source here.lines);

@@ -7,7 +7,7 @@ ghost use Rattle.std.specs.Prelude.{◌≡◌, Some};
 ghost use Rattle.evaluator.specs.State.{stop_text};
 ghost use Rattle.script.specs.Internal.Code.{row_at};
 ghost use Rattle.evaluator.specs.Internal.Given.{setting_of, place_in};
-ghost use Rattle.evaluator.specs.Internal.Records.{reached};
+ghost use Rattle.evaluator.specs.Internal.Records.{reached, ended};
 ghost use Rattle.evaluator.specs.Internal.Post.{Evals};
 
 use cells::CELL;
@@ -61,29 +61,37 @@ impl<'a> World<'a> {
     pub fn eval(&self, at: usize, depth: u32, work: &mut [u32; WORK]) -> Result<usize, Stop>
         ensures { Evals (setting_of self.now) (place_in self.now at depth work.old) (reached result work.new) }
     {
-        reach(self, at, depth, work)
+        let mut next = at;
+        reach(self, &mut next, depth, work)?;
+        Ok(next)
     }
 }
 
-// The same, by recursion: a function apart, by whose name the bound of the stack counts its calls.
+// The same, by recursion: `at` moves on to the place where the lines end. What is handed back so goes into registers,
+// where a place beside the reason would take room in every frame. A function apart, by whose name the bound of the
+// stack counts its calls.
 #[cycle(pair_reach)]
-fn reach(world: &World, at: usize, depth: u32, work: &mut [u32; WORK]) -> Result<usize, Stop>
-    ensures { Evals (setting_of world.now) (place_in world.now at depth work.old) (reached result work.new) }
+fn reach(world: &World, at: &mut usize, depth: u32, work: &mut [u32; WORK]) -> Result<(), Stop>
+    ensures { Evals (setting_of world.now) (place_in world.now at.old depth work.old)
+        (ended result at.new work.new) }
 {
-    let row = script::row_at(world.code, at);
+    let row = script::row_at(world.code, *at);
     let kind = row.kind;
     match kind {
         script::INT => {
             nodes::literal(work, row.a);
-            Ok(at + ROW)
+            *at += ROW;
+            Ok(())
         }
         script::LOC => {
             nodes::location(work, row.a);
-            Ok(at + ROW)
+            *at += ROW;
+            Ok(())
         }
         script::VAR => {
             nodes::variable(work, depth, row.a);
-            Ok(at + ROW)
+            *at += ROW;
+            Ok(())
         }
         script::PAIR => pair(world, at, depth, work),
         // One call for the operand that each of these starts with, since each call takes its own place in every frame.
@@ -94,15 +102,15 @@ fn reach(world: &World, at: usize, depth: u32, work: &mut [u32; WORK]) -> Result
         | script::UNPACK
         | script::FIRST
         | script::SECOND => {
-            let v = reach(world, at + ROW, depth, work)?;
+            *at += ROW;
+            reach(world, at, depth, work)?;
             if kind != script::PLUS {
-                nodes::applied(world, kind, row.a, row.b, work)?;
-                return Ok(v);
+                return nodes::applied(world, kind, row.a, row.b, work);
             }
             let n = cells::word(work, 1);
-            let w = reach(world, v, depth, work)?;
+            reach(world, at, depth, work)?;
             nodes::sum(work, n);
-            Ok(w)
+            Ok(())
         }
         _ => Err(Stop::NoRule),
     }
@@ -111,18 +119,19 @@ fn reach(world: &World, at: usize, depth: u32, work: &mut [u32; WORK]) -> Result
 // Evaluates the pair at `at`. It is apart from `reach`, so that no other line's frame has the room for a first part's
 // words; that it calls itself for a pair that is its second part keeps it apart when compiled.
 #[cycle(pair_reach)]
-fn pair(world: &World, at: usize, depth: u32, work: &mut [u32; WORK]) -> Result<usize, Stop>
-    requires { (row_at world.now.code.now at).kind ≡ 14 }
-    ensures { Evals (setting_of world.now) (place_in world.now at depth work.old) (reached result work.new) }
+fn pair(world: &World, at: &mut usize, depth: u32, work: &mut [u32; WORK]) -> Result<(), Stop>
+    requires { (row_at world.now.code.now at.old).kind ≡ 14 }
+    ensures { Evals (setting_of world.now) (place_in world.now at.old depth work.old)
+        (ended result at.new work.new) }
 {
-    let v = reach(world, at + ROW, depth, work)?;
+    *at += ROW;
+    reach(world, at, depth, work)?;
     let first = cells::load(work);
-    let next = script::row_at(world.code, v);
-    let w = if next.kind == script::PAIR {
-        pair(world, v, depth, work)?
+    let next = script::row_at(world.code, *at);
+    if next.kind == script::PAIR {
+        pair(world, at, depth, work)?;
     } else {
-        reach(world, v, depth, work)?
-    };
-    nodes::pair(work, &first)?;
-    Ok(w)
+        reach(world, at, depth, work)?;
+    }
+    nodes::pair(work, &first)
 }

@@ -5,7 +5,7 @@ use Rattle.script.proofs.Rows.{row_within, none_past}
 use Rattle.evaluator.proofs.EvalLaws as laws
 use Rattle.evaluator.proofs.EvalLaws.{passed_on}
 use Rattle.evaluator.proofs.+pair_reach.Goals as goal
-use Rattle.evaluator.proofs.+pair_reach.Goals.{pair-then-next-eq-PAIR+in_ok-w, pair-else-next-eq-PAIR+in_ok-w-2}
+use Rattle.evaluator.proofs.+pair_reach.Goals.{pair-then-next-eq-PAIR+in_ok-pair, pair-else-next-eq-PAIR+in_ok-reach-2}
 
 -- the row of a pair is there
 pair_within : (ws : List ℕ) (at : ℕ) → (row_at ws at).kind ≡ 14 → at + 3 ≤ length ws
@@ -17,106 +17,88 @@ pair-overflow_add-at t c = omega (arith, pair_within _ _ c.requires)
 pub pair-reach-requires : goal.pair-reach-requires
 pair-reach-requires t c = (omega (arith, pair_within _ _ c.requires), tt)
 
-pub pair-returns-in_err-v : goal.pair-returns-in_err-v
-pair-returns-in_err-v t c =
+pub pair-returns-in_err-reach : goal.pair-returns-in_err-reach
+pair-returns-in_err-reach t c =
     rw (passed_on _ _ c.from_residual.ensures)
-    (laws.eval-pair_end refl c.in_err-v.ensures (laws.stopped _) c.requires)
+    (laws.eval-pair_end refl c.in_err-reach.ensures (laws.stopped_in (Unit {0}) _) c.requires)
 
 pub pair-pair-requires : goal.pair-pair-requires
 pair-pair-requires t c = (
-  omega (arith, pair_within _ _ c.requires, c.in_ok-v.ensures.forward refl),
+  omega (arith, pair_within _ _ c.requires, c.in_ok-reach.ensures.forward refl),
   rw c.row_at-next.ensures at
       c.if-next-eq-PAIR.true,
 )
 
-pub pair-returns-in_err-w : goal.pair-returns-in_err-w
-pair-returns-in_err-w t c =
-    rw (passed_on _ _ c.from_residual-in_err-w.ensures)
-    (laws.eval-pair_stop refl c.in_ok-v.ensures refl c.in_err-w.ensures (laws.stopped _) c.requires
+pub pair-returns-in_err-pair : goal.pair-returns-in_err-pair
+pair-returns-in_err-pair t c =
+    rw (passed_on _ _ c.from_residual-in_err-pair.ensures)
+    (laws.eval-pair_stop refl c.in_ok-reach.ensures refl c.in_err-pair.ensures (laws.stopped_in (Unit {0}) _) c.requires
     c.load-first.ensures)
 
 pub pair-reach-requires-else-next-eq-PAIR : goal.pair-reach-requires-else-next-eq-PAIR
 pair-reach-requires-else-next-eq-PAIR t c =
-    (omega (arith, pair_within _ _ c.requires, c.in_ok-v.ensures.forward refl), tt)
+    (omega (arith, pair_within _ _ c.requires, c.in_ok-reach.ensures.forward refl), tt)
 
-pub pair-returns-in_err-w-2 : goal.pair-returns-in_err-w-2
-pair-returns-in_err-w-2 t c =
-    rw (passed_on _ _ c.from_residual-in_err-w-2.ensures)
-    (laws.eval-pair_stop refl c.in_ok-v.ensures refl c.in_err-w-2.ensures (laws.stopped _) c.requires
+pub pair-returns-in_err-reach-2 : goal.pair-returns-in_err-reach-2
+pair-returns-in_err-reach-2 t c =
+    rw (passed_on _ _ c.from_residual-in_err-reach-2.ensures)
+    (laws.eval-pair_stop refl c.in_ok-reach.ensures refl c.in_err-reach-2.ensures (laws.stopped_in (Unit {0}) _) c.requires
     c.load-first.ensures)
-
-pub pair-returns-in_err-pair : goal.pair-returns-in_err-pair
-pair-returns-in_err-pair t c =
-    rw (passed_on _ _ c.from_residual-in_err-pair.ensures)
-    (laws.eval-pair_made refl c.in_ok-v.ensures refl {m = c.if-next-eq-PAIR.w} {before = c.if-next-eq-PAIR.work}
-    (elim c.if-next-eq-PAIR.branch [
-      | pair-then-next-eq-PAIR+in_ok-w w ↦ rw (w.work-is, w.w-is) w.in_ok-w.ensures
-      | pair-else-next-eq-PAIR+in_ok-w-2 w ↦ rw (w.work-is, w.w-is) w.in_ok-w-2.ensures
-    ])
-    (λ z. absurd (laws.stopped _ z)) c.requires c.load-first.ensures c.in_err-pair.ensures)
 
 pub pair-returns : goal.pair-returns
 pair-returns t c =
-    laws.eval-pair_made refl c.in_ok-v.ensures refl {m = c.if-next-eq-PAIR.w} {before = c.if-next-eq-PAIR.work}
+    laws.eval-pair_made refl c.in_ok-reach.ensures refl {m = c.if-next-eq-PAIR.at} {before = c.if-next-eq-PAIR.work}
     (elim c.if-next-eq-PAIR.branch [
-      | pair-then-next-eq-PAIR+in_ok-w w ↦ rw (w.work-is, w.w-is) w.in_ok-w.ensures
-      | pair-else-next-eq-PAIR+in_ok-w-2 w ↦ rw (w.work-is, w.w-is) w.in_ok-w-2.ensures
+      | pair-then-next-eq-PAIR+in_ok-pair w ↦ rw (w.work-is, w.at-is) w.in_ok-pair.ensures
+      | pair-else-next-eq-PAIR+in_ok-reach-2 w ↦ rw (w.work-is, w.at-is) w.in_ok-reach-2.ensures
     ])
-    (λ z. refl) c.requires c.load-first.ensures c.in_ok-pair.ensures
-
-pub reach-overflow_add-result : goal.reach-overflow_add-result
-reach-overflow_add-result t c = omega (arith, row_within _ _ c.row_at-row.ensures (omega (arith, c.in-6.is)))
-
-pub reach-overflow_add-result-in-7 : goal.reach-overflow_add-result-in-7
-reach-overflow_add-result-in-7 t c = omega (arith, row_within _ _ c.row_at-row.ensures (omega (arith, c.in-7.is)))
-
-pub reach-overflow_add-result-in-8 : goal.reach-overflow_add-result-in-8
-reach-overflow_add-result-in-8 t c = omega (arith, row_within _ _ c.row_at-row.ensures (omega (arith, c.in-8.is)))
+    (λ z. refl) c.requires c.load-first.ensures c.pair-2.ensures
 
 pub reach-overflow_add-at : goal.reach-overflow_add-at
-reach-overflow_add-at t c = omega (arith, row_within _ _ c.row_at-row.ensures (omega arith))
+reach-overflow_add-at t c = omega (arith, row_within _ _ c.row_at-row.ensures (omega (arith, c.in-6.is)))
+
+pub reach-overflow_add-at-in-7 : goal.reach-overflow_add-at-in-7
+reach-overflow_add-at-in-7 t c = omega (arith, row_within _ _ c.row_at-row.ensures (omega (arith, c.in-7.is)))
+
+pub reach-overflow_add-at-in-8 : goal.reach-overflow_add-at-in-8
+reach-overflow_add-at-in-8 t c = omega (arith, row_within _ _ c.row_at-row.ensures (omega (arith, c.in-8.is)))
+
+pub reach-overflow_add-at-in-9 : goal.reach-overflow_add-at-in-9
+reach-overflow_add-at-in-9 t c = omega (arith, row_within _ _ c.row_at-row.ensures (omega arith))
 
 pub reach-reach-requires : goal.reach-reach-requires
 reach-reach-requires t c = (omega (arith, row_within _ _ c.row_at-row.ensures (omega arith)), tt)
 
 pub reach-reach-requires-in-9 : goal.reach-reach-requires-in-9
 reach-reach-requires-in-9 t c =
-    (omega (arith, row_within _ _ c.row_at-row.ensures (omega arith), c.in_ok-v-in-9.ensures.forward refl), tt)
+    (omega (arith, row_within _ _ c.row_at-row.ensures (omega arith), c.in_ok-reach-in-9.ensures.forward refl), tt)
 
 pub reach-pair-requires : goal.reach-pair-requires
 reach-pair-requires t c = (omega arith, rw c.row_at-row.ensures at c.in-14.is)
 
-pub reach-returns-in_err-v-in-9 : goal.reach-returns-in_err-v-in-9
-reach-returns-in_err-v-in-9 t c =
+pub reach-returns-in_err-reach-in-9 : goal.reach-returns-in_err-reach-in-9
+reach-returns-in_err-reach-in-9 t c =
     rw (passed_on _ _ c.from_residual.ensures)
-    (laws.eval-end c.row_at-row.ensures c.in_err-v-in-9.ensures (laws.stopped _)
+    (laws.eval-end c.row_at-row.ensures c.in_err-reach-in-9.ensures (laws.stopped_in (Unit {0}) _)
     (none_past 6 3 c.in-9.in_default-own.rest.0 c.in-9.if-kind-lt6-own.false)
     (omega (arith, c.in-9.if-kind-lt17-own.true)) c.in-9.in_default-own.rest.1)
 
-pub reach-returns-in_err-applied-in-9 : goal.reach-returns-in_err-applied-in-9
-reach-returns-in_err-applied-in-9 t c =
-    rw (passed_on _ _ c.from_residual-in_err-applied-in-9.ensures)
-    (laws.eval-one c.row_at-row.ensures c.in_ok-v-in-9.ensures (λ z. absurd (laws.stopped _ z))
-    (none_past 6 3 c.in-9.in_default-own.rest.0 c.in-9.if-kind-lt6-own.false)
-    (omega (arith, c.in-9.if-kind-lt17-own.true)) c.if-kind-ne-PLUS.true c.in-9.in_default-own.rest.1
-    c.in_err-applied-in-9.ensures)
-
 pub reach-returns-then-kind-ne-PLUS : goal.reach-returns-then-kind-ne-PLUS
 reach-returns-then-kind-ne-PLUS t c =
-    laws.eval-one c.row_at-row.ensures c.in_ok-v-in-9.ensures (λ z. refl)
+    laws.eval-one c.row_at-row.ensures c.in_ok-reach-in-9.ensures (λ z. refl)
     (none_past 6 3 c.in-9.in_default-own.rest.0 c.in-9.if-kind-lt6-own.false)
     (omega (arith, c.in-9.if-kind-lt17-own.true)) c.if-kind-ne-PLUS.true c.in-9.in_default-own.rest.1
-    c.in_ok-applied-in-9.ensures
+    c.applied.ensures
 
-pub reach-returns-in_err-w-in-9 : goal.reach-returns-in_err-w-in-9
-reach-returns-in_err-w-in-9 t c =
-    rw (passed_on _ _ c.from_residual-in_err-w-in-9.ensures)
-    (laws.eval-plus_stop c.row_at-row.ensures c.in_ok-v-in-9.ensures refl c.in_err-w-in-9.ensures (laws.stopped _)
-    c.if-kind-ne-PLUS.false c.word-n.ensures)
+pub reach-returns-in_err-reach-in-9-2 : goal.reach-returns-in_err-reach-in-9-2
+reach-returns-in_err-reach-in-9-2 t c =
+    rw (passed_on _ _ c.from_residual-in_err-reach-in-9-2.ensures)
+    (laws.eval-plus_stop c.row_at-row.ensures c.in_ok-reach-in-9.ensures refl c.in_err-reach-in-9-2.ensures
+    (laws.stopped_in (Unit {0}) _) c.if-kind-ne-PLUS.false c.word-n.ensures)
 
-pub reach-returns-in_ok-w-in-9 : goal.reach-returns-in_ok-w-in-9
-reach-returns-in_ok-w-in-9 t c =
-    laws.eval-plus_made c.row_at-row.ensures c.in_ok-v-in-9.ensures refl c.in_ok-w-in-9.ensures (λ z. refl)
+pub reach-returns-in_ok-reach-in-9-2 : goal.reach-returns-in_ok-reach-in-9-2
+reach-returns-in_ok-reach-in-9-2 t c =
+    laws.eval-plus_made c.row_at-row.ensures c.in_ok-reach-in-9.ensures refl c.in_ok-reach-in-9-2.ensures (λ z. refl)
     c.if-kind-ne-PLUS.false c.word-n.ensures c.sum.ensures
 
 pub reach-returns-in-6 : goal.reach-returns-in-6

@@ -37,7 +37,9 @@ impl fmt::Display for SheetError {
 
 impl Error for SheetError {}
 
-// Reads a sheet's text. The lent table becomes the sheet's, or zeros where the text is refused, whatever it held.
+// Reads a sheet's text. The lent table becomes the sheet's, or zeros where the text is refused, whatever it held. It
+// stands in its callers when compiled, so that a table that was just made isn't cleared once more.
+#[inline(always)]
 pub fn read(text: &[u8], table: &mut [Word; WORDS]) -> Result<(), SheetError>
     ensures { record { verdict = result; table = table.new } ≡ decoded_sheet (sheet_of text.now) }
 {

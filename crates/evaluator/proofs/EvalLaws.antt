@@ -25,7 +25,7 @@ use Rattle.evaluator.specs.declared.Stop.{Stop}
 use Rattle.evaluator.specs.declared.Stop.TheVariants.{Spent, TooLong, NoRule}
 use Rattle.cells.specs.Internal.Cells.{accumulator, load_of, store_of}
 use Rattle.evaluator.specs.Internal.Cells.{first_location}
-use Rattle.evaluator.specs.Internal.Records.{Setting, Place, Reached, reached, ended, Context}
+use Rattle.evaluator.specs.Internal.Records.{Setting, Place, Reached, reached, arrived, Context}
 use Rattle.evaluator.specs.Internal.Nodes.{Yields, Gives, Turns, Applies, Sums, o_left, o_right, o_pack, o_unpack}
 use Rattle.evaluator.specs.Internal.Nodes.{o_part, op_kind, Applied, Pairs}
 use Rattle.evaluator.specs.Internal.Post.{ExprAt, StandsFor, Answers, Evals}
@@ -282,7 +282,7 @@ placeless n x z = record {
 }
 
 pub handed_back : {S : Setting} {p : Place} {next : ℕ} {cells : List ℕ} (s : Stop)
-    → Evals S p (ended (Err s) next cells) → Evals S p (reached (Err s) cells)
+    → Evals S p (arrived (Err s) next cells) → Evals S p (reached (Err s) cells)
 handed_back Spent x = placeless 0 x (λ z. omega arith)
 handed_back TooLong x = placeless 0 x (λ z. omega arith)
 handed_back NoRule x = placeless 0 x (λ z. omega arith)

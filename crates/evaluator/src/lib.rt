@@ -7,7 +7,7 @@ ghost use Rattle.std.specs.Prelude.{◌≡◌, Some};
 ghost use Rattle.evaluator.specs.State.{stop_text};
 ghost use Rattle.script.specs.Internal.Code.{row_at};
 ghost use Rattle.evaluator.specs.Internal.Given.{setting_of, place_in};
-ghost use Rattle.evaluator.specs.Internal.Records.{reached, ended};
+ghost use Rattle.evaluator.specs.Internal.Records.{reached, arrived};
 ghost use Rattle.evaluator.specs.Internal.Post.{Evals};
 
 use cells::CELL;
@@ -73,7 +73,7 @@ impl<'a> World<'a> {
 #[cycle(pair_reach)]
 fn reach(world: &World, at: &mut usize, depth: u32, work: &mut [u32; WORK]) -> Result<(), Stop>
     ensures { Evals (setting_of world.now) (place_in world.now at.old depth work.old)
-        (ended result at.new work.new) }
+        (arrived result at.new work.new) }
 {
     let row = script::row_at(world.code, *at);
     let kind = row.kind;
@@ -122,7 +122,7 @@ fn reach(world: &World, at: &mut usize, depth: u32, work: &mut [u32; WORK]) -> R
 fn pair(world: &World, at: &mut usize, depth: u32, work: &mut [u32; WORK]) -> Result<(), Stop>
     requires { (row_at world.now.code.now at.old).kind ≡ 14 }
     ensures { Evals (setting_of world.now) (place_in world.now at.old depth work.old)
-        (ended result at.new work.new) }
+        (arrived result at.new work.new) }
 {
     *at += ROW;
     reach(world, at, depth, work)?;

@@ -33,8 +33,8 @@ abbrev pub reached : Result ℕ Stop → List ℕ → Reached
 reached r cells = record { state = state_number r; next = place_of r; cells = cells }
 
 -- the same of an answer without a place, and the place that was moved
-abbrev pub ended : Result Unit Stop → ℕ → List ℕ → Reached
-ended r next cells = record { state = state_number r; next = next; cells = cells }
+abbrev pub arrived : Result Unit Stop → ℕ → List ℕ → Reached
+arrived r next cells = record { state = state_number r; next = next; cells = cells }
 
 -- What the words stand for: the world, what a script may name, and what the enclosing cases bind.
 pub record Context : Type 0 where

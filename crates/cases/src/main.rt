@@ -47,7 +47,8 @@ fn print_memory(rt: &impl Print, words: &[u32]) -> io::Result<()> {
     rt.write_all(desk::first(&out, n))
 }
 
-// The view of the memory of a text. It is kept out of line, so that what it reads and prints takes no place below a run.
+// The view of the memory of a text. It is kept out of line, so that what it reads and prints takes no place below a
+// run.
 #[inline(never)]
 fn show_case(
     rt: &impl Print,

@@ -42,8 +42,8 @@ pair-reach-requires-else-next-eq-PAIR t c =
 pub pair-returns-in_err-reach-2 : goal.pair-returns-in_err-reach-2
 pair-returns-in_err-reach-2 t c =
     rw (passed_on _ _ c.from_residual-in_err-reach-2.ensures)
-    (laws.eval-pair_stop refl c.in_ok-reach.ensures refl c.in_err-reach-2.ensures (laws.stopped_in (Unit {0}) _) c.requires
-    c.load-first.ensures)
+    (laws.eval-pair_stop refl c.in_ok-reach.ensures refl c.in_err-reach-2.ensures (laws.stopped_in (Unit {0}) _)
+    c.requires c.load-first.ensures)
 
 pub pair-returns : goal.pair-returns
 pair-returns t c =
